@@ -8,7 +8,7 @@ use Rattle.words.specs.Given.{◌>>=◌}
 use Rattle.words.specs.Numbers.{numeral_of}
 use Rattle.words.specs.Names.{name_of}
 use Rattle.command.specs.declared.events.Event.{Event}
-use Rattle.command.specs.declared.events.Event.TheVariants.{Issue, CopyRead, CopyWrite, Publish, ZeroNext, WriteArea, WriteInvalid, MergeGroup, MergeAreaRead, MergeRead, MergeWrite, MergeFlush, MergeCommit, MergeRelease}
+use Rattle.command.specs.declared.events.Event.TheVariants.{Issue, CopyRead, CopyWrite, Publish, ZeroNext, WriteArea, WriteInvalid, FlushStore, MergeGroup, MergeAreaRead, MergeRead, MergeWrite, MergeFlush, MergeCommit, MergeRelease}
 
 -- an event by its word, and what it is about: the number of a request or of a copy, or the name of a snapshot
 unfoldable pub event_of : List ℕ → List ℕ → Result Event Refusal
@@ -20,6 +20,7 @@ event_of kind subject =
     if bytes_eq kind (codes "zero-next") then (name_of subject >>= λ s. Ok (ZeroNext s)) else
     if bytes_eq kind (codes "write-area") then (name_of subject >>= λ s. Ok (WriteArea s)) else
     if bytes_eq kind (codes "write-invalid") then (name_of subject >>= λ s. Ok (WriteInvalid s)) else
+    if bytes_eq kind (codes "flush-store") then (name_of subject >>= λ s. Ok (FlushStore s)) else
     Err BadTable
 
 -- an event of a merge by its word; a volume has one merge at most, so no further word tells which

@@ -16,7 +16,7 @@ use Rattle.table.specs.Grammar.{line_in}
 use Rattle.command.specs.Messages.{message_in}
 use Rattle.command.specs.Events.{event_in}
 use Rattle.command.specs.declared.grammar.Command.{Command}
-use Rattle.command.specs.declared.grammar.Command.TheVariants.{Disk, Create, Remove, Load, Save, Message, Tick, Read, Write, StartRead, StartWrite, Step, Settle, Merge, Resume, Finish, Checkpoint, Stop, Status, Table}
+use Rattle.command.specs.declared.grammar.Command.TheVariants.{Disk, Create, Remove, Load, Save, Message, Tick, Read, Write, StartRead, StartWrite, Step, Settle, Merge, Resume, Finish, Checkpoint, Stop, StopLosing, Status, Table}
 
 -- a name and a first sector
 abbrev pub place_of : List ℕ → List ℕ → Result (List ℕ × ℕ) Refusal
@@ -153,9 +153,11 @@ finish_of words = alone_of words >>= λ volume. Ok (Finish volume)
 abbrev pub checkpoint_of : List (List ℕ) → Result Command Refusal
 checkpoint_of words = alone_of words >>= λ volume. Ok (Checkpoint volume)
 
--- `stop VOL`
+-- `stop VOL` and `stop VOL lose`
 abbrev pub stop_of : List (List ℕ) → Result Command Refusal
-stop_of words = alone_of words >>= λ volume. Ok (Stop volume)
+stop_of (volume ∷ []) = name_of volume >>= λ volume. Ok (Stop volume)
+stop_of (volume ∷ word ∷ []) = if bytes_eq word (codes "lose") then (name_of volume >>= λ volume. Ok (StopLosing volume)) else Err BadTable
+stop_of words = Err BadTable
 
 -- `status DEV`
 abbrev pub status_of : List (List ℕ) → Result Command Refusal

@@ -24,6 +24,8 @@ pub enum Event {
     WriteArea(Name),
     /// `write-invalid SNAP`: marks the store of a spoiled snapshot.
     WriteInvalid(Name),
+    /// `flush-store SNAP`: flushes the store, so that its copies, its pairs and its mark are on its disk.
+    FlushStore(Name),
     /// `merge-group`: takes the last run of pairs of the area for merging.
     MergeGroup,
     /// `merge-area-read`: reads the area before the one that is merged empty.
@@ -59,6 +61,8 @@ fn event_of(kind: &[u8], subject: &[u8]) -> Result<Event, Refusal>
         Ok(Event::WriteArea(Name::new(subject)?))
     } else if kind == b"write-invalid".as_slice() {
         Ok(Event::WriteInvalid(Name::new(subject)?))
+    } else if kind == b"flush-store".as_slice() {
+        Ok(Event::FlushStore(Name::new(subject)?))
     } else {
         Err(Refusal::BadTable)
     }

@@ -53,6 +53,8 @@ pub enum Command {
     Checkpoint { volume: Name },
     /// `stop VOL`: the volume of an origin ends, whatever is in flight in it.
     Stop { volume: Name },
+    /// `stop VOL lose`: the same, and its disks lose what was not flushed.
+    StopLosing { volume: Name },
     /// `status DEV`: prints the status line.
     Status { name: Name },
     /// `table DEV`: prints the table line.
@@ -359,8 +361,18 @@ fn checkpoint(text: &[u8]) -> Result<Command, Refusal>
 fn stop(text: &[u8]) -> Result<Command, Refusal>
     ensures { result ≡ stop_of (words_of text.now) }
 {
-    let volume = alone(text)?;
-    Ok(Command::Stop { volume })
+    let Some((volume, rest)) = next_word(text) else {
+        return Err(Refusal::BadTable);
+    };
+    let Some((word, rest)) = next_word(rest) else {
+        let volume = Name::new(volume)?;
+        return Ok(Command::Stop { volume });
+    };
+    if word != b"lose".as_slice() || next_word(rest).is_some() {
+        return Err(Refusal::BadTable);
+    }
+    let volume = Name::new(volume)?;
+    Ok(Command::StopLosing { volume })
 }
 
 fn status(text: &[u8]) -> Result<Command, Refusal>

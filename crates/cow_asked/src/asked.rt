@@ -28,15 +28,18 @@ pub enum Asked<'a> {
     /// Its pairs.
     Map {
         cow: &'a str,
+        form: Form,
     },
     /// Its slots, whether it is good or not.
     RawMap {
         cow: &'a str,
+        form: Form,
     },
     /// Whether it is good for this origin.
     Check {
         origin: &'a str,
         cow: &'a str,
+        form: Form,
     },
     /// The bytes in which the snapshot and its origin differ.
     Differ {
@@ -49,6 +52,7 @@ pub enum Asked<'a> {
         origin: &'a str,
         cow: &'a str,
         out: &'a str,
+        form: Form,
     },
     /// What is known of the array where the store is refused or can't be read everywhere: with chunks of so many sectors,
     /// where the header does not say them, and also by the pairs behind the first empty slot.
@@ -58,12 +62,14 @@ pub enum Asked<'a> {
         out: &'a str,
         chunk: Option<u32>,
         behind: bool,
+        form: Form,
     },
     /// The snapshot's copies taken back into its origin, in place, or only told of.
     Merge {
         origin: &'a str,
         cow: &'a str,
         dry: bool,
+        form: Form,
     },
     /// The snapshot and its origin served to a client on standard input and output.
     Serve {
@@ -105,7 +111,12 @@ pub fn words_ask<'a>(alloc: Global, words: &'a [String]) -> Result<Asked<'a>, Wr
 fn takes(command: &str, option: &str) -> bool {
     match (command, option) {
         ("show", "--json") => true,
+        ("map", "--json") => true,
+        ("check", "--json") => true,
         ("diff", "--json") => true,
+        ("export", "--json") => true,
+        ("rollback", "--json") => true,
+        ("merge", "--json") => true,
         ("map", "--raw") => true,
         ("export", "--salvage") => true,
         ("export", "--behind") => true,
@@ -125,17 +136,19 @@ fn show<'a>(words: &Words<'a>) -> Result<Asked<'a>, Wrong<'a>> {
 fn map<'a>(words: &Words<'a>) -> Result<Asked<'a>, Wrong<'a>> {
     let cow = words.name(1, "COW")?;
     words.are_so_many(2)?;
+    let form = words.form();
     if words.has("--raw") {
-        return Ok(Asked::RawMap { cow });
+        return Ok(Asked::RawMap { cow, form });
     }
-    Ok(Asked::Map { cow })
+    Ok(Asked::Map { cow, form })
 }
 
 fn check<'a>(words: &Words<'a>) -> Result<Asked<'a>, Wrong<'a>> {
     let origin = words.name(1, "ORIGIN")?;
     let cow = words.name(2, "COW")?;
     words.are_so_many(3)?;
-    Ok(Asked::Check { origin, cow })
+    let form = words.form();
+    Ok(Asked::Check { origin, cow, form })
 }
 
 fn differ<'a>(words: &Words<'a>) -> Result<Asked<'a>, Wrong<'a>> {
@@ -153,6 +166,7 @@ fn export<'a>(words: &Words<'a>) -> Result<Asked<'a>, Wrong<'a>> {
     words.are_so_many(4)?;
     let chunk = words.chunk()?;
     let behind = words.has("--behind");
+    let form = words.form();
     if words.has("--salvage") {
         return Ok(Asked::Salvage {
             origin,
@@ -160,6 +174,7 @@ fn export<'a>(words: &Words<'a>) -> Result<Asked<'a>, Wrong<'a>> {
             out,
             chunk,
             behind,
+            form,
         });
     }
     if behind {
@@ -168,7 +183,12 @@ fn export<'a>(words: &Words<'a>) -> Result<Asked<'a>, Wrong<'a>> {
     if chunk.is_some() {
         return Err(Wrong::Alone("--chunk"));
     }
-    Ok(Asked::Export { origin, cow, out })
+    Ok(Asked::Export {
+        origin,
+        cow,
+        out,
+        form,
+    })
 }
 
 fn merge<'a>(words: &Words<'a>) -> Result<Asked<'a>, Wrong<'a>> {
@@ -176,7 +196,13 @@ fn merge<'a>(words: &Words<'a>) -> Result<Asked<'a>, Wrong<'a>> {
     let cow = words.name(2, "COW")?;
     words.are_so_many(3)?;
     let dry = words.has("--dry-run");
-    Ok(Asked::Merge { origin, cow, dry })
+    let form = words.form();
+    Ok(Asked::Merge {
+        origin,
+        cow,
+        dry,
+        form,
+    })
 }
 
 fn serve<'a>(words: &Words<'a>) -> Result<Asked<'a>, Wrong<'a>> {

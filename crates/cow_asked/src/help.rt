@@ -8,12 +8,12 @@ pub const HELP: &[u8] =
     b"lochknife looks at images of dm-snapshot's stores. But for merge it never writes to an image.
 
 usage: lochknife show COW [--json]
-       lochknife map COW [--raw]
-       lochknife check ORIGIN COW
+       lochknife map COW [--raw] [--json]
+       lochknife check ORIGIN COW [--json]
        lochknife diff ORIGIN COW [--json]
-       lochknife export ORIGIN COW OUT [--salvage [--chunk N] [--behind]]
-       lochknife rollback ORIGIN COW OUT
-       lochknife merge ORIGIN COW [--dry-run]
+       lochknife export ORIGIN COW OUT [--salvage [--chunk N] [--behind]] [--json]
+       lochknife rollback ORIGIN COW OUT [--json]
+       lochknife merge ORIGIN COW [--dry-run] [--json]
        lochknife nbd ORIGIN COW
        lochknife --help | --version
 
@@ -29,7 +29,7 @@ usage: lochknife show COW [--json]
 COW is an image of a snapshot's store, ORIGIN one of its origin: files or block devices. OUT must not be there; as - it
 is standard output. Options stand anywhere; after -- there are names only.
 
-  --json      the answer as JSON
+  --json      the answer as JSON: an object, or one a line
   --raw       whether the store is good or not
   --salvage   of a store that is refused, or can't be read everywhere: what is known of the array, and a list of what is not
   --chunk N   the sectors of a chunk, where the header is gone

@@ -17,6 +17,10 @@ pub struct Blanked<I: Image> {
 impl<I: Image> Image for Blanked<I> {
     ghost bytes = { λ u. known_blanked u.spans.items (I.bytes u.below) };
 
+    ghost may_fail = { λ _ _ _. Unit {0} };
+
+    ghost may_give = { λ _ _ _. Unit {0} };
+
     fn len(&mut self) -> io::Result<u64> {
         self.below.len()
     }

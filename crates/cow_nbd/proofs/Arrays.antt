@@ -1,13 +1,17 @@
 -- Bytes of arrays.
-use Rattle.std.proofs.Common.{◌≡◌, ℕ, zero, suc, ◌+◌, ◌-◌, ◌*◌, ◌≤◌, List, [], ◌++◌, length, take, drop, Option, None, Some, IfSome, refl, arith, ap, ◌∙◌, sym, subst, zero-add, drop_at}
+use Rattle.std.proofs.Common.{◌≡◌, ℕ, zero, suc, ◌+◌, ◌-◌, ◌*◌, ◌<◌, ◌≤◌, List, [], ◌++◌, length, take, drop, Option, None, Some, IfSome, refl, arith, ap, ◌∙◌, sym, subst, zero-add, drop_at, inl, inr}
 use Rattle.std.proofs.Math.Seq.{take-append_seam}
 use Rattle.std.proofs.lemmas.List.{take-append-le}
 use Rattle.std.proofs.lemmas.List.FromFn.{length-map-range_with_len}
 use Rattle.sector.specs.declared.pair.Pair.{Pair}
 use Rattle.model.specs.Picture.{picture_at}
 use Rattle.cow_shown.specs.Shown.{shown}
+use Rattle.cow_shown.specs.Fails.{ShownFails}
 use Rattle.cow_shown.proofs.Exports.{shown_parts}
-use Rattle.cow_nbd.specs.Shows.{known_shown, known_at, arrays}
+use Rattle.cow_shown.proofs.Fails.{shown_calm}
+use Rattle.cow_nbd.specs.Shows.{known_shown, known_at, arrays, FailsAt, IsServed, IsServedBy}
+use Rattle.nbd_server.proofs.Calm.{talk_calm}
+use Rattle.nbd_server.specs.Talk.{beginning}
 
 -- a part of what is shown
 pub shown_part : (chunk : ℕ) (o b : List ℕ) (ps : List Pair) (at n end : ℕ) → at + n ≤ end → shown chunk o b ps at n ≡ take n (drop at (shown chunk o b ps 0 end))
@@ -44,3 +48,30 @@ known_both chunk ps size origin store o b is is' k = same_arrays chunk ps size (
     both : (k : ℕ) → known_at chunk ps size (Some o) (Some b) k ≡ Some (arrays (shown chunk o b ps 0 (512 * size)) o k)
     both zero = refl
     both (suc k) = refl
+
+-- a read that may fail later might before
+pub fails_calm : (o o' c c' : ℕ → ℕ → Type 0) (chunk : ℕ) (ps : List Pair) (size k at n : ℕ) → ((k m : ℕ) → o k m → o' k m) → ((k m : ℕ) → c k m → c' k m) → FailsAt o c chunk ps size k at n → FailsAt o' c' chunk ps size k at n
+fails_calm o o' c c' chunk ps size zero at n calm calm' (inl past) = inl past
+fails_calm o o' c c' chunk ps size zero at n calm calm' (inr fails) = inr (shown_calm o o' c c' chunk ps at n calm calm' fails)
+fails_calm o o' c c' chunk ps size (suc k) at n calm calm' (inl past) = inl past
+fails_calm o o' c c' chunk ps size (suc k) at n calm calm' (inr fails) = inr (calm at n fails)
+
+-- a read past the end
+pub fails_past : (o c : ℕ → ℕ → Type 0) (chunk : ℕ) (ps : List Pair) (size k at n : ℕ) → 512 * size < at + n → FailsAt o c chunk ps size k at n
+fails_past o c chunk ps size zero at n past = inl past
+fails_past o c chunk ps size (suc k) at n past = inl past
+
+-- a read of the snapshot
+pub fails_shown : (o c : ℕ → ℕ → Type 0) (chunk : ℕ) (ps : List Pair) (size k at n : ℕ) → k ≡ 0 → ShownFails o c chunk ps at n → FailsAt o c chunk ps size k at n
+fails_shown o c chunk ps size zero at n is fails = inr fails
+fails_shown o c chunk ps size (suc k) at n is fails = absurd (omega arith)
+
+-- a read of the origin
+pub fails_own : (o c : ℕ → ℕ → Type 0) (chunk : ℕ) (ps : List Pair) (size k at n : ℕ) → (k ≡ 0 → ⊥) → o at n → FailsAt o c chunk ps size k at n
+fails_own o c chunk ps size zero at n other fails = absurd (other refl)
+fails_own o c chunk ps size (suc k) at n other fails = inr fails
+
+-- the same session where any read may fail
+pub served_any : (fails : ℕ → ℕ → ℕ → Type 0) (size : ℕ) (snapshot origin heard : List ℕ) (old new : Option (List ℕ)) → IsServedBy fails size snapshot origin heard old new → IsServed size snapshot origin heard old new
+served_any fails size snapshot origin heard old new (exports, are, said, turns, talk, written) =
+    (exports, are, said, turns, talk_calm exports (arrays snapshot origin) fails (λ _ _ _. Unit {0}) beginning heard said turns (λ k from count h. tt) talk, written)

@@ -7,4 +7,4 @@ mod pictures;
 mod serving;
 
 pub use pictures::Pictures;
-pub use serving::{serve_fresh, serve_written};
+pub use serving::{serve_fresh, serve_pictures, serve_written};

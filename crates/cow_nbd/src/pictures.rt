@@ -1,7 +1,8 @@
 // The arrays that are served.
-ghost use Rattle.std.specs.Prelude.{◌≡◌, ℕ, ◌+◌, ◌*◌, ◌^◌, ◌<◌, ◌≤◌, List, length, take, drop, Some, IfSome, OnOk};
+ghost use Rattle.std.specs.Prelude.{◌≡◌, ℕ, ◌+◌, ◌*◌, ◌^◌, ◌<◌, ◌≤◌, List, length, take, drop, Some, IfSome, OnErr, OnOk};
 ghost use Rattle.cow_map.specs.Sorted.{IsRisingBy, old_of};
-ghost use Rattle.cow_nbd.specs.Shows.{known_at, known_shown};
+ghost use Rattle.cow_shown.specs.Fails.{ShownFails};
+ghost use Rattle.cow_nbd.specs.Shows.{known_at, known_shown, FailsAt};
 
 use cow_shown::show_range;
 use image::Image;
@@ -17,8 +18,6 @@ pub struct Pictures<O: Image, C: Image> {
     pub pairs: Vec<Pair>,
     pub chunk: u32,
     pub size: u64,
-    /// Whether the last read failed.
-    pub failed: bool,
     pub ghost some: { 0 < chunk },
     pub ghost allowed: { chunk ≤ 1024 },
     pub ghost small: { size ≤ 68_719_476_736 },
@@ -30,7 +29,9 @@ impl<O: Image, C: Image> Pictures<O, C> {
     fn read_snapshot(&mut self, at: u64, out: &mut [u8]) -> io::Result<()>
         requires { at + length out.old ≤ 512 * self.old.size }
         ensures data { OnOk result (IfSome (known_shown self.old.chunk self.old.pairs.items self.old.size (O.bytes self.old.origin) (C.bytes self.old.cow)) (λ b. out.new ≡ take (length out.old) (drop at b))) }
+        ensures fails { OnErr result (ShownFails (O.may_fail self.old.origin) (C.may_fail self.old.cow) self.old.chunk self.old.pairs.items at (length out.old)) }
         ensures bytes { (k : ℕ) → known_at self.new.chunk self.new.pairs.items self.new.size (O.bytes self.new.origin) (C.bytes self.new.cow) k ≡ known_at self.old.chunk self.old.pairs.items self.old.size (O.bytes self.old.origin) (C.bytes self.old.cow) k }
+        ensures calm { (k : ℕ) (from : ℕ) (count : ℕ) → FailsAt (O.may_fail self.new.origin) (C.may_fail self.new.cow) self.new.chunk self.new.pairs.items self.new.size k from count → FailsAt (O.may_fail self.old.origin) (C.may_fail self.old.cow) self.old.chunk self.old.pairs.items self.old.size k from count }
     {
         let pairs = self.pairs.as_slice();
         match show_range(&mut self.origin, &mut self.cow, self.chunk, pairs, at, out) {
@@ -43,7 +44,9 @@ impl<O: Image, C: Image> Pictures<O, C> {
     fn read_from(&mut self, export: usize, at: u64, out: &mut [u8]) -> io::Result<()>
         requires { at + length out.old < 2 ^ 64 }
         ensures data { OnOk result (IfSome (known_at self.old.chunk self.old.pairs.items self.old.size (O.bytes self.old.origin) (C.bytes self.old.cow) export) (λ b. out.new ≡ take (length out.old) (drop at b))) }
+        ensures fails { OnErr result (FailsAt (O.may_fail self.old.origin) (C.may_fail self.old.cow) self.old.chunk self.old.pairs.items self.old.size export at (length out.old)) }
         ensures bytes { (k : ℕ) → known_at self.new.chunk self.new.pairs.items self.new.size (O.bytes self.new.origin) (C.bytes self.new.cow) k ≡ known_at self.old.chunk self.old.pairs.items self.old.size (O.bytes self.old.origin) (C.bytes self.old.cow) k }
+        ensures calm { (k : ℕ) (from : ℕ) (count : ℕ) → FailsAt (O.may_fail self.new.origin) (C.may_fail self.new.cow) self.new.chunk self.new.pairs.items self.new.size k from count → FailsAt (O.may_fail self.old.origin) (C.may_fail self.old.cow) self.old.chunk self.old.pairs.items self.old.size k from count }
     {
         if 512 * self.size < at + out.len() as u64 {
             return Err(io::ErrorKind::UnexpectedEof.into());
@@ -58,15 +61,12 @@ impl<O: Image, C: Image> Pictures<O, C> {
 impl<O: Image, C: Image> Served for Pictures<O, C> {
     ghost bytes = { λ p k. known_at p.chunk p.pairs.items p.size (O.bytes p.origin) (C.bytes p.cow) k };
 
-    ghost failed = { λ p. p.failed };
+    ghost may_fail = { λ p k at n. FailsAt (O.may_fail p.origin) (C.may_fail p.cow) p.chunk p.pairs.items p.size k at n };
 
     fn read(&mut self, export: usize, at: u64, out: &mut [u8]) -> Result<(), Fault> {
         match self.read_from(export, at, out) {
             Ok(()) => Ok(()),
-            Err(_) => {
-                self.failed = true;
-                Err(Fault::Io)
-            }
+            Err(_) => Err(Fault::Io),
         }
     }
 }

@@ -3,7 +3,7 @@ ghost use Rattle.std.specs.Prelude.{◌≡◌, ℕ, ◌*◌, ◌≤◌, List, le
 ghost use Rattle.cow_map.specs.Maps.{IsMapOf};
 ghost use Rattle.cow_shown.specs.Shown.{shown};
 ghost use Rattle.model.specs.Picture.{picture};
-ghost use Rattle.cow_nbd.specs.Shows.{IsServed};
+ghost use Rattle.cow_nbd.specs.Shows.{IsServed, IsServedBy, FailsAt};
 
 use crate::pictures::Pictures;
 use cow_map::CowMap;
@@ -12,14 +12,14 @@ use nbd_server::{Export, Stopped, serve};
 use std::alloc::Global;
 use std::io::{Read, Write};
 
-/// Serves two arrays.
-fn serve_pictures<O: Image, C: Image, R: Read, W: Write>(
+/// Serves what a snapshot shows, and its origin. A read is answered EIO only where a read of the images may fail.
+pub fn serve_pictures<O: Image, C: Image, R: Read, W: Write>(
     alloc: Global,
     pictures: &mut Pictures<O, C>,
     reader: &mut R,
     writer: &mut W,
 ) -> Result<(), Stopped>
-    ensures { OnOk result ((o : List ℕ) → (b : List ℕ) → (heard : List ℕ) → O.bytes pictures.old.origin ≡ Some o → C.bytes pictures.old.cow ≡ Some b → R.remaining reader.old ≡ Some heard → IsServed pictures.old.size (shown pictures.old.chunk o b pictures.old.pairs.items 0 (512 * pictures.old.size)) o heard (W.contents writer.old) (W.contents writer.new)) }
+    ensures { OnOk result ((o : List ℕ) → (b : List ℕ) → (heard : List ℕ) → O.bytes pictures.old.origin ≡ Some o → C.bytes pictures.old.cow ≡ Some b → R.remaining reader.old ≡ Some heard → IsServedBy (FailsAt (O.may_fail pictures.old.origin) (C.may_fail pictures.old.cow) pictures.old.chunk pictures.old.pairs.items pictures.old.size) pictures.old.size (shown pictures.old.chunk o b pictures.old.pairs.items 0 (512 * pictures.old.size)) o heard (W.contents writer.old) (W.contents writer.new)) }
 {
     let size = 512 * pictures.size;
     let snapshot = Export {
@@ -56,7 +56,6 @@ pub fn serve_written<O: Image + Drop, C: Image + Drop, R: Read, W: Write>(
         chunk: map.chunk,
         pairs: map.pairs,
         size,
-        failed: false,
     };
     match serve_pictures(alloc, &mut pictures, reader, writer) {
         Ok(()) => Ok(()),
@@ -87,7 +86,6 @@ pub fn serve_fresh<O: Image + Drop, R: Read, W: Write>(
         chunk: FRESH_CHUNK,
         pairs: Vec::new(alloc),
         size,
-        failed: false,
     };
     match serve_pictures(alloc, &mut pictures, reader, writer) {
         Ok(()) => Ok(()),

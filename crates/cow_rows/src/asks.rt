@@ -29,8 +29,38 @@ fn words_are_asked_in_any_place(rt: HostRuntime) -> Result<(), Fail> {
         out,
         chunk,
         behind,
+        form,
     };
-    let dashed = Asked::Map { cow: "--raw" };
+    let lines = Form::Lines;
+    let spoken = Asked::Salvage {
+        origin,
+        cow,
+        out,
+        chunk,
+        behind,
+        form: lines,
+    };
+    let dashed = Asked::Map {
+        cow: "--raw",
+        form: lines,
+    };
+    let written = Asked::Export {
+        origin,
+        cow,
+        out,
+        form: lines,
+    };
+    let check = Asked::Check {
+        origin,
+        cow,
+        form: lines,
+    };
+    let tried = Asked::Merge {
+        origin,
+        cow,
+        dry: true,
+        form,
+    };
     for (line, wanted) in [
         ("--help", Ok(Asked::Help)),
         ("show -h", Ok(Asked::Help)),
@@ -38,12 +68,19 @@ fn words_are_asked_in_any_place(rt: HostRuntime) -> Result<(), Fail> {
         ("help", Ok(Asked::Help)),
         ("show c --json", Ok(Asked::Show { cow, form })),
         ("--json show c", Ok(Asked::Show { cow, form })),
-        ("map --raw c", Ok(Asked::RawMap { cow })),
+        ("map --raw c --json", Ok(Asked::RawMap { cow, form })),
+        ("map c --json", Ok(Asked::Map { cow, form })),
+        ("check --json o c", Ok(Asked::Check { origin, cow, form })),
+        ("merge o --json c --dry-run", Ok(tried)),
         ("map -- --raw", Ok(dashed)),
-        ("check o c", Ok(Asked::Check { origin, cow })),
-        ("rollback o c -", Ok(Asked::Export { origin, cow, out })),
-        ("export --behind o --chunk 8 c --salvage -", Ok(salvage)),
-        ("--chunk=8 --salvage export o c - --behind", Ok(salvage)),
+        ("check o c", Ok(check)),
+        ("rollback o c -", Ok(written)),
+        (
+            "export --behind o --chunk 8 c --salvage - --json",
+            Ok(salvage),
+        ),
+        ("--chunk=8 --salvage export o c - --behind", Ok(spoken)),
+        ("nbd o c --json", Err(Wrong::Option("--json"))),
         ("shew c", Err(Wrong::Command("shew"))),
         ("show", Err(Wrong::Missing("COW"))),
         ("show c d", Err(Wrong::Name("d"))),

@@ -24,6 +24,10 @@ struct Scratched {
 impl Image for Scratched {
     ghost bytes = { λ _. None };
 
+    ghost may_fail = { λ _ _ _. Unit {0} };
+
+    ghost may_give = { λ _ _ _. Unit {0} };
+
     fn len(&mut self) -> io::Result<u64> {
         self.below.len()
     }

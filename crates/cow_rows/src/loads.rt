@@ -44,7 +44,9 @@ fn answer_of(told: &Told) -> Result<Loaded, Refusal> {
 fn a_flipped_bit_of_each_byte_is_judged_as_by_a_load(rt: HostRuntime) -> Result<(), Fail> {
     let mut cow = image_of(rt.alloc(), WRITTEN_STORE)?;
     let mut good = 0u32;
-    for at in 0..8192 {
+    // The header's sector and the area's first two, in which the listed pairs stand and the end of the list.
+    for k in 0..1536 {
+        let at = if k < 512 { k } else { k + 3584 };
         let bit = BITS[at % 8];
         assert!(rt; at < cow.bytes.len());
         cow.bytes[at] ^= bit;
@@ -57,6 +59,6 @@ fn a_flipped_bit_of_each_byte_is_judged_as_by_a_load(rt: HostRuntime) -> Result<
         assert!(rt; at < cow.bytes.len());
         cow.bytes[at] ^= bit;
     }
-    assert!(rt; 8000 < good && good < 8192);
+    assert!(rt; 1300 < good && good < 1536);
     Ok(())
 }

@@ -3,7 +3,8 @@
 use crate::images::{FIRST_STORE, image_of};
 use cow_map::{Failure, Fault, Listed, Reason, Told, faults, read_slots, read_store, sectors_of};
 use cow_words::{
-    Numbers, push_faults, push_json, push_numbers, push_runs, push_sectors, push_show, push_slots,
+    Numbers, push_behind_json, push_faults, push_faults_json, push_json, push_listed_json,
+    push_numbers, push_runs, push_runs_json, push_sectors, push_show, push_slots,
     push_told, push_usage,
 };
 use image::{FailingImage, Image, MemImage};
@@ -219,6 +220,20 @@ fn all_faults_are_told_the_first_as_the_reason(rt: HostRuntime) -> Result<(), Fa
     let (slots, listed) = read_slots(rt.alloc(), &mut cow, 8)?;
     assert!(rt; listed == Listed::Ends(0));
     let found = faults(rt.alloc(), 8, 128, 128, slots.as_slice(), usize::MAX)?;
+    let mut text = Vec::new(rt.alloc());
+    push_faults_json(&mut text, b"fault", 256, found.as_slice())?;
+    assert_eq!(rt;
+        text.as_slice(),
+        b"{\"fault\":\"old_twice\",\"area\":0,\"slot\":1,\"old\":3,\"new\":2}\n{\"fault\":\"new_twice\",\"area\":0,\"slot\":1,\"old\":3,\"new\":2}\n{\"fault\":\"past_origin\",\"area\":0,\"slot\":2,\"old\":40,\"new\":90}\n{\"fault\":\"outside_store\",\"area\":0,\"slot\":2,\"old\":40,\"new\":90}\n".as_slice()
+    );
+    let mut text = Vec::new(rt.alloc());
+    push_runs_json(&mut text, slots.as_slice())?;
+    push_listed_json(&mut text, listed)?;
+    push_behind_json(&mut text, 256, 5, 260)?;
+    assert_eq!(rt;
+        text.as_slice(),
+        b"{\"old\":3,\"new\":2,\"count\":1}\n{\"old\":3,\"new\":2,\"count\":1}\n{\"old\":40,\"new\":90,\"count\":1}\n{\"ends\":0}\n{\"behind\":5,\"area\":1,\"slot\":4}\n".as_slice()
+    );
     let mut text = Vec::new(rt.alloc());
     push_faults(&mut text, 256, found.as_slice())?;
     assert_eq!(rt;

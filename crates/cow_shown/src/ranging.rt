@@ -1,6 +1,7 @@
 // What a snapshot shows is read from any byte on.
-ghost use Rattle.std.specs.Prelude.{◌≡◌, ℕ, ◌+◌, ◌*◌, ◌^◌, ◌<◌, ◌≤◌, List, length, IfSome, OnOk, Some};
+ghost use Rattle.std.specs.Prelude.{◌≡◌, ℕ, ◌+◌, ◌*◌, ◌^◌, ◌<◌, ◌≤◌, List, length, IfSome, OnErr, OnOk, Some, None};
 ghost use Rattle.cow_map.specs.Sorted.{IsRisingBy, old_of};
+ghost use Rattle.cow_shown.specs.Fails.{PlaceFails, ShownFails};
 ghost use Rattle.cow_shown.specs.Runs.{IsRun};
 ghost use Rattle.cow_shown.specs.Shown.{shown};
 
@@ -25,8 +26,11 @@ fn show_run<O: Image, C: Image>(
     requires run { IsRun pairs.now number run.place run.chunks }
     requires part { inside + length out.old ≤ run.chunks * (512 * chunk) }
     ensures shown { OnOk result ((o : List ℕ) → (b : List ℕ) → O.bytes origin.old ≡ Some o → C.bytes cow.old ≡ Some b → out.new ≡ shown chunk o b pairs.now (512 * (chunk * number) + inside) (length out.old)) }
+    ensures fails { OnErr result (PlaceFails (O.may_fail origin.old) (C.may_fail cow.old) chunk number inside (length out.old) run.place) }
     ensures origin { O.bytes origin.new ≡ O.bytes origin.old }
     ensures cow { C.bytes cow.new ≡ C.bytes cow.old }
+    ensures calm { (k n : ℕ) → O.may_fail origin.new k n → O.may_fail origin.old k n }
+    ensures calm_cow { (k n : ℕ) → C.may_fail cow.new k n → C.may_fail cow.old k n }
 {
     let bytes = 512 * chunk as u64;
     match run.place {
@@ -53,7 +57,8 @@ fn show_run<O: Image, C: Image>(
 
 /// A byte of a chunk of so many bytes.
 fn byte_in(bytes: u64, number: Chunk, inside: u64) -> Option<u64>
-    ensures { IfSome result (λ at. at ≡ bytes * number + inside) }
+    ensures value { IfSome result (λ at. at ≡ bytes * number + inside) }
+    ensures past { result ≡ None → 2 ^ 64 ≤ bytes * number + inside }
 {
     bytes.checked_mul(number)?.checked_add(inside)
 }
@@ -75,8 +80,11 @@ pub fn show_range<O: Image, C: Image>(
     requires rising { IsRisingBy old_of pairs.now }
     requires near { at + length out.old < 2 ^ 64 }
     ensures shown { OnOk result ((o : List ℕ) → (b : List ℕ) → O.bytes origin.old ≡ Some o → C.bytes cow.old ≡ Some b → out.new ≡ shown chunk o b pairs.now at (length out.old)) }
+    ensures fails { OnErr result (ShownFails (O.may_fail origin.old) (C.may_fail cow.old) chunk pairs.now at (length out.old)) }
     ensures origin { O.bytes origin.new ≡ O.bytes origin.old }
     ensures cow { C.bytes cow.new ≡ C.bytes cow.old }
+    ensures calm { (k n : ℕ) → O.may_fail origin.new k n → O.may_fail origin.old k n }
+    ensures calm_cow { (k n : ℕ) → C.may_fail cow.new k n → C.may_fail cow.old k n }
 {
     let bytes = 512 * chunk as u64;
     let mut done = 0;

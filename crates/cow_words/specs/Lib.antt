@@ -1,4 +1,6 @@
+pub mod Items
 pub mod Json
+pub mod Left
 pub mod Lines
 pub mod Reasons
 pub mod Salvage

@@ -10,7 +10,7 @@ use cow_map::{CowMap, Reason, Told};
 use std::alloc::AllocError;
 
 /// Adds one member more: a key and a number.
-fn push_member(text: &mut Vec<u8>, key: &[u8], number: u64) -> Result<(), AllocError>
+pub(crate) fn push_member(text: &mut Vec<u8>, key: &[u8], number: u64) -> Result<(), AllocError>
     ensures { OnOk result (text.new.items ≡ text.old.items ++ member_text key.now number) }
 {
     text.extend_from_slice(b",\"")?;
@@ -59,7 +59,7 @@ fn push_status(
 }
 
 /// Adds the members of a map's status.
-fn push_usage(text: &mut Vec<u8>, map: &CowMap) -> Result<(), AllocError>
+pub(crate) fn push_usage(text: &mut Vec<u8>, map: &CowMap) -> Result<(), AllocError>
     ensures { OnOk result (text.new.items ≡ text.old.items ++ usage_members map.now) }
 {
     let usage = map.usage();

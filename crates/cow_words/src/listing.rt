@@ -9,10 +9,10 @@ use std::alloc::AllocError;
 
 /// A run of pairs: the first, the last, and how many they are.
 #[derive(Clone, Copy)]
-struct Run {
-    first: Pair,
-    last: Pair,
-    count: u64,
+pub(crate) struct Run {
+    pub first: Pair,
+    pub last: Pair,
+    pub count: u64,
 }
 
 /// Adds a line `OLD NEW COUNT` for each run of pairs, in the order that they have: pairs whose old chunks and new chunks
@@ -46,7 +46,7 @@ pub fn push_runs(text: &mut Vec<u8>, pairs: &[Pair]) -> Result<(), AllocError>
 }
 
 /// Whether both chunks of a pair come right after those of another.
-fn follows(before: Pair, pair: Pair) -> bool
+pub(crate) fn follows(before: Pair, pair: Pair) -> bool
     ensures { result ≡ follows_in before pair }
 {
     before.old.checked_add(1) == Some(pair.old) && before.new.checked_add(1) == Some(pair.new)

@@ -1,25 +1,22 @@
 -- Each deed does what it promises, by the volume's own contracts; and deeds one after another.
 use Rattle.std.proofs.Common.{◌≡◌, ◌≢◌, inl, inr, ℕ, Bool, true, false, List, [], ◌∷◌, ◌++◌, map, length, None, refl, sym, ◌∙◌, ap, subst, if◌then◌else◌}
-use Rattle.std.specs.Prelude.{◌==◌, ◌&&◌, IfErr, IfOk, MatchResult, OnErr, OnOk, Result, Ok, Err}
+use Rattle.std.specs.Prelude.{◌==◌, ◌&&◌, IfErr, IfOk, MatchResult, OnOk, Result, Ok, Err}
 use Rattle.std.specs.List.{All}
 use Rattle.std.specs.Option.{is_some}
-use Rattle.std.proofs.lemmas.Bool.{cases_Bool, false≢true, ne_eqb}
+use Rattle.std.proofs.lemmas.Bool.{cases_Bool, ne_eqb}
 use Rattle.std.proofs.lemmas.List.{map-id}
 use Rattle.std.proofs.lemmas.List.Elements.{All-head, All-tail}
-use Rattle.sector.specs.Bytes.{sector_at}
 use Rattle.sector.specs.declared.refusal.Refusal.{Refusal}
-use Rattle.cow_header.specs.HeaderText.{found_in}
-use Rattle.cow_header.specs.declared.found.Found.{Found}
-use Rattle.cow_header.specs.declared.found.Found.TheVariants.{Fresh, Header}
 use Rattle.device.specs.Layers.{Layer, is_loud}
 use Rattle.plain.specs.Plain.{Plain, overflow_of, saved_under}
 use Rattle.plain.specs.Legal.{IsBegun, IsTaken}
 use Rattle.plain.specs.declared.request.Request.{Request}
 use Rattle.snapshot.specs.declared.opening.StoreDev.{StoreDev}
 use Rattle.snapshot.specs.Kept.{Kept}
-use Rattle.snapshot.specs.Opening.{shown_array, shown_as}
+use Rattle.snapshot.specs.Opening.{shown_array}
 use Rattle.volume_laws.specs.Shape.{shown_entry, shown_origin}
-use Rattle.volume.specs.Attached.{IsGained}
+use Rattle.volume.specs.Attached.{IsGained, IsRefusedOver}
+use Rattle.volume.specs.Fresh.{is_fresh}
 use Rattle.volume.specs.Beginning.{IsMergeBegun, IsNotBegun, begin_refusal}
 use Rattle.volume.specs.Layering.{Measures}
 use Rattle.volume.specs.Leaving.{is_quiet_of}
@@ -27,6 +24,7 @@ use Rattle.volume.specs.Submitting.{IsAcceptedAs, IsRefusedAs, submit_refusal}
 use Rattle.volume.specs.Taking.{IsNotTaken, attach_refusal}
 use Rattle.volume.specs.Volumed.{Volumed, is_loud_in_all, merge_shape, plain_of, snap_shape}
 use Rattle.volume.proofs.Attaches.{none_begun, taking_none}
+use Rattle.volume.proofs.Fresh.{fresh_shown}
 use Rattle.volume.proofs.Declines.{refused_declined, refused_loud}
 use Rattle.volume.proofs.Quieted.{quiet_flights}
 use Rattle.volume.proofs.Ran.{unbegun_same}
@@ -35,7 +33,7 @@ use Rattle.deeds.specs.declared.deed.Deed.TheVariants.{Submit, Step, Tick, Tell,
 use Rattle.deeds.specs.declared.deed.Done.{Done}
 use Rattle.deeds.specs.declared.deed.Done.TheVariants.{Submitted, Stepped, Ticked, Told, Attached, Detached, Begun, Resumed, Finished}
 use Rattle.deeds.specs.Answered.{AreAnswered}
-use Rattle.deeds.specs.Lived.{IsDone, IsLived, IsLoudDeed, IsSeen, Sees, Taken, Undoes, is_fresh, is_fresh_as, remembered}
+use Rattle.deeds.specs.Lived.{IsDone, IsLived, IsLoudDeed, IsSeen, Sees, Taken, Undoes, remembered}
 use Rattle.deeds.proofs.Plains.{AreKept, begun_shows, finished_keeps, less_keeps, refused_keeps, same_all, stepped_keeps, submitted_keeps, taken_kept, taken_keeps}
 
 both : (a b : Bool) → a ≡ true → b ≡ true → (a && b) ≡ true
@@ -80,7 +78,7 @@ module _ {B : Type 0} (m : Measures B) (layers : B → List Layer) where
 
   -- a snapshot is taken of a volume that is quiet and has no merge
   module _ (store : StoreDev B) (chunk : ℕ) (overflow : Bool) (v w : Volumed B) where
-    quiet_taken : (number : ℕ) → attach_refusal store.stale chunk v ≡ None → IsGained layers m.size number overflow store v w → IsTaken (plain v) number (shown_array (m.contents v.origin) (m.contents store.device)) (overflow_of overflow) (plain w)
+    quiet_taken : (number : ℕ) → attach_refusal store.stale chunk v ≡ None → IsGained m.contents layers m.size number overflow store v w → IsTaken (plain v) number (shown_array (m.contents v.origin) (m.contents store.device)) (overflow_of overflow) (plain w)
         → Sees m.contents (Attach store chunk overflow) (Attached (Ok number)) (plain v) (plain w)
     quiet_taken number admitted gained taken =
         let (quiet, few, alone) = taking_none store.stale (is_some v.merge) (is_quiet_of v) (length v.snaps) v.attached chunk admitted in
@@ -92,7 +90,7 @@ module _ {B : Type 0} (m : Measures B) (layers : B → List Layer) where
 
     pub attach_done : (result : Result ℕ (Refusal × StoreDev B)) → IfOk result (λ number. attach_refusal store.stale chunk v ≡ None)
         → IfOk result (λ number. is_loud_in_all layers v ≡ true → is_loud (layers store.device) ≡ true → IsTaken (plain_of m.contents layers v) number (shown_array (m.contents v.origin) (m.contents store.device)) (overflow_of overflow) (plain_of m.contents layers w))
-        → IfOk result (λ number. IsGained layers m.size number overflow store v w) → MatchResult result (λ number. is_loud_in_all layers w ≡ (is_loud_in_all layers v && is_loud (layers store.device))) (λ refused. is_loud (layers refused.1.device) ≡ is_loud (layers store.device)) → OnErr result (w ≡ v)
+        → IfOk result (λ number. IsGained m.contents layers m.size number overflow store v w) → MatchResult result (λ number. is_loud_in_all layers w ≡ (is_loud_in_all layers v && is_loud (layers store.device))) (λ refused. is_loud (layers refused.1.device) ≡ is_loud (layers store.device)) → IfErr result (λ e. IsRefusedOver m.contents layers m.size e.0 v w)
         → IfErr result (λ e. IsNotTaken store.stale chunk (m.size v.origin) (m.size store.device) (m.contents store.device) v e.0)
         → IsDone m layers (Attach store chunk overflow) (Attached result) v w
     attach_done (Ok number) admitted taken gained loud same why = record {
@@ -101,16 +99,10 @@ module _ {B : Type 0} (m : Measures B) (layers : B → List Layer) where
       answered = ((admitted, gained), why);
     }
     attach_done (Err refused) admitted taken gained loud same why = record {
-      loud = λ l brought. ap (is_loud_in_all layers) same ∙ l;
-      seen = λ l brought. record { sees = ap plain same; reason = tt; disk = tt };
-      answered = (tt, why);
+      loud = λ l brought. same.loud ∙ l;
+      seen = λ l brought. record { sees = same.shown; reason = tt; disk = tt };
+      answered = (tt, (why, same));
     }
-
--- over a fresh store the origin is taken as it is
-fresh_shown : (origin bytes : List ℕ) (found : Result Found Refusal) → is_fresh_as found ≡ true → shown_as origin bytes found ≡ origin
-fresh_shown origin bytes (Ok Fresh) fresh = refl
-fresh_shown origin bytes (Ok (Header chunk)) fresh = absurd (false≢true fresh)
-fresh_shown origin bytes (Err refusal) fresh = refl
 
 attached_keeps : (number : ℕ) (bytes : List ℕ) (overflow : Bool) (p q : Plain) (taken : List Taken) → saved_under number p.saved ≡ None → p.requests ≡ [] → IsTaken p number (shown_array p.origin bytes) (overflow_of overflow) q → AreKept p taken
     → AreKept q (if is_fresh bytes then record { number = number; array = p.origin } ∷ taken else taken)
@@ -119,7 +111,7 @@ attached_keeps number bytes overflow p q taken none quiet h all =
     elim (cases_Bool (is_fresh bytes)) [
       | inr written ↦ rw written rest
       | inl fresh ↦ rw fresh (
-        taken_kept number p.origin (overflow_of overflow) p q none quiet (subst (λ a. IsTaken p number a (overflow_of overflow) q) (fresh_shown p.origin bytes (found_in (sector_at bytes 0)) fresh) h),
+        taken_kept number p.origin (overflow_of overflow) p q none quiet (subst (λ a. IsTaken p number a (overflow_of overflow) q) (fresh_shown p.origin bytes fresh) h),
         rest,
       )
     ]

@@ -4,7 +4,7 @@
 use Rattle.std.specs.Prelude.{◌≡◌, List, [], ◌∷◌, Some, None, IfErr, IfOk, OnOk, is_ok}
 use Rattle.sector.specs.declared.refusal.Refusal.TheVariants.{NotMerging}
 use Rattle.device.specs.Layers.{Layer}
-use Rattle.volume.specs.Attached.{IsGained}
+use Rattle.volume.specs.Attached.{IsGained, IsRefusedOver}
 use Rattle.volume.specs.Beginning.{IsMergeBegun, IsNotBegun, IsResumed, begin_refusal}
 use Rattle.volume.specs.Finishing.{IsTakenOut, finish_refusal}
 use Rattle.volume.specs.Layering.{IsTicked, Measures}
@@ -23,7 +23,7 @@ IsAnswered m layers (Submit request) (Submitted result) old new = IfOk result (�
 IsAnswered m layers (Step event) (Stepped result) old new = is_ok result ≡ is_due_of m.contents layers old event
 IsAnswered m layers (Tick seconds) Ticked old new = IsTicked m layers seconds old new
 IsAnswered m layers (Tell dev depth message) (Told result) old new = IfOk result (λ answer. IsTold m layers dev depth message answer old new) × IfErr result (λ refusal. IsNotTold m layers dev depth message refusal old new)
-IsAnswered m layers (Attach store chunk overflow) (Attached result) old new = IfOk result (λ number. (attach_refusal store.stale chunk old ≡ None) × IsGained layers m.size number overflow store old new) × IfErr result (λ e. IsNotTaken store.stale chunk (m.size old.origin) (m.size store.device) (m.contents store.device) old e.0)
+IsAnswered m layers (Attach store chunk overflow) (Attached result) old new = IfOk result (λ number. (attach_refusal store.stale chunk old ≡ None) × IsGained m.contents layers m.size number overflow store old new) × IfErr result (λ e. IsNotTaken store.stale chunk (m.size old.origin) (m.size store.device) (m.contents store.device) old e.0 × IsRefusedOver m.contents layers m.size e.0 old new)
 IsAnswered m layers (Detach number) (Detached result) old new = IfOk result (λ store. IsWithout number old new store) × IfErr result (λ refusal. (detach_refusal number old ≡ Some refusal) × (new ≡ old))
 IsAnswered m layers (BeginMerge number) (Begun result) old new = OnOk result ((begin_refusal number old ≡ None) × IsMergeBegun number old new) × IfErr result (λ refusal. IsNotBegun number refusal old new)
 IsAnswered m layers ResumeMerge (Resumed result) old new = OnOk result (IsResumed old new) × IfErr result (λ refusal. (refusal ≡ NotMerging) × (old.merge ≡ None) × (new ≡ old))

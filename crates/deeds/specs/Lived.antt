@@ -1,12 +1,7 @@
 -- To be believed: `live`'s clause is said in these words.
 -- A volume's whole life as one list: what callers see of each deed by its answer, why, and what a merge gives back. The plain
 -- machine and its steps are those of the kernel's admin-guide page on snapshots; the words here are this project's own.
-use Rattle.std.specs.Prelude.{◌≡◌, ◌==◌, not, ℕ, ◌*◌, Bool, true, false, List, [], ◌∷◌, length, filter, None, Result, Ok, Err, if◌then◌else◌}
-use Rattle.sector.specs.Bytes.{sector_at}
-use Rattle.sector.specs.declared.refusal.Refusal.{Refusal}
-use Rattle.cow_header.specs.HeaderText.{found_in}
-use Rattle.cow_header.specs.declared.found.Found.{Found}
-use Rattle.cow_header.specs.declared.found.Found.TheVariants.{Fresh, Header}
+use Rattle.std.specs.Prelude.{◌≡◌, ◌==◌, not, ℕ, ◌*◌, true, List, [], ◌∷◌, length, filter, None, Ok, Err, if◌then◌else◌}
 use Rattle.device.specs.Layers.{Layer, is_loud}
 use Rattle.plain.specs.Plain.{Plain, overflow_of, saved_under}
 use Rattle.plain.specs.Legal.{IsBegun, IsDeclined, IsDetached, IsFinished, IsLegalStep, IsSubmitted, IsTaken}
@@ -15,6 +10,7 @@ use Rattle.plain.specs.declared.request.Op.TheVariants.{Write}
 use Rattle.pending.specs.Kinds.{kind_of}
 use Rattle.snapshot.specs.Opening.{shown_array}
 use Rattle.volume.specs.Causes.{HasCause, IsOneAtMost, lives_of}
+use Rattle.volume.specs.Fresh.{is_fresh}
 use Rattle.volume.specs.Layering.{Measures}
 use Rattle.volume.specs.Stepping.{KeepsDevices}
 use Rattle.volume.specs.Submitting.{lives_after}
@@ -85,15 +81,6 @@ pub record IsDone {B : Type 0} (m : Measures B) (layers : B → List Layer) (dee
 pub record Taken : Type 0 where
   pub number : ℕ
   pub array : List ℕ
-
--- whether a store is fresh, by its first sector
-abbrev pub is_fresh_as : Result Found Refusal → Bool
-is_fresh_as (Ok Fresh) = true
-is_fresh_as (Ok (Header chunk)) = false
-is_fresh_as (Err refusal) = false
-
-abbrev pub is_fresh : List ℕ → Bool
-is_fresh bytes = is_fresh_as (found_in (sector_at bytes 0))
 
 -- those of other numbers
 abbrev pub others : ℕ → List Taken → List Taken

@@ -31,7 +31,7 @@ pub data Layer : Type 0 where
   Broken : Layer
   -- the operations that pass before one fails; none fails where there is no number
   Counted : Option ℕ → Layer
-  -- a fuse: the writes that pass before it is blown; None: it is blown, and every operation fails, counted
+  -- a fuse: the writes and flushes that pass before it is blown; None: it is blown, and every operation fails, counted
   Fused : Option ℕ → Layer
   -- no layer of its own: what lies beside the bytes that the layer above shows of the device below. It passes everything
   Window : Beside → Layer
@@ -62,7 +62,7 @@ counted_after (Some zero) = None
 counted_after (Some (suc k)) = Some k
 counted_after None = None
 
--- whether a fuse that so many writes pass lets one pass
+-- whether a fuse that so many writes and flushes pass lets one pass
 abbrev pub fuse_passes : Option ℕ → Bool
 fuse_passes (Some zero) = false
 fuse_passes (Some (suc k)) = true
@@ -78,7 +78,7 @@ layer_fate Broken op = Fail
 layer_fate (Counted left) op = if counted_passes left then Pass else Fail
 layer_fate (Fused left) (Reads first count) = if is_some left then Pass else Fail
 layer_fate (Fused left) (Writes first count) = if fuse_passes left then Pass else Fail
-layer_fate (Fused left) Flushes = if is_some left then Pass else Fail
+layer_fate (Fused left) Flushes = if fuse_passes left then Pass else Fail
 layer_fate (Window aside) op = Pass
 
 -- the operation as it is passed on
@@ -115,6 +115,7 @@ abbrev pub layer_after : Layer → Operation → Bool → Layer
 layer_after (Dusty sectors size enabled bad) (Writes first count) done = Dusty sectors size enabled (if enabled && done then filter (λ block. not (touches size first count block)) bad else bad)
 layer_after (Counted left) op done = Counted (counted_after left)
 layer_after (Fused left) (Writes first count) done = Fused (counted_after left)
+layer_after (Fused left) Flushes done = Fused (counted_after left)
 layer_after l op done = l
 
 -- the layers after an operation

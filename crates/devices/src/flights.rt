@@ -134,7 +134,8 @@ fn snapshot_named(event: &Event) -> Option<&Name>
     ensures { option_copied result ≡ snapshot_named event.now }
 {
     match event {
-        Event::ZeroNext(name) | Event::WriteArea(name) | Event::WriteInvalid(name) => Some(name),
+        Event::ZeroNext(name) | Event::WriteArea(name) => Some(name),
+        Event::WriteInvalid(name) | Event::FlushStore(name) => Some(name),
         Event::Issue(_) | Event::CopyRead(_) | Event::CopyWrite(_) | Event::Publish(_) => None,
         Event::MergeGroup | Event::MergeAreaRead | Event::MergeRead | Event::MergeWrite => None,
         Event::MergeFlush | Event::MergeCommit | Event::MergeRelease => None,
@@ -154,6 +155,7 @@ fn numbered(event: &Event, number: SnapId) -> plain::Event
         Event::ZeroNext(_) => plain::Event::ZeroNext(number),
         Event::WriteArea(_) => plain::Event::WriteArea(number),
         Event::WriteInvalid(_) => plain::Event::WriteInvalid(number),
+        Event::FlushStore(_) => plain::Event::FlushStore(number),
         Event::MergeGroup => plain::Event::MergeGroup,
         Event::MergeAreaRead => plain::Event::MergeAreaRead,
         Event::MergeRead => plain::Event::MergeRead,

@@ -42,4 +42,4 @@ pub use raw::{load_disk, save_disk};
 pub use remove::remove_device;
 pub use sectors::{read_device, write_device};
 pub use shown::status_text;
-pub use stopping::stop_device;
+pub use stopping::{stop_device, stop_losing};

@@ -1,7 +1,8 @@
 // A volume is stopped: it ends with its snapshots, whatever is in flight in it.
-ghost use Rattle.std.specs.Prelude.{◌≡◌, ◌≤◌, ◌<◌, ◌+◌, ◌++◌, IfErr, Err, length, true, vec_len, vec_capacity};
+ghost use Rattle.std.specs.Prelude.{◌≡◌, ◌≤◌, ◌<◌, ◌+◌, ◌++◌, IfErr, OnErr, Err, length, map, take, true, vec_len, vec_capacity};
 ghost use Rattle.named.specs.Changes.{Changes};
 ghost use Rattle.named.specs.Events.{origin_by};
+ghost use Rattle.named.specs.Losing.{lasting, StopsLosing};
 ghost use Rattle.named.specs.Naming.{AreNamed};
 ghost use Rattle.named.specs.Sound.{is_sound};
 ghost use Rattle.named.specs.Stopping.{volume_stopped};
@@ -58,4 +59,28 @@ pub fn stop_device(held: &mut Held, name: &Name) -> Result<(), Refusal>
     let place = find_device(held, name)?;
     let v = origin_at(place)?;
     stop_at(held, v)
+}
+
+/// The disks of the stacks from a place on lose what was not flushed.
+fn lose_from(stacks: &mut [NamedStack], first: usize)
+    ensures others { take first stacks.new ≡ take first stacks.old }
+    ensures lost { map lasting stacks.new ≡ map lasting stacks.old }
+{
+    for i in first..stacks.len() {
+        stacks[i].lose();
+    }
+}
+
+/// `stop VOL lose`: the volume is stopped as by `stop VOL`, with the same refusals, and then its disks lose what was not flushed:
+/// each of their sectors goes back to its value at its disk's last flush. All other disks stay as they are.
+pub fn stop_losing(held: &mut Held, name: &Name) -> Result<(), Refusal>
+    ensures asks { IfErr (origin_by name.now (table_of held.old)) (λ e. result ≡ Err e) }
+    ensures done { StopsLosing result name.now (table_of held.old) (table_of held.new) }
+    ensures stays { OnErr result (table_of held.new ≡ table_of held.old) }
+    ensures named { AreNamed (table_of held.old) → AreNamed (table_of held.new) }
+{
+    let first = held.stacks.len();
+    stop_device(held, name)?;
+    lose_from(held.stacks.as_mut_slice(), first);
+    Ok(())
 }

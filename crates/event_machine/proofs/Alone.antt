@@ -3,7 +3,7 @@
 use Rattle.std.proofs.Common.{◌≡◌, ℕ, Option, Some, None, refl, ap, ◌∙◌, sym}
 use Rattle.std.specs.Prelude.{◌==◌}
 use Rattle.plain.specs.declared.event.Event.{Event}
-use Rattle.plain.specs.declared.event.Event.TheVariants.{Issue, CopyRead, CopyWrite, ZeroNext, WriteArea, Publish, WriteInvalid, MergeGroup, MergeAreaRead, MergeRead, MergeWrite, MergeFlush, MergeCommit, MergeRelease}
+use Rattle.plain.specs.declared.event.Event.TheVariants.{Issue, CopyRead, CopyWrite, ZeroNext, WriteArea, Publish, WriteInvalid, FlushStore, MergeGroup, MergeAreaRead, MergeRead, MergeWrite, MergeFlush, MergeCommit, MergeRelease}
 use Rattle.volume_laws.specs.MergeDue.{due_or}
 use Rattle.settled.specs.Devices.{sectors_of}
 use Rattle.event_machine.specs.Held.{Held, MergeHeld, Moving}
@@ -68,3 +68,4 @@ stepped_alone (ZeroNext n) v alone = refl
 stepped_alone (WriteArea n) v alone = refl
 stepped_alone (Publish n) v alone = publish_alone n v (start_alone (stepped (Publish n) v) (publish_merge n v ∙ alone))
 stepped_alone (WriteInvalid n) v alone = refl
+stepped_alone (FlushStore n) v alone = refl

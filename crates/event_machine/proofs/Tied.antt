@@ -6,17 +6,17 @@ use Rattle.std.proofs.lemmas.Bool.{cases_Bool}
 use Rattle.plain.specs.declared.request.Reply.{Reply}
 use Rattle.pending.specs.Kinds.{kind_of}
 use Rattle.pending.specs.Routes.{refused_of, again_route_of, write_route_of}
-use Rattle.pending.specs.Due.{first_by, least, front_written, is_copy_at, number_of_copy, number_of_mark, number_of_flight, is_publishable as can_publish, is_issuable as can_issue}
+use Rattle.pending.specs.Due.{first_by, least, front_ready, front_unflushed, is_copy_at, number_of_copy, number_of_mark, number_of_flight, is_publishable as can_publish, is_issuable as can_issue}
 use Rattle.pending.specs.declared.copies.Stage.{Stage}
 use Rattle.pending.specs.declared.copies.Stage.TheVariants.{Waiting, Read}
 use Rattle.pending.specs.declared.copies.ChunkCopy.{ChunkCopy}
 use Rattle.pending.specs.declared.flights.Flight.{Flight}
-use Rattle.volume_laws.specs.Due.{DueSnap, snap_number, is_untried as untried_in, can_commit as commits, can_zero as zeroes, copy_of, publishable_of, least_of, due_of}
+use Rattle.volume_laws.specs.Due.{DueSnap, snap_number, can_mark as marks_in, can_flush_store as flushes_in, can_commit as commits, can_zero as zeroes, copy_of, publishable_of, least_of, due_of}
 use Rattle.volume_laws.specs.Published.{is_saved as is_saved_in, is_clear as is_clear_in, is_saved_over as is_saved_over_in, is_clear_over as is_clear_over_in}
 use Rattle.volume_laws.specs.Again.{placed_of, again_of}
 use Rattle.settled.specs.Devices.{Device}
 use Rattle.event_machine.specs.Held.{Held, Going, number_of, is_untried}
-use Rattle.event_machine.specs.Due.{is_front_written, can_commit, can_zero, is_at, number_of_copying, copy_at, is_reading, is_publishable, publishable_in, is_issuable, number_of_going, least_in, chosen, due}
+use Rattle.event_machine.specs.Due.{is_front_ready, is_front_unflushed, can_mark, can_flush_store, can_commit, can_zero, is_at, number_of_copying, copy_at, is_reading, is_publishable, publishable_in, is_issuable, number_of_going, least_in, chosen, due}
 use Rattle.event_machine.specs.Again.{again, placed, refused, is_saved, is_clear, is_saved_over, is_clear_over}
 use Rattle.event_machine.specs.Seen.{Seen, copying_of, going_of, held_of, due_in, moving_of, NeedsAsSeen}
 use Rattle.settled.proofs.Each.{Each}
@@ -38,19 +38,29 @@ pub any_map : {X Y : Type 0} (f : X → Y) (test : Y → Bool) (xs : List X) →
 any_map f test [] = refl
 any_map f test (x ∷ xs) = ap (λ b. test (f x) || b) (any_map f test xs)
 
-front_same : (cs : List ChunkCopy) → is_front_written (map copying_of cs) ≡ front_written cs
+front_same : (cs : List ChunkCopy) → is_front_ready (map copying_of cs) ≡ front_ready cs
 front_same [] = refl
 front_same (c ∷ cs) = refl
 
+unflushed_same : (cs : List ChunkCopy) → is_front_unflushed (map copying_of cs) ≡ front_unflushed cs
+unflushed_same [] = refl
+unflushed_same (c ∷ cs) = refl
+
+flush_same : (s : Seen) → NeedsAsSeen s → can_flush_store (held_of s) ≡ flushes_in s.due
+flush_same s seen = elim (cases_Bool (front_ready s.due.books.copies)) [
+  | inl front ↦ rw (front_same s.due.books.copies, unflushed_same s.due.books.copies, sym (seen.needs front), sym (seen.waits front)) refl
+  | inr none ↦ rw (front_same s.due.books.copies, unflushed_same s.due.books.copies, none) refl
+]
+
 commit_same : (s : Seen) → NeedsAsSeen s → can_commit (held_of s) ≡ commits s.due
-commit_same s needs = elim (cases_Bool (front_written s.due.books.copies)) [
-  | inl front ↦ rw (front_same s.due.books.copies, sym (needs front)) refl
+commit_same s seen = elim (cases_Bool (front_ready s.due.books.copies)) [
+  | inl front ↦ rw (front_same s.due.books.copies, sym (seen.waits front)) refl
   | inr none ↦ rw (front_same s.due.books.copies, none) refl
 ]
 
 zero_same : (s : Seen) → NeedsAsSeen s → can_zero (held_of s) ≡ zeroes s.due
-zero_same s needs = elim (cases_Bool (front_written s.due.books.copies)) [
-  | inl front ↦ rw (front_same s.due.books.copies, sym (needs front)) refl
+zero_same s seen = elim (cases_Bool (front_ready s.due.books.copies)) [
+  | inl front ↦ rw (front_same s.due.books.copies, sym (seen.needs front)) refl
   | inr none ↦ rw (front_same s.due.books.copies, none) refl
 ]
 
@@ -60,7 +70,7 @@ copy_same stage s = first_by_map copying_of (is_at stage) (is_copy_at stage) num
 publish_same : (fs : List Flight) (s : Seen) → publishable_in (map going_of fs) (held_of s) ≡ publishable_of fs s.due
 publish_same fs s =
     first_by_same (is_publishable (map going_of fs) (held_of s)) (can_publish s.due.books.number s.due.books.chunk fs) number_of_mark s.due.books.marks
-    (λ m. ap not (any_map going_of (is_reading (held_of s) m.chunk) fs))
+    (λ m. ap (λ b. m.safe && not b) (any_map going_of (is_reading (held_of s) m.chunk) fs))
   where
     first_by_same : {X : Type 0} (test test' : X → Bool) (number : X → ℕ) (xs : List X) → ((x : X) → test x ≡ test' x) → first_by test number xs ≡ first_by test' number xs
     first_by_same test test' number [] same = refl
@@ -84,19 +94,21 @@ due_tied origin snaps fs a k needs =
     let hs : List Held = map held_of snaps in
     let rs : List Going = map going_of fs in
     let ds : List DueSnap = map due_in snaps in
-    ap (λ o. chosen o (least_in (publishable_in rs) hs) (first_by can_commit number_of hs) (first_by can_zero number_of hs) (least_in (copy_at Read) hs) (least_in (copy_at Waiting) hs) (first_by is_issuable number_of_going rs))
-    (first_same is_untried untried_in snaps (each_all (λ s. is_untried (held_of s) ≡ untried_in s.due) snaps (λ s. refl)))
-    ∙ ap (λ o. chosen (first_by untried_in snap_number ds) o (first_by can_commit number_of hs) (first_by can_zero number_of hs) (least_in (copy_at Read) hs) (least_in (copy_at Waiting) hs) (first_by is_issuable number_of_going rs))
+    ap (λ o. chosen o (first_by can_flush_store number_of hs) (least_in (publishable_in rs) hs) (first_by can_commit number_of hs) (first_by can_zero number_of hs) (least_in (copy_at Read) hs) (least_in (copy_at Waiting) hs) (first_by is_issuable number_of_going rs))
+    (first_same can_mark marks_in snaps (each_all (λ s. can_mark (held_of s) ≡ marks_in s.due) snaps (λ s. refl)))
+    ∙ ap (λ o. chosen (first_by marks_in snap_number ds) o (least_in (publishable_in rs) hs) (first_by can_commit number_of hs) (first_by can_zero number_of hs) (least_in (copy_at Read) hs) (least_in (copy_at Waiting) hs) (first_by is_issuable number_of_going rs))
+    (first_same can_flush_store flushes_in snaps (each_map NeedsAsSeen (λ s. can_flush_store (held_of s) ≡ flushes_in s.due) snaps flush_same needs))
+    ∙ ap (λ o. chosen (first_by marks_in snap_number ds) (first_by flushes_in snap_number ds) o (first_by can_commit number_of hs) (first_by can_zero number_of hs) (least_in (copy_at Read) hs) (least_in (copy_at Waiting) hs) (first_by is_issuable number_of_going rs))
     (least_same (publishable_in rs) (publishable_of fs) snaps (publish_same fs))
-    ∙ ap (λ o. chosen (first_by untried_in snap_number ds) (least_of (publishable_of fs) ds) o (first_by can_zero number_of hs) (least_in (copy_at Read) hs) (least_in (copy_at Waiting) hs) (first_by is_issuable number_of_going rs))
+    ∙ ap (λ o. chosen (first_by marks_in snap_number ds) (first_by flushes_in snap_number ds) (least_of (publishable_of fs) ds) o (first_by can_zero number_of hs) (least_in (copy_at Read) hs) (least_in (copy_at Waiting) hs) (first_by is_issuable number_of_going rs))
     (first_same can_commit commits snaps (each_map NeedsAsSeen (λ s. can_commit (held_of s) ≡ commits s.due) snaps commit_same needs))
-    ∙ ap (λ o. chosen (first_by untried_in snap_number ds) (least_of (publishable_of fs) ds) (first_by commits snap_number ds) o (least_in (copy_at Read) hs) (least_in (copy_at Waiting) hs) (first_by is_issuable number_of_going rs))
+    ∙ ap (λ o. chosen (first_by marks_in snap_number ds) (first_by flushes_in snap_number ds) (least_of (publishable_of fs) ds) (first_by commits snap_number ds) o (least_in (copy_at Read) hs) (least_in (copy_at Waiting) hs) (first_by is_issuable number_of_going rs))
     (first_same can_zero zeroes snaps (each_map NeedsAsSeen (λ s. can_zero (held_of s) ≡ zeroes s.due) snaps zero_same needs))
-    ∙ ap (λ o. chosen (first_by untried_in snap_number ds) (least_of (publishable_of fs) ds) (first_by commits snap_number ds) (first_by zeroes snap_number ds) o (least_in (copy_at Waiting) hs) (first_by is_issuable number_of_going rs))
+    ∙ ap (λ o. chosen (first_by marks_in snap_number ds) (first_by flushes_in snap_number ds) (least_of (publishable_of fs) ds) (first_by commits snap_number ds) (first_by zeroes snap_number ds) o (least_in (copy_at Waiting) hs) (first_by is_issuable number_of_going rs))
     (least_same (copy_at Read) (copy_of Read) snaps (copy_same Read))
-    ∙ ap (λ o. chosen (first_by untried_in snap_number ds) (least_of (publishable_of fs) ds) (first_by commits snap_number ds) (first_by zeroes snap_number ds) (least_of (copy_of Read) ds) o (first_by is_issuable number_of_going rs))
+    ∙ ap (λ o. chosen (first_by marks_in snap_number ds) (first_by flushes_in snap_number ds) (least_of (publishable_of fs) ds) (first_by commits snap_number ds) (first_by zeroes snap_number ds) (least_of (copy_of Read) ds) o (first_by is_issuable number_of_going rs))
     (least_same (copy_at Waiting) (copy_of Waiting) snaps (copy_same Waiting))
-    ∙ ap (chosen (first_by untried_in snap_number ds) (least_of (publishable_of fs) ds) (first_by commits snap_number ds) (first_by zeroes snap_number ds) (least_of (copy_of Read) ds) (least_of (copy_of Waiting) ds))
+    ∙ ap (chosen (first_by marks_in snap_number ds) (first_by flushes_in snap_number ds) (least_of (publishable_of fs) ds) (first_by commits snap_number ds) (first_by zeroes snap_number ds) (least_of (copy_of Read) ds) (least_of (copy_of Waiting) ds))
     (first_by_map going_of is_issuable can_issue number_of_going number_of_flight fs (each_all (λ f. is_issuable (going_of f) ≡ can_issue f) fs (λ f. refl)) (λ f. refl))
 
 -- requests that are routed again are seen alike

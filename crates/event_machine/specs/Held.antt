@@ -1,11 +1,12 @@
 -- To be believed: `run`'s output, a volume's steps or its attach are said in these words.
 -- A volume with events: what it keeps of its snapshots, its copies, its merge and its requests beside its devices.
-use Rattle.std.specs.Prelude.{ℕ, Bool, false, true, List, [], ◌++◌, Option, Some}
+use Rattle.std.specs.Prelude.{ℕ, Bool, false, true, List, [], ◌++◌, Option, Some, map}
 use Rattle.sector.specs.declared.pair.Pair.{Pair}
 use Rattle.plain.specs.declared.request.Request.{Request}
 use Rattle.plain.specs.declared.request.Reply.{Reply}
 use Rattle.pending.specs.declared.copies.Stage.{Stage}
 use Rattle.pending.specs.declared.copies.Mark.{Mark}
+use Rattle.pending.specs.Flushed.{flushed_stage, safe_mark}
 use Rattle.pending.specs.declared.flights.Route.{Route}
 use Rattle.settled.specs.Devices.{Device}
 use Rattle.settled.specs.Snaps.{Snap}
@@ -18,15 +19,18 @@ pub record Copying : Type 0 where
   pub stage : Stage
   pub bytes : List ℕ
 
--- A snapshot, and what is in memory of it. untried: it is spoiled, and its header was not yet marked. next: the place that
--- is handed out next. zeroed: the area after the current one is zeroed. marks: of copies that are committed and not
--- published.
+-- A snapshot, and what is in memory of it. untried: it is spoiled, and its header was not yet marked for good. marked: the
+-- mark was written; it counts as tried after the flush of the store that follows. next: the place that is handed out next.
+-- zeroed: the area after the current one is zeroed. firm: and the store was flushed since. marks: of copies that are
+-- committed and not published.
 pub record Held : Type 0 where
   pub snap : Snap
   pub untried : Bool
+  pub marked : Bool
   pub pairs : List Pair
   pub next : ℕ
   pub zeroed : Bool
+  pub firm : Bool
   pub copies : List Copying
   pub marks : List Mark
 
@@ -64,6 +68,14 @@ number_of h = h.snap.number
 
 abbrev pub is_untried : Held → Bool
 is_untried h = h.untried
+
+-- a copy, and a snapshot, after a flush of the store: what is written counts as written, what is committed may be published,
+-- and the area that is zeroed is firm
+abbrev pub flushed_copying : Copying → Copying
+flushed_copying p = record p { stage = flushed_stage p.stage }
+
+abbrev pub flushed_held : Held → Held
+flushed_held h = record h { firm = h.zeroed; copies = map flushed_copying h.copies; marks = map safe_mark h.marks }
 
 -- the snapshot with another device for its store
 abbrev pub with_store : Held → Device → Held

@@ -7,12 +7,14 @@ use Rattle.settled.specs.Order.{IsInOrder}
 use Rattle.event_machine.specs.Held.{Held, Moving}
 
 -- A live snapshot of an origin of so many sectors: its store is in order, its pairs and its next place are those of the
--- store's bytes, and no area is zeroed ahead.
+-- store's bytes, no area is zeroed ahead, and no mark was written.
 pub record IsKept (sectors : ℕ) (h : Held) : Type 0 where
   pub order : (size : ℕ) × IsInOrder h.snap.chunk sectors size h.snap.store.bytes
   pub pairs : pairs_of h.snap.chunk h.snap.store.bytes ≡ h.pairs
   pub next : h.next ≡ next_of h.snap.chunk h.pairs
   pub zeroed : h.zeroed ≡ false
+  pub firm : h.firm ≡ false
+  pub unmarked : h.marked ≡ false
 
 -- a snapshot of which nothing is under way
 pub record IsResting (sectors : ℕ) (h : Held) : Type 0 where

@@ -8,11 +8,11 @@ use Rattle.plain.specs.declared.request.Reply.{Reply}
 use Rattle.pending.specs.declared.copies.ChunkCopy.{ChunkCopy}
 use Rattle.pending.specs.declared.copies.Stage.TheVariants.{Waiting}
 use Rattle.pending.specs.declared.flights.Flight.{Flight}
-use Rattle.pending.specs.Due.{is_stage, front_written}
+use Rattle.pending.specs.Due.{is_stage, front_ready}
 use Rattle.volume_laws.specs.Due.{DueSnap}
 use Rattle.settled.specs.Devices.{Device}
 use Rattle.event_machine.specs.Held.{Copying, Held, Going, Moving}
-use Rattle.event_machine.specs.Due.{needs_area}
+use Rattle.event_machine.specs.Due.{needs_area, waits_for_area}
 
 -- a snapshot: its books and what is due of it, its store's layers, whether the store is stale, and its next place
 pub record Seen : Type 0 where
@@ -38,9 +38,11 @@ held_of s = record {
     store = record { bytes = s.due.books.store; layers = s.layers };
   };
   untried = s.due.books.untried;
+  marked = s.due.books.marked;
   pairs = s.due.books.pairs;
   next = s.next;
   zeroed = s.due.zeroed;
+  firm = s.due.firm;
   copies = map copying_of s.due.books.copies;
   marks = s.due.books.marks;
 }
@@ -59,6 +61,7 @@ replied_by Done before = before
 replied_by Fault before = before
 replied_by (Replied number reply) before = Some reply
 
--- where its first copy is written, it needs the next area as its pairs say
-abbrev pub NeedsAsSeen : Seen → Type 0
-NeedsAsSeen s = front_written s.due.books.copies ≡ true → s.due.needs ≡ needs_area (held_of s)
+-- where its first copy may be committed, it needs the next area, and waits for it, as its pairs say
+pub record NeedsAsSeen (s : Seen) : Type 0 where
+  pub needs : front_ready s.due.books.copies ≡ true → s.due.needs ≡ needs_area (held_of s)
+  pub waits : front_ready s.due.books.copies ≡ true → s.due.waits ≡ waits_for_area (held_of s)

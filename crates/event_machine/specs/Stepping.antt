@@ -5,9 +5,9 @@ use Rattle.std.specs.List.{flat_map, list_any}
 use Rattle.sector.specs.Bytes.{sectors_at, with_part, with_sectors}
 use Rattle.sector.specs.declared.pair.Pair.{Pair}
 use Rattle.device.specs.declared.operation.Operation.{Operation}
-use Rattle.device.specs.declared.operation.Operation.TheVariants.{Reads, Writes}
+use Rattle.device.specs.declared.operation.Operation.TheVariants.{Reads, Writes, Flushes}
 use Rattle.plain.specs.declared.event.Event.{Event}
-use Rattle.plain.specs.declared.event.Event.TheVariants.{Issue, CopyRead, CopyWrite, ZeroNext, WriteArea, Publish, WriteInvalid}
+use Rattle.plain.specs.declared.event.Event.TheVariants.{Issue, CopyRead, CopyWrite, ZeroNext, WriteArea, Publish, WriteInvalid, FlushStore}
 use Rattle.plain.specs.declared.request.Dev.{Dev}
 use Rattle.plain.specs.declared.request.Dev.TheVariants.{Origin as ToOrigin, Snap as ToSnap}
 use Rattle.plain.specs.declared.request.Op.{Op}
@@ -26,8 +26,8 @@ use Rattle.pending.specs.declared.flights.Route.TheVariants.{Held as Waits, Orig
 use Rattle.settled.specs.Saves.{marked, zeroed}
 use Rattle.settled.specs.Devices.{Device, sectors_of, answers, met, written_by, read_reply}
 use Rattle.settled.specs.Saving.{lacks_area}
-use Rattle.event_machine.specs.Held.{Copying, Held, Going, MergeHeld, Moving, with_store, spoiled, on_device, with_merge}
-use Rattle.event_machine.specs.Due.{filled_of, batch_of, can_commit, can_zero, is_at, is_publishable, is_issuable}
+use Rattle.event_machine.specs.Held.{Copying, Held, Going, MergeHeld, Moving, with_store, spoiled, flushed_held, on_device, with_merge}
+use Rattle.event_machine.specs.Due.{filled_of, batch_of, can_mark, can_flush_store, can_commit, can_zero, is_at, is_publishable, is_issuable}
 use Rattle.event_machine.specs.Again.{placed, refused, rerouted}
 
 -- what is done with something, if it is there
@@ -82,14 +82,14 @@ abbrev pub zero_next : (Held → Bool) → Held → Moving → Moving
 zero_next test h v =
     let a : ℕ = length h.pairs / (32 * h.snap.chunk) + 1 in
     if lacks_area a h.snap then spoil test h v
-    else store_write test h (Writes (h.snap.chunk * area_place h.snap.chunk a) h.snap.chunk) (zeroed h.snap.chunk h.snap.store.bytes a) (λ after. record after { zeroed = true }) v
+    else store_write test h (Writes (h.snap.chunk * area_place h.snap.chunk a) h.snap.chunk) (zeroed h.snap.chunk h.snap.store.bytes a) (λ after. record after { zeroed = true; firm = false }) v
 
 -- the pair of a copy, and the mark that it bears once it is committed
 abbrev pub pair_of : Copying → Pair
 pair_of p = p.pair
 
 abbrev pub mark_of : Copying → Mark
-mark_of p = record { number = p.number; chunk = p.pair.old }
+mark_of p = record { number = p.number; chunk = p.pair.old; safe = false }
 
 -- a store with these pairs in slot k and the next ones, all of one area
 abbrev pub all_paired : ℕ → List ℕ → ℕ → List Pair → List ℕ
@@ -101,8 +101,9 @@ abbrev pub commit : ℕ → (Held → Bool) → Held → Moving → Moving
 commit count test h v =
     let k : ℕ = length h.pairs in
     let now : List Copying = take count h.copies in
+    let room : Bool = not (filled_of h + count == 32 * h.snap.chunk) in
     store_write test h (Writes (h.snap.chunk * area_place h.snap.chunk (k / (32 * h.snap.chunk))) h.snap.chunk) (all_paired h.snap.chunk h.snap.store.bytes k (map pair_of now))
-    (λ after. record after { pairs = after.pairs ++ map pair_of now; copies = drop count after.copies; marks = after.marks ++ map mark_of now; zeroed = after.zeroed && not (filled_of h + count == 32 * h.snap.chunk) }) v
+    (λ after. record after { pairs = after.pairs ++ map pair_of now; copies = drop count after.copies; marks = after.marks ++ map mark_of now; zeroed = after.zeroed && room; firm = after.firm && room }) v
 
 -- a mark is taken away: held writes of the snapshot are routed again, and then those of the origin
 abbrev pub publish : (Held → Bool) → (Mark → Bool) → Held → Moving → Moving
@@ -110,12 +111,22 @@ publish test mine h v =
     let after : Held = record h { marks = without_first mine h.marks } in
     rerouted (record v { snaps = with_first test after v.snaps; requests = map (placed after) v.requests })
 
--- a spoiled snapshot's header is marked invalid: the mark is tried, whatever became of it
+-- A spoiled snapshot's header is marked invalid: the mark is written, and waits for a flush of the store; where the write fails
+-- the mark is tried, and the store is stale.
 abbrev pub mark_invalid : (Held → Bool) → Held → Moving → Moving
 mark_invalid test h v =
     let op : Operation = Writes 0 h.snap.chunk in
-    let store : Device = written_by h.snap.store op (marked h.snap.chunk h.snap.store.bytes) in
-    rerouted (put test (record h { snap = record h.snap { store = store; stale = not (answers h.snap.store op) }; untried = false }) v)
+    let after : Held = with_store h (written_by h.snap.store op (marked h.snap.chunk h.snap.store.bytes)) in
+    if answers h.snap.store op then put test (record after { marked = true }) v
+    else rerouted (put test (record after { snap = record after.snap { stale = true }; untried = false }) v)
+
+-- A store is flushed. A mark that was written is tried, and the store is stale where the flush failed; a live snapshot whose
+-- store was not flushed is spoiled.
+abbrev pub flush_store : (Held → Bool) → Held → Moving → Moving
+flush_store test h v =
+    let after : Held = with_store h (met h.snap.store Flushes) in
+    if h.marked then rerouted (put test (record after { snap = record after.snap { stale = not (answers h.snap.store Flushes) }; untried = false }) v)
+    else (if answers h.snap.store Flushes then put test (flushed_held after) v else spoil test after v)
 
 -- a request is answered
 abbrev pub answer : (Going → Bool) → Reply → Moving → Moving
@@ -176,7 +187,8 @@ publishes rs n h = list_any (λ m. (m.number == n) && is_publishable rs h m) h.m
 
 -- an event of a snapshot or a request that is due; any other changes nothing
 abbrev pub stepped : Event → Moving → Moving
-stepped (WriteInvalid n) v = on_snap (λ h. (h.snap.number == n) && h.untried) mark_invalid v
+stepped (WriteInvalid n) v = on_snap (λ h. (h.snap.number == n) && can_mark h) mark_invalid v
+stepped (FlushStore n) v = on_snap (λ h. (h.snap.number == n) && can_flush_store h) flush_store v
 stepped (Publish n) v = on_snap (publishes v.requests n) (λ test h. publish test (λ m. m.number == n) h) v
 stepped (WriteArea n) v = on_snap (λ h. (h.snap.number == n) && can_commit h) (λ test h. commit (batch_of h) test h) v
 stepped (ZeroNext n) v = on_snap (λ h. (h.snap.number == n) && can_zero h) zero_next v

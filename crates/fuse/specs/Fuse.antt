@@ -6,15 +6,15 @@ use Rattle.device.specs.Disk.{disk_size, disk_contents, disk_durable}
 use Rattle.device.specs.Layers.{Layer, Fused}
 use Rattle.fuse.specs.declared.fuse.Fuse.{Fuse}
 
--- how many writes pass before it is blown; None: it is blown
-abbrev pub writes_left : Fuse → Option ℕ
-writes_left f = f.left
+-- how many writes and flushes pass before it is blown; None: it is blown
+abbrev pub changes_left : Fuse → Option ℕ
+changes_left f = f.left
 
--- which sectors of the torn write are new
+-- which sectors of a torn write are new
 abbrev pub new_sectors : Fuse → List Bool
 new_sectors f = f.reaching.items
 
--- the disk that is kept aside, by the writes that pass: what a stop within the torn write left
+-- the disk that is kept aside, by the writes and flushes that pass: what a stop within the next one left
 abbrev pub kept_by : Option ℕ → MemDisk → Option MemDisk
 kept_by None disk = Some disk
 kept_by (Some k) disk = None
@@ -22,7 +22,7 @@ kept_by (Some k) disk = None
 abbrev pub kept_aside : Fuse → Option MemDisk
 kept_aside f = kept_by f.left f.disk
 
--- the bytes that it shows, by the writes that pass: those of the disk, and once it is blown those from before the torn write
+-- the bytes that it shows, by the writes and flushes that pass: those of the disk, and once it is blown those from before that
 abbrev pub shown_by : Option ℕ → MemDisk → List ℕ → List ℕ
 shown_by None disk before = before
 shown_by (Some k) disk before = disk_contents disk

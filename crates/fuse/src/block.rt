@@ -7,7 +7,7 @@ ghost use Rattle.device.specs.declared.operation.Operation.TheVariants.{Reads, W
 ghost use Rattle.device.specs.declared.operation.Fate.TheVariants.{Pass, Drop};
 ghost use Rattle.device.specs.Disk.{disk_size, disk_contents, disk_durable};
 ghost use Rattle.device.specs.Layers.{Fused, fate, is_answered, is_passed, layers_after, is_loud, counted_after};
-ghost use Rattle.fuse.specs.Fuse.{writes_left, new_sectors, kept_aside, fuse_contents, fuse_size, fuse_durable, fuse_may_hold, fuse_layers};
+ghost use Rattle.fuse.specs.Fuse.{changes_left, new_sectors, kept_aside, fuse_contents, fuse_size, fuse_durable, fuse_may_hold, fuse_layers};
 ghost use Rattle.fuse.specs.Laws.{fuse_whole, fuse_small};
 ghost use Rattle.fuse.specs.Torn.{IsTornBy};
 
@@ -61,7 +61,7 @@ impl Block for Fuse {
         ensures done { self.new.done ≡ next_count self.old.done }
         ensures stop { (s : ℕ) (v : List ℕ) → fuse_may_hold self.new s v → fuse_may_hold self.old s v }
 
-        ensures left { writes_left self.new ≡ writes_left self.old }
+        ensures left { changes_left self.new ≡ changes_left self.old }
         ensures kept { kept_aside self.new ≡ kept_aside self.old }
         ensures sectors { new_sectors self.new ≡ new_sectors self.old }
     {
@@ -94,14 +94,14 @@ impl Block for Fuse {
         ensures stop { (s : ℕ) (v : List ℕ) → fuse_may_hold self.new s v → fuse_may_hold self.old s v ⊎ ((range.first ≤ s) × (s < range.first + range.count) × (v ≡ sector_at bytes.now (s - range.first))) }
         ensures stop_err { OnErr result ((s : ℕ) (v : List ℕ) → fuse_may_hold self.new s v → fuse_may_hold self.old s v) }
 
-        ensures left { writes_left self.new ≡ counted_after (writes_left self.old) }
-        ensures torn { writes_left self.old ≡ Some 0 → IfSome (kept_aside self.new) (λ d. IsTornBy (new_sectors self.old) range.first range.count bytes.now (fuse_contents self.old) (disk_contents d) × (disk_durable d ≡ fuse_durable self.old) × (disk_size d ≡ fuse_size self.old)) }
+        ensures left { changes_left self.new ≡ counted_after (changes_left self.old) }
+        ensures torn { changes_left self.old ≡ Some 0 → IfSome (kept_aside self.new) (λ d. IsTornBy (new_sectors self.old) range.first range.count bytes.now (fuse_contents self.old) (disk_contents d) × (disk_durable d ≡ fuse_durable self.old) × (disk_size d ≡ fuse_size self.old)) }
         ensures kept { IfSome (kept_aside self.old) (λ d. kept_aside self.new ≡ Some d) }
         ensures sectors { new_sectors self.new ≡ new_sectors self.old }
     {
         self.done = self.done.wrapping_add(1);
         match self.left {
-            Some(0) => self.blow(range, bytes),
+            Some(0) => self.blow_torn(range, bytes),
             Some(k) => {
                 self.left = Some(k - 1);
                 self.disk.write(range, bytes)
@@ -123,13 +123,18 @@ impl Block for Fuse {
         ensures stop { (s : ℕ) (v : List ℕ) → fuse_may_hold self.new s v → fuse_may_hold self.old s v }
         ensures flushed { OnOk result (IsTrue (is_loud (fuse_layers self.old)) → (s : ℕ) (v : List ℕ) → s < fuse_size self.new → fuse_may_hold self.new s v → v ≡ sector_at (fuse_contents self.new) s) }
 
-        ensures left { writes_left self.new ≡ writes_left self.old }
-        ensures kept { kept_aside self.new ≡ kept_aside self.old }
+        ensures left { changes_left self.new ≡ counted_after (changes_left self.old) }
+        ensures aside { changes_left self.old ≡ Some 0 → IfSome (kept_aside self.new) (λ d. (disk_contents d ≡ fuse_contents self.old) × (disk_durable d ≡ fuse_durable self.old) × (disk_size d ≡ fuse_size self.old)) }
+        ensures kept { IfSome (kept_aside self.old) (λ d. kept_aside self.new ≡ Some d) }
         ensures sectors { new_sectors self.new ≡ new_sectors self.old }
     {
         self.done = self.done.wrapping_add(1);
         match self.left {
-            Some(_) => self.disk.flush(),
+            Some(0) => self.blow(),
+            Some(k) => {
+                self.left = Some(k - 1);
+                self.disk.flush()
+            }
             None => self.fail(),
         }
     }

@@ -4,7 +4,7 @@ ghost use Rattle.std.specs.Option.{option_copied};
 ghost use Rattle.sector.specs.Bytes.{next_count};
 ghost use Rattle.sector.specs.declared.refusal.Refusal.TheVariants.{NoMemory};
 ghost use Rattle.device.specs.Disk.{disk_size, disk_contents, disk_durable};
-ghost use Rattle.fuse.specs.Fuse.{writes_left, new_sectors, kept_aside, fuse_contents, fuse_size, fuse_durable};
+ghost use Rattle.fuse.specs.Fuse.{changes_left, new_sectors, kept_aside, fuse_contents, fuse_size, fuse_durable};
 ghost use Rattle.fuse.specs.Torn.{IsTornBy};
 
 use crate::fuse::Fuse;
@@ -14,16 +14,17 @@ use sector::{Range, Refusal, SECTOR_BYTES};
 use std::alloc::Global;
 
 impl Fuse {
-    /// A fuse that passes so many writes of a disk and tears the next: its i-th sector is new where `new[i]` is true, and
-    /// old elsewhere and past the end of the list. `NoMemory` where the allocator refuses the room for the disk's bytes
-    /// from before that write; the disk is then given back. No later call takes memory.
+    /// A fuse that passes so many writes and flushes of a disk. The next it does in part: a write is torn, its i-th sector
+    /// new where `new[i]` is true, and old elsewhere and past the end of the list; a flush is not begun. `NoMemory` where
+    /// the allocator refuses the room for the disk's bytes from before that; the disk is then given back. No later call
+    /// takes memory.
     pub fn new(
         alloc: Global,
         disk: MemDisk,
-        writes: u64,
+        changes: u64,
         new: Vec<bool>,
     ) -> Result<Fuse, (Refusal, MemDisk)>
-        ensures left { IfOk result (λ f. writes_left f ≡ Some writes) }
+        ensures left { IfOk result (λ f. changes_left f ≡ Some changes) }
         ensures new { IfOk result (λ f. new_sectors f ≡ new.items) }
         ensures size { IfOk result (λ f. fuse_size f ≡ disk_size disk) }
         ensures contents { IfOk result (λ f. fuse_contents f ≡ disk_contents disk) }
@@ -39,13 +40,13 @@ impl Fuse {
             disk,
             before,
             reaching: new,
-            left: Some(writes),
+            left: Some(changes),
             faults: 0,
             done: 0,
         })
     }
 
-    /// The disk that a stop within the torn write left, once the fuse is blown; `None` before.
+    /// The disk that a stop within a torn write or before a flush left, once the fuse is blown; `None` before.
     pub fn left(&self) -> Option<&MemDisk>
         ensures { option_copied result ≡ kept_aside self.now }
     {
@@ -55,8 +56,39 @@ impl Fuse {
         }
     }
 
+    /// That disk itself, so that it may lose what was not flushed.
+    pub fn into_left(self) -> Option<MemDisk>
+        ensures { result ≡ kept_aside self }
+    {
+        match self.left {
+            Some(_) => None,
+            None => Some(self.disk),
+        }
+    }
+
+    // Keeps aside the disk as it is, and counts a fault.
+    pub(crate) fn blow(&mut self) -> Result<(), Io>
+        ensures failed { is_ok result ≡ false }
+        ensures blown { self.new.left ≡ None }
+        ensures disk { self.new.disk ≡ self.old.disk }
+        ensures before { self.new.before.items ≡ disk_contents self.old.disk }
+        ensures reaching { self.new.reaching ≡ self.old.reaching }
+        ensures faults { self.new.faults ≡ next_count self.old.faults }
+        ensures done { self.new.done ≡ self.old.done }
+    {
+        let sectors = self.disk.sectors();
+        let all = Range {
+            first: 0,
+            count: sectors as u32,
+            size: sectors,
+        };
+        self.disk.raw(all, self.before.as_mut_slice());
+        self.left = None;
+        self.fail()
+    }
+
     // Keeps aside the disk with a write torn, and counts a fault.
-    pub(crate) fn blow(&mut self, range: Range, bytes: &[u8]) -> Result<(), Io>
+    pub(crate) fn blow_torn(&mut self, range: Range, bytes: &[u8]) -> Result<(), Io>
         requires inside { range.first + range.count ≤ fuse_size self.old }
         requires room { length bytes.now ≡ 512 * range.count }
         requires last { self.old.left ≡ Some 0 }
@@ -70,16 +102,9 @@ impl Fuse {
         ensures faults { self.new.faults ≡ next_count self.old.faults }
         ensures done { self.new.done ≡ self.old.done }
     {
-        let sectors = self.disk.sectors();
-        let all = Range {
-            first: 0,
-            count: sectors as u32,
-            size: sectors,
-        };
-        self.disk.raw(all, self.before.as_mut_slice());
+        let failed = self.blow();
         tear(&mut self.disk, range, bytes, &self.reaching);
-        self.left = None;
-        self.fail()
+        failed
     }
 
     // Counts a fault.

@@ -4,9 +4,9 @@ ghost use Rattle.device.specs.Disk.{disk_size};
 
 use device::MemDisk;
 
-/// A disk that passes some writes. At the next it is blown: it keeps aside the disk with some sectors of that write new
-/// and the others old, and that and every later operation answers a counted fault and changes nothing. Until then reads
-/// and flushes pass, and are not counted among the writes.
+/// A disk that passes some writes and flushes. At the next it is blown: it keeps aside the disk, at a write with some of
+/// its sectors new and the others old, at a flush as it was, and that and every later operation answers a counted fault
+/// and changes nothing. Until then reads pass, and are not counted.
 #[derive(Drop)]
 pub struct Fuse {
     pub(crate) disk: MemDisk,

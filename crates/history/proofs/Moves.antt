@@ -28,7 +28,7 @@ pub entries_by-append : (n : ℕ) (es fs : List Entry) → entries_by n (es ++ f
 entries_by-append n [] fs = refl
 entries_by-append n (Spoiled m ∷ es) fs = entries_by-append n es fs
 entries_by-append n (Overflowed m ∷ es) fs = entries_by-append n es fs
-entries_by-append n (Attached m x o ∷ es) fs = entries_by-append n es fs
+entries_by-append n (Attached m x o f ∷ es) fs = entries_by-append n es fs
 entries_by-append n (Detached m ∷ es) fs = entries_by-append n es fs
 entries_by-append n (Begun m ∷ es) fs = entries_by-append n es fs
 entries_by-append n (Finished ∷ es) fs = entries_by-append n es fs
@@ -63,7 +63,7 @@ silent_of : (n : ℕ) (e : Entry) → is_silent e ≡ true → entries_by n (e �
 silent_of n (WasAnswered a) silent = not_true silent
 silent_of n (Spoiled m) silent = refl
 silent_of n (Overflowed m) silent = refl
-silent_of n (Attached m x o) silent = refl
+silent_of n (Attached m x o f) silent = refl
 silent_of n (Detached m) silent = refl
 silent_of n (Begun m) silent = refl
 silent_of n Finished silent = refl
@@ -72,7 +72,7 @@ other_of : (n s : ℕ) (e : Entry) → Answers n e → n ≢ s → entries_by s 
 other_of n s (WasAnswered a) mine apart = none_of s a (λ same. apart (sym mine ∙ same))
 other_of n s (Spoiled m) mine apart = absurd mine
 other_of n s (Overflowed m) mine apart = absurd mine
-other_of n s (Attached m x o) mine apart = absurd mine
+other_of n s (Attached m x o f) mine apart = absurd mine
 other_of n s (Detached m) mine apart = absurd mine
 other_of n s (Begun m) mine apart = absurd mine
 other_of n s Finished mine apart = absurd mine

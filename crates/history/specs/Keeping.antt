@@ -65,7 +65,7 @@ abbrev pub is_silent : Entry → Bool
 is_silent (WasAnswered a) = false
 is_silent (Spoiled number) = true
 is_silent (Overflowed number) = true
-is_silent (Attached number array overflow) = true
+is_silent (Attached number array overflow fresh) = true
 is_silent (Detached number) = true
 is_silent (Begun number) = true
 is_silent Finished = true
@@ -75,7 +75,7 @@ abbrev pub Answers : ℕ → Entry → Type 0
 Answers seat (WasAnswered a) = a.seat ≡ seat
 Answers seat (Spoiled number) = ⊥
 Answers seat (Overflowed number) = ⊥
-Answers seat (Attached number array overflow) = ⊥
+Answers seat (Attached number array overflow fresh) = ⊥
 Answers seat (Detached number) = ⊥
 Answers seat (Begun number) = ⊥
 Answers seat Finished = ⊥

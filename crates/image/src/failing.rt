@@ -25,6 +25,10 @@ impl<I: Image> FailingImage<I> {
 impl<I: Image> Image for FailingImage<I> {
     ghost bytes = { λ image. I.bytes image.below };
 
+    ghost may_fail = { λ _ _ _. Unit {0} };
+
+    ghost may_give = { λ image. I.may_give image.below };
+
     fn len(&mut self) -> io::Result<u64> {
         if self.fails() {
             return Err(io::ErrorKind::Other.into());

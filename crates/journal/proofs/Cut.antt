@@ -152,7 +152,7 @@ count_both [] fs = omega arith
 count_both (Answered a ∷ es) fs = count_both es fs
 count_both (Spoiled n ∷ es) fs = count_both es fs
 count_both (Overflowed n ∷ es) fs = count_both es fs
-count_both (Attached n array overflow ∷ es) fs = omega (arith, count_both es fs)
+count_both (Attached n array overflow fresh ∷ es) fs = omega (arith, count_both es fs)
 count_both (Detached n ∷ es) fs = count_both es fs
 count_both (Begun n ∷ es) fs = count_both es fs
 count_both (Finished ∷ es) fs = count_both es fs
@@ -161,7 +161,7 @@ pub count_one : (e : Entry) (es : List Entry) → attached_count (e ∷ es) ≡ 
 count_one (Answered a) es = omega arith
 count_one (Spoiled n) es = omega arith
 count_one (Overflowed n) es = omega arith
-count_one (Attached n array overflow) es = omega arith
+count_one (Attached n array overflow fresh) es = omega arith
 count_one (Detached n) es = omega arith
 count_one (Begun n) es = omega arith
 count_one Finished es = omega arith

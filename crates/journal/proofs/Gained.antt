@@ -60,8 +60,8 @@ live_last snaps s live =
     ∙ get_or-append_seam (map (λ x. x.live) snaps) s.live [] false ∙ live
 
 -- a snapshot that was just taken may be asked
-pub taken_there : {B : Type 0} (layers : B → List Layer) (size : B → ℕ) (number : ℕ) (wanted : Bool) (store : StoreDev B) (w w' : Volumed B) → IsGained layers size number wanted store w w' → w.merge ≡ None → dev_refusal (Snap number) w'.merge w'.snaps ≡ None
-taken_there layers size number wanted store w w' g alone =
+pub taken_there : {B : Type 0} (contents : B → List ℕ) (layers : B → List Layer) (size : B → ℕ) (number : ℕ) (wanted : Bool) (store : StoreDev B) (w w' : Volumed B) → IsGained contents layers size number wanted store w w' → w.merge ≡ None → dev_refusal (Snap number) w'.merge w'.snaps ≡ None
+taken_there contents layers size number wanted store w w' g alone =
     ap (λ (x : Volumed _). dev_refusal (Snap number) x.merge x.snaps) g.becomes ∙ ap (λ m. dev_refusal (Snap number) m (w.snaps ++ g.snap ∷ [])) alone
     ∙ ap (refusal_at (w.snaps ++ g.snap ∷ [])) (place_last number w.snaps g.snap g.fresh g.number_is)
     ∙ ap (λ b. if b then None else Some Invalid) (live_last w.snaps g.snap g.live)
@@ -116,10 +116,10 @@ kept_more : (wanted : Bool) (bs ms : List Bool) → length ms ≡ length bs → 
 kept_more true bs ms same = omega (arith, one_more bs, may_more bs ms true true same)
 kept_more false bs ms same = omega (arith, one_more bs, may_more bs ms true false same)
 
-none_attached : (number : ℕ) (array : List ℕ) (overflow : Overflowing) (s : ℕ) (es : List Entry) → entries_by s (es ++ Attached number array overflow ∷ []) ≡ entries_by s es
-none_attached number array overflow s es = entries_by_silent s es (Attached number array overflow) refl
+none_attached : (number : ℕ) (array : List ℕ) (overflow : Overflowing) (fresh : Bool) (s : ℕ) (es : List Entry) → entries_by s (es ++ Attached number array overflow fresh ∷ []) ≡ entries_by s es
+none_attached number array overflow fresh s es = entries_by_silent s es (Attached number array overflow fresh) refl
 
-module _ {B : Type 0} (contents : B → List ℕ) (layers : B → List Layer) (size : B → ℕ) (number : ℕ) (wanted : Bool) (store : StoreDev B) (w w' : Volumed B) (g : IsGained layers size number wanted store w w') where
+module _ {B : Type 0} (contents : B → List ℕ) (layers : B → List Layer) (size : B → ℕ) (number : ℕ) (wanted : Bool) (store : StoreDev B) (w w' : Volumed B) (g : IsGained contents layers size number wanted store w w') where
   abbrev p : Plain
   p = plain_of contents layers w
 
@@ -135,12 +135,12 @@ module _ {B : Type 0} (contents : B → List ℕ) (layers : B → List Layer) (s
   abbrev entry_more : List ℕ → Shown
   entry_more array = record { number = number; saved = Live array; overflow = overflow_of wanted }
 
-  pub attached_does : (array : List ℕ) (lives may : List Bool) → IsTaken p number array (overflow_of wanted) q
-      → (after (saves_of p) (Attached number array (overflow_of wanted)) ≡ saves_of q) × IsLawful (saves_of p) (Attached number array (overflow_of wanted))
+  pub attached_does : (array : List ℕ) (fresh : Bool) (lives may : List Bool) → IsTaken p number array (overflow_of wanted) q → (fresh ≡ true → array ≡ p.origin)
+      → (after (saves_of p) (Attached number array (overflow_of wanted) fresh) ≡ saves_of q) × IsLawful (saves_of p) (Attached number array (overflow_of wanted) fresh)
       × (lives ≡ map is_live p.saved → lives ++ true ∷ [] ≡ map is_live q.saved) × (may ≡ map is_open p.saved → may ++ wanted ∷ [] ≡ map is_open q.saved)
-  attached_does array lives may t = (
+  attached_does array fresh lives may t same = (
     sym (ap saves_of t.becomes),
-    (fresh_saved, t.strict),
+    (fresh_saved, t.strict, same),
     λ was. ap (λ (bs : List Bool). bs ++ true ∷ []) was ∙ sym (map-append is_live p.saved (entry_more array ∷ [])) ∙ ap (λ (x : Plain). map is_live x.saved) (sym t.becomes),
     λ was. (λ i. was i ++ sym (wanted_may wanted) i ∷ []) ∙ sym (map-append is_open p.saved (entry_more array ∷ [])) ∙ ap (λ (x : Plain). map is_open x.saved) (sym t.becomes),
   )
@@ -149,12 +149,12 @@ module _ {B : Type 0} (contents : B → List ℕ) (layers : B → List Layer) (s
   one_gained = omega (arith, saved_count contents layers w, saved_count contents layers w', ap (λ (x : Volumed B). length x.snaps) g.becomes, length-append w.snaps (g.snap ∷ []))
 
   pub attached_keeps : (loud loud' more told told' : Bool) (v : Books) (room' : ℕ) → IsAudit loud told p v → loud' ≡ (loud && more) → told' ≡ (told && more)
-      → v.taken + length v.entries + length v.held + kept_count v.lives v.may + places_for wanted ≤ 65_536 → room' ≡ v.room → (array : List ℕ) → (shown : List ℕ) → (loud ≡ true → more ≡ true → (array ≡ shown) × IsTaken p number shown (overflow_of wanted) q)
-      → IsAudit loud' told' q (record v { entries = v.entries ++ Attached number array (overflow_of wanted) ∷ []; lives = v.lives ++ true ∷ []; may = v.may ++ wanted ∷ []; room = room' })
-  attached_keeps loud loud' more told told' v room' h both tells free room array shown taken =
-      entry_keeps loud loud' told told' p q v (Attached number array (overflow_of wanted)) (v.lives ++ true ∷ []) (v.may ++ wanted ∷ []) room' h (λ on. and_left told more (sym tells ∙ on))
+      → v.taken + length v.entries + length v.held + kept_count v.lives v.may + places_for wanted ≤ 65_536 → room' ≡ v.room → (array : List ℕ) → (fresh : Bool) → (shown : List ℕ) → (loud ≡ true → more ≡ true → (array ≡ shown) × IsTaken p number shown (overflow_of wanted) q × (fresh ≡ true → shown ≡ p.origin))
+      → IsAudit loud' told' q (record v { entries = v.entries ++ Attached number array (overflow_of wanted) fresh ∷ []; lives = v.lives ++ true ∷ []; may = v.may ++ wanted ∷ []; room = room' })
+  attached_keeps loud loud' more told told' v room' h both tells free room array fresh shown taken =
+      entry_keeps loud loud' told told' p q v (Attached number array (overflow_of wanted) fresh) (v.lives ++ true ∷ []) (v.may ++ wanted ∷ []) room' h (λ on. and_left told more (sym tells ∙ on))
       (λ on was. both ∙ ap (λ b. b && more) was ∙ and_right told more (sym tells ∙ on))
       (ap (λ (x : Volumed B). map in_flight x.flights) g.becomes)
       (omega (arith, length-append v.lives (true ∷ []), h.counted.lives, one_gained)) (omega (arith, length-append v.may (wanted ∷ []), h.counted.may, one_gained))
-      (none_attached number array (overflow_of wanted)) (omega (arith, free, kept_more wanted v.lives v.may (h.counted.may ∙ sym h.counted.lives))) room
-      (λ on was. let t = taken was (and_right told more (sym tells ∙ on)) in attached_does array v.lives v.may (subst (λ (a : List ℕ). IsTaken p number a (overflow_of wanted) q) (sym t.0) t.1))
+      (none_attached number array (overflow_of wanted) fresh) (omega (arith, free, kept_more wanted v.lives v.may (h.counted.may ∙ sym h.counted.lives))) room
+      (λ on was. let t = taken was (and_right told more (sym tells ∙ on)) in attached_does array fresh v.lives v.may (subst (λ (a : List ℕ). IsTaken p number a (overflow_of wanted) q) (sym t.0) t.1) (λ new. t.0 ∙ t.2 new))

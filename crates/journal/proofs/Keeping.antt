@@ -7,7 +7,7 @@ use Rattle.std.proofs.lemmas.List.{get_or-set_same, get_or-set_other, length-set
 use Rattle.std.proofs.lemmas.List.Edits.{length-remove}
 use Rattle.std.proofs.lemmas.List.Elements.{All-append, All-take, All-drop, All-nil}
 use Rattle.plain.specs.declared.event.Event.{Event}
-use Rattle.plain.specs.declared.event.Event.TheVariants.{Issue, CopyRead, CopyWrite, ZeroNext, WriteArea, Publish, WriteInvalid, MergeGroup, MergeAreaRead, MergeRead, MergeWrite, MergeFlush, MergeCommit, MergeRelease}
+use Rattle.plain.specs.declared.event.Event.TheVariants.{Issue, CopyRead, CopyWrite, ZeroNext, WriteArea, Publish, WriteInvalid, FlushStore, MergeGroup, MergeAreaRead, MergeRead, MergeWrite, MergeFlush, MergeCommit, MergeRelease}
 use Rattle.plain.specs.declared.event.Outcome.{Outcome}
 use Rattle.plain.specs.declared.event.Outcome.TheVariants.{Done, Fault, Reply as Replied}
 use Rattle.plain.specs.declared.request.Op.{Op}
@@ -46,6 +46,7 @@ spoils_of old (ZeroNext n) Done new other l = l
 spoils_of old (WriteArea n) Done new other l = l
 spoils_of old (Publish n) Done new other l = l
 spoils_of old (WriteInvalid n) Done new other l = l
+spoils_of old (FlushStore n) Done new other l = l
 spoils_of old MergeGroup Done new other l = l
 spoils_of old MergeAreaRead Done new other l = l
 spoils_of old MergeRead Done new other l = l
@@ -60,6 +61,7 @@ spoils_of old (ZeroNext n) Fault new other l = l
 spoils_of old (WriteArea n) Fault new other l = l
 spoils_of old (Publish n) Fault new other l = l
 spoils_of old (WriteInvalid n) Fault new other l = l
+spoils_of old (FlushStore n) Fault new other l = l
 spoils_of old MergeGroup Fault new other l = l
 spoils_of old MergeAreaRead Fault new other l = l
 spoils_of old MergeRead Fault new other l = l
@@ -78,6 +80,7 @@ flown_other (ZeroNext n) Done old new other f = f
 flown_other (WriteArea n) Done old new other f = f
 flown_other (Publish n) Done old new other f = f
 flown_other (WriteInvalid n) Done old new other f = f
+flown_other (FlushStore n) Done old new other f = f
 flown_other MergeGroup Done old new other f = f
 flown_other MergeAreaRead Done old new other f = f
 flown_other MergeRead Done old new other f = f
@@ -92,6 +95,7 @@ flown_other (ZeroNext n) Fault old new other f = f
 flown_other (WriteArea n) Fault old new other f = f
 flown_other (Publish n) Fault old new other f = f
 flown_other (WriteInvalid n) Fault old new other f = f
+flown_other (FlushStore n) Fault old new other f = f
 flown_other MergeGroup Fault old new other f = f
 flown_other MergeAreaRead Fault old new other f = f
 flown_other MergeRead Fault old new other f = f

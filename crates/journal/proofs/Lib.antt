@@ -6,9 +6,12 @@ pub mod Replaying
 pub mod Keeping
 pub mod Departed
 pub mod Gained
+pub mod Refused
 pub mod Receipts
 pub mod Changes
 pub mod Beginning
 pub mod Bounds
 pub mod Cut
 pub mod Undone
+pub mod Fresh
+pub mod Own

@@ -68,7 +68,7 @@ entries_by_spoils seat [] (n ∷ ns) = entries_by_spoils seat [] ns
 entries_by_spoils seat (Answered a ∷ es) ns = ap (λ x. if a.seat == seat then a ∷ x else x) (entries_by_spoils seat es ns)
 entries_by_spoils seat (Spoiled n ∷ es) ns = entries_by_spoils seat es ns
 entries_by_spoils seat (Overflowed n ∷ es) ns = entries_by_spoils seat es ns
-entries_by_spoils seat (Attached n array overflow ∷ es) ns = entries_by_spoils seat es ns
+entries_by_spoils seat (Attached n array overflow fresh ∷ es) ns = entries_by_spoils seat es ns
 entries_by_spoils seat (Detached n ∷ es) ns = entries_by_spoils seat es ns
 entries_by_spoils seat (Begun n ∷ es) ns = entries_by_spoils seat es ns
 entries_by_spoils seat (Finished ∷ es) ns = entries_by_spoils seat es ns
@@ -82,7 +82,7 @@ entries_by_mine seat [] a same = ap (λ b. if b then (a ∷ []) else []) (eq-eqb
 entries_by_mine seat (Answered x ∷ es) a same = ap (λ y. if x.seat == seat then (x ∷ y) else y) (entries_by_mine seat es a same) ∙ behind (x.seat == seat) x a (entries_by seat es)
 entries_by_mine seat (Spoiled n ∷ es) a same = entries_by_mine seat es a same
 entries_by_mine seat (Overflowed n ∷ es) a same = entries_by_mine seat es a same
-entries_by_mine seat (Attached n array overflow ∷ es) a same = entries_by_mine seat es a same
+entries_by_mine seat (Attached n array overflow fresh ∷ es) a same = entries_by_mine seat es a same
 entries_by_mine seat (Detached n ∷ es) a same = entries_by_mine seat es a same
 entries_by_mine seat (Begun n ∷ es) a same = entries_by_mine seat es a same
 entries_by_mine seat (Finished ∷ es) a same = entries_by_mine seat es a same
@@ -92,7 +92,7 @@ entries_by_other seat [] a apart = ap (λ b. if b then (a ∷ []) else []) (ne_e
 entries_by_other seat (Answered x ∷ es) a apart = ap (λ y. if x.seat == seat then (x ∷ y) else y) (entries_by_other seat es a apart)
 entries_by_other seat (Spoiled n ∷ es) a apart = entries_by_other seat es a apart
 entries_by_other seat (Overflowed n ∷ es) a apart = entries_by_other seat es a apart
-entries_by_other seat (Attached n array overflow ∷ es) a apart = entries_by_other seat es a apart
+entries_by_other seat (Attached n array overflow fresh ∷ es) a apart = entries_by_other seat es a apart
 entries_by_other seat (Detached n ∷ es) a apart = entries_by_other seat es a apart
 entries_by_other seat (Begun n ∷ es) a apart = entries_by_other seat es a apart
 entries_by_other seat (Finished ∷ es) a apart = entries_by_other seat es a apart
@@ -107,7 +107,7 @@ entries_by_few seat [] = omega arith
 entries_by_few seat (Answered x ∷ es) = at_most_more (x.seat == seat) x (entries_by seat es) (length es) (entries_by_few seat es)
 entries_by_few seat (Spoiled n ∷ es) = omega (arith, entries_by_few seat es)
 entries_by_few seat (Overflowed n ∷ es) = omega (arith, entries_by_few seat es)
-entries_by_few seat (Attached n array overflow ∷ es) = omega (arith, entries_by_few seat es)
+entries_by_few seat (Attached n array overflow fresh ∷ es) = omega (arith, entries_by_few seat es)
 entries_by_few seat (Detached n ∷ es) = omega (arith, entries_by_few seat es)
 entries_by_few seat (Begun n ∷ es) = omega (arith, entries_by_few seat es)
 entries_by_few seat (Finished ∷ es) = omega (arith, entries_by_few seat es)
@@ -235,7 +235,7 @@ entries_by_silent seat [] e silent = silent
 entries_by_silent seat (Answered a ∷ es) e silent = ap (λ x. if a.seat == seat then a ∷ x else x) (entries_by_silent seat es e silent)
 entries_by_silent seat (Spoiled n ∷ es) e silent = entries_by_silent seat es e silent
 entries_by_silent seat (Overflowed n ∷ es) e silent = entries_by_silent seat es e silent
-entries_by_silent seat (Attached n array overflow ∷ es) e silent = entries_by_silent seat es e silent
+entries_by_silent seat (Attached n array overflow fresh ∷ es) e silent = entries_by_silent seat es e silent
 entries_by_silent seat (Detached n ∷ es) e silent = entries_by_silent seat es e silent
 entries_by_silent seat (Begun n ∷ es) e silent = entries_by_silent seat es e silent
 entries_by_silent seat (Finished ∷ es) e silent = entries_by_silent seat es e silent

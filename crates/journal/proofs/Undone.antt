@@ -22,18 +22,18 @@ use Rattle.volume.specs.Volumed.{Volumed, merge_shape, plain_of}
 use Rattle.journal.specs.declared.entry.Entry.{Entry}
 use Rattle.journal.specs.declared.entry.Entry.TheVariants.{Answered, Spoiled, Overflowed, Attached, Detached, Begun, Finished}
 use Rattle.journal.specs.Replay.{Saves, saves_of, plain_in, after, array_in, IsLawful, AllLawful}
-use Rattle.journal.specs.Undone.{Taken, wrote, ends, still, noted, ShowsTaken, IsUndone, AllUndone}
+use Rattle.journal.specs.Undone.{Taken, wrote, ends, still, held_back, noted, ShowsTaken, IsUndone, AllUndone}
 use Rattle.journal.proofs.Gained.{saved_last}
 
 -- one more, or one less, with another number
-more_other : (number n : ℕ) (saved : Saved) (overflow : Overflowing) (entries : List Shown) → (n == number) ≡ false → saved_under number (entries ++ record { number = n; saved = saved; overflow = overflow } ∷ []) ≡ saved_under number entries
+pub more_other : (number n : ℕ) (saved : Saved) (overflow : Overflowing) (entries : List Shown) → (n == number) ≡ false → saved_under number (entries ++ record { number = n; saved = saved; overflow = overflow } ∷ []) ≡ saved_under number entries
 more_other number n saved overflow [] ne = rw ne refl
 more_other number n saved overflow (e ∷ es) ne = elim (cases_Bool (e.number == number)) [
   | inl mine ↦ rw mine refl
   | inr other ↦ rw other (more_other number n saved overflow es ne)
 ]
 
-less_other : (number n : ℕ) (entries : List Shown) → (n == number) ≡ false → saved_under number (without_saved n entries) ≡ saved_under number entries
+pub less_other : (number n : ℕ) (entries : List Shown) → (n == number) ≡ false → saved_under number (without_saved n entries) ≡ saved_under number entries
 less_other number n [] ne = refl
 less_other number n (e ∷ es) ne = elim (cases_Bool (e.number == n)) [
   | inl here ↦ (let at : (e.number == number) ≡ false = ap (λ k. k == number) (eqb-true e.number n here) ∙ ne in rw here (rw at refl))
@@ -70,7 +70,7 @@ one_keeps (Answered a) number array s lawful free shows =
     same_shows number array s (after s (Answered a)) (unwritten number (plain_in s) (plain_in (after s (Answered a))) a.request.dev a.request.op a.request.range a.reply free lawful) shows
 one_keeps (Spoiled n) number array s lawful free shows = still_spoiled (n ∷ []) number array (plain_in s) (plain_in (after s (Spoiled n))) refl shows
 one_keeps (Overflowed n) number array s lawful free shows = same_shows number array s (after s (Overflowed n)) (saved_marked number n s.saved) shows
-one_keeps (Attached n other overflow) number array s lawful free shows = same_shows number array s (after s (Attached n other overflow)) (more_other number n (Live other) overflow s.saved free) shows
+one_keeps (Attached n other overflow fresh) number array s lawful free shows = same_shows number array s (after s (Attached n other overflow fresh)) (more_other number n (Live other) overflow s.saved free) shows
 one_keeps (Detached n) number array s lawful free shows = same_shows number array s (after s (Detached n)) (less_other number n s.saved free) shows
 one_keeps (Begun n) number array s lawful free shows = same_shows number array s (after s (Begun n)) (less_other number n s.saved free) shows
 one_keeps Finished number array s lawful free shows = same_shows number array s (after s Finished) refl shows
@@ -91,11 +91,19 @@ all_keep : (e : Entry) (taken : List Taken) (s : Saves) → IsLawful s e → ((t
 all_keep e [] s lawful free all = tt
 all_keep e (t ∷ taken) s lawful free all = (one_keeps e t.number t.array s lawful (free t) all.0, all_keep e taken s lawful free all.1)
 
-noted_show : (e : Entry) (taken : List Taken) (s : Saves) → IsLawful s e → AllShow taken s → AllShow (noted e taken) (after s e)
+-- what is remembered of a snapshot is what it shows when it is taken
+held_is : (fresh : Bool) (origin array : List ℕ) → (fresh ≡ true → array ≡ origin) → array ≡ held_back fresh origin array
+held_is true origin array same = same refl
+held_is false origin array same = refl
+
+noted_show : (e : Entry) (taken : List Taken) (s : Saves) → IsLawful s e → AllShow taken s → AllShow (noted s.origin e taken) (after s e)
 noted_show (Answered a) taken s lawful all = still_show (Answered a) taken s lawful all
 noted_show (Spoiled n) taken s lawful all = all_keep (Spoiled n) taken s lawful (λ t. refl) all
 noted_show (Overflowed n) taken s lawful all = all_keep (Overflowed n) taken s lawful (λ t. refl) all
-noted_show (Attached n array overflow) taken s lawful all = (inl (saved_last n (Live array) overflow s.saved lawful.0), still_show (Attached n array overflow) taken s lawful all)
+noted_show (Attached n array overflow fresh) taken s lawful all = (
+  inl (saved_last n (Live array) overflow s.saved lawful.0 ∙ ap (λ a. Some (Live a)) (held_is fresh s.origin array lawful.2)),
+  still_show (Attached n array overflow fresh) taken s lawful all,
+)
 noted_show (Detached n) taken s lawful all = still_show (Detached n) taken s lawful all
 noted_show (Begun n) taken s lawful all = still_show (Begun n) taken s lawful all
 noted_show Finished taken s lawful all = all_keep Finished taken s lawful (λ t. refl) all
@@ -116,14 +124,14 @@ one_undone : (e : Entry) (taken : List Taken) (s : Saves) → IsLawful s e → A
 one_undone (Answered a) taken s lawful all = tt
 one_undone (Spoiled n) taken s lawful all = tt
 one_undone (Overflowed n) taken s lawful all = tt
-one_undone (Attached n array overflow) taken s lawful all = tt
+one_undone (Attached n array overflow fresh) taken s lawful all = tt
 one_undone (Detached n) taken s lawful all = tt
 one_undone (Begun n) taken s lawful all = begun_shows n lawful.1.0 taken s lawful.1.1 all
 one_undone Finished taken s lawful all = tt
 
 all_undone : (taken : List Taken) (s : Saves) (es : List Entry) → AllShow taken s → AllLawful s es → AllUndone taken s es
 all_undone taken s [] all lawful = tt
-all_undone taken s (e ∷ es) all lawful = (one_undone e taken s lawful.0 all, all_undone (noted e taken) (after s e) es (noted_show e taken s lawful.0 all) lawful.1)
+all_undone taken s (e ∷ es) all lawful = (one_undone e taken s lawful.0 all, all_undone (noted s.origin e taken) (after s e) es (noted_show e taken s lawful.0 all) lawful.1)
 
 -- without a merge the origin shows its disk
 pub disk_shown : {B : Type 0} (contents : B → List ℕ) (layers : B → List Layer) (v : Volumed B) (s : Saves) → s ≡ saves_of (plain_of contents layers v) → s.begun ≡ None → s.origin ≡ contents v.origin

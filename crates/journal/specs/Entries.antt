@@ -13,7 +13,7 @@ entries_by seat [] = []
 entries_by seat (Answered a ∷ es) = if a.seat == seat then a ∷ entries_by seat es else entries_by seat es
 entries_by seat (Spoiled number ∷ es) = entries_by seat es
 entries_by seat (Overflowed number ∷ es) = entries_by seat es
-entries_by seat (Attached number array overflow ∷ es) = entries_by seat es
+entries_by seat (Attached number array overflow fresh ∷ es) = entries_by seat es
 entries_by seat (Detached number ∷ es) = entries_by seat es
 entries_by seat (Begun number ∷ es) = entries_by seat es
 entries_by seat (Finished ∷ es) = entries_by seat es

@@ -22,7 +22,7 @@ abbrev pub IsInside : Saves → Entry → Type 0
 IsInside s (Answered a) = LiesInside s a.request.dev a.request.op a.request.range.first a.reply
 IsInside s (Spoiled number) = Unit {0}
 IsInside s (Overflowed number) = Unit {0}
-IsInside s (Attached number array overflow) = Unit {0}
+IsInside s (Attached number array overflow fresh) = Unit {0}
 IsInside s (Detached number) = Unit {0}
 IsInside s (Begun number) = Unit {0}
 IsInside s Finished = Unit {0}
@@ -43,7 +43,7 @@ attached_count [] = 0
 attached_count (Answered a ∷ es) = attached_count es
 attached_count (Spoiled number ∷ es) = attached_count es
 attached_count (Overflowed number ∷ es) = attached_count es
-attached_count (Attached number array overflow ∷ es) = suc (attached_count es)
+attached_count (Attached number array overflow fresh ∷ es) = suc (attached_count es)
 attached_count (Detached number ∷ es) = attached_count es
 attached_count (Begun number ∷ es) = attached_count es
 attached_count (Finished ∷ es) = attached_count es

@@ -111,10 +111,10 @@ abbrev pub places_for : Bool → ℕ
 places_for true = 3
 places_for false = 2
 
--- One snapshot more is looked at, which may overflow or never does, and what it shows is noted.
-pub record HasTaken {B : Type 0} (number : ℕ) (wanted : Bool) (old new : AuditShape B) : Type 0 where
+-- One snapshot more is looked at, which may overflow or never does, and what it shows is noted, and whether its store was fresh.
+pub record HasTaken {B : Type 0} (number : ℕ) (wanted fresh : Bool) (old new : AuditShape B) : Type 0 where
   pub array : List ℕ
-  pub becomes : new ≡ record old { volume = new.volume; entries = old.entries ++ Attached number array (overflow_of wanted) ∷ []; lives = old.lives ++ true ∷ []; may = old.may ++ wanted ∷ []; loud = new.loud }
+  pub becomes : new ≡ record old { volume = new.volume; entries = old.entries ++ Attached number array (overflow_of wanted) fresh ∷ []; lives = old.lives ++ true ∷ []; may = old.may ++ wanted ∷ []; loud = new.loud }
 
 -- No snapshot is taken: the journal is full, which comes first, or there is no memory for the entry, and the store is as it was;
 -- or as the volume says.

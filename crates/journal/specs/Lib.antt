@@ -7,3 +7,4 @@ pub mod Inside
 pub mod Books
 pub mod Journaled
 pub mod Undone
+pub mod Own

@@ -1,5 +1,5 @@
 -- Replay: the base arrays and states, then the entries in order, each by the plain machine's rule for it. This project's own.
-use Rattle.std.specs.Prelude.{◌≡◌, ◌≢◌, ℕ, false, List, [], ◌∷◌, ◌++◌, Option, Some, None, map}
+use Rattle.std.specs.Prelude.{◌≡◌, ◌≢◌, ℕ, false, true, List, [], ◌∷◌, ◌++◌, Option, Some, None, map}
 use Rattle.std.specs.List.{All}
 use Rattle.sector.specs.Bytes.{with_sectors}
 use Rattle.plain.specs.declared.request.Dev.{Dev}
@@ -53,7 +53,7 @@ abbrev pub after : Saves → Entry → Saves
 after s (Answered a) = served a.request.dev a.request.op a.request.range.first a.reply s
 after s (Spoiled number) = record s { saved = map (spoiled_entry (number ∷ [])) s.saved }
 after s (Overflowed number) = record s { saved = marked_in number s.saved }
-after s (Attached number array overflow) = record s { saved = s.saved ++ record { number = number; saved = Live array; overflow = overflow } ∷ [] }
+after s (Attached number array overflow fresh) = record s { saved = s.saved ++ record { number = number; saved = Live array; overflow = overflow } ∷ [] }
 after s (Detached number) = record s { saved = without_saved number s.saved }
 after s (Begun number) = record { origin = array_in (saved_under number s.saved); begun = Some number; saved = without_saved number s.saved }
 after s Finished = record s { begun = None }
@@ -64,13 +64,13 @@ replay s [] = s
 replay s (e ∷ es) = replay (after s e) es
 
 -- An entry that the plain machine allows there: each reply is lawful, a store that overflowed is that of a live snapshot which
--- could, a snapshot that is taken has a number of its own and did not overflow, one that is taken away is there, one that begins
--- to be merged is live and alone in that, and a merge that is taken out was begun.
+-- could, a snapshot that is taken has a number of its own, did not overflow, and shows the origin where its store was fresh, one
+-- that is taken away is there, one that begins to be merged is live and alone in that, and a merge that is taken out was begun.
 abbrev pub IsLawful : Saves → Entry → Type 0
 IsLawful s (Answered a) = Serves (plain_in s) a.request.dev a.request.op a.request.range a.reply (plain_in (after s (Answered a)))
 IsLawful s (Spoiled number) = Unit {0}
 IsLawful s (Overflowed number) = Overflows number (plain_in s) (plain_in (after s (Overflowed number)))
-IsLawful s (Attached number array overflow) = All (λ e. e.number ≢ number) s.saved × (did_overflow overflow ≡ false)
+IsLawful s (Attached number array overflow fresh) = All (λ e. e.number ≢ number) s.saved × (did_overflow overflow ≡ false) × (fresh ≡ true → array ≡ s.origin)
 IsLawful s (Detached number) = (saved : Saved) × (saved_under number s.saved ≡ Some saved)
 IsLawful s (Begun number) = (s.begun ≡ None) × ((array : List ℕ) × (saved_under number s.saved ≡ Some (Live array)))
 IsLawful s Finished = (number : ℕ) × (s.begun ≡ Some number)

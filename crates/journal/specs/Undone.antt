@@ -1,6 +1,6 @@
--- Snapshots that were taken and that no request wrote since, with the array that each showed when it was taken; and that the
--- merge of one of them makes the origin show just that. Over a fresh store that is what the origin showed then, so its merge
--- undoes all that was written to the origin since. This project's own.
+-- Snapshots that were taken and that no request wrote since. Over a fresh store such a one is remembered with what the origin
+-- showed when it was taken, over another with what it showed itself; and the merge of one of them makes the origin show just that.
+-- So the merge of one over a fresh store undoes all that was written to the origin since. This project's own.
 use Rattle.std.specs.Prelude.{◌≡◌, ◌==◌, ℕ, Bool, true, false, List, [], ◌∷◌, if◌then◌else◌}
 use Rattle.plain.specs.declared.request.Reply.{Reply}
 use Rattle.plain.specs.declared.request.Reply.TheVariants.{Data, Written, Refused}
@@ -9,7 +9,7 @@ use Rattle.journal.specs.declared.entry.Entry.{Entry}
 use Rattle.journal.specs.declared.entry.Entry.TheVariants.{Answered, Spoiled, Overflowed, Attached, Detached, Begun, Finished}
 use Rattle.journal.specs.Replay.{Saves, after}
 
--- a snapshot that was taken, and what it showed then
+-- a snapshot that was taken, and what its merge gives the origin
 pub record Taken : Type 0 where
   pub number : ℕ
   pub array : List ℕ
@@ -25,7 +25,7 @@ abbrev pub ends : Entry → ℕ → Bool
 ends (Answered a) number = wrote a.reply (writes number a.request.dev a.request.op)
 ends (Spoiled n) number = false
 ends (Overflowed n) number = false
-ends (Attached n array overflow) number = n == number
+ends (Attached n array overflow fresh) number = n == number
 ends (Detached n) number = n == number
 ends (Begun n) number = n == number
 ends Finished number = false
@@ -35,17 +35,22 @@ abbrev pub still : Entry → List Taken → List Taken
 still e [] = []
 still e (t ∷ taken) = if ends e t.number then still e taken else t ∷ still e taken
 
--- those after an entry
-abbrev pub noted : Entry → List Taken → List Taken
-noted (Attached n array overflow) taken = record { number = n; array = array } ∷ still (Attached n array overflow) taken
-noted (Answered a) taken = still (Answered a) taken
-noted (Spoiled n) taken = taken
-noted (Overflowed n) taken = taken
-noted (Detached n) taken = still (Detached n) taken
-noted (Begun n) taken = still (Begun n) taken
-noted Finished taken = taken
+-- of a snapshot over a fresh store what the origin shows, of another what it shows itself
+abbrev pub held_back : Bool → List ℕ → List ℕ → List ℕ
+held_back true origin array = origin
+held_back false origin array = array
 
--- the origin shows what the snapshot of a number showed when it was taken, if it is one of these
+-- those after an entry, which met an origin that shows so
+abbrev pub noted : List ℕ → Entry → List Taken → List Taken
+noted origin (Attached n array overflow fresh) taken = record { number = n; array = held_back fresh origin array } ∷ still (Attached n array overflow fresh) taken
+noted origin (Answered a) taken = still (Answered a) taken
+noted origin (Spoiled n) taken = taken
+noted origin (Overflowed n) taken = taken
+noted origin (Detached n) taken = still (Detached n) taken
+noted origin (Begun n) taken = still (Begun n) taken
+noted origin Finished taken = taken
+
+-- the origin shows what is remembered of the snapshot of a number, if it is one of these
 abbrev pub ShowsTaken : ℕ → List ℕ → List Taken → Type 0
 ShowsTaken n origin [] = Unit {0}
 ShowsTaken n origin (t ∷ taken) = (t.number ≡ n → origin ≡ t.array) × ShowsTaken n origin taken
@@ -55,7 +60,7 @@ abbrev pub IsUndone : List Taken → Entry → Saves → Type 0
 IsUndone taken (Answered a) s = Unit {0}
 IsUndone taken (Spoiled n) s = Unit {0}
 IsUndone taken (Overflowed n) s = Unit {0}
-IsUndone taken (Attached n array overflow) s = Unit {0}
+IsUndone taken (Attached n array overflow fresh) s = Unit {0}
 IsUndone taken (Detached n) s = Unit {0}
 IsUndone taken (Begun n) s = ShowsTaken n s.origin taken
 IsUndone taken Finished s = Unit {0}
@@ -63,4 +68,4 @@ IsUndone taken Finished s = Unit {0}
 -- after each of these entries
 abbrev pub AllUndone : List Taken → Saves → List Entry → Type 0
 AllUndone taken s [] = Unit {0}
-AllUndone taken s (e ∷ es) = IsUndone taken e (after s e) × AllUndone (noted e taken) (after s e) es
+AllUndone taken s (e ∷ es) = IsUndone taken e (after s e) × AllUndone (noted s.origin e taken) (after s e) es

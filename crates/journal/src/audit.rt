@@ -1,5 +1,5 @@
 // An audit, and what callers ask of it.
-ghost use Rattle.std.specs.Prelude.{◌≡◌, ◌+◌, ◌<◌, ◌≤◌, [], IfErr, IfOk, None, length, map, replicate, slice_index_or, true};
+ghost use Rattle.std.specs.Prelude.{◌≡◌, ◌+◌, ◌<◌, ◌≤◌, [], IfErr, IfOk, None, length, map, replicate, slice_index_or, true, ℕ};
 ghost use Rattle.sector.specs.declared.refusal.Refusal.TheVariants.{NoMemory};
 ghost use Rattle.pending.specs.Kinds.{in_flight};
 ghost use Rattle.volume.specs.Volumed.{is_loud_in_all, plain_of};
@@ -7,6 +7,8 @@ ghost use Rattle.volume.specs.Causes.{lives_of};
 ghost use Rattle.journal.specs.Books.{count_of};
 ghost use Rattle.journal.specs.Entries.{HasVerdict};
 ghost use Rattle.journal.specs.Noted.{kept_count, mays_of};
+ghost use Rattle.journal.specs.Inside.{AllInside};
+ghost use Rattle.journal.specs.Own.{MeetsOwn};
 ghost use Rattle.journal.specs.Replay.{AllLawful, replay, saves_of};
 ghost use Rattle.journal.specs.Seats.{flight_in};
 ghost use Rattle.journal.specs.Undone.{AllUndone};
@@ -139,13 +141,17 @@ impl<B: Layered> Audit<B> {
 
     /// What stands in the journal. Where no device dropped writes, the entries replayed on the base arrays give the arrays
     /// and states that the volume's devices stand for, and each reply is the plain machine's at its place. A merge that begins
-    /// of a snapshot that was taken since the base, and that no request wrote since, gives the origin what that snapshot showed
-    /// when it was taken; and once no merge is begun the origin disk's own bytes are what the origin shows.
+    /// of a snapshot that was taken since the base, and that no request wrote since, gives the origin what it showed itself when
+    /// that was taken over a fresh store, and else what that snapshot showed then; and once no merge is begun the origin disk's
+    /// own bytes are what the origin shows. Where a seat reads a byte behind a write of its own, it gets what it wrote, or an entry
+    /// between the two changed that.
     pub fn entries(&self) -> &[Entry]
         ensures value { result.now ≡ self.now.entries }
         ensures replay { self.now.loud ≡ true → replay self.now.base self.now.entries ≡ saves_of (plain_of B.contents B.layers self.now.volume) }
         ensures lawful { self.now.loud ≡ true → AllLawful self.now.base self.now.entries }
         ensures undone { self.now.loud ≡ true → AllUndone [] self.now.base self.now.entries }
+        ensures own { self.now.loud ≡ true → (seat : ℕ) → MeetsOwn seat self.now.entries }
+        ensures inside { self.now.loud ≡ true → AllInside self.now.base self.now.entries }
         ensures disk { self.now.loud ≡ true → (replay self.now.base self.now.entries).begun ≡ None → (replay self.now.base self.now.entries).origin ≡ B.contents self.now.volume.origin }
     {
         self.entries.as_slice()

@@ -19,8 +19,9 @@ pub enum Entry {
     Spoiled(SnapId),
     /// The store of a snapshot overflowed: from here on the snapshot takes no write. It is no seat's request either.
     Overflowed(SnapId),
-    /// A snapshot was taken, with this array. Its store may overflow, or never does.
-    Attached(SnapId, Array, Overflowing),
+    /// A snapshot was taken, with this array. Its store may overflow, or never does; and whether it was fresh: then the array is
+    /// the origin's.
+    Attached(SnapId, Array, Overflowing, bool),
     /// A snapshot was taken away.
     Detached(SnapId),
     /// A snapshot began to be merged: the origin is its array from here on.

@@ -21,7 +21,7 @@ pub(crate) fn count_attached(entries: &[Entry]) -> usize
 {
     let mut count = 0;
     for entry in entries {
-        if let Entry::Attached(_, _, _) = entry {
+        if let Entry::Attached(_, _, _, _) = entry {
             count += 1;
         }
     }
@@ -168,7 +168,7 @@ fn fold(base: &mut Base, entry: Entry)
         Entry::Answered(answered) => serve(base, &answered),
         Entry::Spoiled(number) => spoil(&mut base.saved, number),
         Entry::Overflowed(number) => mark(&mut base.saved, number),
-        Entry::Attached(number, array, overflow) => base.saved.push_reserved(Saved {
+        Entry::Attached(number, array, overflow, _) => base.saved.push_reserved(Saved {
             number,
             array: Some(array),
             overflow,

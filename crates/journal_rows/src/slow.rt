@@ -125,7 +125,7 @@ impl Shown {
             Entry::Answered(answered) => self.serve(&answered.request, &answered.reply),
             Entry::Spoiled(number) => self.spoil(*number),
             Entry::Overflowed(number) => self.mark(*number),
-            Entry::Attached(number, array, overflow) => {
+            Entry::Attached(number, array, overflow, _) => {
                 self.attach(alloc, *number, array.as_slice(), *overflow)?
             }
             Entry::Detached(number) => {

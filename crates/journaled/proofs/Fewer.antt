@@ -8,7 +8,7 @@ use Rattle.device.specs.Layers.{Layer}
 use Rattle.sector.specs.declared.pair.Pair.{Pair}
 use Rattle.sector.specs.declared.refusal.Refusal.{Refusal}
 use Rattle.plain.specs.declared.event.Event.{Event}
-use Rattle.plain.specs.declared.event.Event.TheVariants.{Issue, CopyRead, CopyWrite, ZeroNext, WriteArea, Publish, WriteInvalid, MergeGroup, MergeAreaRead, MergeRead, MergeWrite, MergeFlush, MergeCommit, MergeRelease}
+use Rattle.plain.specs.declared.event.Event.TheVariants.{Issue, CopyRead, CopyWrite, ZeroNext, WriteArea, Publish, WriteInvalid, FlushStore, MergeGroup, MergeAreaRead, MergeRead, MergeWrite, MergeFlush, MergeCommit, MergeRelease}
 use Rattle.plain.specs.declared.event.Outcome.{Outcome}
 use Rattle.plain.specs.declared.event.Outcome.TheVariants.{Done, Fault, Reply as Replied}
 use Rattle.plain.specs.declared.request.Failure.TheVariants.{Invalid as IsInvalid, Io, Overflow}
@@ -185,6 +185,7 @@ module _ {B : Type 0} (v w : Volumed B) where
     done_lives (Publish number) (inl is) = same_lives is.lives
     done_lives (Publish number) (inr is) = set_lives is.place is.lives
     done_lives (WriteInvalid number) is = same_lives is.lives
+    done_lives (FlushStore number) is = same_lives is.lives
     done_lives MergeAreaRead is = same_lives is.lives
     done_lives MergeRead is = same_lives is.lives
     done_lives MergeFlush is = same_lives is.lives
@@ -197,6 +198,8 @@ module _ {B : Type 0} (v w : Volumed B) where
     failed_lives (ZeroNext number) is = set_lives is.place is.spoils.lives
     failed_lives (WriteArea number) is = set_lives is.place is.spoils.lives
     failed_lives (WriteInvalid number) is = same_lives is.fails.lives
+    failed_lives (FlushStore number) (inl is) = set_lives is.place is.spoils.lives
+    failed_lives (FlushStore number) (inr is) = same_lives is.fails.lives
     failed_lives MergeAreaRead is = same_lives is.fails.lives
     failed_lives MergeRead is = same_lives is.fails.lives
     failed_lives MergeWrite is = same_lives is.fails.lives
@@ -287,8 +290,8 @@ module _ {B : Type 0} (v w : Volumed B) where
         fewer_have places places (omega (arith, e, length-map v.flights in_flight, length-map w.flights in_flight)) (are_fewer (same_lives lives) (same_fewer (mays_of v) (mays_of w) mays)) (omega arith) h.few h
 
   -- a snapshot that is taken, in two places more, and one for its mark where it may overflow
-  pub gained_have : (layers : B → List Layer) (size : B → ℕ) (number : ℕ) (wanted : Bool) (store : StoreDev B) (places more : ℕ) → IsGained layers size number wanted store v w → more ≡ places_for wanted → places + kept_for_marks v + more ≤ 65_536 → HasPlaces v places → HasPlaces w (places + 2)
-  gained_have layers size number wanted store places more is for few h =
+  pub gained_have : (contents : B → List ℕ) (layers : B → List Layer) (size : B → ℕ) (number : ℕ) (wanted : Bool) (store : StoreDev B) (places more : ℕ) → IsGained contents layers size number wanted store v w → more ≡ places_for wanted → places + kept_for_marks v + more ≤ 65_536 → HasPlaces v places → HasPlaces w (places + 2)
+  gained_have contents layers size number wanted store places more is for few h =
       let lives : lives_of w ≡ lives_of v ++ is.snap.live ∷ [] = ap lives_of is.becomes ∙ map-append (λ (s : Kept B). s.live) v.snaps (is.snap ∷ []) in
       let mays : mays_of w ≡ mays_of v ++ wanted ∷ [] = ap mays_of is.becomes ∙ map-append (λ (s : Kept B). may_overflow s.overflow) v.snaps (is.snap ∷ []) ∙ ap (λ b. mays_of v ++ b ∷ []) (ap may_overflow is.overflow_is ∙ wanted_may wanted) in
       let live = ap live_count lives in

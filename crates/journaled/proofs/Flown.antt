@@ -5,7 +5,7 @@ use Rattle.std.proofs.lemmas.Bool.{cases_Bool, cond-true, cond-false}
 use Rattle.plain.specs.Plain.{InFlight, asked_under, without}
 use Rattle.plain.specs.Replies.{reply_in}
 use Rattle.plain.specs.declared.event.Event.{Event}
-use Rattle.plain.specs.declared.event.Event.TheVariants.{Issue, CopyRead, CopyWrite, ZeroNext, WriteArea, Publish, WriteInvalid, MergeGroup, MergeAreaRead, MergeRead, MergeWrite, MergeFlush, MergeCommit, MergeRelease}
+use Rattle.plain.specs.declared.event.Event.TheVariants.{Issue, CopyRead, CopyWrite, ZeroNext, WriteArea, Publish, WriteInvalid, FlushStore, MergeGroup, MergeAreaRead, MergeRead, MergeWrite, MergeFlush, MergeCommit, MergeRelease}
 use Rattle.plain.specs.declared.event.Outcome.{Outcome}
 use Rattle.plain.specs.declared.event.Outcome.TheVariants.{Done, Fault, Reply as Answered}
 use Rattle.plain.specs.declared.request.Request.{Request}
@@ -36,6 +36,7 @@ fewer_fly (ZeroNext n) Done old new f = same_fly old new f
 fewer_fly (WriteArea n) Done old new f = same_fly old new f
 fewer_fly (Publish n) Done old new f = same_fly old new f
 fewer_fly (WriteInvalid n) Done old new f = same_fly old new f
+fewer_fly (FlushStore n) Done old new f = same_fly old new f
 fewer_fly MergeGroup Done old new f = same_fly old new f
 fewer_fly MergeAreaRead Done old new f = same_fly old new f
 fewer_fly MergeRead Done old new f = same_fly old new f
@@ -50,6 +51,7 @@ fewer_fly (ZeroNext n) Fault old new f = same_fly old new f
 fewer_fly (WriteArea n) Fault old new f = same_fly old new f
 fewer_fly (Publish n) Fault old new f = same_fly old new f
 fewer_fly (WriteInvalid n) Fault old new f = same_fly old new f
+fewer_fly (FlushStore n) Fault old new f = same_fly old new f
 fewer_fly MergeGroup Fault old new f = same_fly old new f
 fewer_fly MergeAreaRead Fault old new f = same_fly old new f
 fewer_fly MergeRead Fault old new f = same_fly old new f

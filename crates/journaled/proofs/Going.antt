@@ -4,7 +4,7 @@ use Rattle.std.specs.Prelude.{Err, Ok, OnOk, Result}
 use Rattle.device.specs.Layers.{Layer}
 use Rattle.sector.specs.declared.refusal.Refusal.{Refusal}
 use Rattle.plain.specs.declared.event.Event.{Event}
-use Rattle.plain.specs.declared.event.Event.TheVariants.{Issue, CopyRead, CopyWrite, ZeroNext, WriteArea, Publish, WriteInvalid, MergeGroup, MergeAreaRead, MergeRead, MergeWrite, MergeFlush, MergeCommit, MergeRelease}
+use Rattle.plain.specs.declared.event.Event.TheVariants.{Issue, CopyRead, CopyWrite, ZeroNext, WriteArea, Publish, WriteInvalid, FlushStore, MergeGroup, MergeAreaRead, MergeRead, MergeWrite, MergeFlush, MergeCommit, MergeRelease}
 use Rattle.plain.specs.declared.event.Outcome.{Outcome}
 use Rattle.plain.specs.declared.event.Outcome.TheVariants.{Done, Fault, Reply as Replied}
 use Rattle.plain.specs.declared.request.Reply.{Reply}
@@ -69,6 +69,7 @@ is_issue (ZeroNext k) = inr (λ n e. cc)
 is_issue (WriteArea k) = inr (λ n e. cc)
 is_issue (Publish k) = inr (λ n e. cc)
 is_issue (WriteInvalid k) = inr (λ n e. cc)
+is_issue (FlushStore k) = inr (λ n e. cc)
 is_issue MergeGroup = inr (λ n e. cc)
 is_issue MergeAreaRead = inr (λ n e. cc)
 is_issue MergeRead = inr (λ n e. cc)
@@ -110,9 +111,9 @@ module _ {B : Type 0} (contents : B → List ℕ) (layers : B → List Layer) (v
   refused_goes_on size request refusal is loud = declined_goes_on request refusal (refused_declined contents layers size v w request refusal is loud)
 
   -- what changes a volume between requests
-  pub gained_goes_on : (size : B → ℕ) (number : ℕ) (wanted : Bool) (store : StoreDev B) (array : List ℕ) → IsGained layers size number wanted store v w → IsTaken p number array (overflow_of wanted) q → GoesOn p (Attached number array (overflow_of wanted) ∷ []) q
-  gained_goes_on size number wanted store array gained taken =
-      let d = attached_does contents layers size number wanted store v w gained array [] [] taken in one_goes_on p q (Attached number array (overflow_of wanted)) d.1 d.0
+  pub gained_goes_on : (size : B → ℕ) (number : ℕ) (wanted : Bool) (store : StoreDev B) (array : List ℕ) (fresh : Bool) → IsGained contents layers size number wanted store v w → IsTaken p number array (overflow_of wanted) q → (fresh ≡ true → array ≡ p.origin) → GoesOn p (Attached number array (overflow_of wanted) fresh ∷ []) q
+  gained_goes_on size number wanted store array fresh gained taken same =
+      let d = attached_does contents layers size number wanted store v w gained array fresh [] [] taken same in one_goes_on p q (Attached number array (overflow_of wanted) fresh) d.1 d.0
 
   pub left_goes_on : (number : ℕ) (store : StoreDev B) → IsWithout number v w store → IsDetached p number q → GoesOn p (Detached number ∷ []) q
   left_goes_on number store without detached =

@@ -10,8 +10,9 @@ ghost use Rattle.settled.specs.Attaching.{attached as attached_by, refused_attac
 ghost use Rattle.served.specs.Refusals.{is_starved};
 ghost use Rattle.event_machine.specs.Merging.{begun, finished, resumed};
 ghost use Rattle.snapshot.specs.Opening.{shown_array};
-ghost use Rattle.volume.specs.Attached.{IsAttachedAs, IsGained, store_of, volume_in};
+ghost use Rattle.volume.specs.Attached.{IsAttachedAs, IsGained, IsRefusedOver, store_of, volume_in};
 ghost use Rattle.volume.specs.Beginning.{IsMergeBegun, IsNotBegun, IsResumed, begin_refusal};
+ghost use Rattle.volume.specs.Fresh.{is_fresh};
 ghost use Rattle.volume.specs.Finishing.{IsTakenOut, finish_refusal};
 ghost use Rattle.volume.specs.Layering.{IsTicked, moving_relayered};
 ghost use Rattle.volume.specs.Leaving.{IsWithout, detach_refusal, is_quiet_of};
@@ -34,7 +35,8 @@ impl<B: Layered> Journaled<B> {
     /// Takes a snapshot over a store, by a table line with this chunk size, and tells its number. Where `overflow` says so, a
     /// write that finds the store full is refused, and spoils nothing. It takes two places of the journal: one for its entry, and
     /// one that is kept free while it is live; and one more while it may overflow. Refused first of all where the journal is
-    /// full (`JournalFull`), and the store is given back as it was; then as the volume refuses it.
+    /// full (`JournalFull`), and the store is given back as it was; then as the volume refuses it, which after `Io` may have
+    /// flushed the origin.
     pub fn attach(
         &mut self,
         store: StoreDev<B>,
@@ -43,16 +45,16 @@ impl<B: Layered> Journaled<B> {
     ) -> Result<SnapId, (Refusal, StoreDev<B>)>
         ensures number { IfOk result (λ number. number ≡ self.old.attached + 1) }
         ensures admitted { OnOk result (attach_refusal store.stale chunk self.old ≡ None) }
-        ensures gained { IfOk result (λ number. IsGained B.layers B.size number overflow store self.old self.new) }
+        ensures gained { IfOk result (λ number. IsGained B.contents B.layers B.size number overflow store self.old self.new) }
         ensures exact { IfOk result (λ number. is_loud_in_all B.layers self.old ≡ true → is_loud (B.layers store.device) ≡ true → IsAttachedAs B.contents B.layers number chunk overflow store self.old self.new) }
         ensures refused { IfErr result (λ e. ((is_starved e.0 ≡ true) × (e.1 ≡ store)) ⊎ IsNotTaken store.stale chunk (B.size self.old.origin) (B.size store.device) (B.contents store.device) self.old e.0) }
         ensures unread { IfErr result (λ e. attach_refusal store.stale chunk self.old ≡ Some e.0 → e.1 ≡ store) }
-        ensures back { IfErr result (λ e. is_starved e.0 ≡ false → self.old.merge ≡ None → is_quiet_of self.old ≡ true → is_loud_in_all B.layers self.old ≡ true → is_loud (B.layers store.device) ≡ true → attached_by (self.old.attached + 1) chunk (overflow_of overflow) (store_of B.contents B.layers store) (volume_in B.contents B.layers self.old) ≡ refused_attach e.0 (store_of B.contents B.layers e.1) (volume_in B.contents B.layers self.old)) }
+        ensures back { IfErr result (λ e. is_starved e.0 ≡ false → self.old.merge ≡ None → is_quiet_of self.old ≡ true → is_loud_in_all B.layers self.old ≡ true → is_loud (B.layers store.device) ≡ true → attached_by (self.old.attached + 1) chunk (overflow_of overflow) (store_of B.contents B.layers store) (volume_in B.contents B.layers self.old) ≡ refused_attach e.0 (store_of B.contents B.layers e.1) (volume_in B.contents B.layers self.new)) }
         ensures starved { IfErr result (λ e. is_starved e.0 ≡ true → (B.contents e.1.device ≡ B.contents store.device) × AreRead (B.layers store.device) (B.layers e.1.device)) }
         ensures size { IfErr result (λ e. B.size e.1.device ≡ B.size store.device) }
         ensures loud { MatchResult result (λ _. is_loud_in_all B.layers self.new ≡ (is_loud_in_all B.layers self.old && is_loud (B.layers store.device))) (λ e. is_loud (B.layers e.1.device) ≡ is_loud (B.layers store.device)) }
-        ensures goes_on { IfOk result (λ number. is_loud_in_all B.layers self.old ≡ true → is_loud (B.layers store.device) ≡ true → GoesOn (plain_of B.contents B.layers self.old) (Attached number (shown_array (B.contents self.old.origin) (B.contents store.device)) (overflow_of overflow) ∷ []) (plain_of B.contents B.layers self.new)) }
-        ensures same { OnErr result (self.new ≡ self.old) }
+        ensures goes_on { IfOk result (λ number. is_loud_in_all B.layers self.old ≡ true → is_loud (B.layers store.device) ≡ true → GoesOn (plain_of B.contents B.layers self.old) (Attached number (shown_array (B.contents self.old.origin) (B.contents store.device)) (overflow_of overflow) (is_fresh (B.contents store.device)) ∷ []) (plain_of B.contents B.layers self.new)) }
+        ensures same { IfErr result (λ e. IsRefusedOver B.contents B.layers B.size e.0 self.old self.new) }
         ensures stale { IfErr result (λ e. e.1.stale ≡ store.stale) }
     {
         if self.places + count_may(&self.volume) + places_needed(overflow) > MAX_ENTRIES {

@@ -91,6 +91,13 @@ stack_reads (Flakey' f p below) first count = either_same (is_passed (layer_fate
 stack_reads (Dust' d p below) first count = either_same (is_passed (layer_fate (dust_layer d) (Reads first count))) (stack_reads below first count)
 stack_reads (Error e) first count = refl
 
+-- a flush does too
+pub stack_flushes : (s : Stack) → layers_after (stack_layers s) Flushes ≡ stack_layers s
+stack_flushes (Disk d) = refl
+stack_flushes (Flakey' f p below) = either_same (is_passed (layer_fate (flakey_layer f) Flushes)) (stack_flushes below)
+stack_flushes (Dust' d p below) = either_same (is_passed (layer_fate (dust_layer d) Flushes)) (stack_flushes below)
+stack_flushes (Error e) = refl
+
 -- an operation leaves what lies beside one window
 widened_after : (l : Layer) (op : Operation) (done : Bool) (bytes : List ℕ) → widened (layer_after l op done) bytes ≡ widened l bytes
 widened_after (Flaky moment up down features offset) op done bytes = refl

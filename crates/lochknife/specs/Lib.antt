@@ -1,4 +1,2 @@
-pub mod Seen
-pub mod Answers
 pub mod Arrays
-pub mod Notes
+pub mod Differing

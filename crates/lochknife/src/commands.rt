@@ -1,64 +1,14 @@
 // The commands that look at a store.
 ghost use Rattle.std.specs.Prelude.{◌<◌, ◌≤◌};
 
-use crate::answers::{checked, mapped, object, raw, shown};
-use crate::input::Input;
-use crate::looking::{Seen, all_faults, chunk_listed, chunk_of, is_good, look};
-use crate::notes::{Behind, notes_of, push_behind_of};
-use crate::rolling::size_of;
-use crate::target::OUTPUT;
-use crate::trouble::{Trouble, Why, held};
+use cow_answers::{
+    Behind, Seen, all_faults, checked, chunk_listed, chunk_of, is_good, look, mapped, notes_of,
+    push_behind, raw, shown,
+};
 use cow_asked::Form;
+use cow_files::{Input, Trouble, held, of_input, printed, size_of};
 use cow_kept::read_used;
-use cow_map::{Failure, Reason, Told, read_slots, sectors_of};
-use image::Image;
-use std::io;
-use std::io::Write;
-
-/// Writes a text to standard output.
-pub fn printed(rt: &HostRuntime, text: &[u8]) -> Result<(), Trouble<'static>> {
-    match written(rt, text) {
-        Ok(()) => Ok(()),
-        Err(error) => {
-            let why = Why::Unwritable(error);
-            let name = "standard output";
-            Err(Trouble { name, why })
-        }
-    }
-}
-
-/// Writes a text where the array that is asked for is not written: to standard error where that goes to standard output.
-pub fn told_beside<'a>(rt: &HostRuntime, out: &'a str, text: &[u8]) -> Result<(), Trouble<'a>> {
-    if out != OUTPUT {
-        return printed(rt, text);
-    }
-    match rt.stderr().write_all(text) {
-        Ok(()) => Ok(()),
-        Err(error) => {
-            let why = Why::Unwritable(error);
-            let name = "standard error";
-            Err(Trouble { name, why })
-        }
-    }
-}
-
-fn written(rt: &HostRuntime, text: &[u8]) -> io::Result<()> {
-    let mut writer = io::writer(rt);
-    writer.write_all(text)?;
-    writer.flush()
-}
-
-/// Says of which input nothing is known.
-pub fn of_input<'a, T: Drop>(
-    input: &mut Input<'a>,
-    read: Result<T, Failure>,
-) -> Result<T, Trouble<'a>> {
-    input.hush();
-    match read {
-        Ok(value) => Ok(value),
-        Err(failure) => Err(input.trouble(failure)),
-    }
-}
+use cow_map::{Reason, Told, read_slots, sectors_of};
 
 /// Reads a store, for an origin of so many sectors, and sees that it was not written meanwhile.
 pub fn seen_in<'a>(
@@ -76,35 +26,35 @@ pub fn seen_in<'a>(
 pub fn show<'a>(rt: &'a HostRuntime, cow: &'a str, form: Form) -> Result<bool, Trouble<'a>> {
     let mut input = Input::open(rt, cow)?;
     let seen = seen_in(rt, &mut input, u64::MAX)?;
-    let text = match form {
-        Form::Lines => held(cow, shown(rt.alloc(), &seen))?,
-        Form::Json => held(cow, object(rt.alloc(), &seen))?,
-    };
+    let text = held(cow, shown(rt.alloc(), &seen, form))?;
     printed(rt, text.as_slice())?;
     Ok(is_good(&seen.told))
 }
 
 /// Prints the pairs of a store in runs, or why it is refused.
-pub fn map<'a>(rt: &'a HostRuntime, cow: &'a str) -> Result<bool, Trouble<'a>> {
+pub fn map<'a>(rt: &'a HostRuntime, cow: &'a str, form: Form) -> Result<bool, Trouble<'a>> {
     let mut input = Input::open(rt, cow)?;
     let seen = seen_in(rt, &mut input, u64::MAX)?;
-    let text = held(cow, mapped(rt.alloc(), &seen))?;
+    let text = held(cow, mapped(rt.alloc(), &seen, form))?;
     printed(rt, text.as_slice())?;
     Ok(is_good(&seen.told))
 }
 
 /// Prints the slots of a store up to the first that is empty, whether it is good or not, and why it is refused, if it is. Of
 /// a store whose header has no chunk size that is allowed it prints what `map` prints: it has no slots.
-pub fn raw_map<'a>(rt: &'a HostRuntime, cow: &'a str) -> Result<bool, Trouble<'a>> {
+pub fn raw_map<'a>(rt: &'a HostRuntime, cow: &'a str, form: Form) -> Result<bool, Trouble<'a>> {
     let mut input = Input::open(rt, cow)?;
     let seen = seen_in(rt, &mut input, u64::MAX)?;
     let text = match chunk_of(seen.numbers) {
-        None => held(cow, mapped(rt.alloc(), &seen))?,
+        None => held(cow, mapped(rt.alloc(), &seen, form))?,
         Some(chunk) => {
             let slots = read_slots(rt.alloc(), &mut input, chunk);
             let (slots, listed) = of_input(&mut input, slots)?;
             input.is_unchanged()?;
-            held(cow, raw(rt.alloc(), chunk, slots.as_slice(), listed, &seen))?
+            held(
+                cow,
+                raw(rt.alloc(), chunk, slots.as_slice(), listed, &seen, form),
+            )?
         }
     };
     printed(rt, text.as_slice())?;
@@ -112,38 +62,44 @@ pub fn raw_map<'a>(rt: &'a HostRuntime, cow: &'a str) -> Result<bool, Trouble<'a
 }
 
 /// Prints what a store holds for this origin, and all faults of its pairs.
-pub fn check<'a>(rt: &'a HostRuntime, origin: &'a str, cow: &'a str) -> Result<bool, Trouble<'a>> {
+pub fn check<'a>(
+    rt: &'a HostRuntime,
+    origin: &'a str,
+    cow: &'a str,
+    form: Form,
+) -> Result<bool, Trouble<'a>> {
     let mut origin = Input::open(rt, origin)?;
     let mut input = Input::open(rt, cow)?;
     origin.is_apart(&input)?;
     let size = sectors_of(&mut origin);
     let size = of_input(&mut origin, size)?;
     let seen = seen_in(rt, &mut input, size)?;
-    let mut text = held(cow, shown(rt.alloc(), &seen))?;
+    let mut text = held(cow, shown(rt.alloc(), &seen, form))?;
     match seen.told {
         Told::Refused(Reason::Pairs(_)) | Told::Refused(Reason::NoArea(_)) => {
-            let faults = faults_text(rt, &mut input, &seen, size)?;
+            let faults = faults_text(rt, &mut input, &seen, size, form)?;
             held(cow, text.extend_from_slice(faults.as_slice()))?;
         }
         _ => {}
     }
-    add_behind(rt, &mut input, &seen, &mut text)?;
+    add_behind(rt, &mut input, &seen, &mut text, form)?;
     printed(rt, text.as_slice())?;
     Ok(is_good(&seen.told))
 }
 
-/// Adds the line of the slots behind the first empty one that are not empty.
+/// Adds what is told of the slots behind the first empty one that are not empty.
 fn add_behind<'a>(
     rt: &HostRuntime,
     cow: &mut Input<'a>,
     seen: &Seen,
     text: &mut Vec<u8>,
+    form: Form,
 ) -> Result<(), Trouble<'a>> {
     match chunk_listed(seen) {
         None => Ok(()),
         Some(chunk) => {
             let behind = behind_in(rt, cow, chunk)?;
-            held(cow.name, push_behind_of(text, 32 * chunk as u64, behind))
+            held(cow.name, push_behind(text, 32 * chunk as u64, behind, form))
         }
     }
 }
@@ -164,12 +120,13 @@ fn behind_in<'a>(
     Ok(notes_of(&used, 32 * chunk as u64, false).behind)
 }
 
-/// The lines of all faults of a store's pairs, for an origin of so many sectors.
+/// All faults of a store's pairs, for an origin of so many sectors.
 fn faults_text<'a>(
     rt: &HostRuntime,
     cow: &mut Input<'a>,
     seen: &Seen,
     origin: u64,
+    form: Form,
 ) -> Result<Vec<u8>, Trouble<'a>> {
     let Some(chunk) = chunk_of(seen.numbers) else {
         return Ok(Vec::new(rt.alloc()));
@@ -179,6 +136,6 @@ fn faults_text<'a>(
     cow.is_unchanged()?;
     held(
         cow.name,
-        checked(rt.alloc(), seen.numbers, faults.as_slice(), listed),
+        checked(rt.alloc(), seen.numbers, faults.as_slice(), listed, form),
     )
 }

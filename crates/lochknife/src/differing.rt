@@ -2,17 +2,16 @@
 ghost use Rattle.std.specs.Prelude.{◌≡◌, ℕ, ◌*◌, ◌≤◌, List, length, true, IfOk, Some};
 ghost use Rattle.cow_map.specs.Maps.{IsToldOf};
 ghost use Rattle.cow_diff.specs.Differences.{AreDifferences};
-ghost use Rattle.lochknife.specs.Answers.{differing_by, is_good as is_good_by};
+ghost use Rattle.cow_answers.specs.Answers.{is_good as is_good_by};
+ghost use Rattle.lochknife.specs.Differing.{differing_by};
 ghost use Rattle.lochknife.specs.Arrays.{array_of};
 
-use crate::answers::{object, shown};
-use crate::commands::{printed, seen_in};
-use crate::input::Input;
-use crate::looking::{Seen, is_good};
-use crate::rolling::{size_of, why_stopped};
-use crate::trouble::{Trouble, held};
+use crate::commands::seen_in;
+use crate::rolling::why_stopped;
+use cow_answers::{Seen, is_good, shown};
 use cow_asked::Form;
 use cow_diff::{Undone, differences};
+use cow_files::{Input, Trouble, held, printed, size_of};
 use cow_kept::Span;
 use cow_map::Told;
 use cow_shown::Stopped;
@@ -86,10 +85,7 @@ fn refused<'a>(
     seen: &Seen,
     form: Form,
 ) -> Result<bool, Trouble<'a>> {
-    let text = match form {
-        Form::Lines => held(cow.name, shown(rt.alloc(), seen))?,
-        Form::Json => held(cow.name, object(rt.alloc(), seen))?,
-    };
+    let text = held(cow.name, shown(rt.alloc(), seen, form))?;
     printed(rt, text.as_slice())?;
     Ok(is_good(&seen.told))
 }

@@ -1,39 +1,29 @@
 //! The program `lochknife`: what the image of a snapshot's store holds, and the array that it shows with the image of its
 //! origin.
 //!
-//! It stands on `cow_map`, `cow_shown`, `cow_kept`, `cow_words` and `cow_asked`, which say what is asked for, read, written and printed,
-//! and has only what concerns the process: files, standard output and the exit status (0 for a store that is good, 1 for one
+//! It stands on `cow_asked`, `cow_answers`, `cow_shown`, `cow_kept`, `cow_merge` and `cow_nbd`, which say what is asked for, read, written
+//! and printed, and on `cow_files`, and has only the commands' order and the exit status (0 for a store that is good, 1 for one
 //! that is refused, 2 where something could not be read or written).
 #![tactic(auto)]
 
 ghost use Rattle.std.specs.Prelude.{◌≡◌, MatchResult, MatchBool};
 
-mod answers;
 mod array;
 mod commands;
 mod differing;
-mod files;
-mod input;
-mod looking;
 mod merging;
-mod notes;
 mod rolling;
 mod salvaging;
 mod serving;
-mod target;
-mod teller;
-mod trouble;
-mod watched;
-mod writing;
 
-use crate::commands::{check, map, printed, raw_map, show};
+use crate::commands::{check, map, raw_map, show};
 use crate::differing::diff;
 use crate::merging::{Words, merge};
 use crate::rolling::export;
 use crate::salvaging::{Salvage, salvage_array};
 use crate::serving::serve;
-use crate::trouble::Trouble;
 use cow_asked::{Asked, HELP, VERSION, words_ask};
+use cow_files::{Trouble, printed};
 use std::io;
 use std::process::ExitCode;
 
@@ -43,22 +33,46 @@ fn done<'a>(rt: &'a HostRuntime, asked: Asked<'a>) -> Result<bool, Trouble<'a>> 
         Asked::Help => said(rt, HELP),
         Asked::Version => said(rt, VERSION),
         Asked::Show { cow, form } => show(rt, cow, form),
-        Asked::Map { cow } => map(rt, cow),
-        Asked::RawMap { cow } => raw_map(rt, cow),
-        Asked::Check { origin, cow } => check(rt, origin, cow),
+        Asked::Map { cow, form } => map(rt, cow, form),
+        Asked::RawMap { cow, form } => raw_map(rt, cow, form),
+        Asked::Check { origin, cow, form } => check(rt, origin, cow, form),
         Asked::Differ { origin, cow, form } => diff(rt, origin, cow, form),
-        Asked::Export { origin, cow, out } => export(rt, origin, cow, out),
+        Asked::Export {
+            origin,
+            cow,
+            out,
+            form,
+        } => export(rt, origin, cow, out, form),
         Asked::Salvage {
             origin,
             cow,
             out,
             chunk,
             behind,
+            form,
         } => {
-            let asked = Salvage { out, chunk, behind };
+            let asked = Salvage {
+                out,
+                chunk,
+                behind,
+                form,
+            };
             salvage_array(rt, origin, cow, asked)
         }
-        Asked::Merge { origin, cow, dry } => merge(rt, Words { origin, cow, dry }),
+        Asked::Merge {
+            origin,
+            cow,
+            dry,
+            form,
+        } => merge(
+            rt,
+            Words {
+                origin,
+                cow,
+                dry,
+                form,
+            },
+        ),
         Asked::Serve { origin, cow } => serve(rt, origin, cow),
     }
 }

@@ -2,16 +2,11 @@
 ghost use Rattle.std.specs.Prelude.{[]};
 ghost use Rattle.file_set.specs.Stops.{AreLeft};
 
-use crate::answers::shown;
-use crate::commands::{of_input, printed};
-use crate::files::folder_synced;
-use crate::input::Input;
-use crate::looking::{is_good, look};
-use crate::teller::Teller;
-use crate::trouble::{Trouble, Why, about, held};
+use cow_answers::{is_good, look, push_bytes, push_left, push_runs, shown};
+use cow_asked::Form;
+use cow_files::{Input, Teller, Trouble, Why, about, folder_synced, held, of_input, printed};
 use cow_map::{CowMap, Told, read_store, sectors_of};
-use cow_merge::{ORIGIN, Room, STORE, Stopped};
-use cow_words::{push_runs, push_usage};
+use cow_merge::{ORIGIN, Room, Stopped};
 use file_set::{DiskFiles, FileSet};
 use std::fs::{File, TryLockError};
 use std::os::fd::AsRawFd;
@@ -24,6 +19,7 @@ pub struct Words<'a> {
     pub cow: &'a str,
     /// Whether nothing is to be written.
     pub dry: bool,
+    pub form: Form,
 }
 
 /// Merges a snapshot into its origin, or prints why its store is refused.
@@ -41,20 +37,22 @@ pub fn merge<'a>(rt: &'a HostRuntime, words: Words<'a>) -> Result<bool, Trouble<
     let seen = of_input(&mut cow, seen)?;
     cow.is_unchanged()?;
     origin.is_unchanged()?;
-    let text = held(words.cow, shown(rt.alloc(), &seen))?;
-    printed(rt, text.as_slice())?;
+    let mut text = held(words.cow, shown(rt.alloc(), &seen, words.form))?;
     let Told::Written(map) = &seen.told else {
+        printed(rt, text.as_slice())?;
         return Ok(is_good(&seen.told));
     };
     let bytes = bytes_of(map, size);
-    let text = held(words.cow, format!(in rt.alloc(); "bytes {bytes}\n"))?;
-    printed(rt, text.as_bytes())?;
+    held(words.cow, push_bytes(&mut text, bytes, words.form))?;
     if words.dry {
-        let mut runs = Vec::new(rt.alloc());
-        held(words.cow, push_runs(&mut runs, map.pairs.as_slice()))?;
-        printed(rt, runs.as_slice())?;
+        held(
+            words.cow,
+            push_runs(&mut text, map.pairs.as_slice(), words.form),
+        )?;
+        printed(rt, text.as_slice())?;
         return Ok(true);
     }
+    printed(rt, text.as_slice())?;
     let files = Merging {
         files: DiskFiles::new(first, second),
         teller: Teller::new(rt),
@@ -84,7 +82,7 @@ fn merge_files<'a>(
     about(words.cow, folder_synced(rt, words.cow))?;
     let merged = cow_merge::merge(&mut files, map, size, room);
     files.teller.hush();
-    let told = put_left(rt, words.cow, cow, map, size);
+    let told = put_left(rt, words, cow, map, size);
     if let Err(stopped) = merged {
         return Err(why_stopped(words, &files, stopped));
     }
@@ -94,7 +92,7 @@ fn merge_files<'a>(
 /// Prints how many of a map's pairs are gone, how many are left, and the store's status.
 fn put_left<'a>(
     rt: &HostRuntime,
-    name: &'a str,
+    words: Words<'a>,
     cow: &mut Input<'a>,
     map: &CowMap,
     size: u64,
@@ -103,16 +101,17 @@ fn put_left<'a>(
     let again = of_input(cow, again)?;
     let Told::Written(again) = &again else {
         return Err(Trouble {
-            name,
+            name: words.cow,
             why: Why::Changed,
         });
     };
     let left = again.pairs.len();
     let gone = map.pairs.len().saturating_sub(left);
-    let lines = held(name, format!(in rt.alloc(); "merged {gone}\nleft {left}\n"))?;
     let mut text = Vec::new(rt.alloc());
-    held(name, text.extend_from_slice(lines.as_bytes()))?;
-    held(name, push_usage(&mut text, again))?;
+    held(
+        words.cow,
+        push_left(&mut text, gone as u64, left as u64, again, words.form),
+    )?;
     printed(rt, text.as_slice())
 }
 

@@ -1,16 +1,15 @@
 // The array of a snapshot is written to a new file.
-ghost use Rattle.std.specs.Prelude.{◌≤◌, IfOk};
+ghost use Rattle.std.specs.Prelude.{◌≤◌};
 
-use crate::answers::shown;
 use crate::array::put_array;
-use crate::commands::{of_input, seen_in, told_beside};
-use crate::files::is_free;
-use crate::input::Input;
-use crate::looking::{Seen, is_good};
-use crate::trouble::{Trouble, Why, about, held};
-use crate::watched::Watched;
-use crate::writing::{begun, ended};
-use cow_map::{Failure, MAX_IMAGE, Told, read_store, sectors_of};
+use crate::commands::seen_in;
+use cow_answers::{Seen, is_good, shown};
+use cow_asked::Form;
+use cow_files::{
+    Input, Trouble, Watched, Why, about, begun, ended, held, is_free, of_input, size_of,
+    told_beside,
+};
+use cow_map::{Failure, MAX_IMAGE, Told, read_store};
 use cow_shown::Stopped;
 
 /// Writes a snapshot's array to a new file, or prints why its store is refused. With no other snapshot of the origin this
@@ -20,6 +19,7 @@ pub fn export<'a>(
     origin: &'a str,
     cow: &'a str,
     out: &'a str,
+    form: Form,
 ) -> Result<bool, Trouble<'a>> {
     is_free(rt, out)?;
     let mut origin = Input::open(rt, origin)?;
@@ -28,7 +28,7 @@ pub fn export<'a>(
     let size = size_of(&mut origin)?;
     let seen = seen_in(rt, &mut cow, size)?;
     if let Told::Refused(_) = seen.told {
-        return put_seen(rt, out, &seen);
+        return put_seen(rt, out, &seen, form);
     }
     roll(rt, &mut origin, &mut cow, &seen, size, out)?;
     Ok(true)
@@ -50,19 +50,14 @@ pub fn roll<'a>(
     ended(rt, out, rolled)
 }
 
-/// How many sectors an origin has.
-pub fn size_of<'a>(origin: &mut Input<'a>) -> Result<u64, Trouble<'a>>
-    ensures { IfOk result (λ size. size ≤ MAX_IMAGE) }
-{
-    match sectors_of(origin) {
-        Ok(size) => Ok(size),
-        Err(failure) => Err(origin.trouble(failure)),
-    }
-}
-
 /// Prints what a store holds or why it is refused, and tells whether it is good.
-pub fn put_seen<'a>(rt: &HostRuntime, out: &'a str, seen: &Seen) -> Result<bool, Trouble<'a>> {
-    let text = held(out, shown(rt.alloc(), seen))?;
+pub fn put_seen<'a>(
+    rt: &HostRuntime,
+    out: &'a str,
+    seen: &Seen,
+    form: Form,
+) -> Result<bool, Trouble<'a>> {
+    let text = held(out, shown(rt.alloc(), seen, form))?;
     told_beside(rt, out, text.as_slice())?;
     Ok(is_good(&seen.told))
 }

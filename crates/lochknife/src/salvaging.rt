@@ -1,15 +1,12 @@
 // What is known of the array of a snapshot whose store is refused, or can't be read everywhere, is written to a new file.
-ghost use Rattle.std.specs.Prelude.{◌<◌, ◌≤◌, IfOk, IfSome};
+ghost use Rattle.std.specs.Prelude.{◌<◌, ◌≤◌, IfSome};
 
-use crate::commands::{of_input, told_beside};
-use crate::files::is_free;
-use crate::input::Input;
-use crate::looking::{Seen, chunk_listed, is_good, look};
-use crate::notes::{is_whole, notes_of, salvaged};
-use crate::rolling::{put_seen, roll, size_of, why_stopped};
-use crate::trouble::{Trouble, about, held};
-use crate::watched::Watched;
-use crate::writing::{begun, ended};
+use crate::rolling::{put_seen, roll, why_stopped};
+use cow_answers::{Seen, chunk_listed, is_good, is_whole, look, notes_of, salvaged};
+use cow_asked::Form;
+use cow_files::{
+    Input, Trouble, Watched, about, begun, ended, held, is_free, of_input, size_of, told_beside,
+};
 use cow_kept::{Blanked, Saved, Slot, Span, Used, export_kept, front_of, read_used, unreadable};
 use cow_map::{MAX_IMAGE, Told};
 
@@ -21,6 +18,7 @@ pub struct Salvage<'a> {
     pub chunk: Option<u32>,
     /// Whether pairs are taken that stand behind the first empty slot.
     pub behind: bool,
+    pub form: Form,
 }
 
 /// The two inputs, of which some sectors are not read.
@@ -102,7 +100,7 @@ fn attempt<'a>(
         return Ok(true);
     }
     match chunk_asked(asked, &seen) {
-        None => put_seen(rt, asked.out, &seen),
+        None => put_seen(rt, asked.out, &seen, asked.form),
         Some(chunk) => salvage_by(rt, both, asked, &seen, chunk, size, sectors),
     }
 }
@@ -196,7 +194,7 @@ fn tell<'a>(
     let notes = notes_of(used, slots, asked.behind);
     let origin = both.origin.spans.as_slice();
     let cow = both.cow.spans.as_slice();
-    let text = salvaged(rt.alloc(), slots, saved, origin, cow, notes);
+    let text = salvaged(rt.alloc(), slots, saved, origin, cow, notes, asked.form);
     let text = held(asked.out, text)?;
     told_beside(rt, asked.out, text.as_slice())?;
     Ok(is_whole(saved, origin, cow, notes))

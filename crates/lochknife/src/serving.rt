@@ -3,14 +3,11 @@ ghost use Rattle.std.specs.Prelude.{◌≡◌, ℕ, ◌*◌, ◌≤◌, List, le
 ghost use Rattle.cow_map.specs.Maps.{IsToldOf};
 ghost use Rattle.cow_nbd.specs.Shows.{IsServed};
 ghost use Rattle.lochknife.specs.Arrays.{array_of};
-ghost use Rattle.lochknife.specs.Answers.{is_good};
+ghost use Rattle.cow_answers.specs.Answers.{is_good};
 
-use crate::answers::shown;
-use crate::commands::of_input;
-use crate::input::Input;
-use crate::looking::look;
-use crate::rolling::size_of;
-use crate::trouble::{Trouble, Why, held};
+use cow_answers::{look, shown};
+use cow_asked::Form;
+use cow_files::{Input, Trouble, Why, held, of_input, size_of};
 use cow_map::Told;
 use cow_nbd::{serve_fresh, serve_written};
 use image::Image;
@@ -30,7 +27,7 @@ pub fn serve<'a>(rt: &'a HostRuntime, origin: &'a str, cow: &'a str) -> Result<b
     let seen = of_input(&mut cow, seen)?;
     cow.is_unchanged()?;
     if let Told::Refused(_) = seen.told {
-        let text = held(cow.name, shown(rt.alloc(), &seen))?;
+        let text = held(cow.name, shown(rt.alloc(), &seen, Form::Lines))?;
         let _ = rt.stderr().write_all(text.as_slice());
         return Ok(false);
     }

@@ -217,7 +217,7 @@ module _ {B : Type 0} (contents : B → List ℕ) (loud : Bool) (v : Merging B) 
       )
 
   -- MergeAreaRead
-  pub reads_area : (d : B) (t : State) → can_read_area_of v ≡ true → contents d ≡ contents v.device → t ≡ record v.state { current = v.state.current - 1; filled = 32 * v.state.chunk; zeroed = false; copying = false }
+  pub reads_area : (d : B) (t : State) → can_read_area_of v ≡ true → contents d ≡ contents v.device → t ≡ record v.state { current = v.state.current - 1; filled = 32 * v.state.chunk; zeroed = false; firm = false; copying = false }
       → ReadsArea due (due_of contents loud (record v { device = d; state = t }))
   reads_area d t e same is =
       let idle = idle_from v.failed v.group ((v.state.filled == 0) && nat_lt 0 v.state.current) e in

@@ -62,7 +62,7 @@ impl<B: Block> Merge<B> {
         ensures durable { B.durable self.new.device ≡ B.durable self.old.device }
         ensures size { B.size self.new.device ≡ B.size self.old.device }
 
-        ensures fields { OnOk result (self.new ≡ record self.old { device = self.new.device; state = record self.old.state { current = self.old.state.current - 1; filled = 32 * self.old.state.chunk; zeroed = false; copying = false } }) }
+        ensures fields { OnOk result (self.new ≡ record self.old { device = self.new.device; state = record self.old.state { current = self.old.state.current - 1; filled = 32 * self.old.state.chunk; zeroed = false; firm = false; copying = false } }) }
         ensures step { OnOk result ((loud : Bool) → ReadsArea (due_of B.contents loud self.old) (due_of B.contents loud self.new)) }
         ensures kept { OnErr result (self.new ≡ record self.old { device = self.new.device }) }
     {

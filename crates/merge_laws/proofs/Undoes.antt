@@ -40,7 +40,7 @@ use Rattle.settling.proofs.Requests.{request_settles}
 
 -- a snapshot at rest
 abbrev pub at_rest : Snap → Held
-at_rest s = record { snap = s; untried = false; pairs = pairs_of s.chunk s.store.bytes; next = next_of s.chunk (pairs_of s.chunk s.store.bytes); zeroed = false; copies = []; marks = [] }
+at_rest s = record { snap = s; untried = false; marked = false; pairs = pairs_of s.chunk s.store.bytes; next = next_of s.chunk (pairs_of s.chunk s.store.bytes); zeroed = false; firm = false; copies = []; marks = [] }
 
 abbrev pub volume_at_rest : Volume → Moving
 volume_at_rest v = record { origin = v.origin; snaps = map at_rest v.snaps; merge = None; requests = []; replied = None; started = 0 }
@@ -52,7 +52,7 @@ snaps_of (s ∷ snaps) = ap (λ x. s ∷ x) (snaps_of snaps)
 each_rests : (sectors : ℕ) (snaps : List Snap) → Each (IsWell sectors) snaps → Each (IsResting sectors) (map at_rest snaps)
 each_rests sectors [] all = tt
 each_rests sectors (s ∷ snaps) all = (
-  record { tried = refl; copies = refl; marks = refl; live = λ on. record { order = all.0 on; pairs = refl; next = refl; zeroed = refl } },
+  record { tried = refl; copies = refl; marks = refl; live = λ on. record { order = all.0 on; pairs = refl; next = refl; zeroed = refl; firm = refl; unmarked = refl } },
   each_rests sectors snaps all.1,
 )
 

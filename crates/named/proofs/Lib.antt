@@ -8,7 +8,9 @@ pub mod Keeping
 pub mod SoundFrames
 pub mod NamedRules
 pub mod LoudAttach
+pub mod TriedOver
 pub mod SoundRules
 pub mod MergingRules
+pub mod LosingRules
 pub mod StoppingRules
 pub mod Starving

@@ -21,7 +21,7 @@ use Rattle.settled.specs.Devices.{Device, sectors_of, answers, met, written_by}
 use Rattle.settled.specs.Snaps.{Volume as Settled}
 use Rattle.named.specs.State.{Stacked, Volume}
 use Rattle.named.specs.Snapshots.{store_of, kept_out, attached_to}
-use Rattle.settled.specs.Attaching.{Tried, read_on, write_on, done, read_areas, last_area, has_tail, make, clear, load, load_as, open_store, Store, Attached, refused_attach, taken_by, attached}
+use Rattle.settled.specs.Attaching.{Tried, read_on, write_on, flush_on, flush_both, done, read_areas, last_area, has_tail, write_header, write_fresh, make, write_tail, clear, load, load_as, open_store, Store, Attached, refused_attach, taken_by, attached}
 
 loud_layer_after : (l : Layer) (op : Operation) (done : Bool) → is_loud_layer (layer_after l op done) ≡ is_loud_layer l
 loud_layer_after (Flaky moment up down features offset) op done = refl
@@ -60,54 +60,71 @@ either_tried true loud x y hx hy = hx
 either_tried false loud x y hx hy = hy
 
 -- one that was refused, and one that is done
-stays_loud : (loud : Bool) (device : Device) (outcome : Result ℕ Refusal) → is_loud device.layers ≡ loud → IsAsLoud loud (record { device = device; outcome = outcome })
-stays_loud loud device outcome h = record { same = h }
+stays_loud : (loud : Bool) (origin device : Device) (outcome : Result ℕ Refusal) → is_loud device.layers ≡ loud → IsAsLoud loud (record { origin = origin; device = device; outcome = outcome })
+stays_loud loud origin device outcome h = record { same = h }
 
-read_loud : (loud : Bool) (op : Operation) (next : Device → Tried) → KeepsLoud loud next → KeepsLoud loud (λ device. read_on device op next)
-read_loud loud op next keeps device h =
+read_loud : (loud : Bool) (origin : Device) (op : Operation) (next : Device → Tried) → KeepsLoud loud next → KeepsLoud loud (λ device. read_on origin device op next)
+read_loud loud origin op next keeps device h =
     let after : is_loud (met device op).layers ≡ loud = loud_after device.layers op ∙ h in
-    either_tried (answers device op) loud _ _ (keeps (met device op) after) (stays_loud loud (met device op) _ after)
+    either_tried (answers device op) loud _ _ (keeps (met device op) after) (stays_loud loud origin (met device op) _ after)
 
-write_loud : (loud : Bool) (device : Device) (op : Operation) (bytes : List ℕ) (next : Device → Tried) → KeepsLoud loud next → is_loud device.layers ≡ loud → IsAsLoud loud (write_on device op bytes next)
-write_loud loud device op bytes next keeps h =
+write_loud : (loud : Bool) (origin device : Device) (op : Operation) (bytes : List ℕ) (next : Device → Tried) → KeepsLoud loud next → is_loud device.layers ≡ loud → IsAsLoud loud (write_on origin device op bytes next)
+write_loud loud origin device op bytes next keeps h =
     let after : is_loud (written_by device op bytes).layers ≡ loud = loud_after device.layers op ∙ h in
-    either_tried (answers device op) loud _ _ (keeps (written_by device op bytes) after) (stays_loud loud (written_by device op bytes) _ after)
+    either_tried (answers device op) loud _ _ (keeps (written_by device op bytes) after) (stays_loud loud origin (written_by device op bytes) _ after)
 
-done_loud : (loud : Bool) (chunk : ℕ) → KeepsLoud loud (done chunk)
-done_loud loud chunk device h = stays_loud loud device (Ok chunk) h
+-- a flush of the store, and of both
+flush_loud : (loud : Bool) (origin : Device) (next : Device → Tried) → KeepsLoud loud next → KeepsLoud loud (flush_on origin next)
+flush_loud loud origin next keeps = read_loud loud origin Flushes next keeps
 
-areas_loud : (loud : Bool) (chunk a n : ℕ) (next : Device → Tried) → KeepsLoud loud next → KeepsLoud loud (read_areas chunk a n next)
-areas_loud loud chunk a zero next keeps device h = keeps device h
-areas_loud loud chunk a (suc n) next keeps device h =
-    either_tried _ loud _ _ (stays_loud loud device _ h) (read_loud loud _ (read_areas chunk (a + 1) n next) (areas_loud loud chunk (a + 1) n next keeps) device h)
+both_loud : (loud : Bool) (origin : Device) (next : Device → Device → Tried) → ((o : Device) → KeepsLoud loud (next o)) → KeepsLoud loud (λ device. flush_both origin device next)
+both_loud loud origin next keeps device h =
+    either_tried (answers origin Flushes) loud _ _ (flush_loud loud (met origin Flushes) (next (met origin Flushes)) (keeps (met origin Flushes)) device h) (stays_loud loud (met origin Flushes) device _ h)
 
-make_loud : (loud : Bool) (chunk : ℕ) → KeepsLoud loud (make chunk)
-make_loud loud chunk device h =
-    let header : Device → Tried = λ d. write_on d (Writes 0 chunk) (with_part d.bytes 0 (header_bytes (512 * chunk) true chunk)) (done chunk) in
-    either_tried (is_too_small chunk device.bytes) loud _ _ (stays_loud loud device (Err StoreTooSmall) h)
-    (write_loud loud device (Writes (chunk * area_place chunk 0) chunk) (zeroed chunk device.bytes 0) header
-    (λ d at. write_loud loud d (Writes 0 chunk) (with_part d.bytes 0 (header_bytes (512 * chunk) true chunk)) (done chunk) (done_loud loud chunk) at) h)
+done_loud : (loud : Bool) (chunk : ℕ) (origin : Device) → KeepsLoud loud (done chunk origin)
+done_loud loud chunk origin device h = stays_loud loud origin device (Ok chunk) h
 
-clear_loud : (loud : Bool) (sectors chunk : ℕ) → KeepsLoud loud (clear sectors chunk)
-clear_loud loud sectors chunk device h =
-    either_tried (not (is_loadable chunk sectors (sectors_of device) (pairs_of chunk device.bytes))) loud _ _ (stays_loud loud device (Err Damaged) h)
-    (either_tried (has_tail chunk device.bytes) loud _ _
-    (write_loud loud device (Writes (chunk * area_place chunk (last_area chunk device.bytes)) chunk) (trimmed chunk device.bytes) (done chunk) (done_loud loud chunk) h)
-    (done_loud loud chunk device h))
+areas_loud : (loud : Bool) (chunk a n : ℕ) (origin : Device) (next : Device → Tried) → KeepsLoud loud next → KeepsLoud loud (read_areas chunk a n origin next)
+areas_loud loud chunk a zero origin next keeps device h = keeps device h
+areas_loud loud chunk a (suc n) origin next keeps device h =
+    either_tried _ loud _ _ (stays_loud loud origin device _ h) (read_loud loud origin _ (read_areas chunk (a + 1) n origin next) (areas_loud loud chunk (a + 1) n origin next keeps) device h)
 
-load_loud : (loud : Bool) (sectors chunk : ℕ) → KeepsLoud loud (load sectors chunk)
-load_loud loud sectors chunk device h =
-    either_tried _ loud _ _ (stays_loud loud device _ h) (areas_loud loud chunk 0 _ (clear sectors chunk) (clear_loud loud sectors chunk) device h)
+header_loud : (loud : Bool) (chunk : ℕ) (origin : Device) → KeepsLoud loud (write_header chunk origin)
+header_loud loud chunk origin device h =
+    write_loud loud origin device (Writes 0 chunk) (with_part device.bytes 0 (header_bytes (512 * chunk) true chunk)) (flush_on origin (done chunk origin)) (flush_loud loud origin (done chunk origin) (done_loud loud chunk origin)) h
 
-load_as_loud : (loud : Bool) (sectors chunk : ℕ) (is : Result Found Refusal) → KeepsLoud loud (load_as sectors chunk is)
-load_as_loud loud sectors chunk (Err refusal) device h = stays_loud loud device _ h
-load_as_loud loud sectors chunk (Ok Fresh) device h = make_loud loud chunk device h
-load_as_loud loud sectors chunk (Ok (Header own)) device h = load_loud loud sectors own device h
+fresh_loud : (loud : Bool) (chunk : ℕ) (origin : Device) → KeepsLoud loud (write_fresh chunk origin)
+fresh_loud loud chunk origin device h =
+    write_loud loud origin device (Writes (chunk * area_place chunk 0) chunk) (zeroed chunk device.bytes 0) (flush_on origin (write_header chunk origin)) (flush_loud loud origin (write_header chunk origin) (header_loud loud chunk origin)) h
 
-open_loud : (loud : Bool) (sectors chunk : ℕ) → KeepsLoud loud (open_store sectors chunk)
+make_loud : (loud : Bool) (chunk : ℕ) (origin : Device) → KeepsLoud loud (make chunk origin)
+make_loud loud chunk origin device h =
+    either_tried (is_too_small chunk device.bytes) loud _ _ (stays_loud loud origin device (Err StoreTooSmall) h) (both_loud loud origin (write_fresh chunk) (fresh_loud loud chunk) device h)
+
+tail_loud : (loud : Bool) (chunk : ℕ) (origin : Device) → KeepsLoud loud (write_tail chunk origin)
+tail_loud loud chunk origin device h =
+    either_tried (has_tail chunk device.bytes) loud _ _
+    (write_loud loud origin device (Writes (chunk * area_place chunk (last_area chunk device.bytes)) chunk) (trimmed chunk device.bytes) (flush_on origin (done chunk origin)) (flush_loud loud origin (done chunk origin) (done_loud loud chunk origin)) h)
+    (done_loud loud chunk origin device h)
+
+clear_loud : (loud : Bool) (chunk : ℕ) (origin : Device) → KeepsLoud loud (clear chunk origin)
+clear_loud loud chunk origin device h =
+    either_tried (not (is_loadable chunk (sectors_of origin) (sectors_of device) (pairs_of chunk device.bytes))) loud _ _ (stays_loud loud origin device (Err Damaged) h)
+    (both_loud loud origin (write_tail chunk) (tail_loud loud chunk) device h)
+
+load_loud : (loud : Bool) (chunk : ℕ) (origin : Device) → KeepsLoud loud (load chunk origin)
+load_loud loud chunk origin device h =
+    either_tried _ loud _ _ (stays_loud loud origin device _ h) (areas_loud loud chunk 0 _ origin (clear chunk origin) (clear_loud loud chunk origin) device h)
+
+load_as_loud : (loud : Bool) (chunk : ℕ) (is : Result Found Refusal) (origin : Device) → KeepsLoud loud (load_as chunk is origin)
+load_as_loud loud chunk (Err refusal) origin device h = stays_loud loud origin device _ h
+load_as_loud loud chunk (Ok Fresh) origin device h = make_loud loud chunk origin device h
+load_as_loud loud chunk (Ok (Header own)) origin device h = load_loud loud own origin device h
+
+open_loud : (loud : Bool) (chunk : ℕ) (origin : Device) → KeepsLoud loud (open_store chunk origin)
 unfolding open_store
-open_loud loud sectors chunk device h =
-    either_tried _ loud _ _ (stays_loud loud device _ h) (read_loud loud (Reads 0 1) _ (load_as_loud loud sectors chunk (found_in (sector_at device.bytes 0))) device h)
+open_loud loud chunk origin device h =
+    either_tried _ loud _ _ (stays_loud loud origin device _ h) (read_loud loud origin (Reads 0 1) _ (load_as_loud loud chunk (found_in (sector_at device.bytes 0)) origin) device h)
 
 -- the store that is given back, if one is, is as loud
 abbrev pub IsBackLoud : Bool → Option Store → Type 0
@@ -132,11 +149,11 @@ given_loud : (number chunk : ℕ) (overflow : Overflowing) (store : Store) (v : 
 unfolding attached
 given_loud number chunk overflow store v =
     let loud = is_loud store.device.layers in
-    let tried = open_store (sectors_of v.origin) chunk store.device in
+    let tried = open_store chunk v.origin store.device in
     either_back store.stale loud _ _ (refused_loud Stale store v)
     (either_back (nat_lt (length v.snaps) 8 && nat_lt number 4_294_967_296) loud _ _
     (either_back (is_chunk chunk) loud _ _
-    (taken_loud loud number overflow tried.device tried.outcome v (open_loud loud (sectors_of v.origin) chunk store.device refl).same)
+    (taken_loud loud number overflow tried.device tried.outcome (record { origin = tried.origin; snaps = v.snaps }) (open_loud loud chunk v.origin store.device refl).same)
     (refused_loud BadChunk store v))
     (refused_loud TooMany store v))
 

@@ -6,7 +6,7 @@ use Rattle.sector.specs.declared.refusal.Refusal.{Refusal}
 use Rattle.sector.specs.declared.refusal.Refusal.TheVariants.{BadTable, NotDue}
 use Rattle.words.specs.Given.{◌>>=◌}
 use Rattle.command.specs.declared.events.Event.{Event}
-use Rattle.command.specs.declared.events.Event.TheVariants.{Issue, CopyRead, CopyWrite, Publish, ZeroNext, WriteArea, WriteInvalid, MergeGroup, MergeAreaRead, MergeRead, MergeWrite, MergeFlush, MergeCommit, MergeRelease}
+use Rattle.command.specs.declared.events.Event.TheVariants.{Issue, CopyRead, CopyWrite, Publish, ZeroNext, WriteArea, WriteInvalid, FlushStore, MergeGroup, MergeAreaRead, MergeRead, MergeWrite, MergeFlush, MergeCommit, MergeRelease}
 use Rattle.plain.specs.declared.event.Event.{Event as Step}
 use Rattle.plain.specs.declared.event.Event.TheVariants as steps
 use Rattle.settled.specs.Merges.{merged}
@@ -47,6 +47,7 @@ snapshot_named (Publish copy) = None
 snapshot_named (ZeroNext snapshot) = Some snapshot
 snapshot_named (WriteArea snapshot) = Some snapshot
 snapshot_named (WriteInvalid snapshot) = Some snapshot
+snapshot_named (FlushStore snapshot) = Some snapshot
 snapshot_named MergeGroup = None
 snapshot_named MergeAreaRead = None
 snapshot_named MergeRead = None
@@ -64,6 +65,7 @@ is_merge_event (Publish copy) = false
 is_merge_event (ZeroNext snapshot) = false
 is_merge_event (WriteArea snapshot) = false
 is_merge_event (WriteInvalid snapshot) = false
+is_merge_event (FlushStore snapshot) = false
 is_merge_event MergeGroup = true
 is_merge_event MergeAreaRead = true
 is_merge_event MergeRead = true
@@ -81,6 +83,7 @@ numbered (Publish copy) number = steps.Publish copy
 numbered (ZeroNext snapshot) number = steps.ZeroNext number
 numbered (WriteArea snapshot) number = steps.WriteArea number
 numbered (WriteInvalid snapshot) number = steps.WriteInvalid number
+numbered (FlushStore snapshot) number = steps.FlushStore number
 numbered MergeGroup number = steps.MergeGroup
 numbered MergeAreaRead number = steps.MergeAreaRead
 numbered MergeRead number = steps.MergeRead

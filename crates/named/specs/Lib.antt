@@ -18,5 +18,6 @@ pub mod Merging
 pub mod Status
 pub mod Sound
 pub mod Naming
+pub mod Losing
 pub mod Stopping
 pub mod Journal

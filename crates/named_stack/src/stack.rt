@@ -7,6 +7,7 @@ ghost use Rattle.named.specs.Disks.{alone, failing};
 ghost use Rattle.named.specs.Layers.{layered, under};
 ghost use Rattle.named.specs.Messages.{stack_ticked, told_free};
 ghost use Rattle.named.specs.Lines.{line_in};
+ghost use Rattle.named.specs.Losing.{lasting};
 ghost use Rattle.named.specs.Raw.{loaded_free, raw_in};
 ghost use Rattle.named.specs.Removing.{lowered_device, lowered_to};
 ghost use Rattle.layers.specs.Windows.{layers_below};
@@ -228,6 +229,14 @@ impl NamedStack {
             self.stale = false;
         }
         Ok(())
+    }
+
+    /// Loses what was not flushed: each sector of the disk at the bottom goes back to its value at the last flush that reached
+    /// it. The layers and the mark stay.
+    pub fn lose(&mut self)
+        ensures { lasting self.new ≡ lasting self.old }
+    {
+        self.stack.lose();
     }
 
     /// Whether a layer stands on another device.

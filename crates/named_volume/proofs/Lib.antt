@@ -1,4 +1,5 @@
 pub mod Meets
+pub mod Refused
 pub mod Places
 pub mod Asks
 pub mod Flies

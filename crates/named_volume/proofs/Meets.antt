@@ -32,9 +32,9 @@ met name chunk overflow stacked volume snaps state given number sound alone is e
     rw alone (rw here (rw more (rw gave (rw is (rw loud (refl, refl))))))
 
 -- or refused, and given back
-unmet_alone : (name : List ℕ) (chunk : ℕ) (overflow : Bool) (stacked back : Stacked) (volume : Volume) (refusal : Refusal) (store : Store) → is_some volume.merging ≡ false → attached (volume.given + 1) chunk (overflow_of overflow) (store_of stacked) volume.state ≡ refused_attach refusal store volume.state → back ≡ with_device store.device stacked → ((meet name chunk overflow stacked volume).refused ≡ Some refusal) × ((meet name chunk overflow stacked volume).stacked ≡ back)
+unmet_alone : (name : List ℕ) (chunk : ℕ) (overflow : Bool) (stacked back : Stacked) (volume : Volume) (left : Settled) (refusal : Refusal) (store : Store) → is_some volume.merging ≡ false → attached (volume.given + 1) chunk (overflow_of overflow) (store_of stacked) volume.state ≡ refused_attach refusal store left → back ≡ with_device store.device stacked → ((meet name chunk overflow stacked volume).refused ≡ Some refusal) × ((meet name chunk overflow stacked volume).stacked ≡ back)
 unfolding meet attached_to
-unmet_alone name chunk overflow stacked back volume refusal store alone exact is = rw alone (rw exact (rw is (refl, refl)))
+unmet_alone name chunk overflow stacked back volume left refusal store alone exact is = rw alone (rw exact (rw is (refl, refl)))
 
 -- beside a merge it comes back as it was
 unmet_beside : (name : List ℕ) (chunk : ℕ) (overflow : Bool) (stacked back : Stacked) (volume : Volume) (refusal : Refusal) → is_some volume.merging ≡ true → refusal ≡ kept_out stacked → back ≡ stacked → ((meet name chunk overflow stacked volume).refused ≡ Some refusal) × ((meet name chunk overflow stacked volume).stacked ≡ back)
@@ -100,12 +100,12 @@ module _ (chunk origin size : ℕ) (bytes : List ℕ) (names : List (List ℕ)) 
       ]
 
   -- the refusal is that of the settled machine, whether a merge is begun or not
-  pub unmet : (name : List ℕ) (overflow : Bool) (volume : Volume) → is_some volume.merging ≡ is_some v.merge → store.stale ≡ stale
-      → (e ≢ MergeInProgress → attached (volume.given + 1) chunk (overflow_of overflow) (record { device = device_of device; stale = stale }) volume.state ≡ refused_attach e (record { device = device_of store.device; stale = store.stale }) volume.state)
+  pub unmet : (name : List ℕ) (overflow : Bool) (volume : Volume) (left : Settled) → is_some volume.merging ≡ is_some v.merge → store.stale ≡ stale
+      → (e ≢ MergeInProgress → attached (volume.given + 1) chunk (overflow_of overflow) (record { device = device_of device; stale = stale }) volume.state ≡ refused_attach e (record { device = device_of store.device; stale = store.stale }) left)
       → ((meet name chunk overflow stacked volume).refused ≡ Some e) × ((meet name chunk overflow stacked volume).stacked ≡ back)
-  unmet name overflow volume merged mark exact = elim (cases_Bool (is_some v.merge)) [
+  unmet name overflow volume left merged mark exact = elim (cases_Bool (is_some v.merge)) [
     | inl begun ↦ (let b = beside_back begun in unmet_beside name chunk overflow stacked back volume e (merged ∙ begun) b.0 b.1)
-    | inr alone ↦ unmet_alone name chunk overflow stacked back volume e (record { device = device_of store.device; stale = store.stale }) (merged ∙ alone)
+    | inr alone ↦ unmet_alone name chunk overflow stacked back volume left e (record { device = device_of store.device; stale = store.stale }) (merged ∙ alone)
         (rw is (exact (alone_refused stale chunk origin size bytes v e alone why)))
         (rw back_is (rw is (rw mark refl)))
   ]

@@ -23,6 +23,10 @@ listed_name name = big_bytes 4 (length name) ++ name
 unfoldable pub export_info : ℕ → ℕ → List ℕ
 export_info size flags = big_bytes 2 0 ++ big_bytes 8 size ++ big_bytes 2 flags
 
+-- the data of a reply on a context, of which a client can ask the state of blocks: its number in this session, and its name
+unfoldable pub context_info : ℕ → List ℕ → List ℕ
+context_info number name = big_bytes 4 number ++ name
+
 -- the end of the haggling by an export's name: its size, its flags, and zeros for a client that didn't decline them
 unfoldable pub export_reply : ℕ → ℕ → ℕ → List ℕ
 export_reply size flags zeros = big_bytes 8 size ++ big_bytes 2 flags ++ replicate zeros 0
@@ -50,3 +54,11 @@ error_chunk error cookie = chunk_front 32769 cookie 6 ++ big_bytes 4 error ++ bi
 -- the front of a chunk with so many bytes of an export: their offset
 abbrev pub data_front : ℕ → ℕ → ℕ → List ℕ
 data_front cookie offset len = chunk_front 1 cookie (8 + len) ++ big_bytes 8 offset
+
+-- the data of a reply on the state of blocks: the context's number, and one range: how many bytes it has, and its state
+unfoldable pub block_state : ℕ → ℕ → ℕ → List ℕ
+block_state context len state = big_bytes 4 context ++ big_bytes 4 len ++ big_bytes 4 state
+
+-- a chunk that tells the state of blocks
+abbrev pub state_chunk : ℕ → ℕ → ℕ → ℕ → List ℕ
+state_chunk cookie context len state = chunk_front 5 cookie 12 ++ block_state context len state

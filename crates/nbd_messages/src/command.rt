@@ -17,7 +17,7 @@ pub enum Command {
     Trim,
     /// Zeros are to be written.
     WriteZeroes,
-    /// Where the export has holes.
+    /// Which bytes are zeros.
     BlockStatus,
     /// Any other command.
     Other,

@@ -13,7 +13,8 @@ pub use asked::{ASKED_BYTES, Asked, asked_in};
 pub use command::{Command, command_of};
 pub use numbers::{u16_at, u32_at};
 pub use replies::{
-    push_bare_chunk, push_bare_reply, push_data_front, push_error_chunk, push_export_info,
-    push_export_reply, push_greeting, push_listed_name, push_simple_reply,
+    push_bare_chunk, push_bare_reply, push_context, push_data_front, push_error_chunk,
+    push_export_info, push_export_reply, push_greeting, push_listed_name, push_simple_reply,
+    push_state_chunk,
 };
 pub use request::{REQUEST_BYTES, Request, request_in};

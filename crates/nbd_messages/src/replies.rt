@@ -1,6 +1,6 @@
 // What a server says is written.
 ghost use Rattle.std.specs.Prelude.{◌≡◌, ◌+◌, ◌^◌, ◌<◌, [], ◌++◌, length, OnOk};
-ghost use Rattle.nbd_messages.specs.Replies.{greeting, option_front, option_reply, listed_name, export_info, export_reply, simple_reply, chunk_kind, chunk_front, bare_chunk, error_chunk, data_front};
+ghost use Rattle.nbd_messages.specs.Replies.{greeting, option_front, option_reply, listed_name, context_info, export_info, export_reply, simple_reply, chunk_kind, chunk_front, bare_chunk, error_chunk, data_front, block_state, state_chunk};
 
 use crate::numbers::{push_u16, push_u32, push_u64};
 use std::alloc::AllocError;
@@ -46,6 +46,23 @@ pub fn push_listed_name(
 {
     push_option_front(out, option, kind, 4 + name.len() as u32)?;
     push_u32(out, name.len() as u32)?;
+    out.extend_from_slice(name)
+}
+
+/// Adds a reply to an option that tells a context: its number, and its name.
+#[tactic(auto, unfolding(crate::specs::Replies::context_info), using(crate::proofs::Lengths::length_context_info))]
+pub fn push_context(
+    out: &mut Vec<u8>,
+    option: u32,
+    kind: u32,
+    number: u32,
+    name: &[u8],
+) -> Result<(), AllocError>
+    requires { length name.now < 2 ^ 31 }
+    ensures { OnOk result (out.new.items ≡ out.old.items ++ option_reply option kind (context_info number name.now)) }
+{
+    push_option_front(out, option, kind, 4 + name.len() as u32)?;
+    push_u32(out, number)?;
     out.extend_from_slice(name)
 }
 
@@ -148,4 +165,27 @@ pub fn push_data_front(
 {
     push_chunk_front(out, 1, cookie, 8 + len)?;
     push_u64(out, offset)
+}
+
+/// Adds a structured reply that tells the state of so many bytes.
+pub fn push_state_chunk(
+    out: &mut Vec<u8>,
+    cookie: u64,
+    context: u32,
+    len: u32,
+    state: u32,
+) -> Result<(), AllocError>
+    ensures { OnOk result (out.new.items ≡ out.old.items ++ state_chunk cookie context len state) }
+{
+    push_chunk_front(out, 5, cookie, 12)?;
+    push_block_state(out, context, len, state)
+}
+
+#[tactic(auto, unfolding(crate::specs::Replies::block_state))]
+fn push_block_state(out: &mut Vec<u8>, context: u32, len: u32, state: u32) -> Result<(), AllocError>
+    ensures { OnOk result (out.new.items ≡ out.old.items ++ block_state context len state) }
+{
+    push_u32(out, context)?;
+    push_u32(out, len)?;
+    push_u32(out, state)
 }

@@ -8,14 +8,15 @@ use Rattle.nbd_messages.specs.declared.asked.Asked.{Asked}
 use Rattle.nbd_messages.specs.declared.request.Request.{Request}
 use Rattle.nbd_messages.proofs.Fronts.{asked_front, request_front}
 use Rattle.nbd_server.specs.declared.served.Export.{Export}
+use Rattle.nbd_server.specs.declared.served.Fault.{Fault}
 use Rattle.nbd_server.specs.declared.session.Place.{Place}
 use Rattle.nbd_server.specs.declared.session.Stage.{Stage}
 use Rattle.nbd_server.specs.declared.session.Stage.TheVariants.{Opening, Haggling, Serving, Over}
 use Rattle.nbd_server.specs.declared.session.Session.{Session}
 use Rattle.nbd_server.specs.Heard.{IsShort, IsRead}
 use Rattle.nbd_server.specs.Haggled.{IsReaction, Reaction, haggled_any}
-use Rattle.nbd_server.specs.Talk.{IsWhole, NoneIsWhole, AreArrays, payload, reaction_at, option_reaction, request_reaction}
-use Rattle.nbd_server.specs.Turns.{IsTurn, IsEnd, IsAsked, IsRequested, IsHaggledFor, IsReplied}
+use Rattle.nbd_server.specs.Talk.{IsWhole, NoneIsWhole, IsCaused, AreArrays, payload, opened, reaction_at, option_reaction, request_reaction}
+use Rattle.nbd_server.specs.Turns.{IsTurn, IsOpened, IsEnd, IsAsked, IsRequested, IsHaggledFor, IsReplied}
 
 -- two headers at the front of what is heard are one
 same_asked : (head ys message rest : List ℕ) → head ++ ys ≡ message ++ rest → 16 ≤ length head → 16 ≤ length message → asked_in message ≡ asked_in head
@@ -71,8 +72,8 @@ moved_reaction : (answer : List ℕ) (after : Session) (r s : Reaction) → r �
 moved_reaction answer after r s e is = subst (λ (t : Reaction). IsReaction answer after t) (sym e) is
 
 -- an option and its data are a message
-pub option_turn : (exports : List Export) (arrays : ℕ → List ℕ) (a b c : Option (List ℕ)) (asked : Asked) (session after : Session) (answer : List ℕ) → session.stage ≡ Haggling → IsAsked a b asked → IsHaggledFor exports b c asked session after answer → IsTurn exports arrays a c session after answer
-option_turn exports arrays a b c asked session after answer at (head, len, is, consumes) (text, text_len, text_consumes, reacts) =
+pub option_turn : (exports : List Export) (arrays : ℕ → List ℕ) (may_fail : ℕ → ℕ → ℕ → Type 0) (a b c : Option (List ℕ)) (asked : Asked) (session after : Session) (answer : List ℕ) → session.stage ≡ Haggling → IsAsked a b asked → IsHaggledFor exports b c asked session after answer → IsTurn exports arrays may_fail a c session after answer
+option_turn exports arrays may_fail a b c asked session after answer at (head, len, is, consumes) (text, text_len, text_consumes, reacts) =
     let front : asked_in (head ++ text) ≡ Some asked = asked_front head text (omega arith) ∙ is in
     let whole : length (head ++ text) ≡ 16 + asked.length = length-append head text ∙ omega arith in
     let behind : drop 16 (head ++ text) ≡ text = drop_at head text 16 len in (
@@ -84,14 +85,26 @@ option_turn exports arrays a b c asked session after answer at (head, len, is, c
           (ap (λ (s : Stage). reaction_at s exports arrays session None (head ++ text)) at
           ∙ ap (λ (o : Option Asked). option_reaction exports session o (head ++ text)) front
           ∙ ap (haggled_any exports session asked.option) behind) reacts,
+      subst (λ (s : Stage). IsCaused may_fail s (head ++ text) None) (sym at) refl,
     )
 
+-- the client's flags are a message
+pub open_turn : (exports : List Export) (arrays : ℕ → List ℕ) (may_fail : ℕ → ℕ → ℕ → Type 0) (a b : Option (List ℕ)) (session after : Session) (answer : List ℕ) → session.stage ≡ Opening → answer ≡ [] → IsOpened a b session after → IsTurn exports arrays may_fail a b session after answer
+open_turn exports arrays may_fail a b session after answer at none (message, consumes, whole, then) = (
+  message,
+  None,
+  consumes,
+  subst (λ (s : Stage). IsWhole s message) (sym at) whole,
+  moved_reaction answer after _ (opened session message) (ap (λ (s : Stage). reaction_at s exports arrays session None message) at) (none, then),
+  subst (λ (s : Stage). IsCaused may_fail s message None) (sym at) refl,
+)
+
 -- a request and its bytes are a message
-pub request_turn : (exports : List Export) (arrays : ℕ → List ℕ) (bytes : ℕ → Option (List ℕ)) (a b c : Option (List ℕ)) (request : Request) (place : Place) (session after : Session) (answer : List ℕ) → session.stage ≡ Serving place → IsRequested a b request → IsRead b c (payload request) → AreArrays bytes arrays → IsReplied bytes place request session after answer → IsTurn exports arrays a c session after answer
-request_turn exports arrays bytes a b c request place session after answer at (head, len, is, consumes) (text, text_len, text_consumes) known (replied, then) =
+pub request_turn : (exports : List Export) (arrays : ℕ → List ℕ) (may_fail : ℕ → ℕ → ℕ → Type 0) (bytes : ℕ → Option (List ℕ)) (a b c : Option (List ℕ)) (request : Request) (place : Place) (session after : Session) (answer : List ℕ) → session.stage ≡ Serving place → IsRequested a b request → IsRead b c (payload request) → AreArrays bytes arrays → IsReplied bytes may_fail place request session after answer → IsTurn exports arrays may_fail a c session after answer
+request_turn exports arrays may_fail bytes a b c request place session after answer at (head, len, is, consumes) (text, text_len, text_consumes) known (replied, then) =
     let front : request_in (head ++ text) ≡ Some request = request_front head text (omega arith) ∙ is in
     let whole : length (head ++ text) ≡ 28 + payload request = length-append head text ∙ omega arith in
-    let (fault, answered) = replied (arrays place.export) (known place.export) in (
+    let (fault, cause, answered) = replied (arrays place.export) (known place.export) in (
       head ++ text,
       fault,
       Consumes-trans a b c head text consumes text_consumes,
@@ -99,6 +112,7 @@ request_turn exports arrays bytes a b c request place session after answer at (h
       moved_reaction answer after _ (request_reaction arrays session place fault (Some request))
           (ap (λ (s : Stage). reaction_at s exports arrays session fault (head ++ text)) at
           ∙ ap (request_reaction arrays session place fault) front) (answered, then),
+      subst (λ (s : Stage). IsCaused may_fail s (head ++ text) fault) (sym at) (request, front, cause),
     )
 
 pub option_end : (a b : Option (List ℕ)) (asked : Asked) (session : Session) → session.stage ≡ Haggling → IsAsked a b asked → IsShort b asked.length → IsEnd a session

@@ -1,9 +1,9 @@
 -- To be believed: what an option is answered before a client uses an export, by doc/proto.md of the NBD project: "Newstyle
 -- negotiation", "Option types", "Option reply types".
-use Rattle.std.specs.Prelude.{◌≡◌, ◌==◌, ℕ, ◌+◌, ◌*◌, Bool, true, false, List, [], ◌∷◌, ◌++◌, length, slice_range, bytes_eq, nat_lt, Option, Some, None, if◌then◌else◌}
+use Rattle.std.specs.Prelude.{◌≡◌, ◌==◌, ℕ, zero, suc, ◌+◌, ◌*◌, ◌&&◌, ◌||◌, Bool, true, false, List, [], ◌∷◌, ◌++◌, length, drop, slice_range, bytes_eq, codes, not, nat_lt, Option, Some, None, if◌then◌else◌}
 use Rattle.std.specs.List.{flat_map}
 use Rattle.nbd_messages.specs.Layout.{number_at}
-use Rattle.nbd_messages.specs.Replies.{option_reply, listed_name, export_info, export_reply}
+use Rattle.nbd_messages.specs.Replies.{option_reply, listed_name, context_info, export_info, export_reply}
 use Rattle.nbd_server.specs.declared.served.Export.{Export}
 use Rattle.nbd_server.specs.declared.session.Place.{Place}
 use Rattle.nbd_server.specs.declared.session.Stage.{Stage}
@@ -32,6 +32,10 @@ unknown = 2_147_483_654
 abbrev pub too_long : ℕ
 too_long = 2_147_483_657
 
+-- a context, which a client can ask about blocks
+abbrev pub telling : ℕ
+telling = 4
+
 -- The flags of an export: there are flags, it is only read, it takes flushes.
 abbrev pub export_flags : ℕ
 export_flags = 7
@@ -58,7 +62,7 @@ pub record Reaction : Type 0 where
 
 -- a session in another stage
 abbrev pub moved : Session → Stage → Session
-moved session stage = record { no_zeroes = session.no_zeroes; structured = session.structured; stage = stage }
+moved session stage = record { no_zeroes = session.no_zeroes; structured = session.structured; described = session.described; stage = stage }
 
 -- a reply without data, after which the haggling goes on
 abbrev pub bare : Session → ℕ → ℕ → Reaction
@@ -110,12 +114,72 @@ on_export option goes exports session (Some name) = informed session option (sta
 abbrev pub with_structure : Session → Reaction
 with_structure session = record {
   answer = option_reply 8 acknowledged [];
-  after = record { no_zeroes = session.no_zeroes; structured = true; stage = session.stage };
+  after = record { no_zeroes = session.no_zeroes; structured = true; described = session.described; stage = session.stage };
 }
 
 -- where an option's data are to be none
 abbrev pub without_data : Session → ℕ → List ℕ → Reaction → Reaction
 without_data session option text reaction = if length text == 0 then reaction else bare session option malformed
+
+-- The data of an option on contexts: an export's name behind its length, how many queries, and each behind its length. There
+-- is one context, base:allocation. A query in a list may also be of all contexts that begin so, and no query is of all.
+abbrev pub context_name : List ℕ → Option (List ℕ)
+context_name text =
+    if nat_lt (length text) 8 then None else
+    if nat_lt (length text) (8 + name_len text) then None else
+    Some (slice_range text 4 (4 + name_len text))
+
+abbrev pub allocation : List ℕ
+allocation = codes "base:allocation"
+
+abbrev pub is_fitting : Bool → List ℕ → Bool
+is_fitting chooses query = if bytes_eq query allocation then true else not chooses && bytes_eq query (codes "base:")
+
+-- whether one of so many queries is of the context, or one before was; nothing where they are malformed
+unfoldable pub asked_by : Bool → Bool → ℕ → List ℕ → Option Bool
+asked_by chooses found zero text = if length text == 0 then Some found else None
+asked_by chooses found (suc count) text =
+    if nat_lt (length text) 4 then None else
+    if nat_lt (length text) (4 + number_at text 0 4) then None else
+    asked_by chooses (if is_fitting chooses (slice_range text 4 (4 + number_at text 0 4)) then true else found) count (drop (4 + number_at text 0 4) text)
+
+abbrev pub query_count : List ℕ → ℕ
+query_count text = number_at text (4 + name_len text) 4
+
+abbrev pub asks_allocation : Bool → List ℕ → Option Bool
+asks_allocation chooses text = asked_by chooses (not chooses && (query_count text == 0)) (query_count text) (drop (8 + name_len text) text)
+
+-- A session in which this export's blocks may be asked about, where it was chosen; a list chooses nothing.
+abbrev pub choosing : Bool → Session → Option ℕ → Session
+choosing false session described = session
+choosing true session described = record { no_zeroes = session.no_zeroes; structured = session.structured; described = described; stage = session.stage }
+
+-- an option on contexts that is refused: nothing is chosen
+abbrev pub refused : ℕ → Bool → Session → ℕ → Reaction
+refused option chooses session kind = record { answer = option_reply option kind []; after = choosing chooses session None }
+
+-- the context, which has the number 1 once it is chosen
+abbrev pub told_context : ℕ → Bool → Bool → List ℕ
+told_context option chooses false = []
+told_context option false true = option_reply option telling (context_info 0 allocation)
+told_context option true true = option_reply option telling (context_info 1 allocation)
+
+abbrev pub contexts_at : ℕ → Bool → Session → Option Place → Option Bool → Reaction
+contexts_at option chooses session place None = refused option chooses session malformed
+contexts_at option chooses session None (Some asks) = refused option chooses session unknown
+contexts_at option chooses session (Some place) (Some asks) = record {
+  answer = told_context option chooses asks ++ option_reply option acknowledged [];
+  after = choosing chooses session (if asks then Some place.export else None);
+}
+
+abbrev pub contexts_named : ℕ → Bool → List Export → Session → List ℕ → Option (List ℕ) → Reaction
+contexts_named option chooses exports session text None = refused option chooses session malformed
+contexts_named option chooses exports session text (Some name) = contexts_at option chooses session (named exports name) (asks_allocation chooses text)
+
+-- What an option on contexts is answered: a list of them, or a choice. They want structured replies.
+abbrev pub on_contexts : ℕ → Bool → List Export → Session → List ℕ → Reaction
+on_contexts option chooses exports session text =
+    if session.structured then contexts_named option chooses exports session text (context_name text) else refused option chooses session malformed
 
 -- the session ends
 abbrev pub aborted : Session → Reaction
@@ -130,6 +194,8 @@ haggled exports session option text =
     if option == 6 then on_export 6 false exports session (asked_name text) else
     if option == 7 then on_export 7 true exports session (asked_name text) else
     if option == 8 then without_data session 8 text (with_structure session) else
+    if option == 9 then on_contexts 9 false exports session text else
+    if option == 10 then on_contexts 10 true exports session text else
     bare session option unsupported
 
 -- the longest data of an option that are looked at

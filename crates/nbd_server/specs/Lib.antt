@@ -1,4 +1,5 @@
 pub mod Heard
+pub mod Blocks
 pub mod Replied
 pub mod Haggled
 pub mod Talk

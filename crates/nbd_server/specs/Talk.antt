@@ -9,12 +9,13 @@ use Rattle.nbd_messages.specs.declared.command.Command.TheVariants.{Read, Write,
 use Rattle.nbd_messages.specs.declared.request.Request.{Request}
 use Rattle.nbd_server.specs.declared.served.Export.{Export}
 use Rattle.nbd_server.specs.declared.served.Fault.{Fault}
+use Rattle.nbd_server.specs.declared.served.Fault.TheVariants.{Io, NoMemory}
 use Rattle.nbd_server.specs.declared.session.Place.{Place}
 use Rattle.nbd_server.specs.declared.session.Stage.{Stage}
 use Rattle.nbd_server.specs.declared.session.Stage.TheVariants.{Opening, Haggling, Serving, Over}
 use Rattle.nbd_server.specs.declared.session.Session.{Session}
 use Rattle.nbd_server.specs.Haggled.{Reaction, moved, haggled_any}
-use Rattle.nbd_server.specs.Replied.{reply_to}
+use Rattle.nbd_server.specs.Replied.{reply_to, HasCause}
 
 -- how many bytes follow a request's header: those that are to be written
 abbrev pub payload_by : Command → ℕ → ℕ
@@ -46,7 +47,7 @@ NoneIsWhole stage heard = (message : List ℕ) → (rest : List ℕ) → heard �
 abbrev pub opened : Session → List ℕ → Reaction
 opened session message = record {
   answer = [];
-  after = record { no_zeroes = nat_le 2 (number_at message 0 4); structured = session.structured; stage = Haggling };
+  after = record { no_zeroes = nat_le 2 (number_at message 0 4); structured = session.structured; described = session.described; stage = Haggling };
 }
 
 abbrev pub option_reaction : List Export → Session → Option Asked → List ℕ → Reaction
@@ -64,10 +65,15 @@ served session WriteZeroes = session
 served session BlockStatus = session
 served session Other = session
 
+-- whether an export's blocks may be asked about
+abbrev pub is_chosen : Option ℕ → ℕ → Bool
+is_chosen None export = false
+is_chosen (Some chosen) export = chosen == export
+
 abbrev pub request_reaction : (ℕ → List ℕ) → Session → Place → Option Fault → Option Request → Reaction
 request_reaction arrays session place fault None = record { answer = []; after = session }
 request_reaction arrays session place fault (Some request) = record {
-  answer = reply_to session.structured fault place.size (arrays place.export) request;
+  answer = reply_to (is_chosen session.described place.export) session.structured fault place.size (arrays place.export) request;
   after = served session request.command;
 }
 
@@ -86,24 +92,36 @@ pub record Turn : Type 0 where
   pub message : List ℕ
   pub fault : Option Fault
 
+-- The fault of a message is one of a request, and where it is an input error a read of the bytes that are asked for may fail.
+abbrev pub IsCaused : (ℕ → ℕ → ℕ → Type 0) → Stage → List ℕ → Option Fault → Type 0
+IsCaused may_fail Opening message fault = fault ≡ None
+IsCaused may_fail Haggling message fault = fault ≡ None
+IsCaused may_fail (Serving place) message fault = (request : Request) × (request_in message ≡ Some request) × HasCause may_fail place.export fault request
+IsCaused may_fail Over message fault = fault ≡ None
+
 -- What is heard begins with these messages, in turn, and no other comes after them; what is said are their answers.
-abbrev pub Talk : List Export → (ℕ → List ℕ) → Session → List ℕ → List ℕ → List Turn → Type 0
-Talk exports arrays session heard said [] = NoneIsWhole session.stage heard × (said ≡ [])
-Talk exports arrays session heard said (turn ∷ turns) =
+abbrev pub Talk : List Export → (ℕ → List ℕ) → (ℕ → ℕ → ℕ → Type 0) → Session → List ℕ → List ℕ → List Turn → Type 0
+Talk exports arrays may_fail session heard said [] = NoneIsWhole session.stage heard × (said ≡ [])
+Talk exports arrays may_fail session heard said (turn ∷ turns) =
     (rest : List ℕ) × (more : List ℕ) × IsWhole session.stage turn.message
     × (heard ≡ turn.message ++ rest)
     × (said ≡ (reaction exports arrays session turn.fault turn.message).answer ++ more)
-    × Talk exports arrays (reaction exports arrays session turn.fault turn.message).after rest more turns
+    × Talk exports arrays may_fail (reaction exports arrays session turn.fault turn.message).after rest more turns
+    × IsCaused may_fail session.stage turn.message turn.fault
 
 -- how a session begins
 abbrev pub beginning : Session
-beginning = record { no_zeroes = false; structured = false; stage = Opening }
+beginning = record { no_zeroes = false; structured = false; described = None; stage = Opening }
 
 -- the bytes of the arrays that are served
 abbrev pub AreArrays : (ℕ → Option (List ℕ)) → (ℕ → List ℕ) → Type 0
 AreArrays bytes arrays = (k : ℕ) → bytes k ≡ Some (arrays k)
 
--- no read of the arrays had a fault
-abbrev pub HaveNoFault : List Turn → Type 0
-HaveNoFault [] = ⊤
-HaveNoFault (turn ∷ turns) = (turn.fault ≡ None) × HaveNoFault turns
+-- no answer lacked memory
+abbrev pub HaveMemory : List Turn → Type 0
+HaveMemory [] = ⊤
+HaveMemory (turn ∷ turns) = (turn.fault ≡ Some NoMemory → ⊥) × HaveMemory turns
+
+-- no read of the arrays may fail
+abbrev pub NoneFails : (ℕ → ℕ → ℕ → Type 0) → Type 0
+NoneFails may_fail = (k : ℕ) (at : ℕ) (n : ℕ) → may_fail k at n → ⊥

@@ -1,14 +1,16 @@
 // An option is answered.
-ghost use Rattle.std.specs.Prelude.{◌≡◌, ◌≤◌, [], ◌++◌, OnOk, IfOk, length};
+ghost use Rattle.std.specs.Prelude.{◌≡◌, ◌+◌, ◌≤◌, [], ◌++◌, OnOk, IfOk, length, true, if◌then◌else◌};
 ghost use Rattle.std.specs.Option.{option_map};
-ghost use Rattle.nbd_server.specs.Haggled.{named, IsReaction, haggled, haggled_unread, named_export, listed, asked_name as asked_name_of, informed, on_export, without_data, with_structure, aborted};
+ghost use Rattle.nbd_messages.specs.Layout.{number_at};
+ghost use Rattle.nbd_server.specs.Haggled.{named, IsReaction, haggled, haggled_unread, named_export, listed, asked_name as asked_name_of, informed, on_export, without_data, with_structure, on_contexts, context_name as context_name_of, asked_by as asked_by_of, asks_allocation as asks_allocation_of, is_fitting as is_fitting_of, contexts_at, told_context, choosing, refused, aborted};
 ghost use Rattle.nbd_server.specs.declared.session.Place.{Place as PlaceOf};
 
 use crate::Export;
 use crate::finding::found;
 use crate::session::{Place, Session, Stage};
 use nbd_messages::{
-    push_bare_reply, push_export_info, push_export_reply, push_listed_name, u16_at, u32_at,
+    push_bare_reply, push_context, push_export_info, push_export_reply, push_listed_name, u16_at,
+    u32_at,
 };
 use std::alloc::AllocError;
 
@@ -21,6 +23,8 @@ const ACKNOWLEDGED: u32 = 1;
 const LISTING: u32 = 2;
 
 const INFORMING: u32 = 3;
+
+const TELLING: u32 = 4;
 
 const UNSUPPORTED: u32 = 2_147_483_649;
 
@@ -164,6 +168,165 @@ fn abort(session: &mut Session, answer: &mut Vec<u8>) -> Result<(), AllocError>
     Ok(())
 }
 
+/// The name in the data of an option on contexts, which go on with queries. `None` where they are malformed.
+fn context_name(text: &[u8]) -> Option<&[u8]>
+    ensures { option_map (λ name. name.now) result ≡ context_name_of text.now }
+{
+    if text.len() < 8 {
+        return None;
+    }
+    let len = u32_at(text, 0) as usize;
+    if text.len() - 8 < len {
+        return None;
+    }
+    Some(&text[4..4 + len])
+}
+
+/// The one context: which bytes are zeros.
+const ALLOCATION: &[u8] = b"base:allocation";
+
+/// All contexts that begin so.
+const BASE: &[u8] = b"base:";
+
+/// Whether a query is of the context.
+fn is_fitting(chooses: bool, query: &[u8]) -> bool
+    ensures { result ≡ is_fitting_of chooses query.now }
+{
+    if query == ALLOCATION {
+        return true;
+    }
+    !chooses && query == BASE
+}
+
+/// Whether a query fits, or one before did.
+fn once(fits: bool, found: bool) -> bool
+    ensures { result ≡ (if fits then true else found) }
+{
+    if fits {
+        return true;
+    }
+    found
+}
+
+/// Whether one of so many queries is of the context. `None` where they are malformed.
+fn asked_by(chooses: bool, start: bool, count: u32, text: &[u8]) -> Option<bool>
+    ensures { result ≡ asked_by_of chooses start count text.now }
+{
+    let mut found = start;
+    let mut left = count;
+    let mut rest = text;
+    while 0 < left {
+        if rest.len() < 4 {
+            return None;
+        }
+        let len = u32_at(rest, 0) as usize;
+        if rest.len() - 4 < len {
+            return None;
+        }
+        found = once(is_fitting(chooses, &rest[4..4 + len]), found);
+        rest = &rest[4 + len..];
+        left -= 1;
+    }
+    if !rest.is_empty() {
+        return None;
+    }
+    Some(found)
+}
+
+/// Whether the data of an option on contexts ask for the one that there is. `None` where they are malformed.
+fn asks_allocation(chooses: bool, text: &[u8], len: usize) -> Option<bool>
+    requires name { len ≡ number_at text.now 0 4 }
+    requires inside { 8 + len ≤ length text.now }
+    ensures { result ≡ asks_allocation_of chooses text.now }
+{
+    let count = u32_at(text, 4 + len);
+    let start = !chooses && count == 0;
+    asked_by(chooses, start, count, &text[8 + len..])
+}
+
+/// Tells the context, where it was asked for.
+fn push_told(option: u32, chooses: bool, asks: bool, answer: &mut Vec<u8>) -> Result<(), AllocError>
+    requires { answer.old.items ≡ [] }
+    ensures { OnOk result (answer.new.items ≡ told_context option chooses asks) }
+{
+    if !asks {
+        return Ok(());
+    }
+    let number = if chooses { 1 } else { 0 };
+    push_context(answer, option, TELLING, number, ALLOCATION)
+}
+
+/// A session in which this export's blocks may be asked about, where it was chosen.
+fn choose(session: &mut Session, chooses: bool, described: Option<usize>)
+    ensures { session.new ≡ choosing chooses session.old described }
+{
+    if chooses {
+        session.described = described;
+    }
+}
+
+/// Refuses an option on contexts.
+fn refuse(
+    session: &mut Session,
+    option: u32,
+    chooses: bool,
+    kind: u32,
+    answer: &mut Vec<u8>,
+) -> Result<(), AllocError>
+    requires { answer.old.items ≡ [] }
+    ensures { OnOk result (IsReaction answer.new.items session.new (refused option chooses session.old kind)) }
+{
+    choose(session, chooses, None);
+    push_bare_reply(answer, option, kind)
+}
+
+/// Answers an option on contexts, of an export that there may be, and of queries that may be malformed.
+fn tell(
+    session: &mut Session,
+    option: u32,
+    chooses: bool,
+    place: Option<Place>,
+    asks: Option<bool>,
+    answer: &mut Vec<u8>,
+) -> Result<(), AllocError>
+    requires { answer.old.items ≡ [] }
+    ensures { OnOk result (IsReaction answer.new.items session.new (contexts_at option chooses session.old place asks)) }
+{
+    let Some(asks) = asks else {
+        return refuse(session, option, chooses, MALFORMED, answer);
+    };
+    let Some(place) = place else {
+        return refuse(session, option, chooses, UNKNOWN, answer);
+    };
+    let described = if asks { Some(place.export) } else { None };
+    choose(session, chooses, described);
+    push_told(option, chooses, asks, answer)?;
+    push_bare_reply(answer, option, ACKNOWLEDGED)
+}
+
+/// Answers an option on contexts: lists them, or chooses.
+fn contexts(
+    exports: &[Export<'_>],
+    session: &mut Session,
+    option: u32,
+    chooses: bool,
+    text: &[u8],
+    answer: &mut Vec<u8>,
+) -> Result<(), AllocError>
+    requires { answer.old.items ≡ [] }
+    ensures { OnOk result (IsReaction answer.new.items session.new (on_contexts option chooses exports.now session.old text.now)) }
+{
+    if !session.structured {
+        return refuse(session, option, chooses, MALFORMED, answer);
+    }
+    let Some(name) = context_name(text) else {
+        return refuse(session, option, chooses, MALFORMED, answer);
+    };
+    let place = found(exports, name);
+    let asks = asks_allocation(chooses, text, name.len());
+    tell(session, option, chooses, place, asks, answer)
+}
+
 /// Answers an option with these data.
 pub fn haggle(
     exports: &[Export<'_>],
@@ -182,6 +345,8 @@ pub fn haggle(
         6 => on_place(exports, session, 6, false, text, answer),
         7 => on_place(exports, session, 7, true, text, answer),
         8 => structure(session, text, answer),
+        9 => contexts(exports, session, 9, false, text, answer),
+        10 => contexts(exports, session, 10, true, text, answer),
         _ => push_bare_reply(answer, option, UNSUPPORTED),
     }
 }

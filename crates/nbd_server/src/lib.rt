@@ -4,6 +4,7 @@
 //! and the next request is served; no more memory is taken than the longest request asks for.
 #![tactic(auto)]
 
+mod describing;
 mod finding;
 mod haggling;
 mod hearing;

@@ -1,11 +1,14 @@
 // A request is answered.
-ghost use Rattle.std.specs.Prelude.{◌≡◌, ℕ, ◌+◌, ◌^◌, ◌<◌, ◌≤◌, Bool, List, [], ◌++◌, length, take, drop, IfOk, OnOk, IsTrue, IsSome, Some, Err, Option};
+ghost use Rattle.std.specs.Prelude.{◌≡◌, ℕ, ◌+◌, ◌^◌, ◌<◌, ◌≤◌, List, [], ◌++◌, length, take, drop, OnOk, Some, Err, Option, nat_lt};
 ghost use Rattle.nbd_server.specs.declared.served.Fault.{Fault as FaultOf};
-ghost use Rattle.nbd_server.specs.Replied.{is_invalid_read, error_reply, data_start, data_reply, given_reply, read_reply, reply_to, fault_error};
+ghost use Rattle.nbd_server.specs.Replied.{is_invalid_read, error_reply, data_start, data_reply, given_reply, read_reply, is_invalid_state as is_invalid_state_of, told_state, given_state, state_reply, reply_to, fault_error, MayFail, HasCause};
+ghost use Rattle.nbd_server.specs.Blocks.{asked_bytes, state_of as state_by};
 
+use crate::describing::first_kind_at;
 use crate::{Export, Fault, Served};
 use nbd_messages::{
     Command, Request, push_bare_chunk, push_data_front, push_error_chunk, push_simple_reply,
+    push_state_chunk,
 };
 use std::alloc::AllocError;
 
@@ -21,6 +24,16 @@ const NO_MEMORY: u32 = 12;
 
 const INVALID: u32 = 22;
 
+/// Whether a request goes past the end of an export of so many bytes.
+fn is_past(size: u64, request: &Request) -> bool
+    ensures { result ≡ nat_lt size (request.now.offset + request.now.length) }
+{
+    match request.offset.checked_add(request.length as u64) {
+        Some(end) => size < end,
+        None => true,
+    }
+}
+
 /// Whether a read is invalid, of an export of so many bytes.
 fn is_invalid(size: u64, request: &Request) -> bool
     ensures { result ≡ is_invalid_read size request.now }
@@ -31,10 +44,7 @@ fn is_invalid(size: u64, request: &Request) -> bool
     if LONGEST < request.length {
         return true;
     }
-    match request.offset.checked_add(request.length as u64) {
-        Some(end) => size < end,
-        None => true,
-    }
+    is_past(size, request)
 }
 
 /// Adds an error in place of a read's bytes.
@@ -90,8 +100,9 @@ fn push_data<T: Served>(
 ) -> Result<(), Fault>
     requires inside { request.now.offset + request.now.length < 2 ^ 64 }
     ensures data { OnOk result ((b : List ℕ) → T.bytes served.old export ≡ Some b → answer.new.items ≡ answer.old.items ++ take request.now.length (drop request.now.offset b)) }
-    ensures failed { result ≡ Err Fault.Io → IsTrue (T.failed served.new) }
+    ensures fails { result ≡ Err Fault.Io → T.may_fail served.old export request.now.offset request.now.length }
     ensures bytes { (k : ℕ) → T.bytes served.new k ≡ T.bytes served.old k }
+    ensures calm { (k : ℕ) (from : ℕ) (count : ℕ) → T.may_fail served.new k from count → T.may_fail served.old k from count }
 {
     let start = answer.len();
     let Some(end) = start.checked_add(request.length as usize) else {
@@ -117,8 +128,9 @@ fn reply_read<T: Served>(
     answer: &mut Vec<u8>,
 ) -> Result<(), AllocError>
     requires { answer.old.items ≡ [] }
-    ensures reply { OnOk result ((b : List ℕ) → T.bytes served.old export ≡ Some b → (fault : Option FaultOf) × (fault ≡ Some Fault.Io → IsTrue (T.failed served.new)) × (answer.new.items ≡ read_reply structured fault size b request.now)) }
+    ensures reply { OnOk result ((b : List ℕ) → T.bytes served.old export ≡ Some b → (fault : Option FaultOf) × HasCause (T.may_fail served.old) export fault request.now × (answer.new.items ≡ read_reply structured fault size b request.now)) }
     ensures bytes { (k : ℕ) → T.bytes served.new k ≡ T.bytes served.old k }
+    ensures calm { (k : ℕ) (from : ℕ) (count : ℕ) → T.may_fail served.new k from count → T.may_fail served.old k from count }
 {
     if is_invalid(size, request) {
         return push_error(answer, structured, INVALID, request);
@@ -137,18 +149,87 @@ fn reply_read<T: Served>(
     }
 }
 
-/// Answers a request, with arrays that are only read.
-pub fn reply<T: Served>(
+/// The only flag that a request about blocks may have: one range is enough.
+const ONE: u16 = 8;
+
+/// Whether a request about blocks is invalid, of an export of so many bytes.
+fn is_invalid_state(size: u64, request: &Request) -> bool
+    ensures { result ≡ is_invalid_state_of size request.now }
+{
+    if request.length == 0 {
+        return true;
+    }
+    if request.flags != 0 && request.flags != ONE {
+        return true;
+    }
+    is_past(size, request)
+}
+
+/// The state of a range that reads as zeros, or of another.
+fn state_of(blank: bool) -> u32
+    ensures { result ≡ state_by blank }
+{
+    if blank { 2 } else { 0 }
+}
+
+/// Answers a good request about blocks.
+fn tell_state<T: Served>(
+    served: &mut T,
+    export: usize,
+    structured: bool,
+    request: &Request,
+    answer: &mut Vec<u8>,
+) -> Result<(), AllocError>
+    requires none { answer.old.items ≡ [] }
+    requires inside { request.now.offset + request.now.length < 2 ^ 64 }
+    ensures reply { OnOk result ((b : List ℕ) → T.bytes served.old export ≡ Some b → (fault : Option FaultOf) × HasCause (T.may_fail served.old) export fault request.now × (answer.new.items ≡ given_state structured fault b request.now)) }
+    ensures bytes { (k : ℕ) → T.bytes served.new k ≡ T.bytes served.old k }
+    ensures calm { (k : ℕ) (from : ℕ) (count : ℕ) → T.may_fail served.new k from count → T.may_fail served.old k from count }
+{
+    match first_kind_at(served, export, request.offset, request.length) {
+        Ok(kind) => push_state_chunk(answer, request.cookie, 1, kind.len, state_of(kind.blank)),
+        Err(fault) => push_error(answer, structured, error_of(fault), request),
+    }
+}
+
+/// Answers a request about blocks.
+fn reply_state<T: Served>(
     served: &mut T,
     export: usize,
     size: u64,
+    described: bool,
     structured: bool,
     request: &Request,
     answer: &mut Vec<u8>,
 ) -> Result<(), AllocError>
     requires { answer.old.items ≡ [] }
-    ensures reply { OnOk result ((b : List ℕ) → T.bytes served.old export ≡ Some b → (fault : Option FaultOf) × (fault ≡ Some Fault.Io → IsTrue (T.failed served.new)) × (answer.new.items ≡ reply_to structured fault size b request.now)) }
+    ensures reply { OnOk result ((b : List ℕ) → T.bytes served.old export ≡ Some b → (fault : Option FaultOf) × HasCause (T.may_fail served.old) export fault request.now × (answer.new.items ≡ state_reply described structured fault size b request.now)) }
     ensures bytes { (k : ℕ) → T.bytes served.new k ≡ T.bytes served.old k }
+    ensures calm { (k : ℕ) (from : ℕ) (count : ℕ) → T.may_fail served.new k from count → T.may_fail served.old k from count }
+{
+    if !described {
+        return push_error(answer, structured, INVALID, request);
+    }
+    if is_invalid_state(size, request) {
+        return push_error(answer, structured, INVALID, request);
+    }
+    tell_state(served, export, structured, request, answer)
+}
+
+/// Answers a request, with arrays that are only read.
+pub fn reply<T: Served>(
+    served: &mut T,
+    export: usize,
+    size: u64,
+    described: bool,
+    structured: bool,
+    request: &Request,
+    answer: &mut Vec<u8>,
+) -> Result<(), AllocError>
+    requires { answer.old.items ≡ [] }
+    ensures reply { OnOk result ((b : List ℕ) → T.bytes served.old export ≡ Some b → (fault : Option FaultOf) × HasCause (T.may_fail served.old) export fault request.now × (answer.new.items ≡ reply_to described structured fault size b request.now)) }
+    ensures bytes { (k : ℕ) → T.bytes served.new k ≡ T.bytes served.old k }
+    ensures calm { (k : ℕ) (from : ℕ) (count : ℕ) → T.may_fail served.new k from count → T.may_fail served.old k from count }
 {
     match request.command {
         Command::Read => reply_read(served, export, size, structured, request, answer),
@@ -160,7 +241,9 @@ pub fn reply<T: Served>(
             let error = if 0 < request.flags { INVALID } else { 0 };
             push_simple_reply(answer, error, request.cookie)
         }
-        Command::BlockStatus => push_simple_reply(answer, INVALID, request.cookie),
+        Command::BlockStatus => reply_state(
+            served, export, size, described, structured, request, answer,
+        ),
         Command::Other => push_simple_reply(answer, INVALID, request.cookie),
     }
 }

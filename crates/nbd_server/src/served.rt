@@ -1,5 +1,5 @@
 // What is served.
-ghost use Rattle.std.specs.Prelude.{◌≡◌, ℕ, ◌+◌, ◌^◌, ◌<◌, List, take, drop, length, Bool, Option, IfSome, OnOk, IsTrue, IsErr};
+ghost use Rattle.std.specs.Prelude.{◌≡◌, ℕ, ◌+◌, ◌^◌, ◌<◌, List, take, drop, length, Option, IfSome, OnOk, Err};
 
 /// Why bytes were not given.
 #[derive(Clone, Copy, PartialEq, Eq)]
@@ -24,13 +24,14 @@ pub trait Served {
     /// The bytes of an array, where they are known.
     ghost bytes: { Self → ℕ → Option (List ℕ) };
 
-    /// Whether the last read failed.
-    ghost failed: { Self → Bool };
+    /// Whether a read of an array may fail: from a byte on, of so many.
+    ghost may_fail: { Self → ℕ → ℕ → ℕ → Type 0 };
 
     /// Reads as many bytes of an array as the buffer has, from an offset on.
     fn read(&mut self, export: usize, at: u64, out: &mut [u8]) -> Result<(), Fault>
         requires { at + length out.old < 2 ^ 64 }
         ensures data { OnOk result (IfSome (bytes self.old export) (λ b. out.new ≡ take (length out.old) (drop at b))) }
-        ensures failed { IsErr result → IsTrue (failed self.new) }
-        ensures bytes { (k : ℕ) → bytes self.new k ≡ bytes self.old k };
+        ensures fails { result ≡ Err Fault.Io → may_fail self.old export at (length out.old) }
+        ensures bytes { (k : ℕ) → bytes self.new k ≡ bytes self.old k }
+        ensures calm { (k : ℕ) (from : ℕ) (count : ℕ) → may_fail self.new k from count → may_fail self.old k from count };
 }

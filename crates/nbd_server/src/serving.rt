@@ -34,11 +34,12 @@ pub fn serve<T: Served, R: Read, W: Write>(
     writer: &mut W,
 ) -> Result<(), Stopped>
     ensures answers { OnOk result ((arrays : ℕ → List ℕ) → (heard : List ℕ) → AreArrays (T.bytes served.old) arrays → R.remaining reader.old ≡ Some heard →
-        (said : List ℕ) × (turns : List Turn) × Talk exports.now arrays beginning heard said turns × Appends (W.contents writer.old) (W.contents writer.new) (greeting ++ said)) }
+        (said : List ℕ) × (turns : List Turn) × Talk exports.now arrays (T.may_fail served.old) beginning heard said turns × Appends (W.contents writer.old) (W.contents writer.new) (greeting ++ said)) }
 {
     let mut session = Session {
         no_zeroes: false,
         structured: false,
+        described: None,
         stage: Stage::Opening,
     };
     let mut text = Vec::new(alloc);

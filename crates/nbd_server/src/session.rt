@@ -27,5 +27,7 @@ pub struct Session {
     pub no_zeroes: bool,
     /// Reads are answered by structured replies.
     pub structured: bool,
+    /// The export whose client may ask which bytes are zeros.
+    pub described: Option<usize>,
     pub stage: Stage,
 }

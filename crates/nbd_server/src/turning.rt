@@ -2,10 +2,10 @@
 ghost use Rattle.std.specs.Prelude.{◌≡◌, ◌<◌, ◌≤◌, ℕ, List, [], length, IfOk, IfSome, OnOk, MatchBool, MatchOption};
 ghost use Rattle.std.specs.Io.KnownBytes.{Consumes};
 ghost use Rattle.nbd_server.specs.Heard.{IsShort, IsRead};
-ghost use Rattle.nbd_server.specs.Talk.{AreArrays, NoneIsWhole, payload};
+ghost use Rattle.nbd_server.specs.Talk.{AreArrays, NoneIsWhole, is_chosen as is_chosen_of, payload};
 ghost use Rattle.nbd_server.specs.declared.served.Export.{Export as ExportOf};
 ghost use Rattle.nbd_server.specs.declared.session.Place.{Place as PlaceOf};
-ghost use Rattle.nbd_server.specs.Turns.{IsTurn, IsEnd, IsAsked, IsRequested, IsHaggledFor, IsReplied};
+ghost use Rattle.nbd_server.specs.Turns.{IsTurn, IsOpened, IsAskedTurn, IsEnd, IsAsked, IsRequested, IsHaggledFor, IsReplied};
 ghost use Rattle.nbd_server.specs.declared.session.Stage.TheVariants.{Opening, Haggling, Serving};
 
 use crate::haggling::{haggle, haggle_unread};
@@ -26,7 +26,7 @@ const LONGEST_TEXT: u32 = 65536;
 fn open<R: Read>(session: &mut Session, reader: &mut R) -> Result<bool, Stopped>
     requires { session.old.stage ≡ Opening }
     ensures { IfOk result (λ went. MatchBool went
-        ((exports : List ExportOf) (arrays : ℕ → List ℕ) → IsTurn exports arrays (R.remaining reader.old) (R.remaining reader.new) session.old session.new [])
+        (IsOpened (R.remaining reader.old) (R.remaining reader.new) session.old session.new)
         (IsEnd (R.remaining reader.old) session.old)) }
 {
     let mut flags = [0u8; 4];
@@ -117,6 +117,16 @@ fn haggle_for<R: Read>(
     Ok(true)
 }
 
+/// Whether an export's blocks may be asked about.
+fn is_chosen(described: Option<usize>, export: usize) -> bool
+    ensures { result ≡ is_chosen_of described export }
+{
+    match described {
+        Some(chosen) => chosen == export,
+        None => false,
+    }
+}
+
 /// Answers a request, and ends the session where the client disconnects.
 fn serve_request<T: Served>(
     served: &mut T,
@@ -126,13 +136,15 @@ fn serve_request<T: Served>(
     answer: &mut Vec<u8>,
 ) -> Result<(), Stopped>
     requires { answer.old.items ≡ [] }
-    ensures replied { OnOk result (IsReplied (T.bytes served.old) place request.now session.old session.new answer.new.items) }
+    ensures replied { OnOk result (IsReplied (T.bytes served.old) (T.may_fail served.old) place request.now session.old session.new answer.new.items) }
     ensures bytes { (k : ℕ) → T.bytes served.new k ≡ T.bytes served.old k }
+    ensures calm { (k : ℕ) (from : ℕ) (count : ℕ) → T.may_fail served.new k from count → T.may_fail served.old k from count }
 {
     reply(
         served,
         place.export,
         place.size,
+        is_chosen(session.described, place.export),
         session.structured,
         request,
         answer,
@@ -164,7 +176,7 @@ fn option<R: Read>(
     requires stage { session.old.stage ≡ Haggling }
     requires none { answer.old.items ≡ [] }
     ensures { IfOk result (λ went. MatchBool went
-        ((arrays : ℕ → List ℕ) → IsTurn exports.now arrays (R.remaining reader.old) (R.remaining reader.new) session.old session.new answer.new.items)
+        (IsAskedTurn exports.now (R.remaining reader.old) (R.remaining reader.new) session.old session.new answer.new.items)
         (IsEnd (R.remaining reader.old) session.old)) }
 {
     let Some(asked) = hear_asked(reader)? else {
@@ -187,9 +199,10 @@ fn request<T: Served, R: Read>(
     requires stage { session.old.stage ≡ Serving place }
     requires none { answer.old.items ≡ [] }
     ensures turn { IfOk result (λ went. MatchBool went
-        ((exports : List ExportOf) (arrays : ℕ → List ℕ) → AreArrays (T.bytes served.old) arrays → IsTurn exports arrays (R.remaining reader.old) (R.remaining reader.new) session.old session.new answer.new.items)
+        ((exports : List ExportOf) (arrays : ℕ → List ℕ) → AreArrays (T.bytes served.old) arrays → IsTurn exports arrays (T.may_fail served.old) (R.remaining reader.old) (R.remaining reader.new) session.old session.new answer.new.items)
         (IsEnd (R.remaining reader.old) session.old)) }
     ensures bytes { (k : ℕ) → T.bytes served.new k ≡ T.bytes served.old k }
+    ensures calm { (k : ℕ) (from : ℕ) (count : ℕ) → T.may_fail served.new k from count → T.may_fail served.old k from count }
 {
     let Some(request) = hear_request(reader)? else {
         return Ok(false);
@@ -212,9 +225,10 @@ pub fn turn<T: Served, R: Read>(
 ) -> Result<bool, Stopped>
     requires { answer.old.items ≡ [] }
     ensures turn { IfOk result (λ went. MatchBool went
-        ((arrays : ℕ → List ℕ) → AreArrays (T.bytes served.old) arrays → IsTurn exports.now arrays (R.remaining reader.old) (R.remaining reader.new) session.old session.new answer.new.items)
+        ((arrays : ℕ → List ℕ) → AreArrays (T.bytes served.old) arrays → IsTurn exports.now arrays (T.may_fail served.old) (R.remaining reader.old) (R.remaining reader.new) session.old session.new answer.new.items)
         (IsEnd (R.remaining reader.old) session.old)) }
     ensures bytes { (k : ℕ) → T.bytes served.new k ≡ T.bytes served.old k }
+    ensures calm { (k : ℕ) (from : ℕ) (count : ℕ) → T.may_fail served.new k from count → T.may_fail served.old k from count }
 {
     match session.stage {
         Stage::Opening => {

@@ -9,7 +9,9 @@ use Rattle.journal.specs.declared.entry.Entry.TheVariants.{Answered as IsAnswere
 use Rattle.journal.specs.Books.{AuditShape}
 use Rattle.journal.specs.Entries.{entries_by}
 use Rattle.plain.specs.Plain.{saved_under, overflow_under}
-use Rattle.journal.specs.Replay.{AllLawful, Saves, after, replay}
+use Rattle.journal.specs.Inside.{AllInside}
+use Rattle.journal.specs.Replay.{AllLawful, Saves, replay}
+use Rattle.journal.proofs.Own.{inside_rest, lawful_rest, meets_own}
 use Rattle.journal.proofs.Replaying.{entries_by_spoils, replay_then}
 use Rattle.named.specs.State.{Volume}
 use Rattle.named_volume.specs.Flights.{IsBehind}
@@ -30,11 +32,6 @@ use Rattle.par.specs.Running.{IsRun}
 use Rattle.par.specs.Taking.{IsBack, IsMade, IsRested, IsTrue}
 use Rattle.par.proofs.Backs.{stood}
 
--- the later entries alone
-lawful_rest : (s : Saves) (es fs : List Entry) → AllLawful s (es ++ fs) → AllLawful (replay s es) fs
-lawful_rest s [] fs h = h
-lawful_rest s (e ∷ es) fs h = lawful_rest (after s e) es fs h.1
-
 in_front : (b : Bool) (a : Answered) (xs ys : List Answered) → (if b then (a ∷ (xs ++ ys)) else (xs ++ ys)) ≡ (if b then (a ∷ xs) else xs) ++ ys
 in_front true a xs ys = refl
 in_front false a xs ys = refl
@@ -43,7 +40,7 @@ entries_by-append : (n : ℕ) (es fs : List Entry) → entries_by n (es ++ fs) �
 entries_by-append n [] fs = refl
 entries_by-append n (Spoiled m ∷ es) fs = entries_by-append n es fs
 entries_by-append n (Overflowed m ∷ es) fs = entries_by-append n es fs
-entries_by-append n (Attached m x o ∷ es) fs = entries_by-append n es fs
+entries_by-append n (Attached m x o f ∷ es) fs = entries_by-append n es fs
 entries_by-append n (Detached m ∷ es) fs = entries_by-append n es fs
 entries_by-append n (Begun m ∷ es) fs = entries_by-append n es fs
 entries_by-append n (Finished ∷ es) fs = entries_by-append n es fs
@@ -114,6 +111,8 @@ plays before p audit rested old new back done truth is sound =
     let all : rested.entries ≡ before.entries ++ entries = goes_on before p audit rested old back done in
     let shown : replay before.base before.entries ≡ shown_by before.volume = back.out.truth.gives was_loud in
     let lawful : AllLawful before.base (before.entries ++ entries) = subst (λ (s : Saves). AllLawful s (before.entries ++ entries)) base (subst (λ (l : List Entry). AllLawful rested.base l) all (truth.lawful loud)) in
+    let inside : AllInside before.base (before.entries ++ entries) = subst (λ (s : Saves). AllInside s (before.entries ++ entries)) base (subst (λ (l : List Entry). AllInside rested.base l) all (truth.inside loud)) in
+    let rest : AllLawful (shown_by before.volume) entries = subst (λ (s : Saves). AllLawful s entries) shown (lawful_rest before.base before.entries entries lawful) in
     record {
       before = before.volume;
       after = rested.volume;
@@ -130,7 +129,8 @@ plays before p audit rested old new back done truth is sound =
           loud = was_loud i;
           base = shown_by before.volume;
         };
-        lawful = subst (λ (s : Saves). AllLawful s entries) shown (lawful_rest before.base before.entries entries lawful);
+        lawful = rest;
+        own = meets_own (shown_by before.volume) entries rest (subst (λ (s : Saves). AllInside s entries) shown (inside_rest before.base before.entries entries inside));
         gives = ap (λ (s : Saves). replay s entries) (sym shown) ∙ sym (replay_then before.base before.entries entries) ∙ ap (λ (l : List Entry). replay before.base l) (sym all) ∙ ap (λ (s : Saves). replay s rested.entries) (sym base) ∙ truth.gives loud;
       };
     }

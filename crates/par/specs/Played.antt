@@ -3,6 +3,7 @@ use Rattle.std.specs.Prelude.{◌≡◌, ◌<◌, ℕ, Bool, true, false, List, 
 use Rattle.std.specs.List.{count_by}
 use Rattle.journal.specs.declared.entry.Entry.{Entry}
 use Rattle.journal.specs.Entries.{answered_of, entries_by}
+use Rattle.journal.specs.Own.{MeetsOwn}
 use Rattle.journal.specs.Replay.{AllLawful, Saves, replay, saves_of}
 use Rattle.layers.specs.declared.stack.Stack.{Stack}
 use Rattle.history.specs.Keeping.{Begins}
@@ -47,11 +48,12 @@ standing_of v = record {
 }
 
 -- Entries that were made at a volume that stood so: each is lawful after those before it, and all of them give what the volume
--- shows.
+-- shows; and a seat that reads a byte behind a write of its own gets what it wrote, or an entry between the two changed that.
 pub record IsPlayed (story : Story) (before after : Volumed Stack) : Type 0 where
   pub stood : story.stood ≡ standing_of before
   pub lawful : AllLawful (shown_by before) story.entries
   pub gives : replay (shown_by before) story.entries ≡ shown_by after
+  pub own : (seat : ℕ) → MeetsOwn seat story.entries
 
 -- The same of a volume with names, no device of which ever dropped writes.
 abbrev pub IsPlayedIn : Story → Volume → Volume → Type 0

@@ -5,6 +5,7 @@ use Rattle.layers.specs.Stack.{stack_layers, stack_size}
 use Rattle.journal.specs.declared.entry.Entry.{Entry}
 use Rattle.journal.specs.Books.{AuditShape}
 use Rattle.journal.specs.Entries.{entries_by}
+use Rattle.journal.specs.Inside.{AllInside}
 use Rattle.journal.specs.Journaled.{KeepsBase, OnlySpoils}
 use Rattle.journal.specs.Replay.{AllLawful, replay}
 use Rattle.named.specs.State.{Volume}
@@ -20,9 +21,11 @@ use Rattle.par.specs.Running.{IsRun}
 use Rattle.par.specs.declared.taking.Slot.{Slot}
 use Rattle.par.specs.declared.taking.Slot.TheVariants.{Stays, Out}
 
--- While no device of an audit's volume ever dropped writes, its entries are lawful, and give what the volume shows.
+-- While no device of an audit's volume ever dropped writes, its entries are lawful, what they write lies inside its arrays, and
+-- they give what the volume shows.
 pub record IsTrue (audit : AuditShape Stack) : Type 0 where
   pub lawful : audit.loud ≡ true → AllLawful audit.base audit.entries
+  pub inside : audit.loud ≡ true → AllInside audit.base audit.entries
   pub gives : audit.loud ≡ true → replay audit.base audit.entries ≡ shown_by audit.volume
 
 -- The names of a volume that is taken out, its audit, in which no request is in flight, and the volume that both are of.

@@ -44,6 +44,7 @@ fn a_read_of_the_origin_disk_delays_the_publication(rt: HostRuntime) -> Result<(
     let mark = Mark {
         number: 1,
         chunk: 7,
+        safe: true,
     };
     let marks = [mark];
     assert!(rt; is_marked(&marks, 7) && !is_marked(&marks, 6));
@@ -65,6 +66,31 @@ fn a_read_of_the_origin_disk_delays_the_publication(rt: HostRuntime) -> Result<(
     Ok(())
 }
 
+// A committed pair is published once its store was flushed behind it.
+#[test]
+fn a_flush_lets_a_pair_be_published(rt: HostRuntime) -> Result<(), Fail> {
+    let mut marks = [
+        Mark {
+            number: 4,
+            chunk: 7,
+            safe: false,
+        },
+        Mark {
+            number: 5,
+            chunk: 9,
+            safe: true,
+        },
+    ];
+    let flights: Vec<Flight> = Vec::new(rt.alloc());
+    assert!(rt; has_unsafe(&marks));
+    assert_eq!(rt; first_publishable(&marks, &flights, 1, 1), Some(5));
+    assert_eq!(rt; publishable_at(&marks, &flights, 1, 1, 4), None);
+    flush_marks(&mut marks);
+    assert!(rt; !has_unsafe(&marks));
+    assert_eq!(rt; first_publishable(&marks, &flights, 1, 1), Some(4));
+    Ok(())
+}
+
 // A copy goes through its stages; a snapshot's held write goes to its place, or is refused at a spoil.
 #[test]
 fn a_copy_frees_the_write_that_waits_for_it(rt: HostRuntime) -> Result<(), Fail> {
@@ -78,10 +104,10 @@ fn a_copy_frees_the_write_that_waits_for_it(rt: HostRuntime) -> Result<(), Fail>
         ),
         (Some(1), None)
     );
-    assert!(rt; !front_written(&copies));
+    assert!(rt; !front_ready(&copies) && !front_unflushed(&copies));
     copies[0].stage = Stage::Written;
-    assert!(rt; front_written(&copies));
-    assert_eq!(rt; (batch(&copies, 0), batch(&copies, 32)), (0, 1));
+    assert!(rt; !front_ready(&copies) && front_unflushed(&copies));
+    assert_eq!(rt; batch(&copies, 32), 0);
     assert_eq!(rt;
         (
             copy_at(&copies, Stage::Written, 1),
@@ -93,6 +119,10 @@ fn a_copy_frees_the_write_that_waits_for_it(rt: HostRuntime) -> Result<(), Fail>
         least(first_copy(&copies, Stage::Written), Some(7)),
         Some(1)
     );
+    flush_copies(&mut copies);
+    assert!(rt; front_ready(&copies) && !front_unflushed(&copies));
+    assert_eq!(rt; (batch(&copies, 0), batch(&copies, 32)), (0, 1));
+    assert!(rt; flushed_stage(Stage::Read) == Stage::Read);
     let held = Route::Held;
     assert!(rt; placed_route(1, Kind::SnapWrite(1), held, Some(2)) == Route::Store(2));
     assert!(rt; placed_route(2, Kind::SnapWrite(1), held, Some(2)) == Route::Held);

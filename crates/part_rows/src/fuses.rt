@@ -1,4 +1,4 @@
-// A disk that goes down within a write.
+// A disk that goes down within a write, or before a flush.
 ghost use Rattle.std.specs.Prelude.{◌≡◌, IfOk};
 ghost use Rattle.fuse.specs.Fuse.{fuse_size};
 
@@ -9,13 +9,13 @@ use sector::Range;
 use std::alloc::Global;
 use std::test::Fail;
 
-// A disk of four sectors of ones, that fails at the write after the next one.
-fn fuse_of(alloc: Global, new: &[bool]) -> Result<Fuse, Fail>
+// A disk of four sectors of ones, that passes so many writes and flushes.
+fn fuse_of(alloc: Global, changes: u64, new: &[bool]) -> Result<Fuse, Fail>
     ensures { IfOk result (λ f. fuse_size f ≡ 4) }
 {
     let mut disk = MemDisk::new(alloc, 4)?;
     disk.write(Range::new(0, 4, 4)?, &[1; 2048])?;
-    match Fuse::new(alloc, disk, 1, Vec::from_slice(alloc, new)?) {
+    match Fuse::new(alloc, disk, changes, Vec::from_slice(alloc, new)?) {
         Ok(fuse) => Ok(fuse),
         Err((refusal, _)) => Err(Fail::from(refusal)),
     }
@@ -23,7 +23,7 @@ fn fuse_of(alloc: Global, new: &[bool]) -> Result<Fuse, Fail>
 
 #[test]
 fn the_disk_kept_aside_has_the_new_sectors_alone(rt: HostRuntime) -> Result<(), Fail> {
-    let mut fuse = fuse_of(rt.alloc(), &[false, true])?;
+    let mut fuse = fuse_of(rt.alloc(), 2, &[false, true])?;
     fuse.write(Range::new(0, 1, 4)?, &[2; 512])?;
     fuse.flush()?;
     let mut out = [9; 512];
@@ -43,7 +43,7 @@ fn the_disk_kept_aside_has_the_new_sectors_alone(rt: HostRuntime) -> Result<(), 
 
 #[test]
 fn a_blown_fuse_fails_and_changes_nothing(rt: HostRuntime) -> Result<(), Fail> {
-    let mut fuse = fuse_of(rt.alloc(), &[true])?;
+    let mut fuse = fuse_of(rt.alloc(), 1, &[true])?;
     let one = Range::new(1, 1, 4)?;
     fuse.write(one, &[2; 512])?;
     let mut out = [9; 512];
@@ -59,5 +59,25 @@ fn a_blown_fuse_fails_and_changes_nothing(rt: HostRuntime) -> Result<(), Fail> {
         [2; 512].as_slice(),
         "it shows what was there before"
     );
+    Ok(())
+}
+
+#[test]
+fn a_fuse_blown_before_a_flush_keeps_the_disk_as_it_was(rt: HostRuntime) -> Result<(), Fail> {
+    let mut fuse = fuse_of(rt.alloc(), 2, &[true])?;
+    let one = Range::new(1, 1, 4)?;
+    fuse.flush()?;
+    fuse.write(one, &[2; 512])?;
+    assert_eq!(rt; fuse.flush(), Err(Io));
+    assert_eq!(rt; (fuse.faults(), fuse.done()), (1, 3));
+    let Some(mut left) = fuse.into_left() else {
+        return Err(Fail::from("it is blown"));
+    };
+    let mut out = [9; 512];
+    left.raw(one, &mut out);
+    assert_eq!(rt; out.as_slice(), [2; 512].as_slice(), "written");
+    left.lose();
+    left.raw(one, &mut out);
+    assert_eq!(rt; out.as_slice(), [1; 512].as_slice(), "flushed before that");
     Ok(())
 }

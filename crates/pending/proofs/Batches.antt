@@ -1,19 +1,20 @@
 -- The copies at the front that are ready: how many there are after a change of the list, and that a batch is ready.
-use Rattle.std.proofs.Common.{◌≡◌, ℕ, zero, suc, ◌+◌, ◌-◌, ◌<◌, ◌≤◌, Bool, true, false, List, [], ◌∷◌, ◌++◌, length, get_or, set, map, take, drop, refl, sym, ◌∙◌, ap, arith, inl, inr}
-use Rattle.std.specs.Prelude.{min, if◌then◌else◌}
+use Rattle.std.proofs.Common.{◌≡◌, ℕ, zero, suc, ◌+◌, ◌<◌, ◌≤◌, Bool, true, List, [], ◌∷◌, ◌++◌, length, get_or, set, map, take, drop, refl, ◌∙◌, ap, arith, inl, inr}
+use Rattle.std.specs.Prelude.{if◌then◌else◌}
 use Rattle.std.specs.List.{All, prefix_len}
 use Rattle.std.proofs.lemmas.Bool.{cases_Bool, false≢true}
 use Rattle.std.proofs.lemmas.List.Elements.{All-head, All-tail, All-nil, All-cons}
 use Rattle.std.proofs.lemmas.List.Sums.{prefix_len-le-length}
-use Rattle.pending.specs.Due.{is_stage, is_ready, front_written, batch}
+use Rattle.pending.specs.Due.{is_stage, is_ready, front_ready, batch}
 use Rattle.pending.specs.declared.copies.ChunkCopy.{ChunkCopy}
 use Rattle.pending.specs.declared.copies.Stage.{Stage}
-use Rattle.pending.specs.declared.copies.Stage.TheVariants.{Waiting, Read, Written}
+use Rattle.pending.specs.declared.copies.Stage.TheVariants.{Waiting, Read, Written, Flushed}
 
-pub is_written : (stage : Stage) → is_stage Written stage ≡ true → stage ≡ Written
-is_written Waiting e = absurd (false≢true e)
-is_written Read e = absurd (false≢true e)
-is_written Written e = refl
+pub is_flushed : (stage : Stage) → is_stage Flushed stage ≡ true → stage ≡ Flushed
+is_flushed Waiting e = absurd (false≢true e)
+is_flushed Read e = absurd (false≢true e)
+is_flushed Written e = absurd (false≢true e)
+is_flushed Flushed e = refl
 
 -- those that pass at the front, and one more list
 pub prefix_more : {X : Type 0} (p : X → Bool) (xs ys : List X) → prefix_len p xs ≤ prefix_len p (xs ++ ys)
@@ -41,22 +42,22 @@ prefix_map f p [] = refl
 prefix_map f p (x ∷ xs) = ap (λ n. if p (f x) then 1 + n else 0) (prefix_map f p xs)
 
 -- the first ones are taken away, all of them ready
-pub ready_drop : (n : ℕ) (xs : List ChunkCopy) → n ≤ length xs → All (λ p. p.stage ≡ Written) (take n xs) → prefix_len is_ready xs ≡ n + prefix_len is_ready (drop n xs)
+pub ready_drop : (n : ℕ) (xs : List ChunkCopy) → n ≤ length xs → All (λ p. p.stage ≡ Flushed) (take n xs) → prefix_len is_ready xs ≡ n + prefix_len is_ready (drop n xs)
 ready_drop zero xs le all = omega arith
 ready_drop (suc n) [] le all = absurd (omega (arith, le))
 ready_drop (suc n) (x ∷ xs) le all =
-    let here : is_ready x ≡ true = ap (is_stage Written) (All-head (λ (p : ChunkCopy). p.stage ≡ Written) x (take n xs) all) in
-    let rest = ready_drop n xs (omega (arith, le)) (All-tail (λ (p : ChunkCopy). p.stage ≡ Written) x (take n xs) all) in
+    let here : is_ready x ≡ true = ap (is_stage Flushed) (All-head (λ (p : ChunkCopy). p.stage ≡ Flushed) x (take n xs) all) in
+    let rest = ready_drop n xs (omega (arith, le)) (All-tail (λ (p : ChunkCopy). p.stage ≡ Flushed) x (take n xs) all) in
     rw here (omega (arith, rest))
 
 -- so many of those at the front are ready
-pub ready_first : (n : ℕ) (xs : List ChunkCopy) → n ≤ prefix_len is_ready xs → All (λ p. p.stage ≡ Written) (take n xs)
-ready_first zero xs le = All-nil (λ (p : ChunkCopy). p.stage ≡ Written)
+pub ready_first : (n : ℕ) (xs : List ChunkCopy) → n ≤ prefix_len is_ready xs → All (λ p. p.stage ≡ Flushed) (take n xs)
+ready_first zero xs le = All-nil (λ (p : ChunkCopy). p.stage ≡ Flushed)
 ready_first (suc n) [] le = absurd (omega (arith, le))
 ready_first (suc n) (x ∷ xs) le = elim (cases_Bool (is_ready x)) [
   | inl here ↦
       (let more : suc n ≤ 1 + prefix_len is_ready xs = rw here at le in
-      All-cons (λ (p : ChunkCopy). p.stage ≡ Written) x (take n xs) (is_written x.stage here) (ready_first n xs (omega (arith, more))))
+      All-cons (λ (p : ChunkCopy). p.stage ≡ Flushed) x (take n xs) (is_flushed x.stage here) (ready_first n xs (omega (arith, more))))
   | inr other ↦ (let none : suc n ≤ 0 = rw other at le in absurd (omega (arith, none)))
 ]
 
@@ -64,13 +65,13 @@ ready_first (suc n) (x ∷ xs) le = elim (cases_Bool (is_ready x)) [
 pub batch_few : (slots : ℕ) (copies : List ChunkCopy) → batch slots copies ≤ length copies
 batch_few slots copies = omega (arith, prefix_len-le-length is_ready copies)
 
-pub batch_ready : (slots : ℕ) (copies : List ChunkCopy) → All (λ p. p.stage ≡ Written) (take (batch slots copies) copies)
+pub batch_ready : (slots : ℕ) (copies : List ChunkCopy) → All (λ p. p.stage ≡ Flushed) (take (batch slots copies) copies)
 batch_ready slots copies = ready_first (batch slots copies) copies (omega arith)
 
 -- and not empty where the first copy is ready and there is a slot
-pub front_leads : (copies : List ChunkCopy) → front_written copies ≡ true → 0 < prefix_len is_ready copies
+pub front_leads : (copies : List ChunkCopy) → front_ready copies ≡ true → 0 < prefix_len is_ready copies
 front_leads [] e = absurd (false≢true e)
 front_leads (p ∷ ps) e = rw e (omega arith)
 
-pub batch_some : (slots : ℕ) (copies : List ChunkCopy) → front_written copies ≡ true → 0 < slots → 0 < batch slots copies
+pub batch_some : (slots : ℕ) (copies : List ChunkCopy) → front_ready copies ≡ true → 0 < slots → 0 < batch slots copies
 batch_some slots copies front some = (let h = front_leads copies front in omega (arith, h, some))

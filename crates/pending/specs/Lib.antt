@@ -1,4 +1,5 @@
 pub mod Copies
+pub mod Flushed
 pub mod Kinds
 pub mod Routes
 pub mod Due

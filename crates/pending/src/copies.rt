@@ -1,7 +1,8 @@
 // Copies of chunks, from their start until their snapshot has published them.
-ghost use Rattle.std.specs.Prelude.{◌≡◌, ◌==◌, ◌*◌, ◌<◌, ◌^◌, IfOk, length};
+ghost use Rattle.std.specs.Prelude.{◌≡◌, ◌==◌, ◌*◌, ◌<◌, ◌^◌, IfOk, length, map, not};
 ghost use Rattle.std.specs.List.{list_any};
 ghost use Rattle.pending.specs.Copies.{count_of};
+ghost use Rattle.pending.specs.Flushed.{flushed_copy, flushed_stage as stage_after, safe_mark};
 ghost use Rattle.pending.specs.declared.copies.Stage.TheVariants.{Waiting};
 
 use plain::CopyId;
@@ -19,6 +20,8 @@ pub enum Stage {
     Read,
     /// And written to its place on the store.
     Written,
+    /// And the store was flushed since.
+    Flushed,
 }
 
 /// A copy of one chunk of the origin for one snapshot, whose pair is not committed.
@@ -39,6 +42,8 @@ pub struct Mark {
     pub number: CopyId,
     /// The chunk of the origin.
     pub chunk: Chunk,
+    /// Whether the store was flushed since the pair was committed.
+    pub safe: bool,
 }
 
 /// How many sectors a chunk of the origin has: all but the last have a whole chunk's.
@@ -89,4 +94,41 @@ pub fn is_marked(marks: &[Mark], chunk: Chunk) -> bool
     ensures { result ≡ list_any (λ m. m.chunk == chunk) marks.now }
 {
     marks.iter().any(|m| m.chunk == chunk)
+}
+
+/// Whether a committed pair waits for a flush of the store.
+pub fn has_unsafe(marks: &[Mark]) -> bool
+    ensures { result ≡ list_any (λ m. not m.safe) marks.now }
+{
+    marks.iter().any(|m| !m.safe)
+}
+
+/// How far a copy is after a flush of the store: what is written counts as written.
+pub fn flushed_stage(stage: Stage) -> Stage
+    ensures { result ≡ stage_after stage }
+{
+    match stage {
+        Stage::Waiting => Stage::Waiting,
+        Stage::Read => Stage::Read,
+        Stage::Written => Stage::Flushed,
+        Stage::Flushed => Stage::Flushed,
+    }
+}
+
+/// The store was flushed: the copies that are written may be committed.
+pub fn flush_copies(copies: &mut [ChunkCopy])
+    ensures { copies.new ≡ map flushed_copy copies.old }
+{
+    for copy in copies.iter_mut() {
+        copy.stage = flushed_stage(copy.stage);
+    }
+}
+
+/// The store was flushed: what is committed may be published.
+pub fn flush_marks(marks: &mut [Mark])
+    ensures { marks.new ≡ map safe_mark marks.old }
+{
+    for mark in marks.iter_mut() {
+        mark.safe = true;
+    }
 }

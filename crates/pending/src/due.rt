@@ -1,7 +1,7 @@
 // What is due in these lists: the first element of a kind, which has the least number.
 ghost use Rattle.std.specs.Prelude.{◌≡◌, ◌==◌, ◌&&◌, ◌<◌, length};
 ghost use Rattle.std.specs.List.{list_any, position};
-ghost use Rattle.pending.specs.Due.{batch as batch_of, first_by, front_written as is_front_written, is_copy_at, is_issuable, is_publishable, is_ready as can_be_committed, is_routed as goes_somewhere, is_stage, least as lesser, number_of_copy, number_of_flight, number_of_mark};
+ghost use Rattle.pending.specs.Due.{batch as batch_of, first_by, front_ready as is_front_ready, front_unflushed as is_front_unflushed, is_copy_at, is_issuable, is_publishable, is_ready as can_be_committed, is_routed as goes_somewhere, is_stage, least as lesser, number_of_copy, number_of_flight, number_of_mark};
 
 use crate::copies::{ChunkCopy, Mark, Stage};
 use crate::flights::{Flight, Route};
@@ -29,12 +29,19 @@ pub fn is_at(stage: Stage, other: Stage) -> bool
         (Stage::Waiting, Stage::Waiting) => true,
         (Stage::Waiting, Stage::Read) => false,
         (Stage::Waiting, Stage::Written) => false,
+        (Stage::Waiting, Stage::Flushed) => false,
         (Stage::Read, Stage::Waiting) => false,
         (Stage::Read, Stage::Read) => true,
         (Stage::Read, Stage::Written) => false,
+        (Stage::Read, Stage::Flushed) => false,
         (Stage::Written, Stage::Waiting) => false,
         (Stage::Written, Stage::Read) => false,
         (Stage::Written, Stage::Written) => true,
+        (Stage::Written, Stage::Flushed) => false,
+        (Stage::Flushed, Stage::Waiting) => false,
+        (Stage::Flushed, Stage::Read) => false,
+        (Stage::Flushed, Stage::Written) => false,
+        (Stage::Flushed, Stage::Flushed) => true,
     }
 }
 
@@ -59,16 +66,16 @@ pub fn copy_at(copies: &[ChunkCopy], stage: Stage, number: CopyId) -> Option<usi
         .position(|c| c.number == number && is_at(stage, c.stage))
 }
 
-/// Whether a copy's pair may be committed: it is written.
+/// Whether a copy's pair may be committed: it is written, and the store was flushed since.
 pub fn is_ready(copy: &ChunkCopy) -> bool
     ensures { result ≡ can_be_committed copy.now }
 {
-    is_at(Stage::Written, copy.stage)
+    is_at(Stage::Flushed, copy.stage)
 }
 
-/// Whether the first copy is written.
-pub fn front_written(copies: &[ChunkCopy]) -> bool
-    ensures { result ≡ is_front_written copies.now }
+/// Whether the first copy's pair may be committed.
+pub fn front_ready(copies: &[ChunkCopy]) -> bool
+    ensures { result ≡ is_front_ready copies.now }
 {
     match copies {
         [] => false,
@@ -76,7 +83,17 @@ pub fn front_written(copies: &[ChunkCopy]) -> bool
     }
 }
 
-/// How many of the first copies one write of an area commits that has so many empty slots: those that are written, up to
+/// Whether the first copy is written, and waits for a flush of the store.
+pub fn front_unflushed(copies: &[ChunkCopy]) -> bool
+    ensures { result ≡ is_front_unflushed copies.now }
+{
+    match copies {
+        [] => false,
+        [first, ..] => is_at(Stage::Written, first.stage),
+    }
+}
+
+/// How many of the first copies one write of an area commits that has so many empty slots: those that are ready, up to
 /// the first that is not, and up to the end of the area.
 pub fn batch(copies: &[ChunkCopy], slots: u32) -> u32
     ensures { result ≡ batch_of slots copies.now }
@@ -91,7 +108,7 @@ pub fn batch(copies: &[ChunkCopy], slots: u32) -> u32
     count
 }
 
-/// The number of the first mark whose chunk no request reads from the origin disk.
+/// The number of the first mark that is safe, and whose chunk no request reads from the origin disk.
 pub fn first_publishable(
     marks: &[Mark],
     flights: &[Flight],
@@ -102,14 +119,14 @@ pub fn first_publishable(
     ensures { result ≡ first_by (is_publishable snap chunk_sectors flights.now) number_of_mark marks.now }
 {
     for mark in marks {
-        if !is_being_read(flights, snap, chunk_sectors, mark.chunk) {
+        if mark.safe && !is_being_read(flights, snap, chunk_sectors, mark.chunk) {
             return Some(mark.number);
         }
     }
     None
 }
 
-/// The place of the first mark with this number whose chunk no request reads from the origin disk.
+/// The place of the first safe mark with this number whose chunk no request reads from the origin disk.
 pub fn publishable_at(
     marks: &[Mark],
     flights: &[Flight],
@@ -121,6 +138,7 @@ pub fn publishable_at(
     ensures { result ≡ position (λ m. (m.number == number) && is_publishable snap chunk_sectors flights.now m) marks.now }
 {
     marks.iter().position(|m| m.number == number
+        && m.safe
         && !is_being_read(flights, snap, chunk_sectors, m.chunk))
 }
 

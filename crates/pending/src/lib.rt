@@ -8,10 +8,13 @@ mod due;
 mod flights;
 mod routes;
 
-pub use copies::{ChunkCopy, MAX_COPIES, Mark, Stage, has_copy, is_marked, sectors_of};
+pub use copies::{
+    ChunkCopy, MAX_COPIES, Mark, Stage, flush_copies, flush_marks, flushed_stage, has_copy,
+    has_unsafe, is_marked, sectors_of,
+};
 pub use due::{
-    batch, copy_at, first_copy, first_publishable, first_routed, front_written, is_at, is_ready,
-    is_routed, least, publishable_at,
+    batch, copy_at, first_copy, first_publishable, first_routed, front_ready, front_unflushed,
+    is_at, is_ready, is_routed, least, publishable_at,
 };
 pub use flights::{Flight, Kind, MAX_REQUESTS, Route, flight_at, request_kind};
 pub use routes::{

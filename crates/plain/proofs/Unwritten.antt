@@ -13,7 +13,7 @@ use Rattle.plain.specs.declared.request.Reply.TheVariants.{Data, Written, Refuse
 use Rattle.plain.specs.declared.request.Failure.TheVariants.{Invalid as IsInvalid, Io, Overflow}
 use Rattle.plain.specs.declared.request.Request.{Request}
 use Rattle.plain.specs.declared.event.Event.{Event}
-use Rattle.plain.specs.declared.event.Event.TheVariants.{Issue, CopyRead, CopyWrite, ZeroNext, WriteArea, Publish, WriteInvalid, MergeGroup, MergeAreaRead, MergeRead, MergeWrite, MergeFlush, MergeCommit, MergeRelease}
+use Rattle.plain.specs.declared.event.Event.TheVariants.{Issue, CopyRead, CopyWrite, ZeroNext, WriteArea, Publish, WriteInvalid, FlushStore, MergeGroup, MergeAreaRead, MergeRead, MergeWrite, MergeFlush, MergeCommit, MergeRelease}
 use Rattle.plain.specs.declared.event.Outcome.{Outcome}
 use Rattle.plain.specs.declared.event.Outcome.TheVariants.{Done, Fault, Reply as Replied}
 use Rattle.plain.specs.Plain.{Plain, Entry, InFlight, Saved, Live, Invalid, saved_under, with_saved, asked_under, without, is_in, spoiled_entry, marked_in}
@@ -115,6 +115,8 @@ replies_or_spoils old new (Publish k) Done h = inr h
 replies_or_spoils old new (Publish k) Fault h = inr h
 replies_or_spoils old new (WriteInvalid k) Done h = inr h
 replies_or_spoils old new (WriteInvalid k) Fault h = inr h
+replies_or_spoils old new (FlushStore k) Done h = inr h
+replies_or_spoils old new (FlushStore k) Fault h = inr h
 replies_or_spoils old new MergeGroup Done h = inr h
 replies_or_spoils old new MergeGroup Fault h = inr h
 replies_or_spoils old new MergeAreaRead Done h = inr h

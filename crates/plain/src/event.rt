@@ -21,6 +21,9 @@ pub enum Event {
     Publish(CopyId),
     /// Writes a spoiled snapshot's header with its valid word 0.
     WriteInvalid(SnapId),
+    /// Flushes a snapshot's store: the copies that are written may be committed, what is committed may be published, and a
+    /// mark that is written is tried.
+    FlushStore(SnapId),
     /// Takes the last run of pairs of the area for merging.
     MergeGroup,
     /// Reads the area before the one that is merged empty.

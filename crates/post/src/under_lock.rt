@@ -178,6 +178,7 @@ impl<B: Layered, J: Room> Post<B, J> {
             Event::WriteArea(number) => self.work(rt, beside, Event::WriteArea(number)),
             Event::Publish(number) => self.work(rt, beside, Event::Publish(number)),
             Event::WriteInvalid(number) => self.work(rt, beside, Event::WriteInvalid(number)),
+            Event::FlushStore(number) => self.work(rt, beside, Event::FlushStore(number)),
             Event::MergeGroup => self.work(rt, beside, Event::MergeGroup),
             Event::MergeAreaRead => self.work(rt, beside, Event::MergeAreaRead),
             Event::MergeRead => self.work(rt, beside, Event::MergeRead),

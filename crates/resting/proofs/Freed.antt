@@ -5,7 +5,7 @@ use Rattle.std.proofs.lemmas.Bool.{true≢false}
 use Rattle.sector.specs.declared.pair.Pair.{Pair}
 use Rattle.device.specs.Layers.{Layer}
 use Rattle.plain.specs.declared.event.Event.{Event}
-use Rattle.plain.specs.declared.event.Event.TheVariants.{Issue, CopyRead, CopyWrite, ZeroNext, WriteArea, Publish, WriteInvalid, MergeGroup, MergeAreaRead, MergeRead, MergeWrite, MergeFlush, MergeCommit, MergeRelease}
+use Rattle.plain.specs.declared.event.Event.TheVariants.{Issue, CopyRead, CopyWrite, ZeroNext, WriteArea, Publish, WriteInvalid, FlushStore, MergeGroup, MergeAreaRead, MergeRead, MergeWrite, MergeFlush, MergeCommit, MergeRelease}
 use Rattle.plain.specs.declared.request.Dev.{Dev}
 use Rattle.plain.specs.declared.request.Dev.TheVariants.{Origin as ToOrigin, Snap as ToSnap}
 use Rattle.plain.specs.declared.request.Op.{Op}
@@ -22,7 +22,7 @@ use Rattle.event_machine.specs.Due.{due, batch_of}
 use Rattle.event_machine.specs.MergeDue.{merge_due, due_all, next_of, can_group, can_read_area, can_read, can_write, can_flush, can_commit_group, can_release}
 use Rattle.event_machine.specs.MergeSeen.{held_in}
 use Rattle.event_machine.specs.MergeStepping.{start_next, start_waiting, stepped_all}
-use Rattle.event_machine.specs.Stepping.{for_some, first_that, publishes, zero_next, read_copy, write_copy, commit, publish, mark_invalid, on_disk, on_store, on_merging, on_place, issue, on_copy, on_snap, stepped}
+use Rattle.event_machine.specs.Stepping.{for_some, first_that, publishes, zero_next, flush_store, read_copy, write_copy, commit, publish, mark_invalid, on_disk, on_store, on_merging, on_place, issue, on_copy, on_snap, stepped}
 use Rattle.merge.specs.Due.{has_group_of}
 use Rattle.merge.specs.Merging.{Merging, books_of as merging_books}
 use Rattle.merge.specs.declared.group.Group.{Group}
@@ -61,6 +61,12 @@ module _ (ps : List Pair) where
   write_copy_keeps : (test : Held → Bool) (mine : Copying → Bool) (h : Held) (p : Copying) (v : Moving) → Keeps v → Keeps (write_copy test mine h p v)
   write_copy_keeps test mine h p v is = if_keeps (answers h.snap.store _) _ _ is is
 
+  mark_keeps : (test : Held → Bool) (h : Held) (v : Moving) → Keeps v → Keeps (mark_invalid test h v)
+  mark_keeps test h v is = if_keeps (answers h.snap.store _) _ _ is is
+
+  flush_keeps : (test : Held → Bool) (h : Held) (v : Moving) → Keeps v → Keeps (flush_store test h v)
+  flush_keeps test h v is = if_keeps h.marked _ _ is (if_keeps (answers h.snap.store _) _ _ is is)
+
   commit_keeps : (count : ℕ) (test : Held → Bool) (h : Held) (v : Moving) → Keeps v → Keeps (commit count test h v)
   commit_keeps count test h v is = if_keeps (answers h.snap.store _) _ _ is is
 
@@ -94,7 +100,8 @@ module _ (ps : List Pair) where
   snap_keeps test f v is does = some_keeps (first_that test v.snaps) _ v is does
 
   pub step_keeps : (event : Event) (v : Moving) → Keeps v → Keeps (stepped event v)
-  step_keeps (WriteInvalid n) v is = snap_keeps _ mark_invalid v is (λ h. is)
+  step_keeps (WriteInvalid n) v is = snap_keeps _ mark_invalid v is (λ h. mark_keeps _ h v is)
+  step_keeps (FlushStore n) v is = snap_keeps _ flush_store v is (λ h. flush_keeps _ h v is)
   step_keeps (Publish n) v is = snap_keeps _ (λ test h. publish test (λ m. m.number == n) h) v is (λ h. is)
   step_keeps (WriteArea n) v is = snap_keeps _ (λ test h. commit (batch_of h) test h) v is (λ h. commit_keeps (batch_of h) _ h v is)
   step_keeps (ZeroNext n) v is = snap_keeps _ zero_next v is (λ h. zero_keeps _ h v is)
@@ -138,6 +145,7 @@ beside_steps (ZeroNext n) v free e = refl
 beside_steps (WriteArea n) v free e = refl
 beside_steps (Publish n) v free e = publish_steps n v free
 beside_steps (WriteInvalid n) v free e = refl
+beside_steps (FlushStore n) v free e = refl
 beside_steps MergeGroup v free e = absurd (true≢false e)
 beside_steps MergeAreaRead v free e = absurd (true≢false e)
 beside_steps MergeRead v free e = absurd (true≢false e)

@@ -1,11 +1,12 @@
 -- A snapshot is taken.
 use Rattle.std.proofs.Common.{◌≡◌, ◌≢◌, inl, inr, ℕ, Bool, true, false, List, [], ◌∷◌, ◌++◌, length, map, Option, Some, None, refl, sym, ◌∙◌, ap}
-use Rattle.std.specs.Prelude.{◌==◌, ◌&&◌, ◌⊎◌, not, is_some, if◌then◌else◌}
+use Rattle.std.specs.Prelude.{◌==◌, ◌&&◌, ◌||◌, ◌⊎◌, not, nat_le, is_some, if◌then◌else◌}
 use Rattle.std.specs.List.{list_all}
 use Rattle.std.proofs.lemmas.Bool.{cases_Bool, cond-true, cond-false, true≢false}
 use Rattle.sector.specs.declared.refusal.Refusal.{Refusal}
-use Rattle.sector.specs.declared.refusal.Refusal.TheVariants.{MergeInProgress, Stale}
+use Rattle.sector.specs.declared.refusal.Refusal.TheVariants.{BadChunk, Io, MergeInProgress, NotQuiet, Stale, TooMany}
 use Rattle.served.specs.Refusals.{is_starved}
+use Rattle.chunk.specs.Sizes.{is_chunk}
 use Rattle.device.specs.Layers.{Layer, is_loud}
 use Rattle.plain.specs.Plain.{overflow_of}
 use Rattle.settled.specs.Snaps.{Volume}
@@ -16,8 +17,8 @@ use Rattle.volume.specs.Volumed.{Volumed, is_loud_in_all}
 use Rattle.volume.specs.Leaving.{has_group_in, is_done_of, is_quiet_of}
 use Rattle.volume.specs.Taking.{taking_refusal, attach_refusal, IsNotTaken}
 use Rattle.resting.specs.Rested.{attached_of, rested_of, settled_of, IsSettled}
-use Rattle.resting.specs.Taking.{IsTakenAs}
-use Rattle.volume.specs.Attached.{store_of, volume_in, IsGained, IsAttachedAs}
+use Rattle.resting.specs.Taking.{IsRefusedAt, IsTakenAs}
+use Rattle.volume.specs.Attached.{store_of, volume_in, IsGained, IsRefusedOver, IsAttachedAs}
 use Rattle.resting.proofs.Seen.{settled_same, loud_same}
 
 all_one_more : {X : Type 0} (test : X → Bool) (xs : List X) (x : X) → list_all test (xs ++ x ∷ []) ≡ (list_all test xs && test x)
@@ -57,11 +58,23 @@ not_begun true begun quiet count attached chunk e = absurd (cc)
 not_begun false true quiet count attached chunk e = absurd (cc)
 not_begun false false quiet count attached chunk e = refl
 
+-- none of the reasons that come before the store is looked at is a failed operation
+last_io : (many fits : Bool) → (if many then Some TooMany else (if fits then None else Some BadChunk)) ≡ Some Io → ⊥
+last_io true fits e = absurd (cc)
+last_io false true e = absurd (cc)
+last_io false false e = absurd (cc)
+
+never_io : (stale begun quiet : Bool) (count attached chunk : ℕ) → taking_refusal stale begun quiet count attached chunk ≡ Some Io → ⊥
+never_io true begun quiet count attached chunk e = absurd (cc)
+never_io false true quiet count attached chunk e = absurd (cc)
+never_io false false false count attached chunk e = absurd (cc)
+never_io false false true count attached chunk e = last_io (nat_le 8 count || (attached == 4_294_967_295)) (is_chunk chunk) e
+
 none_begun_in : {B : Type 0} (o : Option (Merging B)) → is_some o ≡ false → o ≡ None
 none_begun_in None e = refl
 none_begun_in (Some m) e = absurd (cc)
 
-module _ {B : Type 0} (contents : B → List ℕ) (layers : B → List Layer) (size : B → ℕ) (number chunk : ℕ) (overflow : Bool) (store : StoreDev B) (old new : Volumed B) (gained : IsGained layers size number overflow store old new) where
+module _ {B : Type 0} (contents : B → List ℕ) (layers : B → List Layer) (size : B → ℕ) (number chunk : ℕ) (overflow : Bool) (store : StoreDev B) (old new : Volumed B) (gained : IsGained contents layers size number overflow store old new) where
   done_snap : is_done_of gained.snap ≡ true
   done_snap = rw (gained.copies, gained.marks, gained.untried) refl
 
@@ -83,10 +96,10 @@ module _ {B : Type 0} (contents : B → List ℕ) (layers : B → List Layer) (s
       let was = none_begun_in old.merge (not_begun store.stale (is_some old.merge) (is_quiet_of old) (length old.snaps) old.attached chunk admitted) in
       (was, ap (λ (v : Volumed B). v.merge) gained.becomes ∙ was)
 
-  pub taken_as : IsTakenAs layers size number overflow store (rested_of old) (rested_of new)
+  pub taken_as : IsTakenAs contents layers size number overflow store (rested_of old) (rested_of new)
   taken_as = record {
     snap = attached_of gained.snap;
-    origin = ap (λ (v : Volumed B). v.origin) gained.becomes;
+    origin = gained.origin;
     snaps = ap (λ (v : Volumed B). map attached_of v.snaps) gained.becomes ∙ map_one_more attached_of old.snaps gained.snap;
     requests = ap (λ (v : Volumed B). v.requests) gained.becomes;
     copies = ap (λ (v : Volumed B). v.copies) gained.becomes;
@@ -114,10 +127,10 @@ module _ {B : Type 0} (contents : B → List ℕ) (layers : B → List Layer) (n
       ap (attached number chunk (overflow_of overflow) (store_of contents layers store)) (settled_same contents layers None old) ∙ a.exact
       ∙ ap (λ (v : Volume). record { volume = v; refused = None; back = None }) (sym (settled_same contents layers None new))
 
-  pub refused_seen : (refusal : Refusal) (store back : StoreDev B) (old : Volumed B) → attached number chunk (overflow_of overflow) (store_of contents layers store) (volume_in contents layers old) ≡ refused_attach refusal (store_of contents layers back) (volume_in contents layers old)
-      → attached number chunk (overflow_of overflow) (store_of contents layers store) (settled_of contents layers (rested_of old)) ≡ refused_attach refusal (store_of contents layers back) (settled_of contents layers (rested_of old))
-  refused_seen refusal store back old e =
-      ap (attached number chunk (overflow_of overflow) (store_of contents layers store)) (settled_same contents layers None old) ∙ e ∙ ap (refused_attach refusal (store_of contents layers back)) (sym (settled_same contents layers None old))
+  pub refused_seen : (refusal : Refusal) (store back : StoreDev B) (old new : Volumed B) → attached number chunk (overflow_of overflow) (store_of contents layers store) (volume_in contents layers old) ≡ refused_attach refusal (store_of contents layers back) (volume_in contents layers new)
+      → attached number chunk (overflow_of overflow) (store_of contents layers store) (settled_of contents layers (rested_of old)) ≡ refused_attach refusal (store_of contents layers back) (settled_of contents layers (rested_of new))
+  refused_seen refusal store back old new e =
+      ap (attached number chunk (overflow_of overflow) (store_of contents layers store)) (settled_same contents layers None old) ∙ e ∙ ap (refused_attach refusal (store_of contents layers back)) (sym (settled_same contents layers None new))
 
   -- where a merge is begun only a stale store is refused for its own sake
   module _ (store back : StoreDev B) (old : Volumed B) (m : Merging B) (begun : old.merge ≡ Some m) (refusal : Refusal) (unread : attach_refusal store.stale chunk old ≡ Some refusal → back ≡ store) where
@@ -147,15 +160,30 @@ module _ {B : Type 0} (contents : B → List ℕ) (layers : B → List Layer) (n
     begun_back origin size bytes (inl first) other v = refused_begun first other v
     begun_back origin size bytes (inr later) other v = absurd (never_admitted later.0)
 
+    -- and for no operation that failed
+    pub begun_answers : (origin size : ℕ) (bytes : List ℕ) → IsNotTaken store.stale chunk origin size bytes old refusal → refusal ≢ Io
+    begun_answers origin size bytes (inl first) io = never_io store.stale (is_some old.merge) (is_quiet_of old) (length old.snaps) old.attached chunk (first ∙ ap (λ (r : Refusal). let x : Option Refusal = Some r in x) io)
+    begun_answers origin size bytes (inr later) io = never_admitted later.0
+
   -- whether one is begun or not
-  pub back_seen : (store back : StoreDev B) (old : Volumed B) (refusal : Refusal) (origin size : ℕ) (bytes : List ℕ) → IsNotTaken store.stale chunk origin size bytes old refusal → (attach_refusal store.stale chunk old ≡ Some refusal → back ≡ store)
-      → (old.merge ≡ None → attached number chunk (overflow_of overflow) (store_of contents layers store) (volume_in contents layers old) ≡ refused_attach refusal (store_of contents layers back) (volume_in contents layers old)) → refusal ≢ MergeInProgress
-      → attached number chunk (overflow_of overflow) (store_of contents layers store) (settled_of contents layers (rested_of old)) ≡ refused_attach refusal (store_of contents layers back) (settled_of contents layers (rested_of old))
-  back_seen store back old refusal origin size bytes refused unread alone other = seen_of old.merge refl
+  pub back_seen : (store back : StoreDev B) (old new : Volumed B) (refusal : Refusal) (kept : refusal ≢ Io → new ≡ old) (origin size : ℕ) (bytes : List ℕ) → IsNotTaken store.stale chunk origin size bytes old refusal → (attach_refusal store.stale chunk old ≡ Some refusal → back ≡ store)
+      → (old.merge ≡ None → attached number chunk (overflow_of overflow) (store_of contents layers store) (volume_in contents layers old) ≡ refused_attach refusal (store_of contents layers back) (volume_in contents layers new)) → refusal ≢ MergeInProgress
+      → attached number chunk (overflow_of overflow) (store_of contents layers store) (settled_of contents layers (rested_of old)) ≡ refused_attach refusal (store_of contents layers back) (settled_of contents layers (rested_of new))
+  back_seen store back old new refusal kept origin size bytes refused unread alone other = seen_of old.merge refl
     where
-      seen_of : (o : Option (Merging B)) → old.merge ≡ o → attached number chunk (overflow_of overflow) (store_of contents layers store) (settled_of contents layers (rested_of old)) ≡ refused_attach refusal (store_of contents layers back) (settled_of contents layers (rested_of old))
-      seen_of None none = refused_seen refusal store back old (alone none)
-      seen_of (Some m) begun = begun_back store back old m begun refusal unread origin size bytes refused other (settled_of contents layers (rested_of old))
+      seen_of : (o : Option (Merging B)) → old.merge ≡ o → attached number chunk (overflow_of overflow) (store_of contents layers store) (settled_of contents layers (rested_of old)) ≡ refused_attach refusal (store_of contents layers back) (settled_of contents layers (rested_of new))
+      seen_of None none = refused_seen refusal store back old new (alone none)
+      seen_of (Some m) begun =
+          begun_back store back old m begun refusal unread origin size bytes refused other (settled_of contents layers (rested_of old))
+          ∙ ap (λ (v : Volumed B). refused_attach refusal (store_of contents layers back) (settled_of contents layers (rested_of v))) (sym (kept (begun_answers store back old m begun refusal unread origin size bytes refused)))
+
+-- what is left of a volume that refused a store
+pub refused_at : {B : Type 0} (contents : B → List ℕ) (layers : B → List Layer) (size : B → ℕ) (refusal : Refusal) (old new : Volumed B) → IsRefusedOver contents layers size refusal old new → IsRefusedAt contents layers size refusal (rested_of old) (rested_of new)
+refused_at contents layers size refusal old new is = record {
+  becomes = ap rested_of is.becomes;
+  origin = is.origin;
+  kept = λ answered. ap rested_of (is.kept answered);
+}
 
 -- a store that is refused for another reason than want of room
 pub untaken : {A C : Type 0} (refusal : Refusal) → is_starved refusal ≡ false → ((is_starved refusal ≡ true) × A) ⊎ C → C

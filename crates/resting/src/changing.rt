@@ -1,5 +1,5 @@
 // A snapshot is taken or leaves, and the volume is closed.
-ghost use Rattle.std.specs.Prelude.{◌≡◌, ◌≢◌, ◌⊎◌, ℕ, ◌+◌, [], length, None, Some, Option, IfErr, IfOk, OnOk, OnErr, Ok, Err, is_some, true, false};
+ghost use Rattle.std.specs.Prelude.{◌≡◌, ◌≢◌, ◌⊎◌, ℕ, ◌+◌, [], length, None, Some, Option, IfErr, IfOk, OnOk, Ok, Err, is_some, true, false};
 ghost use Rattle.sector.specs.declared.refusal.Refusal.TheVariants.{Busy, JournalFull, MergeInProgress, NoSuchDevice, NotQuiet};
 ghost use Rattle.device.specs.Layers.{is_loud};
 ghost use Rattle.plain.specs.Plain.{overflow_of};
@@ -8,7 +8,7 @@ ghost use Rattle.settled.specs.Attaching.{attached, refused_attach};
 ghost use Rattle.served.specs.Refusals.{is_starved};
 ghost use Rattle.resting.specs.Rested.{Attached, rested_of, settled_of, IsSettled, has_dev, snap_at};
 ghost use Rattle.resting.specs.Leaving.{IsDetachedAs};
-ghost use Rattle.resting.specs.Taking.{IsTakenAs};
+ghost use Rattle.resting.specs.Taking.{IsRefusedAt, IsTakenAs};
 ghost use Rattle.store.specs.Reading.{AreRead};
 ghost use Rattle.volume.specs.Attached.{store_of};
 ghost use Rattle.volume.specs.Taking.{attach_refusal, IsNotTaken};
@@ -34,14 +34,14 @@ fn take<B: Layered>(
     ensures alone { OnOk result ((volume.old.merge ≡ None) × (volume.new.merge ≡ None)) }
     ensures quiet { OnOk result ((is_quiet_of volume.old ≡ true) × (is_quiet_of volume.new ≡ true)) }
     ensures number { IfOk result (λ number. number ≡ volume.old.attached + 1) }
-    ensures taken { IfOk result (λ number. IsTakenAs B.layers B.size number overflow store (rested_of volume.old) (rested_of volume.new)) }
+    ensures taken { IfOk result (λ number. IsTakenAs B.contents B.layers B.size number overflow store (rested_of volume.old) (rested_of volume.new)) }
     ensures settled { IfOk result (λ number. IsSettled B.layers (rested_of volume.old) → is_loud (B.layers store.device) ≡ true → IsSettled B.layers (rested_of volume.new)) }
     ensures exact { IfOk result (λ number. IsSettled B.layers (rested_of volume.old) → is_loud (B.layers store.device) ≡ true → attached number chunk (overflow_of overflow) (store_of B.contents B.layers store) (settled_of B.contents B.layers (rested_of volume.old)) ≡ record { volume = settled_of B.contents B.layers (rested_of volume.new); refused = None; back = None }) }
-    ensures back { IfErr result (λ e. is_starved e.0 ≡ false → e.0 ≢ MergeInProgress → IsSettled B.layers (rested_of volume.old) → is_loud (B.layers store.device) ≡ true → attached (volume.old.attached + 1) chunk (overflow_of overflow) (store_of B.contents B.layers store) (settled_of B.contents B.layers (rested_of volume.old)) ≡ refused_attach e.0 (store_of B.contents B.layers e.1) (settled_of B.contents B.layers (rested_of volume.old))) }
+    ensures back { IfErr result (λ e. is_starved e.0 ≡ false → e.0 ≢ MergeInProgress → IsSettled B.layers (rested_of volume.old) → is_loud (B.layers store.device) ≡ true → attached (volume.old.attached + 1) chunk (overflow_of overflow) (store_of B.contents B.layers store) (settled_of B.contents B.layers (rested_of volume.old)) ≡ refused_attach e.0 (store_of B.contents B.layers e.1) (settled_of B.contents B.layers (rested_of volume.new))) }
     ensures refused { IfErr result (λ e. ((is_starved e.0 ≡ true) × (e.1 ≡ store)) ⊎ IsNotTaken store.stale chunk (B.size volume.old.origin) (B.size store.device) (B.contents store.device) volume.old e.0) }
     ensures unread { IfErr result (λ e. attach_refusal store.stale chunk volume.old ≡ Some e.0 → e.1 ≡ store) }
     ensures starved { IfErr result (λ e. is_starved e.0 ≡ true → (B.contents e.1.device ≡ B.contents store.device) × AreRead (B.layers store.device) (B.layers e.1.device)) }
-    ensures same { OnErr result (volume.new ≡ volume.old) }
+    ensures same { IfErr result (λ e. IsRefusedAt B.contents B.layers B.size e.0 (rested_of volume.old) (rested_of volume.new)) }
     ensures stale { IfErr result (λ e. e.1.stale ≡ store.stale) }
     ensures size { IfErr result (λ e. B.size e.1.device ≡ B.size store.device) }
     ensures loud { IfErr result (λ e. is_loud (B.layers e.1.device) ≡ is_loud (B.layers store.device)) }
@@ -70,7 +70,7 @@ impl<B: Layered> Resting<B> {
     /// Takes a snapshot of a quiet volume over a store, by a table line with this chunk size that says whether the store may
     /// overflow, and tells its number: over a settled volume, and a store that drops no writes, it is the settled machine's
     /// attach. Where it is refused the store is
-    /// given back, and nothing else changed; after `NoMemory` some of the store's sectors may have been read. A volume with a
+    /// given back, and nothing else changed but that after `Io` the origin may have been flushed; after `NoMemory` some of the store's sectors may have been read. A volume with a
     /// merge begun refuses with `MergeInProgress`, after `Stale`, and one that is not quiet with `NotQuiet`, after both.
     pub fn attach(
         &mut self,
@@ -81,14 +81,14 @@ impl<B: Layered> Resting<B> {
     ) -> Result<SnapId, (Refusal, StoreDev<B>)>
         ensures alone { OnOk result ((self.old.events.merge ≡ None) × (self.new.events.merge ≡ None)) }
         ensures number { IfOk result (λ number. number ≡ self.old.attached + 1) }
-        ensures taken { IfOk result (λ number. IsTakenAs B.layers B.size number overflow store self.old self.new) }
+        ensures taken { IfOk result (λ number. IsTakenAs B.contents B.layers B.size number overflow store self.old self.new) }
         ensures settled { IfOk result (λ number. IsSettled B.layers self.old → is_loud (B.layers store.device) ≡ true → IsSettled B.layers self.new) }
         ensures exact { IfOk result (λ number. IsSettled B.layers self.old → is_loud (B.layers store.device) ≡ true → attached number chunk (overflow_of overflow) (store_of B.contents B.layers store) (settled_of B.contents B.layers self.old) ≡ record { volume = settled_of B.contents B.layers self.new; refused = None; back = None }) }
-        ensures back { IfErr result (λ e. is_starved e.0 ≡ false → e.0 ≢ MergeInProgress → IsSettled B.layers self.old → is_loud (B.layers store.device) ≡ true → attached (self.old.attached + 1) chunk (overflow_of overflow) (store_of B.contents B.layers store) (settled_of B.contents B.layers self.old) ≡ refused_attach e.0 (store_of B.contents B.layers e.1) (settled_of B.contents B.layers self.old)) }
+        ensures back { IfErr result (λ e. is_starved e.0 ≡ false → e.0 ≢ MergeInProgress → IsSettled B.layers self.old → is_loud (B.layers store.device) ≡ true → attached (self.old.attached + 1) chunk (overflow_of overflow) (store_of B.contents B.layers store) (settled_of B.contents B.layers self.old) ≡ refused_attach e.0 (store_of B.contents B.layers e.1) (settled_of B.contents B.layers self.new)) }
         ensures refused { IfErr result (λ e. ((is_starved e.0 ≡ true) × (e.1 ≡ store)) ⊎ IsNotTaken store.stale chunk (B.size self.old.origin) (B.size store.device) (B.contents store.device) self.old.events e.0) }
         ensures unread { IfErr result (λ e. attach_refusal store.stale chunk self.old.events ≡ Some e.0 → e.1 ≡ store) }
         ensures starved { IfErr result (λ e. is_starved e.0 ≡ true → (B.contents e.1.device ≡ B.contents store.device) × AreRead (B.layers store.device) (B.layers e.1.device)) }
-        ensures same { OnErr result (self.new ≡ self.old) }
+        ensures same { IfErr result (λ e. IsRefusedAt B.contents B.layers B.size e.0 self.old self.new) }
         ensures stale { IfErr result (λ e. e.1.stale ≡ store.stale) }
         ensures size { IfErr result (λ e. B.size e.1.device ≡ B.size store.device) }
         ensures loud { IfErr result (λ e. is_loud (B.layers e.1.device) ≡ is_loud (B.layers store.device)) }

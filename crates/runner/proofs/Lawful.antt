@@ -20,7 +20,7 @@ use Rattle.table.specs.Grammar.{times, are_features, features_among, features_in
 use Rattle.table.specs.Lawful.{is_target, is_line}
 use Rattle.command.specs.declared.grammar.Command.{Command}
 use Rattle.command.specs.declared.grammar.Command.TheVariants.{Message}
-use Rattle.command.specs.Grammar.{span_of, patch_of, alone_of, is_merge, made_line_of, disk_of, create_of, message_of, tick_of, start_of, step_of, command_of}
+use Rattle.command.specs.Grammar.{span_of, patch_of, alone_of, is_merge, made_line_of, disk_of, create_of, message_of, tick_of, start_of, step_of, stop_of, command_of}
 use Rattle.command.specs.Messages.{message_in}
 use Rattle.command.specs.Events.{event_in}
 use Rattle.command.specs.Line.{is_silent, is_printable, said_of}
@@ -193,6 +193,12 @@ start_lawful (device ∷ kind ∷ words) =
     either (bytes_eq kind (codes "read")) _ _ IsLawful (λ is. after (span_of (device ∷ words)) _ IsLawful (λ span. refl))
     (either (bytes_eq kind (codes "write")) _ _ IsLawful (λ is. after (patch_of (device ∷ words)) _ IsLawful (λ patch. refl)) tt)
 
+stop_lawful : (words : List (List ℕ)) → IfOk (stop_of words) IsLawful
+stop_lawful [] = tt
+stop_lawful (volume ∷ []) = after (name_of volume) _ IsLawful (λ v. refl)
+stop_lawful (volume ∷ word ∷ []) = either (bytes_eq word (codes "lose")) _ _ IsLawful (λ is. after (name_of volume) _ IsLawful (λ v. refl)) tt
+stop_lawful (volume ∷ word ∷ more ∷ words) = tt
+
 command_lawful : (words : List (List ℕ)) → IfOk (command_of words) IsLawful
 command_lawful [] = tt
 command_lawful (verb ∷ words) =
@@ -212,7 +218,7 @@ command_lawful (verb ∷ words) =
     (either (bytes_eq verb (codes "resume")) _ _ IsLawful (λ is. after (alone_of words) _ IsLawful (λ name. refl))
     (either (bytes_eq verb (codes "finish")) _ _ IsLawful (λ is. after (alone_of words) _ IsLawful (λ name. refl))
     (either (bytes_eq verb (codes "checkpoint")) _ _ IsLawful (λ is. after (alone_of words) _ IsLawful (λ name. refl))
-    (either (bytes_eq verb (codes "stop")) _ _ IsLawful (λ is. after (alone_of words) _ IsLawful (λ name. refl))
+    (either (bytes_eq verb (codes "stop")) _ _ IsLawful (λ is. stop_lawful words)
     (either (bytes_eq verb (codes "status")) _ _ IsLawful (λ is. after (alone_of words) _ IsLawful (λ name. refl))
     (either (bytes_eq verb (codes "table")) _ _ IsLawful (λ is. after (alone_of words) _ IsLawful (λ name. refl)) tt))))))))))))))))))
 

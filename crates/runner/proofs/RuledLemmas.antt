@@ -27,6 +27,7 @@ command_ruled (commands.Finish volume) table sound makes = name_ruled volume tab
 command_ruled (commands.Create name line) table sound makes = target_ruled line.sectors line.target table sound
 command_ruled (commands.StartRead device first count) table sound makes = absurd cc
 command_ruled (commands.StartWrite device first bytes) table sound makes = absurd cc
+command_ruled (commands.StopLosing volume) table sound makes = absurd cc
 command_ruled (commands.Disk name sectors) table sound makes = refl
 command_ruled (commands.Remove name) table sound makes = refl
 command_ruled (commands.Load disk first bytes) table sound makes = refl

@@ -57,6 +57,7 @@ step_shown (commands.Resume volume) table well = as_done (commands.Resume volume
 step_shown (commands.Finish volume) table well = as_done (commands.Finish volume) table _ _ _ (finish_line volume table)
 step_shown (commands.Checkpoint volume) table well = as_done (commands.Checkpoint volume) table _ _ _ (checkpoint_line volume table)
 step_shown (commands.Stop volume) table well = as_done (commands.Stop volume) table _ _ _ (stop_line volume table)
+step_shown (commands.StopLosing volume) table well = refl
 step_shown (commands.Status device) table well = in_both (commands.Status device) table _ _ refl (λ r. refl) _
 step_shown (commands.Table device) table well = in_both (commands.Table device) table _ _ refl (λ r. refl) _
 
@@ -82,6 +83,7 @@ starved_shown (commands.Resume volume) table new e wanting well same = ap arrays
 starved_shown (commands.Finish volume) table new e wanting well same = ap arrays_in same
 starved_shown (commands.Checkpoint volume) table new e wanting well same = ap arrays_in same
 starved_shown (commands.Stop volume) table new e wanting well same = ap arrays_in same
+starved_shown (commands.StopLosing volume) table new e wanting well same = ap arrays_in same
 starved_shown (commands.Status device) table new e wanting well same = ap arrays_in same
 starved_shown (commands.Table device) table new e wanting well same = ap arrays_in same
 
@@ -137,6 +139,7 @@ unread (commands.Resume volume) table shows = refl
 unread (commands.Finish volume) table shows = refl
 unread (commands.Checkpoint volume) table shows = refl
 unread (commands.Stop volume) table shows = refl
+unread (commands.StopLosing volume) table shows = refl
 unread (commands.Status device) table shows = refl
 unread (commands.Table device) table shows = refl
 

@@ -49,6 +49,7 @@ none_done (commands.Resume volume) table = refl
 none_done (commands.Finish volume) table = refl
 none_done (commands.Checkpoint volume) table = refl
 none_done (commands.Stop volume) table = refl
+none_done (commands.StopLosing volume) table = refl
 none_done (commands.Status device) table = refl
 none_done (commands.Table device) table = refl
 
@@ -123,6 +124,7 @@ sound_starts (commands.Resume volume) sound = refl
 sound_starts (commands.Finish volume) sound = refl
 sound_starts (commands.Checkpoint volume) sound = refl
 sound_starts (commands.Stop volume) sound = refl
+sound_starts (commands.StopLosing volume) sound = refl
 sound_starts (commands.Status device) sound = refl
 sound_starts (commands.Table device) sound = refl
 

@@ -42,6 +42,7 @@ command_well (commands.Resume volume) table look ruled = tt
 command_well (commands.Finish volume) table look ruled = tt
 command_well (commands.Checkpoint volume) table look ruled = tt
 command_well (commands.Stop volume) table look ruled = tt
+command_well (commands.StopLosing volume) table look ruled = tt
 command_well (commands.Status device) table look ruled = tt
 command_well (commands.Table device) table look ruled = tt
 

@@ -37,6 +37,7 @@ first_refusal (commands.Merge name) table = None
 first_refusal (commands.Resume volume) table = None
 first_refusal (commands.Checkpoint volume) table = None
 first_refusal (commands.Stop volume) table = None
+first_refusal (commands.StopLosing volume) table = refusal_in (origin_by volume table)
 first_refusal (commands.Status device) table = None
 first_refusal (commands.Table device) table = None
 

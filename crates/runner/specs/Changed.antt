@@ -36,6 +36,7 @@ changed_by (commands.Resume volume) = None
 changed_by (commands.Finish volume) = None
 changed_by (commands.Checkpoint volume) = None
 changed_by (commands.Stop volume) = None
+changed_by (commands.StopLosing volume) = None
 changed_by (commands.Status device) = None
 changed_by (commands.Table device) = None
 

@@ -24,5 +24,6 @@ is_lawful (commands.Resume volume) = true
 is_lawful (commands.Finish volume) = true
 is_lawful (commands.Checkpoint volume) = true
 is_lawful (commands.Stop volume) = true
+is_lawful (commands.StopLosing volume) = true
 is_lawful (commands.Status device) = true
 is_lawful (commands.Table device) = true

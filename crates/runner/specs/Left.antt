@@ -18,6 +18,7 @@ use Rattle.plain.specs.declared.request.Replied.{Replied}
 use Rattle.served.specs.Refusals.{is_starved}
 use Rattle.named.specs.State.{Table}
 use Rattle.named.specs.Events.{event_asked, is_merge_event, origin_by, rested, snapshot_named, step_event}
+use Rattle.named.specs.Losing.{StopsLosing}
 use Rattle.named.specs.Merging.{merge_begun}
 use Rattle.named.specs.Places.{volume_at}
 use Rattle.named.specs.Sectors.{Asked}
@@ -102,6 +103,14 @@ pub record IsStatusLeft (device : List ℕ) (answer : Result Reply Refusal) (old
   pub stays : new ≡ old
   pub alone : after ≡ before
 
+-- A volume that is stopped with a loss: the stacks that are left of it have their names, layers, sizes and marks as by `stop`, and
+-- some bytes; all else is as after `stop`.
+pub record IsStopLeft (volume : List ℕ) (answer : Result Reply Refusal) (old new : Table) (before after : List Replied) : Type 0 where
+  pub did : Result (Unit {0}) Refusal
+  pub answer_is : answer ≡ reworded (λ _. Done) did
+  pub lost : StopsLosing did volume old new
+  pub alone : after ≡ before
+
 -- what a command leaves, with this answer; one that has its rule in any case is left to that
 abbrev pub IsLeft : Command → Result Reply Refusal → Table → Table → List Replied → List Replied → Type 0
 IsLeft (commands.Read device first count) answer old new before after = IsReadLeft device first count answer old new before after
@@ -124,6 +133,7 @@ IsLeft (commands.Message device message) answer old new before after = after ≡
 IsLeft (commands.Tick seconds) answer old new before after = after ≡ before
 IsLeft (commands.Resume volume) answer old new before after = after ≡ before
 IsLeft (commands.Stop volume) answer old new before after = after ≡ before
+IsLeft (commands.StopLosing volume) answer old new before after = IsStopLeft volume answer old new before after
 
 -- the same of what a line says
 abbrev pub IsLeftSaid : Result (Option Command) Refusal → Result (Option Reply) Refusal → Table → Table → List Replied → List Replied → Type 0

@@ -82,6 +82,7 @@ IsPartDone (commands.Resume volume) old new = new ≡ old
 IsPartDone (commands.Finish volume) old new = new ≡ old
 IsPartDone (commands.Checkpoint volume) old new = new ≡ old
 IsPartDone (commands.Stop volume) old new = new ≡ old
+IsPartDone (commands.StopLosing volume) old new = new ≡ old
 IsPartDone (commands.Status device) old new = new ≡ old
 IsPartDone (commands.Table device) old new = new ≡ old
 

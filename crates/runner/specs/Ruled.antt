@@ -1,6 +1,7 @@
 -- Of which commands their rule says what they answer, by what each asks: a command that asks nothing of a volume answers by
 -- its rule in any case, and so do one that lets a merge go on, one that folds a journal and one that stops a volume; another one, where no device of that
--- volume drops writes and nothing is in flight in it. A single event of a merge has its own contract.
+-- volume drops writes and nothing is in flight in it. A single event of a merge has its own contract, and so has a stop by which
+-- disks lose bytes.
 use Rattle.std.specs.Prelude.{◌&&◌, ℕ, Bool, true, false, not, List, Option, Some, None, Result, Ok, Err}
 use Rattle.sector.specs.declared.refusal.Refusal.{Refusal}
 use Rattle.command.specs.Line.{said_of}
@@ -21,6 +22,7 @@ is_ruled (commands.Finish volume) table = is_sound_in (volume_for volume table)
 is_ruled (commands.Create name line) table = is_sound_target line.sectors line.target table
 is_ruled (commands.StartRead device first count) table = false
 is_ruled (commands.StartWrite device first bytes) table = false
+is_ruled (commands.StopLosing volume) table = false
 is_ruled (commands.Disk name sectors) table = true
 is_ruled (commands.Remove name) table = true
 is_ruled (commands.Load disk first bytes) table = true

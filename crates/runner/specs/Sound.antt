@@ -1,6 +1,6 @@
 -- Of which lines contracts say what they answer. A layer that drops writes answers Ok and does nothing (dm-flakey's
 -- `drop_writes`), so once a line has made such a layer nothing is said of answers; nor while a request is in flight, or a group of
--- a merge is formed.
+-- a merge is formed; nor once disks lost what was not flushed, since which bytes these are is known to the disks alone.
 use Rattle.std.specs.Prelude.{ℕ, Bool, true, false, ◌&&◌, not, List, Option, Some, None, Result, Ok, Err}
 use Rattle.std.specs.List.{list_all}
 use Rattle.sector.specs.declared.refusal.Refusal.{Refusal}
@@ -12,7 +12,7 @@ use Rattle.command.specs.declared.grammar.Command.TheVariants as commands
 use Rattle.named.specs.Events.{is_merge_event}
 use Rattle.named.specs.Sound.{drops_writes}
 
--- a command that makes no layer that drops writes, starts no request, and does no single event of a merge
+-- a command that makes no layer that drops writes, starts no request, does no single event of a merge, and loses nothing
 abbrev pub is_sound_command : Command → Bool
 is_sound_command (commands.Create name line) = not (drops_writes line.target)
 is_sound_command (commands.Disk name sectors) = true
@@ -32,6 +32,7 @@ is_sound_command (commands.Resume volume) = true
 is_sound_command (commands.Finish volume) = true
 is_sound_command (commands.Checkpoint volume) = true
 is_sound_command (commands.Stop volume) = true
+is_sound_command (commands.StopLosing volume) = false
 is_sound_command (commands.Status device) = true
 is_sound_command (commands.Table device) = true
 
@@ -40,7 +41,7 @@ is_sound_said (Ok None) = true
 is_sound_said (Ok (Some command)) = is_sound_command command
 is_sound_said (Err refusal) = true
 
--- a line that makes no such layer, starts no request, and does no single event of a merge
+-- a line that makes no such layer, starts no request, does no single event of a merge, and loses nothing
 unfoldable pub is_sound_line : List ℕ → Bool
 is_sound_line line = is_sound_said (said_of 65536 line)
 
@@ -52,6 +53,7 @@ is_alone_line line = not (is_par 65536 line) && is_sound_line line
 abbrev pub are_sound_lines : List (List ℕ) → Bool
 are_sound_lines lines = list_all is_alone_line lines
 
--- a text of such lines: none makes a layer that drops writes, starts a request, does a single event of a merge, or opens a block
+-- a text of such lines: none makes a layer that drops writes, starts a request, does a single event of a merge, stops a volume with a
+-- loss, or opens a block
 unfoldable pub is_sound_text : List ℕ → Bool
 is_sound_text text = are_sound_lines (lines_of text)

@@ -27,6 +27,7 @@ starts (commands.Resume volume) = false
 starts (commands.Finish volume) = false
 starts (commands.Checkpoint volume) = false
 starts (commands.Stop volume) = false
+starts (commands.StopLosing volume) = false
 starts (commands.Status device) = false
 starts (commands.Table device) = false
 

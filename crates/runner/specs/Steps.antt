@@ -1,7 +1,7 @@
 -- To be believed: `run`'s output, a volume's steps or its attach are said in these words.
 -- What each command answers, and the devices after it. Which number a request gets that a command starts, and when it ends, is
--- its volume's own affair, where each event has its contract; so is a single event of a merge. Texts with such commands are left
--- out where this machine is used.
+-- its volume's own affair, where each event has its contract; so is a single event of a merge. Which bytes disks lose at a stop is
+-- theirs. Texts with such commands are left out where this machine is used.
 use Rattle.std.specs.Prelude.{ℕ, List, Option, Some, None, Result, Ok, Err}
 use Rattle.sector.specs.declared.refusal.Refusal.{Refusal}
 use Rattle.sector.specs.declared.refusal.Refusal.TheVariants.{NotDue}
@@ -62,6 +62,7 @@ step (commands.Resume volume) table = done_as (changed table (merge_resumed volu
 step (commands.Finish volume) table = done_as (changed table (merge_finished volume table))
 step (commands.Checkpoint volume) table = done_as (changed table (checkpointed volume table))
 step (commands.Stop volume) table = done_as (changed table (volume_stopped volume table))
+step (commands.StopLosing volume) table = refused table NotDue
 step (commands.Status device) table = told_as Said (seen table (status_text device table))
 step (commands.Table device) table = told_as Said (seen table (line_text device table))
 

@@ -26,6 +26,7 @@ enters (commands.Settle volume) = false
 enters (commands.Resume volume) = false
 enters (commands.Checkpoint volume) = false
 enters (commands.Stop volume) = false
+enters (commands.StopLosing volume) = false
 enters (commands.Status device) = false
 enters (commands.Table device) = false
 

@@ -34,7 +34,8 @@ fn changed_by(command: &Command) -> Option<&Name>
         Command::Message { .. } | Command::Tick { .. } | Command::Read { .. } => None,
         Command::StartRead { .. } | Command::StartWrite { .. } | Command::Step { .. } => None,
         Command::Resume { .. } | Command::Finish { .. } | Command::Stop { .. } => None,
-        Command::Checkpoint { .. } | Command::Status { .. } | Command::Table { .. } => None,
+        Command::StopLosing { .. } | Command::Checkpoint { .. } => None,
+        Command::Status { .. } | Command::Table { .. } => None,
     }
 }
 

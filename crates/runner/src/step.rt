@@ -24,14 +24,14 @@ use crate::events::step_volume;
 use crate::looking::look;
 use command::Command::{
     Checkpoint, Create, Disk, Finish, Load, Merge, Read, Remove, Resume, Save, Settle, StartRead,
-    StartWrite, Status, Step, Stop, Table, Tick, Write,
+    StartWrite, Status, Step, Stop, StopLosing, Table, Tick, Write,
 };
 use command::{Command, LINE_LIMIT, said};
 use device_list::Held;
 use devices::{
     checkpoint_device, create_device, finish_device, line_text, load_disk, make_disk, merge_device,
     read_device, remove_device, resume_device, save_disk, settle_device, start_read, start_write,
-    status_text, stop_device, tell, tick, write_device,
+    status_text, stop_device, stop_losing, tell, tick, write_device,
 };
 use layers::{Answer, Message};
 use plain::{Replied, ReqId};
@@ -143,6 +143,7 @@ fn obey(
         Finish { volume } => did(finish_device(held, &volume)),
         Checkpoint { volume } => did(checkpoint_device(held, &volume)),
         Stop { volume } => did(stop_device(held, &volume)),
+        StopLosing { volume } => did(stop_losing(held, &volume)),
         Status { name } => text(status_text(alloc, held, &name)),
         Table { name } => text(line_text(alloc, held, &name)),
     }

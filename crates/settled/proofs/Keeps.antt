@@ -4,22 +4,28 @@ use Rattle.std.specs.Prelude.{◌==◌}
 use Rattle.std.proofs.lemmas.Bool.{cases_Bool, cond-true, cond-false}
 use Rattle.sector.specs.declared.pair.Pair.{Pair}
 use Rattle.device.specs.declared.operation.Operation.{Operation}
-use Rattle.device.specs.declared.operation.Operation.TheVariants.{Writes}
+use Rattle.device.specs.declared.operation.Operation.TheVariants.{Writes, Flushes}
 use Rattle.model.specs.Places.{area_place}
 use Rattle.model.specs.Pairs.{pairs_of}
 use Rattle.pending.specs.Copies.{count_of}
 use Rattle.settled.specs.Saves.{copied, zeroed, paired}
-use Rattle.settled.specs.Devices.{Device, answers, written_by}
+use Rattle.settled.specs.Devices.{Device, answers, met, written_by}
 use Rattle.settled.specs.Snaps.{Snap}
-use Rattle.settled.specs.Saving.{spoilt, write_then, write_pair, lacks_area, commit, copy}
+use Rattle.settled.specs.Saving.{spoilt, flush_then, write_then, write_pair, lacks_area, commit, copy}
 
--- what neither a write nor a spoil changes: the number, the sectors of a chunk, and what a full store does
+-- what neither an operation on the store nor a spoil changes: the number, the sectors of a chunk, and what a full store does
 module _ {X : Type 0} (f : Snap → X) (stores : (t : Snap) (device : Device) → f (record t { store = device }) ≡ f t) (spoils : (t : Snap) → f (spoilt t) ≡ f t) where
+  flush_keeps : (s : Snap) (next : Snap → Snap) → ((t : Snap) → f (next t) ≡ f t) → f (flush_then next s) ≡ f s
+  flush_keeps s next same = elim (cases_Bool (answers s.store Flushes)) [
+    | inl ok ↦ ap f (cond-true _ _ _ ok) ∙ same _ ∙ stores s (met s.store Flushes)
+    | inr failed ↦ ap f (cond-false _ _ _ failed) ∙ spoils _ ∙ stores s (met s.store Flushes)
+  ]
+
   write_keeps : (s : Snap) (n count : ℕ) (bytes : List ℕ) (next : Snap → Snap) → ((t : Snap) → f (next t) ≡ f t) → f (write_then s n count bytes next) ≡ f s
   write_keeps s n count bytes next same =
       let op : Operation = Writes (s.chunk * n) count in
       elim (cases_Bool (answers s.store op)) [
-        | inl ok ↦ ap f (cond-true _ _ _ ok) ∙ same _ ∙ stores s (written_by s.store op bytes)
+        | inl ok ↦ ap f (cond-true _ _ _ ok) ∙ flush_keeps _ next same ∙ stores s (written_by s.store op bytes)
         | inr failed ↦ ap f (cond-false _ _ _ failed) ∙ spoils _ ∙ stores s (written_by s.store op bytes)
       ]
 

@@ -4,7 +4,7 @@ use Rattle.std.specs.Prelude.{◌==◌, ◌||◌, not, if◌then◌else◌}
 use Rattle.std.proofs.lemmas.Bool.{cases_Bool, cond-true, cond-false, true≢false}
 use Rattle.sector.specs.declared.pair.Pair.{Pair}
 use Rattle.device.specs.declared.operation.Operation.{Operation}
-use Rattle.device.specs.declared.operation.Operation.TheVariants.{Reads, Writes}
+use Rattle.device.specs.declared.operation.Operation.TheVariants.{Reads, Writes, Flushes}
 use Rattle.device.specs.Layers.{layers_after}
 use Rattle.model.specs.Places.{area_place}
 use Rattle.model.specs.Pairs.{pairs_of}
@@ -12,7 +12,7 @@ use Rattle.pending.specs.Copies.{count_of}
 use Rattle.settled.specs.Saves.{Saving as Stored, copied, zeroed, paired, committed, saved}
 use Rattle.settled.specs.Devices.{Device, sectors_of, answers, met, written_by}
 use Rattle.settled.specs.Snaps.{Snap}
-use Rattle.settled.specs.Saving.{spoilt, write_then, write_pair, lacks_area, commit, copy, next_place, is_full, has_chunk, save}
+use Rattle.settled.specs.Saving.{spoilt, flush_then, write_then, write_pair, lacks_area, commit, copy, next_place, is_full, has_chunk, save}
 
 pub saves_nothing : (c : ℕ) (origin : Device) (s : Snap) → (not s.live || has_chunk c s) ≡ true → save c origin s ≡ record { origin = origin; snap = s }
 unfolding save
@@ -34,18 +34,29 @@ saves_copy c origin s some room = cond-false _ _ _ some ∙ cond-false _ _ _ roo
 abbrev pub stored_of : Snap → Stored
 stored_of s = record { store = s.store.bytes; live = s.live }
 
--- the snapshot after a write that is answered
+-- the snapshot after a write and a flush that are answered
 abbrev pub with_bytes : Snap → Operation → List ℕ → Snap
-with_bytes s op bytes = record s { store = record { bytes = bytes; layers = layers_after s.store.layers op } }
+with_bytes s op bytes = record s { store = record { bytes = bytes; layers = layers_after (layers_after s.store.layers op) Flushes } }
 
--- where it stays live, the write was answered
+-- where it stays live, the flush was answered
+flush_live : (s : Snap) (next : Snap → Snap) → (flush_then next s).live ≡ true → flush_then next s ≡ next (record s { store = met s.store Flushes })
+flush_live s next live =
+    let after : Snap = record s { store = met s.store Flushes } in
+    elim (cases_Bool (answers s.store Flushes)) [
+      | inl ok ↦ cond-true _ _ _ ok
+      | inr failed ↦ (let is : flush_then next s ≡ spoilt after = cond-false _ _ _ failed in
+          absurd (true≢false (sym live ∙ ap (λ t. t.live) is)))
+    ]
+
+-- and the write before it
 pub write_live : (s : Snap) (n count : ℕ) (bytes : List ℕ) (next : Snap → Snap) → (write_then s n count bytes next).live ≡ true → write_then s n count bytes next ≡ next (with_bytes s (Writes (s.chunk * n) count) bytes)
 write_live s n count bytes next live =
     let op : Operation = Writes (s.chunk * n) count in
     let now : List ℕ → Snap = λ (b : List ℕ). with_bytes s op b in
     let after : Snap = record s { store = written_by s.store op bytes } in
     elim (cases_Bool (answers s.store op)) [
-      | inl ok ↦ cond-true _ _ _ ok ∙ ap (λ b. next (now b)) (cond-true _ _ _ ok)
+      | inl ok ↦ (let is : write_then s n count bytes next ≡ flush_then next after = cond-true _ _ _ ok in
+          is ∙ flush_live after next (sym (ap (λ t. t.live) is) ∙ live) ∙ ap (λ b. next (now b)) (cond-true _ _ _ ok))
       | inr failed ↦ (let is : write_then s n count bytes next ≡ spoilt after = cond-false _ _ _ failed in
           absurd (true≢false (sym live ∙ ap (λ t. t.live) is)))
     ]

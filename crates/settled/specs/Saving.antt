@@ -1,10 +1,11 @@
 -- To be believed: `run`'s output, a volume's steps or its attach are said in these words.
 -- Saving one chunk of the origin for a snapshot, on devices that may fail: at most one read of the origin, one write of the
--- copy, one of the next area's zeros, and one of the pair's area, each as `Saves` has it; the first that fails spoils the
--- snapshot. The format is that of dm-snap-persistent.c; that a spoiled store is marked is this project's own rule.
-use Rattle.std.specs.Prelude.{◌==◌, ◌||◌, not, ℕ, ◌+◌, ◌*◌, ◌/◌, ◌%◌, nat_lt, is_some, Bool, false, List, length, if◌then◌else◌}
+-- copy, one of the next area's zeros, and one of the pair's area, each as `Saves` has it, and a flush of the store after each
+-- write; the first operation that fails spoils the snapshot. The format is that of dm-snap-persistent.c; that a spoiled store
+-- is marked, and that each write is flushed before the next, is this project's own rule.
+use Rattle.std.specs.Prelude.{◌==◌, ◌&&◌, ◌||◌, not, ℕ, ◌+◌, ◌*◌, ◌/◌, ◌%◌, nat_lt, is_some, Bool, false, List, length, if◌then◌else◌}
 use Rattle.sector.specs.declared.pair.Pair.{Pair}
-use Rattle.device.specs.declared.operation.Operation.TheVariants.{Reads, Writes}
+use Rattle.device.specs.declared.operation.Operation.TheVariants.{Reads, Writes, Flushes}
 use Rattle.model.specs.Places.{area_place}
 use Rattle.model.specs.Pairs.{pairs_of}
 use Rattle.model.specs.Picture.{place_of}
@@ -13,20 +14,31 @@ use Rattle.settled.specs.Saves.{next_of, marked, copied, zeroed, paired}
 use Rattle.settled.specs.Devices.{Device, sectors_of, answers, met, written_by}
 use Rattle.settled.specs.Snaps.{Snap}
 
--- The snapshot is spoiled: its header is marked invalid, by one write. Where that fails the store is stale.
+-- a spoiled store's device, whose header is written
+abbrev pub header_written : Snap → Device
+header_written s = written_by s.store (Writes 0 s.chunk) (marked s.chunk s.store.bytes)
+
+-- The snapshot is spoiled: its header is marked invalid, by one write, and where that is answered the store is flushed. Where
+-- either fails the store is stale.
 abbrev pub spoilt : Snap → Snap
 spoilt s = record s {
   live = false;
-  stale = not (answers s.store (Writes 0 s.chunk));
-  store = written_by s.store (Writes 0 s.chunk) (marked s.chunk s.store.bytes);
+  stale = not (answers s.store (Writes 0 s.chunk) && answers (header_written s) Flushes);
+  store = if answers s.store (Writes 0 s.chunk) then met (header_written s) Flushes else header_written s;
 }
 
--- A write of so many sectors to its store's chunk n, which leaves the store with these bytes. Where it fails the snapshot
--- is spoiled, else it goes on.
+-- A flush of its store. Where it fails the snapshot is spoiled, else it goes on.
+abbrev pub flush_then : (Snap → Snap) → Snap → Snap
+flush_then next s =
+    let after : Snap = record s { store = met s.store Flushes } in
+    if answers s.store Flushes then next after else spoilt after
+
+-- A write of so many sectors to its store's chunk n, which leaves the store with these bytes, and then a flush. Where either
+-- fails the snapshot is spoiled, else it goes on.
 abbrev pub write_then : Snap → ℕ → ℕ → List ℕ → (Snap → Snap) → Snap
 write_then s n count bytes next =
     let after : Snap = record s { store = written_by s.store (Writes (s.chunk * n) count) bytes } in
-    if answers s.store (Writes (s.chunk * n) count) then next after else spoilt after
+    if answers s.store (Writes (s.chunk * n) count) then flush_then next after else spoilt after
 
 -- the area of slot k is written with a pair in that slot, where the slots of all areas are counted on
 abbrev pub write_pair : ℕ → Pair → Snap → Snap

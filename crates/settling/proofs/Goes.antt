@@ -1,7 +1,7 @@
 -- Events by what is due: one after the other.
 use Rattle.std.proofs.Common.{◌≡◌, ℕ, zero, suc, ◌+◌, Option, Some, None, refl, ap, ◌∙◌, sym, arith}
 use Rattle.plain.specs.declared.event.Event.{Event}
-use Rattle.plain.specs.declared.event.Event.TheVariants.{Issue, CopyRead, CopyWrite, ZeroNext, WriteArea, Publish, WriteInvalid, MergeGroup, MergeAreaRead, MergeRead, MergeWrite, MergeFlush, MergeCommit, MergeRelease}
+use Rattle.plain.specs.declared.event.Event.TheVariants.{Issue, CopyRead, CopyWrite, ZeroNext, WriteArea, Publish, WriteInvalid, FlushStore, MergeGroup, MergeAreaRead, MergeRead, MergeWrite, MergeFlush, MergeCommit, MergeRelease}
 use Rattle.event_machine.specs.Held.{Held, Moving}
 use Rattle.event_machine.specs.Due.{due}
 use Rattle.event_machine.specs.Stepping.{for_some, first_that, publishes, stepped}
@@ -24,6 +24,7 @@ unfollowed (ZeroNext n) v = refl
 unfollowed (WriteArea n) v = refl
 unfollowed (Publish n) v = refl
 unfollowed (WriteInvalid n) v = refl
+unfollowed (FlushStore n) v = refl
 unfollowed MergeGroup v = refl
 unfollowed MergeAreaRead v = refl
 unfollowed MergeRead v = refl

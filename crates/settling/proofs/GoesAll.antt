@@ -1,7 +1,7 @@
 -- Events of a whole volume by what is due, those of its merge among them: one after the other.
 use Rattle.std.proofs.Common.{◌≡◌, ℕ, zero, suc, ◌+◌, List, [], Option, Some, None, refl, ap, ◌∙◌, subst, arith}
 use Rattle.plain.specs.declared.event.Event.{Event}
-use Rattle.plain.specs.declared.event.Event.TheVariants.{Issue, CopyRead, CopyWrite, ZeroNext, WriteArea, Publish, WriteInvalid}
+use Rattle.plain.specs.declared.event.Event.TheVariants.{Issue, CopyRead, CopyWrite, ZeroNext, WriteArea, Publish, WriteInvalid, FlushStore}
 use Rattle.plain.specs.declared.request.Reply.{Reply}
 use Rattle.volume_laws.specs.MergeDue.{due_or}
 use Rattle.settled.specs.Devices.{Device, sectors_of}
@@ -27,20 +27,21 @@ module _ (event : Event) (v : Moving) where
   starts_there : (n : ℕ) → IsThere (Publish n) v → stepped_all (Publish n) v ≡ start_waiting (stepped (Publish n) v)
   starts_there n there = ap (λ o. for_some o (λ h. start_waiting (stepped (Publish n) v)) v) there.1
 
-  chosen_steps : (a b c d e f g : Option ℕ) → chosen a b c d e f g ≡ Some event → IsThere event v → stepped_all event v ≡ followed start_waiting event (stepped event v)
-  chosen_steps (Some n) b c d e f g is = alike (WriteInvalid n) (λ there. refl) is
-  chosen_steps None (Some n) c d e f g is = alike (Publish n) (starts_there n) is
-  chosen_steps None None (Some n) d e f g is = alike (WriteArea n) (λ there. refl) is
-  chosen_steps None None None (Some n) e f g is = alike (ZeroNext n) (λ there. refl) is
-  chosen_steps None None None None (Some n) f g is = alike (CopyWrite n) (λ there. refl) is
-  chosen_steps None None None None None (Some n) g is = alike (CopyRead n) (λ there. refl) is
-  chosen_steps None None None None None None (Some n) is = alike (Issue n) (λ there. refl) is
-  chosen_steps None None None None None None None is = absurd (cc)
+  chosen_steps : (a b c d e f g i : Option ℕ) → chosen a b c d e f g i ≡ Some event → IsThere event v → stepped_all event v ≡ followed start_waiting event (stepped event v)
+  chosen_steps (Some n) b c d e f g i is = alike (WriteInvalid n) (λ there. refl) is
+  chosen_steps None (Some n) c d e f g i is = alike (FlushStore n) (λ there. refl) is
+  chosen_steps None None (Some n) d e f g i is = alike (Publish n) (starts_there n) is
+  chosen_steps None None None (Some n) e f g i is = alike (WriteArea n) (λ there. refl) is
+  chosen_steps None None None None (Some n) f g i is = alike (ZeroNext n) (λ there. refl) is
+  chosen_steps None None None None None (Some n) g i is = alike (CopyWrite n) (λ there. refl) is
+  chosen_steps None None None None None None (Some n) i is = alike (CopyRead n) (λ there. refl) is
+  chosen_steps None None None None None None None (Some n) is = alike (Issue n) (λ there. refl) is
+  chosen_steps None None None None None None None None is = absurd (cc)
 
 all_takes : TakesDue start_waiting due_all stepped_all
 all_takes = record {
   takes = λ v event is. ap (λ o. due_or o (merge_due (sectors_of v.origin) v.snaps v.requests v.merge)) is;
-  steps = λ v event is there. chosen_steps event v _ _ _ _ _ _ _ is there;
+  steps = λ v event is there. chosen_steps event v _ _ _ _ _ _ _ _ is there;
 }
 
 -- a volume goes on to another by so many events

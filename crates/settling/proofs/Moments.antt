@@ -11,7 +11,7 @@ rests_relayered sectors f h rest = record {
   tried = rest.tried;
   copies = rest.copies;
   marks = rest.marks;
-  live = λ live. (let kept = rest.live live in record { order = kept.order; pairs = kept.pairs; next = kept.next; zeroed = kept.zeroed });
+  live = λ live. (let kept = rest.live live in record { order = kept.order; pairs = kept.pairs; next = kept.next; zeroed = kept.zeroed; firm = kept.firm; unmarked = kept.unmarked });
 }
 
 all_rest : (sectors : ℕ) (f : List Layer → List Layer) (snaps : List Held) → Each (IsResting sectors) snaps → Each (IsResting sectors) (map (λ h. with_store h (relayered f h.snap.store)) snaps)

@@ -1,5 +1,5 @@
 -- An origin write, event by event: its chunk is saved in each snapshot while it is held, and then the write itself.
-use Rattle.std.proofs.Common.{◌≡◌, inl, inr, ℕ, ◌/◌, Bool, true, false, List, [], ◌∷◌, ◌++◌, map, Option, Some, None, refl, ap, ◌∙◌, eq-eqb}
+use Rattle.std.proofs.Common.{◌≡◌, inl, inr, ℕ, ◌/◌, Bool, true, false, List, [], ◌∷◌, ◌++◌, map, Option, Some, None, refl, ap, ◌∙◌, sym, eq-eqb}
 use Rattle.std.specs.Prelude.{◌==◌, ◌||◌}
 use Rattle.std.proofs.lemmas.Bool.{cases_Bool, cond-true, cond-false}
 use Rattle.sector.specs.Bytes.{with_sectors}
@@ -58,6 +58,7 @@ module _ (g : Option MergeHeld) (sectors number : ℕ) (range : Range) (ungroupe
   write_routed = record {
     unread = λ snaps. unread (route_for snaps);
     tried = λ done rest h after is. ap (map (again g (done ++ after ∷ rest))) (held_here (done ++ h ∷ rest) (unclear_untried range.first done rest h is));
+    marked = λ done rest h after is still. held_here (done ++ h ∷ rest) (unclear_untried range.first done rest h is) ∙ sym (held_here (done ++ after ∷ rest) (unclear_untried range.first done rest after still));
     saved = λ done rest h after is. ap (requests_after g (done ++ after ∷ rest) after) (held_here (done ++ h ∷ rest) (unclear_unsaved range.first done rest h is)) ∙ routed_again (done ++ after ∷ rest) after;
   }
 

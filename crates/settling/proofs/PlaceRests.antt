@@ -75,5 +75,5 @@ place_rests sectors n first count bytes h rest on some piece len =
       tried = rest.tried;
       copies = rest.copies;
       marks = rest.marks;
-      live = λ live. record { order = (size, after.0); pairs = after.1; next = kept.next; zeroed = kept.zeroed };
+      live = λ live. record { order = (size, after.0); pairs = after.1; next = kept.next; zeroed = kept.zeroed; firm = kept.firm; unmarked = kept.unmarked };
     }

@@ -1,24 +1,68 @@
 -- The copies that are started for an origin write or a merge, once the marks of the stores that were full are tried: each
 -- snapshot is idle, or has one copy that waits, and the copies' numbers go up.
 use Rattle.std.proofs.Common.{◌≡◌, inl, inr, ℕ, ◌+◌, ◌<◌, ◌≤◌, Bool, true, false, List, [], ◌∷◌, Option, Some, None, min, arith, refl, ap, ◌∙◌, sym, subst}
-use Rattle.std.specs.Prelude.{◌==◌, ◌||◌, not, is_some, if◌then◌else◌}
+use Rattle.std.specs.Prelude.{◌==◌, ◌&&◌, ◌||◌, not, is_some, if◌then◌else◌}
 use Rattle.std.specs.List.{list_any}
 use Rattle.std.proofs.lemmas.Bool.{cases_Bool, cond-true, cond-false}
 use Rattle.pending.specs.declared.copies.Stage.TheVariants.{Waiting}
 use Rattle.pending.specs.Due.{least}
-use Rattle.settled.specs.Saving.{spoilt}
+use Rattle.device.specs.declared.operation.Operation.TheVariants.{Writes, Flushes}
+use Rattle.settled.specs.Devices.{answers, met}
+use Rattle.settled.specs.Saving.{spoilt, header_written}
 use Rattle.model.specs.Picture.{place_of}
 use Rattle.event_machine.specs.Held.{Copying, Held}
-use Rattle.event_machine.specs.Due.{copy_at, least_in}
+use Rattle.event_machine.specs.Due.{can_mark, copy_at, least_in}
 use Rattle.event_machine.specs.Rest.{IsResting}
 use Rattle.event_machine.specs.Submitting.{needs_none, is_filled, with_copy, started_all, refused_by}
 use Rattle.settled.proofs.Each.{Each}
 use Rattle.event_machine.proofs.Lists.{Above}
-use Rattle.event_machine.proofs.Around.{IsIdle, IsLater, idle_later}
+use Rattle.event_machine.proofs.Around.{IsIdle, IsLater, idle_later, later_marks}
+
+-- whether the mark of a spoiled snapshot is written
+abbrev pub mark_goes : Held → Bool
+mark_goes h = answers h.snap.store (Writes 0 h.snap.chunk)
+
+-- a spoiled snapshot whose mark is written, and waits for a flush of the store; and one whose mark could not be written
+abbrev pub mark_written : Held → Held
+mark_written h = record h { snap = record h.snap { live = false; store = header_written h.snap }; untried = true; marked = true; copies = []; marks = [] }
+
+abbrev pub mark_missed : Held → Held
+mark_missed h = record h { snap = record h.snap { live = false; stale = true; store = header_written h.snap }; untried = false; marked = false; copies = []; marks = [] }
+
+abbrev pub marked_of : Held → Held
+marked_of h = if mark_goes h then mark_written h else mark_missed h
 
 -- a spoiled snapshot whose mark is tried
 abbrev pub tried_of : Held → Held
-tried_of h = record h { snap = spoilt h.snap; untried = false; copies = []; marks = [] }
+tried_of h = record h { snap = spoilt h.snap; untried = false; marked = mark_goes h; copies = []; marks = [] }
+
+-- the one by the other
+abbrev tried_by : Held → Bool → Held
+tried_by h b = record h {
+  snap = record h.snap { live = false; stale = not (b && answers (header_written h.snap) Flushes); store = if b then met (header_written h.snap) Flushes else header_written h.snap };
+  untried = false;
+  marked = b;
+  copies = [];
+  marks = [];
+}
+
+-- the mark's flush
+abbrev pub mark_flushed : Held → Held
+mark_flushed h = record h { snap = record h.snap { stale = not (answers h.snap.store Flushes); store = met h.snap.store Flushes }; untried = false }
+
+pub tried_flushed : (h : Held) → mark_goes h ≡ true → tried_of h ≡ mark_flushed (mark_written h)
+tried_flushed h goes = ap (tried_by h) goes
+
+pub tried_missed : (h : Held) → mark_goes h ≡ false → tried_of h ≡ mark_missed h
+tried_missed h fails = ap (tried_by h) fails
+
+-- the copies that are started, once the marks of the stores that were full are written
+abbrev pub marked_all : (Held → ℕ) → ℕ → List Held → List Held
+marked_all at m [] = []
+marked_all at m (h ∷ snaps) =
+    if needs_none (at h) h then h ∷ marked_all at m snaps
+    else (if is_filled h then marked_of h ∷ marked_all at m snaps
+    else with_copy (m + 1) (at h) h ∷ marked_all at (m + 1) snaps)
 
 abbrev pub primed : (Held → ℕ) → ℕ → List Held → List Held
 primed at m [] = []
@@ -59,10 +103,10 @@ pub resting_idle : (sectors : ℕ) (h : Held) → IsResting sectors h → IsIdle
 resting_idle sectors h rest = record { tried = rest.tried; copies = rest.copies; marks = rest.marks }
 
 pub tried_later : (h : Held) → IsLater (tried_of h)
-tried_later h = record { tried = refl; marks = refl; front = refl; read = refl }
+tried_later h = record { tried = refl; marks = refl; front = refl; unflushed = refl; read = refl }
 
 pub copy_later : (n c : ℕ) (h : Held) → IsIdle h → IsLater (with_copy n c h)
-copy_later n c h idle = record { tried = idle.tried; marks = idle.marks; front = rw idle.copies refl; read = rw idle.copies refl }
+copy_later n c h idle = record { tried = idle.tried; marks = idle.marks; front = rw idle.copies refl; unflushed = rw idle.copies refl; read = rw idle.copies refl }
 
 pub primed_later : (at : Held → ℕ) (m : ℕ) (snaps : List Held) → Each IsIdle snaps → Each IsLater (primed at m snaps)
 primed_later at m [] idle = tt
@@ -71,6 +115,24 @@ primed_later at m (h ∷ snaps) idle = elim (cases_Bool (needs_none (at h) h)) [
   | inr some ↦ elim (cases_Bool (is_filled h)) [
     | inl full ↦ rw (primed_full at m h snaps some full) (tried_later h, primed_later at m snaps idle.1)
     | inr room ↦ rw (primed_copy at m h snaps some room) (copy_later (m + 1) (at h) h idle.0, primed_later at (m + 1) snaps idle.1)
+  ]
+]
+
+-- no mark is left to be written
+pub marked_unmarkable : (h : Held) → can_mark (marked_of h) ≡ false
+marked_unmarkable h = elim (cases_Bool (mark_goes h)) [
+  | inl goes ↦ ap can_mark (cond-true _ _ _ goes)
+  | inr fails ↦ ap can_mark (cond-false _ _ _ fails)
+]
+
+pub marked_all_marks : (at : Held → ℕ) (m : ℕ) (snaps : List Held) → Each IsIdle snaps → Each (λ d. can_mark d ≡ false) (marked_all at m snaps)
+marked_all_marks at m [] idle = tt
+marked_all_marks at m (h ∷ snaps) idle = elim (cases_Bool (needs_none (at h) h)) [
+  | inl none ↦ subst (Each (λ d. can_mark d ≡ false)) (sym (cond-true _ _ _ none)) (later_marks h (idle_later h idle.0), marked_all_marks at m snaps idle.1)
+  | inr some ↦ elim (cases_Bool (is_filled h)) [
+    | inl full ↦ subst (Each (λ d. can_mark d ≡ false)) (sym (cond-false _ _ _ some ∙ cond-true _ _ _ full)) (marked_unmarkable h, marked_all_marks at m snaps idle.1)
+    | inr room ↦ subst (Each (λ d. can_mark d ≡ false)) (sym (cond-false _ _ _ some ∙ cond-false _ _ _ room))
+        (later_marks (with_copy (m + 1) (at h) h) (copy_later (m + 1) (at h) h idle.0), marked_all_marks at (m + 1) snaps idle.1)
   ]
 ]
 

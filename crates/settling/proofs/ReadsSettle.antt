@@ -70,7 +70,7 @@ met_rests sectors h first count rest = record {
   tried = rest.tried;
   copies = rest.copies;
   marks = rest.marks;
-  live = λ live. (let kept = rest.live live in record { order = kept.order; pairs = kept.pairs; next = kept.next; zeroed = kept.zeroed });
+  live = λ live. (let kept = rest.live live in record { order = kept.order; pairs = kept.pairs; next = kept.next; zeroed = kept.zeroed; firm = kept.firm; unmarked = kept.unmarked });
 }
 
 abbrev pub snap_read_request : ℕ → Range → Request

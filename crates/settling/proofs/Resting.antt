@@ -37,8 +37,8 @@ module _ (sectors c : ℕ) (origin : Device) (h held : Held) where
   pub saved_number : saved_snap.number ≡ h.snap.number
   saved_number = saved_keeps (λ (t : Snap). t.number) (λ t d. refl) (λ t. refl)
 
-  pub rests_live : length origin.bytes ≡ 512 * sectors → IsKept sectors h → h.snap.live ≡ true → h.snap.chunk * c < sectors → has_chunk c h.snap ≡ false → is_full h.snap ≡ false → held.snap ≡ saved_snap → held.pairs ≡ h.pairs ++ next_pair ∷ [] → held.next ≡ stepped h.snap.chunk (next_place h.snap + 1) → held.zeroed ≡ false → held.snap.live ≡ true → IsKept sectors held
-  rests_live whole kept on inside lacks room is pairs next unzeroed live =
+  pub rests_live : length origin.bytes ≡ 512 * sectors → IsKept sectors h → h.snap.live ≡ true → h.snap.chunk * c < sectors → has_chunk c h.snap ≡ false → is_full h.snap ≡ false → held.snap ≡ saved_snap → held.pairs ≡ h.pairs ++ next_pair ∷ [] → held.next ≡ stepped h.snap.chunk (next_place h.snap + 1) → held.zeroed ≡ false → held.firm ≡ false → held.marked ≡ false → held.snap.live ≡ true → IsKept sectors held
+  rests_live whole kept on inside lacks room is pairs next unzeroed loose unmarked live =
       let s : Snap = h.snap in
       let (size, order) = kept.order in
       let stored : stored_of saved_snap ≡ saved s.chunk origin.bytes s.store.bytes c = save_live c origin s on lacks room (sym (ap (λ (t : Snap). t.live) is) ∙ live) in
@@ -53,4 +53,6 @@ module _ (sectors c : ℕ) (origin : Device) (h held : Held) where
         pairs = rw chunk here;
         next = next ∙ sym (next_more s.chunk h.pairs next_pair (ap (next_of s.chunk) kept.pairs)) ∙ ap (next_of s.chunk) (sym pairs) ∙ ap (λ x. next_of x held.pairs) (sym chunk);
         zeroed = unzeroed;
+        firm = loose;
+        unmarked = unmarked;
       }

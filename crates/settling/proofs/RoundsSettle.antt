@@ -32,7 +32,7 @@ use Rattle.event_machine.specs.MergeDue.{next_of}
 use Rattle.event_machine.specs.MergeStepping.{start_next, start_waiting}
 use Rattle.event_machine.specs.Rest.{IsKept, IsResting}
 use Rattle.event_machine.specs.Submitting.{needs_none, is_filled, with_copy, started_all, started_by, start_copies}
-use Rattle.event_machine.proofs.Around.{at_with, IsIdle, IsBefore}
+use Rattle.event_machine.proofs.Around.{at_with, IsIdle, IsLater, IsBefore}
 use Rattle.settling.proofs.Goes.{Goes, goes_none, goes_on}
 use Rattle.settling.proofs.Stages.{holding, copying, marks_here}
 use Rattle.settling.proofs.Ends.{started_if, Ends, ends_read}
@@ -159,9 +159,9 @@ module _ (m : MergeHeld) (q : Pair) (next : next_of m ≡ Some q) (sectors : ℕ
       pub counts : (ys : List Held) → started_by wanted k (h ∷ ys) ≡ started_by wanted count ys
       pub ready : IsReadyHere last stands
 
-    again_after : (v : Moving) (origin : Device) (done rest : List Held) (h : Held) (last k : ℕ) → length origin.bytes ≡ 512 * sectors → last ≤ k → Each (IsReadyHere last) done → Each (Needs wanted stays) rest → IsResting sectors h
+    again_after : (v : Moving) (origin : Device) (done rest : List Held) (h : Held) (last k : ℕ) → length origin.bytes ≡ 512 * sectors → last ≤ k → Each (IsReadyHere last) done → Each (Needs wanted stays) rest → Each IsLater rest → IsResting sectors h
         → Goes start_waiting v (started_if start_waiting h.snap.live (beside origin (done ++ h ∷ rest) k)) → Again v origin done rest h last k
-    again_after v origin done rest h last k whole low before behind resting goes =
+    again_after v origin done rest h last k whole low before behind later resting goes =
         let idle : IsIdle h = resting_idle sectors h resting in
         let needs : Each (Needs wanted stays) done = each_weaker (IsReadyHere last) (Needs wanted stays) done (λ d r. r.needs) before in
         let began : h.snap.live ≡ true → Goes start_waiting v (beside origin (started_all wanted k (done ++ h ∷ rest)) (started_by wanted k (done ++ h ∷ rest))) = λ on.
@@ -187,9 +187,9 @@ module _ (m : MergeHeld) (q : Pair) (next : next_of m ≡ Some q) (sectors : ℕ
                   count = k;
                   up = omega arith;
                   goes = (let is = mid_full wanted stays k done rest h needs behind lacks full in
-                      let untried : Each (λ (d : Held). d.untried ≡ false) done = each_weaker (IsReadyHere last) (λ (d : Held). d.untried ≡ false) done (λ d r. r.later.tried) before in
+                      let sooner : Each IsLater done = each_weaker (IsReadyHere last) IsLater done (λ d r. r.later) before in
                       goes_on _ _ _ (subst (Goes start_waiting v) (ap (λ xs. beside origin xs (started_by wanted k (done ++ h ∷ rest))) is.0 ∙ ap (beside origin (done ++ spoiled h ∷ rest)) is.1) (began on))
-                      (marks_here (Some m) origin done rest [] a k (spoiled h) untried refl));
+                      (marks_here (Some m) origin done rest [] a k h (resting.live on).unmarked sooner later));
                   primes = λ ys. primed_full wanted k h ys lacks full;
                   counts = λ ys. by_full wanted stays k h ys full;
                   ready = idle_ready wanted stays last (tried_of h) (record { tried = refl; copies = refl; marks = refl }) refl;
@@ -223,7 +223,7 @@ module _ (m : MergeHeld) (q : Pair) (next : next_of m ≡ Some q) (sectors : ℕ
         let p : Pair = record { old = c; new = next_place s } in
         let nx : ℕ = stepped s.chunk (next_place s + 1) in
         let rest : List Held = primed wanted (n + 1) snaps in
-        let start : Held = holding s h.pairs nx false (copying (n + 1) p Waiting [] ∷ []) [] in
+        let start : Held = holding s h.pairs nx false false (copying (n + 1) p Waiting [] ∷ []) [] in
         let v : Moving = beside origin (done ++ primed wanted n (h ∷ snaps)) k in
         let after : Device = met origin (chunk_read c origin s) in
         let e : Ends start_waiting (Some m) done rest [] a k after (beside origin (done ++ start ∷ rest) k) (h.pairs ++ p ∷ []) nx (saved_snap sectors c origin h h) =
@@ -235,13 +235,13 @@ module _ (m : MergeHeld) (q : Pair) (next : next_of m ≡ Some q) (sectors : ℕ
           tried = e.idle.tried;
           copies = e.idle.copies;
           marks = e.idle.marks;
-          live = λ live. rests_live sectors c origin h e.held whole kept on fits lacks room e.snap (e.pairs live) (e.next live) (e.zeroed live) live;
+          live = λ live. rests_live sectors c origin h e.held whole kept on fits lacks room e.snap (e.pairs live) (e.next live) (e.zeroed live) (e.firm live) (e.unmarked live) live;
         } in
         record {
           held = e.held;
           snap = e.snap;
           rest = rests;
-          again = again_after v after done rest e.held last k whole low before (primed_needs wanted stays (n + 1) snaps idle) rests (goes_between _ _ _ _ begins refl e.goes);
+          again = again_after v after done rest e.held last k whole low before (primed_needs wanted stays (n + 1) snaps idle) (primed_later wanted (n + 1) snaps idle) rests (goes_between _ _ _ _ begins refl e.goes);
         }
 
     -- the copies of one snapshot after the other
@@ -347,7 +347,7 @@ module _ (m : MergeHeld) (q : Pair) (next : next_of m ≡ Some q) (sectors : ℕ
         let ends : beside O (primed wanted all.count all.finals) (started_by wanted all.count all.finals) ≡ beside O all.finals all.count =
         ap (λ xs. beside O xs (started_by wanted all.count all.finals)) (primed_still wanted stays all.count all.finals needs) ∙ ap (beside O all.finals) (started_still wanted stays all.count all.finals needs).1 in
         let tried : Goes start_waiting (beside origin (started_all wanted k snaps) (started_by wanted k snaps)) (beside origin (primed wanted k snaps) (started_by wanted k snaps)) =
-        tries_all (Some m) sectors first_in (λ hs. []) (none_routed (Some m) first_in) a (started_by wanted k snaps) wanted origin [] snaps k tt (each_weaker (IsResting sectors) (λ (d : Held). d.untried ≡ false) snaps (λ d r. r.tried) rest) in
+        tries_all (Some m) sectors first_in (λ hs. []) (none_routed (Some m) first_in) a (started_by wanted k snaps) wanted origin snaps k rest in
         record {
           finals = all.finals;
           count = all.count;

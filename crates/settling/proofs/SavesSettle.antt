@@ -1,6 +1,7 @@
 -- One chunk of the origin is saved, event by event: after its copies were started in each snapshot that lacks it, the marks
--- of the stores that were full are tried, and then the copies of one snapshot after the other come to their end. They leave
--- what the big step says, whatever requests are in flight that read nothing from the origin disk for a snapshot.
+-- of the stores that were full are written, and then each is flushed, and then the copies of one snapshot after the other come
+-- to their end. They leave what the big step says, whatever requests are in flight that read nothing from the origin disk for a
+-- snapshot.
 use Rattle.std.proofs.Common.{◌≡◌, inl, inr, ℕ, ◌+◌, ◌*◌, ◌/◌, ◌<◌, ◌≤◌, Bool, true, false, List, [], ◌∷◌, ◌++◌, length, map, Option, Some, None, arith, refl, ap, ◌∙◌, sym, subst, append_assoc}
 use Rattle.std.specs.Prelude.{◌||◌, not, is_some, nat_lt}
 use Rattle.std.proofs.lemmas.Bool.{cases_Bool, cond-true, cond-false, true≢false}
@@ -15,19 +16,19 @@ use Rattle.settled.specs.Snaps.{Snap, Volume}
 use Rattle.settled.specs.Saving.{Saving, spoilt, next_place, is_full, has_chunk, save}
 use Rattle.settled.specs.Pieces.{save_all}
 use Rattle.event_machine.specs.Held.{Held, Going, MergeHeld, Moving, spoiled}
-use Rattle.event_machine.specs.Due.{copy_at, least_in}
+use Rattle.event_machine.specs.Due.{can_mark, copy_at, least_in}
 use Rattle.event_machine.specs.Again.{again, is_saved}
 use Rattle.event_machine.specs.Submitting.{needs_none, is_filled, with_copy, started_all, chunk_at}
 use Rattle.event_machine.specs.Rest.{IsKept, IsResting}
 use Rattle.settled.proofs.Each.{Each, each_weaker, each_more}
 use Rattle.settling.proofs.Goes.{no_start, Goes, goes_none, goes_on}
-use Rattle.event_machine.proofs.Around.{at_with, IsIdle, IsBefore, idle_before}
-use Rattle.settling.proofs.Stages.{holding, copying, marks_here}
+use Rattle.event_machine.proofs.Around.{at_with, IsIdle, IsLater, IsBefore, idle_later, idle_before, later_marks}
+use Rattle.settling.proofs.Stages.{holding, copying, marks_done, marks_failed, marks_flushed}
 use Rattle.settling.proofs.Ends.{unstarted, Ends, IsUnread, requests_after, ends_read}
 use Rattle.settled.proofs.Saves.{saves_nothing, saves_full, saves_copy, chunk_read}
 use Rattle.settling.proofs.Resting.{rests_live, saved_chunk, saved_snap}
 use Rattle.settling.proofs.Starts.{needs_same, next_same, copy_bytes, as_holding, saved_already, saved_now}
-use Rattle.settling.proofs.Primed.{tried_of, primed, primed_none, primed_full, primed_copy, resting_idle, primed_later, primed_above, least_low}
+use Rattle.settling.proofs.Primed.{mark_goes, mark_written, mark_missed, marked_of, tried_of, mark_flushed, tried_flushed, tried_missed, marked_all, primed, primed_none, primed_full, primed_copy, resting_idle, tried_later, copy_later, primed_later, marked_unmarkable, marked_all_marks, primed_above, least_low}
 
 pub goes_between : {starts : Moving → Moving} → (u u' v v' : Moving) → u ≡ u' → v' ≡ v → Goes starts u' v' → Goes starts u v
 goes_between {starts} u u' v v' a b goes = subst (λ (x : Moving). Goes starts x v) (sym a) (subst (Goes starts u') b goes)
@@ -35,47 +36,100 @@ goes_between {starts} u u' v v' a b goes = subst (λ (x : Moving). Goes starts x
 abbrev pub snap_of : Held → Snap
 snap_of h = h.snap
 
--- The requests in flight, as the snapshots route them: none reads a chunk from the origin disk for a snapshot. That is what
--- they are routed to again once a spoiled snapshot's mark is tried, and once a snapshot that had not saved the chunk of this
--- sector came to its end.
+-- The requests in flight, as the snapshots route them: none reads a chunk from the origin disk for a snapshot. They stay while
+-- a spoiled snapshot's mark is written, and are what they are routed to again once it is tried, and once a snapshot that had
+-- not saved the chunk of this sector came to its end.
 pub record AreRouted (g : Option MergeHeld) (first : ℕ) (requests : List Held → List Going) : Type 0 where
   pub unread : (snaps : List Held) → IsUnread (requests snaps)
   pub tried : (done rest : List Held) (h after : Held) → h.untried ≡ true → map (again g (done ++ after ∷ rest)) (requests (done ++ h ∷ rest)) ≡ requests (done ++ after ∷ rest)
+  pub marked : (done rest : List Held) (h after : Held) → h.untried ≡ true → after.untried ≡ true → requests (done ++ h ∷ rest) ≡ requests (done ++ after ∷ rest)
   pub saved : (done rest : List Held) (h after : Held) → is_saved first h ≡ false → requests_after g (done ++ after ∷ rest) after (requests (done ++ h ∷ rest)) ≡ requests (done ++ after ∷ rest)
+
+or_false : (x y : Bool) → (not x || y) ≡ false → (x ≡ true) × (y ≡ false)
+or_false true y e = (refl, e)
+or_false false y e = absurd (true≢false e)
 
 module _ (g : Option MergeHeld) (sectors first : ℕ) (requests : List Held → List Going) (routed : AreRouted g first requests) (a : Option Reply) (k : ℕ) where
   -- the volume with these requests in flight
   abbrev pub with_requests : Device → List Held → Moving
   with_requests origin snaps = at_with g origin snaps (requests snaps) a k
 
-  -- a spoiled snapshot's mark
-  tries_here : {starts : Moving → Moving} → (origin : Device) (done rest : List Held) (h : Held) → Each (λ d. d.untried ≡ false) done → Goes starts (with_requests origin (done ++ spoiled h ∷ rest)) (with_requests origin (done ++ tried_of h ∷ rest))
-  tries_here origin done rest h before =
-      goes_between _ _ _ _ refl (ap (λ rs. at_with g origin (done ++ tried_of h ∷ rest) rs a k) (routed.tried done rest (spoiled h) (tried_of h) refl))
-      (marks_here g origin done rest (requests (done ++ spoiled h ∷ rest)) a k (spoiled h) before refl)
+  -- a spoiled snapshot's mark is written
+  marks_one : {starts : Moving → Moving} → (origin : Device) (done rest : List Held) (h : Held) → h.marked ≡ false → Each (λ d. can_mark d ≡ false) done → Goes starts (with_requests origin (done ++ spoiled h ∷ rest)) (with_requests origin (done ++ marked_of h ∷ rest))
+  marks_one {starts} origin done rest h unmarked before =
+      let u : Moving = with_requests origin (done ++ spoiled h ∷ rest) in
+      let to : Held → Moving = λ (w : Held). with_requests origin (done ++ w ∷ rest) in
+      let rs : List Going = requests (done ++ spoiled h ∷ rest) in
+      elim (cases_Bool (mark_goes h)) [
+        | inl ok ↦ goes_between _ _ _ _ refl
+            (ap (λ xs. at_with g origin (done ++ mark_written h ∷ rest) xs a k) (routed.marked done rest (spoiled h) (mark_written h) refl refl) ∙ ap to (sym (cond-true _ _ _ ok)))
+            (marks_done g origin done rest rs a k (spoiled h) before refl unmarked ok)
+        | inr failed ↦ (let put : Bool → Held = λ (b : Bool). record (mark_missed h) { marked = b } in
+            let same : put h.marked ≡ mark_missed h = ap put unmarked in
+            goes_between _ _ _ _ refl
+            (ap (λ xs. at_with g origin (done ++ put h.marked ∷ rest) xs a k) (routed.tried done rest (spoiled h) (put h.marked) refl) ∙ ap to (same ∙ sym (cond-false _ _ _ failed)))
+            (marks_failed g origin done rest rs a k (spoiled h) before refl unmarked failed))
+      ]
+
+  -- and flushed
+  flushes_one : {starts : Moving → Moving} → (origin : Device) (done rest : List Held) (h : Held) → Each IsLater done → Each (λ d. can_mark d ≡ false) rest → Goes starts (with_requests origin (done ++ marked_of h ∷ rest)) (with_requests origin (done ++ tried_of h ∷ rest))
+  flushes_one {starts} origin done rest h before later =
+      let at : Held → Moving = λ (w : Held). with_requests origin (done ++ w ∷ rest) in
+      let rs : List Going = requests (done ++ mark_written h ∷ rest) in
+      elim (cases_Bool (mark_goes h)) [
+        | inl ok ↦ goes_between _ _ _ _ (ap at (cond-true _ _ _ ok))
+            (ap (λ xs. at_with g origin (done ++ mark_flushed (mark_written h) ∷ rest) xs a k) (routed.tried done rest (mark_written h) (mark_flushed (mark_written h)) refl) ∙ ap at (sym (tried_flushed h ok)))
+            (marks_flushed g origin done rest rs a k (mark_written h) before later refl refl)
+        | inr failed ↦ goes_between _ _ _ _ (ap at (cond-false _ _ _ failed)) (ap at (sym (tried_missed h failed))) (goes_none (at (mark_missed h)))
+      ]
 
   -- one snapshot more that is done with
   pub onward : {starts : Moving → Moving} → (origin origin' : Device) (done xs ys : List Held) (x : Held) → Goes starts (with_requests origin ((done ++ x ∷ []) ++ xs)) (with_requests origin' ((done ++ x ∷ []) ++ ys)) → Goes starts (with_requests origin (done ++ x ∷ xs)) (with_requests origin' (done ++ x ∷ ys))
   onward origin origin' done xs ys x goes = goes_between _ _ _ _ (ap (with_requests origin) (sym (append_assoc done (x ∷ []) xs))) (ap (with_requests origin') (append_assoc done (x ∷ []) ys)) goes
 
-  -- the marks of the stores that were full
-  pub tries_all : {starts : Moving → Moving} → (at : Held → ℕ) (origin : Device) (done snaps : List Held) (m : ℕ) → Each (λ d. d.untried ≡ false) done → Each (λ d. d.untried ≡ false) snaps → Goes starts (with_requests origin (done ++ started_all at m snaps)) (with_requests origin (done ++ primed at m snaps))
-  tries_all at origin done [] m before tried = goes_none _
-  tries_all at origin done (h ∷ snaps) m before tried = elim (cases_Bool (needs_none (at h) h)) [
+  -- the marks of the stores that were full are written
+  marks_all : {starts : Moving → Moving} → (at : Held → ℕ) (origin : Device) (done snaps : List Held) (m : ℕ) → Each (λ d. can_mark d ≡ false) done → Each (IsResting sectors) snaps → Goes starts (with_requests origin (done ++ started_all at m snaps)) (with_requests origin (done ++ marked_all at m snaps))
+  marks_all at origin done [] m before rest = goes_none _
+  marks_all at origin done (h ∷ snaps) m before rest = elim (cases_Bool (needs_none (at h) h)) [
     | inl none ↦ goes_between _ _ _ _ (ap (λ xs. with_requests origin (done ++ xs)) (cond-true _ _ _ none)) (ap (λ xs. with_requests origin (done ++ xs)) (sym (cond-true _ _ _ none)))
-        (onward origin origin done (started_all at m snaps) (primed at m snaps) h
-        (tries_all at origin (done ++ h ∷ []) snaps m (each_more (λ (d : Held). d.untried ≡ false) done h before tried.0) tried.1))
+        (onward origin origin done (started_all at m snaps) (marked_all at m snaps) h
+        (marks_all at origin (done ++ h ∷ []) snaps m (each_more (λ (d : Held). can_mark d ≡ false) done h before (later_marks h (idle_later h (resting_idle sectors h rest.0)))) rest.1))
     | inr some ↦ elim (cases_Bool (is_filled h)) [
-      | inl full ↦ goes_between _ _ _ _ (ap (λ xs. with_requests origin (done ++ xs)) (cond-false _ _ _ some ∙ cond-true _ _ _ full)) (ap (λ xs. with_requests origin (done ++ xs)) (sym (primed_full at m h snaps some full)))
-          (goes_on _ _ _ (tries_here origin done (started_all at m snaps) h before)
-          (onward origin origin done (started_all at m snaps) (primed at m snaps) (tried_of h)
-          (tries_all at origin (done ++ tried_of h ∷ []) snaps m (each_more (λ (d : Held). d.untried ≡ false) done (tried_of h) before refl) tried.1)))
+      | inl full ↦ (let on : h.snap.live ≡ true = (or_false h.snap.live (has_chunk (at h) h.snap) (sym (needs_same sectors (at h) h rest.0) ∙ some)).0 in
+          goes_between _ _ _ _ (ap (λ xs. with_requests origin (done ++ xs)) (cond-false _ _ _ some ∙ cond-true _ _ _ full)) (ap (λ xs. with_requests origin (done ++ xs)) (sym (cond-false _ _ _ some ∙ cond-true _ _ _ full)))
+          (goes_on _ _ _ (marks_one origin done (started_all at m snaps) h (rest.0.live on).unmarked before)
+          (onward origin origin done (started_all at m snaps) (marked_all at m snaps) (marked_of h)
+          (marks_all at origin (done ++ marked_of h ∷ []) snaps m (each_more (λ (d : Held). can_mark d ≡ false) done (marked_of h) before (marked_unmarkable h)) rest.1))))
       | inr room ↦ (let w : Held = with_copy (m + 1) (at h) h in
-          goes_between _ _ _ _ (ap (λ xs. with_requests origin (done ++ xs)) (cond-false _ _ _ some ∙ cond-false _ _ _ room)) (ap (λ xs. with_requests origin (done ++ xs)) (sym (primed_copy at m h snaps some room)))
-          (onward origin origin done (started_all at (m + 1) snaps) (primed at (m + 1) snaps) w
-          (tries_all at origin (done ++ w ∷ []) snaps (m + 1) (each_more (λ (d : Held). d.untried ≡ false) done w before tried.0) tried.1)))
+          goes_between _ _ _ _ (ap (λ xs. with_requests origin (done ++ xs)) (cond-false _ _ _ some ∙ cond-false _ _ _ room)) (ap (λ xs. with_requests origin (done ++ xs)) (sym (cond-false _ _ _ some ∙ cond-false _ _ _ room)))
+          (onward origin origin done (started_all at (m + 1) snaps) (marked_all at (m + 1) snaps) w
+          (marks_all at origin (done ++ w ∷ []) snaps (m + 1) (each_more (λ (d : Held). can_mark d ≡ false) done w before (later_marks w (copy_later (m + 1) (at h) h (resting_idle sectors h rest.0)))) rest.1)))
     ]
   ]
+
+  -- and then each is flushed
+  flushes_all : {starts : Moving → Moving} → (at : Held → ℕ) (origin : Device) (done snaps : List Held) (m : ℕ) → Each IsLater done → Each IsIdle snaps → Goes starts (with_requests origin (done ++ marked_all at m snaps)) (with_requests origin (done ++ primed at m snaps))
+  flushes_all at origin done [] m before idle = goes_none _
+  flushes_all at origin done (h ∷ snaps) m before idle = elim (cases_Bool (needs_none (at h) h)) [
+    | inl none ↦ goes_between _ _ _ _ (ap (λ xs. with_requests origin (done ++ xs)) (cond-true _ _ _ none)) (ap (λ xs. with_requests origin (done ++ xs)) (sym (cond-true _ _ _ none)))
+        (onward origin origin done (marked_all at m snaps) (primed at m snaps) h
+        (flushes_all at origin (done ++ h ∷ []) snaps m (each_more IsLater done h before (idle_later h idle.0)) idle.1))
+    | inr some ↦ elim (cases_Bool (is_filled h)) [
+      | inl full ↦ goes_between _ _ _ _ (ap (λ xs. with_requests origin (done ++ xs)) (cond-false _ _ _ some ∙ cond-true _ _ _ full)) (ap (λ xs. with_requests origin (done ++ xs)) (sym (primed_full at m h snaps some full)))
+          (goes_on _ _ _ (flushes_one origin done (marked_all at m snaps) h before (marked_all_marks at m snaps idle.1))
+          (onward origin origin done (marked_all at m snaps) (primed at m snaps) (tried_of h)
+          (flushes_all at origin (done ++ tried_of h ∷ []) snaps m (each_more IsLater done (tried_of h) before (tried_later h)) idle.1)))
+      | inr room ↦ (let w : Held = with_copy (m + 1) (at h) h in
+          goes_between _ _ _ _ (ap (λ xs. with_requests origin (done ++ xs)) (cond-false _ _ _ some ∙ cond-false _ _ _ room)) (ap (λ xs. with_requests origin (done ++ xs)) (sym (primed_copy at m h snaps some room)))
+          (onward origin origin done (marked_all at (m + 1) snaps) (primed at (m + 1) snaps) w
+          (flushes_all at origin (done ++ w ∷ []) snaps (m + 1) (each_more IsLater done w before (copy_later (m + 1) (at h) h idle.0)) idle.1)))
+    ]
+  ]
+
+  -- all marks of the stores that were full are tried
+  pub tries_all : {starts : Moving → Moving} → (at : Held → ℕ) (origin : Device) (snaps : List Held) (m : ℕ) → Each (IsResting sectors) snaps → Goes starts (with_requests origin (started_all at m snaps)) (with_requests origin (primed at m snaps))
+  tries_all at origin snaps m rest =
+      goes_on _ _ _ (marks_all at origin [] snaps m tt rest) (flushes_all at origin [] snaps m tt (each_weaker (IsResting sectors) IsIdle snaps (resting_idle sectors) rest))
 
   -- the snapshots once every copy came to its end: those after the first
   pub record Finals (v : Moving) (origin : Device) (done snaps : List Held) : Type 0 where
@@ -100,10 +154,6 @@ module _ (g : Option MergeHeld) (sectors first : ℕ) (requests : List Held → 
         saved = (saved, more.saved);
       }
 
-  or_false : (x y : Bool) → (not x || y) ≡ false → (x ≡ true) × (y ≡ false)
-  or_false true y e = (refl, e)
-  or_false false y e = absurd (true≢false e)
-
   is_none : (o : Option ℕ) → is_some o ≡ false → o ≡ None
   is_none None e = refl
   is_none (Some n) e = absurd (true≢false e)
@@ -124,7 +174,7 @@ module _ (g : Option MergeHeld) (sectors first : ℕ) (requests : List Held → 
       let q : Pair = record { old = c; new = next_place s } in
       let nx : ℕ = stepped s.chunk (next_place s + 1) in
       let rest : List Held = primed (chunk_at first) (m + 1) snaps in
-      let start : Held = holding s h.pairs nx false (copying (m + 1) q Waiting [] ∷ []) [] in
+      let start : Held = holding s h.pairs nx false false (copying (m + 1) q Waiting [] ∷ []) [] in
       let none : is_some (place_of h.pairs c) ≡ false = ap (λ ps. is_some (place_of ps c)) (sym kept.pairs) ∙ lacks in
       let unsaved : is_saved first start ≡ false = rw (on, none) refl in
       let rs : List Going = requests (done ++ start ∷ rest) in
@@ -143,7 +193,7 @@ module _ (g : Option MergeHeld) (sectors first : ℕ) (requests : List Held → 
           tried = e.idle.tried;
           copies = e.idle.copies;
           marks = e.idle.marks;
-          live = λ live. rests_live sectors c origin h e.held whole kept on (omega arith) lacks room e.snap (e.pairs live) (e.next live) (e.zeroed live) live;
+          live = λ live. rests_live sectors c origin h e.held whole kept on (omega arith) lacks room e.snap (e.pairs live) (e.next live) (e.zeroed live) (e.firm live) (e.unmarked live) live;
         };
         saved = saved_now sectors first c e.held h.pairs q (ap (λ x. first / x) (sym chunk)) (is_none (place_of h.pairs c) none) refl e.idle.marks e.pairs;
       }
@@ -180,7 +230,7 @@ module _ (g : Option MergeHeld) (sectors first : ℕ) (requests : List Held → 
       let last = copies_all snaps origin [] m whole inside tt rest in
       record {
         finals = last.finals;
-        goes = goes_on _ _ _ (tries_all (chunk_at first) origin [] snaps m tt (each_weaker (IsResting sectors) (λ (d : Held). d.untried ≡ false) snaps (λ d r. r.tried) rest)) last.goes;
+        goes = goes_on _ _ _ (tries_all (chunk_at first) origin snaps m rest) last.goes;
         same = last.same;
         rest = last.rest;
         saved = last.saved;
@@ -188,4 +238,4 @@ module _ (g : Option MergeHeld) (sectors first : ℕ) (requests : List Held → 
 
 -- no request is in flight
 pub none_routed : (g : Option MergeHeld) (first : ℕ) → AreRouted g first (λ snaps. [])
-none_routed g first = record { unread = λ snaps h c. refl; tried = λ done rest h after is. refl; saved = λ done rest h after is. refl }
+none_routed g first = record { unread = λ snaps h c. refl; tried = λ done rest h after is. refl; marked = λ done rest h after is still. refl; saved = λ done rest h after is. refl }

@@ -159,7 +159,7 @@ module _ (g : Option MergeHeld) (sectors number n : ℕ) (range : Range) (bytes 
         tried = here.tried;
         copies = here.copies;
         marks = here.marks;
-        live = λ live. (let kept = here.live live in record { order = kept.order; pairs = kept.pairs; next = kept.next; zeroed = kept.zeroed });
+        live = λ live. (let kept = here.live live in record { order = kept.order; pairs = kept.pairs; next = kept.next; zeroed = kept.zeroed; firm = kept.firm; unmarked = kept.unmarked });
       }
 
       write_shut : submit_shuts c h ≡ true → WriteServes (done ++ h ∷ rest)
@@ -219,7 +219,7 @@ module _ (g : Option MergeHeld) (sectors number n : ℕ) (range : Range) (bytes 
           (record { tried = refl; copies = refl; marks = refl; live = λ live. absurd (true≢false (sym live)) }) whole
           (saved_is origin h.snap x (takes_same takes) (saves_full c origin h.snap (lacks on none) (sym (full_same on) ∙ filled)) ∙ saved_dead x refl)
           (by_place None takes on none ∙ cond-false _ _ _ (lacks_copy on none) ∙ cond-true _ _ _ filled ∙ ap (declined Invalid) (put_here g origin done rest [] a k is_this h before pass (spoiled h)))
-          (marks_here g origin done rest [] (Some reply) k (spoiled h) (each_weaker IsIdle (λ (d : Held). d.untried ≡ false) done (λ d i. i.tried) idle_done) refl)
+          (marks_here g origin done rest [] (Some reply) k h (here.live on).unmarked (each_weaker IsIdle IsLater done idle_later idle_done) (each_weaker IsIdle IsLater rest idle_later idle_rest))
 
       -- one that copies the chunk first
       unread : IsUnread (routed Waits ∷ [])
@@ -261,7 +261,7 @@ module _ (g : Option MergeHeld) (sectors number n : ℕ) (range : Range) (bytes 
               tried = e.idle.tried;
               copies = e.idle.copies;
               marks = e.idle.marks;
-              live = λ live. rests_live sectors c origin h e.held whole (here.live on) on (omega arith) (has_same None on none) has_room e.snap (e.pairs live) (e.next live) (e.zeroed live) live;
+              live = λ live. rests_live sectors c origin h e.held whole (here.live on) on (omega arith) (has_same None on none) has_room e.snap (e.pairs live) (e.next live) (e.zeroed live) (e.firm live) (e.unmarked live) live;
             }
 
         copied_idle : Each IsIdle (done ++ e.held ∷ rest)

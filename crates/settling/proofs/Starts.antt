@@ -47,19 +47,23 @@ module _ (sectors : ℕ) where
       ap (with_sectors s.store.bytes (s.chunk * n)) (sym (chunk_front s.chunk sectors c (count_of s.chunk (sectors_of origin) c) origin.bytes whole (ap (λ x. count_of s.chunk x c) (size_is (length origin.bytes) sectors whole))))
 
   -- a copy that was started
-  pub as_holding : (c n : ℕ) (h : Held) → IsResting sectors h → IsKept sectors h → with_copy n c h ≡ holding h.snap h.pairs (stepped h.snap.chunk (next_place h.snap + 1)) false (copying n (record { old = c; new = next_place h.snap }) Waiting [] ∷ []) []
+  pub as_holding : (c n : ℕ) (h : Held) → IsResting sectors h → IsKept sectors h → with_copy n c h ≡ holding h.snap h.pairs (stepped h.snap.chunk (next_place h.snap + 1)) false false (copying n (record { old = c; new = next_place h.snap }) Waiting [] ∷ []) []
   as_holding c n h rest kept =
-      let mk : Bool → ℕ → Bool → List Copying → List Mark → Held = λ (u : Bool) (x : ℕ) (z : Bool) (cs : List Copying) (ms : List Mark). record {
+      let mk : Bool → Bool → ℕ → Bool → Bool → List Copying → List Mark → Held = λ (u : Bool) (b : Bool) (x : ℕ) (z : Bool) (f : Bool) (cs : List Copying) (ms : List Mark). record {
         snap = h.snap;
         untried = u;
+        marked = b;
         pairs = h.pairs;
         next = stepped h.snap.chunk (x + 1);
         zeroed = z;
+        firm = f;
         copies = cs ++ copying n (record { old = c; new = x }) Waiting [] ∷ [];
         marks = ms;
       } in
-      ap (λ u. mk u h.next h.zeroed h.copies h.marks) rest.tried ∙ ap (λ x. mk false x h.zeroed h.copies h.marks) (next_same h kept) ∙ ap (λ z. mk false (next_place h.snap) z h.copies h.marks) kept.zeroed
-      ∙ ap (λ cs. mk false (next_place h.snap) false cs h.marks) rest.copies ∙ ap (mk false (next_place h.snap) false []) rest.marks
+      ap (λ u. mk u h.marked h.next h.zeroed h.firm h.copies h.marks) rest.tried ∙ ap (λ b. mk false b h.next h.zeroed h.firm h.copies h.marks) kept.unmarked
+      ∙ ap (λ x. mk false false x h.zeroed h.firm h.copies h.marks) (next_same h kept) ∙ ap (λ z. mk false false (next_place h.snap) z h.firm h.copies h.marks) kept.zeroed
+      ∙ ap (λ f. mk false false (next_place h.snap) false f h.copies h.marks) kept.firm ∙ ap (λ cs. mk false false (next_place h.snap) false false cs h.marks) rest.copies
+      ∙ ap (mk false false (next_place h.snap) false false []) rest.marks
 
 -- the chunk of this sector was saved, and is saved once its pair is committed
 module _ (sectors first : ℕ) where

@@ -17,7 +17,7 @@ snaps_of (s ∷ snaps) = ap (λ x. s ∷ x) (snaps_of snaps)
 each_rests : (sectors : ℕ) (snaps : List Snap) → Each (IsOrderly sectors) snaps → Each (IsResting sectors) (map at_rest snaps)
 each_rests sectors [] all = tt
 each_rests sectors (s ∷ snaps) all = (
-  record { tried = refl; copies = refl; marks = refl; live = λ on. record { order = all.0 on; pairs = refl; next = refl; zeroed = refl } },
+  record { tried = refl; copies = refl; marks = refl; live = λ on. record { order = all.0 on; pairs = refl; next = refl; zeroed = refl; firm = refl; unmarked = refl } },
   each_rests sectors snaps all.1,
 )
 

@@ -73,6 +73,7 @@ IsAnswered (commands.Resume volume) table old new = new ≡ old
 IsAnswered (commands.Finish volume) table old new = new ≡ old
 IsAnswered (commands.Checkpoint volume) table old new = new ≡ old
 IsAnswered (commands.Stop volume) table old new = (v : ℕ) × (origin_by volume table ≡ Ok v) × (new ≡ remove old v)
+IsAnswered (commands.StopLosing volume) table old new = (v : ℕ) × (origin_by volume table ≡ Ok v) × (new ≡ remove old v)
 IsAnswered (commands.Status device) table old new = new ≡ old
 IsAnswered (commands.Table device) table old new = new ≡ old
 
@@ -97,6 +98,7 @@ IsRefused (commands.Resume volume) table refusal old new = new ≡ old
 IsRefused (commands.Finish volume) table refusal old new = new ≡ old
 IsRefused (commands.Checkpoint volume) table refusal old new = new ≡ old
 IsRefused (commands.Stop volume) table refusal old new = new ≡ old
+IsRefused (commands.StopLosing volume) table refusal old new = new ≡ old
 IsRefused (commands.Status device) table refusal old new = new ≡ old
 IsRefused (commands.Table device) table refusal old new = new ≡ old
 

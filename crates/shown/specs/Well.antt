@@ -60,5 +60,6 @@ IsWellOf (commands.Resume volume) table = Unit {0}
 IsWellOf (commands.Finish volume) table = Unit {0}
 IsWellOf (commands.Checkpoint volume) table = Unit {0}
 IsWellOf (commands.Stop volume) table = Unit {0}
+IsWellOf (commands.StopLosing volume) table = Unit {0}
 IsWellOf (commands.Status device) table = Unit {0}
 IsWellOf (commands.Table device) table = Unit {0}

@@ -4,12 +4,13 @@ use Rattle.std.specs.Prelude.{◌==◌, ◌&&◌, not, None}
 use Rattle.std.specs.List.{All, list_any}
 use Rattle.std.proofs.lemmas.Bool.{true≢false, cases_eq, eq-eqb, eqb-true, cond-true, cond-false}
 use Rattle.std.proofs.lemmas.List.{get_or-map, length-map, drop-map, map_push}
-use Rattle.std.proofs.lemmas.List.Elements.{All-set, All-drop, All-push}
+use Rattle.std.proofs.lemmas.List.Elements.{All-set, All-drop, All-push, All-map}
 use Rattle.std.proofs.Math.Seq.{map-set_same}
 use Rattle.sector.specs.declared.pair.Pair.{Pair}
 use Rattle.model.specs.Pairs.{IsInside}
 use Rattle.model.specs.Picture.{place_of}
 use Rattle.pending.specs.Copies.{count_of, pair_of}
+use Rattle.pending.specs.Flushed.{flushed_copy}
 use Rattle.pending.proofs.Batches.{batch_few}
 use Rattle.pending.specs.declared.copies.ChunkCopy.{ChunkCopy}
 use Rattle.pending.specs.declared.copies.Mark.{Mark}
@@ -32,15 +33,17 @@ copy_inside chunk origin size pairs begun copies k p all agree lt is =
     subst (IsInside chunk origin size) at (here k p.pair (rw length-map lt))
 
 -- copy k goes on, with its pair
-pub copy_set : (live untried stale : Bool) (s : State) (begun : List Pair) (copies : List ChunkCopy) (marks : List Mark) (k : ℕ) (p q : ChunkCopy) → IsSnapshot live untried stale s begun copies marks → k < length copies → p ≡ get_or copies k p → q.pair ≡ p.pair → length q.buffer.items ≡ length p.buffer.items
-    → IsSnapshot live untried stale s begun (set copies k q) marks
-copy_set live untried stale s begun copies marks k p q h lt is same len = record {
+pub copy_set : (live untried marked stale : Bool) (s : State) (begun : List Pair) (copies : List ChunkCopy) (marks : List Mark) (k : ℕ) (p q : ChunkCopy) → IsSnapshot live untried marked stale s begun copies marks → k < length copies → p ≡ get_or copies k p → q.pair ≡ p.pair → length q.buffer.items ≡ length p.buffer.items
+    → IsSnapshot live untried marked stale s begun (set copies k q) marks
+copy_set live untried marked stale s begun copies marks k p q h lt is same len = record {
   allowed = h.allowed;
   ready = h.ready;
   copying = h.copying;
   tried = h.tried;
   sound = h.sound;
   failed = h.failed;
+  dead = h.dead;
+  written = h.written;
   valid = h.valid;
   agree = h.agree ∙ sym (map-set_same pair_of copies k q p (same ∙ ap pair_of is));
   buffers = All-set (IsBuffered s.chunk s.origin) copies k q
@@ -62,8 +65,11 @@ pub record IsLike (s t : State) : Type 0 where
 pub like_same : (s t : State) → t ≡ s → IsLike s t
 like_same s t is = record { chunk = ap (λ x. x.chunk) is; origin = ap (λ x. x.origin) is; size = ap (λ x. x.size) is; left = ap (λ x. x.left) is; copying = ap (λ x. x.copying) is; valid = ap (λ x. x.valid) is }
 
-pub like_zeroed : (s t : State) → t ≡ record s { zeroed = true } → IsLike s t
+pub like_zeroed : (s t : State) → t ≡ record s { zeroed = true; firm = false } → IsLike s t
 like_zeroed s t is = record { chunk = ap (λ x. x.chunk) is; origin = ap (λ x. x.origin) is; size = ap (λ x. x.size) is; left = ap (λ x. x.left) is; copying = ap (λ x. x.copying) is; valid = ap (λ x. x.valid) is }
+
+pub like_firm : (s t : State) → t ≡ record s { firm = s.zeroed } → IsLike s t
+like_firm s t is = record { chunk = ap (λ x. x.chunk) is; origin = ap (λ x. x.origin) is; size = ap (λ x. x.size) is; left = ap (λ x. x.left) is; copying = ap (λ x. x.copying) is; valid = ap (λ x. x.valid) is }
 
 like_committed : (s : State) (count : ℕ) (b : Bool) → s.filled + count == 32 * s.chunk ≡ b → IsLike s (after_commit s count)
 like_committed s count true is = subst (IsLike s) (sym (cond-true _ _ _ is)) (record { chunk = refl; origin = refl; size = refl; left = refl; copying = refl; valid = refl })
@@ -85,7 +91,7 @@ needs_is s copies is = eqb-true (s.filled + batch_of s copies) (32 * s.chunk) (a
     and_first false b h = h
 
 -- it is zeroed for the first copies
-pub ahead_zeroed : (live : Bool) (s t : State) (copies : List ChunkCopy) → t ≡ record s { zeroed = true } → 0 < length copies → s.filled + batch_of s copies ≡ 32 * s.chunk → IsAhead live t (length copies)
+pub ahead_zeroed : (live : Bool) (s t : State) (copies : List ChunkCopy) → t ≡ record s { zeroed = true; firm = false } → 0 < length copies → s.filled + batch_of s copies ≡ 32 * s.chunk → IsAhead live t (length copies)
 ahead_zeroed live s t copies is some due =
     subst (λ (x : State). IsAhead live x (length copies)) (sym is) (λ alive zeroed. (some, omega (arith, due, batch_few (32 * s.chunk - s.filled) copies)))
 
@@ -105,15 +111,21 @@ pub ahead_commit : (live : Bool) (s t : State) (n count : ℕ) → t ≡ after_c
 ahead_commit live s t n count is fits few h =
     subst (λ (x : State). IsAhead live x (n - count)) (sym is) (ahead_committed live s n count (s.filled + count == 32 * s.chunk) refl fits few h)
 
+-- a flush zeroes nothing
+pub ahead_firm : (live : Bool) (s t : State) (n : ℕ) → t ≡ record s { firm = s.zeroed } → IsAhead live s n → IsAhead live t n
+ahead_firm live s t n is h = subst (λ (x : State). IsAhead live x n) (sym is) h
+
 -- the store's state changes, and the copies stay
-pub state_kept : (live untried stale : Bool) (s t : State) (begun begun' : List Pair) (copies : List ChunkCopy) (marks : List Mark) → IsSnapshot live untried stale s begun copies marks → IsLike s t → begun' ≡ begun → IsAhead live t (length copies) → IsSnapshot live untried stale t begun' copies marks
-state_kept live untried stale s t begun begun' copies marks h like is ahead = record {
+pub state_kept : (live untried marked stale : Bool) (s t : State) (begun begun' : List Pair) (copies : List ChunkCopy) (marks : List Mark) → IsSnapshot live untried marked stale s begun copies marks → IsLike s t → begun' ≡ begun → IsAhead live t (length copies) → IsSnapshot live untried marked stale t begun' copies marks
+state_kept live untried marked stale s t begun begun' copies marks h like is ahead = record {
   allowed = rw like.chunk h.allowed;
   ready = like.left ∙ h.ready;
   copying = λ alive. like.copying ∙ h.copying alive;
   tried = h.tried;
   sound = h.sound;
   failed = h.failed;
+  dead = h.dead;
+  written = h.written;
   valid = like.valid ∙ h.valid;
   agree = is ∙ h.agree;
   buffers = rw (like.chunk, like.origin) h.buffers;
@@ -122,20 +134,53 @@ state_kept live untried stale s t begun begun' copies marks h like is ahead = re
   ahead = ahead;
 }
 
+-- the store is flushed
+pub flushed_pair : (p : ChunkCopy) → pair_of (flushed_copy p) ≡ pair_of p
+flushed_pair p = refl
+
+pub pairs_flushed : (copies : List ChunkCopy) → map pair_of (map flushed_copy copies) ≡ map pair_of copies
+pairs_flushed [] = refl
+pairs_flushed (p ∷ copies) = ap (λ x. p.pair ∷ x) (pairs_flushed copies)
+
+buffers_flushed : (chunk origin : ℕ) (copies : List ChunkCopy) → All (IsBuffered chunk origin) copies → All (IsBuffered chunk origin) (map flushed_copy copies)
+buffers_flushed chunk origin copies all = All-map (IsBuffered chunk origin) flushed_copy copies (λ k d lt. record { room = (all k d lt).room })
+
+pub copies_flushed : (live untried marked stale : Bool) (s t : State) (begun begun' : List Pair) (copies : List ChunkCopy) (marks marks' : List Mark) → live ≡ true → IsSnapshot live untried marked stale s begun copies marks → t ≡ record s { firm = s.zeroed } → begun' ≡ begun → IsSnapshot live untried marked stale t begun' (map flushed_copy copies) marks'
+copies_flushed live untried marked stale s t begun begun' copies marks marks' alive h is same =
+    let like = like_firm s t is in
+    record {
+      allowed = rw like.chunk h.allowed;
+      ready = like.left ∙ h.ready;
+      copying = λ alive. like.copying ∙ h.copying alive;
+      tried = h.tried;
+      sound = h.sound;
+      failed = h.failed;
+      dead = h.dead;
+      written = h.written;
+      valid = like.valid ∙ h.valid;
+      agree = same ∙ h.agree ∙ sym (pairs_flushed copies);
+      buffers = rw (like.chunk, like.origin) (buffers_flushed s.chunk s.origin copies h.buffers);
+      idle = λ dead. absurd (true≢false (sym alive ∙ dead));
+      unmarked = λ dead. absurd (true≢false (sym alive ∙ dead));
+      ahead = subst (IsAhead live t) (sym (length-map copies flushed_copy)) (ahead_firm live s t (length copies) is h.ahead);
+    }
+
 -- the store's state stays too
-pub state_same : (live untried stale : Bool) (s t : State) (begun begun' : List Pair) (copies : List ChunkCopy) (marks : List Mark) → IsSnapshot live untried stale s begun copies marks → t ≡ s → begun' ≡ begun → IsSnapshot live untried stale t begun' copies marks
-state_same live untried stale s t begun begun' copies marks h same is =
-    state_kept live untried stale s t begun begun' copies marks h (like_same s t same) is (ahead_same live s t (length copies) same h.ahead)
+pub state_same : (live untried marked stale : Bool) (s t : State) (begun begun' : List Pair) (copies : List ChunkCopy) (marks : List Mark) → IsSnapshot live untried marked stale s begun copies marks → t ≡ s → begun' ≡ begun → IsSnapshot live untried marked stale t begun' copies marks
+state_same live untried marked stale s t begun begun' copies marks h same is =
+    state_kept live untried marked stale s t begun begun' copies marks h (like_same s t same) is (ahead_same live s t (length copies) same h.ahead)
 
 -- the first copies are committed
-pub copies_drop : (live untried stale : Bool) (s t : State) (begun begun' : List Pair) (copies : List ChunkCopy) (marks marks' : List Mark) (n : ℕ) → live ≡ true → IsSnapshot live untried stale s begun copies marks → IsLike s t → begun' ≡ drop n begun → IsAhead live t (length copies - n) → IsSnapshot live untried stale t begun' (drop n copies) marks'
-copies_drop live untried stale s t begun begun' copies marks marks' n alive h like is ahead = record {
+pub copies_drop : (live untried marked stale : Bool) (s t : State) (begun begun' : List Pair) (copies : List ChunkCopy) (marks marks' : List Mark) (n : ℕ) → live ≡ true → IsSnapshot live untried marked stale s begun copies marks → IsLike s t → begun' ≡ drop n begun → IsAhead live t (length copies - n) → IsSnapshot live untried marked stale t begun' (drop n copies) marks'
+copies_drop live untried marked stale s t begun begun' copies marks marks' n alive h like is ahead = record {
   allowed = rw like.chunk h.allowed;
   ready = like.left ∙ h.ready;
   copying = λ alive. like.copying ∙ h.copying alive;
   tried = h.tried;
   sound = h.sound;
   failed = h.failed;
+  dead = h.dead;
+  written = h.written;
   valid = like.valid ∙ h.valid;
   agree = is ∙ ap (drop n) h.agree ∙ drop-map pair_of n copies;
   buffers = rw (like.chunk, like.origin) (All-drop (IsBuffered s.chunk s.origin) n copies h.buffers);
@@ -145,15 +190,17 @@ copies_drop live untried stale s t begun begun' copies marks marks' n alive h li
 }
 
 -- a copy is started
-pub copies_push : (live untried stale : Bool) (s : State) (begun begun' : List Pair) (copies : List ChunkCopy) (marks : List Mark) (p : ChunkCopy) → live ≡ true → IsSnapshot live untried stale s begun copies marks → begun' ≡ begun ++ p.pair ∷ [] → length p.buffer.items ≡ 512 * count_of s.chunk s.origin p.pair.old
-    → IsSnapshot live untried stale s begun' (copies ++ p ∷ []) marks
-copies_push live untried stale s begun begun' copies marks p alive h is room = record {
+pub copies_push : (live untried marked stale : Bool) (s : State) (begun begun' : List Pair) (copies : List ChunkCopy) (marks : List Mark) (p : ChunkCopy) → live ≡ true → IsSnapshot live untried marked stale s begun copies marks → begun' ≡ begun ++ p.pair ∷ [] → length p.buffer.items ≡ 512 * count_of s.chunk s.origin p.pair.old
+    → IsSnapshot live untried marked stale s begun' (copies ++ p ∷ []) marks
+copies_push live untried marked stale s begun begun' copies marks p alive h is room = record {
   allowed = h.allowed;
   ready = h.ready;
   copying = h.copying;
   tried = h.tried;
   sound = h.sound;
   failed = h.failed;
+  dead = h.dead;
+  written = h.written;
   valid = h.valid;
   agree = is ∙ ap (λ x. x ++ p.pair ∷ []) h.agree ∙ sym (map_push pair_of copies p);
   buffers = All-push (IsBuffered s.chunk s.origin) copies p h.buffers (record { room = room });

@@ -11,7 +11,7 @@ use Rattle.model.specs.NextPlace.{stepped}
 use Rattle.pending.specs.Copies.{count_of}
 use Rattle.pending.specs.declared.copies.ChunkCopy.{ChunkCopy}
 use Rattle.pending.specs.declared.copies.Mark.{Mark}
-use Rattle.pending.specs.declared.copies.Stage.TheVariants.{Waiting, Read, Written}
+use Rattle.pending.specs.declared.copies.Stage.TheVariants.{Waiting, Read, Written, Flushed}
 use Rattle.exception_arena.specs.declared.begun.Begun.{Begun}
 use Rattle.exception_arena.specs.Pending.{pairs, pair_of}
 use Rattle.store.specs.declared.state.State.{State}
@@ -28,7 +28,7 @@ reads_at contents layers origin k p q v w is within was to len = subst (ReadsAt 
   copy = to;
   fields = refl;
   event = record {
-    same = record { number = refl; live = refl; untried = refl; loud = refl; chunk = refl; sectors = refl; size = refl; overflow = refl };
+    same = record { number = refl; live = refl; untried = refl; marked = refl; loud = refl; chunk = refl; sectors = refl; size = refl; overflow = refl };
     store = record { store = refl; pairs = refl; begun = refl };
     copy = record { within = within; was = was; pair = to.pair; copies = refl };
     marks = refl;
@@ -46,7 +46,7 @@ writes_at contents layers k p q v w d is within was read to loud only written = 
   copy = to;
   fields = refl;
   event = record {
-    same = record { number = refl; live = refl; untried = refl; loud = loud; chunk = refl; sectors = refl; size = refl; overflow = refl };
+    same = record { number = refl; live = refl; untried = refl; marked = refl; loud = loud; chunk = refl; sectors = refl; size = refl; overflow = refl };
     pairs = refl;
     begun = refl;
     copy = record { within = within; was = was; pair = to.pair; copies = refl };
@@ -65,7 +65,7 @@ pub starts_at : {B : Type 0} (contents : B → List ℕ) (layers : B → List La
 starts_at contents layers p v w is stage room text = subst (StartsAt contents layers p v) (sym is) (record {
   fields = refl;
   event = record {
-    same = record { number = refl; live = refl; untried = refl; loud = refl; chunk = refl; sectors = refl; size = refl; overflow = refl };
+    same = record { number = refl; live = refl; untried = refl; marked = refl; loud = refl; chunk = refl; sectors = refl; size = refl; overflow = refl };
     pairs = refl;
     store = refl;
     begun = refl;
@@ -84,7 +84,7 @@ pub starts_merging : {B : Type 0} (contents : B → List ℕ) (layers : B → Li
 starts_merging contents layers p v w is stage room text = subst (StartsMerging contents layers p v) (sym is) (record {
   fields = refl;
   event = record {
-    same = record { number = refl; live = refl; untried = refl; loud = refl; chunk = refl; sectors = refl; size = refl; overflow = refl };
+    same = record { number = refl; live = refl; untried = refl; marked = refl; loud = refl; chunk = refl; sectors = refl; size = refl; overflow = refl };
     pairs = refl;
     store = refl;
     begun = refl;
@@ -110,11 +110,11 @@ commit_fields count d t t' v pending ps bs cs ms b begun state committed dropped
     rw (state, first, rest, copies, marks, spare) refl
 
 -- the first copies are committed
-pub commits_at : {B : Type 0} (contents : B → List ℕ) (layers : B → List Layer) (count : ℕ) (v w : Kept B) (d : B) (t : State) → w ≡ committed_as count d t v → IsLike v.state t → count ≤ length v.copies → All (λ p. p.stage ≡ Written) (take count v.copies)
+pub commits_at : {B : Type 0} (contents : B → List ℕ) (layers : B → List Layer) (count : ℕ) (v w : Kept B) (d : B) (t : State) → w ≡ committed_as count d t v → IsLike v.state t → count ≤ length v.copies → All (λ p. p.stage ≡ Flushed) (take count v.copies)
     → is_loud (layers d) ≡ is_loud (layers v.device) → ChangesOnly v.state.chunk (area_place v.state.chunk v.state.current) (contents v.device) (contents d)
     → (is_loud (layers v.device) ≡ true → pairs_of v.state.chunk (contents d) ≡ w.pairs) → Commits count v.state.current (books_of contents layers v) (books_of contents layers w)
 commits_at contents layers count v w d t is like few ready loud only stored = record {
-  same = record { number = ap (λ x. x.number) is; live = ap (λ x. x.live) is; untried = ap (λ x. x.untried) is; loud = ap (λ x. is_loud (layers x.device)) is ∙ loud; overflow = ap (λ x. x.overflow) is; chunk = ap (λ x. x.state.chunk) is ∙ like.chunk; sectors = ap (λ x. x.state.origin) is ∙ like.origin; size = ap (λ x. x.state.size) is ∙ like.size };
+  same = record { number = ap (λ x. x.number) is; live = ap (λ x. x.live) is; untried = ap (λ x. x.untried) is; marked = ap (λ x. x.marked) is; loud = ap (λ x. is_loud (layers x.device)) is ∙ loud; overflow = ap (λ x. x.overflow) is; chunk = ap (λ x. x.state.chunk) is ∙ like.chunk; sectors = ap (λ x. x.state.origin) is ∙ like.origin; size = ap (λ x. x.state.size) is ∙ like.size };
   few = few;
   ready = ready;
   pairs = ap (λ x. x.pairs) is;

@@ -4,6 +4,7 @@ pub mod Stores
 pub mod Events
 pub mod Openings
 pub mod Tries
+pub mod Loads
 pub mod Rests
 pub mod Spared
 pub mod Stops

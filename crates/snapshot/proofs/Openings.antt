@@ -72,15 +72,19 @@ opened_origin line origin size bytes s ps (inr w) = w.rest.0
 
 pub opened_copying : (line origin size : ℕ) (bytes : List ℕ) (s : State) (ps : List Pair) → IsOpenedAs line origin size bytes s ps → s.copying ≡ true
 opened_copying line origin size bytes s ps (inl f) = ap (λ (t : State). t.copying) f.state
-opened_copying line origin size bytes s ps (inr w) = w.rest.3
+opened_copying line origin size bytes s ps (inr w) = w.rest.5
+
+pub opened_waits : (line origin size : ℕ) (bytes : List ℕ) (s : State) (ps : List Pair) → IsOpenedAs line origin size bytes s ps → s.awaits ≡ true
+opened_waits line origin size bytes s ps (inl f) = ap (λ (t : State). t.awaits) f.state
+opened_waits line origin size bytes s ps (inr w) = w.rest.4
 
 -- a snapshot over an opened store whose load is written
 pub opened_is : {B : Type 0} (contents : B → List ℕ) (layers : B → List Layer) (number line origin size : ℕ) (overflow : Bool) (device dev : B) (loaded st : State) (next : ℕ) (pairs : List Pair) (s : Kept B)
-    → s ≡ record { number = number; live = true; untried = false; stale = false; overflow = overflow_of overflow; device = dev; state = st; next = next; pairs = pairs; begun = []; copies = []; marks = []; room = 0; kept_back = 0; spare = false; merging = None }
-    → st ≡ record loaded { left = Nothing } → IsOpenedAs line origin size (contents device) loaded pairs → IsNextPlace st.chunk (map new_of pairs) next
+    → s ≡ record { number = number; live = true; untried = false; marked = false; stale = false; overflow = overflow_of overflow; device = dev; state = st; next = next; pairs = pairs; begun = []; copies = []; marks = []; room = 0; kept_back = 0; spare = false; merging = None }
+    → st ≡ record loaded { left = Nothing; awaits = false } → IsOpenedAs line origin size (contents device) loaded pairs → IsNextPlace st.chunk (map new_of pairs) next
     → (is_loud (layers device) ≡ true → contents dev ≡ prepared loaded.left loaded (contents device)) → IsOpened contents layers number line origin size overflow device s
 opened_is {B} contents layers number line origin size overflow device dev loaded st next pairs s fields state opened place bytes =
-    let kept : State → Kept B = λ t. record { number = number; live = true; untried = false; stale = false; overflow = overflow_of overflow; device = dev; state = t; next = next; pairs = pairs; begun = []; copies = []; marks = []; room = 0; kept_back = 0; spare = false; merging = None } in
+    let kept : State → Kept B = λ t. record { number = number; live = true; untried = false; marked = false; stale = false; overflow = overflow_of overflow; device = dev; state = t; next = next; pairs = pairs; begun = []; copies = []; marks = []; room = 0; kept_back = 0; spare = false; merging = None } in
     subst (IsOpened contents layers number line origin size overflow device) (sym fields) (record {
       loaded = loaded;
       opened = opened;

@@ -1,5 +1,5 @@
 -- A live snapshot of which nothing is under way is what its store's bytes say.
-use Rattle.std.proofs.Common.{◌≡◌, inl, inr, ℕ, ◌+◌, ◌*◌, ◌/◌, ◌%◌, ◌<◌, ◌≤◌, Bool, true, false, List, [], ◌++◌, length, map, arith, ap, ◌∙◌, sym, subst, append-nil}
+use Rattle.std.proofs.Common.{◌≡◌, inl, inr, ℕ, ◌+◌, ◌*◌, ◌/◌, ◌%◌, ◌<◌, ◌≤◌, Bool, true, false, List, [], ◌++◌, length, map, arith, ap, ◌∙◌, refl, sym, subst, append-nil}
 use Rattle.std.proofs.lemmas.Bool.{cases_Bool}
 use Rattle.std.proofs.lemmas.Nat.{div-mul-add, mod-mul-add}
 use Rattle.sector.specs.declared.pair.Pair.{Pair}
@@ -22,6 +22,16 @@ none_ahead live s n alive none h = elim (cases_Bool s.zeroed) [
   | inl zeroed ↦ (let some = (h alive zeroed).0 in absurd (omega (arith, some, none)))
   | inr other ↦ other
 ]
+
+-- so none is firm
+pub none_firm : (firm zeroed : Bool) → (firm ≡ true → zeroed ≡ true) → zeroed ≡ false → firm ≡ false
+none_firm true zeroed h none = sym (h refl) ∙ none
+none_firm false zeroed h none = refl
+
+-- a live one is not marked invalid
+pub none_marked : (live marked : Bool) → (marked ≡ true → live ≡ false) → live ≡ true → marked ≡ false
+none_marked live true h alive = sym alive ∙ h refl
+none_marked live false h alive = refl
 
 module _ (bytes area : List ℕ) (ps : List Pair) (s : State) (front : IsFront ps s area) (stored : IsStored bytes ps s area) (ready : s.left ≡ Nothing) (copying : s.copying ≡ true) where
   -- the pairs end in the current area

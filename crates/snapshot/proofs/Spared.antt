@@ -8,6 +8,7 @@ use Rattle.std.proofs.lemmas.Bool.{cases_Bool, eq-eqb, true≢false, MatchBool-a
 use Rattle.std.proofs.lemmas.List.Folds.{list_any-append}
 use Rattle.std.proofs.lemmas.List.{append_assoc, map-append}
 use Rattle.std.specs.Option.{is_some}
+use Rattle.pending.specs.Flushed.{flushed_copy}
 use Rattle.pending.specs.declared.copies.ChunkCopy.{ChunkCopy}
 use Rattle.pending.specs.declared.copies.Mark.{Mark}
 use Rattle.snapshot.specs.Held.{HasRoom, IsLent, IsSpared, copies_kept, marks_kept}
@@ -139,3 +140,11 @@ room_merging room kept left reserved reserved' copies copies' marks room_copies 
       for_copies = omega (arith, h.for_copies, slot, slot', len, cap);
       for_marks = omega (arith, h.for_marks, mark, mark', len);
     }
+
+-- the store is flushed: a copy keeps its number and its buffer
+lent_flushed : (room n : ℕ) (copies : List ChunkCopy) → IsLent room n copies → IsLent room n (map flushed_copy copies)
+lent_flushed room n [] h = absurd h
+lent_flushed room n (c ∷ cs) h = match_more (c.number == n) (room ≤ vec_capacity c.buffer) (IsLent room n cs) (IsLent room n (map flushed_copy cs)) (lent_flushed room n cs) h
+
+pub spared_flushed : (chunk : ℕ) (spare : Option (Vec ℕ)) (m : Option ℕ) (copies : List ChunkCopy) → IsSpared chunk spare m copies → IsSpared chunk spare m (map flushed_copy copies)
+spared_flushed chunk spare m copies h = record { here = h.here; lent = λ n none some. lent_flushed (512 * chunk) n copies (h.lent n none some) }

@@ -1,7 +1,8 @@
 -- A stop within a call of a snapshot, from what its store says of it.
 use Rattle.std.proofs.Common.{◌≡◌, ◌≢◌, ℕ, ◌+◌, ◌*◌, ◌<◌, Bool, true, false, List, [], ◌++◌, length, get_or, map, take, drop, arith, refl, ap, ◌∙◌, sym, subst, length-append, append_assoc}
-use Rattle.std.specs.Prelude.{◌||◌, Some, AllPairs}
+use Rattle.std.specs.Prelude.{not, Some, AllPairs}
 use Rattle.std.specs.List.{All}
+use Rattle.std.proofs.lemmas.Bool.{true≢false}
 use Rattle.std.proofs.lemmas.List.Elements.{All-map, All-take}
 use Rattle.std.proofs.lemmas.List.{get_or_append_left, get_or-append-add, get_or-map, length-map, take-append-drop, take-map}
 use Rattle.sector.specs.declared.pair.Pair.{Pair}
@@ -14,7 +15,7 @@ use Rattle.exception_arena.specs.declared.begun.Begun.{Begun}
 use Rattle.exception_arena.specs.Pending as arena
 use Rattle.pending.specs.Copies.{pair_of}
 use Rattle.pending.specs.declared.copies.ChunkCopy.{ChunkCopy}
-use Rattle.pending.specs.declared.copies.Stage.TheVariants.{Written}
+use Rattle.pending.specs.declared.copies.Stage.TheVariants.{Flushed}
 use Rattle.pending.specs.declared.flights.Flight.{Flight}
 use Rattle.store.specs.Shown.{StopsSame, StopsBetween, StopsInvalid}
 use Rattle.store.specs.Stopping.{StopsWithin, StopsMarking}
@@ -24,7 +25,7 @@ use Rattle.store.specs.declared.state.State.{State}
 use Rattle.store.proofs.Shown.{same_shown, more_shown, invalid_shown, header_unnamed}
 use Rattle.store.proofs.Stops.{still_stops}
 use Rattle.volume_laws.specs.Books.{SnapBooks}
-use Rattle.volume_laws.specs.Held.{CopyHolds, LiveHolds}
+use Rattle.volume_laws.specs.Held.{CopyHolds, LiveHolds, is_stored}
 use Rattle.volume_laws.proofs.Committing.{fresh_pairs}
 use Rattle.volume_laws.proofs.Lists.{All-front, AllPairs-front}
 
@@ -37,27 +38,24 @@ copy_unnamed pairs begun copies k p apart agree lt is c e =
     let two = apart j (length pairs + k) p.pair (omega arith) (omega (arith, length-append pairs begun)) in
     two.new (ap (λ (q : Pair). q.new) (get_or_append_left pairs begun p.pair j low) ∙ (at p.pair).1 ∙ sym (ap (λ (q : Pair). q.new) here))
 
--- a live snapshot's store is not marked invalid, and neither is one whose mark is untried
-pub valid_live : (live untried stale valid : Bool) → valid ≡ (live || (untried || stale)) → live ≡ true → valid ≡ true
-valid_live live untried stale valid is alive = is ∙ ap (λ b. b || (untried || stale)) alive
+-- a live snapshot's store is not marked invalid, and neither is one whose mark is to be written
+pub valid_live : (live marked valid : Bool) → (marked ≡ true → live ≡ false) → valid ≡ not marked → live ≡ true → valid ≡ true
+valid_live live true valid dead is alive = absurd (true≢false (sym alive ∙ dead refl))
+valid_live live false valid dead is alive = is
 
-pub valid_untried : (live untried stale valid : Bool) → valid ≡ (live || (untried || stale)) → untried ≡ true → valid ≡ true
-valid_untried live untried stale valid is waits = is ∙ ap (λ b. live || (b || stale)) waits ∙ either live
-  where
-    either : (b : Bool) → (b || true) ≡ true
-    either true = refl
-    either false = refl
+pub valid_unmarked : (marked valid : Bool) → valid ≡ not marked → marked ≡ false → valid ≡ true
+valid_unmarked marked valid is none = is ∙ ap not none
 
 -- the first of the copies that are under way are apart from the committed ones
 first_apart : (ps : List Pair) (n : ℕ) (qs : List Pair) → AllPairs IsApart (ps ++ qs) → AllPairs IsApart (ps ++ take n qs)
 first_apart ps n qs apart = AllPairs-front IsApart (ps ++ take n qs) (drop n qs) (subst (AllPairs IsApart) (sym (append_assoc ps (take n qs) (drop n qs) ∙ ap (λ z. ps ++ z) (take-append-drop n qs))) apart)
 
--- the first copies, all of them written, have the origin's bytes at their places
-pub written_copied : (count : ℕ) (origin : List ℕ) (rs : List Flight) (v : SnapBooks) → LiveHolds origin rs v → v.loud ≡ true → All (λ (p : ChunkCopy). p.stage ≡ Written) (take count v.copies) → All (IsCopied v.chunk origin v.store) (take count v.begun)
+-- the first copies, all of them written and flushed, have the origin's bytes at their places
+pub written_copied : (count : ℕ) (origin : List ℕ) (rs : List Flight) (v : SnapBooks) → LiveHolds origin rs v → v.loud ≡ true → All (λ (p : ChunkCopy). p.stage ≡ Flushed) (take count v.copies) → All (IsCopied v.chunk origin v.store) (take count v.begun)
 written_copied count origin rs v h loud ready =
     let here : take count v.begun ≡ map pair_of (take count v.copies) = ap (take count) h.agree ∙ take-map pair_of count v.copies in
     subst (All (IsCopied v.chunk origin v.store)) (sym here) (All-map (IsCopied v.chunk origin v.store) pair_of (take count v.copies)
-    (λ k d lt. (All-take (CopyHolds v.loud v.chunk v.sectors origin v.store) count v.copies h.copies k d lt).written loud (ready k d lt)))
+    (λ k d lt. (All-take (CopyHolds v.loud v.chunk v.sectors origin v.store) count v.copies h.copies k d lt).written loud (ap is_stored (ready k d lt))))
 
 module _ (ps begun : List Pair) (s : State) (area old new : List ℕ) (place : ℕ) (front : IsFront ps s area) (given : AreGiven s.chunk s.origin s.size place s.copying ps begun) (ready : s.left ≡ Nothing) (whole : length old ≡ 512 * s.size) (stored : IsStored old ps s area) where
   -- a copy is written

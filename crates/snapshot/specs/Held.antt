@@ -1,5 +1,5 @@
 -- What a snapshot keeps true of itself. This project's own.
-use Rattle.std.specs.Prelude.{◌≡◌, ◌==◌, ℕ, ◌+◌, ◌*◌, ◌^◌, ◌<◌, ◌≤◌, ◌||◌, Bool, true, false, List, [], ◌∷◌, length, map, Option, Some, None, MatchBool, vec_capacity}
+use Rattle.std.specs.Prelude.{◌≡◌, ◌==◌, ℕ, ◌+◌, ◌*◌, ◌^◌, ◌<◌, ◌≤◌, not, Bool, true, false, List, [], ◌∷◌, length, map, Option, Some, None, MatchBool, vec_capacity}
 use Rattle.std.specs.List.{All}
 use Rattle.std.specs.Global.{Vec}
 use Rattle.sector.specs.declared.pair.Pair.{Pair}
@@ -20,15 +20,18 @@ abbrev pub IsAhead : Bool → State → ℕ → Type 0
 IsAhead live s copies = live ≡ true → s.zeroed ≡ true → (0 < copies) × (32 * s.chunk ≤ s.filled + copies)
 
 -- Its flags, its store's state, the pairs that the store began, its copies and its marks. A live one's store takes copies;
--- a spoiled one has none, and a mark fails only where it was tried. The store is marked invalid once the mark was written.
-pub record IsSnapshot (live untried stale : Bool) (s : State) (begun : List Pair) (copies : List ChunkCopy) (marks : List Mark) : Type 0 where
+-- a spoiled one has none, and a mark fails only where it was tried. The store is marked invalid once the mark was written,
+-- which is of a spoiled one, and was where the mark was tried and did not fail.
+pub record IsSnapshot (live untried marked stale : Bool) (s : State) (begun : List Pair) (copies : List ChunkCopy) (marks : List Mark) : Type 0 where
   pub allowed : is_chunk s.chunk ≡ true
   pub ready : s.left ≡ Nothing
   pub copying : live ≡ true → s.copying ≡ true
   pub tried : live ≡ true → untried ≡ false
   pub sound : live ≡ true → stale ≡ false
   pub failed : stale ≡ true → untried ≡ false
-  pub valid : s.valid ≡ (live || (untried || stale))
+  pub dead : marked ≡ true → live ≡ false
+  pub written : live ≡ false → untried ≡ false → stale ≡ false → marked ≡ true
+  pub valid : s.valid ≡ not marked
   pub agree : begun ≡ map pair_of copies
   pub buffers : All (IsBuffered s.chunk s.origin) copies
   pub idle : live ≡ false → copies ≡ []

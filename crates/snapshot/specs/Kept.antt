@@ -12,14 +12,15 @@ use Rattle.store.specs.declared.state.State.{State}
 use Rattle.volume_laws.specs.Books.{SnapBooks}
 use Rattle.volume_laws.specs.Due.{DueSnap}
 
--- A snapshot, with the device of its store. untried: it is spoiled, and its store's header was not yet marked invalid;
--- stale: that mark failed. overflow: what a write of it does that finds its store full, and whether one did. next: the store's next place. begun: the pairs that the store began and did not commit.
+-- A snapshot, with the device of its store. untried: it is spoiled, and the mark that its store is invalid was not yet tried:
+-- written, and flushed since. marked: its header was written with that mark. stale: the mark failed, or its flush did. overflow: what a write of it does that finds its store full, and whether one did. next: the store's next place. begun: the pairs that the store began and did not commit.
 -- room: how many copies may start without more memory. kept_back: how many more a merge may start, one at a time; spare:
 -- whether the buffer for its next one is there; merging: the number of the one that it started, until that is published.
 pub record Kept (B : Type 0) : Type 0 where
   pub number : ℕ
   pub live : Bool
   pub untried : Bool
+  pub marked : Bool
   pub stale : Bool
   pub overflow : Overflowing
   pub device : B
@@ -40,6 +41,7 @@ books_of contents layers s = record {
   number = s.number;
   live = s.live;
   untried = s.untried;
+  marked = s.marked;
   overflow = s.overflow;
   loud = is_loud (layers s.device);
   chunk = s.state.chunk;
@@ -56,9 +58,17 @@ books_of contents layers s = record {
 abbrev pub batch_of : State → List ChunkCopy → ℕ
 batch_of s copies = batch (32 * s.chunk - s.filled) copies
 
--- whether the last of them fills the current area, and the next area is not zeroed yet
+-- whether the last of them fills the current area
+abbrev pub fills_area : State → List ChunkCopy → Bool
+fills_area s copies = s.filled + batch_of s copies == 32 * s.chunk
+
+-- and the next area is not zeroed yet
 abbrev pub needs_area : State → List ChunkCopy → Bool
-needs_area s copies = (s.filled + batch_of s copies == 32 * s.chunk) && not s.zeroed
+needs_area s copies = fills_area s copies && not s.zeroed
+
+-- or is, and the store was not flushed since, or is not
+abbrev pub waits_area : State → List ChunkCopy → Bool
+waits_area s copies = fills_area s copies && not s.firm
 
 -- whether the copy that a merge started is one of these
 abbrev pub is_among : Option ℕ → List ChunkCopy → Bool
@@ -77,4 +87,4 @@ unpublished n (Some k) = if k == n then None else Some k
 
 -- what says which of its events are due
 abbrev pub due_of_kept : {B : Type 0} → (B → List ℕ) → (B → List Layer) → Kept B → DueSnap
-due_of_kept contents layers s = record { books = books_of contents layers s; needs = needs_area s.state s.copies; zeroed = s.state.zeroed }
+due_of_kept contents layers s = record { books = books_of contents layers s; needs = needs_area s.state s.copies; waits = waits_area s.state s.copies; zeroed = s.state.zeroed; firm = s.state.firm }

@@ -1,12 +1,13 @@
 -- What a stop before, within or after the opening of a snapshot leaves of its store, while no device drops writes. The writes of
--- a load are done one after another, and a stop within one leaves each sector as it was or as that write gives it, each by
+-- a load are done one after another, a flush changes no byte, and a stop within one leaves each sector as it was or as that write gives it, each by
 -- itself. This project's own; the bytes are those of dm-snap-persistent.c.
 use Rattle.std.specs.Prelude.{◌≡◌, ◌⊎◌, ℕ, ◌*◌, List, [], Result, Ok, Err, replicate}
-use Rattle.sector.specs.Bytes.{with_sectors}
+use Rattle.sector.specs.Bytes.{sector_at, with_sectors}
 use Rattle.sector.specs.declared.pair.Pair.{Pair}
 use Rattle.sector.specs.declared.refusal.Refusal.{Refusal}
-use Rattle.model.specs.Places.{area_place}
+use Rattle.model.specs.Places.{area_place, ChangesOnly}
 use Rattle.model.specs.Pairs.{pairs_of}
+use Rattle.cow_header.specs.HeaderText.{found_in}
 use Rattle.cow_header.specs.declared.found.Found.{Found}
 use Rattle.cow_header.specs.declared.found.Found.TheVariants.{Fresh, Header}
 use Rattle.store.specs.declared.state.Left.{Left}
@@ -35,6 +36,13 @@ StopsOpening line origin size (Ok Fresh) old new =
 StopsOpening line origin size (Ok (Header chunk)) old new = (torn : List ℕ) → IsTorn size old new torn → LoadsFirst chunk origin size (pairs_of chunk old) [] torn
 StopsOpening line origin size (Err refusal) old new = ⊥
 
--- one that is given back is as it was, or fresh as it was
-abbrev pub StopsRefused : ℕ → List ℕ → List ℕ → Type 0
-StopsRefused size old new = (torn : List ℕ) → IsTorn size old new torn → (torn ≡ old) ⊎ (IsFreshAgain old × IsFreshAgain torn)
+-- one that is given back is as it was, or fresh as it was; or all writes of its load are done, as of one that is opened
+abbrev pub StopsKept : ℕ → List ℕ → List ℕ → Type 0
+StopsKept size old new = (torn : List ℕ) → IsTorn size old new torn → (torn ≡ old) ⊎ (IsFreshAgain old × IsFreshAgain torn)
+
+abbrev pub StopsRefused : ℕ → ℕ → ℕ → List ℕ → List ℕ → Type 0
+StopsRefused line origin size old new = StopsKept size old new ⊎ StopsOpening line origin size (found_in (sector_at old 0)) old new
+
+-- how far the writes of a load got that failed: not at all, area 0 of a fresh store alone, or all of them
+abbrev pub IsStopped : Type 0 → State → List ℕ → List ℕ → Type 0
+IsStopped stops s old new = (new ≡ old) ⊎ ((s.left ≡ FirstArea) × ChangesOnly s.chunk (area_place s.chunk s.current) old new) ⊎ stops

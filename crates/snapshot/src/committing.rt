@@ -1,12 +1,13 @@
-// The first copies are committed, after the next area is zeroed where they fill the current one, and are published.
-ghost use Rattle.std.specs.Prelude.{◌≡◌, ℕ, ◌+◌, ◌*◌, ◌<◌, ◌≤◌, ◌||◌, ◌++◌, length, take, drop, map, replicate, slice_index_or, vec_capacity, is_ok, OnOk, OnErr, IsTrue, true};
+// The first copies are committed, after the next area is zeroed, and the store flushed since, where they fill the current
+// one; and are published.
+ghost use Rattle.std.specs.Prelude.{◌≡◌, ℕ, ◌+◌, ◌*◌, ◌<◌, ◌≤◌, ◌||◌, ◌++◌, length, take, drop, map, replicate, slice_index_or, vec_capacity, is_ok, OnOk, OnErr, IsTrue, false, true};
 ghost use Rattle.std.specs.List.{All, remove};
 ghost use Rattle.sector.specs.Bytes.{with_part, with_sectors};
 ghost use Rattle.device.specs.declared.operation.Operation.TheVariants.{Writes};
 ghost use Rattle.device.specs.Layers.{is_loud};
 ghost use Rattle.model.specs.Places.{area_place};
 ghost use Rattle.pending.specs.declared.copies.Mark.{Mark};
-ghost use Rattle.pending.specs.declared.copies.Stage.TheVariants.{Written};
+ghost use Rattle.pending.specs.declared.copies.Stage.TheVariants.{Flushed};
 ghost use Rattle.store.specs.Operations.{IsOneOperation};
 ghost use Rattle.store.specs.Shown.{StopsSame, StopsBetween};
 ghost use Rattle.store.specs.Slots.{pairs_bytes, slot_start};
@@ -38,7 +39,8 @@ impl<B: Block> Snapshot<B> {
         ensures durable { B.durable self.new.device ≡ B.durable self.old.device }
         ensures size { B.size self.new.device ≡ B.size self.old.device }
 
-        ensures fields { OnOk result (self.new ≡ record self.old { device = self.new.device; state = record self.old.state { zeroed = true } }) }
+        ensures fields { OnOk result (self.new ≡ record self.old { device = self.new.device; state = record self.old.state { zeroed = true; firm = false } }) }
+        ensures ahead { self.old.state.firm ≡ true → self.old.state.zeroed ≡ true }
         ensures zeroes { OnOk result (ZeroesArea (self.old.state.current + 1) (books_of B.contents B.layers self.old) (books_of B.contents B.layers self.new)) }
         ensures kept { OnErr result (self.new ≡ record self.old { device = self.new.device }) }
         ensures stops { IsTrue (is_loud (B.layers self.old.device)) → StopsSame self.old.state.chunk self.old.state.origin self.old.state.size self.old.pairs (B.contents self.old.device) (B.contents self.new.device) }
@@ -50,16 +52,17 @@ impl<B: Block> Snapshot<B> {
         }
     }
 
-    /// Commits the copies that started first, so many of them, all of them written: their pairs are written into the
-    /// current area. Each bears a mark from then on, until it is published. The one that a merge started gives its buffer
+    /// Commits the copies that started first, so many of them, all of them written and flushed: their pairs are written
+    /// into the current area. Each bears a mark from then on, until it is published, which is safe once the store is
+    /// flushed again. The one that a merge started gives its buffer
     /// back. At `Io` nothing changed but the device's counts and layers. Whatever a stop within it leaves is loaded again,
     /// with the pairs that were there and the first few of these, and shows the same array.
     pub fn write_area(&mut self, count: u32) -> Result<(), Io>
         requires live { self.old.live ≡ true }
         requires few { count ≤ length self.old.copies }
-        requires ready { All (λ p. p.stage ≡ Written) (take count self.old.copies) }
+        requires ready { All (λ p. p.stage ≡ Flushed) (take count self.old.copies) }
         requires fits { 1 < count → self.old.state.filled + count ≤ 32 * self.old.state.chunk }
-        requires next { self.old.state.filled + count ≡ 32 * self.old.state.chunk → self.old.state.zeroed ≡ true }
+        requires next { self.old.state.filled + count ≡ 32 * self.old.state.chunk → self.old.state.firm ≡ true }
 
         ensures operation { IsOneOperation (Writes (self.old.state.chunk * area_place self.old.state.chunk self.old.state.current) self.old.state.chunk) (is_ok result) (B.layers self.old.device) (B.layers self.new.device) (B.fault_count self.old.device) (B.fault_count self.new.device) (B.done_count self.old.device) (B.done_count self.new.device) }
         ensures loud { is_loud (B.layers self.new.device) ≡ is_loud (B.layers self.old.device) }
@@ -159,6 +162,7 @@ fn mark_one(
     marks.push_reserved(Mark {
         number,
         chunk: pair.old,
+        safe: false,
     });
     let Some(own) = merging else {
         return;

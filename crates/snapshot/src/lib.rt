@@ -10,6 +10,7 @@
 
 mod committing;
 mod copying;
+mod flushing;
 mod layering;
 mod merging;
 mod opening;

@@ -118,6 +118,7 @@ impl<B: Block> Snapshot<B> {
             number: _,
             live: _,
             untried: _,
+            marked: _,
             stale: _,
             overflow: _,
             store,

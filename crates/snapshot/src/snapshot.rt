@@ -7,7 +7,7 @@ ghost use Rattle.model.specs.Picture.{place_of as place_in};
 ghost use Rattle.volume_laws.specs.Published.{is_published as is_published_in};
 ghost use Rattle.device.specs.Layers.{is_loud};
 ghost use Rattle.snapshot.specs.InStep.{IsInStep};
-ghost use Rattle.snapshot.specs.Kept.{batch_of, is_among, needs_area};
+ghost use Rattle.snapshot.specs.Kept.{batch_of, is_among, needs_area, waits_area};
 ghost use Rattle.snapshot.specs.Rest.{IsStill};
 
 use chunk_alloc::Usage;
@@ -24,9 +24,11 @@ use store::Store;
 pub struct Snapshot<B: Block> {
     pub(crate) number: SnapId,
     pub(crate) live: bool,
-    /// It is spoiled, and its store's header was not yet marked invalid.
+    /// It is spoiled, and the mark that its store is invalid was not yet tried: written, and flushed since.
     pub(crate) untried: bool,
-    /// That mark failed.
+    /// Its store's header was written with that mark.
+    pub(crate) marked: bool,
+    /// The mark failed, or its flush did.
     pub(crate) stale: bool,
     /// What a write of it does that finds its store full, and whether one did.
     pub(crate) overflow: Overflowing,
@@ -54,9 +56,9 @@ impl<B: Block> Model for Snapshot<B> {
     ghost use Rattle.store.specs.Held.{committed, pairs_pending, reserved};
     ghost use Rattle.snapshot.specs.Held.{IsSnapshot, HasRoom, IsSpared};
 
-    ghost view = { λ s. record { number = s.number; live = s.live; untried = s.untried; stale = s.stale; overflow = s.overflow; device = s.store.device; state = s.store.state; next = s.store.places.next; pairs = committed s.store.exceptions; begun = pairs_pending s.store.exceptions; copies = s.copies.items; marks = s.marks.items; room = s.room; kept_back = s.kept_back; spare = is_some s.spare; merging = s.merging } };
+    ghost view = { λ s. record { number = s.number; live = s.live; untried = s.untried; marked = s.marked; stale = s.stale; overflow = s.overflow; device = s.store.device; state = s.store.state; next = s.store.places.next; pairs = committed s.store.exceptions; begun = pairs_pending s.store.exceptions; copies = s.copies.items; marks = s.marks.items; room = s.room; kept_back = s.kept_back; spare = is_some s.spare; merging = s.merging } };
 
-    ghost invariant = { λ s. IsSnapshot s.live s.untried s.stale s.store.state (pairs_pending s.store.exceptions) s.copies.items s.marks.items × HasRoom s.room s.kept_back s.left (reserved s.store.exceptions) (length s.copies.items) (length s.marks.items) (vec_capacity s.copies) (vec_capacity s.marks) (is_some s.spare) s.merging × IsSpared s.store.state.chunk s.spare s.merging s.copies.items };
+    ghost invariant = { λ s. IsSnapshot s.live s.untried s.marked s.stale s.store.state (pairs_pending s.store.exceptions) s.copies.items s.marks.items × HasRoom s.room s.kept_back s.left (reserved s.store.exceptions) (length s.copies.items) (length s.marks.items) (vec_capacity s.copies) (vec_capacity s.marks) (is_some s.spare) s.merging × IsSpared s.store.state.chunk s.spare s.merging s.copies.items };
 }
 
 impl<B: Block> Snapshot<B> {
@@ -74,14 +76,21 @@ impl<B: Block> Snapshot<B> {
         self.live
     }
 
-    /// Whether it is spoiled, and its store's header was not yet marked invalid.
+    /// Whether it is spoiled, and the mark that its store is invalid was not yet tried: written, and flushed since.
     pub fn is_untried(&self) -> bool
         ensures { result ≡ self.now.untried }
     {
         self.untried
     }
 
-    /// Whether the mark of its store's header failed.
+    /// Whether its store's header was written with the mark that the store is invalid.
+    pub fn is_marked(&self) -> bool
+        ensures { result ≡ self.now.marked }
+    {
+        self.marked
+    }
+
+    /// Whether that mark failed, or its flush did.
     pub fn is_stale(&self) -> bool
         ensures { result ≡ self.now.stale }
     {
@@ -125,7 +134,8 @@ impl<B: Block> Snapshot<B> {
     }
 
     /// Whether it has neither a copy that is not published, nor an invalid mark that is untried. Where it is live then, over
-    /// a store that drops no writes, all that it knows stands in the store's bytes, and no area is zeroed ahead.
+    /// a store that drops no writes, all that it knows stands in the store's bytes, no area is zeroed ahead, and its store is
+    /// not marked invalid.
     pub fn is_done(&self) -> bool
         ensures value { result ≡ ((length self.now.copies == 0) && (length self.now.marks == 0) && not self.now.untried) }
         ensures still { result ≡ true → self.now.live ≡ true → is_loud (B.layers self.now.device) ≡ true → self.now.state.origin ≤ 16_777_216 → IsStill B.contents self.now }
@@ -156,8 +166,8 @@ impl<B: Block> Snapshot<B> {
         let _ = &self.store;
     }
 
-    /// How many of the first copies the next write of the area commits: those that are written, up to the first that is
-    /// not, and up to the end of the area.
+    /// How many of the first copies the next write of the area commits: those that are written, with a flush since, up to
+    /// the first that is not, and up to the end of the area.
     pub fn batch(&self) -> u32
         ensures { result ≡ batch_of self.now.state self.now.copies }
     {
@@ -175,11 +185,27 @@ impl<B: Block> Snapshot<B> {
         self.store.needs_next_area(self.batch())
     }
 
+    /// Whether the last pair that is committed next fills the current area, and the next area is not firm: it is not zeroed
+    /// yet, or the store was not flushed since.
+    pub fn waits_for_next_area(&self) -> bool
+        ensures { result ≡ waits_area self.now.state self.now.copies }
+    {
+        self.batch() == 32 * self.store.state.chunk - self.store.state.filled
+            && !self.store.state.firm
+    }
+
     /// Whether the area after the current one is zeroed.
     pub fn is_zeroed(&self) -> bool
         ensures { result ≡ self.now.state.zeroed }
     {
         self.store.state.zeroed
+    }
+
+    /// Whether it is, and the store was flushed since.
+    pub fn is_firm(&self) -> bool
+        ensures { result ≡ self.now.state.firm }
+    {
+        self.store.state.firm
     }
 
     /// Whether the area after the current one does not lie wholly inside the store.

@@ -7,7 +7,7 @@ ghost use Rattle.model.specs.Places.{ChangesOnly};
 ghost use Rattle.cow_header.specs.HeaderText.{header_bytes};
 ghost use Rattle.store.specs.Operations.{IsOneOperation};
 ghost use Rattle.store.specs.Shown.{StopsInvalid};
-ghost use Rattle.volume_laws.specs.Steps.{SpoilsSnap, TriesMark};
+ghost use Rattle.volume_laws.specs.Steps.{SpoilsSnap, TriesMark, WritesMark};
 ghost use Rattle.snapshot.specs.InStep.{IsInStep};
 ghost use Rattle.snapshot.specs.Kept.{books_of};
 
@@ -35,10 +35,11 @@ impl<B: Block> Snapshot<B> {
     }
 
     /// Marks the header of a spoiled snapshot's store invalid. It is tried once: at `Io` the store is stale, and nothing
-    /// of it changed but the device's counts and layers. Whatever a stop within it leaves is refused as invalid, or loaded
+    /// of it changed but the device's counts and layers; else it counts as tried once the store is flushed. Whatever a stop within it leaves is refused as invalid, or loaded
     /// again with the same pairs, and shows the same array.
     pub fn write_invalid(&mut self) -> Result<(), Io>
         requires untried { self.old.untried ≡ true }
+        requires unmarked { self.old.marked ≡ false }
 
         ensures operation { IsOneOperation (Writes 0 self.old.state.chunk) (is_ok result) (B.layers self.old.device) (B.layers self.new.device) (B.fault_count self.old.device) (B.fault_count self.new.device) (B.done_count self.old.device) (B.done_count self.new.device) }
         ensures loud { is_loud (B.layers self.new.device) ≡ is_loud (B.layers self.old.device) }
@@ -48,15 +49,20 @@ impl<B: Block> Snapshot<B> {
         ensures durable { B.durable self.new.device ≡ B.durable self.old.device }
         ensures size { B.size self.new.device ≡ B.size self.old.device }
 
-        ensures fields { self.new ≡ record self.old { device = self.new.device; untried = false; stale = not (is_ok result); state = record self.old.state { valid = not (is_ok result) } } }
-        ensures tries { TriesMark (books_of B.contents B.layers self.old) (books_of B.contents B.layers self.new) }
+        ensures fields { OnOk result (self.new ≡ record self.old { device = self.new.device; marked = true; state = record self.old.state { valid = false } }) }
+        ensures writes { OnOk result (WritesMark (books_of B.contents B.layers self.old) (books_of B.contents B.layers self.new)) }
+        ensures fails { OnErr result (self.new ≡ record self.old { device = self.new.device; untried = false; stale = true }) }
+        ensures tries { OnErr result (TriesMark (books_of B.contents B.layers self.old) (books_of B.contents B.layers self.new)) }
         ensures stops { IsTrue (is_loud (B.layers self.old.device)) → StopsInvalid self.old.state.chunk self.old.state.origin self.old.state.size self.old.pairs (B.contents self.old.device) (B.contents self.new.device) }
         ensures in_step { IsInStep B.contents B.layers B.size self.new }
     {
-        self.untried = false;
         match self.store.write_invalid() {
-            Ok(()) => Ok(()),
+            Ok(()) => {
+                self.marked = true;
+                Ok(())
+            }
             Err(io) => {
+                self.untried = false;
                 self.stale = true;
                 Err(io)
             }

@@ -31,10 +31,11 @@ impl<B: Block> Snapshot<B> {
         requires ready { store.state.left ≡ Nothing }
         requires copying { store.state.copying ≡ true }
         requires unzeroed { store.state.zeroed ≡ false }
+        requires unfirm { store.state.firm ≡ false }
         requires idle { length (pending_of store.exceptions) ≡ 0 }
         requires valid { store.state.valid ≡ true }
         requires unreserved { reserved store.exceptions ≡ 0 }
-        ensures fields { result ≡ record { number = number; live = true; untried = false; stale = false; overflow = overflow_of overflow; device = store.device; state = store.state; next = store.places.next; pairs = committed store.exceptions; begun = []; copies = []; marks = []; room = 0; kept_back = 0; spare = false; merging = None } }
+        ensures fields { result ≡ record { number = number; live = true; untried = false; marked = false; stale = false; overflow = overflow_of overflow; device = store.device; state = store.state; next = store.places.next; pairs = committed store.exceptions; begun = []; copies = []; marks = []; room = 0; kept_back = 0; spare = false; merging = None } }
         ensures new { (origin : List ℕ) → length origin ≡ 512 * store.state.origin → IsNewSnap origin (books_of B.contents B.layers result) }
         ensures counted { length result.pairs ≡ result.state.current * (32 * result.state.chunk) + result.state.filled }
         ensures unfilled { result.state.filled < 32 * result.state.chunk }
@@ -44,6 +45,7 @@ impl<B: Block> Snapshot<B> {
             number,
             live: true,
             untried: false,
+            marked: false,
             stale: false,
             overflow: overflowing(overflow),
             store,
@@ -65,6 +67,7 @@ impl<B: Block> Snapshot<B> {
             number: _,
             live: _,
             untried: _,
+            marked: _,
             stale: _,
             overflow: _,
             store,

@@ -2,34 +2,68 @@
 ghost use Rattle.std.specs.Prelude.{◌≡◌, ◌<◌, map};
 ghost use Rattle.std.specs.List.{All};
 ghost use Rattle.pending.specs.Due.{first_by};
-ghost use Rattle.volume_laws.specs.Due.{can_commit as can_be_committed, can_zero as can_be_zeroed, copy_of, due_of, is_untried, least_of, publishable_of, snap_number};
+ghost use Rattle.volume_laws.specs.Due.{can_commit as can_be_committed, can_flush_store as can_be_flushed, can_mark as can_be_marked, can_zero as can_be_zeroed, copy_of, due_of, least_of, publishable_of, snap_number};
 ghost use Rattle.snapshot.specs.Kept.{due_of_kept};
 
 use device::Block;
-use pending::{Flight, Stage, first_copy, first_publishable, first_routed, front_written, least};
+use pending::{
+    Flight, Stage, first_copy, first_publishable, first_routed, front_ready, front_unflushed,
+    has_unsafe, least,
+};
 use plain::{CopyId, Event, SnapId};
 use snapshot::Snapshot;
 
-/// Whether a snapshot's first copies can be committed: the first is written, and the area of their pairs can be.
+/// Whether the header of a spoiled snapshot's store is to be marked invalid.
+pub(crate) fn can_mark<B: Block>(snap: &Snapshot<B>) -> bool
+    ensures { result ≡ can_be_marked (due_of_kept B.contents B.layers snap.now) }
+{
+    snap.is_untried() && !snap.is_marked()
+}
+
+/// Whether something of a snapshot waits for a flush of its store: the mark of a spoiled one, its first copy, the area that is
+/// zeroed for the first copies, or a publication.
+pub(crate) fn can_flush_store<B: Block>(snap: &Snapshot<B>) -> bool
+    ensures { result ≡ can_be_flushed (due_of_kept B.contents B.layers snap.now) }
+{
+    snap.is_untried() && snap.is_marked()
+        || front_unflushed(snap.copies())
+        || front_ready(snap.copies()) && snap.waits_for_next_area() && !snap.needs_next_area()
+        || has_unsafe(snap.marks())
+}
+
+/// Whether a snapshot's first copies can be committed: the first is written and flushed, and the area of their pairs can be
+/// written.
 pub(crate) fn can_commit<B: Block>(snap: &Snapshot<B>) -> bool
     ensures { result ≡ can_be_committed (due_of_kept B.contents B.layers snap.now) }
 {
-    front_written(snap.copies()) && !snap.needs_next_area()
+    front_ready(snap.copies()) && !snap.waits_for_next_area()
 }
 
-/// Whether a snapshot needs its next area zeroed for its first copies, which are written.
+/// Whether a snapshot needs its next area zeroed for its first copies, which are written and flushed.
 pub(crate) fn can_zero<B: Block>(snap: &Snapshot<B>) -> bool
     ensures { result ≡ can_be_zeroed (due_of_kept B.contents B.layers snap.now) }
 {
-    front_written(snap.copies()) && snap.needs_next_area()
+    front_ready(snap.copies()) && snap.needs_next_area()
 }
 
 /// The number of the first snapshot whose store's header is to be marked invalid.
-fn first_untried<B: Block>(snaps: &[Snapshot<B>]) -> Option<SnapId>
-    ensures { result ≡ first_by is_untried snap_number (map (due_of_kept B.contents B.layers) snaps.now) }
+fn first_marking<B: Block>(snaps: &[Snapshot<B>]) -> Option<SnapId>
+    ensures { result ≡ first_by can_be_marked snap_number (map (due_of_kept B.contents B.layers) snaps.now) }
 {
     for s in snaps {
-        if s.is_untried() {
+        if can_mark(s) {
+            return Some(s.number());
+        }
+    }
+    None
+}
+
+/// The number of the first snapshot whose store is to be flushed.
+fn first_flushing<B: Block>(snaps: &[Snapshot<B>]) -> Option<SnapId>
+    ensures { result ≡ first_by can_be_flushed snap_number (map (due_of_kept B.contents B.layers) snaps.now) }
+{
+    for s in snaps {
+        if can_flush_store(s) {
             return Some(s.number());
         }
     }
@@ -86,14 +120,17 @@ fn least_mark<B: Block>(snaps: &[Snapshot<B>], flights: &[Flight]) -> Option<Cop
     found
 }
 
-/// The event that is due first: a mark of a spoiled snapshot, a publication, a commit, a zeroed area, a copy's write, a
+/// The event that is due first: a mark of a spoiled snapshot, a flush of a store, a publication, a commit, a zeroed area, a copy's write, a
 /// copy's read, or the first request that goes somewhere; in each kind the one with the least number.
 pub fn first_due<B: Block>(snaps: &[Snapshot<B>], flights: &[Flight]) -> Option<Event>
     requires { All (λ s. 0 < s.state.chunk) snaps.now }
     ensures { result ≡ due_of (map (due_of_kept B.contents B.layers) snaps.now) flights.now }
 {
-    if let Some(number) = first_untried(snaps) {
+    if let Some(number) = first_marking(snaps) {
         return Some(Event::WriteInvalid(number));
+    }
+    if let Some(number) = first_flushing(snaps) {
+        return Some(Event::FlushStore(number));
     }
     if let Some(number) = least_mark(snaps, flights) {
         return Some(Event::Publish(number));

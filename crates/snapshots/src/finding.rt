@@ -2,9 +2,9 @@
 ghost use Rattle.std.specs.Prelude.{◌≡◌, ◌<◌, false, length, IfNone, IfSome, slice_index_or, Some, true};
 ghost use Rattle.std.specs.List.{All, list_any, position};
 ghost use Rattle.snapshot.specs.Kept.{Kept};
-ghost use Rattle.snapshots.specs.Finding.{place_of_snap, has_copy_at, has_mark_at, is_committing, is_copy_of, is_mark_of, is_trying, is_zeroing};
+ghost use Rattle.snapshots.specs.Finding.{place_of_snap, has_copy_at, has_mark_at, is_committing, is_copy_of, is_flushing, is_mark_of, is_trying, is_zeroing};
 
-use crate::due::{can_commit, can_zero};
+use crate::due::{can_commit, can_flush_store, can_mark, can_zero};
 use device::Block;
 use pending::{Flight, Stage, copy_at, publishable_at};
 use plain::{CopyId, SnapId};
@@ -23,7 +23,20 @@ pub fn trying_at<B: Block>(snaps: &[Snapshot<B>], number: SnapId) -> Option<usiz
     ensures none { IfNone result (list_any (is_trying number) snaps.now ≡ false) }
 {
     for (place, s) in snaps.iter().enumerate() {
-        if s.number() == number && s.is_untried() {
+        if s.number() == number && can_mark(s) {
+            return Some(place);
+        }
+    }
+    None
+}
+
+/// The place of the first snapshot with this number whose store is to be flushed.
+pub fn flushing_at<B: Block>(snaps: &[Snapshot<B>], number: SnapId) -> Option<usize>
+    ensures found { IfSome result (λ k. (k < length snaps.now) × ((s : Kept B) → is_flushing number (slice_index_or snaps.now k s) ≡ true)) }
+    ensures none { IfNone result (list_any (is_flushing number) snaps.now ≡ false) }
+{
+    for (place, s) in snaps.iter().enumerate() {
+        if s.number() == number && can_flush_store(s) {
             return Some(place);
         }
     }
@@ -74,8 +87,8 @@ pub fn find_copy<B: Block>(
     None
 }
 
-/// The place of the first snapshot that has a mark with this number whose chunk no request reads from the origin disk, and
-/// the mark's place in it.
+/// The place of the first snapshot that has a safe mark with this number whose chunk no request reads from the origin disk,
+/// and the mark's place in it.
 pub fn find_mark<B: Block>(
     snaps: &[Snapshot<B>],
     flights: &[Flight],

@@ -2,7 +2,7 @@
 use crate::arrays::{Arrays, Asked, State, put};
 use crate::calls;
 use crate::scenario::Step;
-use crate::told::{failed, is_told};
+use crate::told::{failed, is_of_mark, is_told};
 use device::Block;
 use layers::Layered;
 use plain::{Dev, Event, Outcome, ReqId, SnapId};
@@ -91,6 +91,7 @@ impl<B: Layered + Drop> Machine<B> {
     /// Does an event that is due, and tells whether the run ends with it. After a failure it need not be due.
     fn step(&mut self, event: Event) -> Result<bool, Fail> {
         let before = failed(&self.volume, &self.arrays);
+        let of_mark = is_of_mark(&self.volume, event);
         let Some(outcome) = calls::step(&mut self.volume, event) else {
             return if self.failures == 0 {
                 Err(Fail::from("not due"))
@@ -100,7 +101,7 @@ impl<B: Layered + Drop> Machine<B> {
         };
         let after = failed(&self.volume, &self.arrays);
         let full = self.notice_full(&outcome);
-        if !is_told(event, &outcome, before, after, full) || !self.follow(event, &outcome) {
+        if !is_told(of_mark, &outcome, before, after, full) || !self.follow(event, &outcome) {
             return Err(Fail::from("a wrong outcome"));
         }
         self.failures = self
@@ -213,7 +214,7 @@ impl<B: Layered + Drop> Machine<B> {
             return Err(Fail::from("no store"));
         };
         let array = self.array_with(own)?;
-        let faults = device.faults();
+        let faults = self.faults_with(&device);
         match calls::attach(alloc, &mut self.volume, device, chunk) {
             Ok(number) => self.enter(number, faults, array),
             Err((Refusal::Io, device)) => self.attach_again(alloc, chunk, device, faults, array),
@@ -221,9 +222,15 @@ impl<B: Layered + Drop> Machine<B> {
         }
     }
 
+    /// How many operations of the origin and of a store that is not attached failed.
+    fn faults_with(&self, store: &B) -> u64 {
+        self.volume.origin().faults().wrapping_add(store.faults())
+    }
+
     /// Enters a snapshot, at whose attach no device failed.
     fn enter(&mut self, number: SnapId, faults: u64, array: Vec<u8>) -> Result<bool, Fail> {
-        if calls::store_faults(&self.volume, number) != faults {
+        let store = calls::store_faults(&self.volume, number);
+        if self.volume.origin().faults().wrapping_add(store) != faults {
             return Err(Fail::from("a fault that was not told"));
         }
         self.arrays.enter(number, array)?;
@@ -239,7 +246,7 @@ impl<B: Layered + Drop> Machine<B> {
         faults: u64,
         array: Vec<u8>,
     ) -> Result<bool, Fail> {
-        let after = device.faults();
+        let after = self.faults_with(&device);
         if after == faults {
             return Err(Fail::from("Io without a fault"));
         }

@@ -1,4 +1,4 @@
-// A stop within each write of each device in turn.
+// A stop within each write and before each flush of each device in turn.
 use crate::again::load_again;
 use crate::disks::disks_of;
 use crate::machine::Machine;
@@ -12,7 +12,7 @@ use plain::Dev;
 use std::alloc::Global;
 use std::test::Fail;
 
-/// More writes than a run has.
+/// More writes and flushes than a run has.
 const MOST: u64 = 10_000;
 
 /// Which sectors of a write are new: none, all, the first alone, the last alone, in chunks of one sector, of two and of four.
@@ -28,14 +28,14 @@ static FOUR_SECTORS: [&[bool]; 4] = [
 ];
 
 /// A fuse over a disk.
-fn fuse_over(alloc: Global, disk: MemDisk, writes: u64, new: &[bool]) -> Result<Fuse, Fail> {
-    match Fuse::new(alloc, disk, writes, Vec::from_slice(alloc, new)?) {
+fn fuse_over(alloc: Global, disk: MemDisk, changes: u64, new: &[bool]) -> Result<Fuse, Fail> {
+    match Fuse::new(alloc, disk, changes, Vec::from_slice(alloc, new)?) {
         Ok(fuse) => Ok(fuse),
         Err((refusal, _)) => Err(Fail::from(refusal)),
     }
 }
 
-/// A machine, the device at a place of which (the origin's is 0) stops at its write `k`.
+/// A machine, the device at a place of which (the origin's is 0) stops at its write or flush `k`.
 pub fn fused(
     alloc: Global,
     scenario: &Scenario,
@@ -46,14 +46,14 @@ pub fn fused(
     let mut fuses = Vec::new(alloc);
     let mut at = scenario.stores.len();
     for disk in disks_of(alloc, scenario)? {
-        let writes = if at == place { k } else { u64::MAX };
-        fuses.push(fuse_over(alloc, disk, writes, new)?)?;
+        let changes = if at == place { k } else { u64::MAX };
+        fuses.push(fuse_over(alloc, disk, changes, new)?)?;
         at = at.saturating_sub(1);
     }
     Machine::new(alloc, fuses, scenario.chunk, true)
 }
 
-/// Stops a run at the write `k` of a device, and tells whether it had so many.
+/// Stops a run at the write or flush `k` of a device, and tells whether it had so many.
 fn stop_at(
     alloc: Global,
     scenario: &Scenario,
@@ -71,7 +71,7 @@ fn stop_at(
     Ok(false)
 }
 
-/// Stops runs at each write of a device, and tells how many there were.
+/// Stops runs at each write and flush of a device, and tells how many there were.
 pub fn stop_at_each(
     alloc: Global,
     scenario: &Scenario,
@@ -83,10 +83,10 @@ pub fn stop_at_each(
             return Ok(k);
         }
     }
-    Err(Fail::from("writes without an end"))
+    Err(Fail::from("operations without an end"))
 }
 
-/// Stops runs at each write of each device, in each way that its chunks have, and tells how many there were.
+/// Stops runs at each write and flush of each device, in each way that its chunks have, and tells how many there were.
 fn stop_everywhere(alloc: Global, scenario: &Scenario) -> Result<u64, Fail> {
     let ways = if scenario.chunk == 1 {
         ONE_SECTOR.as_slice()
@@ -96,7 +96,7 @@ fn stop_everywhere(alloc: Global, scenario: &Scenario) -> Result<u64, Fail> {
     stop_in_ways(alloc, scenario, ways)
 }
 
-/// Stops runs at each write of each device, in each of some ways, and tells how many there were.
+/// Stops runs at each write and flush of each device, in each of some ways, and tells how many there were.
 fn stop_in_ways(
     alloc: Global,
     scenario: &Scenario,
@@ -133,8 +133,8 @@ fn stop_in_both(
 #[test]
 fn a_stop_within_a_first_attach(rt: HostRuntime) -> Result<(), Fail> {
     let count = stop_in_both(rt.alloc(), &[64], &ATTACH)?;
-    // The first area and the header are written.
-    assert_eq!(rt; count, 2 * 2 + 2 * 4);
+    // The origin is flushed, and then the store before and after its first area, and after its header.
+    assert_eq!(rt; count, 6 * 2 + 6 * 4);
     Ok(())
 }
 
@@ -147,16 +147,16 @@ fn a_stop_within_the_attach_of_a_written_store(rt: HostRuntime) -> Result<(), Fa
         steps: &ATTACH_WRITTEN,
     };
     let count = stop_everywhere(rt.alloc(), &scenario)?;
-    // The area is written without what stood behind its last pair.
-    assert_eq!(rt; count, 2);
+    // The area is written without what stood behind its last pair; the store is flushed before and after, and the origin first.
+    assert_eq!(rt; count, 4 * 2);
     Ok(())
 }
 
 #[test]
 fn a_stop_within_one_copy(rt: HostRuntime) -> Result<(), Fail> {
     let count = stop_in_both(rt.alloc(), &[64], &ONE_COPY)?;
-    // The store is made ready by two writes, the copy and its pair are written, and one write reaches the origin.
-    assert_eq!(rt; count, 5 * 2 + 5 * 4);
+    // The attach takes six; the copy and its pair are written and flushed each, and one write reaches the origin.
+    assert_eq!(rt; count, 11 * 2 + 11 * 4);
     Ok(())
 }
 
@@ -193,8 +193,9 @@ fn a_stop_within_a_merge_that_is_written(rt: HostRuntime) -> Result<(), Fail> {
 #[test]
 fn a_stop_behind_an_overflow(rt: HostRuntime) -> Result<(), Fail> {
     let count = stop_in_both(rt.alloc(), &[4], &OVERFLOWED)?;
-    // The store is made ready by two writes, each copy, its pair and its data are written, and two writes reach the origin.
-    assert_eq!(rt; count, 10 * 2 + 10 * 4);
+    // The attach takes six; each copy and its pair are written and flushed, each write of the snapshot reaches its store, and two
+    // writes reach the origin.
+    assert_eq!(rt; count, 18 * 2 + 18 * 4);
     Ok(())
 }
 
@@ -237,7 +238,7 @@ fn a_stop_beside_a_store_that_fills_up_within_a_merged_chunk(rt: HostRuntime) ->
         steps: &FILLS_UP,
     };
     let count = stop_in_ways(rt.alloc(), &scenario, FOUR_SECTORS.as_slice())?;
-    // Of 14 writes each stops in four ways.
-    assert_eq!(rt; count, 14 * 4);
+    // Of 22 writes and flushes of stores before the mark, its two, and six of the origin each stops in four ways.
+    assert_eq!(rt; count, 30 * 4);
     Ok(())
 }

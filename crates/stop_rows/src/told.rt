@@ -23,19 +23,28 @@ pub fn failed<B: Block>(volume: &Volume<B>, arrays: &Arrays) -> Failures {
     Failures { faults, lost }
 }
 
+/// Whether an event is of the mark of a snapshot that is spoiled, and so loses none: the mark's write, or the flush behind it.
+pub fn is_of_mark<B: Block>(volume: &Volume<B>, event: Event) -> bool {
+    match event {
+        Event::WriteInvalid(_) => true,
+        Event::FlushStore(number) => is_spoilt(volume, number),
+        _ => false,
+    }
+}
+
 /// How many operations failed and how many snapshots were lost in an event with such an outcome.
-fn wanted(event: Event, outcome: &Outcome) -> (u64, u64) {
-    match (event, outcome) {
-        (Event::WriteInvalid(_), Outcome::Fault) => (1, 0),
-        (_, Outcome::Fault) => (1, 1),
-        (_, Outcome::Reply(_, Reply::Refused(Failure::Io))) => (1, 0),
+fn wanted(of_mark: bool, outcome: &Outcome) -> (u64, u64) {
+    match outcome {
+        Outcome::Fault if of_mark => (1, 0),
+        Outcome::Fault => (1, 1),
+        Outcome::Reply(_, Reply::Refused(Failure::Io)) => (1, 0),
         _ => (0, 0),
     }
 }
 
 /// Whether an outcome tells what failed in an event, and nothing else. So many snapshots were lost since their stores are full.
 pub fn is_told(
-    event: Event,
+    of_mark: bool,
     outcome: &Outcome,
     before: Failures,
     after: Failures,
@@ -43,5 +52,5 @@ pub fn is_told(
 ) -> bool {
     let faults = after.faults.wrapping_sub(before.faults);
     let lost = after.lost.wrapping_sub(before.lost);
-    wanted(event, outcome) == (faults, lost.wrapping_sub(full))
+    wanted(of_mark, outcome) == (faults, lost.wrapping_sub(full))
 }

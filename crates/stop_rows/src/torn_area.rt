@@ -11,7 +11,7 @@ use std::alloc::Global;
 use std::test::Fail;
 
 /// Of an area of two sectors 31 slots are filled; two more pairs, one in each sector, are written at once.
-static TWO_PAIRS: [Step; 9] = [
+static TWO_PAIRS: [Step; 10] = [
     Step::Attach,
     Step::Fill(Dev::Origin, 0, 31, 0xaa),
     Step::Start(Dev::Origin, 31, 0xbb),
@@ -20,6 +20,7 @@ static TWO_PAIRS: [Step; 9] = [
     Step::Do(Event::CopyRead(33)),
     Step::Do(Event::CopyWrite(32)),
     Step::Do(Event::CopyWrite(33)),
+    Step::Do(Event::FlushStore(1)),
     Step::Do(Event::WriteArea(1)),
 ];
 
@@ -31,8 +32,8 @@ fn last_torn(alloc: Global, new: &[bool]) -> Result<Machine<MemDisk>, Fail> {
         written: false,
         steps: &TWO_PAIRS,
     };
-    let writes = stop_at_each(alloc, &scenario, 1, new)?;
-    let mut torn = fused(alloc, &scenario, 1, writes.saturating_sub(1), new)?;
+    let changes = stop_at_each(alloc, &scenario, 1, new)?;
+    let mut torn = fused(alloc, &scenario, 1, changes.saturating_sub(1), new)?;
     torn.run(alloc, scenario.steps)?;
     load_again(alloc, torn)
 }

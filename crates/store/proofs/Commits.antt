@@ -42,6 +42,7 @@ front_more count ps qs s area x is put n below ready = record {
   none = λ e. absurd (true≢false (sym (ap is_begun ready) ∙ e));
   blank = λ e. absurd (true≢false (sym (ap is_begun ready) ∙ e));
   room = is.room;
+  firm = is.firm;
   early = is.early;
 }
 
@@ -76,7 +77,7 @@ stored_more count ps qs s area x old new is stored put n below ready valid whole
     }
 
 -- the memory after a commit that fills the area
-pub front_full : (count : ℕ) (ps qs : List Pair) (s : State) (area zeros : List ℕ) → IsFront ps s area → length qs ≡ count → s.filled + count ≡ 32 * s.chunk → s.zeroed ≡ true → zeros ≡ replicate (512 * s.chunk) 0 → s.left ≡ Nothing → IsFront (ps ++ qs) (record s { current = s.current + 1; filled = 0; zeroed = false }) zeros
+pub front_full : (count : ℕ) (ps qs : List Pair) (s : State) (area zeros : List ℕ) → IsFront ps s area → length qs ≡ count → s.filled + count ≡ 32 * s.chunk → s.zeroed ≡ true → zeros ≡ replicate (512 * s.chunk) 0 → s.left ≡ Nothing → IsFront (ps ++ qs) (record s { current = s.current + 1; filled = 0; zeroed = false; firm = false }) zeros
 front_full count ps qs s area zeros is n full zeroed nil ready = record {
   some = is.some;
   allowed = is.allowed;
@@ -91,11 +92,12 @@ front_full count ps qs s area zeros is n full zeroed nil ready = record {
   none = λ e. absurd (true≢false (sym (ap is_begun ready) ∙ e));
   blank = λ e. absurd (true≢false (sym (ap is_begun ready) ∙ e));
   room = λ z. absurd (false≢true z);
+  firm = λ f. absurd (false≢true f);
   early = is.early;
 }
 
 -- the bytes after a commit that fills the area
-pub stored_full : (count : ℕ) (ps qs : List Pair) (s : State) (area x zeros old new : List ℕ) → IsFront ps s area → IsStored old ps s area → IsPut area s.filled qs x → length qs ≡ count → s.filled + count ≡ 32 * s.chunk → s.zeroed ≡ true → zeros ≡ replicate (512 * s.chunk) 0 → s.left ≡ Nothing → ((i : ℕ) (d : Pair) → i < length qs → (get_or qs i d).new ≢ 0) → length old ≡ 512 * s.size → new ≡ with_sectors old (s.chunk * area_place s.chunk s.current) x → IsStored new (ps ++ qs) (record s { current = s.current + 1; filled = 0; zeroed = false }) zeros
+pub stored_full : (count : ℕ) (ps qs : List Pair) (s : State) (area x zeros old new : List ℕ) → IsFront ps s area → IsStored old ps s area → IsPut area s.filled qs x → length qs ≡ count → s.filled + count ≡ 32 * s.chunk → s.zeroed ≡ true → zeros ≡ replicate (512 * s.chunk) 0 → s.left ≡ Nothing → ((i : ℕ) (d : Pair) → i < length qs → (get_or qs i d).new ≢ 0) → length old ≡ 512 * s.size → new ≡ with_sectors old (s.chunk * area_place s.chunk s.current) x → IsStored new (ps ++ qs) (record s { current = s.current + 1; filled = 0; zeroed = false; firm = false }) zeros
 stored_full count ps qs s area x zeros old new is stored put n full zeroed nil ready valid whole written =
     let long : length x ≡ 512 * s.chunk = put.len ∙ is.whole in
     let only = chunk_only s.size s.chunk (area_place s.chunk s.current) old new x whole long is.place written in

@@ -1,5 +1,5 @@
 -- The greatest numbers of pairs, and that those of pairs that are there fit.
-use Rattle.std.proofs.Common.{◌≡◌, ℕ, ◌+◌, ◌-◌, ◌*◌, ◌^◌, ◌<◌, ◌≤◌, List, [], ◌∷◌, ◌++◌, length, get_or, take, map, max, arith, ap, ◌∙◌, sym, subst}
+use Rattle.std.proofs.Common.{◌≡◌, ℕ, ◌+◌, ◌-◌, ◌*◌, ◌^◌, ◌<◌, ◌≤◌, List, [], ◌∷◌, ◌++◌, length, get_or, take, map, max, arith, sym, subst}
 use Rattle.std.specs.List.{All}
 use Rattle.std.proofs.lemmas.List.{get_or-map, length-map, map_more}
 use Rattle.std.proofs.lemmas.Nat.{mul-le}
@@ -7,7 +7,6 @@ use Rattle.sector.specs.declared.pair.Pair.{Pair}
 use Rattle.model.specs.Pairs.{IsInside}
 use Rattle.chunk_alloc.specs.Greatest.{IsGreatest}
 use Rattle.chunk_alloc.proofs.Greatest.{greatest-push}
-use Rattle.store.specs.Stored.{old_of, new_of}
 use Rattle.store.proofs.Areas.{no_chunks}
 
 -- one pair more

@@ -46,6 +46,7 @@ front_less count ps s area x is cut some le ready = let c = is.count in let fits
   none = λ e. absurd (true≢false (sym (ap is_begun ready) ∙ e));
   blank = λ e. absurd (true≢false (sym (ap is_begun ready) ∙ e));
   room = is.room;
+  firm = is.firm;
   early = is.early;
 }
 
@@ -97,7 +98,7 @@ pub given_closed : (chunk origin size place : ℕ) (copying : Bool) (C P : List 
 given_closed chunk origin size place copying C P given = record { inside = given.inside; apart = given.apart; room = given.room; least = λ e. absurd (false≢true e) }
 
 -- the area before is read
-pub front_read : (ps : List Pair) (s : State) (area x : List ℕ) → IsFront ps s area → s.filled ≡ 0 → 0 < s.current → s.left ≡ Nothing → length x ≡ 512 * s.chunk → IsFront ps (record s { current = s.current - 1; filled = 32 * s.chunk; zeroed = false; copying = false }) x
+pub front_read : (ps : List Pair) (s : State) (area x : List ℕ) → IsFront ps s area → s.filled ≡ 0 → 0 < s.current → s.left ≡ Nothing → length x ≡ 512 * s.chunk → IsFront ps (record s { current = s.current - 1; filled = 32 * s.chunk; zeroed = false; firm = false; copying = false }) x
 front_read ps s area x is empty before ready whole =
     let c = is.count in
     let up : s.current ≡ (s.current - 1) + 1 = omega arith in
@@ -118,10 +119,11 @@ front_read ps s area x is empty before ready whole =
       none = λ e. absurd (true≢false (sym (ap is_begun ready) ∙ e));
       blank = λ e. absurd (true≢false (sym (ap is_begun ready) ∙ e));
       room = λ z. absurd (false≢true z);
+      firm = λ f. absurd (false≢true f);
       early = is.early;
     }
 
-pub stored_read : (ps : List Pair) (s : State) (area x old : List ℕ) → IsFront ps s area → IsStored old ps s area → s.filled ≡ 0 → 0 < s.current → s.left ≡ Nothing → x ≡ chunk_at s.chunk old (area_place s.chunk (s.current - 1)) → IsStored old ps (record s { current = s.current - 1; filled = 32 * s.chunk; zeroed = false; copying = false }) x
+pub stored_read : (ps : List Pair) (s : State) (area x old : List ℕ) → IsFront ps s area → IsStored old ps s area → s.filled ≡ 0 → 0 < s.current → s.left ≡ Nothing → x ≡ chunk_at s.chunk old (area_place s.chunk (s.current - 1)) → IsStored old ps (record s { current = s.current - 1; filled = 32 * s.chunk; zeroed = false; firm = false; copying = false }) x
 stored_read ps s area x old is stored empty before ready read =
     let c = is.count in
     let up : s.current ≡ (s.current - 1) + 1 = omega arith in

@@ -27,8 +27,8 @@ pub empty_next : (chunk size current filled : ℕ) (b area : List ℕ) (ps : Lis
 empty_next chunk size current filled b area ps pos read count below =
     ap (λ a. (pair_in a filled).new) read.here ∙ ap (λ p. p.new) (sym (slot-at chunk b current filled below)) ∙ ap (λ k. (slot chunk b k).new) (sym count) ∙ (IsListed-of chunk b ps pos read.all).ends
 
-pub front_loaded : (s : State) (b area area' : List ℕ) (ps : List Pair) → 0 < s.chunk → s.chunk ≤ 1024 → is_chunk s.chunk ≡ true → s.valid ≡ true → IsRead s.chunk s.size b s.current ps area → length ps ≡ s.current * (32 * s.chunk) + s.filled → s.filled < 32 * s.chunk → IsCleared s.chunk s.filled area s.left area' → length area' ≡ 512 * s.chunk → s.zeroed ≡ false → IsFront ps s area'
-front_loaded s b area area' ps pos small size valid read count below clear whole unzeroed = record {
+pub front_loaded : (s : State) (b area area' : List ℕ) (ps : List Pair) → 0 < s.chunk → s.chunk ≤ 1024 → is_chunk s.chunk ≡ true → s.valid ≡ true → IsRead s.chunk s.size b s.current ps area → length ps ≡ s.current * (32 * s.chunk) + s.filled → s.filled < 32 * s.chunk → IsCleared s.chunk s.filled area s.left area' → length area' ≡ 512 * s.chunk → s.zeroed ≡ false → s.firm ≡ false → IsFront ps s area'
+front_loaded s b area area' ps pos small size valid read count below clear whole unzeroed unfirm = record {
   some = pos;
   allowed = small;
   size = size;
@@ -45,6 +45,7 @@ front_loaded s b area area' ps pos small size valid read count below clear whole
   none = λ e. absurd (true≢false (sym clear.begun ∙ e));
   blank = λ e. absurd (true≢false (sym clear.begun ∙ e));
   room = λ z. absurd (false≢true (sym unzeroed ∙ z));
+  firm = λ f. absurd (false≢true (sym unfirm ∙ f));
   early = λ e. absurd (true≢false (sym valid ∙ e));
 }
 

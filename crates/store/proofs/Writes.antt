@@ -1,6 +1,6 @@
 -- The other writes of a store: a zeroed area, a chunk of a copy or the header, and the area of a load.
 use Rattle.std.proofs.Common.{◌≡◌, ◌≢◌, inl, inr, ℕ, zero, ◌+◌, ◌*◌, ◌%◌, ◌<◌, ◌≤◌, List, [], length, arith, ap, ◌∙◌, sym, true, false, append-nil, replicate}
-use Rattle.std.proofs.lemmas.Bool.{cases_Bool, cases_eq, true≢false, ne_eqb}
+use Rattle.std.proofs.lemmas.Bool.{cases_Bool, cases_eq, false≢true, true≢false, ne_eqb}
 use Rattle.std.proofs.lemmas.List.{length-replicate, nil_from_length}
 use Rattle.std.proofs.lemmas.Nat.{mul-le, mod-mul-add}
 use Rattle.sector.specs.Bytes.{sector_at, with_sectors}
@@ -23,10 +23,10 @@ use Rattle.store.proofs.Heads.{area_past, head_after, head_kept, valid_before}
 use Rattle.store.proofs.Areas.{no_chunks, slot_listed, chunk-written, chunk_only}
 
 -- the next area is zeroed
-pub front_zeroed : (ps : List Pair) (s : State) (area : List ℕ) → IsFront ps s area → s.chunk * (area_place s.chunk (s.current + 1) + 1) ≤ s.size → IsFront ps (record s { zeroed = true }) area
-front_zeroed ps s area is room = record { some = is.some; allowed = is.allowed; size = is.size; whole = is.whole; place = is.place; count = is.count; fits = is.fits; empty = is.empty; part = is.part; next = is.next; none = is.none; blank = is.blank; room = λ z. room; early = is.early }
+pub front_zeroed : (ps : List Pair) (s : State) (area : List ℕ) → IsFront ps s area → s.chunk * (area_place s.chunk (s.current + 1) + 1) ≤ s.size → IsFront ps (record s { zeroed = true; firm = false }) area
+front_zeroed ps s area is room = record { some = is.some; allowed = is.allowed; size = is.size; whole = is.whole; place = is.place; count = is.count; fits = is.fits; empty = is.empty; part = is.part; next = is.next; none = is.none; blank = is.blank; room = λ z. room; firm = λ f. absurd (false≢true f); early = is.early }
 
-pub stored_zeroed : (ps : List Pair) (s : State) (area old new zeros : List ℕ) → IsFront ps s area → IsStored old ps s area → s.left ≡ Nothing → s.filled < 32 * s.chunk → s.chunk * (area_place s.chunk (s.current + 1) + 1) ≤ s.size → length old ≡ 512 * s.size → zeros ≡ replicate (512 * s.chunk) 0 → new ≡ with_sectors old (s.chunk * area_place s.chunk (s.current + 1)) zeros → IsStored new ps (record s { zeroed = true }) area
+pub stored_zeroed : (ps : List Pair) (s : State) (area old new zeros : List ℕ) → IsFront ps s area → IsStored old ps s area → s.left ≡ Nothing → s.filled < 32 * s.chunk → s.chunk * (area_place s.chunk (s.current + 1) + 1) ≤ s.size → length old ≡ 512 * s.size → zeros ≡ replicate (512 * s.chunk) 0 → new ≡ with_sectors old (s.chunk * area_place s.chunk (s.current + 1)) zeros → IsStored new ps (record s { zeroed = true; firm = false }) area
 stored_zeroed ps s area old new zeros is stored ready part room whole nil written =
     let long : length zeros ≡ 512 * s.chunk = ap length nil ∙ length-replicate (512 * s.chunk) zero in
     let only = chunk_only s.size s.chunk (area_place s.chunk (s.current + 1)) old new zeros whole long room written in
@@ -61,8 +61,22 @@ header_free chunk =
     let h : zero % (32 * chunk + 1) ≡ 0 = ap (λ n. n % (32 * chunk + 1)) e ∙ mod-mul-add 0 (32 * chunk + 1) 0 (omega arith) in
     ne_eqb _ _ (omega arith)
 
+-- the store is flushed: a zeroed next area is firm
+pub front_flushed : (ps : List Pair) (s : State) (area : List ℕ) → IsFront ps s area → IsFront ps (record s { firm = s.zeroed }) area
+front_flushed ps s area is = record { some = is.some; allowed = is.allowed; size = is.size; whole = is.whole; place = is.place; count = is.count; fits = is.fits; empty = is.empty; part = is.part; next = is.next; none = is.none; blank = is.blank; room = is.room; firm = λ z. z; early = is.early }
+
+pub stored_flushed : (ps : List Pair) (s : State) (area bytes : List ℕ) → IsStored bytes ps s area → IsStored bytes ps (record s { firm = s.zeroed }) area
+stored_flushed ps s area bytes stored = record { head = stored.head; listed = stored.listed; holds = stored.holds; here = stored.here; tail = stored.tail; next = stored.next }
+
+-- the load's flush is done
+pub front_awaited : (ps : List Pair) (s : State) (area : List ℕ) → IsFront ps s area → IsFront ps (record s { awaits = false }) area
+front_awaited ps s area is = record { some = is.some; allowed = is.allowed; size = is.size; whole = is.whole; place = is.place; count = is.count; fits = is.fits; empty = is.empty; part = is.part; next = is.next; none = is.none; blank = is.blank; room = is.room; firm = is.firm; early = is.early }
+
+pub stored_awaited : (ps : List Pair) (s : State) (area bytes : List ℕ) → IsStored bytes ps s area → IsStored bytes ps (record s { awaits = false }) area
+stored_awaited ps s area bytes stored = record { head = stored.head; listed = stored.listed; holds = stored.holds; here = stored.here; tail = stored.tail; next = stored.next }
+
 -- only what is left of the load's writes changes
-pub front_after : (ps : List Pair) (s : State) (area : List ℕ) (left : Left) → IsFront ps s area → is_begun left ≡ true → is_settled left ≡ true → (s.valid ≡ false → left ≡ Nothing) → IsFront ps (record s { left = left }) area
+pub front_after : (ps : List Pair) (s : State) (area : List ℕ) (left : Left) → IsFront ps s area → is_begun left ≡ true → is_settled left ≡ true → (s.valid ≡ false → left ≡ Nothing) → IsFront ps (record s { left = left; awaits = true }) area
 front_after ps s area left is begun settled early = record {
   some = is.some;
   allowed = is.allowed;
@@ -77,11 +91,12 @@ front_after ps s area left is begun settled early = record {
   none = λ e. absurd (true≢false (sym begun ∙ e));
   blank = λ e. absurd (true≢false (sym begun ∙ e));
   room = is.room;
+  firm = is.firm;
   early = early;
 }
 
 -- the header is written, by which the store is ready
-pub stored_valid : (ps : List Pair) (s : State) (area old new : List ℕ) → IsFront ps s area → IsStored old ps s area → s.left ≡ HeaderChunk → ChangesOnly s.chunk 0 old new → found_in (sector_at new 0) ≡ marked_as true s.chunk → IsStored new ps (record s { left = Nothing }) area
+pub stored_valid : (ps : List Pair) (s : State) (area old new : List ℕ) → IsFront ps s area → IsStored old ps s area → s.left ≡ HeaderChunk → ChangesOnly s.chunk 0 old new → found_in (sector_at new 0) ≡ marked_as true s.chunk → IsStored new ps (record s { left = Nothing; awaits = true }) area
 stored_valid ps s area old new is stored begun only says =
     let free = header_free s.chunk in
     let other : s.left ≢ Nothing = λ e. (let no : HeaderChunk ≡ Nothing = sym begun ∙ e in absurd (cc)) in
@@ -97,7 +112,7 @@ stored_valid ps s area old new is stored begun only says =
 
 -- a store that is ready is marked invalid
 pub front_invalid : (ps : List Pair) (s : State) (area : List ℕ) → IsFront ps s area → s.left ≡ Nothing → IsFront ps (record s { valid = false }) area
-front_invalid ps s area is ready = record { some = is.some; allowed = is.allowed; size = is.size; whole = is.whole; place = is.place; count = is.count; fits = is.fits; empty = is.empty; part = is.part; next = is.next; none = is.none; blank = is.blank; room = is.room; early = λ _. ready }
+front_invalid ps s area is ready = record { some = is.some; allowed = is.allowed; size = is.size; whole = is.whole; place = is.place; count = is.count; fits = is.fits; empty = is.empty; part = is.part; next = is.next; none = is.none; blank = is.blank; room = is.room; firm = is.firm; early = λ _. ready }
 
 pub stored_invalid : (ps : List Pair) (s : State) (area old new : List ℕ) → IsFront ps s area → IsStored old ps s area → s.left ≡ Nothing → ChangesOnly s.chunk 0 old new → found_in (sector_at new 0) ≡ marked_as false s.chunk → IsStored new ps (record s { valid = false }) area
 stored_invalid ps s area old new is stored ready only says =
@@ -132,7 +147,7 @@ pub first_area : (ps : List Pair) (s : State) (area : List ℕ) → IsFront ps s
 first_area ps s area is none = no_area s.current (32 * s.chunk) s.filled (let p = is.some in omega arith) (sym none ∙ is.count)
 
 -- the area of a load is written as it is in memory
-pub stored_clean : (ps : List Pair) (s : State) (area old new : List ℕ) (left : Left) → IsFront ps s area → IsStored old ps s area → is_settled s.left ≡ false → left ≡ after_write s.left → left ≢ Tail → length old ≡ 512 * s.size → new ≡ with_sectors old (s.chunk * area_place s.chunk s.current) area → IsStored new ps (record s { left = left }) area
+pub stored_clean : (ps : List Pair) (s : State) (area old new : List ℕ) (left : Left) → IsFront ps s area → IsStored old ps s area → is_settled s.left ≡ false → left ≡ after_write s.left → left ≢ Tail → length old ≡ 512 * s.size → new ≡ with_sectors old (s.chunk * area_place s.chunk s.current) area → IsStored new ps (record s { left = left; awaits = true }) area
 stored_clean ps s area old new left is stored unsettled then other whole written =
     let part = is.part unsettled in
     let only = chunk_only s.size s.chunk (area_place s.chunk s.current) old new area whole is.whole is.place written in

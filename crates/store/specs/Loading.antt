@@ -1,6 +1,7 @@
--- The writes of a load, in their order. That area 0 of a fresh store comes before its header, and that a tail is cleared,
--- is this project's own choice; the bytes are those of dm-snap-persistent.c.
-use Rattle.std.specs.Prelude.{ℕ, ◌+◌, ◌-◌, ◌*◌, Bool, true, false, List, replicate}
+-- The writes and flushes of a load, in their order. That area 0 of a fresh store comes before its header, that a tail is
+-- cleared, and that a flush comes before each write and after the last, is this project's own choice; the bytes are those of
+-- dm-snap-persistent.c.
+use Rattle.std.specs.Prelude.{ℕ, ◌+◌, ◌-◌, ◌*◌, Bool, true, false, if◌then◌else◌, List, replicate}
 use Rattle.sector.specs.Bytes.{with_part, with_sectors}
 use Rattle.model.specs.Places.{area_place}
 use Rattle.cow_header.specs.HeaderText.{header_bytes}
@@ -51,3 +52,11 @@ with_left FirstArea s bytes = with_sectors bytes (s.chunk * area_place s.chunk s
 with_left HeaderChunk s bytes = with_sectors bytes 0 (header_bytes (512 * s.chunk) true s.chunk)
 with_left Tail s bytes = with_part bytes (slot_start s.chunk s.current (s.filled + 1)) (replicate (512 * s.chunk - 16 * (s.filled + 1)) 0)
 with_left Nothing s bytes = bytes
+
+-- a store after the load's next operation: the flush that it awaits, or else the write that is left
+abbrev pub after_prepare : State → State
+after_prepare s = if s.awaits then record s { awaits = false } else record s { left = after_write s.left; awaits = is_left s.left }
+
+-- and its bytes
+abbrev pub with_prepared : State → List ℕ → List ℕ
+with_prepared s bytes = if s.awaits then bytes else with_left s.left s bytes

@@ -34,6 +34,8 @@ pub record IsFront (pairs : List Pair) (s : State) (area : List ℕ) : Type 0 wh
   pub none : is_begun s.left ≡ false → length pairs ≡ 0
   pub blank : is_begun s.left ≡ false → area ≡ replicate (512 * s.chunk) 0
   pub room : s.zeroed ≡ true → s.chunk * (area_place s.chunk (s.current + 1) + 1) ≤ s.size
+  -- the next area is zeroed where it was flushed since
+  pub firm : s.firm ≡ true → s.zeroed ≡ true
   -- it is marked invalid only once no write of its load is left
   pub early : s.valid ≡ false → s.left ≡ Nothing
 
@@ -64,4 +66,4 @@ pub record AreGiven (chunk origin size place : ℕ) (copying : Bool) (committed 
 
 -- a store after so many pairs were put into its area: where they fill it, the next area is the current one
 abbrev pub after_commit : State → ℕ → State
-after_commit s count = if s.filled + count == 32 * s.chunk then record s { current = s.current + 1; filled = 0; zeroed = false } else record s { filled = s.filled + count }
+after_commit s count = if s.filled + count == 32 * s.chunk then record s { current = s.current + 1; filled = 0; zeroed = false; firm = false } else record s { filled = s.filled + count }

@@ -5,6 +5,7 @@ ghost use Rattle.device.specs.declared.operation.Operation.TheVariants.{Reads, W
 ghost use Rattle.device.specs.Layers.{is_loud};
 ghost use Rattle.model.specs.Places.{ChangesOnly, chunk_at};
 ghost use Rattle.store.specs.Operations.{IsOneOperation};
+ghost use Rattle.stop_laws.specs.Firm.{AddsNow};
 
 use device::{Block, Io};
 use metadata_area::Area;
@@ -29,6 +30,7 @@ pub fn write_part<B: Block>(
     ensures err { OnErr result (B.contents device.new ≡ B.contents device.old) }
     ensures only { ChangesOnly chunk place (B.contents device.old) (B.contents device.new) }
     ensures durable { B.durable device.new ≡ B.durable device.old }
+    ensures adds { IsTrue (is_loud (B.layers device.old)) → AddsNow (B.may_hold device.old) (B.may_hold device.new) (B.contents device.new) }
     ensures size { B.size device.new ≡ B.size device.old }
 {
     let range = Range {
@@ -58,6 +60,7 @@ pub fn read_part<B: Block>(
     ensures err { OnErr result (out.new ≡ out.old) }
     ensures contents { B.contents device.new ≡ B.contents device.old }
     ensures durable { B.durable device.new ≡ B.durable device.old }
+    ensures adds { AddsNow (B.may_hold device.old) (B.may_hold device.new) (B.contents device.new) }
     ensures size { B.size device.new ≡ B.size device.old }
 {
     let range = Range {
@@ -84,6 +87,7 @@ pub fn write_whole<B: Block>(
     ensures err { OnErr result (B.contents device.new ≡ B.contents device.old) }
     ensures only { ChangesOnly chunk place (B.contents device.old) (B.contents device.new) }
     ensures durable { B.durable device.new ≡ B.durable device.old }
+    ensures adds { IsTrue (is_loud (B.layers device.old)) → AddsNow (B.may_hold device.old) (B.may_hold device.new) (B.contents device.new) }
     ensures size { B.size device.new ≡ B.size device.old }
 {
     write_part(device, chunk, place, 0, chunk, bytes)
@@ -105,6 +109,7 @@ pub fn read_whole<B: Block>(
     ensures err { OnErr result (out.new ≡ out.old) }
     ensures contents { B.contents device.new ≡ B.contents device.old }
     ensures durable { B.durable device.new ≡ B.durable device.old }
+    ensures adds { AddsNow (B.may_hold device.old) (B.may_hold device.new) (B.contents device.new) }
     ensures size { B.size device.new ≡ B.size device.old }
 {
     read_part(device, chunk, place, 0, chunk, out)
@@ -121,6 +126,7 @@ pub fn read_area<B: Block>(device: &mut B, area: &mut Area, place: Chunk) -> Res
     ensures err { OnErr result (area.new.bytes.items ≡ area.old.bytes.items) }
     ensures contents { B.contents device.new ≡ B.contents device.old }
     ensures durable { B.durable device.new ≡ B.durable device.old }
+    ensures adds { AddsNow (B.may_hold device.old) (B.may_hold device.new) (B.contents device.new) }
     ensures size { B.size device.new ≡ B.size device.old }
     ensures faults { B.fault_count device.new ≡ (if is_ok result then B.fault_count device.old else next_count (B.fault_count device.old)) }
 {

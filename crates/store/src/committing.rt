@@ -12,6 +12,7 @@ ghost use Rattle.store.specs.Slots.{IsPut, pairs_bytes, slot_start};
 ghost use Rattle.store.specs.Stored.{after_commit};
 ghost use Rattle.store.specs.Stopping.{StopsWithin};
 ghost use Rattle.store.specs.Operations.{IsOneOperation};
+ghost use Rattle.stop_laws.specs.Firm.{AddsNow};
 
 use crate::Store;
 use crate::chunks::write_whole;
@@ -29,6 +30,14 @@ impl<B: Block> Store<B> {
         count == 32 * self.state.chunk - self.state.filled && !self.state.zeroed
     }
 
+    /// Whether so many pairs, if they are committed next, fill the current area, so that the next area has to be zeroed
+    /// and flushed first, and it is not yet.
+    pub fn waits_for_next_area(&self, count: u32) -> bool
+        ensures { IsTrue result ↔ ((self.now.state.filled + count ≡ 32 * self.now.state.chunk) × (self.now.state.firm ≡ false)) }
+    {
+        count == 32 * self.state.chunk - self.state.filled && !self.state.firm
+    }
+
     /// Whether the area after the current one does not lie wholly inside the store.
     pub fn lacks_next_area(&self) -> bool
         ensures { IsTrue result ↔ LacksArea self.now.state.chunk self.now.state.size (self.now.state.current + 1) }
@@ -38,7 +47,7 @@ impl<B: Block> Store<B> {
                 * ((self.state.current + 1) * (32 * self.state.chunk as u64 + 1) + 2)
     }
 
-    /// Zeroes the area after the current one. Whatever a stop within it leaves is loaded again with the same pairs.
+    /// Zeroes the area after the current one, which is not firm before the next flush. Whatever a stop within it leaves is loaded again with the same pairs.
     pub fn zero_next(&mut self) -> Result<(), Io>
         requires ready { self.old.state.left ≡ Nothing }
         requires part { self.old.state.filled < 32 * self.old.state.chunk }
@@ -48,11 +57,12 @@ impl<B: Block> Store<B> {
         ensures same { OnErr result (B.contents self.new.device ≡ B.contents self.old.device) }
         ensures only { ChangesOnly self.old.state.chunk (area_place self.old.state.chunk (self.old.state.current + 1)) (B.contents self.old.device) (B.contents self.new.device) }
         ensures durable { B.durable self.new.device ≡ B.durable self.old.device }
+        ensures adds { IsTrue (is_loud (B.layers self.old.device)) → AddsNow (B.may_hold self.old.device) (B.may_hold self.new.device) (B.contents self.new.device) }
         ensures size { B.size self.new.device ≡ B.size self.old.device }
         ensures stops { self.old.state.valid ≡ true → IsTrue (is_loud (B.layers self.old.device)) → StopsWithin self.old.state.chunk self.old.state.origin self.old.state.size (committed self.old.exceptions) [] (B.contents self.old.device) (B.contents self.new.device) }
         ensures exceptions { self.new.exceptions ≡ self.old.exceptions }
         ensures places { self.new.places ≡ self.old.places }
-        ensures zeroed { OnOk result (self.new.state ≡ record self.old.state { zeroed = true }) }
+        ensures zeroed { OnOk result (self.new.state ≡ record self.old.state { zeroed = true; firm = false }) }
         ensures kept { OnErr result (self.new.state ≡ self.old.state) }
     {
         let place = (self.state.current + 1) * (32 * self.state.chunk as u64 + 1) + 1;
@@ -65,6 +75,7 @@ impl<B: Block> Store<B> {
         ) {
             Ok(()) => {
                 self.state.zeroed = true;
+                self.state.firm = false;
                 Ok(())
             }
             Err(io) => Err(io),
@@ -72,19 +83,20 @@ impl<B: Block> Store<B> {
     }
 
     /// Commits the pairs of the copies that began first, so many of them: they are written into the current area, from its
-    /// first empty slot on. Where they fill it the next area, which is zeroed, becomes the current one. Whatever a stop
+    /// first empty slot on. Where they fill it the next area, which is zeroed and was flushed since, becomes the current one. Whatever a stop
     /// within it leaves is loaded again, with the pairs that were there and the first few of these.
     pub fn write_area(&mut self, count: u32) -> Result<(), Io>
         requires ready { self.old.state.left ≡ Nothing }
         requires pending { count ≤ length (pending self.old.exceptions) }
         requires fits { self.old.state.filled + count ≤ 32 * self.old.state.chunk }
-        requires next { self.old.state.filled + count ≡ 32 * self.old.state.chunk → self.old.state.zeroed ≡ true }
+        requires next { self.old.state.filled + count ≡ 32 * self.old.state.chunk → self.old.state.firm ≡ true }
         ensures operation { IsOneOperation (Writes (self.old.state.chunk * area_place self.old.state.chunk self.old.state.current) self.old.state.chunk) (is_ok result) (B.layers self.old.device) (B.layers self.new.device) (B.fault_count self.old.device) (B.fault_count self.new.device) (B.done_count self.old.device) (B.done_count self.new.device) }
         ensures written { OnOk result (IsTrue (is_loud (B.layers self.old.device)) → B.contents self.new.device ≡ with_part (B.contents self.old.device) (slot_start self.old.state.chunk self.old.state.current self.old.state.filled) (pairs_bytes (pairs (take count (pending self.old.exceptions))))) }
         ensures same { OnErr result (B.contents self.new.device ≡ B.contents self.old.device) }
         ensures only { ChangesOnly self.old.state.chunk (area_place self.old.state.chunk self.old.state.current) (B.contents self.old.device) (B.contents self.new.device) }
         ensures loud { is_loud (B.layers self.new.device) ≡ is_loud (B.layers self.old.device) }
         ensures durable { B.durable self.new.device ≡ B.durable self.old.device }
+        ensures adds { IsTrue (is_loud (B.layers self.old.device)) → AddsNow (B.may_hold self.old.device) (B.may_hold self.new.device) (B.contents self.new.device) }
         ensures size { B.size self.new.device ≡ B.size self.old.device }
         ensures stops { self.old.state.valid ≡ true → IsTrue (is_loud (B.layers self.old.device)) → StopsWithin self.old.state.chunk self.old.state.origin self.old.state.size (committed self.old.exceptions) (pairs (take count (pending self.old.exceptions))) (B.contents self.old.device) (B.contents self.new.device) }
         ensures committed { OnOk result (committed self.new.exceptions ≡ committed self.old.exceptions ++ pairs (take count (pending self.old.exceptions))) }
@@ -111,6 +123,7 @@ impl<B: Block> Store<B> {
                     self.state.current += 1;
                     self.state.filled = 0;
                     self.state.zeroed = false;
+                    self.state.firm = false;
                     self.area.clear_from(0);
                 }
                 Ok(())

@@ -14,6 +14,7 @@ ghost use Rattle.store.specs.Held.{committed, pending, pairs_pending, reserved};
 ghost use Rattle.store.specs.declared.state.Left.TheVariants.{Nothing};
 ghost use Rattle.store.specs.Operations.{IsOneOperation};
 ghost use Rattle.store.specs.Stopping.{StopsWithin};
+ghost use Rattle.stop_laws.specs.Firm.{AddsNow};
 
 use crate::Store;
 use crate::chunks::{read_part, write_part};
@@ -108,6 +109,7 @@ impl<B: Block> Store<B> {
         ensures only { ChangesOnly self.old.state.chunk place (B.contents self.old.device) (B.contents self.new.device) }
         ensures loud { is_loud (B.layers self.new.device) ≡ is_loud (B.layers self.old.device) }
         ensures durable { B.durable self.new.device ≡ B.durable self.old.device }
+        ensures adds { IsTrue (is_loud (B.layers self.old.device)) → AddsNow (B.may_hold self.old.device) (B.may_hold self.new.device) (B.contents self.new.device) }
         ensures size { B.size self.new.device ≡ B.size self.old.device }
         ensures stops { self.old.state.left ≡ Nothing → self.old.state.valid ≡ true → IsTrue (is_loud (B.layers self.old.device)) → StopsWithin self.old.state.chunk self.old.state.origin self.old.state.size (committed self.old.exceptions) [] (B.contents self.old.device) (B.contents self.new.device) }
 
@@ -144,6 +146,7 @@ impl<B: Block> Store<B> {
         ensures same { B.contents self.new.device ≡ B.contents self.old.device }
         ensures loud { is_loud (B.layers self.new.device) ≡ is_loud (B.layers self.old.device) }
         ensures durable { B.durable self.new.device ≡ B.durable self.old.device }
+        ensures adds { IsTrue (is_loud (B.layers self.old.device)) → AddsNow (B.may_hold self.old.device) (B.may_hold self.new.device) (B.contents self.new.device) }
         ensures size { B.size self.new.device ≡ B.size self.old.device }
 
         ensures exceptions { self.new.exceptions ≡ self.old.exceptions }

@@ -3,6 +3,7 @@ ghost use Rattle.std.specs.Prelude.{◌≡◌, ◌⊎◌, IfOk, IfErr, OnErr};
 ghost use Rattle.sector.specs.declared.refusal.Refusal.TheVariants.{NoMemory};
 ghost use Rattle.layers.specs.Messages.{told, Answered, Refused, NeedsRoom};
 ghost use Rattle.layers.specs.Ticks.{layers_ticked};
+ghost use Rattle.stop_laws.specs.Firm.{AddsNow};
 ghost use Rattle.store.specs.Layering.{IsRelayered};
 
 use crate::Store;
@@ -15,6 +16,7 @@ impl<B: Layered> Store<B> {
     pub fn tick(&mut self, seconds: u32)
         ensures layers { B.layers self.new.device ≡ layers_ticked seconds (B.layers self.old.device) }
         ensures rest { IsRelayered B.contents B.durable B.size B.fault_count B.done_count self.old.device self.new.device }
+        ensures adds { AddsNow (B.may_hold self.old.device) (B.may_hold self.new.device) (B.contents self.new.device) }
         ensures state { self.new.state ≡ self.old.state }
         ensures exceptions { self.new.exceptions ≡ self.old.exceptions }
         ensures places { self.new.places ≡ self.old.places }
@@ -30,6 +32,7 @@ impl<B: Layered> Store<B> {
         ensures err { IfErr result (λ r. (told (B.layers self.old.device) depth message.now ≡ Refused r) ⊎ ((r ≡ NoMemory) × NeedsRoom message.now (told (B.layers self.old.device) depth message.now))) }
         ensures unchanged { OnErr result (B.layers self.new.device ≡ B.layers self.old.device) }
         ensures rest { IsRelayered B.contents B.durable B.size B.fault_count B.done_count self.old.device self.new.device }
+        ensures adds { AddsNow (B.may_hold self.old.device) (B.may_hold self.new.device) (B.contents self.new.device) }
         ensures state { self.new.state ≡ self.old.state }
         ensures exceptions { self.new.exceptions ≡ self.old.exceptions }
         ensures places { self.new.places ≡ self.old.places }

@@ -10,6 +10,7 @@ ghost use Rattle.exception_arena.specs.Pending.{begun_under};
 ghost use Rattle.store.specs.Held.{committed, pending, reserved};
 ghost use Rattle.store.specs.Opening.{faults_after};
 ghost use Rattle.store.specs.Loaded.{IsLoaded, IsPrefix, IsRead};
+ghost use Rattle.stop_laws.specs.Firm.{AddsNow};
 
 use crate::chunks::read_area;
 use device::Block;
@@ -32,6 +33,7 @@ pub fn read_areas<B: Block>(
     ensures chunk { area.new.chunk ≡ area.old.chunk }
     ensures contents { B.contents device.new ≡ B.contents device.old }
     ensures durable { B.durable device.new ≡ B.durable device.old }
+    ensures adds { AddsNow (B.may_hold device.old) (B.may_hold device.new) (B.contents device.new) }
     ensures size { B.size device.new ≡ B.size device.old }
     ensures loud { is_loud (B.layers device.new) ≡ is_loud (B.layers device.old) }
     ensures starved { IfErr result (λ e. e ≡ NoMemory → ArePartRead area.old.chunk (B.size device.old) (B.contents device.old) (B.layers device.old) (B.layers device.new)) }

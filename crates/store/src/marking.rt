@@ -9,6 +9,7 @@ ghost use Rattle.store.specs.declared.state.Left.TheVariants.{HeaderChunk, Nothi
 ghost use Rattle.store.specs.Held.{committed};
 ghost use Rattle.store.specs.Operations.{IsOneOperation};
 ghost use Rattle.store.specs.Stopping.{StopsMarking};
+ghost use Rattle.stop_laws.specs.Firm.{AddsNow};
 
 use crate::chunks::write_whole;
 use crate::{Left, Store};
@@ -26,6 +27,7 @@ impl<B: Block> Store<B> {
         ensures same { OnErr result (B.contents self.new.device ≡ B.contents self.old.device) }
         ensures only { ChangesOnly self.old.state.chunk 0 (B.contents self.old.device) (B.contents self.new.device) }
         ensures durable { B.durable self.new.device ≡ B.durable self.old.device }
+        ensures adds { IsTrue (is_loud (B.layers self.old.device)) → AddsNow (B.may_hold self.old.device) (B.may_hold self.new.device) (B.contents self.new.device) }
         ensures size { B.size self.new.device ≡ B.size self.old.device }
         ensures stops { self.old.state.valid ≡ true → IsTrue (is_loud (B.layers self.old.device)) → StopsMarking self.old.state.chunk self.old.state.origin self.old.state.size (committed self.old.exceptions) (B.contents self.old.device) (B.contents self.new.device) }
         ensures exceptions { self.new.exceptions ≡ self.old.exceptions }
@@ -42,7 +44,7 @@ impl<B: Block> Store<B> {
         }
     }
 
-    /// Writes the header of a fresh store whose area 0 is zeroed, after which no write of its load is left.
+    /// Writes the header of a fresh store whose area 0 is zeroed, after which no write of its load is left, but a flush.
     pub(crate) fn write_valid(&mut self) -> Result<(), Io>
         requires begun { self.old.state.left ≡ HeaderChunk }
         ensures operation { IsOneOperation (Writes 0 self.old.state.chunk) (is_ok result) (B.layers self.old.device) (B.layers self.new.device) (B.fault_count self.old.device) (B.fault_count self.new.device) (B.done_count self.old.device) (B.done_count self.new.device) }
@@ -51,15 +53,17 @@ impl<B: Block> Store<B> {
         ensures same { OnErr result (B.contents self.new.device ≡ B.contents self.old.device) }
         ensures only { ChangesOnly self.old.state.chunk 0 (B.contents self.old.device) (B.contents self.new.device) }
         ensures durable { B.durable self.new.device ≡ B.durable self.old.device }
+        ensures adds { IsTrue (is_loud (B.layers self.old.device)) → AddsNow (B.may_hold self.old.device) (B.may_hold self.new.device) (B.contents self.new.device) }
         ensures size { B.size self.new.device ≡ B.size self.old.device }
         ensures exceptions { self.new.exceptions ≡ self.old.exceptions }
         ensures places { self.new.places ≡ self.old.places }
-        ensures state { OnOk result (self.new.state ≡ record self.old.state { left = Nothing }) }
+        ensures state { OnOk result (self.new.state ≡ record self.old.state { left = Nothing; awaits = true }) }
         ensures kept { OnErr result (self.new.state ≡ self.old.state) }
     {
         match write_header(&mut self.device, &mut self.spare, true) {
             Ok(()) => {
                 self.state.left = Left::Nothing;
+                self.state.awaits = true;
                 Ok(())
             }
             Err(io) => Err(io),
@@ -78,6 +82,7 @@ fn write_header<B: Block>(device: &mut B, room: &mut Area, valid: bool) -> Resul
     ensures same { OnErr result (B.contents device.new ≡ B.contents device.old) }
     ensures only { ChangesOnly room.old.chunk 0 (B.contents device.old) (B.contents device.new) }
     ensures durable { B.durable device.new ≡ B.durable device.old }
+    ensures adds { IsTrue (is_loud (B.layers device.old)) → AddsNow (B.may_hold device.old) (B.may_hold device.new) (B.contents device.new) }
     ensures size { B.size device.new ≡ B.size device.old }
 {
     put_header(room, valid);

@@ -10,6 +10,7 @@ ghost use Rattle.store.specs.Held.{committed, pending, reserved};
 ghost use Rattle.store.specs.Operations.{IsOneOperation};
 ghost use Rattle.store.specs.Slots.{slot_start};
 ghost use Rattle.store.specs.Stopping.{StopsWithin};
+ghost use Rattle.stop_laws.specs.Firm.{AddsNow};
 
 use crate::Store;
 use crate::chunks::{read_area, write_whole};
@@ -36,6 +37,7 @@ impl<B: Block> Store<B> {
         ensures only { ChangesOnly self.old.state.chunk (area_place self.old.state.chunk self.old.state.current) (B.contents self.old.device) (B.contents self.new.device) }
         ensures loud { is_loud (B.layers self.new.device) ≡ is_loud (B.layers self.old.device) }
         ensures durable { B.durable self.new.device ≡ B.durable self.old.device }
+        ensures adds { IsTrue (is_loud (B.layers self.old.device)) → AddsNow (B.may_hold self.old.device) (B.may_hold self.new.device) (B.contents self.new.device) }
         ensures stops { self.old.state.valid ≡ true → IsTrue (is_loud (B.layers self.old.device)) → StopsWithin self.old.state.chunk self.old.state.origin self.old.state.size (take (length (committed self.old.exceptions) - count) (committed self.old.exceptions)) (drop (length (committed self.old.exceptions) - count) (committed self.old.exceptions)) (B.contents self.old.device) (B.contents self.new.device) }
         ensures committed { OnOk result (committed self.new.exceptions ≡ take (length (committed self.old.exceptions) - count) (committed self.old.exceptions)) }
         ensures pending { pending self.new.exceptions ≡ pending self.old.exceptions }
@@ -75,9 +77,10 @@ impl<B: Block> Store<B> {
         ensures same { B.contents self.new.device ≡ B.contents self.old.device }
         ensures loud { is_loud (B.layers self.new.device) ≡ is_loud (B.layers self.old.device) }
         ensures durable { B.durable self.new.device ≡ B.durable self.old.device }
+        ensures adds { IsTrue (is_loud (B.layers self.old.device)) → AddsNow (B.may_hold self.old.device) (B.may_hold self.new.device) (B.contents self.new.device) }
         ensures exceptions { self.new.exceptions ≡ self.old.exceptions }
         ensures places { self.new.places ≡ self.old.places }
-        ensures state { OnOk result (self.new.state ≡ record self.old.state { current = self.old.state.current - 1; filled = 32 * self.old.state.chunk; zeroed = false; copying = false }) }
+        ensures state { OnOk result (self.new.state ≡ record self.old.state { current = self.old.state.current - 1; filled = 32 * self.old.state.chunk; zeroed = false; firm = false; copying = false }) }
         ensures kept { OnErr result (self.new.state ≡ self.old.state) }
     {
         let place = (self.state.current - 1) * (32 * self.state.chunk as u64 + 1) + 1;
@@ -86,6 +89,7 @@ impl<B: Block> Store<B> {
                 self.state.current -= 1;
                 self.state.filled = 32 * self.state.chunk;
                 self.state.zeroed = false;
+                self.state.firm = false;
                 self.state.copying = false;
                 Ok(())
             }

@@ -17,6 +17,7 @@ ghost use Rattle.store.specs.Opening.{IsRefused, IsOpenedFresh, IsOpenedWritten,
 ghost use Rattle.store.specs.Opened.{MatchLoaded};
 ghost use Rattle.store.specs.Reading.{ended, all_read, read_found, read_pairs, reading, IsEnded};
 ghost use Rattle.store.specs.Starved.{ArePartRead, IsStarved};
+ghost use Rattle.stop_laws.specs.Firm.{AddsNow};
 
 use crate::judging::{are_formed, greatest_new};
 use crate::loading::{hold_pairs, read_areas};
@@ -36,6 +37,7 @@ fn read_header<B: Block>(device: &mut B) -> Result<Found, Refusal>
     ensures refused { IfErr result (IsFirstRefusal (B.size device.old) (B.contents device.old)) }
     ensures contents { B.contents device.new ≡ B.contents device.old }
     ensures durable { B.durable device.new ≡ B.durable device.old }
+    ensures adds { AddsNow (B.may_hold device.old) (B.may_hold device.new) (B.contents device.new) }
     ensures size { B.size device.new ≡ B.size device.old }
     ensures loud { is_loud (B.layers device.new) ≡ is_loud (B.layers device.old) }
     ensures one { OnOk result (B.layers device.new ≡ layers_after (B.layers device.old) (Reads 0 1)) }
@@ -74,8 +76,8 @@ pub enum Loaded {
 }
 
 /// Opens a store, for an origin of so many sectors: a fresh one with chunks of so many sectors, a written one with those
-/// of its header. It only reads, and takes the room for two chunks and for the pairs. `prepare` does the writes that a
-/// load leaves.
+/// of its header. It only reads, and takes the room for two chunks and for the pairs. `prepare` does the flushes and
+/// writes that a load leaves.
 ///
 /// The refusals, in this order: `Io` where the first sector cannot be read; `BadHeader`, `BadVersion`, `BadChunk` and
 /// `Invalid` by that sector; `StoreTooSmall` for less than two chunks; `Io` where an area cannot be read, up to the one of
@@ -94,6 +96,7 @@ pub fn open<B: Block>(
     ensures refused { IfErr result (λ refused. IsRefused chunk origin (B.size device) (B.contents device) refused.0) }
     ensures contents { MatchResult result (λ opened. B.contents opened.0.device ≡ B.contents device) (λ refused. B.contents refused.1 ≡ B.contents device) }
     ensures durable { MatchResult result (λ opened. B.durable opened.0.device ≡ B.durable device) (λ refused. B.durable refused.1 ≡ B.durable device) }
+    ensures adds { MatchResult result (λ opened. AddsNow (B.may_hold device) (B.may_hold opened.0.device) (B.contents opened.0.device)) (λ refused. AddsNow (B.may_hold device) (B.may_hold refused.1) (B.contents refused.1)) }
     ensures size { MatchResult result (λ opened. B.size opened.0.device ≡ B.size device) (λ refused. B.size refused.1 ≡ B.size device) }
     ensures loud { MatchResult result (λ opened. is_loud (B.layers opened.0.device) ≡ is_loud (B.layers device)) (λ refused. is_loud (B.layers refused.1) ≡ is_loud (B.layers device)) }
     ensures starved { IfErr result (λ refused. refused.0 ≡ NoMemory → IsStarved chunk (B.size device) (B.contents device) (B.layers device) (B.layers refused.1)) }
@@ -140,7 +143,7 @@ fn open_fresh<B: Block>(
     requires large { 2 * chunk ≤ B.size device }
     requires found { found_in (sector_at (B.contents device) 0) ≡ Ok FoundFresh }
     ensures device { IfOk result (λ store. store.device ≡ device) }
-    ensures state { IfOk result (λ store. store.state ≡ record { chunk = chunk; origin = origin; size = B.size device; current = 0; filled = 0; zeroed = false; left = Left.FirstArea; copying = true; valid = true }) }
+    ensures state { IfOk result (λ store. store.state ≡ record { chunk = chunk; origin = origin; size = B.size device; current = 0; filled = 0; zeroed = false; firm = false; left = Left.FirstArea; awaits = true; copying = true; valid = true }) }
     ensures committed { IfOk result (λ store. committed store.exceptions ≡ []) }
     ensures pending { IfOk result (λ store. pending store.exceptions ≡ []) }
     ensures reserved { IfOk result (λ store. reserved store.exceptions ≡ 0) }
@@ -161,7 +164,9 @@ fn open_fresh<B: Block>(
         current: 0,
         filled: 0,
         zeroed: false,
+        firm: false,
         left: Left::FirstArea,
+        awaits: true,
         copying: true,
         valid: true,
     };
@@ -193,13 +198,14 @@ fn open_written<B: Block>(
     ensures count { IfOk result (λ store. length (committed store.exceptions) ≡ store.state.current * (32 * chunk) + store.state.filled) }
     ensures part { IfOk result (λ store. store.state.filled < 32 * chunk) }
     ensures tail { IfOk result (λ store. (store.state.left ≡ Left.Tail) × HasTail (chunk_at chunk (B.contents device) (area_place chunk store.state.current)) store.state.filled ⊎ (store.state.left ≡ Left.Nothing) × HasNoTail (chunk_at chunk (B.contents device) (area_place chunk store.state.current)) store.state.filled) }
-    ensures rest { IfOk result (λ store. (store.state.origin ≡ origin) × (store.state.size ≡ B.size device) × (store.state.zeroed ≡ false) × (store.state.copying ≡ true)) }
+    ensures rest { IfOk result (λ store. (store.state.origin ≡ origin) × (store.state.size ≡ B.size device) × (store.state.zeroed ≡ false) × (store.state.firm ≡ false) × (store.state.awaits ≡ true) × (store.state.copying ≡ true)) }
     ensures valid { IfOk result (λ store. store.state.valid ≡ true) }
     ensures pending { IfOk result (λ store. length (pending store.exceptions) ≡ 0) }
     ensures reserved { IfOk result (λ store. reserved store.exceptions ≡ 0) }
     ensures refused { IfErr result (λ refused. (refused.0 ≡ IoRefusal) ⊎ (refused.0 ≡ NoMemory) ⊎ ((refused.0 ≡ Damaged) × (AreWellFormed chunk origin (B.size device) (pairs_of chunk (B.contents device)) → ⊥))) }
     ensures contents { MatchResult result (λ store. B.contents store.device ≡ B.contents device) (λ refused. B.contents refused.1 ≡ B.contents device) }
     ensures durable { MatchResult result (λ store. B.durable store.device ≡ B.durable device) (λ refused. B.durable refused.1 ≡ B.durable device) }
+    ensures adds { MatchResult result (λ store. AddsNow (B.may_hold device) (B.may_hold store.device) (B.contents store.device)) (λ refused. AddsNow (B.may_hold device) (B.may_hold refused.1) (B.contents refused.1)) }
     ensures size { MatchResult result (λ store. B.size store.device ≡ B.size device) (λ refused. B.size refused.1 ≡ B.size device) }
     ensures loud { MatchResult result (λ store. is_loud (B.layers store.device) ≡ is_loud (B.layers device)) (λ refused. is_loud (B.layers refused.1) ≡ is_loud (B.layers device)) }
     ensures starved { IfErr result (λ refused. refused.0 ≡ NoMemory → ArePartRead chunk (B.size device) (B.contents device) (B.layers device) (B.layers refused.1)) }
@@ -231,7 +237,9 @@ fn open_written<B: Block>(
         current,
         filled,
         zeroed: false,
+        firm: false,
         left,
+        awaits: true,
         copying: true,
         valid: true,
     };

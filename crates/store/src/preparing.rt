@@ -1,45 +1,52 @@
-// The writes of a load.
-ghost use Rattle.std.specs.Prelude.{◌≡◌, ◌⊎◌, ℕ, ◌+◌, ◌*◌, ◌<◌, ◌≤◌, ◌↔◌, List, length, is_ok, OnOk, OnErr, IfOk, IsTrue, Ok, true, false};
-ghost use Rattle.device.specs.declared.operation.Operation.TheVariants.{Writes};
+// The flushes and writes of a load.
+ghost use Rattle.std.specs.Prelude.{◌≡◌, ◌⊎◌, ℕ, ◌+◌, ◌*◌, ◌<◌, ◌≤◌, ◌↔◌, ◌||◌, List, length, is_ok, OnOk, OnErr, IfOk, IsTrue, Ok, true, false};
+ghost use Rattle.device.specs.declared.operation.Operation.TheVariants.{Writes, Flushes};
 ghost use Rattle.device.specs.Layers.{is_loud};
 ghost use Rattle.model.specs.Places.{area_place, ChangesOnly};
 ghost use Rattle.store.specs.declared.state.Left.TheVariants.{FirstArea, HeaderChunk, Tail, Nothing};
 ghost use Rattle.store.specs.Operations.{IsOneOperation};
 ghost use Rattle.store.specs.Held.{committed};
 ghost use Rattle.store.specs.Stopping.{StopsPreparing};
-ghost use Rattle.store.specs.Loading.{is_settled, is_begun, is_left, after_write, chunk_left, with_left};
+ghost use Rattle.store.specs.Loading.{is_settled, is_begun, is_left, after_write, after_prepare, chunk_left, with_left, with_prepared};
+ghost use Rattle.stop_laws.specs.Firm.{AddsNow, IsFirm};
 
 use crate::chunks::write_whole;
 use crate::{Left, Store};
 use device::{Block, Io};
 
 impl<B: Block> Store<B> {
-    /// Whether no write of the load is left.
+    /// Whether no write of the load is left, nor a flush.
     pub fn is_ready(&self) -> bool
-        ensures { IsTrue result ↔ (self.now.state.left ≡ Nothing) }
+        ensures { IsTrue result ↔ ((self.now.state.left ≡ Nothing) × (self.now.state.awaits ≡ false)) }
     {
-        self.state.left == Left::Nothing
+        self.state.left == Left::Nothing && !self.state.awaits
     }
 
-    /// Does the next of the load's writes, and tells whether one is left. A fresh store's area 0 is zeroed, and then its
-    /// header is written; a written store's current area is written with its tail zero, where its tail is not zero.
-    /// Where no write is left nothing is done. Whatever a stop within it leaves is fresh while the store is, and is loaded
-    /// again with its pairs afterwards.
+    /// Does the next of the load's flushes and writes, and tells whether one is left. A flush comes first, and another after
+    /// each write. A fresh store's area 0 is zeroed, and then its header is written; a written store's current area is
+    /// written with its tail zero, where its tail is not zero. Where no write is left, nor a flush, nothing is done. Whatever
+    /// a stop within it leaves is fresh while the store is, and is loaded again with its pairs afterwards.
     pub fn prepare(&mut self) -> Result<bool, Io>
-        ensures operation { is_left self.old.state.left ≡ true → IsOneOperation (Writes (self.old.state.chunk * chunk_left self.old.state.left self.old.state) self.old.state.chunk) (is_ok result) (B.layers self.old.device) (B.layers self.new.device) (B.fault_count self.old.device) (B.fault_count self.new.device) (B.done_count self.old.device) (B.done_count self.new.device) }
-        ensures idle { self.old.state.left ≡ Nothing → (result ≡ Ok false) × (self.new.device ≡ self.old.device) }
-        ensures written { OnOk result (IsTrue (is_loud (B.layers self.old.device)) → B.contents self.new.device ≡ with_left self.old.state.left self.old.state (B.contents self.old.device)) }
+        ensures flushes { self.old.state.awaits ≡ true → IsOneOperation Flushes (is_ok result) (B.layers self.old.device) (B.layers self.new.device) (B.fault_count self.old.device) (B.fault_count self.new.device) (B.done_count self.old.device) (B.done_count self.new.device) }
+        ensures operation { self.old.state.awaits ≡ false → is_left self.old.state.left ≡ true → IsOneOperation (Writes (self.old.state.chunk * chunk_left self.old.state.left self.old.state) self.old.state.chunk) (is_ok result) (B.layers self.old.device) (B.layers self.new.device) (B.fault_count self.old.device) (B.fault_count self.new.device) (B.done_count self.old.device) (B.done_count self.new.device) }
+        ensures idle { self.old.state.awaits ≡ false → self.old.state.left ≡ Nothing → (result ≡ Ok false) × (self.new.device ≡ self.old.device) }
+        ensures written { OnOk result (IsTrue (is_loud (B.layers self.old.device)) → B.contents self.new.device ≡ with_prepared self.old.state (B.contents self.old.device)) }
         ensures same { OnErr result (B.contents self.new.device ≡ B.contents self.old.device) }
         ensures only { ChangesOnly self.old.state.chunk (chunk_left self.old.state.left self.old.state) (B.contents self.old.device) (B.contents self.new.device) }
         ensures loud { is_loud (B.layers self.new.device) ≡ is_loud (B.layers self.old.device) }
-        ensures durable { B.durable self.new.device ≡ B.durable self.old.device }
+        ensures size { B.size self.new.device ≡ B.size self.old.device }
+        ensures adds { IsTrue (is_loud (B.layers self.old.device)) → AddsNow (B.may_hold self.old.device) (B.may_hold self.new.device) (B.contents self.new.device) }
         ensures stops { self.old.state.valid ≡ true → IsTrue (is_loud (B.layers self.old.device)) → StopsPreparing self.old.state.left self.old.state.chunk self.old.state.origin self.old.state.size (committed self.old.exceptions) (B.contents self.old.device) (B.contents self.new.device) }
         ensures exceptions { self.new.exceptions ≡ self.old.exceptions }
         ensures places { self.new.places ≡ self.old.places }
-        ensures state { OnOk result (self.new.state ≡ record self.old.state { left = after_write self.old.state.left }) }
-        ensures more { IfOk result (λ more. more ≡ is_left self.new.state.left) }
+        ensures state { OnOk result (self.new.state ≡ after_prepare self.old.state) }
+        ensures more { IfOk result (λ more. more ≡ (is_left self.new.state.left || self.new.state.awaits)) }
         ensures kept { OnErr result (self.new.state ≡ self.old.state) }
     {
+        if self.state.awaits {
+            self.flush_load()?;
+            return Ok(self.state.left != Left::Nothing);
+        }
         match self.state.left {
             Left::FirstArea => {
                 self.write_current(Left::HeaderChunk)?;
@@ -47,17 +54,40 @@ impl<B: Block> Store<B> {
             }
             Left::HeaderChunk => {
                 self.write_valid()?;
-                Ok(false)
+                Ok(true)
             }
             Left::Tail => {
                 self.write_current(Left::Nothing)?;
-                Ok(false)
+                Ok(true)
             }
             Left::Nothing => Ok(false),
         }
     }
 
-    /// Writes the current area as it is in memory, after which so much of the load's writes is left.
+    /// Flushes the store, after which no flush is left before the load's next write.
+    #[tactic(auto, using(crate::proofs::Writes::front_awaited, crate::proofs::Writes::stored_awaited))]
+    fn flush_load(&mut self) -> Result<(), Io>
+        ensures operation { IsOneOperation Flushes (is_ok result) (B.layers self.old.device) (B.layers self.new.device) (B.fault_count self.old.device) (B.fault_count self.new.device) (B.done_count self.old.device) (B.done_count self.new.device) }
+        ensures same { B.contents self.new.device ≡ B.contents self.old.device }
+        ensures loud { is_loud (B.layers self.new.device) ≡ is_loud (B.layers self.old.device) }
+        ensures size { B.size self.new.device ≡ B.size self.old.device }
+        ensures adds { IsTrue (is_loud (B.layers self.old.device)) → AddsNow (B.may_hold self.old.device) (B.may_hold self.new.device) (B.contents self.new.device) }
+        ensures firm { OnOk result (IsTrue (is_loud (B.layers self.old.device)) → IsFirm (B.may_hold self.new.device) (B.contents self.new.device) (B.size self.new.device)) }
+        ensures exceptions { self.new.exceptions ≡ self.old.exceptions }
+        ensures places { self.new.places ≡ self.old.places }
+        ensures state { OnOk result (self.new.state ≡ record self.old.state { awaits = false }) }
+        ensures kept { OnErr result (self.new.state ≡ self.old.state) }
+    {
+        match self.device.flush() {
+            Ok(()) => {
+                self.state.awaits = false;
+                Ok(())
+            }
+            Err(io) => Err(io),
+        }
+    }
+
+    /// Writes the current area as it is in memory, after which a flush and so much of the load's writes is left.
     fn write_current(&mut self, left: Left) -> Result<(), Io>
         requires unsettled { is_settled self.old.state.left ≡ false }
         requires begun { is_begun left ≡ true }
@@ -69,9 +99,10 @@ impl<B: Block> Store<B> {
         ensures only { ChangesOnly self.old.state.chunk (area_place self.old.state.chunk self.old.state.current) (B.contents self.old.device) (B.contents self.new.device) }
         ensures loud { is_loud (B.layers self.new.device) ≡ is_loud (B.layers self.old.device) }
         ensures durable { B.durable self.new.device ≡ B.durable self.old.device }
+        ensures adds { IsTrue (is_loud (B.layers self.old.device)) → AddsNow (B.may_hold self.old.device) (B.may_hold self.new.device) (B.contents self.new.device) }
         ensures exceptions { self.new.exceptions ≡ self.old.exceptions }
         ensures places { self.new.places ≡ self.old.places }
-        ensures state { OnOk result (self.new.state ≡ record self.old.state { left = left }) }
+        ensures state { OnOk result (self.new.state ≡ record self.old.state { left = left; awaits = true }) }
         ensures kept { OnErr result (self.new.state ≡ self.old.state) }
     {
         let place = self.state.current * (32 * self.state.chunk as u64 + 1) + 1;
@@ -83,6 +114,7 @@ impl<B: Block> Store<B> {
         ) {
             Ok(()) => {
                 self.state.left = left;
+                self.state.awaits = true;
                 Ok(())
             }
             Err(io) => Err(io),

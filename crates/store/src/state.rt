@@ -1,6 +1,6 @@
 // What a store knows of itself, besides its pairs and the bytes of its current area.
 
-/// What is left of a load's writes.
+/// What is left of a load's writes. Before each of them, and once more after the last, the store is flushed.
 #[derive(Clone, Copy, PartialEq, Eq)]
 pub enum Left {
     /// The store is fresh: area 0 is to be zeroed, and then the header is to be written.
@@ -28,8 +28,12 @@ pub struct State {
     pub filled: u32,
     /// Whether the area after the current one is zeroed.
     pub zeroed: bool,
+    /// Whether it is, and the store was flushed since.
+    pub firm: bool,
     /// What is left of the load's writes.
     pub left: Left,
+    /// Whether a flush of the load is left, before its next write or before the store is ready.
+    pub awaits: bool,
     /// Whether copies may start. None starts after a spoil, nor after a merge's commit.
     pub copying: bool,
     /// Whether its header was not marked invalid.

@@ -1,5 +1,5 @@
 // A store: its device, its pairs, the area that the next pair goes to, and the next place.
-ghost use Rattle.std.specs.Prelude.{◌≡◌, ℕ, ◌+◌, ◌*◌, ◌<◌, ◌≤◌, List, length, slice_index_or, is_ok, if◌then◌else◌, MatchBool, IsTrue, true, false};
+ghost use Rattle.std.specs.Prelude.{◌≡◌, ℕ, ◌+◌, ◌*◌, ◌<◌, ◌≤◌, List, length, slice_index_or, is_ok, OnOk, OnErr, if◌then◌else◌, MatchBool, IsTrue, true, false};
 ghost use Rattle.device.specs.Layers.{fate, is_passed, is_loud};
 ghost use Rattle.device.specs.declared.operation.Operation.TheVariants.{Flushes};
 ghost use Rattle.model.specs.NextPlace.{IsFull};
@@ -7,6 +7,7 @@ ghost use Rattle.exception_arena.specs.declared.begun.Begun.{Begun};
 ghost use Rattle.store.specs.Operations.{IsOneOperation};
 ghost use Rattle.store.specs.Held.{committed, pending, pairs_pending, reserved};
 ghost use Rattle.store.specs.Stored.{IsFront, IsStored, AreGiven};
+ghost use Rattle.stop_laws.specs.Firm.{AddsNow, IsFirm};
 
 use crate::State;
 use chunk_alloc::{Alloc, Usage};
@@ -91,11 +92,37 @@ impl<B: Block> Store<B> {
         &self.device
     }
 
-    /// Makes all that was written last through a stop and a loss of the cache.
+    /// Makes all that was written last through a stop and a loss of the cache; a zeroed next area is then firm. At `Io` it
+    /// is as before.
+    #[tactic(auto, using(crate::proofs::Writes::front_flushed, crate::proofs::Writes::stored_flushed))]
     pub fn flush(&mut self) -> Result<(), Io>
         ensures operation { IsOneOperation Flushes (is_ok result) (B.layers self.old.device) (B.layers self.new.device) (B.fault_count self.old.device) (B.fault_count self.new.device) (B.done_count self.old.device) (B.done_count self.new.device) }
         ensures same { B.contents self.new.device ≡ B.contents self.old.device }
         ensures durable { B.durable self.new.device ≡ (if is_passed (fate (B.layers self.old.device) Flushes) then B.contents self.old.device else B.durable self.old.device) }
+        ensures adds { IsTrue (is_loud (B.layers self.old.device)) → AddsNow (B.may_hold self.old.device) (B.may_hold self.new.device) (B.contents self.new.device) }
+        ensures firm { OnOk result (IsTrue (is_loud (B.layers self.old.device)) → IsFirm (B.may_hold self.new.device) (B.contents self.new.device) (B.size self.new.device)) }
+        ensures loud { is_loud (B.layers self.new.device) ≡ is_loud (B.layers self.old.device) }
+        ensures exceptions { self.new.exceptions ≡ self.old.exceptions }
+        ensures places { self.new.places ≡ self.old.places }
+        ensures state { OnOk result (self.new.state ≡ record self.old.state { firm = self.old.state.zeroed }) }
+        ensures kept { OnErr result (self.new.state ≡ self.old.state) }
+    {
+        match self.device.flush() {
+            Ok(()) => {
+                self.state.firm = self.state.zeroed;
+                Ok(())
+            }
+            Err(io) => Err(io),
+        }
+    }
+
+    /// The same of a store to which no pair is written any more: what it knows stays as it is.
+    pub fn flush_last(&mut self) -> Result<(), Io>
+        ensures operation { IsOneOperation Flushes (is_ok result) (B.layers self.old.device) (B.layers self.new.device) (B.fault_count self.old.device) (B.fault_count self.new.device) (B.done_count self.old.device) (B.done_count self.new.device) }
+        ensures same { B.contents self.new.device ≡ B.contents self.old.device }
+        ensures durable { B.durable self.new.device ≡ (if is_passed (fate (B.layers self.old.device) Flushes) then B.contents self.old.device else B.durable self.old.device) }
+        ensures adds { IsTrue (is_loud (B.layers self.old.device)) → AddsNow (B.may_hold self.old.device) (B.may_hold self.new.device) (B.contents self.new.device) }
+        ensures firm { OnOk result (IsTrue (is_loud (B.layers self.old.device)) → IsFirm (B.may_hold self.new.device) (B.contents self.new.device) (B.size self.new.device)) }
         ensures loud { is_loud (B.layers self.new.device) ≡ is_loud (B.layers self.old.device) }
         ensures exceptions { self.new.exceptions ≡ self.old.exceptions }
         ensures places { self.new.places ≡ self.old.places }

@@ -1,6 +1,6 @@
 -- The events after which held writes are routed again: a mark is taken away, and a spoiled store's mark is tried.
 use Rattle.std.proofs.Common.{◌≡◌, ◌≢◌, inl, inr, ℕ, zero, suc, ◌+◌, ◌<◌, Bool, true, false, List, [], ◌∷◌, ◌++◌, Some, None, length, get_or, set, map, refl, sym, ◌∙◌, ap, arith, nat_eq, length-append, subst, Option}
-use Rattle.std.specs.Prelude.{AllPairs, not}
+use Rattle.std.specs.Prelude.{◌&&◌, AllPairs, not}
 use Rattle.std.specs.List.{All, list_any, position, remove}
 use Rattle.std.proofs.lemmas.Bool.{false≢true, eqb-true}
 use Rattle.std.proofs.lemmas.List.{length-map, length-set, map-set, get_or-map, get_or-set_same, get_or_append_left, get_or-append-add}
@@ -8,7 +8,7 @@ use Rattle.std.proofs.lemmas.List.Edits.{length-remove}
 use Rattle.std.proofs.lemmas.List.Quantifiers.{position-Some}
 use Rattle.sector.specs.Bytes.{next_count}
 use Rattle.device.specs.Layers.{Layer, is_loud}
-use Rattle.plain.specs.declared.event.Event.TheVariants.{WriteInvalid}
+use Rattle.plain.specs.declared.event.Event.{Event}
 use Rattle.plain.specs.declared.event.Outcome.{Outcome}
 use Rattle.pending.specs.Due.{number_of_copy, number_of_mark, is_publishable}
 use Rattle.pending.specs.Kinds.{in_flight}
@@ -98,17 +98,17 @@ unpublished_alike : (n : ℕ) (merging : Option ℕ) → unpublished n merging �
 unpublished_alike n None = refl
 unpublished_alike n (Some k) = refl
 
+not_true : (b : Bool) → not b ≡ true → b ≡ false
+not_true true e = absurd (false≢true e)
+not_true false e = refl
+
 -- a mark that a search found
 module _ {B : Type 0} (s : Kept B) (flights : List Flight) (number j : ℕ) (found : position (is_mark_of s flights number) s.marks ≡ Some j) (m : Mark) (is : m ≡ get_or s.marks j m) where
   pub mark_unread : list_any (is_reading s.number s.state.chunk m.chunk) flights ≡ false
   mark_unread =
       let h = position-Some (is_mark_of s flights number) s.marks j m found in
-      not_true (list_any (is_reading s.number s.state.chunk m.chunk) flights)
-      (both_right (nat_eq m.number number) (is_publishable s.number s.state.chunk flights m) (ap (is_mark_of s flights number) is ∙ h.1))
-    where
-      not_true : (b : Bool) → not b ≡ true → b ≡ false
-      not_true true e = absurd (false≢true e)
-      not_true false e = refl
+      let reads : Bool = list_any (is_reading s.number s.state.chunk m.chunk) flights in
+      not_true reads (both_right m.safe (not reads) (both_right (nat_eq m.number number) (is_publishable s.number s.state.chunk flights m) (ap (is_mark_of s flights number) is ∙ h.1)))
 
 module _ {B : Type 0} (contents : B → List ℕ) (layers : B → List Layer) (size faults done : B → ℕ) (v : Volumed B) (h : IsWhole contents layers size v) (number : ℕ)
     (k : ℕ) (s s' : Kept B) (within : k < length v.snaps) (is : s ≡ get_or v.snaps k s) where
@@ -145,34 +145,42 @@ module _ {B : Type 0} (contents : B → List ℕ) (layers : B → List Layer) (s
   same_loud fs gs l = record { origin = l.origin; snaps = l.snaps; merge = l.merge }
 
   -- a spoiled snapshot's mark was tried
-  module _ (outcome : Outcome) (told : Spoiling (WriteInvalid number) outcome) (still : Staying (WriteInvalid number) outcome) (calm : Calm (WriteInvalid number) outcome) (found : is_trying number s ≡ true) (f : (s'.number ≡ s.number) × (s'.live ≡ s.live) × (s'.untried ≡ false) × ((s'.state.chunk ≡ s.state.chunk) × (s'.state.origin ≡ s.state.origin)) × (s'.copies ≡ s.copies) × (s'.marks ≡ s.marks) × (s'.merging ≡ s.merging))
-      (t : TriesMark (snap_books contents layers s) (snap_books contents layers s')) (loud : is_loud (layers s'.device) ≡ is_loud (layers s.device)) (sized : size s'.device ≡ size s.device) (counted : done s'.device ≡ next_count (done s.device)) (counts : IsCounted s → IsCounted s') where
-    pub tried_good : HasCause faults (WriteInvalid number) outcome v (changed v v.origin k s' (again v.flights)) → IsGood contents layers size faults done (WriteInvalid number) outcome v (changed v v.origin k s' (again v.flights))
+  module _ (event : Event) (outcome : Outcome) (told : Spoiling event outcome) (still : Staying event outcome) (calm : Calm event outcome) (f : (s'.number ≡ s.number) × (s'.live ≡ s.live) × ((s'.state.chunk ≡ s.state.chunk) × (s'.state.origin ≡ s.state.origin)) × (s'.copies ≡ s.copies) × (s'.marks ≡ s.marks) × (s'.merging ≡ s.merging))
+      (t : TriesMark (snap_books contents layers s) (snap_books contents layers s')) (untried : s.untried ≡ true) (loud : is_loud (layers s'.device) ≡ is_loud (layers s.device)) (sized : size s'.device ≡ size s.device) (counted : done s'.device ≡ next_count (done s.device)) (counts : IsCounted s → IsCounted s') where
+    pub tried_good : HasCause faults event outcome v (changed v v.origin k s' (again v.flights)) → IsGood contents layers size faults done event outcome v (changed v v.origin k s' (again v.flights))
     tried_good cause =
         let vb = books_of contents layers size v in
         let ub = books_of contents layers size mid in
         let wb = books_of contents layers size (changed v v.origin k s' (again v.flights)) in
         let one : IsSilent vb ub = tried_event k (snap_books contents layers s) (snap_books contents layers s') vb ub h.holds e_is t in
         let two : IsSilent ub wb = reroute ub wb one.holds (reroutes v.flights) in
+        let same : numbers_in s' ≡ numbers_in s = ap (λ ms. map number_of_mark ms ++ map number_of_copy s'.copies) f.4 ∙ ap (λ cs. map number_of_mark s.marks ++ map number_of_copy cs) f.3 in
         let stays : StaysAttached s s' = record {
           number = f.0;
-          chunk_is = f.3.0;
-          origin = f.3.1;
-          numbers = inl (ap (λ ms. map number_of_mark ms ++ map number_of_copy s'.copies) f.5 ∙ ap (λ cs. map number_of_mark s.marks ++ map number_of_copy cs) f.4);
-          few = few_same s s' (ap (λ ms. map number_of_mark ms ++ map number_of_copy s'.copies) f.5 ∙ ap (λ cs. map number_of_mark s.marks ++ map number_of_copy cs) f.4) f.6;
+          chunk_is = f.2.0;
+          origin = f.2.1;
+          numbers = inl same;
+          few = few_same s s' same f.5;
           counted = counts;
           left = left_spoilt s s' (f.1 ∙ t.was);
         } in
-        silent_good contents layers size faults done v h (WriteInvalid number) outcome told still calm v.origin k s s' within is disk loud sized (again v.flights) (again_flown (merge_books contents layers true v.merge) clear v.flights) stays t.overflow
+        silent_good contents layers size faults done v h event outcome told still calm v.origin k s s' within is disk loud sized (again v.flights) (again_flown (merge_books contents layers true v.merge) clear v.flights) stays t.overflow
         (silent_then vb ub wb one two (loud_one k (snap_books contents layers s) (snap_books contents layers s') vb ub e_is loud))
         (waits_tried k (snap_books contents layers s) (snap_books contents layers s') vb ub wb h.waits e_is t (reroutes v.flights))
-        (tried_left (due_of_kept contents layers s) (due_of_kept contents layers s') (both_right (nat_eq s.number number) s.untried found) f.2 (f.1 ∙ t.was) f.4 f.5)
+        (tried_left (due_of_kept contents layers s) (due_of_kept contents layers s') untried t)
         cause
         (inr (suc k, store_within v v.origin k s s' (again v.flights) within is done, counts_store v v.origin k s s' (again v.flights) within is done refl counted))
         (tried_room (room_of contents layers s) (room_of contents layers s') t)
 
+  -- what a test of a snapshot found whose mark is to be written
+  pub trying_untried : is_trying number s ≡ true → s.untried ≡ true
+  trying_untried found = both_left s.untried (not s.marked) (both_right (nat_eq s.number number) (s.untried && not s.marked) found)
+
+  pub trying_unmarked : is_trying number s ≡ true → s.marked ≡ false
+  trying_unmarked found = not_true s.marked (both_right s.untried (not s.marked) (both_right (nat_eq s.number number) (s.untried && not s.marked) found))
+
   pub trying_number : is_trying number s ≡ true → s.number ≡ number
-  trying_number found = eqb-true s.number number (both_left (nat_eq s.number number) s.untried found)
+  trying_number found = eqb-true s.number number (both_left (nat_eq s.number number) (s.untried && not s.marked) found)
 
   -- a mark was taken away
   module _ (j : ℕ) (m : Mark) (found : position (is_mark_of s v.flights number) s.marks ≡ Some j) (f : s' ≡ record s { marks = remove s.marks j; merging = unpublished m.number s.merging }) (r : Unmarks j m (snap_books contents layers s) (snap_books contents layers s')) where
@@ -221,7 +229,7 @@ module _ {B : Type 0} (contents : B → List ℕ) (layers : B → List Layer) (s
             counted = λ counts. subst IsCounted (sym f) (counted_marks s counts (remove s.marks j) (unpublished m.number s.merging));
             left = left_same s s' (ap (λ (x : Kept B). x.live) f) (ap (λ (x : Kept B). x.state.size) f) (ap (λ (x : Kept B). x.next) f);
           };
-          less = unmark_left j m (due_of_kept contents layers s) (due_of_kept contents layers s') r (ap (λ (x : Kept B). x.state.zeroed) f);
+          less = unmark_left j m (due_of_kept contents layers s) (due_of_kept contents layers s') r (ap (λ (x : Kept B). x.state.zeroed) f) (ap (λ (x : Kept B). x.state.firm) f);
           flown = again_flown (merge_books contents layers true v.merge) clear placed ∙ placed_flown b v.flights;
           room = publish_room j m (room_of contents layers s) (room_of contents layers s') r
               (record { kept_back = ap (λ (x : Kept B). x.kept_back) f; spare = ap (λ (x : Kept B). x.spare) f; merging = ap (λ (x : Kept B). x.merging) f ∙ unpublished_alike m.number s.merging })

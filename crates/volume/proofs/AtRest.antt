@@ -70,6 +70,8 @@ module _ {B : Type 0} (contents : B → List ℕ) (layers : B → List Layer) wh
               pairs = is.pairs;
               next = is.next;
               zeroed = is.zeroed;
+              firm = is.firm;
+              unmarked = is.unmarked;
             });
       }
 

@@ -13,7 +13,7 @@ use Rattle.model.specs.NextPlace.{IsNextPlace}
 use Rattle.plain.specs.declared.request.Overflowing.{Overflowing}
 use Rattle.plain.specs.declared.request.Reply.{Reply}
 use Rattle.plain.specs.Plain.{overflow_of}
-use Rattle.settled.specs.Devices.{Device, sectors_of}
+use Rattle.settled.specs.Devices.{Device}
 use Rattle.settled.specs.Snaps.{Snap, Volume}
 use Rattle.event_machine.specs.Held.{Held}
 use Rattle.event_machine.specs.Rest.{IsResting, IsAtRest}
@@ -104,7 +104,7 @@ no_memory false false true count given chunk e = elim (cases_Bool (nat_le 8 coun
 ]
 
 -- not refused before that: the store is opened
-pub admitted : (stale begun quiet : Bool) (count given chunk : ℕ) (overflow : Overflowing) (store : Store) (v : Volume) → given ≤ 4_294_967_295 → store.stale ≡ stale → length v.snaps ≡ count → taking_refusal stale begun quiet count given chunk ≡ None → (is_chunk chunk ≡ true) × (store.stale ≡ false) × (attached (given + 1) chunk overflow store v ≡ with_tried (given + 1) overflow (open_store (sectors_of v.origin) chunk store.device) v)
+pub admitted : (stale begun quiet : Bool) (count given chunk : ℕ) (overflow : Overflowing) (store : Store) (v : Volume) → given ≤ 4_294_967_295 → store.stale ≡ stale → length v.snaps ≡ count → taking_refusal stale begun quiet count given chunk ≡ None → (is_chunk chunk ≡ true) × (store.stale ≡ false) × (attached (given + 1) chunk overflow store v ≡ with_tried (given + 1) overflow (open_store chunk v.origin store.device) v)
 unfolding attached
 admitted true begun quiet count given chunk overflow store v few is len e = absurd (cc)
 admitted false true quiet count given chunk overflow store v few is len e = absurd (cc)
@@ -136,58 +136,57 @@ module _ {B : Type 0} (contents : B → List ℕ) (layers : B → List Layer) wh
   pub count_in : (v : Volumed B) → length (volume_in contents layers v).snaps ≡ length v.snaps
   count_in v = snaps_length v.snaps
 
-  -- the volume with one more
-  abbrev pub taken : Volumed B → ℕ → Kept B → Volumed B
-  taken v number s = record v { snaps = v.snaps ++ s ∷ []; attached = number }
+  -- the volume with one more, over its origin's device as it was tried
+  abbrev pub taken : Volumed B → B → ℕ → Kept B → Volumed B
+  taken v o number s = record v { origin = o; snaps = v.snaps ++ s ∷ []; attached = number }
 
   snaps_taken : (ss : List (Kept B)) (s : Kept B) → map (λ (h : Held). h.snap) (map (held_of contents layers) (ss ++ s ∷ [])) ≡ map (λ (h : Held). h.snap) (map (held_of contents layers) ss) ++ snap_of s ∷ []
   snaps_taken [] s = refl
   snaps_taken (t ∷ ss) s = ap (λ ys. snap_of t ∷ ys) (snaps_taken ss s)
 
   -- what is attached is the volume with one more
-  pub exactly : (v : Volumed B) (number : ℕ) (overflow : Overflowing) (s : Kept B) → s.number ≡ number → s.live ≡ true → s.overflow ≡ overflow → s.stale ≡ false →
-      with_tried number overflow (done s.state.chunk (device_of contents layers s.device)) (volume_in contents layers v) ≡ record { volume = volume_in contents layers (taken v number s); refused = None; back = None }
-  exactly v number overflow s number_is live overflow_is stale =
-      let whole : List Snap → Attached = λ (ts : List Snap). record { volume = record { origin = device_of contents layers v.origin; snaps = ts }; refused = None; back = None } in
+  pub exactly : (v : Volumed B) (o : B) (number : ℕ) (overflow : Overflowing) (s : Kept B) → s.number ≡ number → s.live ≡ true → s.overflow ≡ overflow → s.stale ≡ false →
+      with_tried number overflow (done s.state.chunk (device_of contents layers o) (device_of contents layers s.device)) (volume_in contents layers v) ≡ record { volume = volume_in contents layers (taken v o number s); refused = None; back = None }
+  exactly v o number overflow s number_is live overflow_is stale =
+      let whole : List Snap → Attached = λ (ts : List Snap). record { volume = record { origin = device_of contents layers o; snaps = ts }; refused = None; back = None } in
       let before : List Snap = (volume_in contents layers v).snaps in
       ap (λ (t : Snap). whole (before ++ t ∷ [])) (sym (snap_same s.number number s.state.chunk s.live true s.overflow overflow s.stale false (device_of contents layers s.device) number_is live overflow_is stale))
       ∙ ap whole (sym (snaps_taken v.snaps s))
 
   -- nothing is left to do for the new one
-  pub resting : (sectors size chunk : ℕ) (origin : List ℕ) (device : Device) (s : Kept B) → sectors ≤ 16_777_216 → size ≤ 16_777_216 → 0 < chunk → length device.bytes ≡ 512 * size →
-      open_store sectors chunk device ≡ done s.state.chunk (device_of contents layers s.device) → is_loud (layers s.device) ≡ true → IsNewSnap origin (snap_books contents layers s) → IsNextPlace s.state.chunk (map new_of s.pairs) s.next → s.state.zeroed ≡ false → IsResting sectors (held_of contents layers s)
-  resting sectors size chunk origin device s small_origin small pos whole opens loud new next unzeroed = record {
+  pub resting : (sectors size chunk : ℕ) (bytes : List ℕ) (origin tried device : Device) (s : Kept B) → sectors ≤ 16_777_216 → size ≤ 16_777_216 → 0 < chunk → length origin.bytes ≡ 512 * sectors → length device.bytes ≡ 512 * size →
+      open_store chunk origin device ≡ done s.state.chunk tried (device_of contents layers s.device) → is_loud (layers s.device) ≡ true → IsNewSnap bytes (snap_books contents layers s) → IsNextPlace s.state.chunk (map new_of s.pairs) s.next → s.state.zeroed ≡ false → s.state.firm ≡ false → s.marked ≡ false → IsResting sectors (held_of contents layers s)
+  resting sectors size chunk bytes origin tried device s small_origin small pos whole_origin whole opens loud new next unzeroed unfirm unmarked = record {
     tried = new.tried;
     copies = ap (λ cs. map copying_of cs) new.copies;
     marks = new.marks;
     live = λ _. record {
-      order = (size, subst (IsSound sectors size small_origin small) opens (open_sound sectors size small_origin small chunk device pos whole));
+      order = (size, subst (IsSound sectors size small_origin small) opens (open_sound sectors size small_origin small chunk origin device (size_of (length origin.bytes) sectors whole_origin) pos whole));
       pairs = new.stored loud;
       next = next_place_is s.state.chunk s.next s.pairs new.text.some next;
       zeroed = unzeroed;
+      firm = unfirm;
+      unmarked = unmarked;
     };
   }
 
-  pub rests_taken : (v : Volumed B) (number sectors : ℕ) (s : Kept B) (replied : Option Reply) → IsResting sectors (held_of contents layers s) → IsAtRest sectors (moving_of contents layers replied v) → IsAtRest sectors (moving_of contents layers replied (taken v number s))
-  rests_taken v number sectors s replied here rest = record {
-    whole = rest.whole;
+  pub rests_taken : (v : Volumed B) (o : B) (number sectors : ℕ) (s : Kept B) (replied : Option Reply) → contents o ≡ contents v.origin → IsResting sectors (held_of contents layers s) → IsAtRest sectors (moving_of contents layers replied v) → IsAtRest sectors (moving_of contents layers replied (taken v o number s))
+  rests_taken v o number sectors s replied same here rest = record {
+    whole = ap length same ∙ rest.whole;
     snaps = subst (All (IsResting sectors)) (sym (map_push (held_of contents layers) v.snaps s)) (All-push (IsResting sectors) (map (held_of contents layers) v.snaps) (held_of contents layers s) rest.snaps here);
     requests = rest.requests;
     alone = rest.alone;
   }
 
   -- the new one, over an origin of so many sectors
-  pub attached_is : (v : Volumed B) (number size_origin chunk : ℕ) (overflow : Bool) (store : StoreDev B) (s : Kept B) (snaps : List (Kept B)) → length (contents v.origin) ≡ 512 * size_origin →
-      attached number chunk (overflow_of overflow) (store_of contents layers store) (volume_in contents layers v) ≡ with_tried number (overflow_of overflow) (open_store (sectors_of (device_of contents layers v.origin)) chunk (device_of contents layers store.device)) (volume_in contents layers v) →
-      open_store size_origin chunk (device_of contents layers store.device) ≡ done s.state.chunk (device_of contents layers s.device) →
+  pub attached_is : (v : Volumed B) (o : B) (number size_origin chunk : ℕ) (overflow : Bool) (store : StoreDev B) (s : Kept B) (snaps : List (Kept B)) → length (contents v.origin) ≡ 512 * size_origin → contents o ≡ contents v.origin →
+      attached number chunk (overflow_of overflow) (store_of contents layers store) (volume_in contents layers v) ≡ with_tried number (overflow_of overflow) (open_store chunk (device_of contents layers v.origin) (device_of contents layers store.device)) (volume_in contents layers v) →
+      open_store chunk (device_of contents layers v.origin) (device_of contents layers store.device) ≡ done s.state.chunk (device_of contents layers o) (device_of contents layers s.device) →
       s.number ≡ number → s.live ≡ true → s.overflow ≡ overflow_of overflow → s.stale ≡ false → IsResting size_origin (held_of contents layers s) → snaps ≡ v.snaps ++ s ∷ [] →
-      IsAttachedAs contents layers number chunk overflow store v (record v { snaps = snaps; attached = number })
-  attached_is v number size_origin chunk overflow store s snaps whole goes opens number_is live overflow_is stale here same =
-      let vol : Volume = volume_in contents layers v in
-      let count : sectors_of (device_of contents layers v.origin) ≡ size_origin = size_of (length (contents v.origin)) size_origin whole in
-      subst (λ (ss : List (Kept B)). IsAttachedAs contents layers number chunk overflow store v (record v { snaps = ss; attached = number })) (sym same) (record {
-        exact = goes ∙ ap (λ n. with_tried number (overflow_of overflow) (open_store n chunk (device_of contents layers store.device)) (volume_in contents layers v)) count
-            ∙ ap (λ (t : Tried). with_tried number (overflow_of overflow) t (volume_in contents layers v)) opens ∙ exactly v number (overflow_of overflow) s number_is live overflow_is stale;
+      IsAttachedAs contents layers number chunk overflow store v (record v { origin = o; snaps = snaps; attached = number })
+  attached_is v o number size_origin chunk overflow store s snaps whole bytes goes opens number_is live overflow_is stale here same =
+      subst (λ (ss : List (Kept B)). IsAttachedAs contents layers number chunk overflow store v (record v { origin = o; snaps = ss; attached = number })) (sym same) (record {
+        exact = goes ∙ ap (λ (t : Tried). with_tried number (overflow_of overflow) t (volume_in contents layers v)) opens ∙ exactly v o number (overflow_of overflow) s number_is live overflow_is stale;
         snap = s;
         becomes = refl;
         number_is = number_is;
@@ -195,24 +194,22 @@ module _ {B : Type 0} (contents : B → List ℕ) (layers : B → List Layer) wh
         stale = stale;
         overflow_is = overflow_is;
         rests = λ sectors replied rest. (let e : size_origin ≡ sectors = let w = rest.whole in omega (arith, whole, w) in
-            rests_taken v number sectors s replied (subst (λ (n : ℕ). IsResting n (held_of contents layers s)) e here) rest);
+            rests_taken v o number sectors s replied bytes (subst (λ (n : ℕ). IsResting n (held_of contents layers s)) e here) rest);
       })
 
   -- the store that is given back
-  pub back_is : (v : Volumed B) (number size_origin chunk : ℕ) (overflow : Bool) (store back : StoreDev B) (refusal : Refusal) → length (contents v.origin) ≡ 512 * size_origin →
-      attached number chunk (overflow_of overflow) (store_of contents layers store) (volume_in contents layers v) ≡ with_tried number (overflow_of overflow) (open_store (sectors_of (device_of contents layers v.origin)) chunk (device_of contents layers store.device)) (volume_in contents layers v) →
-      open_store size_origin chunk (device_of contents layers store.device) ≡ refuse refusal (device_of contents layers back.device) → back.stale ≡ false →
-      attached number chunk (overflow_of overflow) (store_of contents layers store) (volume_in contents layers v) ≡ refused_attach refusal (store_of contents layers back) (volume_in contents layers v)
-  back_is v number size_origin chunk overflow store back refusal whole goes opens stale =
-      let count : sectors_of (device_of contents layers v.origin) ≡ size_origin = size_of (length (contents v.origin)) size_origin whole in
-      goes ∙ ap (λ n. with_tried number (overflow_of overflow) (open_store n chunk (device_of contents layers store.device)) (volume_in contents layers v)) count
-      ∙ ap (λ (t : Tried). with_tried number (overflow_of overflow) t (volume_in contents layers v)) opens
-      ∙ ap (λ b. refused_attach refusal (store_at b) (volume_in contents layers v)) (sym stale)
+  pub back_is : (v : Volumed B) (o : B) (number chunk : ℕ) (overflow : Bool) (store back : StoreDev B) (refusal : Refusal) →
+      attached number chunk (overflow_of overflow) (store_of contents layers store) (volume_in contents layers v) ≡ with_tried number (overflow_of overflow) (open_store chunk (device_of contents layers v.origin) (device_of contents layers store.device)) (volume_in contents layers v) →
+      open_store chunk (device_of contents layers v.origin) (device_of contents layers store.device) ≡ refuse refusal (device_of contents layers o) (device_of contents layers back.device) → back.stale ≡ false →
+      attached number chunk (overflow_of overflow) (store_of contents layers store) (volume_in contents layers v) ≡ refused_attach refusal (store_of contents layers back) (volume_in contents layers (record v { origin = o }))
+  back_is v o number chunk overflow store back refusal goes opens stale =
+      goes ∙ ap (λ (t : Tried). with_tried number (overflow_of overflow) t (volume_in contents layers v)) opens
+      ∙ ap (λ b. refused_attach refusal (store_at b) (volume_in contents layers (record v { origin = o }))) (sym stale)
     where
       store_at : Bool → Store
       store_at b = record { device = device_of contents layers back.device; stale = b }
 
-  -- no area of the new one is zeroed ahead
+  -- no area of the new one is zeroed ahead, or firm
   pub size_opened : (number line origin size : ℕ) (overflow : Bool) (device : B) (s : Kept B) → IsOpened contents layers number line origin size overflow device s → s.state.size ≡ size
   size_opened number line origin size overflow device s o = ap (λ (x : Kept B). x.state.size) o.fields ∙ of_loaded o.opened
     where
@@ -227,11 +224,19 @@ module _ {B : Type 0} (contents : B → List ℕ) (layers : B → List Layer) wh
       of_loaded (inl fresh) = ap (λ (t : State). t.zeroed) fresh.state
       of_loaded (inr written) = written.rest.2
 
+  pub unfirm_of : (number line origin size : ℕ) (overflow : Bool) (device : B) (s : Kept B) → IsOpened contents layers number line origin size overflow device s → s.state.firm ≡ false
+  unfirm_of number line origin size overflow device s o = ap (λ (x : Kept B). x.state.firm) o.fields ∙ of_loaded o.opened
+    where
+      of_loaded : IsOpenedAs line origin size (contents device) o.loaded s.pairs → o.loaded.firm ≡ false
+      of_loaded (inl fresh) = ap (λ (t : State). t.firm) fresh.state
+      of_loaded (inr written) = written.rest.3
+
   -- whether all devices are loud then
-  pub loud_taken : (v : Volumed B) (number : ℕ) (s : Kept B) → is_loud_in_all layers (taken v number s) ≡ (is_loud_in_all layers v && is_loud (layers s.device))
-  loud_taken v number s =
+  pub loud_taken : (v : Volumed B) (o : B) (number : ℕ) (s : Kept B) → is_loud (layers o) ≡ is_loud (layers v.origin) → is_loud_in_all layers (taken v o number s) ≡ (is_loud_in_all layers v && is_loud (layers s.device))
+  loud_taken v o number s same =
       let loud : Kept B → Bool = λ (t : Kept B). is_loud (layers t.device) in
-      ap (is_loud_with layers v.merge) (ap (λ b. is_loud (layers v.origin) && b) (list_all-append (λ (t : Kept B). is_loud (layers t.device)) v.snaps (s ∷ []))
+      ap (λ b. is_loud_with layers v.merge (b && list_all (λ (t : Kept B). is_loud (layers t.device)) (v.snaps ++ s ∷ []))) same
+      ∙ ap (is_loud_with layers v.merge) (ap (λ b. is_loud (layers v.origin) && b) (list_all-append (λ (t : Kept B). is_loud (layers t.device)) v.snaps (s ∷ []))
       ∙ regrouped (is_loud (layers v.origin)) (list_all (λ (t : Kept B). is_loud (layers t.device)) v.snaps) (is_loud (layers s.device)))
       ∙ one_loud layers v.merge (is_loud (layers v.origin) && list_all (λ (t : Kept B). is_loud (layers t.device)) v.snaps) (is_loud (layers s.device))
     where
@@ -241,6 +246,6 @@ module _ {B : Type 0} (contents : B → List ℕ) (layers : B → List Layer) wh
       regrouped true false c = refl
       regrouped false b c = refl
 
-  pub loud_taken_as : (v : Volumed B) (number : ℕ) (device : B) (s : Kept B) (snaps : List (Kept B)) → snaps ≡ v.snaps ++ s ∷ [] → is_loud (layers s.device) ≡ is_loud (layers device) → is_loud_in_all layers (record v { snaps = snaps; attached = number }) ≡ (is_loud_in_all layers v && is_loud (layers device))
-  loud_taken_as v number device s snaps same loud =
-      ap (λ (ss : List (Kept B)). is_loud_in_all layers (record v { snaps = ss; attached = number })) same ∙ loud_taken v number s ∙ ap (λ b. is_loud_in_all layers v && b) loud
+  pub loud_taken_as : (v : Volumed B) (o : B) (number : ℕ) (device : B) (s : Kept B) (snaps : List (Kept B)) → is_loud (layers o) ≡ is_loud (layers v.origin) → snaps ≡ v.snaps ++ s ∷ [] → is_loud (layers s.device) ≡ is_loud (layers device) → is_loud_in_all layers (record v { origin = o; snaps = snaps; attached = number }) ≡ (is_loud_in_all layers v && is_loud (layers device))
+  loud_taken_as v o number device s snaps same_origin same loud =
+      ap (λ (ss : List (Kept B)). is_loud_in_all layers (record v { origin = o; snaps = ss; attached = number })) same ∙ loud_taken v o number s same_origin ∙ ap (λ b. is_loud_in_all layers v && b) loud

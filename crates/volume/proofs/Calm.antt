@@ -1,7 +1,7 @@
 -- Where each snapshot is done and no request is in flight, no event of snapshots and requests is due.
 use Rattle.std.proofs.Common.{◌≡◌, ℕ, Bool, true, false, List, [], ◌∷◌, Option, Some, None, length, map, refl, ◌∙◌, ap, nat_eq}
-use Rattle.std.specs.Prelude.{◌&&◌, not, if◌then◌else◌}
-use Rattle.std.specs.List.{list_all}
+use Rattle.std.specs.Prelude.{◌&&◌, ◌||◌, not, if◌then◌else◌}
+use Rattle.std.specs.List.{list_all, list_any}
 use Rattle.std.proofs.lemmas.Bool.{eqb-true, false≢true}
 use Rattle.std.proofs.lemmas.List.{nil_from_length}
 use Rattle.device.specs.Layers.{Layer}
@@ -12,8 +12,9 @@ use Rattle.pending.specs.declared.copies.Stage.{Stage}
 use Rattle.pending.specs.declared.copies.Stage.TheVariants.{Waiting, Read}
 use Rattle.pending.specs.declared.flights.Flight.{Flight}
 use Rattle.pending.specs.Due.{first_by, least, number_of_mark}
-use Rattle.event_machine.specs.Held.{Held, Going, number_of, is_untried}
-use Rattle.event_machine.specs.Due.{is_at, copy_at, number_of_copying, is_publishable, publishable_in, is_front_written, needs_area, can_commit, can_zero, is_issuable, number_of_going, least_in, chosen, due}
+use Rattle.volume_laws.specs.Due.{is_unsafe}
+use Rattle.event_machine.specs.Held.{Held, Going, number_of}
+use Rattle.event_machine.specs.Due.{is_at, copy_at, number_of_copying, is_publishable, publishable_in, is_front_ready, is_front_unflushed, needs_area, waits_for_area, can_mark, can_flush_store, can_commit, can_zero, is_issuable, number_of_going, least_in, chosen, due}
 use Rattle.event_machine.specs.Seen.{copying_of, going_of}
 use Rattle.snapshot.specs.Kept.{Kept}
 use Rattle.volume.specs.Volumed.{Volumed}
@@ -39,10 +40,11 @@ module _ {B : Type 0} (s : Kept B) (done : is_done_of s ≡ true) where
   pub done_marks : s.marks ≡ []
   done_marks = nil_from_length s.marks (eqb-true (length s.marks) 0 (and_right (nat_eq (length s.copies) 0) (nat_eq (length s.marks) 0) lists))
 
-chosen_none : (a b c d e f g : Option ℕ) → a ≡ None → b ≡ None → c ≡ None → d ≡ None → e ≡ None → f ≡ None → g ≡ None → chosen a b c d e f g ≡ None
-chosen_none a b c d e f g pa pb pc pd pe pf pg =
-    ap (λ x. chosen x b c d e f g) pa ∙ ap (λ x. chosen None x c d e f g) pb ∙ ap (λ x. chosen None None x d e f g) pc ∙ ap (λ x. chosen None None None x e f g) pd
-    ∙ ap (λ x. chosen None None None None x f g) pe ∙ ap (λ x. chosen None None None None None x g) pf ∙ ap (λ x. chosen None None None None None None x) pg
+chosen_none : (a b c d e f g h : Option ℕ) → a ≡ None → b ≡ None → c ≡ None → d ≡ None → e ≡ None → f ≡ None → g ≡ None → h ≡ None → chosen a b c d e f g h ≡ None
+chosen_none a b c d e f g h pa pb pc pd pe pf pg ph =
+    ap (λ x. chosen x b c d e f g h) pa ∙ ap (λ x. chosen None x c d e f g h) pb ∙ ap (λ x. chosen None None x d e f g h) pc ∙ ap (λ x. chosen None None None x e f g h) pd
+    ∙ ap (λ x. chosen None None None None x f g h) pe ∙ ap (λ x. chosen None None None None None x g h) pf ∙ ap (λ x. chosen None None None None None None x h) pg
+    ∙ ap (λ x. chosen None None None None None None None x) ph
 
 module _ {B : Type 0} (contents : B → List ℕ) (layers : B → List Layer) where
   -- a test that no snapshot passes that is done
@@ -58,8 +60,15 @@ module _ {B : Type 0} (contents : B → List ℕ) (layers : B → List Layer) wh
       ap (λ o. least o (least_in f (map (held_of contents layers) ss))) (none s (and_left (is_done_of s) (list_all is_done_of ss) done))
       ∙ least_idle f ss none (and_right (is_done_of s) (list_all is_done_of ss) done)
 
-  no_front : (s : Kept B) (rest : Bool) → is_done_of s ≡ true → (is_front_written (map copying_of s.copies) && rest) ≡ false
-  no_front s rest done = ap (λ (cs : List ChunkCopy). is_front_written (map copying_of cs) && rest) (done_copies s done)
+  no_front : (s : Kept B) (rest : Bool) → is_done_of s ≡ true → (is_front_ready (map copying_of s.copies) && rest) ≡ false
+  no_front s rest done = ap (λ (cs : List ChunkCopy). is_front_ready (map copying_of cs) && rest) (done_copies s done)
+
+  no_flush : (s : Kept B) → is_done_of s ≡ true → can_flush_store (held_of contents layers s) ≡ false
+  no_flush s done =
+      let rest : Bool = waits_for_area (held_of contents layers s) && not (needs_area (held_of contents layers s)) in
+      ap (λ b. (b && s.marked) || is_front_unflushed (map copying_of s.copies) || (is_front_ready (map copying_of s.copies) && rest) || list_any is_unsafe s.marks) (done_tried s done)
+      ∙ ap (λ (cs : List ChunkCopy). is_front_unflushed (map copying_of cs) || (is_front_ready (map copying_of cs) && rest) || list_any is_unsafe s.marks) (done_copies s done)
+      ∙ ap (list_any is_unsafe) (done_marks s done)
 
   no_copy : (stage : Stage) (s : Kept B) → is_done_of s ≡ true → copy_at stage (held_of contents layers s) ≡ None
   no_copy stage s done = ap (λ (cs : List ChunkCopy). first_by (is_at stage) number_of_copying (map copying_of cs)) (done_copies s done)
@@ -73,11 +82,12 @@ module _ {B : Type 0} (contents : B → List ℕ) (layers : B → List Layer) wh
       let held : Kept B → Held = held_of contents layers in
       let rs : List Going = map going_of v.flights in
       chosen_none
-      (first_by is_untried number_of (map held v.snaps)) (least_in (publishable_in rs) (map held v.snaps)) (first_by can_commit number_of (map held v.snaps)) (first_by can_zero number_of (map held v.snaps))
+      (first_by can_mark number_of (map held v.snaps)) (first_by can_flush_store number_of (map held v.snaps)) (least_in (publishable_in rs) (map held v.snaps)) (first_by can_commit number_of (map held v.snaps)) (first_by can_zero number_of (map held v.snaps))
       (least_in (copy_at Read) (map held v.snaps)) (least_in (copy_at Waiting) (map held v.snaps)) (first_by is_issuable number_of_going rs)
-      (first_idle is_untried v.snaps (λ s d. done_tried s d) done)
+      (first_idle can_mark v.snaps (λ s d. ap (λ b. b && not s.marked) (done_tried s d)) done)
+      (first_idle can_flush_store v.snaps no_flush done)
       (least_idle (publishable_in rs) v.snaps (no_mark rs) done)
-      (first_idle can_commit v.snaps (λ s d. no_front s (not (needs_area (held_of contents layers s))) d) done)
+      (first_idle can_commit v.snaps (λ s d. no_front s (not (waits_for_area (held_of contents layers s))) d) done)
       (first_idle can_zero v.snaps (λ s d. no_front s (needs_area (held_of contents layers s)) d) done)
       (least_idle (copy_at Read) v.snaps (no_copy Read) done)
       (least_idle (copy_at Waiting) v.snaps (no_copy Waiting) done)

@@ -15,7 +15,7 @@ use Rattle.pending.specs.Due.{number_of_copy, number_of_mark, is_stage}
 use Rattle.pending.specs.Routes.{refused_of}
 use Rattle.pending.specs.declared.copies.ChunkCopy.{ChunkCopy}
 use Rattle.pending.specs.declared.copies.Stage.{Stage}
-use Rattle.pending.specs.declared.copies.Stage.TheVariants.{Waiting, Read, Written}
+use Rattle.pending.specs.declared.copies.Stage.TheVariants.{Waiting, Read, Written, Flushed}
 use Rattle.volume_laws.specs.Steps.{ChangesSnap}
 use Rattle.volume_laws.proofs.WholeOne.{snap_holds, live_by_copy, copy_read_event, copy_write_event}
 use Rattle.volume_laws.proofs.Keeping.{copy_read_keeps, copy_write_keeps}
@@ -41,12 +41,19 @@ pub stage_by : (stage other : Stage) → is_stage stage other ≡ true → other
 stage_by Waiting Waiting e = refl
 stage_by Waiting Read e = absurd (false≢true e)
 stage_by Waiting Written e = absurd (false≢true e)
+stage_by Waiting Flushed e = absurd (false≢true e)
 stage_by Read Waiting e = absurd (false≢true e)
 stage_by Read Read e = refl
 stage_by Read Written e = absurd (false≢true e)
+stage_by Read Flushed e = absurd (false≢true e)
 stage_by Written Waiting e = absurd (false≢true e)
 stage_by Written Read e = absurd (false≢true e)
 stage_by Written Written e = refl
+stage_by Written Flushed e = absurd (false≢true e)
+stage_by Flushed Waiting e = absurd (false≢true e)
+stage_by Flushed Read e = absurd (false≢true e)
+stage_by Flushed Written e = absurd (false≢true e)
+stage_by Flushed Flushed e = refl
 
 pub both_left : (a b : Bool) → (a && b) ≡ true → a ≡ true
 both_left true b e = refl
@@ -118,7 +125,7 @@ module _ {B : Type 0} (contents : B → List ℕ) (layers : B → List Layer) (s
         silent_good contents layers size faults done v h (CopyRead number) Done (λ a b x. x) (λ xs ys e. e) (λ b. refl) o' k s s' within is same (ap (λ d. is_loud (layers d)) device) (ap size device) v.flights refl stays (ap (λ (x : Kept B). x.overflow) f)
         (copy_read_event k (sb s) (sb s') (books_of contents layers size v) (books_of contents layers size w) h.holds e_is j p q r)
         (waits_changed k (sb s) (sb s') (books_of contents layers size v) (books_of contents layers size w) h.waits e_is (copy_read_keeps (contents v.origin) j p q (sb s) (sb s') r))
-        (copy_read_left (contents v.origin) j p q (due_of_kept contents layers s) (due_of_kept contents layers s') r (copy_stage Waiting number s.copies j found p r.copy.was) (ap (λ (x : Kept B). x.state.zeroed) f))
+        (copy_read_left (contents v.origin) j p q (due_of_kept contents layers s) (due_of_kept contents layers s') r (copy_stage Waiting number s.copies j found p r.copy.was) (ap (λ (x : Kept B). x.state.zeroed) f) (ap (λ (x : Kept B). x.state.firm) f))
         (record { counts = counts_same v o' k s s' v.flights within is faults faulty (ap faults device); lives = lives_same v o' k s s' v.flights within is (ap (λ (x : Kept B). x.live) f) })
         (inr (0, origin_within v o' k s s' v.flights within is done, counts_origin v o' k s s' v.flights within is done counted (ap done device)))
         (read_room (contents v.origin) j p q (room_of contents layers s) (room_of contents layers s') r e.copy.number (record { kept_back = ap (λ (x : Kept B). x.kept_back) f; spare = ap (λ (x : Kept B). x.spare) f; merging = ap (λ (x : Kept B). x.merging) f }))
@@ -142,7 +149,7 @@ module _ {B : Type 0} (contents : B → List ℕ) (layers : B → List Layer) (s
         silent_good contents layers size faults done v h (CopyWrite number) Done (λ a b x. x) (λ xs ys e. e) (λ b. refl) o' k s s' within is same loud sized v.flights refl stays (ap (λ (x : Kept B). x.overflow) f)
         (copy_write_event k (sb s) (sb s') (books_of contents layers size v) (books_of contents layers size w) h.holds e_is j p q r)
         (waits_changed k (sb s) (sb s') (books_of contents layers size v) (books_of contents layers size w) h.waits e_is (copy_write_keeps j p q (sb s) (sb s') r))
-        (copy_write_left j p q (due_of_kept contents layers s) (due_of_kept contents layers s') r (ap (λ (x : Kept B). x.state.zeroed) f))
+        (copy_write_left j p q (due_of_kept contents layers s) (due_of_kept contents layers s') r (ap (λ (x : Kept B). x.state.zeroed) f) (ap (λ (x : Kept B). x.state.firm) f))
         (record { counts = counts_same v o' k s s' v.flights within is faults faulty faulty'; lives = lives_same v o' k s s' v.flights within is (ap (λ (x : Kept B). x.live) f) })
         (inr (suc k, store_within v o' k s s' v.flights within is done, counts_store v o' k s s' v.flights within is done counted counted'))
         (write_room j p q (room_of contents layers s) (room_of contents layers s') r e.copy.number (record { kept_back = ap (λ (x : Kept B). x.kept_back) f; spare = ap (λ (x : Kept B). x.spare) f; merging = ap (λ (x : Kept B). x.merging) f }))

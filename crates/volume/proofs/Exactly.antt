@@ -6,15 +6,16 @@ use Rattle.std.proofs.lemmas.Bool.{eqb-true, false≢true}
 use Rattle.std.proofs.lemmas.List.{length-map, get_or-map}
 use Rattle.sector.specs.Bytes.{with_part, with_sectors}
 use Rattle.device.specs.Layers.{Layer, is_loud}
-use Rattle.device.specs.declared.operation.Operation.TheVariants.{Reads, Writes}
+use Rattle.device.specs.declared.operation.Operation.TheVariants.{Reads, Writes, Flushes}
 use Rattle.cow_header.specs.HeaderText.{header_bytes}
 use Rattle.model.specs.Places.{area_place}
 use Rattle.model.specs.NextPlace.{LacksArea}
-use Rattle.plain.specs.declared.event.Event.TheVariants.{CopyRead, CopyWrite, ZeroNext, WriteArea, Publish, WriteInvalid}
+use Rattle.plain.specs.declared.event.Event.TheVariants.{CopyRead, CopyWrite, FlushStore, ZeroNext, WriteArea, Publish, WriteInvalid}
 use Rattle.plain.specs.declared.event.Outcome.TheVariants.{Done, Fault}
 use Rattle.plain.specs.declared.request.Reply.{Reply}
 use Rattle.pending.specs.Copies.{count_of, pair_of}
-use Rattle.pending.specs.Due.{front_written}
+use Rattle.pending.specs.Due.{front_ready}
+use Rattle.pending.specs.Flushed.{flushed_copy, safe_mark}
 use Rattle.pending.specs.Routes.{refused_of}
 use Rattle.pending.specs.declared.copies.ChunkCopy.{ChunkCopy}
 use Rattle.pending.specs.declared.copies.Mark.{Mark}
@@ -29,12 +30,12 @@ use Rattle.volume_laws.specs.Published.{is_clear as is_clear_in}
 use Rattle.volume_laws.specs.Steps.{mark_of}
 use Rattle.event_machine.specs.Seen.{going_of}
 use Rattle.event_machine.specs.Stepping.{first_that, publishes, stepped}
-use Rattle.snapshot.specs.Kept.{Kept, books_of as snap_books, batch_of, needs_area, spare_after, unpublished}
+use Rattle.snapshot.specs.Kept.{Kept, books_of as snap_books, batch_of, needs_area, waits_area, spare_after, unpublished}
 use Rattle.snapshot.specs.Calls.{ReadsAt, StaysAt, WritesAt}
 use Rattle.merge_beside.specs.Rooms.{merge_books}
 use Rattle.volume.specs.Volumed.{Volumed, is_loud_in_all}
 use Rattle.volume.specs.Whole.{IsWhole, IsCounted}
-use Rattle.snapshots.specs.Finding.{is_copy_of, is_mark_of, is_trying, is_committing, is_zeroing}
+use Rattle.snapshots.specs.Finding.{is_copy_of, is_flushing, is_mark_of, is_trying, waits_for_flush, is_committing, is_zeroing}
 use Rattle.volume.specs.Exact.{IsExact}
 use Rattle.volume.specs.Moved.{held_of, moving_of}
 use Rattle.volume.proofs.MovedLists.{IsFirst, first_is, first_position}
@@ -43,7 +44,7 @@ use Rattle.volume.proofs.MovedSnaps.{changed, spoilt}
 use Rattle.volume.proofs.MovedFound.{snap_first, copy_first, mark_first, mark_number}
 use Rattle.volume.proofs.MovedCopies.{copy_read_done, copy_read_fault, copy_write_done, copy_write_fault}
 use Rattle.volume.proofs.MovedStores.{write_area_done, write_area_fault, zero_next_done, zero_next_fault, zero_next_lacks}
-use Rattle.volume.proofs.MovedMarks.{write_invalid_is, publish_is, publishes_first}
+use Rattle.volume.proofs.MovedMarks.{flush_mark_is, flush_store_done, flush_store_fault, write_invalid_done, write_invalid_fault, publish_is, publishes_first}
 use Rattle.volume.proofs.Shown.{loud_others}
 
 and_left : (a b : Bool) → (a && b) ≡ true → a ≡ true
@@ -122,14 +123,14 @@ module _ {B : Type 0} (contents : B → List ℕ) (layers : B → List Layer) (s
 
       -- ZeroNext
       zeroing_told : (x : Kept B) → is_zeroing n x ≡ true → x.number ≡ n
-      zeroing_told x e = eqb-true x.number n (and_left (x.number == n) (front_written x.copies && needs_area x.state x.copies) e)
+      zeroing_told x e = eqb-true x.number n (and_left (x.number == n) (front_ready x.copies && needs_area x.state x.copies) e)
 
       module _ (found : is_zeroing n s ≡ true) where
         zeroing_first : IsFirst (is_zeroing n) k s v.snaps
         zeroing_first = snap_first contents layers size v h n k s within is (is_zeroing n) zeroing_told found
 
         pub zeroing_live : s.live ≡ true
-        zeroing_live = front_lives contents layers s counts (and_left (front_written s.copies) (needs_area s.state s.copies) (and_right (s.number == n) (front_written s.copies && needs_area s.state s.copies) found))
+        zeroing_live = front_lives contents layers s counts (and_left (front_ready s.copies) (needs_area s.state s.copies) (and_right (s.number == n) (front_ready s.copies && needs_area s.state s.copies) found))
 
         zeroing_sized : length (contents s.device) ≡ 512 * s.state.size
         zeroing_sized = (holds_live zeroing_live).text.whole
@@ -137,7 +138,7 @@ module _ {B : Type 0} (contents : B → List ℕ) (layers : B → List Layer) (s
         pub zero_exact : (s' : Kept B) → s.state.chunk * (area_place s.state.chunk (s.state.current + 1) + 1) ≤ s.state.size
             → IsOneOperation (Writes (s.state.chunk * area_place s.state.chunk (s.state.current + 1)) s.state.chunk) true (layers s.device) (layers s'.device) faults faults' done done'
             → (is_loud (layers s.device) ≡ true → contents s'.device ≡ with_sectors (contents s.device) (s.state.chunk * area_place s.state.chunk (s.state.current + 1)) (replicate (512 * s.state.chunk) 0))
-            → s' ≡ record s { device = s'.device; state = record s.state { zeroed = true } } → IsExact contents layers (ZeroNext n) Done v (changed v v.origin k s' v.flights)
+            → s' ≡ record s { device = s'.device; state = record s.state { zeroed = true; firm = false } } → IsExact contents layers (ZeroNext n) Done v (changed v v.origin k s' v.flights)
         zero_exact s' inside one written fields = record {
           step = λ loud replied. zero_next_done contents layers replied v h.counted n k s zeroing_first counts zeroing_live zeroing_sized faults faults' done done' s'.device s' inside one (written (loud_store loud)) fields;
         }
@@ -156,14 +157,14 @@ module _ {B : Type 0} (contents : B → List ℕ) (layers : B → List Layer) (s
 
       -- WriteArea
       committing_told : (x : Kept B) → is_committing n x ≡ true → x.number ≡ n
-      committing_told x e = eqb-true x.number n (and_left (x.number == n) (front_written x.copies && not (needs_area x.state x.copies)) e)
+      committing_told x e = eqb-true x.number n (and_left (x.number == n) (front_ready x.copies && not (waits_area x.state x.copies)) e)
 
       module _ (found : is_committing n s ≡ true) where
         committing_first : IsFirst (is_committing n) k s v.snaps
         committing_first = snap_first contents layers size v h n k s within is (is_committing n) committing_told found
 
-        front : front_written s.copies ≡ true
-        front = and_left (front_written s.copies) (not (needs_area s.state s.copies)) (and_right (s.number == n) (front_written s.copies && not (needs_area s.state s.copies)) found)
+        front : front_ready s.copies ≡ true
+        front = and_left (front_ready s.copies) (not (waits_area s.state s.copies)) (and_right (s.number == n) (front_ready s.copies && not (waits_area s.state s.copies)) found)
 
         pub committing_live : s.live ≡ true
         committing_live = front_lives contents layers s counts front
@@ -189,21 +190,54 @@ module _ {B : Type 0} (contents : B → List ℕ) (layers : B → List Layer) (s
       -- WriteInvalid
       module _ (found : is_trying n s ≡ true) where
         trying_first : IsFirst (is_trying n) k s v.snaps
-        trying_first = snap_first contents layers size v h n k s within is (is_trying n) (λ x e. eqb-true x.number n (and_left (x.number == n) x.untried e)) found
+        trying_first = snap_first contents layers size v h n k s within is (is_trying n) (λ x e. eqb-true x.number n (and_left (x.number == n) (x.untried && not x.marked) e)) found
 
-        pub tried_exact : (s' : Kept B) (flights : List Flight) → IsOneOperation (Writes 0 s.state.chunk) true (layers s.device) (layers s'.device) faults faults' done done'
-            → (is_loud (layers s.device) ≡ true → contents s'.device ≡ with_sectors (contents s.device) 0 (header_bytes (512 * s.state.chunk) false s.state.chunk)) → s' ≡ record s { device = s'.device; untried = false; stale = false; state = record s.state { valid = false } }
-            → flights ≡ map (again_of (merge_books contents layers true v.merge) (is_clear_in (map (snap_books contents layers) (set v.snaps k s')))) v.flights → IsExact contents layers (WriteInvalid n) Done v (changed v v.origin k s' flights)
-        tried_exact s' flights one written fields routed = record {
-          step = λ loud replied. write_invalid_is contents layers replied v n k s trying_first true s' flights faults faults' done done' s'.device one (written (loud_store loud)) fields routed;
+        pub marked_exact : (s' : Kept B) → IsOneOperation (Writes 0 s.state.chunk) true (layers s.device) (layers s'.device) faults faults' done done'
+            → (is_loud (layers s.device) ≡ true → contents s'.device ≡ with_sectors (contents s.device) 0 (header_bytes (512 * s.state.chunk) false s.state.chunk)) → s' ≡ record s { device = s'.device; marked = true; state = record s.state { valid = false } }
+            → IsExact contents layers (WriteInvalid n) Done v (changed v v.origin k s' v.flights)
+        marked_exact s' one written fields = record {
+          step = λ loud replied. write_invalid_done contents layers replied v n k s trying_first s' faults faults' done done' s'.device one (written (loud_store loud)) fields;
         }
 
-        pub tried_fault_exact : (s' : Kept B) (flights : List Flight) → IsOneOperation (Writes 0 s.state.chunk) false (layers s.device) (layers s'.device) faults faults' done done'
-            → contents s'.device ≡ contents s.device → s' ≡ record s { device = s'.device; untried = false; stale = true; state = record s.state { valid = true } }
+        pub marked_fault_exact : (s' : Kept B) (flights : List Flight) → IsOneOperation (Writes 0 s.state.chunk) false (layers s.device) (layers s'.device) faults faults' done done'
+            → contents s'.device ≡ contents s.device → s' ≡ record s { device = s'.device; untried = false; stale = true }
             → flights ≡ map (again_of (merge_books contents layers true v.merge) (is_clear_in (map (snap_books contents layers) (set v.snaps k s')))) v.flights → IsExact contents layers (WriteInvalid n) Fault v (changed v v.origin k s' flights)
-        tried_fault_exact s' flights one same fields routed = record {
-          step = λ loud replied. write_invalid_is contents layers replied v n k s trying_first false s' flights faults faults' done done' s'.device one same fields routed;
+        marked_fault_exact s' flights one same fields routed = record {
+          step = λ loud replied. write_invalid_fault contents layers replied v n k s trying_first s' faults faults' done done' s'.device flights one same fields routed;
         }
+
+      -- FlushStore
+      module _ (found : is_flushing n s ≡ true) where
+        flushing_first : IsFirst (is_flushing n) k s v.snaps
+        flushing_first = snap_first contents layers size v h n k s within is (is_flushing n) (λ x e. eqb-true x.number n (and_left (x.number == n) (waits_for_flush x) e)) found
+
+        pub flush_exact : (s' : Kept B) → s.marked ≡ false → IsOneOperation Flushes true (layers s.device) (layers s'.device) faults faults' done done' → contents s'.device ≡ contents s.device
+            → s' ≡ record s { device = s'.device; state = record s.state { firm = s.state.zeroed }; copies = map flushed_copy s.copies; marks = map safe_mark s.marks } → IsExact contents layers (FlushStore n) Done v (changed v v.origin k s' v.flights)
+        flush_exact s' unmarked one same fields = record {
+          step = λ loud replied. flush_store_done contents layers replied v n k s h.counted flushing_first faults faults' done done' s'.device same s' unmarked one fields;
+        }
+
+        pub flush_fault_exact : (s1 s' : Kept B) → s.marked ≡ false → IsOneOperation Flushes false (layers s.device) (layers s1.device) faults faults' done done' → contents s1.device ≡ contents s.device
+            → s1 ≡ record s { device = s1.device } → s' ≡ spoilt s1 → IsExact contents layers (FlushStore n) Fault v (changed v v.origin k s' (map (refused_of (s.number ∷ [])) v.flights))
+        flush_fault_exact s1 s' unmarked one same kept gone = record {
+          step = λ loud replied. flush_store_fault contents layers replied v n k s h.counted flushing_first faults faults' done done' s1.device same s1 s' unmarked one kept gone;
+        }
+
+        tried_by : (ok : Bool) (s' : Kept B) (flights : List Flight) → s.marked ≡ true → IsOneOperation Flushes ok (layers s.device) (layers s'.device) faults faults' done done' → contents s'.device ≡ contents s.device
+            → s' ≡ record s { device = s'.device; untried = false; stale = not ok }
+            → flights ≡ map (again_of (merge_books contents layers true v.merge) (is_clear_in (map (snap_books contents layers) (set v.snaps k s')))) v.flights
+            → (replied : Option Reply) → stepped (FlushStore n) (moving_of contents layers replied v) ≡ moving_of contents layers replied (changed v v.origin k s' flights)
+        tried_by ok s' flights marked one same fields routed replied = flush_mark_is contents layers replied v n k s h.counted flushing_first faults faults' done done' s'.device same ok s' flights marked one fields routed
+
+        pub tried_exact : (s' : Kept B) (flights : List Flight) → s.marked ≡ true → IsOneOperation Flushes true (layers s.device) (layers s'.device) faults faults' done done' → contents s'.device ≡ contents s.device
+            → s' ≡ record s { device = s'.device; untried = false; stale = false }
+            → flights ≡ map (again_of (merge_books contents layers true v.merge) (is_clear_in (map (snap_books contents layers) (set v.snaps k s')))) v.flights → IsExact contents layers (FlushStore n) Done v (changed v v.origin k s' flights)
+        tried_exact s' flights marked one same fields routed = record { step = λ loud replied. tried_by true s' flights marked one same fields routed replied }
+
+        pub tried_fault_exact : (s' : Kept B) (flights : List Flight) → s.marked ≡ true → IsOneOperation Flushes false (layers s.device) (layers s'.device) faults faults' done done' → contents s'.device ≡ contents s.device
+            → s' ≡ record s { device = s'.device; untried = false; stale = true }
+            → flights ≡ map (again_of (merge_books contents layers true v.merge) (is_clear_in (map (snap_books contents layers) (set v.snaps k s')))) v.flights → IsExact contents layers (FlushStore n) Fault v (changed v v.origin k s' flights)
+        tried_fault_exact s' flights marked one same fields routed = record { step = λ loud replied. tried_by false s' flights marked one same fields routed replied }
 
     -- Publish, before the copies are started that a merge waits for
     pub publish_stepped : (s' : Kept B) (j : ℕ) (m : Mark) (flights : List Flight) → position (is_mark_of s v.flights n) s.marks ≡ Some j → m ≡ get_or s.marks j m → s' ≡ record s { marks = remove s.marks j; merging = unpublished m.number s.merging }

@@ -128,10 +128,10 @@ module _ {B : Type 0} (contents : B → List ℕ) (layers : B → List Layer) (s
       (lower_changed contents layers size v o' k s s' within is flights count less keeps.space.saved) cause one
 
   -- the snapshot is spoiled, and its requests refused
-  pub spoilt_good : s.live ≡ true → 0 < length s.copies → SpoiltTo s s'
+  pub spoilt_with : s.live ≡ true → (SpoilsSnap (snap_books contents layers s) (snap_books contents layers s') → left_in (due_of_kept contents layers s') < left_in (due_of_kept contents layers s)) → SpoiltTo s s'
       → HasCause faults event outcome v (changed v o' k s' (map (refused_of (s.number ∷ [])) v.flights)) → IsOneAtMost done v (changed v o' k s' (map (refused_of (s.number ∷ [])) v.flights))
       → IsGood contents layers size faults done event outcome v (changed v o' k s' (map (refused_of (s.number ∷ [])) v.flights))
-  spoilt_good live some t cause one =
+  spoilt_with live less t cause one =
       let flights = map (refused_of (s.number ∷ [])) v.flights in
       let w = changed v o' k s' flights in
       let sb = snap_books contents layers in
@@ -147,7 +147,7 @@ module _ {B : Type 0} (contents : B → List ℕ) (layers : B → List Layer) (s
         stepped = record {
           legal = λ l. told (plain_of contents layers v) (plain_of contents layers w) (legal_by contents layers size v w (s.number ∷ []) spoil.step l);
           flown = still (map in_flight v.flights) (map in_flight w.flights) (refused_in_flight (s.number ∷ []) v.flights);
-          lower = lower_changed contents layers size v o' k s s' within is flights count (spoil_left (due_of_kept contents layers s) (due_of_kept contents layers s') spoils some) (spoil_room (room_of contents layers s) (room_of contents layers s') spoils).space.saved;
+          lower = lower_changed contents layers size v o' k s s' within is flights count (less spoils) (spoil_room (room_of contents layers s) (room_of contents layers s') spoils).space.saved;
           loud = loud_changed contents layers size v o' k s s' within is flights same loud;
           cause = cause;
           one = one;
@@ -159,3 +159,9 @@ module _ {B : Type 0} (contents : B → List ℕ) (layers : B → List Layer) (s
           failed = sym (calm (has_failed v.merge));
         };
       }
+
+  -- one that had a copy
+  pub spoilt_good : s.live ≡ true → 0 < length s.copies → SpoiltTo s s'
+      → HasCause faults event outcome v (changed v o' k s' (map (refused_of (s.number ∷ [])) v.flights)) → IsOneAtMost done v (changed v o' k s' (map (refused_of (s.number ∷ [])) v.flights))
+      → IsGood contents layers size faults done event outcome v (changed v o' k s' (map (refused_of (s.number ∷ [])) v.flights))
+  spoilt_good live some t cause one = spoilt_with live (λ spoils. spoil_left (due_of_kept contents layers s) (due_of_kept contents layers s') spoils some) t cause one

@@ -17,6 +17,7 @@ pub mod StoreEvents
 pub mod AgainEvents
 pub mod Chunks
 pub mod Tried
+pub mod TriedOrigins
 pub mod IssueEvents
 pub mod MergeIssues
 pub mod DiskIssues
@@ -107,3 +108,4 @@ pub mod Calm
 pub mod Under
 pub mod Others
 pub mod OwnKinds
+pub mod Fresh

@@ -76,7 +76,7 @@ all_weighed {B = B} contents layers m q snaps some room k d lt =
     let books : List SnapBooks = map room_books (map (room_of contents layers) snaps) in
     let c : ℕ = next_for m.state.chunk m.state.origin q s in
     record {
-      start = λ lacks p t e old zeroed. start_weighs m.state.chunk m.state.origin m.pairs books q room.next (due_of_kept contents layers s) (due_of_kept contents layers t) (lacking_live c s lacks) (some k d lt) (lacking_books contents layers c s lacks) p e old zeroed;
+      start = λ lacks p t e old zeroed firm. start_weighs m.state.chunk m.state.origin m.pairs books q room.next (due_of_kept contents layers s) (due_of_kept contents layers t) (lacking_live c s lacks) (some k d lt) (lacking_books contents layers c s lacks) p e old zeroed firm;
       spoil = λ lacks e. spoil_weighs m.state.chunk m.state.origin m.pairs books q room.next (due_of_kept contents layers s) (due_of_kept contents layers (spoilt_of s)) (lacking_live c s lacks) (some k d lt) (lacking_books contents layers c s lacks) e;
     }
 

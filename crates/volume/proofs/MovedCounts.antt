@@ -45,14 +45,22 @@ module _ {B : Type 0} (s : Kept B) (c : IsCounted s) where
   pub counted_copies : (d : B) (j : ℕ) (q : ChunkCopy) → IsCounted (record s { device = d; copies = set s.copies j q })
   counted_copies d j q = counted_same s (record s { device = d; copies = set s.copies j q }) c refl refl refl (set_none s.copies j q)
 
-  pub counted_zeroed : (d : B) → IsCounted (record s { device = d; state = record s.state { zeroed = true } })
+  pub counted_zeroed : (d : B) → IsCounted (record s { device = d; state = record s.state { zeroed = true; firm = false } })
   counted_zeroed d = record { some = c.some; count = c.count; fits = c.fits; idle = c.idle }
 
   pub counted_marks : (ms : List Mark) (merging : Option ℕ) → IsCounted (record s { marks = ms; merging = merging })
   counted_marks ms merging = counted_same s (record s { marks = ms; merging = merging }) c refl refl refl (λ e. e)
 
-  pub counted_tried : (d : B) (stale valid : Bool) → IsCounted (record s { device = d; untried = false; stale = stale; state = record s.state { valid = valid } })
-  counted_tried d stale valid = record { some = c.some; count = c.count; fits = c.fits; idle = c.idle }
+  -- its mark is written, and tried
+  pub counted_marked : (d : B) → IsCounted (record s { device = d; marked = true; state = record s.state { valid = false } })
+  counted_marked d = record { some = c.some; count = c.count; fits = c.fits; idle = c.idle }
+
+  pub counted_tried : (d : B) (stale : Bool) → IsCounted (record s { device = d; untried = false; stale = stale })
+  counted_tried d stale = counted_same s (record s { device = d; untried = false; stale = stale }) c refl refl refl (λ e. e)
+
+  -- its store is flushed
+  pub counted_flushed : (d : B) (firm : Bool) (copies : List ChunkCopy) (marks : List Mark) → (s.copies ≡ [] → copies ≡ []) → IsCounted (record s { device = d; state = record s.state { firm = firm }; copies = copies; marks = marks })
+  counted_flushed d firm copies marks idle = record { some = c.some; count = c.count; fits = c.fits; idle = λ e. idle (c.idle e) }
 
   pub counted_spoilt : IsCounted (spoilt s)
   counted_spoilt = record { some = c.some; count = c.count; fits = λ e. absurd (false≢true e); idle = λ e. refl }
@@ -69,13 +77,13 @@ module _ {B : Type 0} (s : Kept B) (c : IsCounted s) where
       let gone : s.live ≡ false → copies ≡ [] = λ e. absurd (false≢true (sym e ∙ live)) in
       elim (cases_eq (s.state.filled + count) (32 * s.state.chunk)) [
         | inl full ↦
-            (let t : State = record s.state { current = s.state.current + 1; filled = 0; zeroed = false } in
+            (let t : State = record s.state { current = s.state.current + 1; filled = 0; zeroed = false; firm = false } in
             let at : after_commit s.state count ≡ t = if_true (s.state.filled + count == 32 * s.state.chunk) t (record s.state { filled = s.state.filled + count }) (eq-eqb (s.state.filled + count) (32 * s.state.chunk) full) in
             subst (λ (x : State). IsCounted (record s { device = d; state = x; pairs = s.pairs ++ pairs; begun = begun; copies = copies; marks = marks; spare = spare })) (sym at)
             (record { some = c.some; count = len ∙ next_full s.state.current (32 * s.state.chunk) s.state.filled (length s.pairs) count full c.count; fits = λ e. omega (arith, c.some); idle = gone }))
         | inr other ↦
             (let t : State = record s.state { filled = s.state.filled + count } in
-            let at : after_commit s.state count ≡ t = if_false (s.state.filled + count == 32 * s.state.chunk) (record s.state { current = s.state.current + 1; filled = 0; zeroed = false }) t (unequal (s.state.filled + count) (32 * s.state.chunk) other) in
+            let at : after_commit s.state count ≡ t = if_false (s.state.filled + count == 32 * s.state.chunk) (record s.state { current = s.state.current + 1; filled = 0; zeroed = false; firm = false }) t (unequal (s.state.filled + count) (32 * s.state.chunk) other) in
             subst (λ (x : State). IsCounted (record s { device = d; state = x; pairs = s.pairs ++ pairs; begun = begun; copies = copies; marks = marks; spare = spare })) (sym at)
             (record { some = c.some; count = len ∙ next_part s.state.current (32 * s.state.chunk) s.state.filled (length s.pairs) count c.count; fits = λ e. omega (arith, room, other); idle = gone }))
       ]

@@ -1,16 +1,22 @@
--- The events of a mark: a copy is published, and a spoiled snapshot's header is marked invalid. Both route held writes again.
-use Rattle.std.proofs.Common.{◌≡◌, ℕ, ◌*◌, Bool, false, true, List, [], ◌∷◌, Option, None, Some, set, map, refl, sym, ◌∙◌, ap}
+-- The events of a mark: a copy is published, a spoiled snapshot's header is marked invalid, and its store is flushed after
+-- that. Where a mark is taken away or tried, held writes are routed again.
+use Rattle.std.proofs.Common.{◌≡◌, ℕ, ◌*◌, Bool, false, true, List, [], ◌∷◌, Option, None, Some, get_or, set, map, refl, sym, ◌∙◌, ap}
 use Rattle.std.specs.Prelude.{◌==◌, ◌&&◌, ◌||◌, not, if◌then◌else◌}
-use Rattle.std.specs.List.{list_any, list_all, remove}
+use Rattle.std.specs.List.{All, list_any, list_all, remove}
 use Rattle.sector.specs.Bytes.{with_sectors}
 use Rattle.device.specs.Layers.{Layer}
 use Rattle.device.specs.declared.operation.Operation.{Operation}
-use Rattle.device.specs.declared.operation.Operation.TheVariants.{Writes}
+use Rattle.device.specs.declared.operation.Operation.TheVariants.{Writes, Flushes}
 use Rattle.cow_header.specs.HeaderText.{header_bytes}
-use Rattle.plain.specs.declared.event.Event.TheVariants.{Publish, WriteInvalid}
+use Rattle.plain.specs.declared.event.Event.TheVariants.{FlushStore, Publish, WriteInvalid}
 use Rattle.plain.specs.declared.request.Reply.{Reply}
 use Rattle.pending.specs.Kinds.{kind_of}
-use Rattle.pending.specs.Routes.{again_route_of, write_route_of}
+use Rattle.pending.specs.Due.{is_stage}
+use Rattle.pending.specs.Flushed.{flushed_copy, flushed_stage, safe_mark}
+use Rattle.pending.specs.Routes.{again_route_of, refused_of, write_route_of}
+use Rattle.pending.specs.declared.copies.ChunkCopy.{ChunkCopy}
+use Rattle.pending.specs.declared.copies.Stage.{Stage}
+use Rattle.pending.specs.declared.copies.Stage.TheVariants.{Waiting, Read, Written, Flushed}
 use Rattle.pending.specs.declared.copies.Mark.{Mark}
 use Rattle.pending.specs.declared.flights.Flight.{Flight}
 use Rattle.pending.specs.declared.flights.Route.{Route}
@@ -19,27 +25,39 @@ use Rattle.volume_laws.specs.Again.{again_of, new_route, placed_of}
 use Rattle.volume_laws.specs.Books.{SnapBooks}
 use Rattle.volume_laws.specs.Published.{is_clear as is_clear_in, is_clear_over as is_clear_over_in, is_saved as is_saved_in, is_saved_over as is_saved_over_in}
 use Rattle.settled.specs.Saves.{marked}
-use Rattle.settled.specs.Devices.{Device, answers, written_by}
-use Rattle.event_machine.specs.Held.{Held, Going, MergeHeld, Moving, is_untried}
-use Rattle.event_machine.specs.Due.{is_publishable}
+use Rattle.settled.specs.Devices.{Device, answers, met, written_by}
+use Rattle.event_machine.specs.Held.{Held, Going, MergeHeld, Moving, Copying, is_untried, flushed_copying, flushed_held, spoiled, with_store}
+use Rattle.event_machine.specs.Due.{can_flush_store, can_mark, is_publishable}
 use Rattle.event_machine.specs.Again.{is_saved, is_saved_over, is_clear, is_clear_over, is_grouped, merged_place, write_route, again, placed, rerouted}
-use Rattle.event_machine.specs.Stepping.{with_first, without_first, publish, publishes, mark_invalid, stepped}
-use Rattle.event_machine.specs.Seen.{going_of}
+use Rattle.event_machine.specs.Stepping.{with_first, without_first, publish, publishes, flush_store, mark_invalid, put, spoil, stepped}
+use Rattle.event_machine.specs.Seen.{copying_of, going_of}
 use Rattle.event_machine.specs.MergeSeen.{MergeSeen, merge_held_of, held_in, books_in}
 use Rattle.event_machine.proofs.Tied.{seen_alike}
 use Rattle.merge.specs.Merging.{Merging}
 use Rattle.merge_beside.specs.Rooms.{merge_books}
 use Rattle.snapshot.specs.Kept.{Kept, books_of as snap_books, unpublished}
 use Rattle.volume.specs.Volumed.{Volumed}
-use Rattle.snapshots.specs.Finding.{is_trying, is_mark_of, has_mark_at}
+use Rattle.snapshots.specs.Finding.{is_flushing, is_trying, is_mark_of, has_mark_at}
+use Rattle.volume.specs.Whole.{IsCounted}
 use Rattle.volume.specs.Moved.{device_of, held_of, merge_seen, moving_of}
-use Rattle.volume.proofs.MovedLists.{IsFirst, first_by_test, with_is, without_is}
-use Rattle.volume.proofs.MovedDue.{publishable_same}
-use Rattle.volume.proofs.MovedSnaps.{changed, machine_by, put_is, on_snap_is}
+use Rattle.volume.proofs.MovedLists.{IsFirst, first_by_all, first_by_test, if_true, if_false, with_is, without_is}
+use Rattle.volume.proofs.MovedDue.{can_flush_same, publishable_same}
+use Rattle.volume.proofs.MovedSnaps.{changed, failed_is, machine_by, met_is, put_is, on_snap_is, spoil_is, spoilt, wrote_is}
 
 any_alike : {X : Type 0} (t u : X → Bool) (xs : List X) → ((x : X) → t x ≡ u x) → list_any t xs ≡ list_any u xs
 any_alike t u [] same = refl
 any_alike t u (x ∷ xs) same = ap (λ b. b || list_any t xs) (same x) ∙ ap (λ b. u x || b) (any_alike t u xs same)
+
+-- copies after a flush of their store
+flushed_seen : (copies : List ChunkCopy) → map flushed_copying (map copying_of copies) ≡ map copying_of (map flushed_copy copies)
+flushed_seen [] = refl
+flushed_seen (p ∷ ps) = ap (λ (cs : List Copying). record (copying_of p) { stage = flushed_stage p.stage } ∷ cs) (flushed_seen ps) ∙ ap (λ (b : Bool). record (copying_of p) { stage = flushed_stage p.stage; bytes = if b then [] else p.buffer.items } ∷ map copying_of (map flushed_copy ps)) (still_waits p.stage)
+  where
+    still_waits : (stage : Stage) → is_stage Waiting stage ≡ is_stage Waiting (flushed_stage stage)
+    still_waits Waiting = refl
+    still_waits Read = refl
+    still_waits Written = refl
+    still_waits Flushed = refl
 
 module _ {B : Type 0} (contents : B → List ℕ) (layers : B → List Layer) where
   saved_seen : (first : ℕ) (snaps : List (Kept B)) → list_all (is_saved first) (map (held_of contents layers) snaps) ≡ list_all (is_saved_in first) (map (snap_books contents layers) snaps)
@@ -101,30 +119,131 @@ module _ {B : Type 0} (contents : B → List ℕ) (layers : B → List Layer) wh
         machine_by contents layers (held_in (merge_seen contents layers w.merge)) replied w.copies (device_of contents layers w.origin) (device_of contents layers w.origin) (map (held_of contents layers) w.snaps) (map (held_of contents layers) w.snaps)
         (map (again (held_in (merge_seen contents layers w.merge)) (map (held_of contents layers) w.snaps)) (map going_of w.flights)) (map going_of flights) refl refl (again_seen w.merge w.snaps w.flights ∙ sym (ap (map going_of) is))
 
-    -- the mark is tried, whatever the device answers
-    pub write_invalid_is : IsFirst (is_trying n) k s v.snaps → (ok : Bool) (s' : Kept B) (flights : List Flight) (faults faults' done done' : ℕ) (d : B)
-        → IsOneOperation (Writes 0 s.state.chunk) ok (layers s.device) (layers d) faults faults' done done'
-        → contents d ≡ (if ok then with_sectors (contents s.device) 0 (header_bytes (512 * s.state.chunk) false s.state.chunk) else contents s.device)
-        → s' ≡ record s { device = d; untried = false; stale = not ok; state = record s.state { valid = not ok } }
-        → flights ≡ map (again_of (merge_books contents layers true v.merge) (is_clear_in (map (snap_books contents layers) (set v.snaps k s')))) v.flights
-        → stepped (WriteInvalid n) (moving_of contents layers replied v) ≡ moving_of contents layers replied (changed v v.origin k s' flights)
-    write_invalid_is found ok s' flights faults faults' done done' d one new is routed =
-        let m : Moving = moving_of contents layers replied v in
-        let h : Held = held_of contents layers s in
-        let test : Held → Bool = λ (x : Held). (x.snap.number == n) && x.untried in
-        let op : Operation = Writes 0 s.state.chunk in
-        let bytes : List ℕ = marked s.state.chunk (contents s.device) in
-        let store : Device = written_by h.snap.store op bytes in
-        let after : Held = record h { snap = record h.snap { store = store; stale = not (answers h.snap.store op) }; untried = false } in
-        let h_is : after ≡ held_of contents layers s' =
-        sym (ap (held_of contents layers) is
-        ∙ ap (λ (b : Bool). record h { snap = record h.snap { store = device_of contents layers d; stale = not b }; untried = false }) one.answer
-        ∙ ap (λ (x : List ℕ). record h { snap = record h.snap { store = record { bytes = x; layers = layers d }; stale = not (answers h.snap.store op) }; untried = false })
-        (new ∙ ap (λ (b : Bool). if b then bytes else contents s.device) one.answer)
-        ∙ ap (λ (l : List Layer). record h { snap = record h.snap { store = record { bytes = store.bytes; layers = l }; stale = not (answers h.snap.store op) }; untried = false }) one.layers) in
-        on_snap_is contents layers replied v k s test found mark_invalid
-        ∙ ap rerouted (put_is contents layers replied v k s test found v.origin m.origin s' after refl h_is)
-        ∙ rerouted_is (changed v v.origin k s' v.flights) flights routed
+    -- a spoiled snapshot's mark is written
+    module _ (found : IsFirst (is_trying n) k s v.snaps) (s' : Kept B) (faults faults' done done' : ℕ) (d : B) where
+      abbrev tries : Held → Bool
+      tries x = (x.snap.number == n) && can_mark x
+
+      abbrev mark_op : Operation
+      mark_op = Writes 0 s.state.chunk
+
+      abbrev mark_bytes : List ℕ
+      mark_bytes = marked s.state.chunk (contents s.device)
+
+      abbrev mark_after : Held
+      mark_after = with_store (held_of contents layers s) (written_by (held_of contents layers s).snap.store mark_op mark_bytes)
+
+      pub write_invalid_done : IsOneOperation mark_op true (layers s.device) (layers d) faults faults' done done'
+          → contents d ≡ with_sectors (contents s.device) 0 (header_bytes (512 * s.state.chunk) false s.state.chunk)
+          → s' ≡ record s { device = d; marked = true; state = record s.state { valid = false } }
+          → stepped (WriteInvalid n) (moving_of contents layers replied v) ≡ moving_of contents layers replied (changed v v.origin k s' v.flights)
+      write_invalid_done one new is =
+          let m : Moving = moving_of contents layers replied v in
+          let h : Held = held_of contents layers s in
+          let test : Held → Bool = λ (x : Held). (x.snap.number == n) && can_mark x in
+          let after : Held = mark_after in
+          let h_is : record after { marked = true } ≡ held_of contents layers s' =
+          ap (λ (x : Device). record (with_store h x) { marked = true }) (wrote_is contents layers mark_op mark_bytes faults faults' done done' s.device d one new) ∙ sym (ap (held_of contents layers) is) in
+          on_snap_is contents layers replied v k s test found mark_invalid
+          ∙ if_true (answers h.snap.store mark_op) (put test (record after { marked = true }) m) (rerouted (put test (record after { snap = record after.snap { stale = true }; untried = false }) m)) (sym one.answer)
+          ∙ put_is contents layers replied v k s test found v.origin m.origin s' (record after { marked = true }) refl h_is
+
+      -- its write failed
+      pub write_invalid_fault : (flights : List Flight) → IsOneOperation mark_op false (layers s.device) (layers d) faults faults' done done' → contents d ≡ contents s.device
+          → s' ≡ record s { device = d; untried = false; stale = true }
+          → flights ≡ map (again_of (merge_books contents layers true v.merge) (is_clear_in (map (snap_books contents layers) (set v.snaps k s')))) v.flights
+          → stepped (WriteInvalid n) (moving_of contents layers replied v) ≡ moving_of contents layers replied (changed v v.origin k s' flights)
+      write_invalid_fault flights one same is routed =
+          let m : Moving = moving_of contents layers replied v in
+          let h : Held = held_of contents layers s in
+          let test : Held → Bool = λ (x : Held). (x.snap.number == n) && can_mark x in
+          let after : Held = mark_after in
+          let tried : Held = record after { snap = record after.snap { stale = true }; untried = false } in
+          let h_is : tried ≡ held_of contents layers s' =
+          ap (λ (x : Device). record h { snap = record h.snap { store = x; stale = true }; untried = false }) (failed_is contents layers mark_op mark_bytes faults faults' done done' s.device d one same) ∙ sym (ap (held_of contents layers) is) in
+          on_snap_is contents layers replied v k s test found mark_invalid
+          ∙ if_false (answers h.snap.store mark_op) (put test (record after { marked = true }) m) (rerouted (put test tried m)) (sym one.answer)
+          ∙ ap rerouted (put_is contents layers replied v k s test found v.origin m.origin s' tried refl h_is)
+          ∙ rerouted_is (changed v v.origin k s' v.flights) flights routed
+
+    -- the store of a spoiled snapshot whose mark was written is flushed: the mark is tried, whatever the device answers
+    flushing_first : All IsCounted v.snaps → IsFirst (is_flushing n) k s v.snaps → IsFirst (λ x. ((held_of contents layers x).snap.number == n) && can_flush_store (held_of contents layers x)) k s v.snaps
+    flushing_first counted found = first_by_all (is_flushing n) (λ x. ((held_of contents layers x).snap.number == n) && can_flush_store (held_of contents layers x)) k s v.snaps
+        (λ i e lt. sym (ap (λ b. ((get_or v.snaps i e).number == n) && b) (can_flush_same contents layers (get_or v.snaps i e) (counted i e lt)))) found
+
+    module _ (counted : All IsCounted v.snaps) (first : IsFirst (is_flushing n) k s v.snaps) (faults faults' done done' : ℕ) (d : B) (same : contents d ≡ contents s.device) where
+      abbrev flushes : Held → Bool
+      flushes x = (x.snap.number == n) && can_flush_store x
+
+      found : IsFirst (λ x. flushes (held_of contents layers x)) k s v.snaps
+      found = flushing_first counted first
+
+      abbrev met_after : Held
+      met_after = with_store (held_of contents layers s) (met (held_of contents layers s).snap.store Flushes)
+
+      -- a mark was written, which is tried then
+      abbrev tried_by : Bool → Device → Held
+      tried_by ok store =
+          let h : Held = held_of contents layers s in
+          record h { snap = record h.snap { store = store; stale = not ok }; untried = false }
+
+      pub flush_mark_is : (ok : Bool) (s' : Kept B) (flights : List Flight) → s.marked ≡ true → IsOneOperation Flushes ok (layers s.device) (layers d) faults faults' done done'
+          → s' ≡ record s { device = d; untried = false; stale = not ok }
+          → flights ≡ map (again_of (merge_books contents layers true v.merge) (is_clear_in (map (snap_books contents layers) (set v.snaps k s')))) v.flights
+          → stepped (FlushStore n) (moving_of contents layers replied v) ≡ moving_of contents layers replied (changed v v.origin k s' flights)
+      flush_mark_is ok s' flights written one is routed =
+          let m : Moving = moving_of contents layers replied v in
+          let h : Held = held_of contents layers s in
+          let test : Held → Bool = λ (x : Held). (x.snap.number == n) && can_flush_store x in
+          let after : Held = met_after in
+          let given : Bool = answers h.snap.store Flushes in
+          let h_is : tried_by given after.snap.store ≡ held_of contents layers s' =
+          ap (λ (b : Bool). tried_by b after.snap.store) (sym one.answer)
+          ∙ ap (tried_by ok) (met_is contents layers Flushes ok faults faults' done done' s.device d one same) ∙ sym (ap (held_of contents layers) is) in
+          on_snap_is contents layers replied v k s test found flush_store
+          ∙ if_true s.marked (rerouted (put test (tried_by given after.snap.store) m)) (if given then put test (flushed_held after) m else spoil test after m) written
+          ∙ ap rerouted (put_is contents layers replied v k s test found v.origin m.origin s' (tried_by given after.snap.store) refl h_is)
+          ∙ rerouted_is (changed v v.origin k s' v.flights) flights routed
+
+      -- the store of a live snapshot
+      flushing_is : s.marked ≡ false → stepped (FlushStore n) (moving_of contents layers replied v)
+          ≡ (if answers (held_of contents layers s).snap.store Flushes then put flushes (flushed_held met_after) (moving_of contents layers replied v) else spoil flushes met_after (moving_of contents layers replied v))
+      flushing_is unmarked =
+          let m : Moving = moving_of contents layers replied v in
+          let test : Held → Bool = λ (x : Held). (x.snap.number == n) && can_flush_store x in
+          let given : Bool = answers (held_of contents layers s).snap.store Flushes in
+          on_snap_is contents layers replied v k s test found flush_store
+          ∙ if_false s.marked (rerouted (put test (tried_by given met_after.snap.store) m)) (if given then put test (flushed_held met_after) m else spoil test met_after m) unmarked
+
+      pub flush_store_done : (s' : Kept B) → s.marked ≡ false → IsOneOperation Flushes true (layers s.device) (layers d) faults faults' done done'
+          → s' ≡ record s { device = d; state = record s.state { firm = s.state.zeroed }; copies = map flushed_copy s.copies; marks = map safe_mark s.marks }
+          → stepped (FlushStore n) (moving_of contents layers replied v) ≡ moving_of contents layers replied (changed v v.origin k s' v.flights)
+      flush_store_done s' unmarked one is =
+          let m : Moving = moving_of contents layers replied v in
+          let h : Held = held_of contents layers s in
+          let test : Held → Bool = λ (x : Held). (x.snap.number == n) && can_flush_store x in
+          let after : Held = met_after in
+          let h_is : flushed_held after ≡ held_of contents layers s' =
+          ap (λ (x : Device). flushed_held (with_store h x)) (met_is contents layers Flushes true faults faults' done done' s.device d one same)
+          ∙ ap (λ (cs : List Copying). record (flushed_held (with_store h (device_of contents layers d))) { copies = cs }) (flushed_seen s.copies)
+          ∙ sym (ap (held_of contents layers) is) in
+          flushing_is unmarked
+          ∙ if_true (answers h.snap.store Flushes) (put test (flushed_held after) m) (spoil test after m) (sym one.answer)
+          ∙ put_is contents layers replied v k s test found v.origin m.origin s' (flushed_held after) refl h_is
+
+      pub flush_store_fault : (s' s'' : Kept B) → s.marked ≡ false → IsOneOperation Flushes false (layers s.device) (layers d) faults faults' done done'
+          → s' ≡ record s { device = d } → s'' ≡ spoilt s'
+          → stepped (FlushStore n) (moving_of contents layers replied v) ≡ moving_of contents layers replied (changed v v.origin k s'' (map (refused_of (s.number ∷ [])) v.flights))
+      flush_store_fault s' s'' unmarked one kept gone =
+          let m : Moving = moving_of contents layers replied v in
+          let h : Held = held_of contents layers s in
+          let test : Held → Bool = λ (x : Held). (x.snap.number == n) && can_flush_store x in
+          let after : Held = met_after in
+          flushing_is unmarked
+          ∙ if_false (answers h.snap.store Flushes) (put test (flushed_held after) m) (spoil test after m) (sym one.answer)
+          ∙ spoil_is contents layers replied v k s test found v.origin m.origin s'' after refl
+          (ap (λ (x : Device). spoiled (with_store h x)) (met_is contents layers Flushes false faults faults' done done' s.device d one same)
+          ∙ sym (ap (held_of contents layers) gone ∙ ap (λ (x : Kept B). held_of contents layers (spoilt x)) kept)) refl
 
     -- the snapshot whose mark it is is found
     pub publishes_first : IsFirst (λ (x : Kept B). has_mark_at v.flights n x) k s v.snaps → IsFirst (λ (x : Kept B). publishes (map going_of v.flights) n (held_of contents layers x)) k s v.snaps

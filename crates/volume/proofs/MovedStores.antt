@@ -56,14 +56,15 @@ and_right true b e = e
 and_right false b e = absurd (false≢true e)
 
 -- a snapshot by the parts that a commit changes
-held_by : (s : Held) (c c' : ℕ) (ps ps' : List Pair) (z z' : Bool) (cs cs' : List Copying) (ms ms' : List Mark) → c ≡ c' → ps ≡ ps' → z ≡ z' → cs ≡ cs' → ms ≡ ms'
-    → ◌≡◌ {A = Held} (record s { snap = record s.snap { chunk = c }; pairs = ps; zeroed = z; copies = cs; marks = ms }) (record s { snap = record s.snap { chunk = c' }; pairs = ps'; zeroed = z'; copies = cs'; marks = ms' })
-held_by s c c' ps ps' z z' cs cs' ms ms' pc pp pz pcs pm =
-    ap (λ (x : ℕ). record s { snap = record s.snap { chunk = x }; pairs = ps; zeroed = z; copies = cs; marks = ms }) pc
-    ∙ ap (λ (x : List Pair). record s { snap = record s.snap { chunk = c' }; pairs = x; zeroed = z; copies = cs; marks = ms }) pp
-    ∙ ap (λ (x : Bool). record s { snap = record s.snap { chunk = c' }; pairs = ps'; zeroed = x; copies = cs; marks = ms }) pz
-    ∙ ap (λ (x : List Copying). record s { snap = record s.snap { chunk = c' }; pairs = ps'; zeroed = z'; copies = x; marks = ms }) pcs
-    ∙ ap (λ (x : List Mark). record s { snap = record s.snap { chunk = c' }; pairs = ps'; zeroed = z'; copies = cs'; marks = x }) pm
+held_by : (s : Held) (c c' : ℕ) (ps ps' : List Pair) (z z' f f' : Bool) (cs cs' : List Copying) (ms ms' : List Mark) → c ≡ c' → ps ≡ ps' → z ≡ z' → f ≡ f' → cs ≡ cs' → ms ≡ ms'
+    → ◌≡◌ {A = Held} (record s { snap = record s.snap { chunk = c }; pairs = ps; zeroed = z; firm = f; copies = cs; marks = ms }) (record s { snap = record s.snap { chunk = c' }; pairs = ps'; zeroed = z'; firm = f'; copies = cs'; marks = ms' })
+held_by s c c' ps ps' z z' f f' cs cs' ms ms' pc pp pz pf pcs pm =
+    ap (λ (x : ℕ). record s { snap = record s.snap { chunk = x }; pairs = ps; zeroed = z; firm = f; copies = cs; marks = ms }) pc
+    ∙ ap (λ (x : List Pair). record s { snap = record s.snap { chunk = c' }; pairs = x; zeroed = z; firm = f; copies = cs; marks = ms }) pp
+    ∙ ap (λ (x : Bool). record s { snap = record s.snap { chunk = c' }; pairs = ps'; zeroed = x; firm = f; copies = cs; marks = ms }) pz
+    ∙ ap (λ (x : Bool). record s { snap = record s.snap { chunk = c' }; pairs = ps'; zeroed = z'; firm = x; copies = cs; marks = ms }) pf
+    ∙ ap (λ (x : List Copying). record s { snap = record s.snap { chunk = c' }; pairs = ps'; zeroed = z'; firm = f'; copies = x; marks = ms }) pcs
+    ∙ ap (λ (x : List Mark). record s { snap = record s.snap { chunk = c' }; pairs = ps'; zeroed = z'; firm = f'; copies = cs'; marks = x }) pm
 
 -- the state after a commit, as the event machine has it
 state_chunk : (b : Bool) (s x y : State) → x.chunk ≡ s.chunk → y.chunk ≡ s.chunk → s.chunk ≡ (if b then x else y).chunk
@@ -74,11 +75,18 @@ state_zeroed : (b : Bool) (s x y : State) → x.zeroed ≡ false → y.zeroed �
 state_zeroed true s x y xz yz = and_false s.zeroed ∙ sym xz
 state_zeroed false s x y xz yz = and_true s.zeroed ∙ sym yz
 
+state_firm : (b : Bool) (s x y : State) → x.firm ≡ false → y.firm ≡ s.firm → (s.firm && not b) ≡ (if b then x else y).firm
+state_firm true s x y xz yz = and_false s.firm ∙ sym xz
+state_firm false s x y xz yz = and_true s.firm ∙ sym yz
+
 commit_chunk : (s : State) (count : ℕ) → s.chunk ≡ (after_commit s count).chunk
-commit_chunk s count = state_chunk (s.filled + count == 32 * s.chunk) s (record s { current = s.current + 1; filled = 0; zeroed = false }) (record s { filled = s.filled + count }) refl refl
+commit_chunk s count = state_chunk (s.filled + count == 32 * s.chunk) s (record s { current = s.current + 1; filled = 0; zeroed = false; firm = false }) (record s { filled = s.filled + count }) refl refl
 
 commit_zeroed : (s : State) (count : ℕ) → (s.zeroed && not (s.filled + count == 32 * s.chunk)) ≡ (after_commit s count).zeroed
-commit_zeroed s count = state_zeroed (s.filled + count == 32 * s.chunk) s (record s { current = s.current + 1; filled = 0; zeroed = false }) (record s { filled = s.filled + count }) refl refl
+commit_zeroed s count = state_zeroed (s.filled + count == 32 * s.chunk) s (record s { current = s.current + 1; filled = 0; zeroed = false; firm = false }) (record s { filled = s.filled + count }) refl refl
+
+commit_firm : (s : State) (count : ℕ) → (s.firm && not (s.filled + count == 32 * s.chunk)) ≡ (after_commit s count).firm
+commit_firm s count = state_firm (s.filled + count == 32 * s.chunk) s (record s { current = s.current + 1; filled = 0; zeroed = false; firm = false }) (record s { filled = s.filled + count }) refl refl
 
 -- the slot of the next pair
 slot_area : (a n f k : ℕ) → f < n → k ≡ a * n + f → k / n ≡ a
@@ -131,6 +139,7 @@ module _ {B : Type 0} (contents : B → List ℕ) (layers : B → List Layer) (r
       copies = drop count after.copies;
       marks = after.marks ++ map mark_of_copying now;
       zeroed = after.zeroed && not (f + count == 32 * s.state.chunk);
+      firm = after.firm && not (f + count == 32 * s.state.chunk);
     }
 
     area_is : length s.pairs / (32 * s.state.chunk) ≡ s.state.current
@@ -167,10 +176,10 @@ module _ {B : Type 0} (contents : B → List ℕ) (layers : B → List Layer) (r
         let h : Held = with_store (held_of contents layers s) (device_of contents layers d) in
         committing_is ∙ write_is contents layers replied v k s (λ (x : Held). (x.snap.number == n) && can_commit x) commits_first op bytes (committed s.state.filled) s' faults faults' done done' d one new
         (held_by h s.state.chunk (after_commit s.state count).chunk (s.pairs ++ map pair_of_copying now) (s.pairs ++ take count s.begun)
-        (s.state.zeroed && not (s.state.filled + count == 32 * s.state.chunk)) (after_commit s.state count).zeroed (drop count (map copying_of s.copies)) (map copying_of (drop count s.copies))
+        (s.state.zeroed && not (s.state.filled + count == 32 * s.state.chunk)) (after_commit s.state count).zeroed (s.state.firm && not (s.state.filled + count == 32 * s.state.chunk)) (after_commit s.state count).firm (drop count (map copying_of s.copies)) (map copying_of (drop count s.copies))
         (s.marks ++ map mark_of_copying now) (s.marks ++ map mark_of (take count s.copies))
         (commit_chunk s.state count) (ap (λ (qs : List Pair). s.pairs ++ qs) pairs_are)
-        (commit_zeroed s.state count)
+        (commit_zeroed s.state count) (commit_firm s.state count)
         (drop-map copying_of count s.copies) (ap (λ (ms : List Mark). s.marks ++ ms) (marks_seen count s.copies))
         ∙ sym (ap (held_of contents layers) is))
 
@@ -194,7 +203,7 @@ module _ {B : Type 0} (contents : B → List ℕ) (layers : B → List Layer) (r
     zero_op a = Writes (s.state.chunk * area_place s.state.chunk a) s.state.chunk
 
     abbrev zero_kept : Held → Held
-    zero_kept after = record after { zeroed = true }
+    zero_kept after = record after { zeroed = true; firm = false }
 
     -- with area a as the next one
     abbrev zeroing : ℕ → Moving
@@ -221,7 +230,7 @@ module _ {B : Type 0} (contents : B → List ℕ) (layers : B → List Layer) (r
     pub zero_next_done : (s' : Kept B) → s.state.chunk * (area_place s.state.chunk (s.state.current + 1) + 1) ≤ s.state.size
         → IsOneOperation (zero_op (s.state.current + 1)) true (layers s.device) (layers d) faults faults' done done'
         → contents d ≡ with_sectors (contents s.device) (s.state.chunk * area_place s.state.chunk (s.state.current + 1)) (replicate (512 * s.state.chunk) 0)
-        → s' ≡ record s { device = d; state = record s.state { zeroed = true } }
+        → s' ≡ record s { device = d; state = record s.state { zeroed = true; firm = false } }
         → stepped (ZeroNext n) (moving_of contents layers replied v) ≡ moving_of contents layers replied (changed v v.origin k s' v.flights)
     zero_next_done s' inside one new is =
         let m : Moving = moving_of contents layers replied v in

@@ -166,7 +166,7 @@ module _ {B : Type 0} (contents : B → List ℕ) (layers : B → List Layer) wh
       weight s = weigh chunk sectors pairs (due_of_kept contents layers s)
 
       pub record IsWeighed (s : Kept B) : Type 0 where
-        pub start : lacks_chunk (at s) s ≡ true → (p : ChunkCopy) (t : Kept B) → StartsCopy p (snap_books contents layers s) (snap_books contents layers t) → p.pair.old ≡ at s → t.state.zeroed ≡ s.state.zeroed
+        pub start : lacks_chunk (at s) s ≡ true → (p : ChunkCopy) (t : Kept B) → StartsCopy p (snap_books contents layers s) (snap_books contents layers t) → p.pair.old ≡ at s → t.state.zeroed ≡ s.state.zeroed → t.state.firm ≡ s.state.firm
             → weigh chunk sectors pairs (due_of_kept contents layers t) ≤ weigh chunk sectors pairs (due_of_kept contents layers s)
         pub spoil : lacks_chunk (at s) s ≡ true → SpoilsSnap (snap_books contents layers s) (snap_books contents layers (spoilt_of s))
             → weigh chunk sectors pairs (due_of_kept contents layers (spoilt_of s)) ≤ weigh chunk sectors pairs (due_of_kept contents layers s)
@@ -175,7 +175,7 @@ module _ {B : Type 0} (contents : B → List ℕ) (layers : B → List Layer) wh
       one_left s t n m fs gs w e = elim (cases_Bool (starts_chunk (at s) s)) [
         | inl begins ↦
             (let (buffer, begun, m_is, same) = MatchBool-at_true _ _ begins e in
-            w.start (and_first (lacks_chunk (at s) s) (not (is_full_of s)) begins) (started (n + 1) (at s) s.next buffer) t begun.event refl (ap (λ (x : Kept B). x.state.zeroed) begun.fields))
+            w.start (and_first (lacks_chunk (at s) s) (not (is_full_of s)) begins) (started (n + 1) (at s) s.next buffer) t begun.event refl (ap (λ (x : Kept B). x.state.zeroed) begun.fields) (ap (λ (x : Kept B). x.state.firm) begun.fields))
         | inr unsaid ↦ elim (cases_Bool (overflows_chunk (at s) s)) [
           | inl over ↦
               (let (same, m_is, requests) = MatchBool-at_true _ _ over (MatchBool-at_false _ _ unsaid e) in

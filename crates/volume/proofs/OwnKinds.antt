@@ -8,7 +8,7 @@ use Rattle.std.proofs.lemmas.List.Elements.{All-head, All-tail, All-map}
 use Rattle.device.specs.Layers.{Layer, is_loud}
 use Rattle.sector.specs.declared.pair.Pair.{Pair}
 use Rattle.plain.specs.declared.event.Event.{Event}
-use Rattle.plain.specs.declared.event.Event.TheVariants.{Issue, CopyRead, CopyWrite, ZeroNext, WriteArea, Publish, WriteInvalid}
+use Rattle.plain.specs.declared.event.Event.TheVariants.{Issue, CopyRead, CopyWrite, ZeroNext, WriteArea, Publish, WriteInvalid, FlushStore}
 use Rattle.pending.specs.declared.copies.ChunkCopy.{ChunkCopy}
 use Rattle.pending.specs.declared.copies.Mark.{Mark}
 use Rattle.pending.specs.declared.copies.Stage.TheVariants.{Waiting, Read}
@@ -16,7 +16,7 @@ use Rattle.pending.specs.declared.flights.Flight.{Flight}
 use Rattle.pending.specs.Due.{first_by, number_of_flight, is_issuable}
 use Rattle.volume_laws.specs.Again.{has_chunk}
 use Rattle.volume_laws.specs.Books.{MergeBooks, group_of}
-use Rattle.volume_laws.specs.Due.{DueSnap, books_of as books_due, snap_number, is_untried, can_commit, can_zero, copy_of, publishable_of, least_of, event_or, due_of}
+use Rattle.volume_laws.specs.Due.{DueSnap, books_of as books_due, snap_number, can_mark, can_flush_store, can_commit, can_zero, copy_of, publishable_of, least_of, event_or, due_of}
 use Rattle.volume_laws.specs.MergeDue.{is_none}
 use Rattle.volume_laws.specs.Published.{chunk_of}
 use Rattle.volume_laws.specs.Waits.{IsDone, is_grouped}
@@ -44,13 +44,14 @@ none_own = λ e is. absurd (cc)
 -- an event of snapshots and requests is none of a merge
 pub due_own : (snaps : List DueSnap) (rs : List Flight) (event : Event) → due_of snaps rs ≡ Some event → is_of_merge event ≡ false
 due_own snaps rs =
-    or_own (first_by is_untried snap_number snaps) WriteInvalid _ (λ k. refl)
+    or_own (first_by can_mark snap_number snaps) WriteInvalid _ (λ k. refl)
+    (or_own (first_by can_flush_store snap_number snaps) FlushStore _ (λ k. refl)
     (or_own (least_of (publishable_of rs) snaps) Publish _ (λ k. refl)
     (or_own (first_by can_commit snap_number snaps) WriteArea _ (λ k. refl)
     (or_own (first_by can_zero snap_number snaps) ZeroNext _ (λ k. refl)
     (or_own (least_of (copy_of Read) snaps) CopyWrite _ (λ k. refl)
     (or_own (least_of (copy_of Waiting) snaps) CopyRead _ (λ k. refl)
-    (or_own (first_by is_issuable number_of_flight rs) Issue None (λ k. refl) none_own))))))
+    (or_own (first_by is_issuable number_of_flight rs) Issue None (λ k. refl) none_own)))))))
 
 no_pairs : (pairs : List Pair) (found : Bool) → found ≡ not (is_none pairs) → found ≡ false → pairs ≡ []
 no_pairs [] found same none = refl

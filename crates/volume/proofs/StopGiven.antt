@@ -20,7 +20,7 @@ use Rattle.snapshot.specs.InStep.{IsInStep}
 use Rattle.merge.specs.Merging.{Merging}
 use Rattle.merge.specs.InStep.{IsInStep as IsMergingInStep}
 use Rattle.volume.specs.Stopping.{stopping_of}
-use Rattle.volume.proofs.StopStill.{ready_live, loads_snap, loads_merge, refuses_snap}
+use Rattle.volume.proofs.StopStill.{live_unmarked, loads_snap, loads_merge, refuses_snap}
 
 -- a store with an area has sectors
 area_some : (chunk n size : ℕ) → 0 < chunk → chunk * (n + 1) ≤ size → 0 < size
@@ -52,8 +52,8 @@ module _ {B : Type 0} (contents : B → List ℕ) (layers : B → List Layer) (s
       → IsInStep contents layers size s → IsInStep contents layers size t → is_loud (layers s.device) ≡ true → is_loud (layers t.device) ≡ true → IsGiven (Some s.number) s.state.chunk s.device t.device
       → StopsSnap (λ d. HoldsNow (contents d)) size given o o' (stopping_of s) (stopping_of t)
   live_given s t live tried lives pos chunk pairs sized fits fits' h h' loud loud' shown = λ b c left_b left_c.
-      let before = loads_snap contents layers size whole o s fits h loud (ready_live s.live s.untried s.stale live) in
-      let later = loads_snap contents layers size whole o' t fits' h' loud' (ready_live t.live t.untried t.stale lives) in
+      let before = loads_snap contents layers size whole o s fits h loud (live_unmarked contents layers size whole s h live) in
+      let later = loads_snap contents layers size whole o' t fits' h' loud' (live_unmarked contents layers size whole t h' lives) in
       let after : LoadsAgain s.state.chunk (size o) (size s.device) (contents t.device) = subst (λ n. LoadsAgain s.state.chunk n (size s.device) (contents t.device)) sectors (subst (λ n. LoadsAgain s.state.chunk (size o') n (contents t.device)) sized (subst (λ n. LoadsAgain n (size o') (size t.device) (contents t.device)) chunk later)) in
       let same : pairs_of s.state.chunk (contents t.device) ≡ pairs_of s.state.chunk (contents s.device) = sym (ap (λ n. pairs_of n (contents t.device)) chunk) ∙ h'.pairs loud' ∙ pairs ∙ sym (h.pairs loud) in
       let now = again (Some s.number) s.state.chunk s.device t.device pos sized same before after shown b c left_b left_c in (

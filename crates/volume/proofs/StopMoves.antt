@@ -1,11 +1,11 @@
 -- What an event of the machine does to the bytes of its devices, snapshot by snapshot.
 use Rattle.std.proofs.Common.{◌≡◌, ◌≢◌, ◌⊎◌, inl, inr, ℕ, zero, suc, ◌+◌, ◌-◌, ◌*◌, ◌/◌, ◌<◌, Bool, true, false, List, [], ◌∷◌, length, get_or, map, Option, Some, None, refl, sym, ◌∙◌, ap, subst, arith}
-use Rattle.std.specs.Prelude.{◌==◌, ◌&&◌, if◌then◌else◌}
+use Rattle.std.specs.Prelude.{◌==◌, ◌&&◌, not, if◌then◌else◌}
 use Rattle.std.specs.List.{list_any}
 use Rattle.std.proofs.lemmas.Bool.{cond-true, cond-false, false≢true}
 use Rattle.sector.specs.declared.pair.Pair.{Pair}
 use Rattle.plain.specs.declared.event.Event.{Event}
-use Rattle.plain.specs.declared.event.Event.TheVariants.{Issue, CopyRead, CopyWrite, ZeroNext, WriteArea, Publish, WriteInvalid, MergeGroup, MergeAreaRead, MergeRead, MergeWrite, MergeFlush, MergeCommit, MergeRelease}
+use Rattle.plain.specs.declared.event.Event.TheVariants.{Issue, CopyRead, CopyWrite, ZeroNext, WriteArea, FlushStore, Publish, WriteInvalid, MergeGroup, MergeAreaRead, MergeRead, MergeWrite, MergeFlush, MergeCommit, MergeRelease}
 use Rattle.pending.specs.declared.copies.Stage.{Stage}
 use Rattle.pending.specs.declared.copies.Stage.TheVariants.{Waiting, Read, Written}
 use Rattle.pending.specs.declared.copies.Mark.{Mark}
@@ -19,11 +19,12 @@ use Rattle.settled.specs.Saves.{zeroed}
 use Rattle.settled.specs.Saving.{lacks_area}
 use Rattle.settled.specs.Merges.{Merge, last_run}
 use Rattle.settled.specs.Devices.{Device, sectors_of, answers, met, written_by}
-use Rattle.event_machine.specs.Held.{Copying, Held, MergeHeld, Moving, with_store, spoiled, on_device, with_merge}
-use Rattle.event_machine.specs.Stepping.{for_some, first_that, with_first, without_first, put, spoil, store_write, read_copy, write_copy, zero_next, publish, publishes, is_copy, on_copy, on_snap, stepped}
+use Rattle.event_machine.specs.Held.{Copying, Held, MergeHeld, Moving, with_store, flushed_held, spoiled, on_device, with_merge}
+use Rattle.event_machine.specs.Stepping.{for_some, first_that, with_first, without_first, put, spoil, store_write, read_copy, write_copy, zero_next, flush_store, publish, publishes, is_copy, on_copy, on_snap, stepped}
+use Rattle.event_machine.specs.Again.{rerouted}
 use Rattle.event_machine.specs.MergeStepping.{stepped_all, read_area, read_chunk, flush_origin, without_group, end_group, form_group, start_next, start_waiting, on_merge, stop, sectors_in, without_last}
 use Rattle.event_machine.specs.Submitting.{started_all, needs_none, is_filled}
-use Rattle.event_machine.specs.Due.{is_front_written, needs_area, can_zero}
+use Rattle.event_machine.specs.Due.{is_front_ready, needs_area, can_zero, can_flush_store}
 use Rattle.event_machine.specs.MergeDue.{in_area, next_of, can_group, can_read_area, can_read, can_flush, can_release}
 use Rattle.volume.proofs.Shown.{and_left, and_right}
 
@@ -125,8 +126,8 @@ none_some x e = cc
 copies_some : (test : Copying → Bool) (p : Copying) (ps : List Copying) → first_that test ps ≡ Some p → ps ≢ []
 copies_some test p ps e none = none_some p (sym (ap (first_that test) none) ∙ e)
 
-front_some : (ps : List Copying) → is_front_written ps ≡ true → ps ≢ []
-front_some ps e none = false≢true (sym (ap is_front_written none) ∙ e)
+front_some : (ps : List Copying) → is_front_ready ps ≡ true → ps ≢ []
+front_some ps e none = false≢true (sym (ap is_front_ready none) ∙ e)
 
 -- the merge of an event, in the list or beside it
 pub started_same : (at : Held → ℕ) (started : ℕ) (snaps : List Held) → Places SameBytes snaps (started_all at started snaps)
@@ -204,6 +205,7 @@ abbrev pub is_still : Event → Bool
 is_still (CopyRead n) = true
 is_still (CopyWrite n) = true
 is_still (ZeroNext n) = true
+is_still (FlushStore n) = true
 is_still (Publish n) = true
 is_still MergeGroup = true
 is_still MergeAreaRead = true
@@ -260,10 +262,21 @@ zero_steps test h v is some =
     let a : ℕ = length h.pairs / (32 * h.snap.chunk) + 1 in
     let op : Operation = Writes (h.snap.chunk * area_place h.snap.chunk a) h.snap.chunk in
     let text : List ℕ = zeroed h.snap.chunk h.snap.store.bytes a in
-    let next : Held → Held = λ after. record after { zeroed = true } in
+    let next : Held → Held = λ after. record after { zeroed = true; firm = false } in
     if_steps (lacks_area a h.snap) v (spoil test h v) (store_write test h op text next v)
     (λ lacks. put_steps test h (spoiled h) v (spoil test h v) is (inl refl) refl refl refl)
     (λ fits. store_steps test h op text next v is some (λ k. refl) (λ k. refl))
+
+-- a store is flushed, which writes nothing
+flush_steps : (test : Held → Bool) (h : Held) (v : Moving) → first_that test v.snaps ≡ Some h → Steps v (flush_store test h v)
+flush_steps test h v is =
+    let after : Held = with_store h (met h.snap.store Flushes) in
+    let tried : Held = record after { snap = record after.snap { stale = not (answers h.snap.store Flushes) }; untried = false } in
+    if_steps h.marked v (rerouted (put test tried v)) (if answers h.snap.store Flushes then put test (flushed_held after) v else spoil test after v)
+    (λ marked. put_steps test h tried v (rerouted (put test tried v)) is (inl refl) refl refl refl)
+    (λ unmarked. if_steps (answers h.snap.store Flushes) v (put test (flushed_held after) v) (spoil test after v)
+    (λ yes. put_steps test h (flushed_held after) v (put test (flushed_held after) v) is (inl refl) refl refl refl)
+    (λ no. put_steps test h (spoiled after) v (spoil test after v) is (inl refl) refl refl refl))
 
 publish_steps : (test : Held → Bool) (mine : Mark → Bool) (o : Option Held) (v : Moving) → ((h : Held) → o ≡ Some h → first_that test v.snaps ≡ Some h) → Steps v (start_waiting (for_some o (λ h. publish test mine h v) v))
 publish_steps test mine None v found = waiting_started v.merge v v refl (places_same SameBytes (λ h. refl) v.snaps) (same_store v.merge)
@@ -271,12 +284,13 @@ publish_steps test mine (Some h) v found =
     waiting_started v.merge v (publish test mine h v) refl (first_places SameBytes (λ k. refl) test h (record h { marks = without_first mine h.marks }) v.snaps (found h refl) refl) (same_store v.merge)
 
 zeroes : (n : ℕ) (h : Held) → ((h.snap.number == n) && can_zero h) ≡ true → h.copies ≢ []
-zeroes n h e = front_some h.copies (and_left (is_front_written h.copies) (needs_area h) (and_right (h.snap.number == n) (can_zero h) e))
+zeroes n h e = front_some h.copies (and_left (is_front_ready h.copies) (needs_area h) (and_right (h.snap.number == n) (can_zero h) e))
 
 pub steps_by : (event : Event) (v : Moving) → is_still event ≡ true → Steps v (stepped_all event v)
 steps_by (CopyRead n) v e = on_copies Waiting n read_copy v (λ h p is here. copy_read_steps (λ k. list_any (is_copy Waiting n) k.copies) (is_copy Waiting n) h p v is)
 steps_by (CopyWrite n) v e = on_copies Read n write_copy v (λ h p is here. copy_write_steps (λ k. list_any (is_copy Read n) k.copies) (is_copy Read n) h p v is (copies_some (is_copy Read n) p h.copies here))
 steps_by (ZeroNext n) v e = on_snaps (λ h. (h.snap.number == n) && can_zero h) zero_next v (λ h is. zero_steps (λ h. (h.snap.number == n) && can_zero h) h v is (zeroes n h (first_passes (λ h. (h.snap.number == n) && can_zero h) v.snaps h is)))
+steps_by (FlushStore n) v e = on_snaps (λ h. (h.snap.number == n) && can_flush_store h) flush_store v (λ h is. flush_steps (λ h. (h.snap.number == n) && can_flush_store h) h v is)
 steps_by (Publish n) v e =
     some_steps (first_that (publishes v.requests n) v.snaps) (λ h. start_waiting (stepped (Publish n) v)) v
     (λ h is. publish_steps (publishes v.requests n) (λ m. m.number == n) (first_that (publishes v.requests n) v.snaps) v (λ k same. same))

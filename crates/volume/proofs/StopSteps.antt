@@ -4,7 +4,7 @@ use Rattle.std.specs.Prelude.{◌&&◌, ◌||◌, ◌==◌, ◌/◌, not}
 use Rattle.std.specs.List.{All, list_all, list_any}
 use Rattle.std.proofs.Math.ListN.{get_or-append}
 use Rattle.std.proofs.Math.Seq.{get_or-append_seam}
-use Rattle.std.proofs.lemmas.Bool.{false≢true, cond-true, cond-false}
+use Rattle.std.proofs.lemmas.Bool.{cases_Bool, false≢true, cond-true, cond-false}
 use Rattle.std.proofs.lemmas.List.{length-map, length-append, length-take, get_or-map, get_or_default, take-map}
 use Rattle.std.proofs.lemmas.List.Elements.{All-map, All-take}
 use Rattle.sector.specs.Bytes.{sector_at, with_sectors}
@@ -17,7 +17,7 @@ use Rattle.plain.specs.Plain.{Plain, asked_under}
 use Rattle.plain.specs.Legal.{IsLegalStep, Spoils}
 use Rattle.plain.specs.Serves.{Serves, Shows, Assigns, SameArrays}
 use Rattle.plain.specs.declared.event.Event.{Event}
-use Rattle.plain.specs.declared.event.Event.TheVariants.{Issue, CopyRead, CopyWrite, ZeroNext, WriteArea, Publish, WriteInvalid, MergeGroup, MergeAreaRead, MergeRead, MergeWrite, MergeFlush, MergeCommit, MergeRelease}
+use Rattle.plain.specs.declared.event.Event.TheVariants.{Issue, CopyRead, CopyWrite, ZeroNext, WriteArea, FlushStore, Publish, WriteInvalid, MergeGroup, MergeAreaRead, MergeRead, MergeWrite, MergeFlush, MergeCommit, MergeRelease}
 use Rattle.plain.specs.declared.event.Outcome.{Outcome}
 use Rattle.plain.specs.declared.event.Outcome.TheVariants.{Done, Fault, Reply as Replied}
 use Rattle.plain.specs.declared.request.Dev.{Dev}
@@ -36,7 +36,7 @@ use Rattle.stop_laws.specs.Stop.{HoldsNow, IsTorn}
 use Rattle.stop_laws.specs.Again.{LoadsAgain, IsRefusedAgain}
 use Rattle.stop_laws.specs.Clauses.{Given, Gives, OpensNone, StopsSnap}
 use Rattle.stop_laws.proofs.Clauses.{opens_none}
-use Rattle.volume_laws.specs.Held.{LiveHolds, SpoiltHolds, SnapHolds, CopyHolds, RequestHolds}
+use Rattle.volume_laws.specs.Held.{LiveHolds, SpoiltHolds, SnapHolds, CopyHolds, RequestHolds, is_stored}
 use Rattle.volume_laws.specs.Shape.{shown_origin}
 use Rattle.volume_laws.specs.Steps.{WritesDisk}
 use Rattle.volume_laws.specs.Whole.{OriginHolds}
@@ -67,7 +67,7 @@ use Rattle.volume.specs.Stepping.{KeepsAll, merged_of}
 use Rattle.volume.specs.Stopping.{stopping_of, given_as, given_in, given_by, of_all, CommitsWithin, MarksWithin, MergeWithin, WritesOne, CommitsMerge, StopsOwn, StopsOrigin, StopsVolume}
 use Rattle.volume.proofs.Shown.{and_left, and_right, loud_books}
 use Rattle.volume.proofs.Counting.{head_counted}
-use Rattle.volume.proofs.StopStill.{as_it_is, loads_snap, refuses_snap, ready_live, ready_untried, SameMerging, same_merging, still_disk, still_merge, still_snap, origin_still, loud_snap, of_origin}
+use Rattle.volume.proofs.StopStill.{as_it_is, live_unmarked, loads_snap, refuses_marked, refuses_snap, SameMerging, same_merging, still_disk, still_merge, still_snap, origin_still, loud_snap, of_origin}
 use Rattle.volume.proofs.StopGiven.{live_given, dead_given, merge_given}
 use Rattle.volume.proofs.StopMoves.{SameBytes, seen_place, Moves, SameStore, Steps, is_still, steps_by}
 use Rattle.volume.proofs.StopIssues.{SamePairs, SameMergePairs, KeepsPairs, pairs_kept}
@@ -94,6 +94,9 @@ spoils_of (ZeroNext n) (Replied number reply) p q e l = absurd (no_issue (ZeroNe
 spoils_of (Publish n) Done p q e l = l
 spoils_of (Publish n) Fault p q e l = l
 spoils_of (Publish n) (Replied number reply) p q e l = absurd (no_issue (Publish n) number e l.0)
+spoils_of (FlushStore n) Done p q e l = l
+spoils_of (FlushStore n) Fault p q e l = l
+spoils_of (FlushStore n) (Replied number reply) p q e l = absurd (no_issue (FlushStore n) number e l.0)
 spoils_of MergeGroup Done p q e l = l
 spoils_of MergeGroup Fault p q e l = l
 spoils_of MergeGroup (Replied number reply) p q e l = absurd (no_issue MergeGroup number e l.0)
@@ -229,17 +232,17 @@ module _ {B : Type 0} (contents : B → List ℕ) (layers : B → List Layer) (s
     still_stop given disk here = still_snap contents layers size whole given v.origin w.origin disk s t (of_origin contents layers size whole v h loud k s lt is) now (loud_snap contents layers size whole v h loud k s lt is) here
 
   -- the origin disk is written in chunks of which a snapshot has its copies, and that one's store is loaded again
-  under_opens : (k : ℕ) (s t : Kept B) (lt : k < length v.snaps) (at : s ≡ get_or v.snaps k s) (are : t ≡ get_or w.snaps k t) (given : Option Given) → (s.live || (s.untried || s.stale)) ≡ true → contents t.device ≡ contents s.device
+  under_opens : (k : ℕ) (s t : Kept B) (lt : k < length v.snaps) (at : s ≡ get_or v.snaps k s) (are : t ≡ get_or w.snaps k t) (given : Option Given) → s.marked ≡ false → contents t.device ≡ contents s.device
       → StaysBeside s.state.chunk s.pairs (contents v.origin) (contents w.origin)
       → (b c : List ℕ) → IsTorn (size v.origin) (contents v.origin) (contents w.origin) b → IsTorn (size s.device) (contents s.device) (contents t.device) c
       → LoadsAgain s.state.chunk (size v.origin) (size s.device) c × OpensNone (λ d. HoldsNow (contents d)) size given (Some s.number) s.state.chunk v.origin s.device b c
-  under_opens k s t lt at are given ready same beside b c left_b left_c =
+  under_opens k s t lt at are given unmarked same beside b c left_b left_c =
       let drops = loud_snap contents layers size whole v h loud k s lt at in
       let ec : c ≡ contents s.device = as_it_is contents layers size whole s.device t.device c same left_c in
       let shows : picture s.state.chunk b c ≡ picture s.state.chunk (contents v.origin) (contents s.device) =
       ap (picture s.state.chunk b) ec
       ∙ shown_beneath (size v.origin) s.state.chunk (contents v.origin) (contents w.origin) b (contents s.device) s.pairs left_b (whole v.origin) (whole w.origin ∙ ap (λ n. 512 * n) sectors) beside ((now k s t lt at are).pairs drops) in
-      let loads = loads_snap contents layers size whole v.origin s (of_origin contents layers size whole v h loud k s lt at) (now k s t lt at are) drops ready in (
+      let loads = loads_snap contents layers size whole v.origin s (of_origin contents layers size whole v h loud k s lt at) (now k s t lt at are) drops unmarked in (
         subst (λ (z : List ℕ). LoadsAgain s.state.chunk (size v.origin) (size s.device) z) (sym ec) loads,
         opens_none contents size given (Some s.number) s.state.chunk v.origin s.device b c (whole v.origin) (whole s.device) (λ n below. inl (ap (λ z. sector_at z n) shows)),
       )
@@ -248,7 +251,7 @@ module _ {B : Type 0} (contents : B → List ℕ) (layers : B → List Layer) (s
   under_stop : (k : ℕ) (s t : Kept B) (lt : k < length v.snaps) (at : s ≡ get_or v.snaps k s) (are : t ≡ get_or w.snaps k t) → s.live ≡ true → contents t.device ≡ contents s.device → StaysBeside s.state.chunk s.pairs (contents v.origin) (contents w.origin)
       → StopsSnap (λ d. HoldsNow (contents d)) size None v.origin w.origin (stopping_of s) (stopping_of t)
   under_stop k s t lt at are live same beside = λ b c left_b left_c. (
-    λ _. under_opens k s t lt at are None (ready_live s.live s.untried s.stale live) same beside b c left_b left_c,
+    λ _. under_opens k s t lt at are None (live_unmarked contents layers size whole s (now k s t lt at are) live) same beside b c left_b left_c,
     λ waits. absurd (false≢true (sym (alive k s t lt at are live).tried ∙ waits)),
     λ dead. absurd (false≢true (sym dead ∙ live)),
   )
@@ -270,7 +273,10 @@ module _ {B : Type 0} (contents : B → List ℕ) (layers : B → List Layer) (s
         | inr one ↦ (let beneath : StaysBeside s.state.chunk s.pairs (contents v.origin) (contents w.origin) = under m n vb h.holds h.waits refl refl sb gone waits (some k s t lt at are) one in
             λ b c left_b left_c. (
               λ live. absurd (false≢true (sym dead ∙ live)),
-              λ _. inr (under_opens k s t lt at are given (ready_untried s.live s.untried s.stale waits) same beneath b c left_b left_c),
+              λ _. elim (cases_Bool s.marked) [
+                | inl marked ↦ inl (subst (λ (z : List ℕ). IsRefusedAgain z) (sym (as_it_is contents layers size whole s.device t.device c same left_c)) (refuses_marked contents layers size whole s (now k s t lt at are) (loud_snap contents layers size whole v h loud k s lt at) marked))
+                | inr unmarked ↦ inr (under_opens k s t lt at are given unmarked same beneath b c left_b left_c)
+              ],
               λ _ tried. absurd (false≢true (sym tried ∙ waits)),
             ))
       ]
@@ -453,7 +459,7 @@ module _ {B : Type 0} (contents : B → List ℕ) (layers : B → List Layer) (s
         let copied : All (IsCopied s.state.chunk (contents v.origin) (contents s.device)) (take n s.begun) =
         subst (All (IsCopied s.state.chunk (contents v.origin) (contents s.device))) (sym (ap (take n) holds.agree ∙ take-map pair_of n s.copies))
         (All-map (IsCopied s.state.chunk (contents v.origin) (contents s.device)) pair_of (take n s.copies)
-        (λ j d less. (All-take (CopyHolds (is_loud (layers s.device)) s.state.chunk s.state.origin (contents v.origin) (contents s.device)) n s.copies holds.copies j d less).written loud_one (batch_ready (32 * s.state.chunk - s.state.filled) s.copies j d less))) in
+        (λ j d less. (All-take (CopyHolds (is_loud (layers s.device)) s.state.chunk s.state.origin (contents v.origin) (contents s.device)) n s.copies holds.copies j d less).written loud_one (ap is_stored (batch_ready (32 * s.state.chunk - s.state.filled) s.copies j d less)))) in
         between_stops contents size None v.origin (whole v.origin) (take n s.begun) w.origin (stopping_of s) (stopping_of t) (ap contents o.origin) (whole s.device) live holds.tried copied
         (subst (λ x. StopsBetween s.state.chunk x (size s.device) s.pairs (take n s.begun) (contents s.device) (contents t.device)) (of_origin contents layers size whole v h loud k s lt at)
         (subst (λ x. StopsBetween s.state.chunk s.state.origin x s.pairs (take n s.begun) (contents s.device) (contents t.device)) (now k s t lt at are).sized within.stops)))
@@ -571,6 +577,7 @@ module _ {B : Type 0} (contents : B → List ℕ) (layers : B → List Layer) (s
   told_event (CopyRead n) outcome exact legal own = still_event (CopyRead n) outcome refl exact legal
   told_event (CopyWrite n) outcome exact legal own = still_event (CopyWrite n) outcome refl exact legal
   told_event (ZeroNext n) outcome exact legal own = still_event (ZeroNext n) outcome refl exact legal
+  told_event (FlushStore n) outcome exact legal own = still_event (FlushStore n) outcome refl exact legal
   told_event (Publish n) outcome exact legal own = still_event (Publish n) outcome refl exact legal
   told_event MergeGroup outcome exact legal own = still_event MergeGroup outcome refl exact legal
   told_event MergeAreaRead outcome exact legal own = still_event MergeAreaRead outcome refl exact legal

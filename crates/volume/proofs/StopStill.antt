@@ -1,8 +1,8 @@
 -- A stop where nothing is written: each store is loaded again as it stands.
 use Rattle.std.proofs.Common.{◌≡◌, inl, inr, ℕ, ◌*◌, ◌<◌, Bool, true, false, List, Option, None, Some, length, get_or, refl, sym, ◌∙◌, ap, subst, arith}
-use Rattle.std.specs.Prelude.{◌||◌, ◌&&◌}
+use Rattle.std.specs.Prelude.{◌&&◌, not}
 use Rattle.std.specs.List.{All, list_all}
-use Rattle.std.proofs.lemmas.Bool.{false≢true}
+use Rattle.std.proofs.lemmas.Bool.{cases_Bool, false≢true}
 use Rattle.std.proofs.lemmas.List.{length-map, get_or-map, get_or_default}
 use Rattle.sector.specs.Bytes.{sector_at}
 use Rattle.device.specs.Layers.{Layer, is_loud}
@@ -24,37 +24,33 @@ use Rattle.volume.specs.Asking.{IsMergeInStep}
 use Rattle.volume.specs.Stopping.{stopping_of, StopsOrigin, StopsVolume, of_all}
 use Rattle.volume.proofs.Shown.{loud_books, and_right}
 
-pub ready_live : (a b c : Bool) → a ≡ true → (a || (b || c)) ≡ true
-ready_live true b c e = refl
-ready_live false b c e = absurd (false≢true e)
-
-pub ready_untried : (a b c : Bool) → b ≡ true → (a || (b || c)) ≡ true
-ready_untried true b c e = refl
-ready_untried false true c e = refl
-ready_untried false false c e = absurd (false≢true e)
-
-pub ready_none : (a b c : Bool) → a ≡ false → b ≡ false → c ≡ false → (a || (b || c)) ≡ false
-ready_none true b c e f g = absurd (false≢true (sym e))
-ready_none false true c e f g = absurd (false≢true (sym f))
-ready_none false false c e f g = g
-
 module _ {B : Type 0} (contents : B → List ℕ) (layers : B → List Layer) (size : B → ℕ) (whole : (d : B) → length (contents d) ≡ 512 * size d) where
   -- a device that is not written is left as it is
   pub as_it_is : (d d' : B) (b : List ℕ) → contents d' ≡ contents d → IsTorn (size d) (contents d) (contents d') b → b ≡ contents d
   as_it_is d d' b same left = torn_still (size d) (contents d) b (subst (λ (z : List ℕ). IsTorn (size d) (contents d) z b) same left) (whole d)
 
+  -- a live snapshot is not marked
+  pub live_unmarked : (s : Kept B) → IsInStep contents layers size s → s.live ≡ true → s.marked ≡ false
+  live_unmarked s h live = elim (cases_Bool s.marked) [
+    | inl marked ↦ absurd (false≢true (sym (h.dead marked) ∙ live))
+    | inr unmarked ↦ unmarked
+  ]
+
   -- a store that is not marked invalid is loaded again
-  pub loads_snap : (o : B) (s : Kept B) → s.state.origin ≡ size o → IsInStep contents layers size s → is_loud (layers s.device) ≡ true → (s.live || (s.untried || s.stale)) ≡ true → LoadsAgain s.state.chunk (size o) (size s.device) (contents s.device)
-  loads_snap o s fits h loud ready = record {
-    header = h.header loud ∙ ap (λ b. marked_as b s.state.chunk) ready;
+  pub loads_snap : (o : B) (s : Kept B) → s.state.origin ≡ size o → IsInStep contents layers size s → is_loud (layers s.device) ≡ true → s.marked ≡ false → LoadsAgain s.state.chunk (size o) (size s.device) (contents s.device)
+  loads_snap o s fits h loud unmarked = record {
+    header = h.header loud ∙ ap (λ b. marked_as (not b) s.state.chunk) unmarked;
     formed = subst (λ n. AreWellFormed s.state.chunk n (size s.device) (pairs_of s.state.chunk (contents s.device))) fits
         (subst (λ n. AreWellFormed s.state.chunk s.state.origin n (pairs_of s.state.chunk (contents s.device))) h.sized
         (subst (λ ps. AreWellFormed s.state.chunk s.state.origin s.state.size ps) (sym (h.pairs loud)) h.formed));
   }
 
-  -- and one that is marked is refused
+  -- and one that is marked is refused, as one is whose mark was tried and is not stale
+  pub refuses_marked : (s : Kept B) → IsInStep contents layers size s → is_loud (layers s.device) ≡ true → s.marked ≡ true → IsRefusedAgain (contents s.device)
+  refuses_marked s h loud marked = h.header loud ∙ ap (λ b. marked_as (not b) s.state.chunk) marked
+
   pub refuses_snap : (s : Kept B) → IsInStep contents layers size s → is_loud (layers s.device) ≡ true → s.live ≡ false → s.untried ≡ false → s.stale ≡ false → IsRefusedAgain (contents s.device)
-  refuses_snap s h loud dead tried sound = h.header loud ∙ ap (λ b. marked_as b s.state.chunk) (ready_none s.live s.untried s.stale dead tried sound)
+  refuses_snap s h loud dead tried sound = refuses_marked s h loud (h.tried dead tried sound)
 
   pub loads_merge : (o : B) (m : Merging B) → m.state.origin ≡ size o → IsMergingInStep contents layers size m → is_loud (layers m.device) ≡ true → LoadsAgain m.state.chunk (size o) (size m.device) (contents m.device)
   loads_merge o m fits h loud = record {
@@ -75,8 +71,11 @@ module _ {B : Type 0} (contents : B → List ℕ) (layers : B → List Layer) (s
         let eb : b ≡ contents o = as_it_is o o' b disk left_b in
         let ec : c ≡ contents s.device = as_it_is s.device t.device c here left_c in
         let opens = opens_same (Some s.number) s.state.chunk s.device b c eb ec in (
-          λ live. (subst (λ (z : List ℕ). LoadsAgain s.state.chunk (size o) (size s.device) z) (sym ec) (loads_snap o s fits h loud (ready_live s.live s.untried s.stale live)), opens),
-          λ waits. inr (subst (λ (z : List ℕ). LoadsAgain s.state.chunk (size o) (size s.device) z) (sym ec) (loads_snap o s fits h loud (ready_untried s.live s.untried s.stale waits)), opens),
+          λ live. (subst (λ (z : List ℕ). LoadsAgain s.state.chunk (size o) (size s.device) z) (sym ec) (loads_snap o s fits h loud (live_unmarked s h live)), opens),
+          λ waits. elim (cases_Bool s.marked) [
+            | inl marked ↦ inl (subst (λ (z : List ℕ). IsRefusedAgain z) (sym ec) (refuses_marked s h loud marked))
+            | inr unmarked ↦ inr (subst (λ (z : List ℕ). LoadsAgain s.state.chunk (size o) (size s.device) z) (sym ec) (loads_snap o s fits h loud unmarked), opens)
+          ],
           λ dead tried sound. subst (λ (z : List ℕ). IsRefusedAgain z) (sym ec) (refuses_snap s h loud dead tried sound),
         )
 

@@ -1,14 +1,16 @@
--- The events of one store: an area is zeroed, and the first copies are committed.
+-- The events of one store: an area is zeroed, the first copies are committed, and it is flushed.
 use Rattle.std.proofs.Common.{◌≡◌, inl, inr, ℕ, zero, suc, ◌+◌, ◌-◌, ◌*◌, ◌<◌, Bool, true, false, List, [], ◌∷◌, ◌++◌, length, get_or, map, take, drop, refl, ◌∙◌, ap, arith, nat_eq, eq-eqb, append_assoc, sym, subst}
-use Rattle.std.specs.Prelude.{◌&&◌, not, if◌then◌else◌}
-use Rattle.std.proofs.lemmas.Bool.{false≢true, eqb-true}
+use Rattle.std.specs.Prelude.{◌&&◌, ◌||◌, not, if◌then◌else◌}
+use Rattle.std.specs.List.{list_any}
+use Rattle.std.proofs.lemmas.Bool.{cases_Bool, false≢true, eqb-true}
 use Rattle.std.proofs.lemmas.List.{map-append}
 use Rattle.sector.specs.Bytes.{next_count}
 use Rattle.device.specs.Layers.{Layer, is_loud}
 use Rattle.model.specs.NextPlace.{LacksArea}
-use Rattle.plain.specs.declared.event.Event.TheVariants.{ZeroNext, WriteArea}
+use Rattle.plain.specs.declared.event.Event.TheVariants.{FlushStore, ZeroNext, WriteArea}
 use Rattle.plain.specs.declared.event.Outcome.TheVariants.{Done, Fault}
-use Rattle.pending.specs.Due.{number_of_copy, number_of_mark, front_written}
+use Rattle.pending.specs.Due.{number_of_copy, number_of_mark, front_ready, front_unflushed}
+use Rattle.pending.specs.Flushed.{flushed_copy, safe_mark}
 use Rattle.pending.specs.Routes.{refused_of}
 use Rattle.pending.proofs.Batches.{batch_some}
 use Rattle.pending.specs.declared.copies.ChunkCopy.{ChunkCopy}
@@ -16,65 +18,107 @@ use Rattle.pending.specs.declared.copies.Mark.{Mark}
 use Rattle.store.specs.declared.state.State.{State}
 use Rattle.store.specs.Stored.{after_commit}
 use Rattle.volume_laws.specs.Held.{LiveHolds}
-use Rattle.volume_laws.specs.Steps.{ChangesSnap, ZeroesArea, Commits, mark_of}
-use Rattle.volume_laws.proofs.WholeOne.{snap_holds, live_by_copy, zero_event, commit_event}
-use Rattle.volume_laws.proofs.Keeping.{zero_keeps, commit_keeps}
+use Rattle.volume_laws.specs.Steps.{ChangesSnap, ZeroesArea, Commits, FlushesStore, mark_of}
+use Rattle.volume_laws.specs.Due.{is_unsafe}
+use Rattle.volume_laws.proofs.WholeOne.{snap_holds, live_by_copy, zero_event, commit_event, flush_event}
+use Rattle.volume_laws.proofs.Keeping.{zero_keeps, commit_keeps, flush_keeps}
 use Rattle.volume_laws.proofs.Waiting.{waits_changed}
+use Rattle.volume_laws.proofs.FlushLeft.{flush_left, flush_spoil_left}
 use Rattle.volume_laws.proofs.Left.{zero_left, commit_left}
-use Rattle.volume_laws.proofs.MergeRoomEvents.{zero_room, commit_room}
+use Rattle.volume_laws.proofs.MergeRoomEvents.{zero_room, commit_room, flush_room}
 use Rattle.merge_beside.specs.Rooms.{room_of}
-use Rattle.snapshot.specs.Kept.{Kept, books_of as snap_books, due_of_kept, batch_of, needs_area, spare_after}
+use Rattle.snapshot.specs.Kept.{Kept, books_of as snap_books, due_of_kept, batch_of, fills_area, needs_area, waits_area, spare_after}
 use Rattle.volume.specs.Volumed.{Volumed, books_of}
 use Rattle.snapshots.specs.Numbers.{numbers_in}
 use Rattle.volume.specs.Whole.{IsWhole, IsCounted}
-use Rattle.snapshots.specs.Finding.{is_committing, is_zeroing}
+use Rattle.snapshots.specs.Finding.{is_committing, is_flushing, is_zeroing, waits_for_flush}
 use Rattle.volume.proofs.Changing.{SameDisk, same_disk, StaysAttached, few_same, changed, books_within, books_is, changes}
 use Rattle.volume.proofs.Counting.{counts_same, counts_store, store_within, lives_same, lives_spoiled, lived}
 use Rattle.volume.proofs.CopyEvents.{both_left, both_right}
-use Rattle.volume.proofs.Good.{IsGood, SpoiltTo, silent_good, spoilt_good}
+use Rattle.volume.proofs.Good.{IsGood, SpoiltTo, silent_good, spoilt_good, spoilt_with}
 use Rattle.volume.proofs.StartsLeft.{left_same}
-use Rattle.volume.proofs.MovedCounts.{counted_zeroed, counted_first}
+use Rattle.volume.proofs.MovedCounts.{counted_zeroed, counted_first, counted_flushed}
 
--- the first copy is written
-pub first_some : (copies : List ChunkCopy) → front_written copies ≡ true → 0 < length copies
+-- the first copy may be committed
+pub first_some : (copies : List ChunkCopy) → front_ready copies ≡ true → 0 < length copies
 first_some [] e = absurd (false≢true e)
 first_some (p ∷ ps) e = omega arith
+
+unnot : (b : Bool) → not b ≡ true → b ≡ false
+unnot true e = absurd (false≢true e)
+unnot false e = refl
 
 -- what a test of a snapshot found
 module _ {B : Type 0} (number : ℕ) (s : Kept B) where
   pub zeroing_number : is_zeroing number s ≡ true → s.number ≡ number
-  zeroing_number e = eqb-true s.number number (both_left (nat_eq s.number number) (front_written s.copies && needs_area s.state s.copies) e)
+  zeroing_number e = eqb-true s.number number (both_left (nat_eq s.number number) (front_ready s.copies && needs_area s.state s.copies) e)
 
-  pub zeroing_front : is_zeroing number s ≡ true → front_written s.copies ≡ true
-  zeroing_front e = both_left (front_written s.copies) (needs_area s.state s.copies) (both_right (nat_eq s.number number) (front_written s.copies && needs_area s.state s.copies) e)
+  pub zeroing_front : is_zeroing number s ≡ true → front_ready s.copies ≡ true
+  zeroing_front e = both_left (front_ready s.copies) (needs_area s.state s.copies) (both_right (nat_eq s.number number) (front_ready s.copies && needs_area s.state s.copies) e)
 
   pub zeroing_due : is_zeroing number s ≡ true → needs_area s.state s.copies ≡ true
-  zeroing_due e = both_right (front_written s.copies) (needs_area s.state s.copies) (both_right (nat_eq s.number number) (front_written s.copies && needs_area s.state s.copies) e)
+  zeroing_due e = both_right (front_ready s.copies) (needs_area s.state s.copies) (both_right (nat_eq s.number number) (front_ready s.copies && needs_area s.state s.copies) e)
 
   pub zeroing_needs : is_zeroing number s ≡ true → s.state.zeroed ≡ false
   zeroing_needs e = not_true s.state.zeroed (both_right (nat_eq (s.state.filled + batch_of s.state s.copies) (32 * s.state.chunk)) (not s.state.zeroed)
-      (both_right (front_written s.copies) (needs_area s.state s.copies) (both_right (nat_eq s.number number) (front_written s.copies && needs_area s.state s.copies) e)))
+      (both_right (front_ready s.copies) (needs_area s.state s.copies) (both_right (nat_eq s.number number) (front_ready s.copies && needs_area s.state s.copies) e)))
     where
       not_true : (b : Bool) → not b ≡ true → b ≡ false
       not_true true h = absurd (false≢true h)
       not_true false h = refl
 
   pub committing_number : is_committing number s ≡ true → s.number ≡ number
-  committing_number e = eqb-true s.number number (both_left (nat_eq s.number number) (front_written s.copies && not (needs_area s.state s.copies)) e)
+  committing_number e = eqb-true s.number number (both_left (nat_eq s.number number) (front_ready s.copies && not (waits_area s.state s.copies)) e)
 
-  pub committing_front : is_committing number s ≡ true → front_written s.copies ≡ true
-  committing_front e = both_left (front_written s.copies) (not (needs_area s.state s.copies)) (both_right (nat_eq s.number number) (front_written s.copies && not (needs_area s.state s.copies)) e)
+  pub committing_front : is_committing number s ≡ true → front_ready s.copies ≡ true
+  committing_front e = both_left (front_ready s.copies) (not (waits_area s.state s.copies)) (both_right (nat_eq s.number number) (front_ready s.copies && not (waits_area s.state s.copies)) e)
 
-  -- a full area's next one is zeroed
-  pub committing_next : is_committing number s ≡ true → s.state.filled + batch_of s.state s.copies ≡ 32 * s.state.chunk → s.state.zeroed ≡ true
+  -- a full area's next one is firm
+  pub committing_next : is_committing number s ≡ true → s.state.filled + batch_of s.state s.copies ≡ 32 * s.state.chunk → s.state.firm ≡ true
   committing_next e full =
-      let kept : not (needs_area s.state s.copies) ≡ true = both_right (front_written s.copies) (not (needs_area s.state s.copies)) (both_right (nat_eq s.number number) (front_written s.copies && not (needs_area s.state s.copies)) e) in
-      at (nat_eq (s.state.filled + batch_of s.state s.copies) (32 * s.state.chunk)) s.state.zeroed (eq-eqb (s.state.filled + batch_of s.state s.copies) (32 * s.state.chunk) full) kept
+      let kept : not (waits_area s.state s.copies) ≡ true = both_right (front_ready s.copies) (not (waits_area s.state s.copies)) (both_right (nat_eq s.number number) (front_ready s.copies && not (waits_area s.state s.copies)) e) in
+      at (nat_eq (s.state.filled + batch_of s.state s.copies) (32 * s.state.chunk)) s.state.firm (eq-eqb (s.state.filled + batch_of s.state s.copies) (32 * s.state.chunk) full) kept
     where
       at : (a b : Bool) → a ≡ true → not (a && not b) ≡ true → b ≡ true
       at true true f k = refl
       at true false f k = absurd (false≢true k)
       at false b f k = absurd (false≢true f)
+
+  pub flushing_number : is_flushing number s ≡ true → s.number ≡ number
+  flushing_number e = eqb-true s.number number (both_left (nat_eq s.number number) (waits_for_flush s) e)
+
+  pub flushing_due : is_flushing number s ≡ true → waits_for_flush s ≡ true
+  flushing_due e = both_right (nat_eq s.number number) (waits_for_flush s) e
+
+-- the area that a snapshot's first copies fill, and which is not firm yet
+module _ {B : Type 0} (s : Kept B) where
+  pub waits_unfirm : waits_area s.state s.copies ≡ true → s.state.firm ≡ false
+  waits_unfirm e = unnot s.state.firm (both_right (fills_area s.state s.copies) (not s.state.firm) e)
+
+  pub waits_zeroed : waits_area s.state s.copies ≡ true → needs_area s.state s.copies ≡ false → s.state.zeroed ≡ true
+  waits_zeroed e needless = zeroed_by (fills_area s.state s.copies) s.state.zeroed (both_left (fills_area s.state s.copies) (not s.state.firm) e) needless
+    where
+      zeroed_by : (a b : Bool) → a ≡ true → (a && not b) ≡ false → b ≡ true
+      zeroed_by true true f k = refl
+      zeroed_by true false f k = absurd (false≢true (sym k))
+      zeroed_by false b f k = absurd (false≢true f)
+
+-- a live snapshot's mark is not written: it is not over a call that keeps both
+pub live_unmarked : {B : Type 0} (s t : Kept B) → t.marked ≡ s.marked → t.live ≡ s.live → s.live ≡ true → (t.marked ≡ true → t.live ≡ false) → s.marked ≡ false
+live_unmarked s t marked same live dead = elim (cases_Bool s.marked) [
+  | inl there ↦ absurd (false≢true (sym (dead (marked ∙ there)) ∙ same ∙ live))
+  | inr not_there ↦ not_there
+]
+
+-- the numbers of copies and marks over a flush
+flushed_numbers : (marks : List Mark) (copies : List ChunkCopy) → map number_of_mark (map safe_mark marks) ++ map number_of_copy (map flushed_copy copies) ≡ map number_of_mark marks ++ map number_of_copy copies
+flushed_numbers [] [] = refl
+flushed_numbers [] (p ∷ ps) = ap (λ ns. p.number ∷ ns) (flushed_numbers [] ps)
+flushed_numbers (m ∷ ms) copies = ap (λ ns. m.number ∷ ns) (flushed_numbers ms copies)
+
+or_false : (b rest : Bool) → (b || false || (false && rest) || false) ≡ b
+or_false true rest = refl
+or_false false rest = refl
 
 -- a commit keeps the store's sizes
 state_parts : (b : Bool) (s x y : State) → x.chunk ≡ s.chunk → y.chunk ≡ s.chunk → x.origin ≡ s.origin → y.origin ≡ s.origin → x.size ≡ s.size → y.size ≡ s.size → ((if b then x else y).chunk ≡ s.chunk) × ((if b then x else y).origin ≡ s.origin) × ((if b then x else y).size ≡ s.size)
@@ -82,7 +126,7 @@ state_parts true s x y xc yc xo yo xs ys = (xc, xo, xs)
 state_parts false s x y xc yc xo yo xs ys = (yc, yo, ys)
 
 commit_sizes : (s : State) (count : ℕ) → ((after_commit s count).chunk ≡ s.chunk) × ((after_commit s count).origin ≡ s.origin) × ((after_commit s count).size ≡ s.size)
-commit_sizes s count = state_parts (nat_eq (s.filled + count) (32 * s.chunk)) s (record s { current = s.current + 1; filled = 0; zeroed = false }) (record s { filled = s.filled + count }) refl refl refl refl refl refl
+commit_sizes s count = state_parts (nat_eq (s.filled + count) (32 * s.chunk)) s (record s { current = s.current + 1; filled = 0; zeroed = false; firm = false }) (record s { filled = s.filled + count }) refl refl refl refl refl refl
 
 -- and the copies' numbers
 commit_front : (count : ℕ) (copies : List ChunkCopy) → map number_of_mark (map mark_of (take count copies)) ++ map number_of_copy (drop count copies) ≡ map number_of_copy copies
@@ -110,8 +154,8 @@ module _ {B : Type 0} (contents : B → List ℕ) (layers : B → List Layer) (s
   sb_in : k < length (map (snap_books contents layers) v.snaps)
   sb_in = books_within contents layers size v v.origin k s s' within is
 
-  -- one whose first copy is written is live
-  pub front_live : front_written s.copies ≡ true → s.live ≡ true
+  -- one whose first copy may be committed is live
+  pub front_live : front_ready s.copies ≡ true → s.live ≡ true
   front_live e = live_by_copy (contents v.origin) v.flights (snap_books contents layers s) 0 (snap_holds (books_of contents layers size v) k (snap_books contents layers s) h.holds sb_in sb_is) (first_some s.copies e)
 
   e_is : ChangesSnap k (snap_books contents layers s) (snap_books contents layers s') (books_of contents layers size v) (books_of contents layers size (changed v v.origin k s' v.flights))
@@ -120,9 +164,9 @@ module _ {B : Type 0} (contents : B → List ℕ) (layers : B → List Layer) (s
   holds_live : (live : s.live ≡ true) → LiveHolds (contents v.origin) v.flights (snap_books contents layers s)
   holds_live live = (snap_holds (books_of contents layers size v) k (snap_books contents layers s) h.holds sb_in sb_is).alive live
 
-  pub zero_good : is_zeroing number s ≡ true → (d : B) → s' ≡ record s { device = d; state = record s.state { zeroed = true } } → ZeroesArea (s.state.current + 1) (snap_books contents layers s) (snap_books contents layers s')
+  pub zero_good : is_zeroing number s ≡ true → (s.state.firm ≡ true → s.state.zeroed ≡ true) → (d : B) → s' ≡ record s { device = d; state = record s.state { zeroed = true; firm = false } } → ZeroesArea (s.state.current + 1) (snap_books contents layers s) (snap_books contents layers s')
       → is_loud (layers d) ≡ is_loud (layers s.device) → size d ≡ size s.device → faults d ≡ faults s.device → done d ≡ next_count (done s.device) → IsGood contents layers size faults done (ZeroNext number) Done v (changed v v.origin k s' v.flights)
-  zero_good found d f r loud sized faulty counted =
+  zero_good found ahead d f r loud sized faulty counted =
       let sb = snap_books contents layers in
       let w = changed v v.origin k s' v.flights in
       let live = front_live (zeroing_front number s found) in
@@ -139,10 +183,16 @@ module _ {B : Type 0} (contents : B → List ℕ) (layers : B → List Layer) (s
       silent_good contents layers size faults done v h (ZeroNext number) Done (λ a b x. x) (λ xs ys e. e) (λ b. refl) v.origin k s s' within is disk (ap (λ x. is_loud (layers x)) device ∙ loud) (ap size device ∙ sized) v.flights refl stays (ap (λ (x : Kept B). x.overflow) f)
       (zero_event k (sb s) (sb s') (books_of contents layers size v) (books_of contents layers size w) h.holds e_is (s.state.current + 1) live r)
       (waits_changed k (sb s) (sb s') (books_of contents layers size v) (books_of contents layers size w) h.waits e_is (zero_keeps (s.state.current + 1) (sb s) (sb s') r))
-      (zero_left (s.state.current + 1) (due_of_kept contents layers s) (due_of_kept contents layers s') r live (zeroing_needs number s found) (ap (λ (x : Kept B). x.state.zeroed) f))
+      (zero_left (s.state.current + 1) (due_of_kept contents layers s) (due_of_kept contents layers s') r live (zeroing_needs number s found) (unfirm ahead) (ap (λ (x : Kept B). x.state.zeroed) f) (ap (λ (x : Kept B). x.state.firm) f))
       (inl (record { counts = counts_same v v.origin k s s' v.flights within is faults refl (ap faults device ∙ faulty); lives = lives_same v v.origin k s s' v.flights within is (ap (λ (x : Kept B). x.live) f) }))
       (inr (suc k, store_within v v.origin k s s' v.flights within is done, counts_store v v.origin k s s' v.flights within is done refl (ap done device ∙ counted)))
       (zero_room (s.state.current + 1) (room_of contents layers s) (room_of contents layers s') r (record { kept_back = ap (λ (x : Kept B). x.kept_back) f; spare = ap (λ (x : Kept B). x.spare) f; merging = ap (λ (x : Kept B). x.merging) f }))
+    where
+      unfirm : (s.state.firm ≡ true → s.state.zeroed ≡ true) → s.state.firm ≡ false
+      unfirm ahead = elim (cases_Bool s.state.firm) [
+        | inl there ↦ absurd (false≢true (sym (zeroing_needs number s found) ∙ ahead there))
+        | inr not_there ↦ not_there
+      ]
 
   -- the store failed
   pub zero_fault : is_zeroing number s ≡ true → SpoiltTo s s' → is_loud (layers s'.device) ≡ is_loud (layers s.device) → size s'.device ≡ size s.device → faults s'.device ≡ next_count (faults s.device) → done s'.device ≡ next_count (done s.device)
@@ -223,3 +273,57 @@ module _ {B : Type 0} (contents : B → List ℕ) (layers : B → List Layer) (s
         spoils = record { counts = counts_store v v.origin k s s' flights within is faults refl faulty; was = lived v v.origin k s s' flights within is live; lives = lives_spoiled v v.origin k s s' flights within is t.live };
       })
       (inr (suc k, store_within v v.origin k s s' flights within is done, counts_store v v.origin k s s' flights within is done refl counted))
+
+  -- a live snapshot's store was flushed
+  pub flush_good : is_flushing number s ≡ true → s.live ≡ true → (s.state.firm ≡ true → s.state.zeroed ≡ true) → (d : B)
+      → s' ≡ record s { device = d; state = record s.state { firm = s.state.zeroed }; copies = map flushed_copy s.copies; marks = map safe_mark s.marks }
+      → FlushesStore (snap_books contents layers s) (snap_books contents layers s')
+      → is_loud (layers d) ≡ is_loud (layers s.device) → size d ≡ size s.device → faults d ≡ faults s.device → done d ≡ next_count (done s.device) → IsGood contents layers size faults done (FlushStore number) Done v (changed v v.origin k s' v.flights)
+  flush_good found live ahead d f r loud sized faulty counted =
+      let sb = snap_books contents layers in
+      let w = changed v v.origin k s' v.flights in
+      let device : s'.device ≡ d = ap (λ (x : Kept B). x.device) f in
+      let same : numbers_in s' ≡ numbers_in s = ap (λ (x : Kept B). numbers_in x) f ∙ flushed_numbers s.marks s.copies in
+      let stays : StaysAttached s s' = record {
+        number = ap (λ (x : Kept B). x.number) f;
+        chunk_is = ap (λ (x : Kept B). x.state.chunk) f;
+        origin = ap (λ (x : Kept B). x.state.origin) f;
+        numbers = inl same;
+        few = few_same s s' same (ap (λ (x : Kept B). x.merging) f);
+        counted = λ counts. subst IsCounted (sym f) (counted_flushed s counts d s.state.zeroed (map flushed_copy s.copies) (map safe_mark s.marks) (λ e. ap (map flushed_copy) e));
+        left = left_same s s' (ap (λ (x : Kept B). x.live) f) (ap (λ (x : Kept B). x.state.size) f) (ap (λ (x : Kept B). x.next) f);
+      } in
+      silent_good contents layers size faults done v h (FlushStore number) Done (λ a b x. x) (λ xs ys e. e) (λ b. refl) v.origin k s s' within is disk (ap (λ x. is_loud (layers x)) device ∙ loud) (ap size device ∙ sized) v.flights refl stays (ap (λ (x : Kept B). x.overflow) f)
+      (flush_event k (sb s) (sb s') (books_of contents layers size v) (books_of contents layers size w) h.holds e_is live r)
+      (waits_changed k (sb s) (sb s') (books_of contents layers size v) (books_of contents layers size w) h.waits e_is (flush_keeps (sb s) (sb s') r))
+      (flush_left (due_of_kept contents layers s) (due_of_kept contents layers s') r live (holds_live live).tried (ap (λ (x : Kept B). x.state.zeroed) f) (ap (λ (x : Kept B). x.state.firm) f) ahead (waits_unfirm s) (waits_zeroed s) (flushing_due number s found))
+      (record { counts = counts_same v v.origin k s s' v.flights within is faults refl (ap faults device ∙ faulty); lives = lives_same v v.origin k s s' v.flights within is (ap (λ (x : Kept B). x.live) f) })
+      (inr (suc k, store_within v v.origin k s s' v.flights within is done, counts_store v v.origin k s s' v.flights within is done refl (ap done device ∙ counted)))
+      (flush_room (room_of contents layers s) (room_of contents layers s') r (record { kept_back = ap (λ (x : Kept B). x.kept_back) f; spare = ap (λ (x : Kept B). x.spare) f; merging = ap (λ (x : Kept B). x.merging) f }))
+
+  -- its flush failed
+  pub flush_fault : is_flushing number s ≡ true → s.live ≡ true → SpoiltTo s s' → is_loud (layers s'.device) ≡ is_loud (layers s.device) → size s'.device ≡ size s.device → faults s'.device ≡ next_count (faults s.device) → done s'.device ≡ next_count (done s.device)
+      → IsGood contents layers size faults done (FlushStore number) Fault v (changed v v.origin k s' (map (refused_of (s.number ∷ [])) v.flights))
+  flush_fault found live t loud sized faulty counted =
+      let flights = map (refused_of (s.number ∷ [])) v.flights in
+      spoilt_with contents layers size faults done v h (FlushStore number) Fault (λ a b x. x) (λ xs ys e. e) (λ b. refl) v.origin k s s' within is disk loud sized live
+      (λ spoils. flush_spoil_left (due_of_kept contents layers s) (due_of_kept contents layers s') spoils (holds_live live).tried (flushing_due number s found)) t
+      (inl (record {
+        place = k;
+        snap = s;
+        at = record { within = within; is = is };
+        mine = flushing_number number s found;
+        spoils = record { counts = counts_store v v.origin k s s' flights within is faults refl faulty; was = lived v v.origin k s s' flights within is live; lives = lives_spoiled v v.origin k s s' flights within is t.live };
+      }))
+      (inr (suc k, store_within v v.origin k s s' flights within is done, counts_store v v.origin k s s' flights within is done refl counted))
+
+  -- one that is spoiled waits for the flush after its mark
+  pub flush_marked : is_flushing number s ≡ true → s.live ≡ false → (s.untried ≡ true) × (s.marked ≡ true)
+  flush_marked found dead =
+      let counts : IsCounted s = subst IsCounted (sym is) (h.counted k s within) in
+      let gone = (snap_holds (books_of contents layers size v) k (snap_books contents layers s) h.holds sb_in sb_is).spoilt dead in
+      let rest : Bool = waits_area s.state s.copies && not (needs_area s.state s.copies) in
+      let tried : (s.untried && s.marked) ≡ true =
+      sym (or_false (s.untried && s.marked) rest) ∙ sym (ap (λ (cs : List ChunkCopy). (s.untried && s.marked) || front_unflushed cs || (front_ready cs && rest) || list_any is_unsafe s.marks) gone.copies
+      ∙ ap (λ (ms : List Mark). (s.untried && s.marked) || false || (false && rest) || list_any is_unsafe ms) gone.unpublished) ∙ flushing_due number s found in
+      (both_left s.untried s.marked tried, both_right s.untried s.marked tried)

@@ -231,7 +231,7 @@ module _ {B : Type 0} (contents : B → List ℕ) (layers : B → List Layer) (s
         where
           same_now : snap_books contents layers s' ≡ snap_books contents layers s
           same_now = ap (snap_books contents layers) f
-              ∙ same_books (snap_books contents layers (record s { device = d })) (snap_books contents layers s) refl refl refl loud refl refl refl refl same refl refl refl refl
+              ∙ same_books (snap_books contents layers (record s { device = d })) (snap_books contents layers s) refl refl refl refl loud refl refl refl refl same refl refl refl refl
 
       pub store_read : r.request.op ≡ Read → (bytes : List ℕ) → length bytes ≡ 512 * r.request.range.count → contents d ≡ contents s.device → bytes ≡ sectors_at (contents s.device) (s.state.chunk * at + r.request.range.first % s.state.chunk) r.request.range.count → faults d ≡ faults s.device
           → IsGood contents layers size faults done (Issue number) (Replied number (Data bytes)) v issued

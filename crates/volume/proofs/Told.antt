@@ -492,7 +492,7 @@ one_rests sectors f h rest = record {
   tried = rest.tried;
   copies = rest.copies;
   marks = rest.marks;
-  live = λ live. (let kept = rest.live live in record { order = kept.order; pairs = kept.pairs; next = kept.next; zeroed = kept.zeroed });
+  live = λ live. (let kept = rest.live live in record { order = kept.order; pairs = kept.pairs; next = kept.next; zeroed = kept.zeroed; firm = kept.firm; unmarked = kept.unmarked });
 }
 
 helds_rest : (sectors number : ℕ) (f : List Layer → List Layer) (hs : List Held) → Each (IsResting sectors) hs → Each (IsResting sectors) (helds_relayered number f hs)

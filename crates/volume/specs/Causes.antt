@@ -8,7 +8,7 @@ use Rattle.sector.specs.Bytes.{next_count}
 use Rattle.model.specs.NextPlace.{LacksArea}
 use Rattle.sector.specs.declared.pair.Pair.{Pair}
 use Rattle.plain.specs.declared.event.Event.{Event}
-use Rattle.plain.specs.declared.event.Event.TheVariants.{CopyRead, CopyWrite, MergeAreaRead, MergeCommit, MergeFlush, MergeGroup, MergeRead, MergeWrite, Publish, ZeroNext, WriteArea, WriteInvalid}
+use Rattle.plain.specs.declared.event.Event.TheVariants.{CopyRead, CopyWrite, FlushStore, MergeAreaRead, MergeCommit, MergeFlush, MergeGroup, MergeRead, MergeWrite, Publish, ZeroNext, WriteArea, WriteInvalid}
 use Rattle.plain.specs.declared.event.Outcome.{Outcome}
 use Rattle.plain.specs.declared.event.Outcome.TheVariants.{Done, Fault, Reply as Replied}
 use Rattle.plain.specs.declared.request.Reply.{Reply}
@@ -96,7 +96,7 @@ pub record StoreFails {B : Type 0} (faults : B → ℕ) (number : ℕ) (old new 
   pub mine : snap.number ≡ number
   pub spoils : Spoils faults (suc place) place old new
 
--- a spoiled snapshot's mark fails: its store is stale, and nothing is spoiled
+-- a spoiled snapshot's mark fails, or the flush after it: its store is stale, and nothing is spoiled
 pub record MarkFails {B : Type 0} (faults : B → ℕ) (number : ℕ) (old new : Volumed B) : Type 0 where
   pub place : ℕ
   pub snap : Kept B
@@ -176,6 +176,7 @@ HasFailed faults (CopyWrite number) old new = CopyFails faults suc number old ne
 HasFailed faults (ZeroNext number) old new = StoreFails faults number old new
 HasFailed faults (WriteArea number) old new = StoreFails faults number old new
 HasFailed faults (WriteInvalid number) old new = MarkFails faults number old new
+HasFailed faults (FlushStore number) old new = StoreFails faults number old new ⊎ MarkFails faults number old new
 HasFailed faults MergeAreaRead old new = MergeFails faults (merging_device old) old new
 HasFailed faults MergeRead old new = MergeFails faults (merging_device old) old new
 HasFailed faults MergeWrite old new = MergeFails faults 0 old new

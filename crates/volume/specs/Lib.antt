@@ -12,6 +12,7 @@ pub mod Leaving
 pub mod Taking
 pub mod Asking
 pub mod Attached
+pub mod Fresh
 pub mod Beginning
 pub mod Finishing
 pub mod Submitting

@@ -1,5 +1,5 @@
 // A snapshot is taken.
-ghost use Rattle.std.specs.Prelude.{◌≡◌, ◌≢◌, ◌⊎◌, ◌&&◌, MatchResult, ℕ, ◌+◌, ◌*◌, List, [], ◌∷◌, ◌++◌, length, Option, Some, None, IfOk, IfErr, OnErr, OnOk, Ok, Err, true, false, IsTrue, slice_index_or};
+ghost use Rattle.std.specs.Prelude.{◌≡◌, ◌≢◌, ◌⊎◌, ◌&&◌, MatchResult, ℕ, ◌+◌, ◌*◌, List, [], ◌∷◌, ◌++◌, length, Option, Some, None, IfOk, IfErr, OnOk, Ok, Err, true, false, IsTrue, slice_index_or};
 ghost use Rattle.sector.specs.declared.refusal.Refusal.TheVariants.{Io as IoRefusal, NoMemory};
 ghost use Rattle.sector.specs.Bytes.{sector_at};
 ghost use Rattle.cow_header.specs.HeaderText.{found_in};
@@ -12,7 +12,7 @@ ghost use Rattle.snapshot.specs.Kept.{Kept};
 ghost use Rattle.snapshot.specs.StopsOpening.{StopsOpening, StopsRefused};
 ghost use Rattle.volume.specs.Volumed.{Volumed, plain_of, is_loud_in_all};
 ghost use Rattle.volume.specs.Taking.{attach_refusal, IsNotTaken};
-ghost use Rattle.volume.specs.Attached.{store_of, volume_in, IsAttachedAs, IsGained};
+ghost use Rattle.volume.specs.Attached.{store_of, volume_in, IsAttachedAs, IsGained, IsRefusedOver};
 ghost use Rattle.volume.specs.Leaving.{is_quiet_of};
 ghost use Rattle.volume.specs.Stopping.{StopsAround};
 ghost use Rattle.settled.specs.Attaching.{attached as attached_by, refused_attach};
@@ -56,8 +56,11 @@ impl<B: Block> Volume<B> {
     /// nothing; of a new snapshot, also over a store that was in use, none did yet. Refused, in this order: a stale store
     /// (`Stale`), a volume with a merge (`MergeInProgress`), one that is not quiet (`NotQuiet`), a ninth snapshot or one
     /// whose number would be 2^32 (`TooMany`), a chunk size that is none (`BadChunk`); and then as the store's load says.
-    /// The store is given back with a refusal. Whatever a stop before, within or after the call leaves of the store is as it
-    /// was, fresh as it was, or loaded again with the pairs that it had.
+    /// The store is given back with a refusal. After all of these refusals, and before the first write of the load, the
+    /// origin's device and then the store's are flushed, and the store's again after each write; a flush that fails refuses
+    /// with `Io`, as a read or a write does. With any refusal but `Io` the volume is as it was; after `Io` its origin's
+    /// device may have met the flush, and nothing else changed. Whatever a stop before, within or after the call leaves of
+    /// the store, where that drops no writes, is as it was, fresh as it was, or loaded again with the pairs that it had.
     pub fn attach(
         &mut self,
         alloc: Global,
@@ -70,16 +73,16 @@ impl<B: Block> Volume<B> {
         ensures taken { IfOk result (λ number. is_loud_in_all B.layers self.old ≡ true → is_loud (B.layers store.device) ≡ true → IsTaken (plain_of B.contents B.layers self.old) number (shown_array (B.contents self.old.origin) (B.contents store.device)) (overflow_of overflow) (plain_of B.contents B.layers self.new)) }
         ensures refused { IfErr result (λ e. IsNotTaken store.stale chunk (B.size self.old.origin) (B.size store.device) (B.contents store.device) self.old e.0) }
         ensures unread { IfErr result (λ e. attach_refusal store.stale chunk self.old ≡ Some e.0 → e.1 ≡ store) }
-        ensures gained { IfOk result (λ number. IsGained B.layers B.size number overflow store self.old self.new) }
+        ensures gained { IfOk result (λ number. IsGained B.contents B.layers B.size number overflow store self.old self.new) }
         ensures exact { IfOk result (λ number. is_loud_in_all B.layers self.old ≡ true → is_loud (B.layers store.device) ≡ true → IsAttachedAs B.contents B.layers number chunk overflow store self.old self.new) }
-        ensures back { IfErr result (λ e. e.0 ≢ NoMemory → self.old.merge ≡ None → is_quiet_of self.old ≡ true → is_loud_in_all B.layers self.old ≡ true → is_loud (B.layers store.device) ≡ true → attached_by (self.old.attached + 1) chunk (overflow_of overflow) (store_of B.contents B.layers store) (volume_in B.contents B.layers self.old) ≡ refused_attach e.0 (store_of B.contents B.layers e.1) (volume_in B.contents B.layers self.old)) }
+        ensures back { IfErr result (λ e. e.0 ≢ NoMemory → self.old.merge ≡ None → is_quiet_of self.old ≡ true → is_loud_in_all B.layers self.old ≡ true → is_loud (B.layers store.device) ≡ true → attached_by (self.old.attached + 1) chunk (overflow_of overflow) (store_of B.contents B.layers store) (volume_in B.contents B.layers self.old) ≡ refused_attach e.0 (store_of B.contents B.layers e.1) (volume_in B.contents B.layers self.new)) }
         ensures starved { IfErr result (λ e. e.0 ≡ NoMemory → (B.contents e.1.device ≡ B.contents store.device) × AreRead (B.layers store.device) (B.layers e.1.device)) }
         ensures size { IfErr result (λ e. B.size e.1.device ≡ B.size store.device) }
         ensures loud { MatchResult result (λ _. is_loud_in_all B.layers self.new ≡ (is_loud_in_all B.layers self.old && is_loud (B.layers store.device))) (λ e. is_loud (B.layers e.1.device) ≡ is_loud (B.layers store.device)) }
         ensures stops { OnOk result (StopsAround B.contents B.layers B.size self.old self.new) }
         ensures stops_store { IfOk result (λ _. is_loud (B.layers store.device) ≡ true → (s : Kept B) → s ≡ slice_index_or self.new.snaps (length self.old.snaps) s → StopsOpening chunk (B.size self.old.origin) (B.size store.device) (found_in (sector_at (B.contents store.device) 0)) (B.contents store.device) (B.contents s.device)) }
-        ensures stops_back { IfErr result (λ e. StopsRefused (B.size store.device) (B.contents store.device) (B.contents e.1.device)) }
-        ensures same { OnErr result (self.new ≡ self.old) }
+        ensures stops_back { IfErr result (λ e. is_loud (B.layers store.device) ≡ true → StopsRefused chunk (B.size self.old.origin) (B.size store.device) (B.contents store.device) (B.contents e.1.device)) }
+        ensures same { IfErr result (λ e. IsRefusedOver B.contents B.layers B.size e.0 self.old self.new) }
         ensures stale { IfErr result (λ e. e.1.stale ≡ store.stale) }
     {
         self.look_at_stores();
@@ -92,7 +95,7 @@ impl<B: Block> Volume<B> {
             Err(_) => return Err((Refusal::NoMemory, store)),
         }
         let number = self.attached + 1;
-        match open_snapshot(alloc, number, store, self.origin.sectors(), chunk, overflow) {
+        match open_snapshot(alloc, number, store, &mut self.origin, chunk, overflow) {
             Ok(snap) => {
                 // A look: that its chunks have an allowed size is known from here on.
                 let _ = snap.chunk();

@@ -1,6 +1,6 @@
 // The events of copies, stores and marks, each a call of its own.
 ghost use Rattle.std.specs.Prelude.{◌≡◌, [], ◌∷◌, false, IfOk, OnErr, is_ok, map, true};
-ghost use Rattle.plain.specs.declared.event.Event.TheVariants.{CopyRead, CopyWrite, Publish, WriteArea, WriteInvalid, ZeroNext};
+ghost use Rattle.plain.specs.declared.event.Event.TheVariants.{CopyRead, CopyWrite, FlushStore, Publish, WriteArea, WriteInvalid, ZeroNext};
 ghost use Rattle.pending.specs.Routes.{refused_of};
 ghost use Rattle.volume_laws.specs.Due.{is_due};
 ghost use Rattle.volume_laws.specs.Steps.{SpoilsSnap};
@@ -16,7 +16,9 @@ use merge_beside::{route_again, save_next_pair};
 use pending::{Flight, Stage, refuse};
 use plain::{CopyId, NotDue, Outcome, SnapId};
 use snapshot::Snapshot;
-use snapshots::{committing_at, find_copy, find_mark, route_placed, trying_at, zeroing_at};
+use snapshots::{
+    committing_at, find_copy, find_mark, flushing_at, route_placed, trying_at, zeroing_at,
+};
 
 /// Spoils a snapshot whose device failed, and refuses its requests.
 fn spoil<B: Block>(snap: &mut Snapshot<B>, flights: &mut Vec<Flight>)
@@ -154,8 +156,8 @@ impl<B: Block> Volume<B> {
         }
     }
 
-    /// Marks the header of a spoiled snapshot's store invalid, and routes held origin writes again. Where that fails, the
-    /// store is stale, and nothing else is changed.
+    /// Marks the header of a spoiled snapshot's store invalid. Where that fails, the store is stale, and held origin writes
+    /// are routed again; where it is done, they wait for the flush that follows.
     pub(crate) fn write_invalid(&mut self, number: SnapId) -> Result<Outcome, NotDue>
         ensures step { IfOk result (λ outcome. IsStepped B.contents B.layers B.size B.fault_count B.done_count (WriteInvalid number) outcome self.old self.new) }
         ensures exact { IfOk result (λ outcome. IsExact B.contents B.layers (WriteInvalid number) outcome self.old self.new) }
@@ -167,13 +169,48 @@ impl<B: Block> Volume<B> {
             Some(place) => {
                 let snap = &mut self.snaps[place];
                 match snap.write_invalid() {
-                    Ok(()) => {
-                        route_again(&self.snaps, &self.merge, &mut self.flights);
-                        Ok(Outcome::Done)
-                    }
+                    Ok(()) => Ok(Outcome::Done),
                     Err(Io) => {
                         route_again(&self.snaps, &self.merge, &mut self.flights);
                         Ok(Outcome::Fault)
+                    }
+                }
+            }
+            None => Err(NotDue),
+        }
+    }
+
+    /// Flushes a snapshot's store. Of a live one the copies that were written may then be committed, its committed copies may
+    /// be published, and a zeroed area may be the next one; where the flush fails, the snapshot is spoiled. Of one whose mark
+    /// was written the mark is tried, whatever became of the flush, and held origin writes are routed again; where it fails,
+    /// the store is stale.
+    pub(crate) fn flush_store(&mut self, number: SnapId) -> Result<Outcome, NotDue>
+        ensures step { IfOk result (λ outcome. IsStepped B.contents B.layers B.size B.fault_count B.done_count (FlushStore number) outcome self.old self.new) }
+        ensures exact { IfOk result (λ outcome. IsExact B.contents B.layers (FlushStore number) outcome self.old self.new) }
+        ensures due { is_ok result ≡ is_due (dues_of B.contents B.layers self.old) self.old.flights (FlushStore number) }
+        ensures same { OnErr result (self.new ≡ self.old) }
+    {
+        match flushing_at(&self.snaps, number) {
+            Some(place) => {
+                let snap = &mut self.snaps[place];
+                if snap.is_live() {
+                    match snap.flush_store() {
+                        Ok(()) => Ok(Outcome::Done),
+                        Err(Io) => {
+                            spoil(snap, &mut self.flights);
+                            Ok(Outcome::Fault)
+                        }
+                    }
+                } else {
+                    match snap.flush_mark() {
+                        Ok(()) => {
+                            route_again(&self.snaps, &self.merge, &mut self.flights);
+                            Ok(Outcome::Done)
+                        }
+                        Err(Io) => {
+                            route_again(&self.snaps, &self.merge, &mut self.flights);
+                            Ok(Outcome::Fault)
+                        }
                     }
                 }
             }

@@ -34,6 +34,7 @@ impl<B: Block> Volume<B> {
             Event::WriteArea(number) => self.write_area(number),
             Event::Publish(number) => self.publish(number),
             Event::WriteInvalid(number) => self.write_invalid(number),
+            Event::FlushStore(number) => self.flush_store(number),
             Event::MergeGroup => self.merge_group(),
             Event::MergeAreaRead => self.merge_area_read(),
             Event::MergeRead => self.merge_read(),

@@ -18,7 +18,7 @@ use Rattle.pending.specs.declared.copies.Mark.{Mark}
 use Rattle.pending.specs.declared.flights.Flight.{Flight}
 use Rattle.volume_laws.specs.Books.{SnapBooks}
 use Rattle.volume_laws.specs.Published.{chunk_of, IsPublished, IsUnpublished}
-use Rattle.volume_laws.specs.Held.{LiveHolds, CopyHolds, MarkHolds, RouteHolds}
+use Rattle.volume_laws.specs.Held.{LiveHolds, CopyHolds, MarkHolds, RouteHolds, is_stored}
 use Rattle.volume_laws.specs.Steps.{ZeroesArea, Commits, mark_of}
 use Rattle.volume_laws.proofs.Lists.{All-front, AllPairs-front}
 use Rattle.volume_laws.proofs.Same.{same_books}
@@ -51,7 +51,7 @@ area_zeroed o rs a v w h e =
     let s = e.same in
     let t = h.text in
     let u : SnapBooks = record v { store = w.store } in
-    let now : w ≡ u = same_books w u s.number s.live s.untried s.loud s.overflow s.chunk s.sectors s.size refl e.pairs e.begun e.copies e.marks in
+    let now : w ≡ u = same_books w u s.number s.live s.untried s.marked s.loud s.overflow s.chunk s.sectors s.size refl e.pairs e.begun e.copies e.marks in
     subst (LiveHolds o rs) (sym now) (record {
       text = record { some = t.some; allowed = t.allowed; whole = e.only.len ∙ t.whole; inside = t.inside; apart = t.apart };
       stored = e.stored;
@@ -165,7 +165,7 @@ module _ (o : List ℕ) (rs : List Flight) (count a : ℕ) (v w : SnapBooks) (h 
 
   copied_now : v.loud ≡ true → All (IsCopied v.chunk o v.store) new
   copied_now loud = All-map (IsCopied v.chunk o v.store) pair_of first
-      (λ k d lt. (All-take (CopyHolds v.loud v.chunk v.sectors o v.store) count v.copies h.copies k d lt).written loud (e.ready k d lt))
+      (λ k d lt. (All-take (CopyHolds v.loud v.chunk v.sectors o v.store) count v.copies h.copies k d lt).written loud (ap is_stored (e.ready k d lt)))
 
   -- the array stays as it was, byte by byte
   same_at : v.loud ≡ true → (i : ℕ) → i < length o → picture_at v.chunk o w.store (v.pairs ++ new) i ≡ picture_at v.chunk o v.store v.pairs i
@@ -183,7 +183,7 @@ module _ (o : List ℕ) (rs : List Flight) (count a : ℕ) (v w : SnapBooks) (h 
   after = record v { store = w.store; pairs = v.pairs ++ new; begun = drop count v.begun; copies = drop count v.copies; marks = v.marks ++ map mark_of first }
 
   after_is : w ≡ after
-  after_is = (let s = e.same in same_books w after s.number s.live s.untried s.loud s.overflow s.chunk s.sectors s.size refl (e.pairs ∙ ap (λ x. v.pairs ++ x) front_begun) e.begun e.copies e.marks)
+  after_is = (let s = e.same in same_books w after s.number s.live s.untried s.marked s.loud s.overflow s.chunk s.sectors s.size refl (e.pairs ∙ ap (λ x. v.pairs ++ x) front_begun) e.begun e.copies e.marks)
 
   after_holds : LiveHolds o rs after
   after_holds = (let t = h.text in record {

@@ -1,7 +1,7 @@
 -- A copy is read, and written to its place: CopyRead and CopyWrite, of one live snapshot.
-use Rattle.std.proofs.Common.{◌≡◌, ◌≢◌, ◌⊎◌, inl, inr, ℕ, ◌+◌, ◌*◌, ◌-◌, ◌<◌, ◌≤◌, true, List, length, get_or, set, min, refl, sym, ◌∙◌, ap, subst, arith}
+use Rattle.std.proofs.Common.{◌≡◌, ◌≢◌, ◌⊎◌, inl, inr, ℕ, ◌+◌, ◌*◌, ◌-◌, ◌<◌, ◌≤◌, true, false, List, length, get_or, set, min, refl, sym, ◌∙◌, ap, subst, arith}
 use Rattle.std.specs.List.{All}
-use Rattle.std.proofs.lemmas.Bool.{cases_eq, cases_lt}
+use Rattle.std.proofs.lemmas.Bool.{cases_eq, cases_lt, false≢true}
 use Rattle.std.proofs.lemmas.List.{get_or_default}
 use Rattle.std.proofs.lemmas.List.Elements.{All-set, All-weaker}
 use Rattle.std.proofs.Math.Seq.{map-set_same}
@@ -17,7 +17,7 @@ use Rattle.pending.specs.declared.copies.ChunkCopy.{ChunkCopy}
 use Rattle.pending.specs.declared.copies.Stage.TheVariants.{Waiting, Read, Written}
 use Rattle.pending.specs.declared.flights.Flight.{Flight}
 use Rattle.volume_laws.specs.Books.{SnapBooks}
-use Rattle.volume_laws.specs.Held.{LiveHolds, CopyHolds, MarkHolds}
+use Rattle.volume_laws.specs.Held.{LiveHolds, CopyHolds, MarkHolds, is_stored}
 use Rattle.volume_laws.specs.Steps.{ReadsCopy, WritesCopy}
 use Rattle.volume_laws.proofs.Same.{same_books}
 use Rattle.volume_laws.proofs.Stores.{copy_holds, inside_at, place_unused, places_differ, copied_kept, mark_kept, picture_kept}
@@ -27,9 +27,6 @@ read_ne_written e = cc
 
 pub waiting_ne_read : Waiting ≢ Read
 waiting_ne_read e = cc
-
-pub waiting_ne_written : Waiting ≢ Written
-waiting_ne_written e = cc
 
 -- a copy goes on, with its pair
 goes_on : (o : List ℕ) (rs : List Flight) (v : SnapBooks) → LiveHolds o rs v → (k : ℕ) (p q : ChunkCopy) → p ≡ get_or v.copies k p → q.pair ≡ p.pair → CopyHolds v.loud v.chunk v.sectors o v.store q
@@ -50,11 +47,11 @@ copy_read o rs k p q v w h e =
     let old = copy_holds o rs v h k p e.copy.within e.copy.was in
     let s = e.same in
     let now : w ≡ record v { copies = set v.copies k q } =
-    same_books w (record v { copies = set v.copies k q }) s.number s.live s.untried s.loud s.overflow s.chunk s.sectors s.size e.store.store e.store.pairs e.store.begun e.copy.copies e.marks in
+    same_books w (record v { copies = set v.copies k q }) s.number s.live s.untried s.marked s.loud s.overflow s.chunk s.sectors s.size e.store.store e.store.pairs e.store.begun e.copy.copies e.marks in
     subst (LiveHolds o rs) (sym now) (goes_on o rs v h k p q e.copy.was e.copy.pair (record {
       room = e.room ∙ old.room ∙ ap (λ (x : Pair). 512 * count_of v.chunk v.sectors x.old) (sym e.copy.pair);
       read = λ _. e.read ∙ ap (λ (x : Pair). sectors_at o (v.chunk * x.old) (count_of v.chunk v.sectors x.old)) (sym e.copy.pair);
-      written = λ _ is. absurd (read_ne_written (sym e.stage ∙ is));
+      written = λ _ is. absurd (false≢true (sym (ap is_stored e.stage) ∙ is));
     }))
 
 -- the whole chunk of an origin, or its short end
@@ -76,7 +73,7 @@ place_copied chunk sectors size o old new bytes pair pos o_len s_len inside fits
     record { front = front_copied chunk pair.old pair.new n o new pos here small (whole_chunk chunk sectors pair.old (length o) o_len inside) }
 
 -- the copies' places but one
-other_copies : (o : List ℕ) (rs : List Flight) (v : SnapBooks) (new : List ℕ) → LiveHolds o rs v → (k : ℕ) (p : ChunkCopy) → k < length v.copies → p ≡ get_or v.copies k p → p.stage ≢ Written → ChangesOnly v.chunk p.pair.new v.store new
+other_copies : (o : List ℕ) (rs : List Flight) (v : SnapBooks) (new : List ℕ) → LiveHolds o rs v → (k : ℕ) (p : ChunkCopy) → k < length v.copies → p ≡ get_or v.copies k p → is_stored p.stage ≡ false → ChangesOnly v.chunk p.pair.new v.store new
     → All (CopyHolds v.loud v.chunk v.sectors o new) v.copies
 other_copies o rs v new h k p within is unwritten only j d lt =
     let x = get_or v.copies j d in
@@ -86,12 +83,12 @@ other_copies o rs v new h k p within is unwritten only j d lt =
       room = old.room;
       read = old.read;
       written = λ loud done. elim (cases_eq j k) [
-        | inl same ↦ absurd (unwritten (ap (λ (y : ChunkCopy). y.stage) (is ∙ sym (ap (λ i. get_or v.copies i p) same) ∙ get_or_default v.copies j p d lt) ∙ done))
+        | inl same ↦ absurd (false≢true (sym unwritten ∙ ap (λ (y : ChunkCopy). is_stored y.stage) (is ∙ sym (ap (λ i. get_or v.copies i p) same) ∙ get_or_default v.copies j p d lt) ∙ done))
         | inr other ↦ copied_kept v.chunk p.pair.new o v.store new x.pair h.text.some only (places_differ o rs v h j k x p lt within x_is is other) (old.written loud done)
       ];
     }
 
-place_written : (o : List ℕ) (rs : List Flight) (v : SnapBooks) (new : List ℕ) → LiveHolds o rs v → (k : ℕ) (p : ChunkCopy) → k < length v.copies → p ≡ get_or v.copies k p → p.stage ≢ Written → ChangesOnly v.chunk p.pair.new v.store new
+place_written : (o : List ℕ) (rs : List Flight) (v : SnapBooks) (new : List ℕ) → LiveHolds o rs v → (k : ℕ) (p : ChunkCopy) → k < length v.copies → p ≡ get_or v.copies k p → is_stored p.stage ≡ false → ChangesOnly v.chunk p.pair.new v.store new
     → LiveHolds o rs (record v { store = new })
 place_written o rs v new h k p within is unwritten only =
     let t = h.text in
@@ -113,9 +110,9 @@ copy_write o rs k p q v w h e =
     let inside = inside_at o rs v h k p e.copy.within e.copy.was in
     let s = e.same in
     let u : SnapBooks = record v { store = w.store; copies = set v.copies k q } in
-    let now : w ≡ u = same_books w u s.number s.live s.untried s.loud s.overflow s.chunk s.sectors s.size refl e.pairs e.begun e.copy.copies e.marks in
+    let now : w ≡ u = same_books w u s.number s.live s.untried s.marked s.loud s.overflow s.chunk s.sectors s.size refl e.pairs e.begun e.copy.copies e.marks in
     subst (LiveHolds o rs) (sym now)
-    (goes_on o rs (record v { store = w.store }) (place_written o rs v w.store h k p e.copy.within e.copy.was (λ is. read_ne_written (sym e.was_read ∙ is)) e.only) k p q e.copy.was e.copy.pair (record {
+    (goes_on o rs (record v { store = w.store }) (place_written o rs v w.store h k p e.copy.within e.copy.was (ap is_stored e.was_read) e.only) k p q e.copy.was e.copy.pair (record {
       room = ap length e.buffer ∙ old.room ∙ ap (λ (x : Pair). 512 * count_of v.chunk v.sectors x.old) (sym e.copy.pair);
       read = λ is. absurd (read_ne_written (sym is ∙ e.stage));
       written = λ loud _. subst (IsCopied v.chunk o w.store) (sym e.copy.pair)

@@ -5,13 +5,13 @@ use Rattle.std.specs.List.{All, list_any}
 use Rattle.std.proofs.lemmas.Bool.{cases_Bool, cases_lt}
 use Rattle.std.proofs.lemmas.List.Elements.{All-cons, All-nil, All-head, All-tail}
 use Rattle.plain.specs.declared.event.Event.{Event}
-use Rattle.plain.specs.declared.event.Event.TheVariants.{Issue, CopyRead, CopyWrite, ZeroNext, WriteArea, Publish, WriteInvalid}
+use Rattle.plain.specs.declared.event.Event.TheVariants.{Issue, CopyRead, CopyWrite, ZeroNext, WriteArea, Publish, WriteInvalid, FlushStore}
 use Rattle.pending.specs.declared.copies.Stage.TheVariants.{Waiting, Read}
 use Rattle.pending.specs.declared.copies.ChunkCopy.{ChunkCopy}
 use Rattle.pending.specs.declared.copies.Mark.{Mark}
 use Rattle.pending.specs.declared.flights.Flight.{Flight}
 use Rattle.pending.specs.Due.{first_by, least, is_copy_at, number_of_copy, number_of_mark, number_of_flight, is_publishable, is_issuable}
-use Rattle.volume_laws.specs.Due.{DueSnap, snap_number, is_untried, can_commit, can_zero, copy_of, publishable_of, least_of, event_or, due_of, is_issued, is_due}
+use Rattle.volume_laws.specs.Due.{DueSnap, snap_number, can_mark, can_flush_store, can_commit, can_zero, copy_of, publishable_of, least_of, event_or, due_of, is_issued, is_due}
 use Rattle.volume_laws.proofs.Lists.{AllPairs-head, AllPairs-tail}
 
 or_left : (a b : Bool) → a ≡ true → (a || b) ≡ true
@@ -95,7 +95,8 @@ event_none (Some n) event rest is = absurd (cc)
 
 -- what is due in no list
 pub record IsIdle (snaps : List DueSnap) (rs : List Flight) : Type 0 where
-  pub tried : All (λ s. is_untried s ≡ false) snaps
+  pub marked : All (λ s. can_mark s ≡ false) snaps
+  pub flushed : All (λ s. can_flush_store s ≡ false) snaps
   pub published : All (λ s. publishable_of rs s ≡ None) snaps
   pub committed : All (λ s. can_commit s ≡ false) snaps
   pub zeroed : All (λ s. can_zero s ≡ false) snaps
@@ -119,20 +120,25 @@ module _ (snaps : List DueSnap) (rs : List Flight) where
   abbrev after_publish : Option Event
   after_publish = event_or (first_by can_commit snap_number snaps) WriteArea after_commit
 
-  abbrev after_mark : Option Event
-  after_mark = event_or (least_of (publishable_of rs) snaps) Publish after_publish
+  abbrev after_flush : Option Event
+  after_flush = event_or (least_of (publishable_of rs) snaps) Publish after_publish
+
+  abbrev after_invalid : Option Event
+  after_invalid = event_or (first_by can_flush_store snap_number snaps) FlushStore after_flush
 
   pub nothing_due : due_of snaps rs ≡ None → IsIdle snaps rs
   nothing_due e =
-      let a = event_none (first_by is_untried snap_number snaps) WriteInvalid after_mark e in
-      let b = event_none (least_of (publishable_of rs) snaps) Publish after_publish a.1 in
+      let a = event_none (first_by can_mark snap_number snaps) WriteInvalid after_invalid e in
+      let j = event_none (first_by can_flush_store snap_number snaps) FlushStore after_flush a.1 in
+      let b = event_none (least_of (publishable_of rs) snaps) Publish after_publish j.1 in
       let c = event_none (first_by can_commit snap_number snaps) WriteArea after_commit b.1 in
       let d = event_none (first_by can_zero snap_number snaps) ZeroNext after_zero c.1 in
       let f = event_none (least_of (copy_of Read) snaps) CopyWrite after_write d.1 in
       let g = event_none (least_of (copy_of Waiting) snaps) CopyRead after_read f.1 in
       let i = event_none (first_by is_issuable number_of_flight rs) Issue None g.1 in
       record {
-        tried = first_none is_untried snap_number snaps a.0;
+        marked = first_none can_mark snap_number snaps a.0;
+        flushed = first_none can_flush_store snap_number snaps j.0;
         published = least_all (publishable_of rs) snaps b.0;
         committed = first_none can_commit snap_number snaps c.0;
         zeroed = first_none can_zero snap_number snaps d.0;
@@ -176,16 +182,22 @@ module _ (snaps : List DueSnap) (rs : List Flight) where
     | inr h ↦ zero_due e apart h.1
   ]
 
-  publish_due : (e : Event) → AllPairs (λ (f g : Flight). f.number ≢ g.number) rs → after_mark ≡ Some e → IsDue e
+  publish_due : (e : Event) → AllPairs (λ (f g : Flight). f.number ≢ g.number) rs → after_flush ≡ Some e → IsDue e
   publish_due e apart is = elim (event_cases (least_of (publishable_of rs) snaps) Publish after_publish e is) [
     | inl h ↦ subst IsDue h.2 (least_any (publishable_of rs) (λ s. list_any (λ (m : Mark). nat_eq m.number h.0 && is_publishable s.books.number s.books.chunk rs m) s.books.marks) snaps h.0
         (λ s at. first_any (is_publishable s.books.number s.books.chunk rs) number_of_mark s.books.marks h.0 at) h.1)
     | inr h ↦ commit_due e apart h.1
   ]
 
+  flush_due : (e : Event) → AllPairs (λ (f g : Flight). f.number ≢ g.number) rs → after_invalid ≡ Some e → IsDue e
+  flush_due e apart is = elim (event_cases (first_by can_flush_store snap_number snaps) FlushStore after_flush e is) [
+    | inl h ↦ subst IsDue h.2 (first_any can_flush_store snap_number snaps h.0 h.1)
+    | inr h ↦ publish_due e apart h.1
+  ]
+
   -- where an event is answered, it is due
   pub due_is_due : (e : Event) → AllPairs (λ (f g : Flight). f.number ≢ g.number) rs → due_of snaps rs ≡ Some e → is_due snaps rs e ≡ true
-  due_is_due e apart is = elim (event_cases (first_by is_untried snap_number snaps) WriteInvalid after_mark e is) [
-    | inl h ↦ subst IsDue h.2 (first_any is_untried snap_number snaps h.0 h.1)
-    | inr h ↦ publish_due e apart h.1
+  due_is_due e apart is = elim (event_cases (first_by can_mark snap_number snaps) WriteInvalid after_invalid e is) [
+    | inl h ↦ subst IsDue h.2 (first_any can_mark snap_number snaps h.0 h.1)
+    | inr h ↦ flush_due e apart h.1
   ]

@@ -10,16 +10,18 @@ use Rattle.std.proofs.lemmas.List.Folds.{list_any_none}
 use Rattle.sector.specs.declared.pair.Pair.{Pair}
 use Rattle.model.specs.Picture.{place_of}
 use Rattle.pending.specs.Copies.{pair_of}
+use Rattle.pending.specs.Flushed.{flushed_copy, safe_mark}
 use Rattle.pending.specs.declared.copies.ChunkCopy.{ChunkCopy}
 use Rattle.pending.specs.declared.copies.Mark.{Mark}
 use Rattle.pending.specs.declared.flights.Flight.{Flight}
 use Rattle.volume_laws.specs.Books.{SnapBooks}
 use Rattle.volume_laws.specs.Published.{IsPublished, is_published}
 use Rattle.volume_laws.specs.Held.{LiveHolds}
-use Rattle.volume_laws.specs.Steps.{IsSame, ReadsCopy, WritesCopy, ZeroesArea, Commits, StartsCopy, CopyGoesOn, mark_of}
+use Rattle.volume_laws.specs.Steps.{IsSame, ReadsCopy, WritesCopy, ZeroesArea, Commits, FlushesStore, WritesMark, StartsCopy, CopyGoesOn, mark_of}
 use Rattle.volume_laws.proofs.Lists.{All-front, All-back}
 use Rattle.volume_laws.proofs.Pairs.{place_of-front_kept, place_of-whole_none, some_ne_none}
 use Rattle.volume_laws.proofs.Clear.{published_true}
+use Rattle.volume_laws.proofs.Flushing.{any_mapped, is_published_flushed}
 use Rattle.volume_laws.proofs.Waiting.{KeepsWaiting}
 
 abbrev pub Copies : ℕ → List ChunkCopy → Type 0
@@ -65,6 +67,44 @@ copy_write_keeps k p q v w e = keeps_by v w e.same e.pairs e.marks (goes_on k p 
 
 pub zero_keeps : (a : ℕ) (v w : SnapBooks) → ZeroesArea a v w → KeepsWaiting v w
 zero_keeps a v w e = keeps_by v w e.same e.pairs e.marks (λ c any. subst (Copies c) (sym e.copies) any)
+
+-- FlushStore of a live snapshot
+pub flush_keeps : (v w : SnapBooks) → FlushesStore v w → KeepsWaiting v w
+flush_keeps v w e = record {
+  number = e.same.number;
+  live = e.same.live;
+  untried = e.same.untried;
+  chunk = e.same.chunk;
+  unsaved = λ first was. ap (λ l. not l || is_published w.pairs w.marks (first / w.chunk)) e.same.live ∙ ap (λ ps. not v.live || is_published ps w.marks (first / w.chunk)) e.pairs
+      ∙ ap (λ ms. not v.live || is_published v.pairs ms (first / w.chunk)) e.marks ∙ ap (λ b. not v.live || b) (is_published_flushed v.pairs v.marks (first / w.chunk))
+      ∙ ap (λ n. not v.live || is_published v.pairs v.marks (first / n)) e.same.chunk ∙ was;
+  saving = λ c s. elim s [
+    | inl placed ↦ inl (λ none. placed (ap (λ ps. place_of ps c) (sym e.pairs) ∙ none))
+    | inr any ↦ inr (subst (Copies c) (sym e.copies) (any_mapped flushed_copy (λ (x : ChunkCopy). x.pair.old ≡ c) v.copies any))
+  ];
+  copying = λ c s. elim s [
+    | inl any ↦ inl (subst (Copies c) (sym e.copies) (any_mapped flushed_copy (λ (x : ChunkCopy). x.pair.old ≡ c) v.copies any))
+    | inr both ↦ inr ((λ none. both.0 (ap (λ ps. place_of ps c) (sym e.pairs) ∙ none)), subst (Marks c) (sym e.marks) (any_mapped safe_mark (λ (m : Mark). m.chunk ≡ c) v.marks both.1))
+  ];
+}
+
+-- WriteInvalid, where the mark is written
+pub mark_keeps : (v w : SnapBooks) → WritesMark v w → KeepsWaiting v w
+mark_keeps v w e = record {
+  number = e.number;
+  live = e.live ∙ sym e.was;
+  untried = e.untried;
+  chunk = e.chunk;
+  unsaved = λ first was. absurd (false≢true (sym was ∙ ap (λ l. not l || is_published v.pairs v.marks (first / v.chunk)) e.was));
+  saving = λ c s. elim s [
+    | inl placed ↦ inl (λ none. placed (ap (λ ps. place_of ps c) (sym e.pairs) ∙ none))
+    | inr any ↦ inr (subst (Copies c) (sym e.copies) any)
+  ];
+  copying = λ c s. elim s [
+    | inl any ↦ inl (subst (Copies c) (sym e.copies) any)
+    | inr both ↦ inr ((λ none. both.0 (ap (λ ps. place_of ps c) (sym e.pairs) ∙ none)), subst (Marks c) (sym e.marks) both.1)
+  ];
+}
 
 pub any_more : {X : Type 0} (P : X → Type 0) (xs ys : List X) → Any P xs → Any P (xs ++ ys)
 any_more P xs ys (k, x, lt, is, holds) = (k, x, omega (arith, lt, length-append xs ys), get_or_append_left xs ys x k lt ∙ is, holds)

@@ -5,6 +5,7 @@ pub mod Stores
 pub mod Copying
 pub mod Committing
 pub mod Publishing
+pub mod Flushing
 pub mod Starting
 pub mod Bytes
 pub mod DiskWrites
@@ -28,6 +29,7 @@ pub mod Showing
 pub mod Due
 pub mod Quiet
 pub mod Left
+pub mod FlushLeft
 pub mod Waiting
 pub mod Placing
 pub mod Keeping

@@ -45,15 +45,15 @@ weigh chunk sectors pairs s = left_in s + per_copy * lacking_of chunk sectors pa
 -- The copy of the chunk that is wanted is started, or the snapshot is full and is spoiled: no more is left.
 module _ (chunk sectors : ℕ) (pairs : List Pair) (snaps : List SnapBooks) (q : Pair) (next : ComesNext chunk sectors pairs snaps q) (s s' : DueSnap) (live : s.books.live ≡ true) (some : 0 < s.books.chunk)
     (lacks : lacks_chunk (next_over (chunk * q.old) (count_of chunk sectors q.old) s.books) s.books ≡ true) where
-  pub start_weighs : (p : ChunkCopy) → StartsCopy p s.books s'.books → p.pair.old ≡ next_over (chunk * q.old) (count_of chunk sectors q.old) s.books → s'.zeroed ≡ s.zeroed → weigh chunk sectors pairs s' ≤ weigh chunk sectors pairs s
-  start_weighs p e old zeroed =
+  pub start_weighs : (p : ChunkCopy) → StartsCopy p s.books s'.books → p.pair.old ≡ next_over (chunk * q.old) (count_of chunk sectors q.old) s.books → s'.zeroed ≡ s.zeroed → s'.firm ≡ s.firm → weigh chunk sectors pairs s' ≤ weigh chunk sectors pairs s
+  start_weighs p e old zeroed firm =
       let at = wanted_is chunk sectors pairs snaps q next s.books some lacks in
       let fewer = started_fewer at.front (next_over (chunk * q.old) (count_of chunk sectors q.old) s.books) (reverse at.lower ++ touched_by s.books.chunk chunk sectors next.back) p s.books s'.books e old lacks in
       let before : count_by (λ x. lacks_chunk x s.books) (touched_by s.books.chunk chunk sectors pairs) ≡ count_by (λ x. lacks_chunk x s.books) (at.front ++ next_over (chunk * q.old) (count_of chunk sectors q.old) s.books ∷ (reverse at.lower ++ touched_by s.books.chunk chunk sectors next.back)) =
       ap (count_by (λ x. lacks_chunk x s.books)) at.is in
       let after : count_by (λ x. lacks_chunk x s'.books) (touched_by s'.books.chunk chunk sectors pairs) ≡ count_by (λ x. lacks_chunk x s'.books) (at.front ++ next_over (chunk * q.old) (count_of chunk sectors q.old) s.books ∷ (reverse at.lower ++ touched_by s.books.chunk chunk sectors next.back)) =
       ap (λ n. count_by (λ x. lacks_chunk x s'.books) (touched_by n chunk sectors pairs)) e.same.chunk ∙ ap (count_by (λ x. lacks_chunk x s'.books)) at.is in
-      let left = start_left p s s' e zeroed in
+      let left = start_left p s s' e zeroed firm in
       omega (arith, fewer, before, after, left, lacking_live chunk sectors pairs s.books live, lacking_live chunk sectors pairs s'.books (e.same.live ∙ live))
 
   pub some_lacking : 1 ≤ lacking_of chunk sectors pairs s.books

@@ -1,6 +1,6 @@
 -- Every event of a merge lowers the whole number of what is left of it.
 use Rattle.std.proofs.Common.{◌≡◌, ◌≢◌, ℕ, ◌+◌, ◌*◌, ◌<◌, ◌≤◌, Bool, true, false, List, [], ◌∷◌, ◌++◌, length, refl, sym, ◌∙◌, ap, arith, get_or, set, length-append, if◌then◌else◌}
-use Rattle.std.specs.Prelude.{◌&&◌, not, sum_by}
+use Rattle.std.specs.Prelude.{sum_by}
 use Rattle.std.proofs.lemmas.List.{nil_from_length}
 use Rattle.std.proofs.lemmas.List.Sums.{sum_by-set, sum_by_push}
 use Rattle.sector.specs.declared.pair.Pair.{Pair}
@@ -8,11 +8,11 @@ use Rattle.pending.specs.declared.copies.ChunkCopy.{ChunkCopy}
 use Rattle.pending.specs.declared.flights.Flight.{Flight}
 use Rattle.volume_laws.specs.Books.{MergeBooks, group_of}
 use Rattle.volume_laws.specs.Steps.{StartsCopy, SpoilsSnap}
-use Rattle.volume_laws.specs.Due.{DueSnap, steps_at, steps_of, left_in, left_of}
+use Rattle.volume_laws.specs.Due.{DueSnap, steps_at, steps_of, steps_of_mark, left_in, left_of}
 use Rattle.volume_laws.specs.MergeDue.{DueMerge, per_copy, weight_of, left_in_merge}
 use Rattle.volume_laws.specs.MergeWaits.{IsStaged}
 use Rattle.volume_laws.specs.MergeSteps.{FormsGroup, ReadsBack, WritesBack, FlushesBack, CommitsGroup, ReleasesGroup, without_group, ReadsArea, FailsMerge, WritesStore}
-use Rattle.volume_laws.proofs.Left.{flag, flag_le}
+use Rattle.volume_laws.proofs.Left.{invalid_same, area_same, spoiled_few}
 use Rattle.volume_laws.proofs.MergeEvents.{IsUngrouped}
 
 -- no group: each of its lists is empty
@@ -160,23 +160,18 @@ pub some_area : (d : DueMerge) → d.failed ≡ false → 0 < d.current → 0 < 
 some_area d running some = omega (arith, left_running d running, some)
 
 -- a copy that is started, and a snapshot that is spoiled
-pub start_left : (p : ChunkCopy) (s s' : DueSnap) → StartsCopy p s.books s'.books → s'.zeroed ≡ s.zeroed → left_in s' ≡ left_in s + per_copy
-start_left p s s' e zeroed =
-    let untried : flag s'.books.untried ≡ flag s.books.untried = ap flag e.same.untried in
-    let area : flag (s'.books.live && not s'.zeroed) ≡ flag (s.books.live && not s.zeroed) = ap (λ x. flag (x && not s'.zeroed)) e.same.live ∙ ap (λ x. flag (s.books.live && not x)) zeroed in
+pub start_left : (p : ChunkCopy) (s s' : DueSnap) → StartsCopy p s.books s'.books → s'.zeroed ≡ s.zeroed → s'.firm ≡ s.firm → left_in s' ≡ left_in s + per_copy
+start_left p s s' e zeroed firm =
+    let invalid = invalid_same s.books s'.books e.same.untried e.same.marked in
+    let area = area_same s s' e.same.live zeroed firm in
     let here : steps_of p ≡ per_copy = ap steps_at e.stage in
     let copies : sum_by steps_of s'.books.copies ≡ sum_by steps_of s.books.copies + per_copy =
     ap (sum_by steps_of) e.copies ∙ sum_by_push steps_of s.books.copies p ∙ ap (λ n. sum_by steps_of s.books.copies + n) here in
-    let marks : length s'.books.marks ≡ length s.books.marks = ap length e.marks in
-    omega (arith, untried, area, copies, marks)
+    let marks : sum_by steps_of_mark s'.books.marks ≡ sum_by steps_of_mark s.books.marks = ap (sum_by steps_of_mark) e.marks in
+    omega (arith, invalid, area, copies, marks)
 
-pub spoiled_left : (s s' : DueSnap) → SpoilsSnap s.books s'.books → left_in s' ≤ left_in s + 1
-spoiled_left s s' e =
-    let untried = flag_le s'.books.untried in
-    let copies : sum_by steps_of s'.books.copies ≡ 0 = ap (sum_by steps_of) e.copies in
-    let marks : length s'.books.marks ≡ 0 = ap length e.marks in
-    let area : flag (s'.books.live && not s'.zeroed) ≡ 0 = ap (λ x. flag (x && not s'.zeroed)) e.live in
-    omega (arith, untried, copies, marks, area)
+pub spoiled_left : (s s' : DueSnap) → SpoilsSnap s.books s'.books → left_in s' ≤ left_in s + 2
+spoiled_left s s' e = omega (arith, spoiled_few s s' e)
 
 -- one snapshot's number rises by so much at most, and so does the whole
 pub one_more : (n : ℕ) (snaps : List DueSnap) (k : ℕ) (s s' : DueSnap) (rs : List Flight) → k < length snaps → s ≡ get_or snaps k s → left_in s' ≤ left_in s + n → left_of (set snaps k s') rs ≤ left_of snaps rs + n

@@ -8,18 +8,20 @@ use Rattle.std.proofs.lemmas.List.Elements.{All-set}
 use Rattle.sector.specs.declared.pair.Pair.{Pair}
 use Rattle.model.specs.Picture.{place_of}
 use Rattle.pending.specs.Copies.{pair_of}
+use Rattle.pending.specs.Flushed.{flushed_copy, safe_mark}
 use Rattle.pending.specs.declared.copies.ChunkCopy.{ChunkCopy}
 use Rattle.pending.specs.declared.copies.Mark.{Mark}
 use Rattle.pending.specs.declared.flights.Flight.{Flight}
 use Rattle.volume_laws.specs.Books.{SnapBooks}
 use Rattle.volume_laws.specs.Held.{LiveHolds}
-use Rattle.volume_laws.specs.Steps.{ReadsCopy, WritesCopy, ZeroesArea, Commits, Unmarks, StartsCopy, WritesPlace, Overflows, SpoilsSnap, TriesMark, CopyGoesOn, mark_of}
+use Rattle.volume_laws.specs.Steps.{ReadsCopy, WritesCopy, ZeroesArea, Commits, FlushesStore, WritesMark, Unmarks, StartsCopy, WritesPlace, Overflows, SpoilsSnap, TriesMark, CopyGoesOn, mark_of}
 use Rattle.volume_laws.specs.Touched.{touched_by}
 use Rattle.volume_laws.specs.MergeRooms.{RoomSnap, IsCopyNumbered, IsMarkNumbered, IsMerging, KeepsBack, KeepBack, SameRoom, CommitsRoom, PublishesRoom, is_among, unpublished}
 use Rattle.volume_laws.proofs.Lists.{Any-remove, All-remove, All-from_list_any}
 use Rattle.volume_laws.proofs.Pairs.{some_ne_none}
+use Rattle.volume_laws.proofs.Flushing.{any_mapped}
 use Rattle.volume_laws.proofs.Keeping.{placed_behind, placed_more, named_by, any_set, any_more, any_after, any_split}
-use Rattle.volume_laws.proofs.MergeSaved.{KeepsSaved, KeepsNext, copy_read_next, copy_write_next, zero_next, start_next, commit_saved, commit_next, unmark_saved, place_next, dead_saved, dead_next}
+use Rattle.volume_laws.proofs.MergeSaved.{KeepsSaved, KeepsNext, copy_read_next, copy_write_next, zero_next, flush_next, start_next, commit_saved, commit_next, unmark_saved, place_next, dead_saved, dead_next}
 use Rattle.volume_laws.proofs.Overflowing.{overflow_next}
 use Rattle.volume_laws.proofs.MergeRooms.{KeepsSpace, KeepsRoom, room_kept}
 
@@ -67,6 +69,15 @@ place_room c place off bytes s s' e same = same_room s s' same (place_next c pla
 pub overflow_room : (s s' : RoomSnap) → Overflows s.books s'.books → SameRoom s s' → KeepsRoom s s'
 overflow_room s s' e same = same_room s s' same (overflow_next s.books s'.books e) (same_copies s.books s'.books (ap (λ (x : SnapBooks). x.copies) e.becomes))
     (same_marks s.books s'.books (ap (λ (x : SnapBooks). x.pairs) e.becomes) (ap (λ (x : SnapBooks). x.marks) e.becomes))
+
+-- FlushStore
+pub flush_room : (s s' : RoomSnap) → FlushesStore s.books s'.books → SameRoom s s' → KeepsRoom s s'
+flush_room s s' e same = same_room s s' same (flush_next s.books s'.books e)
+    (λ n c any. subst (Any (λ (p : ChunkCopy). (p.number ≡ n) × (p.pair.old ≡ c))) (sym e.copies) (any_mapped flushed_copy (λ (p : ChunkCopy). (p.number ≡ n) × (p.pair.old ≡ c)) s.books.copies any))
+    (λ n c both. (
+      (λ none. both.0 (ap (λ ps. place_of ps c) (sym e.pairs) ∙ none)),
+      subst (Any (λ (m : Mark). (m.number ≡ n) × (m.chunk ≡ c))) (sym e.marks) (any_mapped safe_mark (λ (m : Mark). (m.number ≡ n) × (m.chunk ≡ c)) s.books.marks both.1),
+    ))
 
 -- a request starts a copy
 pub start_room : (p : ChunkCopy) (s s' : RoomSnap) → StartsCopy p s.books s'.books → SameRoom s s' → KeepsRoom s s'
@@ -205,6 +216,9 @@ dead_room s s' dead = record {
 
 pub spoil_room : (s s' : RoomSnap) → SpoilsSnap s.books s'.books → KeepsRoom s s'
 spoil_room s s' e = dead_room s s' e.live
+
+pub mark_room : (s s' : RoomSnap) → WritesMark s.books s'.books → KeepsRoom s s'
+mark_room s s' e = dead_room s s' e.live
 
 pub tried_room : (s s' : RoomSnap) → TriesMark s.books s'.books → KeepsRoom s s'
 tried_room s s' e = dead_room s s' e.live

@@ -14,7 +14,7 @@ use Rattle.pending.specs.declared.flights.Flight.{Flight}
 use Rattle.volume_laws.specs.Books.{SnapBooks, MergeBooks, Books, group_of}
 use Rattle.volume_laws.specs.Published.{IsPublished, is_published, IsSaved, IsSavedOver, next_over}
 use Rattle.volume_laws.specs.Held.{LiveHolds}
-use Rattle.volume_laws.specs.Steps.{IsSame, ReadsCopy, WritesCopy, ZeroesArea, Commits, Unmarks, StartsCopy, WritesPlace, SpoilsSnap, TriesMark, ChangesSnap, SpoilsOne, mark_of}
+use Rattle.volume_laws.specs.Steps.{IsSame, ReadsCopy, WritesCopy, ZeroesArea, Commits, FlushesStore, Unmarks, StartsCopy, WritesPlace, SpoilsSnap, TriesMark, ChangesSnap, SpoilsOne, mark_of}
 use Rattle.volume_laws.specs.Waits.{IsSaving}
 use Rattle.volume_laws.specs.MergeDue.{DueMerge, last_of, next_pair}
 use Rattle.volume_laws.specs.MergeWaits.{next_pairs, next_in, IsSavedSoon, IsSavedIn, IsStaged, MergeSteady, MergeGoes}
@@ -23,7 +23,8 @@ use Rattle.volume_laws.proofs.Lists.{All-remove}
 use Rattle.volume_laws.proofs.Committing.{published_more, fresh_marks}
 use Rattle.volume_laws.proofs.Waiting.{KeepsWaiting}
 use Rattle.volume_laws.proofs.Clear.{published_true}
-use Rattle.volume_laws.proofs.Keeping.{copy_read_keeps, copy_write_keeps, zero_keeps, start_keeps, commit_keeps, published_test, not_published}
+use Rattle.volume_laws.proofs.Flushing.{published_flushed, is_published_flushed}
+use Rattle.volume_laws.proofs.Keeping.{copy_read_keeps, copy_write_keeps, zero_keeps, flush_keeps, start_keeps, commit_keeps, published_test, not_published}
 use Rattle.volume_laws.proofs.Nexts.{next_same}
 use Rattle.volume_laws.proofs.MergeEvents.{IsUngrouped}
 use Rattle.volume_laws.proofs.MergeLeft.{no_group}
@@ -148,6 +149,16 @@ commit_next o rs count a v w h e = record {
     | inr none ↦ ap (λ x. is_published x w.marks c) (e.pairs ∙ ap (λ x. v.pairs ++ x) (ap (take count) h.agree ∙ take-map pair_of count v.copies))
         ∙ ap (λ x. is_published (v.pairs ++ map pair_of (take count v.copies)) x c) e.marks ∙ not_published v.pairs v.marks (take count v.copies) c none ∙ sym none
   ];
+}
+
+-- FlushStore
+pub flush_saved : (v w : SnapBooks) → FlushesStore v w → KeepsSaved v w
+flush_saved v w e = keeps_too v w (flush_keeps v w e) (λ c old. subst (λ x. IsPublished x w.marks c) (sym e.pairs) (subst (λ x. IsPublished v.pairs x c) (sym e.marks) (published_flushed v.pairs v.marks c old)))
+
+pub flush_next : (v w : SnapBooks) → FlushesStore v w → KeepsNext v w
+flush_next v w e = record {
+  saved = flush_saved v w e;
+  same = λ _ c. ap (λ x. is_published x w.marks c) e.pairs ∙ ap (λ x. is_published v.pairs x c) e.marks ∙ is_published_flushed v.pairs v.marks c;
 }
 
 -- an event that leaves the pairs and the copies, and no mark more

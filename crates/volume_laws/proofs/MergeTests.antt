@@ -6,7 +6,7 @@ use Rattle.std.proofs.lemmas.Bool.{cases_Bool, false≢true, ltb-true, eqb-true}
 use Rattle.std.proofs.lemmas.List.Elements.{All-weaker, All-nil, All-cons}
 use Rattle.sector.specs.declared.pair.Pair.{Pair}
 use Rattle.plain.specs.declared.event.Event.{Event}
-use Rattle.plain.specs.declared.event.Event.TheVariants.{Issue, CopyRead, CopyWrite, ZeroNext, WriteArea, Publish, WriteInvalid, MergeGroup, MergeAreaRead, MergeRead, MergeWrite, MergeFlush, MergeCommit, MergeRelease}
+use Rattle.plain.specs.declared.event.Event.TheVariants.{Issue, CopyRead, CopyWrite, ZeroNext, WriteArea, Publish, WriteInvalid, FlushStore, MergeGroup, MergeAreaRead, MergeRead, MergeWrite, MergeFlush, MergeCommit, MergeRelease}
 use Rattle.pending.specs.Copies.{count_of}
 use Rattle.pending.specs.Kinds.{kind_of}
 use Rattle.pending.specs.declared.flights.Flight.{Flight}
@@ -217,6 +217,7 @@ due_going snaps rs d (ZeroNext n) h e = absurd (false≢true e)
 due_going snaps rs d (WriteArea n) h e = absurd (false≢true e)
 due_going snaps rs d (Publish n) h e = absurd (false≢true e)
 due_going snaps rs d (WriteInvalid n) h e = absurd (false≢true e)
+due_going snaps rs d (FlushStore n) h e = absurd (false≢true e)
 
 -- Pairs are left where an event of a merge is due, but for the release of a committed group: so a merge that fails is not
 -- finished.
@@ -243,3 +244,4 @@ due_some snaps rs d (ZeroNext n) h chunk other e = absurd (false≢true e)
 due_some snaps rs d (WriteArea n) h chunk other e = absurd (false≢true e)
 due_some snaps rs d (Publish n) h chunk other e = absurd (false≢true e)
 due_some snaps rs d (WriteInvalid n) h chunk other e = absurd (false≢true e)
+due_some snaps rs d (FlushStore n) h chunk other e = absurd (false≢true e)

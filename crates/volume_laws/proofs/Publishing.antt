@@ -42,7 +42,7 @@ pub unmark : (o : List ℕ) (rs : List Flight) (k : ℕ) (m : Mark) (v w : SnapB
 unmark o rs k m v w h e none =
     let s = e.same in
     let u : SnapBooks = record v { marks = remove v.marks k } in
-    let now : w ≡ u = same_books w u s.number s.live s.untried s.loud s.overflow s.chunk s.sectors s.size e.store.store e.store.pairs e.store.begun e.copies e.marks in
+    let now : w ≡ u = same_books w u s.number s.live s.untried s.marked s.loud s.overflow s.chunk s.sectors s.size e.store.store e.store.pairs e.store.begun e.copies e.marks in
     let unread = All-from_list_any (is_reading v.number v.chunk m.chunk) rs none in
     subst (LiveHolds o rs) (sym now) (record {
       text = h.text;

@@ -1,6 +1,6 @@
 -- Where no event is due the volume is quiet: no copy, no mark, no untried mark and no request is left.
 use Rattle.std.proofs.Common.{◌≡◌, ◌≢◌, ◌⊎◌, inl, inr, ℕ, suc, ◌/◌, Bool, true, false, List, [], ◌∷◌, Option, Some, None, length, get_or, map, refl, sym, ◌∙◌, ap, subst, arith, nat_eq}
-use Rattle.std.specs.Prelude.{◌&&◌, not, Any}
+use Rattle.std.specs.Prelude.{◌&&◌, ◌||◌, not, Any}
 use Rattle.std.specs.List.{All, list_any, list_all}
 use Rattle.std.specs.Option.{is_some}
 use Rattle.std.proofs.lemmas.Bool.{cases_Bool, false≢true}
@@ -9,7 +9,7 @@ use Rattle.std.proofs.lemmas.List.Folds.{Any-from_list_any}
 use Rattle.model.specs.Picture.{place_of}
 use Rattle.pending.specs.Kinds.{kind_of}
 use Rattle.pending.specs.declared.copies.Stage.{Stage}
-use Rattle.pending.specs.declared.copies.Stage.TheVariants.{Waiting, Read, Written}
+use Rattle.pending.specs.declared.copies.Stage.TheVariants.{Waiting, Read, Written, Flushed}
 use Rattle.pending.specs.declared.copies.ChunkCopy.{ChunkCopy}
 use Rattle.pending.specs.declared.copies.Mark.{Mark}
 use Rattle.pending.specs.declared.flights.Flight.{Flight}
@@ -18,26 +18,33 @@ use Rattle.pending.specs.declared.flights.Kind.TheVariants.{OriginRead, OriginWr
 use Rattle.pending.specs.declared.flights.Route.{Route}
 use Rattle.pending.specs.declared.flights.Route.TheVariants.{Held, Origin, Store, Refused}
 use Rattle.pending.specs.Routes.{is_reading, reads_origin_of}
-use Rattle.pending.specs.Due.{is_copy_at, number_of_copy, number_of_mark, front_written, is_publishable, is_issuable, is_routed, is_stage, first_by}
+use Rattle.pending.specs.Due.{is_copy_at, number_of_copy, number_of_mark, front_ready, front_unflushed, is_publishable, is_issuable, is_routed, is_stage, first_by}
 use Rattle.volume_laws.specs.Books.{SnapBooks, Books}
 use Rattle.volume_laws.specs.Published.{chunk_of, is_published, is_saved}
-use Rattle.volume_laws.specs.Due.{DueSnap, books_of, due_of}
+use Rattle.volume_laws.specs.Due.{DueSnap, books_of, due_of, is_unsafe, can_flush_store}
 use Rattle.volume_laws.specs.Waits.{IsSaving, WaitsFor, WaitsHolds, Waits, is_grouped, IsDone, IsQuiet}
 use Rattle.volume_laws.proofs.Due.{IsIdle, nothing_due, first_none}
 
--- a copy is at some stage
-front_stage : (stage : Stage) (needs : Bool) → is_stage Waiting stage ≡ false → is_stage Read stage ≡ false → (is_stage Written stage && not needs) ≡ false → (is_stage Written stage && needs) ≡ false → ⊥
-front_stage Waiting needs a b c d = false≢true (sym a)
-front_stage Read needs a b c d = false≢true (sym b)
-front_stage Written true a b c d = false≢true (sym d)
-front_stage Written false a b c d = false≢true (sym c)
+or_false : (a b : Bool) → (a || b) ≡ false → (a ≡ false) × (b ≡ false)
+or_false true b e = absurd (false≢true (sym e))
+or_false false b e = (refl, e)
 
-no_copies : (copies : List ChunkCopy) (needs : Bool) → first_by (is_copy_at Waiting) number_of_copy copies ≡ None → first_by (is_copy_at Read) number_of_copy copies ≡ None
-    → (front_written copies && not needs) ≡ false → (front_written copies && needs) ≡ false → copies ≡ []
-no_copies [] needs a b c d = refl
-no_copies (x ∷ xs) needs a b c d = absurd (front_stage x.stage needs
+-- a copy is at some stage, and each is followed by an event
+front_stage : (stage : Stage) (needs waits : Bool) → is_stage Waiting stage ≡ false → is_stage Read stage ≡ false → is_stage Written stage ≡ false → (is_stage Flushed stage && (waits && not needs)) ≡ false
+    → (is_stage Flushed stage && not waits) ≡ false → (is_stage Flushed stage && needs) ≡ false → ⊥
+front_stage Waiting needs waits a b c d e f = false≢true (sym a)
+front_stage Read needs waits a b c d e f = false≢true (sym b)
+front_stage Written needs waits a b c d e f = false≢true (sym c)
+front_stage Flushed true waits a b c d e f = false≢true (sym f)
+front_stage Flushed false true a b c d e f = false≢true (sym d)
+front_stage Flushed false false a b c d e f = false≢true (sym e)
+
+no_copies : (copies : List ChunkCopy) (needs waits : Bool) → first_by (is_copy_at Waiting) number_of_copy copies ≡ None → first_by (is_copy_at Read) number_of_copy copies ≡ None
+    → front_unflushed copies ≡ false → (front_ready copies && (waits && not needs)) ≡ false → (front_ready copies && not waits) ≡ false → (front_ready copies && needs) ≡ false → copies ≡ []
+no_copies [] needs waits a b c d e f = refl
+no_copies (x ∷ xs) needs waits a b c d e f = absurd (front_stage x.stage needs waits
     (All-head (λ y. is_copy_at Waiting y ≡ false) x xs (first_none (is_copy_at Waiting) number_of_copy (x ∷ xs) a))
-    (All-head (λ y. is_copy_at Read y ≡ false) x xs (first_none (is_copy_at Read) number_of_copy (x ∷ xs) b)) c d)
+    (All-head (λ y. is_copy_at Read y ≡ false) x xs (first_none (is_copy_at Read) number_of_copy (x ∷ xs) b)) c d e f)
 
 -- a request that reads a chunk from the origin disk goes somewhere
 reading_routed : (snap : ℕ) (kind : Kind) (route : Route) → reads_origin_of snap kind route ≡ true → is_routed route ≡ true
@@ -57,21 +64,41 @@ not_false : (b : Bool) → not b ≡ false → b ≡ true
 not_false true e = refl
 not_false false e = absurd (false≢true (sym e))
 
-no_marks : (rs : List Flight) (snap chunk : ℕ) (marks : List Mark) → All (λ f. is_issuable f ≡ false) rs → first_by (is_publishable snap chunk rs) number_of_mark marks ≡ None → marks ≡ []
-no_marks rs snap chunk [] idle e = refl
-no_marks rs snap chunk (m ∷ ms) idle e =
-    let blocked : is_publishable snap chunk rs m ≡ false = All-head (λ x. is_publishable snap chunk rs x ≡ false) m ms (first_none (is_publishable snap chunk rs) number_of_mark (m ∷ ms) e) in
+no_marks : (rs : List Flight) (snap chunk : ℕ) (marks : List Mark) → All (λ f. is_issuable f ≡ false) rs → list_any is_unsafe marks ≡ false → first_by (is_publishable snap chunk rs) number_of_mark marks ≡ None → marks ≡ []
+no_marks rs snap chunk [] idle safe e = refl
+no_marks rs snap chunk (m ∷ ms) idle safe e =
+    let here : m.safe ≡ true = not_false m.safe (or_false (is_unsafe m) (list_any is_unsafe ms) safe).0 in
+    let held : is_publishable snap chunk rs m ≡ false = All-head (λ x. is_publishable snap chunk rs x ≡ false) m ms (first_none (is_publishable snap chunk rs) number_of_mark (m ∷ ms) e) in
+    let blocked : not (list_any (is_reading snap chunk m.chunk) rs) ≡ false = rw here at held in
     let (k, f, within, is, reads) = Any-from_list_any (is_reading snap chunk m.chunk) rs (not_false (list_any (is_reading snap chunk m.chunk) rs) blocked) in
     let goes : is_issuable f ≡ true = reading_routed snap (kind_of f.request) f.route (and_second (nat_eq (chunk_of chunk f) m.chunk) (reads_origin_of snap (kind_of f.request) f.route) reads) in
     absurd (false≢true (sym (idle k f within) ∙ ap is_issuable is ∙ goes))
 
+-- an invalid mark is written, or flushed
+no_invalid : (untried marked : Bool) → (untried && not marked) ≡ false → (untried && marked) ≡ false → untried ≡ false
+no_invalid false marked a b = refl
+no_invalid true true a b = absurd (false≢true (sym b))
+no_invalid true false a b = absurd (false≢true (sym a))
+
+-- of a snapshot that waits for no flush of its store
+idle_flush : (s : DueSnap) → can_flush_store s ≡ false → ((s.books.untried && s.books.marked) ≡ false) × ((front_unflushed s.books.copies ≡ false) × (((front_ready s.books.copies && (s.waits && not s.needs)) ≡ false) × (list_any is_unsafe s.books.marks ≡ false)))
+idle_flush s e =
+    let invalid : Bool = s.books.untried && s.books.marked in
+    let front : Bool = front_unflushed s.books.copies in
+    let area : Bool = front_ready s.books.copies && (s.waits && not s.needs) in
+    let c = or_false (invalid || front || area) (list_any is_unsafe s.books.marks) e in
+    let b = or_false (invalid || front) area c.0 in
+    let a = or_false invalid front b.0 in
+    (a.0, (a.1, (b.1, c.1)))
+
 pub all_done : (snaps : List DueSnap) (rs : List Flight) → IsIdle snaps rs → All (λ s. IsDone (books_of s)) snaps
 all_done snaps rs e k d lt =
     let s = get_or snaps k d in
+    let (invalid, (front, (area, safe))) = idle_flush s (e.flushed k d lt) in
     record {
-      tried = e.tried k d lt;
-      copies = no_copies s.books.copies s.needs (e.read k d lt) (e.written k d lt) (e.committed k d lt) (e.zeroed k d lt);
-      marks = no_marks rs s.books.number s.books.chunk s.books.marks e.issued (e.published k d lt);
+      tried = no_invalid s.books.untried s.books.marked (e.marked k d lt) invalid;
+      copies = no_copies s.books.copies s.needs s.waits (e.read k d lt) (e.written k d lt) front area (e.committed k d lt) (e.zeroed k d lt);
+      marks = no_marks rs s.books.number s.books.chunk s.books.marks e.issued safe (e.published k d lt);
     }
 
 -- a test that fails of some element

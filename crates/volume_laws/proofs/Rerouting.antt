@@ -16,7 +16,7 @@ use Rattle.volume_laws.specs.Published.{chunk_of, IsPublished, IsSaved, is_clear
 use Rattle.volume_laws.specs.Held.{SnapHolds, RouteHolds, RefusedHolds, UntriedHolds, RequestHolds}
 use Rattle.volume_laws.specs.Merging.{MergeRouteHolds}
 use Rattle.volume_laws.specs.Whole.{Holds, plain_of, entry_of, origin_of, begun_of, UnmergedHolds, OriginHolds}
-use Rattle.volume_laws.specs.Steps.{ChangesSnap, TriesMark}
+use Rattle.volume_laws.specs.Steps.{ChangesSnap, WritesMark, TriesMark}
 use Rattle.volume_laws.specs.Again.{has_chunk, new_route, again_of, Reroutes}
 use Rattle.volume_laws.specs.Outcomes.{IsSilent}
 use Rattle.volume_laws.proofs.Same.{same_volume, plain}
@@ -110,7 +110,30 @@ reroute_by clear v w h e published tried =
 pub reroute : (v w : Books) → Holds v → Reroutes (is_clear v.snaps) v w → IsSilent v w
 reroute v w h e = reroute_by (is_clear v.snaps) v w h e (clear_saved v.snaps) (clear_tried v.snaps)
 
--- WriteInvalid, before held writes are routed again
+-- a spoiled snapshot shows nothing, whatever its store has
+dead_entry : (o : List ℕ) (s s' : SnapBooks) → s'.number ≡ s.number → s.live ≡ false → s'.live ≡ false → s'.overflow ≡ s.overflow → entry_of o s' ≡ entry_of o s
+dead_entry o s s' number was live overflow =
+    ap (λ n. shown n s'.overflow s'.live (picture s'.chunk o s'.store)) number ∙ ap (λ b. shown s.number s'.overflow b (picture s'.chunk o s'.store)) live
+    ∙ ap (λ x. shown s.number x false (picture s'.chunk o s'.store)) overflow ∙ sym (ap (λ b. shown s.number s.overflow b (picture s.chunk o s.store)) was)
+
+-- WriteInvalid, where the mark is written
+pub mark_event : (k : ℕ) (s s' : SnapBooks) (v w : Books) → Holds v → ChangesSnap k s s' v w → WritesMark s s' → IsSilent v w
+mark_event k s s' v w h e t =
+    let old = (snap_holds v k s h e.within e.was).spoilt t.was in
+    record {
+      holds = one_holds k s s' v w h e t.number (record {
+        alive = λ live. absurd (false≢true (sym t.live ∙ live));
+        spoilt = λ _. record {
+          copies = t.copies ∙ old.copies;
+          unpublished = t.marks ∙ old.unpublished;
+          routes = subst (λ n. All (RefusedHolds n) v.requests) (sym t.number) old.routes;
+          waited = λ waits. subst (λ n. All (UntriedHolds n s'.pairs) v.requests) (sym t.chunk) (subst (λ ps. All (UntriedHolds s.chunk ps) v.requests) (sym t.pairs) (old.waited (sym t.untried ∙ waits)));
+        };
+      });
+      step = λ _. silent_step (plain_of v) (plain_of w) (one_plain k s s' v w e (dead_entry v.origin s s' t.number t.was t.live t.overflow));
+    }
+
+-- a mark is tried, before held writes are routed again
 pub tried_event : (k : ℕ) (s s' : SnapBooks) (v w : Books) → Holds v → ChangesSnap k s s' v w → TriesMark s s' → IsSilent v w
 tried_event k s s' v w h e t =
     let old = (snap_holds v k s h e.within e.was).spoilt t.was in
@@ -124,7 +147,5 @@ tried_event k s s' v w h e t =
           waited = λ waits. absurd (false≢true (sym t.tried ∙ waits));
         };
       });
-      step = λ _. silent_step (plain_of v) (plain_of w) (one_plain k s s' v w e
-          (ap (λ n. shown n s'.overflow s'.live (picture s'.chunk v.origin s'.store)) t.number ∙ ap (λ b. shown s.number s'.overflow b (picture s'.chunk v.origin s'.store)) t.live
-          ∙ ap (λ x. shown s.number x false (picture s'.chunk v.origin s'.store)) t.overflow ∙ sym (ap (λ b. shown s.number s.overflow b (picture s.chunk v.origin s.store)) t.was)));
+      step = λ _. silent_step (plain_of v) (plain_of w) (one_plain k s s' v w e (dead_entry v.origin s s' t.number t.was t.live t.overflow));
     }

@@ -18,12 +18,13 @@ use Rattle.pending.specs.declared.flights.Flight.{Flight}
 use Rattle.volume_laws.specs.Books.{SnapBooks, Books, number_of}
 use Rattle.volume_laws.specs.Held.{LiveHolds, SnapHolds}
 use Rattle.volume_laws.specs.Whole.{Holds, IsLoud, plain_of, entry_of, origin_of, begun_of}
-use Rattle.volume_laws.specs.Steps.{ChangesSnap, ReadsCopy, WritesCopy, ZeroesArea, Commits, Unmarks, StartsCopy, IsSame}
+use Rattle.volume_laws.specs.Steps.{ChangesSnap, ReadsCopy, WritesCopy, ZeroesArea, Commits, FlushesStore, Unmarks, StartsCopy, IsSame}
 use Rattle.volume_laws.specs.Outcomes.{IsSilent}
 use Rattle.volume_laws.proofs.Same.{same_volume, plain}
 use Rattle.volume_laws.proofs.Copying.{copy_read, copy_write, copy_write_picture}
 use Rattle.volume_laws.proofs.Committing.{area_zeroed, area_zeroed_picture, commit, commit_picture}
 use Rattle.volume_laws.proofs.Publishing.{unmark}
+use Rattle.volume_laws.proofs.Flushing.{flush}
 use Rattle.volume_laws.proofs.Starting.{start}
 
 -- a spoil of none changes nothing
@@ -130,6 +131,10 @@ module _ (k : ℕ) (s s' : SnapBooks) (v w : Books) (h : Holds v) (e : ChangesSn
   -- WriteArea
   pub commit_event : (count a : ℕ) → s.live ≡ true → Commits count a s s' → IsSilent v w
   commit_event count a live r = one_silent k s s' v w h e r.same live (commit v.origin v.requests count a s s' (here.alive live) r) (commit_picture v.origin v.requests count a s s' (here.alive live) r)
+
+  -- FlushStore
+  pub flush_event : s.live ≡ true → FlushesStore s s' → IsSilent v w
+  flush_event live r = one_silent k s s' v w h e r.same live (flush v.origin v.requests s s' (here.alive live) r) (λ _. same_array v.origin s s' r.same r.store)
 
   -- Publish, before held writes are routed again
   pub unmark_event : (j : ℕ) (m : Mark) → Unmarks j m s s' → list_any (is_reading s.number s.chunk m.chunk) v.requests ≡ false → IsSilent v w

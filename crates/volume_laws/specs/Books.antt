@@ -8,11 +8,13 @@ use Rattle.pending.specs.declared.copies.Mark.{Mark}
 use Rattle.pending.specs.declared.flights.Flight.{Flight}
 
 -- A snapshot that is not being merged. `loud`: a write to its store that answers Ok is done. `untried`: it is spoiled, and
--- its store's header was not yet marked invalid. `overflow`: what a write of it does that finds its store full.
+-- its store's header was not yet marked invalid for good. `marked`: the mark was written; it counts as tried only after the
+-- flush of the store that follows. `overflow`: what a write of it does that finds its store full.
 pub record SnapBooks : Type 0 where
   pub number : ℕ
   pub live : Bool
   pub untried : Bool
+  pub marked : Bool
   pub loud : Bool
   pub overflow : Overflowing
   -- sectors of a chunk, of the origin, and of the store

@@ -1,24 +1,28 @@
 -- To be believed: `run`'s output, a volume's steps or its attach are said in these words.
 -- Which event is due first, and a whole number that every event lowers. The order is this project's own: spoiled
--- snapshots' marks first, then what frees held writes, then the copies' own steps, and requests last; in each kind the
--- least number.
-use Rattle.std.specs.Prelude.{◌==◌, ◌&&◌, not, ℕ, ◌+◌, Bool, false, List, [], ◌∷◌, length, Option, Some, None, if◌then◌else◌, sum_by}
+-- snapshots' marks first, then the flushes that something waits for, then what frees held writes, then the copies' own steps,
+-- and requests last; in each kind the least number.
+use Rattle.std.specs.Prelude.{◌==◌, ◌&&◌, ◌||◌, not, ℕ, ◌+◌, Bool, false, List, [], ◌∷◌, length, Option, Some, None, if◌then◌else◌, sum_by}
 use Rattle.std.specs.List.{list_any}
 use Rattle.plain.specs.declared.event.Event.{Event}
-use Rattle.plain.specs.declared.event.Event.TheVariants.{Issue, CopyRead, CopyWrite, ZeroNext, WriteArea, Publish, WriteInvalid, MergeGroup, MergeAreaRead, MergeRead, MergeWrite, MergeFlush, MergeCommit, MergeRelease}
+use Rattle.plain.specs.declared.event.Event.TheVariants.{Issue, CopyRead, CopyWrite, ZeroNext, WriteArea, Publish, WriteInvalid, FlushStore, MergeGroup, MergeAreaRead, MergeRead, MergeWrite, MergeFlush, MergeCommit, MergeRelease}
 use Rattle.pending.specs.declared.copies.Stage.{Stage}
-use Rattle.pending.specs.declared.copies.Stage.TheVariants.{Waiting, Read, Written}
+use Rattle.pending.specs.declared.copies.Stage.TheVariants.{Waiting, Read, Written, Flushed}
 use Rattle.pending.specs.declared.copies.ChunkCopy.{ChunkCopy}
+use Rattle.pending.specs.declared.copies.Mark.{Mark}
 use Rattle.pending.specs.declared.flights.Flight.{Flight}
-use Rattle.pending.specs.Due.{first_by, least, is_copy_at, number_of_copy, number_of_mark, number_of_flight, front_written, is_publishable, is_issuable}
+use Rattle.pending.specs.Due.{first_by, least, is_copy_at, number_of_copy, number_of_mark, number_of_flight, front_ready, front_unflushed, is_publishable, is_issuable}
 use Rattle.volume_laws.specs.Books.{SnapBooks}
 
--- A snapshot. needs: the pair that is committed next fills its area, and the next area is not zeroed yet. zeroed: the area
--- after the current one is zeroed.
+-- A snapshot. needs: the pairs that are committed next fill their area, and the next area is not zeroed yet. waits: they fill
+-- it, and the next area is not firm yet. zeroed: the area after the current one is zeroed. firm: and the store was flushed
+-- since.
 pub record DueSnap : Type 0 where
   pub books : SnapBooks
   pub needs : Bool
+  pub waits : Bool
   pub zeroed : Bool
+  pub firm : Bool
 
 abbrev pub books_of : DueSnap → SnapBooks
 books_of s = s.books
@@ -29,12 +33,26 @@ snap_number s = s.books.number
 abbrev pub is_untried : DueSnap → Bool
 is_untried s = s.books.untried
 
--- the first copy is written, and its area can be written; or the next area has to be zeroed first
+-- a spoiled snapshot's mark is to be written
+abbrev pub can_mark : DueSnap → Bool
+can_mark s = s.books.untried && not s.books.marked
+
+-- the first copy may be committed, and its area can be written; or the next area has to be zeroed first
 abbrev pub can_commit : DueSnap → Bool
-can_commit s = front_written s.books.copies && not s.needs
+can_commit s = front_ready s.books.copies && not s.waits
 
 abbrev pub can_zero : DueSnap → Bool
-can_zero s = front_written s.books.copies && s.needs
+can_zero s = front_ready s.books.copies && s.needs
+
+-- a mark that no flush of the store followed
+abbrev pub is_unsafe : Mark → Bool
+is_unsafe m = not m.safe
+
+-- Something waits for a flush of the store: the mark of a spoiled snapshot, the first copy, the area that is zeroed for the
+-- first copies, or a publication.
+abbrev pub can_flush_store : DueSnap → Bool
+can_flush_store s =
+    (s.books.untried && s.books.marked) || front_unflushed s.books.copies || (front_ready s.books.copies && (s.waits && not s.needs)) || list_any is_unsafe s.books.marks
 
 abbrev pub copy_of : Stage → DueSnap → Option ℕ
 copy_of stage s = first_by (is_copy_at stage) number_of_copy s.books.copies
@@ -54,13 +72,14 @@ event_or (Some n) event rest = Some (event n)
 
 abbrev pub due_of : List DueSnap → List Flight → Option Event
 due_of snaps rs =
-    event_or (first_by is_untried snap_number snaps) WriteInvalid
+    event_or (first_by can_mark snap_number snaps) WriteInvalid
+    (event_or (first_by can_flush_store snap_number snaps) FlushStore
     (event_or (least_of (publishable_of rs) snaps) Publish
     (event_or (first_by can_commit snap_number snaps) WriteArea
     (event_or (first_by can_zero snap_number snaps) ZeroNext
     (event_or (least_of (copy_of Read) snaps) CopyWrite
     (event_or (least_of (copy_of Waiting) snaps) CopyRead
-    (event_or (first_by is_issuable number_of_flight rs) Issue None))))))
+    (event_or (first_by is_issuable number_of_flight rs) Issue None)))))))
 
 -- the first request with a number goes somewhere
 abbrev pub is_issued : ℕ → List Flight → Bool
@@ -69,7 +88,8 @@ is_issued number (f ∷ fs) = if f.number == number then is_issuable f else is_i
 
 -- whether an event is due
 abbrev pub is_due : List DueSnap → List Flight → Event → Bool
-is_due snaps rs (WriteInvalid n) = list_any (λ s. (s.books.number == n) && s.books.untried) snaps
+is_due snaps rs (WriteInvalid n) = list_any (λ s. (s.books.number == n) && can_mark s) snaps
+is_due snaps rs (FlushStore n) = list_any (λ s. (s.books.number == n) && can_flush_store s) snaps
 is_due snaps rs (Publish n) = list_any (λ s. list_any (λ m. (m.number == n) && is_publishable s.books.number s.books.chunk rs m) s.books.marks) snaps
 is_due snaps rs (WriteArea n) = list_any (λ s. (s.books.number == n) && can_commit s) snaps
 is_due snaps rs (ZeroNext n) = list_any (λ s. (s.books.number == n) && can_zero s) snaps
@@ -84,17 +104,31 @@ is_due snaps rs MergeFlush = false
 is_due snaps rs MergeCommit = false
 is_due snaps rs MergeRelease = false
 
--- how many events a copy still needs: its own, and a zeroed area, a commit and a publication
+-- How much a copy still needs: its own read and write and a flush of the store, then a commit with an area that is zeroed
+-- and flushed, another flush, and a publication. The numbers leave room for what a commit may leave of the next area.
 abbrev pub steps_at : Stage → ℕ
-steps_at Waiting = 6
-steps_at Read = 5
-steps_at Written = 4
+steps_at Waiting = 11
+steps_at Read = 10
+steps_at Written = 9
+steps_at Flushed = 8
 
 abbrev pub steps_of : ChunkCopy → ℕ
 steps_of c = steps_at c.stage
 
+-- a mark: a flush of the store, and its publication
+abbrev pub steps_of_mark : Mark → ℕ
+steps_of_mark m = if m.safe then 1 else 3
+
+-- an invalid mark: its write, and the flush of the store
+abbrev pub steps_of_invalid : SnapBooks → ℕ
+steps_of_invalid s = if s.untried then (if s.marked then 1 else 2) else 0
+
+-- the area after the current one: that it is zeroed, and then flushed
+abbrev pub steps_of_area : DueSnap → ℕ
+steps_of_area s = (if s.books.live && not s.zeroed then 1 else 0) + (if s.books.live && not s.firm then 3 else 0)
+
 abbrev pub left_in : DueSnap → ℕ
-left_in s = (if s.books.untried then 1 else 0) + sum_by steps_of s.books.copies + length s.books.marks + (if s.books.live && not s.zeroed then 1 else 0)
+left_in s = steps_of_invalid s.books + sum_by steps_of s.books.copies + sum_by steps_of_mark s.books.marks + steps_of_area s
 
 -- a whole number that every event of a volume lowers
 abbrev pub left_of : List DueSnap → List Flight → ℕ

@@ -10,7 +10,8 @@ use Rattle.pending.specs.Copies.{count_of, pair_of}
 use Rattle.pending.specs.Kinds.{kind_of, room_of}
 use Rattle.pending.specs.declared.copies.ChunkCopy.{ChunkCopy}
 use Rattle.pending.specs.declared.copies.Mark.{Mark}
-use Rattle.pending.specs.declared.copies.Stage.TheVariants.{Read, Written}
+use Rattle.pending.specs.declared.copies.Stage.{Stage}
+use Rattle.pending.specs.declared.copies.Stage.TheVariants.{Waiting, Read, Written, Flushed}
 use Rattle.pending.specs.declared.flights.Flight.{Flight}
 use Rattle.pending.specs.declared.flights.Kind.TheVariants.{OriginWrite, SnapRead, SnapWrite}
 use Rattle.pending.specs.declared.flights.Route.TheVariants.{Origin, Store, Refused}
@@ -26,11 +27,18 @@ pub record StoreHolds (chunk sectors size : ℕ) (store : List ℕ) (all : List 
   pub inside : All (IsInside chunk sectors size) all
   pub apart : AllPairs IsApart all
 
+-- whether a copy at a stage is in its place on the store
+abbrev pub is_stored : Stage → Bool
+is_stored Waiting = false
+is_stored Read = false
+is_stored Written = true
+is_stored Flushed = true
+
 -- what a copy has in its buffer, and then on the store
 pub record CopyHolds (loud : Bool) (chunk sectors : ℕ) (origin store : List ℕ) (p : ChunkCopy) : Type 0 where
   pub room : length p.buffer.items ≡ 512 * count_of chunk sectors p.pair.old
   pub read : p.stage ≡ Read → p.buffer.items ≡ sectors_at origin (chunk * p.pair.old) (count_of chunk sectors p.pair.old)
-  pub written : loud ≡ true → p.stage ≡ Written → IsCopied chunk origin store p.pair
+  pub written : loud ≡ true → is_stored p.stage ≡ true → IsCopied chunk origin store p.pair
 
 -- the chunk of a committed copy that is not published: the origin's bytes are the picture's
 pub record MarkHolds (chunk : ℕ) (origin store : List ℕ) (pairs : List Pair) (m : Mark) : Type 0 where

@@ -6,13 +6,14 @@ use Rattle.sector.specs.Bytes.{sectors_at, with_sectors}
 use Rattle.model.specs.Places.{area_place, ChangesOnly}
 use Rattle.model.specs.Pairs.{pairs_of}
 use Rattle.pending.specs.Copies.{count_of}
+use Rattle.pending.specs.Flushed.{flushed_copy, safe_mark}
 use Rattle.pending.specs.Routes.{refused_of}
 use Rattle.plain.specs.declared.request.Op.TheVariants.{Write}
 use Rattle.plain.specs.declared.request.Overflowing.TheVariants.{May, Did}
 use Rattle.plain.specs.Plain.{did_overflow}
 use Rattle.pending.specs.declared.copies.ChunkCopy.{ChunkCopy}
 use Rattle.pending.specs.declared.copies.Mark.{Mark}
-use Rattle.pending.specs.declared.copies.Stage.TheVariants.{Waiting, Read, Written}
+use Rattle.pending.specs.declared.copies.Stage.TheVariants.{Waiting, Read, Written, Flushed}
 use Rattle.pending.specs.declared.flights.Flight.{Flight}
 use Rattle.volume_laws.specs.Books.{SnapBooks, MergeBooks, Books, listed, taken, number_of}
 use Rattle.volume_laws.specs.Held.{StoreHolds, RouteHolds, RefusedHolds, UntriedHolds}
@@ -24,6 +25,7 @@ pub record IsSame (v w : SnapBooks) : Type 0 where
   pub number : w.number ≡ v.number
   pub live : w.live ≡ v.live
   pub untried : w.untried ≡ v.untried
+  pub marked : w.marked ≡ v.marked
   pub loud : w.loud ≡ v.loud
   pub overflow : w.overflow ≡ v.overflow
   pub chunk : w.chunk ≡ v.chunk
@@ -76,21 +78,30 @@ pub record ZeroesArea (a : ℕ) (v w : SnapBooks) : Type 0 where
   pub only : ChangesOnly v.chunk (area_place v.chunk a) v.store w.store
   pub stored : v.loud ≡ true → pairs_of v.chunk w.store ≡ v.pairs
 
--- a copy whose pair is committed
+-- a copy whose pair is committed: the store was not flushed since
 abbrev pub mark_of : ChunkCopy → Mark
-mark_of p = record { number = p.number; chunk = p.pair.old }
+mark_of p = record { number = p.number; chunk = p.pair.old; safe = false }
 
--- WriteArea: the first copies, all of them written, are committed by a write of area a
+-- WriteArea: the first copies, all of them written and flushed, are committed by a write of area a
 pub record Commits (count a : ℕ) (v w : SnapBooks) : Type 0 where
   pub same : IsSame v w
   pub few : count ≤ length v.copies
-  pub ready : All (λ p. p.stage ≡ Written) (take count v.copies)
+  pub ready : All (λ p. p.stage ≡ Flushed) (take count v.copies)
   pub pairs : w.pairs ≡ v.pairs ++ take count v.begun
   pub begun : w.begun ≡ drop count v.begun
   pub copies : w.copies ≡ drop count v.copies
   pub marks : w.marks ≡ v.marks ++ map mark_of (take count v.copies)
   pub only : ChangesOnly v.chunk (area_place v.chunk a) v.store w.store
   pub stored : v.loud ≡ true → pairs_of v.chunk w.store ≡ w.pairs
+
+-- FlushStore of a live snapshot: what is written counts as written, and what is committed may be published
+pub record FlushesStore (v w : SnapBooks) : Type 0 where
+  pub same : IsSame v w
+  pub store : w.store ≡ v.store
+  pub pairs : w.pairs ≡ v.pairs
+  pub begun : w.begun ≡ v.begun
+  pub copies : w.copies ≡ map flushed_copy v.copies
+  pub marks : w.marks ≡ map safe_mark v.marks
 
 -- Publish: mark k is taken away
 pub record Unmarks (k : ℕ) (m : Mark) (v w : SnapBooks) : Type 0 where
@@ -134,7 +145,20 @@ pub record SpoilsSnap (v w : SnapBooks) : Type 0 where
   pub copies : w.copies ≡ []
   pub marks : w.marks ≡ []
 
--- WriteInvalid: a spoiled snapshot's mark is tried, whatever became of the write
+-- WriteInvalid: a spoiled snapshot's mark is written, and still keeps origin writes back
+pub record WritesMark (v w : SnapBooks) : Type 0 where
+  pub number : w.number ≡ v.number
+  pub was : v.live ≡ false
+  pub live : w.live ≡ false
+  pub overflow : w.overflow ≡ v.overflow
+  pub untried : w.untried ≡ v.untried
+  pub marked : w.marked ≡ true
+  pub chunk : w.chunk ≡ v.chunk
+  pub pairs : w.pairs ≡ v.pairs
+  pub copies : w.copies ≡ v.copies
+  pub marks : w.marks ≡ v.marks
+
+-- A spoiled snapshot's mark is tried: its write failed; or it was written, and the flush after it was done or failed.
 pub record TriesMark (v w : SnapBooks) : Type 0 where
   pub number : w.number ≡ v.number
   pub was : v.live ≡ false

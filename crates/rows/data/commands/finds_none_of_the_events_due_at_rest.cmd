@@ -9,6 +9,7 @@ step vol copy-read 1
 step vol copy-write 01
 step vol publish 4294967295
 step vol zero-next snap
+step vol flush-store snap
 step vol write-area snap
 step vol write-invalid snap
 step vol merge-group

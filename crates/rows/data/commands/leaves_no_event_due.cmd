@@ -11,5 +11,6 @@ step vol copy-read 1
 step vol copy-write 1
 step vol publish 1
 step vol zero-next snap
+step vol flush-store snap
 step vol write-area snap
 step vol write-invalid snap

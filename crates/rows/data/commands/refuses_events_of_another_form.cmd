@@ -12,6 +12,11 @@ step vol issue 1 2
 step vol issue 4294967296
 step vol write-area Snap
 step vol write-area snap snap
+step vol flush-store
+step vol flush-store Snap
+step vol flush-store snap 1
+step vol flush-Store snap
+step vol flush snap
 step vol merge
 step vol merge-group 1
 step vol merge-read snap

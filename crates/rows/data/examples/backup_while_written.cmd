@@ -13,6 +13,7 @@ start vol write 7 512*aa
 # The copy: the chunk is read from the origin disk, written to the store, and its pair is committed.
 step vol copy-read 1
 step vol copy-write 1
+step vol flush-store snap
 step vol write-area snap
 
 # Now the pair stands on the store. But the backup's read is still to go to the origin disk, so the copy is not published, and
@@ -22,6 +23,7 @@ step vol issue 3
 
 # The backup's read is done: it gives the old bytes. Then the copy is published, and then the write is done.
 step vol issue 2
+step vol flush-store snap
 step vol publish 1
 step vol issue 3
 

@@ -14,10 +14,12 @@ step vol copy-read 3
 step vol copy-write 3
 step vol write-area snap
 step vol copy-write 1
+step vol flush-store snap
 step vol write-area snap
 save cow 1 1
 step vol write-area snap
 step vol copy-write 2
+step vol flush-store snap
 step vol write-area snap
 save cow 1 1
 step vol write-area snap

@@ -197,6 +197,7 @@ step vol copy-write 61
 step vol copy-write 62
 step vol copy-write 63
 step vol copy-write 64
+step vol flush-store snap
 step vol write-area snap
 step vol write-area snap
 status snap

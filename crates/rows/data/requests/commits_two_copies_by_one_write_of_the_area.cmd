@@ -12,9 +12,11 @@ step vol copy-read 2
 step vol copy-write 2
 step vol write-area snap
 step vol copy-write 1
+step vol flush-store snap
 step vol write-area snap
 save cow 1 1
 step vol write-area snap
+step vol flush-store snap
 step vol publish 1
 step vol publish 2
 step vol issue 2

@@ -45,8 +45,10 @@ step vol copy-write 31
 step vol copy-write 32
 step vol copy-write 33
 step vol write-area snap
+step vol flush-store snap
 step vol zero-next snap
 step vol zero-next snap
+step vol flush-store snap
 step vol write-area snap
 status snap
 step vol write-area snap

@@ -10,7 +10,11 @@ step vol copy-read 1
 step vol issue 1
 step vol copy-write 1
 step vol issue 1
+step vol flush-store snap
+step vol issue 1
 step vol write-area snap
+step vol issue 1
+step vol flush-store snap
 step vol issue 1
 step vol publish 1
 step vol issue 1

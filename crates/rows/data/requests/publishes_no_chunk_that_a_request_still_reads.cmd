@@ -9,10 +9,12 @@ start snap read 7 1
 start vol write 7 512*aa
 step vol copy-read 1
 step vol copy-write 1
+step vol flush-store snap
 step vol write-area snap
 step vol publish 1
 step vol issue 3
 step vol issue 2
+step vol flush-store snap
 step vol publish 1
 step vol issue 3
 read snap 7 1

@@ -14,5 +14,6 @@ status snap
 step vol copy-write 1
 step vol issue 2
 step vol write-invalid snap
+step vol flush-store snap
 step vol issue 2
 read vol 4 2

@@ -11,11 +11,15 @@ start vol write 5 512*aa
 step vol copy-read 1
 step vol copy-read 2
 step vol copy-write 2
+step vol flush-store s2
 step vol write-area s2
+step vol flush-store s2
 step vol publish 2
 step vol issue 2
 step vol copy-write 1
+step vol flush-store snap
 step vol write-area snap
+step vol flush-store snap
 step vol publish 1
 step vol issue 2
 status s2

@@ -18,7 +18,9 @@ step vol copy-read 2
 step vol merge-read
 status vol
 step vol copy-write 2
+step vol flush-store one
 step vol write-area one
+step vol flush-store one
 step vol publish 2
 step vol copy-read 3
 status one
@@ -31,8 +33,10 @@ step vol merge-read
 step vol merge-write
 step vol copy-read 3
 step vol copy-write 3
+step vol flush-store one
 step vol write-area one
 step vol copy-read 4
+step vol flush-store one
 step vol publish 3
 step vol copy-read 4
 settle vol

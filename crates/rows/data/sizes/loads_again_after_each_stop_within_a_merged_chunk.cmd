@@ -22,7 +22,9 @@ merge big
 step vol merge-group
 step vol copy-read 1
 step vol copy-write 1
+step vol flush-store one
 step vol write-area one
+step vol flush-store one
 step vol publish 1
 step vol copy-read 2
 step vol copy-write 2
@@ -38,7 +40,9 @@ step vol merge-group
 step vol merge-read
 step vol copy-read 1
 step vol copy-write 1
+step vol flush-store one
 step vol write-area one
+step vol flush-store one
 step vol publish 1
 stop vol
 save base 9 1

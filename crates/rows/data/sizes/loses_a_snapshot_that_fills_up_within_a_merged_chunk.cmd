@@ -14,19 +14,24 @@ step vol merge-group
 status small
 step vol copy-read 2
 step vol copy-write 2
+step vol flush-store small
 step vol write-area small
+step vol flush-store small
 step vol publish 2
 status small
 step vol merge-read
 step vol merge-write
 step vol copy-read 3
 step vol copy-write 3
+step vol flush-store small
 step vol write-area small
+step vol flush-store small
 step vol publish 3
 status small
 read small 8 1
 step vol merge-write
 step vol write-invalid small
+step vol flush-store small
 step vol merge-write
 settle vol
 status vol

@@ -17,7 +17,9 @@ merge big
 step vol merge-group
 step vol copy-read 2
 step vol copy-write 2
+step vol flush-store one
 step vol write-area one
+step vol flush-store one
 step vol publish 2
 step vol copy-read 4
 tick 3
@@ -28,7 +30,9 @@ step vol merge-read
 step vol merge-write
 step vol copy-read 3
 step vol copy-write 3
+step vol flush-store two
 step vol write-area two
+step vol flush-store two
 step vol publish 3
 step vol merge-write
 step vol write-invalid one

@@ -14,7 +14,9 @@ step vol merge-group
 status one
 step vol copy-read 2
 step vol copy-write 2
+step vol flush-store one
 step vol write-area one
+step vol flush-store one
 step vol publish 2
 status one
 step vol copy-read 3

@@ -74,6 +74,26 @@ create snap 0 128 snapshot base cow P 1
 start vol write 5 512*aa
 step vol copy-read 1
 step vol copy-write 1
+step vol flush-store snap
+stop vol
+create vol 0 128 snapshot-origin base
+create snap 0 128 snapshot base cow P 1
+status snap
+read snap 0 128
+read vol 0 128
+remove snap
+remove vol
+remove base
+remove cow
+disk base 128
+disk cow 64
+create vol 0 128 snapshot-origin base
+write vol 0 65536*11
+create snap 0 128 snapshot base cow P 1
+start vol write 5 512*aa
+step vol copy-read 1
+step vol copy-write 1
+step vol flush-store snap
 step vol write-area snap
 stop vol
 create vol 0 128 snapshot-origin base
@@ -93,7 +113,30 @@ create snap 0 128 snapshot base cow P 1
 start vol write 5 512*aa
 step vol copy-read 1
 step vol copy-write 1
+step vol flush-store snap
 step vol write-area snap
+step vol flush-store snap
+stop vol
+create vol 0 128 snapshot-origin base
+create snap 0 128 snapshot base cow P 1
+status snap
+read snap 0 128
+read vol 0 128
+remove snap
+remove vol
+remove base
+remove cow
+disk base 128
+disk cow 64
+create vol 0 128 snapshot-origin base
+write vol 0 65536*11
+create snap 0 128 snapshot base cow P 1
+start vol write 5 512*aa
+step vol copy-read 1
+step vol copy-write 1
+step vol flush-store snap
+step vol write-area snap
+step vol flush-store snap
 step vol publish 1
 stop vol
 create vol 0 128 snapshot-origin base
@@ -113,7 +156,9 @@ create snap 0 128 snapshot base cow P 1
 start vol write 5 512*aa
 step vol copy-read 1
 step vol copy-write 1
+step vol flush-store snap
 step vol write-area snap
+step vol flush-store snap
 step vol publish 1
 step vol issue 2
 stop vol

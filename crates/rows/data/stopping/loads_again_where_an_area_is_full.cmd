@@ -64,6 +64,27 @@ write vol 0 8192*aa
 start vol write 16 512*aa
 step vol copy-read 17
 step vol copy-write 17
+step vol flush-store snap
+stop vol
+create vol 0 128 snapshot-origin base
+create snap 0 128 snapshot base cow P 1
+status snap
+read snap 0 128
+read vol 0 128
+remove snap
+remove vol
+remove base
+remove cow
+disk base 128
+disk cow 64
+create vol 0 128 snapshot-origin base
+write vol 0 65536*11
+create snap 0 128 snapshot base cow P 1
+write vol 0 8192*aa
+start vol write 16 512*aa
+step vol copy-read 17
+step vol copy-write 17
+step vol flush-store snap
 step vol write-area snap
 stop vol
 create vol 0 128 snapshot-origin base
@@ -84,7 +105,31 @@ write vol 0 8192*aa
 start vol write 16 512*aa
 step vol copy-read 17
 step vol copy-write 17
+step vol flush-store snap
 step vol write-area snap
+step vol flush-store snap
+stop vol
+create vol 0 128 snapshot-origin base
+create snap 0 128 snapshot base cow P 1
+status snap
+read snap 0 128
+read vol 0 128
+remove snap
+remove vol
+remove base
+remove cow
+disk base 128
+disk cow 64
+create vol 0 128 snapshot-origin base
+write vol 0 65536*11
+create snap 0 128 snapshot base cow P 1
+write vol 0 8192*aa
+start vol write 16 512*aa
+step vol copy-read 17
+step vol copy-write 17
+step vol flush-store snap
+step vol write-area snap
+step vol flush-store snap
 step vol publish 17
 stop vol
 create vol 0 128 snapshot-origin base
@@ -105,7 +150,9 @@ write vol 0 8192*aa
 start vol write 16 512*aa
 step vol copy-read 17
 step vol copy-write 17
+step vol flush-store snap
 step vol write-area snap
+step vol flush-store snap
 step vol publish 17
 step vol issue 18
 stop vol
@@ -181,6 +228,27 @@ write vol 0 8704*aa
 start vol write 17 512*aa
 step vol copy-read 18
 step vol copy-write 18
+step vol flush-store snap
+stop vol
+create vol 0 128 snapshot-origin base
+create snap 0 128 snapshot base cow P 1
+status snap
+read snap 0 128
+read vol 0 128
+remove snap
+remove vol
+remove base
+remove cow
+disk base 128
+disk cow 64
+create vol 0 128 snapshot-origin base
+write vol 0 65536*11
+create snap 0 128 snapshot base cow P 1
+write vol 0 8704*aa
+start vol write 17 512*aa
+step vol copy-read 18
+step vol copy-write 18
+step vol flush-store snap
 step vol write-area snap
 stop vol
 create vol 0 128 snapshot-origin base
@@ -201,7 +269,31 @@ write vol 0 8704*aa
 start vol write 17 512*aa
 step vol copy-read 18
 step vol copy-write 18
+step vol flush-store snap
 step vol write-area snap
+step vol flush-store snap
+stop vol
+create vol 0 128 snapshot-origin base
+create snap 0 128 snapshot base cow P 1
+status snap
+read snap 0 128
+read vol 0 128
+remove snap
+remove vol
+remove base
+remove cow
+disk base 128
+disk cow 64
+create vol 0 128 snapshot-origin base
+write vol 0 65536*11
+create snap 0 128 snapshot base cow P 1
+write vol 0 8704*aa
+start vol write 17 512*aa
+step vol copy-read 18
+step vol copy-write 18
+step vol flush-store snap
+step vol write-area snap
+step vol flush-store snap
 step vol publish 18
 stop vol
 create vol 0 128 snapshot-origin base
@@ -222,7 +314,9 @@ write vol 0 8704*aa
 start vol write 17 512*aa
 step vol copy-read 18
 step vol copy-write 18
+step vol flush-store snap
 step vol write-area snap
+step vol flush-store snap
 step vol publish 18
 step vol issue 19
 stop vol
@@ -298,6 +392,27 @@ write vol 0 9216*aa
 start vol write 18 512*aa
 step vol copy-read 19
 step vol copy-write 19
+step vol flush-store snap
+stop vol
+create vol 0 128 snapshot-origin base
+create snap 0 128 snapshot base cow P 1
+status snap
+read snap 0 128
+read vol 0 128
+remove snap
+remove vol
+remove base
+remove cow
+disk base 128
+disk cow 64
+create vol 0 128 snapshot-origin base
+write vol 0 65536*11
+create snap 0 128 snapshot base cow P 1
+write vol 0 9216*aa
+start vol write 18 512*aa
+step vol copy-read 19
+step vol copy-write 19
+step vol flush-store snap
 step vol write-area snap
 stop vol
 create vol 0 128 snapshot-origin base
@@ -318,7 +433,31 @@ write vol 0 9216*aa
 start vol write 18 512*aa
 step vol copy-read 19
 step vol copy-write 19
+step vol flush-store snap
 step vol write-area snap
+step vol flush-store snap
+stop vol
+create vol 0 128 snapshot-origin base
+create snap 0 128 snapshot base cow P 1
+status snap
+read snap 0 128
+read vol 0 128
+remove snap
+remove vol
+remove base
+remove cow
+disk base 128
+disk cow 64
+create vol 0 128 snapshot-origin base
+write vol 0 65536*11
+create snap 0 128 snapshot base cow P 1
+write vol 0 9216*aa
+start vol write 18 512*aa
+step vol copy-read 19
+step vol copy-write 19
+step vol flush-store snap
+step vol write-area snap
+step vol flush-store snap
 step vol publish 19
 stop vol
 create vol 0 128 snapshot-origin base
@@ -339,7 +478,9 @@ write vol 0 9216*aa
 start vol write 18 512*aa
 step vol copy-read 19
 step vol copy-write 19
+step vol flush-store snap
 step vol write-area snap
+step vol flush-store snap
 step vol publish 19
 step vol issue 20
 stop vol
@@ -415,6 +556,27 @@ write vol 0 9728*aa
 start vol write 19 512*aa
 step vol copy-read 20
 step vol copy-write 20
+step vol flush-store snap
+stop vol
+create vol 0 128 snapshot-origin base
+create snap 0 128 snapshot base cow P 1
+status snap
+read snap 0 128
+read vol 0 128
+remove snap
+remove vol
+remove base
+remove cow
+disk base 128
+disk cow 64
+create vol 0 128 snapshot-origin base
+write vol 0 65536*11
+create snap 0 128 snapshot base cow P 1
+write vol 0 9728*aa
+start vol write 19 512*aa
+step vol copy-read 20
+step vol copy-write 20
+step vol flush-store snap
 step vol write-area snap
 stop vol
 create vol 0 128 snapshot-origin base
@@ -435,7 +597,31 @@ write vol 0 9728*aa
 start vol write 19 512*aa
 step vol copy-read 20
 step vol copy-write 20
+step vol flush-store snap
 step vol write-area snap
+step vol flush-store snap
+stop vol
+create vol 0 128 snapshot-origin base
+create snap 0 128 snapshot base cow P 1
+status snap
+read snap 0 128
+read vol 0 128
+remove snap
+remove vol
+remove base
+remove cow
+disk base 128
+disk cow 64
+create vol 0 128 snapshot-origin base
+write vol 0 65536*11
+create snap 0 128 snapshot base cow P 1
+write vol 0 9728*aa
+start vol write 19 512*aa
+step vol copy-read 20
+step vol copy-write 20
+step vol flush-store snap
+step vol write-area snap
+step vol flush-store snap
 step vol publish 20
 stop vol
 create vol 0 128 snapshot-origin base
@@ -456,7 +642,9 @@ write vol 0 9728*aa
 start vol write 19 512*aa
 step vol copy-read 20
 step vol copy-write 20
+step vol flush-store snap
 step vol write-area snap
+step vol flush-store snap
 step vol publish 20
 step vol issue 21
 stop vol
@@ -532,6 +720,27 @@ write vol 0 10240*aa
 start vol write 20 512*aa
 step vol copy-read 21
 step vol copy-write 21
+step vol flush-store snap
+stop vol
+create vol 0 128 snapshot-origin base
+create snap 0 128 snapshot base cow P 1
+status snap
+read snap 0 128
+read vol 0 128
+remove snap
+remove vol
+remove base
+remove cow
+disk base 128
+disk cow 64
+create vol 0 128 snapshot-origin base
+write vol 0 65536*11
+create snap 0 128 snapshot base cow P 1
+write vol 0 10240*aa
+start vol write 20 512*aa
+step vol copy-read 21
+step vol copy-write 21
+step vol flush-store snap
 step vol write-area snap
 stop vol
 create vol 0 128 snapshot-origin base
@@ -552,7 +761,31 @@ write vol 0 10240*aa
 start vol write 20 512*aa
 step vol copy-read 21
 step vol copy-write 21
+step vol flush-store snap
 step vol write-area snap
+step vol flush-store snap
+stop vol
+create vol 0 128 snapshot-origin base
+create snap 0 128 snapshot base cow P 1
+status snap
+read snap 0 128
+read vol 0 128
+remove snap
+remove vol
+remove base
+remove cow
+disk base 128
+disk cow 64
+create vol 0 128 snapshot-origin base
+write vol 0 65536*11
+create snap 0 128 snapshot base cow P 1
+write vol 0 10240*aa
+start vol write 20 512*aa
+step vol copy-read 21
+step vol copy-write 21
+step vol flush-store snap
+step vol write-area snap
+step vol flush-store snap
 step vol publish 21
 stop vol
 create vol 0 128 snapshot-origin base
@@ -573,7 +806,9 @@ write vol 0 10240*aa
 start vol write 20 512*aa
 step vol copy-read 21
 step vol copy-write 21
+step vol flush-store snap
 step vol write-area snap
+step vol flush-store snap
 step vol publish 21
 step vol issue 22
 stop vol
@@ -649,6 +884,27 @@ write vol 0 10752*aa
 start vol write 21 512*aa
 step vol copy-read 22
 step vol copy-write 22
+step vol flush-store snap
+stop vol
+create vol 0 128 snapshot-origin base
+create snap 0 128 snapshot base cow P 1
+status snap
+read snap 0 128
+read vol 0 128
+remove snap
+remove vol
+remove base
+remove cow
+disk base 128
+disk cow 64
+create vol 0 128 snapshot-origin base
+write vol 0 65536*11
+create snap 0 128 snapshot base cow P 1
+write vol 0 10752*aa
+start vol write 21 512*aa
+step vol copy-read 22
+step vol copy-write 22
+step vol flush-store snap
 step vol write-area snap
 stop vol
 create vol 0 128 snapshot-origin base
@@ -669,7 +925,31 @@ write vol 0 10752*aa
 start vol write 21 512*aa
 step vol copy-read 22
 step vol copy-write 22
+step vol flush-store snap
 step vol write-area snap
+step vol flush-store snap
+stop vol
+create vol 0 128 snapshot-origin base
+create snap 0 128 snapshot base cow P 1
+status snap
+read snap 0 128
+read vol 0 128
+remove snap
+remove vol
+remove base
+remove cow
+disk base 128
+disk cow 64
+create vol 0 128 snapshot-origin base
+write vol 0 65536*11
+create snap 0 128 snapshot base cow P 1
+write vol 0 10752*aa
+start vol write 21 512*aa
+step vol copy-read 22
+step vol copy-write 22
+step vol flush-store snap
+step vol write-area snap
+step vol flush-store snap
 step vol publish 22
 stop vol
 create vol 0 128 snapshot-origin base
@@ -690,7 +970,9 @@ write vol 0 10752*aa
 start vol write 21 512*aa
 step vol copy-read 22
 step vol copy-write 22
+step vol flush-store snap
 step vol write-area snap
+step vol flush-store snap
 step vol publish 22
 step vol issue 23
 stop vol
@@ -766,6 +1048,27 @@ write vol 0 11264*aa
 start vol write 22 512*aa
 step vol copy-read 23
 step vol copy-write 23
+step vol flush-store snap
+stop vol
+create vol 0 128 snapshot-origin base
+create snap 0 128 snapshot base cow P 1
+status snap
+read snap 0 128
+read vol 0 128
+remove snap
+remove vol
+remove base
+remove cow
+disk base 128
+disk cow 64
+create vol 0 128 snapshot-origin base
+write vol 0 65536*11
+create snap 0 128 snapshot base cow P 1
+write vol 0 11264*aa
+start vol write 22 512*aa
+step vol copy-read 23
+step vol copy-write 23
+step vol flush-store snap
 step vol write-area snap
 stop vol
 create vol 0 128 snapshot-origin base
@@ -786,7 +1089,31 @@ write vol 0 11264*aa
 start vol write 22 512*aa
 step vol copy-read 23
 step vol copy-write 23
+step vol flush-store snap
 step vol write-area snap
+step vol flush-store snap
+stop vol
+create vol 0 128 snapshot-origin base
+create snap 0 128 snapshot base cow P 1
+status snap
+read snap 0 128
+read vol 0 128
+remove snap
+remove vol
+remove base
+remove cow
+disk base 128
+disk cow 64
+create vol 0 128 snapshot-origin base
+write vol 0 65536*11
+create snap 0 128 snapshot base cow P 1
+write vol 0 11264*aa
+start vol write 22 512*aa
+step vol copy-read 23
+step vol copy-write 23
+step vol flush-store snap
+step vol write-area snap
+step vol flush-store snap
 step vol publish 23
 stop vol
 create vol 0 128 snapshot-origin base
@@ -807,7 +1134,9 @@ write vol 0 11264*aa
 start vol write 22 512*aa
 step vol copy-read 23
 step vol copy-write 23
+step vol flush-store snap
 step vol write-area snap
+step vol flush-store snap
 step vol publish 23
 step vol issue 24
 stop vol
@@ -883,6 +1212,27 @@ write vol 0 11776*aa
 start vol write 23 512*aa
 step vol copy-read 24
 step vol copy-write 24
+step vol flush-store snap
+stop vol
+create vol 0 128 snapshot-origin base
+create snap 0 128 snapshot base cow P 1
+status snap
+read snap 0 128
+read vol 0 128
+remove snap
+remove vol
+remove base
+remove cow
+disk base 128
+disk cow 64
+create vol 0 128 snapshot-origin base
+write vol 0 65536*11
+create snap 0 128 snapshot base cow P 1
+write vol 0 11776*aa
+start vol write 23 512*aa
+step vol copy-read 24
+step vol copy-write 24
+step vol flush-store snap
 step vol write-area snap
 stop vol
 create vol 0 128 snapshot-origin base
@@ -903,7 +1253,31 @@ write vol 0 11776*aa
 start vol write 23 512*aa
 step vol copy-read 24
 step vol copy-write 24
+step vol flush-store snap
 step vol write-area snap
+step vol flush-store snap
+stop vol
+create vol 0 128 snapshot-origin base
+create snap 0 128 snapshot base cow P 1
+status snap
+read snap 0 128
+read vol 0 128
+remove snap
+remove vol
+remove base
+remove cow
+disk base 128
+disk cow 64
+create vol 0 128 snapshot-origin base
+write vol 0 65536*11
+create snap 0 128 snapshot base cow P 1
+write vol 0 11776*aa
+start vol write 23 512*aa
+step vol copy-read 24
+step vol copy-write 24
+step vol flush-store snap
+step vol write-area snap
+step vol flush-store snap
 step vol publish 24
 stop vol
 create vol 0 128 snapshot-origin base
@@ -924,7 +1298,9 @@ write vol 0 11776*aa
 start vol write 23 512*aa
 step vol copy-read 24
 step vol copy-write 24
+step vol flush-store snap
 step vol write-area snap
+step vol flush-store snap
 step vol publish 24
 step vol issue 25
 stop vol
@@ -1000,6 +1376,27 @@ write vol 0 12288*aa
 start vol write 24 512*aa
 step vol copy-read 25
 step vol copy-write 25
+step vol flush-store snap
+stop vol
+create vol 0 128 snapshot-origin base
+create snap 0 128 snapshot base cow P 1
+status snap
+read snap 0 128
+read vol 0 128
+remove snap
+remove vol
+remove base
+remove cow
+disk base 128
+disk cow 64
+create vol 0 128 snapshot-origin base
+write vol 0 65536*11
+create snap 0 128 snapshot base cow P 1
+write vol 0 12288*aa
+start vol write 24 512*aa
+step vol copy-read 25
+step vol copy-write 25
+step vol flush-store snap
 step vol write-area snap
 stop vol
 create vol 0 128 snapshot-origin base
@@ -1020,7 +1417,31 @@ write vol 0 12288*aa
 start vol write 24 512*aa
 step vol copy-read 25
 step vol copy-write 25
+step vol flush-store snap
 step vol write-area snap
+step vol flush-store snap
+stop vol
+create vol 0 128 snapshot-origin base
+create snap 0 128 snapshot base cow P 1
+status snap
+read snap 0 128
+read vol 0 128
+remove snap
+remove vol
+remove base
+remove cow
+disk base 128
+disk cow 64
+create vol 0 128 snapshot-origin base
+write vol 0 65536*11
+create snap 0 128 snapshot base cow P 1
+write vol 0 12288*aa
+start vol write 24 512*aa
+step vol copy-read 25
+step vol copy-write 25
+step vol flush-store snap
+step vol write-area snap
+step vol flush-store snap
 step vol publish 25
 stop vol
 create vol 0 128 snapshot-origin base
@@ -1041,7 +1462,9 @@ write vol 0 12288*aa
 start vol write 24 512*aa
 step vol copy-read 25
 step vol copy-write 25
+step vol flush-store snap
 step vol write-area snap
+step vol flush-store snap
 step vol publish 25
 step vol issue 26
 stop vol
@@ -1117,6 +1540,27 @@ write vol 0 12800*aa
 start vol write 25 512*aa
 step vol copy-read 26
 step vol copy-write 26
+step vol flush-store snap
+stop vol
+create vol 0 128 snapshot-origin base
+create snap 0 128 snapshot base cow P 1
+status snap
+read snap 0 128
+read vol 0 128
+remove snap
+remove vol
+remove base
+remove cow
+disk base 128
+disk cow 64
+create vol 0 128 snapshot-origin base
+write vol 0 65536*11
+create snap 0 128 snapshot base cow P 1
+write vol 0 12800*aa
+start vol write 25 512*aa
+step vol copy-read 26
+step vol copy-write 26
+step vol flush-store snap
 step vol write-area snap
 stop vol
 create vol 0 128 snapshot-origin base
@@ -1137,7 +1581,31 @@ write vol 0 12800*aa
 start vol write 25 512*aa
 step vol copy-read 26
 step vol copy-write 26
+step vol flush-store snap
 step vol write-area snap
+step vol flush-store snap
+stop vol
+create vol 0 128 snapshot-origin base
+create snap 0 128 snapshot base cow P 1
+status snap
+read snap 0 128
+read vol 0 128
+remove snap
+remove vol
+remove base
+remove cow
+disk base 128
+disk cow 64
+create vol 0 128 snapshot-origin base
+write vol 0 65536*11
+create snap 0 128 snapshot base cow P 1
+write vol 0 12800*aa
+start vol write 25 512*aa
+step vol copy-read 26
+step vol copy-write 26
+step vol flush-store snap
+step vol write-area snap
+step vol flush-store snap
 step vol publish 26
 stop vol
 create vol 0 128 snapshot-origin base
@@ -1158,7 +1626,9 @@ write vol 0 12800*aa
 start vol write 25 512*aa
 step vol copy-read 26
 step vol copy-write 26
+step vol flush-store snap
 step vol write-area snap
+step vol flush-store snap
 step vol publish 26
 step vol issue 27
 stop vol
@@ -1234,6 +1704,27 @@ write vol 0 13312*aa
 start vol write 26 512*aa
 step vol copy-read 27
 step vol copy-write 27
+step vol flush-store snap
+stop vol
+create vol 0 128 snapshot-origin base
+create snap 0 128 snapshot base cow P 1
+status snap
+read snap 0 128
+read vol 0 128
+remove snap
+remove vol
+remove base
+remove cow
+disk base 128
+disk cow 64
+create vol 0 128 snapshot-origin base
+write vol 0 65536*11
+create snap 0 128 snapshot base cow P 1
+write vol 0 13312*aa
+start vol write 26 512*aa
+step vol copy-read 27
+step vol copy-write 27
+step vol flush-store snap
 step vol write-area snap
 stop vol
 create vol 0 128 snapshot-origin base
@@ -1254,7 +1745,31 @@ write vol 0 13312*aa
 start vol write 26 512*aa
 step vol copy-read 27
 step vol copy-write 27
+step vol flush-store snap
 step vol write-area snap
+step vol flush-store snap
+stop vol
+create vol 0 128 snapshot-origin base
+create snap 0 128 snapshot base cow P 1
+status snap
+read snap 0 128
+read vol 0 128
+remove snap
+remove vol
+remove base
+remove cow
+disk base 128
+disk cow 64
+create vol 0 128 snapshot-origin base
+write vol 0 65536*11
+create snap 0 128 snapshot base cow P 1
+write vol 0 13312*aa
+start vol write 26 512*aa
+step vol copy-read 27
+step vol copy-write 27
+step vol flush-store snap
+step vol write-area snap
+step vol flush-store snap
 step vol publish 27
 stop vol
 create vol 0 128 snapshot-origin base
@@ -1275,7 +1790,9 @@ write vol 0 13312*aa
 start vol write 26 512*aa
 step vol copy-read 27
 step vol copy-write 27
+step vol flush-store snap
 step vol write-area snap
+step vol flush-store snap
 step vol publish 27
 step vol issue 28
 stop vol
@@ -1351,6 +1868,27 @@ write vol 0 13824*aa
 start vol write 27 512*aa
 step vol copy-read 28
 step vol copy-write 28
+step vol flush-store snap
+stop vol
+create vol 0 128 snapshot-origin base
+create snap 0 128 snapshot base cow P 1
+status snap
+read snap 0 128
+read vol 0 128
+remove snap
+remove vol
+remove base
+remove cow
+disk base 128
+disk cow 64
+create vol 0 128 snapshot-origin base
+write vol 0 65536*11
+create snap 0 128 snapshot base cow P 1
+write vol 0 13824*aa
+start vol write 27 512*aa
+step vol copy-read 28
+step vol copy-write 28
+step vol flush-store snap
 step vol write-area snap
 stop vol
 create vol 0 128 snapshot-origin base
@@ -1371,7 +1909,31 @@ write vol 0 13824*aa
 start vol write 27 512*aa
 step vol copy-read 28
 step vol copy-write 28
+step vol flush-store snap
 step vol write-area snap
+step vol flush-store snap
+stop vol
+create vol 0 128 snapshot-origin base
+create snap 0 128 snapshot base cow P 1
+status snap
+read snap 0 128
+read vol 0 128
+remove snap
+remove vol
+remove base
+remove cow
+disk base 128
+disk cow 64
+create vol 0 128 snapshot-origin base
+write vol 0 65536*11
+create snap 0 128 snapshot base cow P 1
+write vol 0 13824*aa
+start vol write 27 512*aa
+step vol copy-read 28
+step vol copy-write 28
+step vol flush-store snap
+step vol write-area snap
+step vol flush-store snap
 step vol publish 28
 stop vol
 create vol 0 128 snapshot-origin base
@@ -1392,7 +1954,9 @@ write vol 0 13824*aa
 start vol write 27 512*aa
 step vol copy-read 28
 step vol copy-write 28
+step vol flush-store snap
 step vol write-area snap
+step vol flush-store snap
 step vol publish 28
 step vol issue 29
 stop vol
@@ -1468,6 +2032,27 @@ write vol 0 14336*aa
 start vol write 28 512*aa
 step vol copy-read 29
 step vol copy-write 29
+step vol flush-store snap
+stop vol
+create vol 0 128 snapshot-origin base
+create snap 0 128 snapshot base cow P 1
+status snap
+read snap 0 128
+read vol 0 128
+remove snap
+remove vol
+remove base
+remove cow
+disk base 128
+disk cow 64
+create vol 0 128 snapshot-origin base
+write vol 0 65536*11
+create snap 0 128 snapshot base cow P 1
+write vol 0 14336*aa
+start vol write 28 512*aa
+step vol copy-read 29
+step vol copy-write 29
+step vol flush-store snap
 step vol write-area snap
 stop vol
 create vol 0 128 snapshot-origin base
@@ -1488,7 +2073,31 @@ write vol 0 14336*aa
 start vol write 28 512*aa
 step vol copy-read 29
 step vol copy-write 29
+step vol flush-store snap
 step vol write-area snap
+step vol flush-store snap
+stop vol
+create vol 0 128 snapshot-origin base
+create snap 0 128 snapshot base cow P 1
+status snap
+read snap 0 128
+read vol 0 128
+remove snap
+remove vol
+remove base
+remove cow
+disk base 128
+disk cow 64
+create vol 0 128 snapshot-origin base
+write vol 0 65536*11
+create snap 0 128 snapshot base cow P 1
+write vol 0 14336*aa
+start vol write 28 512*aa
+step vol copy-read 29
+step vol copy-write 29
+step vol flush-store snap
+step vol write-area snap
+step vol flush-store snap
 step vol publish 29
 stop vol
 create vol 0 128 snapshot-origin base
@@ -1509,7 +2118,9 @@ write vol 0 14336*aa
 start vol write 28 512*aa
 step vol copy-read 29
 step vol copy-write 29
+step vol flush-store snap
 step vol write-area snap
+step vol flush-store snap
 step vol publish 29
 step vol issue 30
 stop vol
@@ -1585,6 +2196,27 @@ write vol 0 14848*aa
 start vol write 29 512*aa
 step vol copy-read 30
 step vol copy-write 30
+step vol flush-store snap
+stop vol
+create vol 0 128 snapshot-origin base
+create snap 0 128 snapshot base cow P 1
+status snap
+read snap 0 128
+read vol 0 128
+remove snap
+remove vol
+remove base
+remove cow
+disk base 128
+disk cow 64
+create vol 0 128 snapshot-origin base
+write vol 0 65536*11
+create snap 0 128 snapshot base cow P 1
+write vol 0 14848*aa
+start vol write 29 512*aa
+step vol copy-read 30
+step vol copy-write 30
+step vol flush-store snap
 step vol write-area snap
 stop vol
 create vol 0 128 snapshot-origin base
@@ -1605,7 +2237,31 @@ write vol 0 14848*aa
 start vol write 29 512*aa
 step vol copy-read 30
 step vol copy-write 30
+step vol flush-store snap
 step vol write-area snap
+step vol flush-store snap
+stop vol
+create vol 0 128 snapshot-origin base
+create snap 0 128 snapshot base cow P 1
+status snap
+read snap 0 128
+read vol 0 128
+remove snap
+remove vol
+remove base
+remove cow
+disk base 128
+disk cow 64
+create vol 0 128 snapshot-origin base
+write vol 0 65536*11
+create snap 0 128 snapshot base cow P 1
+write vol 0 14848*aa
+start vol write 29 512*aa
+step vol copy-read 30
+step vol copy-write 30
+step vol flush-store snap
+step vol write-area snap
+step vol flush-store snap
 step vol publish 30
 stop vol
 create vol 0 128 snapshot-origin base
@@ -1626,7 +2282,9 @@ write vol 0 14848*aa
 start vol write 29 512*aa
 step vol copy-read 30
 step vol copy-write 30
+step vol flush-store snap
 step vol write-area snap
+step vol flush-store snap
 step vol publish 30
 step vol issue 31
 stop vol
@@ -1702,6 +2360,27 @@ write vol 0 15360*aa
 start vol write 30 512*aa
 step vol copy-read 31
 step vol copy-write 31
+step vol flush-store snap
+stop vol
+create vol 0 128 snapshot-origin base
+create snap 0 128 snapshot base cow P 1
+status snap
+read snap 0 128
+read vol 0 128
+remove snap
+remove vol
+remove base
+remove cow
+disk base 128
+disk cow 64
+create vol 0 128 snapshot-origin base
+write vol 0 65536*11
+create snap 0 128 snapshot base cow P 1
+write vol 0 15360*aa
+start vol write 30 512*aa
+step vol copy-read 31
+step vol copy-write 31
+step vol flush-store snap
 step vol write-area snap
 stop vol
 create vol 0 128 snapshot-origin base
@@ -1722,7 +2401,31 @@ write vol 0 15360*aa
 start vol write 30 512*aa
 step vol copy-read 31
 step vol copy-write 31
+step vol flush-store snap
 step vol write-area snap
+step vol flush-store snap
+stop vol
+create vol 0 128 snapshot-origin base
+create snap 0 128 snapshot base cow P 1
+status snap
+read snap 0 128
+read vol 0 128
+remove snap
+remove vol
+remove base
+remove cow
+disk base 128
+disk cow 64
+create vol 0 128 snapshot-origin base
+write vol 0 65536*11
+create snap 0 128 snapshot base cow P 1
+write vol 0 15360*aa
+start vol write 30 512*aa
+step vol copy-read 31
+step vol copy-write 31
+step vol flush-store snap
+step vol write-area snap
+step vol flush-store snap
 step vol publish 31
 stop vol
 create vol 0 128 snapshot-origin base
@@ -1743,7 +2446,9 @@ write vol 0 15360*aa
 start vol write 30 512*aa
 step vol copy-read 31
 step vol copy-write 31
+step vol flush-store snap
 step vol write-area snap
+step vol flush-store snap
 step vol publish 31
 step vol issue 32
 stop vol
@@ -1819,6 +2524,27 @@ write vol 0 15872*aa
 start vol write 31 512*aa
 step vol copy-read 32
 step vol copy-write 32
+step vol flush-store snap
+stop vol
+create vol 0 128 snapshot-origin base
+create snap 0 128 snapshot base cow P 1
+status snap
+read snap 0 128
+read vol 0 128
+remove snap
+remove vol
+remove base
+remove cow
+disk base 128
+disk cow 64
+create vol 0 128 snapshot-origin base
+write vol 0 65536*11
+create snap 0 128 snapshot base cow P 1
+write vol 0 15872*aa
+start vol write 31 512*aa
+step vol copy-read 32
+step vol copy-write 32
+step vol flush-store snap
 step vol zero-next snap
 stop vol
 create vol 0 128 snapshot-origin base
@@ -1839,7 +2565,31 @@ write vol 0 15872*aa
 start vol write 31 512*aa
 step vol copy-read 32
 step vol copy-write 32
+step vol flush-store snap
 step vol zero-next snap
+step vol flush-store snap
+stop vol
+create vol 0 128 snapshot-origin base
+create snap 0 128 snapshot base cow P 1
+status snap
+read snap 0 128
+read vol 0 128
+remove snap
+remove vol
+remove base
+remove cow
+disk base 128
+disk cow 64
+create vol 0 128 snapshot-origin base
+write vol 0 65536*11
+create snap 0 128 snapshot base cow P 1
+write vol 0 15872*aa
+start vol write 31 512*aa
+step vol copy-read 32
+step vol copy-write 32
+step vol flush-store snap
+step vol zero-next snap
+step vol flush-store snap
 step vol write-area snap
 stop vol
 create vol 0 128 snapshot-origin base
@@ -1860,8 +2610,35 @@ write vol 0 15872*aa
 start vol write 31 512*aa
 step vol copy-read 32
 step vol copy-write 32
+step vol flush-store snap
 step vol zero-next snap
+step vol flush-store snap
 step vol write-area snap
+step vol flush-store snap
+stop vol
+create vol 0 128 snapshot-origin base
+create snap 0 128 snapshot base cow P 1
+status snap
+read snap 0 128
+read vol 0 128
+remove snap
+remove vol
+remove base
+remove cow
+disk base 128
+disk cow 64
+create vol 0 128 snapshot-origin base
+write vol 0 65536*11
+create snap 0 128 snapshot base cow P 1
+write vol 0 15872*aa
+start vol write 31 512*aa
+step vol copy-read 32
+step vol copy-write 32
+step vol flush-store snap
+step vol zero-next snap
+step vol flush-store snap
+step vol write-area snap
+step vol flush-store snap
 step vol publish 32
 stop vol
 create vol 0 128 snapshot-origin base
@@ -1882,8 +2659,11 @@ write vol 0 15872*aa
 start vol write 31 512*aa
 step vol copy-read 32
 step vol copy-write 32
+step vol flush-store snap
 step vol zero-next snap
+step vol flush-store snap
 step vol write-area snap
+step vol flush-store snap
 step vol publish 32
 step vol issue 33
 stop vol
@@ -1959,6 +2739,27 @@ write vol 0 16384*aa
 start vol write 32 512*aa
 step vol copy-read 33
 step vol copy-write 33
+step vol flush-store snap
+stop vol
+create vol 0 128 snapshot-origin base
+create snap 0 128 snapshot base cow P 1
+status snap
+read snap 0 128
+read vol 0 128
+remove snap
+remove vol
+remove base
+remove cow
+disk base 128
+disk cow 64
+create vol 0 128 snapshot-origin base
+write vol 0 65536*11
+create snap 0 128 snapshot base cow P 1
+write vol 0 16384*aa
+start vol write 32 512*aa
+step vol copy-read 33
+step vol copy-write 33
+step vol flush-store snap
 step vol write-area snap
 stop vol
 create vol 0 128 snapshot-origin base
@@ -1979,7 +2780,31 @@ write vol 0 16384*aa
 start vol write 32 512*aa
 step vol copy-read 33
 step vol copy-write 33
+step vol flush-store snap
 step vol write-area snap
+step vol flush-store snap
+stop vol
+create vol 0 128 snapshot-origin base
+create snap 0 128 snapshot base cow P 1
+status snap
+read snap 0 128
+read vol 0 128
+remove snap
+remove vol
+remove base
+remove cow
+disk base 128
+disk cow 64
+create vol 0 128 snapshot-origin base
+write vol 0 65536*11
+create snap 0 128 snapshot base cow P 1
+write vol 0 16384*aa
+start vol write 32 512*aa
+step vol copy-read 33
+step vol copy-write 33
+step vol flush-store snap
+step vol write-area snap
+step vol flush-store snap
 step vol publish 33
 stop vol
 create vol 0 128 snapshot-origin base
@@ -2000,7 +2825,9 @@ write vol 0 16384*aa
 start vol write 32 512*aa
 step vol copy-read 33
 step vol copy-write 33
+step vol flush-store snap
 step vol write-area snap
+step vol flush-store snap
 step vol publish 33
 step vol issue 34
 stop vol

@@ -75,6 +75,26 @@ create snap 0 128 snapshot base cow P 1
 start vol write 0 512*aa
 step vol copy-read 1
 step vol copy-write 1
+step vol flush-store snap
+stop vol
+create vol 0 128 snapshot-origin base
+create snap 0 128 snapshot base cow P 1
+status snap
+read snap 0 128
+read vol 0 128
+remove snap
+remove vol
+remove base
+remove cow
+disk base 128
+disk cow 64
+create vol 0 128 snapshot-origin base
+write vol 0 65536*11
+create snap 0 128 snapshot base cow P 1
+start vol write 0 512*aa
+step vol copy-read 1
+step vol copy-write 1
+step vol flush-store snap
 step vol write-area snap
 stop vol
 create vol 0 128 snapshot-origin base
@@ -94,7 +114,30 @@ create snap 0 128 snapshot base cow P 1
 start vol write 0 512*aa
 step vol copy-read 1
 step vol copy-write 1
+step vol flush-store snap
 step vol write-area snap
+step vol flush-store snap
+stop vol
+create vol 0 128 snapshot-origin base
+create snap 0 128 snapshot base cow P 1
+status snap
+read snap 0 128
+read vol 0 128
+remove snap
+remove vol
+remove base
+remove cow
+disk base 128
+disk cow 64
+create vol 0 128 snapshot-origin base
+write vol 0 65536*11
+create snap 0 128 snapshot base cow P 1
+start vol write 0 512*aa
+step vol copy-read 1
+step vol copy-write 1
+step vol flush-store snap
+step vol write-area snap
+step vol flush-store snap
 step vol publish 1
 stop vol
 create vol 0 128 snapshot-origin base
@@ -114,7 +157,9 @@ create snap 0 128 snapshot base cow P 1
 start vol write 0 512*aa
 step vol copy-read 1
 step vol copy-write 1
+step vol flush-store snap
 step vol write-area snap
+step vol flush-store snap
 step vol publish 1
 step vol issue 2
 stop vol
@@ -190,6 +235,27 @@ write vol 0 512*aa
 start vol write 1 512*aa
 step vol copy-read 2
 step vol copy-write 2
+step vol flush-store snap
+stop vol
+create vol 0 128 snapshot-origin base
+create snap 0 128 snapshot base cow P 1
+status snap
+read snap 0 128
+read vol 0 128
+remove snap
+remove vol
+remove base
+remove cow
+disk base 128
+disk cow 64
+create vol 0 128 snapshot-origin base
+write vol 0 65536*11
+create snap 0 128 snapshot base cow P 1
+write vol 0 512*aa
+start vol write 1 512*aa
+step vol copy-read 2
+step vol copy-write 2
+step vol flush-store snap
 step vol write-area snap
 stop vol
 create vol 0 128 snapshot-origin base
@@ -210,7 +276,31 @@ write vol 0 512*aa
 start vol write 1 512*aa
 step vol copy-read 2
 step vol copy-write 2
+step vol flush-store snap
 step vol write-area snap
+step vol flush-store snap
+stop vol
+create vol 0 128 snapshot-origin base
+create snap 0 128 snapshot base cow P 1
+status snap
+read snap 0 128
+read vol 0 128
+remove snap
+remove vol
+remove base
+remove cow
+disk base 128
+disk cow 64
+create vol 0 128 snapshot-origin base
+write vol 0 65536*11
+create snap 0 128 snapshot base cow P 1
+write vol 0 512*aa
+start vol write 1 512*aa
+step vol copy-read 2
+step vol copy-write 2
+step vol flush-store snap
+step vol write-area snap
+step vol flush-store snap
 step vol publish 2
 stop vol
 create vol 0 128 snapshot-origin base
@@ -231,7 +321,9 @@ write vol 0 512*aa
 start vol write 1 512*aa
 step vol copy-read 2
 step vol copy-write 2
+step vol flush-store snap
 step vol write-area snap
+step vol flush-store snap
 step vol publish 2
 step vol issue 3
 stop vol
@@ -307,6 +399,27 @@ write vol 0 1024*aa
 start vol write 2 512*aa
 step vol copy-read 3
 step vol copy-write 3
+step vol flush-store snap
+stop vol
+create vol 0 128 snapshot-origin base
+create snap 0 128 snapshot base cow P 1
+status snap
+read snap 0 128
+read vol 0 128
+remove snap
+remove vol
+remove base
+remove cow
+disk base 128
+disk cow 64
+create vol 0 128 snapshot-origin base
+write vol 0 65536*11
+create snap 0 128 snapshot base cow P 1
+write vol 0 1024*aa
+start vol write 2 512*aa
+step vol copy-read 3
+step vol copy-write 3
+step vol flush-store snap
 step vol write-area snap
 stop vol
 create vol 0 128 snapshot-origin base
@@ -327,7 +440,31 @@ write vol 0 1024*aa
 start vol write 2 512*aa
 step vol copy-read 3
 step vol copy-write 3
+step vol flush-store snap
 step vol write-area snap
+step vol flush-store snap
+stop vol
+create vol 0 128 snapshot-origin base
+create snap 0 128 snapshot base cow P 1
+status snap
+read snap 0 128
+read vol 0 128
+remove snap
+remove vol
+remove base
+remove cow
+disk base 128
+disk cow 64
+create vol 0 128 snapshot-origin base
+write vol 0 65536*11
+create snap 0 128 snapshot base cow P 1
+write vol 0 1024*aa
+start vol write 2 512*aa
+step vol copy-read 3
+step vol copy-write 3
+step vol flush-store snap
+step vol write-area snap
+step vol flush-store snap
 step vol publish 3
 stop vol
 create vol 0 128 snapshot-origin base
@@ -348,7 +485,9 @@ write vol 0 1024*aa
 start vol write 2 512*aa
 step vol copy-read 3
 step vol copy-write 3
+step vol flush-store snap
 step vol write-area snap
+step vol flush-store snap
 step vol publish 3
 step vol issue 4
 stop vol
@@ -424,6 +563,27 @@ write vol 0 1536*aa
 start vol write 3 512*aa
 step vol copy-read 4
 step vol copy-write 4
+step vol flush-store snap
+stop vol
+create vol 0 128 snapshot-origin base
+create snap 0 128 snapshot base cow P 1
+status snap
+read snap 0 128
+read vol 0 128
+remove snap
+remove vol
+remove base
+remove cow
+disk base 128
+disk cow 64
+create vol 0 128 snapshot-origin base
+write vol 0 65536*11
+create snap 0 128 snapshot base cow P 1
+write vol 0 1536*aa
+start vol write 3 512*aa
+step vol copy-read 4
+step vol copy-write 4
+step vol flush-store snap
 step vol write-area snap
 stop vol
 create vol 0 128 snapshot-origin base
@@ -444,7 +604,31 @@ write vol 0 1536*aa
 start vol write 3 512*aa
 step vol copy-read 4
 step vol copy-write 4
+step vol flush-store snap
 step vol write-area snap
+step vol flush-store snap
+stop vol
+create vol 0 128 snapshot-origin base
+create snap 0 128 snapshot base cow P 1
+status snap
+read snap 0 128
+read vol 0 128
+remove snap
+remove vol
+remove base
+remove cow
+disk base 128
+disk cow 64
+create vol 0 128 snapshot-origin base
+write vol 0 65536*11
+create snap 0 128 snapshot base cow P 1
+write vol 0 1536*aa
+start vol write 3 512*aa
+step vol copy-read 4
+step vol copy-write 4
+step vol flush-store snap
+step vol write-area snap
+step vol flush-store snap
 step vol publish 4
 stop vol
 create vol 0 128 snapshot-origin base
@@ -465,7 +649,9 @@ write vol 0 1536*aa
 start vol write 3 512*aa
 step vol copy-read 4
 step vol copy-write 4
+step vol flush-store snap
 step vol write-area snap
+step vol flush-store snap
 step vol publish 4
 step vol issue 5
 stop vol
@@ -541,6 +727,27 @@ write vol 0 2048*aa
 start vol write 4 512*aa
 step vol copy-read 5
 step vol copy-write 5
+step vol flush-store snap
+stop vol
+create vol 0 128 snapshot-origin base
+create snap 0 128 snapshot base cow P 1
+status snap
+read snap 0 128
+read vol 0 128
+remove snap
+remove vol
+remove base
+remove cow
+disk base 128
+disk cow 64
+create vol 0 128 snapshot-origin base
+write vol 0 65536*11
+create snap 0 128 snapshot base cow P 1
+write vol 0 2048*aa
+start vol write 4 512*aa
+step vol copy-read 5
+step vol copy-write 5
+step vol flush-store snap
 step vol write-area snap
 stop vol
 create vol 0 128 snapshot-origin base
@@ -561,7 +768,31 @@ write vol 0 2048*aa
 start vol write 4 512*aa
 step vol copy-read 5
 step vol copy-write 5
+step vol flush-store snap
 step vol write-area snap
+step vol flush-store snap
+stop vol
+create vol 0 128 snapshot-origin base
+create snap 0 128 snapshot base cow P 1
+status snap
+read snap 0 128
+read vol 0 128
+remove snap
+remove vol
+remove base
+remove cow
+disk base 128
+disk cow 64
+create vol 0 128 snapshot-origin base
+write vol 0 65536*11
+create snap 0 128 snapshot base cow P 1
+write vol 0 2048*aa
+start vol write 4 512*aa
+step vol copy-read 5
+step vol copy-write 5
+step vol flush-store snap
+step vol write-area snap
+step vol flush-store snap
 step vol publish 5
 stop vol
 create vol 0 128 snapshot-origin base
@@ -582,7 +813,9 @@ write vol 0 2048*aa
 start vol write 4 512*aa
 step vol copy-read 5
 step vol copy-write 5
+step vol flush-store snap
 step vol write-area snap
+step vol flush-store snap
 step vol publish 5
 step vol issue 6
 stop vol
@@ -658,6 +891,27 @@ write vol 0 2560*aa
 start vol write 5 512*aa
 step vol copy-read 6
 step vol copy-write 6
+step vol flush-store snap
+stop vol
+create vol 0 128 snapshot-origin base
+create snap 0 128 snapshot base cow P 1
+status snap
+read snap 0 128
+read vol 0 128
+remove snap
+remove vol
+remove base
+remove cow
+disk base 128
+disk cow 64
+create vol 0 128 snapshot-origin base
+write vol 0 65536*11
+create snap 0 128 snapshot base cow P 1
+write vol 0 2560*aa
+start vol write 5 512*aa
+step vol copy-read 6
+step vol copy-write 6
+step vol flush-store snap
 step vol write-area snap
 stop vol
 create vol 0 128 snapshot-origin base
@@ -678,7 +932,31 @@ write vol 0 2560*aa
 start vol write 5 512*aa
 step vol copy-read 6
 step vol copy-write 6
+step vol flush-store snap
 step vol write-area snap
+step vol flush-store snap
+stop vol
+create vol 0 128 snapshot-origin base
+create snap 0 128 snapshot base cow P 1
+status snap
+read snap 0 128
+read vol 0 128
+remove snap
+remove vol
+remove base
+remove cow
+disk base 128
+disk cow 64
+create vol 0 128 snapshot-origin base
+write vol 0 65536*11
+create snap 0 128 snapshot base cow P 1
+write vol 0 2560*aa
+start vol write 5 512*aa
+step vol copy-read 6
+step vol copy-write 6
+step vol flush-store snap
+step vol write-area snap
+step vol flush-store snap
 step vol publish 6
 stop vol
 create vol 0 128 snapshot-origin base
@@ -699,7 +977,9 @@ write vol 0 2560*aa
 start vol write 5 512*aa
 step vol copy-read 6
 step vol copy-write 6
+step vol flush-store snap
 step vol write-area snap
+step vol flush-store snap
 step vol publish 6
 step vol issue 7
 stop vol
@@ -775,6 +1055,27 @@ write vol 0 3072*aa
 start vol write 6 512*aa
 step vol copy-read 7
 step vol copy-write 7
+step vol flush-store snap
+stop vol
+create vol 0 128 snapshot-origin base
+create snap 0 128 snapshot base cow P 1
+status snap
+read snap 0 128
+read vol 0 128
+remove snap
+remove vol
+remove base
+remove cow
+disk base 128
+disk cow 64
+create vol 0 128 snapshot-origin base
+write vol 0 65536*11
+create snap 0 128 snapshot base cow P 1
+write vol 0 3072*aa
+start vol write 6 512*aa
+step vol copy-read 7
+step vol copy-write 7
+step vol flush-store snap
 step vol write-area snap
 stop vol
 create vol 0 128 snapshot-origin base
@@ -795,7 +1096,31 @@ write vol 0 3072*aa
 start vol write 6 512*aa
 step vol copy-read 7
 step vol copy-write 7
+step vol flush-store snap
 step vol write-area snap
+step vol flush-store snap
+stop vol
+create vol 0 128 snapshot-origin base
+create snap 0 128 snapshot base cow P 1
+status snap
+read snap 0 128
+read vol 0 128
+remove snap
+remove vol
+remove base
+remove cow
+disk base 128
+disk cow 64
+create vol 0 128 snapshot-origin base
+write vol 0 65536*11
+create snap 0 128 snapshot base cow P 1
+write vol 0 3072*aa
+start vol write 6 512*aa
+step vol copy-read 7
+step vol copy-write 7
+step vol flush-store snap
+step vol write-area snap
+step vol flush-store snap
 step vol publish 7
 stop vol
 create vol 0 128 snapshot-origin base
@@ -816,7 +1141,9 @@ write vol 0 3072*aa
 start vol write 6 512*aa
 step vol copy-read 7
 step vol copy-write 7
+step vol flush-store snap
 step vol write-area snap
+step vol flush-store snap
 step vol publish 7
 step vol issue 8
 stop vol
@@ -892,6 +1219,27 @@ write vol 0 3584*aa
 start vol write 7 512*aa
 step vol copy-read 8
 step vol copy-write 8
+step vol flush-store snap
+stop vol
+create vol 0 128 snapshot-origin base
+create snap 0 128 snapshot base cow P 1
+status snap
+read snap 0 128
+read vol 0 128
+remove snap
+remove vol
+remove base
+remove cow
+disk base 128
+disk cow 64
+create vol 0 128 snapshot-origin base
+write vol 0 65536*11
+create snap 0 128 snapshot base cow P 1
+write vol 0 3584*aa
+start vol write 7 512*aa
+step vol copy-read 8
+step vol copy-write 8
+step vol flush-store snap
 step vol write-area snap
 stop vol
 create vol 0 128 snapshot-origin base
@@ -912,7 +1260,31 @@ write vol 0 3584*aa
 start vol write 7 512*aa
 step vol copy-read 8
 step vol copy-write 8
+step vol flush-store snap
 step vol write-area snap
+step vol flush-store snap
+stop vol
+create vol 0 128 snapshot-origin base
+create snap 0 128 snapshot base cow P 1
+status snap
+read snap 0 128
+read vol 0 128
+remove snap
+remove vol
+remove base
+remove cow
+disk base 128
+disk cow 64
+create vol 0 128 snapshot-origin base
+write vol 0 65536*11
+create snap 0 128 snapshot base cow P 1
+write vol 0 3584*aa
+start vol write 7 512*aa
+step vol copy-read 8
+step vol copy-write 8
+step vol flush-store snap
+step vol write-area snap
+step vol flush-store snap
 step vol publish 8
 stop vol
 create vol 0 128 snapshot-origin base
@@ -933,7 +1305,9 @@ write vol 0 3584*aa
 start vol write 7 512*aa
 step vol copy-read 8
 step vol copy-write 8
+step vol flush-store snap
 step vol write-area snap
+step vol flush-store snap
 step vol publish 8
 step vol issue 9
 stop vol
@@ -1009,6 +1383,27 @@ write vol 0 4096*aa
 start vol write 8 512*aa
 step vol copy-read 9
 step vol copy-write 9
+step vol flush-store snap
+stop vol
+create vol 0 128 snapshot-origin base
+create snap 0 128 snapshot base cow P 1
+status snap
+read snap 0 128
+read vol 0 128
+remove snap
+remove vol
+remove base
+remove cow
+disk base 128
+disk cow 64
+create vol 0 128 snapshot-origin base
+write vol 0 65536*11
+create snap 0 128 snapshot base cow P 1
+write vol 0 4096*aa
+start vol write 8 512*aa
+step vol copy-read 9
+step vol copy-write 9
+step vol flush-store snap
 step vol write-area snap
 stop vol
 create vol 0 128 snapshot-origin base
@@ -1029,7 +1424,31 @@ write vol 0 4096*aa
 start vol write 8 512*aa
 step vol copy-read 9
 step vol copy-write 9
+step vol flush-store snap
 step vol write-area snap
+step vol flush-store snap
+stop vol
+create vol 0 128 snapshot-origin base
+create snap 0 128 snapshot base cow P 1
+status snap
+read snap 0 128
+read vol 0 128
+remove snap
+remove vol
+remove base
+remove cow
+disk base 128
+disk cow 64
+create vol 0 128 snapshot-origin base
+write vol 0 65536*11
+create snap 0 128 snapshot base cow P 1
+write vol 0 4096*aa
+start vol write 8 512*aa
+step vol copy-read 9
+step vol copy-write 9
+step vol flush-store snap
+step vol write-area snap
+step vol flush-store snap
 step vol publish 9
 stop vol
 create vol 0 128 snapshot-origin base
@@ -1050,7 +1469,9 @@ write vol 0 4096*aa
 start vol write 8 512*aa
 step vol copy-read 9
 step vol copy-write 9
+step vol flush-store snap
 step vol write-area snap
+step vol flush-store snap
 step vol publish 9
 step vol issue 10
 stop vol
@@ -1126,6 +1547,27 @@ write vol 0 4608*aa
 start vol write 9 512*aa
 step vol copy-read 10
 step vol copy-write 10
+step vol flush-store snap
+stop vol
+create vol 0 128 snapshot-origin base
+create snap 0 128 snapshot base cow P 1
+status snap
+read snap 0 128
+read vol 0 128
+remove snap
+remove vol
+remove base
+remove cow
+disk base 128
+disk cow 64
+create vol 0 128 snapshot-origin base
+write vol 0 65536*11
+create snap 0 128 snapshot base cow P 1
+write vol 0 4608*aa
+start vol write 9 512*aa
+step vol copy-read 10
+step vol copy-write 10
+step vol flush-store snap
 step vol write-area snap
 stop vol
 create vol 0 128 snapshot-origin base
@@ -1146,7 +1588,31 @@ write vol 0 4608*aa
 start vol write 9 512*aa
 step vol copy-read 10
 step vol copy-write 10
+step vol flush-store snap
 step vol write-area snap
+step vol flush-store snap
+stop vol
+create vol 0 128 snapshot-origin base
+create snap 0 128 snapshot base cow P 1
+status snap
+read snap 0 128
+read vol 0 128
+remove snap
+remove vol
+remove base
+remove cow
+disk base 128
+disk cow 64
+create vol 0 128 snapshot-origin base
+write vol 0 65536*11
+create snap 0 128 snapshot base cow P 1
+write vol 0 4608*aa
+start vol write 9 512*aa
+step vol copy-read 10
+step vol copy-write 10
+step vol flush-store snap
+step vol write-area snap
+step vol flush-store snap
 step vol publish 10
 stop vol
 create vol 0 128 snapshot-origin base
@@ -1167,7 +1633,9 @@ write vol 0 4608*aa
 start vol write 9 512*aa
 step vol copy-read 10
 step vol copy-write 10
+step vol flush-store snap
 step vol write-area snap
+step vol flush-store snap
 step vol publish 10
 step vol issue 11
 stop vol
@@ -1243,6 +1711,27 @@ write vol 0 5120*aa
 start vol write 10 512*aa
 step vol copy-read 11
 step vol copy-write 11
+step vol flush-store snap
+stop vol
+create vol 0 128 snapshot-origin base
+create snap 0 128 snapshot base cow P 1
+status snap
+read snap 0 128
+read vol 0 128
+remove snap
+remove vol
+remove base
+remove cow
+disk base 128
+disk cow 64
+create vol 0 128 snapshot-origin base
+write vol 0 65536*11
+create snap 0 128 snapshot base cow P 1
+write vol 0 5120*aa
+start vol write 10 512*aa
+step vol copy-read 11
+step vol copy-write 11
+step vol flush-store snap
 step vol write-area snap
 stop vol
 create vol 0 128 snapshot-origin base
@@ -1263,7 +1752,31 @@ write vol 0 5120*aa
 start vol write 10 512*aa
 step vol copy-read 11
 step vol copy-write 11
+step vol flush-store snap
 step vol write-area snap
+step vol flush-store snap
+stop vol
+create vol 0 128 snapshot-origin base
+create snap 0 128 snapshot base cow P 1
+status snap
+read snap 0 128
+read vol 0 128
+remove snap
+remove vol
+remove base
+remove cow
+disk base 128
+disk cow 64
+create vol 0 128 snapshot-origin base
+write vol 0 65536*11
+create snap 0 128 snapshot base cow P 1
+write vol 0 5120*aa
+start vol write 10 512*aa
+step vol copy-read 11
+step vol copy-write 11
+step vol flush-store snap
+step vol write-area snap
+step vol flush-store snap
 step vol publish 11
 stop vol
 create vol 0 128 snapshot-origin base
@@ -1284,7 +1797,9 @@ write vol 0 5120*aa
 start vol write 10 512*aa
 step vol copy-read 11
 step vol copy-write 11
+step vol flush-store snap
 step vol write-area snap
+step vol flush-store snap
 step vol publish 11
 step vol issue 12
 stop vol
@@ -1360,6 +1875,27 @@ write vol 0 5632*aa
 start vol write 11 512*aa
 step vol copy-read 12
 step vol copy-write 12
+step vol flush-store snap
+stop vol
+create vol 0 128 snapshot-origin base
+create snap 0 128 snapshot base cow P 1
+status snap
+read snap 0 128
+read vol 0 128
+remove snap
+remove vol
+remove base
+remove cow
+disk base 128
+disk cow 64
+create vol 0 128 snapshot-origin base
+write vol 0 65536*11
+create snap 0 128 snapshot base cow P 1
+write vol 0 5632*aa
+start vol write 11 512*aa
+step vol copy-read 12
+step vol copy-write 12
+step vol flush-store snap
 step vol write-area snap
 stop vol
 create vol 0 128 snapshot-origin base
@@ -1380,7 +1916,31 @@ write vol 0 5632*aa
 start vol write 11 512*aa
 step vol copy-read 12
 step vol copy-write 12
+step vol flush-store snap
 step vol write-area snap
+step vol flush-store snap
+stop vol
+create vol 0 128 snapshot-origin base
+create snap 0 128 snapshot base cow P 1
+status snap
+read snap 0 128
+read vol 0 128
+remove snap
+remove vol
+remove base
+remove cow
+disk base 128
+disk cow 64
+create vol 0 128 snapshot-origin base
+write vol 0 65536*11
+create snap 0 128 snapshot base cow P 1
+write vol 0 5632*aa
+start vol write 11 512*aa
+step vol copy-read 12
+step vol copy-write 12
+step vol flush-store snap
+step vol write-area snap
+step vol flush-store snap
 step vol publish 12
 stop vol
 create vol 0 128 snapshot-origin base
@@ -1401,7 +1961,9 @@ write vol 0 5632*aa
 start vol write 11 512*aa
 step vol copy-read 12
 step vol copy-write 12
+step vol flush-store snap
 step vol write-area snap
+step vol flush-store snap
 step vol publish 12
 step vol issue 13
 stop vol
@@ -1477,6 +2039,27 @@ write vol 0 6144*aa
 start vol write 12 512*aa
 step vol copy-read 13
 step vol copy-write 13
+step vol flush-store snap
+stop vol
+create vol 0 128 snapshot-origin base
+create snap 0 128 snapshot base cow P 1
+status snap
+read snap 0 128
+read vol 0 128
+remove snap
+remove vol
+remove base
+remove cow
+disk base 128
+disk cow 64
+create vol 0 128 snapshot-origin base
+write vol 0 65536*11
+create snap 0 128 snapshot base cow P 1
+write vol 0 6144*aa
+start vol write 12 512*aa
+step vol copy-read 13
+step vol copy-write 13
+step vol flush-store snap
 step vol write-area snap
 stop vol
 create vol 0 128 snapshot-origin base
@@ -1497,7 +2080,31 @@ write vol 0 6144*aa
 start vol write 12 512*aa
 step vol copy-read 13
 step vol copy-write 13
+step vol flush-store snap
 step vol write-area snap
+step vol flush-store snap
+stop vol
+create vol 0 128 snapshot-origin base
+create snap 0 128 snapshot base cow P 1
+status snap
+read snap 0 128
+read vol 0 128
+remove snap
+remove vol
+remove base
+remove cow
+disk base 128
+disk cow 64
+create vol 0 128 snapshot-origin base
+write vol 0 65536*11
+create snap 0 128 snapshot base cow P 1
+write vol 0 6144*aa
+start vol write 12 512*aa
+step vol copy-read 13
+step vol copy-write 13
+step vol flush-store snap
+step vol write-area snap
+step vol flush-store snap
 step vol publish 13
 stop vol
 create vol 0 128 snapshot-origin base
@@ -1518,7 +2125,9 @@ write vol 0 6144*aa
 start vol write 12 512*aa
 step vol copy-read 13
 step vol copy-write 13
+step vol flush-store snap
 step vol write-area snap
+step vol flush-store snap
 step vol publish 13
 step vol issue 14
 stop vol
@@ -1594,6 +2203,27 @@ write vol 0 6656*aa
 start vol write 13 512*aa
 step vol copy-read 14
 step vol copy-write 14
+step vol flush-store snap
+stop vol
+create vol 0 128 snapshot-origin base
+create snap 0 128 snapshot base cow P 1
+status snap
+read snap 0 128
+read vol 0 128
+remove snap
+remove vol
+remove base
+remove cow
+disk base 128
+disk cow 64
+create vol 0 128 snapshot-origin base
+write vol 0 65536*11
+create snap 0 128 snapshot base cow P 1
+write vol 0 6656*aa
+start vol write 13 512*aa
+step vol copy-read 14
+step vol copy-write 14
+step vol flush-store snap
 step vol write-area snap
 stop vol
 create vol 0 128 snapshot-origin base
@@ -1614,7 +2244,31 @@ write vol 0 6656*aa
 start vol write 13 512*aa
 step vol copy-read 14
 step vol copy-write 14
+step vol flush-store snap
 step vol write-area snap
+step vol flush-store snap
+stop vol
+create vol 0 128 snapshot-origin base
+create snap 0 128 snapshot base cow P 1
+status snap
+read snap 0 128
+read vol 0 128
+remove snap
+remove vol
+remove base
+remove cow
+disk base 128
+disk cow 64
+create vol 0 128 snapshot-origin base
+write vol 0 65536*11
+create snap 0 128 snapshot base cow P 1
+write vol 0 6656*aa
+start vol write 13 512*aa
+step vol copy-read 14
+step vol copy-write 14
+step vol flush-store snap
+step vol write-area snap
+step vol flush-store snap
 step vol publish 14
 stop vol
 create vol 0 128 snapshot-origin base
@@ -1635,7 +2289,9 @@ write vol 0 6656*aa
 start vol write 13 512*aa
 step vol copy-read 14
 step vol copy-write 14
+step vol flush-store snap
 step vol write-area snap
+step vol flush-store snap
 step vol publish 14
 step vol issue 15
 stop vol
@@ -1711,6 +2367,27 @@ write vol 0 7168*aa
 start vol write 14 512*aa
 step vol copy-read 15
 step vol copy-write 15
+step vol flush-store snap
+stop vol
+create vol 0 128 snapshot-origin base
+create snap 0 128 snapshot base cow P 1
+status snap
+read snap 0 128
+read vol 0 128
+remove snap
+remove vol
+remove base
+remove cow
+disk base 128
+disk cow 64
+create vol 0 128 snapshot-origin base
+write vol 0 65536*11
+create snap 0 128 snapshot base cow P 1
+write vol 0 7168*aa
+start vol write 14 512*aa
+step vol copy-read 15
+step vol copy-write 15
+step vol flush-store snap
 step vol write-area snap
 stop vol
 create vol 0 128 snapshot-origin base
@@ -1731,7 +2408,31 @@ write vol 0 7168*aa
 start vol write 14 512*aa
 step vol copy-read 15
 step vol copy-write 15
+step vol flush-store snap
 step vol write-area snap
+step vol flush-store snap
+stop vol
+create vol 0 128 snapshot-origin base
+create snap 0 128 snapshot base cow P 1
+status snap
+read snap 0 128
+read vol 0 128
+remove snap
+remove vol
+remove base
+remove cow
+disk base 128
+disk cow 64
+create vol 0 128 snapshot-origin base
+write vol 0 65536*11
+create snap 0 128 snapshot base cow P 1
+write vol 0 7168*aa
+start vol write 14 512*aa
+step vol copy-read 15
+step vol copy-write 15
+step vol flush-store snap
+step vol write-area snap
+step vol flush-store snap
 step vol publish 15
 stop vol
 create vol 0 128 snapshot-origin base
@@ -1752,7 +2453,9 @@ write vol 0 7168*aa
 start vol write 14 512*aa
 step vol copy-read 15
 step vol copy-write 15
+step vol flush-store snap
 step vol write-area snap
+step vol flush-store snap
 step vol publish 15
 step vol issue 16
 stop vol
@@ -1828,6 +2531,27 @@ write vol 0 7680*aa
 start vol write 15 512*aa
 step vol copy-read 16
 step vol copy-write 16
+step vol flush-store snap
+stop vol
+create vol 0 128 snapshot-origin base
+create snap 0 128 snapshot base cow P 1
+status snap
+read snap 0 128
+read vol 0 128
+remove snap
+remove vol
+remove base
+remove cow
+disk base 128
+disk cow 64
+create vol 0 128 snapshot-origin base
+write vol 0 65536*11
+create snap 0 128 snapshot base cow P 1
+write vol 0 7680*aa
+start vol write 15 512*aa
+step vol copy-read 16
+step vol copy-write 16
+step vol flush-store snap
 step vol write-area snap
 stop vol
 create vol 0 128 snapshot-origin base
@@ -1848,7 +2572,31 @@ write vol 0 7680*aa
 start vol write 15 512*aa
 step vol copy-read 16
 step vol copy-write 16
+step vol flush-store snap
 step vol write-area snap
+step vol flush-store snap
+stop vol
+create vol 0 128 snapshot-origin base
+create snap 0 128 snapshot base cow P 1
+status snap
+read snap 0 128
+read vol 0 128
+remove snap
+remove vol
+remove base
+remove cow
+disk base 128
+disk cow 64
+create vol 0 128 snapshot-origin base
+write vol 0 65536*11
+create snap 0 128 snapshot base cow P 1
+write vol 0 7680*aa
+start vol write 15 512*aa
+step vol copy-read 16
+step vol copy-write 16
+step vol flush-store snap
+step vol write-area snap
+step vol flush-store snap
 step vol publish 16
 stop vol
 create vol 0 128 snapshot-origin base
@@ -1869,7 +2617,9 @@ write vol 0 7680*aa
 start vol write 15 512*aa
 step vol copy-read 16
 step vol copy-write 16
+step vol flush-store snap
 step vol write-area snap
+step vol flush-store snap
 step vol publish 16
 step vol issue 17
 stop vol

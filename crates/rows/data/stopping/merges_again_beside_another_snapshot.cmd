@@ -97,6 +97,31 @@ create s2 0 128 snapshot base cow2 P 1
 start snap write 9 512*77
 step vol copy-read 1
 step vol copy-write 1
+step vol flush-store snap
+stop vol
+create vol 0 128 snapshot-origin base
+create snap 0 128 snapshot base cow P 1
+create s2 0 128 snapshot base cow2 P 1
+read snap 0 128
+read s2 0 128
+read vol 0 128
+remove snap
+remove s2
+remove vol
+remove base
+remove cow
+remove cow2
+disk base 128
+disk cow 64
+create vol 0 128 snapshot-origin base
+write vol 0 65536*11
+create snap 0 128 snapshot base cow P 1
+disk cow2 64
+create s2 0 128 snapshot base cow2 P 1
+start snap write 9 512*77
+step vol copy-read 1
+step vol copy-write 1
+step vol flush-store snap
 step vol write-area snap
 stop vol
 create vol 0 128 snapshot-origin base
@@ -121,7 +146,35 @@ create s2 0 128 snapshot base cow2 P 1
 start snap write 9 512*77
 step vol copy-read 1
 step vol copy-write 1
+step vol flush-store snap
 step vol write-area snap
+step vol flush-store snap
+stop vol
+create vol 0 128 snapshot-origin base
+create snap 0 128 snapshot base cow P 1
+create s2 0 128 snapshot base cow2 P 1
+read snap 0 128
+read s2 0 128
+read vol 0 128
+remove snap
+remove s2
+remove vol
+remove base
+remove cow
+remove cow2
+disk base 128
+disk cow 64
+create vol 0 128 snapshot-origin base
+write vol 0 65536*11
+create snap 0 128 snapshot base cow P 1
+disk cow2 64
+create s2 0 128 snapshot base cow2 P 1
+start snap write 9 512*77
+step vol copy-read 1
+step vol copy-write 1
+step vol flush-store snap
+step vol write-area snap
+step vol flush-store snap
 step vol publish 1
 stop vol
 create vol 0 128 snapshot-origin base
@@ -146,7 +199,9 @@ create s2 0 128 snapshot base cow2 P 1
 start snap write 9 512*77
 step vol copy-read 1
 step vol copy-write 1
+step vol flush-store snap
 step vol write-area snap
+step vol flush-store snap
 step vol publish 1
 step vol issue 2
 stop vol
@@ -172,7 +227,9 @@ create s2 0 128 snapshot base cow2 P 1
 start snap write 9 512*77
 step vol copy-read 1
 step vol copy-write 1
+step vol flush-store snap
 step vol write-area snap
+step vol flush-store snap
 step vol publish 1
 step vol issue 2
 start vol write 5 512*aa
@@ -199,7 +256,9 @@ create s2 0 128 snapshot base cow2 P 1
 start snap write 9 512*77
 step vol copy-read 1
 step vol copy-write 1
+step vol flush-store snap
 step vol write-area snap
+step vol flush-store snap
 step vol publish 1
 step vol issue 2
 start vol write 5 512*aa
@@ -227,7 +286,9 @@ create s2 0 128 snapshot base cow2 P 1
 start snap write 9 512*77
 step vol copy-read 1
 step vol copy-write 1
+step vol flush-store snap
 step vol write-area snap
+step vol flush-store snap
 step vol publish 1
 step vol issue 2
 start vol write 5 512*aa
@@ -256,12 +317,47 @@ create s2 0 128 snapshot base cow2 P 1
 start snap write 9 512*77
 step vol copy-read 1
 step vol copy-write 1
+step vol flush-store snap
 step vol write-area snap
+step vol flush-store snap
 step vol publish 1
 step vol issue 2
 start vol write 5 512*aa
 step vol copy-read 2
 step vol copy-write 2
+step vol flush-store snap
+stop vol
+create vol 0 128 snapshot-origin base
+create snap 0 128 snapshot base cow P 1
+create s2 0 128 snapshot base cow2 P 1
+read snap 0 128
+read s2 0 128
+read vol 0 128
+remove snap
+remove s2
+remove vol
+remove base
+remove cow
+remove cow2
+disk base 128
+disk cow 64
+create vol 0 128 snapshot-origin base
+write vol 0 65536*11
+create snap 0 128 snapshot base cow P 1
+disk cow2 64
+create s2 0 128 snapshot base cow2 P 1
+start snap write 9 512*77
+step vol copy-read 1
+step vol copy-write 1
+step vol flush-store snap
+step vol write-area snap
+step vol flush-store snap
+step vol publish 1
+step vol issue 2
+start vol write 5 512*aa
+step vol copy-read 2
+step vol copy-write 2
+step vol flush-store snap
 step vol write-area snap
 stop vol
 create vol 0 128 snapshot-origin base
@@ -286,13 +382,51 @@ create s2 0 128 snapshot base cow2 P 1
 start snap write 9 512*77
 step vol copy-read 1
 step vol copy-write 1
+step vol flush-store snap
 step vol write-area snap
+step vol flush-store snap
 step vol publish 1
 step vol issue 2
 start vol write 5 512*aa
 step vol copy-read 2
 step vol copy-write 2
+step vol flush-store snap
 step vol write-area snap
+step vol flush-store snap
+stop vol
+create vol 0 128 snapshot-origin base
+create snap 0 128 snapshot base cow P 1
+create s2 0 128 snapshot base cow2 P 1
+read snap 0 128
+read s2 0 128
+read vol 0 128
+remove snap
+remove s2
+remove vol
+remove base
+remove cow
+remove cow2
+disk base 128
+disk cow 64
+create vol 0 128 snapshot-origin base
+write vol 0 65536*11
+create snap 0 128 snapshot base cow P 1
+disk cow2 64
+create s2 0 128 snapshot base cow2 P 1
+start snap write 9 512*77
+step vol copy-read 1
+step vol copy-write 1
+step vol flush-store snap
+step vol write-area snap
+step vol flush-store snap
+step vol publish 1
+step vol issue 2
+start vol write 5 512*aa
+step vol copy-read 2
+step vol copy-write 2
+step vol flush-store snap
+step vol write-area snap
+step vol flush-store snap
 step vol publish 2
 stop vol
 create vol 0 128 snapshot-origin base
@@ -317,13 +451,17 @@ create s2 0 128 snapshot base cow2 P 1
 start snap write 9 512*77
 step vol copy-read 1
 step vol copy-write 1
+step vol flush-store snap
 step vol write-area snap
+step vol flush-store snap
 step vol publish 1
 step vol issue 2
 start vol write 5 512*aa
 step vol copy-read 2
 step vol copy-write 2
+step vol flush-store snap
 step vol write-area snap
+step vol flush-store snap
 step vol publish 2
 step vol copy-read 3
 stop vol
@@ -349,13 +487,17 @@ create s2 0 128 snapshot base cow2 P 1
 start snap write 9 512*77
 step vol copy-read 1
 step vol copy-write 1
+step vol flush-store snap
 step vol write-area snap
+step vol flush-store snap
 step vol publish 1
 step vol issue 2
 start vol write 5 512*aa
 step vol copy-read 2
 step vol copy-write 2
+step vol flush-store snap
 step vol write-area snap
+step vol flush-store snap
 step vol publish 2
 step vol copy-read 3
 step vol copy-write 3
@@ -382,16 +524,59 @@ create s2 0 128 snapshot base cow2 P 1
 start snap write 9 512*77
 step vol copy-read 1
 step vol copy-write 1
+step vol flush-store snap
 step vol write-area snap
+step vol flush-store snap
 step vol publish 1
 step vol issue 2
 start vol write 5 512*aa
 step vol copy-read 2
 step vol copy-write 2
+step vol flush-store snap
 step vol write-area snap
+step vol flush-store snap
 step vol publish 2
 step vol copy-read 3
 step vol copy-write 3
+step vol flush-store s2
+stop vol
+create vol 0 128 snapshot-origin base
+create snap 0 128 snapshot base cow P 1
+create s2 0 128 snapshot base cow2 P 1
+read snap 0 128
+read s2 0 128
+read vol 0 128
+remove snap
+remove s2
+remove vol
+remove base
+remove cow
+remove cow2
+disk base 128
+disk cow 64
+create vol 0 128 snapshot-origin base
+write vol 0 65536*11
+create snap 0 128 snapshot base cow P 1
+disk cow2 64
+create s2 0 128 snapshot base cow2 P 1
+start snap write 9 512*77
+step vol copy-read 1
+step vol copy-write 1
+step vol flush-store snap
+step vol write-area snap
+step vol flush-store snap
+step vol publish 1
+step vol issue 2
+start vol write 5 512*aa
+step vol copy-read 2
+step vol copy-write 2
+step vol flush-store snap
+step vol write-area snap
+step vol flush-store snap
+step vol publish 2
+step vol copy-read 3
+step vol copy-write 3
+step vol flush-store s2
 step vol write-area s2
 stop vol
 create vol 0 128 snapshot-origin base
@@ -416,17 +601,63 @@ create s2 0 128 snapshot base cow2 P 1
 start snap write 9 512*77
 step vol copy-read 1
 step vol copy-write 1
+step vol flush-store snap
 step vol write-area snap
+step vol flush-store snap
 step vol publish 1
 step vol issue 2
 start vol write 5 512*aa
 step vol copy-read 2
 step vol copy-write 2
+step vol flush-store snap
 step vol write-area snap
+step vol flush-store snap
 step vol publish 2
 step vol copy-read 3
 step vol copy-write 3
+step vol flush-store s2
 step vol write-area s2
+step vol flush-store s2
+stop vol
+create vol 0 128 snapshot-origin base
+create snap 0 128 snapshot base cow P 1
+create s2 0 128 snapshot base cow2 P 1
+read snap 0 128
+read s2 0 128
+read vol 0 128
+remove snap
+remove s2
+remove vol
+remove base
+remove cow
+remove cow2
+disk base 128
+disk cow 64
+create vol 0 128 snapshot-origin base
+write vol 0 65536*11
+create snap 0 128 snapshot base cow P 1
+disk cow2 64
+create s2 0 128 snapshot base cow2 P 1
+start snap write 9 512*77
+step vol copy-read 1
+step vol copy-write 1
+step vol flush-store snap
+step vol write-area snap
+step vol flush-store snap
+step vol publish 1
+step vol issue 2
+start vol write 5 512*aa
+step vol copy-read 2
+step vol copy-write 2
+step vol flush-store snap
+step vol write-area snap
+step vol flush-store snap
+step vol publish 2
+step vol copy-read 3
+step vol copy-write 3
+step vol flush-store s2
+step vol write-area s2
+step vol flush-store s2
 step vol publish 3
 stop vol
 create vol 0 128 snapshot-origin base
@@ -451,17 +682,23 @@ create s2 0 128 snapshot base cow2 P 1
 start snap write 9 512*77
 step vol copy-read 1
 step vol copy-write 1
+step vol flush-store snap
 step vol write-area snap
+step vol flush-store snap
 step vol publish 1
 step vol issue 2
 start vol write 5 512*aa
 step vol copy-read 2
 step vol copy-write 2
+step vol flush-store snap
 step vol write-area snap
+step vol flush-store snap
 step vol publish 2
 step vol copy-read 3
 step vol copy-write 3
+step vol flush-store s2
 step vol write-area s2
+step vol flush-store s2
 step vol publish 3
 step vol issue 3
 stop vol
@@ -487,17 +724,23 @@ create s2 0 128 snapshot base cow2 P 1
 start snap write 9 512*77
 step vol copy-read 1
 step vol copy-write 1
+step vol flush-store snap
 step vol write-area snap
+step vol flush-store snap
 step vol publish 1
 step vol issue 2
 start vol write 5 512*aa
 step vol copy-read 2
 step vol copy-write 2
+step vol flush-store snap
 step vol write-area snap
+step vol flush-store snap
 step vol publish 2
 step vol copy-read 3
 step vol copy-write 3
+step vol flush-store s2
 step vol write-area s2
+step vol flush-store s2
 step vol publish 3
 step vol issue 3
 merge snap
@@ -527,17 +770,23 @@ create s2 0 128 snapshot base cow2 P 1
 start snap write 9 512*77
 step vol copy-read 1
 step vol copy-write 1
+step vol flush-store snap
 step vol write-area snap
+step vol flush-store snap
 step vol publish 1
 step vol issue 2
 start vol write 5 512*aa
 step vol copy-read 2
 step vol copy-write 2
+step vol flush-store snap
 step vol write-area snap
+step vol flush-store snap
 step vol publish 2
 step vol copy-read 3
 step vol copy-write 3
+step vol flush-store s2
 step vol write-area s2
+step vol flush-store s2
 step vol publish 3
 step vol issue 3
 merge snap
@@ -568,17 +817,23 @@ create s2 0 128 snapshot base cow2 P 1
 start snap write 9 512*77
 step vol copy-read 1
 step vol copy-write 1
+step vol flush-store snap
 step vol write-area snap
+step vol flush-store snap
 step vol publish 1
 step vol issue 2
 start vol write 5 512*aa
 step vol copy-read 2
 step vol copy-write 2
+step vol flush-store snap
 step vol write-area snap
+step vol flush-store snap
 step vol publish 2
 step vol copy-read 3
 step vol copy-write 3
+step vol flush-store s2
 step vol write-area s2
+step vol flush-store s2
 step vol publish 3
 step vol issue 3
 merge snap
@@ -610,17 +865,23 @@ create s2 0 128 snapshot base cow2 P 1
 start snap write 9 512*77
 step vol copy-read 1
 step vol copy-write 1
+step vol flush-store snap
 step vol write-area snap
+step vol flush-store snap
 step vol publish 1
 step vol issue 2
 start vol write 5 512*aa
 step vol copy-read 2
 step vol copy-write 2
+step vol flush-store snap
 step vol write-area snap
+step vol flush-store snap
 step vol publish 2
 step vol copy-read 3
 step vol copy-write 3
+step vol flush-store s2
 step vol write-area s2
+step vol flush-store s2
 step vol publish 3
 step vol issue 3
 merge snap
@@ -653,17 +914,23 @@ create s2 0 128 snapshot base cow2 P 1
 start snap write 9 512*77
 step vol copy-read 1
 step vol copy-write 1
+step vol flush-store snap
 step vol write-area snap
+step vol flush-store snap
 step vol publish 1
 step vol issue 2
 start vol write 5 512*aa
 step vol copy-read 2
 step vol copy-write 2
+step vol flush-store snap
 step vol write-area snap
+step vol flush-store snap
 step vol publish 2
 step vol copy-read 3
 step vol copy-write 3
+step vol flush-store s2
 step vol write-area s2
+step vol flush-store s2
 step vol publish 3
 step vol issue 3
 merge snap
@@ -697,17 +964,23 @@ create s2 0 128 snapshot base cow2 P 1
 start snap write 9 512*77
 step vol copy-read 1
 step vol copy-write 1
+step vol flush-store snap
 step vol write-area snap
+step vol flush-store snap
 step vol publish 1
 step vol issue 2
 start vol write 5 512*aa
 step vol copy-read 2
 step vol copy-write 2
+step vol flush-store snap
 step vol write-area snap
+step vol flush-store snap
 step vol publish 2
 step vol copy-read 3
 step vol copy-write 3
+step vol flush-store s2
 step vol write-area s2
+step vol flush-store s2
 step vol publish 3
 step vol issue 3
 merge snap
@@ -742,17 +1015,23 @@ create s2 0 128 snapshot base cow2 P 1
 start snap write 9 512*77
 step vol copy-read 1
 step vol copy-write 1
+step vol flush-store snap
 step vol write-area snap
+step vol flush-store snap
 step vol publish 1
 step vol issue 2
 start vol write 5 512*aa
 step vol copy-read 2
 step vol copy-write 2
+step vol flush-store snap
 step vol write-area snap
+step vol flush-store snap
 step vol publish 2
 step vol copy-read 3
 step vol copy-write 3
+step vol flush-store s2
 step vol write-area s2
+step vol flush-store s2
 step vol publish 3
 step vol issue 3
 merge snap
@@ -788,17 +1067,23 @@ create s2 0 128 snapshot base cow2 P 1
 start snap write 9 512*77
 step vol copy-read 1
 step vol copy-write 1
+step vol flush-store snap
 step vol write-area snap
+step vol flush-store snap
 step vol publish 1
 step vol issue 2
 start vol write 5 512*aa
 step vol copy-read 2
 step vol copy-write 2
+step vol flush-store snap
 step vol write-area snap
+step vol flush-store snap
 step vol publish 2
 step vol copy-read 3
 step vol copy-write 3
+step vol flush-store s2
 step vol write-area s2
+step vol flush-store s2
 step vol publish 3
 step vol issue 3
 merge snap
@@ -835,17 +1120,23 @@ create s2 0 128 snapshot base cow2 P 1
 start snap write 9 512*77
 step vol copy-read 1
 step vol copy-write 1
+step vol flush-store snap
 step vol write-area snap
+step vol flush-store snap
 step vol publish 1
 step vol issue 2
 start vol write 5 512*aa
 step vol copy-read 2
 step vol copy-write 2
+step vol flush-store snap
 step vol write-area snap
+step vol flush-store snap
 step vol publish 2
 step vol copy-read 3
 step vol copy-write 3
+step vol flush-store s2
 step vol write-area s2
+step vol flush-store s2
 step vol publish 3
 step vol issue 3
 merge snap
@@ -883,17 +1174,23 @@ create s2 0 128 snapshot base cow2 P 1
 start snap write 9 512*77
 step vol copy-read 1
 step vol copy-write 1
+step vol flush-store snap
 step vol write-area snap
+step vol flush-store snap
 step vol publish 1
 step vol issue 2
 start vol write 5 512*aa
 step vol copy-read 2
 step vol copy-write 2
+step vol flush-store snap
 step vol write-area snap
+step vol flush-store snap
 step vol publish 2
 step vol copy-read 3
 step vol copy-write 3
+step vol flush-store s2
 step vol write-area s2
+step vol flush-store s2
 step vol publish 3
 step vol issue 3
 merge snap
@@ -932,17 +1229,23 @@ create s2 0 128 snapshot base cow2 P 1
 start snap write 9 512*77
 step vol copy-read 1
 step vol copy-write 1
+step vol flush-store snap
 step vol write-area snap
+step vol flush-store snap
 step vol publish 1
 step vol issue 2
 start vol write 5 512*aa
 step vol copy-read 2
 step vol copy-write 2
+step vol flush-store snap
 step vol write-area snap
+step vol flush-store snap
 step vol publish 2
 step vol copy-read 3
 step vol copy-write 3
+step vol flush-store s2
 step vol write-area s2
+step vol flush-store s2
 step vol publish 3
 step vol issue 3
 merge snap
@@ -955,6 +1258,63 @@ step vol merge-release
 step vol merge-group
 step vol copy-read 4
 step vol copy-write 4
+step vol flush-store s2
+stop vol
+create vol 0 128 snapshot-origin base
+create snap 0 128 snapshot base cow P 1
+create s2 0 128 snapshot base cow2 P 1
+read snap 0 128
+read s2 0 128
+merge snap
+settle vol
+finish vol
+save base 0 128
+read s2 0 128
+remove s2
+remove vol
+remove base
+remove cow
+remove cow2
+disk base 128
+disk cow 64
+create vol 0 128 snapshot-origin base
+write vol 0 65536*11
+create snap 0 128 snapshot base cow P 1
+disk cow2 64
+create s2 0 128 snapshot base cow2 P 1
+start snap write 9 512*77
+step vol copy-read 1
+step vol copy-write 1
+step vol flush-store snap
+step vol write-area snap
+step vol flush-store snap
+step vol publish 1
+step vol issue 2
+start vol write 5 512*aa
+step vol copy-read 2
+step vol copy-write 2
+step vol flush-store snap
+step vol write-area snap
+step vol flush-store snap
+step vol publish 2
+step vol copy-read 3
+step vol copy-write 3
+step vol flush-store s2
+step vol write-area s2
+step vol flush-store s2
+step vol publish 3
+step vol issue 3
+merge snap
+step vol merge-group
+step vol merge-read
+step vol merge-write
+step vol merge-flush
+step vol merge-commit
+step vol merge-release
+step vol merge-group
+step vol copy-read 4
+step vol copy-write 4
+step vol flush-store s2
 step vol write-area s2
 stop vol
 create vol 0 128 snapshot-origin base
@@ -982,17 +1342,23 @@ create s2 0 128 snapshot base cow2 P 1
 start snap write 9 512*77
 step vol copy-read 1
 step vol copy-write 1
+step vol flush-store snap
 step vol write-area snap
+step vol flush-store snap
 step vol publish 1
 step vol issue 2
 start vol write 5 512*aa
 step vol copy-read 2
 step vol copy-write 2
+step vol flush-store snap
 step vol write-area snap
+step vol flush-store snap
 step vol publish 2
 step vol copy-read 3
 step vol copy-write 3
+step vol flush-store s2
 step vol write-area s2
+step vol flush-store s2
 step vol publish 3
 step vol issue 3
 merge snap
@@ -1005,7 +1371,67 @@ step vol merge-release
 step vol merge-group
 step vol copy-read 4
 step vol copy-write 4
+step vol flush-store s2
 step vol write-area s2
+step vol flush-store s2
+stop vol
+create vol 0 128 snapshot-origin base
+create snap 0 128 snapshot base cow P 1
+create s2 0 128 snapshot base cow2 P 1
+read snap 0 128
+read s2 0 128
+merge snap
+settle vol
+finish vol
+save base 0 128
+read s2 0 128
+remove s2
+remove vol
+remove base
+remove cow
+remove cow2
+disk base 128
+disk cow 64
+create vol 0 128 snapshot-origin base
+write vol 0 65536*11
+create snap 0 128 snapshot base cow P 1
+disk cow2 64
+create s2 0 128 snapshot base cow2 P 1
+start snap write 9 512*77
+step vol copy-read 1
+step vol copy-write 1
+step vol flush-store snap
+step vol write-area snap
+step vol flush-store snap
+step vol publish 1
+step vol issue 2
+start vol write 5 512*aa
+step vol copy-read 2
+step vol copy-write 2
+step vol flush-store snap
+step vol write-area snap
+step vol flush-store snap
+step vol publish 2
+step vol copy-read 3
+step vol copy-write 3
+step vol flush-store s2
+step vol write-area s2
+step vol flush-store s2
+step vol publish 3
+step vol issue 3
+merge snap
+step vol merge-group
+step vol merge-read
+step vol merge-write
+step vol merge-flush
+step vol merge-commit
+step vol merge-release
+step vol merge-group
+step vol copy-read 4
+step vol copy-write 4
+step vol flush-store s2
+step vol write-area s2
+step vol flush-store s2
 step vol publish 4
 stop vol
 create vol 0 128 snapshot-origin base
@@ -1033,17 +1459,23 @@ create s2 0 128 snapshot base cow2 P 1
 start snap write 9 512*77
 step vol copy-read 1
 step vol copy-write 1
+step vol flush-store snap
 step vol write-area snap
+step vol flush-store snap
 step vol publish 1
 step vol issue 2
 start vol write 5 512*aa
 step vol copy-read 2
 step vol copy-write 2
+step vol flush-store snap
 step vol write-area snap
+step vol flush-store snap
 step vol publish 2
 step vol copy-read 3
 step vol copy-write 3
+step vol flush-store s2
 step vol write-area s2
+step vol flush-store s2
 step vol publish 3
 step vol issue 3
 merge snap
@@ -1056,7 +1488,9 @@ step vol merge-release
 step vol merge-group
 step vol copy-read 4
 step vol copy-write 4
+step vol flush-store s2
 step vol write-area s2
+step vol flush-store s2
 step vol publish 4
 step vol merge-read
 stop vol
@@ -1085,17 +1519,23 @@ create s2 0 128 snapshot base cow2 P 1
 start snap write 9 512*77
 step vol copy-read 1
 step vol copy-write 1
+step vol flush-store snap
 step vol write-area snap
+step vol flush-store snap
 step vol publish 1
 step vol issue 2
 start vol write 5 512*aa
 step vol copy-read 2
 step vol copy-write 2
+step vol flush-store snap
 step vol write-area snap
+step vol flush-store snap
 step vol publish 2
 step vol copy-read 3
 step vol copy-write 3
+step vol flush-store s2
 step vol write-area s2
+step vol flush-store s2
 step vol publish 3
 step vol issue 3
 merge snap
@@ -1108,7 +1548,9 @@ step vol merge-release
 step vol merge-group
 step vol copy-read 4
 step vol copy-write 4
+step vol flush-store s2
 step vol write-area s2
+step vol flush-store s2
 step vol publish 4
 step vol merge-read
 step vol merge-write
@@ -1138,17 +1580,23 @@ create s2 0 128 snapshot base cow2 P 1
 start snap write 9 512*77
 step vol copy-read 1
 step vol copy-write 1
+step vol flush-store snap
 step vol write-area snap
+step vol flush-store snap
 step vol publish 1
 step vol issue 2
 start vol write 5 512*aa
 step vol copy-read 2
 step vol copy-write 2
+step vol flush-store snap
 step vol write-area snap
+step vol flush-store snap
 step vol publish 2
 step vol copy-read 3
 step vol copy-write 3
+step vol flush-store s2
 step vol write-area s2
+step vol flush-store s2
 step vol publish 3
 step vol issue 3
 merge snap
@@ -1161,7 +1609,9 @@ step vol merge-release
 step vol merge-group
 step vol copy-read 4
 step vol copy-write 4
+step vol flush-store s2
 step vol write-area s2
+step vol flush-store s2
 step vol publish 4
 step vol merge-read
 step vol merge-write
@@ -1192,17 +1642,23 @@ create s2 0 128 snapshot base cow2 P 1
 start snap write 9 512*77
 step vol copy-read 1
 step vol copy-write 1
+step vol flush-store snap
 step vol write-area snap
+step vol flush-store snap
 step vol publish 1
 step vol issue 2
 start vol write 5 512*aa
 step vol copy-read 2
 step vol copy-write 2
+step vol flush-store snap
 step vol write-area snap
+step vol flush-store snap
 step vol publish 2
 step vol copy-read 3
 step vol copy-write 3
+step vol flush-store s2
 step vol write-area s2
+step vol flush-store s2
 step vol publish 3
 step vol issue 3
 merge snap
@@ -1215,7 +1671,9 @@ step vol merge-release
 step vol merge-group
 step vol copy-read 4
 step vol copy-write 4
+step vol flush-store s2
 step vol write-area s2
+step vol flush-store s2
 step vol publish 4
 step vol merge-read
 step vol merge-write
@@ -1247,17 +1705,23 @@ create s2 0 128 snapshot base cow2 P 1
 start snap write 9 512*77
 step vol copy-read 1
 step vol copy-write 1
+step vol flush-store snap
 step vol write-area snap
+step vol flush-store snap
 step vol publish 1
 step vol issue 2
 start vol write 5 512*aa
 step vol copy-read 2
 step vol copy-write 2
+step vol flush-store snap
 step vol write-area snap
+step vol flush-store snap
 step vol publish 2
 step vol copy-read 3
 step vol copy-write 3
+step vol flush-store s2
 step vol write-area s2
+step vol flush-store s2
 step vol publish 3
 step vol issue 3
 merge snap
@@ -1270,7 +1734,9 @@ step vol merge-release
 step vol merge-group
 step vol copy-read 4
 step vol copy-write 4
+step vol flush-store s2
 step vol write-area s2
+step vol flush-store s2
 step vol publish 4
 step vol merge-read
 step vol merge-write

@@ -1,4 +1,4 @@
-# `stop` takes the name of an origin and no other word. A refusal leaves all devices as they are.
+# `stop` takes the name of an origin, and no other word than `lose`. A refusal leaves all devices as they are.
 # The command is this project's.
 disk base 128
 disk cow 64
@@ -8,7 +8,12 @@ create snap 0 128 snapshot base fl P 1
 stop
 stop 9vol
 stop vol snap
-stop vol lose
+stop vol loses
+stop lose vol
+stop vol lose lose
+stop nosuch lose
+stop cow lose
+stop snap lose
 Stop vol
 stop nosuch
 stop base

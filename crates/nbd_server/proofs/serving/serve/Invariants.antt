@@ -6,5 +6,6 @@ use Rattle.nbd_server.proofs.serving.serve.Given as goal
 abbrev pub invariant-loop : goal.invariant-loop
 invariant-loop g l = record {
   bytes : (k : ℕ) → g.T.Served.bytes l.served k ≡ g.T.Served.bytes l.fn.served k;
-  so_far : (arrays : ℕ → List ℕ) (heard : List ℕ) → AreArrays (g.T.Served.bytes l.fn.served) arrays → g.R.Read.remaining l.fn.reader ≡ Some heard → IsSoFar l.exports arrays heard (g.R.Read.remaining l.reader) (g.W.Write.contents l.fn.writer) (g.W.Write.contents l.writer) l.session;
+  calm : (k : ℕ) (from : ℕ) (count : ℕ) → g.T.Served.may_fail l.served k from count → g.T.Served.may_fail l.fn.served k from count;
+  so_far : (arrays : ℕ → List ℕ) (heard : List ℕ) → AreArrays (g.T.Served.bytes l.fn.served) arrays → g.R.Read.remaining l.fn.reader ≡ Some heard → IsSoFar l.exports arrays (g.T.Served.may_fail l.fn.served) heard (g.R.Read.remaining l.reader) (g.W.Write.contents l.fn.writer) (g.W.Write.contents l.writer) l.session;
 }

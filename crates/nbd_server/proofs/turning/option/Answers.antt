@@ -1,7 +1,7 @@
 use Rattle.std.proofs.Common.{◌≡◌, ℕ, List, Option}
 use Rattle.nbd_server.specs.Heard.{IsShort}
 use Rattle.nbd_server.specs.Turns.{IsAsked, IsHaggledFor}
-use Rattle.nbd_server.proofs.Wholes.{option_turn, option_end}
+use Rattle.nbd_server.proofs.Wholes.{option_end}
 use Rattle.nbd_server.proofs.turning.option.Goals as goal
 
 pub returns-then-not-branch : goal.returns-then-not-branch
@@ -11,7 +11,7 @@ returns-then-not-branch g c =
     option_end _ _ c.in-Some.asked c.args.session.now c.requires.stage is short
 
 pub returns : goal.returns
-returns g c = λ arrays.
+returns g c =
     let is : IsAsked (g.R.Read.remaining c.args.reader.now) (g.R.Read.remaining c.hear_asked.new.reader) c.in-Some.asked = rw c.in-Some.is at c.in_ok-asked.ensures in
     let done : IsHaggledFor c.args.exports.now (g.R.Read.remaining c.hear_asked.new.reader) (g.R.Read.remaining c.haggle_for.new.reader) c.in-Some.asked c.args.session.now c.haggle_for.new.session c.haggle_for.new.answer.items = rw c.if-not-branch.false at c.in_ok-haggle_for.ensures in
-    option_turn c.args.exports.now arrays _ _ _ c.in-Some.asked c.args.session.now c.haggle_for.new.session c.haggle_for.new.answer.items c.requires.stage is done
+    (g.R.Read.remaining c.hear_asked.new.reader, c.in-Some.asked, is, done)

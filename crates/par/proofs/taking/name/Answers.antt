@@ -30,6 +30,6 @@ returns g c before old back =
     let kept = c.rest.ensures.rested.kept in
     let all = subst (λ (v : Rested Stack). HasAll p v → result ≡ named_with (with_requests v.requests p) v) is c.of_parts.ensures.same in
     let begun = subst (λ (v : Rested Stack). HasBegun p v → result ≡ named_with (with_requests v.requests (with_begun (place_begun v) p)) v) is c.of_parts.ensures.begun in
-    is_made before p c.args.audit rested old result back c.rest.ensures.rested (record { lawful = c.entries.ensures.lawful; gives = c.entries.ensures.replay })
+    is_made before p c.args.audit rested old result back c.rest.ensures.rested (record { lawful = c.entries.ensures.lawful; inside = c.entries.ensures.inside; gives = c.entries.ensures.replay })
     (stands_now before p c.args.audit old rested.volume result back kept all begun)
     (is_run before p c.args.audit old (rested_of rested.volume) result back kept c.rest.ensures.quiet c.of_parts.ensures.sound (c.of_parts.ensures.quiet ∙ ap (λ (v : Rested Stack). is_quiet_of v.events) is) all begun)

@@ -33,7 +33,7 @@ returns-in-Ok-clause-slot c =
         named = c.into_parts-parts.ensures.named ∙ ap (λ (v : Rested Stack). named_with c.into_parts-parts.result.0 v) (sym is);
         parted = subst (IsParted c.into_parts-parts.result.0) (sym is) c.into_parts-parts.ensures.parted;
         held = c.in-Ok.ensures.idle;
-        truth = record { lawful = c.entries.ensures.lawful; gives = c.entries.ensures.replay };
+        truth = record { lawful = c.entries.ensures.lawful; inside = c.entries.ensures.inside; gives = c.entries.ensures.replay };
         loud = λ sound. c.in-Ok.ensures.loud ∙ sym (loud_is all.events) ∙ ap (λ (v : Rested Stack). is_loud_in stack_layers v) (sym c.in-Ok.ensures.whole) ∙ c.into_parts-parts.ensures.parted.loud sound;
       },
     )

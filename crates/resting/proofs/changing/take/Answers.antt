@@ -1,7 +1,7 @@
 -- A snapshot was taken, or the store is given back.
 use Rattle.std.proofs.Common.{◌+◌, sym, ◌∙◌}
 use Rattle.resting.proofs.Seen.{loud_same}
-use Rattle.resting.proofs.Takes.{untaken, taken_alone, taken_quiet, taken_settles, taken_as, attached_seen, back_seen}
+use Rattle.resting.proofs.Takes.{untaken, taken_alone, taken_quiet, taken_settles, taken_as, attached_seen, back_seen, refused_at}
 use Rattle.resting.proofs.changing.take.Goals as goal
 
 pub returns-in-Ok-clause-quiet : goal.returns-in-Ok-clause-quiet
@@ -31,6 +31,9 @@ returns-in-Ok-clause-exact g c = λ settled given.
 
 pub returns-in-Err-clause-back : goal.returns-in-Err-clause-back
 returns-in-Err-clause-back g c = λ fed other settled given.
-    back_seen g.B.Block.contents g.B.Block.layers (c.args.volume.now.attached + 1) c.args.chunk c.args.overflow c.args.store c.in-Err.refused.1 c.args.volume.now c.in-Err.refused.0
+    back_seen g.B.Block.contents g.B.Block.layers (c.args.volume.now.attached + 1) c.args.chunk c.args.overflow c.args.store c.in-Err.refused.1 c.args.volume.now c.attach.new.self c.in-Err.refused.0 c.in-Err.ensures.same.kept
     (g.B.Block.size c.args.volume.now.origin) (g.B.Block.size c.args.store.device) (g.B.Block.contents c.args.store.device) (untaken c.in-Err.refused.0 fed c.in-Err.ensures.refused) c.in-Err.ensures.unread
     (λ alone. c.in-Err.ensures.back fed alone settled.quiet (sym (loud_same g.B.Block.contents g.B.Block.layers c.args.volume.now) ∙ settled.loud) given) other
+
+pub returns-in-Err-clause-same : goal.returns-in-Err-clause-same
+returns-in-Err-clause-same g c = refused_at g.B.Block.contents g.B.Block.layers g.B.Block.size c.in-Err.refused.0 c.args.volume.now c.attach.new.self c.in-Err.ensures.same

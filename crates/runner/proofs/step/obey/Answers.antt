@@ -205,3 +205,19 @@ returns-in-Create-clause-done c =
     let P : Command → Type 0 = λ command. is_ruled command old ≡ true → ServesIf (enters command) c.did-in-Create.result new (IsPartDone command old) (step command old) in
     subst P (sym c.in-Create.is) (λ ruled.
     serves_worded (λ _. Done) (enters_journal line.target) c.create_device.result c.did-in-Create.result new (λ t. t ≡ old) (create c.in-Create.name line old) c.did-in-Create.ensures (c.create_device.ensures.done ruled))
+
+pub returns-in-StopLosing-clause-asks : goal.returns-in-StopLosing-clause-asks
+returns-in-StopLosing-clause-asks c =
+    let P : Command → Type 0 = λ command. IsFirst (first_refusal command (table_of c.args.held.now)) (told (reworded Some c.did-in-StopLosing.result)) in
+    subst P (sym c.in-StopLosing.is) (worded_asked (λ _. Done) (origin_by c.in-StopLosing.volume (table_of c.args.held.now)) c.stop_losing.result c.did-in-StopLosing.result c.stop_losing.ensures.asks c.did-in-StopLosing.ensures)
+
+pub returns-in-StopLosing-clause-still : goal.returns-in-StopLosing-clause-still
+returns-in-StopLosing-clause-still c =
+    let P : Command → Type 0 = λ command. IfSome (first_refusal command (table_of c.args.held.now)) (λ _. (table_of c.stop_losing.new.held ≡ table_of c.args.held.now) × (c.args.ended.now.items ≡ c.args.ended.now.items)) in
+    let stays = refused_stays (origin_by c.in-StopLosing.volume (table_of c.args.held.now)) c.stop_losing.result _ c.stop_losing.ensures.asks c.stop_losing.ensures.stays in
+    subst P (sym c.in-StopLosing.is) (asked_both _ _ (origin_by c.in-StopLosing.volume (table_of c.args.held.now)) stays refl)
+
+pub returns-in-StopLosing-clause-left : goal.returns-in-StopLosing-clause-left
+returns-in-StopLosing-clause-left c =
+    let P : Command → Type 0 = λ command. IsLeft command c.did-in-StopLosing.result (table_of c.args.held.now) (table_of c.stop_losing.new.held) c.args.ended.now.items c.args.ended.now.items in
+    subst P (sym c.in-StopLosing.is) (record { did = c.stop_losing.result; answer_is = c.did-in-StopLosing.ensures; lost = c.stop_losing.ensures.done; alone = refl })

@@ -1,7 +1,7 @@
 -- One snapshot more does not pass.
 use Rattle.std.proofs.Common.{◌∙◌, ◌≡◌, ap, sym, false}
 use Rattle.std.specs.Prelude.{◌==◌, ◌&&◌}
-use Rattle.pending.specs.Due.{front_written}
+use Rattle.pending.specs.Due.{front_ready}
 use Rattle.snapshot.specs.Kept.{needs_area}
 use Rattle.snapshots.specs.Finding.{is_zeroing}
 use Rattle.snapshots.proofs.Finds.{any_fails, number_fails, second_fails}
@@ -12,7 +12,7 @@ pub loop-place-preserved : goal.loop-place-preserved
 loop-place-preserved g c =
     let s = c.index-snaps-place.result in
     let fails : is_zeroing c.args.number s ≡ false = elim c.else-number.branch [
-      | else-number-via-then-number+else-can_zero w ↦ second_fails (s.number == c.args.number) (front_written s.copies && needs_area s.state s.copies) (sym w.can_zero.ensures ∙ w.if-can_zero.false)
-      | else-number-via-else-number w ↦ number_fails s.number c.args.number (front_written s.copies && needs_area s.state s.copies) (λ same. w.if-number.false (c.number.ensures ∙ same))
+      | else-number-via-then-number+else-can_zero w ↦ second_fails (s.number == c.args.number) (front_ready s.copies && needs_area s.state s.copies) (sym w.can_zero.ensures ∙ w.if-can_zero.false)
+      | else-number-via-else-number w ↦ number_fails s.number c.args.number (front_ready s.copies && needs_area s.state s.copies) (λ same. w.if-number.false (c.number.ensures ∙ same))
     ] in
     c.loop-place.invariant ∙ any_fails (is_zeroing c.args.number) c.args.snaps.now c.loop-place.place s c.loop-place-test.true (ap (is_zeroing c.args.number) (sym c.index-snaps-place.is) ∙ fails)

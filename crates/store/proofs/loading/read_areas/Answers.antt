@@ -1,6 +1,7 @@
-use Rattle.std.proofs.Common.{inl, inr, ◌<◌, ◌≤◌, ◌+◌, ◌*◌, ◌∙◌, arith, ap}
+use Rattle.std.proofs.Common.{inl, inr, ◌<◌, ◌≤◌, ◌+◌, ◌*◌, ◌∙◌, arith, ap, sym}
 use Rattle.std.proofs.lemmas.Result.{err_from_is_err_and}
 use Rattle.model.specs.Places.{area_place, chunk_at}
+use Rattle.stop_laws.proofs.Firm.{adds_then}
 use Rattle.store.proofs.Loads.{prefix_more, pairs-loaded, prefix_lacks, prefix_low, area_far}
 use Rattle.store.proofs.AreaReads.{area_read, area_fails, area_lacks, pairs_read, areas_are_read}
 use Rattle.store.proofs.loading.read_areas.Goals as goal
@@ -43,6 +44,7 @@ loop-current-preserved g c =
     record {
       contents = c.in-Ok.ensures.contents ∙ i.contents;
       durable = c.in-Ok.ensures.durable ∙ i.durable;
+      adds = adds_then (g.B.Block.may_hold c.args.device.now) (g.B.Block.may_hold c.loop-current.device) (g.B.Block.may_hold c.read_area.new.device) _ _ (sym c.in-Ok.ensures.contents) i.adds c.in-Ok.ensures.adds;
       size = c.in-Ok.ensures.size ∙ i.size;
       loud = c.in-Ok.ensures.loud ∙ i.loud;
       faults = c.in-Ok.ensures.faults ∙ i.faults;
@@ -119,3 +121,15 @@ returns-then-branch-chunk-clause-layers g c =
     pairs_read a.chunk (g.B.Block.size c.args.device.now) current bytes c.read_area.new.area.bytes.items c.take_slots.new.pairs.items (g.B.Block.layers c.args.device.now) (g.B.Block.layers c.read_area.new.device) a.some
     (pairs-loaded (g.B.Block.size c.args.device.now) a.chunk current c.in_ok-take_slots.field-0 bytes c.read_area.new.area.bytes.items c.loop-current.pairs.items c.take_slots.new.pairs.items a.some i.prefix loaded at c.if-branch-chunk.true inside)
     (area_read a.chunk (g.B.Block.size c.args.device.now) current (g.B.Block.layers c.args.device.now) (g.B.Block.layers c.loop-current.device) (g.B.Block.layers c.read_area.new.device) i.layers inside operation.answer operation.layers)
+
+pub returns-in_default-clause-adds : goal.returns-in_default-clause-adds
+returns-in_default-clause-adds g c =
+    adds_then (g.B.Block.may_hold c.args.device.now) (g.B.Block.may_hold c.loop-current.device) (g.B.Block.may_hold c.read_area.new.device) _ _ (sym c.in_default.ensures.contents) c.loop-current.invariant.adds c.in_default.ensures.adds
+
+pub returns-in_err-take_slots-clause-adds : goal.returns-in_err-take_slots-clause-adds
+returns-in_err-take_slots-clause-adds g c =
+    adds_then (g.B.Block.may_hold c.args.device.now) (g.B.Block.may_hold c.loop-current.device) (g.B.Block.may_hold c.read_area.new.device) _ _ (sym c.in-Ok.ensures.contents) c.loop-current.invariant.adds c.in-Ok.ensures.adds
+
+pub returns-then-branch-chunk-clause-adds : goal.returns-then-branch-chunk-clause-adds
+returns-then-branch-chunk-clause-adds g c =
+    adds_then (g.B.Block.may_hold c.args.device.now) (g.B.Block.may_hold c.loop-current.device) (g.B.Block.may_hold c.read_area.new.device) _ _ (sym c.in-Ok.ensures.contents) c.loop-current.invariant.adds c.in-Ok.ensures.adds

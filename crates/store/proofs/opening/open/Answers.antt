@@ -1,9 +1,11 @@
 use Rattle.std.proofs.Common.{inl, inr, ◌∙◌, Ok, ap, sym, subst, arith}
 use Rattle.sector.specs.declared.refusal.Refusal.{Refusal}
+use Rattle.stop_laws.specs.Firm.{AddsNow}
+use Rattle.stop_laws.proofs.Firm.{adds_then}
 use Rattle.cow_header.specs.declared.found.Found.TheVariants.{Header}
 use Rattle.store.specs.Opening.{IsRefused}
-use Rattle.store.specs.Reading.{read_pairs, reading}
-use Rattle.store.proofs.FirstReads.{header_read, ended_after, starved_after}
+use Rattle.store.specs.Reading.{all_read, read_pairs, reading}
+use Rattle.store.proofs.FirstReads.{fresh_read, header_read, ended_after, starved_after}
 use Rattle.store.proofs.opening.open.Goals as goal
 
 pub returns-in-Ok-open_written-clause-opened : goal.returns-in-Ok-open_written-clause-opened
@@ -73,3 +75,24 @@ returns-in-Err-open_written-clause-layers g c =
     (header_read c.args.chunk total bytes (reading c.args.chunk total bytes old) c.in-Ok.found mid (c.in-Ok.ensures.says c.args.chunk) chunk c.in-Header.is (omega arith))
     c.in-Ok.ensures.one
     (rw (c.in-Ok.ensures.contents, c.in-Ok.ensures.size) at c.in-Err-open_written.ensures.layers)
+
+pub returns-in-Ok-open_fresh-clause-adds : goal.returns-in-Ok-open_fresh-clause-adds
+returns-in-Ok-open_fresh-clause-adds g c =
+    let back = c.in-Ok-open_fresh.ensures.device in
+    subst (λ (d : _). AddsNow (g.B.Block.may_hold c.args.device) (g.B.Block.may_hold d) (g.B.Block.contents d)) (sym back) c.in-Ok.ensures.adds
+
+pub returns-in-Ok-open_written-clause-adds : goal.returns-in-Ok-open_written-clause-adds
+returns-in-Ok-open_written-clause-adds g c =
+    adds_then (g.B.Block.may_hold c.args.device) (g.B.Block.may_hold c.read_header.new.device) (g.B.Block.may_hold c.in-Ok-open_written.store.device) _ _ (sym c.in-Ok-open_written.ensures.contents) c.in-Ok.ensures.adds c.in-Ok-open_written.ensures.adds
+
+pub returns-in-Ok-open_fresh-clause-layers : goal.returns-in-Ok-open_fresh-clause-layers
+returns-in-Ok-open_fresh-clause-layers g c =
+    let total = g.B.Block.size c.args.device in
+    let bytes = g.B.Block.contents c.args.device in
+    let old = g.B.Block.layers c.args.device in
+    let mid = g.B.Block.layers c.read_header.new.device in
+    let size = c.in-Ok.ensures.size in
+    let sectors = c.sectors.ensures in
+    let large = c.if-sectors-chunk.false in
+    fresh_read c.args.chunk total bytes (reading c.args.chunk total bytes old) c.in-Ok.found mid (c.in-Ok.ensures.says c.args.chunk) c.in-Fresh.is (omega arith)
+    ∙ ap (λ d. all_read (g.B.Block.layers d)) (sym c.in-Ok-open_fresh.ensures.device)

@@ -1,7 +1,9 @@
 -- Two places more are taken, and its entry is noted.
-use Rattle.std.proofs.Common.{◌∙◌, ap, arith, inr, ⊎_elim}
+use Rattle.std.proofs.Common.{◌∙◌, refl, ap, arith, inr, ⊎_elim}
 use Rattle.served.proofs.Starved.{starved_by}
 use Rattle.snapshot.specs.Opening.{shown_array}
+use Rattle.journal.proofs.Fresh.{fresh_taken}
+use Rattle.volume.specs.Fresh.{is_fresh}
 use Rattle.journaled.proofs.Fewer.{gained_have}
 use Rattle.journaled.proofs.Going.{gained_goes_on}
 use Rattle.journaled.proofs.NotFull.{not_full}
@@ -19,7 +21,7 @@ returns-in-Err-clause-starved g c = λ is. ⊎_elim c.in-Err.ensures.starved (λ
 
 pub returns-in-Ok-clause-goes_on : goal.returns-in-Ok-clause-goes_on
 returns-in-Ok-clause-goes_on g c = λ loud more.
-    rw (← c.self.view_is) (gained_goes_on g.B.Block.contents g.B.Block.layers c.self.inside.volume c.attach.new.self g.B.Block.size c.in-Ok.number c.args.overflow c.args.store (shown_array (g.B.Block.contents c.self.inside.volume.origin) (g.B.Block.contents c.args.store.device)) c.in-Ok.ensures.gained (c.in-Ok.ensures.taken (ap (is_loud_in_all g.B.Block.layers) c.self.view_is ∙ loud) more))
+    rw (← c.self.view_is) (gained_goes_on g.B.Block.contents g.B.Block.layers c.self.inside.volume c.attach.new.self g.B.Block.size c.in-Ok.number c.args.overflow c.args.store (shown_array (g.B.Block.contents c.self.inside.volume.origin) (g.B.Block.contents c.args.store.device)) (is_fresh (g.B.Block.contents c.args.store.device)) c.in-Ok.ensures.gained (c.in-Ok.ensures.taken (ap (is_loud_in_all g.B.Block.layers) c.self.view_is ∙ loud) more) (fresh_taken g.B.Block.contents g.B.Block.layers c.args.store c.args.chunk c.self.inside.volume c.in-Ok.ensures.admitted (is_fresh (g.B.Block.contents c.args.store.device)) refl))
 
 pub invariant_of-self : goal.invariant_of-self
-invariant_of-self g c = gained_have c.self.inside.volume c.attach.new.self g.B.Block.layers g.B.Block.size c.in-Ok.number c.args.overflow c.args.store c.self.inside.places _ c.in-Ok.ensures.gained c.places_needed.ensures.is (omega (arith, c.if-self-count_may-gt-MAX_ENTRIES.false, c.count_may.ensures.count)) c.self.invariant
+invariant_of-self g c = gained_have c.self.inside.volume c.attach.new.self g.B.Block.contents g.B.Block.layers g.B.Block.size c.in-Ok.number c.args.overflow c.args.store c.self.inside.places _ c.in-Ok.ensures.gained c.places_needed.ensures.is (omega (arith, c.if-self-count_may-gt-MAX_ENTRIES.false, c.count_may.ensures.count)) c.self.invariant

@@ -2,15 +2,17 @@ use Rattle.std.proofs.Common.{◌≡◌, ◌∙◌, ◌++◌, ◌∷◌, [], ap,
 use Rattle.std.specs.Prelude.{◌&&◌, Option, is_some}
 use Rattle.device.specs.Layers.{is_loud}
 use Rattle.named.specs.Stacks.{device_of}
-use Rattle.named.specs.State.{Stacked}
+use Rattle.named.specs.State.{Stacked, Volume}
 use Rattle.layers.specs.Stack.{stack_contents, stack_size}
 use Rattle.layers.specs.declared.stack.Stack.{Stack}
 use Rattle.served.specs.Refusals.{is_starved}
 use Rattle.merge.specs.Merging.{Merging}
-use Rattle.named_volume.specs.Held.{merged_inside, merging_with, settled_in}
+use Rattle.volume.specs.Leaving.{is_quiet_of}
+use Rattle.named_volume.specs.Held.{flying_in, merged_inside, merging_with, settled_in}
 use Rattle.named_volume.proofs.Merges.{begun_too, merge_by, merging_as_before}
 use Rattle.named_volume.proofs.Meets.{met, unmet, busy_back, read_same}
 use Rattle.named_volume.proofs.Parts.{no_both}
+use Rattle.named_volume.proofs.Refused.{refused_seen}
 use Rattle.named_volume.proofs.origin.NamedVolume.attach.Goals.{then-self, else-self}
 use Rattle.named_volume.proofs.origin.NamedVolume.attach.Goals as goal
 
@@ -35,7 +37,7 @@ returns-in-Err-attach-clause-err c =
       | inl starved ↦ absurd (no_both (is_starved c.in-Err-attach.refusal) starved.0 other)
       | inr why ↦
           unmet c.args.chunk (stack_size c.self.inside.volume.origin) _ (stack_contents c.into_parts-names.result.1) c.into_parts-names.result.0.items c.into_parts-names.result.1 c.into_parts-names.result.2 c.in-Err-attach.store c.args.stack c.of_parts.result c.self.inside.volume.events c.in-Err-attach.refusal
-          why c.in-Err-attach.ensures.unread c.into_parts-names.ensures c.of_parts.ensures c.args.name c.args.overflow _
+          why c.in-Err-attach.ensures.unread c.into_parts-names.ensures c.of_parts.ensures c.args.name c.args.overflow _ (settled_in c.attach.new.self)
           (begun_too _ c.self.inside.volume c.self.invariant.begun ∙ c.self.invariant.begun) c.in-Err-attach.ensures.stale
           (λ fresh. c.in-Err-attach.ensures.back other fresh (c.look.ensures quiet (c.self.invariant.loud sound)) (subst (λ (s : Stacked). is_loud s.device.layers ≡ true) c.into_parts-names.ensures loud))
     ])
@@ -53,3 +55,22 @@ returns-in-Err-attach-clause-busy c =
           busy_back c.args.chunk (stack_size c.self.inside.volume.origin) _ (stack_contents c.into_parts-names.result.1) c.into_parts-names.result.0.items c.into_parts-names.result.1 c.into_parts-names.result.2 c.in-Err-attach.store c.args.stack c.of_parts.result c.self.inside.volume.events c.in-Err-attach.refusal
           why c.in-Err-attach.ensures.unread c.into_parts-names.ensures c.of_parts.ensures _ (begun_too _ c.self.inside.volume c.self.invariant.begun ∙ c.self.invariant.begun) busy
     ])
+
+-- at most its origin was flushed
+pub returns-in-Err-attach-clause-same : goal.returns-in-Err-attach-clause-same
+returns-in-Err-attach-clause-same c =
+    let m = c.self.inside in
+    let held : Volume = record {
+      origin = m.origin;
+      under = m.under.items;
+      stale = m.stale;
+      snaps = m.snaps.items;
+      merging = merging_with m.merging m.volume;
+      state = settled_in m.volume;
+      given = m.volume.attached;
+      asked = m.asked;
+      sound = m.sound;
+      quiet = is_quiet_of m.volume.events;
+      flying = flying_in m.volume.events;
+    } in
+    rw c.reserve.ensures.items (refused_seen c.in-Err-attach.refusal m.volume c.attach.new.self c.in-Err-attach.ensures.same held m.merging ∙ c.self.view_is)

@@ -1,12 +1,12 @@
 -- A snapshot that is done has no copy, so that no area is zeroed ahead.
-use Rattle.std.proofs.Common.{◌≡◌, ◌*◌, ◌≤◌, ◌∙◌, ap, arith, length, map, sym, true, [], vec_len}
+use Rattle.std.proofs.Common.{◌≡◌, ◌*◌, ◌≤◌, ◌∙◌, ap, arith, length, map, sym, true, false, [], vec_len}
 use Rattle.std.proofs.lemmas.Bool.{eqb-true, true≢false}
 use Rattle.std.proofs.lemmas.List.{nil_from_length}
 use Rattle.device.specs.Layers.{is_loud}
 use Rattle.pending.specs.Copies.{pair_of}
 use Rattle.store.specs.Loading.{is_begun}
 use Rattle.store.specs.Held.{committed, pairs_pending}
-use Rattle.snapshot.proofs.Rests.{in_order, next_here, none_ahead}
+use Rattle.snapshot.proofs.Rests.{in_order, next_here, none_ahead, none_firm, none_marked}
 use Rattle.snapshot.proofs.snapshot.Snapshot.is_done.Goals as goal
 use Rattle.snapshot.proofs.snapshot.Snapshot.is_done.Goals.{then-is_empty, else-is_empty}
 
@@ -28,9 +28,12 @@ returns-then-is_empty-2-clause-still g c = λ tried live loud small.
     let small' : s.state.origin ≤ 16_777_216 = omega (arith, small, ap (λ v. v.state.origin) c.self.view_is) in
     let fits : s.state.size ≤ 16_777_216 = omega (arith, s.size, g.met.B.Block.small s.device) in
     let whole : length bytes ≡ 512 * s.state.size = g.met.B.Block.whole s.device ∙ ap (λ n. 512 * n) (sym s.size) in
+    let unzeroed : s.state.zeroed ≡ false = none_ahead c.self.inside.live s.state (length copies) alive none keeps.ahead in
     rw (← c.self.view_is) (record {
       order = in_order bytes s.area.bytes.items ps s.state s.front stored ready copying s.places.next begun small' fits whole s.given;
       pairs = stored.listed (ap is_begun ready);
       next = next_here bytes s.area.bytes.items ps s.state s.front stored ready copying s.places.next begun idle s.given;
-      zeroed = none_ahead c.self.inside.live s.state (length copies) alive none keeps.ahead;
+      zeroed = unzeroed;
+      firm = none_firm s.state.firm s.state.zeroed s.front.firm unzeroed;
+      unmarked = none_marked c.self.inside.live c.self.inside.marked keeps.dead alive;
     })

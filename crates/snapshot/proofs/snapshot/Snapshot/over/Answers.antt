@@ -1,5 +1,6 @@
 -- A new snapshot has the pairs that its store's bytes hold, and nothing under way.
 use Rattle.std.proofs.Common.{◌≡◌, ◌*◌, ◌∙◌, ap, length, sym, refl, [], Bool, true, false}
+use Rattle.std.proofs.lemmas.Bool.{false≢true, true≢false}
 use Rattle.plain.specs.Plain.{did_overflow, overflow_of}
 use Rattle.store.specs.Held.{committed, pending, pairs_pending}
 use Rattle.store.specs.Loading.{is_begun}
@@ -34,4 +35,4 @@ returns-clause-new g c = λ origin fits.
 pub returns-clause-in_step : goal.returns-clause-in_step
 returns-clause-in_step g c =
     let s = c.args.store in
-    in_step g.B.Block.contents g.B.Block.layers g.B.Block.size _ s.area.bytes.items c.requires.ready (λ _. c.requires.copying) c.requires.valid s.size s.given s.stored
+    in_step g.B.Block.contents g.B.Block.layers g.B.Block.size _ s.area.bytes.items c.requires.ready (λ _. c.requires.copying) (λ is. absurd (false≢true is)) (λ is. absurd (true≢false is)) c.requires.valid s.size s.given s.stored

@@ -24,4 +24,4 @@ pub returns-clause-stops : goal.returns-clause-stops
 returns-clause-stops g c =
     let s = c.self.inside.store in
     rw (← c.self.view_is) (λ alive loud. still_same (committed s.exceptions) (pairs_pending s.exceptions) s.state s.area.bytes.items (g.B.Block.contents s.device) (g.B.Block.contents c.read_chunk.new.self.device) s.places.next s.front s.given c.self.invariant.0.ready (g.met.B.Block.whole s.device ∙ ap (λ n. 512 * n) (sym s.size)) (s.stored loud)
-    (valid_live c.self.inside.live c.self.inside.untried c.self.inside.stale s.state.valid c.self.invariant.0.valid alive) c.read_chunk.ensures.same)
+    (valid_live c.self.inside.live c.self.inside.marked s.state.valid c.self.invariant.0.dead c.self.invariant.0.valid alive) c.read_chunk.ensures.same)

@@ -17,7 +17,7 @@ fill-requires-clause-begins g c =
 pub invariant_of-self : goal.invariant_of-self
 invariant_of-self g c =
     let within : c.args.index < length c.self.inside.copies.items = omega (arith, ap (λ v. length v.copies) c.self.view_is) in (
-      copy_set _ _ _ c.self.inside.store.state _ c.self.inside.copies.items _ c.args.index _ _ c.self.invariant.0 within c.index_mut-copy.ensures.value c.in-Err.ensures.kept.pair c.fill.ensures.room,
+      copy_set _ _ _ _ c.self.inside.store.state _ c.self.inside.copies.items _ c.args.index _ _ c.self.invariant.0 within c.index_mut-copy.ensures.value c.in-Err.ensures.kept.pair c.fill.ensures.room,
       rw length-set c.self.invariant.1,
       spared_set c.self.inside.store.state.chunk c.self.inside.spare c.self.inside.merging c.self.inside.copies.items c.args.index _ _ c.index_mut-copy.ensures.value c.in-Err.ensures.kept.number c.fill.ensures.capacity c.self.invariant.2,
     )
@@ -29,7 +29,7 @@ returns-in-Err-clause-kept g c =
 pub invariant_of-self-2 : goal.invariant_of-self-2
 invariant_of-self-2 g c =
     let within : c.args.index < length c.self.inside.copies.items = omega (arith, ap (λ v. length v.copies) c.self.view_is) in (
-      copy_set _ _ _ c.self.inside.store.state _ c.self.inside.copies.items _ c.args.index _ _ c.self.invariant.0 within c.index_mut-copy.ensures.value c.in-Ok.ensures.read.pair c.fill.ensures.room,
+      copy_set _ _ _ _ c.self.inside.store.state _ c.self.inside.copies.items _ c.args.index _ _ c.self.invariant.0 within c.index_mut-copy.ensures.value c.in-Ok.ensures.read.pair c.fill.ensures.room,
       rw length-set c.self.invariant.1,
       spared_set c.self.inside.store.state.chunk c.self.inside.spare c.self.inside.merging c.self.inside.copies.items c.args.index _ _ c.index_mut-copy.ensures.value c.in-Ok.ensures.read.number c.fill.ensures.capacity c.self.invariant.2,
     )

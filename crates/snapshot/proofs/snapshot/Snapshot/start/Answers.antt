@@ -30,8 +30,8 @@ invariant_of-self-2 g c =
     let len : length c.push_reserved.new.self.items ≡ length copies + 1 = ap length c.push_reserved.ensures.items ∙ length-append copies (p ∷ []) in
     let has = c.self.invariant.1 in (
       rw c.push_reserved.ensures.items
-          (state_same _ _ _ s.state t.state (pairs_pending s.exceptions ++ p.pair ∷ []) _ _ _
-          (copies_push _ _ _ s.state (pairs_pending s.exceptions) _ copies _ p alive c.self.invariant.0 refl room)
+          (state_same _ _ _ _ s.state t.state (pairs_pending s.exceptions ++ p.pair ∷ []) _ _ _
+          (copies_push _ _ _ _ s.state (pairs_pending s.exceptions) _ copies _ p alive c.self.invariant.0 refl room)
           c.start.ensures.state (pairs_more (pending s.exceptions) (pending t.exceptions) c.in-Some.begun e.pending)),
       record {
         for_pairs = omega (arith, e.used, has.for_pairs, ap (λ v. v.room) c.self.view_is);

@@ -37,8 +37,8 @@ invariant_of-self-2 g c =
     let own : All (λ (q : ChunkCopy). (q.number == c.args.number) ≡ false) copies =
     All-from_list_any (λ (q : ChunkCopy). q.number == c.args.number) copies (ap (λ v. list_any (λ (q : ChunkCopy). q.number == c.args.number) v.copies) c.self.view_is ∙ c.requires.own) in (
       rw c.push_reserved.ensures.items
-          (state_same _ _ _ s.state t.state (pairs_pending s.exceptions ++ p.pair ∷ []) _ _ _
-          (copies_push _ _ _ s.state (pairs_pending s.exceptions) _ copies _ p alive c.self.invariant.0 refl room)
+          (state_same _ _ _ _ s.state t.state (pairs_pending s.exceptions ++ p.pair ∷ []) _ _ _
+          (copies_push _ _ _ _ s.state (pairs_pending s.exceptions) _ copies _ p alive c.self.invariant.0 refl room)
           c.start.ensures.state (pairs_more (pending s.exceptions) (pending t.exceptions) c.in-Some.begun e.pending)),
       room_merging c.self.inside.room c.self.inside.kept_back c.self.inside.left (reserved s.exceptions) (reserved t.exceptions) (length copies) (length c.push_reserved.new.self.items) (length c.self.inside.marks.items)
           (vec_capacity c.self.inside.copies) (vec_capacity c.push_reserved.new.self) (vec_capacity c.self.inside.marks) c.args.number (is_some c.self.inside.spare) (is_some c.take.new.self) c.self.inside.merging c.self.invariant.1

@@ -3,7 +3,7 @@ use Rattle.std.proofs.lemmas.Bool.{cases_lt}
 use Rattle.std.specs.List.{All}
 use Rattle.std.proofs.lemmas.List.{take-map}
 use Rattle.sector.specs.Bytes.{with_part}
-use Rattle.pending.specs.declared.copies.Stage.TheVariants.{Written}
+use Rattle.pending.specs.declared.copies.Stage.TheVariants.{Flushed}
 use Rattle.exception_arena.specs.Pending.{pair_of}
 use Rattle.store.specs.Held.{committed, pending, pairs_pending}
 use Rattle.store.specs.Slots.{pairs_bytes, slot_start}
@@ -36,7 +36,7 @@ invariant_of-self g c =
     let more : length c.mark_first.new.marks.items ≡ length marks + c.args.count = ap length c.mark_first.ensures.marks ∙ marked_count c.args.count marks copies few in
     let has = c.self.invariant.1 in (
       rw c.mark_first.ensures.copies
-          (copies_drop _ _ _ s.state t.state _ _ copies _ _ c.args.count alive c.self.invariant.0 (like_commit s.state t.state c.args.count e.state) (pairs_dropped c.args.count (pending s.exceptions) (pending t.exceptions) e.pending)
+          (copies_drop _ _ _ _ s.state t.state _ _ copies _ _ c.args.count alive c.self.invariant.0 (like_commit s.state t.state c.args.count e.state) (pairs_dropped c.args.count (pending s.exceptions) (pending t.exceptions) e.pending)
           (ahead_commit c.self.inside.live s.state t.state (length copies) c.args.count e.state room few c.self.invariant.0.ahead)),
       record {
         for_pairs = omega (arith, c.write_area.ensures.reserved, has.for_pairs);
@@ -57,7 +57,7 @@ returns-in-Ok-clause-fields g c =
     let s = c.self.inside.store in
     let t = c.write_area.new.self in
     let e = c.in-Ok.ensures in
-    let v : Kept g.row.B.Denot = record { number = c.self.inside.number; live = c.self.inside.live; untried = c.self.inside.untried; stale = c.self.inside.stale; overflow = c.self.inside.overflow; device = s.device; state = s.state; next = s.places.next; pairs = committed s.exceptions; begun = pairs_pending s.exceptions; copies = c.self.inside.copies.items; marks = c.self.inside.marks.items; room = c.self.inside.room; kept_back = c.self.inside.kept_back; spare = is_some c.self.inside.spare; merging = c.self.inside.merging } in
+    let v : Kept g.row.B.Denot = record { number = c.self.inside.number; live = c.self.inside.live; untried = c.self.inside.untried; marked = c.self.inside.marked; stale = c.self.inside.stale; overflow = c.self.inside.overflow; device = s.device; state = s.state; next = s.places.next; pairs = committed s.exceptions; begun = pairs_pending s.exceptions; copies = c.self.inside.copies.items; marks = c.self.inside.marks.items; room = c.self.inside.room; kept_back = c.self.inside.kept_back; spare = is_some c.self.inside.spare; merging = c.self.inside.merging } in
     rw (← c.self.view_is, c.write_area.ensures.places)
     (commit_fields c.args.count t.device _ t.state v (pending s.exceptions) _ _ _ _ _ refl e.state e.committed (pairs_dropped c.args.count (pending s.exceptions) (pending t.exceptions) e.pending) c.mark_first.ensures.copies c.mark_first.ensures.marks c.mark_first.ensures.spare)
 
@@ -69,13 +69,13 @@ returns-in-Ok-clause-commits g c =
     let like = like_commit s.state t.state c.args.count e.state in
     let alive : c.self.inside.live ≡ true = ap (λ v. v.live) c.self.view_is ∙ c.requires.live in
     let few : c.args.count ≤ length c.self.inside.copies.items = omega (arith, ap (λ v. length v.copies) c.self.view_is) in
-    let v : Kept g.row.B.Denot = record { number = c.self.inside.number; live = c.self.inside.live; untried = c.self.inside.untried; stale = c.self.inside.stale; overflow = c.self.inside.overflow; device = s.device; state = s.state; next = s.places.next; pairs = committed s.exceptions; begun = pairs_pending s.exceptions; copies = c.self.inside.copies.items; marks = c.self.inside.marks.items; room = c.self.inside.room; kept_back = c.self.inside.kept_back; spare = is_some c.self.inside.spare; merging = c.self.inside.merging } in
+    let v : Kept g.row.B.Denot = record { number = c.self.inside.number; live = c.self.inside.live; untried = c.self.inside.untried; marked = c.self.inside.marked; stale = c.self.inside.stale; overflow = c.self.inside.overflow; device = s.device; state = s.state; next = s.places.next; pairs = committed s.exceptions; begun = pairs_pending s.exceptions; copies = c.self.inside.copies.items; marks = c.self.inside.marks.items; room = c.self.inside.room; kept_back = c.self.inside.kept_back; spare = is_some c.self.inside.spare; merging = c.self.inside.merging } in
     let w : Kept g.row.B.Denot = record v { device = t.device; state = t.state; next = t.places.next; pairs = committed t.exceptions; begun = pairs_pending t.exceptions; copies = c.mark_first.new.copies.items; marks = c.mark_first.new.marks.items; spare = is_some c.mark_first.new.spare } in
     rw (← c.self.view_is)
     (commits_at g.B.Block.contents g.B.Block.layers c.args.count v w t.device t.state
     (rw c.write_area.ensures.places (commit_fields c.args.count t.device t.state t.state v (pending s.exceptions) _ _ _ _ _ refl refl e.committed (pairs_dropped c.args.count (pending s.exceptions) (pending t.exceptions) e.pending) c.mark_first.ensures.copies c.mark_first.ensures.marks c.mark_first.ensures.spare))
     like few
-    (subst (λ (v : Kept g.row.B.Denot). All (λ p. p.stage ≡ Written) (take c.args.count v.copies)) (sym c.self.view_is) c.requires.ready)
+    (subst (λ (v : Kept g.row.B.Denot). All (λ p. p.stage ≡ Flushed) (take c.args.count v.copies)) (sym c.self.view_is) c.requires.ready)
     c.write_area.ensures.loud e.only
     (λ l. listed_now (g.B.Block.contents t.device) (committed t.exceptions) s.state t.state t.area.bytes.items (t.stored (c.write_area.ensures.loud ∙ l)) (like.left ∙ c.self.invariant.0.ready) like.chunk))
 
@@ -94,13 +94,13 @@ returns-in-Err-clause-in_step g c =
 pub returns-in-Ok-clause-stops : goal.returns-in-Ok-clause-stops
 returns-in-Ok-clause-stops g c =
     let s = c.self.inside.store in
-    let valid = valid_live c.self.inside.live c.self.inside.untried c.self.inside.stale s.state.valid c.self.invariant.0.valid (ap (λ v. v.live) c.self.view_is ∙ c.requires.live) in
+    let valid = valid_live c.self.inside.live c.self.inside.marked s.state.valid c.self.invariant.0.dead c.self.invariant.0.valid (ap (λ v. v.live) c.self.view_is ∙ c.requires.live) in
     rw (← c.self.view_is) (λ loud. commit_stops (committed s.exceptions) (pairs_pending s.exceptions) s.state s.area.bytes.items (g.B.Block.contents s.device) (g.B.Block.contents c.write_area.new.self.device) s.places.next s.front s.given c.self.invariant.0.ready (g.met.B.Block.whole s.device ∙ ap (λ n. 512 * n) (sym s.size)) (s.stored loud)
     c.args.count (pending s.exceptions) refl c.write_area.ensures.only (c.write_area.ensures.stops valid loud))
 
 pub returns-in-Err-clause-stops : goal.returns-in-Err-clause-stops
 returns-in-Err-clause-stops g c =
     let s = c.self.inside.store in
-    let valid = valid_live c.self.inside.live c.self.inside.untried c.self.inside.stale s.state.valid c.self.invariant.0.valid (ap (λ v. v.live) c.self.view_is ∙ c.requires.live) in
+    let valid = valid_live c.self.inside.live c.self.inside.marked s.state.valid c.self.invariant.0.dead c.self.invariant.0.valid (ap (λ v. v.live) c.self.view_is ∙ c.requires.live) in
     rw (← c.self.view_is) (λ loud. commit_stops (committed s.exceptions) (pairs_pending s.exceptions) s.state s.area.bytes.items (g.B.Block.contents s.device) (g.B.Block.contents c.write_area.new.self.device) s.places.next s.front s.given c.self.invariant.0.ready (g.met.B.Block.whole s.device ∙ ap (λ n. 512 * n) (sym s.size)) (s.stored loud)
     c.args.count (pending s.exceptions) refl c.write_area.ensures.only (c.write_area.ensures.stops valid loud))

@@ -45,4 +45,4 @@ returns-clause-stops g c =
     (record { array = Some c.self.inside.number; first = s.state.chunk * d + c.args.first; count = c.args.count; bytes = c.args.bytes.now }) d c.args.place c.args.first refl named
     (omega (arith, c.requires.part, ap (λ v. v.state.chunk) c.self.view_is)) c.requires.room
     (elim c.match-write_chunk.branch [ in-Ok w ↦ inr (w.in-Ok.ensures.written loud) | in-Err w ↦ inl w.in-Err.ensures.same ])
-    (c.write_chunk.ensures.stops c.self.invariant.0.ready (valid_live c.self.inside.live c.self.inside.untried c.self.inside.stale s.state.valid c.self.invariant.0.valid alive) loud))
+    (c.write_chunk.ensures.stops c.self.invariant.0.ready (valid_live c.self.inside.live c.self.inside.marked s.state.valid c.self.invariant.0.dead c.self.invariant.0.valid alive) loud))

@@ -54,8 +54,8 @@ invariant_of-self g c =
     let q : ChunkCopy = record p { stage = Written } in
     let e = c.in-Ok.ensures in
     let within : c.args.index < length c.self.inside.copies.items = omega (arith, ap (λ v. length v.copies) c.self.view_is) in (
-      state_same _ _ _ s.state t.state _ _ _ _
-          (copy_set _ _ _ s.state _ c.self.inside.copies.items _ c.args.index p q c.self.invariant.0 within c.index_mut.ensures.value refl refl)
+      state_same _ _ _ _ s.state t.state _ _ _ _
+          (copy_set _ _ _ _ s.state _ c.self.inside.copies.items _ c.args.index p q c.self.invariant.0 within c.index_mut.ensures.value refl refl)
           e.state (ap pairs_pending e.exceptions),
       rw (ap reserved e.exceptions, length-set) c.self.invariant.1,
       spared_like s.state.chunk t.state.chunk c.self.inside.spare c.self.inside.merging _ (ap (λ x. x.chunk) e.state)
@@ -97,7 +97,7 @@ returns-in-Err-clause-in_step g c =
 pub returns-in-Ok-clause-stops : goal.returns-in-Ok-clause-stops
 returns-in-Ok-clause-stops g c =
     let s = c.self.inside.store in
-    let valid = valid_live c.self.inside.live c.self.inside.untried c.self.inside.stale s.state.valid c.self.invariant.0.valid (ap (λ v. v.live) c.self.view_is ∙ c.requires.live) in
+    let valid = valid_live c.self.inside.live c.self.inside.marked s.state.valid c.self.invariant.0.dead c.self.invariant.0.valid (ap (λ v. v.live) c.self.view_is ∙ c.requires.live) in
     let within : c.args.index < length c.self.inside.copies.items = omega (arith, ap (λ v. length v.copies) c.self.view_is) in
     rw (← c.self.view_is) (λ loud. copy_stops (committed s.exceptions) (pairs_pending s.exceptions) s.state s.area.bytes.items (g.B.Block.contents s.device) (g.B.Block.contents c.write_chunk.new.self.device) s.places.next s.front s.given c.self.invariant.0.ready (g.met.B.Block.whole s.device ∙ ap (λ n. 512 * n) (sym s.size)) (s.stored loud)
     c.self.inside.copies.items c.args.index c.index-copy.result.now c.self.invariant.0.agree within c.index-copy.ensures c.write_chunk.ensures.only (c.write_chunk.ensures.stops c.self.invariant.0.ready valid loud))
@@ -105,7 +105,7 @@ returns-in-Ok-clause-stops g c =
 pub returns-in-Err-clause-stops : goal.returns-in-Err-clause-stops
 returns-in-Err-clause-stops g c =
     let s = c.self.inside.store in
-    let valid = valid_live c.self.inside.live c.self.inside.untried c.self.inside.stale s.state.valid c.self.invariant.0.valid (ap (λ v. v.live) c.self.view_is ∙ c.requires.live) in
+    let valid = valid_live c.self.inside.live c.self.inside.marked s.state.valid c.self.invariant.0.dead c.self.invariant.0.valid (ap (λ v. v.live) c.self.view_is ∙ c.requires.live) in
     let within : c.args.index < length c.self.inside.copies.items = omega (arith, ap (λ v. length v.copies) c.self.view_is) in
     rw (← c.self.view_is) (λ loud. copy_stops (committed s.exceptions) (pairs_pending s.exceptions) s.state s.area.bytes.items (g.B.Block.contents s.device) (g.B.Block.contents c.write_chunk.new.self.device) s.places.next s.front s.given c.self.invariant.0.ready (g.met.B.Block.whole s.device ∙ ap (λ n. 512 * n) (sym s.size)) (s.stored loud)
     c.self.inside.copies.items c.args.index c.index-copy.result.now c.self.invariant.0.agree within c.index-copy.ensures c.write_chunk.ensures.only (c.write_chunk.ensures.stops c.self.invariant.0.ready valid loud))

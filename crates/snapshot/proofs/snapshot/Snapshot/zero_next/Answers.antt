@@ -22,9 +22,9 @@ invariant_of-self g c =
     let some : 0 < length copies = omega (arith, ap (λ v. length v.copies) c.self.view_is, c.requires.some) in
     let due : s.state.filled + batch_of s.state copies ≡ 32 * s.state.chunk = needs_is s.state copies (ap (λ v. needs_area v.state v.copies) c.self.view_is ∙ c.requires.due) in
     let begun = ap pairs_pending c.zero_next.ensures.exceptions in
-    let kept : IsSnapshot c.self.inside.live c.self.inside.untried c.self.inside.stale t.state (pairs_pending t.exceptions) c.self.inside.copies.items c.self.inside.marks.items = elim c.match-zero_next.branch [
-      | in-Ok w ↦ state_kept _ _ _ s.state t.state _ _ _ _ c.self.invariant.0 (like_zeroed s.state t.state w.in-Ok.ensures.zeroed) begun (ahead_zeroed c.self.inside.live s.state t.state copies w.in-Ok.ensures.zeroed some due)
-      | in-Err w ↦ state_same _ _ _ s.state t.state _ _ _ _ c.self.invariant.0 w.in-Err.ensures.kept begun
+    let kept : IsSnapshot c.self.inside.live c.self.inside.untried c.self.inside.marked c.self.inside.stale t.state (pairs_pending t.exceptions) c.self.inside.copies.items c.self.inside.marks.items = elim c.match-zero_next.branch [
+      | in-Ok w ↦ state_kept _ _ _ _ s.state t.state _ _ _ _ c.self.invariant.0 (like_zeroed s.state t.state w.in-Ok.ensures.zeroed) begun (ahead_zeroed c.self.inside.live s.state t.state copies w.in-Ok.ensures.zeroed some due)
+      | in-Err w ↦ state_same _ _ _ _ s.state t.state _ _ _ _ c.self.invariant.0 w.in-Err.ensures.kept begun
     ] in
     let chunk : t.state.chunk ≡ s.state.chunk = elim c.match-zero_next.branch [ in-Ok w ↦ ap (λ x. x.chunk) w.in-Ok.ensures.zeroed | in-Err w ↦ ap (λ x. x.chunk) w.in-Err.ensures.kept ] in
     (kept, rw (ap reserved c.zero_next.ensures.exceptions) c.self.invariant.1, spared_like s.state.chunk t.state.chunk c.self.inside.spare c.self.inside.merging copies chunk c.self.invariant.2)
@@ -41,6 +41,6 @@ returns-clause-stops g c =
     let ps = committed s.exceptions in
     let inside = All-front (IsInside s.state.chunk s.state.origin s.state.size) ps (pairs_pending s.exceptions) s.given.inside in
     let alive : c.self.inside.live ≡ true = ap (λ v. v.live) c.self.view_is ∙ c.requires.live in
-    let valid = valid_live c.self.inside.live c.self.inside.untried c.self.inside.stale s.state.valid c.self.invariant.0.valid alive in
+    let valid = valid_live c.self.inside.live c.self.inside.marked s.state.valid c.self.invariant.0.dead c.self.invariant.0.valid alive in
     rw (← c.self.view_is) (λ loud. same_shown ps s.state s.area.bytes.items (g.B.Block.contents s.device) (g.B.Block.contents c.zero_next.new.self.device) s.front (s.stored loud) c.self.invariant.0.ready (g.met.B.Block.whole s.device ∙ ap (λ n. 512 * n) (sym s.size))
     (area_place s.state.chunk (s.state.current + 1)) c.zero_next.ensures.only (place_unnamed s.state.chunk s.state.origin s.state.size (s.state.current + 1) ps s.front.some inside) (c.zero_next.ensures.stops valid loud))

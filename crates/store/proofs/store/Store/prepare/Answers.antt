@@ -68,3 +68,17 @@ returns-in-Nothing-clause-stops g c = λ valid loud torn within.
     let l : IsTrue (is_loud (g.B.Block.layers s.device)) = loud in
     let whole : length (g.B.Block.contents s.device) ≡ 512 * s.state.size = g.met.B.Block.whole s.device ∙ ap (λ n. 512 * n) (sym s.size) in
     unwritten_stops s.state.left s.places.next (committed s.exceptions) (pairs_pending s.exceptions) s.state s.area.bytes.items (g.B.Block.contents s.device) _ torn refl s.front (s.stored l) s.given valid whole refl within
+
+pub returns-then-self-clause-stops : goal.returns-then-self-clause-stops
+returns-then-self-clause-stops g c = λ valid loud torn within.
+    let s = c.args.self.now in
+    let l : IsTrue (is_loud (g.B.Block.layers s.device)) = loud in
+    let whole : length (g.B.Block.contents s.device) ≡ 512 * s.state.size = g.met.B.Block.whole s.device ∙ ap (λ n. 512 * n) (sym s.size) in
+    unwritten_stops s.state.left s.places.next (committed s.exceptions) (pairs_pending s.exceptions) s.state s.area.bytes.items (g.B.Block.contents s.device) _ torn refl s.front (s.stored l) s.given valid whole c.flush_load.ensures.same within
+
+pub returns-in_err-flush_load-clause-stops : goal.returns-in_err-flush_load-clause-stops
+returns-in_err-flush_load-clause-stops g c = λ valid loud torn within.
+    let s = c.args.self.now in
+    let l : IsTrue (is_loud (g.B.Block.layers s.device)) = loud in
+    let whole : length (g.B.Block.contents s.device) ≡ 512 * s.state.size = g.met.B.Block.whole s.device ∙ ap (λ n. 512 * n) (sym s.size) in
+    unwritten_stops s.state.left s.places.next (committed s.exceptions) (pairs_pending s.exceptions) s.state s.area.bytes.items (g.B.Block.contents s.device) _ torn refl s.front (s.stored l) s.given valid whole c.flush_load.ensures.same within

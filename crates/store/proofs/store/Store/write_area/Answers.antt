@@ -25,7 +25,7 @@ invariant_of-self-clause-front g c =
     let put : IsPut s.area.bytes.items s.state.filled qs x = subst (λ (a : List ℕ). IsPut a s.state.filled qs x) c.copy_area.ensures.bytes c.put_first.ensures.put in
     let full : s.state.filled + c.args.count ≡ 32 * s.state.chunk = c.if-self.true in
     let nil = all_zero s.state.chunk c.swap.new.x.bytes.items _ (c.swap.new.x.whole ∙ ap (λ a. 512 * a.chunk) c.swap.ensures.x_after ∙ ap (λ n. 512 * n) (c.put_first.ensures.chunk ∙ c.copy_area.ensures.chunk ∙ s.spare_chunk)) c.clear_from.ensures.bytes in
-    rw c.finish_first.ensures.committed (front_full c.args.count (committed s.exceptions) qs s.state s.area.bytes.items c.clear_from.new.self.bytes.items s.front n full (c.requires.next full) nil c.requires.ready)
+    rw c.finish_first.ensures.committed (front_full c.args.count (committed s.exceptions) qs s.state s.area.bytes.items c.clear_from.new.self.bytes.items s.front n full (s.front.firm (c.requires.next full)) nil c.requires.ready)
 
 pub invariant_of-self-clause-given : goal.invariant_of-self-clause-given
 invariant_of-self-clause-given g c =
@@ -38,7 +38,7 @@ invariant_of-self-clause-given g c =
     let full : s.state.filled + c.args.count ≡ 32 * s.state.chunk = c.if-self.true in
     let nil = all_zero s.state.chunk c.swap.new.x.bytes.items _ (c.swap.new.x.whole ∙ ap (λ a. 512 * a.chunk) c.swap.ensures.x_after ∙ ap (λ n. 512 * n) (c.put_first.ensures.chunk ∙ c.copy_area.ensures.chunk ∙ s.spare_chunk)) c.clear_from.ensures.bytes in
     let some = s.front.some in
-    let room = front_room (committed s.exceptions ++ qs) (record s.state { current = s.state.current + 1; filled = 0; zeroed = false }) c.clear_from.new.self.bytes.items (front_full c.args.count (committed s.exceptions) qs s.state s.area.bytes.items c.clear_from.new.self.bytes.items s.front n full (c.requires.next full) nil c.requires.ready) (omega arith) in
+    let room = front_room (committed s.exceptions ++ qs) (record s.state { current = s.state.current + 1; filled = 0; zeroed = false; firm = false }) c.clear_from.new.self.bytes.items (front_full c.args.count (committed s.exceptions) qs s.state s.area.bytes.items c.clear_from.new.self.bytes.items s.front n full (s.front.firm (c.requires.next full)) nil c.requires.ready) (omega arith) in
     let moved = ap (λ C. C ++ pairs (pending c.finish_first.new.exceptions)) c.finish_first.ensures.committed ∙ ap (λ Q. (committed s.exceptions ++ qs) ++ pairs Q) c.finish_first.ensures.pending ∙ first_moved (committed s.exceptions) P c.args.count in
     given_moved s.state.chunk s.state.origin s.state.size s.places.next s.state.copying (committed s.exceptions) (pairs P) _ _ s.given moved (rw c.finish_first.ensures.committed room)
 
@@ -56,7 +56,7 @@ invariant_of-self-clause-stored g c = λ loud.
     let whole : length (g.B.Block.contents s.device) ≡ 512 * s.state.size = g.met.B.Block.whole s.device ∙ ap (λ n. 512 * n) (sym s.size) in
     let written = c.in-Ok.ensures.written l ∙ ap (λ y. with_sectors (g.B.Block.contents s.device) (s.state.chunk * area_place s.state.chunk s.state.current) y) c.encode.ensures in
     let valid = first_valid s.state.chunk s.state.origin s.state.size s.places.next c.args.count s.state.copying (committed s.exceptions) P s.given c.requires.pending in
-    rw c.finish_first.ensures.committed (stored_full c.args.count (committed s.exceptions) qs s.state s.area.bytes.items x c.clear_from.new.self.bytes.items (g.B.Block.contents s.device) _ s.front (s.stored l) put n full (c.requires.next full) nil c.requires.ready valid whole written)
+    rw c.finish_first.ensures.committed (stored_full c.args.count (committed s.exceptions) qs s.state s.area.bytes.items x c.clear_from.new.self.bytes.items (g.B.Block.contents s.device) _ s.front (s.stored l) put n full (s.front.firm (c.requires.next full)) nil c.requires.ready valid whole written)
 
 pub invariant_of-self-else-self-clause-front : goal.invariant_of-self-else-self-clause-front
 invariant_of-self-else-self-clause-front g c =
@@ -135,7 +135,7 @@ returns-then-self-clause-stops g c = λ valid loud.
     let l : IsTrue (is_loud (g.B.Block.layers s.device)) = loud in
     let whole : length (g.B.Block.contents s.device) ≡ 512 * s.state.size = g.met.B.Block.whole s.device ∙ ap (λ n. 512 * n) (sym s.size) in
     let written = c.in-Ok.ensures.written l ∙ ap (λ y. with_sectors (g.B.Block.contents s.device) (s.state.chunk * area_place s.state.chunk s.state.current) y) c.encode.ensures in
-    commit_stops c.args.count s.places.next (committed s.exceptions) P s.state s.area.bytes.items x (g.B.Block.contents s.device) _ s.front (s.stored l) s.given put c.requires.pending c.requires.ready valid c.requires.fits c.requires.next whole written
+    commit_stops c.args.count s.places.next (committed s.exceptions) P s.state s.area.bytes.items x (g.B.Block.contents s.device) _ s.front (s.stored l) s.given put c.requires.pending c.requires.ready valid c.requires.fits (λ e. s.front.firm (c.requires.next e)) whole written
 
 pub returns-else-self-clause-stops : goal.returns-else-self-clause-stops
 returns-else-self-clause-stops g c = λ valid loud.
@@ -147,7 +147,7 @@ returns-else-self-clause-stops g c = λ valid loud.
     let l : IsTrue (is_loud (g.B.Block.layers s.device)) = loud in
     let whole : length (g.B.Block.contents s.device) ≡ 512 * s.state.size = g.met.B.Block.whole s.device ∙ ap (λ n. 512 * n) (sym s.size) in
     let written = c.in-Ok.ensures.written l ∙ ap (λ y. with_sectors (g.B.Block.contents s.device) (s.state.chunk * area_place s.state.chunk s.state.current) y) c.encode.ensures in
-    commit_stops c.args.count s.places.next (committed s.exceptions) P s.state s.area.bytes.items x (g.B.Block.contents s.device) _ s.front (s.stored l) s.given put c.requires.pending c.requires.ready valid c.requires.fits c.requires.next whole written
+    commit_stops c.args.count s.places.next (committed s.exceptions) P s.state s.area.bytes.items x (g.B.Block.contents s.device) _ s.front (s.stored l) s.given put c.requires.pending c.requires.ready valid c.requires.fits (λ e. s.front.firm (c.requires.next e)) whole written
 
 pub returns-in-Err-clause-stops : goal.returns-in-Err-clause-stops
 returns-in-Err-clause-stops g c = λ valid loud.

@@ -9,11 +9,11 @@ use Rattle.sector.specs.Bytes.{sector_at}
 use Rattle.std.proofs.Math.Seq.{get_or-append_seam}
 use Rattle.stop_laws.proofs.Torn.{torn_still}
 use Rattle.snapshot.specs.Kept.{Kept, books_of as snap_books}
-use Rattle.snapshot.specs.StopsOpening.{StopsOpening}
+use Rattle.snapshot.specs.StopsOpening.{StopsOpening, StopsRefused}
 use Rattle.store.specs.Opening.{IsRefused}
 use Rattle.snapshot.specs.Opening.{shown_array}
 use Rattle.snapshot.proofs.Openings.{opened_origin}
-use Rattle.volume.specs.Volumed.{Volumed}
+use Rattle.volume.specs.Volumed.{Volumed, plain_of}
 use Rattle.snapshots.specs.Numbers.{numbers_in}
 use Rattle.volume.specs.Whole.{IsCounted}
 use Rattle.volume.specs.Leaving.{is_quiet_of}
@@ -22,10 +22,12 @@ use Rattle.volume.proofs.Quieted.{quiet_flights}
 use Rattle.volume.proofs.Attaches.{attach_fresh, taking_none, none_begun, whole_taken, plain_taken_as}
 use Rattle.chunk.specs.Sizes.{is_chunk}
 use Rattle.chunk.proofs.Limits.{is_chunk-some}
-use Rattle.settled.specs.Attaching.{open_store, done}
+use Rattle.plain.specs.Legal.{IsTaken}
+use Rattle.sector.specs.declared.refusal.Refusal.TheVariants.{NoMemory}
 use Rattle.volume.specs.Moved.{device_of}
-use Rattle.volume.specs.Attached.{store_of, volume_in}
-use Rattle.volume.proofs.AttachedAs.{number_left, refused_before, admitted, count_in, resting, attached_is, back_is, unzeroed_of, size_opened, loud_taken_as}
+use Rattle.volume.specs.Attached.{store_of, volume_in, IsTriedOrigin}
+use Rattle.volume.proofs.AttachedAs.{number_left, refused_before, admitted, count_in, resting, attached_is, back_is, unzeroed_of, unfirm_of, size_opened, loud_taken_as}
+use Rattle.volume.proofs.TriedOrigins.{over, over_whole, over_shown, refused_over, refused_still, tried_flushed, tried_back}
 use Rattle.volume.proofs.volume.Volume.attach.Goals as goal
 
 pub push_reserved-requires : goal.push_reserved-requires
@@ -34,6 +36,8 @@ push_reserved-requires g c = omega (arith, c.in-Ok.ensures.ok)
 pub invariant_of-self-in-Ok-open_snapshot : goal.invariant_of-self-in-Ok-open_snapshot
 invariant_of-self-in-Ok-open_snapshot g c =
     let v : Volumed g.row.B.Denot = record { origin = c.self.inside.origin; snaps = c.self.inside.snaps.items; merge = c.self.inside.merge; flights = c.self.inside.flights.items; requests = c.self.inside.requests; copies = c.self.inside.copies; attached = c.self.inside.attached } in
+    let d = c.open_snapshot.new.origin in
+    let t : IsTriedOrigin g.B.Block.contents g.B.Block.layers g.B.Block.size v.origin d = tried_flushed g.B.Block.contents g.B.Block.layers g.B.Block.size g.B.Block.fault_count g.B.Block.done_count true v.origin d c.in-Ok-open_snapshot.ensures.origin in
     let s : Kept g.row.B.Denot = c.in-Ok-open_snapshot.snap in
     let now = c.args.self.now in
     let admitted = taking_none c.args.store.stale (is_some c.args.self.now.merge) (is_quiet_of c.args.self.now) (length c.args.self.now.snaps) c.args.self.now.attached c.args.chunk (sym c.in-None.ensures) in
@@ -43,34 +47,38 @@ invariant_of-self-in-Ok-open_snapshot g c =
     let room : length v.snaps < 8 = omega (arith, same, admitted.1) in
     let o = c.in-Ok-open_snapshot.ensures.opened in
     let number : s.number ≡ v.attached + 1 = ap (λ (x : Kept g.row.B.Denot). x.number) o.fields in
-    let new : IsNewSnap (g.B.Block.contents v.origin) (snap_books g.B.Block.contents g.B.Block.layers s) = c.in-Ok-open_snapshot.ensures.new (g.B.Block.contents v.origin) (g.met.B.Block.whole v.origin ∙ ap (λ n. 512 * n) (sym c.sectors.ensures)) in
-    let origin : s.state.origin ≡ g.B.Block.size v.origin = ap (λ (x : Kept g.row.B.Denot). x.state.origin) o.fields ∙ opened_origin c.args.chunk c.sectors.result (g.B.Block.size c.args.store.device) (g.B.Block.contents c.args.store.device) o.loaded s.pairs o.opened ∙ c.sectors.ensures in
-    let sized : s.state.size ≡ g.B.Block.size c.args.store.device = size_opened g.B.Block.contents g.B.Block.layers (v.attached + 1) c.args.chunk c.sectors.result (g.B.Block.size c.args.store.device) c.args.overflow c.args.store.device s o in
+    let new : IsNewSnap (g.B.Block.contents d) (snap_books g.B.Block.contents g.B.Block.layers s) = c.in-Ok-open_snapshot.ensures.new (g.B.Block.contents d) (g.met.B.Block.whole d ∙ ap (λ n. 512 * n) t.size_is) in
+    let origin : s.state.origin ≡ g.B.Block.size d = ap (λ (x : Kept g.row.B.Denot). x.state.origin) o.fields ∙ opened_origin c.args.chunk (g.B.Block.size v.origin) (g.B.Block.size c.args.store.device) (g.B.Block.contents c.args.store.device) o.loaded s.pairs o.opened ∙ sym t.size_is in
+    let sized : s.state.size ≡ g.B.Block.size c.args.store.device = size_opened g.B.Block.contents g.B.Block.layers (v.attached + 1) c.args.chunk (g.B.Block.size v.origin) (g.B.Block.size c.args.store.device) c.args.overflow c.args.store.device s o in
     let small : s.state.size ≤ 16777216 = omega (arith, sized, g.met.B.Block.small c.args.store.device) in
     let allowed : is_chunk s.state.chunk ≡ true = subst (λ n. is_chunk n ≡ true) c.chunk.ensures.is c.chunk.ensures.allowed in
     let idle : numbers_in s ≡ [] = ap (λ (x : Kept g.row.B.Denot). numbers_in x) o.fields in
     let copies : s.copies ≡ [] = ap (λ (x : Kept g.row.B.Denot). x.copies) o.fields in
     let counts : IsCounted s = record { some = new.text.some; count = c.in-Ok-open_snapshot.ensures.counted; fits = λ _. c.in-Ok-open_snapshot.ensures.unfilled; idle = λ _. copies } in
-    rw (c.push_reserved.ensures.items, c.reserve.ensures.items) (whole_taken g.B.Block.contents g.B.Block.layers g.B.Block.size v s none alone c.self.invariant number new room small origin allowed idle counts)
+    rw (c.push_reserved.ensures.items, c.reserve.ensures.items) (whole_taken g.B.Block.contents g.B.Block.layers g.B.Block.size (over g.B.Block.contents g.B.Block.layers g.B.Block.size v d t) s none alone (over_whole g.B.Block.contents g.B.Block.layers g.B.Block.size v d t c.self.invariant) number new room small origin allowed idle counts)
 
 pub returns-in-Ok-open_snapshot-clause-taken : goal.returns-in-Ok-open_snapshot-clause-taken
 returns-in-Ok-open_snapshot-clause-taken g c = λ _ loud.
     let v : Volumed g.row.B.Denot = record { origin = c.self.inside.origin; snaps = c.self.inside.snaps.items; merge = c.self.inside.merge; flights = c.self.inside.flights.items; requests = c.self.inside.requests; copies = c.self.inside.copies; attached = c.self.inside.attached } in
+    let d = c.open_snapshot.new.origin in
+    let t : IsTriedOrigin g.B.Block.contents g.B.Block.layers g.B.Block.size v.origin d = tried_flushed g.B.Block.contents g.B.Block.layers g.B.Block.size g.B.Block.fault_count g.B.Block.done_count true v.origin d c.in-Ok-open_snapshot.ensures.origin in
     let s : Kept g.row.B.Denot = c.in-Ok-open_snapshot.snap in
     let admitted = taking_none c.args.store.stale (is_some c.args.self.now.merge) (is_quiet_of c.args.self.now) (length c.args.self.now.snaps) c.args.self.now.attached c.args.chunk (sym c.in-None.ensures) in
     let none : v.flights ≡ [] = ap (λ (x : Volumed g.row.B.Denot). x.flights) c.self.view_is ∙ quiet_flights c.args.self.now admitted.0 in
     let alone : v.merge ≡ None = none_begun v.merge (ap (λ (x : Volumed g.row.B.Denot). is_some x.merge) c.self.view_is ∙ admitted.2) in
     let number : s.number ≡ v.attached + 1 = ap (λ (x : Kept g.row.B.Denot). x.number) c.in-Ok-open_snapshot.ensures.opened.fields in
-    let new : IsNewSnap (g.B.Block.contents v.origin) (snap_books g.B.Block.contents g.B.Block.layers s) = c.in-Ok-open_snapshot.ensures.new (g.B.Block.contents v.origin) (g.met.B.Block.whole v.origin ∙ ap (λ n. 512 * n) (sym c.sectors.ensures)) in
-    let shows = c.in-Ok-open_snapshot.ensures.shown loud (g.B.Block.contents v.origin) in
+    let new : IsNewSnap (g.B.Block.contents d) (snap_books g.B.Block.contents g.B.Block.layers s) = c.in-Ok-open_snapshot.ensures.new (g.B.Block.contents d) (g.met.B.Block.whole d ∙ ap (λ n. 512 * n) t.size_is) in
+    let shows = c.in-Ok-open_snapshot.ensures.shown loud (g.B.Block.contents d) ∙ ap (λ b. shown_array b (g.B.Block.contents c.args.store.device)) t.contents_are in
     let pushed = c.push_reserved.ensures.items ∙ ap (λ (x : List (Kept g.row.B.Denot)). x ++ s ∷ []) c.reserve.ensures.items in
-    rw (← c.self.view_is) (plain_taken_as g.B.Block.contents g.B.Block.layers g.B.Block.size v s none alone c.self.invariant number new (shown_array (g.B.Block.contents v.origin) (g.B.Block.contents c.args.store.device)) (overflow_of c.args.overflow) c.push_reserved.new.self.items (ap (λ (x : Kept g.row.B.Denot). x.overflow) c.in-Ok-open_snapshot.ensures.opened.fields) pushed shows)
+    let array : List ℕ = shown_array (g.B.Block.contents v.origin) (g.B.Block.contents c.args.store.device) in
+    let step = plain_taken_as g.B.Block.contents g.B.Block.layers g.B.Block.size (over g.B.Block.contents g.B.Block.layers g.B.Block.size v d t) s none alone (over_whole g.B.Block.contents g.B.Block.layers g.B.Block.size v d t c.self.invariant) number new array (overflow_of c.args.overflow) c.push_reserved.new.self.items (ap (λ (x : Kept g.row.B.Denot). x.overflow) c.in-Ok-open_snapshot.ensures.opened.fields) pushed shows in
+    rw (← c.self.view_is) (subst (λ p. IsTaken p (v.attached + 1) array (overflow_of c.args.overflow) (plain_of g.B.Block.contents g.B.Block.layers (record v { origin = d; snaps = c.push_reserved.new.self.items; attached = v.attached + 1 }))) (over_shown g.B.Block.contents g.B.Block.layers g.B.Block.size v d t) step)
 
 pub returns-in-Err-open_snapshot-clause-refused : goal.returns-in-Err-open_snapshot-clause-refused
 returns-in-Err-open_snapshot-clause-refused g c =
     let size = g.B.Block.size c.args.store.device in
     let bytes = g.B.Block.contents c.args.store.device in
-    let sectors : c.sectors.result ≡ g.B.Block.size c.args.self.now.origin = c.sectors.ensures ∙ ap (λ (x : Volumed g.row.B.Denot). g.B.Block.size x.origin) c.self.view_is in
+    let sectors : g.B.Block.size c.self.inside.origin ≡ g.B.Block.size c.args.self.now.origin = ap (λ (x : Volumed g.row.B.Denot). g.B.Block.size x.origin) c.self.view_is in
     inr (
       sym c.in-None.ensures,
       inr
@@ -79,12 +87,17 @@ returns-in-Err-open_snapshot-clause-refused g c =
 
 pub returns-in-Ok-open_snapshot-clause-gained : goal.returns-in-Ok-open_snapshot-clause-gained
 returns-in-Ok-open_snapshot-clause-gained g c =
+    let v : Volumed g.row.B.Denot = record { origin = c.self.inside.origin; snaps = c.self.inside.snaps.items; merge = c.self.inside.merge; flights = c.self.inside.flights.items; requests = c.self.inside.requests; copies = c.self.inside.copies; attached = c.self.inside.attached } in
+    let d = c.open_snapshot.new.origin in
+    let t : IsTriedOrigin g.B.Block.contents g.B.Block.layers g.B.Block.size v.origin d = tried_flushed g.B.Block.contents g.B.Block.layers g.B.Block.size g.B.Block.fault_count g.B.Block.done_count true v.origin d c.in-Ok-open_snapshot.ensures.origin in
     let s : Kept g.row.B.Denot = c.in-Ok-open_snapshot.snap in
     let o = c.in-Ok-open_snapshot.ensures.opened in
     let pushed = c.push_reserved.ensures.items ∙ ap (λ (x : List (Kept g.row.B.Denot)). x ++ s ∷ []) c.reserve.ensures.items in
     rw (← c.self.view_is) (record {
       snap = c.in-Ok-open_snapshot.snap;
       becomes = rw pushed refl;
+      origin = t;
+      flushed = c.in-Ok-open_snapshot.ensures.origin.operation.layers;
       number_is = ap (λ (x : Kept g.row.B.Denot). x.number) o.fields;
       fresh = attach_fresh g.B.Block.contents g.B.Block.layers g.B.Block.size _ c.self.invariant _ refl;
       live = ap (λ (x : Kept g.row.B.Denot). x.live) o.fields;
@@ -100,28 +113,23 @@ returns-in-Ok-open_snapshot-clause-gained g c =
 pub returns-in-Ok-open_snapshot-clause-exact : goal.returns-in-Ok-open_snapshot-clause-exact
 returns-in-Ok-open_snapshot-clause-exact g c = λ _ loud.
     let v : Volumed g.row.B.Denot = record { origin = c.self.inside.origin; snaps = c.self.inside.snaps.items; merge = c.self.inside.merge; flights = c.self.inside.flights.items; requests = c.self.inside.requests; copies = c.self.inside.copies; attached = c.self.inside.attached } in
+    let d = c.open_snapshot.new.origin in
+    let t : IsTriedOrigin g.B.Block.contents g.B.Block.layers g.B.Block.size v.origin d = tried_flushed g.B.Block.contents g.B.Block.layers g.B.Block.size g.B.Block.fault_count g.B.Block.done_count true v.origin d c.in-Ok-open_snapshot.ensures.origin in
     let s : Kept g.row.B.Denot = c.in-Ok-open_snapshot.snap in
-    let contents = g.B.Block.contents in
-    let layers = g.B.Block.layers in
     let e = c.in-Ok-open_snapshot.ensures in
     let o = c.in-Ok-open_snapshot.ensures.opened in
-    let device = c.args.store.device in
     let none : attach_refusal c.args.store.stale c.args.chunk v ≡ None = ap (attach_refusal c.args.store.stale c.args.chunk) c.self.view_is ∙ sym c.in-None.ensures in
-    let taken = taking_none c.args.store.stale (is_some v.merge) (is_quiet_of v) (length v.snaps) v.attached c.args.chunk none in
-    let alone : v.merge ≡ None = none_begun v.merge taken.2 in
     let few : c.self.inside.attached ≤ 4294967295 = omega (arith, c.self.ranges) in
     let goes = admitted c.args.store.stale (is_some v.merge) (is_quiet_of v) (length v.snaps) v.attached c.args.chunk (overflow_of c.args.overflow) (store_of g.B.Block.contents g.B.Block.layers c.args.store) (volume_in g.B.Block.contents g.B.Block.layers v) few refl (count_in g.B.Block.contents g.B.Block.layers v) none in
-    let size : c.sectors.result ≡ g.B.Block.size v.origin = c.sectors.ensures in
-    let sectors = g.B.Block.size v.origin in
-    let opens : open_store (g.B.Block.size v.origin) c.args.chunk (device_of g.B.Block.contents g.B.Block.layers c.args.store.device) ≡ done s.state.chunk (device_of g.B.Block.contents g.B.Block.layers s.device) =
-    ap (λ n. open_store n c.args.chunk (device_of g.B.Block.contents g.B.Block.layers c.args.store.device)) (sym size) ∙ e.exact loud in
+    let opens = e.exact loud in
     let number : s.number ≡ v.attached + 1 = ap (λ (x : Kept g.row.B.Denot). x.number) o.fields in
-    let new : IsNewSnap (g.B.Block.contents v.origin) (snap_books g.B.Block.contents g.B.Block.layers s) = e.new (g.B.Block.contents v.origin) (g.met.B.Block.whole v.origin ∙ ap (λ n. 512 * n) (sym c.sectors.ensures)) in
+    let new : IsNewSnap (g.B.Block.contents v.origin) (snap_books g.B.Block.contents g.B.Block.layers s) = e.new (g.B.Block.contents v.origin) (g.met.B.Block.whole v.origin) in
     let pushed = c.push_reserved.ensures.items ∙ ap (λ (x : List (Kept g.row.B.Denot)). x ++ s ∷ []) c.reserve.ensures.items in
-    let unzeroed : s.state.zeroed ≡ false = unzeroed_of g.B.Block.contents g.B.Block.layers (v.attached + 1) c.args.chunk c.sectors.result (g.B.Block.size c.args.store.device) c.args.overflow c.args.store.device s o in
-    let here = resting g.B.Block.contents g.B.Block.layers (g.B.Block.size v.origin) (g.B.Block.size c.args.store.device) c.args.chunk (g.B.Block.contents v.origin) (device_of g.B.Block.contents g.B.Block.layers c.args.store.device) s
-    (g.met.B.Block.small v.origin) (g.met.B.Block.small c.args.store.device) (is_chunk-some c.args.chunk goes.0) (g.met.B.Block.whole c.args.store.device) opens (e.loud ∙ loud) new o.next unzeroed in
-    rw (← c.self.view_is) (attached_is g.B.Block.contents g.B.Block.layers v (v.attached + 1) (g.B.Block.size v.origin) c.args.chunk c.args.overflow c.args.store s c.push_reserved.new.self.items (g.met.B.Block.whole v.origin) goes.2 opens number
+    let unzeroed : s.state.zeroed ≡ false = unzeroed_of g.B.Block.contents g.B.Block.layers (v.attached + 1) c.args.chunk (g.B.Block.size v.origin) (g.B.Block.size c.args.store.device) c.args.overflow c.args.store.device s o in
+    let unfirm : s.state.firm ≡ false = unfirm_of g.B.Block.contents g.B.Block.layers (v.attached + 1) c.args.chunk (g.B.Block.size v.origin) (g.B.Block.size c.args.store.device) c.args.overflow c.args.store.device s o in
+    let here = resting g.B.Block.contents g.B.Block.layers (g.B.Block.size v.origin) (g.B.Block.size c.args.store.device) c.args.chunk (g.B.Block.contents v.origin) (device_of g.B.Block.contents g.B.Block.layers v.origin) (device_of g.B.Block.contents g.B.Block.layers d) (device_of g.B.Block.contents g.B.Block.layers c.args.store.device) s
+    (g.met.B.Block.small v.origin) (g.met.B.Block.small c.args.store.device) (is_chunk-some c.args.chunk goes.0) (g.met.B.Block.whole v.origin) (g.met.B.Block.whole c.args.store.device) opens (e.loud ∙ loud) new o.next unzeroed unfirm (ap (λ (x : Kept g.row.B.Denot). x.marked) o.fields) in
+    rw (← c.self.view_is) (attached_is g.B.Block.contents g.B.Block.layers v d (v.attached + 1) (g.B.Block.size v.origin) c.args.chunk c.args.overflow c.args.store s c.push_reserved.new.self.items (g.met.B.Block.whole v.origin) t.contents_are goes.2 opens number
     (ap (λ (x : Kept g.row.B.Denot). x.live) o.fields) (ap (λ (x : Kept g.row.B.Denot). x.overflow) o.fields) (ap (λ (x : Kept g.row.B.Denot). x.stale) o.fields) here pushed)
 
 pub returns-in-Err-open_snapshot-clause-back : goal.returns-in-Err-open_snapshot-clause-back
@@ -129,12 +137,10 @@ returns-in-Err-open_snapshot-clause-back g c = λ some _ quiet _ loud.
     let v : Volumed g.row.B.Denot = record { origin = c.self.inside.origin; snaps = c.self.inside.snaps.items; merge = c.self.inside.merge; flights = c.self.inside.flights.items; requests = c.self.inside.requests; copies = c.self.inside.copies; attached = c.self.inside.attached } in
     let e = c.in-Err-open_snapshot.ensures in
     let none : attach_refusal c.args.store.stale c.args.chunk v ≡ None = ap (attach_refusal c.args.store.stale c.args.chunk) c.self.view_is ∙ sym c.in-None.ensures in
-    let taken = taking_none c.args.store.stale (is_some v.merge) (is_quiet_of v) (length v.snaps) v.attached c.args.chunk none in
-    let alone : v.merge ≡ None = none_begun v.merge taken.2 in
     let few : c.self.inside.attached ≤ 4294967295 = omega (arith, c.self.ranges) in
     let goes = admitted c.args.store.stale (is_some v.merge) (is_quiet_of v) (length v.snaps) v.attached c.args.chunk (overflow_of c.args.overflow) (store_of g.B.Block.contents g.B.Block.layers c.args.store) (volume_in g.B.Block.contents g.B.Block.layers v) few refl (count_in g.B.Block.contents g.B.Block.layers v) none in
     let opens = e.given_back some loud in
-    rw (← c.self.view_is) (back_is g.B.Block.contents g.B.Block.layers v (v.attached + 1) c.sectors.result c.args.chunk c.args.overflow c.args.store c.in-Err-open_snapshot.refused.1 c.in-Err-open_snapshot.refused.0 (g.met.B.Block.whole v.origin ∙ ap (λ n. 512 * n) (sym c.sectors.ensures)) goes.2 opens (e.stale ∙ goes.1))
+    rw (← c.self.view_is, c.reserve.ensures.items) (back_is g.B.Block.contents g.B.Block.layers v c.open_snapshot.new.origin (v.attached + 1) c.args.chunk c.args.overflow c.args.store c.in-Err-open_snapshot.refused.1 c.in-Err-open_snapshot.refused.0 goes.2 opens (e.stale ∙ goes.1))
 
 pub returns-in-Some-clause-back : goal.returns-in-Some-clause-back
 returns-in-Some-clause-back g c = λ _ alone quiet _ _.
@@ -156,9 +162,11 @@ overflow_add-number g c =
 pub returns-in-Ok-open_snapshot-clause-loud : goal.returns-in-Ok-open_snapshot-clause-loud
 returns-in-Ok-open_snapshot-clause-loud g c =
     let v : Volumed g.row.B.Denot = record { origin = c.self.inside.origin; snaps = c.self.inside.snaps.items; merge = c.self.inside.merge; flights = c.self.inside.flights.items; requests = c.self.inside.requests; copies = c.self.inside.copies; attached = c.self.inside.attached } in
+    let d = c.open_snapshot.new.origin in
+    let t : IsTriedOrigin g.B.Block.contents g.B.Block.layers g.B.Block.size v.origin d = tried_flushed g.B.Block.contents g.B.Block.layers g.B.Block.size g.B.Block.fault_count g.B.Block.done_count true v.origin d c.in-Ok-open_snapshot.ensures.origin in
     let s : Kept g.row.B.Denot = c.in-Ok-open_snapshot.snap in
     let pushed = c.push_reserved.ensures.items ∙ ap (λ (x : List (Kept g.row.B.Denot)). x ++ s ∷ []) c.reserve.ensures.items in
-    rw (← c.self.view_is) (loud_taken_as g.B.Block.contents g.B.Block.layers v (v.attached + 1) c.args.store.device s c.push_reserved.new.self.items pushed c.in-Ok-open_snapshot.ensures.loud)
+    rw (← c.self.view_is) (loud_taken_as g.B.Block.contents g.B.Block.layers v d (v.attached + 1) c.args.store.device s c.push_reserved.new.self.items t.loud_is pushed c.in-Ok-open_snapshot.ensures.loud)
 
 pub returns-in-Ok-open_snapshot-clause-stops_store : goal.returns-in-Ok-open_snapshot-clause-stops_store
 returns-in-Ok-open_snapshot-clause-stops_store g c = λ loud x at.
@@ -169,12 +177,37 @@ returns-in-Ok-open_snapshot-clause-stops_store g c = λ loud x at.
     let pushed : c.push_reserved.new.self.items ≡ v.snaps ++ s ∷ [] = c.push_reserved.ensures.items ∙ ap (λ (ys : List (Kept g.row.B.Denot)). ys ++ s ∷ []) c.reserve.ensures.items in
     let here : length c.args.self.now.snaps ≡ length v.snaps = ap (λ (w : Volumed g.row.B.Denot). length w.snaps) (sym c.self.view_is) in
     let is : x ≡ s = at ∙ ap (λ n. get_or c.push_reserved.new.self.items n x) here ∙ ap (λ ys. get_or ys (length v.snaps) x) pushed ∙ get_or-append_seam v.snaps s [] x in
-    let sectors : c.sectors.result ≡ g.B.Block.size c.args.self.now.origin = c.sectors.ensures ∙ ap (λ (w : Volumed g.row.B.Denot). g.B.Block.size w.origin) c.self.view_is in
+    let sectors : g.B.Block.size v.origin ≡ g.B.Block.size c.args.self.now.origin = ap (λ (w : Volumed g.row.B.Denot). g.B.Block.size w.origin) c.self.view_is in
     subst (λ n. StopsOpening c.args.chunk n size (found_in (sector_at old 0)) old (g.B.Block.contents x.device)) sectors
-    (subst (λ (y : Kept g.row.B.Denot). StopsOpening c.args.chunk c.sectors.result size (found_in (sector_at old 0)) old (g.B.Block.contents y.device)) (sym is) (c.in-Ok-open_snapshot.ensures.stops loud))
+    (subst (λ (y : Kept g.row.B.Denot). StopsOpening c.args.chunk (g.B.Block.size v.origin) size (found_in (sector_at old 0)) old (g.B.Block.contents y.device)) (sym is) (c.in-Ok-open_snapshot.ensures.stops loud))
 
 pub returns-in-Some-clause-stops_back : goal.returns-in-Some-clause-stops_back
-returns-in-Some-clause-stops_back g c = λ torn is. inl (torn_still (g.B.Block.size c.args.store.device) (g.B.Block.contents c.args.store.device) torn is (g.met.B.Block.whole c.args.store.device))
+returns-in-Some-clause-stops_back g c = λ _. inl (λ torn is. inl (torn_still (g.B.Block.size c.args.store.device) (g.B.Block.contents c.args.store.device) torn is (g.met.B.Block.whole c.args.store.device)))
 
 pub returns-in-Err-clause-stops_back : goal.returns-in-Err-clause-stops_back
-returns-in-Err-clause-stops_back g c = λ torn is. inl (torn_still (g.B.Block.size c.args.store.device) (g.B.Block.contents c.args.store.device) torn is (g.met.B.Block.whole c.args.store.device))
+returns-in-Err-clause-stops_back g c = λ _. inl (λ torn is. inl (torn_still (g.B.Block.size c.args.store.device) (g.B.Block.contents c.args.store.device) torn is (g.met.B.Block.whole c.args.store.device)))
+
+pub invariant_of-self-in-Err-open_snapshot : goal.invariant_of-self-in-Err-open_snapshot
+invariant_of-self-in-Err-open_snapshot g c =
+    let v : Volumed g.row.B.Denot = record { origin = c.self.inside.origin; snaps = c.self.inside.snaps.items; merge = c.self.inside.merge; flights = c.self.inside.flights.items; requests = c.self.inside.requests; copies = c.self.inside.copies; attached = c.self.inside.attached } in
+    let d = c.open_snapshot.new.origin in
+    let t = tried_back g.B.Block.contents g.B.Block.layers g.B.Block.size g.B.Block.fault_count g.B.Block.done_count c.in-Err-open_snapshot.refused.0 v.origin d c.in-Err-open_snapshot.ensures.origin in
+    rw c.reserve.ensures.items (over_whole g.B.Block.contents g.B.Block.layers g.B.Block.size v d t.0 c.self.invariant)
+
+pub returns-in-Err-open_snapshot-clause-same : goal.returns-in-Err-open_snapshot-clause-same
+returns-in-Err-open_snapshot-clause-same g c =
+    let v : Volumed g.row.B.Denot = record { origin = c.self.inside.origin; snaps = c.self.inside.snaps.items; merge = c.self.inside.merge; flights = c.self.inside.flights.items; requests = c.self.inside.requests; copies = c.self.inside.copies; attached = c.self.inside.attached } in
+    let d = c.open_snapshot.new.origin in
+    let t = tried_back g.B.Block.contents g.B.Block.layers g.B.Block.size g.B.Block.fault_count g.B.Block.done_count c.in-Err-open_snapshot.refused.0 v.origin d c.in-Err-open_snapshot.ensures.origin in
+    rw (← c.self.view_is, c.reserve.ensures.items) (refused_over g.B.Block.contents g.B.Block.layers g.B.Block.size v d t.0 c.in-Err-open_snapshot.refused.0 t.1)
+
+pub returns-in-Err-open_snapshot-clause-stops_back : goal.returns-in-Err-open_snapshot-clause-stops_back
+returns-in-Err-open_snapshot-clause-stops_back g c = λ loud.
+    let sectors : g.B.Block.size c.self.inside.origin ≡ g.B.Block.size c.args.self.now.origin = ap (λ (x : Volumed g.row.B.Denot). g.B.Block.size x.origin) c.self.view_is in
+    subst (λ (n : ℕ). StopsRefused c.args.chunk n (g.B.Block.size c.args.store.device) (g.B.Block.contents c.args.store.device) (g.B.Block.contents c.in-Err-open_snapshot.refused.1.device)) sectors (c.in-Err-open_snapshot.ensures.stops_back loud)
+
+pub returns-in-Some-clause-same : goal.returns-in-Some-clause-same
+returns-in-Some-clause-same g c = rw (← c.self.view_is) (refused_still g.B.Block.contents g.B.Block.layers g.B.Block.size (record { origin = c.self.inside.origin; snaps = c.self.inside.snaps.items; merge = c.self.inside.merge; flights = c.self.inside.flights.items; requests = c.self.inside.requests; copies = c.self.inside.copies; attached = c.self.inside.attached }) c.in-Some.refusal)
+
+pub returns-in-Err-clause-same : goal.returns-in-Err-clause-same
+returns-in-Err-clause-same g c = rw (← c.self.view_is, c.reserve.ensures.items) (refused_still g.B.Block.contents g.B.Block.layers g.B.Block.size (record { origin = c.self.inside.origin; snaps = c.self.inside.snaps.items; merge = c.self.inside.merge; flights = c.self.inside.flights.items; requests = c.self.inside.requests; copies = c.self.inside.copies; attached = c.self.inside.attached }) NoMemory)

@@ -1,15 +1,15 @@
--- A spoiled snapshot's mark is tried.
-use Rattle.std.proofs.Common.{◌≡◌, ◌<◌, inl, inr, true, false, refl, sym, ◌∙◌, ap, subst, length, arith, map, nat_eq, slice_set}
-use Rattle.std.proofs.lemmas.Bool.{and_parts}
+-- A spoiled snapshot's mark is written, or its write failed.
+use Rattle.std.proofs.Common.{◌≡◌, ◌<◌, inl, inr, true, false, refl, sym, ◌∙◌, ap, subst, length, arith, map, slice_set}
 use Rattle.std.specs.List.{All}
 use Rattle.volume_laws.specs.Published.{is_clear}
 use Rattle.volume_laws.specs.Again.{again_of}
 use Rattle.snapshot.specs.Kept.{Kept, books_of}
 use Rattle.snapshots.specs.Finding.{is_trying}
+use Rattle.volume.proofs.AgainEvents.{trying_untried, trying_unmarked}
 use Rattle.volume.proofs.DueEvents.{due_by, snap_found, snap_due}
 use Rattle.volume.proofs.Chunks.{chunks_set}
-use Rattle.volume.proofs.Tried.{tried_done, tried_fault}
-use Rattle.volume.proofs.Exactly.{tried_exact, tried_fault_exact}
+use Rattle.volume.proofs.Tried.{marked_done, marked_fault}
+use Rattle.volume.proofs.Exactly.{marked_exact, marked_fault_exact}
 use Rattle.volume.specs.Stopping.{MarksWithin}
 use Rattle.volume.specs.Volumed.{Volumed}
 use Rattle.volume.proofs.StopOwn.{writes_at}
@@ -17,24 +17,25 @@ use Rattle.volume.proofs.StopStill.{loud_snap}
 use Rattle.volume.proofs.volume.Volume.write_invalid.Goals as goal
 use Rattle.merge_beside.specs.Rooms.{merge_books}
 
-pub write_invalid-requires : goal.write_invalid-requires
-write_invalid-requires g c =
-    let v = c.self.inside in
-    let s = c.index_mut-snap.result.now in
-    let k = c.in-Some.place in
-    let is = c.index_mut-snap.ensures.value in
-    let found : is_trying c.args.number s ≡ true = snap_found (is_trying c.args.number) k v.snaps.items c.deref.result.now s c.deref.ensures.value is (c.in-Some.ensures.found.1 s) in
-    record { untried = (and_parts (nat_eq s.number c.args.number) s.untried found).1 }
-
-pub route_again-requires : goal.route_again-requires
-route_again-requires g c =
+pub write_invalid-requires-clause-untried : goal.write_invalid-requires-clause-untried
+write_invalid-requires-clause-untried g c =
     let v = c.self.inside in
     let s = c.index_mut-snap.result.now in
     let k = c.in-Some.place in
     let within : k < length v.snaps.items = omega (arith, c.in-Some.ensures.found.0, ap length c.deref.ensures.value) in
     let is = c.index_mut-snap.ensures.value in
     let found : is_trying c.args.number s ≡ true = snap_found (is_trying c.args.number) k v.snaps.items c.deref.result.now s c.deref.ensures.value is (c.in-Some.ensures.found.1 s) in
-    subst (All (λ (x : Kept _). 0 < x.state.chunk)) (sym c.deref-in-Ok.ensures.value) (chunks_set g.B.Block.contents g.B.Block.layers g.B.Block.size _ c.self.invariant k s c.write_invalid.new.self within is (ap (λ (x : Kept _). x.state.chunk) c.write_invalid.ensures.fields))
+    trying_untried g.B.Block.contents g.B.Block.layers g.B.Block.size g.B.Block.fault_count g.B.Block.done_count _ c.self.invariant c.args.number k s s within is found
+
+pub write_invalid-requires-clause-unmarked : goal.write_invalid-requires-clause-unmarked
+write_invalid-requires-clause-unmarked g c =
+    let v = c.self.inside in
+    let s = c.index_mut-snap.result.now in
+    let k = c.in-Some.place in
+    let within : k < length v.snaps.items = omega (arith, c.in-Some.ensures.found.0, ap length c.deref.ensures.value) in
+    let is = c.index_mut-snap.ensures.value in
+    let found : is_trying c.args.number s ≡ true = snap_found (is_trying c.args.number) k v.snaps.items c.deref.result.now s c.deref.ensures.value is (c.in-Some.ensures.found.1 s) in
+    trying_unmarked g.B.Block.contents g.B.Block.layers g.B.Block.size g.B.Block.fault_count g.B.Block.done_count _ c.self.invariant c.args.number k s s within is found
 
 pub invariant_of-self : goal.invariant_of-self
 invariant_of-self g c =
@@ -44,20 +45,18 @@ invariant_of-self g c =
     let within : k < length v.snaps.items = omega (arith, c.in-Some.ensures.found.0, ap length c.deref.ensures.value) in
     let is = c.index_mut-snap.ensures.value in
     let found : is_trying c.args.number s ≡ true = snap_found (is_trying c.args.number) k v.snaps.items c.deref.result.now s c.deref.ensures.value is (c.in-Some.ensures.found.1 s) in
-    let good = tried_done g.B.Block.contents g.B.Block.layers g.B.Block.size g.B.Block.fault_count g.B.Block.done_count _ c.self.invariant c.args.number k s c.write_invalid.new.self within is found c.write_invalid.new.self.device false c.in-Ok.ensures.fields c.write_invalid.ensures.tries c.write_invalid.ensures.loud c.write_invalid.ensures.size c.in-Ok.ensures.operation.counted c.in-Ok.ensures.operation.faulty in
-    let flights : c.route_again.new.flights.items ≡ map (again_of (merge_books g.B.Block.contents g.B.Block.layers true v.merge) (is_clear (map (books_of g.B.Block.contents g.B.Block.layers) (slice_set v.snaps.items k c.write_invalid.new.self)))) v.flights.items =
-    c.route_again.ensures ∙ ap (λ xs. map (again_of (merge_books g.B.Block.contents g.B.Block.layers true v.merge) (is_clear (map (books_of g.B.Block.contents g.B.Block.layers) xs))) v.flights.items) c.deref-in-Ok.ensures.value in
-    rw flights good.whole
+    let good = marked_done g.B.Block.contents g.B.Block.layers g.B.Block.size g.B.Block.fault_count g.B.Block.done_count _ c.self.invariant c.args.number k s c.write_invalid.new.self within is found c.write_invalid.new.self.device c.in-Ok.ensures.fields c.in-Ok.ensures.writes c.write_invalid.ensures.loud c.write_invalid.ensures.size c.in-Ok.ensures.operation.counted c.in-Ok.ensures.operation.faulty in
+    good.whole
 
-pub route_again-requires-in-Err : goal.route_again-requires-in-Err
-route_again-requires-in-Err g c =
+pub route_again-requires : goal.route_again-requires
+route_again-requires g c =
     let v = c.self.inside in
     let s = c.index_mut-snap.result.now in
     let k = c.in-Some.place in
     let within : k < length v.snaps.items = omega (arith, c.in-Some.ensures.found.0, ap length c.deref.ensures.value) in
     let is = c.index_mut-snap.ensures.value in
     let found : is_trying c.args.number s ≡ true = snap_found (is_trying c.args.number) k v.snaps.items c.deref.result.now s c.deref.ensures.value is (c.in-Some.ensures.found.1 s) in
-    subst (All (λ (x : Kept _). 0 < x.state.chunk)) (sym c.deref-in-Err.ensures.value) (chunks_set g.B.Block.contents g.B.Block.layers g.B.Block.size _ c.self.invariant k s c.write_invalid.new.self within is (ap (λ (x : Kept _). x.state.chunk) c.write_invalid.ensures.fields))
+    subst (All (λ (x : Kept _). 0 < x.state.chunk)) (sym c.deref-in-Err.ensures.value) (chunks_set g.B.Block.contents g.B.Block.layers g.B.Block.size _ c.self.invariant k s c.write_invalid.new.self within is (ap (λ (x : Kept _). x.state.chunk) c.in-Err.ensures.fails))
 
 pub invariant_of-self-in-Err : goal.invariant_of-self-in-Err
 invariant_of-self-in-Err g c =
@@ -67,9 +66,9 @@ invariant_of-self-in-Err g c =
     let within : k < length v.snaps.items = omega (arith, c.in-Some.ensures.found.0, ap length c.deref.ensures.value) in
     let is = c.index_mut-snap.ensures.value in
     let found : is_trying c.args.number s ≡ true = snap_found (is_trying c.args.number) k v.snaps.items c.deref.result.now s c.deref.ensures.value is (c.in-Some.ensures.found.1 s) in
-    let good = tried_fault g.B.Block.contents g.B.Block.layers g.B.Block.size g.B.Block.fault_count g.B.Block.done_count _ c.self.invariant c.args.number k s c.write_invalid.new.self within is found c.write_invalid.new.self.device true c.in-Err.ensures.fields c.write_invalid.ensures.tries c.write_invalid.ensures.loud c.write_invalid.ensures.size c.in-Err.ensures.operation.counted refl c.in-Err.ensures.operation.faulty in
-    let flights : c.route_again-in-Err.new.flights.items ≡ map (again_of (merge_books g.B.Block.contents g.B.Block.layers true v.merge) (is_clear (map (books_of g.B.Block.contents g.B.Block.layers) (slice_set v.snaps.items k c.write_invalid.new.self)))) v.flights.items =
-    c.route_again-in-Err.ensures ∙ ap (λ xs. map (again_of (merge_books g.B.Block.contents g.B.Block.layers true v.merge) (is_clear (map (books_of g.B.Block.contents g.B.Block.layers) xs))) v.flights.items) c.deref-in-Err.ensures.value in
+    let good = marked_fault g.B.Block.contents g.B.Block.layers g.B.Block.size g.B.Block.fault_count g.B.Block.done_count _ c.self.invariant c.args.number k s c.write_invalid.new.self within is c.write_invalid.new.self.device true c.in-Err.ensures.fails c.in-Err.ensures.tries c.write_invalid.ensures.loud c.write_invalid.ensures.size c.in-Err.ensures.operation.counted found refl c.in-Err.ensures.operation.faulty in
+    let flights : c.route_again.new.flights.items ≡ map (again_of (merge_books g.B.Block.contents g.B.Block.layers true v.merge) (is_clear (map (books_of g.B.Block.contents g.B.Block.layers) (slice_set v.snaps.items k c.write_invalid.new.self)))) v.flights.items =
+    c.route_again.ensures ∙ ap (λ xs. map (again_of (merge_books g.B.Block.contents g.B.Block.layers true v.merge) (is_clear (map (books_of g.B.Block.contents g.B.Block.layers) xs))) v.flights.items) c.deref-in-Err.ensures.value in
     rw flights good.whole
 
 pub returns-in-Ok-clause-step : goal.returns-in-Ok-clause-step
@@ -80,10 +79,8 @@ returns-in-Ok-clause-step g c =
     let within : k < length v.snaps.items = omega (arith, c.in-Some.ensures.found.0, ap length c.deref.ensures.value) in
     let is = c.index_mut-snap.ensures.value in
     let found : is_trying c.args.number s ≡ true = snap_found (is_trying c.args.number) k v.snaps.items c.deref.result.now s c.deref.ensures.value is (c.in-Some.ensures.found.1 s) in
-    let good = tried_done g.B.Block.contents g.B.Block.layers g.B.Block.size g.B.Block.fault_count g.B.Block.done_count _ c.self.invariant c.args.number k s c.write_invalid.new.self within is found c.write_invalid.new.self.device false c.in-Ok.ensures.fields c.write_invalid.ensures.tries c.write_invalid.ensures.loud c.write_invalid.ensures.size c.in-Ok.ensures.operation.counted c.in-Ok.ensures.operation.faulty in
-    let flights : c.route_again.new.flights.items ≡ map (again_of (merge_books g.B.Block.contents g.B.Block.layers true v.merge) (is_clear (map (books_of g.B.Block.contents g.B.Block.layers) (slice_set v.snaps.items k c.write_invalid.new.self)))) v.flights.items =
-    c.route_again.ensures ∙ ap (λ xs. map (again_of (merge_books g.B.Block.contents g.B.Block.layers true v.merge) (is_clear (map (books_of g.B.Block.contents g.B.Block.layers) xs))) v.flights.items) c.deref-in-Ok.ensures.value in
-    rw (← c.self.view_is, flights) good.stepped
+    let good = marked_done g.B.Block.contents g.B.Block.layers g.B.Block.size g.B.Block.fault_count g.B.Block.done_count _ c.self.invariant c.args.number k s c.write_invalid.new.self within is found c.write_invalid.new.self.device c.in-Ok.ensures.fields c.in-Ok.ensures.writes c.write_invalid.ensures.loud c.write_invalid.ensures.size c.in-Ok.ensures.operation.counted c.in-Ok.ensures.operation.faulty in
+    rw (← c.self.view_is) good.stepped
 
 pub returns-in-Ok-clause-exact : goal.returns-in-Ok-clause-exact
 returns-in-Ok-clause-exact g c =
@@ -93,9 +90,7 @@ returns-in-Ok-clause-exact g c =
     let within : k < length v.snaps.items = omega (arith, c.in-Some.ensures.found.0, ap length c.deref.ensures.value) in
     let is = c.index_mut-snap.ensures.value in
     let found : is_trying c.args.number s ≡ true = snap_found (is_trying c.args.number) k v.snaps.items c.deref.result.now s c.deref.ensures.value is (c.in-Some.ensures.found.1 s) in
-    let flights : c.route_again.new.flights.items ≡ map (again_of (merge_books g.B.Block.contents g.B.Block.layers true v.merge) (is_clear (map (books_of g.B.Block.contents g.B.Block.layers) (slice_set v.snaps.items k c.write_invalid.new.self)))) v.flights.items =
-    c.route_again.ensures ∙ ap (λ xs. map (again_of (merge_books g.B.Block.contents g.B.Block.layers true v.merge) (is_clear (map (books_of g.B.Block.contents g.B.Block.layers) xs))) v.flights.items) c.deref-in-Ok.ensures.value in
-    rw (← c.self.view_is) (tried_exact g.B.Block.contents g.B.Block.layers g.B.Block.size _ c.self.invariant c.args.number k s within c.index_mut-snap.ensures.value _ _ _ _ found c.write_invalid.new.self c.route_again.new.flights.items c.in-Ok.ensures.operation c.in-Ok.ensures.written c.in-Ok.ensures.fields flights)
+    rw (← c.self.view_is) (marked_exact g.B.Block.contents g.B.Block.layers g.B.Block.size _ c.self.invariant c.args.number k s within is _ _ _ _ found c.write_invalid.new.self c.in-Ok.ensures.operation c.in-Ok.ensures.written c.in-Ok.ensures.fields)
 
 pub returns-in-Ok-clause-due : goal.returns-in-Ok-clause-due
 returns-in-Ok-clause-due g c =
@@ -115,9 +110,9 @@ returns-in-Err-clause-step g c =
     let within : k < length v.snaps.items = omega (arith, c.in-Some.ensures.found.0, ap length c.deref.ensures.value) in
     let is = c.index_mut-snap.ensures.value in
     let found : is_trying c.args.number s ≡ true = snap_found (is_trying c.args.number) k v.snaps.items c.deref.result.now s c.deref.ensures.value is (c.in-Some.ensures.found.1 s) in
-    let good = tried_fault g.B.Block.contents g.B.Block.layers g.B.Block.size g.B.Block.fault_count g.B.Block.done_count _ c.self.invariant c.args.number k s c.write_invalid.new.self within is found c.write_invalid.new.self.device true c.in-Err.ensures.fields c.write_invalid.ensures.tries c.write_invalid.ensures.loud c.write_invalid.ensures.size c.in-Err.ensures.operation.counted refl c.in-Err.ensures.operation.faulty in
-    let flights : c.route_again-in-Err.new.flights.items ≡ map (again_of (merge_books g.B.Block.contents g.B.Block.layers true v.merge) (is_clear (map (books_of g.B.Block.contents g.B.Block.layers) (slice_set v.snaps.items k c.write_invalid.new.self)))) v.flights.items =
-    c.route_again-in-Err.ensures ∙ ap (λ xs. map (again_of (merge_books g.B.Block.contents g.B.Block.layers true v.merge) (is_clear (map (books_of g.B.Block.contents g.B.Block.layers) xs))) v.flights.items) c.deref-in-Err.ensures.value in
+    let good = marked_fault g.B.Block.contents g.B.Block.layers g.B.Block.size g.B.Block.fault_count g.B.Block.done_count _ c.self.invariant c.args.number k s c.write_invalid.new.self within is c.write_invalid.new.self.device true c.in-Err.ensures.fails c.in-Err.ensures.tries c.write_invalid.ensures.loud c.write_invalid.ensures.size c.in-Err.ensures.operation.counted found refl c.in-Err.ensures.operation.faulty in
+    let flights : c.route_again.new.flights.items ≡ map (again_of (merge_books g.B.Block.contents g.B.Block.layers true v.merge) (is_clear (map (books_of g.B.Block.contents g.B.Block.layers) (slice_set v.snaps.items k c.write_invalid.new.self)))) v.flights.items =
+    c.route_again.ensures ∙ ap (λ xs. map (again_of (merge_books g.B.Block.contents g.B.Block.layers true v.merge) (is_clear (map (books_of g.B.Block.contents g.B.Block.layers) xs))) v.flights.items) c.deref-in-Err.ensures.value in
     rw (← c.self.view_is, flights) good.stepped
 
 pub returns-in-Err-clause-exact : goal.returns-in-Err-clause-exact
@@ -128,9 +123,9 @@ returns-in-Err-clause-exact g c =
     let within : k < length v.snaps.items = omega (arith, c.in-Some.ensures.found.0, ap length c.deref.ensures.value) in
     let is = c.index_mut-snap.ensures.value in
     let found : is_trying c.args.number s ≡ true = snap_found (is_trying c.args.number) k v.snaps.items c.deref.result.now s c.deref.ensures.value is (c.in-Some.ensures.found.1 s) in
-    let flights : c.route_again-in-Err.new.flights.items ≡ map (again_of (merge_books g.B.Block.contents g.B.Block.layers true v.merge) (is_clear (map (books_of g.B.Block.contents g.B.Block.layers) (slice_set v.snaps.items k c.write_invalid.new.self)))) v.flights.items =
-    c.route_again-in-Err.ensures ∙ ap (λ xs. map (again_of (merge_books g.B.Block.contents g.B.Block.layers true v.merge) (is_clear (map (books_of g.B.Block.contents g.B.Block.layers) xs))) v.flights.items) c.deref-in-Err.ensures.value in
-    rw (← c.self.view_is) (tried_fault_exact g.B.Block.contents g.B.Block.layers g.B.Block.size _ c.self.invariant c.args.number k s within c.index_mut-snap.ensures.value _ _ _ _ found c.write_invalid.new.self c.route_again-in-Err.new.flights.items c.in-Err.ensures.operation c.in-Err.ensures.same c.in-Err.ensures.fields flights)
+    let flights : c.route_again.new.flights.items ≡ map (again_of (merge_books g.B.Block.contents g.B.Block.layers true v.merge) (is_clear (map (books_of g.B.Block.contents g.B.Block.layers) (slice_set v.snaps.items k c.write_invalid.new.self)))) v.flights.items =
+    c.route_again.ensures ∙ ap (λ xs. map (again_of (merge_books g.B.Block.contents g.B.Block.layers true v.merge) (is_clear (map (books_of g.B.Block.contents g.B.Block.layers) xs))) v.flights.items) c.deref-in-Err.ensures.value in
+    rw (← c.self.view_is) (marked_fault_exact g.B.Block.contents g.B.Block.layers g.B.Block.size _ c.self.invariant c.args.number k s within is _ _ _ _ found c.write_invalid.new.self c.route_again.new.flights.items c.in-Err.ensures.operation c.in-Err.ensures.same c.in-Err.ensures.fails flights)
 
 pub returns-in-Err-clause-due : goal.returns-in-Err-clause-due
 returns-in-Err-clause-due g c =
@@ -154,9 +149,8 @@ returns-in-Ok-clause-stops g c =
     let within : k < length v.snaps = omega (arith, c.in-Some.ensures.found.0, ap length c.deref.ensures.value) in
     let is = c.index_mut-snap.ensures.value in
     let found : is_trying c.args.number s ≡ true = snap_found (is_trying c.args.number) k v.snaps c.deref.result.now s c.deref.ensures.value is (c.in-Some.ensures.found.1 s) in
-    let t = c.write_invalid.new.self in
-    rw (← c.self.view_is) (λ loud. writes_at g.B.Block.contents (MarksWithin g.B.Block.contents) v k s t c.route_again.new.flights.items within is (inr (record {
-      untried = (and_parts (nat_eq s.number c.args.number) s.untried found).1;
+    rw (← c.self.view_is) (λ loud. writes_at g.B.Block.contents (MarksWithin g.B.Block.contents) v k s c.write_invalid.new.self v.flights within is (inr (record {
+      untried = trying_untried g.B.Block.contents g.B.Block.layers g.B.Block.size g.B.Block.fault_count g.B.Block.done_count v c.self.invariant c.args.number k s s within is found;
       stops = c.write_invalid.ensures.stops (loud_snap g.B.Block.contents g.B.Block.layers g.B.Block.size g.met.B.Block.whole v c.self.invariant loud k s within is);
     })))
 
@@ -168,4 +162,4 @@ returns-in-Err-clause-stops g c =
     let within : k < length v.snaps = omega (arith, c.in-Some.ensures.found.0, ap length c.deref.ensures.value) in
     let is = c.index_mut-snap.ensures.value in
     let found : is_trying c.args.number s ≡ true = snap_found (is_trying c.args.number) k v.snaps c.deref.result.now s c.deref.ensures.value is (c.in-Some.ensures.found.1 s) in
-    rw (← c.self.view_is) (λ loud. writes_at g.B.Block.contents (MarksWithin g.B.Block.contents) v k s c.write_invalid.new.self c.route_again-in-Err.new.flights.items within is (inl c.in-Err.ensures.same))
+    rw (← c.self.view_is) (λ loud. writes_at g.B.Block.contents (MarksWithin g.B.Block.contents) v k s c.write_invalid.new.self c.route_again.new.flights.items within is (inl c.in-Err.ensures.same))

@@ -103,7 +103,7 @@ invariant_of-self-in-Ok g c =
     let is = c.index_mut-snap.ensures.value in
     let found : is_zeroing c.args.number s ≡ true = snap_found (is_zeroing c.args.number) k v.snaps.items c.deref.result.now s c.deref.ensures.value is (c.in-Some.ensures.found.1 s) in
     let op = c.in-Ok.ensures.operation in
-    let good = zero_good g.B.Block.contents g.B.Block.layers g.B.Block.size g.B.Block.fault_count g.B.Block.done_count _ c.self.invariant c.args.number k s c.zero_next.new.self within is found c.zero_next.new.self.device c.in-Ok.ensures.fields c.in-Ok.ensures.zeroes c.zero_next.ensures.loud c.zero_next.ensures.size op.faulty op.counted in
+    let good = zero_good g.B.Block.contents g.B.Block.layers g.B.Block.size g.B.Block.fault_count g.B.Block.done_count _ c.self.invariant c.args.number k s c.zero_next.new.self within is found c.zero_next.ensures.ahead c.zero_next.new.self.device c.in-Ok.ensures.fields c.in-Ok.ensures.zeroes c.zero_next.ensures.loud c.zero_next.ensures.size op.faulty op.counted in
     good.whole
 
 pub spoil-requires-in-Err : goal.spoil-requires-in-Err
@@ -140,7 +140,7 @@ returns-in-Ok-clause-step g c =
     let is = c.index_mut-snap.ensures.value in
     let found : is_zeroing c.args.number s ≡ true = snap_found (is_zeroing c.args.number) k v.snaps.items c.deref.result.now s c.deref.ensures.value is (c.in-Some.ensures.found.1 s) in
     let op = c.in-Ok.ensures.operation in
-    let good = zero_good g.B.Block.contents g.B.Block.layers g.B.Block.size g.B.Block.fault_count g.B.Block.done_count _ c.self.invariant c.args.number k s c.zero_next.new.self within is found c.zero_next.new.self.device c.in-Ok.ensures.fields c.in-Ok.ensures.zeroes c.zero_next.ensures.loud c.zero_next.ensures.size op.faulty op.counted in
+    let good = zero_good g.B.Block.contents g.B.Block.layers g.B.Block.size g.B.Block.fault_count g.B.Block.done_count _ c.self.invariant c.args.number k s c.zero_next.new.self within is found c.zero_next.ensures.ahead c.zero_next.new.self.device c.in-Ok.ensures.fields c.in-Ok.ensures.zeroes c.zero_next.ensures.loud c.zero_next.ensures.size op.faulty op.counted in
     rw (← c.self.view_is) good.stepped
 
 pub returns-in-Ok-clause-exact : goal.returns-in-Ok-clause-exact

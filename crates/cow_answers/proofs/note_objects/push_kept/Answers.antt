@@ -1,0 +1,10 @@
+use Rattle.std.proofs.Common.{codes}
+use Rattle.cow_words.specs.Items.{run_objects, fault_objects}
+use Rattle.cow_words.proofs.Lines.{three_more}
+use Rattle.cow_answers.specs.Objects.{count_object}
+use Rattle.cow_answers.proofs.note_objects.push_kept.Goals as goal
+
+pub returns : goal.returns
+returns c =
+    three_more c.args.text.now.items c.push_count.new.text.items c.push_runs_json.new.text.items c.push_faults_json.new.text.items (count_object c.args.saved.now.pairs.items) (run_objects c.args.saved.now.pairs.items) (fault_objects (codes "skipped") c.args.slots c.args.saved.now.skipped.items)
+    c.in_ok-push_count.ensures (rw c.as_slice.ensures.value at c.in_ok-push_runs_json.ensures) (rw c.as_slice-2.ensures.value at c.in_ok-push_faults_json.ensures)

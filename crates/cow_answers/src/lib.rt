@@ -1,0 +1,17 @@
+//! What `lochknife` answers of a store: what is seen of its image, and what is printed of that, in lines or as JSON, an object
+//! for each item on a line of its own. It stands on `cow_map` and `cow_kept`, which read, and on `cow_words`, which puts into words,
+//! and promises that each answer is the one of its definition in `specs/`.
+#![tactic(auto)]
+
+mod answers;
+mod forms;
+mod looking;
+mod merges;
+mod note_objects;
+mod notes;
+mod objects;
+
+pub use forms::{checked, mapped, push_behind, raw, salvaged, shown};
+pub use looking::{Seen, all_faults, chunk_listed, chunk_of, is_good, look, numbers_of};
+pub use merges::{push_bytes, push_left, push_runs};
+pub use notes::{Behind, Notes, is_whole, notes_of};

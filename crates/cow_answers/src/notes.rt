@@ -1,0 +1,144 @@
+// What is told of a salvage, and of slots behind the end of a list.
+ghost use Rattle.std.specs.Prelude.{◌≡◌, ◌<◌, ◌++◌, IfOk, OnOk, MatchBool};
+ghost use Rattle.cow_answers.specs.Notes.{salvaged_words, kept_text, unknown_text, notes_text, salvaged_text, lacks_of, behind_of, IsWhole};
+
+use cow_kept::{Saved, Span, Used, front_of};
+use cow_map::Listed;
+use cow_words::{push_behind, push_listed, push_runs, push_skipped, push_spans};
+use std::alloc::{AllocError, Global};
+
+/// What is noted of a store's slots.
+#[derive(Clone, Copy)]
+pub struct Notes {
+    /// The area that comes after full ones and is not there.
+    pub lacks: Option<u64>,
+    /// How many slots are not empty behind the first empty one, and the first of them.
+    pub behind: Option<Behind>,
+}
+
+/// Slots behind the first empty one that are not empty.
+#[derive(Clone, Copy)]
+pub struct Behind {
+    pub count: u64,
+    pub first: u64,
+}
+
+/// What is noted of a store's slots, so many an area, where those behind the first empty one are taken or not.
+pub fn notes_of(used: &Used, slots: u64, taken: bool) -> Notes {
+    let front = front_of(used.slots.as_slice());
+    let lacks = if used.areas.checked_mul(slots) == Some(front as u64) {
+        Some(used.areas)
+    } else {
+        None
+    };
+    let behind = match used.slots.get(front) {
+        Some(slot) if !taken => Some(Behind {
+            count: (used.slots.len() - front) as u64,
+            first: slot.number,
+        }),
+        _ => None,
+    };
+    Notes { lacks, behind }
+}
+
+/// What is printed of a salvage of a store whose areas have so many slots: the runs of the kept pairs, the others and why they
+/// are skipped, and what of both images could not be read.
+pub(crate) fn salvaged_lines(
+    alloc: Global,
+    slots: u64,
+    saved: &Saved,
+    origin: &[Span],
+    cow: &[Span],
+    notes: Notes,
+) -> Result<Vec<u8>, AllocError>
+    requires { 0 < slots }
+    ensures { IfOk result (λ text. text.items ≡ salvaged_text slots saved.now.pairs.items saved.now.skipped.items origin.now cow.now notes) }
+{
+    let mut text = Vec::new(alloc);
+    push_kept(&mut text, slots, saved)?;
+    push_unknown(&mut text, slots, origin, cow, notes)?;
+    Ok(text)
+}
+
+/// Adds which pairs are kept, and why each other one is not.
+fn push_kept(text: &mut Vec<u8>, slots: u64, saved: &Saved) -> Result<(), AllocError>
+    requires { 0 < slots }
+    ensures { OnOk result (text.new.items ≡ text.old.items ++ kept_text slots saved.now.pairs.items saved.now.skipped.items) }
+{
+    push_words(text)?;
+    push_runs(text, saved.pairs.as_slice())?;
+    push_skipped(text, slots, saved.skipped.as_slice())?;
+    Ok(())
+}
+
+/// Adds what a salvaged array is, before the runs of its copies.
+fn push_words(text: &mut Vec<u8>) -> Result<(), AllocError>
+    ensures { OnOk result (text.new.items ≡ text.old.items ++ salvaged_words) }
+{
+    text.extend_from_slice(
+        b"salvaged the runs below are the chunks that have copies: OLD NEW COUNT\nunknown every other chunk is the origin's of today, and may be newer than the snapshot\n",
+    )
+}
+
+/// Adds what of both images could not be read, and what is noted of the slots.
+fn push_unknown(
+    text: &mut Vec<u8>,
+    slots: u64,
+    origin: &[Span],
+    cow: &[Span],
+    notes: Notes,
+) -> Result<(), AllocError>
+    requires { 0 < slots }
+    ensures { OnOk result (text.new.items ≡ text.old.items ++ unknown_text slots origin.now cow.now notes) }
+{
+    push_spans(text, b"unreadable ORIGIN", origin)?;
+    push_spans(text, b"unreadable COW", cow)?;
+    push_notes(text, slots, notes)
+}
+
+/// Adds what is noted of a store's slots.
+fn push_notes(text: &mut Vec<u8>, slots: u64, notes: Notes) -> Result<(), AllocError>
+    requires { 0 < slots }
+    ensures { OnOk result (text.new.items ≡ text.old.items ++ notes_text slots notes) }
+{
+    push_lacks(text, notes.lacks)?;
+    push_behind_of(text, slots, notes.behind)
+}
+
+/// Adds the line of an area that is not there.
+fn push_lacks(text: &mut Vec<u8>, lacks: Option<u64>) -> Result<(), AllocError>
+    ensures { OnOk result (text.new.items ≡ text.old.items ++ lacks_of lacks) }
+{
+    match lacks {
+        Some(area) => push_listed(text, Listed::Lacks(area)),
+        None => Ok(()),
+    }
+}
+
+/// Adds the line of the slots behind the first empty one.
+pub(crate) fn push_behind_of(
+    text: &mut Vec<u8>,
+    slots: u64,
+    behind: Option<Behind>,
+) -> Result<(), AllocError>
+    requires { 0 < slots }
+    ensures { OnOk result (text.new.items ≡ text.old.items ++ behind_of slots behind) }
+{
+    match behind {
+        Some(behind) => push_behind(text, slots, behind.count, behind.first),
+        None => Ok(()),
+    }
+}
+
+/// Whether nothing is listed: each pair is kept, both images could be read, and no area lacks.
+pub fn is_whole(saved: &Saved, origin: &[Span], cow: &[Span], notes: Notes) -> bool
+    ensures { MatchBool result (IsWhole saved.now.skipped.items origin.now cow.now notes) (IsWhole saved.now.skipped.items origin.now cow.now notes → ⊥) }
+{
+    if saved.skipped.len() != 0 || origin.len() != 0 || cow.len() != 0 {
+        return false;
+    }
+    match notes.lacks {
+        None => true,
+        Some(_) => false,
+    }
+}

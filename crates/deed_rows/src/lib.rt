@@ -1,0 +1,8 @@
+//! A volume's whole life as lists of deeds.
+//!
+//! It stands on `deeds` and has tests only: a snapshot over a fresh store, writes of the origin, and a merge from its begin until
+//! it is taken out, which gives the disk back as it was.
+#![tactic(auto)]
+
+#[cfg(test)]
+mod lives;

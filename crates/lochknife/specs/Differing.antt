@@ -1,0 +1,11 @@
+-- What `diff` prints of the spans in which a snapshot and its origin differ.
+use Rattle.std.specs.Prelude.{ℕ, List, codes}
+use Rattle.cow_asked.specs.declared.asked.Form.{Form}
+use Rattle.cow_asked.specs.declared.asked.Form.TheVariants.{Lines, Json}
+use Rattle.cow_kept.specs.declared.span.Span.{Span}
+use Rattle.cow_words.specs.Json.{spans_objects}
+use Rattle.cow_words.specs.Salvage.{spans_text}
+
+abbrev pub differing_by : Form → List Span → List ℕ
+differing_by Lines spans = spans_text (codes "differs") spans
+differing_by Json spans = spans_objects spans

@@ -1,0 +1,43 @@
+-- A flush closes the sectors that every content takes from the device that was flushed: no fact of the volume is needed.
+use Rattle.std.proofs.Common.{◌≡◌, ◌≢◌, ℕ, ◌*◌, ◌/◌, ◌<◌, List, length, arith, refl, ap, ◌∙◌, sym}
+use Rattle.std.specs.Prelude.{Option, Some, None, true, false}
+use Rattle.std.proofs.lemmas.List.{ext_get_or}
+use Rattle.sector.specs.Bytes.{sector_at}
+use Rattle.model.specs.Pairs.{pairs_of}
+use Rattle.model.specs.Picture.{place_of, picture}
+use Rattle.model.proofs.Pictures.{length-picture}
+use Rattle.stop_laws.specs.Stop.{MayLeave}
+use Rattle.stop_laws.specs.Firm.{IsFirm}
+use Rattle.stop_laws.specs.Again.{IsOpen}
+use Rattle.loss_laws.specs.Closing.{Closes}
+use Rattle.loss_laws.proofs.Parts.{byte_same_sector, from_bytes, picture_byte}
+use Rattle.stop_laws.proofs.Open.{sector_plain}
+
+-- a device that was flushed is left with what is there
+pub firm_same : (holds : ℕ → List ℕ → Type 0) (now b : List ℕ) (size : ℕ) → length now ≡ 512 * size → IsFirm holds now size → MayLeave holds size b → b ≡ now
+firm_same holds now b size len firm left = let whole = left.whole in ext_get_or 0 b now (left.whole ∙ sym len)
+    (λ i lt. let inside : i / 512 < size = omega arith in byte_same_sector b now (i / 512) i (firm (i / 512) inside (sector_at b (i / 512)) (left.each (i / 512) inside)) (omega arith) (omega arith))
+
+-- a sector that is taken from the store does not change with the origin disk
+of_store : (chunk sectors s : ℕ) (o o' c : List ℕ) (x : Option ℕ) → 0 < chunk → length o ≡ 512 * sectors → length o' ≡ 512 * sectors → s < sectors → place_of (pairs_of chunk c) (s / chunk) ≡ x → place_of (pairs_of chunk c) (s / chunk) ≢ None → sector_at (picture chunk o c) s ≡ sector_at (picture chunk o' c) s
+of_store chunk sectors s o o' c None pos lo lo' lt at ne = absurd (ne at)
+of_store chunk sectors s o o' c (Some n) pos lo lo' lt at ne =
+    from_bytes (picture chunk o c) (picture chunk o' c) s s sectors sectors (length-picture chunk o c ∙ lo) (length-picture chunk o' c ∙ lo') lt lt
+    (λ r small. picture_byte chunk sectors s r o c (pairs_of chunk c) (Some n) pos lo lt small refl at ∙ sym (picture_byte chunk sectors s r o' c (pairs_of chunk c) (Some n) pos lo' lt small refl at))
+
+pub store_closes : (chunk sectors size : ℕ) (oh sh : ℕ → List ℕ → Type 0) (o c : List ℕ) → 0 < chunk → MayLeave oh sectors o → MayLeave sh size c → IsFirm sh c size → Closes true chunk oh sh sectors size o c
+store_closes chunk sectors size oh sh o c pos lo lc firm s v lt taken shown =
+    shown.is ∙ ap (λ z. sector_at (picture chunk shown.origin z) s) (firm_same sh c shown.store size lc.whole firm shown.store_left)
+    ∙ of_store chunk sectors s shown.origin o c (place_of (pairs_of chunk c) (s / chunk)) pos shown.origin_left.whole lo.whole lt refl (taken o c lo lc)
+
+pub origin_closes : (chunk sectors size : ℕ) (oh sh : ℕ → List ℕ → Type 0) (o c : List ℕ) → 0 < chunk → MayLeave oh sectors o → MayLeave sh size c → IsFirm oh o sectors → Closes false chunk oh sh sectors size o c
+origin_closes chunk sectors size oh sh o c pos lo lc firm s v lt taken shown =
+    shown.is ∙ sector_plain chunk sectors s shown.origin shown.store (pairs_of chunk shown.store) pos shown.origin_left.whole lt refl (taken shown.origin shown.store shown.origin_left shown.store_left)
+    ∙ ap (λ z. sector_at z s) (firm_same oh o shown.origin sectors lo.whole firm shown.origin_left)
+    ∙ sym (sector_plain chunk sectors s o c (pairs_of chunk c) pos lo.whole lt refl (taken o c lo lc))
+
+-- Where both devices were flushed, as after an attach, no value of the array is open but the present one.
+pub both_close : (chunk sectors size : ℕ) (oh sh : ℕ → List ℕ → Type 0) (o c : List ℕ) → MayLeave oh sectors o → MayLeave sh size c → IsFirm oh o sectors → IsFirm sh c size → (s : ℕ) (v : List ℕ) → IsOpen chunk oh sh sectors size s v → v ≡ sector_at (picture chunk o c) s
+both_close chunk sectors size oh sh o c lo lc firm_o firm_s s v shown =
+    shown.is ∙ ap (λ z. sector_at (picture chunk shown.origin z) s) (firm_same sh c shown.store size lc.whole firm_s shown.store_left)
+    ∙ ap (λ z. sector_at (picture chunk z c) s) (firm_same oh o shown.origin sectors lo.whole firm_o shown.origin_left)

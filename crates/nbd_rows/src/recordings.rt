@@ -1,0 +1,30 @@
+// The recordings, by their names.
+
+/// Each has two files.
+pub const NAMES: &[&str] = &[
+    "a_context_of_another_export",
+    "a_context_taken_back",
+    "a_writing_client",
+    "an_export_by_name_with_zeros",
+    "another_magic_number",
+    "another_option_s_magic_number",
+    "contexts",
+    "flags_of_another_client",
+    "nbdcopy",
+    "nbdinfo",
+    "nbdinfo_list",
+    "nbdinfo_map",
+    "nbdinfo_size",
+    "no_context",
+    "no_such_export",
+    "options_of_every_kind",
+    "qemu_compare",
+    "qemu_convert",
+    "qemu_info",
+    "qemu_map",
+    "qemu_reads",
+    "qemu_write",
+    "requests_past_the_end",
+    "simple_requests_past_the_end",
+    "the_default_export_without_zeros",
+];

@@ -1,0 +1,19 @@
+# The origin is flushed before a merge clears its pairs; the pairs may come back, and are merged again.
+# That a disk keeps what was flushed is how a volatile cache is defined; that a volume is stopped by a command is this project's.
+disk base 128
+disk cow 64
+create vol 0 128 snapshot-origin base
+write vol 0 65536*11
+create snap 0 128 snapshot base cow P 1
+write vol 5 512*aa
+merge snap
+settle vol
+stop vol lose
+save base 5 1
+save cow 1 1
+create vol 0 128 snapshot-origin base
+create snap 0 128 snapshot base cow P 1
+merge snap
+settle vol
+finish vol
+save base 5 1
