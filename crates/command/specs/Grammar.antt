@@ -16,7 +16,7 @@ use Rattle.table.specs.Grammar.{line_in}
 use Rattle.command.specs.Messages.{message_in}
 use Rattle.command.specs.Events.{event_in}
 use Rattle.command.specs.declared.grammar.Command.{Command}
-use Rattle.command.specs.declared.grammar.Command.TheVariants.{Disk, Create, Remove, Load, Save, Message, Tick, Read, Write, StartRead, StartWrite, Step, Settle, Merge, Resume, Finish, Checkpoint, Stop, StopLosing, Status, Table}
+use Rattle.command.specs.declared.grammar.Command.TheVariants.{Disk, Create, Remove, Load, Save, Message, Tick, Read, Write, Flush, StartRead, StartWrite, Step, Settle, Merge, Resume, Finish, Checkpoint, Stop, StopLosing, Status, Table}
 
 -- a name and a first sector
 abbrev pub place_of : List ℕ → List ℕ → Result (List ℕ × ℕ) Refusal
@@ -109,6 +109,10 @@ read_of words = span_of words >>= λ span. Ok (Read span.0 span.1 span.2)
 abbrev pub write_of : List (List ℕ) → Result Command Refusal
 write_of words = patch_of words >>= λ patch. Ok (Write patch.0 patch.1 patch.2)
 
+-- `flush DEV`
+abbrev pub flush_of : List (List ℕ) → Result Command Refusal
+flush_of words = alone_of words >>= λ name. Ok (Flush name)
+
 -- what `start DEV read S N` says, by the words of a `read`
 abbrev pub start_read_of : List (List ℕ) → Result Command Refusal
 start_read_of words = span_of words >>= λ span. Ok (StartRead span.0 span.1 span.2)
@@ -180,6 +184,7 @@ command_of (verb ∷ words) =
     if bytes_eq verb (codes "tick") then tick_of words else
     if bytes_eq verb (codes "read") then read_of words else
     if bytes_eq verb (codes "write") then write_of words else
+    if bytes_eq verb (codes "flush") then flush_of words else
     if bytes_eq verb (codes "start") then start_of words else
     if bytes_eq verb (codes "step") then step_of words else
     if bytes_eq verb (codes "settle") then settle_of words else

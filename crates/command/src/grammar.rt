@@ -3,7 +3,7 @@ ghost use Rattle.std.specs.Prelude.{◌≡◌, ◌≤◌, [], ◌∷◌, length}
 ghost use Rattle.words.specs.Given.{Gives};
 ghost use Rattle.words.specs.Texts.{texts};
 ghost use Rattle.words.specs.Words.{words_of};
-ghost use Rattle.command.specs.Grammar.{place_of, amount_of, span_of, patch_of, alone_of, disk_of, is_merge, made_line_of, create_of, remove_of, load_of, save_of, message_of, tick_of, read_of, write_of, start_read_of, start_write_of, start_of, step_of, settle_of, merge_of, resume_of, finish_of, checkpoint_of, stop_of, status_of, table_of, command_of};
+ghost use Rattle.command.specs.Grammar.{place_of, amount_of, span_of, patch_of, alone_of, disk_of, is_merge, made_line_of, create_of, remove_of, load_of, save_of, message_of, tick_of, read_of, write_of, flush_of, start_read_of, start_write_of, start_of, step_of, settle_of, merge_of, resume_of, finish_of, checkpoint_of, stop_of, status_of, table_of, command_of};
 
 use super::data_words::{payload, sectors};
 use super::events::{Event, event_in};
@@ -35,6 +35,8 @@ pub enum Command {
     Read { name: Name, first: u32, count: u32 },
     /// `write DEV S DATA`: writes an origin or snapshot. 1 to 2048 sectors.
     Write { name: Name, first: u32, bytes: Buf },
+    /// `flush DEV`: makes what was written to an origin or snapshot last.
+    Flush { name: Name },
     /// `start DEV read S N`: starts a read of an origin or snapshot, inside one piece. `count` is 1 to 2048.
     StartRead { name: Name, first: u32, count: u32 },
     /// `start DEV write S DATA`: starts a write of an origin or snapshot, inside one piece. 1 to 2048 sectors.
@@ -278,6 +280,13 @@ fn write(alloc: Global, text: &[u8]) -> Result<Command, Refusal>
     Ok(Command::Write { name, first, bytes })
 }
 
+fn flush(text: &[u8]) -> Result<Command, Refusal>
+    ensures { result ≡ flush_of (words_of text.now) }
+{
+    let name = alone(text)?;
+    Ok(Command::Flush { name })
+}
+
 fn start_read(device: &[u8], text: &[u8]) -> Result<Command, Refusal>
     ensures { result ≡ start_read_of (device.now ∷ words_of text.now) }
 {
@@ -415,6 +424,8 @@ pub fn command_in(alloc: Global, text: &[u8]) -> Result<Command, Refusal>
         read(rest)
     } else if verb == b"write".as_slice() {
         write(alloc, rest)
+    } else if verb == b"flush".as_slice() {
+        flush(rest)
     } else if verb == b"start".as_slice() {
         start(alloc, rest)
     } else if verb == b"step".as_slice() {

@@ -1,4 +1,5 @@
-// A volume of sixteen sectors with chunks of one sector: what was written since a snapshot was taken is undone by its merge.
+// A volume of sixteen sectors with chunks of one sector: what was written since a snapshot was taken is undone by its merge. A flush
+// of the origin is done by one Issue, and beside a merge by two.
 ghost use Rattle.std.specs.Prelude.{◌≡◌, ◌<◌, []};
 ghost use Rattle.deeds.specs.Lived.{IsFitDeed};
 
@@ -61,6 +62,37 @@ fn write(
     }
 }
 
+/// Issues the only request.
+fn issue(alloc: Global, volume: &mut Volume<MemDisk>) -> Result<Outcome, Refusal> {
+    let Some(event) = volume.due() else {
+        return Err(Refusal::NotDue);
+    };
+    match do_one(alloc, volume, Deed::Step(event))? {
+        Some(Done::Stepped(Ok(outcome))) => Ok(outcome),
+        _ => Err(Refusal::Invalid),
+    }
+}
+
+/// A flush of the origin, whose sectors are not looked at.
+fn flush(
+    rt: &impl Abort,
+    alloc: Global,
+    volume: &mut Volume<MemDisk>,
+    is_merging: bool,
+) -> Result<(), Refusal> {
+    let range = Range::new(SECTORS, 0, SECTORS)?;
+    let (dev, op) = (Dev::Origin, Op::Flush);
+    let asked = do_one(alloc, volume, Deed::Submit(Request { dev, op, range }))?;
+    assert!(rt; matches!(asked, Some(Done::Submitted(Ok(_)))));
+    if is_merging {
+        let first = issue(alloc, volume)?;
+        assert!(rt; matches!(first, Outcome::Done));
+    }
+    let last = issue(alloc, volume)?;
+    assert!(rt; matches!(last, Outcome::Reply(_, Reply::Flushed)));
+    Ok(())
+}
+
 /// Does what is due, until nothing is.
 fn run(alloc: Global, volume: &mut Volume<MemDisk>) -> Result<(), Refusal> {
     for _ in 0..1000 {
@@ -98,8 +130,10 @@ fn undo(rt: &impl Abort, alloc: Global, volume: &mut Volume<MemDisk>) -> Result<
     write(alloc, volume, 4, 0x32)?;
     write(alloc, volume, 5, 0x33)?;
     assert!(rt; is_filled(volume, 4, 0x32)? && is_filled(volume, 5, 0x33)?);
+    flush(rt, alloc, volume, false)?;
     let begun = do_one(alloc, volume, Deed::BeginMerge(1))?;
     assert!(rt; matches!(begun, Some(Done::Begun(Ok(())))));
+    flush(rt, alloc, volume, true)?;
     let early = do_one(alloc, volume, Deed::FinishMerge)?;
     assert!(rt; matches!(early, Some(Done::Finished(Err(Refusal::NotFinished)))));
     run(alloc, volume)?;

@@ -15,7 +15,7 @@ use Rattle.named.specs.State.{Volume, Table}
 use Rattle.named.specs.Places.{place_of, found, volume_at}
 use Rattle.named.specs.Events.{numbered, snapshot_named}
 use Rattle.named.specs.Sectors.{Asked, IsAtRole}
-use Rattle.named_volume.specs.Flights.{IsNotDue, IsReadServed, IsStarted, IsStepped, IsWriteServed}
+use Rattle.named_volume.specs.Flights.{IsFlushServed, IsNotDue, IsReadServed, IsStarted, IsStepped, IsWriteServed}
 
 -- the number of the snapshot at a place of a volume
 abbrev pub number_in : ℕ → Result Volume Refusal → ℕ
@@ -66,12 +66,15 @@ abbrev pub IsNotDueIn : Step → Result Volume Refusal → Type 0
 IsNotDueIn event (Err refusal) = Unit {0}
 IsNotDueIn event (Ok volume) = IsNotDue event volume
 
--- what was read of a volume with something in flight, or written, and what was done of it before
+-- what was read of a volume with something in flight, written, or flushed, and what was done of it before
 abbrev pub IsReadAmong : Result (List ℕ) Refusal → List Replied → List Replied → Asked → Volume → Volume → Type 0
 IsReadAmong result before after asks old new = old.quiet ≡ false → IsReadServed result before after old new asks
 
 abbrev pub IsWrittenAmong : List ℕ → Result (Unit {0}) Refusal → List Replied → List Replied → Asked → Volume → Volume → Type 0
 IsWrittenAmong bytes result before after asks old new = old.quiet ≡ false → IsWriteServed bytes result before after old new asks
+
+abbrev pub IsFlushedAmong : Result (Unit {0}) Refusal → List Replied → List Replied → Asked → Volume → Volume → Type 0
+IsFlushedAmong result before after asks old new = old.quiet ≡ false → IsFlushServed result before after old new asks
 
 abbrev pub IsStartedAs : Op → ℕ → Asked → Volume → Volume → Type 0
 IsStartedAs op number asks old new = IsStarted op number old new asks

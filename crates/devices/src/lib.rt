@@ -40,6 +40,6 @@ pub use order::look_at_snapshots;
 pub use plain::Replied;
 pub use raw::{load_disk, save_disk};
 pub use remove::remove_device;
-pub use sectors::{read_device, write_device};
+pub use sectors::{flush_device, read_device, write_device};
 pub use shown::status_text;
 pub use stopping::{stop_device, stop_losing};

@@ -1,16 +1,16 @@
-// Reading and writing origins and snapshots.
+// Reading, writing and flushing origins and snapshots.
 ghost use Rattle.std.specs.Prelude.{◌≡◌, ◌⊎◌, ◌<◌, ◌≤◌, ◌*◌, length, true, Err, IfErr, IfOk};
 ghost use Rattle.named.specs.Changes.{Serves};
 ghost use Rattle.named.specs.Naming.{AreNamed};
 ghost use Rattle.named.specs.Places.{IsPlaceIn, volume_at};
-ghost use Rattle.named.specs.Sectors.{IsInVolume, IsPartWritten, IsReadAsked, IsReadStarved, IsWriteStarved, in_volume, read, read_in, write, written_in};
+ghost use Rattle.named.specs.Sectors.{IsFlushStarved, IsInVolume, IsPartWritten, IsReadAsked, IsReadStarved, IsWriteStarved, flush, flushed_in, in_volume, read, read_in, write, written_in};
 ghost use Rattle.named.specs.Sound.{is_sound};
-ghost use Rattle.named.specs.Starting.{asked_at, read_asked, write_asked};
+ghost use Rattle.named.specs.Starting.{asked_at, flush_asked, read_asked, write_asked};
 ghost use Rattle.named.specs.declared.place.Place.TheVariants.{In};
 ghost use Rattle.named_volume.specs.Names.{KeepsNames};
 ghost use Rattle.device_list.specs.Tables.{table_of};
 ghost use Rattle.devices.specs.Devices.{KeepsOthers};
-ghost use Rattle.devices.specs.Flights.{IsDoneFor, IsReadAmong, IsWrittenAmong};
+ghost use Rattle.devices.specs.Flights.{IsDoneFor, IsFlushedAmong, IsReadAmong, IsWrittenAmong};
 ghost use Rattle.devices.specs.Ruled.{is_quiet_in, is_sound_in, volume_for};
 
 use device_list::{Held, find_device};
@@ -132,5 +132,42 @@ pub fn write_device(
     match find_device(held, name)? {
         Place::Free(_, _) => Err(Refusal::BadTable),
         Place::In(v, role) => write_at(alloc, held, v, role, first, count, bytes, ended),
+    }
+}
+
+/// Flushes a device of a volume.
+fn flush_at(held: &mut Held, v: usize, role: Role, ended: &mut Vec<Replied>) -> Result<(), Refusal>
+    requires place { IsPlaceIn (In v role) (table_of held.old) }
+    ensures done { is_sound_in (volume_at v (table_of held.old)) ≡ true → Serves result (table_of held.new) (λ t. (t ≡ table_of held.old) ⊎ IsInVolume (IsReadAsked 1) v (table_of held.old) t (volume_at v (table_of held.old))) (in_volume v (table_of held.old) (flushed_in role) (volume_at v (table_of held.old))) }
+    ensures told { is_quiet_in (volume_at v (table_of held.old)) ≡ true → ended.new.items ≡ ended.old.items }
+    ensures asks { IfErr (asked_at (In v role) 0 1 (table_of held.old)) (λ e. result ≡ Err e) }
+    ensures stays { IfErr (asked_at (In v role) 0 1 (table_of held.old)) (λ _. (table_of held.new ≡ table_of held.old) × (ended.new.items ≡ ended.old.items)) }
+    ensures among { IfOk (asked_at (In v role) 0 1 (table_of held.old)) (λ asks. IsInVolume (IsFlushedAmong result ended.old.items ended.new.items asks) v (table_of held.old) (table_of held.new) (volume_at v (table_of held.old))) }
+    ensures one { IsInVolume KeepsNames v (table_of held.old) (table_of held.new) (volume_at v (table_of held.old)) }
+    ensures sound { is_sound (table_of held.old) ≡ true → is_sound (table_of held.new) ≡ true }
+    ensures named { AreNamed (table_of held.old) → AreNamed (table_of held.new) }
+{
+    held.volumes[v].flush(role, ended)
+}
+
+/// `flush DEV`: makes what was written to an origin or to a snapshot last: of an origin whose merge is begun, the merging store
+/// is flushed, and then the origin. In this order: `NoSuchDevice` for a name that no device has, `BadTable` for a disk or a
+/// layer, `OutOfRange` where the origin has no sector, `MergingSnapshot` for a snapshot that is being merged, `TooMany` where
+/// the volume has taken too many, then `JournalFull` and what its devices answer; `NoMemory` may come before that, where
+/// something is in flight. Requests that are in flight may end in it: their replies go to the end of `ended`.
+#[tactic(auto, unfolding(named::specs::Starting::flush_asked, named::specs::Starting::asked_by, named::specs::Sectors::flush, named::specs::Sectors::IsFlushStarved, crate::specs::Devices::KeepsOthers))]
+pub fn flush_device(held: &mut Held, name: &Name, ended: &mut Vec<Replied>) -> Result<(), Refusal>
+    ensures done { is_sound_in (volume_for name.now (table_of held.old)) ≡ true → Serves result (table_of held.new) (λ t. (t ≡ table_of held.old) ⊎ IsFlushStarved name.now (table_of held.old) t) (flush name.now (table_of held.old)) }
+    ensures told { is_quiet_in (volume_for name.now (table_of held.old)) ≡ true → ended.new.items ≡ ended.old.items }
+    ensures asks { IfErr (flush_asked name.now (table_of held.old)) (λ e. result ≡ Err e) }
+    ensures stays { IfErr (flush_asked name.now (table_of held.old)) (λ _. (table_of held.new ≡ table_of held.old) × (ended.new.items ≡ ended.old.items)) }
+    ensures among { IfOk (flush_asked name.now (table_of held.old)) (λ asks. IsDoneFor name.now (IsFlushedAmong result ended.old.items ended.new.items asks) (table_of held.old) (table_of held.new)) }
+    ensures one { KeepsOthers name.now (table_of held.old) (table_of held.new) }
+    ensures sound { is_sound (table_of held.old) ≡ true → is_sound (table_of held.new) ≡ true }
+    ensures named { AreNamed (table_of held.old) → AreNamed (table_of held.new) }
+{
+    match find_device(held, name)? {
+        Place::Free(_, _) => Err(Refusal::BadTable),
+        Place::In(v, role) => flush_at(held, v, role, ended),
     }
 }

@@ -4,8 +4,8 @@ use Rattle.std.specs.Prelude.{◌≡◌, ℕ, ◌+◌, Some, None}
 use Rattle.chunk.specs.Pieces.{Span}
 use Rattle.plain.specs.declared.request.Dev.{Dev}
 use Rattle.plain.specs.declared.request.Op.{Op}
-use Rattle.plain.specs.declared.request.Op.TheVariants.{Read, Write}
-use Rattle.settled.specs.Merges.{Merged, Merging, Replied, write_part, read_part}
+use Rattle.plain.specs.declared.request.Op.TheVariants.{Read, Write, Flush}
+use Rattle.settled.specs.Merges.{Merged, Merging, Replied, write_part, read_part, flushed_through}
 use Rattle.event_machine.specs.Held.{MergeHeld, Moving}
 use Rattle.event_machine.specs.Due.{due}
 use Rattle.event_machine.specs.MergeDue.{due_all}
@@ -27,6 +27,7 @@ pub record SettlesToMerged (sectors : ℕ) (v : Moving) (answer : Merged) : Type
 abbrev pub part_of : Dev → Op → Span → Merging → Replied
 part_of dev Read piece m = read_part dev piece m
 part_of dev (Write bytes) piece m = write_part dev piece bytes m
+part_of dev Flush piece m = flushed_through dev m
 
 -- A volume of so many sectors with a merge settles to this, by the events of snapshots and requests alone: after so many of
 -- them, and after any more, none is due, the volume is at rest, its devices, its snapshots and its merge are those of the

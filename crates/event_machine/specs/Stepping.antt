@@ -11,9 +11,9 @@ use Rattle.plain.specs.declared.event.Event.TheVariants.{Issue, CopyRead, CopyWr
 use Rattle.plain.specs.declared.request.Dev.{Dev}
 use Rattle.plain.specs.declared.request.Dev.TheVariants.{Origin as ToOrigin, Snap as ToSnap}
 use Rattle.plain.specs.declared.request.Op.{Op}
-use Rattle.plain.specs.declared.request.Op.TheVariants.{Read as ReadOp, Write as WriteOp}
+use Rattle.plain.specs.declared.request.Op.TheVariants.{Read as ReadOp, Write as WriteOp, Flush as FlushOp}
 use Rattle.plain.specs.declared.request.Reply.{Reply}
-use Rattle.plain.specs.declared.request.Reply.TheVariants.{Written as Done, Refused as Declined}
+use Rattle.plain.specs.declared.request.Reply.TheVariants.{Written as Done, Flushed, Refused as Declined}
 use Rattle.plain.specs.declared.request.Failure.TheVariants.{Invalid, Io}
 use Rattle.model.specs.Places.{area_place}
 use Rattle.model.specs.Slots.{pair_bytes}
@@ -22,9 +22,9 @@ use Rattle.pending.specs.declared.copies.Stage.{Stage}
 use Rattle.pending.specs.declared.copies.Stage.TheVariants.{Waiting, Read, Written}
 use Rattle.pending.specs.declared.copies.Mark.{Mark}
 use Rattle.pending.specs.declared.flights.Route.{Route}
-use Rattle.pending.specs.declared.flights.Route.TheVariants.{Held as Waits, Origin, Store, Refused}
+use Rattle.pending.specs.declared.flights.Route.TheVariants.{Held as Waits, Origin, Store, Whole, Refused}
 use Rattle.settled.specs.Saves.{marked, zeroed}
-use Rattle.settled.specs.Devices.{Device, sectors_of, answers, met, written_by, read_reply}
+use Rattle.settled.specs.Devices.{Device, sectors_of, answers, met, written_by, read_reply, flush_reply}
 use Rattle.settled.specs.Saving.{lacks_area}
 use Rattle.event_machine.specs.Held.{Copying, Held, Going, MergeHeld, Moving, with_store, spoiled, flushed_held, on_device, with_merge}
 use Rattle.event_machine.specs.Due.{filled_of, batch_of, can_mark, can_flush_store, can_commit, can_zero, is_at, is_publishable, is_issuable}
@@ -141,18 +141,21 @@ abbrev pub on_disk : Op → ℕ → ℕ → (Going → Bool) → Moving → Movi
 on_disk ReadOp first count mine v = answer mine (read_reply v.origin first count) (record v { origin = met v.origin (Reads first count) })
 on_disk (WriteOp bytes) first count mine v =
     answer mine (write_reply v.origin first count) (record v { origin = written_by v.origin (Writes first count) (with_sectors v.origin.bytes first bytes) })
+on_disk FlushOp first count mine v = answer mine (flush_reply v.origin) (record v { origin = met v.origin Flushes })
 
--- of a snapshot's store
+-- of a place of a snapshot's store; no flush goes there
 abbrev pub on_store : Op → ℕ → ℕ → (Going → Bool) → (Held → Bool) → Held → Moving → Moving
 on_store ReadOp first count mine test h v = answer mine (read_reply h.snap.store first count) (put test (with_store h (met h.snap.store (Reads first count))) v)
 on_store (WriteOp bytes) first count mine test h v =
     answer mine (write_reply h.snap.store first count) (put test (with_store h (written_by h.snap.store (Writes first count) (with_sectors h.snap.store.bytes first bytes))) v)
+on_store FlushOp first count mine test h v = v
 
--- of the merging store
+-- of a place of the merging store; no flush goes there
 abbrev pub on_merging : Op → ℕ → ℕ → (Going → Bool) → MergeHeld → Moving → Moving
 on_merging ReadOp first count mine m v = answer mine (read_reply m.merge.store first count) (with_merge (on_device m (met m.merge.store (Reads first count))) v)
 on_merging (WriteOp bytes) first count mine m v =
     answer mine (write_reply m.merge.store first count) (with_merge (on_device m (written_by m.merge.store (Writes first count) (with_sectors m.merge.store.bytes first bytes))) v)
+on_merging FlushOp first count mine m v = v
 
 -- of the chunk `place` of the merging store, or of the store of a request's snapshot
 abbrev pub on_place : Dev → Op → ℕ → ℕ → ℕ → (Going → Bool) → Moving → Moving
@@ -160,11 +163,30 @@ on_place ToOrigin op place first count mine v = for_some v.merge (λ m. on_mergi
 on_place (ToSnap n) op place first count mine v =
     for_some (first_that (λ h. h.snap.number == n) v.snaps) (λ h. on_store op (h.snap.chunk * place + first % h.snap.chunk) count mine (λ k. k.snap.number == n) h v) v
 
+-- A flush that is asked of a live snapshot is one of its store, and counts as one that an event does; where it fails it is
+-- answered so, and the snapshot stays as it was.
+abbrev pub flush_asked : (Going → Bool) → (Held → Bool) → Held → Moving → Moving
+flush_asked mine test h v =
+    let after : Held = with_store h (met h.snap.store Flushes) in
+    if answers h.snap.store Flushes then answer mine Flushed (put test (flushed_held after) v) else answer mine (Declined Io) (put test after v)
+
+-- A flush of the origin beside a merge goes to the merging store first, and then on to the origin's device.
+abbrev pub flush_merging : (Going → Bool) → Going → MergeHeld → Moving → Moving
+flush_merging mine r m v =
+    let w : Moving = with_merge (on_device m (met m.merge.store Flushes)) v in
+    if answers m.merge.store Flushes then record w { requests = with_first mine (record r { route = Origin }) w.requests } else answer mine (Declined Io) w
+
+-- a flush of a store: of the one that is being merged, or of a request's snapshot
+abbrev pub on_whole : Dev → (Going → Bool) → Going → Moving → Moving
+on_whole ToOrigin mine r v = for_some v.merge (λ m. flush_merging mine r m v) v
+on_whole (ToSnap n) mine r v = for_some (first_that (λ h. h.snap.number == n) v.snaps) (λ h. flush_asked mine (λ k. k.snap.number == n) h v) v
+
 -- a request goes where its route says
 abbrev pub issue : Route → (Going → Bool) → Going → Moving → Moving
 issue Waits mine r v = v
 issue Origin mine r v = on_disk r.request.op r.request.range.first r.request.range.count mine v
 issue (Store place) mine r v = on_place r.request.dev r.request.op place r.request.range.first r.request.range.count mine v
+issue Whole mine r v = on_whole r.request.dev mine r v
 issue Refused mine r v = answer mine (Declined Invalid) v
 
 -- whether a copy has this number and stage

@@ -2,6 +2,7 @@
 use Rattle.std.specs.Prelude.{◌==◌, ◌&&◌, ◌||◌, not, ℕ, ◌+◌, ◌*◌, ◌/◌, nat_lt, is_some, Bool, List, [], ◌∷◌, ◌++◌, length, map, Option, Some, None, if◌then◌else◌}
 use Rattle.std.specs.List.{list_any}
 use Rattle.plain.specs.Plain.{did_overflow, may_overflow}
+use Rattle.plain.specs.Kept.{kept}
 use Rattle.plain.specs.declared.request.Overflowing.TheVariants.{Did}
 use Rattle.plain.specs.declared.request.Request.{Request}
 use Rattle.plain.specs.declared.request.Reply.TheVariants.{Refused as Declined}
@@ -10,12 +11,12 @@ use Rattle.plain.specs.declared.request.Failure.TheVariants.{Invalid, Overflow}
 use Rattle.model.specs.NextPlace.{stepped as stepped_place}
 use Rattle.model.specs.Picture.{place_of}
 use Rattle.pending.specs.Kinds.{kind_of}
-use Rattle.pending.specs.Routes.{read_route_of}
+use Rattle.pending.specs.Routes.{read_route_of, flush_route_of}
 use Rattle.pending.specs.declared.copies.Stage.TheVariants.{Waiting}
 use Rattle.pending.specs.declared.flights.Kind.{Kind}
-use Rattle.pending.specs.declared.flights.Kind.TheVariants.{OriginRead, OriginWrite, SnapRead, SnapWrite}
+use Rattle.pending.specs.declared.flights.Kind.TheVariants.{OriginRead, OriginWrite, OriginFlush, SnapRead, SnapWrite, SnapFlush}
 use Rattle.pending.specs.declared.flights.Route.{Route}
-use Rattle.pending.specs.declared.flights.Route.TheVariants.{Held as Waits, Store}
+use Rattle.pending.specs.declared.flights.Route.TheVariants.{Held as Waits, Store, Whole}
 use Rattle.volume_laws.specs.Again.{published_place}
 use Rattle.event_machine.specs.Held.{Held, Going, Moving, spoiled}
 use Rattle.event_machine.specs.Again.{is_grouped, merged_place, write_route, refused}
@@ -115,12 +116,18 @@ abbrev pub write_snap : ℕ → Request → (Held → Bool) → Held → Moving 
 write_snap number request test h v =
     if shuts (request.range.first / h.snap.chunk) h then declined Overflow (put test (overflown h) v) else write_open number request test h v
 
+-- a flush of a live snapshot; a volume keeps a flush with a range of its own
+abbrev pub flush_snap : ℕ → Request → Held → Moving → Moving
+flush_snap number request h v = if h.snap.live then accepted number request Whole v else declined Invalid v
+
 abbrev pub submitted_as : Kind → ℕ → Request → Moving → Moving
 submitted_as OriginRead number request v = accepted number request (read_route_of (merged_place v.merge request.range.first)) v
 submitted_as OriginWrite number request v = write_origin number request v
+submitted_as OriginFlush number request v = accepted number (kept request) (flush_route_of (is_some v.merge)) v
 submitted_as (SnapRead n) number request v = for_some (first_that (λ h. h.snap.number == n) v.snaps) (λ h. read_snap number request h v) (declined Invalid v)
 submitted_as (SnapWrite n) number request v =
     for_some (first_that (λ h. h.snap.number == n) v.snaps) (λ h. write_snap number request (λ k. k.snap.number == n) h v) (declined Invalid v)
+submitted_as (SnapFlush n) number request v = for_some (first_that (λ h. h.snap.number == n) v.snaps) (λ h. flush_snap number (kept request) h v) (declined Invalid v)
 
 -- a request under a number
 abbrev pub submitted : ℕ → Request → Moving → Moving

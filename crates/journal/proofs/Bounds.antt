@@ -8,19 +8,21 @@ use Rattle.std.proofs.lemmas.List.Edits.{length-remove}
 use Rattle.std.proofs.lemmas.List.Elements.{All-append, All-cons, All-head, All-nil, All-tail}
 use Rattle.device.specs.Layers.{Layer}
 use Rattle.pending.specs.Kinds.{kind_of}
+use Rattle.sector.specs.declared.range.Range.{Range}
 use Rattle.sector.specs.declared.refusal.Refusal.{Refusal}
 use Rattle.sector.specs.declared.refusal.Refusal.TheVariants.{NotMerging, OutOfRange}
 use Rattle.layers.specs.declared.message.Answer.{Answer}
 use Rattle.layers.specs.declared.message.Message.{Message}
 use Rattle.merge.specs.Merging.{Merging}
+use Rattle.plain.specs.Kept.{kept, kept_range}
 use Rattle.plain.specs.Plain.{Plain, InFlight, asked_under, without}
 use Rattle.plain.specs.Serves.{Shows}
 use Rattle.plain.specs.declared.request.Dev.{Dev}
 use Rattle.plain.specs.declared.request.Dev.TheVariants.{Origin, Snap}
 use Rattle.plain.specs.declared.request.Op.{Op}
-use Rattle.plain.specs.declared.request.Op.TheVariants.{Read, Write}
+use Rattle.plain.specs.declared.request.Op.TheVariants.{Read, Write, Flush}
 use Rattle.plain.specs.declared.request.Reply.{Reply}
-use Rattle.plain.specs.declared.request.Reply.TheVariants.{Data, Written, Refused}
+use Rattle.plain.specs.declared.request.Reply.TheVariants.{Data, Written, Flushed, Refused}
 use Rattle.plain.specs.declared.request.Request.{Request}
 use Rattle.volume.specs.Beginning.{IsNotBegun, IsResumed, SameButKept}
 use Rattle.volume.specs.Layering.{Measures}
@@ -130,17 +132,24 @@ admitted_range : (b : Bool) → (if b then None else Some OutOfRange) ≡ None �
 admitted_range true e = refl
 admitted_range false e = absurd (cc)
 
-pub admitted_inside : {B : Type 0} (size : B → ℕ) (request : Request) (w : Volumed B) → submit_refusal size request w ≡ None → request.range.first + request.range.count ≤ size w.origin
+pub admitted_inside : {B : Type 0} (size : B → ℕ) (request : Request) (w : Volumed B) → submit_refusal size request w ≡ None → (kept request).range.first + (kept request).range.count ≤ size w.origin
 admitted_inside size request w e =
-    let range = third_none (dev_refusal request.dev w.merge w.snaps) (shut_refusal (kind_of request) w.snaps) (range_refusal (piece_with w.merge w.snaps) (size w.origin) request.range) (limit_refusal (starting (kind_of request) request.range.first w.merge w.snaps) w) e in
-    let piece = admitted_range (is_piece_of (piece_with w.merge w.snaps) (size w.origin) request.range) range in
-    le_true (request.range.first + request.range.count) (size w.origin) (and_both (nat_lt 0 request.range.count) (nat_le (request.range.first + request.range.count) (size w.origin)) (nat_le (request.range.first % piece_with w.merge w.snaps + request.range.count) (piece_with w.merge w.snaps)) piece)
+    let asked : Range = kept_range request.op request.range in
+    let range = third_none (dev_refusal request.dev w.merge w.snaps) (shut_refusal (kind_of request) w.snaps) (range_refusal (piece_with w.merge w.snaps) (size w.origin) asked) (limit_refusal (starting (kind_of request) request.range.first w.merge w.snaps) w) e in
+    let piece = admitted_range (is_piece_of (piece_with w.merge w.snaps) (size w.origin) asked) range in
+    le_true (asked.first + asked.count) (size w.origin) (and_both (nat_lt 0 asked.count) (nat_le (asked.first + asked.count) (size w.origin)) (nat_le (asked.first % piece_with w.merge w.snaps + asked.count) (piece_with w.merge w.snaps)) piece)
+
+-- a write is kept as it is
+kept_long : (op : Op) (range : Range) → ((bytes : List ℕ) → op ≡ Write bytes → length bytes ≡ 512 * range.count) → (bytes : List ℕ) → op ≡ Write bytes → length bytes ≡ 512 * (kept_range op range).count
+kept_long Read range long bytes e = absurd (cc)
+kept_long (Write sent) range long bytes e = long bytes e
+kept_long Flush range long bytes e = absurd (cc)
 
 pub admitted_asked : {B : Type 0} (contents : B → List ℕ) (layers : B → List Layer) (size : B → ℕ) → ((d : B) → length (contents d) ≡ 512 * size d) → (request : Request) (w : Volumed B) → submit_refusal size request w ≡ None
-    → ((bytes : List ℕ) → request.op ≡ Write bytes → length bytes ≡ 512 * request.range.count) → IsAsked (length (plain_of contents layers w).origin) request
+    → ((bytes : List ℕ) → request.op ≡ Write bytes → length bytes ≡ 512 * request.range.count) → IsAsked (length (plain_of contents layers w).origin) (kept request)
 admitted_asked contents layers size whole request w admitted bytes = record {
   inside = omega (arith, admitted_inside size request w admitted, plain_long contents layers w, whole w.origin);
-  whole = bytes;
+  whole = kept_long request.op request.range bytes;
 }
 
 -- a refused request is given no number
@@ -158,8 +167,10 @@ shows_bare p (Snap number) array shows = shows
 lies : (p : Plain) (dev : Dev) (op : Op) (first count : ℕ) (reply : Reply) → ((array : List ℕ) → Shows p dev array → length array ≡ length p.origin) → 512 * (first + count) ≤ length p.origin
     → ((bytes : List ℕ) → op ≡ Write bytes → length bytes ≡ 512 * count) → LiesInside (saves_of p) dev op first reply
 lies p dev Read first count reply whole inside bytes = tt
+lies p dev Flush first count reply whole inside bytes = tt
 lies p dev (Write sent) first count (Data read) whole inside bytes = tt
 lies p dev (Write sent) first count Written whole inside bytes = λ array shows. omega (arith, whole array (shows_bare p dev array shows), inside, bytes sent refl)
+lies p dev (Write sent) first count Flushed whole inside bytes = tt
 lies p dev (Write sent) first count (Refused failure) whole inside bytes = tt
 
 module _ (given given' : ℕ) (loud told : Bool) (p q : Plain) (v : Books) (room' : ℕ) (h : IsAudit loud told p v) (b : IsBounded given told p v) (n k : ℕ) (x : Held) (first : IsFirst n v.held k x) where

@@ -12,9 +12,9 @@ use Rattle.plain.specs.declared.request.Dev.{Dev}
 use Rattle.plain.specs.declared.request.Failure.{Failure}
 use Rattle.plain.specs.declared.request.Op.{Op}
 use Rattle.plain.specs.declared.request.Overflowing.TheVariants.{Did}
-use Rattle.plain.specs.declared.request.Op.TheVariants.{Read, Write}
+use Rattle.plain.specs.declared.request.Op.TheVariants.{Read, Write, Flush}
 use Rattle.plain.specs.declared.request.Reply.{Reply}
-use Rattle.plain.specs.declared.request.Reply.TheVariants.{Data, Written, Refused}
+use Rattle.plain.specs.declared.request.Reply.TheVariants.{Data, Written, Flushed, Refused}
 use Rattle.journal.specs.declared.entry.Entry.{Entry}
 use Rattle.journal.specs.declared.entry.Entry.TheVariants.{Answered, Spoiled, Overflowed, Attached, Detached, Begun, Finished}
 use Rattle.journal.specs.declared.entry.Saved.{Saved}
@@ -84,7 +84,9 @@ spoilt_more n old now k y within here so is =
 pub served_put : (s s' : Saves) (dev : Dev) (op : Op) (range : Range) (reply : Reply) (bytes : List ℕ) → op ≡ Write bytes → reply ≡ Written → Serves (plain_in s) dev op range reply (plain_in (served dev op range.first reply s)) → LiesInside s dev op range.first reply
     → ((array : List ℕ) → Shows (plain_in s) dev array → 512 * range.first + length bytes ≤ length array → s' ≡ put dev range.first bytes s) → s' ≡ served dev op range.first reply s
 served_put s s' dev Read range reply bytes writes done serves inside puts = absurd (cc)
+served_put s s' dev Flush range reply bytes writes done serves inside puts = absurd (cc)
 served_put s s' dev (Write sent) range (Data read) bytes writes done serves inside puts = absurd (cc)
+served_put s s' dev (Write sent) range Flushed bytes writes done serves inside puts = absurd (cc)
 served_put s s' dev (Write sent) range (Refused failure) bytes writes done serves inside puts = absurd (cc)
 served_put s s' dev (Write sent) range Written bytes writes done serves inside puts =
     let same : bytes ≡ sent = cc in
@@ -93,17 +95,35 @@ served_put s s' dev (Write sent) range Written bytes writes done serves inside p
 pub served_read : (s : Saves) (dev : Dev) (op : Op) (first : ℕ) (reply : Reply) → op ≡ Read → s ≡ served dev op first reply s
 served_read s dev Read first (Data bytes) is = refl
 served_read s dev Read first Written is = refl
+served_read s dev Read first Flushed is = refl
 served_read s dev Read first (Refused failure) is = refl
 served_read s dev (Write sent) first reply is = absurd (cc)
+served_read s dev Flush first reply is = absurd (cc)
+
+pub served_flush : (s : Saves) (dev : Dev) (op : Op) (first : ℕ) (reply : Reply) → op ≡ Flush → s ≡ served dev op first reply s
+served_flush s dev Flush first (Data bytes) is = refl
+served_flush s dev Flush first Written is = refl
+served_flush s dev Flush first Flushed is = refl
+served_flush s dev Flush first (Refused failure) is = refl
+served_flush s dev Read first reply is = absurd (cc)
+served_flush s dev (Write sent) first reply is = absurd (cc)
+
+pub served_flushed : (s : Saves) (dev : Dev) (op : Op) (first : ℕ) (reply : Reply) → reply ≡ Flushed → s ≡ served dev op first reply s
+served_flushed s dev op first Flushed is = refl
+served_flushed s dev op first (Data bytes) is = absurd (cc)
+served_flushed s dev op first Written is = absurd (cc)
+served_flushed s dev op first (Refused failure) is = absurd (cc)
 
 pub served_data : (s : Saves) (dev : Dev) (op : Op) (first : ℕ) (reply : Reply) (bytes : List ℕ) → reply ≡ Data bytes → s ≡ served dev op first reply s
 served_data s dev op first (Data read) bytes is = refl
 served_data s dev op first Written bytes is = absurd (cc)
+served_data s dev op first Flushed bytes is = absurd (cc)
 served_data s dev op first (Refused failure) bytes is = absurd (cc)
 
 pub served_refused : (s : Saves) (dev : Dev) (op : Op) (first : ℕ) (reply : Reply) (failure : Failure) → reply ≡ Refused failure → s ≡ served dev op first reply s
 served_refused s dev op first (Data read) failure is = absurd (cc)
 served_refused s dev op first Written failure is = absurd (cc)
+served_refused s dev op first Flushed failure is = absurd (cc)
 served_refused s dev op first (Refused why) failure is = refl
 
 pub put_at : (n first : ℕ) (bytes array : List ℕ) (xs : List Shown) → saved_under n xs ≡ Some (Live array) → with_saved n (Live (with_sectors array first bytes)) xs ≡ with_saved n (Live (with_sectors (array_in (saved_under n xs)) first bytes)) xs

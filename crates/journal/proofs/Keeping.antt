@@ -11,11 +11,12 @@ use Rattle.plain.specs.declared.event.Event.TheVariants.{Issue, CopyRead, CopyWr
 use Rattle.plain.specs.declared.event.Outcome.{Outcome}
 use Rattle.plain.specs.declared.event.Outcome.TheVariants.{Done, Fault, Reply as Replied}
 use Rattle.plain.specs.declared.request.Op.{Op}
-use Rattle.plain.specs.declared.request.Op.TheVariants.{Read, Write}
+use Rattle.plain.specs.declared.request.Op.TheVariants.{Read, Write, Flush}
 use Rattle.plain.specs.declared.request.Request.{Request}
 use Rattle.plain.specs.declared.request.Reply.{Reply}
-use Rattle.plain.specs.declared.request.Reply.TheVariants.{Data, Written, Refused}
-use Rattle.plain.specs.Plain.{Plain, InFlight, Entry as Shown, spoiled_entry, asked_under, without}
+use Rattle.plain.specs.declared.request.Reply.TheVariants.{Data, Written, Flushed, Refused}
+use Rattle.plain.specs.Kept.{kept, kept_range}
+use Rattle.plain.specs.Plain.{Plain, InFlight, Entry as Shown, spoiled, spoiled_entry, asked_under, without}
 use Rattle.plain.specs.Replies.{FitsReply}
 use Rattle.plain.specs.Legal.{Spoils, IsAnswered, IsLegalStep, IsSubmitted, IsDeclined}
 use Rattle.plain.specs.Serves.{Serves}
@@ -23,23 +24,24 @@ use Rattle.sector.specs.declared.range.Range.{Range}
 use Rattle.sector.specs.declared.refusal.Refusal.{Refusal}
 use Rattle.sector.specs.declared.refusal.Refusal.TheVariants.{Overflow}
 use Rattle.pending.specs.Kinds.{room_of, room_at}
-use Rattle.volume.specs.Flying.{Fits, IsFlown, IsTakenOut}
+use Rattle.volume.specs.Flying.{Fits, IsFlown, IsLeftGoing, IsTakenOut}
 use Rattle.journal.specs.declared.entry.Answered.{Answered as AnsweredEntry}
 use Rattle.journal.specs.declared.entry.Entry.{Entry}
 use Rattle.journal.specs.declared.entry.Entry.TheVariants.{Answered, Spoiled}
 use Rattle.journal.specs.declared.entry.Held.{Held}
+use Rattle.journal.specs.Seats.{Seated, seated, seated_under}
 use Rattle.journal.specs.Replay.{Saves, saves_of, plain_in, served, replay, IsLawful, AllLawful}
 use Rattle.journal.specs.Entries.{entries_by}
 use Rattle.journal.specs.Noted.{Noted, is_live, is_open, kept_count}
 use Rattle.journal.specs.Books.{Books, Counted, Replays, IsAudit, HeldFits, in_flight}
 use Rattle.journal.proofs.Lost.{all_noted, lives_now}
 use Rattle.journal.proofs.Mays.{any_shown, noted_may, open_spoiled, opens_served}
-use Rattle.journal.proofs.Replaying.{replay_then, lawful_then, replay_spoils, lawful_spoils, entries_by_spoils, entries_by_mine, entries_by_other, served_is, lawful_is, lives_served, IsFirst, asked_first, without_first}
+use Rattle.journal.proofs.Replaying.{replay_then, lawful_then, replay_spoils, lawful_spoils, entries_by_spoils, entries_by_mine, entries_by_other, served_is, lawful_is, lives_served, IsFirst, asked_first, seated_first, without_first}
 
 -- an event that is no Issue spoils, or is silent
 pub spoils_of : (old : Plain) (event : Event) (outcome : Outcome) (new : Plain) → ((n : ℕ) → event ≢ Issue n) → IsLegalStep old event outcome new → (which : List ℕ) × Spoils which old new
 spoils_of old event (Replied n reply) new other l = absurd (other n l.0)
-spoils_of old (Issue n) Done new other l = absurd l
+spoils_of old (Issue n) Done new other l = absurd (other n refl)
 spoils_of old (CopyRead n) Done new other l = l
 spoils_of old (CopyWrite n) Done new other l = l
 spoils_of old (ZeroNext n) Done new other l = l
@@ -73,7 +75,7 @@ spoils_of old MergeRelease Fault new other l = l
 -- and changes no request in flight
 pub flown_other : (event : Event) (outcome : Outcome) (old new : List InFlight) → ((n : ℕ) → event ≢ Issue n) → IsFlown event outcome old new → new ≡ old
 flown_other event (Replied n reply) old new other f = absurd (other n f.0)
-flown_other (Issue n) Done old new other f = absurd f
+flown_other (Issue n) Done old new other f = f.same
 flown_other (CopyRead n) Done old new other f = f
 flown_other (CopyWrite n) Done old new other f = f
 flown_other (ZeroNext n) Done old new other f = f
@@ -171,7 +173,9 @@ same_asked p v n k x request h first asked =
 room_fits : (op : Op) (range : Range) (reply : Reply) (n : ℕ) → Fits op range reply → n ≡ room_at op range.count → FitsReply n reply
 room_fits Read range (Data bytes) n f is = is ∙ sym f
 room_fits (Write sent) range (Data bytes) n f is = absurd f
+room_fits Flush range (Data bytes) n f is = absurd f
 room_fits op range Written n f is = tt
+room_fits op range Flushed n f is = tt
 room_fits op range (Refused failure) n f is = tt
 
 pub fits_held : (p : Plain) (v : Books) (n k : ℕ) (x : Held) (reply : Reply) (new : List InFlight) → Counted p v → IsFirst n v.held k x → IsTakenOut n reply p.requests new
@@ -257,6 +261,52 @@ module _ (loud loud' told : Bool) (p q : Plain) (v : Books) (room' : ℕ) (h : I
       loud_is = λ on. same ∙ h.loud_is on;
       replays = λ on. issued_replays (h.replays on) (answered_here p q n m reply (legal (h.loud_is on)));
     }
+
+-- an Issue that gave no reply: no array changed, and the request stays
+pub going_keeps : (loud loud' told : Bool) (p q : Plain) (v : Books) → IsAudit loud told p v → loud' ≡ loud → length q.saved ≡ length p.saved → q.requests ≡ p.requests → (loud ≡ true → q ≡ p) → IsAudit loud' told q v
+going_keeps loud loud' told p q v h same count requests still = record {
+  counted = record {
+    fits = h.counted.fits;
+    held = h.counted.held ∙ sym requests;
+    counts = h.counted.counts;
+    seats = h.counted.seats;
+    folds = h.counted.folds;
+    lives = h.counted.lives ∙ sym count;
+    may = h.counted.may ∙ sym count;
+    entries = h.counted.entries;
+    room = h.counted.room;
+  };
+  loud_is = λ on. same ∙ h.loud_is on;
+  replays = λ on. subst (λ (x : Plain). Replays x v) (sym (still (h.loud_is on))) (h.replays on);
+}
+
+-- and it is a flush's
+pub going_is : (p : Plain) (v : Books) (n k : ℕ) (x : Held) (new : List InFlight) (held : List Seated) → Counted p v → IsFirst n v.held k x → IsLeftGoing n p.requests new → map seated v.held ≡ held
+    → (y : Seated) × (seated_under n held ≡ Some y) × (y.request.op ≡ Flush)
+going_is p v n k x new held h first going are =
+    let same : going.request ≡ x.for_entry = same_asked p v n k x going.request h first going.asked in
+    (seated x, ap (seated_under n) (sym are) ∙ seated_first n v.held k x first, ap (λ (r : Request). r.op) (sym same) ∙ going.flush)
+
+-- a request as it is kept
+kept_again : (op : Op) (range : Range) → kept_range op (kept_range op range) ≡ kept_range op range
+kept_again Read range = refl
+kept_again (Write sent) range = refl
+kept_again Flush range = refl
+
+-- it needs as much room
+room_kept : (op : Op) (range : Range) → room_at op range.count ≡ room_at op (kept_range op range).count
+room_kept Read range = refl
+room_kept (Write sent) range = refl
+room_kept Flush range = refl
+
+pub kept_room : (request : Request) → room_of request ≡ room_of (kept request)
+kept_room request = room_kept request.op request.range
+
+pub submitted_kept : (which : List ℕ) (p : Plain) (number : ℕ) (request : Request) (q : Plain) → IsSubmitted which p number request q → IsSubmitted which p number (kept request) q
+submitted_kept which p number request q s = record {
+  writable = s.writable;
+  becomes = s.becomes ∙ ap (λ (range : Range). record p { saved = (spoiled which p).saved; requests = p.requests ++ record { number = number; request = record request { range = range } } ∷ [] }) (sym (kept_again request.op request.range));
+}
 
 -- a request that was submitted
 one_fits : (x : Held) → HeldFits x → All HeldFits (x ∷ [])

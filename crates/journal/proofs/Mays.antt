@@ -7,9 +7,9 @@ use Rattle.plain.specs.declared.request.Dev.{Dev}
 use Rattle.plain.specs.declared.request.Dev.TheVariants.{Origin, Snap}
 use Rattle.plain.specs.declared.request.Failure.TheVariants.{Invalid as IsInvalid, Io, Overflow}
 use Rattle.plain.specs.declared.request.Op.{Op}
-use Rattle.plain.specs.declared.request.Op.TheVariants.{Read, Write}
+use Rattle.plain.specs.declared.request.Op.TheVariants.{Read, Write, Flush}
 use Rattle.plain.specs.declared.request.Reply.{Reply}
-use Rattle.plain.specs.declared.request.Reply.TheVariants.{Data, Written, Refused}
+use Rattle.plain.specs.declared.request.Reply.TheVariants.{Data, Written, Flushed, Refused}
 use Rattle.plain.specs.Plain.{Plain, Entry as Shown, Saved, Live, is_in, may_overflow, overflow_of, spoiled_entry, with_saved}
 use Rattle.plain.specs.Serves.{Serves}
 use Rattle.sector.specs.Bytes.{with_sectors}
@@ -48,6 +48,14 @@ opens_served p q dev (Write bytes) range (Refused Io) s = ap (map is_open) s.0.s
 opens_served p q dev Read range (Refused IsInvalid) s = ap (map is_open) s.0.saved
 opens_served p q dev (Write bytes) range (Refused IsInvalid) s = ap (map is_open) s.0.saved
 opens_served p q dev Read range (Refused Overflow) s = absurd s
+opens_served p q dev Read range Flushed s = absurd s
+opens_served p q dev (Write bytes) range Flushed s = absurd s
+opens_served p q dev Flush range Flushed s = ap (map is_open) s.0.saved
+opens_served p q dev Flush range (Data bytes) s = absurd s
+opens_served p q dev Flush range Written s = absurd s
+opens_served p q dev Flush range (Refused Io) s = ap (map is_open) s.0.saved
+opens_served p q dev Flush range (Refused IsInvalid) s = ap (map is_open) s.0.saved
+opens_served p q dev Flush range (Refused Overflow) s = absurd s
 opens_served p q dev (Write bytes) range (Refused Overflow) s = absurd s
 
 -- counts

@@ -11,9 +11,9 @@ use Rattle.plain.specs.Serves.{Serves, Shows}
 use Rattle.plain.specs.declared.request.Dev.{Dev}
 use Rattle.plain.specs.declared.request.Dev.TheVariants.{Origin, Snap}
 use Rattle.plain.specs.declared.request.Op.{Op}
-use Rattle.plain.specs.declared.request.Op.TheVariants.{Read, Write}
+use Rattle.plain.specs.declared.request.Op.TheVariants.{Read, Write, Flush}
 use Rattle.plain.specs.declared.request.Reply.{Reply}
-use Rattle.plain.specs.declared.request.Reply.TheVariants.{Data, Written, Refused}
+use Rattle.plain.specs.declared.request.Reply.TheVariants.{Data, Written, Flushed, Refused}
 use Rattle.plain.specs.declared.request.Failure.TheVariants.{Io, Invalid as IsInvalid, Overflow}
 use Rattle.plain.proofs.Unwritten.{saved_marked}
 use Rattle.journal.specs.declared.entry.Answered.{Answered as AnsweredEntry}
@@ -101,7 +101,9 @@ module _ (i byte : ℕ) where
   served_holds : (dev of : Dev) (op : Op) (range : Range) (reply : Reply) (s : Saves) (new : Plain) → Serves (plain_in s) of op range reply new → LiesInside s of op range.first reply → puts dev i of op range.first reply ≡ false → Holds dev i byte s → Holds dev i byte (served of op range.first reply s)
   served_holds dev of op range (Data read) s new lawful inside none h = h
   served_holds dev of op range (Refused failure) s new lawful inside none h = h
+  served_holds dev of op range Flushed s new lawful inside none h = h
   served_holds dev of Read range Written s new lawful inside none h = absurd lawful
+  served_holds dev of Flush range Written s new lawful inside none h = absurd lawful
   served_holds dev of (Write bytes) range Written s new lawful inside none h = put_holds dev of range.first bytes lawful.0 s lawful.1 (inside lawful.0 lawful.1) none h
 
   one_holds : (dev : Dev) (e : Entry) (s : Saves) → IsLawful s e → IsInside s e → changes dev i e ≡ false → Holds dev i byte s → Holds dev i byte (after s e)
@@ -159,6 +161,7 @@ got_by dev of i byte op bytes range reply s new d r from below lawful h = go op 
         ap (λ (x : List ℕ). slice_index x (i - 512 * range.first)) is.1.2 ∙ byte_read array range.first range.count (i - 512 * range.first) (omega (arith, from, below))
         ∙ ap (slice_index array) at ∙ h array (subst (λ (x : Dev). Shows (plain_in s) x array) d is.1.1)
     go (Write sent) is = absurd is
+    go Flush is = absurd is
 
 -- where one of a seat's stands among all
 record Found (seat : ℕ) (a : AnsweredEntry) (rest : List AnsweredEntry) (es : List Entry) : Type 0 where

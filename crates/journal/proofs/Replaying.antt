@@ -7,9 +7,9 @@ use Rattle.sector.specs.declared.range.Range.{Range}
 use Rattle.plain.specs.declared.request.Dev.{Dev}
 use Rattle.plain.specs.declared.request.Dev.TheVariants.{Origin, Snap}
 use Rattle.plain.specs.declared.request.Op.{Op}
-use Rattle.plain.specs.declared.request.Op.TheVariants.{Read, Write}
+use Rattle.plain.specs.declared.request.Op.TheVariants.{Read, Write, Flush}
 use Rattle.plain.specs.declared.request.Reply.{Reply}
-use Rattle.plain.specs.declared.request.Reply.TheVariants.{Data, Written, Refused}
+use Rattle.plain.specs.declared.request.Reply.TheVariants.{Data, Written, Flushed, Refused}
 use Rattle.plain.specs.declared.request.Failure.TheVariants.{Invalid as IsInvalid, Io, Overflow}
 use Rattle.plain.specs.Plain.{Plain, Entry as Shown, Live, Invalid, is_in, spoiled_entry, saved_under, with_saved, asked_under, without}
 use Rattle.plain.specs.Serves.{Serves, SameArrays, Shows, Assigns, IsSpoilt}
@@ -133,6 +133,14 @@ served_is p q dev (Write bytes) range (Refused Io) s = same_saves p q s.0
 served_is p q dev Read range (Refused IsInvalid) s = same_saves p q s.0
 served_is p q dev (Write bytes) range (Refused IsInvalid) s = same_saves p q s.0
 served_is p q dev Read range (Refused Overflow) s = absurd s
+served_is p q dev Read range Flushed s = absurd s
+served_is p q dev (Write bytes) range Flushed s = absurd s
+served_is p q dev Flush range Flushed s = same_saves p q s.0
+served_is p q dev Flush range (Data bytes) s = absurd s
+served_is p q dev Flush range Written s = absurd s
+served_is p q dev Flush range (Refused Io) s = same_saves p q s.0
+served_is p q dev Flush range (Refused IsInvalid) s = same_saves p q s.0
+served_is p q dev Flush range (Refused Overflow) s = absurd s
 served_is p q dev (Write bytes) range (Refused Overflow) s = absurd s
 
 bare_arrays : (p q : Plain) → SameArrays p q → SameArrays (plain_in (saves_of p)) (plain_in (saves_of q))
@@ -172,6 +180,14 @@ lives_served p q dev (Write bytes) range (Refused Io) s = ap (map is_live) s.0.s
 lives_served p q dev Read range (Refused IsInvalid) s = ap (map is_live) s.0.saved
 lives_served p q dev (Write bytes) range (Refused IsInvalid) s = ap (map is_live) s.0.saved
 lives_served p q dev Read range (Refused Overflow) s = absurd s
+lives_served p q dev Read range Flushed s = absurd s
+lives_served p q dev (Write bytes) range Flushed s = absurd s
+lives_served p q dev Flush range Flushed s = ap (map is_live) s.0.saved
+lives_served p q dev Flush range (Data bytes) s = absurd s
+lives_served p q dev Flush range Written s = absurd s
+lives_served p q dev Flush range (Refused Io) s = ap (map is_live) s.0.saved
+lives_served p q dev Flush range (Refused IsInvalid) s = ap (map is_live) s.0.saved
+lives_served p q dev Flush range (Refused Overflow) s = absurd s
 lives_served p q dev (Write bytes) range (Refused Overflow) s = absurd s
 
 -- the arrays and states alone say whether a reply is lawful
@@ -185,6 +201,14 @@ lawful_is p q dev (Write bytes) range (Refused Io) s = (bare_arrays p q s.0, (s.
 lawful_is p q dev Read range (Refused IsInvalid) s = (bare_arrays p q s.0, bare_spoilt p dev s.1)
 lawful_is p q dev (Write bytes) range (Refused IsInvalid) s = (bare_arrays p q s.0, bare_spoilt p dev s.1)
 lawful_is p q dev Read range (Refused Overflow) s = absurd s
+lawful_is p q dev Read range Flushed s = absurd s
+lawful_is p q dev (Write bytes) range Flushed s = absurd s
+lawful_is p q dev Flush range Flushed s = (bare_arrays p q s.0, (s.1.0, bare_shows p dev s.1.0 s.1.1))
+lawful_is p q dev Flush range (Data bytes) s = absurd s
+lawful_is p q dev Flush range Written s = absurd s
+lawful_is p q dev Flush range (Refused Io) s = (bare_arrays p q s.0, (s.1.0, bare_shows p dev s.1.0 s.1.1))
+lawful_is p q dev Flush range (Refused IsInvalid) s = (bare_arrays p q s.0, bare_spoilt p dev s.1)
+lawful_is p q dev Flush range (Refused Overflow) s = absurd s
 lawful_is p q dev (Write bytes) range (Refused Overflow) s = absurd s
 
 -- the first request in flight with a number

@@ -7,9 +7,9 @@ use Rattle.sector.specs.declared.range.Range.{Range}
 use Rattle.plain.specs.declared.request.Overflowing.{Overflowing}
 use Rattle.plain.specs.declared.request.Dev.{Dev}
 use Rattle.plain.specs.declared.request.Op.{Op}
-use Rattle.plain.specs.declared.request.Op.TheVariants.{Read, Write}
+use Rattle.plain.specs.declared.request.Op.TheVariants.{Read, Write, Flush}
 use Rattle.plain.specs.declared.request.Reply.{Reply}
-use Rattle.plain.specs.declared.request.Reply.TheVariants.{Data, Written, Refused}
+use Rattle.plain.specs.declared.request.Reply.TheVariants.{Data, Written, Flushed, Refused}
 use Rattle.plain.specs.declared.request.Failure.{Failure}
 use Rattle.plain.specs.declared.request.Failure.TheVariants.{Io, Invalid as IsInvalid, Overflow}
 use Rattle.plain.specs.Serves.{Serves}
@@ -54,14 +54,24 @@ refused_same number old new dev Read range Overflow h = absurd h
 refused_same number old new dev (Write bytes) range Io h = ap (saved_under number) h.0.saved
 refused_same number old new dev (Write bytes) range IsInvalid h = ap (saved_under number) h.0.saved
 refused_same number old new dev (Write bytes) range Overflow h = absurd h
+refused_same number old new dev Flush range Io h = ap (saved_under number) h.0.saved
+refused_same number old new dev Flush range IsInvalid h = ap (saved_under number) h.0.saved
+refused_same number old new dev Flush range Overflow h = absurd h
 
 read_same : (number : ℕ) (old new : Plain) (dev : Dev) (op : Op) (range : Range) (bytes : List ℕ) → Serves old dev op range (Data bytes) new → saved_under number new.saved ≡ saved_under number old.saved
 read_same number old new dev Read range bytes h = ap (saved_under number) h.0.saved
 read_same number old new dev (Write put) range bytes h = absurd h
+read_same number old new dev Flush range bytes h = absurd h
+
+flush_same : (number : ℕ) (old new : Plain) (dev : Dev) (op : Op) (range : Range) → Serves old dev op range Flushed new → saved_under number new.saved ≡ saved_under number old.saved
+flush_same number old new dev Read range h = absurd h
+flush_same number old new dev (Write put) range h = absurd h
+flush_same number old new dev Flush range h = ap (saved_under number) h.0.saved
 
 unwritten : (number : ℕ) (old new : Plain) (dev : Dev) (op : Op) (range : Range) (reply : Reply) → wrote reply (writes number dev op) ≡ false → Serves old dev op range reply new → saved_under number new.saved ≡ saved_under number old.saved
 unwritten number old new dev op range Written free h = unwritten_serves number old new dev op range Written free h
 unwritten number old new dev op range (Data bytes) free h = read_same number old new dev op range bytes h
+unwritten number old new dev op range Flushed free h = flush_same number old new dev op range h
 unwritten number old new dev op range (Refused failure) free h = refused_same number old new dev op range failure h
 
 -- after an entry that neither writes it nor takes it away

@@ -2,9 +2,9 @@
 use Rattle.std.specs.Prelude.{◌≡◌, ℕ, ◌+◌, ◌*◌, ◌≤◌, List, [], ◌∷◌, length, suc}
 use Rattle.plain.specs.declared.request.Dev.{Dev}
 use Rattle.plain.specs.declared.request.Op.{Op}
-use Rattle.plain.specs.declared.request.Op.TheVariants.{Read, Write}
+use Rattle.plain.specs.declared.request.Op.TheVariants.{Read, Write, Flush}
 use Rattle.plain.specs.declared.request.Reply.{Reply}
-use Rattle.plain.specs.declared.request.Reply.TheVariants.{Data, Written, Refused}
+use Rattle.plain.specs.declared.request.Reply.TheVariants.{Data, Written, Flushed, Refused}
 use Rattle.plain.specs.declared.request.Request.{Request}
 use Rattle.plain.specs.Serves.{Shows}
 use Rattle.journal.specs.declared.entry.Entry.{Entry}
@@ -14,8 +14,10 @@ use Rattle.journal.specs.Replay.{Saves, plain_in, after}
 -- a write that was done lies inside the array that its device shows
 abbrev pub LiesInside : Saves → Dev → Op → ℕ → Reply → Type 0
 LiesInside s dev Read first reply = Unit {0}
+LiesInside s dev Flush first reply = Unit {0}
 LiesInside s dev (Write bytes) first (Data read) = Unit {0}
 LiesInside s dev (Write bytes) first Written = (array : List ℕ) → Shows (plain_in s) dev array → 512 * first + length bytes ≤ length array
+LiesInside s dev (Write bytes) first Flushed = Unit {0}
 LiesInside s dev (Write bytes) first (Refused failure) = Unit {0}
 
 abbrev pub IsInside : Saves → Entry → Type 0

@@ -2,6 +2,7 @@
 use Rattle.std.specs.Prelude.{◌≡◌, ◌≢◌, ◌⊎◌, nat_lt, ℕ, ◌+◌, ◌<◌, Bool, true, false, List, [], ◌∷◌, ◌++◌, length, map, Option, Some, None, slice_index_or}
 use Rattle.plain.specs.declared.event.Outcome.{Outcome}
 use Rattle.plain.specs.declared.event.Outcome.TheVariants.{Reply as Replied}
+use Rattle.plain.specs.Kept.{kept}
 use Rattle.plain.specs.Plain.{overflow_of}
 use Rattle.plain.specs.declared.request.Dev.TheVariants.{Snap}
 use Rattle.plain.specs.declared.request.Reply.{Reply}
@@ -64,7 +65,7 @@ pub record HasReceipt {B : Type 0} (seat number : ℕ) (reply : Reply) (r : Rece
   pub count : r.count ≡ count_of seat old + 1
   pub added : new.entries ≡ old.entries ++ Answered (answered_of r) ∷ []
 
--- an event that gave no reply
+-- An event that gave no reply. A request that is issued and not answered yet stays its seat's.
 pub record IsSilent {B : Type 0} (old new : AuditShape B) : Type 0 where
   pub held : new.held ≡ old.held
   pub spoils : OnlySpoils old new
@@ -76,9 +77,9 @@ IsNoted seat (Replied number reply) None old new = ⊥
 IsNoted seat outcome None old new = IsSilent old new
 IsNoted seat outcome (Some receipt) old new = ⊥
 
--- a request is in flight for a seat
+-- a request is in flight for a seat, as it is kept
 pub record IsHeld {B : Type 0} (seat number : ℕ) (request : Request) (old new : AuditShape B) : Type 0 where
-  pub held : new.held ≡ old.held ++ record { number = number; seat = seat; request = request } ∷ []
+  pub held : new.held ≡ old.held ++ record { number = number; seat = seat; request = kept request } ∷ []
   pub spoils : OnlySpoils old new
 
 -- A call that was refused before the volume was asked: the journal is full, which comes first, or memory was refused.

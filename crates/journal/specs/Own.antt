@@ -5,9 +5,9 @@ use Rattle.std.specs.List.{list_any}
 use Rattle.plain.specs.declared.request.Dev.{Dev}
 use Rattle.plain.specs.declared.request.Dev.TheVariants.{Origin, Snap}
 use Rattle.plain.specs.declared.request.Op.{Op}
-use Rattle.plain.specs.declared.request.Op.TheVariants.{Read, Write}
+use Rattle.plain.specs.declared.request.Op.TheVariants.{Read, Write, Flush}
 use Rattle.plain.specs.declared.request.Reply.{Reply}
-use Rattle.plain.specs.declared.request.Reply.TheVariants.{Data, Written, Refused}
+use Rattle.plain.specs.declared.request.Reply.TheVariants.{Data, Written, Flushed, Refused}
 use Rattle.journal.specs.declared.entry.Answered.{Answered as AnsweredEntry}
 use Rattle.journal.specs.declared.entry.Entry.{Entry}
 use Rattle.journal.specs.declared.entry.Entry.TheVariants.{Answered, Spoiled, Overflowed, Attached, Detached, Begun, Finished}
@@ -46,8 +46,10 @@ is_dev (Snap number) (Snap n) = n == number
 abbrev pub puts : Dev → ℕ → Dev → Op → ℕ → Reply → Bool
 puts dev i of (Write bytes) first Written = is_dev dev of && has_place first (length bytes) i
 puts dev i of (Write bytes) first (Data read) = false
+puts dev i of (Write bytes) first Flushed = false
 puts dev i of (Write bytes) first (Refused failure) = false
 puts dev i of Read first reply = false
+puts dev i of Flush first reply = false
 
 -- whether it is the snapshot of a number
 abbrev pub is_snap : ℕ → Dev → Bool

@@ -5,9 +5,9 @@ use Rattle.sector.specs.Bytes.{with_sectors}
 use Rattle.plain.specs.declared.request.Dev.{Dev}
 use Rattle.plain.specs.declared.request.Dev.TheVariants.{Origin, Snap}
 use Rattle.plain.specs.declared.request.Op.{Op}
-use Rattle.plain.specs.declared.request.Op.TheVariants.{Read, Write}
+use Rattle.plain.specs.declared.request.Op.TheVariants.{Read, Write, Flush}
 use Rattle.plain.specs.declared.request.Reply.{Reply}
-use Rattle.plain.specs.declared.request.Reply.TheVariants.{Data, Written, Refused}
+use Rattle.plain.specs.declared.request.Reply.TheVariants.{Data, Written, Flushed, Refused}
 use Rattle.plain.specs.Plain.{Plain, Entry as Shown, Saved, Live, Invalid, saved_under, with_saved, without_saved, spoiled_entry, did_overflow, marked_in}
 use Rattle.plain.specs.Legal.{Overflows}
 use Rattle.plain.specs.Serves.{Serves}
@@ -40,12 +40,14 @@ put (Snap number) first bytes s = record s { saved = with_saved number (Live (wi
 
 abbrev pub put_op : Dev → Op → ℕ → Saves → Saves
 put_op dev Read first s = s
+put_op dev Flush first s = s
 put_op dev (Write bytes) first s = put dev first bytes s
 
 -- what a reply does
 abbrev pub served : Dev → Op → ℕ → Reply → Saves → Saves
 served dev op first (Data bytes) s = s
 served dev op first Written s = put_op dev op first s
+served dev op first Flushed s = s
 served dev op first (Refused failure) s = s
 
 -- what an entry does

@@ -1,8 +1,11 @@
 -- Who submitted the requests in flight. This project's own.
-use Rattle.std.specs.Prelude.{◌==◌, ℕ, Bool, true, false, List, [], ◌∷◌, Option, Some, None, if◌then◌else◌}
+use Rattle.std.specs.Prelude.{◌≡◌, ◌==◌, ℕ, Bool, true, false, List, [], ◌∷◌, Option, Some, None, if◌then◌else◌}
 use Rattle.plain.specs.Plain.{InFlight}
 use Rattle.plain.specs.declared.event.Event.{Event}
 use Rattle.plain.specs.declared.event.Event.TheVariants.{Issue}
+use Rattle.plain.specs.declared.event.Outcome.{Outcome}
+use Rattle.plain.specs.declared.event.Outcome.TheVariants.{Done}
+use Rattle.plain.specs.declared.request.Op.TheVariants.{Flush}
 use Rattle.plain.specs.declared.request.Request.{Request}
 use Rattle.journal.specs.declared.entry.Held.{Held}
 
@@ -37,3 +40,8 @@ is_of seat (Some s) = s.seat == seat
 abbrev pub may_do : ℕ → Event → List Seated → Bool
 may_do seat (Issue number) held = is_of seat (seated_under number held)
 may_do seat event held = true
+
+-- an Issue that is done and gives no reply is that of a flush
+abbrev pub IsUnanswered : Event → Outcome → List Seated → Type 0
+IsUnanswered (Issue number) Done held = (x : Seated) × (seated_under number held ≡ Some x) × (x.request.op ≡ Flush)
+IsUnanswered event outcome held = Unit {0}

@@ -3,7 +3,7 @@
 -- So the merge of one over a fresh store undoes all that was written to the origin since. This project's own.
 use Rattle.std.specs.Prelude.{◌≡◌, ◌==◌, ℕ, Bool, true, false, List, [], ◌∷◌, if◌then◌else◌}
 use Rattle.plain.specs.declared.request.Reply.{Reply}
-use Rattle.plain.specs.declared.request.Reply.TheVariants.{Data, Written, Refused}
+use Rattle.plain.specs.declared.request.Reply.TheVariants.{Data, Written, Flushed, Refused}
 use Rattle.plain.specs.Unwritten.{writes}
 use Rattle.journal.specs.declared.entry.Entry.{Entry}
 use Rattle.journal.specs.declared.entry.Entry.TheVariants.{Answered, Spoiled, Overflowed, Attached, Detached, Begun, Finished}
@@ -18,6 +18,7 @@ pub record Taken : Type 0 where
 abbrev pub wrote : Reply → Bool → Bool
 wrote Written asked = asked
 wrote (Data bytes) asked = false
+wrote Flushed asked = false
 wrote (Refused failure) asked = false
 
 -- whether an entry writes the snapshot of a number, or takes it from the others

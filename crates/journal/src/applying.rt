@@ -11,7 +11,7 @@ ghost use Rattle.volume.specs.Stepping.{KeepsAll, failed_by, has_failed, starts_
 ghost use Rattle.volume.specs.Stored.{RemovesPairs, is_finished_on};
 ghost use Rattle.volume.specs.Volumed.{is_due_of, is_loud_in_all, left_in_all, next_of, plain_of};
 ghost use Rattle.journal.specs.Journaled.{IsNoted, KeepsBase};
-ghost use Rattle.journal.specs.Seats.{may_do};
+ghost use Rattle.journal.specs.Seats.{IsUnanswered, may_do};
 
 use crate::Audit;
 use crate::entry::{Answered, Entry, Receipt};
@@ -22,9 +22,11 @@ use plain::{Event, NotDue, Outcome, ReqId};
 
 impl<B: Layered> Audit<B> {
     /// Does one event for a seat, where it is due, and notes what came of it. A request is issued by the seat that submitted
-    /// it; for another it is not due. A reply has a receipt for its entry.
+    /// it; for another it is not due. A reply has a receipt for its entry. A flush that is issued and not answered yet has none, and
+    /// stays its seat's.
     pub fn apply(&mut self, seat: u8, event: Event) -> Result<(Outcome, Option<Receipt>), NotDue>
         ensures noted { IfOk result (λ r. IsNoted seat r.0 r.1 self.old self.new) }
+        ensures unanswered { IfOk result (λ r. IsUnanswered event r.0 self.old.held) }
         ensures base { KeepsBase self.old self.new }
         ensures due { is_ok result ≡ (may_do seat event self.old.held && is_due_of B.contents B.layers self.old.volume event) }
         ensures first { next_of B.contents B.layers self.old.volume ≡ Some event → may_do seat event self.old.held ≡ true → IsOk result }
@@ -84,6 +86,7 @@ impl<B: Layered> Audit<B> {
     /// Issues a request, where this seat submitted it.
     fn issue(&mut self, seat: u8, number: ReqId) -> Result<(Outcome, Option<Receipt>), NotDue>
         ensures noted { IfOk result (λ r. IsNoted seat r.0 r.1 self.old self.new) }
+        ensures unanswered { IfOk result (λ r. IsUnanswered (Issue number) r.0 self.old.held) }
         ensures base { KeepsBase self.old self.new }
         ensures due { is_ok result ≡ (may_do seat (Issue number) self.old.held && is_due_of B.contents B.layers self.old.volume (Issue number)) }
         ensures first { next_of B.contents B.layers self.old.volume ≡ Some (Issue number) → may_do seat (Issue number) self.old.held ≡ true → IsOk result }
@@ -128,7 +131,7 @@ impl<B: Layered> Audit<B> {
                 };
                 Ok((Outcome::Reply(which, reply), Some(receipt)))
             }
-            Ok(Outcome::Done) => unreachable!(),
+            Ok(Outcome::Done) => Ok((Outcome::Done, None)),
             Ok(Outcome::Fault) => unreachable!(),
             Err(NotDue) => Err(NotDue),
         }

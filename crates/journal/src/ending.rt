@@ -3,7 +3,7 @@ ghost use Rattle.std.specs.Prelude.{◌≡◌, ◌≤◌, IfErr, IfOk, None, Som
 ghost use Rattle.journal.specs.Journaled.{places_of};
 ghost use Rattle.volume.specs.Leaving.{close_refusal};
 ghost use Rattle.volume.specs.Stopped.{devices_of};
-ghost use Rattle.volume.specs.Stopping.{StopsVolume, of_all};
+ghost use Rattle.volume.specs.Stopping.{StopsVolume};
 ghost use Rattle.volume.specs.Volumed.{is_loud_in_all};
 
 use crate::Audit;
@@ -51,7 +51,7 @@ impl<B: Layered> Audit<B> {
     /// devices, as they are. The journal is dropped.
     pub fn stop(self) -> Stopped<B>
         ensures devices { result ≡ devices_of self.volume }
-        ensures stops { is_loud_in_all B.layers self.volume ≡ true → StopsVolume B.contents B.size of_all None self.volume self.volume }
+        ensures stops { is_loud_in_all B.layers self.volume ≡ true → StopsVolume B.may_hold B.size None self.volume self.volume }
     {
         self.into_volume().stop()
     }

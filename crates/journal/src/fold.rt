@@ -130,12 +130,14 @@ fn serve(base: &mut Base, answered: &Answered)
 {
     match &answered.request.op {
         Op::Read => {}
+        Op::Flush => {}
         Op::Write(bytes) => match &answered.reply {
             Reply::Written => {
                 let first = answered.request.range.first;
                 write(base, answered.request.dev, first, bytes.as_slice())
             }
             Reply::Data(_) => {}
+            Reply::Flushed => {}
             Reply::Refused(_) => {}
         },
     }

@@ -1,6 +1,7 @@
 // What stands beside each request in flight, and whether the journal has room.
 ghost use Rattle.std.specs.Prelude.{◌≡◌, ◌≢◌, ◌+◌, ◌<◌, ◌≤◌, nat_lt, IfNone, IfOk, IfSome, ℕ, length, slice_index_or, slice_set};
 ghost use Rattle.pending.specs.Kinds.{room_of};
+ghost use Rattle.plain.specs.Kept.{kept};
 ghost use Rattle.journal.specs.Noted.{kept_count, live_count, may_count};
 ghost use Rattle.journal.specs.declared.entry.Held.{Held};
 
@@ -71,19 +72,20 @@ pub(crate) fn is_full(
     count_places(taken, entries, held, lives, may) + more > MAX_ENTRIES
 }
 
-/// What stands beside a request, under no number yet.
+/// What stands beside a request as it is kept, under no number yet.
 pub(crate) fn hold(alloc: Global, seat: u8, request: &Request) -> Result<Held, AllocError>
-    ensures { IfOk result (λ h. (h.seat ≡ seat) × (h.for_entry ≡ request.now) × (h.for_receipt ≡ request.now) × (length h.entry_room ≡ room_of request.now) × (length h.receipt_room ≡ room_of request.now)) }
+    ensures { IfOk result (λ h. (h.seat ≡ seat) × (h.for_entry ≡ kept request.now) × (h.for_receipt ≡ kept request.now) × (length h.entry_room ≡ room_of request.now) × (length h.receipt_room ≡ room_of request.now)) }
 {
     let room = match &request.op {
         Op::Read => request.range.count as usize * SECTOR_BYTES,
         Op::Write(_) => 0,
+        Op::Flush => 0,
     };
     Ok(Held {
         number: 0,
         seat,
-        for_entry: copy(request, alloc)?,
-        for_receipt: copy(request, alloc)?,
+        for_entry: copy(request, alloc)?.kept(),
+        for_receipt: copy(request, alloc)?.kept(),
         entry_room: Buf::zeroed(alloc, room)?,
         receipt_room: Buf::zeroed(alloc, room)?,
     })

@@ -108,6 +108,15 @@ pub fn submit_write<B: Layered>(
     audit.submit(seat, Request { dev, op, range })
 }
 
+/// Submits a flush for a seat, of which no sector is looked at.
+pub fn submit_flush<B: Layered>(audit: &mut Audit<B>, seat: u8, dev: Dev) -> Result<ReqId, Refusal>
+    requires { seat < 9 }
+{
+    let range = Range::new(3, 9, SECTORS)?;
+    let op = Op::Flush;
+    audit.submit(seat, Request { dev, op, range })
+}
+
 /// Does an event for a seat, where it is due, and gives the receipt if it is a reply.
 fn apply<B: Layered>(audit: &mut Audit<B>, seat: u8, event: Event) -> Option<Receipt> {
     match audit.apply(seat, event) {

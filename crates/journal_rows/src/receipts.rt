@@ -94,6 +94,28 @@ fn overflow(rt: &impl Abort, alloc: Global, audit: &mut Audit<MemDisk>) -> Resul
     Ok(())
 }
 
+/// A flush of the origin for a seat, whose sectors are not looked at: its entry is one of the seat's, and is kept with the first
+/// sector.
+fn flush<B: Layered>(
+    rt: &impl Abort,
+    audit: &mut Audit<B>,
+    seat: u8,
+    count: u64,
+) -> Result<(), Refusal>
+    requires { seat < 9 }
+{
+    let range = Range::new(9, 0, 16)?;
+    let (dev, op) = (Dev::Origin, Op::Flush);
+    audit.submit(seat, Request { dev, op, range })?;
+    let Some(receipt) = answer(audit, seat) else {
+        return Err(Refusal::Invalid);
+    };
+    assert_eq!(rt; receipt.count, count);
+    assert!(rt; matches!(receipt.reply, Reply::Flushed) && receipt.request.range.count == 1);
+    assert!(rt; audit.check(&receipt) == Verdict::Agrees);
+    Ok(())
+}
+
 /// Writes of two seats, between which a store overflows, a checkpoint, and one write more.
 fn run(rt: &impl Abort, alloc: Global, audit: &mut Audit<MemDisk>) -> Result<(), Refusal> {
     write(rt, alloc, audit, 1, 4, 1)?;
@@ -105,6 +127,7 @@ fn run(rt: &impl Abort, alloc: Global, audit: &mut Audit<MemDisk>) -> Result<(),
     write(rt, alloc, audit, 1, 7, 3)?;
     ask(rt, alloc, audit, true)?;
     assert!(rt; audit.count(0) == 0 && audit.count(1) == 3 && audit.count(2) == 1);
+    flush(rt, audit, 2, 2)?;
     Ok(())
 }
 

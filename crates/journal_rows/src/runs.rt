@@ -2,7 +2,8 @@
 ghost use Rattle.std.specs.Prelude.{◌<◌};
 
 use crate::calling::{
-    answer, attach, audit_of, audit_over, detach, finish_merge, submit_read, submit_write,
+    answer, attach, audit_of, audit_over, detach, finish_merge, submit_flush, submit_read,
+    submit_write,
 };
 use crate::slow::Shown;
 use device::MemDisk;
@@ -23,6 +24,8 @@ enum Step {
     Both(u8, u8, u8),
     /// Seat 2 reads a sector, which is filled with a byte.
     Read(Dev, u64, u8),
+    /// Seat 2 flushes a device.
+    Flush(Dev),
     /// A store of so many sectors, which may overflow or not.
     Attach(u8, bool),
     /// Seat 1 writes a sector of a snapshot whose store is full, or overflowed before: it is refused.
@@ -36,12 +39,14 @@ enum Step {
 
 /// The steps over an origin of zeros, up to where another journal begins, beside a merge. The second store and the third have
 /// room for two copies: another one spoils the second snapshot, and a write that needs one is refused by the third.
-const BEFORE: [Step; 25] = [
+const BEFORE: [Step; 29] = [
     Step::Write(Dev::Origin, (0, 16), 0x11),
     Step::Attach(64, false),
     Step::Write(Dev::Origin, (3, 1), 0x21),
     Step::Read(Dev::Snap(1), 3, 0x11),
     Step::Write(Dev::Snap(1), (5, 1), 0x22),
+    Step::Flush(Dev::Snap(1)),
+    Step::Flush(Dev::Origin),
     Step::Checkpoint,
     Step::Read(Dev::Snap(1), 5, 0x22),
     Step::Attach(4, false),
@@ -62,15 +67,19 @@ const BEFORE: [Step; 25] = [
     Step::Attach(64, false),
     Step::Begin(1),
     Step::Read(Dev::Origin, 3, 0x11),
+    Step::Flush(Dev::Origin),
+    Step::Flush(Dev::Snap(4)),
 ];
 
 /// The steps of the second journal.
-const AFTER: [Step; 8] = [
+const AFTER: [Step; 10] = [
     Step::Write(Dev::Origin, (3, 1), 0x27),
     Step::Read(Dev::Origin, 5, 0x22),
     Step::Read(Dev::Origin, 8, 0x11),
+    Step::Flush(Dev::Origin),
     Step::Checkpoint,
     Step::Finish,
+    Step::Flush(Dev::Origin),
     Step::Read(Dev::Snap(4), 3, 0x21),
     Step::Detach(2),
     Step::Checkpoint,
@@ -94,6 +103,15 @@ fn reads<B: Layered>(
     submit_read(audit, 2, dev, sector)?;
     match answer(audit, 2) {
         Some(receipt) => Ok(is_data(&receipt.reply, byte)),
+        None => Ok(false),
+    }
+}
+
+/// Flushes a device for seat 2, and tells whether it was answered so.
+fn flushes<B: Layered>(audit: &mut Audit<B>, dev: Dev) -> Result<bool, Refusal> {
+    submit_flush(audit, 2, dev)?;
+    match answer(audit, 2) {
+        Some(receipt) => Ok(receipt.reply.is_same(&Reply::Flushed)),
         None => Ok(false),
     }
 }
@@ -148,6 +166,7 @@ fn take(alloc: Global, audit: &mut Audit<MemDisk>, step: Step) -> Result<bool, R
         Step::Write(dev, sectors, byte) => return writes(alloc, audit, dev, sectors, byte),
         Step::Both(sector, one, other) => return writes_both(alloc, audit, sector, (one, other)),
         Step::Read(dev, sector, byte) => return reads(audit, dev, sector, byte),
+        Step::Flush(dev) => return flushes(audit, dev),
         Step::Overflow(number, sector) => return overflows(alloc, audit, number, sector),
         Step::Attach(sectors, overflow) => {
             let _ = attach(alloc, audit, sectors, overflow)?;

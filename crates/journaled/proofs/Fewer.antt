@@ -14,13 +14,14 @@ use Rattle.plain.specs.declared.event.Outcome.TheVariants.{Done, Fault, Reply as
 use Rattle.plain.specs.declared.request.Failure.TheVariants.{Invalid as IsInvalid, Io, Overflow}
 use Rattle.plain.specs.declared.request.Overflowing.TheVariants.{Did}
 use Rattle.plain.specs.declared.request.Reply.{Reply}
-use Rattle.plain.specs.declared.request.Reply.TheVariants.{Data, Written, Refused}
+use Rattle.plain.specs.declared.request.Reply.TheVariants.{Data, Written, Flushed, Refused}
 use Rattle.plain.specs.declared.request.Request.{Request}
+use Rattle.plain.specs.Kept.{kept}
 use Rattle.plain.specs.Plain.{Plain, InFlight, may_overflow}
 use Rattle.pending.specs.Kinds.{in_flight, kind_of}
 use Rattle.pending.specs.declared.flights.Flight.{Flight}
 use Rattle.pending.specs.declared.flights.Kind.{Kind}
-use Rattle.pending.specs.declared.flights.Kind.TheVariants.{OriginRead, OriginWrite, SnapRead, SnapWrite}
+use Rattle.pending.specs.declared.flights.Kind.TheVariants.{OriginRead, OriginWrite, OriginFlush, SnapRead, SnapWrite, SnapFlush}
 use Rattle.pending.specs.Routes.{refused_of}
 use Rattle.snapshot.specs.Kept.{Kept}
 use Rattle.snapshot.specs.declared.opening.StoreDev.{StoreDev}
@@ -216,6 +217,7 @@ module _ {B : Type 0} (v w : Volumed B) where
     replied_lives number (Refused Overflow) is = same_lives is.lives
     replied_lives number (Data bytes) is = same_lives is.lives
     replied_lives number Written is = same_lives is.lives
+    replied_lives number Flushed is = same_lives is.lives
 
     caused_lives : (event : Event) (outcome : Outcome) → HasCause faults event outcome v w → IsFewer (lives_of w) (lives_of v)
     caused_lives event Done is = done_lives event is
@@ -232,8 +234,10 @@ module _ {B : Type 0} (v w : Volumed B) where
   accepted_lives OriginRead first merge snaps k e = e
   accepted_lives OriginWrite first merge snaps k e =
       either_fewer _ (map (λ s. s.live) snaps) (map (λ s. if overflows first s then false else s.live) snaps) (map (λ s. s.live) snaps) (λ j d. d) (lost_fewer (overflows first) snaps) k e
+  accepted_lives OriginFlush first merge snaps k e = e
   accepted_lives (SnapRead number) first merge snaps k e = e
   accepted_lives (SnapWrite number) first merge snaps k e = e
+  accepted_lives (SnapFlush number) first merge snaps k e = e
 
   module _ (contents : B → List ℕ) (layers : B → List Layer) where
     -- a request that is accepted, in one place more
@@ -242,7 +246,7 @@ module _ {B : Type 0} (v w : Volumed B) where
         let lives = then_fewer (lives_of w) (lives_after (kind_of request) request.range.first v.merge v.snaps) (lives_of v) is.lives (accepted_lives (kind_of request) request.range.first v.merge v.snaps) in
         let less = are_fewer lives (same_mays is.overflows) in
         let flown = ap (λ (rs : List InFlight). length rs) is.flown in
-        let one : length (map in_flight v.flights ++ record { number = number; request = request } ∷ []) ≡ length (map in_flight v.flights) + 1 = length_more (map in_flight v.flights) _ in
+        let one : length (map in_flight v.flights ++ record { number = number; request = kept request } ∷ []) ≡ length (map in_flight v.flights) + 1 = length_more (map in_flight v.flights) _ in
         record { enough = omega (arith, less.live, flown, one, length-map v.flights in_flight, length-map w.flights in_flight, h.enough); few = omega (arith, less.marks, few) }
       where
         length_more : (rs : List InFlight) (r : InFlight) → length (rs ++ r ∷ []) ≡ length rs + 1

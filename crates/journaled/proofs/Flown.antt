@@ -29,7 +29,7 @@ fewer_fly event (Answered n reply) old new f =
     let less = one_less n out.request old out.asked in
     let is : length new ≡ length (without n old) = ap length out.gone in
     omega (arith, less, is)
-fewer_fly (Issue n) Done old new f = absurd f
+fewer_fly (Issue n) Done old new f = same_fly old new f.same
 fewer_fly (CopyRead n) Done old new f = same_fly old new f
 fewer_fly (CopyWrite n) Done old new f = same_fly old new f
 fewer_fly (ZeroNext n) Done old new f = same_fly old new f

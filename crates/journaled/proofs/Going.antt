@@ -81,7 +81,7 @@ is_issue MergeRelease = inr (λ n e. cc)
 pub stepped_goes_on : (p : Plain) (event : Event) (outcome : Outcome) (q : Plain) → IsLegalStep p event outcome q → (entries : List Entry) × ComesTo p outcome entries × GoesOn p entries q
 stepped_goes_on p event (Replied number reply) q legal = (Answered (record { seat = 1; request = legal.1.request; reply = reply }) ∷ [], (legal.1.request, legal.1.asked, refl), answered_goes_on number reply p q legal.1)
 stepped_goes_on p event Done q legal = elim (is_issue event) [
-  | inl issue ↦ absurd (subst (λ (e : Event). IsLegalStep p e Done q) issue.1 legal)
+  | inl issue ↦ (let l = subst (λ (e : Event). IsLegalStep p e Done q) issue.1 legal in ([], ([], refl), goes_on p q [] tt (ap saves_of (sym l.0))))
   | inr other ↦ (let s = spoils_of p event Done q other legal in (map Spoiled s.0, (s.0, refl), spoilt_goes_on s.0 p q s.1))
 ]
 stepped_goes_on p event Fault q legal = elim (is_issue event) [

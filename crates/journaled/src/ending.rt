@@ -2,7 +2,7 @@
 ghost use Rattle.std.specs.Prelude.{◌≡◌, IfErr, IfOk, None, Some, true};
 ghost use Rattle.volume.specs.Leaving.{close_refusal};
 ghost use Rattle.volume.specs.Stopped.{devices_of};
-ghost use Rattle.volume.specs.Stopping.{StopsVolume, of_all};
+ghost use Rattle.volume.specs.Stopping.{StopsVolume};
 ghost use Rattle.volume.specs.Volumed.{is_loud_in_all};
 
 use crate::Journaled;
@@ -14,7 +14,7 @@ impl<B: Layered> Journaled<B> {
     /// Ends the volume without a further event, whatever is in flight: what is left are its devices, as they are.
     pub fn stop(self) -> Stopped<B>
         ensures devices { result ≡ devices_of self }
-        ensures stops { is_loud_in_all B.layers self ≡ true → StopsVolume B.contents B.size of_all None self self }
+        ensures stops { is_loud_in_all B.layers self ≡ true → StopsVolume B.may_hold B.size None self self }
     {
         self.volume.stop()
     }

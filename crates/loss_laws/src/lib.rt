@@ -11,9 +11,9 @@
 //! The laws are the contracts of functions that do nothing, one for each call: whatever a stop leaves is loaded again, and shows in
 //! each sector a value that was open before the call or that it gives; and the invariant holds again after it. Most calls are
 //! instances of one law (`specs/Calm`). A flush of one of two devices closes the sectors that every content takes from it.
-//! `proofs/Clauses` turns what the laws say into the clauses of a stop (`stop_laws/specs/Clauses`). It stands on `stop_laws`, and
-//! nothing stands on it: a volume keeps the order of these operations (a copy before its pair, an area before its publication, the
-//! origin before a merge's commit), but that its own calls give the premises is not shown here.
+//! `proofs/Clauses` turns what the laws say into the clauses of a stop (`stop_laws/specs/Clauses`). It stands on `stop_laws`;
+//! `volume` keeps the order of these operations (a copy before its pair, an area before its publication, the origin before a
+//! merge's commit), gives the laws their premises from what its own calls say, and keeps the two invariants in its own.
 #![tactic(auto)]
 
 mod closed;

@@ -254,6 +254,10 @@ module _ {B : Type 0} (contents : B → List ℕ) (loud : Bool) (v : Merging B) 
         current = refl;
       }
 
+-- its store is flushed
+pub flushed_books : {B : Type 0} (contents : B → List ℕ) (loud : Bool) (v : Merging B) (d : B) → contents d ≡ contents v.device → due_of contents loud (record v { device = d }) ≡ due_of contents loud v
+flushed_books contents loud v d same = ap (λ (x : List ℕ). record (due_of contents loud v) { books = record (books_of contents loud v) { store = x } }) same
+
 -- what the contracts say of an event
 abbrev pub ReadStep : {B : Type 0} → (B → List ℕ) → Bool → Pair → Merging B → Merging B → Type 0
 ReadStep contents loud q v w = ReadsBack (waiting_of w.group) q w.buffer (due_of contents loud v) (due_of contents loud w) × ReadsInto q (books_of contents loud v) (books_of contents loud w)

@@ -3,4 +3,3 @@ pub mod Groups
 pub mod Looks
 pub mod Stages
 pub mod Steps
-pub mod Stops

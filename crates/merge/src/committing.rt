@@ -1,25 +1,24 @@
 // An area is written without the group's slots, or the area before an empty one is read.
-ghost use Rattle.std.specs.Prelude.{◌≡◌, ℕ, ◌+◌, ◌-◌, ◌*◌, ◌<◌, Bool, length, take, replicate, is_ok, OnOk, OnErr, IsTrue, true, false};
+ghost use Rattle.std.specs.Prelude.{◌≡◌, ◌+◌, ◌-◌, ◌*◌, ◌<◌, Bool, length, take, replicate, is_ok, OnOk, OnErr, IsTrue, true, false};
 ghost use Rattle.sector.specs.Bytes.{with_part};
 ghost use Rattle.device.specs.declared.operation.Operation.TheVariants.{Reads, Writes};
 ghost use Rattle.device.specs.Layers.{is_loud};
 ghost use Rattle.model.specs.Places.{area_place};
 ghost use Rattle.store.specs.Operations.{IsOneOperation};
-ghost use Rattle.store.specs.Shown.{StopsBetween};
 ghost use Rattle.store.specs.Slots.{slot_start};
 ghost use Rattle.merge.specs.Due.{can_read_area_of, can_commit_of};
-ghost use Rattle.merge.specs.Lists.{changed, committed_in, copied_count, copied_of};
+ghost use Rattle.merge.specs.Lists.{changed, committed_in, copied_count};
 ghost use Rattle.volume_laws.specs.MergeSteps.{CommitsGroup, ReadsArea};
 ghost use Rattle.merge.specs.Merging.{books_of, due_of};
 ghost use Rattle.merge.specs.Steps.{WritesArea};
+ghost use Rattle.stop_laws.specs.Firm.{AddsNow};
 
 use crate::{Group, Merge, Progress};
 use device::{Block, Io};
 
 impl<B: Block> Merge<B> {
     /// Writes the current area without the slots of the group, all of whose chunks are copied, and the origin disk flushed:
-    /// its pairs go. At `Io` nothing changed but the device's counts and layers. Whatever a stop within it leaves is loaded
-    /// again, with the pairs that are left and the first few of these, and shows the same array.
+    /// its pairs go. At `Io` nothing changed but the device's counts and layers.
     pub fn commit(&mut self) -> Result<(), Io>
         requires due { can_commit_of self.old.group ≡ true }
 
@@ -28,12 +27,12 @@ impl<B: Block> Merge<B> {
         ensures written { OnOk result (IsTrue (is_loud (B.layers self.old.device)) → B.contents self.new.device ≡ with_part (B.contents self.old.device) (slot_start self.old.state.chunk self.old.state.current (self.old.state.filled - copied_count self.old.group)) (replicate (16 * copied_count self.old.group) 0)) }
         ensures same { OnErr result (B.contents self.new.device ≡ B.contents self.old.device) }
         ensures durable { B.durable self.new.device ≡ B.durable self.old.device }
+        ensures adds { IsTrue (is_loud (B.layers self.old.device)) → AddsNow (B.may_hold self.old.device) (B.may_hold self.new.device) (B.contents self.new.device) }
         ensures size { B.size self.new.device ≡ B.size self.old.device }
 
-        ensures fields { OnOk result (self.new ≡ record self.old { device = self.new.device; state = record self.old.state { filled = self.old.state.filled - copied_count self.old.group; copying = false }; next = area_place self.old.state.chunk self.old.state.current + (self.old.state.filled - copied_count self.old.group) + 1; pairs = take (length self.old.pairs - copied_count self.old.group) self.old.pairs; group = changed committed_in self.old.group }) }
+        ensures fields { OnOk result (self.new ≡ record self.old { device = self.new.device; state = record self.old.state { filled = self.old.state.filled - copied_count self.old.group; sure = length (take (length self.old.pairs - copied_count self.old.group) self.old.pairs); copying = false }; next = area_place self.old.state.chunk self.old.state.current + (self.old.state.filled - copied_count self.old.group) + 1; pairs = take (length self.old.pairs - copied_count self.old.group) self.old.pairs; group = changed committed_in self.old.group }) }
         ensures step { OnOk result ((loud : Bool) → (loud ≡ true → is_loud (B.layers self.old.device) ≡ true) → CommitsGroup self.new.pairs (B.contents self.new.device) (due_of B.contents loud self.old) (due_of B.contents loud self.new) × WritesArea self.old.state.current (books_of B.contents loud self.old) (books_of B.contents loud self.new)) }
         ensures kept { OnErr result (self.new ≡ record self.old { device = self.new.device }) }
-        ensures stops { IsTrue (is_loud (B.layers self.old.device)) → StopsBetween self.old.state.chunk self.old.state.origin self.old.state.size (take (length self.old.pairs - copied_count self.old.group) self.old.pairs) (copied_of self.old.group) (B.contents self.old.device) (B.contents self.new.device) }
     {
         let Some(group) = self.group else {
             unreachable!()
@@ -60,6 +59,7 @@ impl<B: Block> Merge<B> {
         ensures loud { is_loud (B.layers self.new.device) ≡ is_loud (B.layers self.old.device) }
         ensures same { B.contents self.new.device ≡ B.contents self.old.device }
         ensures durable { B.durable self.new.device ≡ B.durable self.old.device }
+        ensures adds { IsTrue (is_loud (B.layers self.old.device)) → AddsNow (B.may_hold self.old.device) (B.may_hold self.new.device) (B.contents self.new.device) }
         ensures size { B.size self.new.device ≡ B.size self.old.device }
 
         ensures fields { OnOk result (self.new ≡ record self.old { device = self.new.device; state = record self.old.state { current = self.old.state.current - 1; filled = 32 * self.old.state.chunk; zeroed = false; firm = false; copying = false } }) }

@@ -1,14 +1,13 @@
 // The chunks of the group are copied back one after the other, and the origin disk is flushed.
-ghost use Rattle.std.specs.Prelude.{◌≡◌, ℕ, ◌+◌, ◌*◌, ◌^◌, ◌<◌, ◌≤◌, Bool, length, take, is_ok, OnOk, OnErr, Some, IsSome, IsTrue, true, if◌then◌else◌};
+ghost use Rattle.std.specs.Prelude.{◌≡◌, ◌+◌, ◌*◌, ◌^◌, ◌<◌, Bool, length, take, is_ok, OnOk, OnErr, Some, IsSome, IsTrue, true, if◌then◌else◌};
 ghost use Rattle.sector.specs.Bytes.{sectors_at, with_sectors, with_part};
 ghost use Rattle.sector.specs.declared.pair.Pair.{Pair};
 ghost use Rattle.device.specs.declared.operation.Operation.TheVariants.{Reads, Writes, Flushes};
 ghost use Rattle.device.specs.Layers.{fate, is_passed, is_loud};
 ghost use Rattle.model.specs.Pairs.{IsInside};
 ghost use Rattle.pending.specs.Copies.{count_of};
-ghost use Rattle.store.specs.Held.{committed, pending};
+ghost use Rattle.store.specs.Held.{pending};
 ghost use Rattle.store.specs.Operations.{IsOneOperation};
-ghost use Rattle.store.specs.Shown.{StopsUnder};
 ghost use Rattle.merge.specs.Due.{next_read_of, full_of, can_flush_of};
 ghost use Rattle.merge.specs.Lists.{waiting_of, changed, taken_in, written_in, flushed_in};
 ghost use Rattle.merge.specs.Merging.{books_of, due_of};
@@ -16,6 +15,7 @@ ghost use Rattle.volume_laws.specs.Steps.{WritesDisk};
 ghost use Rattle.volume_laws.specs.MergeSteps.{ReadsBack, WritesBack, FlushesBack};
 ghost use Rattle.merge.specs.declared.group.Group.{Group};
 ghost use Rattle.merge.specs.Steps.{ReadsInto, WritesOrigin};
+ghost use Rattle.stop_laws.specs.Firm.{AddsNow, IsFirm};
 
 use crate::{Group, Merge, Progress};
 use device::{Block, Io};
@@ -33,6 +33,7 @@ impl<B: Block> Merge<B> {
         ensures loud { is_loud (B.layers self.new.device) ≡ is_loud (B.layers self.old.device) }
         ensures same { B.contents self.new.device ≡ B.contents self.old.device }
         ensures durable { B.durable self.new.device ≡ B.durable self.old.device }
+        ensures adds { IsTrue (is_loud (B.layers self.old.device)) → AddsNow (B.may_hold self.old.device) (B.may_hold self.new.device) (B.contents self.new.device) }
         ensures size { B.size self.new.device ≡ B.size self.old.device }
 
         ensures fields { (q : Pair) → next_read_of self.old.group ≡ Some q → OnOk result (self.new ≡ record self.old { device = self.new.device; group = changed taken_in self.old.group; buffer = with_part self.old.buffer 0 (sectors_at (B.contents self.old.device) (self.old.state.chunk * q.new) (count_of self.old.state.chunk self.old.state.origin q.old)) }) }
@@ -52,8 +53,7 @@ impl<B: Block> Merge<B> {
     }
 
     /// Writes the chunk in the buffer to its place on the origin disk, as many sectors as the origin has there. At `Io`
-    /// nothing changed but that disk's counts and layers. The store is loaded again with its pairs, and over whatever a stop
-    /// within it leaves of the origin disk it shows the same array.
+    /// nothing changed but that disk's counts and layers.
     pub fn write_chunk(&mut self, origin: &mut B) -> Result<(), Io>
         requires due { IsSome (full_of self.old.group) }
         requires sectors { B.size origin.old ≡ self.old.state.origin }
@@ -63,12 +63,12 @@ impl<B: Block> Merge<B> {
         ensures written { (q : Pair) → full_of self.old.group ≡ Some q → OnOk result (IsTrue (is_loud (B.layers origin.old)) → B.contents origin.new ≡ with_sectors (B.contents origin.old) (self.old.state.chunk * q.old) (take (512 * count_of self.old.state.chunk self.old.state.origin q.old) self.old.buffer)) }
         ensures same { OnErr result (B.contents origin.new ≡ B.contents origin.old) }
         ensures durable { B.durable origin.new ≡ B.durable origin.old }
+        ensures adds { IsTrue (is_loud (B.layers origin.old)) → AddsNow (B.may_hold origin.old) (B.may_hold origin.new) (B.contents origin.new) }
         ensures size { B.size origin.new ≡ B.size origin.old }
 
         ensures fields { OnOk result (self.new ≡ record self.old { group = changed written_in self.old.group }) }
         ensures step { (q : Pair) → full_of self.old.group ≡ Some q → OnOk result ((loud : Bool) → (loud ≡ true → is_loud (B.layers origin.old) ≡ true) → WritesBack q (due_of B.contents loud self.old) (due_of B.contents loud self.new) × WritesOrigin q (B.contents origin.old) (B.contents origin.new) (books_of B.contents loud self.old)) }
         ensures kept { OnErr result (self.new ≡ self.old) }
-        ensures stops { IsTrue (is_loud (B.layers self.old.device)) → StopsUnder self.old.state.chunk self.old.state.origin self.old.state.size self.old.pairs (B.contents self.old.device) (B.contents origin.old) (B.contents origin.new) }
     {
         let Some(pair) = self.full() else {
             unreachable!()
@@ -92,6 +92,8 @@ impl<B: Block> Merge<B> {
         ensures loud { is_loud (B.layers origin.new) ≡ is_loud (B.layers origin.old) }
         ensures same { B.contents origin.new ≡ B.contents origin.old }
         ensures durable { B.durable origin.new ≡ (if is_passed (fate (B.layers origin.old) Flushes) then B.contents origin.old else B.durable origin.old) }
+        ensures adds { IsTrue (is_loud (B.layers origin.old)) → AddsNow (B.may_hold origin.old) (B.may_hold origin.new) (B.contents origin.new) }
+        ensures firm { OnOk result (IsTrue (is_loud (B.layers origin.old)) → IsFirm (B.may_hold origin.new) (B.contents origin.new) (B.size origin.new)) }
         ensures size { B.size origin.new ≡ B.size origin.old }
 
         ensures fields { OnOk result (self.new ≡ record self.old { group = changed flushed_in self.old.group }) }
@@ -105,6 +107,22 @@ impl<B: Block> Merge<B> {
             }
             Err(io) => Err(io),
         }
+    }
+
+    /// Flushes the store, for a Flush of the origin: what was written to its places and its areas lasts. Of the merge nothing
+    /// changes, and at `Io` nothing but the device's counts and layers.
+    pub fn flush_store(&mut self) -> Result<(), Io>
+        ensures operation { IsOneOperation Flushes (is_ok result) (B.layers self.old.device) (B.layers self.new.device) (B.fault_count self.old.device) (B.fault_count self.new.device) (B.done_count self.old.device) (B.done_count self.new.device) }
+        ensures loud { is_loud (B.layers self.new.device) ≡ is_loud (B.layers self.old.device) }
+        ensures same { B.contents self.new.device ≡ B.contents self.old.device }
+        ensures durable { B.durable self.new.device ≡ (if is_passed (fate (B.layers self.old.device) Flushes) then B.contents self.old.device else B.durable self.old.device) }
+        ensures adds { IsTrue (is_loud (B.layers self.old.device)) → AddsNow (B.may_hold self.old.device) (B.may_hold self.new.device) (B.contents self.new.device) }
+        ensures firm { OnOk result (IsTrue (is_loud (B.layers self.old.device)) → IsFirm (B.may_hold self.new.device) (B.contents self.new.device) (B.size self.new.device)) }
+        ensures size { B.size self.new.device ≡ B.size self.old.device }
+        ensures fields { self.new ≡ record self.old { device = self.new.device } }
+        ensures books { (loud : Bool) → due_of B.contents loud self.new ≡ due_of B.contents loud self.old }
+    {
+        self.store.flush_last()
     }
 }
 
@@ -120,6 +138,7 @@ fn fetch<B: Block>(store: &mut Store<B>, buffer: &mut [u8], pair: Pair) -> Resul
     ensures same { B.contents store.new.device ≡ B.contents store.old.device }
     ensures loud { is_loud (B.layers store.new.device) ≡ is_loud (B.layers store.old.device) }
     ensures durable { B.durable store.new.device ≡ B.durable store.old.device }
+    ensures adds { IsTrue (is_loud (B.layers store.old.device)) → AddsNow (B.may_hold store.old.device) (B.may_hold store.new.device) (B.contents store.new.device) }
     ensures size { B.size store.new.device ≡ B.size store.old.device }
 
     ensures exceptions { store.new.exceptions ≡ store.old.exceptions }
@@ -147,6 +166,7 @@ fn put_back<B: Block>(origin: &mut B, chunk: u32, old: Chunk, buffer: &[u8]) -> 
     ensures disk { WritesDisk (chunk * old) (count_of chunk (B.size origin.old) old) (B.contents origin.old) (B.contents origin.new) }
     ensures same { OnErr result (B.contents origin.new ≡ B.contents origin.old) }
     ensures durable { B.durable origin.new ≡ B.durable origin.old }
+    ensures adds { IsTrue (is_loud (B.layers origin.old)) → AddsNow (B.may_hold origin.old) (B.may_hold origin.new) (B.contents origin.new) }
     ensures size { B.size origin.new ≡ B.size origin.old }
 {
     let size = origin.sectors();

@@ -4,6 +4,7 @@ ghost use Rattle.sector.specs.declared.refusal.Refusal.TheVariants.{NoMemory};
 ghost use Rattle.layers.specs.Messages.{told, Answered, Refused, NeedsRoom};
 ghost use Rattle.layers.specs.Ticks.{layers_ticked};
 ghost use Rattle.store.specs.Layering.{IsRelayered};
+ghost use Rattle.stop_laws.specs.Firm.{AddsNow};
 
 use crate::Merge;
 use layers::{Answer, Layered, Message};
@@ -14,6 +15,7 @@ impl<B: Layered> Merge<B> {
     pub fn tick(&mut self, seconds: u32)
         ensures layers { B.layers self.new.device ≡ layers_ticked seconds (B.layers self.old.device) }
         ensures rest { IsRelayered B.contents B.durable B.size B.fault_count B.done_count self.old.device self.new.device }
+        ensures adds { AddsNow (B.may_hold self.old.device) (B.may_hold self.new.device) (B.contents self.new.device) }
         ensures same { self.new ≡ record self.old { device = self.new.device } }
     {
         self.store.tick(seconds)
@@ -27,6 +29,7 @@ impl<B: Layered> Merge<B> {
         ensures err { IfErr result (λ r. (told (B.layers self.old.device) depth message.now ≡ Refused r) ⊎ ((r ≡ NoMemory) × NeedsRoom message.now (told (B.layers self.old.device) depth message.now))) }
         ensures unchanged { OnErr result (B.layers self.new.device ≡ B.layers self.old.device) }
         ensures rest { IsRelayered B.contents B.durable B.size B.fault_count B.done_count self.old.device self.new.device }
+        ensures adds { AddsNow (B.may_hold self.old.device) (B.may_hold self.new.device) (B.contents self.new.device) }
         ensures same { self.new ≡ record self.old { device = self.new.device } }
     {
         match self.store.message(depth, message) {

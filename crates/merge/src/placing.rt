@@ -1,24 +1,23 @@
 // Requests at the place of a pair.
-ghost use Rattle.std.specs.Prelude.{◌≡◌, ℕ, ◌+◌, ◌*◌, ◌<◌, ◌≤◌, ◌++◌, Bool, length, is_ok, OnOk, OnErr, IsTrue, Some, None, true};
+ghost use Rattle.std.specs.Prelude.{◌≡◌, ℕ, ◌+◌, ◌*◌, ◌<◌, ◌≤◌, ◌++◌, Bool, length, is_ok, OnOk, OnErr, IsTrue, Some, true};
 ghost use Rattle.sector.specs.Bytes.{sectors_at};
 ghost use Rattle.device.specs.declared.operation.Operation.TheVariants.{Reads, Writes};
 ghost use Rattle.device.specs.Layers.{is_loud};
 ghost use Rattle.model.specs.Picture.{place_of as place_in};
 ghost use Rattle.store.specs.Operations.{IsOneOperation};
-ghost use Rattle.store.specs.Shown.{StopsGiving};
 ghost use Rattle.volume_laws.specs.MergeSteps.{WritesStore};
 ghost use Rattle.merge.specs.Lists.{released_of};
 ghost use Rattle.merge.specs.Steps.{WritesPlaceOf};
 ghost use Rattle.merge.specs.Merging.{books_of, due_of};
+ghost use Rattle.stop_laws.specs.Firm.{AddsNow};
 
 use crate::Merge;
 use device::{Block, Io};
 use sector::Chunk;
 
 impl<B: Block> Merge<B> {
-    /// Writes so many sectors at the place of a pair, from one of its sectors on. At `Io` nothing changed but
-    /// the device's counts and layers. Whatever a stop within it leaves, where the pair is one of the store's, is loaded
-    /// again with the same pairs, and each sector of the origin's array is as it was or as it is written.
+    /// Writes so many sectors at the place of a pair, from one of its sectors on. At `Io` nothing changed but the device's
+    /// counts and layers.
     pub fn write_at(&mut self, place: Chunk, first: u32, count: u32, bytes: &[u8]) -> Result<(), Io>
         requires placed { (c : ℕ) × (place_in (self.old.pairs ++ released_of self.old.group) c ≡ Some place) }
         requires some { 0 < count }
@@ -30,8 +29,8 @@ impl<B: Block> Merge<B> {
         ensures writes { OnOk result ((loud : Bool) → (loud ≡ true → is_loud (B.layers self.old.device) ≡ true) → WritesStore (B.contents self.new.device) (due_of B.contents loud self.old) (due_of B.contents loud self.new) × WritesPlaceOf place first bytes.now (books_of B.contents loud self.old) (books_of B.contents loud self.new)) }
         ensures same { OnErr result (B.contents self.new.device ≡ B.contents self.old.device) }
         ensures durable { B.durable self.new.device ≡ B.durable self.old.device }
+        ensures adds { IsTrue (is_loud (B.layers self.old.device)) → AddsNow (B.may_hold self.old.device) (B.may_hold self.new.device) (B.contents self.new.device) }
         ensures size { B.size self.new.device ≡ B.size self.old.device }
-        ensures stops { IsTrue (is_loud (B.layers self.old.device)) → (c : ℕ) → place_in self.old.pairs c ≡ Some place → StopsGiving self.old.state.chunk self.old.state.origin self.old.state.size self.old.pairs (record { array = None; first = self.old.state.chunk * c + first; count = count; bytes = bytes.now }) (B.contents self.old.device) (B.contents self.new.device) }
         ensures fields { self.new ≡ record self.old { device = self.new.device } }
     {
         match self.store.write_chunk(place, first, count, bytes) {
@@ -60,6 +59,7 @@ impl<B: Block> Merge<B> {
         ensures err { OnErr result (out.new ≡ out.old) }
         ensures same { B.contents self.new.device ≡ B.contents self.old.device }
         ensures durable { B.durable self.new.device ≡ B.durable self.old.device }
+        ensures adds { IsTrue (is_loud (B.layers self.old.device)) → AddsNow (B.may_hold self.old.device) (B.may_hold self.new.device) (B.contents self.new.device) }
         ensures size { B.size self.new.device ≡ B.size self.old.device }
         ensures fields { self.new ≡ record self.old { device = self.new.device } }
     {

@@ -27,6 +27,7 @@ fn is_routed_there<B: Block>(merge: &Merge<B>, route: Route) -> bool
         Route::Store(place) => merge.has_place(place),
         Route::Held => false,
         Route::Origin => false,
+        Route::Whole => false,
         Route::Refused => false,
     }
 }
@@ -38,8 +39,10 @@ fn is_using_group<B: Block>(merge: &Merge<B>, flight: &Flight) -> bool
     match request_kind(&flight.request) {
         Kind::OriginRead => is_routed_there(merge, flight.route),
         Kind::OriginWrite => is_routed_there(merge, flight.route),
+        Kind::OriginFlush => false,
         Kind::SnapRead(_) => false,
         Kind::SnapWrite(_) => false,
+        Kind::SnapFlush(_) => false,
     }
 }
 
@@ -63,6 +66,7 @@ fn is_routed_to(route: Route, place: Chunk) -> bool
         Route::Store(other) => other == place,
         Route::Held => false,
         Route::Origin => false,
+        Route::Whole => false,
         Route::Refused => false,
     }
 }
@@ -74,8 +78,10 @@ fn is_writing_at(flight: &Flight, place: Chunk) -> bool
     match request_kind(&flight.request) {
         Kind::OriginWrite => is_routed_to(flight.route, place),
         Kind::OriginRead => false,
+        Kind::OriginFlush => false,
         Kind::SnapRead(_) => false,
         Kind::SnapWrite(_) => false,
+        Kind::SnapFlush(_) => false,
     }
 }
 

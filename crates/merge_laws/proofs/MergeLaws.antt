@@ -8,10 +8,10 @@ use Rattle.model.specs.Picture.{picture}
 use Rattle.plain.specs.declared.request.Dev.{Dev}
 use Rattle.plain.specs.declared.request.Dev.TheVariants.{Snap as ToSnap}
 use Rattle.plain.specs.declared.request.Op.{Op}
-use Rattle.plain.specs.declared.request.Op.TheVariants.{Read, Write}
+use Rattle.plain.specs.declared.request.Op.TheVariants.{Read, Write, Flush}
 use Rattle.volume_laws.proofs.Attaching.{picture_none}
 use Rattle.settled.specs.Snaps.{Snap, Volume}
-use Rattle.settled.specs.Pieces.{write_snap, read_snap}
+use Rattle.settled.specs.Pieces.{write_snap, read_snap, flush_snap}
 use Rattle.settled.specs.Requests.{answered_by}
 use Rattle.settled.specs.Merges.{Merging, merged_of, pairs_in, snap_named, least_chunk, merge_all, merged, resumed, Finished, finished, Replied, beside}
 use Rattle.settled.specs.MergeShown.{IsMerging, IsUnseen, origin_shown, shown_through}
@@ -22,7 +22,7 @@ use Rattle.merge_laws.proofs.MergeSaves.{HasLeast, has_least}
 use Rattle.merge_laws.proofs.MergeBegins.{unmerged}
 use Rattle.merge_laws.proofs.MergeShows.{unseen_still}
 use Rattle.merge_laws.proofs.MergeEnds.{merge_unseen}
-use Rattle.settled.proofs.Named.{WasShown, one_bytes, write_bytes, is_read}
+use Rattle.settled.proofs.Named.{WasShown, one_bytes, write_bytes, is_read, is_flushed}
 use Rattle.merge_laws.proofs.Undoes.{answer_well, one_shows}
 
 -- the whole merge is one step that nobody sees
@@ -57,6 +57,7 @@ volume_well sectors m is =
 pub snap_bytes : (n : ℕ) (op : Op) (piece : Span) (v : Volume) → (answered_by (ToSnap n) op piece v).volume.origin.bytes ≡ v.origin.bytes
 snap_bytes n Read piece v = one_bytes n (read_snap piece) (λ origin s. (is_read piece origin s).bytes) v.origin v.snaps
 snap_bytes n (Write bytes) piece v = one_bytes n (write_snap piece bytes) (write_bytes piece bytes) v.origin v.snaps
+snap_bytes n Flush piece v = one_bytes n flush_snap (λ origin s. (is_flushed origin s).bytes) v.origin v.snaps
 
 -- A request of another snapshot while a merge is begun: the origin shows what it showed, and so does each snapshot that the
 -- request spares.

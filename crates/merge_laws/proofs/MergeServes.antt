@@ -1,11 +1,12 @@
 -- The origin is read and written while a merge is begun, one piece at a time.
 use Rattle.std.proofs.Common.{◌≡◌, inl, inr, ℕ, ◌+◌, ◌*◌, ◌/◌, ◌%◌, ◌<◌, ◌≤◌, Bool, true, false, List, length, arith, refl, ap, ◌∙◌, sym, subst}
 use Rattle.std.specs.Prelude.{if◌then◌else◌, Option, Some, None}
+use Rattle.std.proofs.lemmas.Bool.{cases_Bool, cond-true, cond-false}
 use Rattle.sector.specs.Bytes.{sectors_at, with_sectors}
 use Rattle.sector.specs.declared.pair.Pair.{Pair}
 use Rattle.sector.proofs.Sectors.{length-with_sectors, byte_outside}
 use Rattle.device.specs.declared.operation.Operation.{Operation}
-use Rattle.device.specs.declared.operation.Operation.TheVariants.{Reads, Writes}
+use Rattle.device.specs.declared.operation.Operation.TheVariants.{Reads, Writes, Flushes}
 use Rattle.chunk.specs.Sizes.{is_chunk}
 use Rattle.chunk.specs.Pieces.{Span}
 use Rattle.plain.specs.declared.request.Dev.TheVariants.{Origin}
@@ -24,7 +25,7 @@ use Rattle.settled.specs.Devices.{answers, met, written_by}
 use Rattle.settled.specs.Snaps.{Snap, Volume}
 use Rattle.settled.specs.Pieces.{save_all}
 use Rattle.settled.specs.Shown.{ShowTheSame}
-use Rattle.settled.specs.Merges.{Merge, Merging, pairs_in, with_store, with_origin, Replied, sector_in, write_at, read_at, place_in, write_part, read_part}
+use Rattle.settled.specs.Merges.{Merge, Merging, pairs_in, with_store, with_origin, Replied, sector_in, write_at, read_at, place_in, write_part, read_part, flush_through}
 use Rattle.settled.specs.MergeShown.{IsWell, IsMerging, IsUnseen, shown_through}
 use Rattle.settled.proofs.Each.{Each, each_from, all_from}
 use Rattle.settled.proofs.Chunks.{OfChunks, chunks_keep}
@@ -205,6 +206,16 @@ module _ (sectors : ℕ) (piece : Span) (m : Merging) (is : IsMerging sectors m)
       by_place : (o : Option ℕ) → place_in piece.first m.merge ≡ o → ReadsThrough sectors piece.first piece.count m (read_at o piece m)
       by_place None none = reads_disk sectors piece m is some inside one none
       by_place (Some n) named = reads_copy sectors n piece m is some inside one named
+
+-- a flush of the origin is not seen
+pub flushes_through : (sectors : ℕ) (m : Merging) → IsMerging sectors m → IsUnseen sectors m (flush_through m).state
+flushes_through sectors m is =
+    let after : Merging = with_store m (met m.merge.store Flushes) in
+    let both : Merging = with_origin after (met m.volume.origin Flushes) in
+    elim (cases_Bool (answers m.merge.store Flushes)) [
+      | inl ok ↦ subst (λ (r : Replied). IsUnseen sectors m r.state) (sym (cond-true _ _ _ ok)) (unseen_still sectors m both is refl refl refl refl refl)
+      | inr failed ↦ subst (λ (r : Replied). IsUnseen sectors m r.state) (sym (cond-false _ _ _ failed)) (unseen_still sectors m after is refl refl refl refl refl)
+    ]
 
 -- a write keeps the sizes of chunks
 pub part_keeps : (P : ℕ → Type 0) (piece : Span) (bytes : List ℕ) (m : Merging) → Each (OfChunks P) m.volume.snaps → Each (OfChunks P) (write_part Origin piece bytes m).state.volume.snaps

@@ -13,14 +13,14 @@ use Rattle.plain.specs.Plain.{Live}
 use Rattle.plain.specs.declared.request.Dev.{Dev}
 use Rattle.plain.specs.declared.request.Dev.TheVariants.{Origin, Snap as ToSnap}
 use Rattle.plain.specs.declared.request.Op.{Op}
-use Rattle.plain.specs.declared.request.Op.TheVariants.{Read, Write}
+use Rattle.plain.specs.declared.request.Op.TheVariants.{Read, Write, Flush}
 use Rattle.model.specs.Pairs.{pairs_of}
 use Rattle.model.specs.Picture.{picture}
 use Rattle.settled.specs.Saves.{next_of}
 use Rattle.volume_laws.proofs.Attaching.{picture_none}
 use Rattle.settled.specs.Devices.{Device, answers}
 use Rattle.settled.specs.Snaps.{Snap, Volume, shown}
-use Rattle.settled.specs.Pieces.{Answered, save_all, write_origin, write_snap, read_snap}
+use Rattle.settled.specs.Pieces.{Answered, save_all, write_origin, write_snap, read_snap, flush_snap}
 use Rattle.event_machine.specs.Held.{Held, Moving}
 use Rattle.event_machine.specs.Rest.{IsResting, IsAtRest}
 use Rattle.event_machine.specs.Settles.{SettlesTo}
@@ -35,7 +35,7 @@ use Rattle.settled.proofs.SavedBytes.{save_all_bytes}
 use Rattle.merge_laws.proofs.MergeSaves.{IsInOne, all_shown, shown_live, one_wider}
 use Rattle.merge_laws.proofs.MergeBegins.{unmerged, begun_by, begins, begin_shows, begins_well}
 use Rattle.merge_laws.proofs.MergeEnds.{merge_leaves}
-use Rattle.settled.proofs.Named.{WasShown, all_named, one_named, one_bytes, write_number, write_bytes, is_read}
+use Rattle.settled.proofs.Named.{WasShown, all_named, one_named, one_bytes, write_number, write_bytes, is_read, is_flushed}
 use Rattle.settling.proofs.Requests.{request_settles}
 
 -- a snapshot at rest
@@ -105,12 +105,16 @@ module _ (sectors chunk number : ℕ) (piece : Span) (v : Volume) (is : IsVolume
   pub one_shows : (dev : Dev) (op : Op) → FitsRange op piece.count → Spares number dev op → (t : Snap) → snap_named number (answered_by dev op piece v).volume.snaps ≡ Some t → WasShown number v.origin.bytes (answered_by dev op piece v).volume.origin.bytes v.snaps t
   one_shows Origin Read fits spares t named = record { was = t; named = named; same = λ live. refl }
   one_shows Origin (Write bytes) fits spares t named = write_shows bytes fits t named
+  one_shows Origin Flush fits spares t named = record { was = t; named = named; same = λ live. refl }
   one_shows (ToSnap n) Read fits spares t named =
       subst (λ (b : List ℕ). WasShown number v.origin.bytes b v.snaps t) (sym (one_bytes n (read_snap piece) (λ origin s. (is_read piece origin s).bytes) v.origin v.snaps))
       (one_named number n (read_snap piece) (λ origin s. (is_read piece origin s).number) (inr (λ origin s disk. (is_read piece origin s).shows disk)) v.origin v.snaps v.origin.bytes t named)
   one_shows (ToSnap n) (Write bytes) fits spares t named =
       subst (λ (b : List ℕ). WasShown number v.origin.bytes b v.snaps t) (sym (one_bytes n (write_snap piece bytes) (write_bytes piece bytes) v.origin v.snaps))
       (one_named number n (write_snap piece bytes) (write_number piece bytes) (inl spares) v.origin v.snaps v.origin.bytes t named)
+  one_shows (ToSnap n) Flush fits spares t named =
+      subst (λ (b : List ℕ). WasShown number v.origin.bytes b v.snaps t) (sym (one_bytes n flush_snap (λ origin s. (is_flushed origin s).bytes) v.origin v.snaps))
+      (one_named number n flush_snap (λ origin s. (is_flushed origin s).number) (inr (λ origin s disk. (is_flushed origin s).shows disk)) v.origin v.snaps v.origin.bytes t named)
 
 -- the snapshot of a number shows this array, if it is there and live
 abbrev pub ShowsAs : ℕ → List ℕ → Volume → Type 0

@@ -7,7 +7,7 @@ use Rattle.chunk.specs.Pieces.{Span}
 use Rattle.plain.specs.declared.request.Dev.{Dev}
 use Rattle.plain.specs.declared.request.Dev.TheVariants.{Origin, Snap as ToSnap}
 use Rattle.plain.specs.declared.request.Op.{Op}
-use Rattle.plain.specs.declared.request.Op.TheVariants.{Read, Write}
+use Rattle.plain.specs.declared.request.Op.TheVariants.{Read, Write, Flush}
 use Rattle.settled.specs.Snaps.{Volume}
 use Rattle.settled.specs.Requests.{answered_by, FitsRange}
 use Rattle.settled.specs.MergeShown.{IsWell}
@@ -43,3 +43,4 @@ abbrev pub Spares : ℕ → Dev → Op → Type 0
 Spares number Origin op = Unit {0}
 Spares number (ToSnap n) Read = Unit {0}
 Spares number (ToSnap n) (Write bytes) = (n == number) ≡ false
+Spares number (ToSnap n) Flush = Unit {0}

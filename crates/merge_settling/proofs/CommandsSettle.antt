@@ -1,7 +1,8 @@
 -- A whole command beside a merge, piece by piece, leaves what the settled machine says: each piece settles by the events of
 -- snapshots and requests alone.
-use Rattle.std.proofs.Common.{◌≡◌, ℕ, ◌+◌, ◌*◌, ◌/◌, ◌<◌, ◌≤◌, true, List, [], ◌∷◌, ◌++◌, length, take, drop, map, Option, Some, None, refl, arith, ap, ◌∙◌, sym, subst, length-take, length-drop}
+use Rattle.std.proofs.Common.{◌≡◌, inl, inr, ℕ, ◌+◌, ◌*◌, ◌/◌, ◌<◌, ◌≤◌, true, List, [], ◌∷◌, ◌++◌, length, take, drop, map, Option, Some, None, refl, arith, ap, ◌∙◌, sym, subst, length-take, length-drop}
 use Rattle.std.specs.List.{All}
+use Rattle.std.proofs.lemmas.Bool.{cases_Bool, cond-true, cond-false}
 use Rattle.chunk.specs.Pieces.{Span, span_of, IsInOneChunk, AreCutFrom, pieces_of}
 use Rattle.chunk.specs.Sizes.{is_chunk}
 use Rattle.chunk.proofs.Limits.{is_chunk-some}
@@ -12,9 +13,11 @@ use Rattle.plain.specs.declared.request.Request.{Request}
 use Rattle.plain.specs.declared.request.Dev.{Dev}
 use Rattle.plain.specs.declared.request.Dev.TheVariants.{Origin, Snap as ToSnap}
 use Rattle.plain.specs.declared.request.Op.{Op}
-use Rattle.plain.specs.declared.request.Op.TheVariants.{Read, Write}
+use Rattle.plain.specs.declared.request.Op.TheVariants.{Read, Write, Flush}
 use Rattle.plain.specs.declared.request.Reply.{Reply}
-use Rattle.plain.specs.declared.request.Reply.TheVariants.{Data, Written, Refused}
+use Rattle.plain.specs.declared.request.Reply.TheVariants.{Data, Written, Flushed, Refused}
+use Rattle.device.specs.declared.operation.Operation.TheVariants.{Flushes}
+use Rattle.settled.specs.Devices.{answers}
 use Rattle.settled.specs.Commands.{bytes_in}
 use Rattle.settled.specs.Requests.{answered_by, FitsRange}
 use Rattle.settled.specs.Snaps.{Snap}
@@ -33,7 +36,7 @@ use Rattle.settling.proofs.Running.{FitsPiece, counts_of, fits_all, goes_as, fit
 use Rattle.settling.proofs.SavesSettle.{snap_of}
 use Rattle.merge_laws.proofs.MergeSaves.{IsInOne, HasLeast, has_least, one_wider}
 use Rattle.merge_laws.proofs.MergeLaws.{snap_bytes}
-use Rattle.merge_laws.proofs.MergeServes.{reads_through, writes_through, part_keeps}
+use Rattle.merge_laws.proofs.MergeServes.{reads_through, writes_through, flushes_through, part_keeps}
 use Rattle.merge_settling.proofs.PartsSettle.{part_settles}
 
 -- no chunk is less than this one, and all have sizes that are allowed
@@ -76,8 +79,10 @@ module _ (sectors : ℕ) (piece : Span) (m : Merging) (is : IsMerging sectors m)
   still_by : (dev : Dev) (op : Op) → FitsRange op piece.count → All (IsWell sectors) (part_of dev op piece m).state.volume.snaps → IsMergingStill sectors m (part_of dev op piece m)
   still_by Origin Read fits well = let r = reads_through sectors piece m is some inside one in record { holds = r.unseen.holds; chunk = r.unseen.chunk }
   still_by Origin (Write bytes) fits well = let r = writes_through sectors piece m is some inside one each bytes fits in record { holds = r.holds; chunk = r.chunk }
+  still_by Origin Flush fits well = let u = flushes_through sectors m is in record { holds = u.holds; chunk = u.chunk }
   still_by (ToSnap n) Read fits well = beside_still n Read well
   still_by (ToSnap n) (Write bytes) fits well = beside_still n (Write bytes) well
+  still_by (ToSnap n) Flush fits well = beside_still n Flush well
 
 -- and keeps the sizes of chunks
 still_wide : (chunk : ℕ) (dev : Dev) (op : Op) (piece : Span) (m : Merging) → Each (HasChunks chunk) m.volume.snaps → Each (HasChunks chunk) (part_of dev op piece m).state.volume.snaps
@@ -87,8 +92,13 @@ still_wide chunk Origin Read piece m each = by_place (place_in piece.first m.mer
     by_place None = each
     by_place (Some n) = each
 still_wide chunk Origin (Write bytes) piece m each = part_keeps (IsWide chunk) piece bytes m each
+still_wide chunk Origin Flush piece m each = elim (cases_Bool (answers m.merge.store Flushes)) [
+  | inl ok ↦ subst (λ (r : Replied). Each (HasChunks chunk) r.state.volume.snaps) (sym (cond-true _ _ _ ok)) each
+  | inr failed ↦ subst (λ (r : Replied). Each (HasChunks chunk) r.state.volume.snaps) (sym (cond-false _ _ _ failed)) each
+]
 still_wide chunk (ToSnap n) Read piece m each = answer_keeps chunk (ToSnap n) Read piece m.volume each
 still_wide chunk (ToSnap n) (Write bytes) piece m each = answer_keeps chunk (ToSnap n) (Write bytes) piece m.volume each
+still_wide chunk (ToSnap n) Flush piece m each = answer_keeps chunk (ToSnap n) Flush piece m.volume each
 
 module _ (sectors chunk : ℕ) (allowed : is_chunk chunk ≡ true) where
   -- one piece
@@ -127,6 +137,7 @@ module _ (sectors chunk : ℕ) (allowed : is_chunk chunk ≡ true) where
   goes_left : (w mid : Moving) (reply got : Reply) (here more : Replied) → IsLeftBeside sectors chunk mid got here → GoesOn got (IsLeftBeside sectors chunk w reply more) ((w ≡ mid) × (reply ≡ got)) → IsLeftBeside sectors chunk w reply (go_on here.reply here more)
   goes_left w mid reply (Data bytes) here more left goes = subst (λ (r : Reply). IsLeftBeside sectors chunk w reply (go_on r here more)) left.replied goes
   goes_left w mid reply Written here more left goes = subst (λ (r : Reply). IsLeftBeside sectors chunk w reply (go_on r here more)) left.replied goes
+  goes_left w mid reply Flushed here more left goes = subst (λ (r : Reply). IsLeftBeside sectors chunk w reply (go_on r here more)) left.replied goes
   goes_left w mid reply (Refused failure) here more left goes =
       subst (λ (r : Reply). IsLeftBeside sectors chunk w reply (go_on r here more)) left.replied
       (subst (λ (x : Moving). IsLeftBeside sectors chunk x reply here) (sym goes.0) (subst (λ (r : Reply). IsLeftBeside sectors chunk mid r here) (sym goes.1) left))

@@ -1,29 +1,33 @@
 -- A request of one piece, submitted to a volume at rest with a merge, settles to the big step by the events of snapshots and
 -- requests alone.
-use Rattle.std.proofs.Common.{◌≡◌, inl, inr, ℕ, ◌+◌, ◌*◌, ◌/◌, ◌%◌, ◌<◌, ◌≤◌, Bool, false, List, [], ◌∷◌, length, map, Option, Some, None, refl, arith, ap, ◌∙◌, sym, subst}
+use Rattle.std.proofs.Common.{◌≡◌, inl, inr, ℕ, ◌+◌, ◌*◌, ◌/◌, ◌%◌, ◌<◌, ◌≤◌, Bool, true, false, List, [], ◌∷◌, length, map, Option, Some, None, refl, arith, ap, ◌∙◌, sym, subst, eq-eqb}
 use Rattle.std.specs.Prelude.{◌||◌, is_some, if◌then◌else◌}
 use Rattle.std.proofs.lemmas.Bool.{cases_Bool, cond-true, cond-false}
 use Rattle.sector.specs.Bytes.{with_sectors}
 use Rattle.sector.specs.declared.range.Range.{Range}
 use Rattle.device.specs.declared.operation.Operation.{Operation}
-use Rattle.device.specs.declared.operation.Operation.TheVariants.{Reads, Writes}
+use Rattle.device.specs.declared.operation.Operation.TheVariants.{Reads, Writes, Flushes}
 use Rattle.chunk.specs.Pieces.{span_of}
 use Rattle.plain.specs.declared.request.Request.{Request}
 use Rattle.plain.specs.declared.request.Dev.{Dev}
 use Rattle.plain.specs.declared.request.Dev.TheVariants.{Origin, Snap as ToSnap}
 use Rattle.plain.specs.declared.request.Op.{Op}
-use Rattle.plain.specs.declared.request.Op.TheVariants.{Read, Write}
+use Rattle.plain.specs.declared.request.Op.TheVariants.{Read, Write, Flush}
+use Rattle.plain.specs.Kept.{kept}
 use Rattle.plain.specs.declared.request.Reply.{Reply}
+use Rattle.plain.specs.declared.request.Reply.TheVariants.{Refused}
+use Rattle.plain.specs.declared.request.Failure.TheVariants.{Io}
 use Rattle.model.specs.Pairs.{pairs_of}
 use Rattle.model.specs.Picture.{place_of}
 use Rattle.pending.specs.Routes.{read_route_of, write_route_of}
-use Rattle.pending.specs.declared.flights.Route.TheVariants.{Store}
+use Rattle.pending.specs.declared.flights.Route.{Route}
+use Rattle.pending.specs.declared.flights.Route.TheVariants.{Origin as OriginDisk, Store, Whole}
 use Rattle.volume_laws.specs.Again.{has_chunk}
-use Rattle.settled.specs.Devices.{Device, answers, met, written_by, read_reply}
+use Rattle.settled.specs.Devices.{Device, answers, met, written_by, read_reply, flush_reply}
 use Rattle.settled.specs.Pieces.{Answered}
 use Rattle.settled.specs.Requests.{FitsRange}
 use Rattle.settled.specs.Snaps.{Snap}
-use Rattle.settled.specs.Merges.{Merging, Replied, pairs_in, beside, write_at, read_at}
+use Rattle.settled.specs.Merges.{Merging, Replied, pairs_in, beside, write_at, read_at, flush_through}
 use Rattle.settled.specs.MergeShown.{IsMerging}
 use Rattle.event_machine.specs.Held.{Held, Going, MergeHeld, Moving, group_in, on_device}
 use Rattle.event_machine.specs.Again.{is_grouped, merged_place, write_route, is_clear}
@@ -36,10 +40,11 @@ use Rattle.event_machine.specs.Stepping.{write_reply}
 use Rattle.event_machine.specs.Submitting.{start_copies, accepted, submitted, chunk_at}
 use Rattle.event_machine.proofs.Around.{at_with, IsIdle, due_request}
 use Rattle.settled.proofs.Each.{Each, each_weaker, each_from, all_from}
-use Rattle.settling.proofs.Goes.{no_start, Goes, settled_there}
+use Rattle.settling.proofs.Goes.{no_start, Goes, goes_on, settled_there}
 use Rattle.settling.proofs.Issued.{issued, answered_here, Serves}
 use Rattle.settling.proofs.Primed.{resting_idle}
 use Rattle.settling.proofs.ReadsSettle.{goes_to, read_request, origin_read_serves, snap_read_serves}
+use Rattle.settling.proofs.FlushesSettle.{flush_request, snap_flush_serves}
 use Rattle.settling.proofs.SavesSettle.{snap_of}
 use Rattle.settling.proofs.SnapWritesSettle.{snap_write_serves}
 use Rattle.settling.proofs.WritesSettle.{write_request, origin_write_serves}
@@ -145,13 +150,50 @@ module _ (sectors number : ℕ) (h : MergeHeld) (origin : Device) (snaps : List 
           by_place None none = served_beside sectors _ h _ free (origin_write_serves (Some h) sectors number range (no_group range.first) none bytes a origin snaps k whole resting some inside len)
           by_place (Some n) placed = writes_store n placed
 
+  -- a flush of the origin: an event for the merging store, and one for the origin's device
+  module _ (range : Range) where
+    abbrev pub flying : Route → Going
+    flying route = record { number = number; request = kept (flush_request Origin range); route = route }
+
+    abbrev pub store_met : MergeHeld
+    store_met = on_device h (met h.merge.store Flushes)
+
+    begins : submitted number (flush_request Origin range) here ≡ at_with (Some h) origin snaps (flying Whole ∷ []) a k
+    begins = refl
+
+    -- the store is flushed, and the request goes on to the origin's device
+    goes_first : answers h.merge.store Flushes ≡ true → Goes no_start (at_with (Some h) origin snaps (flying Whole ∷ []) a k) (at_with (Some store_met) origin snaps (flying OriginDisk ∷ []) a k)
+    goes_first ok = goes_to _ _ _ (issued (Some h) origin snaps (flying Whole) a k idle refl)
+        (cond-true _ _ _ ok ∙ ap (λ rs. at_with (Some store_met) origin snaps rs a k) (cond-true _ _ _ (eq-eqb number number refl)))
+
+    goes_last : Goes no_start (at_with (Some store_met) origin snaps (flying OriginDisk ∷ []) a k) (at_with (Some store_met) (met origin Flushes) snaps [] (Some (flush_reply origin)) k)
+    goes_last = goes_to _ _ _ (issued (Some store_met) origin snaps (flying OriginDisk) a k idle refl) (answered_here (Some store_met) (met origin Flushes) snaps (flying OriginDisk) (flush_reply origin) a k)
+
+    -- or its flush fails
+    goes_failed : answers h.merge.store Flushes ≡ false → Goes no_start (at_with (Some h) origin snaps (flying Whole ∷ []) a k) (at_with (Some store_met) origin snaps [] (Some (Refused Io)) k)
+    goes_failed failed = goes_to _ _ _ (issued (Some h) origin snaps (flying Whole) a k idle refl)
+        (cond-false _ _ _ failed ∙ answered_here (Some store_met) origin snaps (flying Whole) (Refused Io) a k)
+
+    pub flush_settles : SettlesToReplied sectors (submitted number (flush_request Origin range) here) (flush_through big)
+    flush_settles =
+        let u : Moving = at_with (Some h) origin snaps (flying Whole ∷ []) a k in
+        elim (cases_Bool (answers h.merge.store Flushes)) [
+          | inl ok ↦ (let mid : Moving = at_with (Some store_met) origin snaps (flying OriginDisk ∷ []) a k in
+              subst (SettlesToReplied sectors u) (sym (cond-true _ _ _ ok))
+              (replied_there sectors u store_met (met origin Flushes) snaps (flush_reply origin) k _ (goes_on u mid _ (goes_first ok) goes_last) whole resting (store_rests (met h.merge.store Flushes) free.pairs) refl refl))
+          | inr failed ↦ subst (SettlesToReplied sectors u) (sym (cond-false _ _ _ failed))
+              (replied_there sectors u store_met origin snaps (Refused Io) k _ (goes_failed failed) whole resting (store_rests (met h.merge.store Flushes) free.pairs) refl refl)
+        ]
+
   -- each request
   pub settles_by : (dev : Dev) (op : Op) (range : Range) → IsMerging sectors big → 0 < range.count → range.first + range.count ≤ sectors → FitsRange op range.count → Each (IsInChunk range) snaps → range.first + range.count ≤ h.merge.chunk * (range.first / h.merge.chunk) + h.merge.chunk →
       SettlesToReplied sectors (submitted number (record { dev = dev; op = op; range = range }) here) (part_of dev op (span_of range) big)
   settles_by Origin Read range is some inside fits pieces one = read_settles range
   settles_by Origin (Write bytes) range is some inside fits pieces one = write_settles range bytes is some inside one fits
+  settles_by Origin Flush range is some inside fits pieces one = flush_settles range
   settles_by (ToSnap n) Read range is some inside fits pieces one = served_beside sectors _ h _ free (snap_read_serves (Some h) sectors number n range origin a k whole snaps resting)
   settles_by (ToSnap n) (Write bytes) range is some inside fits pieces one = served_beside sectors _ h _ free (snap_write_serves (Some h) sectors number n range bytes origin a k whole (omega arith) fits snaps resting pieces)
+  settles_by (ToSnap n) Flush range is some inside fits pieces one = served_beside sectors _ h _ free (snap_flush_serves (Some h) sectors number n range origin a k whole snaps resting)
 
 -- The law of settling of a request of one piece beside a merge.
 pub part_settles : (sectors number : ℕ) (request : Request) (v : Moving) (h : MergeHeld) → IsMergedAtRest sectors h v → IsMerging sectors (in_big_steps h v) → IsFit sectors v.snaps request → request.range.first + request.range.count ≤ h.merge.chunk * (request.range.first / h.merge.chunk) + h.merge.chunk →

@@ -1,7 +1,7 @@
 -- To be believed: `run`'s output, a volume's steps or its attach are said in these words.
--- Reading and writing origins and snapshots. What they show is the settled machine's, which goes on beside a merge; the
--- commands, and that a volume takes reads and writes of 2^60 sectors in all, so that its numbers never run out, are this
--- project's own.
+-- Reading, writing and flushing origins and snapshots. What they show is the settled machine's, which goes on beside a merge; the
+-- commands, and that a volume takes reads and writes of 2^60 sectors in all, a flush counted as one, so that its numbers never run
+-- out, are this project's own.
 use Rattle.std.specs.Prelude.{◌≡◌, ℕ, ◌+◌, ◌<◌, List, nat_lt, if◌then◌else◌, Result, Ok, Err}
 use Rattle.sector.specs.declared.refusal.Refusal.{Refusal}
 use Rattle.sector.specs.declared.refusal.Refusal.TheVariants.{BadTable, TooMany, MergingSnapshot}
@@ -11,12 +11,12 @@ use Rattle.command.specs.Words.{sectors_of}
 use Rattle.plain.specs.declared.request.Dev.{Dev}
 use Rattle.plain.specs.declared.request.Dev.TheVariants as devs
 use Rattle.plain.specs.declared.request.Reply.{Reply}
-use Rattle.plain.specs.declared.request.Reply.TheVariants.{Data, Written, Refused}
+use Rattle.plain.specs.declared.request.Reply.TheVariants.{Data, Written, Flushed, Refused}
 use Rattle.settled.specs.Devices.{sectors_of as size_of}
 use Rattle.settled.specs.Snaps.{Volume as Settled}
 use Rattle.settled.specs.Merges.{Merged}
 use Rattle.settled.specs.Commands.{bytes_in}
-use Rattle.served.specs.Beside.{Served, written_beside, read_beside, count_beside, written_first_beside}
+use Rattle.served.specs.Beside.{Served, written_beside, read_beside, flushed_beside, count_beside, written_first_beside}
 use Rattle.plain.specs.Failures.{refusal_of}
 use Rattle.named.specs.declared.place.Role.{Role}
 use Rattle.named.specs.declared.place.Role.TheVariants.{Origin, Under, Snapshot, Store, Merging, MergingStore}
@@ -72,6 +72,7 @@ after_asking count m volume = record (with_merged m volume) { asked = volume.ask
 abbrev pub read_answer : Reply → Result (List ℕ) Refusal
 read_answer (Data bytes) = Ok bytes
 read_answer Written = Ok (bytes_in Written)
+read_answer Flushed = Ok (bytes_in Flushed)
 read_answer (Refused failure) = Err (refusal_of failure)
 
 -- sectors that were asked for are read; no device is changed by it
@@ -83,10 +84,11 @@ read_by count volume (Ok asks) =
 unfoldable pub read_in : Role → ℕ → ℕ → Volume → Did (List ℕ) Volume
 read_in role first count volume = read_by count volume (asked_of role first count volume)
 
--- what a write is answered with
+-- what a write or a flush is answered with
 abbrev pub write_answer : Reply → Result (Unit {0}) Refusal
 write_answer (Data bytes) = Ok tt
 write_answer Written = Ok tt
+write_answer Flushed = Ok tt
 write_answer (Refused failure) = Err (refusal_of failure)
 
 abbrev pub written_as : ℕ → Served → Volume → Did (Unit {0}) Volume
@@ -99,6 +101,15 @@ write_by count bytes volume (Ok asks) = written_as count (written_beside asks.de
 
 unfoldable pub written_in : Role → ℕ → ℕ → List ℕ → Volume → Did (Unit {0}) Volume
 written_in role first count bytes volume = write_by count bytes volume (asked_of role first count volume)
+
+-- A flush is asked for as a read of the first sector is. No byte is changed by it, and no layer that devices have here.
+abbrev pub flush_by : Volume → Result Asked Refusal → Did (Unit {0}) Volume
+flush_by volume (Err refusal) = refused volume refusal
+flush_by volume (Ok asks) =
+    record { answer = write_answer (flushed_beside asks.dev (merged_in volume)).reply; left = after_asking 1 (merged_in volume) volume }
+
+unfoldable pub flushed_in : Role → Volume → Did (Unit {0}) Volume
+flushed_in role volume = flush_by volume (asked_of role 0 1 volume)
 
 -- Where memory, or the room of a journal, ran out in a write: it was not begun, or some first pieces were written, but not all.
 pub record ArePartWritten (count : ℕ) (bytes : List ℕ) (asks : Asked) (old new : Volume) : Type 0 where
@@ -145,6 +156,10 @@ write_some name first bytes table (Ok count) = at_role table (λ role volume. wr
 unfoldable pub write : List ℕ → ℕ → List ℕ → Table → Did (Unit {0}) Table
 write name first bytes table = write_some name first bytes table (whole bytes)
 
+-- `flush DEV`
+unfoldable pub flush : List ℕ → Table → Did (Unit {0}) Table
+flush name table = at_role table (λ role volume. flushed_in role volume) (found (place_of name table))
+
 -- where it ran out in a command on the device of a name: nothing changed, or this holds of one volume
 abbrev pub IsInVolume : (Volume → Volume → Type 0) → ℕ → Table → Table → Result Volume Refusal → Type 0
 IsInVolume holds v old new (Err refusal) = ⊥
@@ -158,6 +173,10 @@ IsAtRole holds old new (Ok (In v role)) = IsInVolume (holds role) v old new (vol
 -- where memory or room ran out in a read: no device was changed
 unfoldable pub IsReadStarved : List ℕ → ℕ → ℕ → Table → Table → Type 0
 IsReadStarved name first count old new = IsAtRole (λ role. IsReadAsked count) old new (found (place_of name old))
+
+-- nor in a flush
+unfoldable pub IsFlushStarved : List ℕ → Table → Table → Type 0
+IsFlushStarved name old new = IsAtRole (λ role. IsReadAsked 1) old new (found (place_of name old))
 
 -- where memory or room ran out in a write: some first pieces stand
 abbrev pub IsWriteStarvedBy : List ℕ → ℕ → List ℕ → Table → Table → Result ℕ Refusal → Type 0

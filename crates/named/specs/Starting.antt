@@ -30,3 +30,7 @@ read_asked name first count table = sectors_of count >>= λ n. asked_by name fir
 -- `start DEV write S DATA`
 unfoldable pub write_asked : List ℕ → ℕ → List ℕ → Table → Result Asked Refusal
 write_asked name first bytes table = whole bytes >>= λ n. asked_by name first n table
+
+-- `flush DEV`: what a read of the first sector asks
+unfoldable pub flush_asked : List ℕ → Table → Result Asked Refusal
+flush_asked name table = asked_by name 0 1 table

@@ -29,7 +29,7 @@ pub record Merging : Type 0 where
 -- An origin, the names of the stack under it from the top, the mark of the disk at its bottom, and the names of its
 -- snapshots in order of attaching, without the one that is being merged, which stands in `merging`. The state has the bytes
 -- and layers of the devices under the origin and under those snapshots, and which of them are live. `given` counts the
--- attaches that were done, `asked` the sectors of the reads and writes that it was asked for; `sound` tells that none of its
+-- attaches that were done, `asked` the sectors of the reads and writes that it was asked for, a flush counted as one; `sound` tells that none of its
 -- devices, nor of those that have left it, drops writes; `quiet`, that no request is in flight, no copy is under way, no
 -- invalid mark is wanted and no group of a merge is formed. `flying` is what is in flight while it is not quiet, and what is
 -- in memory of its snapshots and of its merge then: the event machine without its devices, which the state and the merge have.

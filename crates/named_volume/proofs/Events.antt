@@ -21,11 +21,11 @@ use Rattle.volume.specs.Submitting.{IsAcceptedAs, IsRefusedAs}
 use Rattle.plain.specs.declared.request.Replied.{Replied}
 use Rattle.resting.specs.Rested.{Rested, rested_of}
 use Rattle.resting.specs.Flying.{IsWhole}
-use Rattle.resting.specs.Among.{AreReadAmong, AreWrittenAmong, IsReadRefusedAmong, IsWriteRefusedAmong, pieces_among}
+use Rattle.resting.specs.Among.{AreReadAmong, AreWrittenAmong, IsFlushedAmong, IsFlushRefusedAmong, IsReadRefusedAmong, IsWriteRefusedAmong, pieces_among}
 use Rattle.named.specs.State.{Volume, merge_in}
 use Rattle.named.specs.Sectors.{Asked}
 use Rattle.named_volume.specs.Held.{flying_in, merged_inside, settled_in}
-use Rattle.named_volume.specs.Flights.{IsBehind, IsStarted, IsNotStarted, IsStepped, IsReadServed, IsWriteServed}
+use Rattle.named_volume.specs.Flights.{IsBehind, IsStarted, IsNotStarted, IsStepped, IsFlushServed, IsReadServed, IsWriteServed}
 
 -- the volume of events that stands behind
 pub behind : (before : Rested Stack) (volume : Volume) → IsWhole before → volume.state ≡ settled_in before → merge_in volume.merging ≡ (merged_inside before).merge → volume.quiet ≡ is_quiet_of before.events → volume.flying ≡ flying_in before.events → IsBehind before.events volume
@@ -88,4 +88,17 @@ module _ (before after : Rested Stack) (old new : Volume) (was : IsBehind before
         let P : Result Asked Refusal → Type 0 = λ x. IfOk x (IsWriteServed bytes (Err e) earlier later old new) in
         let F : Rested Stack → Type 0 = λ x. IsWriteRefusedAmong stack_contents stack_layers stack_size dev (pieces_among (span_of range) before) bytes e x after earlier later in
         let G : Rested Stack → Type 0 = λ y. IsWriteRefusedAmong stack_contents stack_layers stack_size dev (pieces_among (span_of range) before) bytes e (rested_of before.events) y earlier later in
+        subst P (sym asks) (record { before = before.events; after = after.events; was = was; is = is; did = subst G whole_after (subst F whole_before why) })
+
+    -- and what was flushed
+    pub flush_served : (r : Result (Unit {0}) Refusal) → OnOk r (IsFlushedAmong stack_contents stack_layers dev before.events after.events earlier later)
+        → IfErr r (λ e. IsFlushRefusedAmong stack_contents stack_layers stack_size dev e before after earlier later)
+        → IfOk asked (IsFlushServed r earlier later old new)
+    flush_served (Ok unit) did why =
+        let P : Result Asked Refusal → Type 0 = λ x. IfOk x (IsFlushServed (Ok unit) earlier later old new) in
+        subst P (sym asks) (record { before = before.events; after = after.events; was = was; is = is; did = did })
+    flush_served (Err e) did why =
+        let P : Result Asked Refusal → Type 0 = λ x. IfOk x (IsFlushServed (Err e) earlier later old new) in
+        let F : Rested Stack → Type 0 = λ x. IsFlushRefusedAmong stack_contents stack_layers stack_size dev e x after earlier later in
+        let G : Rested Stack → Type 0 = λ y. IsFlushRefusedAmong stack_contents stack_layers stack_size dev e (rested_of before.events) y earlier later in
         subst P (sym asks) (record { before = before.events; after = after.events; was = was; is = is; did = subst G whole_after (subst F whole_before why) })

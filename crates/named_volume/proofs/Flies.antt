@@ -8,9 +8,10 @@ use Rattle.device.specs.Layers.{Layer}
 use Rattle.plain.specs.declared.request.Failure.{Failure}
 use Rattle.plain.specs.declared.request.Failure.TheVariants.{Invalid, Overflow}
 use Rattle.plain.specs.declared.request.Request.{Request}
+use Rattle.plain.specs.Kept.{kept}
 use Rattle.pending.specs.Kinds.{kind_of}
 use Rattle.pending.specs.declared.flights.Kind.{Kind}
-use Rattle.pending.specs.declared.flights.Kind.TheVariants.{OriginRead, OriginWrite, SnapRead, SnapWrite}
+use Rattle.pending.specs.declared.flights.Kind.TheVariants.{OriginRead, OriginWrite, OriginFlush, SnapRead, SnapWrite, SnapFlush}
 use Rattle.pending.specs.declared.flights.Route.{Route}
 use Rattle.event_machine.specs.Held.{Held, Moving}
 use Rattle.event_machine.specs.Seen.{going_of}
@@ -65,6 +66,8 @@ module _ (number : ℕ) (request : Request) where
   as_flown : (kind : Kind) (v : Moving) → IsFlown (submitted_as kind number request v)
   as_flown OriginRead v = flown number request _ v
   as_flown OriginWrite v = flown number request _ _
+  as_flown OriginFlush v = flown number (kept request) _ v
+  as_flown (SnapFlush n) v = some_or (first_that (λ h. h.snap.number == n) v.snaps) _ (declined Invalid v) (λ h. either h.snap.live _ _ (flown number (kept request) _ v) (unflown Invalid v)) (unflown Invalid v)
   as_flown (SnapRead n) v = some_or (first_that (λ h. h.snap.number == n) v.snaps) _ (declined Invalid v) (λ h. read_flown h v) (unflown Invalid v)
   as_flown (SnapWrite n) v = some_or (first_that (λ h. h.snap.number == n) v.snaps) _ (declined Invalid v) (λ h. write_flown (λ k. k.snap.number == n) h v) (unflown Invalid v)
 

@@ -7,6 +7,7 @@ pub mod Holds
 pub mod Serves
 pub mod Parts
 pub mod Uses
+pub mod Unflushed
 pub mod Tells
 pub mod Events
 pub mod Merges

@@ -1,4 +1,4 @@
--- A read and a write, as the volume does them.
+-- A read, a write and a flush, as the volume does them.
 use Rattle.std.proofs.Common.{◌≡◌, ◌⊎◌, ℕ, true, false, List, refl, sym, ap, ◌∙◌, inl, inr, subst, ◌<◌}
 use Rattle.std.specs.Prelude.{Bool, Result, Ok, Err, IfOk, IfErr, OnOk}
 use Rattle.sector.specs.declared.refusal.Refusal.{Refusal}
@@ -8,21 +8,22 @@ use Rattle.layers.specs.Beneath.{stack_reads}
 use Rattle.chunk.specs.Pieces.{Span}
 use Rattle.plain.specs.declared.request.Dev.{Dev}
 use Rattle.plain.specs.declared.request.Reply.{Reply}
-use Rattle.plain.specs.declared.request.Reply.TheVariants.{Data, Written, Refused}
+use Rattle.plain.specs.declared.request.Reply.TheVariants.{Data, Written, Flushed, Refused}
 use Rattle.plain.specs.declared.request.Failure.{Failure}
 use Rattle.plain.specs.declared.request.Failure.TheVariants.{Invalid, Io, Overflow}
 use Rattle.settled.specs.Merges.{Merged}
-use Rattle.served.specs.Beside.{Served, read_beside, written_beside, written_first_beside, count_beside}
+use Rattle.served.specs.Beside.{Served, read_beside, written_beside, flushed_beside, written_first_beside, count_beside}
 use Rattle.served.specs.Refusals.{is_starved}
 use Rattle.resting.specs.Rested.{Rested, has_dev}
 use Rattle.plain.specs.Failures.{refusal_of}
-use Rattle.resting.specs.Commands.{IsDoneBy, IsReadRefused, IsWriteRefused}
+use Rattle.resting.specs.Commands.{IsDoneBy, IsFlushRefused, IsReadRefused, IsWriteRefused}
 use Rattle.resting.proofs.Unread.{read_leaves, refused_read_leaves}
 use Rattle.named.specs.declared.place.Role.{Role}
 use Rattle.named.specs.State.{Volume, merged_in}
 use Rattle.named.specs.Changes.{Did, Serves}
-use Rattle.named.specs.Sectors.{Asked, asked_of, after_asking, read_answer, read_by, read_in, IsReadAsked, write_answer, write_by, written_in, ArePartWritten, IsPartWritten, IsPartWrittenBy}
+use Rattle.named.specs.Sectors.{Asked, asked_of, after_asking, flush_by, flushed_in, read_answer, read_by, read_in, IsReadAsked, write_answer, write_by, written_in, ArePartWritten, IsPartWritten, IsPartWrittenBy}
 use Rattle.named_volume.specs.Held.{merged_inside, IsSettledIn}
+use Rattle.named_volume.proofs.Unflushed.{flush_leaves}
 
 -- the same answer, and the same left
 did : {A T : Type 0} (a b : Result A Refusal) (x y : T) → a ≡ b → x ≡ y → (let d : Did A T = record { answer = a; left = x } in d) ≡ record { answer = b; left = y }
@@ -47,6 +48,10 @@ pub write_refused : (role : Role) (first count : ℕ) (bytes : List ℕ) (volume
 unfolding written_in
 write_refused role first count bytes volume new e why same =
     (λ other. ap (write_by count bytes volume) why ∙ did (Err e) (Err e) volume new refl (sym same), λ none. inl same)
+
+pub flush_refused : (role : Role) (volume new : Volume) (e : Refusal) → asked_of role 0 1 volume ≡ Err e → new ≡ volume → Serves {A = Unit {0}} (Err e) new (λ v. (v ≡ volume) ⊎ IsReadAsked 1 volume v) (flushed_in role volume)
+unfolding flushed_in
+flush_refused role volume new e why same = (λ other. ap (flush_by volume) why ∙ did (Err e) (Err e) volume new refl (sym same), λ none. inl same)
 
 -- A command that asks for these sectors of a settled volume.
 module _ (role : Role) (first count : ℕ) (volume new : Volume) (dev : Dev) (span : Span) (before after : Rested Stack) (asked : asked_of role first count volume ≡ Ok (record { dev = dev; span = span })) (state : merged_in volume ≡ merged_inside before) (left : new ≡ after_asking count (merged_inside after) volume) (settled : IsSettledIn before) (there : has_dev dev before ≡ true) where
@@ -107,5 +112,30 @@ module _ (role : Role) (first count : ℕ) (volume new : Volume) (dev : Dev) (sp
     | inr more ↦ elim more [
       | inl failed ↦ (λ other. write_by_reply bytes (Refused failed.1.0) (Err e) failed.1.2 (ap (λ (r : Refusal). let x : Result (Unit {0}) Refusal = Err r in x) (sym failed.1.1)), λ none. absurd (not_both (is_starved e) none (ap is_starved failed.1.1 ∙ served failed.1.0)))
       | inr starved ↦ (λ other. absurd (not_both (is_starved e) starved.1 other), λ none. inr (part bytes starved.2.0 starved.2.1 starved.2.2))
+    ]
+  ]
+
+-- A flush of a settled volume.
+module _ (role : Role) (volume new : Volume) (dev : Dev) (span : Span) (before after : Rested Stack) (asked : asked_of role 0 1 volume ≡ Ok (record { dev = dev; span = span })) (state : merged_in volume ≡ merged_inside before) (left : new ≡ after_asking 1 (merged_inside after) volume) (settled : IsSettledIn before) (there : has_dev dev before ≡ true) where
+  -- it leaves the state
+  flush_left : merged_inside after ≡ merged_inside before → after_asking 1 (merged_in volume) volume ≡ new
+  flush_left same = ap (λ (m : Merged). after_asking 1 m volume) (state ∙ sym same) ∙ sym left
+
+  flush_by_reply : (reply : Reply) (answer : Result (Unit {0}) Refusal) → IsDoneBy stack_contents stack_layers (flushed_beside dev) reply before after → write_answer reply ≡ answer → flushed_in role volume ≡ record { answer = answer; left = new }
+  unfolding flushed_in
+  flush_by_reply reply answer done is =
+      ap (flush_by volume) asked
+      ∙ did (write_answer (flushed_beside dev (merged_in volume)).reply) answer (after_asking 1 (merged_in volume) volume) new
+      (ap (λ (m : Merged). write_answer (flushed_beside dev m).reply) state ∙ ap (λ (a : Served). write_answer a.reply) (done settled) ∙ is)
+      (flush_left (flush_leaves dev reply before after done settled))
+
+  pub flush_does : (result : Result (Unit {0}) Refusal) → OnOk result (IsDoneBy stack_contents stack_layers (flushed_beside dev) Flushed before after) → IfErr result (λ refusal. IsFlushRefused stack_contents stack_layers dev refusal before after)
+      → Serves result new (λ v. (v ≡ volume) ⊎ IsReadAsked 1 volume v) (flushed_in role volume)
+  flush_does (Ok unit) done why = flush_by_reply Flushed (Ok unit) done refl
+  flush_does (Err e) done why = elim why [
+    | inl missing ↦ absurd (cc)
+    | inr more ↦ elim more [
+      | inl failed ↦ (λ other. flush_by_reply (Refused failed.1.0) (Err e) failed.1.2 (ap (λ (r : Refusal). let x : Result (Unit {0}) Refusal = Err r in x) (sym failed.1.1)), λ none. absurd (not_both (is_starved e) none (ap is_starved failed.1.1 ∙ served failed.1.0)))
+      | inr starved ↦ (λ other. absurd (not_both (is_starved e) starved.1 other), λ none. inr (sym (flush_left starved.2)))
     ]
   ]

@@ -18,7 +18,7 @@ use Rattle.volume.specs.Finishing.{finish_refusal}
 use Rattle.volume.specs.Submitting.{IsAcceptedAs, IsRefusedAs}
 use Rattle.plain.specs.declared.request.Replied.{Replied}
 use Rattle.resting.specs.Rested.{rested_of}
-use Rattle.resting.specs.Among.{IsRequestOf, AreReadAmong, AreWrittenAmong, IsReadRefusedAmong, IsWriteRefusedAmong}
+use Rattle.resting.specs.Among.{IsRequestOf, AreReadAmong, AreWrittenAmong, IsFlushedAmong, IsFlushRefusedAmong, IsReadRefusedAmong, IsWriteRefusedAmong}
 use Rattle.resting.specs.Draining.{IsDrained}
 use Rattle.named.specs.State.{Volume, merge_in}
 use Rattle.named.specs.Sectors.{Asked}
@@ -83,6 +83,13 @@ IsWriteServed bytes result earlier later old new asks =
     InEvents (λ before after. MatchResult result
     (λ done. AreWrittenAmong stack_contents stack_layers asks.dev (pieces_of (piece_with before.merge before.snaps) asks.span) bytes before after earlier later)
     (λ refusal. IsWriteRefusedAmong stack_contents stack_layers stack_size asks.dev (pieces_of (piece_with before.merge before.snaps) asks.span) bytes refusal (rested_of before) (rested_of after) earlier later)) old new
+
+-- the device that was asked for was flushed, or its request was refused or failed
+abbrev pub IsFlushServed : Result (Unit {0}) Refusal → List Replied → List Replied → Volume → Volume → Asked → Type 0
+IsFlushServed result earlier later old new asks =
+    InEvents (λ before after. MatchResult result
+    (λ done. IsFlushedAmong stack_contents stack_layers asks.dev before after earlier later)
+    (λ refusal. IsFlushRefusedAmong stack_contents stack_layers stack_size asks.dev refusal (rested_of before) (rested_of after) earlier later)) old new
 
 -- a merge is not finished, for this reason
 abbrev pub IsUnfinished : Refusal → Volume → Type 0

@@ -1,4 +1,4 @@
-// Reads and writes of the origin and of snapshots.
+// Reads, writes and flushes of the origin and of snapshots.
 ghost use Rattle.std.specs.Prelude.{◌≡◌, ◌≢◌, ◌⊎◌, ◌+◌, ◌*◌, ◌<◌, ◌≤◌, length, is_some, true, false, Ok, Err, IfOk, IfErr, OnOk, OnErr};
 ghost use Rattle.sector.specs.declared.refusal.Refusal.TheVariants.{NoMemory, BadTable, TooMany};
 ghost use Rattle.chunk.specs.Pieces.{span_of};
@@ -7,8 +7,8 @@ ghost use Rattle.resting.specs.Rested.{has_dev};
 ghost use Rattle.named.specs.State.{Volume};
 ghost use Rattle.named.specs.Changes.{Serves};
 ghost use Rattle.named.specs.Places.{HasRole, IsRoleIn};
-ghost use Rattle.named.specs.Sectors.{asked_of, dev_of, serves, takes, read_in, written_in, IsReadAsked, IsPartWritten};
-ghost use Rattle.named_volume.specs.Flights.{IsReadServed, IsWriteServed};
+ghost use Rattle.named.specs.Sectors.{asked_of, dev_of, serves, takes, flushed_in, read_in, written_in, IsReadAsked, IsPartWritten};
+ghost use Rattle.named_volume.specs.Flights.{IsFlushServed, IsReadServed, IsWriteServed};
 ghost use Rattle.named_volume.specs.Held.{settled_in};
 ghost use Rattle.named_volume.specs.Names.{KeepsNames};
 
@@ -171,5 +171,27 @@ impl NamedVolume {
             return self.volume.write(alloc, dev, range, bytes);
         }
         self.volume.write_among(alloc, dev, range, bytes, ended)
+    }
+    /// Flushes the origin, or a snapshot: what was written to it lasts. While a merge is begun, the merging store is flushed
+    /// before the origin. Refused as a read of the first sector is, before the volume is asked and by it.
+    pub fn flush(&mut self, role: Role, ended: &mut Vec<Replied>) -> Result<(), Refusal>
+        requires role { IsRoleIn role self.old }
+        ensures done { self.old.sound ≡ true → self.old.quiet ≡ true → Serves result self.new (λ v. (v ≡ self.old) ⊎ IsReadAsked 1 self.old v) (flushed_in role self.old) }
+        ensures among { self.old.quiet ≡ false → IfOk (asked_of role 0 1 self.old) (IsFlushServed result ended.old.items ended.new.items self.old self.new) }
+        ensures counts { IfOk (asked_of role 0 1 self.old) (λ _. self.new.asked ≡ self.old.asked + 1) }
+        ensures told { self.old.quiet ≡ true → ended.new.items ≡ ended.old.items }
+        ensures asks { IfErr (asked_of role 0 1 self.old) (λ e. result ≡ Err e) }
+        ensures stays { IfErr (asked_of role 0 1 self.old) (λ _. (self.new ≡ self.old) × (ended.new.items ≡ ended.old.items)) }
+        ensures quiet { self.old.quiet ≡ true → self.new.quiet ≡ true }
+        ensures kept { KeepsNames self.old self.new }
+    {
+        let (dev, _range) = match ask(&self.volume, &mut self.asked, role, 0, 1) {
+            Ok(asks) => asks,
+            Err(refusal) => return Err(refusal),
+        };
+        if self.volume.is_quiet() {
+            return self.volume.flush(dev);
+        }
+        self.volume.flush_among(dev, ended)
     }
 }

@@ -130,3 +130,34 @@ fn a_copy_frees_the_write_that_waits_for_it(rt: HostRuntime) -> Result<(), Fail>
     assert!(rt; refused_route(1, Kind::SnapRead(2), Route::Origin) == Route::Origin);
     Ok(())
 }
+
+// A flush goes to a whole store, or to the origin disk; it is never held, and has no sectors of its own.
+#[test]
+fn a_flush_is_kept_with_the_first_sector(rt: HostRuntime) -> Result<(), Fail> {
+    let flush = Request {
+        dev: Dev::Snap(1),
+        op: Op::Flush,
+        range: Range::new(7, 9, 128)?,
+    }
+    .kept();
+    assert!(rt; (flush.range.first, flush.range.count, flush.range.size) == (0, 1, 1));
+    let read = Request {
+        dev: Dev::Origin,
+        op: Op::Read,
+        range: Range::new(7, 9, 128)?,
+    }
+    .kept();
+    assert!(rt; (read.range.first, read.range.count, read.range.size) == (7, 9, 128));
+    assert!(rt; request_kind(&flush) == Kind::SnapFlush(1));
+    let flight = Flight::new(rt.alloc(), 2, flush, Route::Whole)?;
+    assert_eq!(rt; flight.room.len(), 0);
+    assert!(rt; (flush_route(true), flush_route(false)) == (Route::Whole, Route::Origin));
+    assert!(rt; is_routed(Route::Whole) && !reads_origin(1, Kind::SnapFlush(1), Route::Whole));
+    let whole = Route::Whole;
+    assert!(rt; again_route(Kind::OriginFlush, whole, Route::Origin) == whole);
+    assert!(rt; placed_route(1, Kind::SnapFlush(1), whole, Some(2)) == whole);
+    assert!(rt; refused_route(1, Kind::SnapFlush(1), whole) == Route::Refused);
+    assert!(rt; refused_route(2, Kind::SnapFlush(1), whole) == whole);
+    assert!(rt; refused_route(1, Kind::OriginFlush, whole) == whole);
+    Ok(())
+}

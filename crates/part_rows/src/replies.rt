@@ -11,6 +11,11 @@ fn copies_are_the_same_and_others_are_not(rt: HostRuntime) -> Result<(), Fail> {
         ones.is_same(&ones.copy(rt.alloc())?) && Op::Read.is_same(&Op::Read.copy(rt.alloc())?)
     );
     assert!(rt; !ones.is_same(&zeros) && !ones.is_same(&Op::Read));
+    assert!(rt;
+        Op::Flush.is_same(&Op::Flush.copy(rt.alloc())?)
+            && !Op::Flush.is_same(&Op::Read)
+            && !zeros.is_same(&Op::Flush)
+    );
     Ok(())
 }
 
@@ -21,6 +26,9 @@ fn a_reply_is_copied_into_a_buffer_that_is_there(rt: HostRuntime) -> Result<(), 
     assert!(rt; room.len() == 512);
     assert!(rt; data.is_same(&copied(&data, room)));
     assert!(rt; !data.is_same(&Reply::Written));
+    let empty = Buf::zeroed(rt.alloc(), 0)?;
+    assert!(rt; Reply::Flushed.is_same(&copied(&Reply::Flushed, empty)));
+    assert!(rt; !Reply::Flushed.is_same(&Reply::Written));
     assert!(rt; !Reply::Refused(Failure::Io).is_same(&Reply::Refused(Failure::Invalid)));
     Ok(())
 }

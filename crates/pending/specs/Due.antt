@@ -8,7 +8,7 @@ use Rattle.pending.specs.declared.copies.ChunkCopy.{ChunkCopy}
 use Rattle.pending.specs.declared.copies.Mark.{Mark}
 use Rattle.pending.specs.declared.flights.Flight.{Flight}
 use Rattle.pending.specs.declared.flights.Route.{Route}
-use Rattle.pending.specs.declared.flights.Route.TheVariants.{Held, Origin, Store, Refused}
+use Rattle.pending.specs.declared.flights.Route.TheVariants.{Held, Origin, Store, Whole, Refused}
 use Rattle.pending.specs.Routes.{is_reading}
 
 -- the number of the first element that passes a test
@@ -76,6 +76,7 @@ abbrev pub is_routed : Route → Bool
 is_routed Held = false
 is_routed Origin = true
 is_routed (Store place) = true
+is_routed Whole = true
 is_routed Refused = true
 
 abbrev pub is_issuable : Flight → Bool

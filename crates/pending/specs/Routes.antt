@@ -4,9 +4,9 @@
 use Rattle.std.specs.Prelude.{◌==◌, ◌&&◌, ℕ, ◌/◌, List, Bool, true, false, Option, Some, None, if◌then◌else◌}
 use Rattle.plain.specs.Plain.{is_in}
 use Rattle.pending.specs.declared.flights.Kind.{Kind}
-use Rattle.pending.specs.declared.flights.Kind.TheVariants.{OriginRead, OriginWrite, SnapRead, SnapWrite}
+use Rattle.pending.specs.declared.flights.Kind.TheVariants.{OriginRead, OriginWrite, OriginFlush, SnapRead, SnapWrite, SnapFlush}
 use Rattle.pending.specs.declared.flights.Route.{Route}
-use Rattle.pending.specs.declared.flights.Route.TheVariants.{Held, Origin, Store, Refused}
+use Rattle.pending.specs.declared.flights.Route.TheVariants.{Held, Origin, Store, Whole, Refused}
 use Rattle.pending.specs.declared.flights.Flight.{Flight}
 use Rattle.pending.specs.Kinds.{kind_of}
 
@@ -26,23 +26,34 @@ abbrev pub write_route_of : Bool → Option ℕ → Bool → Route
 write_route_of true place clear = Held
 write_route_of false place clear = placed_write_route place clear
 
+-- a flush of the origin goes to the store that is being merged first, if there is one
+abbrev pub flush_route_of : Bool → Route
+flush_route_of true = Whole
+flush_route_of false = Origin
+
 -- held origin writes get the new route, every other request keeps its own
 abbrev pub again_route_of : Kind → Route → Route → Route
 again_route_of kind Origin new = Origin
 again_route_of kind (Store place) new = Store place
+again_route_of kind Whole new = Whole
 again_route_of kind Refused new = Refused
 again_route_of OriginRead Held new = Held
 again_route_of OriginWrite Held new = new
+again_route_of OriginFlush Held new = Held
 again_route_of (SnapRead snap) Held new = Held
 again_route_of (SnapWrite snap) Held new = Held
+again_route_of (SnapFlush snap) Held new = Held
 
 -- a held write of this snapshot goes to its chunk's place, if there is one; every other request keeps its route
 abbrev pub placed_route_of : ℕ → Kind → Route → Option ℕ → Route
 placed_route_of snap OriginRead route place = route
 placed_route_of snap OriginWrite route place = route
+placed_route_of snap OriginFlush route place = route
 placed_route_of snap (SnapRead n) route place = route
+placed_route_of snap (SnapFlush n) route place = route
 placed_route_of snap (SnapWrite n) Origin place = Origin
 placed_route_of snap (SnapWrite n) (Store p) place = Store p
+placed_route_of snap (SnapWrite n) Whole place = Whole
 placed_route_of snap (SnapWrite n) Refused place = Refused
 placed_route_of snap (SnapWrite n) Held None = Held
 placed_route_of snap (SnapWrite n) Held (Some p) = if n == snap then Store p else Held
@@ -51,8 +62,10 @@ placed_route_of snap (SnapWrite n) Held (Some p) = if n == snap then Store p els
 abbrev pub refused_route_of : List ℕ → Kind → Route → Route
 refused_route_of which OriginRead route = route
 refused_route_of which OriginWrite route = route
+refused_route_of which OriginFlush route = route
 refused_route_of which (SnapRead snap) route = if is_in which snap then Refused else route
 refused_route_of which (SnapWrite snap) route = if is_in which snap then Refused else route
+refused_route_of which (SnapFlush snap) route = if is_in which snap then Refused else route
 
 abbrev pub refused_of : List ℕ → Flight → Flight
 refused_of which f = record f { route = refused_route_of which (kind_of f.request) f.route }
@@ -61,10 +74,13 @@ refused_of which f = record f { route = refused_route_of which (kind_of f.reques
 abbrev pub reads_origin_of : ℕ → Kind → Route → Bool
 reads_origin_of snap OriginRead route = false
 reads_origin_of snap OriginWrite route = false
+reads_origin_of snap OriginFlush route = false
 reads_origin_of snap (SnapWrite other) route = false
+reads_origin_of snap (SnapFlush other) route = false
 reads_origin_of snap (SnapRead other) Held = false
 reads_origin_of snap (SnapRead other) Origin = other == snap
 reads_origin_of snap (SnapRead other) (Store place) = false
+reads_origin_of snap (SnapRead other) Whole = false
 reads_origin_of snap (SnapRead other) Refused = false
 
 -- whether a request reads this chunk of the snapshot from the origin disk, in chunks of so many sectors

@@ -150,6 +150,7 @@ pub fn is_routed(route: Route) -> bool
         Route::Held => false,
         Route::Origin => true,
         Route::Store(_) => true,
+        Route::Whole => true,
         Route::Refused => true,
     }
 }

@@ -15,8 +15,10 @@ pub const MAX_REQUESTS: usize = 64;
 pub enum Kind {
     OriginRead,
     OriginWrite,
+    OriginFlush,
     SnapRead(SnapId),
     SnapWrite(SnapId),
+    SnapFlush(SnapId),
 }
 
 /// Where a request goes.
@@ -28,6 +30,8 @@ pub enum Route {
     Origin,
     /// To this chunk of its snapshot's store, or of the store that is being merged.
     Store(Chunk),
+    /// To the store itself: its snapshot's, or the one that is being merged.
+    Whole,
     /// It is answered Invalid, its snapshot being spoiled.
     Refused,
 }
@@ -39,7 +43,7 @@ pub struct Flight {
     pub number: ReqId,
     pub request: Request,
     pub route: Route,
-    /// The buffer of a read's reply, as long as its range; that of a write is empty.
+    /// The buffer of a read's reply, as long as its range; that of a write or of a flush is empty.
     pub room: Vec<u8>,
 }
 
@@ -50,8 +54,10 @@ pub fn request_kind(request: &Request) -> Kind
     match (request.dev, &request.op) {
         (Dev::Origin, Op::Read) => Kind::OriginRead,
         (Dev::Origin, Op::Write(_)) => Kind::OriginWrite,
+        (Dev::Origin, Op::Flush) => Kind::OriginFlush,
         (Dev::Snap(snap), Op::Read) => Kind::SnapRead(snap),
         (Dev::Snap(snap), Op::Write(_)) => Kind::SnapWrite(snap),
+        (Dev::Snap(snap), Op::Flush) => Kind::SnapFlush(snap),
     }
 }
 
@@ -71,6 +77,7 @@ impl Flight {
         let room = match &request.op {
             Op::Read => vec![in alloc; 0u8; 512 * request.range.count as usize]?,
             Op::Write(_) => Vec::new(alloc),
+            Op::Flush => Vec::new(alloc),
         };
         Ok(Flight {
             number,

@@ -18,6 +18,6 @@ pub use due::{
 };
 pub use flights::{Flight, Kind, MAX_REQUESTS, Route, flight_at, request_kind};
 pub use routes::{
-    again_route, is_being_read, placed_route, read_route, reads_origin, refuse, refused_route,
-    write_route,
+    again_route, flush_route, is_being_read, placed_route, read_route, reads_origin, refuse,
+    refused_route, write_route,
 };

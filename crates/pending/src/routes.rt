@@ -1,7 +1,7 @@
 // How requests are routed, and routed again.
 ghost use Rattle.std.specs.Prelude.{◌≡◌, ◌==◌, ◌/◌, ◌<◌, ◌&&◌, ◌∷◌, [], map};
 ghost use Rattle.std.specs.List.{list_any};
-ghost use Rattle.pending.specs.Routes.{again_route_of, is_reading, placed_route_of, read_route_of, reads_origin_of, refused_of, refused_route_of, write_route_of};
+ghost use Rattle.pending.specs.Routes.{again_route_of, flush_route_of, is_reading, placed_route_of, read_route_of, reads_origin_of, refused_of, refused_route_of, write_route_of};
 
 use crate::flights::{Flight, Kind, Route, request_kind};
 use plain::SnapId;
@@ -31,6 +31,13 @@ pub fn write_route(grouped: bool, place: Option<Chunk>, clear: bool) -> Route
     }
 }
 
+/// The route of a flush of the origin: with a merge it goes to the store that is being merged first.
+pub fn flush_route(begun: bool) -> Route
+    ensures { result ≡ flush_route_of begun }
+{
+    if begun { Route::Whole } else { Route::Origin }
+}
+
 /// The route of a request after held origin writes got this new one.
 pub fn again_route(kind: Kind, route: Route, new: Route) -> Route
     ensures { result ≡ again_route_of kind route new }
@@ -39,11 +46,14 @@ pub fn again_route(kind: Kind, route: Route, new: Route) -> Route
         Route::Held => match kind {
             Kind::OriginWrite => new,
             Kind::OriginRead => route,
+            Kind::OriginFlush => route,
             Kind::SnapRead(_) => route,
             Kind::SnapWrite(_) => route,
+            Kind::SnapFlush(_) => route,
         },
         Route::Origin => route,
         Route::Store(_) => route,
+        Route::Whole => route,
         Route::Refused => route,
     }
 }
@@ -55,10 +65,13 @@ pub fn placed_route(snap: SnapId, kind: Kind, route: Route, place: Option<Chunk>
     match kind {
         Kind::OriginRead => route,
         Kind::OriginWrite => route,
+        Kind::OriginFlush => route,
         Kind::SnapRead(_) => route,
+        Kind::SnapFlush(_) => route,
         Kind::SnapWrite(other) => match route {
             Route::Origin => route,
             Route::Store(_) => route,
+            Route::Whole => route,
             Route::Refused => route,
             Route::Held => match place {
                 None => route,
@@ -79,8 +92,10 @@ pub fn refused_route(snap: SnapId, kind: Kind, route: Route) -> Route
     match kind {
         Kind::OriginRead => route,
         Kind::OriginWrite => route,
+        Kind::OriginFlush => route,
         Kind::SnapRead(other) => if snap == other { Route::Refused } else { route },
         Kind::SnapWrite(other) => if snap == other { Route::Refused } else { route },
+        Kind::SnapFlush(other) => if snap == other { Route::Refused } else { route },
     }
 }
 
@@ -100,11 +115,14 @@ pub fn reads_origin(snap: SnapId, kind: Kind, route: Route) -> bool
     match kind {
         Kind::OriginRead => false,
         Kind::OriginWrite => false,
+        Kind::OriginFlush => false,
         Kind::SnapWrite(_) => false,
+        Kind::SnapFlush(_) => false,
         Kind::SnapRead(other) => match route {
             Route::Origin => other == snap,
             Route::Held => false,
             Route::Store(_) => false,
+            Route::Whole => false,
             Route::Refused => false,
         },
     }

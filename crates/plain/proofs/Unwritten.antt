@@ -7,9 +7,9 @@ use Rattle.sector.specs.declared.range.Range.{Range}
 use Rattle.plain.specs.declared.request.Dev.{Dev}
 use Rattle.plain.specs.declared.request.Dev.TheVariants.{Origin, Snap}
 use Rattle.plain.specs.declared.request.Op.{Op}
-use Rattle.plain.specs.declared.request.Op.TheVariants.{Read, Write}
+use Rattle.plain.specs.declared.request.Op.TheVariants.{Read, Write, Flush}
 use Rattle.plain.specs.declared.request.Reply.{Reply}
-use Rattle.plain.specs.declared.request.Reply.TheVariants.{Data, Written, Refused}
+use Rattle.plain.specs.declared.request.Reply.TheVariants.{Data, Written, Flushed, Refused}
 use Rattle.plain.specs.declared.request.Failure.TheVariants.{Invalid as IsInvalid, Io, Overflow}
 use Rattle.plain.specs.declared.request.Request.{Request}
 use Rattle.plain.specs.declared.event.Event.{Event}
@@ -17,6 +17,7 @@ use Rattle.plain.specs.declared.event.Event.TheVariants.{Issue, CopyRead, CopyWr
 use Rattle.plain.specs.declared.event.Outcome.{Outcome}
 use Rattle.plain.specs.declared.event.Outcome.TheVariants.{Done, Fault, Reply as Replied}
 use Rattle.plain.specs.Plain.{Plain, Entry, InFlight, Saved, Live, Invalid, saved_under, with_saved, asked_under, without, is_in, spoiled_entry, marked_in}
+use Rattle.plain.specs.Kept.{kept}
 use Rattle.plain.specs.Serves.{Serves}
 use Rattle.plain.specs.Legal.{Spoils, IsAnswered, IsLegalStep}
 use Rattle.plain.specs.Runs.{MayStep, MaySubmit}
@@ -69,6 +70,7 @@ saved_other number n saved (e ∷ es) ne = elim (cases_Bool (e.number == n)) [
 pub unwritten_serves : (number : ℕ) (old new : Plain) (dev : Dev) (op : Op) (range : Range) (reply : Reply) → writes number dev op ≡ false → Serves old dev op range reply new → saved_under number new.saved ≡ saved_under number old.saved
 unwritten_serves number old new dev Read range (Data bytes) free h = ap (saved_under number) h.0.saved
 unwritten_serves number old new dev Read range Written free h = absurd h
+unwritten_serves number old new dev Read range Flushed free h = absurd h
 unwritten_serves number old new dev Read range (Refused Io) free h = ap (saved_under number) h.0.saved
 unwritten_serves number old new dev Read range (Refused IsInvalid) free h = ap (saved_under number) h.0.saved
 unwritten_serves number old new dev Read range (Refused Overflow) free h = absurd h
@@ -77,7 +79,14 @@ unwritten_serves number old new (Snap n) (Write bytes) range Written free h = ap
 unwritten_serves number old new dev (Write bytes) range (Data read) free h = absurd h
 unwritten_serves number old new dev (Write bytes) range (Refused Io) free h = ap (saved_under number) h.0.saved
 unwritten_serves number old new dev (Write bytes) range (Refused IsInvalid) free h = ap (saved_under number) h.0.saved
+unwritten_serves number old new dev (Write bytes) range Flushed free h = absurd h
 unwritten_serves number old new dev (Write bytes) range (Refused Overflow) free h = absurd h
+unwritten_serves number old new dev Flush range Flushed free h = ap (saved_under number) h.0.saved
+unwritten_serves number old new dev Flush range (Data bytes) free h = absurd h
+unwritten_serves number old new dev Flush range Written free h = absurd h
+unwritten_serves number old new dev Flush range (Refused Io) free h = ap (saved_under number) h.0.saved
+unwritten_serves number old new dev Flush range (Refused IsInvalid) free h = ap (saved_under number) h.0.saved
+unwritten_serves number old new dev Flush range (Refused Overflow) free h = absurd h
 
 -- one of the requests is no write of it where none is, and without one none of the others is
 asked_unwritten : (number k : ℕ) (requests : List InFlight) (request : Request) → is_written number requests ≡ false → asked_under k requests ≡ Some request → writes number request.dev request.op ≡ false
@@ -98,39 +107,39 @@ without_unwritten number k (r ∷ rs) free =
       | inr there ↦ rw there (or_from (writes number r.request.dev r.request.op) (is_written number (without k rs)) parts.0 (without_unwritten number k rs parts.1))
     ]
 
--- an event that was due replies, or spoils some
-replies_or_spoils : (old new : Plain) (event : Event) (outcome : Outcome) → IsLegalStep old event outcome new → ((k : ℕ) × (reply : Reply) × IsAnswered old k reply new) ⊎ ((which : List ℕ) × Spoils which old new)
+-- an event that was due replies, or spoils some, or changes nothing
+replies_or_spoils : (old new : Plain) (event : Event) (outcome : Outcome) → IsLegalStep old event outcome new → ((k : ℕ) × (reply : Reply) × IsAnswered old k reply new) ⊎ (((which : List ℕ) × Spoils which old new) ⊎ (new ≡ old))
 replies_or_spoils old new event (Replied k reply) h = inl (k, reply, h.1)
-replies_or_spoils old new (Issue k) Done h = absurd h
+replies_or_spoils old new (Issue k) Done h = inr (inr h.0)
 replies_or_spoils old new (Issue k) Fault h = absurd h
-replies_or_spoils old new (CopyRead k) Done h = inr h
-replies_or_spoils old new (CopyRead k) Fault h = inr h
-replies_or_spoils old new (CopyWrite k) Done h = inr h
-replies_or_spoils old new (CopyWrite k) Fault h = inr h
-replies_or_spoils old new (ZeroNext k) Done h = inr h
-replies_or_spoils old new (ZeroNext k) Fault h = inr h
-replies_or_spoils old new (WriteArea k) Done h = inr h
-replies_or_spoils old new (WriteArea k) Fault h = inr h
-replies_or_spoils old new (Publish k) Done h = inr h
-replies_or_spoils old new (Publish k) Fault h = inr h
-replies_or_spoils old new (WriteInvalid k) Done h = inr h
-replies_or_spoils old new (WriteInvalid k) Fault h = inr h
-replies_or_spoils old new (FlushStore k) Done h = inr h
-replies_or_spoils old new (FlushStore k) Fault h = inr h
-replies_or_spoils old new MergeGroup Done h = inr h
-replies_or_spoils old new MergeGroup Fault h = inr h
-replies_or_spoils old new MergeAreaRead Done h = inr h
-replies_or_spoils old new MergeAreaRead Fault h = inr h
-replies_or_spoils old new MergeRead Done h = inr h
-replies_or_spoils old new MergeRead Fault h = inr h
-replies_or_spoils old new MergeWrite Done h = inr h
-replies_or_spoils old new MergeWrite Fault h = inr h
-replies_or_spoils old new MergeFlush Done h = inr h
-replies_or_spoils old new MergeFlush Fault h = inr h
-replies_or_spoils old new MergeCommit Done h = inr h
-replies_or_spoils old new MergeCommit Fault h = inr h
-replies_or_spoils old new MergeRelease Done h = inr h
-replies_or_spoils old new MergeRelease Fault h = inr h
+replies_or_spoils old new (CopyRead k) Done h = inr (inl h)
+replies_or_spoils old new (CopyRead k) Fault h = inr (inl h)
+replies_or_spoils old new (CopyWrite k) Done h = inr (inl h)
+replies_or_spoils old new (CopyWrite k) Fault h = inr (inl h)
+replies_or_spoils old new (ZeroNext k) Done h = inr (inl h)
+replies_or_spoils old new (ZeroNext k) Fault h = inr (inl h)
+replies_or_spoils old new (WriteArea k) Done h = inr (inl h)
+replies_or_spoils old new (WriteArea k) Fault h = inr (inl h)
+replies_or_spoils old new (Publish k) Done h = inr (inl h)
+replies_or_spoils old new (Publish k) Fault h = inr (inl h)
+replies_or_spoils old new (WriteInvalid k) Done h = inr (inl h)
+replies_or_spoils old new (WriteInvalid k) Fault h = inr (inl h)
+replies_or_spoils old new (FlushStore k) Done h = inr (inl h)
+replies_or_spoils old new (FlushStore k) Fault h = inr (inl h)
+replies_or_spoils old new MergeGroup Done h = inr (inl h)
+replies_or_spoils old new MergeGroup Fault h = inr (inl h)
+replies_or_spoils old new MergeAreaRead Done h = inr (inl h)
+replies_or_spoils old new MergeAreaRead Fault h = inr (inl h)
+replies_or_spoils old new MergeRead Done h = inr (inl h)
+replies_or_spoils old new MergeRead Fault h = inr (inl h)
+replies_or_spoils old new MergeWrite Done h = inr (inl h)
+replies_or_spoils old new MergeWrite Fault h = inr (inl h)
+replies_or_spoils old new MergeFlush Done h = inr (inl h)
+replies_or_spoils old new MergeFlush Fault h = inr (inl h)
+replies_or_spoils old new MergeCommit Done h = inr (inl h)
+replies_or_spoils old new MergeCommit Fault h = inr (inl h)
+replies_or_spoils old new MergeRelease Done h = inr (inl h)
+replies_or_spoils old new MergeRelease Fault h = inr (inl h)
 
 module _ (number : ℕ) (array : List ℕ) (old new : Plain) (free : is_written number old.requests ≡ false) (shows : StillShows number array old) where
   still_same : saved_under number new.saved ≡ saved_under number old.saved → StillShows number array new
@@ -144,7 +153,8 @@ module _ (number : ℕ) (array : List ℕ) (old new : Plain) (free : is_written 
       still_same (unwritten_serves number old new answered.request.dev answered.request.op answered.request.range reply (asked_unwritten number k old.requests answered.request free answered.asked) answered.served),
       ap (is_written number) answered.gone ∙ without_unwritten number k old.requests free,
     )
-    | inr (which, spoils) ↦ (still_spoiled which number array old new (ap (λ (p : Plain). p.saved) spoils) shows, ap (λ (p : Plain). is_written number p.requests) spoils ∙ free)
+    | inr (inr same) ↦ (still_same (ap (λ (p : Plain). saved_under number p.saved) same), ap (λ (p : Plain). is_written number p.requests) same ∙ free)
+    | inr (inl (which, spoils)) ↦ (still_spoiled which number array old new (ap (λ (p : Plain). p.saved) spoils) shows, ap (λ (p : Plain). is_written number p.requests) spoils ∙ free)
   ]
 
   -- after a request that is no write of it, accepted or not
@@ -152,7 +162,7 @@ module _ (number : ℕ) (array : List ℕ) (old new : Plain) (free : is_written 
   submit_keeps request none (inl (k, which, submitted)) = (
     still_spoiled which number array old new (ap (λ (p : Plain). p.saved) submitted.becomes) shows,
     ap (λ (p : Plain). is_written number p.requests) submitted.becomes
-        ∙ list_any-append (λ (r : InFlight). writes number r.request.dev r.request.op) old.requests (record { number = k; request = request } ∷ [])
+        ∙ list_any-append (λ (r : InFlight). writes number r.request.dev r.request.op) old.requests (record { number = k; request = kept request } ∷ [])
         ∙ or_from (is_written number old.requests) (writes number request.dev request.op || false) free (or_from (writes number request.dev request.op) false none refl),
   )
   submit_keeps request none (inr (refusal, inl same)) = (still_same (ap (λ (p : Plain). saved_under number p.saved) same), ap (λ (p : Plain). is_written number p.requests) same ∙ free)

@@ -1,12 +1,12 @@
 -- To be believed: `run`'s output, a volume's steps or its attach are said in these words.
 -- The legal steps of the plain machine.
-use Rattle.std.specs.Prelude.{◌≡◌, ◌⊎◌, ℕ, Bool, false, List, [], ◌∷◌, ◌++◌, Some, None}
+use Rattle.std.specs.Prelude.{◌≡◌, ◌≢◌, ◌⊎◌, ℕ, Bool, false, List, [], ◌∷◌, ◌++◌, Some, None}
 use Rattle.sector.specs.declared.refusal.Refusal.{Refusal}
 use Rattle.sector.specs.declared.refusal.Refusal.TheVariants.{Invalid, Overflow}
 use Rattle.plain.specs.declared.request.Dev.{Dev}
 use Rattle.plain.specs.declared.request.Dev.TheVariants.{Origin, Snap}
 use Rattle.plain.specs.declared.request.Op.{Op}
-use Rattle.plain.specs.declared.request.Op.TheVariants.{Read, Write}
+use Rattle.plain.specs.declared.request.Op.TheVariants.{Read, Write, Flush}
 use Rattle.plain.specs.declared.request.Overflowing.{Overflowing}
 use Rattle.plain.specs.declared.request.Overflowing.TheVariants.{Never, May}
 use Rattle.plain.specs.declared.request.Request.{Request}
@@ -17,6 +17,7 @@ use Rattle.plain.specs.declared.event.Outcome.{Outcome}
 use Rattle.plain.specs.declared.event.Outcome.TheVariants.{Done, Fault, Reply as Replied}
 use Rattle.plain.specs.Plain.{Entry, Plain, Saved, Live, saved_under, without_saved, asked_under, without, spoiled, overflow_under, did_overflow, marked}
 use Rattle.plain.specs.Serves.{Serves}
+use Rattle.plain.specs.Kept.{kept}
 
 -- these snapshots are spoiled, and nothing else changes: with none of them the event is silent
 abbrev pub Spoils : List ℕ → Plain → Plain → Type 0
@@ -29,10 +30,20 @@ pub record IsAnswered (old : Plain) (number : ℕ) (reply : Reply) (new : Plain)
   pub gone : new.requests ≡ without number old.requests
   pub served : Serves old request.dev request.op request.range reply new
 
--- An event that was due: only Issue replies, and it changes nothing else; every other event is silent or spoils.
+-- The request with this number is a flush of the origin beside a merge: the merging store is flushed for it, and then the
+-- origin disk, by an Issue each.
+pub record IsBegunFlush (number : ℕ) (old : Plain) : Type 0 where
+  pub request : Request
+  pub asked : asked_under number old.requests ≡ Some request
+  pub origin : request.dev ≡ Origin
+  pub flush : request.op ≡ Flush
+  pub begun : old.begun ≢ None
+
+-- An event that was due: only Issue replies, and it changes nothing else; every other event is silent or spoils. An Issue
+-- that does not reply is the first of a flush of the origin beside a merge, and changes nothing.
 abbrev pub IsLegalStep : Plain → Event → Outcome → Plain → Type 0
 IsLegalStep old event (Replied number reply) new = (event ≡ Issue number) × IsAnswered old number reply new
-IsLegalStep old (Issue number) Done new = ⊥
+IsLegalStep old (Issue number) Done new = (new ≡ old) × IsBegunFlush number old
 IsLegalStep old (Issue number) Fault new = ⊥
 IsLegalStep old event outcome new = (which : List ℕ) × Spoils which old new
 
@@ -47,12 +58,13 @@ pub record Overflows (number : ℕ) (old new : Plain) : Type 0 where
 abbrev pub is_shut : Dev → Op → List Entry → Bool
 is_shut Origin op entries = false
 is_shut (Snap number) Read entries = false
+is_shut (Snap number) Flush entries = false
 is_shut (Snap number) (Write bytes) entries = did_overflow (overflow_under number entries)
 
 -- An accepted request is in flight under its number; snapshots whose stores were found full may be spoiled.
 pub record IsSubmitted (which : List ℕ) (old : Plain) (number : ℕ) (request : Request) (new : Plain) : Type 0 where
   pub writable : is_shut request.dev request.op old.saved ≡ false
-  pub becomes : new ≡ record old { saved = (spoiled which old).saved; requests = old.requests ++ record { number = number; request = request } ∷ [] }
+  pub becomes : new ≡ record old { saved = (spoiled which old).saved; requests = old.requests ++ record { number = number; request = kept request } ∷ [] }
 
 -- What a write of a snapshot does that finds its store full: it spoils the snapshot and is refused with Invalid, or, of one
 -- that may overflow, it marks it and is refused with Overflow.

@@ -1,5 +1,6 @@
 pub mod Replies
 pub mod Plain
+pub mod Kept
 pub mod Serves
 pub mod Legal
 pub mod Runs

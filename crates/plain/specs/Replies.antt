@@ -4,12 +4,13 @@ use Rattle.plain.specs.declared.event.Outcome.{Outcome}
 use Rattle.plain.specs.declared.event.Outcome.TheVariants.{Done, Fault, Reply as Answered}
 use Rattle.plain.specs.declared.request.Replied.{Replied}
 use Rattle.plain.specs.declared.request.Reply.{Reply}
-use Rattle.plain.specs.declared.request.Reply.TheVariants.{Data, Written, Refused}
+use Rattle.plain.specs.declared.request.Reply.TheVariants.{Data, Written, Flushed, Refused}
 
 -- a reply with bytes has n of them
 abbrev pub FitsReply : ℕ → Reply → Type 0
 FitsReply n (Data bytes) = n ≡ length bytes
 FitsReply n Written = Unit {0}
+FitsReply n Flushed = Unit {0}
 FitsReply n (Refused failure) = Unit {0}
 
 -- the replies that an event gave

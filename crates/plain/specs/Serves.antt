@@ -6,9 +6,9 @@ use Rattle.sector.specs.declared.range.Range.{Range}
 use Rattle.plain.specs.declared.request.Dev.{Dev}
 use Rattle.plain.specs.declared.request.Dev.TheVariants.{Origin, Snap}
 use Rattle.plain.specs.declared.request.Op.{Op}
-use Rattle.plain.specs.declared.request.Op.TheVariants.{Read, Write}
+use Rattle.plain.specs.declared.request.Op.TheVariants.{Read, Write, Flush}
 use Rattle.plain.specs.declared.request.Reply.{Reply}
-use Rattle.plain.specs.declared.request.Reply.TheVariants.{Data, Written, Refused}
+use Rattle.plain.specs.declared.request.Reply.TheVariants.{Data, Written, Flushed, Refused}
 use Rattle.plain.specs.declared.request.Failure.TheVariants.{Invalid, Io, Overflow}
 use Rattle.plain.specs.Plain.{Plain, Live, Invalid as Spoilt, saved_under, with_saved}
 
@@ -47,15 +47,20 @@ IsSpoilt plain (Snap number) = saved_under number plain.saved ≡ Some Spoilt
 abbrev pub IsShowing : Plain → Dev → Type 0
 IsShowing plain dev = (array : List ℕ) × Shows plain dev array
 
--- A read answers the array's sectors. A write puts its bytes into that one array. Invalid is answered for a spoiled
+-- A read answers the array's sectors. A write puts its bytes into that one array. A flush changes no array. Invalid is answered for a spoiled
 -- snapshot alone, Io for a device that shows an array alone, and then no array changes. Overflow is answered to no request.
 abbrev pub Serves : Plain → Dev → Op → Range → Reply → Plain → Type 0
 Serves old dev Read range (Data bytes) new =
     SameArrays old new × ((array : List ℕ) × Shows old dev array × (bytes ≡ sectors_at array range.first range.count))
 Serves old dev (Write bytes) range Written new =
     (array : List ℕ) × Shows old dev array × Assigns dev old new (with_sectors array range.first bytes)
+Serves old dev Flush range Flushed new = SameArrays old new × IsShowing old dev
 Serves old dev op range (Refused Io) new = SameArrays old new × IsShowing old dev
 Serves old dev op range (Refused Invalid) new = SameArrays old new × IsSpoilt old dev
 Serves old dev op range (Refused Overflow) new = ⊥
 Serves old dev Read range Written new = ⊥
+Serves old dev Read range Flushed new = ⊥
 Serves old dev (Write bytes) range (Data read) new = ⊥
+Serves old dev (Write bytes) range Flushed new = ⊥
+Serves old dev Flush range (Data read) new = ⊥
+Serves old dev Flush range Written new = ⊥

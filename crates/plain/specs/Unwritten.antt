@@ -6,7 +6,7 @@ use Rattle.std.specs.List.{list_any}
 use Rattle.plain.specs.declared.request.Dev.{Dev}
 use Rattle.plain.specs.declared.request.Dev.TheVariants.{Origin, Snap}
 use Rattle.plain.specs.declared.request.Op.{Op}
-use Rattle.plain.specs.declared.request.Op.TheVariants.{Read, Write}
+use Rattle.plain.specs.declared.request.Op.TheVariants.{Read, Write, Flush}
 use Rattle.plain.specs.Plain.{Plain, InFlight, Live, Invalid, saved_under}
 
 -- whether it is a write of that snapshot
@@ -14,6 +14,7 @@ abbrev pub writes : ℕ → Dev → Op → Bool
 writes number Origin op = false
 writes number (Snap n) Read = false
 writes number (Snap n) (Write bytes) = n == number
+writes number (Snap n) Flush = false
 
 -- whether one of these requests is
 abbrev pub is_written : ℕ → List InFlight → Bool

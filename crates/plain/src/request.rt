@@ -2,6 +2,7 @@
 ghost use Rattle.std.specs.Prelude.{◌≡◌, ◌≢◌, IfOk, MatchBool, length};
 ghost use Rattle.plain.specs.Replies.{FitsReply};
 ghost use Rattle.plain.specs.Failures.{refusal_of};
+ghost use Rattle.plain.specs.Kept.{kept as kept_request};
 
 use sector::{Buf, Range, Refusal};
 use std::alloc::{AllocError, Global};
@@ -30,14 +31,17 @@ pub enum Dev {
     Snap(SnapId),
 }
 
-/// What is asked. A write brings the bytes of whole sectors, as many as its range.
+/// What is asked. A write brings the bytes of whole sectors, as many as its range; a flush is of the whole device, and its
+/// range says nothing.
 #[derive(Drop)]
 pub enum Op {
     Read,
     Write(Buf),
+    /// Makes what was written to the device last.
+    Flush,
 }
 
-/// A read or a write of some sectors of the origin or of a snapshot, inside one piece of the volume.
+/// A read or a write of some sectors of the origin or of a snapshot, inside one piece of the volume, or a flush of one.
 #[derive(Drop)]
 pub struct Request {
     pub dev: Dev,
@@ -61,6 +65,7 @@ pub enum Failure {
 pub enum Reply {
     Data(Buf),
     Written,
+    Flushed,
     Refused(Failure),
 }
 
@@ -69,7 +74,7 @@ pub enum Reply {
 pub struct Replied {
     /// Its number in the volume.
     pub number: ReqId,
-    /// What it was answered with: the bytes that it read, that it was written, or why it failed.
+    /// What it was answered with: the bytes that it read, that it was written or flushed, or why it failed.
     pub reply: Reply,
 }
 
@@ -92,6 +97,7 @@ impl Op {
         match (self, other) {
             (Op::Read, Op::Read) => true,
             (Op::Write(bytes), Op::Write(others)) => bytes.is_same(others),
+            (Op::Flush, Op::Flush) => true,
             _ => false,
         }
     }
@@ -103,6 +109,37 @@ impl Op {
         match self {
             Op::Read => Ok(Op::Read),
             Op::Write(bytes) => Ok(Op::Write(bytes.copy(alloc)?)),
+            Op::Flush => Ok(Op::Flush),
+        }
+    }
+}
+
+impl Request {
+    /// The request as a volume keeps it: a flush, whose range says nothing, has the first sector for one.
+    pub fn kept(self) -> Request
+        ensures { result ≡ kept_request self }
+    {
+        let Request { dev, op, range } = self;
+        match op {
+            Op::Read => Request {
+                dev,
+                op: Op::Read,
+                range,
+            },
+            Op::Write(bytes) => Request {
+                dev,
+                op: Op::Write(bytes),
+                range,
+            },
+            Op::Flush => Request {
+                dev,
+                op: Op::Flush,
+                range: Range {
+                    first: 0,
+                    count: 1,
+                    size: 1,
+                },
+            },
         }
     }
 }
@@ -115,6 +152,7 @@ impl Reply {
         match (self, other) {
             (Reply::Data(bytes), Reply::Data(others)) => bytes.is_same(others),
             (Reply::Written, Reply::Written) => true,
+            (Reply::Flushed, Reply::Flushed) => true,
             (Reply::Refused(failure), Reply::Refused(other)) => *failure == *other,
             _ => false,
         }
@@ -131,6 +169,7 @@ impl Reply {
                 Reply::Data(room)
             }
             Reply::Written => Reply::Written,
+            Reply::Flushed => Reply::Flushed,
             Reply::Refused(failure) => Reply::Refused(*failure),
         }
     }

@@ -8,17 +8,18 @@ use Rattle.device.specs.Layers.{Layer}
 use Rattle.model.specs.Picture.{picture}
 use Rattle.sector.specs.declared.refusal.Refusal.{Refusal}
 use Rattle.sector.specs.declared.refusal.Refusal.TheVariants.{Invalid as IsInvalid, MergingSnapshot, NoSuchDevice, NotQuiet, OutOfRange, Overflow as OverflowRefusal, TooMany, MergeInProgress}
+use Rattle.plain.specs.Kept.{kept_range}
 use Rattle.plain.specs.Plain.{Live, Invalid, did_overflow, is_in, overflow_under, saved_under}
 use Rattle.plain.specs.declared.request.Dev.{Dev}
 use Rattle.plain.specs.declared.request.Dev.TheVariants.{Origin, Snap}
 use Rattle.plain.specs.declared.request.Op.{Op}
-use Rattle.plain.specs.declared.request.Op.TheVariants.{Read, Write}
+use Rattle.plain.specs.declared.request.Op.TheVariants.{Read, Write, Flush}
 use Rattle.plain.specs.declared.request.Overflowing.{Overflowing}
 use Rattle.plain.specs.declared.request.Overflowing.TheVariants.{Never, May, Did}
 use Rattle.plain.specs.declared.request.Request.{Request}
 use Rattle.pending.specs.Kinds.{kind_at, kind_of}
 use Rattle.pending.specs.declared.flights.Kind.{Kind}
-use Rattle.pending.specs.declared.flights.Kind.TheVariants.{OriginRead, OriginWrite, SnapRead, SnapWrite}
+use Rattle.pending.specs.declared.flights.Kind.TheVariants.{OriginRead, OriginWrite, OriginFlush, SnapRead, SnapWrite, SnapFlush}
 use Rattle.merge.specs.Merging.{Merging}
 use Rattle.snapshot.specs.Kept.{Kept}
 use Rattle.snapshots.specs.Finding.{place_of_snap}
@@ -200,13 +201,17 @@ module _ {B : Type 0} (contents : B → List ℕ) (size : B → ℕ) (layers : B
   snap_of : (dev : Dev) (op : Op) (number : ℕ) → kind_at dev op ≡ SnapWrite number → dev ≡ Snap number
   snap_of Origin Read number e = absurd (let h : kind_at Origin Read ≡ SnapWrite number = e in cc)
   snap_of Origin (Write bytes) number e = absurd (let h : kind_at Origin (Write bytes) ≡ SnapWrite number = e in cc)
+  snap_of Origin Flush number e = absurd (let h : kind_at Origin Flush ≡ SnapWrite number = e in cc)
   snap_of (Snap n) Read number e = absurd (let h : kind_at (Snap n) Read ≡ SnapWrite number = e in cc)
+  snap_of (Snap n) Flush number e = absurd (let h : kind_at (Snap n) Flush ≡ SnapWrite number = e in cc)
   snap_of (Snap n) (Write bytes) number e = let h : SnapWrite n ≡ SnapWrite number = e in cc
 
   write_of : (dev : Dev) (op : Op) (number : ℕ) → kind_at dev op ≡ SnapWrite number → (bytes : List ℕ) × (op ≡ Write bytes)
   write_of Origin Read number e = absurd (let h : kind_at Origin Read ≡ SnapWrite number = e in cc)
   write_of Origin (Write bytes) number e = absurd (let h : kind_at Origin (Write bytes) ≡ SnapWrite number = e in cc)
+  write_of Origin Flush number e = absurd (let h : kind_at Origin Flush ≡ SnapWrite number = e in cc)
   write_of (Snap n) Read number e = absurd (let h : kind_at (Snap n) Read ≡ SnapWrite number = e in cc)
+  write_of (Snap n) Flush number e = absurd (let h : kind_at (Snap n) Flush ≡ SnapWrite number = e in cc)
   write_of (Snap n) (Write bytes) number e = (bytes, refl)
 
   not_merging : (number : ℕ) (v : Volumed B) (others : Option Refusal) → first_of_two (dev_refusal (Snap number) v.merge v.snaps) others ≡ None → is_merging number v.merge ≡ false
@@ -247,27 +252,29 @@ module _ {B : Type 0} (contents : B → List ℕ) (size : B → ℕ) (layers : B
       by_limit true e = inr (inr (inr (inl (sym (some_is TooMany refusal e)))))
       by_limit false e = no_some refusal e
 
-      by_range : (b : Bool) → is_piece_of (piece_with v.merge v.snaps) (size v.origin) request.range ≡ b → first_of_two (if b then None else Some OutOfRange) (if many then Some TooMany else None) ≡ Some refusal
+      by_range : (b : Bool) → is_piece_of (piece_with v.merge v.snaps) (size v.origin) (kept_range request.op request.range) ≡ b → first_of_two (if b then None else Some OutOfRange) (if many then Some TooMany else None) ≡ Some refusal
           → IsDenied (fixed_of size layers a) (shown_in a seen) (Serve request) refusal
       by_range true fits e = by_limit many e
-      by_range false out e = inr (inr (inl (sym (some_is OutOfRange refusal e), ap (λ n. is_piece_of n (size v.origin) request.range) (piece_is v.merge v.snaps) ∙ out)))
+      by_range false out e = inr (inr (inl (sym (some_is OutOfRange refusal e), ap (λ n. is_piece_of n (size v.origin) (kept_range request.op request.range)) (piece_is v.merge v.snaps) ∙ out)))
 
       rest : Option Refusal
-      rest = first_of_two (range_refusal (piece_with v.merge v.snaps) (size v.origin) request.range) (limit_refusal (starting (kind_of request) request.range.first v.merge v.snaps) v)
+      rest = first_of_two (range_refusal (piece_with v.merge v.snaps) (size v.origin) (kept_range request.op request.range)) (limit_refusal (starting (kind_of request) request.range.first v.merge v.snaps) v)
 
       by_did : (number k : ℕ) (b : Bool) → kind_of request ≡ SnapWrite number → is_merging number v.merge ≡ false → place_of_snap number v.snaps ≡ Some k → did_overflow (get_or (map (λ (s : Kept B). s.overflow) v.snaps) k Never) ≡ b
           → first_of_two (if b then Some OverflowRefusal else None) rest ≡ Some refusal → IsDenied (fixed_of size layers a) (shown_in a seen) (Serve request) refusal
       by_did number k true kind other found did e = inr (inl (sym (some_is OverflowRefusal refusal e), shut seen a request number k is kind other found did))
-      by_did number k false kind other found did e = by_range (is_piece_of (piece_with v.merge v.snaps) (size v.origin) request.range) refl e
+      by_did number k false kind other found did e = by_range (is_piece_of (piece_with v.merge v.snaps) (size v.origin) (kept_range request.op request.range)) refl e
 
       by_place : (number : ℕ) (p : Option ℕ) → kind_of request ≡ SnapWrite number → is_merging number v.merge ≡ false → place_of_snap number v.snaps ≡ p → first_of_two (shut_at v.snaps p) rest ≡ Some refusal → IsDenied (fixed_of size layers a) (shown_in a seen) (Serve request) refusal
-      by_place number None kind other found e = by_range (is_piece_of (piece_with v.merge v.snaps) (size v.origin) request.range) refl e
+      by_place number None kind other found e = by_range (is_piece_of (piece_with v.merge v.snaps) (size v.origin) (kept_range request.op request.range)) refl e
       by_place number (Some k) kind other found e = by_did number k (did_overflow (get_or (map (λ (s : Kept B). s.overflow) v.snaps) k Never)) kind other found refl e
 
       by_kind : (kind : Kind) → kind_of request ≡ kind → dev_refusal request.dev v.merge v.snaps ≡ None → first_of_two (shut_refusal kind v.snaps) rest ≡ Some refusal → IsDenied (fixed_of size layers a) (shown_in a seen) (Serve request) refusal
-      by_kind OriginRead kind free e = by_range (is_piece_of (piece_with v.merge v.snaps) (size v.origin) request.range) refl e
-      by_kind OriginWrite kind free e = by_range (is_piece_of (piece_with v.merge v.snaps) (size v.origin) request.range) refl e
-      by_kind (SnapRead n) kind free e = by_range (is_piece_of (piece_with v.merge v.snaps) (size v.origin) request.range) refl e
+      by_kind OriginRead kind free e = by_range (is_piece_of (piece_with v.merge v.snaps) (size v.origin) (kept_range request.op request.range)) refl e
+      by_kind OriginWrite kind free e = by_range (is_piece_of (piece_with v.merge v.snaps) (size v.origin) (kept_range request.op request.range)) refl e
+      by_kind OriginFlush kind free e = by_range (is_piece_of (piece_with v.merge v.snaps) (size v.origin) (kept_range request.op request.range)) refl e
+      by_kind (SnapRead n) kind free e = by_range (is_piece_of (piece_with v.merge v.snaps) (size v.origin) (kept_range request.op request.range)) refl e
+      by_kind (SnapFlush n) kind free e = by_range (is_piece_of (piece_with v.merge v.snaps) (size v.origin) (kept_range request.op request.range)) refl e
       by_kind (SnapWrite n) kind free e =
           let alone = not_merging n v None (ap (λ d. first_of_two (dev_refusal d v.merge v.snaps) None) (sym (snap_of request.dev request.op n kind)) ∙ ap (λ r. first_of_two r None) free) in
           by_place n (place_of_snap n v.snaps) kind alone refl e
@@ -285,7 +292,7 @@ module _ {B : Type 0} (contents : B → List ℕ) (size : B → ℕ) (layers : B
       let v = a.volume in
       let w = b.volume in
       let test : Kept B → Bool = λ s. s.number == number in
-      let others = first_of_two (shut_refusal (kind_of request) v.snaps) (first_of_two (range_refusal (piece_with v.merge v.snaps) (size v.origin) request.range) (limit_refusal (starting (kind_of request) request.range.first v.merge v.snaps) v)) in
+      let others = first_of_two (shut_refusal (kind_of request) v.snaps) (first_of_two (range_refusal (piece_with v.merge v.snaps) (size v.origin) (kept_range request.op request.range)) (limit_refusal (starting (kind_of request) request.range.first v.merge v.snaps) v)) in
       let alone : is_merging number v.merge ≡ false = not_merging number v others (ap (λ d. first_of_two (dev_refusal d v.merge v.snaps) others) (sym dev) ∙ free) in
       let at : position_or_len test w.snaps ≡ found.place =
       numbered number w.snaps ∙ ap (λ (l : List ℕ). position_or_len (λ n. n == number) l) kept.numbers ∙ sym (numbered number v.snaps) ∙ place_is number found.place v.snaps found.found in
@@ -312,7 +319,7 @@ module _ {B : Type 0} (contents : B → List ℕ) (size : B → ℕ) (layers : B
       let w = b.volume in
       let test : Kept B → Bool = λ s. s.number == number in
       let snap : Kept B = record found.snap { overflow = Did } in
-      let others = first_of_two (shut_refusal (kind_of request) v.snaps) (first_of_two (range_refusal (piece_with v.merge v.snaps) (size v.origin) request.range) (limit_refusal (starting (kind_of request) request.range.first v.merge v.snaps) v)) in
+      let others = first_of_two (shut_refusal (kind_of request) v.snaps) (first_of_two (range_refusal (piece_with v.merge v.snaps) (size v.origin) (kept_range request.op request.range)) (limit_refusal (starting (kind_of request) request.range.first v.merge v.snaps) v)) in
       let alone : is_merging number v.merge ≡ false = not_merging number v others (ap (λ d. first_of_two (dev_refusal d v.merge v.snaps) others) (sym (snap_of request.dev request.op number kind)) ∙ free) in
       let same : w.merge ≡ v.merge = ap (λ (x : Volumed B). x.merge) found.becomes in
       let marked : map (λ (s : Kept B). s.overflow) w.snaps ≡ map (λ (s : Kept B). s.overflow) (set v.snaps found.place snap) =

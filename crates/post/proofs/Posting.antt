@@ -1,6 +1,8 @@
 -- What is true under a lock stays true.
 use Rattle.std.proofs.Common.{◌≡◌, inl, inr, ℕ, Bool, true, List, [], ◌∷◌, ◌++◌, Option, Some, None, refl, sym, ap, ◌∙◌, subst}
-use Rattle.std.specs.Prelude.{◌&&◌}
+use Rattle.std.specs.Prelude.{◌≢◌, ◌&&◌}
+use Rattle.sector.specs.declared.range.Range.{Range}
+use Rattle.plain.specs.Kept.{kept, kept_range}
 use Rattle.atomic_table.specs.Seated.{TableId}
 use Rattle.atomic_table.specs.declared.shared.Seat.{Seat}
 use Rattle.device.specs.Layers.{Layer}
@@ -8,6 +10,8 @@ use Rattle.plain.specs.declared.event.Event.{Event}
 use Rattle.plain.specs.declared.event.Event.TheVariants.{Issue, CopyRead, CopyWrite, ZeroNext, WriteArea, Publish, WriteInvalid, FlushStore, MergeGroup, MergeAreaRead, MergeRead, MergeWrite, MergeFlush, MergeCommit, MergeRelease}
 use Rattle.plain.specs.declared.event.Outcome.{Outcome}
 use Rattle.plain.specs.declared.event.Outcome.TheVariants.{Done, Fault, Reply as Replied}
+use Rattle.plain.specs.declared.request.Op.{Op}
+use Rattle.plain.specs.declared.request.Op.TheVariants.{Read, Write, Flush}
 use Rattle.plain.specs.declared.request.Reply.{Reply}
 use Rattle.plain.specs.declared.request.Request.{Request}
 use Rattle.sector.specs.declared.refusal.Refusal.{Refusal}
@@ -16,7 +20,7 @@ use Rattle.journal.specs.declared.entry.Receipt.{Receipt}
 use Rattle.journal.specs.Books.{AuditShape}
 use Rattle.journal.specs.Entries.{entries_by}
 use Rattle.journal.specs.Journaled.{HasReceipt, IsNotMerged, IsNoted, IsSilent, KeepsJournal}
-use Rattle.journal.specs.Seats.{Seated, may_do, seated_under}
+use Rattle.journal.specs.Seats.{IsUnanswered, Seated, may_do, seated_under}
 use Rattle.history.specs.Keeping.{asked_by, keeper_of, seated_with}
 use Rattle.history.specs.declared.rule.View.{View}
 use Rattle.history.specs.declared.told.Told.{Told}
@@ -25,6 +29,15 @@ use Rattle.post.specs.Fixed.{Fixed, StaysFrom, fixed_of}
 use Rattle.post.specs.Posts.{IsKeeper, PostHolds, with_more}
 use Rattle.post.proofs.Fresh.{fresh_in, knows_more}
 use Rattle.post.proofs.Staying.{stays_not_begun}
+
+-- a request that is no flush is kept as it is
+range_same : (op : Op) (range : Range) → op ≢ Flush → range ≡ kept_range op range
+range_same Read range other = refl
+range_same (Write bytes) range other = refl
+range_same Flush range other = absurd (other refl)
+
+pub kept_same : (request : Request) → request.op ≢ Flush → request ≡ kept request
+kept_same request other = ap (λ (range : Range). record request { range = range }) (range_same request.op request.range other)
 
 module _ {B : Type 0} (size : B → ℕ) (layers : B → List Layer) (history : TableId) (start : List Entry) (fixed : Fixed) where
   -- new entries were told, none of which answers a request
@@ -39,12 +52,12 @@ module _ {B : Type 0} (size : B → ℕ) (layers : B → List Layer) (history : 
   }
 
   -- the same, and a request is in flight
-  pub asked_holds : (a b : AuditShape B) (keeper told after : Seat Told View) (me : View) (es fs more : List Entry) (number seat : ℕ) (request said : Request) → PostHolds size layers history start fixed a keeper
+  pub asked_holds : (a b : AuditShape B) (keeper told after : Seat Told View) (me : View) (es fs more : List Entry) (number seat : ℕ) (request said : Request) → request.op ≢ Flush → PostHolds size layers history start fixed a keeper
       → IsKeeper history told → told.me.0 ≡ with_more (fresh_in es fs) keeper.me.0 → es ≡ b.entries → fs ≡ a.entries → b.entries ≡ a.entries ++ more
-      → b.held ≡ a.held ++ record { number = number; seat = seat; request = request } ∷ []
+      → b.held ≡ a.held ++ record { number = number; seat = seat; request = kept request } ∷ []
       → after.table_id ≡ history → after.me.1 ≡ [] → after.me.0 ≡ keeper_of (asked_by number said (seated_with told.me.0 me)) → me.seat ≡ seat → said ≡ request
       → StaysFrom fixed (fixed_of size layers b) → PostHolds size layers history start fixed b after
-  asked_holds a b keeper told after me es fs more number seat request said h is tells now was added held table bare asks by same stays = record {
+  asked_holds a b keeper told after me es fs more number seat request said plain h is tells now was added held table bare asks by same stays = record {
     is_keeper = record {
       table = table;
       bare = bare;
@@ -54,7 +67,8 @@ module _ {B : Type 0} (size : B → ℕ) (layers : B → List Layer) (history : 
     knows = knows_more start keeper.me.0.all es fs a.entries b.entries more now was h.knows added ∙ ap (λ (v : View). start ++ v.all) (sym tells) ∙ ap (λ (v : View). start ++ v.all) (sym asks);
     flying =
         ap (λ (v : View). v.flying) asks
-        ∙ (λ i. (tells i).flying ++ record { number = number; seat = by i; request = same i } ∷ []) ∙ ap (λ (l : List Seated). l ++ record { number = number; seat = seat; request = request } ∷ []) h.flying ∙ sym held;
+        ∙ (λ i. (tells i).flying ++ record { number = number; seat = by i; request = same i } ∷ []) ∙ ap (λ (l : List Seated). l ++ record { number = number; seat = seat; request = request } ∷ []) h.flying
+        ∙ ap (λ (r : Request). a.held ++ record { number = number; seat = seat; request = r } ∷ []) (kept_same request plain) ∙ sym held;
     stays = stays;
   }
 
@@ -95,6 +109,17 @@ silent_of seat outcome receipt a b none noted = go outcome (subst (λ (r : Optio
     go (Replied n reply) s = absurd s
     go Done s = s
     go Fault s = s
+
+-- an Issue that is done is of a flush
+pub silent_done : {B : Type 0} (seat : ℕ) (outcome : Outcome) (receipt : Option Receipt) (a b : AuditShape B) → outcome ≡ Done → IsNoted seat outcome receipt a b → IsSilent a b
+silent_done seat outcome receipt a b done noted = go receipt (subst (λ (o : Outcome). IsNoted seat o receipt a b) done noted)
+  where
+    go : (r : Option Receipt) → IsNoted seat Done r a b → IsSilent a b
+    go None s = s
+    go (Some r) s = absurd s
+
+pub flush_done : (number : ℕ) (outcome : Outcome) (held : List Seated) → outcome ≡ Done → IsUnanswered (Issue number) outcome held → (x : Seated) × (seated_under number held ≡ Some x) × (x.request.op ≡ Flush)
+flush_done number outcome held done is = subst (λ (o : Outcome). IsUnanswered (Issue number) o held) done is
 
 -- a reply has a receipt
 pub receipt_of : {B : Type 0} (seat number : ℕ) (reply : Reply) (r : Receipt) (outcome : Outcome) (receipt : Option Receipt) (a b : AuditShape B) → outcome ≡ Replied number reply → receipt ≡ Some r

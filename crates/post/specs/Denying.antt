@@ -4,6 +4,7 @@
 use Rattle.std.specs.Prelude.{◌≡◌, ◌≢◌, ◌⊎◌, ◌==◌, ℕ, Bool, true, false, List, [], ◌∷◌, ◌++◌, Option, Some, None, min}
 use Rattle.sector.specs.declared.refusal.Refusal.{Refusal}
 use Rattle.sector.specs.declared.refusal.Refusal.TheVariants.{Invalid as IsInvalid, JournalFull, MergeInProgress, MergingSnapshot, NoMemory, NoSuchDevice, OutOfRange, Overflow, TooMany}
+use Rattle.plain.specs.Kept.{kept_range}
 use Rattle.plain.specs.Plain.{Invalid, is_in, overflow_under, saved_under}
 use Rattle.plain.specs.declared.request.Dev.{Dev}
 use Rattle.plain.specs.declared.request.Dev.TheVariants.{Origin, Snap}
@@ -71,7 +72,7 @@ abbrev pub IsDenied : Fixed → Saves → Wish → Refusal → Type 0
 IsDenied g shown (Serve request) refusal =
     IsClosed g shown request.dev refusal
     ⊎ ((refusal ≡ Overflow) × IsShut g shown request)
-    ⊎ ((refusal ≡ OutOfRange) × (is_piece_of (piece_in g.merged g.chunks) g.sectors request.range ≡ false))
+    ⊎ ((refusal ≡ OutOfRange) × (is_piece_of (piece_in g.merged g.chunks) g.sectors (kept_range request.op request.range) ≡ false))
     ⊎ ((refusal ≡ TooMany) ⊎ (refusal ≡ JournalFull))
 IsDenied g shown (Begin number) refusal =
     ((refusal ≡ MergeInProgress) × (g.merged ≢ None))

@@ -9,9 +9,9 @@ ghost use Rattle.volume.specs.Stepping.{has_failed};
 ghost use Rattle.volume.specs.Volumed.{is_due_of, next_of};
 ghost use Rattle.plain.specs.declared.event.Event.{Event as EventShape};
 ghost use Rattle.plain.specs.declared.event.Event.TheVariants.{Issue};
-ghost use Rattle.plain.specs.declared.request.Op.TheVariants.{Write};
+ghost use Rattle.plain.specs.declared.request.Op.TheVariants.{Flush, Write};
 ghost use Rattle.journal.specs.Entries.{entries_by};
-ghost use Rattle.journal.specs.Seats.{may_do};
+ghost use Rattle.journal.specs.Seats.{Seated, may_do, seated_under};
 ghost use Rattle.journal.specs.declared.entry.Entry.{Entry};
 ghost use Rattle.history.specs.Keeping.{held_by};
 ghost use Rattle.sector.specs.declared.refusal.Refusal.TheVariants.{NotQuiet};
@@ -61,7 +61,7 @@ impl<B: Layered, J: Room> Post<B, J> {
         self.audit.volume().last_copy()
     }
 
-    /// Submits a request of a seat. Where it is accepted, it is one more that the seat waits for. The seat has then seen all
+    /// Submits a read or a write of a seat. Where it is accepted, it is one more that the seat waits for. The seat has then seen all
     /// entries, and where the request is refused, they and what stays of the volume say why.
     pub fn submit(
         &mut self,
@@ -73,6 +73,7 @@ impl<B: Layered, J: Room> Post<B, J> {
         requires beside { IsBeside (J.history self.old.volume) (J.boards self.old.volume) beside.now }
         requires seat { IsSeat (J.history self.old.volume) seat me }
         requires few { seat < 9 }
+        requires plain { request.op ≢ Flush }
         requires bytes { (bytes : List ℕ) → request.op ≡ Write bytes → length bytes ≡ 512 * request.range.count }
         ensures volume { self.new.volume ≡ self.old.volume }
         ensures seat { MatchResult result.1 (λ number. IsAsked (J.history self.old.volume) seat number request me result.0) (λ _. IsSameSeat (J.history self.old.volume) seat me result.0) }
@@ -96,10 +97,10 @@ impl<B: Layered, J: Room> Post<B, J> {
         }
     }
 
-    /// Issues a request of a seat, where it is due. Its entry is one more of the journal, and of the seat's own.
-    pub fn issue<R: Wait>(
+    /// Issues a request of a seat, where it is due. Its entry is one more of the journal, and of the seat's own. A flush may go to
+    /// its next device in place of a reply: then the seat waits for it still.
+    pub fn issue(
         &mut self,
-        rt: &R,
         beside: &Beside,
         me: Pass,
         seat: u8,
@@ -108,9 +109,10 @@ impl<B: Layered, J: Room> Post<B, J> {
         requires beside { IsBeside (J.history self.old.volume) (J.boards self.old.volume) beside.now }
         requires seat { IsSeat (J.history self.old.volume) seat me }
         ensures volume { self.new.volume ≡ self.old.volume }
-        ensures due { is_some result.1 ≡ (may_do seat (Issue number) self.old.audit.held && is_due_of B.contents B.layers self.old.audit.volume (Issue number)) }
+        ensures due { ((x : Seated) → seated_under number self.old.audit.held ≡ Some x → x.request.op ≢ Flush) → is_some result.1 ≡ (may_do seat (Issue number) self.old.audit.held && is_due_of B.contents B.layers self.old.audit.volume (Issue number)) }
         ensures seat { MatchOption result.1 (IsSameSeat (J.history self.old.volume) seat me result.0) (λ r. IsReceipted (J.history self.old.volume) seat me result.0 r.0 r.1) }
     {
+        let from = self.audit.entries().len();
         let (outcome, receipt) = match self.audit.apply(seat, Event::Issue(number)) {
             Ok(pair) => pair,
             Err(NotDue) => return (me, None),
@@ -126,9 +128,8 @@ impl<B: Layered, J: Room> Post<B, J> {
                 None => unreachable!(),
             },
             Outcome::Done => {
-                // An Issue that is done replies.
-                for _ in rt.forever() {}
-                unreachable!()
+                beside.note(&mut self.keeper, &self.audit.entries()[from..]);
+                (me, None)
             }
             Outcome::Fault => unreachable!(),
         }

@@ -3,7 +3,7 @@
 use Rattle.std.specs.Prelude.{ℕ, List, ◌++◌, codes, decimal}
 use Rattle.reply.specs.declared.ended.Ended.{Ended}
 use Rattle.reply.specs.declared.ended.Ending.{Ending}
-use Rattle.reply.specs.declared.ended.Ending.TheVariants.{Data, Written, Refused}
+use Rattle.reply.specs.declared.ended.Ending.TheVariants.{Data, Written, Flushed, Refused}
 use Rattle.reply.specs.Runs.{data_words}
 use Rattle.reply.specs.Refusals.{refusal_text}
 
@@ -11,6 +11,7 @@ use Rattle.reply.specs.Refusals.{refusal_text}
 abbrev pub ending_words : Ending → List ℕ
 ending_words (Data bytes) = data_words bytes
 ending_words Written = codes " written"
+ending_words Flushed = codes " flushed"
 ending_words (Refused refusal) = codes " " ++ refusal_text refusal
 
 -- the line, with its end

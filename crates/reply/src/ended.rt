@@ -17,6 +17,8 @@ pub enum Ending {
     Data(Buf),
     /// A write that was done.
     Written,
+    /// A flush that was done.
+    Flushed,
     /// It is refused, as the snapshot that it was for is spoiled (`Invalid`) or a device failed (`Io`).
     Refused(Refusal),
 }
@@ -36,6 +38,7 @@ fn write_ending<W: Write>(writer: &mut W, ending: &Ending) -> io::Result<()>
     match ending {
         Ending::Data(bytes) => write_data(writer, bytes.as_slice()),
         Ending::Written => writer.write_all(b" written"),
+        Ending::Flushed => writer.write_all(b" flushed"),
         Ending::Refused(refusal) => {
             writer.write_all(b" ")?;
             write_refusal(writer, *refusal)

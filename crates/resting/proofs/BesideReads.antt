@@ -4,7 +4,7 @@ use Rattle.chunk.specs.Pieces.{Span}
 use Rattle.plain.specs.declared.request.Dev.{Dev}
 use Rattle.plain.specs.declared.request.Dev.TheVariants.{Origin, Snap as ToSnap}
 use Rattle.plain.specs.declared.request.Reply.{Reply}
-use Rattle.plain.specs.declared.request.Reply.TheVariants.{Data, Written, Refused}
+use Rattle.plain.specs.declared.request.Reply.TheVariants.{Data, Written, Flushed, Refused}
 use Rattle.settled.specs.Snaps.{Volume}
 use Rattle.settled.specs.Pieces.{Answered}
 use Rattle.settled.specs.Commands.{go_on as alone_on, bytes_in, read_piece, read_pieces}
@@ -35,6 +35,7 @@ part_by (ToSnap number) piece (Some g) v = ap (with_merge (Some g)) (piece_shown
 goes_shown : (r : Reply) (shows : Arrays) (here more : Served) → arrays_with here.state ≡ shows → arrays_with more.state ≡ shows → arrays_with (go_on r here more).state ≡ shows
 goes_shown (Data bytes) shows here more h m = m
 goes_shown Written shows here more h m = m
+goes_shown Flushed shows here more h m = m
 goes_shown (Refused failure) shows here more h m = h
 
 -- pieces leave what is shown
@@ -48,6 +49,7 @@ parts_shown dev (piece ∷ pieces) before m =
 snap_goes : (g : Merge) (r : Reply) (here more : Answered) → beside_on r (beside g here) (beside g more) ≡ beside g (alone_on r here more)
 snap_goes g (Data bytes) here more = refl
 snap_goes g Written here more = refl
+snap_goes g Flushed here more = refl
 snap_goes g (Refused failure) here more = refl
 
 -- the merge has no part in a read of a snapshot

@@ -18,7 +18,7 @@ use Rattle.served.specs.Refusals.{is_starved}
 use Rattle.served.proofs.Starved.{starved_by}
 use Rattle.plain.specs.declared.request.Op.TheVariants.{Write}
 use Rattle.plain.specs.declared.request.Reply.{Reply}
-use Rattle.plain.specs.declared.request.Reply.TheVariants.{Data, Written, Refused}
+use Rattle.plain.specs.declared.request.Reply.TheVariants.{Data, Written, Flushed, Refused}
 use Rattle.plain.specs.declared.request.Failure.{Failure}
 use Rattle.plain.specs.declared.request.Failure.TheVariants.{Invalid as Declined, Io, Overflow}
 use Rattle.settled.specs.Snaps.{Volume}
@@ -94,6 +94,7 @@ module _ (sectors chunk : ℕ) (ok : is_chunk chunk ≡ true) where
       → IsPieceShown Origin piece.first (take (512 * piece.count) bytes) old (arrays_with (in_one here.state)) r → AreWritten Origin (piece.first + piece.count) pieces (drop (512 * piece.count) bytes) (arrays_with (in_one here.state)) (arrays_with (in_one more.state)) more.reply
       → AreWritten Origin piece.first (piece ∷ pieces) bytes old (arrays_with (in_one (beside_on r here more).state)) (beside_on r here more).reply
   goes_through piece pieces bytes old (Data all) here more room low is shows rest = absurd shows
+  goes_through piece pieces bytes old Flushed here more room low is shows rest = absurd shows
   goes_through piece pieces bytes old Written here more room low is shows rest = write_more Origin piece pieces bytes old (arrays_with (in_one here.state)) room low (arrays_with (in_one more.state)) more.reply shows.0 shows.1 shows.2 rest
   goes_through piece pieces bytes old (Refused Declined) here more room low is shows rest = absurd shows
   goes_through piece pieces bytes old (Refused Io) here more room low is shows rest = subst (AreWritten Origin piece.first (piece ∷ pieces) bytes old (arrays_with (in_one here.state))) (sym is) (shows.0, (0, omega arith, shows.1))
@@ -125,6 +126,7 @@ module _ (sectors chunk : ℕ) (ok : is_chunk chunk ≡ true) where
 snap_goes : (g : Merge) (r : Reply) (here more : Answered) → beside_on r (beside g here) (beside g more) ≡ beside g (go_on r here more)
 snap_goes g (Data bytes) here more = refl
 snap_goes g Written here more = refl
+snap_goes g Flushed here more = refl
 snap_goes g (Refused failure) here more = refl
 
 -- the merge has no part in a write of a snapshot
@@ -137,6 +139,7 @@ snap_parts number (p ∷ ps) bytes g v =
 
 snap_written : (number first : ℕ) (pieces : List Span) (bytes : List ℕ) (g : Merge) (old new : Arrays) (reply : Reply) → AreWritten (ToSnap number) first pieces bytes old new reply → AreWritten (ToSnap number) first pieces bytes (with_merge (Some g) old) (with_merge (Some g) new) reply
 snap_written number first pieces bytes g old new (Data all) law = law
+snap_written number first pieces bytes g old new Flushed law = law
 snap_written number first pieces bytes g old new Written law = (law.0, (ap (λ x. array_of x (Some g)) law.1.0, law.1.1))
 snap_written number first pieces bytes g old new (Refused Declined) law = (ap (λ x. array_of x (Some g)) law.0, law.1)
 snap_written number first pieces bytes g old new (Refused Io) law = (law.0, (law.1.0, law.1.1, (ap (λ x. array_of x (Some g)) law.1.2.0, law.1.2.1)))

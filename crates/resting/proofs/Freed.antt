@@ -9,11 +9,11 @@ use Rattle.plain.specs.declared.event.Event.TheVariants.{Issue, CopyRead, CopyWr
 use Rattle.plain.specs.declared.request.Dev.{Dev}
 use Rattle.plain.specs.declared.request.Dev.TheVariants.{Origin as ToOrigin, Snap as ToSnap}
 use Rattle.plain.specs.declared.request.Op.{Op}
-use Rattle.plain.specs.declared.request.Op.TheVariants.{Read as ReadOp, Write as WriteOp}
+use Rattle.plain.specs.declared.request.Op.TheVariants.{Read as ReadOp, Write as WriteOp, Flush as FlushOp}
 use Rattle.pending.specs.declared.copies.Stage.{Stage}
 use Rattle.pending.specs.declared.copies.Stage.TheVariants.{Waiting, Read}
 use Rattle.pending.specs.declared.flights.Route.{Route}
-use Rattle.pending.specs.declared.flights.Route.TheVariants.{Held as Waits, Origin, Store, Refused}
+use Rattle.pending.specs.declared.flights.Route.TheVariants.{Held as Waits, Origin, Store, Whole, Refused}
 use Rattle.volume_laws.specs.MergeDue.{has_group, is_none, next_pair, one_of, due_or}
 use Rattle.settled.specs.Devices.{answers, sectors_of}
 use Rattle.settled.specs.Saving.{lacks_area}
@@ -22,7 +22,7 @@ use Rattle.event_machine.specs.Due.{due, batch_of}
 use Rattle.event_machine.specs.MergeDue.{merge_due, due_all, next_of, can_group, can_read_area, can_read, can_write, can_flush, can_commit_group, can_release}
 use Rattle.event_machine.specs.MergeSeen.{held_in}
 use Rattle.event_machine.specs.MergeStepping.{start_next, start_waiting, stepped_all}
-use Rattle.event_machine.specs.Stepping.{for_some, first_that, publishes, zero_next, flush_store, read_copy, write_copy, commit, publish, mark_invalid, on_disk, on_store, on_merging, on_place, issue, on_copy, on_snap, stepped}
+use Rattle.event_machine.specs.Stepping.{for_some, first_that, publishes, zero_next, flush_store, read_copy, write_copy, commit, publish, mark_invalid, on_disk, on_store, on_merging, on_place, on_whole, flush_asked, flush_merging, issue, on_copy, on_snap, stepped}
 use Rattle.merge.specs.Due.{has_group_of}
 use Rattle.merge.specs.Merging.{Merging, books_of as merging_books}
 use Rattle.merge.specs.declared.group.Group.{Group}
@@ -48,9 +48,9 @@ module _ (ps : List Pair) where
   if_keeps true v w here there = here
   if_keeps false v w here there = there
 
-  merge_keeps : (o : Option MergeHeld) (f : MergeHeld → Moving) (v : Moving) → grouped o ≡ ps → Keeps v → ((m : MergeHeld) → grouped (f m).merge ≡ group_in m) → Keeps (for_some o f v)
+  merge_keeps : (o : Option MergeHeld) (f : MergeHeld → Moving) (v : Moving) → grouped o ≡ ps → Keeps v → ((m : MergeHeld) → group_in m ≡ ps → Keeps (f m)) → Keeps (for_some o f v)
   merge_keeps None f v is stays does = stays
-  merge_keeps (Some m) f v is stays does = does m ∙ is
+  merge_keeps (Some m) f v is stays does = does m is
 
   zero_keeps : (test : Held → Bool) (h : Held) (v : Moving) → Keeps v → Keeps (zero_next test h v)
   zero_keeps test h v is = if_keeps (lacks_area _ h.snap) _ _ is (if_keeps (answers h.snap.store _) _ _ is is)
@@ -73,23 +73,37 @@ module _ (ps : List Pair) where
   disk_keeps : (op : Op) (first count : ℕ) (mine : Going → Bool) (v : Moving) → Keeps v → Keeps (on_disk op first count mine v)
   disk_keeps ReadOp first count mine v is = is
   disk_keeps (WriteOp bytes) first count mine v is = is
+  disk_keeps FlushOp first count mine v is = is
 
   on_store_keeps : (op : Op) (first count : ℕ) (mine : Going → Bool) (test : Held → Bool) (h : Held) (v : Moving) → Keeps v → Keeps (on_store op first count mine test h v)
   on_store_keeps ReadOp first count mine test h v is = is
   on_store_keeps (WriteOp bytes) first count mine test h v is = is
+  on_store_keeps FlushOp first count mine test h v is = is
 
-  merging_keeps : (op : Op) (first count : ℕ) (mine : Going → Bool) (m : MergeHeld) (v : Moving) → grouped (on_merging op first count mine m v).merge ≡ group_in m
-  merging_keeps ReadOp first count mine m v = refl
-  merging_keeps (WriteOp bytes) first count mine m v = refl
+  merging_keeps : (op : Op) (first count : ℕ) (mine : Going → Bool) (m : MergeHeld) (v : Moving) → Keeps v → group_in m ≡ ps → Keeps (on_merging op first count mine m v)
+  merging_keeps ReadOp first count mine m v is same = same
+  merging_keeps (WriteOp bytes) first count mine m v is same = same
+  merging_keeps FlushOp first count mine m v is same = is
 
   place_keeps : (dev : Dev) (op : Op) (place first count : ℕ) (mine : Going → Bool) (v : Moving) → Keeps v → Keeps (on_place dev op place first count mine v)
-  place_keeps ToOrigin op place first count mine v is = merge_keeps v.merge _ v is is (λ m. merging_keeps op _ count mine m v)
+  place_keeps ToOrigin op place first count mine v is = merge_keeps v.merge _ v is is (λ m same. merging_keeps op _ count mine m v is same)
   place_keeps (ToSnap n) op place first count mine v is = some_keeps (first_that _ v.snaps) _ v is (λ h. on_store_keeps op _ count mine _ h v is)
+
+  flush_merging_keeps : (mine : Going → Bool) (r : Going) (m : MergeHeld) (v : Moving) → group_in m ≡ ps → Keeps (flush_merging mine r m v)
+  flush_merging_keeps mine r m v same = if_keeps (answers m.merge.store _) _ _ same same
+
+  asked_keeps : (mine : Going → Bool) (test : Held → Bool) (h : Held) (v : Moving) → Keeps v → Keeps (flush_asked mine test h v)
+  asked_keeps mine test h v is = if_keeps (answers h.snap.store _) _ _ is is
+
+  whole_keeps : (dev : Dev) (mine : Going → Bool) (r : Going) (v : Moving) → Keeps v → Keeps (on_whole dev mine r v)
+  whole_keeps ToOrigin mine r v is = merge_keeps v.merge _ v is is (λ m same. flush_merging_keeps mine r m v same)
+  whole_keeps (ToSnap n) mine r v is = some_keeps (first_that _ v.snaps) _ v is (λ h. asked_keeps mine _ h v is)
 
   issue_keeps : (route : Route) (mine : Going → Bool) (r : Going) (v : Moving) → Keeps v → Keeps (issue route mine r v)
   issue_keeps Waits mine r v is = is
   issue_keeps Origin mine r v is = disk_keeps r.request.op r.request.range.first r.request.range.count mine v is
   issue_keeps (Store place) mine r v is = place_keeps r.request.dev r.request.op place r.request.range.first r.request.range.count mine v is
+  issue_keeps Whole mine r v is = whole_keeps r.request.dev mine r v is
   issue_keeps Refused mine r v is = is
 
   copy_keeps : (stage : Stage) (n : ℕ) (f : (Held → Bool) → (Copying → Bool) → Held → Copying → Moving → Moving) (v : Moving) → Keeps v

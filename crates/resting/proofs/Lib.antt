@@ -26,6 +26,7 @@ pub mod Unread
 pub mod Tells
 pub mod Rests
 pub mod ShownReads
+pub mod Flushes
 pub mod BesideReads
 pub mod PlainReads
 pub mod Overflows

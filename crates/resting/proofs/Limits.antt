@@ -1,6 +1,6 @@
 -- A request that can be served is refused for its snapshot's sake alone: it is spoiled, or its store overflowed.
 use Rattle.std.proofs.Common.{◌≡◌, inl, inr, ℕ, ◌+◌, ◌*◌, ◌/◌, ◌%◌, ◌<◌, ◌≤◌, Bool, true, false, List, [], ◌∷◌, length, Option, Some, None, refl, sym, ◌∙◌, ap, arith, nat_eq}
-use Rattle.std.specs.Prelude.{◌⊎◌, ◌==◌, ◌&&◌, ◌||◌, not, nat_lt, nat_le, sum_by, count_by, slice_index_or, ◌++◌, if◌then◌else◌}
+use Rattle.std.specs.Prelude.{◌-◌, ◌⊎◌, ◌==◌, ◌&&◌, ◌||◌, not, nat_lt, nat_le, sum_by, count_by, slice_index_or, ◌++◌, if◌then◌else◌}
 use Rattle.std.specs.List.{list_all}
 use Rattle.std.proofs.lemmas.Bool.{cases_Bool, cond-false, eqb-true, true≢false}
 use Rattle.std.proofs.lemmas.List.{nil_from_length}
@@ -8,14 +8,19 @@ use Rattle.std.proofs.lemmas.List.Sums.{count_by-le-length}
 use Rattle.std.proofs.lemmas.Nat.{div-add-mod'}
 use Rattle.sector.specs.declared.refusal.Refusal.{Refusal}
 use Rattle.sector.specs.declared.refusal.Refusal.TheVariants.{Invalid, Overflow}
+use Rattle.sector.specs.declared.range.Range.{Range}
+use Rattle.plain.specs.Kept.{kept_range}
 use Rattle.plain.specs.Plain.{did_overflow}
 use Rattle.plain.specs.declared.request.Request.{Request}
 use Rattle.plain.specs.declared.request.Dev.{Dev}
 use Rattle.plain.specs.declared.request.Dev.TheVariants.{Origin, Snap as ToSnap}
+use Rattle.plain.specs.declared.request.Op.{Op}
+use Rattle.plain.specs.declared.request.Op.TheVariants.{Read, Write, Flush}
 use Rattle.plain.specs.declared.request.Overflowing.TheVariants.{Never}
 use Rattle.pending.specs.Kinds.{kind_of}
 use Rattle.pending.specs.declared.flights.Kind.{Kind}
-use Rattle.pending.specs.declared.flights.Kind.TheVariants.{OriginRead, OriginWrite, SnapRead, SnapWrite}
+use Rattle.pending.specs.declared.flights.Kind.TheVariants.{OriginRead, OriginWrite, OriginFlush, SnapRead, SnapWrite, SnapFlush}
+use Rattle.chunk.specs.Sizes.{is_chunk}
 use Rattle.chunk.proofs.Limits.{is_chunk-some}
 use Rattle.chunk.proofs.PiecePlaces.{piece_high}
 use Rattle.snapshot.specs.Kept.{Kept}
@@ -77,7 +82,9 @@ none_or_few false n most le = le
 starting_few : {B : Type 0} (kind : Kind) (first : ℕ) (merge : Option (Merging B)) (snaps : List (Kept B)) → starting kind first merge snaps ≤ length snaps
 starting_few OriginRead first merge snaps = omega arith
 starting_few OriginWrite first merge snaps = none_or_few _ (count_by (starts first) snaps) (length snaps) (count_by-le-length (starts first) snaps)
+starting_few OriginFlush first merge snaps = omega arith
 starting_few (SnapRead number) first merge snaps = omega arith
+starting_few (SnapFlush number) first merge snaps = omega arith
 starting_few (SnapWrite number) first merge snaps = count_by-le-length (λ s. nat_eq s.number number && starts first s) snaps
 
 within_piece : (first count piece q r : ℕ) → first + count ≤ piece * q + piece → q * piece + r ≡ first → r + count ≤ piece
@@ -115,7 +122,9 @@ shut_only snaps (Some k) refusal e = elim (cases_Bool (did_overflow (slice_index
 shut_refused : {B : Type 0} (kind : Kind) (snaps : List (Kept B)) (refusal : Refusal) → shut_refusal kind snaps ≡ Some refusal → refusal ≡ Overflow
 shut_refused OriginRead snaps refusal e = absurd (cc)
 shut_refused OriginWrite snaps refusal e = absurd (cc)
+shut_refused OriginFlush snaps refusal e = absurd (cc)
 shut_refused (SnapRead number) snaps refusal e = absurd (cc)
+shut_refused (SnapFlush number) snaps refusal e = absurd (cc)
 shut_refused (SnapWrite number) snaps refusal e = shut_only snaps (place_of_snap number snaps) refusal e
 
 first_either : (a b c : Option Refusal) (refusal : Refusal) → c ≡ None → first_of_two a (first_of_two b c) ≡ Some refusal → (a ≡ Some refusal) ⊎ (b ≡ Some refusal)
@@ -123,17 +132,27 @@ first_either None None c refusal none e = absurd (let both : None ≡ Some refus
 first_either None (Some other) c refusal none e = inr e
 first_either (Some other) b c refusal none e = inl e
 
+-- a range that a volume at rest takes
+range_fits : (piece sectors : ℕ) (range : Range) → is_chunk piece ≡ true → 0 < range.count → range.first + range.count ≤ sectors → (range.first + range.count - 1) / piece ≡ range.first / piece → range_refusal piece sectors range ≡ None
+range_fits piece sectors range ok some inside one =
+    let whole : range.first / piece * piece + range.first % piece ≡ range.first = div-add-mod' range.first piece in
+    let high = piece_high piece range.first range.count (is_chunk-some piece ok) some one in
+    let within = within_piece range.first range.count piece (range.first / piece) (range.first % piece) high whole in
+    let fits : is_piece_of piece sectors range ≡ true =
+    ap (λ b. b && nat_le (range.first + range.count) sectors && nat_le (range.first % piece + range.count) piece) (lt-true 0 range.count some)
+    ∙ ap (λ b. b && nat_le (range.first % piece + range.count) piece) (le-true (range.first + range.count) sectors inside)
+    ∙ le-true (range.first % piece + range.count) piece within in
+    rw fits refl
+
+-- and as it keeps it
+kept_fits : (op : Op) (piece sectors : ℕ) (range : Range) → is_chunk piece ≡ true → 0 < range.count → range.first + range.count ≤ sectors → (range.first + range.count - 1) / piece ≡ range.first / piece → range_refusal piece sectors (kept_range op range) ≡ None
+kept_fits Read piece sectors range ok some inside one = range_fits piece sectors range ok some inside one
+kept_fits (Write bytes) piece sectors range ok some inside one = range_fits piece sectors range ok some inside one
+kept_fits Flush piece sectors range ok some inside one = range_fits piece sectors (kept_range Flush range) ok (omega arith) (omega (arith, some, inside)) refl
+
 module _ {B : Type 0} (size : B → ℕ) (request : Request) (v : Volumed B) (can : CanServe size request.dev request.op request.range v) (apart : (number : ℕ) → merging_number v.merge ≡ Some number → place_of_snap number v.snaps ≡ None) (quiet : is_quiet_of v ≡ true) (few : length v.snaps ≤ 8) where
-  range_none : range_refusal (piece_with v.merge v.snaps) (size v.origin) request.range ≡ None
-  range_none =
-      let whole : request.range.first / piece_with v.merge v.snaps * piece_with v.merge v.snaps + request.range.first % piece_with v.merge v.snaps ≡ request.range.first = div-add-mod' request.range.first (piece_with v.merge v.snaps) in
-      let high = piece_high (piece_with v.merge v.snaps) request.range.first request.range.count (is_chunk-some (piece_with v.merge v.snaps) can.allowed) can.some can.one in
-      let within = within_piece request.range.first request.range.count (piece_with v.merge v.snaps) (request.range.first / piece_with v.merge v.snaps) (request.range.first % piece_with v.merge v.snaps) high whole in
-      let fits : is_piece_of (piece_with v.merge v.snaps) (size v.origin) request.range ≡ true =
-      ap (λ b. b && nat_le (request.range.first + request.range.count) (size v.origin) && nat_le (request.range.first % piece_with v.merge v.snaps + request.range.count) (piece_with v.merge v.snaps)) (lt-true 0 request.range.count can.some)
-      ∙ ap (λ b. b && nat_le (request.range.first % piece_with v.merge v.snaps + request.range.count) (piece_with v.merge v.snaps)) (le-true (request.range.first + request.range.count) (size v.origin) can.inside)
-      ∙ le-true (request.range.first % piece_with v.merge v.snaps + request.range.count) (piece_with v.merge v.snaps) within in
-      rw fits refl
+  range_none : range_refusal (piece_with v.merge v.snaps) (size v.origin) (kept_range request.op request.range) ≡ None
+  range_none = kept_fits request.op (piece_with v.merge v.snaps) (size v.origin) request.range can.allowed can.some can.inside can.one
 
   limit_none : limit_refusal (starting (kind_of request) request.range.first v.merge v.snaps) v ≡ None
   limit_none =
@@ -150,7 +169,7 @@ module _ {B : Type 0} (size : B → ℕ) (request : Request) (v : Volumed B) (ca
   -- its snapshot is spoiled, or shut
   pub only_its_snap : (refusal : Refusal) → submit_refusal size request v ≡ Some refusal → (refusal ≡ Invalid) ⊎ (refusal ≡ Overflow)
   only_its_snap refusal e =
-      let later : first_of_two (range_refusal (piece_with v.merge v.snaps) (size v.origin) request.range) (limit_refusal (starting (kind_of request) request.range.first v.merge v.snaps) v) ≡ None = rw range_none limit_none in
+      let later : first_of_two (range_refusal (piece_with v.merge v.snaps) (size v.origin) (kept_range request.op request.range)) (limit_refusal (starting (kind_of request) request.range.first v.merge v.snaps) v) ≡ None = rw range_none limit_none in
       elim (first_either (dev_refusal request.dev v.merge v.snaps) (shut_refusal (kind_of request) v.snaps) _ refusal later e) [
         | inl dev ↦ inl (dev_refused request.dev v refusal apart can.there dev)
         | inr shut ↦ inr (shut_refused (kind_of request) v.snaps refusal shut)

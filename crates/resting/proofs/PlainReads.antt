@@ -18,7 +18,7 @@ use Rattle.plain.specs.declared.request.Dev.TheVariants.{Origin, Snap as ToSnap}
 use Rattle.served.specs.Refusals.{is_starved}
 use Rattle.served.proofs.Starved.{starved_by}
 use Rattle.plain.specs.declared.request.Reply.{Reply}
-use Rattle.plain.specs.declared.request.Reply.TheVariants.{Data, Written, Refused}
+use Rattle.plain.specs.declared.request.Reply.TheVariants.{Data, Written, Flushed, Refused}
 use Rattle.plain.specs.declared.request.Failure.TheVariants.{Invalid as Declined, Io, Overflow}
 use Rattle.settled.specs.Snaps.{Volume}
 use Rattle.settled.specs.Commands.{read_pieces}
@@ -65,10 +65,11 @@ has_pieces a b (p ∷ pieces) join lt = omega arith
 abbrev IsPlainReply : Dev → Span → Arrays → Reply → Type 0
 IsPlainReply dev span old (Data bytes) = (array : List ℕ) × (saved_of dev old ≡ Live array) × (bytes ≡ sectors_at array span.first span.count)
 IsPlainReply dev span old Written = ⊥
+IsPlainReply dev span old Flushed = ⊥
 IsPlainReply dev span old (Refused failure) = IsReadLost dev (refusal_of failure) old
 
 -- there was no room for it
-read_starved : (dev : Dev) (refusal : Refusal) (old : Arrays) → is_starved refusal ≡ true → IsReadLost dev refusal old
+pub read_starved : (dev : Dev) (refusal : Refusal) (old : Arrays) → is_starved refusal ≡ true → IsReadLost dev refusal old
 read_starved dev refusal old starved = elim (starved_by refusal starved) [
   | inl memory ↦ subst (λ (r : Refusal). IsReadLost dev r old) (sym memory) tt
   | inr full ↦ subst (λ (r : Refusal). IsReadLost dev r old) (sym full) tt
@@ -77,6 +78,7 @@ read_starved dev refusal old starved = elim (starved_by refusal starved) [
 plain_reply : (dev : Dev) (span : Span) (old : Arrays) (array : List ℕ) (reply : Reply) → saved_of dev old ≡ Live array → IsReadTo array span.first span.count [] reply → IsPlainReply dev span old reply
 plain_reply dev span old array (Data bytes) live read = (array, live, read)
 plain_reply dev span old array Written live read = read
+plain_reply dev span old array Flushed live read = read
 plain_reply dev span old array (Refused Declined) live read = absurd read
 plain_reply dev span old array (Refused Io) live read = (array, live)
 plain_reply dev span old array (Refused Overflow) live read = absurd read
@@ -168,6 +170,7 @@ module _ (sectors chunk : ℕ) (range : Range) (ok : is_chunk chunk ≡ true) (s
       snap_plain : (number : ℕ) (g : Merge) (v : Volume) (reply : Reply) → IsPlainReply (ToSnap number) span (arrays_of v) reply → (let m : Merged = record { volume = v; merge = Some g } in IsPlainReply (ToSnap number) span (arrays_with m) reply)
       snap_plain number g v (Data bytes) law = law
       snap_plain number g v Written law = law
+      snap_plain number g v Flushed law = law
       snap_plain number g v (Refused Declined) law = law
       snap_plain number g v (Refused Io) law = law
       snap_plain number g v (Refused Overflow) law = law

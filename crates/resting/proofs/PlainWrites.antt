@@ -17,7 +17,7 @@ use Rattle.plain.specs.declared.request.Overflowing.{Overflowing}
 use Rattle.plain.specs.declared.request.Overflowing.TheVariants.{Never, May, Did}
 use Rattle.plain.specs.declared.request.Op.TheVariants.{Write}
 use Rattle.plain.specs.declared.request.Reply.{Reply}
-use Rattle.plain.specs.declared.request.Reply.TheVariants.{Data, Written, Refused}
+use Rattle.plain.specs.declared.request.Reply.TheVariants.{Data, Written, Flushed, Refused}
 use Rattle.plain.specs.declared.request.Failure.TheVariants.{Invalid as Declined, Io, Overflow}
 use Rattle.settled.specs.Devices.{Device, answers}
 use Rattle.settled.specs.Snaps.{Snap, Volume}
@@ -44,6 +44,7 @@ IsMarked (ToSnap number) old new = (overflow_under number old.saved ≢ Never) �
 -- what is shown after a write of one piece
 abbrev pub IsPieceShown : Dev → ℕ → List ℕ → Arrays → Arrays → Reply → Type 0
 IsPieceShown dev first part old new (Data bytes) = ⊥
+IsPieceShown dev first part old new Flushed = ⊥
 IsPieceShown dev first part old new Written = IsLive dev old × IsOpen dev old × IsWritten dev first part old new
 IsPieceShown dev first part old new (Refused Declined) = IsLost dev old new
 IsPieceShown dev first part old new (Refused Io) = IsLive dev old × IsWritten dev first [] old new
@@ -106,6 +107,7 @@ module _ (sectors chunk : ℕ) (ok : is_chunk chunk ≡ true) where
   -- a piece of a snapshot, by what all of them show
   as_shown : (number : ℕ) (piece : Span) (part : List ℕ) (old new : Arrays) (reply : Reply) → new.origin ≡ old.origin → AreShownBy number piece part old.saved new.saved reply → IsPieceShown (ToSnap number) piece.first part old new reply
   as_shown number piece part old new (Data bytes) same by = by
+  as_shown number piece part old new Flushed same by = by
   as_shown number piece part old new Written same by = (by.0, by.1, (same, by.2))
   as_shown number piece part old new (Refused Declined) same by = (same, by)
   as_shown number piece part old new (Refused Io) same by = (by.0, (same, by.1 ∙ (written_none (ToSnap number) piece.first old).1))
@@ -123,6 +125,7 @@ module _ (sectors chunk : ℕ) (ok : is_chunk chunk ≡ true) where
 -- what is shown after a write of pieces
 abbrev pub AreWritten : Dev → ℕ → List Span → List ℕ → Arrays → Arrays → Reply → Type 0
 AreWritten dev first pieces bytes old new (Data all) = ⊥
+AreWritten dev first pieces bytes old new Flushed = ⊥
 AreWritten dev first pieces bytes old new Written = (0 < length pieces → IsLive dev old × IsOpen dev old) × IsWritten dev first (take (512 * sectors_in pieces) bytes) old new
 AreWritten dev first pieces bytes old new (Refused Declined) = IsLost dev old new
 AreWritten dev first pieces bytes old new (Refused Io) = IsLive dev old × IsWrittenInPart dev first pieces bytes old new
@@ -166,6 +169,7 @@ module _ (dev : Dev) (piece : Span) (pieces : List Span) (bytes : List ℕ) (old
   pub write_more : (new : Arrays) (reply : Reply) → IsLive dev old → IsOpen dev old → IsWritten dev piece.first (take (512 * piece.count) bytes) old mid
       → AreWritten dev (piece.first + piece.count) pieces (drop (512 * piece.count) bytes) mid new reply → AreWritten dev piece.first (piece ∷ pieces) bytes old new reply
   write_more new (Data all) live free here more = more
+  write_more new Flushed live free here more = more
   write_more new Written live free here more = (λ some. (live, free), join_more here new (sectors_in pieces) more.1)
   write_more new (Refused Declined) live free here more = lost_more dev piece.first (take (512 * piece.count) bytes) old mid new here more
   write_more new (Refused Io) live free here more = (live, (suc more.1.0, (let lt = more.1.1 in omega (arith, lt)), join_more here new (sectors_in (take more.1.0 pieces)) more.1.2))
@@ -176,6 +180,7 @@ goes_write : (dev : Dev) (piece : Span) (pieces : List Span) (bytes : List ℕ) 
     → IsPieceShown dev piece.first (take (512 * piece.count) bytes) old (arrays_of here.volume) r → AreWritten dev (piece.first + piece.count) pieces (drop (512 * piece.count) bytes) (arrays_of here.volume) (arrays_of more.volume) more.reply
     → AreWritten dev piece.first (piece ∷ pieces) bytes old (arrays_of (go_on r here more).volume) (go_on r here more).reply
 goes_write dev piece pieces bytes old (Data all) here more room fits is shows rest = absurd shows
+goes_write dev piece pieces bytes old Flushed here more room fits is shows rest = absurd shows
 goes_write dev piece pieces bytes old Written here more room fits is shows rest = write_more dev piece pieces bytes old (arrays_of here.volume) room fits (arrays_of more.volume) more.reply shows.0 shows.1 shows.2 rest
 goes_write dev piece pieces bytes old (Refused Declined) here more room fits is shows rest = subst (AreWritten dev piece.first (piece ∷ pieces) bytes old (arrays_of here.volume)) (sym is) shows
 goes_write dev piece pieces bytes old (Refused Io) here more room fits is shows rest = subst (AreWritten dev piece.first (piece ∷ pieces) bytes old (arrays_of here.volume)) (sym is) (shows.0, (0, omega arith, shows.1))

@@ -3,7 +3,7 @@ use Rattle.std.proofs.Common.{◌≡◌, ℕ, ◌+◌, ◌<◌, List, [], ◌∷
 use Rattle.chunk.specs.Pieces.{Span}
 use Rattle.plain.specs.declared.request.Dev.{Dev}
 use Rattle.plain.specs.declared.request.Reply.{Reply}
-use Rattle.plain.specs.declared.request.Reply.TheVariants.{Data, Written, Refused}
+use Rattle.plain.specs.declared.request.Reply.TheVariants.{Data, Written, Flushed, Refused}
 use Rattle.plain.specs.declared.request.Failure.{Failure}
 use Rattle.settled.specs.Snaps.{Volume}
 use Rattle.settled.specs.Pieces.{Answered}
@@ -43,6 +43,7 @@ served_parts dev ps before m = by m.merge m.volume
 goes_read : (r : Reply) (here rest rest' x : Served) (w : Merged) (out : List ℕ) → here.reply ≡ r → (rest ≡ answer w (Data out) → rest' ≡ x) → go_on r here rest ≡ answer w (Data out) → go_on r here rest' ≡ x
 goes_read (Data bytes) here rest rest' x w out is f e = f e
 goes_read Written here rest rest' x w out is f e = f e
+goes_read Flushed here rest rest' x w out is f e = f e
 goes_read (Refused failure) here rest rest' x w out is f e = let same : Refused failure ≡ Data out = sym is ∙ ap (λ (a : Served). a.reply) e in absurd (cc)
 
 module _ (dev : Dev) where
@@ -71,6 +72,7 @@ module _ (dev : Dev) where
   done_one : (p : Span) (out : List ℕ) (w u : Merged) (got : Reply) → IsGood got → part_read dev p w ≡ answer u got → parts_read dev (p ∷ []) out w ≡ answer u (Data (out ++ bytes_in got))
   done_one p out w u (Data more) good e = ap (λ (a : Served). go_on a.reply a (answer a.state (Data (out ++ bytes_in a.reply)))) e
   done_one p out w u Written good e = ap (λ (a : Served). go_on a.reply a (answer a.state (Data (out ++ bytes_in a.reply)))) e
+  done_one p out w u Flushed good e = ap (λ (a : Served). go_on a.reply a (answer a.state (Data (out ++ bytes_in a.reply)))) e
   done_one p out w u (Refused failure) good e = absurd good
 
   pub reads_more : (L : Type 0) (all rest rest' : List Span) (out out' : List ℕ) (p : Span) (v w u : Merged) (got : Reply) → ReadsTo L all rest out v w → rest ≡ p ∷ rest' → IsGood got

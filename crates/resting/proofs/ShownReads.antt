@@ -15,7 +15,7 @@ use Rattle.plain.specs.declared.request.Dev.{Dev}
 use Rattle.plain.specs.declared.request.Dev.TheVariants.{Origin, Snap as ToSnap}
 use Rattle.plain.specs.declared.request.Op.TheVariants.{Read}
 use Rattle.plain.specs.declared.request.Reply.{Reply}
-use Rattle.plain.specs.declared.request.Reply.TheVariants.{Data, Written, Refused}
+use Rattle.plain.specs.declared.request.Reply.TheVariants.{Data, Written, Flushed, Refused}
 use Rattle.plain.specs.declared.request.Failure.TheVariants.{Invalid as Declined, Io, Overflow}
 use Rattle.settled.proofs.Laws.{option_cases}
 use Rattle.settled.proofs.PictureSectors.{shown_plain, shown_copied, place_inside}
@@ -32,6 +32,7 @@ use Rattle.resting.proofs.Rests.{IsOrderly, IsInside, IsWell, room_in, well_orde
 abbrev pub IsReadOf : List ℕ → Span → Reply → Type 0
 IsReadOf array piece (Data bytes) = bytes ≡ sectors_at array piece.first piece.count
 IsReadOf array piece Written = ⊥
+IsReadOf array piece Flushed = ⊥
 IsReadOf array piece (Refused Declined) = ⊥
 IsReadOf array piece (Refused Io) = Unit {0}
 IsReadOf array piece (Refused Overflow) = ⊥
@@ -94,7 +95,7 @@ at_dead number piece origin (s ∷ snaps) dead = elim (cases_Bool (s.number == n
     not_live false other e = refl
 
 -- a device and a snapshot whose bytes are as they were
-record IsSame (o : Device) (s : Snap) (a : Served) : Type 0 where
+pub record IsSame (o : Device) (s : Snap) (a : Served) : Type 0 where
   pub origin : a.origin.bytes ≡ o.bytes
   pub snap : (b : List ℕ) → entry_of b a.snap ≡ entry_of b s
 
@@ -102,17 +103,17 @@ place_same : (piece : Span) (o : Device) (s : Snap) (at : Option ℕ) → IsSame
 place_same piece o s None = record { origin = refl; snap = λ b. refl }
 place_same piece o s (Some n) = record { origin = refl; snap = λ b. refl }
 
-either_same : (b : Bool) (o : Device) (s : Snap) (x y : Served) → IsSame o s x → IsSame o s y → IsSame o s (if b then x else y)
+pub either_same : (b : Bool) (o : Device) (s : Snap) (x y : Served) → IsSame o s x → IsSame o s y → IsSame o s (if b then x else y)
 either_same true o s x y hx hy = hx
 either_same false o s x y hx hy = hy
 
 snap_same : (piece : Span) (o : Device) (s : Snap) → IsSame o s (read_snap piece o s)
 snap_same piece o s = either_same s.live o s _ _ (place_same piece o s (place_of (pairs_of s.chunk s.store.bytes) (piece.first / s.chunk))) (record { origin = refl; snap = λ b. refl })
 
-abbrev IsKeptBy : List ℕ → List Snap → Answered → Type 0
+abbrev pub IsKeptBy : List ℕ → List Snap → Answered → Type 0
 IsKeptBy b snaps a = (a.volume.origin.bytes ≡ b) × ((c : List ℕ) → map (entry_of c) a.volume.snaps ≡ map (entry_of c) snaps)
 
-either_kept : (t : Bool) (b : List ℕ) (snaps : List Snap) (x y : Answered) → IsKeptBy b snaps x → IsKeptBy b snaps y → IsKeptBy b snaps (if t then x else y)
+pub either_kept : (t : Bool) (b : List ℕ) (snaps : List Snap) (x y : Answered) → IsKeptBy b snaps x → IsKeptBy b snaps y → IsKeptBy b snaps (if t then x else y)
 either_kept true b snaps x y hx hy = hx
 either_kept false b snaps x y hx hy = hy
 
@@ -125,7 +126,7 @@ in_same number piece o (s ∷ snaps) =
     (here.origin, λ c. ap (λ (e : Entry). e ∷ map (entry_of c) snaps) (here.snap c))
     (later.0, λ c. ap (λ (es : List Entry). entry_of c s ∷ es) (later.1 c))
 
-arrays_same : (v : Volume) (a : Answered) → IsKeptBy v.origin.bytes v.snaps a → arrays_of a.volume ≡ arrays_of v
+pub arrays_same : (v : Volume) (a : Answered) → IsKeptBy v.origin.bytes v.snaps a → arrays_of a.volume ≡ arrays_of v
 arrays_same v a kept =
     let mk : List ℕ → List Entry → Arrays = λ (o : List ℕ) (es : List Entry). record { origin = o; saved = es } in
     ap (λ (o : List ℕ). mk o (map (entry_of o) a.volume.snaps)) kept.0 ∙ ap (mk v.origin.bytes) (kept.1 v.origin.bytes)
@@ -150,6 +151,7 @@ sectors_joined array first m n =
 abbrev pub IsReadTo : List ℕ → ℕ → ℕ → List ℕ → Reply → Type 0
 IsReadTo array first count before (Data bytes) = bytes ≡ before ++ sectors_at array first count
 IsReadTo array first count before Written = ⊥
+IsReadTo array first count before Flushed = ⊥
 IsReadTo array first count before (Refused Declined) = ⊥
 IsReadTo array first count before (Refused Io) = Unit {0}
 IsReadTo array first count before (Refused Overflow) = ⊥
@@ -158,6 +160,7 @@ read_more : (array : List ℕ) (first m n : ℕ) (before bytes : List ℕ) (repl
 read_more array first m n before bytes (Data all) part more =
     more ∙ append_assoc before bytes (sectors_at array (first + m) n) ∙ ap (λ (xs : List ℕ). before ++ (xs ++ sectors_at array (first + m) n)) part ∙ ap (λ (xs : List ℕ). before ++ xs) (sectors_joined array first m n)
 read_more array first m n before bytes Written part more = more
+read_more array first m n before bytes Flushed part more = more
 read_more array first m n before bytes (Refused Declined) part more = more
 read_more array first m n before bytes (Refused Io) part more = tt
 read_more array first m n before bytes (Refused Overflow) part more = more
@@ -165,6 +168,7 @@ read_more array first m n before bytes (Refused Overflow) part more = more
 goes_read : (array : List ℕ) (piece : Span) (n : ℕ) (before : List ℕ) (r : Reply) (here more : Answered) → here.reply ≡ r → IsReadOf array piece r → IsReadTo array (piece.first + piece.count) n (before ++ bytes_in r) more.reply → IsReadTo array piece.first (piece.count + n) before (go_on r here more).reply
 goes_read array piece n before (Data bytes) here more is read rest = read_more array piece.first piece.count n before bytes more.reply read rest
 goes_read array piece n before Written here more is read rest = absurd read
+goes_read array piece n before Flushed here more is read rest = absurd read
 goes_read array piece n before (Refused Declined) here more is read rest = absurd read
 goes_read array piece n before (Refused Overflow) here more is read rest = absurd read
 goes_read array piece n before (Refused Io) here more is read rest = subst (IsReadTo array piece.first (piece.count + n) before) (sym is) tt
@@ -172,6 +176,7 @@ goes_read array piece n before (Refused Io) here more is read rest = subst (IsRe
 goes_shown : (r : Reply) (shows : Arrays) (here more : Answered) → arrays_of here.volume ≡ shows → arrays_of more.volume ≡ shows → arrays_of (go_on r here more).volume ≡ shows
 goes_shown (Data bytes) shows here more h m = m
 goes_shown Written shows here more h m = m
+goes_shown Flushed shows here more h m = m
 goes_shown (Refused failure) shows here more h m = h
 
 -- pieces leave what is shown

@@ -13,7 +13,7 @@ use Rattle.plain.specs.Plain.{Saved, Live, Invalid, Entry, marked_in, overflow_u
 use Rattle.plain.specs.declared.request.Overflowing.{Overflowing}
 use Rattle.plain.specs.declared.request.Overflowing.TheVariants.{Never, Did}
 use Rattle.plain.specs.declared.request.Reply.{Reply}
-use Rattle.plain.specs.declared.request.Reply.TheVariants.{Data, Written, Refused}
+use Rattle.plain.specs.declared.request.Reply.TheVariants.{Data, Written, Flushed, Refused}
 use Rattle.plain.specs.declared.request.Failure.TheVariants.{Invalid as Declined, Io, Overflow}
 use Rattle.volume_laws.proofs.PlaceWrites.{picture_placed}
 use Rattle.settled.specs.Saves.{Saving as Stored, next_of, saved}
@@ -72,6 +72,7 @@ live_saved c origin s live = elim (cases_Bool s.live) [
 -- what one snapshot shows after a write of a piece
 abbrev pub IsShownBy : Span → List ℕ → Saved → Saved → Reply → Type 0
 IsShownBy piece part old new (Data bytes) = ⊥
+IsShownBy piece part old new Flushed = ⊥
 IsShownBy piece part old new Written = (array : List ℕ) × (old ≡ Live array) × (new ≡ Live (with_sectors array piece.first part))
 IsShownBy piece part old new (Refused Declined) = new ≡ Invalid
 IsShownBy piece part old new (Refused Io) = (array : List ℕ) × (old ≡ Live array) × (new ≡ old)
@@ -80,6 +81,7 @@ IsShownBy piece part old new (Refused Overflow) = (array : List ℕ) × (old ≡
 -- and what a full store does to it then
 abbrev pub IsMarkedBy : Overflowing → Overflowing → Reply → Type 0
 IsMarkedBy old new (Data bytes) = ⊥
+IsMarkedBy old new Flushed = ⊥
 IsMarkedBy old new Written = (old ≢ Did) × (new ≡ old)
 IsMarkedBy old new (Refused Declined) = new ≡ old
 IsMarkedBy old new (Refused Io) = new ≡ old
@@ -221,6 +223,7 @@ snap_stays piece part origin s =
 -- what all snapshots show after a write of one, and whether that is marked
 abbrev pub AreShownBy : ℕ → Span → List ℕ → List Entry → List Entry → Reply → Type 0
 AreShownBy number piece part old new (Data bytes) = ⊥
+AreShownBy number piece part old new Flushed = ⊥
 AreShownBy number piece part old new Written = ((array : List ℕ) × (saved_at number old ≡ Live array)) × (overflow_under number old ≢ Did) × (new ≡ changed_at number (with_bytes piece.first part) old)
 AreShownBy number piece part old new (Refused Declined) = new ≡ changed_at number (λ saved. Invalid) old
 AreShownBy number piece part old new (Refused Io) = ((array : List ℕ) × (saved_at number old ≡ Live array)) × (new ≡ old)
@@ -234,6 +237,7 @@ entry_is e number saved overflow is shows full =
 shown_first : (number : ℕ) (piece : Span) (part : List ℕ) (old new : Entry) (es : List Entry) (reply : Reply) → (old.number == number) ≡ true → new.number ≡ old.number
     → IsShownBy piece part old.saved new.saved reply → IsMarkedBy old.overflow new.overflow reply → AreShownBy number piece part (old ∷ es) (new ∷ es) reply
 shown_first number piece part old new es (Data bytes) this same by full = by
+shown_first number piece part old new es Flushed this same by full = by
 shown_first number piece part old new es Written this same by full = (
   (by.0, cond-true _ _ _ this ∙ by.1),
   (λ did. full.0 (sym (cond-true _ _ _ this) ∙ did)),
@@ -251,6 +255,7 @@ shown_first number piece part old new es (Refused Overflow) this same by full = 
 
 shown_later : (number : ℕ) (piece : Span) (part : List ℕ) (e : Entry) (old new : List Entry) (reply : Reply) → (e.number == number) ≡ false → AreShownBy number piece part old new reply → AreShownBy number piece part (e ∷ old) (e ∷ new) reply
 shown_later number piece part e old new (Data bytes) other by = by
+shown_later number piece part e old new Flushed other by = by
 shown_later number piece part e old new Written other by = (
   (by.0.0, cond-false _ _ _ other ∙ by.0.1),
   (λ did. by.1 (sym (cond-false _ _ _ other) ∙ did)),

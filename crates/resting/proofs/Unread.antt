@@ -11,7 +11,7 @@ use Rattle.model.specs.Picture.{place_of}
 use Rattle.plain.specs.declared.request.Dev.{Dev}
 use Rattle.plain.specs.declared.request.Dev.TheVariants.{Origin, Snap as ToSnap}
 use Rattle.plain.specs.declared.request.Reply.{Reply}
-use Rattle.plain.specs.declared.request.Reply.TheVariants.{Data, Written, Refused}
+use Rattle.plain.specs.declared.request.Reply.TheVariants.{Data, Written, Flushed, Refused}
 use Rattle.settled.specs.Devices.{Device, met}
 use Rattle.settled.specs.Snaps.{Snap, Volume}
 use Rattle.settled.specs.Pieces.{Answered, Served, read_place, read_snap, in_snap}
@@ -74,6 +74,7 @@ piece_same (ToSnap number) piece v h = in_same number piece v.origin v.snaps h.o
 goes_on : (reply : Reply) (v : Volume) (here rest : Answered) → here.volume ≡ v → rest.volume ≡ v → (go_on reply here rest).volume ≡ v
 goes_on (Data bytes) v here rest h r = r
 goes_on Written v here rest h r = r
+goes_on Flushed v here rest h r = r
 goes_on (Refused failure) v here rest h r = h
 
 pieces_same : (dev : Dev) (pieces : List Span) (before : List ℕ) (v : Volume) → AreUnmoved v → (read_pieces dev pieces before v).volume ≡ v
@@ -110,6 +111,7 @@ part_same (ToSnap number) piece m hv hg = ap (λ (v : Volume). let n : Merging =
 goes_on_beside : (reply : Reply) (m : Merging) (here rest : Replied) → here.state ≡ m → rest.state ≡ m → (go_on_beside reply here rest).state ≡ m
 goes_on_beside (Data bytes) m here rest h r = r
 goes_on_beside Written m here rest h r = r
+goes_on_beside Flushed m here rest h r = r
 goes_on_beside (Refused failure) m here rest h r = h
 
 parts_same : (dev : Dev) (pieces : List Span) (before : List ℕ) (m : Merging) → AreUnmoved m.volume → IsUnmoved m.merge.store → (read_parts dev pieces before m).state ≡ m

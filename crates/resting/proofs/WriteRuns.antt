@@ -3,7 +3,7 @@ use Rattle.std.proofs.Common.{◌≡◌, ℕ, ◌+◌, ◌*◌, ◌<◌, List, [
 use Rattle.chunk.specs.Pieces.{Span}
 use Rattle.plain.specs.declared.request.Dev.{Dev}
 use Rattle.plain.specs.declared.request.Reply.{Reply}
-use Rattle.plain.specs.declared.request.Reply.TheVariants.{Data, Written, Refused}
+use Rattle.plain.specs.declared.request.Reply.TheVariants.{Data, Written, Flushed, Refused}
 use Rattle.plain.specs.declared.request.Failure.{Failure}
 use Rattle.settled.specs.Snaps.{Volume}
 use Rattle.settled.specs.Pieces.{Answered}
@@ -23,6 +23,7 @@ answer v reply = record { state = v; reply = reply }
 abbrev pub go_on : Reply → Served → Served → Served
 go_on (Data bytes) here rest = rest
 go_on Written here rest = rest
+go_on Flushed here rest = rest
 go_on (Refused failure) here rest = here
 
 -- the pieces of a write, each with its part of the bytes
@@ -52,17 +53,20 @@ ends (p ∷ ps) = ap (λ (xs : List Span). p ∷ xs) (ends ps)
 goes_written : (r : Reply) (here rest rest' x : Served) (w : Merged) → here.reply ≡ r → (rest ≡ answer w Written → rest' ≡ x) → go_on r here rest ≡ answer w Written → go_on r here rest' ≡ x
 goes_written (Data bytes) here rest rest' x w is f e = f e
 goes_written Written here rest rest' x w is f e = f e
+goes_written Flushed here rest rest' x w is f e = f e
 goes_written (Refused failure) here rest rest' x w is f e = let same : Refused failure ≡ Written = sym is ∙ ap (λ (a : Served). a.reply) e in absurd (cc)
 
 -- without a merge, and beside one
 pub alone_goes : (r : Reply) (here rest : Answered) → alone (alone_on r here rest) ≡ go_on r (alone here) (alone rest)
 alone_goes (Data bytes) here rest = refl
 alone_goes Written here rest = refl
+alone_goes Flushed here rest = refl
 alone_goes (Refused failure) here rest = refl
 
 pub beside_goes : (r : Reply) (here rest : Replied) → beside (beside_on r here rest) ≡ go_on r (beside here) (beside rest)
 beside_goes (Data bytes) here rest = refl
 beside_goes Written here rest = refl
+beside_goes Flushed here rest = refl
 beside_goes (Refused failure) here rest = refl
 
 alone_parts : (dev : Dev) (ps : List Span) (bytes : List ℕ) (v : Volume) → alone (write_pieces dev ps bytes v) ≡ parts_written dev ps bytes (record { volume = v; merge = None })
@@ -110,6 +114,7 @@ module _ (dev : Dev) where
   done_one : (p : Span) (bytes : List ℕ) (w u : Merged) (got : Reply) → IsGood got → part_written dev p (take (512 * p.count) bytes) w ≡ answer u got → parts_written dev (p ∷ []) bytes w ≡ answer u Written
   done_one p bytes w u (Data more) good e = ap (λ (a : Served). go_on a.reply a (answer a.state Written)) e
   done_one p bytes w u Written good e = ap (λ (a : Served). go_on a.reply a (answer a.state Written)) e
+  done_one p bytes w u Flushed good e = ap (λ (a : Served). go_on a.reply a (answer a.state Written)) e
   done_one p bytes w u (Refused failure) good e = absurd good
 
   pub writes_more : (L : Type 0) (all rest rest' : List Span) (bytes : List ℕ) (from : ℕ) (p : Span) (v w u : Merged) (got : Reply) → WritesTo L all bytes from rest v w → rest ≡ p ∷ rest' → IsGood got

@@ -1,5 +1,5 @@
--- A read or a write of a volume with requests in flight: the request of each piece is accepted, and then all that is due is
--- done, before the next. This project's own.
+-- A read, a write or a flush of a volume with requests in flight: the request of each piece is accepted, and then all that is due
+-- is done, before the next. This project's own.
 use Rattle.std.specs.Prelude.{◌≡◌, ◌≢◌, ◌⊎◌, ◌==◌, ℕ, ◌+◌, ◌*◌, Bool, true, false, List, [], ◌∷◌, ◌++◌, take, drop, if◌then◌else◌}
 use Rattle.sector.specs.declared.refusal.Refusal.{Refusal}
 use Rattle.sector.specs.declared.refusal.Refusal.TheVariants.{NoSuchDevice, NoMemory, Invalid as InvalidRefusal}
@@ -8,7 +8,7 @@ use Rattle.chunk.specs.Pieces.{Span, span_of, pieces_of}
 use Rattle.plain.specs.declared.request.Dev.{Dev}
 use Rattle.plain.specs.declared.request.Dev.TheVariants.{Origin, Snap as ToSnap}
 use Rattle.plain.specs.declared.request.Op.{Op}
-use Rattle.plain.specs.declared.request.Op.TheVariants.{Read, Write}
+use Rattle.plain.specs.declared.request.Op.TheVariants.{Read, Write, Flush}
 use Rattle.plain.specs.declared.request.Reply.{Reply}
 use Rattle.plain.specs.declared.request.Reply.TheVariants.{Refused}
 use Rattle.plain.specs.declared.request.Failure.{Failure}
@@ -132,3 +132,16 @@ IsWriteRefusedAmong contents layers size dev pieces bytes refusal old new before
 -- the pieces of a range
 abbrev pub pieces_among : {B : Type 0} → Span → Rested B → List Span
 pieces_among span v = pieces_of (piece_with v.events.merge v.events.snaps) span
+
+-- A flush was done, by one request, whose sectors are not looked at.
+abbrev pub flush_piece : Span
+flush_piece = record { first = 0; count = 1; size = 1 }
+
+abbrev pub IsFlushedAmong : {B : Type 0} → (B → List ℕ) → (B → List Layer) → Dev → Volumed B → Volumed B → List Replied → List Replied → Type 0
+IsFlushedAmong contents layers dev old new before after = (reply : Reply) × IsPieceServed contents layers dev Flush flush_piece reply old new before after
+
+-- why a flush is refused: its device is not there, and nothing changed; or it failed
+abbrev pub IsFlushRefusedAmong : {B : Type 0} → (B → List ℕ) → (B → List Layer) → (B → ℕ) → Dev → Refusal → Rested B → Rested B → List Replied → List Replied → Type 0
+IsFlushRefusedAmong contents layers size dev refusal old new before after =
+    ((refusal ≡ NoSuchDevice) × (has_dev dev old ≡ false) × (new ≡ old) × (after ≡ before))
+    ⊎ ((has_dev dev old ≡ true) × IsPieceFailed contents layers size dev Flush flush_piece refusal old.events new.events before after)

@@ -10,7 +10,7 @@ use Rattle.plain.specs.declared.request.Reply.{Reply}
 use Rattle.plain.specs.declared.request.Reply.TheVariants.{Data, Written, Refused}
 use Rattle.plain.specs.declared.request.Failure.{Failure}
 use Rattle.settled.specs.Merges.{Merged}
-use Rattle.served.specs.Beside.{Served, written_beside, read_beside, written_first_beside, read_first_beside, count_beside}
+use Rattle.served.specs.Beside.{Served, written_beside, read_beside, flushed_beside, written_first_beside, read_first_beside, count_beside}
 use Rattle.served.specs.Refusals.{is_starved}
 use Rattle.resting.specs.Rested.{Rested, merged_of, IsSettled, has_dev}
 use Rattle.plain.specs.Failures.{refusal_of}
@@ -34,3 +34,10 @@ IsReadRefused contents layers dev span refusal old new =
     ((refusal ≡ NoSuchDevice) × (has_dev dev old ≡ false) × (new ≡ old))
     ⊎ ((has_dev dev old ≡ true) × ((failure : Failure) × (refusal ≡ refusal_of failure) × IsDoneBy contents layers (read_beside dev span) (Refused failure) old new))
     ⊎ ((has_dev dev old ≡ true) × (is_starved refusal ≡ true) × ((count : ℕ) × (bytes : List ℕ) × (count < count_beside span (merged_of contents layers old)) × IsDoneBy contents layers (read_first_beside count dev span) (Data bytes) old new))
+
+-- And a flush: its device is not there, and nothing changed; or it failed; or there was no room for it.
+abbrev pub IsFlushRefused : {B : Type 0} → (B → List ℕ) → (B → List Layer) → Dev → Refusal → Rested B → Rested B → Type 0
+IsFlushRefused contents layers dev refusal old new =
+    ((refusal ≡ NoSuchDevice) × (has_dev dev old ≡ false) × (new ≡ old))
+    ⊎ ((has_dev dev old ≡ true) × ((failure : Failure) × (refusal ≡ refusal_of failure) × IsDoneBy contents layers (flushed_beside dev) (Refused failure) old new))
+    ⊎ ((has_dev dev old ≡ true) × (is_starved refusal ≡ true) × (merged_of contents layers new ≡ merged_of contents layers old))

@@ -6,7 +6,7 @@ use Rattle.sector.specs.declared.refusal.Refusal.{Refusal}
 use Rattle.device.specs.Layers.{Layer}
 use Rattle.plain.specs.declared.request.Dev.{Dev}
 use Rattle.plain.specs.declared.request.Reply.{Reply}
-use Rattle.plain.specs.declared.request.Reply.TheVariants.{Data, Written, Refused}
+use Rattle.plain.specs.declared.request.Reply.TheVariants.{Data, Written, Flushed, Refused}
 use Rattle.plain.specs.declared.request.Failure.{Failure}
 use Rattle.chunk.specs.Sizes.{is_chunk}
 use Rattle.chunk.specs.Pieces.{Span, span_of}
@@ -52,6 +52,7 @@ pub record CanAsk {B : Type 0} (size : B → ℕ) (dev : Dev) (range : Range) (v
 abbrev pub IsGood : Reply → Type 0
 IsGood (Data bytes) = Unit {0}
 IsGood Written = Unit {0}
+IsGood Flushed = Unit {0}
 IsGood (Refused failure) = ⊥
 
 -- one piece of a command, whether a merge is begun or not

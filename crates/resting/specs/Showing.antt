@@ -64,7 +64,11 @@ pub record IsPlainRead (dev : Dev) (span : Span) (bytes : List ℕ) (old new : A
   pub read : bytes ≡ sectors_at array span.first span.count
   pub same : new ≡ old
 
--- why a read is refused: its snapshot is not live, or a device failed, or there was no room for it, or its device is not
+-- A flush was done: its device shows an array, and what is shown is as it was.
+abbrev pub IsPlainFlush : Dev → Arrays → Arrays → Type 0
+IsPlainFlush dev old new = IsLive dev old × (new ≡ old)
+
+-- why a read or a flush is refused: its snapshot is not live, or a device failed, or there was no room for it, or its device is not
 -- there
 abbrev pub IsReadLost : Dev → Refusal → Arrays → Type 0
 IsReadLost dev InvalidRefusal old = saved_of dev old ≡ Invalid

@@ -47,6 +47,7 @@ fn write_piece_among<B: Layered>(
     match serve_among(volume, request, ended) {
         Ok(Reply::Refused(failure)) => Err(refusal_for(failure)),
         Ok(Reply::Written) => Ok(()),
+        Ok(Reply::Flushed) => Ok(()),
         Ok(Reply::Data(_)) => Ok(()),
         Err(refusal) => Err(refusal),
     }
@@ -76,6 +77,7 @@ fn read_piece_among<B: Layered>(
     match serve_among(volume, request, ended) {
         Ok(Reply::Refused(failure)) => Err(refusal_for(failure)),
         Ok(Reply::Written) => Ok(()),
+        Ok(Reply::Flushed) => Ok(()),
         Ok(Reply::Data(bytes)) => {
             // No more than the piece has.
             let count = bytes.len().min(piece.count as usize * SECTOR_BYTES);

@@ -1,6 +1,6 @@
 //! A volume by whole commands. A read or a write of any range is cut into pieces; each is submitted, and then the events that
 //! are due are done, the one that is due first, until none is. Requests may also be started, and be in flight between commands:
-//! their replies come with the command in which they end, each in the order of the events.
+//! their replies come with the command in which they end, each in the order of the events. A flush of a device is one request.
 //!
 //! It stands on `volume`, whose events it does, on `settling`, which has the laws by which those events settle, and on
 //! `layers`, whose time and messages it passes on. It promises that each command on a settled volume is the settled machine's
@@ -15,6 +15,7 @@ mod among_pieces;
 mod changing;
 mod draining;
 mod flights;
+mod flushing;
 mod layering;
 mod lending;
 mod merging;

@@ -50,6 +50,7 @@ fn write_piece<B: Layered>(
     match serve(volume, request) {
         Ok(Reply::Refused(failure)) => Err(refusal_for(failure)),
         Ok(Reply::Written) => Ok(()),
+        Ok(Reply::Flushed) => Ok(()),
         Ok(Reply::Data(_)) => Ok(()),
         Err(refusal) => Err(refusal),
     }
@@ -84,6 +85,7 @@ fn read_piece<B: Layered>(
     match serve(volume, request) {
         Ok(Reply::Refused(failure)) => Err(refusal_for(failure)),
         Ok(Reply::Written) => Ok(()),
+        Ok(Reply::Flushed) => Ok(()),
         Ok(Reply::Data(bytes)) => {
             // No more than the piece has.
             let count = bytes.len().min(piece.count as usize * SECTOR_BYTES);

@@ -1,7 +1,7 @@
 // A volume is stopped, and its devices are given back.
 ghost use Rattle.std.specs.Prelude.{◌≡◌, true, None};
 ghost use Rattle.volume.specs.Stopped.{devices_of};
-ghost use Rattle.volume.specs.Stopping.{StopsVolume, of_all};
+ghost use Rattle.volume.specs.Stopping.{StopsVolume};
 ghost use Rattle.volume.specs.Volumed.{is_loud_in_all};
 ghost use Rattle.resting.specs.Flying.{IsWhole};
 
@@ -14,7 +14,7 @@ impl<B: Layered> Resting<B> {
     /// drops writes, each live snapshot's store and the origin are loaded again with their arrays.
     pub fn stop(self) -> Stopped<B>
         ensures devices { result ≡ devices_of self.events }
-        ensures stops { is_loud_in_all B.layers self.events ≡ true → StopsVolume B.contents B.size of_all None self.events self.events }
+        ensures stops { is_loud_in_all B.layers self.events ≡ true → StopsVolume B.may_hold B.size None self.events self.events }
         ensures whole { IsWhole self }
     {
         let Resting { volume } = self;

@@ -1,7 +1,7 @@
 // What a seat asks of the volumes of a rig.
-ghost use Rattle.std.specs.Prelude.{◌≡◌, ◌*◌, ◌<◌, ◌∷◌, ◌++◌, ℕ, List, [], length, IfOk, IfErr, OnOk};
+ghost use Rattle.std.specs.Prelude.{◌≡◌, ◌≢◌, ◌*◌, ◌<◌, ◌∷◌, ◌++◌, ℕ, List, [], length, IfOk, IfErr, OnOk};
 ghost use Rattle.chunk.specs.Pieces.{span_of};
-ghost use Rattle.plain.specs.declared.request.Op.TheVariants.{Read, Write};
+ghost use Rattle.plain.specs.declared.request.Op.TheVariants.{Flush, Read, Write};
 ghost use Rattle.plain.specs.declared.request.Reply.TheVariants.{Data, Written};
 ghost use Rattle.journal.specs.declared.entry.Receipt.{Receipt};
 ghost use Rattle.post.specs.Denying.{Begin, Serve, WasBegun, WasDenied};
@@ -41,7 +41,7 @@ impl<J: Room> Seat<J> {
         self.sittings[volume].receipts()
     }
 
-    /// Makes one request, and works until it is answered.
+    /// Makes one read or write, and works until it is answered.
     fn ask<B: Layered, G: Gate + Drop, R: Wait>(
         &mut self,
         rt: &R,
@@ -50,6 +50,7 @@ impl<J: Room> Seat<J> {
         request: Request,
     ) -> Result<Reply, Refusal>
         requires volume { volume < J.volumes }
+        requires plain { request.op ≢ Flush }
         requires bytes { (bytes : List ℕ) → request.op ≡ Write bytes → length bytes ≡ 512 * request.range.count }
         ensures ok { IfOk result (λ reply. (r : Receipt) × (r.request ≡ request) × (r.reply ≡ reply) × HasAdded volume (r ∷ []) self.old self.new) }
         ensures err { IfErr result (λ refusal. HasAdded volume [] self.old self.new × WasDenied (J.start volume) (J.fixed volume) (seen_at self.new volume) (Serve request) refusal) }
@@ -90,7 +91,7 @@ impl<J: Room> Seat<J> {
                 Err(_) => Err(Refusal::NoMemory),
             },
             Ok(Reply::Refused(failure)) => Err(refusal_for(failure)),
-            Ok(Reply::Written) => {
+            Ok(_) => {
                 // No read is answered so.
                 for _ in rt.forever() {}
                 unreachable!()
@@ -125,7 +126,7 @@ impl<J: Room> Seat<J> {
         match self.ask(rt, rig, volume, request) {
             Ok(Reply::Written) => Ok(()),
             Ok(Reply::Refused(failure)) => Err(refusal_for(failure)),
-            Ok(Reply::Data(_)) => {
+            Ok(_) => {
                 // No write is answered so.
                 for _ in rt.forever() {}
                 unreachable!()

@@ -1,6 +1,6 @@
 // One request of a seat, from its submission to its reply.
-ghost use Rattle.std.specs.Prelude.{◌≡◌, ◌*◌, ◌<◌, ℕ, List, [], length, IfErr, IfOk};
-ghost use Rattle.plain.specs.declared.request.Op.TheVariants.{Write};
+ghost use Rattle.std.specs.Prelude.{◌≡◌, ◌≢◌, ◌*◌, ◌<◌, ℕ, List, [], length, IfErr, IfOk};
+ghost use Rattle.plain.specs.declared.request.Op.TheVariants.{Flush, Write};
 ghost use Rattle.journal.specs.declared.entry.Receipt.{Receipt};
 ghost use Rattle.post.specs.Denying.{Serve};
 ghost use Rattle.rig.specs.Sittings.{IsPerformed, IsTurnedAway};
@@ -15,7 +15,7 @@ use post::Room;
 use sector::Refusal;
 use std::sync::Wait;
 
-/// Submits a request, and works until it is answered. The answer is the reply of the receipt that came with it; where there is
+/// Submits a read or a write, and works until it is answered. The answer is the reply of the receipt that came with it; where there is
 /// none, what the seat has then seen says why.
 pub(crate) fn perform<B: Layered, J: Room, R: Wait>(
     rt: &R,
@@ -28,6 +28,7 @@ pub(crate) fn perform<B: Layered, J: Room, R: Wait>(
     requires volume { sitting.old.volume ≡ place.now.volume }
     requires few { sitting.old.seat < 9 }
     requires idle { sitting.old.waits ≡ [] }
+    requires plain { request.op ≢ Flush }
     requires bytes { (bytes : List ℕ) → request.op ≡ Write bytes → length bytes ≡ 512 * request.range.count }
     ensures ok { IfOk result (λ reply. (r : Receipt) × IsPerformed request reply r sitting.old sitting.new) }
     ensures err { IfErr result (λ refusal. IsTurnedAway (J.start sitting.old.volume) (J.fixed sitting.old.volume) (Serve request) refusal sitting.old sitting.new) }

@@ -1,6 +1,6 @@
 // What a seat does at one volume, under its lock.
 ghost use Rattle.std.specs.Prelude.{◌≡◌, ◌≢◌, ◌*◌, ◌<◌, ◌++◌, ◌∷◌, ℕ, List, [], length, map, IfErr, IfOk, IfSome, IfNone, MatchResult, OnErr, OnOk};
-ghost use Rattle.plain.specs.declared.request.Op.TheVariants.{Write};
+ghost use Rattle.plain.specs.declared.request.Op.TheVariants.{Flush, Write};
 ghost use Rattle.journal.specs.Entries.{answered_of, entries_by};
 ghost use Rattle.journal.specs.Seats.{Seated};
 ghost use Rattle.journal.specs.declared.entry.Entry.{Entry};
@@ -22,7 +22,6 @@ use sector::Refusal;
 use std::alloc::{AllocError, Global};
 use std::marker::PhantomData;
 use std::mem;
-use std::sync::Wait;
 
 impl<J: Room> Sitting<J> {
     /// A seat at a volume, with no receipts.
@@ -53,7 +52,7 @@ impl<J: Room> Sitting<J> {
         self.receipts.reserve(1)
     }
 
-    /// Submits a request of this seat, which has none in flight.
+    /// Submits a read or a write of this seat, which has no request in flight.
     pub(crate) fn submit<B: Layered>(
         &mut self,
         post: &mut Post<B, J>,
@@ -64,6 +63,7 @@ impl<J: Room> Sitting<J> {
         requires volume { post.old.volume ≡ self.old.volume }
         requires few { self.old.seat < 9 }
         requires idle { self.old.waits ≡ [] }
+        requires plain { request.op ≢ Flush }
         requires bytes { (bytes : List ℕ) → request.op ≡ Write bytes → length bytes ≡ 512 * request.range.count }
         ensures post { post.new.volume ≡ post.old.volume }
         ensures seat { MatchResult result (λ number. IsWaiting number request self.old self.new) (λ refusal. IsTurnedAway (J.start self.old.volume) (J.fixed self.old.volume) (Serve request) refusal self.old self.new) }
@@ -75,9 +75,8 @@ impl<J: Room> Sitting<J> {
     }
 
     /// Issues the request of this seat that is in flight, if it is due.
-    pub(crate) fn issue<B: Layered, R: Wait>(
+    pub(crate) fn issue<B: Layered>(
         &mut self,
-        rt: &R,
         post: &mut Post<B, J>,
         beside: &Beside,
         number: ReqId,
@@ -91,7 +90,7 @@ impl<J: Room> Sitting<J> {
         ensures none { IfNone result (IsSameSitting self.old self.new × (self.new.room ≡ self.old.room)) }
     {
         let badge = mem::replace(&mut self.pass, Badge::blank());
-        let (pass, got) = post.issue(rt, beside, badge.into_seat(), self.seat, number);
+        let (pass, got) = post.issue(beside, badge.into_seat(), self.seat, number);
         self.pass = pass.into_badge();
         match got {
             Some(pair) => {

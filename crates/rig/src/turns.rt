@@ -2,7 +2,7 @@
 ghost use Rattle.std.specs.Prelude.{◌≡◌, ◌≢◌, ◌*◌, ◌<◌, ◌∷◌, ℕ, List, [], length, IfErr, IfSome, IfNone, MatchOption, MatchResult, OnOk};
 ghost use Rattle.std.specs.Sync.Mutex.{mutex_guard_value};
 ghost use Rattle.plain.specs.declared.event.Event.TheVariants.{Issue};
-ghost use Rattle.plain.specs.declared.request.Op.TheVariants.{Write};
+ghost use Rattle.plain.specs.declared.request.Op.TheVariants.{Flush, Write};
 ghost use Rattle.journal.specs.Seats.{Seated};
 ghost use Rattle.journal.specs.declared.entry.Receipt.{Receipt};
 ghost use Rattle.post.specs.Denying.{Begin, Serve, WasBegun, WasDenied};
@@ -33,10 +33,9 @@ pub(crate) fn locked<'a, B: Layered, J: Room, R: Wait>(
     unreachable!()
 }
 
-/// What a seat that makes a request does under the lock: it submits it, and issues it where that is due at once. Tells the
+/// What a seat that makes a read or a write does under the lock: it submits it, and issues it where that is due at once. Tells the
 /// request's number, and the reply where there is one.
-fn make<B: Layered, J: Room, R: Wait>(
-    rt: &R,
+fn make<B: Layered, J: Room>(
     place: &Place<B, J>,
     post: &mut Post<B, J>,
     sitting: &mut Sitting<J>,
@@ -47,11 +46,12 @@ fn make<B: Layered, J: Room, R: Wait>(
     requires few { sitting.old.seat < 9 }
     requires idle { sitting.old.waits ≡ [] }
     requires room { length sitting.old.receipts < sitting.old.room }
+    requires plain { request.op ≢ Flush }
     requires bytes { (bytes : List ℕ) → request.op ≡ Write bytes → length bytes ≡ 512 * request.range.count }
     ensures { MatchResult result (λ made. MatchOption made.1 (IsWaiting made.0 request sitting.old sitting.new) (λ reply. (r : Receipt) × IsPerformed request reply r sitting.old sitting.new)) (λ refusal. IsTurnedAway (J.start sitting.old.volume) (J.fixed sitting.old.volume) (Serve request) refusal sitting.old sitting.new) }
 {
     match sitting.submit(post, &place.beside, request) {
-        Ok(number) => match sitting.issue(rt, post, &place.beside, number) {
+        Ok(number) => match sitting.issue(post, &place.beside, number) {
             Some(reply) => Ok((number, Some(reply))),
             None => Ok((number, None)),
         },
@@ -59,7 +59,7 @@ fn make<B: Layered, J: Room, R: Wait>(
     }
 }
 
-/// Makes a request of a seat. Tells its number, and the reply where it was answered at once.
+/// Makes a read or a write of a seat. Tells its number, and the reply where it was answered at once.
 pub(crate) fn submit<B: Layered, J: Room, R: Wait>(
     rt: &R,
     place: &Place<B, J>,
@@ -70,12 +70,13 @@ pub(crate) fn submit<B: Layered, J: Room, R: Wait>(
     requires few { sitting.old.seat < 9 }
     requires idle { sitting.old.waits ≡ [] }
     requires room { length sitting.old.receipts < sitting.old.room }
+    requires plain { request.op ≢ Flush }
     requires bytes { (bytes : List ℕ) → request.op ≡ Write bytes → length bytes ≡ 512 * request.range.count }
     ensures { MatchResult result.0 (λ made. MatchOption made.1 (IsWaiting made.0 request sitting.old sitting.new) (λ reply. (r : Receipt) × IsPerformed request reply r sitting.old sitting.new)) (λ refusal. IsTurnedAway (J.start sitting.old.volume) (J.fixed sitting.old.volume) (Serve request) refusal sitting.old sitting.new) }
 {
     let mut post = locked(rt, place);
     let after = post.last_copy();
-    let made = make(rt, place, &mut post, sitting, request);
+    let made = make(place, &mut post, sitting, request);
     let last = post.last_copy();
     place.moved.notify_all();
     (made, Started { after, last })
@@ -97,7 +98,7 @@ fn act<B: Layered, J: Room, R: Wait>(
     ensures some { IfSome result.0 (λ reply. (r : Receipt) × IsAnswered reply r sitting.old sitting.new) }
     ensures none { IfNone result.0 (IsSameSitting sitting.old sitting.new × (sitting.new.room ≡ sitting.old.room)) }
 {
-    match sitting.issue(rt, post, &place.beside, number) {
+    match sitting.issue(post, &place.beside, number) {
         Some(reply) => (Some(reply), true),
         None => (None, post.advance(rt, &place.beside)),
     }

@@ -211,6 +211,7 @@ command_lawful (verb ∷ words) =
     (either (bytes_eq verb (codes "tick")) _ _ IsLawful (λ is. tick_lawful words)
     (either (bytes_eq verb (codes "read")) _ _ IsLawful (λ is. after (span_of words) _ IsLawful (λ span. refl))
     (either (bytes_eq verb (codes "write")) _ _ IsLawful (λ is. after (patch_of words) _ IsLawful (λ patch. refl))
+    (either (bytes_eq verb (codes "flush")) _ _ IsLawful (λ is. after (alone_of words) _ IsLawful (λ name. refl))
     (either (bytes_eq verb (codes "start")) _ _ IsLawful (λ is. start_lawful words)
     (either (bytes_eq verb (codes "step")) _ _ IsLawful (λ is. step_lawful words)
     (either (bytes_eq verb (codes "settle")) _ _ IsLawful (λ is. after (alone_of words) _ IsLawful (λ name. refl))
@@ -220,7 +221,7 @@ command_lawful (verb ∷ words) =
     (either (bytes_eq verb (codes "checkpoint")) _ _ IsLawful (λ is. after (alone_of words) _ IsLawful (λ name. refl))
     (either (bytes_eq verb (codes "stop")) _ _ IsLawful (λ is. stop_lawful words)
     (either (bytes_eq verb (codes "status")) _ _ IsLawful (λ is. after (alone_of words) _ IsLawful (λ name. refl))
-    (either (bytes_eq verb (codes "table")) _ _ IsLawful (λ is. after (alone_of words) _ IsLawful (λ name. refl)) tt))))))))))))))))))
+    (either (bytes_eq verb (codes "table")) _ _ IsLawful (λ is. after (alone_of words) _ IsLawful (λ name. refl)) tt)))))))))))))))))))
 
 -- what a line says, if it says anything
 abbrev IsSaidLawful : Option Command → Type 0

@@ -19,6 +19,7 @@ use Rattle.runner.specs.Sound.{is_sound_command, is_sound_said, is_sound_line}
 command_ruled : (command : Command) (table : Table) → is_sound table ≡ true → is_sound_command command ≡ true → is_ruled command table ≡ true
 command_ruled (commands.Read device first count) table sound makes = name_ruled device table sound
 command_ruled (commands.Write device first bytes) table sound makes = name_ruled device table sound
+command_ruled (commands.Flush device) table sound makes = name_ruled device table sound
 command_ruled (commands.Status device) table sound makes = name_ruled device table sound
 command_ruled (commands.Step volume event) table sound makes = and-join (not (is_merge_event event)) (is_quiet_in (volume_for volume table)) makes (name_still volume table sound)
 command_ruled (commands.Settle volume) table sound makes = name_ruled volume table sound

@@ -15,7 +15,7 @@ use Rattle.shown.specs.Arrays.{Arrays, arrays_in}
 use Rattle.shown.specs.Commands.{IsAnswered, IsRefused, IsShown}
 use Rattle.shown.specs.Well.{IsWellOf}
 use Rattle.shown.proofs.Layers.{ticked_shows}
-use Rattle.shown.proofs.Lines.{settle_line, merge_line, resume_line, finish_line, checkpoint_line, stop_line, write_line, write_starved, read_line, read_starved, tell_line, load_line}
+use Rattle.shown.proofs.Lines.{settle_line, merge_line, resume_line, finish_line, checkpoint_line, stop_line, write_line, write_starved, read_line, read_starved, flush_line, flush_starved, tell_line, load_line}
 use Rattle.shown.proofs.Devices.{disk_line, remove_line, create_line}
 use Rattle.runner.specs.Steps.{reworded, step, obeyed, answer_of}
 use Rattle.runner.specs.Output.{Outcome, told, outcome, outcome_of, IsPartDone, IsPartSaid, IsStarved, MayBe}
@@ -48,6 +48,7 @@ step_shown (commands.Message device message) table well = let e = tell_line devi
 step_shown (commands.Tick seconds) table well = ticked_shows seconds table
 step_shown (commands.Read device first count) table well = let e = read_line device first count table in in_both (commands.Read device first count) table _ _ e (λ r. e) _
 step_shown (commands.Write device first bytes) table well = as_done (commands.Write device first bytes) table _ _ _ (write_line device first bytes table well)
+step_shown (commands.Flush device) table well = let e = flush_line device table in in_both (commands.Flush device) table _ _ e (λ r. e) _
 step_shown (commands.StartRead device first count) table well = refl
 step_shown (commands.StartWrite device first bytes) table well = refl
 step_shown (commands.Step volume event) table well = refl
@@ -67,6 +68,8 @@ starved_shown (commands.Read device first count) table new e wanting well (inl s
 starved_shown (commands.Read device first count) table new e wanting well (inr part) = read_starved device first count table new part
 starved_shown (commands.Write device first bytes) table new e wanting well (inl same) = inl (ap arrays_in same)
 starved_shown (commands.Write device first bytes) table new e wanting well (inr part) = write_starved device first bytes table new e wanting well part
+starved_shown (commands.Flush device) table new e wanting well (inl same) = ap arrays_in same
+starved_shown (commands.Flush device) table new e wanting well (inr part) = flush_starved device table new part
 starved_shown (commands.Disk name sectors) table new e wanting well same = ap arrays_in same
 starved_shown (commands.Create name line) table new e wanting well same = ap arrays_in same
 starved_shown (commands.Remove name) table new e wanting well same = ap arrays_in same
@@ -123,6 +126,7 @@ silent_shown line table is = subst (λ (s : Result (Option Command) Refusal). Is
 unread : (command : Command) (table : Table) (shows : List Arrays) → IsRefused command table NoMemory shows shows
 unread (commands.Write device first bytes) table shows = inl refl
 unread (commands.Read device first count) table shows = refl
+unread (commands.Flush device) table shows = refl
 unread (commands.Disk name sectors) table shows = refl
 unread (commands.Create name line) table shows = refl
 unread (commands.Remove name) table shows = refl

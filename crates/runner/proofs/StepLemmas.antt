@@ -33,6 +33,7 @@ told_done (Err e) name message old new answer is words =
 none_done : (command : Command) (table : Table) → IsPartDone command table table
 none_done (commands.Read device first count) table = inl refl
 none_done (commands.Write device first bytes) table = inl refl
+none_done (commands.Flush device) table = inl refl
 none_done (commands.Disk name sectors) table = refl
 none_done (commands.Create name line) table = refl
 none_done (commands.Remove name) table = refl
@@ -117,6 +118,7 @@ sound_starts (commands.Message device message) sound = refl
 sound_starts (commands.Tick seconds) sound = refl
 sound_starts (commands.Read device first count) sound = refl
 sound_starts (commands.Write device first bytes) sound = refl
+sound_starts (commands.Flush device) sound = refl
 sound_starts (commands.Step volume event) sound = refl
 sound_starts (commands.Settle volume) sound = refl
 sound_starts (commands.Merge name) sound = refl

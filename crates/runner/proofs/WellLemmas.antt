@@ -35,6 +35,7 @@ command_well (commands.Save disk first count) table look ruled = tt
 command_well (commands.Message device message) table look ruled = tt
 command_well (commands.Tick seconds) table look ruled = tt
 command_well (commands.Read device first count) table look ruled = tt
+command_well (commands.Flush device) table look ruled = tt
 command_well (commands.StartRead device first count) table look ruled = tt
 command_well (commands.StartWrite device first bytes) table look ruled = tt
 command_well (commands.Step volume event) table look ruled = tt

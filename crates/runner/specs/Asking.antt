@@ -8,7 +8,7 @@ use Rattle.command.specs.declared.grammar.Command.TheVariants as commands
 use Rattle.reply.specs.declared.Reply.{Reply}
 use Rattle.reply.specs.declared.Reply.TheVariants.{Refused}
 use Rattle.named.specs.State.{Table}
-use Rattle.named.specs.Starting.{read_asked, write_asked}
+use Rattle.named.specs.Starting.{flush_asked, read_asked, write_asked}
 use Rattle.named.specs.Events.{event_asked, origin_by}
 
 -- the refusal, if it is one
@@ -16,11 +16,12 @@ abbrev pub refusal_in : {A : Type 0} → Result A Refusal → Option Refusal
 refusal_in (Ok answer) = None
 refusal_in (Err refusal) = Some refusal
 
--- why sectors are not read or written, a request is not started, an event not done, or a merge not finished, before the volume
+-- why sectors are not read or written, a device is not flushed, a request is not started, an event not done, or a merge not finished, before the volume
 -- is asked
 abbrev pub first_refusal : Command → Table → Option Refusal
 first_refusal (commands.Read device first count) table = refusal_in (read_asked device first count table)
 first_refusal (commands.Write device first bytes) table = refusal_in (write_asked device first bytes table)
+first_refusal (commands.Flush device) table = refusal_in (flush_asked device table)
 first_refusal (commands.StartRead device first count) table = refusal_in (read_asked device first count table)
 first_refusal (commands.StartWrite device first bytes) table = refusal_in (write_asked device first bytes table)
 first_refusal (commands.Step volume event) table = refusal_in (event_asked volume event table)

@@ -29,6 +29,7 @@ changed_by (commands.Save disk first count) = None
 changed_by (commands.Message device message) = None
 changed_by (commands.Tick seconds) = None
 changed_by (commands.Read device first count) = None
+changed_by (commands.Flush device) = None
 changed_by (commands.StartRead device first count) = None
 changed_by (commands.StartWrite device first bytes) = None
 changed_by (commands.Step volume event) = None

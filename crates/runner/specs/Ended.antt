@@ -5,7 +5,7 @@ use Rattle.plain.specs.declared.request.Reply.TheVariants as answers
 use Rattle.reply.specs.declared.Reply.{Reply}
 use Rattle.reply.specs.declared.Reply.TheVariants.{Ended}
 use Rattle.reply.specs.declared.ended.Ending.{Ending}
-use Rattle.reply.specs.declared.ended.Ending.TheVariants.{Data, Written, Refused}
+use Rattle.reply.specs.declared.ended.Ending.TheVariants.{Data, Written, Flushed, Refused}
 use Rattle.plain.specs.declared.request.Replied.{Replied}
 use Rattle.plain.specs.Failures.{refusal_of}
 use Rattle.runner.specs.Output.{answered}
@@ -14,6 +14,7 @@ use Rattle.runner.specs.Output.{answered}
 abbrev pub ending_of : Answered → Ending
 ending_of (answers.Data bytes) = Data bytes
 ending_of answers.Written = Written
+ending_of answers.Flushed = Flushed
 ending_of (answers.Refused failure) = Refused (refusal_of failure)
 
 -- its line

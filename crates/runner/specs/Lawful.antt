@@ -15,6 +15,7 @@ is_lawful (commands.Message device message) = true
 is_lawful (commands.Tick seconds) = true
 is_lawful (commands.Read device first count) = true
 is_lawful (commands.Write device first bytes) = true
+is_lawful (commands.Flush device) = true
 is_lawful (commands.StartRead device first count) = true
 is_lawful (commands.StartWrite device first bytes) = true
 is_lawful (commands.Step volume event) = true

@@ -22,9 +22,9 @@ use Rattle.named.specs.Losing.{StopsLosing}
 use Rattle.named.specs.Merging.{merge_begun}
 use Rattle.named.specs.Places.{volume_at}
 use Rattle.named.specs.Sectors.{Asked}
-use Rattle.named.specs.Starting.{read_asked, write_asked}
+use Rattle.named.specs.Starting.{flush_asked, read_asked, write_asked}
 use Rattle.devices.specs.Devices.{Flies, KeepsOthers}
-use Rattle.devices.specs.Flights.{IsDoneFor, IsEventDoneFor, IsNotDueIn, IsReadAmong, IsStartedAs, IsWrittenAmong, event_of, is_about_merging}
+use Rattle.devices.specs.Flights.{IsDoneFor, IsEventDoneFor, IsFlushedAmong, IsNotDueIn, IsReadAmong, IsStartedAs, IsWrittenAmong, event_of, is_about_merging}
 use Rattle.devices.specs.Merging.{IsBegunIn, IsFinishedIn, IsUnfinishedIn}
 use Rattle.devices.specs.Ruled.{is_alone_in, is_quiet_in, volume_for}
 use Rattle.devices.specs.Status.{IsStatusAmong}
@@ -44,6 +44,13 @@ pub record IsWriteLeft (device : List ℕ) (first : ℕ) (bytes : List ℕ) (ans
   pub answer_is : answer ≡ reworded (λ _. Done) did
   pub others : KeepsOthers device old new
   pub among : IfOk (write_asked device first bytes old) (λ asks. IsDoneFor device (IsWrittenAmong bytes did before after asks) old new)
+
+-- and of a flush
+pub record IsFlushLeft (device : List ℕ) (answer : Result Reply Refusal) (old new : Table) (before after : List Replied) : Type 0 where
+  pub did : Result (Unit {0}) Refusal
+  pub answer_is : answer ≡ reworded (λ _. Done) did
+  pub others : KeepsOthers device old new
+  pub among : IfOk (flush_asked device old) (λ asks. IsDoneFor device (IsFlushedAmong did before after asks) old new)
 
 -- a request that is started is in flight then, under the number that is told, and alone changes its volume
 pub record IsStartLeft (device : List ℕ) (op : Op) (asked : Result Asked Refusal) (answer : Result Reply Refusal) (old new : Table) (before after : List Replied) : Type 0 where
@@ -115,6 +122,7 @@ pub record IsStopLeft (volume : List ℕ) (answer : Result Reply Refusal) (old n
 abbrev pub IsLeft : Command → Result Reply Refusal → Table → Table → List Replied → List Replied → Type 0
 IsLeft (commands.Read device first count) answer old new before after = IsReadLeft device first count answer old new before after
 IsLeft (commands.Write device first bytes) answer old new before after = IsWriteLeft device first bytes answer old new before after
+IsLeft (commands.Flush device) answer old new before after = IsFlushLeft device answer old new before after
 IsLeft (commands.StartRead device first count) answer old new before after = IsStartLeft device ReadOp (read_asked device first count old) answer old new before after
 IsLeft (commands.StartWrite device first bytes) answer old new before after = IsStartLeft device (WriteOp bytes) (write_asked device first bytes old) answer old new before after
 IsLeft (commands.Step volume event) answer old new before after = IsStepLeft volume event answer old new before after

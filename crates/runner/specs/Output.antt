@@ -13,7 +13,7 @@ use Rattle.reply.specs.declared.Reply.TheVariants.{Refused}
 use Rattle.reply.specs.Texts.{text_of}
 use Rattle.named.specs.State.{Table}
 use Rattle.named.specs.Changes.{Did}
-use Rattle.named.specs.Sectors.{IsReadStarved, IsWriteStarved}
+use Rattle.named.specs.Sectors.{IsFlushStarved, IsReadStarved, IsWriteStarved}
 use Rattle.runner.specs.declared.summary.Summary.{Summary}
 use Rattle.runner.specs.Steps.{answer_of}
 use Rattle.runner.specs.Counts.{with_reply}
@@ -66,6 +66,7 @@ output_of text = printed (replies_of text)
 abbrev pub IsPartDone : Command → Table → Table → Type 0
 IsPartDone (commands.Read device first count) old new = (new ≡ old) ⊎ IsReadStarved device first count old new
 IsPartDone (commands.Write device first bytes) old new = (new ≡ old) ⊎ IsWriteStarved device first bytes old new
+IsPartDone (commands.Flush device) old new = (new ≡ old) ⊎ IsFlushStarved device old new
 IsPartDone (commands.Disk name sectors) old new = new ≡ old
 IsPartDone (commands.Create name line) old new = new ≡ old
 IsPartDone (commands.Remove name) old new = new ≡ old

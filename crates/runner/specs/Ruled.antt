@@ -14,6 +14,7 @@ use Rattle.devices.specs.Ruled.{is_quiet_in, is_sound_in, is_sound_target, volum
 abbrev pub is_ruled : Command → Table → Bool
 is_ruled (commands.Read device first count) table = is_sound_in (volume_for device table)
 is_ruled (commands.Write device first bytes) table = is_sound_in (volume_for device table)
+is_ruled (commands.Flush device) table = is_sound_in (volume_for device table)
 is_ruled (commands.Status device) table = is_sound_in (volume_for device table)
 is_ruled (commands.Step volume event) table = not (is_merge_event event) && is_quiet_in (volume_for volume table)
 is_ruled (commands.Settle volume) table = is_sound_in (volume_for volume table)

@@ -23,6 +23,7 @@ is_sound_command (commands.Message device message) = true
 is_sound_command (commands.Tick seconds) = true
 is_sound_command (commands.Read device first count) = true
 is_sound_command (commands.Write device first bytes) = true
+is_sound_command (commands.Flush device) = true
 is_sound_command (commands.StartRead device first count) = false
 is_sound_command (commands.StartWrite device first bytes) = false
 is_sound_command (commands.Step volume event) = not (is_merge_event event)

@@ -20,6 +20,7 @@ starts (commands.Message device message) = false
 starts (commands.Tick seconds) = false
 starts (commands.Read device first count) = false
 starts (commands.Write device first bytes) = false
+starts (commands.Flush device) = false
 starts (commands.Step volume event) = false
 starts (commands.Settle volume) = false
 starts (commands.Merge name) = false

@@ -18,7 +18,7 @@ use Rattle.named.specs.Creating.{create}
 use Rattle.named.specs.Removing.{take_away}
 use Rattle.named.specs.Raw.{load, save}
 use Rattle.named.specs.Messages.{tell, ticked}
-use Rattle.named.specs.Sectors.{read, write}
+use Rattle.named.specs.Sectors.{flush, read, write}
 use Rattle.named.specs.Status.{status_text}
 use Rattle.named.specs.Lines.{line_text}
 use Rattle.named.specs.Events.{settle, step_event}
@@ -53,6 +53,7 @@ step (commands.Message device message) table = told_as reply_to (kept table (tel
 step (commands.Tick seconds) table = record { answer = Ok Done; left = ticked seconds table }
 step (commands.Read device first count) table = told_as Data (read device first count table)
 step (commands.Write device first bytes) table = done_as (write device first bytes table)
+step (commands.Flush device) table = done_as (flush device table)
 step (commands.StartRead device first count) table = refused table NotDue
 step (commands.StartWrite device first bytes) table = refused table NotDue
 step (commands.Step volume event) table = refused table (step_event volume event table)

@@ -12,6 +12,7 @@ enters (commands.Create name line) = enters_journal line.target
 enters (commands.Remove name) = true
 enters (commands.Read device first count) = true
 enters (commands.Write device first bytes) = true
+enters (commands.Flush device) = true
 enters (commands.StartRead device first count) = true
 enters (commands.StartWrite device first bytes) = true
 enters (commands.Merge name) = true

@@ -16,6 +16,7 @@ fn ending_of(reply: Answered) -> Ending
     match reply {
         Answered::Data(bytes) => Ending::Data(bytes),
         Answered::Written => Ending::Written,
+        Answered::Flushed => Ending::Flushed,
         Answered::Refused(failure) => Ending::Refused(refusal_for(failure)),
     }
 }

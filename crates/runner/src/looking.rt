@@ -32,6 +32,7 @@ fn changed_by(command: &Command) -> Option<&Name>
         Command::Settle { volume } => Some(volume),
         Command::Disk { .. } | Command::Load { .. } | Command::Save { .. } => None,
         Command::Message { .. } | Command::Tick { .. } | Command::Read { .. } => None,
+        Command::Flush { .. } => None,
         Command::StartRead { .. } | Command::StartWrite { .. } | Command::Step { .. } => None,
         Command::Resume { .. } | Command::Finish { .. } | Command::Stop { .. } => None,
         Command::StopLosing { .. } | Command::Checkpoint { .. } => None,

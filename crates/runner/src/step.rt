@@ -23,15 +23,15 @@ ghost use Rattle.runner.specs.Wants.{enters, enters_line};
 use crate::events::step_volume;
 use crate::looking::look;
 use command::Command::{
-    Checkpoint, Create, Disk, Finish, Load, Merge, Read, Remove, Resume, Save, Settle, StartRead,
-    StartWrite, Status, Step, Stop, StopLosing, Table, Tick, Write,
+    Checkpoint, Create, Disk, Finish, Flush, Load, Merge, Read, Remove, Resume, Save, Settle,
+    StartRead, StartWrite, Status, Step, Stop, StopLosing, Table, Tick, Write,
 };
 use command::{Command, LINE_LIMIT, said};
 use device_list::Held;
 use devices::{
-    checkpoint_device, create_device, finish_device, line_text, load_disk, make_disk, merge_device,
-    read_device, remove_device, resume_device, save_disk, settle_device, start_read, start_write,
-    status_text, stop_device, stop_losing, tell, tick, write_device,
+    checkpoint_device, create_device, finish_device, flush_device, line_text, load_disk, make_disk,
+    merge_device, read_device, remove_device, resume_device, save_disk, settle_device, start_read,
+    start_write, status_text, stop_device, stop_losing, tell, tick, write_device,
 };
 use layers::{Answer, Message};
 use plain::{Replied, ReqId};
@@ -134,6 +134,7 @@ fn obey(
         Tick { seconds } => did(Ok(tick(held, seconds))),
         Read { name, first, count } => given(read_device(alloc, held, &name, first, count, ended)),
         Write { name, first, bytes } => did(write_device(alloc, held, &name, first, &bytes, ended)),
+        Flush { name } => did(flush_device(held, &name, ended)),
         StartRead { name, first, count } => number(start_read(alloc, held, &name, first, count)),
         StartWrite { name, first, bytes } => number(start_write(alloc, held, &name, first, bytes)),
         Step { volume, event } => step_volume(held, &volume, &event, ended),

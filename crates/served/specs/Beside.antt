@@ -1,5 +1,6 @@
 -- To be believed: `run`'s output, a volume's steps or its attach are said in these words.
--- A settled read or write of a volume, whether a merge is begun or not: each is one of the settled machine's two big steps.
+-- A settled read, write or flush of a volume, whether a merge is begun or not: each is one of the settled machine's two big
+-- steps.
 -- This project's own.
 use Rattle.std.specs.Prelude.{ℕ, List, [], length, take, Option, Some, None}
 use Rattle.chunk.specs.Pieces.{Span, pieces_of}
@@ -7,8 +8,8 @@ use Rattle.plain.specs.declared.request.Dev.{Dev}
 use Rattle.plain.specs.declared.request.Reply.{Reply}
 use Rattle.settled.specs.Snaps.{Volume}
 use Rattle.settled.specs.Pieces.{Answered}
-use Rattle.settled.specs.Commands.{piece_of, written, read, written_first, read_first}
-use Rattle.settled.specs.Merges.{Merge, Merged, Merging, Replied, merged_of, least_chunk, write_parts, read_parts, written_through, read_through}
+use Rattle.settled.specs.Commands.{piece_of, written, read, flushed, written_first, read_first}
+use Rattle.settled.specs.Merges.{Merge, Merged, Merging, Replied, merged_of, least_chunk, write_parts, read_parts, written_through, read_through, flushed_through}
 
 -- a volume after a command, with its merge if one is begun, and the reply
 pub record Served : Type 0 where
@@ -36,6 +37,10 @@ written_beside dev span bytes m = served (written dev span bytes) (written_throu
 
 unfoldable pub read_beside : Dev → Span → Merged → Served
 read_beside dev span m = served (read dev span) (read_through dev span) m
+
+-- and a settled flush
+unfoldable pub flushed_beside : Dev → Merged → Served
+flushed_beside dev m = served (flushed dev) (flushed_through dev) m
 
 -- the chunk size that ranges are cut by, and the pieces of a range
 abbrev pub chunk_by : Option Merge → Volume → ℕ

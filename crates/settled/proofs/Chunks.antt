@@ -8,13 +8,13 @@ use Rattle.chunk.specs.Pieces.{Span}
 use Rattle.plain.specs.declared.request.Dev.{Dev}
 use Rattle.plain.specs.declared.request.Dev.TheVariants.{Origin, Snap as ToSnap}
 use Rattle.plain.specs.declared.request.Op.{Op}
-use Rattle.plain.specs.declared.request.Op.TheVariants.{Read, Write}
+use Rattle.plain.specs.declared.request.Op.TheVariants.{Read, Write, Flush}
 use Rattle.model.specs.Pairs.{pairs_of}
 use Rattle.model.specs.Picture.{place_of}
 use Rattle.settled.specs.Devices.{Device, answers}
 use Rattle.settled.specs.Snaps.{Snap, Volume}
 use Rattle.settled.specs.Saving.{Saving, next_place, is_full, has_chunk, save}
-use Rattle.settled.specs.Pieces.{Answered, Served, save_at, write_place, write_saved, shuts, write_snap, read_place, read_snap, in_snap}
+use Rattle.settled.specs.Pieces.{Answered, Served, save_at, write_place, write_saved, shuts, write_snap, read_place, read_snap, flush_snap, in_snap}
 use Rattle.settled.specs.Commands.{piece_of}
 use Rattle.settled.specs.Requests.{answered_by}
 use Rattle.settled.proofs.Each.{Each, each_weaker}
@@ -89,11 +89,19 @@ module _ (P : ℕ → Type 0) where
     | inr out ↦ ap (λ (x : Served). x.snap.chunk) (cond-false _ _ _ out)
   ]
 
+  flush_keeps : (origin : Device) (s : Snap) → (flush_snap origin s).snap.chunk ≡ s.chunk
+  flush_keeps origin s = elim (cases_Bool s.live) [
+    | inl on ↦ ap (λ (x : Served). x.snap.chunk) (cond-true _ _ _ on)
+    | inr out ↦ ap (λ (x : Served). x.snap.chunk) (cond-false _ _ _ out)
+  ]
+
   pub chunks_keep : (dev : Dev) (op : Op) (piece : Span) (v : Volume) → Each OfChunks v.snaps → Each OfChunks (answered_by dev op piece v).volume.snaps
   chunks_keep Origin Read piece v all = all
   chunks_keep Origin (Write bytes) piece v all = at_keep (λ s. piece.first / s.chunk) v.origin v.snaps all
+  chunks_keep Origin Flush piece v all = all
   chunks_keep (ToSnap n) Read piece v all = snap_keep n (read_snap piece) (read_keeps piece) v.origin v.snaps all
   chunks_keep (ToSnap n) (Write bytes) piece v all = snap_keep n (write_snap piece bytes) (write_keeps piece bytes) v.origin v.snaps all
+  chunks_keep (ToSnap n) Flush piece v all = snap_keep n flush_snap flush_keeps v.origin v.snaps all
 
 -- a size that is allowed, and no less than this one
 module _ (chunk : ℕ) where

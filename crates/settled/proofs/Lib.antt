@@ -18,7 +18,9 @@ pub mod Loadable
 pub mod Faultless
 pub mod Chunks
 pub mod FaultlessAttaching
+pub mod Tried
 pub mod Opened
+pub mod Shows
 pub mod Named
 pub mod Rounds
 pub mod RoundSaves

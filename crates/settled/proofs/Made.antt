@@ -65,12 +65,23 @@ fresh_order chunk origin size new pos small_o small whole fits tail =
       tail = rw (none, zero_area, zero_slot) tail;
     }
 
+-- area 0 of what is made of a fresh store is empty
+made_tail : (chunk : ℕ) (store : List ℕ) → 0 < chunk → 512 * (2 * chunk) ≤ length store → AreEmptyFrom chunk 0 0 (made chunk store)
+made_tail chunk store pos fits =
+    let blank = zeroed_only chunk 0 store (omega arith) in
+    let mark = headed_only chunk true (zeroed chunk store 0) pos (let e = blank.len in omega arith) in
+    subst (AreEmptyFrom chunk 0 0) (sym (made-is chunk store))
+    (tail_kept chunk 0 0 0 (zeroed chunk store 0) _ mark (omega arith) (zeroed_empty chunk 0 store (omega arith)))
+
+-- it shows the origin
+pub made_shows : (chunk : ℕ) (disk store : List ℕ) → 0 < chunk → 512 * (2 * chunk) ≤ length store → picture chunk disk (made chunk store) ≡ disk
+made_shows chunk disk store pos fits = picture_of_none chunk disk (made chunk store) (empty_pairs chunk (made chunk store) pos (made_tail chunk store pos fits))
+
 -- what is made of a fresh store
 pub made_law : (chunk origin size : ℕ) (disk store : List ℕ) → 0 < chunk → origin ≤ 16_777_216 → size ≤ 16_777_216 → length store ≡ 512 * size → 512 * (2 * chunk) ≤ length store → IsInOrder chunk origin size (made chunk store) × (disk ≡ picture chunk disk (made chunk store))
 made_law chunk origin size disk store pos small_o small whole fits =
     let blank = zeroed_only chunk 0 store (omega arith) in
     let mark = headed_only chunk true (zeroed chunk store 0) pos (let e = blank.len in omega arith) in
-    let tail : AreEmptyFrom chunk 0 0 (made chunk store) = subst (AreEmptyFrom chunk 0 0) (sym (made-is chunk store))
-    (tail_kept chunk 0 0 0 (zeroed chunk store 0) _ mark (omega arith) (zeroed_empty chunk 0 store (omega arith))) in
+    let tail : AreEmptyFrom chunk 0 0 (made chunk store) = made_tail chunk store pos fits in
     let len : length (made chunk store) ≡ 512 * size = ap length (made-is chunk store) ∙ mark.len ∙ blank.len ∙ whole in
-    (fresh_order chunk origin size (made chunk store) pos small_o small len (omega arith) tail, sym (picture_of_none chunk disk (made chunk store) (empty_pairs chunk (made chunk store) pos tail)))
+    (fresh_order chunk origin size (made chunk store) pos small_o small len (omega arith) tail, sym (made_shows chunk disk store pos fits))

@@ -9,7 +9,7 @@ use Rattle.model.specs.Picture.{place_of}
 use Rattle.settled.specs.Devices.{Device, answers}
 use Rattle.settled.specs.Snaps.{Snap, shown}
 use Rattle.settled.specs.Saving.{Saving, next_place, is_full, has_chunk, save}
-use Rattle.settled.specs.Pieces.{Answered, Served, save_all, write_place, write_saved, shuts, write_snap, read_place, read_snap, in_snap}
+use Rattle.settled.specs.Pieces.{Answered, Served, save_all, write_place, write_saved, shuts, write_snap, read_place, read_snap, flush_snap, in_snap}
 use Rattle.settled.specs.Shown.{ShowTheSame}
 use Rattle.settled.specs.Merges.{snap_named}
 use Rattle.settled.proofs.Saves.{saves_nothing, saves_full, saves_copy, chunk_read}
@@ -66,7 +66,7 @@ write_bytes piece bytes origin s = elim (cases_Bool (shuts (piece.first / s.chun
   | inr takes ↦ ap (λ (x : Served). x.origin.bytes) (cond-false _ _ _ takes) ∙ saved_bytes piece bytes origin s
 ]
 
--- a read changes nothing that is shown
+-- a read or a flush changes nothing that is shown
 pub record IsRead (origin : Device) (s : Snap) (r : Served) : Type 0 where
   pub number : r.snap.number ≡ s.number
   pub shows : (disk : List ℕ) → shown disk r.snap ≡ shown disk s
@@ -81,6 +81,12 @@ is_read piece origin s = elim (cases_Bool s.live) [
     place_read : (o : Option ℕ) → IsRead origin s (read_place piece origin s o)
     place_read None = record { number = refl; shows = λ disk. refl; bytes = refl }
     place_read (Some n) = record { number = refl; shows = λ disk. refl; bytes = refl }
+
+pub is_flushed : (origin : Device) (s : Snap) → IsRead origin s (flush_snap origin s)
+is_flushed origin s = elim (cases_Bool s.live) [
+  | inl on ↦ subst (IsRead origin s) (sym (cond-true _ _ _ on)) (record { number = refl; shows = λ disk. refl; bytes = refl })
+  | inr out ↦ subst (IsRead origin s) (sym (cond-false _ _ _ out)) (record { number = refl; shows = λ disk. refl; bytes = refl })
+]
 
 -- The snapshot of a number before a request, by that after it.
 pub record WasShown (number : ℕ) (before after : List ℕ) (snaps : List Snap) (t : Snap) : Type 0 where

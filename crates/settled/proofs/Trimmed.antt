@@ -66,6 +66,20 @@ trimmed-is : (chunk : ℕ) (store : List ℕ) → trimmed chunk store ≡ cleare
 unfolding trimmed
 trimmed-is chunk store = refl
 
+-- a store whose pairs are well formed shows what it showed, once its tail is cleared
+pub trimmed_shows : (chunk origin size : ℕ) (disk store : List ℕ) → 0 < chunk → 512 * (chunk * area_place chunk (length (pairs_of chunk store) / (32 * chunk)) + chunk) ≤ length store → AreWellFormed chunk origin size (pairs_of chunk store) → picture chunk disk (trimmed chunk store) ≡ picture chunk disk store
+trimmed_shows chunk origin size disk store pos fits formed =
+    let k : ℕ = length (pairs_of chunk store) in
+    let a : ℕ = k / (32 * chunk) in
+    let j : ℕ = k % (32 * chunk) in
+    let at : k ≡ k / (32 * chunk) * (32 * chunk) + k % (32 * chunk) = sym (div-add-mod' k (32 * chunk)) in
+    let lt : j < 32 * chunk = mod_below k (32 * chunk) (omega arith) in
+    let new : List ℕ = cleared chunk store a j in
+    let only = cleared_only chunk a j store lt fits in
+    ap (picture chunk disk) (trimmed-is chunk store)
+    ∙ same_picture chunk disk store disk new (pairs_of chunk store) refl (cleared_pairs chunk a j store pos at lt fits)
+    (λ i inside. picture-only chunk (area_place chunk a) disk store new (pairs_of chunk store) pos only (place_unnamed chunk origin size a (pairs_of chunk store) pos formed.inside) i)
+
 -- a store that may be loaded, once its tail is cleared
 pub trimmed_law : (chunk origin size : ℕ) (disk store : List ℕ) → 0 < chunk → origin ≤ 16_777_216 → size ≤ 16_777_216 → length store ≡ 512 * size → AreWellFormed chunk origin size (pairs_of chunk store) → IsInOrder chunk origin size (trimmed chunk store) × (picture chunk disk store ≡ picture chunk disk (trimmed chunk store))
 trimmed_law chunk origin size disk store pos small_o small whole formed =
@@ -92,6 +106,5 @@ trimmed_law chunk origin size disk store pos small_o small whole formed =
           ];
         });
       },
-      sym (same_picture chunk disk store disk new (pairs_of chunk store) refl pairs
-          (λ i inside. picture-only chunk (area_place chunk a) disk store new (pairs_of chunk store) pos only (place_unnamed chunk origin size a (pairs_of chunk store) pos formed.inside) i)),
+      sym (trimmed_shows chunk origin size disk store pos fits formed) ∙ ap (picture chunk disk) (trimmed-is chunk store),
     )

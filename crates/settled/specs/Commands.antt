@@ -6,9 +6,9 @@ use Rattle.chunk.specs.Pieces.{Span, pieces_of}
 use Rattle.plain.specs.declared.request.Dev.{Dev}
 use Rattle.plain.specs.declared.request.Dev.TheVariants.{Origin, Snap as ToSnap}
 use Rattle.plain.specs.declared.request.Reply.{Reply}
-use Rattle.plain.specs.declared.request.Reply.TheVariants.{Data, Written, Refused}
+use Rattle.plain.specs.declared.request.Reply.TheVariants.{Data, Written, Flushed, Refused}
 use Rattle.settled.specs.Snaps.{Snap, Volume}
-use Rattle.settled.specs.Pieces.{Answered, write_origin, read_origin, write_snap, read_snap, in_snap}
+use Rattle.settled.specs.Pieces.{Answered, write_origin, read_origin, flush_origin, write_snap, read_snap, flush_snap, in_snap}
 
 abbrev pub write_piece : Dev → Span → List ℕ → Volume → Answered
 write_piece Origin piece bytes v = write_origin piece bytes v
@@ -18,10 +18,16 @@ abbrev pub read_piece : Dev → Span → Volume → Answered
 read_piece Origin piece v = read_origin piece v
 read_piece (ToSnap number) piece v = in_snap number (read_snap piece) v.origin v.snaps
 
+-- a settled flush: it has no pieces
+abbrev pub flushed : Dev → Volume → Answered
+flushed Origin v = flush_origin v
+flushed (ToSnap number) v = in_snap number flush_snap v.origin v.snaps
+
 -- a command goes on where its piece was done
 abbrev pub go_on : Reply → Answered → Answered → Answered
 go_on (Data bytes) here rest = rest
 go_on Written here rest = rest
+go_on Flushed here rest = rest
 go_on (Refused failure) here rest = here
 
 -- the pieces of a write, each with its part of the bytes
@@ -35,6 +41,7 @@ write_pieces dev (piece ∷ pieces) bytes v =
 abbrev pub bytes_in : Reply → List ℕ
 bytes_in (Data bytes) = bytes
 bytes_in Written = []
+bytes_in Flushed = []
 bytes_in (Refused failure) = []
 
 -- the pieces of a read, after these bytes

@@ -4,10 +4,10 @@
 use Rattle.std.specs.Prelude.{ℕ, ◌/◌, Bool, List, length, if◌then◌else◌}
 use Rattle.sector.specs.Bytes.{sectors_at}
 use Rattle.device.specs.declared.operation.Operation.{Operation}
-use Rattle.device.specs.declared.operation.Operation.TheVariants.{Reads}
+use Rattle.device.specs.declared.operation.Operation.TheVariants.{Reads, Flushes}
 use Rattle.device.specs.Layers.{Layer, fate, is_answered, layers_after}
 use Rattle.plain.specs.declared.request.Reply.{Reply}
-use Rattle.plain.specs.declared.request.Reply.TheVariants.{Data, Refused}
+use Rattle.plain.specs.declared.request.Reply.TheVariants.{Data, Flushed, Refused}
 use Rattle.plain.specs.declared.request.Failure.TheVariants.{Io}
 
 pub record Device : Type 0 where
@@ -34,3 +34,7 @@ written_by device op bytes =
 -- the reply to a read of so many sectors from this one on
 abbrev pub read_reply : Device → ℕ → ℕ → Reply
 read_reply device first count = if answers device (Reads first count) then Data (sectors_at device.bytes first count) else Refused Io
+
+-- the reply to a flush
+abbrev pub flush_reply : Device → Reply
+flush_reply device = if answers device Flushes then Flushed else Refused Io

@@ -18,13 +18,13 @@ use Rattle.pending.specs.Due.{first_by}
 use Rattle.plain.specs.declared.request.Dev.{Dev}
 use Rattle.plain.specs.declared.request.Dev.TheVariants.{Origin, Snap as ToSnap}
 use Rattle.plain.specs.declared.request.Reply.{Reply}
-use Rattle.plain.specs.declared.request.Reply.TheVariants.{Data, Written, Refused}
+use Rattle.plain.specs.declared.request.Reply.TheVariants.{Data, Written, Flushed, Refused}
 use Rattle.plain.specs.declared.request.Failure.TheVariants.{Io}
 use Rattle.settled.specs.Devices.{Device, sectors_of, answers, met, written_by, read_reply}
 use Rattle.settled.specs.Snaps.{Snap, Volume}
 use Rattle.settled.specs.Saving.{next_place, has_chunk}
-use Rattle.settled.specs.Pieces.{Answered, save_at, write_origin, read_origin}
-use Rattle.settled.specs.Commands.{write_piece, read_piece, bytes_in, piece_of}
+use Rattle.settled.specs.Pieces.{Answered, save_at, write_origin, read_origin, flush_origin}
+use Rattle.settled.specs.Commands.{write_piece, read_piece, flushed, bytes_in, piece_of}
 use Rattle.settled.specs.Attaching.{Store, last_area, detached}
 
 -- A snapshot that is merged: its number, the sectors of its chunks, whether an operation of the merge failed, the area that
@@ -279,10 +279,23 @@ abbrev pub read_part : Dev → Span → Merging → Replied
 read_part Origin piece m = read_at (place_in piece.first m.merge) piece m
 read_part (ToSnap number) piece m = beside m.merge (read_piece (ToSnap number) piece m.volume)
 
+-- A flush of the origin: of the merging store, and then of the origin's device. That the store comes first, so that what was
+-- written to it is safe before what was copied from it, is this project's own rule.
+abbrev pub flush_through : Merging → Replied
+flush_through m =
+    let after : Merging = with_store m (met m.merge.store Flushes) in
+    if answers m.merge.store Flushes then beside after.merge (flush_origin after.volume) else record { state = after; reply = Refused Io }
+
+-- a settled flush while a merge is begun
+abbrev pub flushed_through : Dev → Merging → Replied
+flushed_through Origin m = flush_through m
+flushed_through (ToSnap number) m = beside m.merge (flushed (ToSnap number) m.volume)
+
 -- a command goes on where its piece was done
 abbrev pub go_on : Reply → Replied → Replied → Replied
 go_on (Data bytes) here rest = rest
 go_on Written here rest = rest
+go_on Flushed here rest = rest
 go_on (Refused failure) here rest = here
 
 abbrev pub write_parts : Dev → List Span → List ℕ → Merging → Replied

@@ -1,9 +1,9 @@
 -- To be believed: `run`'s output, a volume's steps or its attach are said in these words.
--- A read or a write of one piece of the origin or of a snapshot: this project's own big step. The kernel's admin-guide page
--- on snapshots says in words which device a read or a write goes to.
+-- A read or a write of one piece of the origin or of a snapshot, or a flush of it: this project's own big step. The kernel's
+-- admin-guide page on snapshots says in words which device a read or a write goes to.
 use Rattle.std.specs.Prelude.{◌==◌, ◌&&◌, ◌||◌, not, ℕ, ◌+◌, ◌*◌, ◌/◌, ◌%◌, Bool, List, [], ◌∷◌, Option, Some, None, if◌then◌else◌}
 use Rattle.sector.specs.Bytes.{with_sectors}
-use Rattle.device.specs.declared.operation.Operation.TheVariants.{Reads, Writes}
+use Rattle.device.specs.declared.operation.Operation.TheVariants.{Reads, Writes, Flushes}
 use Rattle.chunk.specs.Pieces.{Span}
 use Rattle.model.specs.Pairs.{pairs_of}
 use Rattle.model.specs.Picture.{place_of}
@@ -12,7 +12,7 @@ use Rattle.plain.specs.declared.request.Overflowing.TheVariants.{Did}
 use Rattle.plain.specs.declared.request.Reply.{Reply}
 use Rattle.plain.specs.declared.request.Reply.TheVariants.{Written, Refused}
 use Rattle.plain.specs.declared.request.Failure.TheVariants.{Invalid, Io, Overflow}
-use Rattle.settled.specs.Devices.{Device, answers, met, written_by, read_reply}
+use Rattle.settled.specs.Devices.{Device, answers, met, written_by, read_reply, flush_reply}
 use Rattle.settled.specs.Snaps.{Snap, Volume}
 use Rattle.settled.specs.Saving.{Saving, is_full, has_chunk, save}
 
@@ -52,6 +52,10 @@ read_origin piece v = record {
   volume = record { origin = met v.origin (Reads piece.first piece.count); snaps = v.snaps };
   reply = read_reply v.origin piece.first piece.count;
 }
+
+-- a flush of the origin: of its device
+abbrev pub flush_origin : Volume → Answered
+flush_origin v = record { volume = record { origin = met v.origin Flushes; snaps = v.snaps }; reply = flush_reply v.origin }
 
 -- the origin's device and one snapshot after a request, and the reply
 pub record Served : Type 0 where
@@ -108,6 +112,12 @@ read_place piece origin s (Some n) =
 abbrev pub read_snap : Span → Device → Snap → Served
 read_snap piece origin s =
     if s.live then read_place piece origin s (place_of (pairs_of s.chunk s.store.bytes) (piece.first / s.chunk))
+    else record { origin = origin; snap = s; reply = Refused Invalid }
+
+-- a flush of a snapshot: of its store
+abbrev pub flush_snap : Device → Snap → Served
+flush_snap origin s =
+    if s.live then record { origin = origin; snap = record s { store = met s.store Flushes }; reply = flush_reply s.store }
     else record { origin = origin; snap = s; reply = Refused Invalid }
 
 -- a request to the snapshot of a number, the first that has it; Invalid where none has

@@ -14,6 +14,7 @@ pub mod Issued
 pub mod WritesSettle
 pub mod Served
 pub mod ReadsSettle
+pub mod FlushesSettle
 pub mod PlaceRests
 pub mod SnapWritesSettle
 pub mod Ending

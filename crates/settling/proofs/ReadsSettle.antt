@@ -3,6 +3,7 @@ use Rattle.std.proofs.Common.{◌≡◌, inl, inr, ℕ, ◌+◌, ◌*◌, ◌/�
 use Rattle.std.specs.Prelude.{◌==◌}
 use Rattle.std.proofs.lemmas.Bool.{cases_Bool, cond-true, cond-false}
 use Rattle.sector.specs.declared.range.Range.{Range}
+use Rattle.device.specs.declared.operation.Operation.{Operation}
 use Rattle.device.specs.declared.operation.Operation.TheVariants.{Reads}
 use Rattle.chunk.specs.Pieces.{span_of}
 use Rattle.plain.specs.declared.request.Request.{Request}
@@ -64,9 +65,9 @@ origin_read_settles sectors number range v rest =
     (subst (λ (rs : List Going). Settles (at v.origin v.snaps rs v.replied v.started)) (sym rest.requests)
     (serves_settles sectors _ answer (origin_read_serves None sectors number range v.origin v.snaps v.replied v.started refl rest.whole (each_from (IsResting sectors) v.snaps rest.snaps))))
 
--- a read of a store changes no byte of it
-met_rests : (sectors : ℕ) (h : Held) (first count : ℕ) → IsResting sectors h → IsResting sectors (with_store h (met h.snap.store (Reads first count)))
-met_rests sectors h first count rest = record {
+-- an operation that changes no byte of the store
+pub met_rests : (sectors : ℕ) (h : Held) (op : Operation) → IsResting sectors h → IsResting sectors (with_store h (met h.snap.store op))
+met_rests sectors h op rest = record {
   tried = rest.tried;
   copies = rest.copies;
   marks = rest.marks;
@@ -135,7 +136,7 @@ module _ (g : Option MergeHeld) (sectors number n : ℕ) (range : Range) (origin
         let reply : Reply = read_reply h.snap.store first range.count in
         let r : Going = routed (Store place) in
         let v : Moving = at_with g origin (done ++ h ∷ rest) (r ∷ []) a k in
-        served_by sectors g n (read_snap (span_of range)) origin origin done rest h now reply k _ v before pass all (met_rests sectors h first range.count here) whole
+        served_by sectors g n (read_snap (span_of range)) origin origin done rest h now reply k _ v before pass all (met_rests sectors h (Reads first range.count) here) whole
         (served_as (Some place) on some) (routed_as (Some place) on some)
         (goes_to _ _ _ (issued g origin (done ++ h ∷ rest) r a k idle refl)
         (ap (λ o. for_some o (λ x. on_store Read (x.snap.chunk * place + range.first % x.snap.chunk) range.count (mine_of r) is_this x v) v) (here_that is_this done rest h before pass)

@@ -7,7 +7,7 @@ use Rattle.plain.specs.declared.request.Request.{Request}
 use Rattle.plain.specs.declared.request.Dev.{Dev}
 use Rattle.plain.specs.declared.request.Dev.TheVariants.{Origin, Snap}
 use Rattle.plain.specs.declared.request.Op.{Op}
-use Rattle.plain.specs.declared.request.Op.TheVariants.{Read, Write}
+use Rattle.plain.specs.declared.request.Op.TheVariants.{Read, Write, Flush}
 use Rattle.settled.specs.Pieces.{Answered}
 use Rattle.event_machine.specs.Held.{Moving}
 use Rattle.event_machine.specs.Due.{due}
@@ -20,14 +20,17 @@ use Rattle.settled.specs.Requests.{answered_by, answer_of, FitsRange}
 use Rattle.settling.proofs.Ending.{by_one}
 use Rattle.settling.proofs.WritesSettle.{origin_write_settles}
 use Rattle.settling.proofs.ReadsSettle.{origin_read_settles, snap_read_settles}
+use Rattle.settling.proofs.FlushesSettle.{origin_flush_settles, snap_flush_settles}
 use Rattle.settling.proofs.SnapWritesSettle.{snap_write_settles}
 
 settles_by : (sectors number : ℕ) (dev : Dev) (op : Op) (range : Range) (v : Moving) → IsAtRest sectors v → 0 < range.count → range.first + range.count ≤ sectors → FitsRange op range.count → All (IsInChunk range) v.snaps →
     SettlesTo sectors (submitted number (record { dev = dev; op = op; range = range }) v) (answered_by dev op (span_of range) (volume_of v))
 settles_by sectors number Origin Read range v rest some inside bytes chunks = origin_read_settles sectors number range v rest
 settles_by sectors number Origin (Write data_written) range v rest some inside bytes chunks = origin_write_settles sectors number range data_written v rest some inside bytes
+settles_by sectors number Origin Flush range v rest some inside bytes chunks = origin_flush_settles sectors number range v rest
 settles_by sectors number (Snap n) Read range v rest some inside bytes chunks = snap_read_settles sectors number n range v rest
 settles_by sectors number (Snap n) (Write data_written) range v rest some inside bytes chunks = snap_write_settles sectors number n range data_written v rest (omega arith) bytes chunks
+settles_by sectors number (Snap n) Flush range v rest some inside bytes chunks = snap_flush_settles sectors number n range v rest
 
 -- the law of settling
 pub request_settles : (sectors number : ℕ) (request : Request) (v : Moving) → IsAtRest sectors v → IsFit sectors v.snaps request → SettlesTo sectors (submitted number request v) (answer_of request (volume_of v))

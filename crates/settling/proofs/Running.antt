@@ -7,7 +7,7 @@ use Rattle.plain.specs.declared.request.Dev.{Dev}
 use Rattle.plain.specs.declared.request.Op.{Op}
 use Rattle.plain.specs.declared.request.Op.TheVariants.{Read, Write}
 use Rattle.plain.specs.declared.request.Reply.{Reply}
-use Rattle.plain.specs.declared.request.Reply.TheVariants.{Data, Written, Refused}
+use Rattle.plain.specs.declared.request.Reply.TheVariants.{Data, Written, Flushed, Refused}
 use Rattle.chunk.specs.Sizes.{is_chunk}
 use Rattle.chunk.proofs.Limits.{is_chunk-some}
 use Rattle.chunk.proofs.Wider.{wider}
@@ -77,6 +77,7 @@ module _ (sectors chunk : ℕ) (allowed : is_chunk chunk ≡ true) where
   goes_left : (w mid : Moving) (reply got : Reply) (here more : Answered) → IsLeft sectors chunk mid got here → GoesOn got (IsLeft sectors chunk w reply more) ((w ≡ mid) × (reply ≡ got)) → IsLeft sectors chunk w reply (go_on here.reply here more)
   goes_left w mid reply (Data bytes) here more left goes = subst (λ (r : Reply). IsLeft sectors chunk w reply (go_on r here more)) left.replied goes
   goes_left w mid reply Written here more left goes = subst (λ (r : Reply). IsLeft sectors chunk w reply (go_on r here more)) left.replied goes
+  goes_left w mid reply Flushed here more left goes = subst (λ (r : Reply). IsLeft sectors chunk w reply (go_on r here more)) left.replied goes
   goes_left w mid reply (Refused failure) here more left goes =
       subst (λ (r : Reply). IsLeft sectors chunk w reply (go_on r here more)) left.replied
       (subst (λ (x : Moving). IsLeft sectors chunk x reply here) (sym goes.0) (subst (λ (r : Reply). IsLeft sectors chunk mid r here) (sym goes.1) left))
@@ -84,6 +85,7 @@ module _ (sectors chunk : ℕ) (allowed : is_chunk chunk ≡ true) where
   pub goes_as : (got : Reply) (A B E : Type 0) → (A → B) → GoesOn got A E → GoesOn got B E
   goes_as (Data bytes) A B E f goes = f goes
   goes_as Written A B E f goes = f goes
+  goes_as Flushed A B E f goes = f goes
   goes_as (Refused failure) A B E f goes = goes
 
   written_left : (pieces : List Span) (number : ℕ) (dev : Dev) (bytes : List ℕ) (v w : Moving) (reply : Reply) → IsAtRest sectors v → Each (HasChunks chunk) (map (λ (h : Held). h.snap) v.snaps) → Each (FitsPiece sectors chunk) pieces → length bytes ≡ 512 * counts_of pieces →

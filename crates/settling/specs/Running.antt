@@ -7,7 +7,7 @@ use Rattle.plain.specs.declared.request.Dev.{Dev}
 use Rattle.plain.specs.declared.request.Op.{Op}
 use Rattle.plain.specs.declared.request.Op.TheVariants.{Read, Write}
 use Rattle.plain.specs.declared.request.Reply.{Reply}
-use Rattle.plain.specs.declared.request.Reply.TheVariants.{Data, Written, Refused}
+use Rattle.plain.specs.declared.request.Reply.TheVariants.{Data, Written, Flushed, Refused}
 use Rattle.settled.specs.Commands.{bytes_in}
 use Rattle.event_machine.specs.Held.{Moving}
 use Rattle.event_machine.specs.Due.{due}
@@ -29,6 +29,7 @@ pub record IsDone (number : ℕ) (dev : Dev) (op : Op) (piece : Span) (old new :
 abbrev pub GoesOn : Reply → Type 0 → Type 0 → Type 0
 GoesOn (Data bytes) rest ends = rest
 GoesOn Written rest ends = rest
+GoesOn Flushed rest ends = rest
 GoesOn (Refused failure) rest ends = ends
 
 -- the pieces of a write, each with its part of the bytes, under numbers from this one on

@@ -25,11 +25,11 @@ use Rattle.named.specs.Creating.{made, is_merge, create}
 use Rattle.named.proofs.Keeping.{came_by, same_ok, not_ok}
 use Rattle.shown.specs.Arrays.{arrays_in}
 use Rattle.shown.specs.Shown.{IsChangedAt}
-use Rattle.shown.specs.Commands.{IsTakenAway, IsSnapshotMade, IsRemoved, IsMade, IsShown}
+use Rattle.shown.specs.Commands.{IsTakenAway, IsSnapshotMade, IsRemoved, IsMade, IsShown, stack_named}
 use Rattle.shown.specs.Well.{IsNumbered, IsNumberedFor, IsNumberedTarget}
 use Rattle.shown.proofs.Tables.{changed_in}
 use Rattle.shown.proofs.Rules.{parted_shows}
-use Rattle.shown.proofs.Making.{origin_shows, closed_shows, met_shows}
+use Rattle.shown.proofs.Making.{stack_is, origin_shows, closed_shows, met_shows}
 
 -- `disk NAME N`
 pub disk_line : (name : List ℕ) (sectors : ℕ) (table : Table) → arrays_in (changed table (make name sectors table)).left ≡ arrays_in table
@@ -122,11 +122,12 @@ over_there (Some (In w Merging)) v is = absurd (not_ok NoSuchDevice v is)
 over_there (Some (In w (MergingStore depth))) v is = absurd (not_ok NoSuchDevice v is)
 
 -- what a snapshot's line names
-pub record AreNames (sectors : ℕ) (device : List ℕ) (table : Table) (n : Line_names) : Type 0 where
+pub record AreNames (sectors : ℕ) (device store : List ℕ) (table : Table) (n : Line_names) : Type 0 where
   pub over : over (place_of device table) ≡ Ok n.v
   pub volume : volume_at n.v table ≡ Ok n.volume
+  pub stacked : stack_named store table ≡ Ok n.stacked
 
-are_names : (sectors : ℕ) (device store : List ℕ) (table : Table) (n : Line_names) → named_in sectors device store table ≡ Ok n → AreNames sectors device table n
+are_names : (sectors : ℕ) (device store : List ℕ) (table : Table) (n : Line_names) → named_in sectors device store table ≡ Ok n → AreNames sectors device store table n
 unfolding named_in
 are_names sectors device store table n is =
     let a = came_by (over (place_of device table)) _ n is in
@@ -134,7 +135,7 @@ are_names sectors device store table n is =
     let c = came_by (stack_at b.0 table) _ n b.2 in
     let d = came_by (volume_at a.0 table) _ n c.2 in
     let e = came_by (same_size sectors (sectors_of d.0.state.origin)) _ n d.2 in
-    subst (AreNames sectors device table) (same_ok _ n e.2) (record { over = a.1; volume = d.1 })
+    subst (AreNames sectors device store table) (same_ok _ n e.2) (record { over = a.1; volume = d.1; stacked = stack_is store table b.0 c.0 b.1 c.1 })
 
 module _ (name : List ℕ) (sectors : ℕ) (table : Table) where
   -- by its answer
@@ -152,12 +153,12 @@ module _ (name : List ℕ) (sectors : ℕ) (table : Table) where
   unfolding snapshot_made
   snapshot_makes device store chunk overflow numbered = by (named_in sectors device store table) refl
     where
-      by_met : (n : Line_names) → AreNames sectors device table n → (o : Option Refusal) → (meet name chunk overflow n.stacked n.volume).refused ≡ o → Makes (targets.Snapshot device store chunk overflow) (snapshot_left n.i n.v o (meet name chunk overflow n.stacked n.volume).stacked (meet name chunk overflow n.stacked n.volume).volume table)
+      by_met : (n : Line_names) → AreNames sectors device store table n → (o : Option Refusal) → (meet name chunk overflow n.stacked n.volume).refused ≡ o → Makes (targets.Snapshot device store chunk overflow) (snapshot_left n.i n.v o (meet name chunk overflow n.stacked n.volume).stacked (meet name chunk overflow n.stacked n.volume).volume table)
       by_met n are (Some refusal) is = refl
       by_met n are None is =
           let place = over_there (place_of device table) n.v are.over in
           let here = numbered n.v (Under zero) n.volume place are.volume in
-          (n.v, are.over, changed_in n.v table n.volume (meet name chunk overflow n.stacked n.volume).volume (IsSnapshotMade name) are.volume (met_shows name chunk overflow n.stacked n.volume here.named is))
+          (n.v, n.stacked, are.over, are.stacked, changed_in n.v table n.volume (meet name chunk overflow n.stacked n.volume).volume (IsSnapshotMade name n.stacked.device.bytes) are.volume (met_shows name chunk overflow n.stacked n.volume here.named is))
 
       by : (r : Result Line_names Refusal) → named_in sectors device store table ≡ r → Makes (targets.Snapshot device store chunk overflow) (snapshot_by name chunk overflow table r)
       by (Err e) is = refl

@@ -19,7 +19,7 @@ use Rattle.named.specs.Changes.{Did, kept, changed}
 use Rattle.named.specs.Places.{place_of, found, stack_at, volume_at}
 use Rattle.named.specs.Messages.{put_volume, told_at, told_free, told_mounted, tell}
 use Rattle.named.specs.Raw.{whole, load, loaded_at, loaded_free, in_use, raw_under, fits}
-use Rattle.named.specs.Sectors.{Asked, asked_of, at_role, in_volume, read_by, read_in, read_some, after_asking, read, written_in, write_some, write, IsPartWritten, IsReadAsked, IsReadStarved, IsWriteStarved, IsAtRole, IsInVolume, IsWriteStarvedBy}
+use Rattle.named.specs.Sectors.{Asked, asked_of, at_role, in_volume, flush, flush_by, flushed_in, read_by, read_in, read_some, after_asking, read, written_in, write_some, write, IsPartWritten, IsReadAsked, IsFlushStarved, IsReadStarved, IsWriteStarved, IsAtRole, IsInVolume, IsWriteStarvedBy}
 use Rattle.named.specs.Events.{origin_at, origin_by, merge_done, settle}
 use Rattle.named.specs.Merging.{begun, begun_at, merge_begun, resumed, merge_resumed, finished, merge_finished}
 use Rattle.named.specs.Stopping.{volume_stopped}
@@ -235,9 +235,9 @@ read_line name first count table = by_count (sectors_of count)
     by_count (Err e) = refl
     by_count (Ok n) = by_place n (found (place_of name table))
 
-pub read_starved : (name : List ℕ) (first count : ℕ) (table new : Table) → IsReadStarved name first count table new → arrays_in new ≡ arrays_in table
-unfolding IsReadStarved
-read_starved name first count table new h = by (found (place_of name table)) h
+-- a command that asked for so many sectors, and found no room
+starved_shows : (count : ℕ) (table new : Table) (r : Result Place Refusal) → IsAtRole (λ role. IsReadAsked count) table new r → arrays_in new ≡ arrays_in table
+starved_shows count table new r h = by r h
   where
     by_volume : (v : ℕ) (r : Result Volume Refusal) → volume_at v table ≡ r → IsInVolume (IsReadAsked count) v table new r → arrays_in new ≡ arrays_in table
     by_volume v (Err e) there h = absurd h
@@ -247,6 +247,32 @@ read_starved name first count table new h = by (found (place_of name table)) h
     by (Err e) h = absurd h
     by (Ok (Free i depth)) h = absurd h
     by (Ok (In v role)) h = by_volume v (volume_at v table) refl h
+
+pub read_starved : (name : List ℕ) (first count : ℕ) (table new : Table) → IsReadStarved name first count table new → arrays_in new ≡ arrays_in table
+unfolding IsReadStarved
+read_starved name first count table new h = starved_shows count table new (found (place_of name table)) h
+
+-- `flush DEV`
+pub flush_line : (name : List ℕ) (table : Table) → arrays_in (flush name table).left ≡ arrays_in table
+unfolding flush flushed_in
+flush_line name table = by_place (found (place_of name table))
+  where
+    by_asks : (volume : Volume) (r : Result Asked Refusal) → arrays_of (flush_by volume r).left ≡ arrays_of volume
+    by_asks volume (Err e) = refl
+    by_asks volume (Ok asks) = asked_shows 1 volume
+
+    by_volume : (v : ℕ) (role : Role) (r : Result Volume Refusal) → volume_at v table ≡ r → arrays_in (in_volume v table (flushed_in role) r).left ≡ arrays_in table
+    by_volume v role (Err e) there = refl
+    by_volume v role (Ok volume) there = same_in v table volume (flushed_in role volume).left there (by_asks volume (asked_of role 0 1 volume))
+
+    by_place : (r : Result Place Refusal) → arrays_in (at_role table (λ role volume. flushed_in role volume) r).left ≡ arrays_in table
+    by_place (Err e) = refl
+    by_place (Ok (Free i depth)) = refl
+    by_place (Ok (In v role)) = by_volume v role (volume_at v table) refl
+
+pub flush_starved : (name : List ℕ) (table new : Table) → IsFlushStarved name table new → arrays_in new ≡ arrays_in table
+unfolding IsFlushStarved
+flush_starved name table new h = starved_shows 1 table new (found (place_of name table)) h
 
 -- `message DEV 0 WORDS`
 pub tell_line : (name : List ℕ) (message : Message) (table : Table) → arrays_in (kept table (tell name message table)).left ≡ arrays_in table

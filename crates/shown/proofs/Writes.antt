@@ -13,7 +13,7 @@ use Rattle.plain.specs.Plain.{Saved, Live, Invalid, marked_in}
 use Rattle.plain.specs.declared.request.Dev.{Dev}
 use Rattle.plain.specs.declared.request.Dev.TheVariants as devs
 use Rattle.plain.specs.declared.request.Reply.{Reply}
-use Rattle.plain.specs.declared.request.Reply.TheVariants.{Data, Written, Refused}
+use Rattle.plain.specs.declared.request.Reply.TheVariants.{Data, Written, Flushed, Refused}
 use Rattle.plain.specs.declared.request.Failure.TheVariants.{Invalid as Declined, Io, Overflow}
 use Rattle.settled.specs.Devices.{sectors_of}
 use Rattle.settled.specs.Snaps.{Snap}
@@ -193,6 +193,7 @@ module _ (volume : Volume) (well : IsWell volume) (first count : ℕ) (bytes : L
   origin_done : (reply : Reply) (after : Merged) → AreWritten devs.Origin first pieces bytes (arrays_with m) (arrays_with after) reply → IsWriteDone Origin first bytes (write_answer reply) before (seen_after after)
   origin_done (Data all) after law = absurd law
   origin_done Written after law = origin_named volume.origin volume.snaps m after first bytes (subst (λ (b : List ℕ). IsWritten devs.Origin first b (arrays_with m) (arrays_with after)) whole_bytes law.1)
+  origin_done Flushed after law = absurd law
   origin_done (Refused Declined) after law = absurd law
   origin_done (Refused Overflow) after law = absurd law.1
   origin_done (Refused Io) after law = inr (inr (inl refl, (sectors_in (take law.1.0 pieces), fewer_bytes law.1.0 law.1.1, origin_named volume.origin volume.snaps m after first (take (512 * sectors_in (take law.1.0 pieces)) bytes) law.1.2)))
@@ -202,6 +203,7 @@ module _ (volume : Volume) (well : IsWell volume) (first count : ℕ) (bytes : L
   snapshot_done k s at (Data all) after law = absurd law
   snapshot_done k s at Written after law =
       snapshot_named volume.origin volume.snaps m after k s well.numbered.named well.numbered.numbers at first bytes (law.0 many).0 (subst (λ (b : List ℕ). IsWritten (devs.Snap s.number) first b (arrays_with m) (arrays_with after)) whole_bytes law.1)
+  snapshot_done k s at Flushed after law = absurd law
   snapshot_done k s at (Refused Declined) after law = inr (inl (refl, snapshot_lost volume.origin volume.snaps m after k s well.numbered.named well.numbered.numbers at law))
   snapshot_done k s at (Refused Io) after law =
       inr (inr (inl refl, (sectors_in (take law.1.0 pieces), fewer_bytes law.1.0 law.1.1, snapshot_named volume.origin volume.snaps m after k s well.numbered.named well.numbered.numbers at first (take (512 * sectors_in (take law.1.0 pieces)) bytes) law.0 law.1.2)))

@@ -13,8 +13,11 @@ use Rattle.named.specs.declared.place.Role.{Role}
 use Rattle.named.specs.declared.place.Role.TheVariants.{Origin, Under, Snapshot, Store, Merging, MergingStore}
 use Rattle.named.specs.declared.place.Place.{Place}
 use Rattle.named.specs.declared.place.Place.TheVariants.{Free, In}
-use Rattle.named.specs.State.{Table}
-use Rattle.named.specs.Places.{place_of}
+use Rattle.words.specs.Given.{◌>>=◌}
+use Rattle.snapshot.specs.Opening.{shown_array}
+use Rattle.named.specs.State.{Stacked, Table}
+use Rattle.named.specs.Places.{place_of, stack_at}
+use Rattle.named.specs.Layers.{top}
 use Rattle.named.specs.Events.{origin_by}
 use Rattle.named.specs.Snapshots.{over}
 use Rattle.shown.specs.Arrays.{Arrays}
@@ -26,12 +29,12 @@ pub record IsTakenAway (k : ℕ) (old new : Arrays) : Type 0 where
   pub array : new.array ≡ old.array
   pub snaps : new.snaps ≡ remove old.snaps k
 
--- There is one snapshot more, which shows an array.
-pub record IsSnapshotMade (name : List ℕ) (old new : Arrays) : Type 0 where
-  pub shows : List ℕ
+-- There is one snapshot more, over a store with these bytes: it shows what the origin shows, with the chunks that a written store
+-- has in place.
+pub record IsSnapshotMade (name store : List ℕ) (old new : Arrays) : Type 0 where
   pub same : new.name ≡ old.name
   pub array : new.array ≡ old.array
-  pub snaps : new.snaps ≡ old.snaps ++ (record { name = name; saved = Live shows }) ∷ []
+  pub snaps : new.snaps ≡ old.snaps ++ (record { name = name; saved = Live (shown_array old.array store) }) ∷ []
 
 -- a device at a place is taken away: no origin with snapshots, and nothing that another stands on
 abbrev pub IsRemoved : Option Place → List Arrays → List Arrays → Type 0
@@ -44,10 +47,16 @@ IsRemoved (Some (In v (Store k depth))) old new = ⊥
 IsRemoved (Some (In v Merging)) old new = ⊥
 IsRemoved (Some (In v (MergingStore depth))) old new = ⊥
 
--- a device is made
+-- the stack that nothing uses, and that the device of a name is the top of
+abbrev pub stack_named : List ℕ → Table → Result Stacked Refusal
+stack_named name table = top name table >>= λ i. stack_at i table
+
+-- a device is made: an origin shows the bytes of the stack that it stands on
 abbrev pub IsMade : List ℕ → Target → Table → List Arrays → List Arrays → Type 0
-IsMade name (targets.Origin device) table old new = (array : List ℕ) × (new ≡ old ++ (record { name = name; array = array; snaps = [] }) ∷ [])
-IsMade name (targets.Snapshot device store chunk overflow) table old new = (v : ℕ) × (over (place_of device table) ≡ Ok v) × IsChangedAt v (IsSnapshotMade name) old new
+IsMade name (targets.Origin device) table old new =
+    (under : Stacked) × (stack_named device table ≡ Ok under) × (new ≡ old ++ (record { name = name; array = under.device.bytes; snaps = [] }) ∷ [])
+IsMade name (targets.Snapshot device store chunk overflow) table old new =
+    (v : ℕ) × (under : Stacked) × (over (place_of device table) ≡ Ok v) × (stack_named store table ≡ Ok under) × IsChangedAt v (IsSnapshotMade name under.device.bytes) old new
 IsMade name (targets.Merge device store chunk overflow) table old new = ⊥
 IsMade name (targets.Flakey device offset up down features) table old new = new ≡ old
 IsMade name (targets.Dust device block) table old new = new ≡ old
@@ -66,6 +75,7 @@ IsAnswered (commands.Save disk first count) table old new = new ≡ old
 IsAnswered (commands.Message device message) table old new = new ≡ old
 IsAnswered (commands.Tick seconds) table old new = new ≡ old
 IsAnswered (commands.Read device first count) table old new = new ≡ old
+IsAnswered (commands.Flush device) table old new = new ≡ old
 IsAnswered (commands.StartRead device first count) table old new = new ≡ old
 IsAnswered (commands.StartWrite device first bytes) table old new = new ≡ old
 IsAnswered (commands.Step volume event) table old new = new ≡ old
@@ -91,6 +101,7 @@ IsRefused (commands.Save disk first count) table refusal old new = new ≡ old
 IsRefused (commands.Message device message) table refusal old new = new ≡ old
 IsRefused (commands.Tick seconds) table refusal old new = new ≡ old
 IsRefused (commands.Read device first count) table refusal old new = new ≡ old
+IsRefused (commands.Flush device) table refusal old new = new ≡ old
 IsRefused (commands.StartRead device first count) table refusal old new = new ≡ old
 IsRefused (commands.StartWrite device first bytes) table refusal old new = new ≡ old
 IsRefused (commands.Step volume event) table refusal old new = new ≡ old

@@ -53,6 +53,7 @@ IsWellOf (commands.Save disk first count) table = Unit {0}
 IsWellOf (commands.Message device message) table = Unit {0}
 IsWellOf (commands.Tick seconds) table = Unit {0}
 IsWellOf (commands.Read device first count) table = Unit {0}
+IsWellOf (commands.Flush device) table = Unit {0}
 IsWellOf (commands.StartRead device first count) table = Unit {0}
 IsWellOf (commands.StartWrite device first bytes) table = Unit {0}
 IsWellOf (commands.Step volume event) table = Unit {0}

@@ -68,8 +68,8 @@ like_same s t is = record { chunk = ap (λ x. x.chunk) is; origin = ap (λ x. x.
 pub like_zeroed : (s t : State) → t ≡ record s { zeroed = true; firm = false } → IsLike s t
 like_zeroed s t is = record { chunk = ap (λ x. x.chunk) is; origin = ap (λ x. x.origin) is; size = ap (λ x. x.size) is; left = ap (λ x. x.left) is; copying = ap (λ x. x.copying) is; valid = ap (λ x. x.valid) is }
 
-pub like_firm : (s t : State) → t ≡ record s { firm = s.zeroed } → IsLike s t
-like_firm s t is = record { chunk = ap (λ x. x.chunk) is; origin = ap (λ x. x.origin) is; size = ap (λ x. x.size) is; left = ap (λ x. x.left) is; copying = ap (λ x. x.copying) is; valid = ap (λ x. x.valid) is }
+pub like_firm : (s t : State) (n : ℕ) → t ≡ record s { firm = s.zeroed; sure = n } → IsLike s t
+like_firm s t n is = record { chunk = ap (λ x. x.chunk) is; origin = ap (λ x. x.origin) is; size = ap (λ x. x.size) is; left = ap (λ x. x.left) is; copying = ap (λ x. x.copying) is; valid = ap (λ x. x.valid) is }
 
 like_committed : (s : State) (count : ℕ) (b : Bool) → s.filled + count == 32 * s.chunk ≡ b → IsLike s (after_commit s count)
 like_committed s count true is = subst (IsLike s) (sym (cond-true _ _ _ is)) (record { chunk = refl; origin = refl; size = refl; left = refl; copying = refl; valid = refl })
@@ -77,6 +77,14 @@ like_committed s count false is = subst (IsLike s) (sym (cond-false _ _ _ is)) (
 
 pub like_commit : (s t : State) (count : ℕ) → t ≡ after_commit s count → IsLike s t
 like_commit s t count is = subst (IsLike s) (sym is) (like_committed s count (s.filled + count == 32 * s.chunk) refl)
+
+-- a commit makes no pair sure
+sure_committed : (s : State) (count : ℕ) (b : Bool) → s.filled + count == 32 * s.chunk ≡ b → (after_commit s count).sure ≡ s.sure
+sure_committed s count true is = ap (λ (x : State). x.sure) (cond-true _ _ _ is)
+sure_committed s count false is = ap (λ (x : State). x.sure) (cond-false _ _ _ is)
+
+pub sure_commit : (s t : State) (count : ℕ) → t ≡ after_commit s count → t.sure ≡ s.sure
+sure_commit s t count is = ap (λ (x : State). x.sure) is ∙ sure_committed s count (s.filled + count == 32 * s.chunk) refl
 
 -- the area after the current one is as it was
 pub ahead_same : (live : Bool) (s t : State) (n : ℕ) → t ≡ s → IsAhead live s n → IsAhead live t n
@@ -112,8 +120,8 @@ ahead_commit live s t n count is fits few h =
     subst (λ (x : State). IsAhead live x (n - count)) (sym is) (ahead_committed live s n count (s.filled + count == 32 * s.chunk) refl fits few h)
 
 -- a flush zeroes nothing
-pub ahead_firm : (live : Bool) (s t : State) (n : ℕ) → t ≡ record s { firm = s.zeroed } → IsAhead live s n → IsAhead live t n
-ahead_firm live s t n is h = subst (λ (x : State). IsAhead live x n) (sym is) h
+pub ahead_firm : (live : Bool) (s t : State) (k n : ℕ) → t ≡ record s { firm = s.zeroed; sure = k } → IsAhead live s n → IsAhead live t n
+ahead_firm live s t k n is h = subst (λ (x : State). IsAhead live x n) (sym is) h
 
 -- the store's state changes, and the copies stay
 pub state_kept : (live untried marked stale : Bool) (s t : State) (begun begun' : List Pair) (copies : List ChunkCopy) (marks : List Mark) → IsSnapshot live untried marked stale s begun copies marks → IsLike s t → begun' ≡ begun → IsAhead live t (length copies) → IsSnapshot live untried marked stale t begun' copies marks
@@ -145,9 +153,9 @@ pairs_flushed (p ∷ copies) = ap (λ x. p.pair ∷ x) (pairs_flushed copies)
 buffers_flushed : (chunk origin : ℕ) (copies : List ChunkCopy) → All (IsBuffered chunk origin) copies → All (IsBuffered chunk origin) (map flushed_copy copies)
 buffers_flushed chunk origin copies all = All-map (IsBuffered chunk origin) flushed_copy copies (λ k d lt. record { room = (all k d lt).room })
 
-pub copies_flushed : (live untried marked stale : Bool) (s t : State) (begun begun' : List Pair) (copies : List ChunkCopy) (marks marks' : List Mark) → live ≡ true → IsSnapshot live untried marked stale s begun copies marks → t ≡ record s { firm = s.zeroed } → begun' ≡ begun → IsSnapshot live untried marked stale t begun' (map flushed_copy copies) marks'
-copies_flushed live untried marked stale s t begun begun' copies marks marks' alive h is same =
-    let like = like_firm s t is in
+pub copies_flushed : (live untried marked stale : Bool) (s t : State) (n : ℕ) (begun begun' : List Pair) (copies : List ChunkCopy) (marks marks' : List Mark) → live ≡ true → IsSnapshot live untried marked stale s begun copies marks → t ≡ record s { firm = s.zeroed; sure = n } → begun' ≡ begun → IsSnapshot live untried marked stale t begun' (map flushed_copy copies) marks'
+copies_flushed live untried marked stale s t n begun begun' copies marks marks' alive h is same =
+    let like = like_firm s t n is in
     record {
       allowed = rw like.chunk h.allowed;
       ready = like.left ∙ h.ready;
@@ -162,7 +170,7 @@ copies_flushed live untried marked stale s t begun begun' copies marks marks' al
       buffers = rw (like.chunk, like.origin) (buffers_flushed s.chunk s.origin copies h.buffers);
       idle = λ dead. absurd (true≢false (sym alive ∙ dead));
       unmarked = λ dead. absurd (true≢false (sym alive ∙ dead));
-      ahead = subst (IsAhead live t) (sym (length-map copies flushed_copy)) (ahead_firm live s t (length copies) is h.ahead);
+      ahead = subst (IsAhead live t) (sym (length-map copies flushed_copy)) (ahead_firm live s t n (length copies) is h.ahead);
     }
 
 -- the store's state stays too

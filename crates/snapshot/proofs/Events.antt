@@ -29,7 +29,7 @@ reads_at contents layers origin k p q v w is within was to len = subst (ReadsAt 
   fields = refl;
   event = record {
     same = record { number = refl; live = refl; untried = refl; marked = refl; loud = refl; chunk = refl; sectors = refl; size = refl; overflow = refl };
-    store = record { store = refl; pairs = refl; begun = refl };
+    store = record { store = refl; pairs = refl; begun = refl; sure = refl };
     copy = record { within = within; was = was; pair = to.pair; copies = refl };
     marks = refl;
     stage = to.stage;
@@ -49,6 +49,7 @@ writes_at contents layers k p q v w d is within was read to loud only written = 
     same = record { number = refl; live = refl; untried = refl; marked = refl; loud = loud; chunk = refl; sectors = refl; size = refl; overflow = refl };
     pairs = refl;
     begun = refl;
+    sure = refl;
     copy = record { within = within; was = was; pair = to.pair; copies = refl };
     marks = refl;
     was_read = read;
@@ -69,6 +70,7 @@ starts_at contents layers p v w is stage room text = subst (StartsAt contents la
     pairs = refl;
     store = refl;
     begun = refl;
+    sure = refl;
     copies = refl;
     marks = refl;
     stage = stage;
@@ -88,6 +90,7 @@ starts_merging contents layers p v w is stage room text = subst (StartsMerging c
     pairs = refl;
     store = refl;
     begun = refl;
+    sure = refl;
     copies = refl;
     marks = refl;
     stage = stage;
@@ -110,15 +113,16 @@ commit_fields count d t t' v pending ps bs cs ms b begun state committed dropped
     rw (state, first, rest, copies, marks, spare) refl
 
 -- the first copies are committed
-pub commits_at : {B : Type 0} (contents : B → List ℕ) (layers : B → List Layer) (count : ℕ) (v w : Kept B) (d : B) (t : State) → w ≡ committed_as count d t v → IsLike v.state t → count ≤ length v.copies → All (λ p. p.stage ≡ Flushed) (take count v.copies)
+pub commits_at : {B : Type 0} (contents : B → List ℕ) (layers : B → List Layer) (count : ℕ) (v w : Kept B) (d : B) (t : State) → w ≡ committed_as count d t v → IsLike v.state t → t.sure ≡ v.state.sure → count ≤ length v.copies → All (λ p. p.stage ≡ Flushed) (take count v.copies)
     → is_loud (layers d) ≡ is_loud (layers v.device) → ChangesOnly v.state.chunk (area_place v.state.chunk v.state.current) (contents v.device) (contents d)
     → (is_loud (layers v.device) ≡ true → pairs_of v.state.chunk (contents d) ≡ w.pairs) → Commits count v.state.current (books_of contents layers v) (books_of contents layers w)
-commits_at contents layers count v w d t is like few ready loud only stored = record {
+commits_at contents layers count v w d t is like sure few ready loud only stored = record {
   same = record { number = ap (λ x. x.number) is; live = ap (λ x. x.live) is; untried = ap (λ x. x.untried) is; marked = ap (λ x. x.marked) is; loud = ap (λ x. is_loud (layers x.device)) is ∙ loud; overflow = ap (λ x. x.overflow) is; chunk = ap (λ x. x.state.chunk) is ∙ like.chunk; sectors = ap (λ x. x.state.origin) is ∙ like.origin; size = ap (λ x. x.state.size) is ∙ like.size };
   few = few;
   ready = ready;
   pairs = ap (λ x. x.pairs) is;
   begun = ap (λ x. x.begun) is;
+  sure = ap (λ x. x.state.sure) is ∙ sure;
   copies = ap (λ x. x.copies) is;
   marks = ap (λ x. x.marks) is;
   only = subst (λ (b : List ℕ). ChangesOnly v.state.chunk (area_place v.state.chunk v.state.current) (contents v.device) b) (sym (ap (λ x. contents x.device) is)) only;

@@ -7,5 +7,5 @@ pub mod Tries
 pub mod Loads
 pub mod Rests
 pub mod Spared
-pub mod Stops
 pub mod StopsOpened
+pub mod Leaves

@@ -11,7 +11,7 @@ use Rattle.store.specs.declared.state.Left.{Left}
 use Rattle.store.specs.declared.state.Left.TheVariants.{FirstArea, HeaderChunk, Tail, Nothing}
 use Rattle.store.specs.declared.state.State.{State}
 use Rattle.settled.specs.Devices.{Device}
-use Rattle.settled.specs.Attaching.{Tried, refuse, flush_on, done}
+use Rattle.settled.specs.Attaching.{Tried, refuse, flush_on, flush_both, done}
 use Rattle.snapshot.specs.Attaching.{last_by, next_by, prepared_by}
 use Rattle.snapshot.specs.Opening.{ChangesFront}
 use Rattle.snapshot.proofs.Tries.{over}
@@ -36,31 +36,31 @@ then_none Tail s origin device none = absurd (true≢false none)
 then_none Nothing s origin device none = refl
 
 -- the store's state after a write of its load
-abbrev pub wrote : State → State
-wrote s = record s { left = after_write s.left; awaits = is_left s.left }
+abbrev pub wrote : State → ℕ → State
+wrote s n = record s { left = after_write s.left; sure = n; awaits = is_left s.left }
 
-then_at : (left : Left) (s : State) (b : Bool) (origin device : Device) → is_left left ≡ true
-    → then_by left s origin device ≡ next_by (after_write left) (record s { left = after_write left; awaits = b }) origin (then_by (after_write left) (record s { left = after_write left; awaits = b }) origin) device
-then_at FirstArea s b origin device some = refl
-then_at HeaderChunk s b origin device some = refl
-then_at Tail s b origin device some = refl
-then_at Nothing s b origin device some = absurd (false≢true some)
+then_at : (left : Left) (s : State) (b : Bool) (n : ℕ) (origin device : Device) → is_left left ≡ true
+    → then_by left s origin device ≡ next_by (after_write left) (record s { left = after_write left; sure = n; awaits = b }) origin (then_by (after_write left) (record s { left = after_write left; sure = n; awaits = b }) origin) device
+then_at FirstArea s b n origin device some = refl
+then_at HeaderChunk s b n origin device some = refl
+then_at Tail s b n origin device some = refl
+then_at Nothing s b n origin device some = absurd (false≢true some)
 
 -- a second write is left, or none
-pub then_next : (s t : State) (origin device : Device) → t ≡ record s { left = after_write s.left; awaits = is_left s.left } → is_left s.left ≡ true → then_by s.left s origin device ≡ next_by t.left t origin (then_by t.left t origin) device
-then_next s t origin device is some =
-    then_at s.left s (is_left s.left) origin device some ∙ sym (ap (λ (x : State). next_by x.left x origin (then_by x.left x origin) device) is)
+pub then_next : (s t : State) (n : ℕ) (origin device : Device) → t ≡ record s { left = after_write s.left; sure = n; awaits = is_left s.left } → is_left s.left ≡ true → then_by s.left s origin device ≡ next_by t.left t origin (then_by t.left t origin) device
+then_next s t n origin device is some =
+    then_at s.left s (is_left s.left) n origin device some ∙ sym (ap (λ (x : State). next_by x.left x origin (then_by x.left x origin) device) is)
 
-last_at : (left : Left) (s : State) (b : Bool) (origin device : Device) → is_left (after_write left) ≡ true → then_by (after_write left) (record s { left = after_write left; awaits = b }) origin device ≡ flush_on origin (done s.chunk origin) device
-last_at FirstArea s b origin device some = refl
-last_at HeaderChunk s b origin device some = absurd (false≢true some)
-last_at Tail s b origin device some = absurd (false≢true some)
-last_at Nothing s b origin device some = absurd (false≢true some)
+last_at : (left : Left) (s : State) (b : Bool) (n : ℕ) (origin device : Device) → is_left (after_write left) ≡ true → then_by (after_write left) (record s { left = after_write left; sure = n; awaits = b }) origin device ≡ flush_on origin (done s.chunk origin) device
+last_at FirstArea s b n origin device some = refl
+last_at HeaderChunk s b n origin device some = absurd (false≢true some)
+last_at Tail s b n origin device some = absurd (false≢true some)
+last_at Nothing s b n origin device some = absurd (false≢true some)
 
 -- after a second one a flush alone
-pub then_last : (s t : State) (origin device : Device) → t ≡ record s { left = after_write s.left; awaits = is_left s.left } → is_left t.left ≡ true → then_by t.left t origin device ≡ flush_on origin (done s.chunk origin) device
-then_last s t origin device is some =
-    ap (λ (x : State). then_by x.left x origin device) is ∙ last_at s.left s (is_left s.left) origin device (sym (ap (λ (x : State). is_left x.left) is) ∙ some)
+pub then_last : (s t : State) (n : ℕ) (origin device : Device) → t ≡ record s { left = after_write s.left; sure = n; awaits = is_left s.left } → is_left t.left ≡ true → then_by t.left t origin device ≡ flush_on origin (done s.chunk origin) device
+then_last s t n origin device is some =
+    ap (λ (x : State). then_by x.left x origin device) is ∙ last_at s.left s (is_left s.left) n origin device (sym (ap (λ (x : State). is_left x.left) is) ∙ some)
 
 -- a flush that is answered, and one that is not
 pub flush_goes : (origin : Device) (bytes bytes' : List ℕ) (old new : List Layer) (f f' d d' : ℕ) (next : Device → Tried) → IsOneOperation Flushes true old new f f' d d' → bytes' ≡ bytes → flush_on origin next (over bytes old) ≡ next (over bytes' new)
@@ -70,6 +70,12 @@ flush_goes origin bytes bytes' old new f f' d d' next one same =
 pub flush_stays : (origin : Device) (bytes bytes' : List ℕ) (old new : List Layer) (f f' d d' : ℕ) (next : Device → Tried) → IsOneOperation Flushes false old new f f' d d' → bytes' ≡ bytes → flush_on origin next (over bytes old) ≡ refuse Io origin (over bytes' new)
 flush_stays origin bytes bytes' old new f f' d d' next one same =
     cond-false _ _ _ (sym one.answer) ∙ ap (λ (l : List Layer). refuse Io origin (over bytes l)) (sym one.layers) ∙ ap (λ (b : List ℕ). refuse Io origin (over b new)) (sym same)
+
+-- the origin is flushed first
+pub origin_goes : (bytes bytes' : List ℕ) (old new : List Layer) (f f' d d' : ℕ) (device : Device) (next : Device → Device → Tried) → IsOneOperation Flushes true old new f f' d d' → bytes' ≡ bytes
+    → flush_both (over bytes old) device next ≡ flush_on (over bytes' new) (next (over bytes' new)) device
+origin_goes bytes bytes' old new f f' d d' device next one same =
+    cond-true _ _ _ (sym one.answer) ∙ ap (λ (l : List Layer). flush_on (over bytes l) (next (over bytes l)) device) (sym one.layers) ∙ ap (λ (b : List ℕ). flush_on (over b new) (next (over b new)) device) (sym same)
 
 -- what each write may change
 pub front_of : (left : Left) (s : State) (old new : List ℕ) → ChangesOnly s.chunk (chunk_left left s) old new → ChangesFront s.chunk s.current old new
@@ -81,5 +87,5 @@ front_of Nothing s old new only = record { len = only.len; rest = λ n low other
 pub front_more : (chunk a : ℕ) (old mid new : List ℕ) → ChangesFront chunk a old mid → ChangesFront chunk a mid new → ChangesFront chunk a old new
 front_more chunk a old mid new first second = record { len = second.len ∙ first.len; rest = λ n low other. second.rest n low other ∙ first.rest n low other }
 
-pub front_like : (s t : State) (old new : List ℕ) → t ≡ record s { left = after_write s.left; awaits = is_left s.left } → ChangesFront t.chunk t.current old new → ChangesFront s.chunk s.current old new
-front_like s t old new is only = subst (λ (x : State). ChangesFront x.chunk x.current old new) is only
+pub front_like : (s t : State) (n : ℕ) (old new : List ℕ) → t ≡ record s { left = after_write s.left; sure = n; awaits = is_left s.left } → ChangesFront t.chunk t.current old new → ChangesFront s.chunk s.current old new
+front_like s t n old new is only = subst (λ (x : State). ChangesFront x.chunk x.current old new) is only

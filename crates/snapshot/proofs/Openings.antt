@@ -1,5 +1,5 @@
 -- What an opened store is, and what its snapshot shows.
-use Rattle.std.proofs.Common.{◌≡◌, ◌≢◌, inl, inr, ℕ, ◌+◌, ◌*◌, ◌/◌, ◌%◌, ◌<◌, List, [], get_or, refl, sym, ◌∙◌, ap, subst, arith, Bool, true, false, Option, Some, None}
+use Rattle.std.proofs.Common.{◌≡◌, ◌≢◌, inl, inr, ℕ, ◌+◌, ◌*◌, ◌/◌, ◌%◌, ◌<◌, List, [], get_or, length, refl, sym, ◌∙◌, ap, subst, arith, Bool, true, false, Option, Some, None}
 use Rattle.std.specs.Prelude.{map}
 use Rattle.std.specs.List.{All}
 use Rattle.std.proofs.lemmas.Bool.{true≢false}
@@ -81,7 +81,7 @@ opened_waits line origin size bytes s ps (inr w) = w.rest.4
 -- a snapshot over an opened store whose load is written
 pub opened_is : {B : Type 0} (contents : B → List ℕ) (layers : B → List Layer) (number line origin size : ℕ) (overflow : Bool) (device dev : B) (loaded st : State) (next : ℕ) (pairs : List Pair) (s : Kept B)
     → s ≡ record { number = number; live = true; untried = false; marked = false; stale = false; overflow = overflow_of overflow; device = dev; state = st; next = next; pairs = pairs; begun = []; copies = []; marks = []; room = 0; kept_back = 0; spare = false; merging = None }
-    → st ≡ record loaded { left = Nothing; awaits = false } → IsOpenedAs line origin size (contents device) loaded pairs → IsNextPlace st.chunk (map new_of pairs) next
+    → st ≡ record loaded { left = Nothing; sure = length pairs; awaits = false } → IsOpenedAs line origin size (contents device) loaded pairs → IsNextPlace st.chunk (map new_of pairs) next
     → (is_loud (layers device) ≡ true → contents dev ≡ prepared loaded.left loaded (contents device)) → IsOpened contents layers number line origin size overflow device s
 opened_is {B} contents layers number line origin size overflow device dev loaded st next pairs s fields state opened place bytes =
     let kept : State → Kept B = λ t. record { number = number; live = true; untried = false; marked = false; stale = false; overflow = overflow_of overflow; device = dev; state = t; next = next; pairs = pairs; begun = []; copies = []; marks = []; room = 0; kept_back = 0; spare = false; merging = None } in

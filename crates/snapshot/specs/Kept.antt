@@ -49,6 +49,7 @@ books_of contents layers s = record {
   size = s.state.size;
   store = contents s.device;
   pairs = s.pairs;
+  sure = s.state.sure;
   begun = s.begun;
   copies = s.copies;
   marks = s.marks;

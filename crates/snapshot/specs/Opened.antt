@@ -1,5 +1,5 @@
 -- A snapshot as it is opened over a store, and a store that was refused. This project's own.
-use Rattle.std.specs.Prelude.{◌≡◌, ◌⊎◌, ℕ, Bool, true, false, List, [], map, Ok, None}
+use Rattle.std.specs.Prelude.{◌≡◌, ◌⊎◌, ℕ, Bool, true, false, List, [], length, map, Ok, None}
 use Rattle.sector.specs.Bytes.{sector_at}
 use Rattle.sector.specs.declared.refusal.Refusal.{Refusal}
 use Rattle.sector.specs.declared.refusal.Refusal.TheVariants.{Io}
@@ -21,7 +21,7 @@ use Rattle.snapshot.specs.Opening.{ChangesFront, IsOpenedAs, prepared}
 pub record IsOpened {B : Type 0} (contents : B → List ℕ) (layers : B → List Layer) (number line origin size : ℕ) (overflow : Bool) (device : B) (s : Kept B) : Type 0 where
   pub loaded : State
   pub opened : IsOpenedAs line origin size (contents device) loaded s.pairs
-  pub fields : s ≡ record { number = number; live = true; untried = false; marked = false; stale = false; overflow = overflow_of overflow; device = s.device; state = record loaded { left = Nothing; awaits = false }; next = s.next; pairs = s.pairs; begun = []; copies = []; marks = []; room = 0; kept_back = 0; spare = false; merging = None }
+  pub fields : s ≡ record { number = number; live = true; untried = false; marked = false; stale = false; overflow = overflow_of overflow; device = s.device; state = record loaded { left = Nothing; sure = length s.pairs; awaits = false }; next = s.next; pairs = s.pairs; begun = []; copies = []; marks = []; room = 0; kept_back = 0; spare = false; merging = None }
   pub next : IsNextPlace s.state.chunk (map new_of s.pairs) s.next
   pub bytes : is_loud (layers device) ≡ true → contents s.device ≡ prepared loaded.left loaded (contents device)
 

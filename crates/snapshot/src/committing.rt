@@ -9,7 +9,6 @@ ghost use Rattle.model.specs.Places.{area_place};
 ghost use Rattle.pending.specs.declared.copies.Mark.{Mark};
 ghost use Rattle.pending.specs.declared.copies.Stage.TheVariants.{Flushed};
 ghost use Rattle.store.specs.Operations.{IsOneOperation};
-ghost use Rattle.store.specs.Shown.{StopsSame, StopsBetween};
 ghost use Rattle.store.specs.Slots.{pairs_bytes, slot_start};
 ghost use Rattle.store.specs.Stored.{after_commit};
 ghost use Rattle.volume_laws.specs.Steps.{ZeroesArea, Commits, Unmarks, mark_of};
@@ -17,6 +16,7 @@ ghost use Rattle.snapshot.specs.InStep.{IsInStep};
 ghost use Rattle.std.specs.Option.{is_some};
 ghost use Rattle.snapshot.specs.Held.{IsSpared};
 ghost use Rattle.snapshot.specs.Kept.{books_of, is_among, needs_area, spare_after, unpublished};
+ghost use Rattle.stop_laws.specs.Firm.{AddsNow};
 
 use crate::Snapshot;
 use device::{Block, Io};
@@ -25,7 +25,7 @@ use plain::CopyId;
 
 impl<B: Block> Snapshot<B> {
     /// Zeroes the area after the current one, for copies whose pairs fill that. At `Io` nothing changed but the device's
-    /// counts and layers. Whatever a stop within it leaves is loaded again with the same pairs, and shows the same array.
+    /// counts and layers.
     pub fn zero_next(&mut self) -> Result<(), Io>
         requires live { self.old.live ≡ true }
         requires some { 0 < length self.old.copies }
@@ -37,13 +37,13 @@ impl<B: Block> Snapshot<B> {
         ensures written { OnOk result (IsTrue (is_loud (B.layers self.old.device)) → B.contents self.new.device ≡ with_sectors (B.contents self.old.device) (self.old.state.chunk * area_place self.old.state.chunk (self.old.state.current + 1)) (replicate (512 * self.old.state.chunk) 0)) }
         ensures same { OnErr result (B.contents self.new.device ≡ B.contents self.old.device) }
         ensures durable { B.durable self.new.device ≡ B.durable self.old.device }
+        ensures adds { IsTrue (is_loud (B.layers self.old.device)) → AddsNow (B.may_hold self.old.device) (B.may_hold self.new.device) (B.contents self.new.device) }
         ensures size { B.size self.new.device ≡ B.size self.old.device }
 
         ensures fields { OnOk result (self.new ≡ record self.old { device = self.new.device; state = record self.old.state { zeroed = true; firm = false } }) }
         ensures ahead { self.old.state.firm ≡ true → self.old.state.zeroed ≡ true }
         ensures zeroes { OnOk result (ZeroesArea (self.old.state.current + 1) (books_of B.contents B.layers self.old) (books_of B.contents B.layers self.new)) }
         ensures kept { OnErr result (self.new ≡ record self.old { device = self.new.device }) }
-        ensures stops { IsTrue (is_loud (B.layers self.old.device)) → StopsSame self.old.state.chunk self.old.state.origin self.old.state.size self.old.pairs (B.contents self.old.device) (B.contents self.new.device) }
         ensures in_step { IsInStep B.contents B.layers B.size self.new }
     {
         match self.store.zero_next() {
@@ -52,11 +52,10 @@ impl<B: Block> Snapshot<B> {
         }
     }
 
-    /// Commits the copies that started first, so many of them, all of them written and flushed: their pairs are written
-    /// into the current area. Each bears a mark from then on, until it is published, which is safe once the store is
-    /// flushed again. The one that a merge started gives its buffer
-    /// back. At `Io` nothing changed but the device's counts and layers. Whatever a stop within it leaves is loaded again,
-    /// with the pairs that were there and the first few of these, and shows the same array.
+    /// Commits the copies that started first, so many of them, all of them written and flushed: their pairs are written into
+    /// the current area. Each bears a mark from then on, until it is published, which is safe once the store is flushed
+    /// again. The one that a merge started gives its buffer back. At `Io` nothing changed but the device's counts and
+    /// layers.
     pub fn write_area(&mut self, count: u32) -> Result<(), Io>
         requires live { self.old.live ≡ true }
         requires few { count ≤ length self.old.copies }
@@ -69,12 +68,12 @@ impl<B: Block> Snapshot<B> {
         ensures written { OnOk result (IsTrue (is_loud (B.layers self.old.device)) → B.contents self.new.device ≡ with_part (B.contents self.old.device) (slot_start self.old.state.chunk self.old.state.current self.old.state.filled) (pairs_bytes (take count self.old.begun))) }
         ensures same { OnErr result (B.contents self.new.device ≡ B.contents self.old.device) }
         ensures durable { B.durable self.new.device ≡ B.durable self.old.device }
+        ensures adds { IsTrue (is_loud (B.layers self.old.device)) → AddsNow (B.may_hold self.old.device) (B.may_hold self.new.device) (B.contents self.new.device) }
         ensures size { B.size self.new.device ≡ B.size self.old.device }
 
         ensures fields { OnOk result (self.new ≡ record self.old { device = self.new.device; state = after_commit self.old.state count; pairs = self.old.pairs ++ take count self.old.begun; begun = drop count self.old.begun; copies = drop count self.old.copies; marks = self.old.marks ++ map mark_of (take count self.old.copies); spare = spare_after count self.old }) }
         ensures commits { OnOk result (Commits count self.old.state.current (books_of B.contents B.layers self.old) (books_of B.contents B.layers self.new)) }
         ensures kept { OnErr result (self.new ≡ record self.old { device = self.new.device }) }
-        ensures stops { IsTrue (is_loud (B.layers self.old.device)) → StopsBetween self.old.state.chunk self.old.state.origin self.old.state.size self.old.pairs (take count self.old.begun) (B.contents self.old.device) (B.contents self.new.device) }
         ensures in_step { IsInStep B.contents B.layers B.size self.new }
     {
         match self.store.write_area(count) {
@@ -97,7 +96,7 @@ impl<B: Block> Snapshot<B> {
     pub fn publish(&mut self, index: usize)
         requires within { index < length self.old.marks }
         ensures fields { (m : Mark) → m ≡ slice_index_or self.old.marks index m → self.new ≡ record self.old { marks = remove self.old.marks index; merging = unpublished m.number self.old.merging } }
-        ensures publishes { (m : Mark) → m ≡ slice_index_or self.old.marks index m → Unmarks index m (books_of B.contents B.layers self.old) (books_of B.contents B.layers self.new) }
+        ensures publishes { (m : Mark) → m ≡ slice_index_or self.old.marks index m → m.safe ≡ true → Unmarks index m (books_of B.contents B.layers self.old) (books_of B.contents B.layers self.new) }
     {
         let mark = self.marks.remove(index);
         self.merging = still_merging(self.merging, mark.number);

@@ -1,16 +1,15 @@
 // One copy is read from the origin disk, and written to its place.
-ghost use Rattle.std.specs.Prelude.{◌≡◌, ℕ, ◌+◌, ◌*◌, ◌<◌, ◌≤◌, length, slice_index_or, is_ok, OnOk, OnErr, IsTrue, true, vec_capacity};
-ghost use Rattle.sector.specs.Bytes.{sectors_at, with_sectors};
+ghost use Rattle.std.specs.Prelude.{◌≡◌, ◌*◌, ◌<◌, length, slice_index_or, is_ok, OnOk, OnErr, IsTrue, true, vec_capacity};
+ghost use Rattle.sector.specs.Bytes.{sectors_at};
 ghost use Rattle.device.specs.declared.operation.Operation.TheVariants.{Reads, Writes};
 ghost use Rattle.device.specs.Layers.{is_loud};
-ghost use Rattle.model.specs.Places.{ChangesOnly};
 ghost use Rattle.pending.specs.Copies.{count_of};
 ghost use Rattle.pending.specs.declared.copies.ChunkCopy.{ChunkCopy};
 ghost use Rattle.pending.specs.declared.copies.Stage.TheVariants.{Read};
 ghost use Rattle.store.specs.Operations.{IsOneOperation};
-ghost use Rattle.store.specs.Shown.{StopsSame};
 ghost use Rattle.snapshot.specs.InStep.{IsInStep};
 ghost use Rattle.snapshot.specs.Calls.{GoesTo, ReadsAt, StaysAt, WritesAt};
+ghost use Rattle.stop_laws.specs.Firm.{AddsNow};
 
 use crate::Snapshot;
 use device::{Block, Io};
@@ -26,6 +25,7 @@ impl<B: Block> Snapshot<B> {
         ensures operation { (p : ChunkCopy) → p ≡ slice_index_or self.old.copies index p → IsOneOperation (Reads (self.old.state.chunk * p.pair.old) (count_of self.old.state.chunk self.old.state.origin p.pair.old)) (is_ok result) (B.layers origin.old) (B.layers origin.new) (B.fault_count origin.old) (B.fault_count origin.new) (B.done_count origin.old) (B.done_count origin.new) }
         ensures contents { B.contents origin.new ≡ B.contents origin.old }
         ensures durable { B.durable origin.new ≡ B.durable origin.old }
+        ensures adds { IsTrue (is_loud (B.layers origin.old)) → AddsNow (B.may_hold origin.old) (B.may_hold origin.new) (B.contents origin.new) }
         ensures size { B.size origin.new ≡ B.size origin.old }
         ensures loud { is_loud (B.layers origin.new) ≡ is_loud (B.layers origin.old) }
 
@@ -42,7 +42,7 @@ impl<B: Block> Snapshot<B> {
     }
 
     /// Writes a copy that was read, counted from 0, to its place. At `Io` nothing changed but the device's counts and
-    /// layers. Whatever a stop within it leaves is loaded again with the same pairs, and shows the same array.
+    /// layers.
     pub fn write_copy(&mut self, index: usize) -> Result<(), Io>
         requires live { self.old.live ≡ true }
         requires within { index < length self.old.copies }
@@ -52,11 +52,11 @@ impl<B: Block> Snapshot<B> {
         ensures loud { is_loud (B.layers self.new.device) ≡ is_loud (B.layers self.old.device) }
         ensures same { OnErr result (B.contents self.new.device ≡ B.contents self.old.device) }
         ensures durable { B.durable self.new.device ≡ B.durable self.old.device }
+        ensures adds { IsTrue (is_loud (B.layers self.old.device)) → AddsNow (B.may_hold self.old.device) (B.may_hold self.new.device) (B.contents self.new.device) }
         ensures size { B.size self.new.device ≡ B.size self.old.device }
 
         ensures wrote { OnOk result ((p : ChunkCopy) × (q : ChunkCopy) × WritesAt B.contents B.layers index p q self.old self.new) }
         ensures kept { OnErr result (self.new ≡ record self.old { device = self.new.device }) }
-        ensures stops { IsTrue (is_loud (B.layers self.old.device)) → StopsSame self.old.state.chunk self.old.state.origin self.old.state.size self.old.pairs (B.contents self.old.device) (B.contents self.new.device) }
         ensures in_step { IsInStep B.contents B.layers B.size self.new }
     {
         let copy = &self.copies[index];
@@ -86,6 +86,7 @@ fn fill<B: Block>(origin: &mut B, chunk: u32, copy: &mut ChunkCopy) -> Result<()
     ensures operation { IsOneOperation (Reads (chunk * copy.old.pair.old) (count_of chunk (B.size origin.old) copy.old.pair.old)) (is_ok result) (B.layers origin.old) (B.layers origin.new) (B.fault_count origin.old) (B.fault_count origin.new) (B.done_count origin.old) (B.done_count origin.new) }
     ensures contents { B.contents origin.new ≡ B.contents origin.old }
     ensures durable { B.durable origin.new ≡ B.durable origin.old }
+    ensures adds { IsTrue (is_loud (B.layers origin.old)) → AddsNow (B.may_hold origin.old) (B.may_hold origin.new) (B.contents origin.new) }
     ensures size { B.size origin.new ≡ B.size origin.old }
 
     ensures room { length copy.new.buffer.items ≡ length copy.old.buffer.items }

@@ -1,23 +1,23 @@
 // The store is flushed: what was written to it counts as written, and what was committed may be published; or the mark that
 // it is invalid was tried.
-ghost use Rattle.std.specs.Prelude.{◌≡◌, ℕ, map, not, vec_capacity, is_ok, OnOk, OnErr, IsTrue, true, false, if◌then◌else◌};
+ghost use Rattle.std.specs.Prelude.{◌≡◌, length, map, not, vec_capacity, is_ok, OnOk, OnErr, IsTrue, true, false, if◌then◌else◌};
 ghost use Rattle.device.specs.declared.operation.Operation.TheVariants.{Flushes};
 ghost use Rattle.device.specs.Layers.{fate, is_passed, is_loud};
 ghost use Rattle.pending.specs.Flushed.{flushed_copy, safe_mark};
 ghost use Rattle.store.specs.Operations.{IsOneOperation};
-ghost use Rattle.store.specs.Shown.{StopsSame};
 ghost use Rattle.volume_laws.specs.Steps.{FlushesStore, TriesMark};
 ghost use Rattle.snapshot.specs.InStep.{IsInStep};
 ghost use Rattle.snapshot.specs.Kept.{books_of};
+ghost use Rattle.stop_laws.specs.Firm.{AddsNow, IsFirm};
 
 use crate::Snapshot;
 use device::{Block, Io};
 use pending::{ChunkCopy, Mark, flush_copies, flush_marks};
 
 impl<B: Block> Snapshot<B> {
-    /// Flushes the store of a live snapshot: the copies that are written may be committed, those that are committed may be
-    /// published, and an area that is zeroed is firm. At `Io` nothing changed but the device's counts and layers. A stop
-    /// within it leaves the store's bytes as they are.
+    /// Flushes the store of a live snapshot, as an event or for a request: the copies that are written may be committed,
+    /// those that are committed may be published, an area that is zeroed is firm, and all pairs that are committed were
+    /// flushed. At `Io` nothing changed but the device's counts and layers.
     pub fn flush_store(&mut self) -> Result<(), Io>
         requires live { self.old.live ≡ true }
 
@@ -25,13 +25,14 @@ impl<B: Block> Snapshot<B> {
         ensures loud { is_loud (B.layers self.new.device) ≡ is_loud (B.layers self.old.device) }
         ensures contents { B.contents self.new.device ≡ B.contents self.old.device }
         ensures durable { B.durable self.new.device ≡ (if is_passed (fate (B.layers self.old.device) Flushes) then B.contents self.old.device else B.durable self.old.device) }
+        ensures adds { IsTrue (is_loud (B.layers self.old.device)) → AddsNow (B.may_hold self.old.device) (B.may_hold self.new.device) (B.contents self.new.device) }
+        ensures firm { OnOk result (IsTrue (is_loud (B.layers self.old.device)) → IsFirm (B.may_hold self.new.device) (B.contents self.new.device) (B.size self.new.device)) }
         ensures size { B.size self.new.device ≡ B.size self.old.device }
 
-        ensures fields { OnOk result (self.new ≡ record self.old { device = self.new.device; state = record self.old.state { firm = self.old.state.zeroed }; copies = map flushed_copy self.old.copies; marks = map safe_mark self.old.marks }) }
+        ensures fields { OnOk result (self.new ≡ record self.old { device = self.new.device; state = record self.old.state { firm = self.old.state.zeroed; sure = length self.old.pairs }; copies = map flushed_copy self.old.copies; marks = map safe_mark self.old.marks }) }
         ensures ahead { self.old.state.firm ≡ true → self.old.state.zeroed ≡ true }
         ensures flushes { OnOk result (FlushesStore (books_of B.contents B.layers self.old) (books_of B.contents B.layers self.new)) }
         ensures kept { OnErr result (self.new ≡ record self.old { device = self.new.device }) }
-        ensures stops { IsTrue (is_loud (B.layers self.old.device)) → StopsSame self.old.state.chunk self.old.state.origin self.old.state.size self.old.pairs (B.contents self.old.device) (B.contents self.new.device) }
         ensures in_step { IsInStep B.contents B.layers B.size self.new }
     {
         match self.store.flush() {
@@ -44,7 +45,7 @@ impl<B: Block> Snapshot<B> {
     }
 
     /// Flushes the store of a spoiled snapshot whose mark was written: whatever becomes of it, the mark was tried. At `Io`
-    /// the store is stale. A stop within it leaves the store's bytes as they are.
+    /// the store is stale.
     pub fn flush_mark(&mut self) -> Result<(), Io>
         requires untried { self.old.untried ≡ true }
         requires marked { self.old.marked ≡ true }
@@ -53,6 +54,8 @@ impl<B: Block> Snapshot<B> {
         ensures loud { is_loud (B.layers self.new.device) ≡ is_loud (B.layers self.old.device) }
         ensures contents { B.contents self.new.device ≡ B.contents self.old.device }
         ensures durable { B.durable self.new.device ≡ (if is_passed (fate (B.layers self.old.device) Flushes) then B.contents self.old.device else B.durable self.old.device) }
+        ensures adds { IsTrue (is_loud (B.layers self.old.device)) → AddsNow (B.may_hold self.old.device) (B.may_hold self.new.device) (B.contents self.new.device) }
+        ensures firm { OnOk result (IsTrue (is_loud (B.layers self.old.device)) → IsFirm (B.may_hold self.new.device) (B.contents self.new.device) (B.size self.new.device)) }
         ensures size { B.size self.new.device ≡ B.size self.old.device }
 
         ensures fields { self.new ≡ record self.old { device = self.new.device; untried = false; stale = not (is_ok result) } }

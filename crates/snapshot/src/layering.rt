@@ -5,6 +5,7 @@ ghost use Rattle.layers.specs.Messages.{told, Answered, Refused, NeedsRoom};
 ghost use Rattle.layers.specs.Ticks.{layers_ticked};
 ghost use Rattle.snapshot.specs.InStep.{IsInStep};
 ghost use Rattle.store.specs.Layering.{IsRelayered};
+ghost use Rattle.stop_laws.specs.Firm.{AddsNow};
 
 use crate::Snapshot;
 use layers::{Answer, Layered, Message};
@@ -15,6 +16,7 @@ impl<B: Layered> Snapshot<B> {
     pub fn tick(&mut self, seconds: u32)
         ensures layers { B.layers self.new.device ≡ layers_ticked seconds (B.layers self.old.device) }
         ensures rest { IsRelayered B.contents B.durable B.size B.fault_count B.done_count self.old.device self.new.device }
+        ensures adds { AddsNow (B.may_hold self.old.device) (B.may_hold self.new.device) (B.contents self.new.device) }
         ensures same { self.new ≡ record self.old { device = self.new.device } }
         ensures in_step { IsInStep B.contents B.layers B.size self.new }
     {
@@ -29,6 +31,7 @@ impl<B: Layered> Snapshot<B> {
         ensures err { IfErr result (λ r. (told (B.layers self.old.device) depth message.now ≡ Refused r) ⊎ ((r ≡ NoMemory) × NeedsRoom message.now (told (B.layers self.old.device) depth message.now))) }
         ensures unchanged { OnErr result (B.layers self.new.device ≡ B.layers self.old.device) }
         ensures rest { IsRelayered B.contents B.durable B.size B.fault_count B.done_count self.old.device self.new.device }
+        ensures adds { AddsNow (B.may_hold self.old.device) (B.may_hold self.new.device) (B.contents self.new.device) }
         ensures same { self.new ≡ record self.old { device = self.new.device } }
         ensures in_step { IsInStep B.contents B.layers B.size self.new }
     {

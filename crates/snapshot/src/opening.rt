@@ -1,27 +1,27 @@
 // A snapshot is opened over a store: the store's load, then a flush of the origin's device and of the store, and the load's
 // writes, with a flush of the store after each.
-ghost use Rattle.std.specs.Prelude.{◌≡◌, ◌≢◌, ◌⊎◌, ℕ, ◌+◌, ◌*◌, ◌<◌, ◌≤◌, List, [], length, Option, is_ok, OnOk, OnErr, IfOk, IfErr, IfSome, MatchResult, MatchBool, IsTrue, Ok, Err, true, false};
+ghost use Rattle.std.specs.Prelude.{◌≡◌, ◌≢◌, ◌⊎◌, ℕ, ◌+◌, ◌*◌, ◌<◌, ◌≤◌, List, [], length, is_ok, OnOk, OnErr, IfOk, IfErr, MatchResult, IsTrue, Ok, Err, true, false};
 ghost use Rattle.sector.specs.Bytes.{next_count, sector_at};
 ghost use Rattle.cow_header.specs.HeaderText.{found_in};
 ghost use Rattle.sector.specs.declared.refusal.Refusal.TheVariants.{NoMemory, Io as IoRefusal};
 ghost use Rattle.chunk.specs.Sizes.{is_chunk};
 ghost use Rattle.device.specs.declared.operation.Operation.TheVariants.{Flushes};
 ghost use Rattle.device.specs.Layers.{is_loud};
-ghost use Rattle.model.specs.Places.{area_place, ChangesOnly};
-ghost use Rattle.store.specs.declared.state.Left.TheVariants.{FirstArea, Nothing};
+ghost use Rattle.model.specs.Places.{slot, ChangesOnly};
+ghost use Rattle.store.specs.declared.state.Left.TheVariants.{Nothing};
 ghost use Rattle.store.specs.Held.{committed, pending, reserved};
 ghost use Rattle.store.specs.Loading.{after_write, chunk_left, is_left, with_left};
 ghost use Rattle.store.specs.Opening.{IsRefused, faults_after};
-ghost use Rattle.store.specs.Operations.{IsOneOperation};
-ghost use Rattle.store.specs.Stopping.{StopsPreparing};
+ghost use Rattle.store.specs.Stopping.{MayPrepare};
 ghost use Rattle.model.specs.Picture.{picture};
 ghost use Rattle.volume_laws.specs.Steps.{IsNewSnap};
 ghost use Rattle.snapshot.specs.InStep.{IsInStep};
 ghost use Rattle.snapshot.specs.Kept.{books_of};
 ghost use Rattle.snapshot.specs.Opening.{IsOpenedAs, prepared, shown_array, ChangesFront};
 ghost use Rattle.snapshot.specs.Opened.{IsOpened, IsBack, IsFlushedAs, IsOriginBack};
-ghost use Rattle.snapshot.specs.StopsOpening.{IsStopped, StopsOpening, StopsPrepared, StopsRefused};
+ghost use Rattle.snapshot.specs.StopsOpening.{Leaves, MayOpen, MayPrepareAll};
 ghost use Rattle.store.specs.Reading.{AreRead};
+ghost use Rattle.stop_laws.specs.Firm.{AddsNow, IsFirm};
 ghost use Rattle.settled.specs.Attaching.{Tried, open_store, refuse, done};
 ghost use Rattle.settled.specs.Devices.{Device};
 ghost use Rattle.snapshot.specs.Attaching.{both_by, device_of, next_by, prepared_by};
@@ -57,6 +57,7 @@ fn open_unwritten<B: Block>(
     ensures exact { IfOk result (λ store. open_store chunk (device_of B.contents B.layers origin.now) (device_of B.contents B.layers device) ≡ both_by store.state.left store.state (device_of B.contents B.layers origin.now) (device_of B.contents B.layers store.device)) }
     ensures back { IfErr result (λ e. e.0 ≢ NoMemory → open_store chunk (device_of B.contents B.layers origin.now) (device_of B.contents B.layers device) ≡ refuse e.0 (device_of B.contents B.layers origin.now) (device_of B.contents B.layers e.1)) }
     ensures starved { IfErr result (λ e. e.0 ≡ NoMemory → AreRead (B.layers device) (B.layers e.1)) }
+    ensures adds { MatchResult result (λ store. AddsNow (B.may_hold device) (B.may_hold store.device) (B.contents store.device)) (λ refused. AddsNow (B.may_hold device) (B.may_hold refused.1) (B.contents refused.1)) }
     ensures loud { MatchResult result (λ store. is_loud (B.layers store.device) ≡ is_loud (B.layers device)) (λ refused. is_loud (B.layers refused.1) ≡ is_loud (B.layers device)) }
     ensures faults { MatchResult result (λ store. B.fault_count store.device ≡ B.fault_count device) (λ refused. B.fault_count refused.1 ≡ faults_after refused.0 (B.fault_count device)) }
 {
@@ -68,7 +69,9 @@ fn open_unwritten<B: Block>(
 
 /// Flushes the device of an origin.
 fn flush_origin<B: Block>(origin: &mut B) -> Result<(), Io>
-    ensures { IsFlushedAs B.contents B.layers B.size B.fault_count B.done_count (is_ok result) origin.old origin.new }
+    ensures flushed { IsFlushedAs B.contents B.layers B.size B.fault_count B.done_count (is_ok result) origin.old origin.new }
+    ensures kept { (s : ℕ) (v : List ℕ) → B.may_hold origin.new s v → B.may_hold origin.old s v }
+    ensures firm { OnOk result (IsTrue (is_loud (B.layers origin.old)) → IsFirm (B.may_hold origin.new) (B.contents origin.new) (B.size origin.new)) }
 {
     match origin.flush() {
         Ok(()) => Ok(()),
@@ -81,18 +84,19 @@ fn flush_origin<B: Block>(origin: &mut B) -> Result<(), Io>
 fn prepare_next<B: Block>(store: &mut Store<B>) -> Result<bool, Io>
     requires { store.old.state.awaits ≡ true }
     ensures more { IfOk result (λ more. more ≡ is_left store.old.state.left) }
-    ensures state { OnOk result (store.new.state ≡ record store.old.state { left = after_write store.old.state.left; awaits = is_left store.old.state.left }) }
+    ensures state { OnOk result (store.new.state ≡ record store.old.state { left = after_write store.old.state.left; sure = length (committed store.old.exceptions); awaits = is_left store.old.state.left }) }
     ensures kept { OnErr result (store.new.state.left ≡ store.old.state.left) }
     ensures exceptions { store.new.exceptions ≡ store.old.exceptions }
     ensures places { store.new.places ≡ store.old.places }
     ensures written { OnOk result (IsTrue (is_loud (B.layers store.old.device)) → B.contents store.new.device ≡ with_left store.old.state.left store.old.state (B.contents store.old.device)) }
     ensures same { OnErr result (IsTrue (is_loud (B.layers store.old.device)) → B.contents store.new.device ≡ B.contents store.old.device) }
-    ensures stops { OnOk result (store.old.state.valid ≡ true → IsTrue (is_loud (B.layers store.old.device)) → StopsPreparing store.old.state.left store.old.state.chunk store.old.state.origin store.old.state.size (committed store.old.exceptions) (B.contents store.old.device) (B.contents store.new.device)) }
+    ensures leaves { store.old.state.valid ≡ true → IsTrue (is_loud (B.layers store.old.device)) → Leaves (B.may_hold store.old.device) (B.may_hold store.new.device) store.old.state.size (MayPrepare store.old.state.left store.old.state.chunk store.old.state.origin store.old.state.size (committed store.old.exceptions)) }
     ensures operations { is_loud (B.layers store.old.device) ≡ true → (origin : Device) (next : Device → Tried) → MatchResult result (λ _. next_by store.old.state.left store.old.state origin next (device_of B.contents B.layers store.old.device) ≡ next (device_of B.contents B.layers store.new.device)) (λ _. next_by store.old.state.left store.old.state origin next (device_of B.contents B.layers store.old.device) ≡ refuse IoRefusal origin (device_of B.contents B.layers store.new.device)) }
     ensures only { ChangesOnly store.old.state.chunk (chunk_left store.old.state.left store.old.state) (B.contents store.old.device) (B.contents store.new.device) }
     ensures size { B.size store.new.device ≡ B.size store.old.device }
     ensures loud { is_loud (B.layers store.new.device) ≡ is_loud (B.layers store.old.device) }
     ensures faults { MatchResult result (λ _. B.fault_count store.new.device ≡ B.fault_count store.old.device) (λ _. B.fault_count store.new.device ≡ next_count (B.fault_count store.old.device)) }
+    ensures firm { IfOk result (λ more. more ≡ false → IsTrue (is_loud (B.layers store.old.device)) → IsFirm (B.may_hold store.new.device) (B.contents store.new.device) (B.size store.new.device)) }
 {
     let more = match store.prepare() {
         Ok(more) => more,
@@ -111,17 +115,17 @@ fn prepare_next<B: Block>(store: &mut Store<B>) -> Result<bool, Io>
 /// At `Io` the store's bytes are as they were, or area 0 of a fresh store is zeroed, or all writes are done.
 fn prepare_all<B: Block>(store: &mut Store<B>) -> Result<(), Io>
     requires { store.old.state.awaits ≡ true }
-    ensures state { OnOk result (store.new.state ≡ record store.old.state { left = Nothing; awaits = false }) }
+    ensures state { OnOk result (store.new.state ≡ record store.old.state { left = Nothing; sure = length (committed store.old.exceptions); awaits = false }) }
     ensures exceptions { store.new.exceptions ≡ store.old.exceptions }
     ensures places { store.new.places ≡ store.old.places }
     ensures written { OnOk result (IsTrue (is_loud (B.layers store.old.device)) → B.contents store.new.device ≡ prepared store.old.state.left store.old.state (B.contents store.old.device)) }
-    ensures stops { OnOk result (store.old.state.valid ≡ true → IsTrue (is_loud (B.layers store.old.device)) → StopsPrepared store.old.state.left store.old.state (committed store.old.exceptions) (B.contents store.old.device) (B.contents store.new.device)) }
-    ensures stopped { OnErr result (store.old.state.valid ≡ true → IsTrue (is_loud (B.layers store.old.device)) → IsStopped (StopsPrepared store.old.state.left store.old.state (committed store.old.exceptions) (B.contents store.old.device) (B.contents store.new.device)) store.old.state (B.contents store.old.device) (B.contents store.new.device)) }
+    ensures leaves { store.old.state.valid ≡ true → IsTrue (is_loud (B.layers store.old.device)) → Leaves (B.may_hold store.old.device) (B.may_hold store.new.device) store.old.state.size (MayPrepareAll store.old.state.left store.old.state.chunk store.old.state.origin store.old.state.size (committed store.old.exceptions)) }
     ensures operations { is_loud (B.layers store.old.device) ≡ true → (origin : Device) → MatchResult result (λ _. prepared_by store.old.state.left store.old.state origin (device_of B.contents B.layers store.old.device) ≡ done store.old.state.chunk origin (device_of B.contents B.layers store.new.device)) (λ _. prepared_by store.old.state.left store.old.state origin (device_of B.contents B.layers store.old.device) ≡ refuse IoRefusal origin (device_of B.contents B.layers store.new.device)) }
     ensures only { ChangesFront store.old.state.chunk store.old.state.current (B.contents store.old.device) (B.contents store.new.device) }
     ensures size { B.size store.new.device ≡ B.size store.old.device }
     ensures loud { is_loud (B.layers store.new.device) ≡ is_loud (B.layers store.old.device) }
     ensures faults { MatchResult result (λ _. B.fault_count store.new.device ≡ B.fault_count store.old.device) (λ _. B.fault_count store.new.device ≡ next_count (B.fault_count store.old.device)) }
+    ensures firm { OnOk result (IsTrue (is_loud (B.layers store.old.device)) → IsFirm (B.may_hold store.new.device) (B.contents store.new.device) (B.size store.new.device)) }
 {
     let more = match prepare_next(store) {
         Ok(more) => more,
@@ -143,13 +147,14 @@ fn prepare_all<B: Block>(store: &mut Store<B>) -> Result<(), Io>
     }
 }
 
-/// Opens a snapshot over a store, for an origin over a device. A fresh store gets chunks of so many sectors, a written
-/// one has its own. Whether it may overflow is asked for, and no write of it found its store full yet. The refusals of the
+/// Opens a snapshot over a store, for an origin over a device. A fresh store gets chunks of so many sectors, a written one
+/// has its own. Whether it may overflow is asked for, and no write of it found its store full yet. The refusals of the
 /// store's load come first; then the origin's device is flushed, and the store, before the first write of its load, and the
 /// store again after each write; a flush or a write that fails refuses it with `Io`. Other snapshots of the origin may have
-/// chunks of another size. The store is given back with a refusal; after `Io` the writes of its load may be done, all or
-/// but for the header of a fresh one. Whatever a stop before, within or after it leaves of the store is as it was, fresh as it
-/// was, or loaded again with the pairs that it had. The origin's bytes stay as they are.
+/// chunks of another size. The store is given back with a refusal; after `Io` the writes of its load may be done, all or but
+/// for the header of a fresh one. Once it is opened neither device may be left with anything but what is there. Whatever a
+/// stop may leave of the store then, or after a refusal, might be left before, is fresh as it was, or is loaded again with
+/// the pairs that it had. The origin's bytes stay as they are.
 pub fn open_snapshot<B: Block>(
     alloc: Global,
     number: SnapId,
@@ -163,6 +168,7 @@ pub fn open_snapshot<B: Block>(
     ensures counted { IfOk result (λ s. length s.pairs ≡ s.state.current * (32 * s.state.chunk) + s.state.filled) }
     ensures unfilled { IfOk result (λ s. s.state.filled < 32 * s.state.chunk) }
     ensures in_step { IfOk result (λ s. IsInStep B.contents B.layers B.size s) }
+    ensures rest { IfOk result (λ s. is_loud (B.layers store.device) ≡ true → (k : ℕ) → length s.pairs ≤ k → k < (s.state.current + 1) * (32 * s.state.chunk) → (slot s.state.chunk (B.contents s.device) k).new ≡ 0) }
     ensures new { IfOk result (λ s. (disk : List ℕ) → length disk ≡ 512 * B.size origin.old → IsNewSnap disk (books_of B.contents B.layers s)) }
     ensures shown { IfOk result (λ s. is_loud (B.layers store.device) ≡ true → (disk : List ℕ) → picture s.state.chunk disk (B.contents s.device) ≡ shown_array disk (B.contents store.device)) }
     ensures exact { IfOk result (λ s. is_loud (B.layers store.device) ≡ true → open_store chunk (device_of B.contents B.layers origin.old) (device_of B.contents B.layers store.device) ≡ done s.state.chunk (device_of B.contents B.layers origin.new) (device_of B.contents B.layers s.device)) }
@@ -171,8 +177,10 @@ pub fn open_snapshot<B: Block>(
     ensures refused { IfErr result (λ e. IsRefused chunk (B.size origin.old) (B.size store.device) (B.contents store.device) e.0) }
     ensures back { IfErr result (λ e. IsBack chunk e.0 (B.contents store.device) (B.contents e.1.device)) }
     ensures origin { MatchResult result (λ _. IsFlushedAs B.contents B.layers B.size B.fault_count B.done_count true origin.old origin.new) (λ e. IsOriginBack B.contents B.layers B.size B.fault_count B.done_count e.0 origin.old origin.new) }
-    ensures stops { IfOk result (λ s. is_loud (B.layers store.device) ≡ true → StopsOpening chunk (B.size origin.old) (B.size store.device) (found_in (sector_at (B.contents store.device) 0)) (B.contents store.device) (B.contents s.device)) }
-    ensures stops_back { IfErr result (λ e. is_loud (B.layers store.device) ≡ true → StopsRefused chunk (B.size origin.old) (B.size store.device) (B.contents store.device) (B.contents e.1.device)) }
+    ensures origin_kept { (s : ℕ) (v : List ℕ) → B.may_hold origin.new s v → B.may_hold origin.old s v }
+    ensures origin_firm { OnOk result (IsTrue (is_loud (B.layers origin.old)) → IsFirm (B.may_hold origin.new) (B.contents origin.new) (B.size origin.new)) }
+    ensures firm { IfOk result (λ s. IsTrue (is_loud (B.layers store.device)) → IsFirm (B.may_hold s.device) (B.contents s.device) (B.size s.device)) }
+    ensures leaves { MatchResult result (λ s. is_loud (B.layers store.device) ≡ true → Leaves (B.may_hold store.device) (B.may_hold s.device) (B.size store.device) (MayOpen chunk (B.size origin.old) (B.size store.device) (B.contents store.device) (found_in (sector_at (B.contents store.device) 0)))) (λ e. is_loud (B.layers store.device) ≡ true → Leaves (B.may_hold store.device) (B.may_hold e.1.device) (B.size store.device) (MayOpen chunk (B.size origin.old) (B.size store.device) (B.contents store.device) (found_in (sector_at (B.contents store.device) 0)))) }
     ensures stale { IfErr result (λ e. e.1.stale ≡ store.stale) }
     ensures size { MatchResult result (λ s. B.size s.device ≡ B.size store.device) (λ e. B.size e.1.device ≡ B.size store.device) }
     ensures loud { MatchResult result (λ s. is_loud (B.layers s.device) ≡ is_loud (B.layers store.device)) (λ e. is_loud (B.layers e.1.device) ≡ is_loud (B.layers store.device)) }

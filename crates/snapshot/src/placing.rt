@@ -1,23 +1,22 @@
 // Requests at the place of a copy that is committed.
-ghost use Rattle.std.specs.Prelude.{◌≡◌, ℕ, ◌+◌, ◌*◌, ◌<◌, ◌≤◌, length, is_ok, OnOk, OnErr, IsTrue, Some, true};
+ghost use Rattle.std.specs.Prelude.{◌≡◌, ℕ, ◌+◌, ◌*◌, ◌<◌, ◌≤◌, length, is_ok, OnOk, OnErr, IsTrue, Some};
 ghost use Rattle.sector.specs.Bytes.{sectors_at};
 ghost use Rattle.device.specs.declared.operation.Operation.TheVariants.{Reads, Writes};
 ghost use Rattle.device.specs.Layers.{is_loud};
 ghost use Rattle.model.specs.Picture.{place_of as place_in};
 ghost use Rattle.store.specs.Operations.{IsOneOperation};
-ghost use Rattle.store.specs.Shown.{StopsSame, StopsGiving};
 ghost use Rattle.volume_laws.specs.Steps.{WritesPlace};
 ghost use Rattle.snapshot.specs.InStep.{IsInStep};
 ghost use Rattle.snapshot.specs.Kept.{books_of};
+ghost use Rattle.stop_laws.specs.Firm.{AddsNow};
 
 use crate::Snapshot;
 use device::{Block, Io};
 use sector::Chunk;
 
 impl<B: Block> Snapshot<B> {
-    /// Writes so many sectors at the place of a committed copy, from one of its sectors on. At `Io` nothing changed but
-    /// the device's counts and layers. Whatever a stop within it leaves of a live snapshot's store is loaded again with the
-    /// same pairs, and each sector of its array is as it was or as it is written.
+    /// Writes so many sectors at the place of a committed copy, from one of its sectors on. At `Io` nothing changed but the
+    /// device's counts and layers.
     pub fn write_at(&mut self, place: Chunk, first: u32, count: u32, bytes: &[u8]) -> Result<(), Io>
         requires placed { (c : ℕ) × (place_in self.old.pairs c ≡ Some place) }
         requires some { 0 < count }
@@ -29,8 +28,8 @@ impl<B: Block> Snapshot<B> {
         ensures writes { OnOk result ((c : ℕ) → WritesPlace c place first bytes.now (books_of B.contents B.layers self.old) (books_of B.contents B.layers self.new)) }
         ensures same { OnErr result (B.contents self.new.device ≡ B.contents self.old.device) }
         ensures durable { B.durable self.new.device ≡ B.durable self.old.device }
+        ensures adds { IsTrue (is_loud (B.layers self.old.device)) → AddsNow (B.may_hold self.old.device) (B.may_hold self.new.device) (B.contents self.new.device) }
         ensures size { B.size self.new.device ≡ B.size self.old.device }
-        ensures stops { self.old.live ≡ true → IsTrue (is_loud (B.layers self.old.device)) → (c : ℕ) → place_in self.old.pairs c ≡ Some place → StopsGiving self.old.state.chunk self.old.state.origin self.old.state.size self.old.pairs (record { array = Some self.old.number; first = self.old.state.chunk * c + first; count = count; bytes = bytes.now }) (B.contents self.old.device) (B.contents self.new.device) }
         ensures fields { self.new ≡ record self.old { device = self.new.device } }
         ensures in_step { IsInStep B.contents B.layers B.size self.new }
     {
@@ -40,8 +39,7 @@ impl<B: Block> Snapshot<B> {
         }
     }
 
-    /// Reads so many sectors at the place of a committed copy, from one of its sectors on. At `Io` the buffer is as it
-    /// was. A stop within it leaves a live snapshot's store as it is, which is loaded again with the same pairs.
+    /// Reads so many sectors at the place of a committed copy, from one of its sectors on. At `Io` the buffer is as it was.
     pub fn read_at(
         &mut self,
         place: Chunk,
@@ -60,8 +58,8 @@ impl<B: Block> Snapshot<B> {
         ensures err { OnErr result (out.new ≡ out.old) }
         ensures same { B.contents self.new.device ≡ B.contents self.old.device }
         ensures durable { B.durable self.new.device ≡ B.durable self.old.device }
+        ensures adds { IsTrue (is_loud (B.layers self.old.device)) → AddsNow (B.may_hold self.old.device) (B.may_hold self.new.device) (B.contents self.new.device) }
         ensures size { B.size self.new.device ≡ B.size self.old.device }
-        ensures stops { self.old.live ≡ true → IsTrue (is_loud (B.layers self.old.device)) → StopsSame self.old.state.chunk self.old.state.origin self.old.state.size self.old.pairs (B.contents self.old.device) (B.contents self.new.device) }
         ensures fields { self.new ≡ record self.old { device = self.new.device } }
         ensures in_step { IsInStep B.contents B.layers B.size self.new }
     {

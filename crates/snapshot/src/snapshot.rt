@@ -190,8 +190,7 @@ impl<B: Block> Snapshot<B> {
     pub fn waits_for_next_area(&self) -> bool
         ensures { result ≡ waits_area self.now.state self.now.copies }
     {
-        self.batch() == 32 * self.store.state.chunk - self.store.state.filled
-            && !self.store.state.firm
+        self.store.waits_for_next_area(self.batch())
     }
 
     /// Whether the area after the current one is zeroed.

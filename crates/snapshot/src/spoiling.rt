@@ -1,15 +1,15 @@
 // A snapshot is spoiled, and its store's header is marked invalid.
-ghost use Rattle.std.specs.Prelude.{◌≡◌, ℕ, ◌*◌, [], not, is_ok, OnOk, OnErr, IsTrue, None, true, false};
+ghost use Rattle.std.specs.Prelude.{◌≡◌, ◌*◌, [], is_ok, OnOk, OnErr, IsTrue, None, true, false};
 ghost use Rattle.sector.specs.Bytes.{with_sectors};
 ghost use Rattle.device.specs.declared.operation.Operation.TheVariants.{Writes};
 ghost use Rattle.device.specs.Layers.{is_loud};
 ghost use Rattle.model.specs.Places.{ChangesOnly};
 ghost use Rattle.cow_header.specs.HeaderText.{header_bytes};
 ghost use Rattle.store.specs.Operations.{IsOneOperation};
-ghost use Rattle.store.specs.Shown.{StopsInvalid};
 ghost use Rattle.volume_laws.specs.Steps.{SpoilsSnap, TriesMark, WritesMark};
 ghost use Rattle.snapshot.specs.InStep.{IsInStep};
 ghost use Rattle.snapshot.specs.Kept.{books_of};
+ghost use Rattle.stop_laws.specs.Firm.{AddsNow};
 
 use crate::Snapshot;
 use device::{Block, Io};
@@ -34,9 +34,8 @@ impl<B: Block> Snapshot<B> {
         self.merging = None;
     }
 
-    /// Marks the header of a spoiled snapshot's store invalid. It is tried once: at `Io` the store is stale, and nothing
-    /// of it changed but the device's counts and layers; else it counts as tried once the store is flushed. Whatever a stop within it leaves is refused as invalid, or loaded
-    /// again with the same pairs, and shows the same array.
+    /// Marks the header of a spoiled snapshot's store invalid. It is tried once: at `Io` the store is stale, and nothing of
+    /// it changed but the device's counts and layers; else it counts as tried once the store is flushed.
     pub fn write_invalid(&mut self) -> Result<(), Io>
         requires untried { self.old.untried ≡ true }
         requires unmarked { self.old.marked ≡ false }
@@ -47,13 +46,13 @@ impl<B: Block> Snapshot<B> {
         ensures same { OnErr result (B.contents self.new.device ≡ B.contents self.old.device) }
         ensures only { ChangesOnly self.old.state.chunk 0 (B.contents self.old.device) (B.contents self.new.device) }
         ensures durable { B.durable self.new.device ≡ B.durable self.old.device }
+        ensures adds { IsTrue (is_loud (B.layers self.old.device)) → AddsNow (B.may_hold self.old.device) (B.may_hold self.new.device) (B.contents self.new.device) }
         ensures size { B.size self.new.device ≡ B.size self.old.device }
 
         ensures fields { OnOk result (self.new ≡ record self.old { device = self.new.device; marked = true; state = record self.old.state { valid = false } }) }
         ensures writes { OnOk result (WritesMark (books_of B.contents B.layers self.old) (books_of B.contents B.layers self.new)) }
         ensures fails { OnErr result (self.new ≡ record self.old { device = self.new.device; untried = false; stale = true }) }
         ensures tries { OnErr result (TriesMark (books_of B.contents B.layers self.old) (books_of B.contents B.layers self.new)) }
-        ensures stops { IsTrue (is_loud (B.layers self.old.device)) → StopsInvalid self.old.state.chunk self.old.state.origin self.old.state.size self.old.pairs (B.contents self.old.device) (B.contents self.new.device) }
         ensures in_step { IsInStep B.contents B.layers B.size self.new }
     {
         match self.store.write_invalid() {

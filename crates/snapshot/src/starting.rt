@@ -32,6 +32,7 @@ impl<B: Block> Snapshot<B> {
         requires copying { store.state.copying ≡ true }
         requires unzeroed { store.state.zeroed ≡ false }
         requires unfirm { store.state.firm ≡ false }
+        requires sure { store.state.sure ≡ length (committed store.exceptions) }
         requires idle { length (pending_of store.exceptions) ≡ 0 }
         requires valid { store.state.valid ≡ true }
         requires unreserved { reserved store.exceptions ≡ 0 }

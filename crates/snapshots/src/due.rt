@@ -120,8 +120,8 @@ fn least_mark<B: Block>(snaps: &[Snapshot<B>], flights: &[Flight]) -> Option<Cop
     found
 }
 
-/// The event that is due first: a mark of a spoiled snapshot, a flush of a store, a publication, a commit, a zeroed area, a copy's write, a
-/// copy's read, or the first request that goes somewhere; in each kind the one with the least number.
+/// The event that is due first: a mark of a spoiled snapshot, a flush of a store, a publication, a commit, a zeroed area, a
+/// copy's write, a copy's read, or the first request that goes somewhere; in each kind the one with the least number.
 pub fn first_due<B: Block>(snaps: &[Snapshot<B>], flights: &[Flight]) -> Option<Event>
     requires { All (λ s. 0 < s.state.chunk) snaps.now }
     ensures { result ≡ due_of (map (due_of_kept B.contents B.layers) snaps.now) flights.now }

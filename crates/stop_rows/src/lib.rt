@@ -3,7 +3,8 @@
 //! It stands on `volume` and `fuse` and has tests only. What is done is a list of steps; a machine does them and keeps the
 //! plain arrays, which each answer is compared with. A fuse is blown at each write of each device in turn: what a stop there
 //! leaves is loaded again and shows the plain arrays. And each device fails at each of its operations in turn: each failure
-//! is told, and nothing else is, and a merge that stopped at it goes on to its end.
+//! is told, and nothing else is, and a merge that stopped at it goes on to its end. Flushes by requests are issued beside a merge's
+//! events.
 #![tactic(auto)]
 
 #[cfg(test)]
@@ -26,3 +27,5 @@ mod stops;
 mod told;
 #[cfg(test)]
 mod torn_area;
+#[cfg(test)]
+mod two_issues;

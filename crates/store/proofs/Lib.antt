@@ -7,13 +7,12 @@ pub mod Groups
 pub mod Heads
 pub mod Judged
 pub mod Loads
+pub mod Lost
 pub mod Marks
 pub mod Merges
 pub mod Messages
 pub mod Opened
 pub mod Parts
 pub mod Pending
-pub mod Shown
-pub mod StopClauses
 pub mod Stops
 pub mod Writes

@@ -28,8 +28,8 @@ pub record IsCut (area : List ℕ) (slot count : ℕ) (x : List ℕ) : Type 0 wh
   pub cleared : (k : ℕ) → slot ≤ k → k < slot + count → pair_in x k ≡ no_pair
 
 -- the memory with fewer pairs
-pub front_less : (count : ℕ) (ps : List Pair) (s : State) (area x : List ℕ) → IsFront ps s area → IsCut area (s.filled - count) count x → 0 < count → count ≤ s.filled → s.left ≡ Nothing → IsFront (take (length ps - count) ps) (record s { filled = s.filled - count; copying = false }) x
-front_less count ps s area x is cut some le ready = let c = is.count in let fits = is.fits in record {
+pub front_less : (count n : ℕ) (ps : List Pair) (s : State) (area x : List ℕ) → IsFront ps s area → IsCut area (s.filled - count) count x → 0 < count → count ≤ s.filled → s.left ≡ Nothing → IsFront (take (length ps - count) ps) (record s { filled = s.filled - count; sure = n; copying = false }) x
+front_less count n ps s area x is cut some le ready = let c = is.count in let fits = is.fits in record {
   some = is.some;
   allowed = is.allowed;
   size = is.size;
@@ -51,8 +51,8 @@ front_less count ps s area x is cut some le ready = let c = is.count in let fits
 }
 
 -- the bytes with fewer pairs
-pub stored_less : (count : ℕ) (ps : List Pair) (s : State) (area x old new : List ℕ) → IsFront ps s area → IsStored old ps s area → IsCut area (s.filled - count) count x → 0 < count → count ≤ s.filled → s.left ≡ Nothing → length old ≡ 512 * s.size → new ≡ with_sectors old (s.chunk * area_place s.chunk s.current) x → IsStored new (take (length ps - count) ps) (record s { filled = s.filled - count; copying = false }) x
-stored_less count ps s area x old new is stored cut some le ready whole written =
+pub stored_less : (count n : ℕ) (ps : List Pair) (s : State) (area x old new : List ℕ) → IsFront ps s area → IsStored old ps s area → IsCut area (s.filled - count) count x → 0 < count → count ≤ s.filled → s.left ≡ Nothing → length old ≡ 512 * s.size → new ≡ with_sectors old (s.chunk * area_place s.chunk s.current) x → IsStored new (take (length ps - count) ps) (record s { filled = s.filled - count; sure = n; copying = false }) x
+stored_less count n ps s area x old new is stored cut some le ready whole written =
     let c = is.count in let fits = is.fits in
     let long : length x ≡ 512 * s.chunk = cut.len ∙ is.whole in
     let only = chunk_only s.size s.chunk (area_place s.chunk s.current) old new x whole long is.place written in

@@ -62,18 +62,18 @@ header_free chunk =
     ne_eqb _ _ (omega arith)
 
 -- the store is flushed: a zeroed next area is firm
-pub front_flushed : (ps : List Pair) (s : State) (area : List ℕ) → IsFront ps s area → IsFront ps (record s { firm = s.zeroed }) area
-front_flushed ps s area is = record { some = is.some; allowed = is.allowed; size = is.size; whole = is.whole; place = is.place; count = is.count; fits = is.fits; empty = is.empty; part = is.part; next = is.next; none = is.none; blank = is.blank; room = is.room; firm = λ z. z; early = is.early }
+pub front_flushed : (ps : List Pair) (s : State) (area : List ℕ) (n : ℕ) → IsFront ps s area → IsFront ps (record s { firm = s.zeroed; sure = n }) area
+front_flushed ps s area n is = record { some = is.some; allowed = is.allowed; size = is.size; whole = is.whole; place = is.place; count = is.count; fits = is.fits; empty = is.empty; part = is.part; next = is.next; none = is.none; blank = is.blank; room = is.room; firm = λ z. z; early = is.early }
 
-pub stored_flushed : (ps : List Pair) (s : State) (area bytes : List ℕ) → IsStored bytes ps s area → IsStored bytes ps (record s { firm = s.zeroed }) area
-stored_flushed ps s area bytes stored = record { head = stored.head; listed = stored.listed; holds = stored.holds; here = stored.here; tail = stored.tail; next = stored.next }
+pub stored_flushed : (ps : List Pair) (s : State) (area bytes : List ℕ) (n : ℕ) → IsStored bytes ps s area → IsStored bytes ps (record s { firm = s.zeroed; sure = n }) area
+stored_flushed ps s area bytes n stored = record { head = stored.head; listed = stored.listed; holds = stored.holds; here = stored.here; tail = stored.tail; next = stored.next }
 
 -- the load's flush is done
-pub front_awaited : (ps : List Pair) (s : State) (area : List ℕ) → IsFront ps s area → IsFront ps (record s { awaits = false }) area
-front_awaited ps s area is = record { some = is.some; allowed = is.allowed; size = is.size; whole = is.whole; place = is.place; count = is.count; fits = is.fits; empty = is.empty; part = is.part; next = is.next; none = is.none; blank = is.blank; room = is.room; firm = is.firm; early = is.early }
+pub front_awaited : (ps : List Pair) (s : State) (area : List ℕ) (n : ℕ) → IsFront ps s area → IsFront ps (record s { awaits = false; sure = n }) area
+front_awaited ps s area n is = record { some = is.some; allowed = is.allowed; size = is.size; whole = is.whole; place = is.place; count = is.count; fits = is.fits; empty = is.empty; part = is.part; next = is.next; none = is.none; blank = is.blank; room = is.room; firm = is.firm; early = is.early }
 
-pub stored_awaited : (ps : List Pair) (s : State) (area bytes : List ℕ) → IsStored bytes ps s area → IsStored bytes ps (record s { awaits = false }) area
-stored_awaited ps s area bytes stored = record { head = stored.head; listed = stored.listed; holds = stored.holds; here = stored.here; tail = stored.tail; next = stored.next }
+pub stored_awaited : (ps : List Pair) (s : State) (area bytes : List ℕ) (n : ℕ) → IsStored bytes ps s area → IsStored bytes ps (record s { awaits = false; sure = n }) area
+stored_awaited ps s area bytes n stored = record { head = stored.head; listed = stored.listed; holds = stored.holds; here = stored.here; tail = stored.tail; next = stored.next }
 
 -- only what is left of the load's writes changes
 pub front_after : (ps : List Pair) (s : State) (area : List ℕ) (left : Left) → IsFront ps s area → is_begun left ≡ true → is_settled left ≡ true → (s.valid ≡ false → left ≡ Nothing) → IsFront ps (record s { left = left; awaits = true }) area

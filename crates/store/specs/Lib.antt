@@ -7,7 +7,6 @@ pub mod Opened
 pub mod Opening
 pub mod Operations
 pub mod Reading
-pub mod Shown
 pub mod Slots
 pub mod Starved
 pub mod Stopping

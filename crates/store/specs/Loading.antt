@@ -53,9 +53,9 @@ with_left HeaderChunk s bytes = with_sectors bytes 0 (header_bytes (512 * s.chun
 with_left Tail s bytes = with_part bytes (slot_start s.chunk s.current (s.filled + 1)) (replicate (512 * s.chunk - 16 * (s.filled + 1)) 0)
 with_left Nothing s bytes = bytes
 
--- a store after the load's next operation: the flush that it awaits, or else the write that is left
-abbrev pub after_prepare : State → State
-after_prepare s = if s.awaits then record s { awaits = false } else record s { left = after_write s.left; awaits = is_left s.left }
+-- a store with so many pairs after the load's next operation: the flush that it awaits, or else the write that is left
+abbrev pub after_prepare : State → ℕ → State
+after_prepare s count = if s.awaits then record s { awaits = false; sure = count } else record s { left = after_write s.left; awaits = is_left s.left }
 
 -- and its bytes
 abbrev pub with_prepared : State → List ℕ → List ℕ

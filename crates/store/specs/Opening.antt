@@ -36,7 +36,7 @@ pub record IsOpenedFresh (line origin size : ℕ) (bytes : List ℕ) (s : State)
   pub found : found_in (sector_at bytes 0) ≡ Ok Fresh
   pub large : 2 * line ≤ size
   pub none : committed ≡ []
-  pub state : s ≡ record { chunk = line; origin = origin; size = size; current = 0; filled = 0; zeroed = false; firm = false; left = FirstArea; awaits = true; copying = true; valid = true }
+  pub state : s ≡ record { chunk = line; origin = origin; size = size; current = 0; filled = 0; zeroed = false; firm = false; sure = 0; left = FirstArea; awaits = true; copying = true; valid = true }
 
 -- A written store that was opened: its pairs, which are well formed, are those of its bytes, and the area of the first
 -- empty slot is its current one. That area is to be written where a byte other than 0 follows that slot.
@@ -49,6 +49,7 @@ pub record IsOpenedWritten (origin size : ℕ) (bytes : List ℕ) (s : State) (c
   pub part : s.filled < 32 * s.chunk
   pub tail : (s.left ≡ Tail) × HasTail (chunk_at s.chunk bytes (area_place s.chunk s.current)) s.filled ⊎ (s.left ≡ Nothing) × HasNoTail (chunk_at s.chunk bytes (area_place s.chunk s.current)) s.filled
   pub rest : (s.origin ≡ origin) × (s.size ≡ size) × (s.zeroed ≡ false) × (s.firm ≡ false) × (s.awaits ≡ true) × (s.copying ≡ true)
+  pub sure : s.sure ≡ 0
   pub valid : s.valid ≡ true
 
 -- why a first sector is refused

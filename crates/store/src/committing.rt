@@ -1,5 +1,5 @@
 // Pairs are committed: they are written into the current area, after the next one is zeroed where they fill it.
-ghost use Rattle.std.specs.Prelude.{◌≡◌, ◌⊎◌, ℕ, ◌+◌, ◌*◌, ◌<◌, ◌≤◌, ◌↔◌, ◌++◌, List, [], length, take, drop, replicate, is_ok, OnOk, OnErr, IsTrue, true, false};
+ghost use Rattle.std.specs.Prelude.{◌≡◌, ◌+◌, ◌*◌, ◌<◌, ◌≤◌, ◌↔◌, ◌++◌, length, take, drop, replicate, is_ok, OnOk, OnErr, IsTrue, true, false};
 ghost use Rattle.sector.specs.Bytes.{with_part, with_sectors};
 ghost use Rattle.device.specs.declared.operation.Operation.TheVariants.{Writes};
 ghost use Rattle.device.specs.Layers.{is_loud};
@@ -10,7 +10,6 @@ ghost use Rattle.exception_arena.specs.Pending.{pairs};
 ghost use Rattle.store.specs.Held.{committed, pending, reserved};
 ghost use Rattle.store.specs.Slots.{IsPut, pairs_bytes, slot_start};
 ghost use Rattle.store.specs.Stored.{after_commit};
-ghost use Rattle.store.specs.Stopping.{StopsWithin};
 ghost use Rattle.store.specs.Operations.{IsOneOperation};
 ghost use Rattle.stop_laws.specs.Firm.{AddsNow};
 
@@ -47,7 +46,7 @@ impl<B: Block> Store<B> {
                 * ((self.state.current + 1) * (32 * self.state.chunk as u64 + 1) + 2)
     }
 
-    /// Zeroes the area after the current one, which is not firm before the next flush. Whatever a stop within it leaves is loaded again with the same pairs.
+    /// Zeroes the area after the current one, which is not firm before the next flush.
     pub fn zero_next(&mut self) -> Result<(), Io>
         requires ready { self.old.state.left ≡ Nothing }
         requires part { self.old.state.filled < 32 * self.old.state.chunk }
@@ -59,7 +58,6 @@ impl<B: Block> Store<B> {
         ensures durable { B.durable self.new.device ≡ B.durable self.old.device }
         ensures adds { IsTrue (is_loud (B.layers self.old.device)) → AddsNow (B.may_hold self.old.device) (B.may_hold self.new.device) (B.contents self.new.device) }
         ensures size { B.size self.new.device ≡ B.size self.old.device }
-        ensures stops { self.old.state.valid ≡ true → IsTrue (is_loud (B.layers self.old.device)) → StopsWithin self.old.state.chunk self.old.state.origin self.old.state.size (committed self.old.exceptions) [] (B.contents self.old.device) (B.contents self.new.device) }
         ensures exceptions { self.new.exceptions ≡ self.old.exceptions }
         ensures places { self.new.places ≡ self.old.places }
         ensures zeroed { OnOk result (self.new.state ≡ record self.old.state { zeroed = true; firm = false }) }
@@ -83,8 +81,8 @@ impl<B: Block> Store<B> {
     }
 
     /// Commits the pairs of the copies that began first, so many of them: they are written into the current area, from its
-    /// first empty slot on. Where they fill it the next area, which is zeroed and was flushed since, becomes the current one. Whatever a stop
-    /// within it leaves is loaded again, with the pairs that were there and the first few of these.
+    /// first empty slot on. Where they fill it the next area, which is zeroed and was flushed since, becomes the current
+    /// one.
     pub fn write_area(&mut self, count: u32) -> Result<(), Io>
         requires ready { self.old.state.left ≡ Nothing }
         requires pending { count ≤ length (pending self.old.exceptions) }
@@ -98,7 +96,6 @@ impl<B: Block> Store<B> {
         ensures durable { B.durable self.new.device ≡ B.durable self.old.device }
         ensures adds { IsTrue (is_loud (B.layers self.old.device)) → AddsNow (B.may_hold self.old.device) (B.may_hold self.new.device) (B.contents self.new.device) }
         ensures size { B.size self.new.device ≡ B.size self.old.device }
-        ensures stops { self.old.state.valid ≡ true → IsTrue (is_loud (B.layers self.old.device)) → StopsWithin self.old.state.chunk self.old.state.origin self.old.state.size (committed self.old.exceptions) (pairs (take count (pending self.old.exceptions))) (B.contents self.old.device) (B.contents self.new.device) }
         ensures committed { OnOk result (committed self.new.exceptions ≡ committed self.old.exceptions ++ pairs (take count (pending self.old.exceptions))) }
         ensures pending { OnOk result (pending self.new.exceptions ≡ drop count (pending self.old.exceptions)) }
         ensures reserved { reserved self.new.exceptions ≡ reserved self.old.exceptions }

@@ -1,5 +1,5 @@
 // Copies of the origin's chunks: a place is taken, the chunk is written there, and is read again.
-ghost use Rattle.std.specs.Prelude.{◌≡◌, ◌⊎◌, ℕ, ◌+◌, ◌*◌, ◌<◌, ◌≤◌, List, [], ◌∷◌, ◌++◌, length, slice_index_or, is_ok, OnOk, OnErr, IfErr, MatchOption, IsTrue, None, true, false};
+ghost use Rattle.std.specs.Prelude.{◌≡◌, ◌+◌, ◌*◌, ◌<◌, ◌≤◌, [], ◌∷◌, ◌++◌, length, is_ok, OnOk, OnErr, IfErr, MatchOption, IsTrue, None, true, false};
 ghost use Rattle.sector.specs.Bytes.{sectors_at, with_sectors};
 ghost use Rattle.sector.specs.declared.refusal.Refusal.TheVariants.{NoMemory};
 ghost use Rattle.device.specs.declared.operation.Operation.TheVariants.{Reads, Writes};
@@ -13,7 +13,6 @@ ghost use Rattle.exception_arena.specs.declared.begun.Begun.{Begun};
 ghost use Rattle.store.specs.Held.{committed, pending, pairs_pending, reserved};
 ghost use Rattle.store.specs.declared.state.Left.TheVariants.{Nothing};
 ghost use Rattle.store.specs.Operations.{IsOneOperation};
-ghost use Rattle.store.specs.Stopping.{StopsWithin};
 ghost use Rattle.stop_laws.specs.Firm.{AddsNow};
 
 use crate::Store;
@@ -87,8 +86,8 @@ impl<B: Block> Store<B> {
         self.state.copying = false;
     }
 
-    /// Writes so many sectors of a chunk that is no area's, from one of its sectors on: of a copy, or of a chunk whose
-    /// copy stands there. Whatever a stop within it leaves is loaded again with the same pairs.
+    /// Writes so many sectors of a chunk that is no area's, from one of its sectors on: of a copy, or of a chunk whose copy
+    /// stands there.
     pub fn write_chunk(
         &mut self,
         place: Chunk,
@@ -96,6 +95,7 @@ impl<B: Block> Store<B> {
         count: u32,
         bytes: &[u8],
     ) -> Result<(), Io>
+        requires ready { self.old.state.left ≡ Nothing }
         requires some { 0 < count }
         requires part { first + count ≤ self.old.state.chunk }
         requires low { 0 < place }
@@ -111,7 +111,6 @@ impl<B: Block> Store<B> {
         ensures durable { B.durable self.new.device ≡ B.durable self.old.device }
         ensures adds { IsTrue (is_loud (B.layers self.old.device)) → AddsNow (B.may_hold self.old.device) (B.may_hold self.new.device) (B.contents self.new.device) }
         ensures size { B.size self.new.device ≡ B.size self.old.device }
-        ensures stops { self.old.state.left ≡ Nothing → self.old.state.valid ≡ true → IsTrue (is_loud (B.layers self.old.device)) → StopsWithin self.old.state.chunk self.old.state.origin self.old.state.size (committed self.old.exceptions) [] (B.contents self.old.device) (B.contents self.new.device) }
 
         ensures exceptions { self.new.exceptions ≡ self.old.exceptions }
         ensures places { self.new.places ≡ self.old.places }

@@ -1,14 +1,12 @@
 // The header is written, with its mark of validity.
-ghost use Rattle.std.specs.Prelude.{◌≡◌, ◌⊎◌, ℕ, ◌+◌, ◌*◌, ◌<◌, ◌≤◌, List, length, is_ok, OnOk, OnErr, IsTrue, true, false};
+ghost use Rattle.std.specs.Prelude.{◌≡◌, ◌*◌, ◌<◌, ◌≤◌, is_ok, OnOk, OnErr, IsTrue, true, false};
 ghost use Rattle.sector.specs.Bytes.{with_sectors};
 ghost use Rattle.device.specs.declared.operation.Operation.TheVariants.{Writes};
 ghost use Rattle.device.specs.Layers.{is_loud};
 ghost use Rattle.model.specs.Places.{ChangesOnly};
 ghost use Rattle.cow_header.specs.HeaderText.{header_bytes};
 ghost use Rattle.store.specs.declared.state.Left.TheVariants.{HeaderChunk, Nothing};
-ghost use Rattle.store.specs.Held.{committed};
 ghost use Rattle.store.specs.Operations.{IsOneOperation};
-ghost use Rattle.store.specs.Stopping.{StopsMarking};
 ghost use Rattle.stop_laws.specs.Firm.{AddsNow};
 
 use crate::chunks::write_whole;
@@ -19,7 +17,7 @@ use metadata_area::Area;
 
 impl<B: Block> Store<B> {
     /// Writes the header with the mark that the store is invalid, the rest of its chunk zero. No load accepts the store
-    /// afterwards; whatever a stop within it leaves is loaded again with the same pairs, or is refused as invalid.
+    /// afterwards.
     pub fn write_invalid(&mut self) -> Result<(), Io>
         requires ready { self.old.state.left ≡ Nothing }
         ensures operation { IsOneOperation (Writes 0 self.old.state.chunk) (is_ok result) (B.layers self.old.device) (B.layers self.new.device) (B.fault_count self.old.device) (B.fault_count self.new.device) (B.done_count self.old.device) (B.done_count self.new.device) }
@@ -29,7 +27,6 @@ impl<B: Block> Store<B> {
         ensures durable { B.durable self.new.device ≡ B.durable self.old.device }
         ensures adds { IsTrue (is_loud (B.layers self.old.device)) → AddsNow (B.may_hold self.old.device) (B.may_hold self.new.device) (B.contents self.new.device) }
         ensures size { B.size self.new.device ≡ B.size self.old.device }
-        ensures stops { self.old.state.valid ≡ true → IsTrue (is_loud (B.layers self.old.device)) → StopsMarking self.old.state.chunk self.old.state.origin self.old.state.size (committed self.old.exceptions) (B.contents self.old.device) (B.contents self.new.device) }
         ensures exceptions { self.new.exceptions ≡ self.old.exceptions }
         ensures places { self.new.places ≡ self.old.places }
         ensures state { OnOk result (self.new.state ≡ record self.old.state { valid = false }) }

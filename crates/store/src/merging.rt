@@ -1,5 +1,5 @@
 // A merge takes pairs away, from the last backwards, and the areas that become empty with them.
-ghost use Rattle.std.specs.Prelude.{◌≡◌, ◌⊎◌, ℕ, ◌+◌, ◌-◌, ◌*◌, ◌<◌, ◌≤◌, List, length, take, drop, replicate, slice_index_or, is_ok, OnOk, OnErr, IsTrue, true, false};
+ghost use Rattle.std.specs.Prelude.{◌≡◌, ℕ, ◌+◌, ◌-◌, ◌*◌, ◌<◌, ◌≤◌, length, take, replicate, slice_index_or, is_ok, OnOk, OnErr, IsTrue, false};
 ghost use Rattle.sector.specs.Bytes.{with_part};
 ghost use Rattle.sector.specs.declared.pair.Pair.{Pair};
 ghost use Rattle.device.specs.declared.operation.Operation.TheVariants.{Reads, Writes};
@@ -9,22 +9,20 @@ ghost use Rattle.store.specs.declared.state.Left.TheVariants.{Nothing};
 ghost use Rattle.store.specs.Held.{committed, pending, reserved};
 ghost use Rattle.store.specs.Operations.{IsOneOperation};
 ghost use Rattle.store.specs.Slots.{slot_start};
-ghost use Rattle.store.specs.Stopping.{StopsWithin};
 ghost use Rattle.stop_laws.specs.Firm.{AddsNow};
 
 use crate::Store;
 use crate::chunks::{read_area, write_whole};
 use crate::committing::copy_area;
 use device::{Block, Io};
-use exception_arena::remove_last;
+use exception_arena::{Exceptions, remove_last};
 use sector::Chunk;
 use std::mem::swap;
 
 impl<B: Block> Store<B> {
     /// Takes the last pairs away, so many of the current area, whose old chunks fall by one from `old`, that of the last
     /// pair: their slots are zeroed on the store. From then on no copy starts, and the status counts the places up to the
-    /// pairs that are left. Whatever a stop within it leaves is loaded again, with the pairs that are left and the first few
-    /// of those that go.
+    /// pairs that are left.
     pub fn merge_commit(&mut self, old: Chunk, count: u32) -> Result<(), Io>
         requires ready { self.old.state.left ≡ Nothing }
         requires idle { length (pending self.old.exceptions) ≡ 0 }
@@ -38,12 +36,11 @@ impl<B: Block> Store<B> {
         ensures loud { is_loud (B.layers self.new.device) ≡ is_loud (B.layers self.old.device) }
         ensures durable { B.durable self.new.device ≡ B.durable self.old.device }
         ensures adds { IsTrue (is_loud (B.layers self.old.device)) → AddsNow (B.may_hold self.old.device) (B.may_hold self.new.device) (B.contents self.new.device) }
-        ensures stops { self.old.state.valid ≡ true → IsTrue (is_loud (B.layers self.old.device)) → StopsWithin self.old.state.chunk self.old.state.origin self.old.state.size (take (length (committed self.old.exceptions) - count) (committed self.old.exceptions)) (drop (length (committed self.old.exceptions) - count) (committed self.old.exceptions)) (B.contents self.old.device) (B.contents self.new.device) }
         ensures committed { OnOk result (committed self.new.exceptions ≡ take (length (committed self.old.exceptions) - count) (committed self.old.exceptions)) }
         ensures pending { pending self.new.exceptions ≡ pending self.old.exceptions }
         ensures reserved { reserved self.new.exceptions ≡ reserved self.old.exceptions }
         ensures next { OnOk result (self.new.places.next ≡ area_place self.old.state.chunk self.old.state.current + (self.old.state.filled - count) + 1) }
-        ensures state { OnOk result (self.new.state ≡ record self.old.state { filled = self.old.state.filled - count; copying = false }) }
+        ensures state { OnOk result (self.new.state ≡ record self.old.state { filled = self.old.state.filled - count; sure = length (committed self.new.exceptions); copying = false }) }
         ensures kept { OnErr result ((self.new.state ≡ self.old.state) × (self.new.exceptions ≡ self.old.exceptions) × (self.new.places ≡ self.old.places)) }
     {
         let place = self.state.current * (32 * self.state.chunk as u64 + 1) + 1;
@@ -61,6 +58,7 @@ impl<B: Block> Store<B> {
                 swap(&mut self.area, &mut self.spare);
                 self.places.after_merge(self.state.current, slot);
                 self.state.filled = slot;
+                self.state.sure = self.exceptions.len() as u64;
                 self.state.copying = false;
                 Ok(())
             }

@@ -143,7 +143,7 @@ fn open_fresh<B: Block>(
     requires large { 2 * chunk ≤ B.size device }
     requires found { found_in (sector_at (B.contents device) 0) ≡ Ok FoundFresh }
     ensures device { IfOk result (λ store. store.device ≡ device) }
-    ensures state { IfOk result (λ store. store.state ≡ record { chunk = chunk; origin = origin; size = B.size device; current = 0; filled = 0; zeroed = false; firm = false; left = Left.FirstArea; awaits = true; copying = true; valid = true }) }
+    ensures state { IfOk result (λ store. store.state ≡ record { chunk = chunk; origin = origin; size = B.size device; current = 0; filled = 0; zeroed = false; firm = false; sure = 0; left = Left.FirstArea; awaits = true; copying = true; valid = true }) }
     ensures committed { IfOk result (λ store. committed store.exceptions ≡ []) }
     ensures pending { IfOk result (λ store. pending store.exceptions ≡ []) }
     ensures reserved { IfOk result (λ store. reserved store.exceptions ≡ 0) }
@@ -165,6 +165,7 @@ fn open_fresh<B: Block>(
         filled: 0,
         zeroed: false,
         firm: false,
+        sure: 0,
         left: Left::FirstArea,
         awaits: true,
         copying: true,
@@ -199,6 +200,7 @@ fn open_written<B: Block>(
     ensures part { IfOk result (λ store. store.state.filled < 32 * chunk) }
     ensures tail { IfOk result (λ store. (store.state.left ≡ Left.Tail) × HasTail (chunk_at chunk (B.contents device) (area_place chunk store.state.current)) store.state.filled ⊎ (store.state.left ≡ Left.Nothing) × HasNoTail (chunk_at chunk (B.contents device) (area_place chunk store.state.current)) store.state.filled) }
     ensures rest { IfOk result (λ store. (store.state.origin ≡ origin) × (store.state.size ≡ B.size device) × (store.state.zeroed ≡ false) × (store.state.firm ≡ false) × (store.state.awaits ≡ true) × (store.state.copying ≡ true)) }
+    ensures sure { IfOk result (λ store. store.state.sure ≡ 0) }
     ensures valid { IfOk result (λ store. store.state.valid ≡ true) }
     ensures pending { IfOk result (λ store. length (pending store.exceptions) ≡ 0) }
     ensures reserved { IfOk result (λ store. reserved store.exceptions ≡ 0) }
@@ -238,6 +240,7 @@ fn open_written<B: Block>(
         filled,
         zeroed: false,
         firm: false,
+        sure: 0,
         left,
         awaits: true,
         copying: true,

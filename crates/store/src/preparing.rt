@@ -1,18 +1,19 @@
 // The flushes and writes of a load.
-ghost use Rattle.std.specs.Prelude.{◌≡◌, ◌⊎◌, ℕ, ◌+◌, ◌*◌, ◌<◌, ◌≤◌, ◌↔◌, ◌||◌, List, length, is_ok, OnOk, OnErr, IfOk, IsTrue, Ok, true, false};
+ghost use Rattle.std.specs.Prelude.{◌≡◌, ◌+◌, ◌*◌, ◌<◌, ◌↔◌, ◌||◌, length, is_ok, OnOk, OnErr, IfOk, IsTrue, Ok, true, false};
 ghost use Rattle.device.specs.declared.operation.Operation.TheVariants.{Writes, Flushes};
 ghost use Rattle.device.specs.Layers.{is_loud};
 ghost use Rattle.model.specs.Places.{area_place, ChangesOnly};
 ghost use Rattle.store.specs.declared.state.Left.TheVariants.{FirstArea, HeaderChunk, Tail, Nothing};
 ghost use Rattle.store.specs.Operations.{IsOneOperation};
 ghost use Rattle.store.specs.Held.{committed};
-ghost use Rattle.store.specs.Stopping.{StopsPreparing};
+ghost use Rattle.store.specs.Stopping.{LeavesPreparing};
 ghost use Rattle.store.specs.Loading.{is_settled, is_begun, is_left, after_write, after_prepare, chunk_left, with_left, with_prepared};
 ghost use Rattle.stop_laws.specs.Firm.{AddsNow, IsFirm};
 
 use crate::chunks::write_whole;
 use crate::{Left, Store};
 use device::{Block, Io};
+use exception_arena::Exceptions;
 
 impl<B: Block> Store<B> {
     /// Whether no write of the load is left, nor a flush.
@@ -24,8 +25,9 @@ impl<B: Block> Store<B> {
 
     /// Does the next of the load's flushes and writes, and tells whether one is left. A flush comes first, and another after
     /// each write. A fresh store's area 0 is zeroed, and then its header is written; a written store's current area is
-    /// written with its tail zero, where its tail is not zero. Where no write is left, nor a flush, nothing is done. Whatever
-    /// a stop within it leaves is fresh while the store is, and is loaded again with its pairs afterwards.
+    /// written with its tail zero, where its tail is not zero. Where no write is left, nor a flush, nothing is done.
+    /// Whatever a stop may then leave of it might be left before, or is fresh while the store is, and else is loaded again
+    /// with its pairs.
     pub fn prepare(&mut self) -> Result<bool, Io>
         ensures flushes { self.old.state.awaits ≡ true → IsOneOperation Flushes (is_ok result) (B.layers self.old.device) (B.layers self.new.device) (B.fault_count self.old.device) (B.fault_count self.new.device) (B.done_count self.old.device) (B.done_count self.new.device) }
         ensures operation { self.old.state.awaits ≡ false → is_left self.old.state.left ≡ true → IsOneOperation (Writes (self.old.state.chunk * chunk_left self.old.state.left self.old.state) self.old.state.chunk) (is_ok result) (B.layers self.old.device) (B.layers self.new.device) (B.fault_count self.old.device) (B.fault_count self.new.device) (B.done_count self.old.device) (B.done_count self.new.device) }
@@ -36,10 +38,11 @@ impl<B: Block> Store<B> {
         ensures loud { is_loud (B.layers self.new.device) ≡ is_loud (B.layers self.old.device) }
         ensures size { B.size self.new.device ≡ B.size self.old.device }
         ensures adds { IsTrue (is_loud (B.layers self.old.device)) → AddsNow (B.may_hold self.old.device) (B.may_hold self.new.device) (B.contents self.new.device) }
-        ensures stops { self.old.state.valid ≡ true → IsTrue (is_loud (B.layers self.old.device)) → StopsPreparing self.old.state.left self.old.state.chunk self.old.state.origin self.old.state.size (committed self.old.exceptions) (B.contents self.old.device) (B.contents self.new.device) }
+        ensures firm { self.old.state.awaits ≡ true → OnOk result (IsTrue (is_loud (B.layers self.old.device)) → IsFirm (B.may_hold self.new.device) (B.contents self.new.device) (B.size self.new.device)) }
+        ensures leaves { self.old.state.valid ≡ true → IsTrue (is_loud (B.layers self.old.device)) → LeavesPreparing (B.may_hold self.old.device) (B.may_hold self.new.device) self.old.state.left self.old.state.chunk self.old.state.origin self.old.state.size (committed self.old.exceptions) }
         ensures exceptions { self.new.exceptions ≡ self.old.exceptions }
         ensures places { self.new.places ≡ self.old.places }
-        ensures state { OnOk result (self.new.state ≡ after_prepare self.old.state) }
+        ensures state { OnOk result (self.new.state ≡ after_prepare self.old.state (length (committed self.old.exceptions))) }
         ensures more { IfOk result (λ more. more ≡ (is_left self.new.state.left || self.new.state.awaits)) }
         ensures kept { OnErr result (self.new.state ≡ self.old.state) }
     {
@@ -64,7 +67,7 @@ impl<B: Block> Store<B> {
         }
     }
 
-    /// Flushes the store, after which no flush is left before the load's next write.
+    /// Flushes the store, after which no flush is left before the load's next write, and all its pairs were flushed.
     #[tactic(auto, using(crate::proofs::Writes::front_awaited, crate::proofs::Writes::stored_awaited))]
     fn flush_load(&mut self) -> Result<(), Io>
         ensures operation { IsOneOperation Flushes (is_ok result) (B.layers self.old.device) (B.layers self.new.device) (B.fault_count self.old.device) (B.fault_count self.new.device) (B.done_count self.old.device) (B.done_count self.new.device) }
@@ -75,12 +78,13 @@ impl<B: Block> Store<B> {
         ensures firm { OnOk result (IsTrue (is_loud (B.layers self.old.device)) → IsFirm (B.may_hold self.new.device) (B.contents self.new.device) (B.size self.new.device)) }
         ensures exceptions { self.new.exceptions ≡ self.old.exceptions }
         ensures places { self.new.places ≡ self.old.places }
-        ensures state { OnOk result (self.new.state ≡ record self.old.state { awaits = false }) }
+        ensures state { OnOk result (self.new.state ≡ record self.old.state { awaits = false; sure = length (committed self.old.exceptions) }) }
         ensures kept { OnErr result (self.new.state ≡ self.old.state) }
     {
         match self.device.flush() {
             Ok(()) => {
                 self.state.awaits = false;
+                self.state.sure = self.exceptions.len() as u64;
                 Ok(())
             }
             Err(io) => Err(io),

@@ -30,6 +30,8 @@ pub struct State {
     pub zeroed: bool,
     /// Whether it is, and the store was flushed since.
     pub firm: bool,
+    /// How many of the pairs that are committed were flushed.
+    pub sure: u64,
     /// What is left of the load's writes.
     pub left: Left,
     /// Whether a flush of the load is left, before its next write or before the store is ready.

@@ -6,6 +6,7 @@ ghost use Rattle.model.specs.NextPlace.{IsFull};
 ghost use Rattle.exception_arena.specs.declared.begun.Begun.{Begun};
 ghost use Rattle.store.specs.Operations.{IsOneOperation};
 ghost use Rattle.store.specs.Held.{committed, pending, pairs_pending, reserved};
+ghost use Rattle.store.specs.Loading.{is_left};
 ghost use Rattle.store.specs.Stored.{IsFront, IsStored, AreGiven};
 ghost use Rattle.stop_laws.specs.Firm.{AddsNow, IsFirm};
 
@@ -35,6 +36,7 @@ pub struct Store<B: Block> {
     pub ghost size: { state.size ≡ B.size device },
     pub ghost front: { IsFront (committed exceptions) state area.bytes.items },
     pub ghost given: { AreGiven state.chunk state.origin state.size places.next state.copying (committed exceptions) (pairs_pending exceptions) },
+    pub ghost firm: { IsTrue (is_loud (B.layers device)) → is_left state.left ≡ true → state.awaits ≡ false → IsFirm (B.may_hold device) (B.contents device) state.size },
     pub ghost stored: { IsTrue (is_loud (B.layers device)) → IsStored (B.contents device) (committed exceptions) state area.bytes.items },
 }
 
@@ -92,8 +94,8 @@ impl<B: Block> Store<B> {
         &self.device
     }
 
-    /// Makes all that was written last through a stop and a loss of the cache; a zeroed next area is then firm. At `Io` it
-    /// is as before.
+    /// Makes all that was written last through a stop and a loss of the cache: a zeroed next area is then firm, and all pairs
+    /// that are committed were flushed. At `Io` it is as before.
     #[tactic(auto, using(crate::proofs::Writes::front_flushed, crate::proofs::Writes::stored_flushed))]
     pub fn flush(&mut self) -> Result<(), Io>
         ensures operation { IsOneOperation Flushes (is_ok result) (B.layers self.old.device) (B.layers self.new.device) (B.fault_count self.old.device) (B.fault_count self.new.device) (B.done_count self.old.device) (B.done_count self.new.device) }
@@ -104,12 +106,13 @@ impl<B: Block> Store<B> {
         ensures loud { is_loud (B.layers self.new.device) ≡ is_loud (B.layers self.old.device) }
         ensures exceptions { self.new.exceptions ≡ self.old.exceptions }
         ensures places { self.new.places ≡ self.old.places }
-        ensures state { OnOk result (self.new.state ≡ record self.old.state { firm = self.old.state.zeroed }) }
+        ensures state { OnOk result (self.new.state ≡ record self.old.state { firm = self.old.state.zeroed; sure = length (committed self.old.exceptions) }) }
         ensures kept { OnErr result (self.new.state ≡ self.old.state) }
     {
         match self.device.flush() {
             Ok(()) => {
                 self.state.firm = self.state.zeroed;
+                self.state.sure = self.exceptions.len() as u64;
                 Ok(())
             }
             Err(io) => Err(io),

@@ -9,7 +9,8 @@ use Rattle.sector.specs.declared.refusal.Refusal.{Refusal}
 use Rattle.sector.specs.declared.refusal.Refusal.TheVariants.{OutOfRange, TooMany}
 use Rattle.plain.specs.declared.request.Request.{Request}
 use Rattle.plain.specs.declared.request.Op.{Op}
-use Rattle.plain.specs.declared.request.Op.TheVariants.{Read, Write}
+use Rattle.plain.specs.declared.request.Op.TheVariants.{Read, Write, Flush}
+use Rattle.plain.specs.Kept.{kept_range}
 use Rattle.plain.specs.declared.request.Dev.TheVariants.{Origin}
 use Rattle.pending.specs.declared.flights.Kind.TheVariants.{SnapRead, SnapWrite}
 use Rattle.pending.specs.Kinds.{kind_of, kind_at}
@@ -67,9 +68,11 @@ pub record IsAdmitted {B : Type 0} (size : B → ℕ) (request : Request) (v : V
   pub requests : v.requests < 18_446_744_073_709_551_615
   pub few : sum_by count_in v.snaps + starting (kind_of request) request.range.first v.merge v.snaps ≤ 256
 
-pub admitted : {B : Type 0} (size : B → ℕ) (request : Request) (v : Volumed B) → submit_refusal size request v ≡ None → IsAdmitted size request v
-admitted size request v e =
+pub admitted : {B : Type 0} (size : B → ℕ) (request : Request) (v : Volumed B) → kept_range request.op request.range ≡ request.range → submit_refusal size request v ≡ None → IsAdmitted size request v
+admitted size request v whole refused =
     let new = starting (kind_of request) request.range.first v.merge v.snaps in
+    let e : first_of_two (dev_refusal request.dev v.merge v.snaps) (first_of_two (shut_refusal (kind_of request) v.snaps) (first_of_two (range_refusal (piece_with v.merge v.snaps) (size v.origin) request.range) (limit_refusal new v))) ≡ None =
+    ap (λ (r : Range). first_of_two (dev_refusal request.dev v.merge v.snaps) (first_of_two (shut_refusal (kind_of request) v.snaps) (first_of_two (range_refusal (piece_with v.merge v.snaps) (size v.origin) r) (limit_refusal new v)))) (sym whole) ∙ refused in
     let one = both_none (dev_refusal request.dev v.merge v.snaps) _ e in
     let then = both_none (shut_refusal (kind_of request) v.snaps) _ one.1 in
     let two = both_none (range_refusal (piece_with v.merge v.snaps) (size v.origin) request.range) _ then.1 in
@@ -104,6 +107,7 @@ origin_kind_read request n dev e = not_read request.op (e ∙ ap (λ d. kind_at 
     not_read : (op : Op) → SnapRead n ≡ kind_at Origin op → ⊥
     not_read Read e = cc
     not_read (Write bytes) e = cc
+    not_read Flush e = cc
 
 pub origin_kind_write : (request : Request) (n : ℕ) → request.dev ≡ Origin → SnapWrite n ≡ kind_of request → ⊥
 origin_kind_write request n dev e = not_write request.op (e ∙ ap (λ d. kind_at d request.op) dev)
@@ -111,3 +115,4 @@ origin_kind_write request n dev e = not_write request.op (e ∙ ap (λ d. kind_a
     not_write : (op : Op) → SnapWrite n ≡ kind_at Origin op → ⊥
     not_write Read e = cc
     not_write (Write bytes) e = cc
+    not_write Flush e = cc

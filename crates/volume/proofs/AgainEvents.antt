@@ -1,6 +1,6 @@
 -- The events after which held writes are routed again: a mark is taken away, and a spoiled store's mark is tried.
 use Rattle.std.proofs.Common.{◌≡◌, ◌≢◌, inl, inr, ℕ, zero, suc, ◌+◌, ◌<◌, Bool, true, false, List, [], ◌∷◌, ◌++◌, Some, None, length, get_or, set, map, refl, sym, ◌∙◌, ap, arith, nat_eq, length-append, subst, Option}
-use Rattle.std.specs.Prelude.{◌&&◌, AllPairs, not}
+use Rattle.std.specs.Prelude.{◌&&◌, AllPairs, not, sum_by}
 use Rattle.std.specs.List.{All, list_any, position, remove}
 use Rattle.std.proofs.lemmas.Bool.{false≢true, eqb-true}
 use Rattle.std.proofs.lemmas.List.{length-map, length-set, map-set, get_or-map, get_or-set_same, get_or_append_left, get_or-append-add}
@@ -21,7 +21,7 @@ use Rattle.volume_laws.specs.Published.{is_clear}
 use Rattle.volume_laws.specs.Again.{again_of, placed_of, Reroutes, Places}
 use Rattle.volume_laws.specs.Steps.{ChangesSnap, Unmarks, TriesMark}
 use Rattle.volume_laws.specs.Outcomes.{IsSilent}
-use Rattle.volume_laws.specs.Due.{left_in}
+use Rattle.volume_laws.specs.Due.{left_in, weight_of}
 use Rattle.volume_laws.specs.Waits.{Waits}
 use Rattle.volume_laws.specs.Whole.{IsLoud}
 use Rattle.volume_laws.proofs.WholeOne.{snap_holds, live_by_mark, unmark_event}
@@ -47,6 +47,7 @@ use Rattle.volume.proofs.CopyEvents.{both_left, both_right}
 use Rattle.volume.proofs.Good.{IsGood, Spoiling, Staying, Calm, silent_good}
 use Rattle.volume.proofs.StartsLeft.{left_same, left_spoilt}
 use Rattle.volume.proofs.MovedCounts.{counted_marks}
+use Rattle.volume.proofs.Weights.{again_weights, placed_weights}
 use Rattle.merge.specs.Merging.{Merging}
 
 -- A mark of snapshot s was taken away, which is s' then, and held writes were routed again: nothing is seen of it, and less is
@@ -58,6 +59,7 @@ pub record IsUnmarked {B : Type 0} (contents : B → List ℕ) (layers : B → L
   pub stays : StaysAttached s s'
   pub less : left_in (due_of_kept contents layers s') < left_in (due_of_kept contents layers s)
   pub flown : map in_flight flights ≡ map in_flight v.flights
+  pub weights : sum_by weight_of flights ≡ sum_by weight_of v.flights
   pub room : KeepsSpace (room_of contents layers s) (room_of contents layers s')
   pub device : s'.device ≡ s.device
   pub live : s'.live ≡ s.live
@@ -109,6 +111,11 @@ module _ {B : Type 0} (s : Kept B) (flights : List Flight) (number j : ℕ) (fou
       let h = position-Some (is_mark_of s flights number) s.marks j m found in
       let reads : Bool = list_any (is_reading s.number s.state.chunk m.chunk) flights in
       not_true reads (both_right m.safe (not reads) (both_right (nat_eq m.number number) (is_publishable s.number s.state.chunk flights m) (ap (is_mark_of s flights number) is ∙ h.1)))
+
+  pub mark_safe : m.safe ≡ true
+  mark_safe =
+      let h = position-Some (is_mark_of s flights number) s.marks j m found in
+      both_left m.safe (not (list_any (is_reading s.number s.state.chunk m.chunk) flights)) (both_right (nat_eq m.number number) (is_publishable s.number s.state.chunk flights m) (ap (is_mark_of s flights number) is ∙ h.1))
 
 module _ {B : Type 0} (contents : B → List ℕ) (layers : B → List Layer) (size faults done : B → ℕ) (v : Volumed B) (h : IsWhole contents layers size v) (number : ℕ)
     (k : ℕ) (s s' : Kept B) (within : k < length v.snaps) (is : s ≡ get_or v.snaps k s) where
@@ -164,7 +171,7 @@ module _ {B : Type 0} (contents : B → List ℕ) (layers : B → List Layer) (s
           counted = counts;
           left = left_spoilt s s' (f.1 ∙ t.was);
         } in
-        silent_good contents layers size faults done v h event outcome told still calm v.origin k s s' within is disk loud sized (again v.flights) (again_flown (merge_books contents layers true v.merge) clear v.flights) stays t.overflow
+        silent_good contents layers size faults done v h event outcome told still calm v.origin k s s' within is disk loud sized (again v.flights) (again_flown (merge_books contents layers true v.merge) clear v.flights) (again_weights (merge_books contents layers true v.merge) clear v.flights) stays t.overflow
         (silent_then vb ub wb one two (loud_one k (snap_books contents layers s) (snap_books contents layers s') vb ub e_is loud))
         (waits_tried k (snap_books contents layers s) (snap_books contents layers s') vb ub wb h.waits e_is t (reroutes v.flights))
         (tried_left (due_of_kept contents layers s) (due_of_kept contents layers s') untried t)
@@ -231,6 +238,7 @@ module _ {B : Type 0} (contents : B → List ℕ) (layers : B → List Layer) (s
           };
           less = unmark_left j m (due_of_kept contents layers s) (due_of_kept contents layers s') r (ap (λ (x : Kept B). x.state.zeroed) f) (ap (λ (x : Kept B). x.state.firm) f);
           flown = again_flown (merge_books contents layers true v.merge) clear placed ∙ placed_flown b v.flights;
+          weights = again_weights (merge_books contents layers true v.merge) clear placed ∙ placed_weights b v.flights;
           room = publish_room j m (room_of contents layers s) (room_of contents layers s') r
               (record { kept_back = ap (λ (x : Kept B). x.kept_back) f; spare = ap (λ (x : Kept B). x.spare) f; merging = ap (λ (x : Kept B). x.merging) f ∙ unpublished_alike m.number s.merging })
               (marks_apart s.marks s.copies j m (subst (λ (x : Kept B). AllPairs (λ a b. a < b) (numbers_in x)) (sym is) (h.snaps k s within).numbers.ascending) r.within r.was);

@@ -130,4 +130,4 @@ room_begun contents layers p s t at = start_room p (room_of contents layers s) (
 
 -- one that is spoiled keeps nothing back
 pub room_spoilt : {B : Type 0} (contents : B → List ℕ) (layers : B → List Layer) (s : Kept B) → s.live ≡ true → KeepsRoom (room_of contents layers s) (room_of contents layers (spoilt_of s))
-room_spoilt contents layers s live = spoil_room (room_of contents layers s) (room_of contents layers (spoilt_of s)) (record { number = refl; was = live; live = refl; overflow = refl; chunk = refl; pairs = refl; copies = refl; marks = refl })
+room_spoilt contents layers s live = spoil_room (room_of contents layers s) (room_of contents layers (spoilt_of s)) (record { number = refl; was = live; live = refl; overflow = refl; chunk = refl; pairs = refl; sure = refl; copies = refl; marks = refl })

@@ -12,7 +12,7 @@ use Rattle.pending.specs.Due.{number_of_flight}
 use Rattle.pending.specs.Routes.{refused_of}
 use Rattle.pending.specs.declared.flights.Flight.{Flight}
 use Rattle.volume_laws.specs.Books.{SnapBooks}
-use Rattle.volume_laws.specs.Due.{left_in, left_of, books_of as due_in}
+use Rattle.volume_laws.specs.Due.{left_in, left_of, weight_of, books_of as due_in}
 use Rattle.volume_laws.specs.MergeDue.{DueMerge, left_beside}
 use Rattle.volume_laws.specs.Steps.{ChangesSnap, SpoilsOne, SpoilsSnap}
 use Rattle.volume_laws.specs.Whole.{Holds}
@@ -244,13 +244,13 @@ module _ {B : Type 0} (contents : B → List ℕ) (layers : B → List Layer) (s
       let less = beside_set (map sb v.snaps) k (sb s) (sb s') d books_within books_is keeps in
       omega (arith, old, new, less)
 
-  pub lower_changed : (flights : List Flight) → length flights ≡ length v.flights → left_in (due_of_kept contents layers s') < left_in (due_of_kept contents layers s) → KeepsSaved (snap_books contents layers s) (snap_books contents layers s')
+  pub lower_changed : (flights : List Flight) → sum_by weight_of flights ≡ sum_by weight_of v.flights → left_in (due_of_kept contents layers s') < left_in (due_of_kept contents layers s) → KeepsSaved (snap_books contents layers s) (snap_books contents layers s')
       → left_in_all contents layers (changed v o' k s' flights) < left_in_all contents layers v
   lower_changed flights same less keeps =
       let due = due_of_kept contents layers in
       let e = one_left (map due v.snaps) k (due s) (due s') v.flights (omega (arith, within, length-map v.snaps due)) (ap due is ∙ sym (get_or-map due v.snaps k s (due s) within)) less in
       let at : left_of (dues_of contents layers (changed v o' k s' flights)) flights ≡ left_of (set (map due v.snaps) k (due s')) v.flights =
-      ap (λ xs. sum_by left_in xs + length flights) (map-set due v.snaps k s') ∙ ap (λ n. sum_by left_in (set (map due v.snaps) k (due s')) + n) same in
+      ap (λ xs. sum_by left_in xs + sum_by weight_of flights) (map-set due v.snaps k s') ∙ ap (λ n. sum_by left_in (set (map due v.snaps) k (due s')) + n) same in
       let beside = beside_changed keeps (merge_due contents v.merge) in
       omega (arith, e, at, beside)
 

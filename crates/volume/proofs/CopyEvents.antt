@@ -122,7 +122,7 @@ module _ {B : Type 0} (contents : B → List ℕ) (layers : B → List Layer) (s
           counted = λ counts. subst IsCounted (sym f) (counted_copies s counts s.device j q);
           left = left_same s s' (ap (λ (x : Kept B). x.live) f) (ap (λ (x : Kept B). x.state.size) f) (ap (λ (x : Kept B). x.next) f);
         } in
-        silent_good contents layers size faults done v h (CopyRead number) Done (λ a b x. x) (λ xs ys e. e) (λ b. refl) o' k s s' within is same (ap (λ d. is_loud (layers d)) device) (ap size device) v.flights refl stays (ap (λ (x : Kept B). x.overflow) f)
+        silent_good contents layers size faults done v h (CopyRead number) Done (λ a b x. x) (λ xs ys e. e) (λ b. refl) o' k s s' within is same (ap (λ d. is_loud (layers d)) device) (ap size device) v.flights refl refl stays (ap (λ (x : Kept B). x.overflow) f)
         (copy_read_event k (sb s) (sb s') (books_of contents layers size v) (books_of contents layers size w) h.holds e_is j p q r)
         (waits_changed k (sb s) (sb s') (books_of contents layers size v) (books_of contents layers size w) h.waits e_is (copy_read_keeps (contents v.origin) j p q (sb s) (sb s') r))
         (copy_read_left (contents v.origin) j p q (due_of_kept contents layers s) (due_of_kept contents layers s') r (copy_stage Waiting number s.copies j found p r.copy.was) (ap (λ (x : Kept B). x.state.zeroed) f) (ap (λ (x : Kept B). x.state.firm) f))
@@ -146,7 +146,7 @@ module _ {B : Type 0} (contents : B → List ℕ) (layers : B → List Layer) (s
           counted = λ counts. subst IsCounted (sym f) (counted_copies s counts s'.device j q);
           left = left_same s s' (ap (λ (x : Kept B). x.live) f) (ap (λ (x : Kept B). x.state.size) f) (ap (λ (x : Kept B). x.next) f);
         } in
-        silent_good contents layers size faults done v h (CopyWrite number) Done (λ a b x. x) (λ xs ys e. e) (λ b. refl) o' k s s' within is same loud sized v.flights refl stays (ap (λ (x : Kept B). x.overflow) f)
+        silent_good contents layers size faults done v h (CopyWrite number) Done (λ a b x. x) (λ xs ys e. e) (λ b. refl) o' k s s' within is same loud sized v.flights refl refl stays (ap (λ (x : Kept B). x.overflow) f)
         (copy_write_event k (sb s) (sb s') (books_of contents layers size v) (books_of contents layers size w) h.holds e_is j p q r)
         (waits_changed k (sb s) (sb s') (books_of contents layers size v) (books_of contents layers size w) h.waits e_is (copy_write_keeps j p q (sb s) (sb s') r))
         (copy_write_left j p q (due_of_kept contents layers s) (due_of_kept contents layers s') r (ap (λ (x : Kept B). x.state.zeroed) f) (ap (λ (x : Kept B). x.state.firm) f))

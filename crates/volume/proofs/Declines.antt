@@ -6,7 +6,7 @@ use Rattle.sector.specs.declared.refusal.Refusal.{Refusal}
 use Rattle.plain.specs.declared.request.Dev.{Dev}
 use Rattle.plain.specs.declared.request.Dev.TheVariants.{Origin, Snap}
 use Rattle.plain.specs.declared.request.Op.{Op}
-use Rattle.plain.specs.declared.request.Op.TheVariants.{Read, Write}
+use Rattle.plain.specs.declared.request.Op.TheVariants.{Read, Write, Flush}
 use Rattle.plain.specs.declared.request.Request.{Request}
 use Rattle.plain.specs.Plain.{overflow_under}
 use Rattle.plain.specs.Legal.{IsDeclined}
@@ -24,8 +24,10 @@ use Rattle.volume.proofs.Named.{dev_of_write}
 op_at_write : (dev : Dev) (op : Op) (n : ℕ) → kind_at dev op ≡ SnapWrite n → (bytes : List ℕ) × (op ≡ Write bytes)
 op_at_write Origin Read n e = absurd (cc)
 op_at_write Origin (Write b) n e = absurd (cc)
+op_at_write Origin Flush n e = absurd (cc)
 op_at_write (Snap m) Read n e = absurd (cc)
 op_at_write (Snap m) (Write b) n e = (b, refl)
+op_at_write (Snap m) Flush n e = absurd (cc)
 
 -- what a write of the snapshot of a number does that finds its store full, as the plain machine has it
 overflow_found : {B : Type 0} (contents : B → List ℕ) (origin : List ℕ) (n k : ℕ) (s : Kept B) (snaps : List (Kept B)) → IsFirst (λ (x : Kept B). x.number == n) k s snaps

@@ -11,14 +11,14 @@ use Rattle.plain.specs.declared.event.Outcome.TheVariants.{Reply as Replied}
 use Rattle.plain.specs.declared.request.Dev.{Dev}
 use Rattle.plain.specs.declared.request.Dev.TheVariants.{Origin as AtOrigin, Snap}
 use Rattle.plain.specs.declared.request.Op.{Op}
-use Rattle.plain.specs.declared.request.Op.TheVariants.{Read, Write}
+use Rattle.plain.specs.declared.request.Op.TheVariants.{Read, Write, Flush}
 use Rattle.plain.specs.declared.request.Reply.{Reply}
-use Rattle.plain.specs.declared.request.Reply.TheVariants.{Data, Written as IsWritten, Refused as IsRefused}
+use Rattle.plain.specs.declared.request.Reply.TheVariants.{Data, Written as IsWritten, Flushed as IsFlushed, Refused as IsRefused}
 use Rattle.plain.specs.declared.request.Failure.TheVariants.{Io}
 use Rattle.pending.specs.Kinds.{kind_at, kind_of}
 use Rattle.pending.specs.declared.flights.Flight.{Flight}
-use Rattle.pending.specs.declared.flights.Kind.TheVariants.{OriginRead, OriginWrite, SnapRead, SnapWrite}
-use Rattle.pending.specs.declared.flights.Route.TheVariants.{Origin, Refused}
+use Rattle.pending.specs.declared.flights.Kind.TheVariants.{OriginRead, OriginWrite, OriginFlush, SnapRead, SnapWrite, SnapFlush}
+use Rattle.pending.specs.declared.flights.Route.TheVariants.{Origin, Whole, Refused}
 use Rattle.volume_laws.specs.Books.{Books}
 use Rattle.volume_laws.specs.Held.{SnapHolds, RouteHolds, RefusedHolds}
 use Rattle.volume_laws.specs.Steps.{OnlyTakesOut, TakesOut, WritesDisk}
@@ -26,7 +26,7 @@ use Rattle.volume_laws.specs.Waits.{WaitsHolds, Waits}
 use Rattle.volume_laws.specs.Outcomes.{IsReply}
 use Rattle.volume_laws.proofs.Requests.{found_holds}
 use Rattle.volume_laws.proofs.Waiting.{waits_out}
-use Rattle.volume_laws.proofs.Issuing.{io_read_event, io_write_event, io_snap_read_event, snap_disk_event}
+use Rattle.volume_laws.proofs.Issuing.{flush_disk_event, io_flush_event, io_read_event, io_write_event, io_snap_read_event, snap_disk_event}
 use Rattle.snapshot.specs.Kept.{Kept}
 use Rattle.merge_beside.specs.Rooms.{merge_books}
 use Rattle.volume.specs.Volumed.{Volumed, books_of, is_loud_with}
@@ -36,7 +36,7 @@ use Rattle.snapshots.proofs.Finds.{position_within}
 use Rattle.volume.specs.Flying.{Fits}
 use Rattle.volume.proofs.Changing.{goes_same, snaps_fit}
 use Rattle.volume.proofs.Good.{IsGood}
-use Rattle.volume.proofs.IssueEvents.{no_more, reply_good, taken_out, fits_read, fits_write}
+use Rattle.volume.proofs.IssueEvents.{no_more, reply_good, taken_out, fits_flush, fits_read, fits_write}
 use Rattle.volume.proofs.MergeIssues.{any_read_disk, any_write_disk}
 use Rattle.volume.proofs.Counting.{counted_among, within_among}
 
@@ -48,6 +48,13 @@ read_kinds (Snap n) op is = inr (n, ap (kind_at (Snap n)) is)
 pub write_kinds : (dev : Dev) (op : Op) (bytes : List ℕ) → op ≡ Write bytes → (kind_at dev op ≡ OriginWrite) ⊎ ((n : ℕ) × (kind_at dev op ≡ SnapWrite n))
 write_kinds AtOrigin op bytes is = inl (ap (kind_at AtOrigin) is)
 write_kinds (Snap n) op bytes is = inr (n, ap (kind_at (Snap n)) is)
+
+pub flush_kinds : (dev : Dev) (op : Op) → op ≡ Flush → (kind_at dev op ≡ OriginFlush) ⊎ ((n : ℕ) × (kind_at dev op ≡ SnapFlush n))
+flush_kinds AtOrigin op is = inl (ap (kind_at AtOrigin) is)
+flush_kinds (Snap n) op is = inr (n, ap (kind_at (Snap n)) is)
+
+origin_ne_whole : Origin ≢ Whole
+origin_ne_whole c = cc
 
 origin_ne_refused : Origin ≢ Refused
 origin_ne_refused c = cc
@@ -81,7 +88,7 @@ module _ {B : Type 0} (contents : B → List ℕ) (layers : B → List Layer) (s
 
   good : (reply : Reply) → IsReply number reply vb wb → HasReplied faults number reply v issued → IsOneAtMost done v issued → Fits r.request.op r.request.range reply → IsGood contents layers size faults done (Issue number) (Replied number reply) v issued
   good reply answered cause one fits = reply_good contents layers size faults done v issued h number place reply in_list refl refl refl refl (snaps_fit contents layers size v (size o') h same_size)
-      (goes_same contents layers size v issued v.merge same_size refl refl h.merge) refl (no_more _) refl
+      (goes_same contents layers size v issued v.merge same_size refl refl h.merge) refl (no_more _) (no_more _)
       (ap (λ b. is_loud_with layers v.merge (b && list_all (λ (s : Kept B). is_loud (layers s.device)) v.snaps)) same_loud)
       (record { attached = refl; numbers = refl; chunks = refl; merged = refl; sizes = ap (λ n. counts_with size v.merge (n ∷ map (λ (s : Kept B). size s.device) v.snaps)) same_size }) refl answered waits cause one (taken_out number place reply r vb wb out fits)
 
@@ -151,3 +158,24 @@ module _ {B : Type 0} (contents : B → List ℕ) (layers : B → List Layer) (s
 
     pub disk_write_io : contents o' ≡ contents v.origin → faults o' ≡ next_count (faults v.origin) → IsGood contents layers size faults done (Issue number) (Replied number (IsRefused Io)) v issued
     disk_write_io same faulty = good (IsRefused Io) (io_write_event number place r vb wb h.holds (only same) (is_origin bytes op)) (failed faulty) (one_done counted) tt
+
+  -- so is a flush, which of a snapshot goes to its store
+  pub is_origin_flush : r.request.op ≡ Flush → kind_of r.request ≡ OriginFlush
+  is_origin_flush op = elim (flush_kinds r.request.dev r.request.op op) [
+    | inl kind ↦ kind
+    | inr k ↦ (let any = waiting.flush_attached k.0 k.1 in
+        let s = any.1 in
+        let kind : kind_of r.request ≡ SnapFlush s.number = k.1 ∙ ap SnapFlush (sym any.4) in
+        let here : SnapHolds vb.origin vb.requests s = subst (SnapHolds vb.origin vb.requests) any.3 (h.holds.snaps any.0 s any.2) in
+        elim (cases_Bool s.live) [
+          | inl live ↦ absurd (origin_ne_whole (sym route ∙ (found_holds (RouteHolds s.number s.chunk s.pairs s.marks) number place r vb wb out (here.alive live).routes).flush kind))
+          | inr dead ↦ absurd (origin_ne_refused (sym route ∙ (found_holds (RefusedHolds s.number) number place r vb wb out (here.spoilt dead).routes).flush kind))
+        ])
+  ]
+
+  module _ (op : r.request.op ≡ Flush) (same : contents o' ≡ contents v.origin) (counted : done o' ≡ next_count (done v.origin)) where
+    pub disk_flush : faults o' ≡ faults v.origin → IsGood contents layers size faults done (Issue number) (Replied number IsFlushed) v issued
+    disk_flush faulty = good IsFlushed (flush_disk_event number place r vb wb h.holds (only same) (is_origin_flush op)) (faultless faulty) (one_done counted) (fits_flush r.request.op r.request.range op)
+
+    pub disk_flush_io : faults o' ≡ next_count (faults v.origin) → IsGood contents layers size faults done (Issue number) (Replied number (IsRefused Io)) v issued
+    disk_flush_io faulty = good (IsRefused Io) (io_flush_event number place r vb wb h.holds (only same) (is_origin_flush op)) (failed faulty) (one_done counted) tt

@@ -1,20 +1,21 @@
 -- A request's own event is exact.
-use Rattle.std.proofs.Common.{◌≡◌, ℕ, ◌+◌, ◌*◌, ◌%◌, ◌<◌, Bool, true, List, Some, length, get_or, sym, ◌∙◌, ap}
+use Rattle.std.proofs.Common.{◌≡◌, ℕ, ◌+◌, ◌*◌, ◌%◌, ◌<◌, Bool, true, false, List, Some, length, get_or, set, map, refl, sym, ◌∙◌, ap}
 use Rattle.std.specs.Prelude.{◌==◌, ◌&&◌, if◌then◌else◌}
 use Rattle.std.specs.List.{list_all, position, remove}
 use Rattle.std.proofs.lemmas.Bool.{eqb-true, eq-eqb}
 use Rattle.sector.specs.Bytes.{sectors_at, with_sectors}
 use Rattle.device.specs.Layers.{Layer, is_loud}
-use Rattle.device.specs.declared.operation.Operation.TheVariants.{Reads, Writes}
+use Rattle.device.specs.declared.operation.Operation.TheVariants.{Reads, Writes, Flushes}
 use Rattle.plain.specs.declared.event.Event.TheVariants.{Issue}
-use Rattle.plain.specs.declared.event.Outcome.TheVariants.{Reply as Replied}
+use Rattle.plain.specs.declared.event.Outcome.TheVariants.{Done as IsDone, Reply as Replied}
+use Rattle.pending.specs.Flushed.{flushed_copy, safe_mark}
 use Rattle.plain.specs.declared.request.Dev.TheVariants.{Origin as ToOrigin, Snap as ToSnap}
-use Rattle.plain.specs.declared.request.Op.TheVariants.{Read as ReadOp, Write as WriteOp}
+use Rattle.plain.specs.declared.request.Op.TheVariants.{Read as ReadOp, Write as WriteOp, Flush as FlushOp}
 use Rattle.plain.specs.declared.request.Reply.{Reply}
-use Rattle.plain.specs.declared.request.Reply.TheVariants.{Data, Written as Done, Refused as Declined}
+use Rattle.plain.specs.declared.request.Reply.TheVariants.{Data, Written as Done, Flushed as DidFlush, Refused as Declined}
 use Rattle.plain.specs.declared.request.Failure.TheVariants.{Invalid, Io}
 use Rattle.pending.specs.declared.flights.Flight.{Flight}
-use Rattle.pending.specs.declared.flights.Route.TheVariants.{Origin, Store, Refused}
+use Rattle.pending.specs.declared.flights.Route.TheVariants.{Origin, Store, Whole, Refused}
 use Rattle.store.specs.Operations.{IsOneOperation}
 use Rattle.merge.specs.Merging.{Merging}
 use Rattle.snapshot.specs.Kept.{Kept}
@@ -23,7 +24,7 @@ use Rattle.volume.specs.Whole.{IsWhole}
 use Rattle.volume.specs.Exact.{IsExact}
 use Rattle.volume.proofs.MovedSnaps.{changed}
 use Rattle.volume.proofs.MovedFound.{snap_first, flight_first}
-use Rattle.volume.proofs.MovedIssues.{issue_refused, issue_origin_read, issue_origin_write, issue_store_read, issue_store_write, issue_merging_read, issue_merging_write}
+use Rattle.volume.proofs.MovedIssues.{issue_refused, issue_origin_flush, issue_whole, issue_whole_io, issue_merging_flush, issue_merging_flush_io, issue_origin_read, issue_origin_write, issue_store_read, issue_store_write, issue_merging_read, issue_merging_write}
 use Rattle.volume.proofs.Exactly.{loud_origin, loud_store}
 use Rattle.volume.proofs.Shown.{and_right}
 
@@ -48,6 +49,13 @@ module _ {B : Type 0} (contents : B → List ℕ) (layers : B → List Layer) (s
           → IsExact contents layers (Issue n) (Replied n reply) v (record v { origin = o'; flights = remove v.flights j })
       origin_write_exact bytes kind one written answered = record {
         step = λ loud replied. issue_origin_write contents layers replied v n j f (flight_first n j f v.flights found at) ok faults faults' done done' is o' bytes kind one (written (loud_origin contents layers size v h loud)) reply answered;
+      }
+
+      pub origin_flush_exact : f.request.op ≡ FlushOp → IsOneOperation Flushes ok (layers v.origin) (layers o') faults faults' done done'
+          → contents o' ≡ contents v.origin → reply ≡ (if ok then DidFlush else Declined Io)
+          → IsExact contents layers (Issue n) (Replied n reply) v (record v { origin = o'; flights = remove v.flights j })
+      origin_flush_exact kind one same answered = record {
+        step = λ loud replied. issue_origin_flush contents layers replied v n j f (flight_first n j f v.flights found at) ok faults faults' done done' is o' kind one same reply answered;
       }
 
     -- at its place on its snapshot's store
@@ -95,3 +103,34 @@ module _ {B : Type 0} (contents : B → List ℕ) (layers : B → List Layer) (s
       merging_write_exact bytes kind one written answered = record {
         step = λ loud replied. issue_merging_write contents layers replied v n j f (flight_first n j f v.flights found at) ok faults faults' done done' place is dev m begun m'.device m' fields bytes kind one (written (loud_merging loud)) reply answered;
       }
+
+  -- at the whole store of its snapshot
+  module _ (faults faults' done done' : ℕ) (number k : ℕ) (is : f.route ≡ Whole) (dev : f.request.dev ≡ ToSnap number) (s s' : Kept B) (within : k < length v.snaps) (here : s ≡ get_or v.snaps k s) (mine : s.number ≡ number) (same : contents s'.device ≡ contents s.device) where
+    pub whole_exact : IsOneOperation Flushes true (layers s.device) (layers s'.device) faults faults' done done'
+        → s' ≡ record s { device = s'.device; state = record s.state { firm = s.state.zeroed; sure = length s.pairs }; copies = map flushed_copy s.copies; marks = map safe_mark s.marks }
+        → IsExact contents layers (Issue n) (Replied n DidFlush) v (changed v v.origin k s' (remove v.flights j))
+    whole_exact one fields = record {
+      step = λ loud replied. issue_whole contents layers replied v n j f (flight_first n j f v.flights found at) true faults faults' done done' is number dev k s
+          (snap_first contents layers size v h number k s within here (λ (x : Kept B). x.number == number) (λ x e. eqb-true x.number number e) (eq-eqb s.number number mine)) s'.device one same refl s' fields;
+    }
+
+    pub whole_io_exact : IsOneOperation Flushes false (layers s.device) (layers s'.device) faults faults' done done' → s' ≡ record s { device = s'.device }
+        → IsExact contents layers (Issue n) (Replied n (Declined Io)) v (changed v v.origin k s' (remove v.flights j))
+    whole_io_exact one fields = record {
+      step = λ loud replied. issue_whole_io contents layers replied v n j f (flight_first n j f v.flights found at) false faults faults' done done' is number dev k s
+          (snap_first contents layers size v h number k s within here (λ (x : Kept B). x.number == number) (λ x e. eqb-true x.number number e) (eq-eqb s.number number mine)) s'.device one same refl s' fields;
+    }
+
+  -- at the merging store
+  module _ (faults faults' done done' : ℕ) (is : f.route ≡ Whole) (dev : f.request.dev ≡ ToOrigin) (m : Merging B) (begun : v.merge ≡ Some m) (m' : Merging B) (fields : m' ≡ record m { device = m'.device }) (same : contents m'.device ≡ contents m.device) where
+    pub merging_flush_exact : IsOneOperation Flushes true (layers m.device) (layers m'.device) faults faults' done done'
+        → IsExact contents layers (Issue n) IsDone v (record v { merge = Some m'; flights = set v.flights j (record f { route = Origin }) })
+    merging_flush_exact one = record {
+      step = λ loud replied. issue_merging_flush contents layers replied v n j f (flight_first n j f v.flights found at) true faults faults' done done' is dev m begun m'.device one same m' fields refl;
+    }
+
+    pub merging_flush_io_exact : IsOneOperation Flushes false (layers m.device) (layers m'.device) faults faults' done done'
+        → IsExact contents layers (Issue n) (Replied n (Declined Io)) v (record v { merge = Some m'; flights = remove v.flights j })
+    merging_flush_io_exact one = record {
+      step = λ loud replied. issue_merging_flush_io contents layers replied v n j f (flight_first n j f v.flights found at) false faults faults' done done' is dev m begun m'.device one same m' fields refl;
+    }

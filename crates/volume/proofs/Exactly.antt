@@ -212,7 +212,7 @@ module _ {B : Type 0} (contents : B → List ℕ) (layers : B → List Layer) (s
         flushing_first = snap_first contents layers size v h n k s within is (is_flushing n) (λ x e. eqb-true x.number n (and_left (x.number == n) (waits_for_flush x) e)) found
 
         pub flush_exact : (s' : Kept B) → s.marked ≡ false → IsOneOperation Flushes true (layers s.device) (layers s'.device) faults faults' done done' → contents s'.device ≡ contents s.device
-            → s' ≡ record s { device = s'.device; state = record s.state { firm = s.state.zeroed }; copies = map flushed_copy s.copies; marks = map safe_mark s.marks } → IsExact contents layers (FlushStore n) Done v (changed v v.origin k s' v.flights)
+            → s' ≡ record s { device = s'.device; state = record s.state { firm = s.state.zeroed; sure = length s.pairs }; copies = map flushed_copy s.copies; marks = map safe_mark s.marks } → IsExact contents layers (FlushStore n) Done v (changed v v.origin k s' v.flights)
         flush_exact s' unmarked one same fields = record {
           step = λ loud replied. flush_store_done contents layers replied v n k s h.counted flushing_first faults faults' done done' s'.device same s' unmarked one fields;
         }

@@ -30,7 +30,8 @@ use Rattle.snapshots.specs.Starting.{unroomed, starts, overflows, overflowing, I
 use Rattle.snapshots.proofs.Overflowing.{overflowing_roomed, saved_lives}
 use Rattle.snapshots.proofs.Roomed.{roomed}
 use Rattle.volume.specs.Submitting.{IsAsked, IsAcceptedAs, entered_of, lives_after, spoiled_by}
-use Rattle.volume.proofs.Accepts.{entered_flown}
+use Rattle.volume.proofs.Accepts.{kept_flown}
+use Rattle.volume.proofs.Unflushed.{unflushed}
 use Rattle.volume.proofs.ByKind.{origin_write_enters}
 use Rattle.volume.proofs.Enters.{fresh_plain, whole_entered, plain_entered}
 use Rattle.volume.proofs.MovedLists.{if_false}
@@ -174,7 +175,7 @@ module _ {B : Type 0} (contents : B → List ℕ) (layers : B → List Layer) (s
         saved_lives contents layers (own_of first) before after v.copies m v.flights gs at
         ∙ roomed (λ (s : Kept B). if overflows first s then false else s.live) before v.snaps e (λ s. refl)
         ∙ sym (ap (λ (q : Kind). lives_after q first v.merge v.snaps) kind ∙ if_false (is_merged_at first v.merge) (map (λ (s : Kept B). s.live) v.snaps) (map (λ (s : Kept B). if overflows first s then false else s.live) v.snaps) unmerged));
-    flown = entered_flown v.flights gs f done.prepared.requests;
+    flown = kept_flown v.flights gs f (unflushed f.request OriginWrite kind tt) done.prepared.requests;
     exact = λ replied. origin_write_is contents layers replied f.number f.request f refl refl v written m before after gs kind unmerged e sized at route refl;
     overflows = overflows_saved contents layers f.request.range.first v.copies m v.snaps before after v.flights gs e at;
     kept = keeps_saved contents layers v written f.request.range.first v.copies m before v.flights gs refl refl refl e at;

@@ -1,5 +1,6 @@
 -- An event of one snapshot leaves its volume whole, and does what a step promises.
 use Rattle.std.proofs.Common.{◌≡◌, inr, ℕ, ◌<◌, Bool, true, false, List, [], ◌∷◌, ◌++◌, length, get_or, set, map, refl, sym, ◌∙◌, ap, arith}
+use Rattle.std.specs.Prelude.{sum_by}
 use Rattle.std.proofs.lemmas.List.{length-map}
 use Rattle.std.proofs.Math.Seq.{map-set_same}
 use Rattle.device.specs.Layers.{Layer, is_loud}
@@ -12,7 +13,7 @@ use Rattle.pending.specs.Kinds.{in_flight}
 use Rattle.pending.specs.Routes.{refused_of}
 use Rattle.pending.specs.declared.copies.Mark.{Mark}
 use Rattle.pending.specs.declared.flights.Flight.{Flight}
-use Rattle.volume_laws.specs.Due.{left_in}
+use Rattle.volume_laws.specs.Due.{left_in, weight_of}
 use Rattle.volume_laws.specs.Steps.{SpoilsSnap}
 use Rattle.volume_laws.specs.Waits.{Waits}
 use Rattle.volume_laws.specs.Whole.{IsLoud, plain_of as plain_books}
@@ -34,6 +35,7 @@ use Rattle.volume.specs.Stepping.{IsStepped, KeepsAll, has_failed, failed_by}
 use Rattle.volume.proofs.Counting.{kept_changed}
 use Rattle.volume.proofs.Shown.{shown, loud_books}
 use Rattle.volume.proofs.StartsLeft.{left_spoilt}
+use Rattle.volume.proofs.Weights.{refused_weights}
 use Rattle.volume.proofs.Changing.{SameDisk, StaysAttached, few_none, changed, spoils_one, whole_changed, lower_changed, loud_changed}
 
 pub record IsGood {B : Type 0} (contents : B → List ℕ) (layers : B → List Layer) (size faults done : B → ℕ) (event : Event) (outcome : Outcome) (v w : Volumed B) : Type 0 where
@@ -69,6 +71,7 @@ pub record SpoiltTo {B : Type 0} (s s' : Kept B) : Type 0 where
   pub chunk_is : s'.state.chunk ≡ s.state.chunk
   pub origin : s'.state.origin ≡ s.state.origin
   pub pairs : s'.pairs ≡ s.pairs
+  pub sure : s'.state.sure ≡ s.state.sure
   pub copies : s'.copies ≡ []
   pub marks : s'.marks ≡ []
   pub counted : IsCounted s → IsCounted s'
@@ -116,16 +119,15 @@ module _ {B : Type 0} (contents : B → List ℕ) (layers : B → List Layer) (s
         };
       }
 
-  pub silent_good : (flights : List Flight) → map in_flight flights ≡ map in_flight v.flights → StaysAttached s s' → s'.overflow ≡ s.overflow
+  pub silent_good : (flights : List Flight) → map in_flight flights ≡ map in_flight v.flights → sum_by weight_of flights ≡ sum_by weight_of v.flights → StaysAttached s s' → s'.overflow ≡ s.overflow
       → IsSilent (books_of contents layers size v) (books_of contents layers size (changed v o' k s' flights)) → Waits (books_of contents layers size (changed v o' k s' flights))
       → left_in (due_of_kept contents layers s') < left_in (due_of_kept contents layers s)
       → HasCause faults event outcome v (changed v o' k s' flights) → IsOneAtMost done v (changed v o' k s' flights) → KeepsRoom (room_of contents layers s) (room_of contents layers s')
       → IsGood contents layers size faults done event outcome v (changed v o' k s' flights)
-  silent_good flights same_flights stays overflow silent waits less cause one keeps =
+  silent_good flights same_flights weights stays overflow silent waits less cause one keeps =
       let numbers = same_numbers v.flights flights same_flights in
-      let count : length flights ≡ length v.flights = omega (arith, ap length numbers, length-map flights number_of_flight, length-map v.flights number_of_flight) in
       silent_with flights same_flights stays overflow silent (whole_changed contents layers size v o' k s s' within is flights h same stays numbers silent.holds waits keeps)
-      (lower_changed contents layers size v o' k s s' within is flights count less keeps.space.saved) cause one
+      (lower_changed contents layers size v o' k s s' within is flights weights less keeps.space.saved) cause one
 
   -- the snapshot is spoiled, and its requests refused
   pub spoilt_with : s.live ≡ true → (SpoilsSnap (snap_books contents layers s) (snap_books contents layers s') → left_in (due_of_kept contents layers s') < left_in (due_of_kept contents layers s)) → SpoiltTo s s'
@@ -135,10 +137,10 @@ module _ {B : Type 0} (contents : B → List ℕ) (layers : B → List Layer) (s
       let flights = map (refused_of (s.number ∷ [])) v.flights in
       let w = changed v o' k s' flights in
       let sb = snap_books contents layers in
-      let spoils : SpoilsSnap (sb s) (sb s') = record { number = t.number; was = live; live = t.live; overflow = t.overflow; chunk = t.chunk_is; pairs = t.pairs; copies = t.copies; marks = t.marks } in
+      let spoils : SpoilsSnap (sb s) (sb s') = record { number = t.number; was = live; live = t.live; overflow = t.overflow; chunk = t.chunk_is; pairs = t.pairs; sure = t.sure; copies = t.copies; marks = t.marks } in
       let e = spoils_one contents layers size v o' k s s' within is same spoils in
       let numbers = refused_numbers (s.number ∷ []) v.flights in
-      let count : length flights ≡ length v.flights = length-map v.flights (refused_of (s.number ∷ [])) in
+      let weights : sum_by weight_of flights ≡ sum_by weight_of v.flights = refused_weights (s.number ∷ []) v.flights in
       let spoil = spoil_event k (sb s) (sb s') (books_of contents layers size v) (books_of contents layers size w) h.holds e in
       let gone : numbers_in s' ≡ [] = ap (λ (x : List Mark). map number_of_mark x ++ map number_of_copy s'.copies) t.marks ∙ ap (map number_of_copy) t.copies in
       record {
@@ -147,7 +149,7 @@ module _ {B : Type 0} (contents : B → List ℕ) (layers : B → List Layer) (s
         stepped = record {
           legal = λ l. told (plain_of contents layers v) (plain_of contents layers w) (legal_by contents layers size v w (s.number ∷ []) spoil.step l);
           flown = still (map in_flight v.flights) (map in_flight w.flights) (refused_in_flight (s.number ∷ []) v.flights);
-          lower = lower_changed contents layers size v o' k s s' within is flights count (less spoils) (spoil_room (room_of contents layers s) (room_of contents layers s') spoils).space.saved;
+          lower = lower_changed contents layers size v o' k s s' within is flights weights (less spoils) (spoil_room (room_of contents layers s) (room_of contents layers s') spoils).space.saved;
           loud = loud_changed contents layers size v o' k s s' within is flights same loud;
           cause = cause;
           one = one;

@@ -5,6 +5,8 @@ pub mod Looked
 pub mod Changing
 pub mod Counting
 pub mod Empty
+pub mod Weights
+pub mod Unflushed
 pub mod Good
 pub mod MergeChanging
 pub mod MergeCounting
@@ -23,6 +25,7 @@ pub mod MergeIssues
 pub mod DiskIssues
 pub mod StoreIssues
 pub mod MergingIssues
+pub mod FlushIssues
 pub mod Issued
 pub mod MovedLists
 pub mod MovedDue
@@ -94,18 +97,23 @@ pub mod Beginnings
 pub mod Finished
 pub mod MovedWrites
 pub mod MergeWritten
-pub mod StopStill
-pub mod StopMoves
-pub mod StopGiven
-pub mod StopIssues
-pub mod StopShown
-pub mod Beneath
-pub mod StopUntried
-pub mod StopSteps
-pub mod StopOwn
-pub mod StopWrites
 pub mod Calm
 pub mod Under
 pub mod Others
 pub mod OwnKinds
 pub mod Fresh
+pub mod MergeLasts
+mod LastOne
+mod LastAll
+mod LastEvents
+mod Lefts
+mod LastMoves
+mod LastBoth
+mod LastFound
+pub mod OriginLasts
+mod LastNext
+pub mod MergeStarts
+pub mod MergeBoth
+pub mod BeginLasts
+mod LastTime
+mod LastCloses

@@ -1,7 +1,7 @@
 -- The merge of a volume changes, and with it maybe the origin disk and where requests go: the volume stays whole, and the
 -- event does what a step promises.
 use Rattle.std.proofs.Common.{◌≡◌, ℕ, ◌+◌, ◌<◌, ◌≤◌, Bool, true, List, [], ◌∷◌, ◌++◌, Option, Some, length, map, refl, sym, ◌∙◌, ap, subst, arith}
-use Rattle.std.specs.Prelude.{◌&&◌}
+use Rattle.std.specs.Prelude.{◌&&◌, sum_by}
 use Rattle.std.specs.List.{All, list_all}
 use Rattle.std.proofs.lemmas.List.{length-map}
 use Rattle.chunk.specs.Sizes.{is_chunk}
@@ -12,7 +12,7 @@ use Rattle.pending.specs.Due.{number_of_flight}
 use Rattle.pending.specs.Kinds.{in_flight}
 use Rattle.pending.specs.declared.flights.Flight.{Flight}
 use Rattle.volume_laws.specs.Books.{SnapBooks}
-use Rattle.volume_laws.specs.Due.{books_of as due_in}
+use Rattle.volume_laws.specs.Due.{weight_of, books_of as due_in}
 use Rattle.volume_laws.specs.MergeDue.{left_beside, left_in_merge}
 use Rattle.volume_laws.specs.MergeRooms.{KeepBack}
 use Rattle.volume_laws.specs.MergeSteps.{ChangesMerge}
@@ -121,7 +121,7 @@ module _ {B : Type 0} (contents : B → List ℕ) (layers : B → List Layer) (s
           numbers_left = h.numbers_left;
         }
 
-    pub lower_merged : (flights : List Flight) → length flights ≡ length v.flights → left_in_merge (merging_due contents loudness m') < left_in_merge (merging_due contents loudness m)
+    pub lower_merged : (flights : List Flight) → sum_by weight_of flights ≡ sum_by weight_of v.flights → left_in_merge (merging_due contents loudness m') < left_in_merge (merging_due contents loudness m)
         → left_beside (map (snap_books contents layers) v.snaps) (merging_due contents loudness m') ≤ left_beside (map (snap_books contents layers) v.snaps) (merging_due contents loudness m)
         → left_in_all contents layers (merged_to v o' m' flights) < left_in_all contents layers v
     lower_merged flights same less beside =
@@ -154,21 +154,20 @@ module _ {B : Type 0} (contents : B → List ℕ) (layers : B → List Layer) (s
 
     -- an event of the merge, which numbers no copies
     module _ (faults done : B → ℕ) (h : IsWhole contents layers size v) (event : Event) (outcome : Outcome) (told : Spoiling event outcome) (still : Staying event outcome) where
-      pub merged_good : (flights : List Flight) → map in_flight flights ≡ map in_flight v.flights
+      pub merged_good : (flights : List Flight) → map in_flight flights ≡ map in_flight v.flights → sum_by weight_of flights ≡ sum_by weight_of v.flights
           → IsMergeStep (books_of contents layers size v) (books_of contents layers size (merged_to v o' m' flights)) (merging_due contents loudness m) (merging_due contents loudness m')
           → KeepBack m'.state.chunk m'.state.origin m'.pairs (map (room_of contents layers) v.snaps)
           → m'.failed ≡ failed_by event outcome m.failed
           → HasCause faults event outcome v (merged_to v o' m' flights) → IsOneAtMost done v (merged_to v o' m' flights)
           → IsGood contents layers size faults done event outcome v (merged_to v o' m' flights)
-      merged_good flights same_flights step rooms failed cause one =
+      merged_good flights same_flights weights step rooms failed cause one =
           let numbers = same_numbers v.flights flights same_flights in
           let w = merged_to v o' m' flights in
-          let count : length flights ≡ length v.flights = omega (arith, ap length numbers, length-map flights number_of_flight, length-map v.flights number_of_flight) in
           record {
             whole = whole_merged flights h numbers step.change.silent.holds step.change.waits (λ loud. goes_any contents (map (snap_books contents layers) v.snaps) m' loudness loud step.goes) rooms;
             stepped = record {
               legal = λ l. told (plain_of contents layers v) (plain_of contents layers w) (legal_by contents layers size v w [] step.change.silent.step l);
-              lower = lower_merged flights count step.less step.beside;
+              lower = lower_merged flights weights step.less step.beside;
               loud = loud_merged flights;
               cause = cause;
               failed = failed ∙ ap (failed_by event outcome) (sym (ap has_failed was));

@@ -1,6 +1,6 @@
 -- The events of a merge that start no copies leave its volume whole, and do what a step promises.
 use Rattle.std.proofs.Common.{◌≡◌, ◌≢◌, inl, inr, ℕ, ◌<◌, Bool, true, false, List, [], ◌∷◌, ◌++◌, Option, Some, None, length, map, refl, sym, ◌∙◌, ap, subst}
-use Rattle.std.specs.Prelude.{◌&&◌}
+use Rattle.std.specs.Prelude.{◌&&◌, sum_by}
 use Rattle.std.specs.List.{All, list_all}
 use Rattle.sector.specs.Bytes.{next_count}
 use Rattle.sector.specs.declared.pair.Pair.{Pair}
@@ -32,6 +32,8 @@ use Rattle.volume.specs.Whole.{IsWhole}
 use Rattle.volume.specs.Causes.{HasCause, IsFaultless, IsOneAtMost, merging_device, MergeFails}
 use Rattle.volume.specs.Stepping.{failed_by}
 use Rattle.volume.proofs.AgainEvents.{again_flown}
+use Rattle.volume.proofs.Weights.{again_weights}
+use Rattle.volume_laws.specs.Due.{weight_of}
 use Rattle.volume.proofs.Good.{IsGood, Spoiling, Staying}
 use Rattle.volume.proofs.Shown.{and_right}
 use Rattle.volume_laws.proofs.MergeEvents.{NoWriteTo}
@@ -124,7 +126,7 @@ module _ {B : Type 0} (contents : B → List ℕ) (layers : B → List Layer) (s
     good : (event : Event) → Spoiling event Done → Staying event Done → IsMergeStep before_in after_in before after → KeepBack m'.state.chunk m'.state.origin m'.pairs (map (room_of contents layers) v.snaps) → m'.failed ≡ failed_by event Done m.failed
         → HasCause faults event Done v here → done m'.device ≡ next_count (done m.device) → IsGood contents layers size faults done event Done v here
     good event told still step kept failed cause counts =
-        merged_good contents layers size v m was v.origin m' stays (disk_stays layers size v.origin) faults done h event Done told still v.flights refl step kept failed cause
+        merged_good contents layers size v m was v.origin m' stays (disk_stays layers size v.origin) faults done h event Done told still v.flights refl refl step kept failed cause
         (inr (merging_device v, store_within v m m' was v.origin v.flights done, merged_store v m m' was v.origin v.flights done refl counts))
 
     faultless : faults m'.device ≡ faults m.device → IsFaultless faults v here
@@ -168,7 +170,7 @@ module _ {B : Type 0} (contents : B → List ℕ) (layers : B → List Layer) (s
     flush_good step faultless counts device =
         let s = step sound in
         let w = merged_to v o' m' v.flights in
-        merged_good contents layers size v m was o' m' stays disk faults done h MergeFlush Done (λ p q x. x) (λ xs ys e. e) v.flights refl
+        merged_good contents layers size v m was o' m' stays disk faults done h MergeFlush Done (λ p q x. x) (λ xs ys e. e) v.flights refl refl
         (flush_step (books_of contents layers size v) (books_of contents layers size w) before (merging_due contents sound m') h.holds h.waits goes (merge_changes contents layers size v m was o' m' stays disk) s same)
         (rooms_flushed (map (room_of contents layers) v.snaps) before (merging_due contents sound m') rooms s)
         (s.failed ∙ sym s.running)
@@ -189,6 +191,9 @@ module _ {B : Type 0} (contents : B → List ℕ) (layers : B → List Layer) (s
       flown : map in_flight flights ≡ map in_flight v.flights
       flown = ap (map in_flight) routed ∙ again_flown (merge_books contents layers true (Some m')) (is_clear (map (snap_books contents layers) v.snaps)) v.flights
 
+      weights : sum_by weight_of flights ≡ sum_by weight_of v.flights
+      weights = ap (sum_by weight_of) routed ∙ again_weights (merge_books contents layers true (Some m')) (is_clear (map (snap_books contents layers) v.snaps)) v.flights
+
       changed_in : ChangesMerge (merging_books contents sound m) (merging_books contents sound m') (books_of contents layers size v) middle
       changed_in = merge_changes contents layers size v m was o' m' stays disk
 
@@ -198,7 +203,7 @@ module _ {B : Type 0} (contents : B → List ℕ) (layers : B → List Layer) (s
       release_good due step origin device =
           let s = step sound in
           let may = release_test v.flights (merging_books contents true m) due in
-          merged_good contents layers size v m was o' m' stays disk faults done h MergeRelease Done (λ p q x. x) (λ xs ys e. e) flights flown
+          merged_good contents layers size v m was o' m' stays disk faults done h MergeRelease Done (λ p q x. x) (λ xs ys e. e) flights flown weights
           (release_step (books_of contents layers size v) middle before (merging_due contents sound m') h.holds h.waits goes changed_in (books_of contents layers size ended) again same s may.elsewhere)
           (rooms_released (map (room_of contents layers) v.snaps) before (merging_due contents sound m') rooms s)
           (s.failed ∙ sym s.running)
@@ -212,7 +217,7 @@ module _ {B : Type 0} (contents : B → List ℕ) (layers : B → List Layer) (s
         stop_good cause one =
             let s = step sound in
             let going : 0 < left_in_merge (merging_due contents true m) = (due_going (map (snap_books contents layers) v.snaps) v.flights (merging_due contents true m) event goes_true due).some in
-            merged_good contents layers size v m was o' m' stays disk faults done h event Fault told still flights flown
+            merged_good contents layers size v m was o' m' stays disk faults done h event Fault told still flights flown weights
             (fault_step (books_of contents layers size v) middle before (merging_due contents sound m') h.holds h.waits goes changed_in (books_of contents layers size ended) again same s going)
             (rooms_failed (map (room_of contents layers) v.snaps) before (merging_due contents sound m') rooms s)
             (s.failed ∙ sym stops) cause one

@@ -14,7 +14,7 @@ use Rattle.pending.specs.Due.{number_of_flight}
 use Rattle.pending.specs.Kinds.{in_flight}
 use Rattle.pending.specs.declared.flights.Flight.{Flight}
 use Rattle.volume_laws.specs.Books.{MergeBooks, SnapBooks}
-use Rattle.volume_laws.specs.Due.{left_in, books_of as due_in}
+use Rattle.volume_laws.specs.Due.{left_in, weight_of, books_of as due_in}
 use Rattle.volume_laws.specs.MergeDue.{last_of, lacking_in, lacking_of, left_beside, left_in_merge, per_copy}
 use Rattle.volume_laws.specs.MergeRooms.{KeepBack, room_books}
 use Rattle.volume_laws.specs.Published.{next_over}
@@ -45,6 +45,7 @@ use Rattle.volume.proofs.MergeChanging.{DiskStays, merged_to, loudness, merged_i
 use Rattle.volume.proofs.NextFit.{AreNext, next_all}
 use Rattle.volume.proofs.NextSaved.{IsWeighed, losing, lacking_books, lacking_live, next_few, next_given, next_left, next_lives, next_same}
 use Rattle.volume.proofs.Shown.{due_books}
+use Rattle.volume.proofs.Weights.{next_weights}
 
 -- the merge with another group
 abbrev pub regrouped : {B : Type 0} → Merging B → Option Group → Merging B
@@ -58,6 +59,7 @@ pub record IsNextDone {B : Type 0} (contents : B → List ℕ) (layers : B → L
   pub fit : SnapsFit w.copies w.attached (size w.origin) w.snaps
   pub rooms : KeepBack m.state.chunk m.state.origin m.pairs (map (room_of contents layers) w.snaps)
   pub flights : map in_flight w.flights ≡ map in_flight u.flights
+  pub weights : sum_by weight_of w.flights ≡ sum_by weight_of u.flights
   pub numbers : map number_of_snap w.snaps ≡ map number_of_snap u.snaps
   pub overflows : map (λ (s : Kept B). s.overflow) w.snaps ≡ map (λ (s : Kept B). s.overflow) u.snaps
   pub chunks : map (λ (s : Kept B). s.state.chunk) w.snaps ≡ map (λ (s : Kept B). s.state.chunk) u.snaps
@@ -102,6 +104,7 @@ module _ {B : Type 0} (contents : B → List ℕ) (layers : B → List Layer) (s
     fit = fit;
     rooms = kept;
     flights = refl;
+    weights = refl;
     numbers = refl;
     overflows = refl;
     chunks = refl;
@@ -136,6 +139,7 @@ module _ {B : Type 0} (contents : B → List ℕ) (layers : B → List Layer) (s
         fit = all.fit;
         rooms = all.room.kept;
         flights = all.starting.prepared.requests;
+        weights = next_weights contents layers at u.snaps ts u.copies n u.flights gs saved;
         numbers = next_same contents layers at number_of_snap (λ s a b c d e f. refl) (λ s. refl) u.snaps ts u.copies n u.flights gs saved;
         overflows = next_same contents layers at (λ (s : Kept B). s.overflow) (λ s a b c d e f. refl) (λ s. refl) u.snaps ts u.copies n u.flights gs saved;
         chunks = next_same contents layers at (λ (s : Kept B). s.state.chunk) (λ s a b c d e f. refl) (λ s. refl) u.snaps ts u.copies n u.flights gs saved;
@@ -220,8 +224,7 @@ module _ {B : Type 0} (contents : B → List ℕ) (layers : B → List Layer) (s
 
       lower_saved : left_in_merge (merging_due contents sound (regrouped m g)) < left_in_merge (merging_due contents sound m) → left_in_all contents layers saved_to < left_in_all contents layers v
       lower_saved less =
-          let numbers : map number_of_flight gs ≡ map number_of_flight v.flights = same_numbers v.flights gs done.flights in
-          let same : length gs ≡ length v.flights = omega (arith, ap length numbers, length-map gs number_of_flight, length-map v.flights number_of_flight) in
+          let same : sum_by weight_of gs ≡ sum_by weight_of v.flights = done.weights in
           let at : left_by (dues_of contents layers v) (merge_due contents v.merge) ≡ left_in_merge (merging_due contents true m) + left_beside (map due_in (dues_of contents layers v)) (merging_due contents true m) =
           ap (λ (x : Option (Merging B)). left_by (dues_of contents layers v) (merge_due contents x)) was in
           let old : left_beside (map due_in (dues_of contents layers v)) (merging_due contents true m) ≡ left_beside (map (snap_books contents layers) v.snaps) (merging_due contents true m) =

@@ -12,14 +12,14 @@ use Rattle.plain.specs.declared.event.Outcome.TheVariants.{Reply as Replied}
 use Rattle.plain.specs.declared.request.Dev.{Dev}
 use Rattle.plain.specs.declared.request.Dev.TheVariants.{Origin as AtOrigin}
 use Rattle.plain.specs.declared.request.Op.{Op}
-use Rattle.plain.specs.declared.request.Op.TheVariants.{Read, Write}
+use Rattle.plain.specs.declared.request.Op.TheVariants.{Read, Write, Flush}
 use Rattle.plain.specs.declared.request.Reply.{Reply}
 use Rattle.plain.specs.declared.request.Reply.TheVariants.{Data, Written as IsWritten, Refused as IsRefused}
 use Rattle.plain.specs.declared.request.Failure.TheVariants.{Io}
 use Rattle.pending.specs.Kinds.{kind_at, kind_of}
 use Rattle.pending.specs.declared.flights.Flight.{Flight}
-use Rattle.pending.specs.declared.flights.Kind.TheVariants.{OriginRead, OriginWrite}
-use Rattle.pending.specs.declared.flights.Route.TheVariants.{Store}
+use Rattle.pending.specs.declared.flights.Kind.TheVariants.{OriginFlush, OriginRead, OriginWrite}
+use Rattle.pending.specs.declared.flights.Route.TheVariants.{Origin, Store, Whole}
 use Rattle.volume_laws.specs.Books.{MergeBooks, Books, listed, taken}
 use Rattle.volume_laws.specs.Due.{books_of as due_in}
 use Rattle.volume_laws.specs.MergeDue.{left_beside, left_in_merge}
@@ -47,7 +47,7 @@ use Rattle.volume.specs.Flying.{Fits}
 use Rattle.volume.specs.Stepping.{KeepsAll, has_failed}
 use Rattle.volume.proofs.Changing.{SnapsFit}
 use Rattle.volume.proofs.Good.{IsGood}
-use Rattle.volume.proofs.IssueEvents.{reply_good, taken_out, fits_read, fits_write}
+use Rattle.volume.proofs.IssueEvents.{no_more, reply_good, taken_out, fits_read, fits_write}
 use Rattle.volume.proofs.MergeIssues.{read_merging, write_merging}
 use Rattle.volume.proofs.MergeChanging.{StaysMerged, disk_stays, merged_in, books_merged, loud_merged, kept_merged}
 use Rattle.volume.proofs.MergeCounting.{merged_same, merged_store, store_within}
@@ -60,17 +60,26 @@ origin_reads dev op d o = ap (λ x. kind_at x op) d ∙ ap (kind_at AtOrigin) o
 origin_writes : (dev : Dev) (op : Op) (bytes : List ℕ) → dev ≡ AtOrigin → op ≡ Write bytes → kind_at dev op ≡ OriginWrite
 origin_writes dev op bytes d o = ap (λ x. kind_at x op) d ∙ ap (kind_at AtOrigin) o
 
+pub origin_flushes : (dev : Dev) (op : Op) → dev ≡ AtOrigin → op ≡ Flush → kind_at dev op ≡ OriginFlush
+origin_flushes dev op d o = ap (λ x. kind_at x op) d ∙ ap (kind_at AtOrigin) o
+
+store_ne_origin : (place : ℕ) → Store place ≢ Origin
+store_ne_origin place c = cc
+
+store_ne_whole : (place : ℕ) → Store place ≢ Whole
+store_ne_whole place c = cc
+
 -- the merge as it was, but for its device
 abbrev pub on_device : {B : Type 0} → Merging B → B → Merging B
 on_device m d = record m { device = d }
 
 module _ {B : Type 0} (contents : B → List ℕ) (layers : B → List Layer) (size : B → ℕ) where
   -- of what is due of it the store's bytes alone change
-  stores : (loud : Bool) (m : Merging B) (d : B) → WritesStore (contents d) (merging_due contents loud m) (merging_due contents loud (on_device m d))
+  pub stores : (loud : Bool) (m : Merging B) (d : B) → WritesStore (contents d) (merging_due contents loud m) (merging_due contents loud (on_device m d))
   stores loud m d = record { books = refl; failed = refl; flushed = refl; filled = refl; current = refl }
 
   -- a device that does the same: the books are the same, whatever writes are done
-  same_merge : (loud : Bool) (m : Merging B) (d : B) → contents d ≡ contents m.device → is_loud (layers d) ≡ is_loud (layers m.device) → merge_books contents layers loud (Some (on_device m d)) ≡ merge_books contents layers loud (Some m)
+  pub same_merge : (loud : Bool) (m : Merging B) (d : B) → contents d ≡ contents m.device → is_loud (layers d) ≡ is_loud (layers m.device) → merge_books contents layers loud (Some (on_device m d)) ≡ merge_books contents layers loud (Some m)
   same_merge loud m d bytes same =
       ap (λ b. Some (merging_books contents (loud && b) (on_device m d))) same ∙ ap (λ xs. Some (record (merging_books contents (loud && is_loud (layers m.device)) m) { store = xs })) bytes
 
@@ -95,6 +104,7 @@ module _ {B : Type 0} (contents : B → List ℕ) (layers : B → List Layer) (s
       by : (op : Op) → r.request.op ≡ op → ⊥
       by Read is = (unmerged none).read at (origin_reads r.request.dev r.request.op dev is) route
       by (Write bytes) is = (unmerged none).write at (origin_writes r.request.dev r.request.op bytes dev is) route
+      by Flush is = store_ne_origin at (sym route ∙ (unmerged none).flush (origin_flushes r.request.dev r.request.op dev is))
 
   module _ (m : Merging B) (begun : v.merge ≡ Some m) where
     abbrev mb : MergeBooks
@@ -108,6 +118,13 @@ module _ {B : Type 0} (contents : B → List ℕ) (layers : B → List Layer) (s
 
     routed : MergeRouteHolds m.number m.state.chunk m.pairs (listed mb) (taken mb) r
     routed = subst (MergeRouteHolds m.number m.state.chunk m.pairs (listed mb) (taken mb)) (sym was) (here.routes place r in_list)
+
+    -- no flush goes there
+    pub unflushed : r.request.op ≡ Flush → ⊥
+    unflushed op = elim (routed.flush (origin_flushes r.request.dev r.request.op dev op)) [
+      | inl whole ↦ store_ne_whole at (sym route ∙ whole)
+      | inr origin ↦ store_ne_origin at (sym route ∙ origin)
+    ]
 
     pub read_placed : r.request.op ≡ Read → (c : ℕ) × (place_of (m.pairs ++ released_of m.group) c ≡ Some at)
     read_placed op = (chunk_of m.state.chunk r, routed.read_stored at (origin_reads r.request.dev r.request.op dev op) route)
@@ -182,7 +199,7 @@ module _ {B : Type 0} (contents : B → List ℕ) (layers : B → List Layer) (s
       failed : (kind_of r.request ≡ OriginRead) ⊎ (kind_of r.request ≡ OriginWrite) → faults d ≡ next_count (faults m.device) → (n : ℕ) × GoesTo number n v × FailsAlone faults n v issued
       failed kind one_more = (
         merging_device v,
-        record { place = place; flight = r; within = in_list; is = was; mine = mine; route = inr (inr (at, m, route, begun, refl, kind)) },
+        record { place = place; flight = r; within = in_list; is = was; mine = mine; route = inr (inr (inl (at, m, route, begun, refl, kind))) },
         record { counts = merged_store v m (on_device m d) begun v.origin (remove v.flights place) faults refl one_more; lives = refl },
       )
 
@@ -209,7 +226,7 @@ module _ {B : Type 0} (contents : B → List ℕ) (layers : B → List Layer) (s
           → IsGood contents layers size faults done (Issue number) (Replied number reply) v (record v { merge = Some m'; flights = remove v.flights place })
       good reply answered cause fits =
           subst (λ (x : Merging B). IsGood contents layers size faults done (Issue number) (Replied number reply) v (record v { merge = Some x; flights = remove v.flights place })) (sym f)
-          (reply_good contents layers size faults done v issued h number place reply in_list refl refl refl refl fit goes (ap has_failed (sym begun)) left refl loud_now kept refl answered waits cause
+          (reply_good contents layers size faults done v issued h number place reply in_list refl refl refl refl fit goes (ap has_failed (sym begun)) left (no_more _) loud_now kept refl answered waits cause
           (inr (merging_device v, store_within v m (on_device m d) begun v.origin (remove v.flights place) done, merged_store v m (on_device m d) begun v.origin (remove v.flights place) done refl more))
           (taken_out number place reply r vb (record wb { merge = vb.merge }) out fits))
 

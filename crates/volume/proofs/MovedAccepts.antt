@@ -12,19 +12,21 @@ use Rattle.plain.specs.declared.request.Overflowing.TheVariants.{Never, Did}
 use Rattle.plain.specs.Plain.{did_overflow}
 use Rattle.plain.specs.declared.request.Request.{Request}
 use Rattle.pending.specs.Kinds.{kind_of}
-use Rattle.pending.specs.Routes.{read_route_of, write_route_of, refused_of}
+use Rattle.pending.specs.Routes.{flush_route_of, read_route_of, write_route_of, refused_of}
+use Rattle.merge.specs.Merging.{Merging}
 use Rattle.pending.specs.declared.flights.Flight.{Flight}
 use Rattle.pending.specs.declared.flights.Kind.{Kind}
-use Rattle.pending.specs.declared.flights.Kind.TheVariants.{OriginRead, OriginWrite, SnapRead, SnapWrite}
+use Rattle.pending.specs.declared.flights.Kind.TheVariants.{OriginRead, OriginWrite, OriginFlush, SnapRead, SnapWrite, SnapFlush}
 use Rattle.pending.specs.declared.flights.Route.{Route}
-use Rattle.pending.specs.declared.flights.Route.TheVariants.{Held as Waits, Store}
+use Rattle.pending.specs.declared.flights.Route.TheVariants.{Held as Waits, Store, Whole}
+use Rattle.plain.specs.Kept.{kept}
 use Rattle.volume_laws.specs.Again.{published_place}
 use Rattle.event_machine.specs.Held.{Held, Going, Moving}
 use Rattle.event_machine.specs.Again.{is_clear, is_grouped, merged_place, write_route}
 use Rattle.event_machine.specs.MergeSeen.{held_in}
 use Rattle.event_machine.specs.Seen.{going_of}
 use Rattle.event_machine.specs.Stepping.{for_some, put, spoil}
-use Rattle.event_machine.specs.Submitting.{accepted, chunk_at, declined, started_all, started_by, refused_by, is_filled, needs_none, with_copy, read_snap, write_placed, write_open, write_snap, shuts, overflown, start_copies, submitted, submitted_as}
+use Rattle.event_machine.specs.Submitting.{accepted, chunk_at, declined, started_all, started_by, refused_by, is_filled, needs_none, with_copy, read_snap, flush_snap, write_placed, write_open, write_snap, shuts, overflown, start_copies, submitted, submitted_as}
 use Rattle.volume_laws.specs.Published.{is_clear as is_clear_in}
 use Rattle.snapshot.specs.Kept.{Kept, books_of as snap_books}
 use Rattle.volume.specs.Volumed.{Volumed}
@@ -110,7 +112,29 @@ module _ {B : Type 0} (contents : B → List ℕ) (layers : B → List Layer) wh
           ∙ ap (made (map held after) (map going_of gs)) all.count
           ∙ accepted_is u w route (is ∙ ap (write_route_of false None) (sym (clear_seen contents layers first after)) ∙ sym (unmerged_route first v.merge unmerged (is_clear (map held after) first)) ∙ sym (write_route_held (map held after))) becomes
 
+      -- a flush of the origin, which goes to the merging store first where a merge is begun
+      pub origin_flush_is : kept request ≡ request → kind_of request ≡ OriginFlush → f.route ≡ flush_route_of (is_some v.merge) → w ≡ entered_of f v → submitted number request (moving_of contents layers replied v) ≡ moving_of contents layers replied w
+      origin_flush_is whole kind is becomes =
+          let m : Moving = moving_of contents layers replied v in
+          ap (λ (x : Kind). submitted_as x number request m) kind
+          ∙ ap (λ (r : Request). accepted number r (flush_route_of (is_some m.merge)) m) whole
+          ∙ accepted_is v w (flush_route_of (is_some m.merge)) (is ∙ ap flush_route_of (begun_held v.merge)) becomes
+        where
+          begun_held : (o : Option (Merging B)) → is_some o ≡ is_some (held_in (merge_seen contents layers o))
+          begun_held None = refl
+          begun_held (Some g) = refl
+
       module _ (n k : ℕ) (s : Kept B) (found : IsFirst (λ (x : Kept B). x.number == n) k s v.snaps) where
+        -- a flush of a live snapshot
+        pub snap_flush_is : kept request ≡ request → kind_of request ≡ SnapFlush n → s.live ≡ true → f.route ≡ Whole → w ≡ entered_of f v → submitted number request (moving_of contents layers replied v) ≡ moving_of contents layers replied w
+        snap_flush_is whole kind live is becomes =
+            let m : Moving = moving_of contents layers replied v in
+            ap (λ (x : Kind). submitted_as x number request m) kind
+            ∙ ap (λ (x : Option Held). for_some x (λ h. flush_snap number (kept request) h m) (declined Invalid m)) (first_is (held_of contents layers) (λ (h : Held). h.snap.number == n) k s v.snaps found)
+            ∙ if_true s.live (accepted number (kept request) Whole m) (declined Invalid m) live
+            ∙ ap (λ (r : Request). accepted number r Whole m) whole
+            ∙ accepted_is v w Whole is becomes
+
         -- a read of a live snapshot
         pub snap_read_is : kind_of request ≡ SnapRead n → s.live ≡ true → f.route ≡ read_route_of (place_of s.pairs (request.range.first / s.state.chunk)) → w ≡ entered_of f v
             → submitted number request (moving_of contents layers replied v) ≡ moving_of contents layers replied w
@@ -174,7 +198,7 @@ module _ {B : Type 0} (contents : B → List ℕ) (layers : B → List Layer) wh
 
   module _ (replied : Option Reply) (number : ℕ) (request : Request) (v : Volumed B) (n k : ℕ) (s : Kept B) (found : IsFirst (λ (x : Kept B). x.number == n) k s v.snaps) where
     -- a request of a snapshot that is not live
-    pub snap_dead_is : (kind_of request ≡ SnapRead n) ⊎ (kind_of request ≡ SnapWrite n) → s.live ≡ false → submitted number request (moving_of contents layers replied v) ≡ moving_of contents layers (Some (Declined Invalid)) v
+    pub snap_dead_is : (kind_of request ≡ SnapRead n) ⊎ (kind_of request ≡ SnapWrite n) ⊎ (kind_of request ≡ SnapFlush n) → s.live ≡ false → submitted number request (moving_of contents layers replied v) ≡ moving_of contents layers (Some (Declined Invalid)) v
     snap_dead_is kind dead =
         let m : Moving = moving_of contents layers replied v in
         let h : Held = held_of contents layers s in
@@ -184,10 +208,15 @@ module _ {B : Type 0} (contents : B → List ℕ) (layers : B → List Layer) wh
           | inl read ↦ ap (λ (x : Kind). submitted_as x number request m) read
               ∙ ap (λ (x : Option Held). for_some x (λ y. read_snap number request y m) (declined Invalid m)) (first_is (held_of contents layers) test k s v.snaps found)
               ∙ if_false s.live (accepted number request (read_route_of (place_of s.pairs c)) m) (declined Invalid m) dead
-          | inr write ↦ ap (λ (x : Kind). submitted_as x number request m) write
-              ∙ ap (λ (x : Option Held). for_some x (λ y. write_snap number request test y m) (declined Invalid m)) (first_is (held_of contents layers) test k s v.snaps found)
-              ∙ if_false (shuts c h) (declined Overflow (put test (overflown h) m)) (write_open number request test h m) (dead_open contents layers request.range.first s dead)
-              ∙ if_false s.live (write_placed number request test h (published_place s.pairs s.marks c) m) (declined Invalid m) dead
+          | inr other ↦ elim other [
+            | inl write ↦ ap (λ (x : Kind). submitted_as x number request m) write
+                ∙ ap (λ (x : Option Held). for_some x (λ y. write_snap number request test y m) (declined Invalid m)) (first_is (held_of contents layers) test k s v.snaps found)
+                ∙ if_false (shuts c h) (declined Overflow (put test (overflown h) m)) (write_open number request test h m) (dead_open contents layers request.range.first s dead)
+                ∙ if_false s.live (write_placed number request test h (published_place s.pairs s.marks c) m) (declined Invalid m) dead
+            | inr flush ↦ ap (λ (x : Kind). submitted_as x number request m) flush
+                ∙ ap (λ (x : Option Held). for_some x (λ y. flush_snap number (kept request) y m) (declined Invalid m)) (first_is (held_of contents layers) test k s v.snaps found)
+                ∙ if_false s.live (accepted number (kept request) Whole m) (declined Invalid m) dead
+          ]
         ]
 
     -- a store that is found full: the snapshot is spoiled, its requests are refused, and so is this one

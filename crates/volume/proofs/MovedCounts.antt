@@ -59,8 +59,8 @@ module _ {B : Type 0} (s : Kept B) (c : IsCounted s) where
   counted_tried d stale = counted_same s (record s { device = d; untried = false; stale = stale }) c refl refl refl (λ e. e)
 
   -- its store is flushed
-  pub counted_flushed : (d : B) (firm : Bool) (copies : List ChunkCopy) (marks : List Mark) → (s.copies ≡ [] → copies ≡ []) → IsCounted (record s { device = d; state = record s.state { firm = firm }; copies = copies; marks = marks })
-  counted_flushed d firm copies marks idle = record { some = c.some; count = c.count; fits = c.fits; idle = λ e. idle (c.idle e) }
+  pub counted_flushed : (d : B) (firm : Bool) (sure : ℕ) (copies : List ChunkCopy) (marks : List Mark) → (s.copies ≡ [] → copies ≡ []) → IsCounted (record s { device = d; state = record s.state { firm = firm; sure = sure }; copies = copies; marks = marks })
+  counted_flushed d firm sure copies marks idle = record { some = c.some; count = c.count; fits = c.fits; idle = λ e. idle (c.idle e) }
 
   pub counted_spoilt : IsCounted (spoilt s)
   counted_spoilt = record { some = c.some; count = c.count; fits = λ e. absurd (false≢true e); idle = λ e. refl }

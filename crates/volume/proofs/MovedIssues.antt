@@ -1,36 +1,38 @@
 -- A request goes where its route says, and is answered.
-use Rattle.std.proofs.Common.{◌≡◌, ℕ, ◌+◌, ◌*◌, ◌%◌, Bool, true, List, Option, Some, get_or, set, map, refl, sym, ◌∙◌, ap}
+use Rattle.std.proofs.Common.{◌≡◌, ℕ, ◌+◌, ◌*◌, ◌%◌, Bool, true, false, List, Option, Some, length, get_or, set, map, refl, sym, ◌∙◌, ap}
 use Rattle.std.specs.Prelude.{◌==◌, ◌&&◌, if◌then◌else◌}
 use Rattle.std.specs.List.{remove}
 use Rattle.sector.specs.Bytes.{sectors_at, with_sectors}
 use Rattle.device.specs.Layers.{Layer}
 use Rattle.device.specs.declared.operation.Operation.{Operation}
-use Rattle.device.specs.declared.operation.Operation.TheVariants.{Reads, Writes}
+use Rattle.device.specs.declared.operation.Operation.TheVariants.{Reads, Writes, Flushes}
 use Rattle.plain.specs.declared.event.Event.TheVariants.{Issue}
 use Rattle.plain.specs.declared.request.Dev.{Dev}
 use Rattle.plain.specs.declared.request.Dev.TheVariants.{Origin as ToOrigin, Snap as ToSnap}
 use Rattle.plain.specs.declared.request.Op.{Op}
-use Rattle.plain.specs.declared.request.Op.TheVariants.{Read as ReadOp, Write as WriteOp}
+use Rattle.plain.specs.declared.request.Op.TheVariants.{Read as ReadOp, Write as WriteOp, Flush as FlushOp}
 use Rattle.plain.specs.declared.request.Reply.{Reply}
-use Rattle.plain.specs.declared.request.Reply.TheVariants.{Data, Written as Done, Refused as Declined}
+use Rattle.plain.specs.declared.request.Reply.TheVariants.{Data, Written as Done, Flushed as DidFlush, Refused as Declined}
 use Rattle.plain.specs.declared.request.Failure.TheVariants.{Invalid, Io}
 use Rattle.pending.specs.Due.{is_routed}
 use Rattle.pending.specs.declared.flights.Flight.{Flight}
 use Rattle.pending.specs.declared.flights.Route.{Route}
-use Rattle.pending.specs.declared.flights.Route.TheVariants.{Origin, Store, Refused}
+use Rattle.pending.specs.declared.flights.Route.TheVariants.{Origin, Store, Whole, Refused}
 use Rattle.store.specs.Operations.{IsOneOperation}
-use Rattle.settled.specs.Devices.{Device, answers, met, written_by, read_reply}
-use Rattle.event_machine.specs.Held.{Held, Going, MergeHeld, Moving, on_device, with_merge, with_store}
+use Rattle.settled.specs.Devices.{Device, answers, flush_reply, met, written_by, read_reply}
+use Rattle.event_machine.specs.Held.{Copying, Held, Going, MergeHeld, Moving, flushed_held, on_device, with_merge, with_store}
 use Rattle.event_machine.specs.Due.{is_issuable}
 use Rattle.event_machine.specs.MergeSeen.{held_in, merge_held_of}
 use Rattle.event_machine.specs.Seen.{going_of}
-use Rattle.event_machine.specs.Stepping.{for_some, with_first, without_first, put, answer, write_reply, on_disk, on_merging, on_store, on_place, issue, stepped}
+use Rattle.event_machine.specs.Stepping.{for_some, with_first, without_first, put, answer, write_reply, on_disk, on_merging, on_store, on_place, on_whole, flush_asked, flush_merging, issue, stepped}
 use Rattle.merge.specs.Merging.{Merging, due_of as merging_due}
 use Rattle.snapshot.specs.Kept.{Kept}
 use Rattle.volume.specs.Volumed.{Volumed}
 use Rattle.volume.specs.Moved.{device_of, held_of, merge_seen, moving_of}
-use Rattle.volume.proofs.MovedLists.{IsFirst, first_is, with_is, without_seen}
-use Rattle.volume.proofs.MovedSnaps.{changed, device_by}
+use Rattle.volume.proofs.MovedLists.{IsFirst, first_is, if_true, if_false, with_is, without_seen}
+use Rattle.volume.proofs.MovedMarks.{flushed_seen}
+use Rattle.volume.proofs.MovedSnaps.{changed, device_by, met_is}
+use Rattle.pending.specs.Flushed.{flushed_copy, safe_mark}
 
 -- whether it is found, and goes somewhere
 issuable_first : (n j : ℕ) (f : Flight) (fs : List Flight) → IsFirst (λ (x : Flight). x.number == n) j f fs → is_routed f.route ≡ true → IsFirst (λ (x : Flight). (x.number == n) && is_routed x.route) j f fs
@@ -113,6 +115,109 @@ module _ {B : Type 0} (contents : B → List ℕ) (layers : B → List Layer) wh
             issue_is Origin is refl ∙ ap (λ (op : Op). on_disk op first count mine m) kind
             ∙ ap (λ (x : Reply). answer mine x (record m { origin = after })) reply_is
             ∙ answered_is reply after o' m.snaps v.snaps m.merge v.merge (written_is (Writes first count) (with_sectors (contents v.origin) first bytes) ok faults faults' done done' v.origin o' one new) refl refl
+
+        -- it flushes it
+        pub issue_origin_flush : f.request.op ≡ FlushOp → IsOneOperation Flushes ok (layers v.origin) (layers o') faults faults' done done'
+            → contents o' ≡ contents v.origin → (reply : Reply) → reply ≡ (if ok then DidFlush else Declined Io)
+            → stepped (Issue n) (moving_of contents layers replied v) ≡ moving_of contents layers (Some reply) (record v { origin = o'; flights = remove v.flights j })
+        issue_origin_flush kind one same reply answered =
+            let m : Moving = moving_of contents layers replied v in
+            let first : ℕ = f.request.range.first in
+            let count : ℕ = f.request.range.count in
+            let mine : Going → Bool = λ (r : Going). r.number == n in
+            let reply_is : flush_reply m.origin ≡ reply = sym (answered ∙ ap (λ (b : Bool). if b then DidFlush else Declined Io) one.answer) in
+            issue_is Origin is refl ∙ ap (λ (op : Op). on_disk op first count mine m) kind
+            ∙ ap (λ (x : Reply). answer mine x (record m { origin = met m.origin Flushes })) reply_is
+            ∙ answered_is reply (met m.origin Flushes) o' m.snaps v.snaps m.merge v.merge (device_by contents layers (contents v.origin) (contents o') (met m.origin Flushes).layers (layers o') (sym same) (sym one.layers)) refl refl
+
+      -- it flushes its snapshot's store
+      module _ (is : f.route ≡ Whole) (number : ℕ) (dev : f.request.dev ≡ ToSnap number) (k : ℕ) (s : Kept B) (of : IsFirst (λ (x : Kept B). x.number == number) k s v.snaps) (d : B)
+          (one : IsOneOperation Flushes ok (layers s.device) (layers d) faults faults' done done') (same : contents d ≡ contents s.device) where
+        abbrev met_store : Held
+        met_store = with_store (held_of contents layers s) (met (held_of contents layers s).snap.store Flushes)
+
+        on_whole_is : stepped (Issue n) (moving_of contents layers replied v) ≡ flush_asked (λ (r : Going). r.number == n) (λ (x : Held). x.snap.number == number) (held_of contents layers s) (moving_of contents layers replied v)
+        on_whole_is =
+            let m : Moving = moving_of contents layers replied v in
+            let mine : Going → Bool = λ (r : Going). r.number == n in
+            let test : Held → Bool = λ (x : Held). x.snap.number == number in
+            issue_is Whole is refl ∙ ap (λ (x : Dev). on_whole x mine (going_of f) m) dev
+            ∙ ap (λ (x : Option Held). for_some x (λ h. flush_asked mine test h m) m) (first_is (held_of contents layers) test k s v.snaps of)
+
+        store_is : met (held_of contents layers s).snap.store Flushes ≡ device_of contents layers d
+        store_is = met_is contents layers Flushes ok faults faults' done done' s.device d one same
+
+        -- the snapshot goes on as s'
+        put_whole : (x : Held) (s' : Kept B) (reply : Reply) → x ≡ held_of contents layers s'
+            → answer (λ (r : Going). r.number == n) reply (put (λ (y : Held). y.snap.number == number) x (moving_of contents layers replied v)) ≡ moving_of contents layers (Some reply) (changed v v.origin k s' (remove v.flights j))
+        put_whole x s' reply seen =
+            let m : Moving = moving_of contents layers replied v in
+            let test : Held → Bool = λ (y : Held). y.snap.number == number in
+            answered_is reply m.origin v.origin (with_first test x m.snaps) (set v.snaps k s') m.merge v.merge refl
+            (ap (λ (y : Held). with_first test y m.snaps) seen ∙ with_is (held_of contents layers) test k s s' v.snaps of) refl
+
+        -- the two ways on
+        abbrev flushed_way : Moving
+        flushed_way = answer (λ (r : Going). r.number == n) DidFlush (put (λ (y : Held). y.snap.number == number) (flushed_held met_store) (moving_of contents layers replied v))
+
+        abbrev failed_way : Moving
+        failed_way = answer (λ (r : Going). r.number == n) (Declined Io) (put (λ (y : Held). y.snap.number == number) met_store (moving_of contents layers replied v))
+
+        pub issue_whole_io : ok ≡ false → (s' : Kept B) → s' ≡ record s { device = d } → stepped (Issue n) (moving_of contents layers replied v) ≡ moving_of contents layers (Some (Declined Io)) (changed v v.origin k s' (remove v.flights j))
+        issue_whole_io fails s' s_is =
+            on_whole_is ∙ if_false (answers (held_of contents layers s).snap.store Flushes) flushed_way failed_way (sym one.answer ∙ fails)
+            ∙ put_whole met_store s' (Declined Io) (ap (λ (x : Device). with_store (held_of contents layers s) x) store_is ∙ sym (ap (held_of contents layers) s_is))
+
+        pub issue_whole : ok ≡ true → (s' : Kept B) → s' ≡ record s { device = d; state = record s.state { firm = s.state.zeroed; sure = length s.pairs }; copies = map flushed_copy s.copies; marks = map safe_mark s.marks }
+            → stepped (Issue n) (moving_of contents layers replied v) ≡ moving_of contents layers (Some DidFlush) (changed v v.origin k s' (remove v.flights j))
+        issue_whole works s' s_is =
+            let h : Held = held_of contents layers s in
+            on_whole_is ∙ if_true (answers h.snap.store Flushes) flushed_way failed_way (sym one.answer ∙ works)
+            ∙ put_whole (flushed_held met_store) s' DidFlush
+            (ap (λ (x : Device). flushed_held (with_store h x)) store_is
+            ∙ ap (λ (cs : List Copying). record (flushed_held (with_store h (device_of contents layers d))) { copies = cs }) (flushed_seen s.copies)
+            ∙ sym (ap (held_of contents layers) s_is))
+
+      -- of the origin, it flushes the merging store
+      module _ (is : f.route ≡ Whole) (dev : f.request.dev ≡ ToOrigin) (g : Merging B) (begun : v.merge ≡ Some g) (d : B) (one : IsOneOperation Flushes ok (layers g.device) (layers d) faults faults' done done') (same : contents d ≡ contents g.device)
+          (g' : Merging B) (g_is : g' ≡ record g { device = d }) where
+        abbrev merge_seen_as : Merging B → MergeHeld
+        merge_seen_as x = merge_held_of (record { due = merging_due contents true x; layers = layers x.device; next = x.next })
+
+        abbrev met_merge : MergeHeld
+        met_merge = on_device (merge_seen_as g) (met (merge_seen_as g).merge.store Flushes)
+
+        on_merging_is : stepped (Issue n) (moving_of contents layers replied v) ≡ flush_merging (λ (r : Going). r.number == n) (going_of f) (merge_seen_as g) (moving_of contents layers replied v)
+        on_merging_is =
+            let m : Moving = moving_of contents layers replied v in
+            let mine : Going → Bool = λ (r : Going). r.number == n in
+            issue_is Whole is refl ∙ ap (λ (x : Dev). on_whole x mine (going_of f) m) dev
+            ∙ ap (λ (x : Option (Merging B)). for_some (held_in (merge_seen contents layers x)) (λ h. flush_merging mine (going_of f) h m) m) begun
+
+        merge_after : Some met_merge ≡ held_in (merge_seen contents layers (Some g'))
+        merge_after = ap (λ (x : Device). Some (on_device (merge_seen_as g) x)) (met_is contents layers Flushes ok faults faults' done done' g.device d one same) ∙ sym (ap (λ (x : Merging B). Some (merge_seen_as x)) g_is)
+
+        pub issue_merging_flush_io : ok ≡ false → stepped (Issue n) (moving_of contents layers replied v) ≡ moving_of contents layers (Some (Declined Io)) (record v { merge = Some g'; flights = remove v.flights j })
+        issue_merging_flush_io fails =
+            let m : Moving = moving_of contents layers replied v in
+            let mine : Going → Bool = λ (r : Going). r.number == n in
+            let w : Moving = with_merge met_merge m in
+            let x : Moving = record w { requests = with_first mine (record (going_of f) { route = Origin }) w.requests } in
+            on_merging_is
+            ∙ if_false (answers (merge_seen_as g).merge.store Flushes) x (answer mine (Declined Io) w) (sym one.answer ∙ fails)
+            ∙ answered_is (Declined Io) m.origin v.origin m.snaps v.snaps (Some met_merge) (Some g') refl refl merge_after
+
+        pub issue_merging_flush : ok ≡ true → stepped (Issue n) (moving_of contents layers replied v) ≡ moving_of contents layers replied (record v { merge = Some g'; flights = set v.flights j (record f { route = Origin }) })
+        issue_merging_flush works =
+            let m : Moving = moving_of contents layers replied v in
+            let mine : Going → Bool = λ (r : Going). r.number == n in
+            let w : Moving = with_merge met_merge m in
+            let x : Moving = record w { requests = with_first mine (record (going_of f) { route = Origin }) w.requests } in
+            let on : Flight = record f { route = Origin } in
+            on_merging_is
+            ∙ if_true (answers (merge_seen_as g).merge.store Flushes) x (answer mine (Declined Io) w) (sym one.answer ∙ works)
+            ∙ machine_is replied v.copies m.origin m.origin m.snaps m.snaps (Some met_merge) (held_in (merge_seen contents layers (Some g'))) (with_first mine (going_of on) m.requests) (map going_of (set v.flights j on)) refl refl merge_after
+            (with_is going_of mine j f on v.flights found)
 
       module _ (place : ℕ) (is : f.route ≡ Store place) (number : ℕ) (dev : f.request.dev ≡ ToSnap number) (k : ℕ) (s : Kept B) (of : IsFirst (λ (x : Kept B). x.number == number) k s v.snaps) (d : B) where
         abbrev start : ℕ

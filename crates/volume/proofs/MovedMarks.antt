@@ -1,6 +1,6 @@
 -- The events of a mark: a copy is published, a spoiled snapshot's header is marked invalid, and its store is flushed after
 -- that. Where a mark is taken away or tried, held writes are routed again.
-use Rattle.std.proofs.Common.{◌≡◌, ℕ, ◌*◌, Bool, false, true, List, [], ◌∷◌, Option, None, Some, get_or, set, map, refl, sym, ◌∙◌, ap}
+use Rattle.std.proofs.Common.{◌≡◌, ℕ, ◌*◌, Bool, false, true, List, [], ◌∷◌, Option, None, Some, get_or, set, map, length, refl, sym, ◌∙◌, ap}
 use Rattle.std.specs.Prelude.{◌==◌, ◌&&◌, ◌||◌, not, if◌then◌else◌}
 use Rattle.std.specs.List.{All, list_any, list_all, remove}
 use Rattle.sector.specs.Bytes.{with_sectors}
@@ -49,7 +49,7 @@ any_alike t u [] same = refl
 any_alike t u (x ∷ xs) same = ap (λ b. b || list_any t xs) (same x) ∙ ap (λ b. u x || b) (any_alike t u xs same)
 
 -- copies after a flush of their store
-flushed_seen : (copies : List ChunkCopy) → map flushed_copying (map copying_of copies) ≡ map copying_of (map flushed_copy copies)
+pub flushed_seen : (copies : List ChunkCopy) → map flushed_copying (map copying_of copies) ≡ map copying_of (map flushed_copy copies)
 flushed_seen [] = refl
 flushed_seen (p ∷ ps) = ap (λ (cs : List Copying). record (copying_of p) { stage = flushed_stage p.stage } ∷ cs) (flushed_seen ps) ∙ ap (λ (b : Bool). record (copying_of p) { stage = flushed_stage p.stage; bytes = if b then [] else p.buffer.items } ∷ map copying_of (map flushed_copy ps)) (still_waits p.stage)
   where
@@ -216,7 +216,7 @@ module _ {B : Type 0} (contents : B → List ℕ) (layers : B → List Layer) wh
           ∙ if_false s.marked (rerouted (put test (tried_by given met_after.snap.store) m)) (if given then put test (flushed_held met_after) m else spoil test met_after m) unmarked
 
       pub flush_store_done : (s' : Kept B) → s.marked ≡ false → IsOneOperation Flushes true (layers s.device) (layers d) faults faults' done done'
-          → s' ≡ record s { device = d; state = record s.state { firm = s.state.zeroed }; copies = map flushed_copy s.copies; marks = map safe_mark s.marks }
+          → s' ≡ record s { device = d; state = record s.state { firm = s.state.zeroed; sure = length s.pairs }; copies = map flushed_copy s.copies; marks = map safe_mark s.marks }
           → stepped (FlushStore n) (moving_of contents layers replied v) ≡ moving_of contents layers replied (changed v v.origin k s' v.flights)
       flush_store_done s' unmarked one is =
           let m : Moving = moving_of contents layers replied v in

@@ -9,7 +9,8 @@ use Rattle.model.specs.Picture.{place_of}
 use Rattle.sector.specs.declared.pair.Pair.{Pair}
 use Rattle.pending.specs.declared.copies.Mark.{Mark}
 use Rattle.pending.specs.declared.flights.Flight.{Flight}
-use Rattle.pending.specs.declared.flights.Route.TheVariants.{Held}
+use Rattle.pending.specs.declared.flights.Route.TheVariants.{Held, Whole}
+use Rattle.plain.specs.Kept.{kept}
 use Rattle.pending.specs.Routes.{read_route_of}
 use Rattle.volume_laws.specs.Published.{is_published}
 use Rattle.volume_laws.specs.Waits.{IsCopying}
@@ -22,12 +23,12 @@ use Rattle.sector.specs.declared.refusal.Refusal.TheVariants.{NoSuchDevice, Merg
 use Rattle.plain.specs.declared.request.Dev.{Dev}
 use Rattle.plain.specs.declared.request.Dev.TheVariants.{Origin, Snap}
 use Rattle.plain.specs.declared.request.Op.{Op}
-use Rattle.plain.specs.declared.request.Op.TheVariants.{Read, Write}
+use Rattle.plain.specs.declared.request.Op.TheVariants.{Read, Write, Flush}
 use Rattle.plain.specs.declared.request.Overflowing.TheVariants.{Never}
 use Rattle.plain.specs.declared.request.Request.{Request}
 use Rattle.plain.specs.Plain.{did_overflow}
 use Rattle.pending.specs.Kinds.{kind_of, kind_at, room_of}
-use Rattle.pending.specs.declared.flights.Kind.TheVariants.{SnapRead, SnapWrite}
+use Rattle.pending.specs.declared.flights.Kind.TheVariants.{SnapFlush, SnapRead, SnapWrite}
 use Rattle.snapshot.specs.Kept.{Kept, books_of as snap_books}
 use Rattle.merge.specs.Merging.{Merging}
 use Rattle.volume.specs.Volumed.{Volumed, books_of, piece_with}
@@ -35,7 +36,7 @@ use Rattle.volume.specs.Whole.{IsWhole}
 use Rattle.snapshots.specs.Finding.{place_of_snap}
 use Rattle.snapshots.specs.Starting.{lacks, own_of}
 use Rattle.volume.specs.Submitting.{IsAsked, entered_of, refusal_at, dev_refusal, is_merging, shut_at}
-use Rattle.volume.proofs.ByKind.{snap_read_enters, snap_write_held_enters, snap_write_placed_enters}
+use Rattle.volume.proofs.ByKind.{snap_flush_enters, snap_read_enters, snap_write_held_enters, snap_write_placed_enters}
 use Rattle.volume.proofs.Savings.{not_lacking}
 use Rattle.snapshots.proofs.Finds.{position_none}
 use Rattle.volume.proofs.Leaves.{found_place}
@@ -44,14 +45,29 @@ use Rattle.volume.proofs.MergeRoutes.{not_merging}
 dev_at_read : (dev : Dev) (op : Op) (n : ℕ) → kind_at dev op ≡ SnapRead n → dev ≡ Snap n
 dev_at_read Origin Read n e = cc
 dev_at_read Origin (Write b) n e = cc
+dev_at_read Origin Flush n e = cc
 dev_at_read (Snap m) Read n e = let same : m ≡ n = cc in ap Snap same
 dev_at_read (Snap m) (Write b) n e = cc
+dev_at_read (Snap m) Flush n e = cc
 
 dev_at_write : (dev : Dev) (op : Op) (n : ℕ) → kind_at dev op ≡ SnapWrite n → dev ≡ Snap n
 dev_at_write Origin Read n e = cc
 dev_at_write Origin (Write b) n e = cc
+dev_at_write Origin Flush n e = cc
 dev_at_write (Snap m) Read n e = cc
+dev_at_write (Snap m) Flush n e = cc
 dev_at_write (Snap m) (Write b) n e = let same : m ≡ n = cc in ap Snap same
+
+dev_at_flush : (dev : Dev) (op : Op) (n : ℕ) → kind_at dev op ≡ SnapFlush n → dev ≡ Snap n
+dev_at_flush Origin Read n e = cc
+dev_at_flush Origin (Write b) n e = cc
+dev_at_flush Origin Flush n e = cc
+dev_at_flush (Snap m) Read n e = cc
+dev_at_flush (Snap m) (Write b) n e = cc
+dev_at_flush (Snap m) Flush n e = let same : m ≡ n = cc in ap Snap same
+
+pub dev_of_flush : (request : Request) (n : ℕ) → kind_of request ≡ SnapFlush n → request.dev ≡ Snap n
+dev_of_flush request n e = dev_at_flush request.dev request.op n e
 
 pub dev_of_read : (request : Request) (n : ℕ) → kind_of request ≡ SnapRead n → request.dev ≡ Snap n
 dev_of_read request n e = dev_at_read request.dev request.op n e
@@ -163,6 +179,9 @@ module _ {B : Type 0} (contents : B → List ℕ) (layers : B → List Layer) (s
 
   pub snap_read_goes : kind_of f.request ≡ SnapRead id → f.route ≡ read_route_of (place_of s.pairs (f.request.range.first / s.state.chunk)) → IsTakenIn [] f.number f.request (books_of contents layers size v) (books_of contents layers size (entered_of f v))
   snap_read_goes kind route = snap_read_enters contents layers size v v [] none h f number asked room k s n.within n.is n.live (kind ∙ ap SnapRead (sym n.number)) route
+
+  pub snap_flush_goes : kept f.request ≡ f.request → kind_of f.request ≡ SnapFlush id → f.route ≡ Whole → IsTakenIn [] f.number f.request (books_of contents layers size v) (books_of contents layers size (entered_of f v))
+  snap_flush_goes whole kind route = snap_flush_enters contents layers size v v [] none h f number asked room k s n.within n.is n.live whole (kind ∙ ap SnapFlush (sym n.number)) route
 
   -- a write of a chunk that has its place
   pub snap_write_placed_goes : kind_of f.request ≡ SnapWrite id → did_overflow s.overflow ≡ false → is_published s.pairs s.marks (f.request.range.first / s.state.chunk) ≡ true → f.route ≡ read_route_of (place_of s.pairs (f.request.range.first / s.state.chunk))

@@ -184,7 +184,7 @@ module _ {B : Type 0} (contents : B → List ℕ) (layers : B → List Layer) (s
     next_spoilt : overflows_chunk (at s) s ≡ true → AreNext (k + 1) (which ++ s.number ∷ []) (changed v v.origin k (spoilt_of s) (map (refused_of (s.number ∷ [])) v.flights))
     next_spoilt over =
         let x : Kept B = spoilt_of s in
-        let spoils : SpoilsSnap (snap_books contents layers s) (snap_books contents layers x) = record { number = refl; was = lacking_live (at s) s (and_first (lacks_chunk (at s) s) (is_full_of s) over); live = refl; overflow = refl; chunk = refl; pairs = refl; copies = refl; marks = refl } in
+        let spoils : SpoilsSnap (snap_books contents layers s) (snap_books contents layers x) = record { number = refl; was = lacking_live (at s) s (and_first (lacks_chunk (at s) s) (is_full_of s) over); live = refl; overflow = refl; chunk = refl; pairs = refl; sure = refl; copies = refl; marks = refl } in
         let w : Volumed B = changed v v.origin k x (map (refused_of (s.number ∷ [])) v.flights) in
         let spoil = spoils_one contents layers size v v.origin k s x within is (same_disk contents layers size v.origin) spoils in
         record {

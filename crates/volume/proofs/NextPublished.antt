@@ -1,7 +1,7 @@
 -- A mark was taken away, and the copies are started that a merge waits for then: the volume is whole again, and the event does
 -- what a step promises.
 use Rattle.std.proofs.Common.{◌≡◌, inl, inr, ℕ, ◌+◌, ◌<◌, ◌≤◌, Bool, true, false, List, [], ◌∷◌, Option, None, Some, length, get_or, set, map, refl, sym, ◌∙◌, ap, subst, arith}
-use Rattle.std.specs.Prelude.{◌&&◌}
+use Rattle.std.specs.Prelude.{◌&&◌, sum_by}
 use Rattle.std.specs.List.{All, list_all}
 use Rattle.std.proofs.lemmas.Bool.{cases_Bool}
 use Rattle.std.proofs.lemmas.List.{length-map, map-set, get_or-map}
@@ -14,7 +14,7 @@ use Rattle.pending.specs.Due.{number_of_flight}
 use Rattle.pending.specs.Kinds.{in_flight}
 use Rattle.pending.specs.declared.flights.Flight.{Flight}
 use Rattle.volume_laws.specs.Books.{SnapBooks}
-use Rattle.volume_laws.specs.Due.{books_of as due_in}
+use Rattle.volume_laws.specs.Due.{books_of as due_in, weight_of}
 use Rattle.volume_laws.specs.MergeDue.{DueMerge, left_beside, left_in_merge, next_pair}
 use Rattle.volume_laws.specs.MergeRooms.{RoomSnap, room_books, KeepBack}
 use Rattle.volume_laws.specs.MergeWaits.{IsSavedSoon, MergeGoes, MergeSteady, next_in, next_pairs}
@@ -68,11 +68,8 @@ module _ {B : Type 0} (contents : B → List ℕ) (layers : B → List Layer) (s
   numbers_same : map number_of_flight flights ≡ map number_of_flight v.flights
   numbers_same = same_numbers v.flights flights p.flown
 
-  count_same : length flights ≡ length v.flights
-  count_same = omega (arith, ap length numbers_same, length-map flights number_of_flight, length-map v.flights number_of_flight)
-
   less_left : left_in_all contents layers u < left_in_all contents layers v
-  less_left = lower_changed contents layers size v v.origin k s s' within is flights count_same p.less p.room.saved
+  less_left = lower_changed contents layers size v v.origin k s s' within is flights p.weights p.less p.room.saved
 
   -- with a merge
   module _ (m : Merging B) (was : v.merge ≡ Some m) where
@@ -180,8 +177,7 @@ module _ {B : Type 0} (contents : B → List ℕ) (layers : B → List Layer) (s
       no_more : left_in_all contents layers w ≤ left_in_all contents layers u
       no_more =
           let d : DueMerge = merging_due contents true m in
-          let numbers : map number_of_flight gs ≡ map number_of_flight flights = same_numbers flights gs done.flights in
-          let same : length gs ≡ length flights = omega (arith, ap length numbers, length-map gs number_of_flight, length-map flights number_of_flight) in
+          let same : sum_by weight_of gs ≡ sum_by weight_of flights = done.weights in
           let before : left_by (dues_of contents layers u) (merge_due contents v.merge) ≡ left_in_merge (merging_due contents true m) + left_beside (map due_in (dues_of contents layers u)) (merging_due contents true m) =
           ap (λ (x : Option (Merging B)). left_by (dues_of contents layers u) (merge_due contents x)) was in
           let after : left_by (dues_of contents layers w) (merge_due contents v.merge) ≡ left_in_merge (merging_due contents true m) + left_beside (map due_in (dues_of contents layers w)) (merging_due contents true m) =

@@ -180,7 +180,7 @@ module _ {B : Type 0} (contents : B → List ℕ) (layers : B → List Layer) wh
           | inl over ↦
               (let (same, m_is, requests) = MatchBool-at_true _ _ over (MatchBool-at_false _ _ unsaid e) in
               let lacks = and_first (lacks_chunk (at s) s) (is_full_of s) over in
-              let one = w.spoil lacks (record { number = refl; was = lacking_live (at s) s lacks; live = refl; overflow = refl; chunk = refl; pairs = refl; copies = refl; marks = refl }) in
+              let one = w.spoil lacks (record { number = refl; was = lacking_live (at s) s lacks; live = refl; overflow = refl; chunk = refl; pairs = refl; sure = refl; copies = refl; marks = refl }) in
               subst (λ (x : Kept B). weight x ≤ weight s) (sym same) one)
           | inr fine ↦
               (let (same, m_is, requests) = MatchBool-at_false _ _ fine (MatchBool-at_false _ _ unsaid e) in

@@ -9,7 +9,7 @@ use Rattle.sector.specs.declared.refusal.Refusal.TheVariants.{MergingSnapshot, O
 use Rattle.plain.specs.declared.request.Dev.{Dev}
 use Rattle.plain.specs.declared.request.Dev.TheVariants.{Origin, Snap}
 use Rattle.plain.specs.declared.request.Op.{Op}
-use Rattle.plain.specs.declared.request.Op.TheVariants.{Read, Write}
+use Rattle.plain.specs.declared.request.Op.TheVariants.{Read, Write, Flush}
 use Rattle.plain.specs.declared.request.Request.{Request}
 use Rattle.plain.specs.declared.request.Reply.{Reply}
 use Rattle.plain.specs.declared.request.Reply.TheVariants.{Refused as Declined}
@@ -18,12 +18,13 @@ use Rattle.plain.specs.declared.request.Failure.TheVariants.{Invalid as IsInvali
 use Rattle.plain.specs.declared.request.Overflowing.{Overflowing}
 use Rattle.plain.specs.declared.request.Overflowing.TheVariants.{Never, May, Did}
 use Rattle.plain.specs.Failures.{refusal_of}
+use Rattle.plain.specs.Kept.{kept_range}
 use Rattle.plain.specs.Plain.{did_overflow}
 use Rattle.pending.specs.Kinds.{kind_of, kind_at}
 use Rattle.pending.specs.Routes.{refused_of}
 use Rattle.pending.specs.declared.flights.Flight.{Flight}
 use Rattle.pending.specs.declared.flights.Kind.{Kind}
-use Rattle.pending.specs.declared.flights.Kind.TheVariants.{OriginRead, OriginWrite, SnapRead, SnapWrite}
+use Rattle.pending.specs.declared.flights.Kind.TheVariants.{OriginRead, OriginWrite, OriginFlush, SnapRead, SnapWrite, SnapFlush}
 use Rattle.event_machine.specs.Held.{Held, Moving}
 use Rattle.event_machine.specs.Submitting.{submitted}
 use Rattle.snapshot.specs.Kept.{Kept}
@@ -73,13 +74,15 @@ module _ {B : Type 0} (size : B → ℕ) (v : Volumed B) where
   shut_kind : (kind : Kind) → shut_refusal kind v.snaps ≡ Some Invalid → ⊥
   shut_kind OriginRead e = cc
   shut_kind OriginWrite e = cc
+  shut_kind OriginFlush e = cc
   shut_kind (SnapRead n) e = cc
+  shut_kind (SnapFlush n) e = cc
   shut_kind (SnapWrite n) e = shut_place (place_of_snap n v.snaps) e
 
   -- of the device's own reason
   dev_invalid : (request : Request) → submit_refusal size request v ≡ Some Invalid → dev_refusal request.dev v.merge v.snaps ≡ Some Invalid
   dev_invalid request e =
-      by (dev_refusal request.dev v.merge v.snaps) (shut_refusal (kind_of request) v.snaps) (is_piece_of (piece_with v.merge v.snaps) (size v.origin) request.range) (are_too_many (starting (kind_of request) request.range.first v.merge v.snaps) v)
+      by (dev_refusal request.dev v.merge v.snaps) (shut_refusal (kind_of request) v.snaps) (is_piece_of (piece_with v.merge v.snaps) (size v.origin) (kept_range request.op request.range)) (are_too_many (starting (kind_of request) request.range.first v.merge v.snaps) v)
       (shut_kind (kind_of request)) e
     where
       by : (o p : Option Refusal) (a b : Bool) → (p ≡ Some Invalid → ⊥) → first_of_two o (first_of_two p (first_of_two (if a then None else Some OutOfRange) (if b then Some TooMany else None))) ≡ Some Invalid → o ≡ Some Invalid
@@ -125,7 +128,7 @@ module _ {B : Type 0} (size : B → ℕ) (v : Volumed B) where
   -- after the reasons of the device
   refused_shut : (request : Request) → submit_refusal size request v ≡ Some Overflow → (dev_refusal request.dev v.merge v.snaps ≡ None) × (shut_refusal (kind_of request) v.snaps ≡ Some Overflow)
   refused_shut request e =
-      by (dev_refusal request.dev v.merge v.snaps) (shut_refusal (kind_of request) v.snaps) (is_piece_of (piece_with v.merge v.snaps) (size v.origin) request.range) (are_too_many (starting (kind_of request) request.range.first v.merge v.snaps) v)
+      by (dev_refusal request.dev v.merge v.snaps) (shut_refusal (kind_of request) v.snaps) (is_piece_of (piece_with v.merge v.snaps) (size v.origin) (kept_range request.op request.range)) (are_too_many (starting (kind_of request) request.range.first v.merge v.snaps) v)
       (dev_overflow request.dev) e
     where
       by : (o p : Option Refusal) (a b : Bool) → (o ≡ Some Overflow → ⊥) → first_of_two o (first_of_two p (first_of_two (if a then None else Some OutOfRange) (if b then Some TooMany else None))) ≡ Some Overflow → (o ≡ None) × (p ≡ Some Overflow)
@@ -137,7 +140,9 @@ module _ {B : Type 0} (size : B → ℕ) (v : Volumed B) where
   shut_found : (kind : Kind) → shut_refusal kind v.snaps ≡ Some Overflow → (n : ℕ) × (k : ℕ) × (kind ≡ SnapWrite n) × (Some k ≡ place_of_snap n v.snaps) × (did_overflow (get_or (map (λ (s : Kept B). s.overflow) v.snaps) k Never) ≡ true)
   shut_found OriginRead e = absurd (cc)
   shut_found OriginWrite e = absurd (cc)
+  shut_found OriginFlush e = absurd (cc)
   shut_found (SnapRead n) e = absurd (cc)
+  shut_found (SnapFlush n) e = absurd (cc)
   shut_found (SnapWrite n) e = at (place_of_snap n v.snaps) refl e
     where
       did : (b : Bool) → (if b then Some Overflow else None) ≡ Some Overflow → b ≡ true
@@ -149,12 +154,13 @@ module _ {B : Type 0} (size : B → ℕ) (v : Volumed B) where
       at None is e = absurd (cc)
       at (Some k) is e = (n, k, refl, sym is, did (did_overflow (get_or (map (λ (s : Kept B). s.overflow) v.snaps) k Never)) e)
 
-snap_kind : (dev : Dev) (op : Op) (n : ℕ) → dev ≡ Snap n → (kind_at dev op ≡ SnapRead n) ⊎ (kind_at dev op ≡ SnapWrite n)
+snap_kind : (dev : Dev) (op : Op) (n : ℕ) → dev ≡ Snap n → (kind_at dev op ≡ SnapRead n) ⊎ (kind_at dev op ≡ SnapWrite n) ⊎ (kind_at dev op ≡ SnapFlush n)
 snap_kind dev Read n e = inl (ap (λ d. kind_at d Read) e)
-snap_kind dev (Write bytes) n e = inr (ap (λ d. kind_at d (Write bytes)) e)
+snap_kind dev (Write bytes) n e = inr (inl (ap (λ d. kind_at d (Write bytes)) e))
+snap_kind dev Flush n e = inr (inr (ap (λ d. kind_at d Flush) e))
 
 -- what stands at a place
-element : {X : Type 0} (xs : List X) (k : ℕ) → k < length xs → (x : X) × (x ≡ get_or xs k x)
+pub element : {X : Type 0} (xs : List X) (k : ℕ) → k < length xs → (x : X) × (x ≡ get_or xs k x)
 element [] k lt = absurd (omega (arith, lt))
 element (x ∷ xs) zero lt = (x, refl)
 element (x ∷ xs) (suc k) lt = element xs k (omega (arith, lt))

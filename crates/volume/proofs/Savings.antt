@@ -93,7 +93,7 @@ module _ {B : Type 0} (contents : B → List ℕ) (layers : B → List Layer) (s
     done_spoilt : overflows first s ≡ true → AreDone contents layers size first (k + 1) (which ++ s.number ∷ []) v0 (changed v v.origin k (spoilt_of s) (map (refused_of (s.number ∷ [])) v.flights))
     done_spoilt over =
         let x : Kept B = spoilt_of s in
-        let spoils : SpoilsSnap (snap_books contents layers s) (snap_books contents layers x) = record { number = refl; was = overflows_live (own_of first s) s over; live = refl; overflow = refl; chunk = refl; pairs = refl; copies = refl; marks = refl } in
+        let spoils : SpoilsSnap (snap_books contents layers s) (snap_books contents layers x) = record { number = refl; was = overflows_live (own_of first s) s over; live = refl; overflow = refl; chunk = refl; pairs = refl; sure = refl; copies = refl; marks = refl } in
         let same = same_disk contents layers size v.origin in
         let spoil = spoils_one contents layers size v v.origin k s x within is same spoils in
         let w : Volumed B = changed v v.origin k x (map (refused_of (s.number ∷ [])) v.flights) in

@@ -41,7 +41,8 @@ use Rattle.volume.specs.Moved.{moving_of}
 use Rattle.snapshots.specs.Starting.{lacks, is_full_of, own_of, starts, overflows, spoilt_of, unroomed, IsSavedIn}
 use Rattle.snapshots.proofs.Roomed.{roomed}
 use Rattle.volume.specs.Submitting.{IsAsked, IsAcceptedAs, IsFoundFull, IsOverflown, SameButRoom, entered_of, lives_after, spoiled_by}
-use Rattle.volume.proofs.Accepts.{entered_flown}
+use Rattle.volume.proofs.Accepts.{kept_flown}
+use Rattle.volume.proofs.Unflushed.{unflushed}
 use Rattle.volume.proofs.Begins.{whole_begun, numbers_pushed, room_begun, room_spoilt}
 use Rattle.volume.proofs.ByKind.{snap_write_held_enters}
 use Rattle.volume.proofs.Changing.{same_disk, changes, few_same, piece_beside, spoils_one, whole_changed, loud_changed}
@@ -192,7 +193,7 @@ module _ {B : Type 0} (contents : B → List ℕ) (layers : B → List Layer) (s
           map-set_same (λ (x : Kept B). x.live) (set v.snaps k s1) k t s1 (ap (λ (x : Kept B). x.live) at.fields ∙ ap (λ (x : Kept B). x.live) is_roomy)
           ∙ roomed (λ (x : Kept B). x.live) (set v.snaps k s1) v.snaps one_roomed (λ x. refl)
           ∙ sym (ap (λ (q : Kind). lives_after q c v.merge v.snaps) kind));
-      flown = entered_flown v.flights v.flights f refl;
+      flown = kept_flown v.flights v.flights f (unflushed f.request (SnapWrite id) kind tt) refl;
       exact = held_submitted;
       overflows = overflows_begun contents layers v.snaps k (set v.snaps k s1) s1 t copy one_roomed is_roomy at;
       kept = keeps_begun contents layers v (entered_of f copying) k (set v.snaps k s1) s1 t copy refl refl refl refl one_roomed is_roomy at;
@@ -204,7 +205,7 @@ module _ {B : Type 0} (contents : B → List ℕ) (layers : B → List Layer) (s
 
   prepared_filled : IsPrepared (s1.number ∷ []) (books_of contents layers size roomy) (books_of contents layers size filled)
   prepared_filled =
-      let spoils : SpoilsSnap (snap_books contents layers s1) (snap_books contents layers (spoilt_of s1)) = record { number = refl; was = live_roomy; live = refl; overflow = refl; chunk = refl; pairs = refl; copies = refl; marks = refl } in
+      let spoils : SpoilsSnap (snap_books contents layers s1) (snap_books contents layers (spoilt_of s1)) = record { number = refl; was = live_roomy; live = refl; overflow = refl; chunk = refl; pairs = refl; sure = refl; copies = refl; marks = refl } in
       prepared_spoil [] k (snap_books contents layers s1) (snap_books contents layers (spoilt_of s1)) (books_of contents layers size roomy) (books_of contents layers size roomy) (books_of contents layers size filled) prepared_roomy
       (spoils_one contents layers size roomy v.origin k s1 (spoilt_of s1) within_roomy is_roomy (same_disk contents layers size v.origin) spoils) refl refl
 

@@ -23,6 +23,7 @@ spoilt_copies s u s' copies first then = (
     chunk_is = ap (λ (x : Kept _). x.state.chunk) then ∙ ap (λ (x : Kept _). x.state.chunk) first;
     origin = ap (λ (x : Kept _). x.state.origin) then ∙ ap (λ (x : Kept _). x.state.origin) first;
     pairs = ap (λ (x : Kept _). x.pairs) then ∙ ap (λ (x : Kept _). x.pairs) first;
+    sure = ap (λ (x : Kept _). x.state.sure) then ∙ ap (λ (x : Kept _). x.state.sure) first;
     copies = ap (λ (x : Kept _). x.copies) then;
     marks = ap (λ (x : Kept _). x.marks) then;
     counted = λ counts. subst IsCounted (sym (then ∙ ap spoilt first)) (counted_spoilt s counts);
@@ -41,6 +42,7 @@ spoilt_device s u s' d first then = (
     chunk_is = ap (λ (x : Kept _). x.state.chunk) then ∙ ap (λ (x : Kept _). x.state.chunk) first;
     origin = ap (λ (x : Kept _). x.state.origin) then ∙ ap (λ (x : Kept _). x.state.origin) first;
     pairs = ap (λ (x : Kept _). x.pairs) then ∙ ap (λ (x : Kept _). x.pairs) first;
+    sure = ap (λ (x : Kept _). x.state.sure) then ∙ ap (λ (x : Kept _). x.state.sure) first;
     copies = ap (λ (x : Kept _). x.copies) then;
     marks = ap (λ (x : Kept _). x.marks) then;
     counted = λ counts. subst IsCounted (sym (then ∙ ap spoilt first)) (counted_spoilt (record s { device = d }) (counted_device s counts d));

@@ -111,7 +111,7 @@ live_unmarked s t marked same live dead = elim (cases_Bool s.marked) [
 ]
 
 -- the numbers of copies and marks over a flush
-flushed_numbers : (marks : List Mark) (copies : List ChunkCopy) → map number_of_mark (map safe_mark marks) ++ map number_of_copy (map flushed_copy copies) ≡ map number_of_mark marks ++ map number_of_copy copies
+pub flushed_numbers : (marks : List Mark) (copies : List ChunkCopy) → map number_of_mark (map safe_mark marks) ++ map number_of_copy (map flushed_copy copies) ≡ map number_of_mark marks ++ map number_of_copy copies
 flushed_numbers [] [] = refl
 flushed_numbers [] (p ∷ ps) = ap (λ ns. p.number ∷ ns) (flushed_numbers [] ps)
 flushed_numbers (m ∷ ms) copies = ap (λ ns. m.number ∷ ns) (flushed_numbers ms copies)
@@ -180,7 +180,7 @@ module _ {B : Type 0} (contents : B → List ℕ) (layers : B → List Layer) (s
         counted = λ counts. subst IsCounted (sym f) (counted_zeroed s counts d);
         left = left_same s s' (ap (λ (x : Kept B). x.live) f) (ap (λ (x : Kept B). x.state.size) f) (ap (λ (x : Kept B). x.next) f);
       } in
-      silent_good contents layers size faults done v h (ZeroNext number) Done (λ a b x. x) (λ xs ys e. e) (λ b. refl) v.origin k s s' within is disk (ap (λ x. is_loud (layers x)) device ∙ loud) (ap size device ∙ sized) v.flights refl stays (ap (λ (x : Kept B). x.overflow) f)
+      silent_good contents layers size faults done v h (ZeroNext number) Done (λ a b x. x) (λ xs ys e. e) (λ b. refl) v.origin k s s' within is disk (ap (λ x. is_loud (layers x)) device ∙ loud) (ap size device ∙ sized) v.flights refl refl stays (ap (λ (x : Kept B). x.overflow) f)
       (zero_event k (sb s) (sb s') (books_of contents layers size v) (books_of contents layers size w) h.holds e_is (s.state.current + 1) live r)
       (waits_changed k (sb s) (sb s') (books_of contents layers size v) (books_of contents layers size w) h.waits e_is (zero_keeps (s.state.current + 1) (sb s) (sb s') r))
       (zero_left (s.state.current + 1) (due_of_kept contents layers s) (due_of_kept contents layers s') r live (zeroing_needs number s found) (unfirm ahead) (ap (λ (x : Kept B). x.state.zeroed) f) (ap (λ (x : Kept B). x.state.firm) f))
@@ -250,7 +250,7 @@ module _ {B : Type 0} (contents : B → List ℕ) (layers : B → List Layer) (s
         counted = λ counts. subst IsCounted (sym f) (counted_first s counts live d count batched (holds_live live).agree);
         left = left_same s s' (ap (λ (x : Kept B). x.live) f) (ap (λ (x : Kept B). x.state.size) f ∙ sizes.2) (ap (λ (x : Kept B). x.next) f);
       } in
-      silent_good contents layers size faults done v h (WriteArea number) Done (λ a b x. x) (λ xs ys e. e) (λ b. refl) v.origin k s s' within is disk (ap (λ x. is_loud (layers x)) device ∙ loud) (ap size device ∙ sized) v.flights refl stays (ap (λ (x : Kept B). x.overflow) f)
+      silent_good contents layers size faults done v h (WriteArea number) Done (λ a b x. x) (λ xs ys e. e) (λ b. refl) v.origin k s s' within is disk (ap (λ x. is_loud (layers x)) device ∙ loud) (ap size device ∙ sized) v.flights refl refl stays (ap (λ (x : Kept B). x.overflow) f)
       (commit_event k (sb s) (sb s') (books_of contents layers size v) (books_of contents layers size w) h.holds e_is count s.state.current live r)
       (waits_changed k (sb s) (sb s') (books_of contents layers size v) (books_of contents layers size w) h.waits e_is (commit_keeps (contents v.origin) v.flights count s.state.current (sb s) (sb s') (holds_live live) r))
       (commit_left count s.state.current (due_of_kept contents layers s) (due_of_kept contents layers s') r (omega (arith, batched, many)))
@@ -276,7 +276,7 @@ module _ {B : Type 0} (contents : B → List ℕ) (layers : B → List Layer) (s
 
   -- a live snapshot's store was flushed
   pub flush_good : is_flushing number s ≡ true → s.live ≡ true → (s.state.firm ≡ true → s.state.zeroed ≡ true) → (d : B)
-      → s' ≡ record s { device = d; state = record s.state { firm = s.state.zeroed }; copies = map flushed_copy s.copies; marks = map safe_mark s.marks }
+      → s' ≡ record s { device = d; state = record s.state { firm = s.state.zeroed; sure = length s.pairs }; copies = map flushed_copy s.copies; marks = map safe_mark s.marks }
       → FlushesStore (snap_books contents layers s) (snap_books contents layers s')
       → is_loud (layers d) ≡ is_loud (layers s.device) → size d ≡ size s.device → faults d ≡ faults s.device → done d ≡ next_count (done s.device) → IsGood contents layers size faults done (FlushStore number) Done v (changed v v.origin k s' v.flights)
   flush_good found live ahead d f r loud sized faulty counted =
@@ -290,10 +290,10 @@ module _ {B : Type 0} (contents : B → List ℕ) (layers : B → List Layer) (s
         origin = ap (λ (x : Kept B). x.state.origin) f;
         numbers = inl same;
         few = few_same s s' same (ap (λ (x : Kept B). x.merging) f);
-        counted = λ counts. subst IsCounted (sym f) (counted_flushed s counts d s.state.zeroed (map flushed_copy s.copies) (map safe_mark s.marks) (λ e. ap (map flushed_copy) e));
+        counted = λ counts. subst IsCounted (sym f) (counted_flushed s counts d s.state.zeroed (length s.pairs) (map flushed_copy s.copies) (map safe_mark s.marks) (λ e. ap (map flushed_copy) e));
         left = left_same s s' (ap (λ (x : Kept B). x.live) f) (ap (λ (x : Kept B). x.state.size) f) (ap (λ (x : Kept B). x.next) f);
       } in
-      silent_good contents layers size faults done v h (FlushStore number) Done (λ a b x. x) (λ xs ys e. e) (λ b. refl) v.origin k s s' within is disk (ap (λ x. is_loud (layers x)) device ∙ loud) (ap size device ∙ sized) v.flights refl stays (ap (λ (x : Kept B). x.overflow) f)
+      silent_good contents layers size faults done v h (FlushStore number) Done (λ a b x. x) (λ xs ys e. e) (λ b. refl) v.origin k s s' within is disk (ap (λ x. is_loud (layers x)) device ∙ loud) (ap size device ∙ sized) v.flights refl refl stays (ap (λ (x : Kept B). x.overflow) f)
       (flush_event k (sb s) (sb s') (books_of contents layers size v) (books_of contents layers size w) h.holds e_is live r)
       (waits_changed k (sb s) (sb s') (books_of contents layers size v) (books_of contents layers size w) h.waits e_is (flush_keeps (sb s) (sb s') r))
       (flush_left (due_of_kept contents layers s) (due_of_kept contents layers s') r live (holds_live live).tried (ap (λ (x : Kept B). x.state.zeroed) f) (ap (λ (x : Kept B). x.state.firm) f) ahead (waits_unfirm s) (waits_zeroed s) (flushing_due number s found))

@@ -16,14 +16,14 @@ use Rattle.plain.specs.declared.event.Outcome.TheVariants.{Reply as Replied}
 use Rattle.plain.specs.declared.request.Dev.{Dev}
 use Rattle.plain.specs.declared.request.Dev.TheVariants.{Origin as AtOrigin, Snap}
 use Rattle.plain.specs.declared.request.Op.{Op}
-use Rattle.plain.specs.declared.request.Op.TheVariants.{Read, Write}
+use Rattle.plain.specs.declared.request.Op.TheVariants.{Read, Write, Flush}
 use Rattle.plain.specs.declared.request.Reply.{Reply}
 use Rattle.plain.specs.declared.request.Reply.TheVariants.{Data, Written as IsWritten, Refused as IsRefused}
 use Rattle.plain.specs.declared.request.Failure.TheVariants.{Io, Invalid as IsInvalid}
 use Rattle.pending.specs.Kinds.{kind_at, kind_of}
 use Rattle.pending.specs.declared.flights.Flight.{Flight}
-use Rattle.pending.specs.declared.flights.Kind.TheVariants.{SnapRead, SnapWrite}
-use Rattle.pending.specs.declared.flights.Route.TheVariants.{Store, Refused}
+use Rattle.pending.specs.declared.flights.Kind.TheVariants.{SnapFlush, SnapRead, SnapWrite}
+use Rattle.pending.specs.declared.flights.Route.TheVariants.{Store, Whole, Refused}
 use Rattle.volume_laws.specs.Books.{SnapBooks, Books}
 use Rattle.volume_laws.specs.Published.{chunk_of}
 use Rattle.volume_laws.specs.Held.{SnapHolds, RouteHolds, RefusedHolds}
@@ -36,7 +36,7 @@ use Rattle.volume_laws.proofs.Waiting.{KeepsWaiting, waits_out, waits_changed}
 use Rattle.volume_laws.proofs.WholeOne.{snap_holds}
 use Rattle.volume_laws.proofs.MergeRooms.{KeepsRoom}
 use Rattle.volume_laws.proofs.MergeSaved.{KeepsSaved}
-use Rattle.volume_laws.proofs.Issuing.{io_snap_read_event, io_snap_write_event, snap_place_event, refused_read_event, refused_write_event}
+use Rattle.volume_laws.proofs.Issuing.{io_snap_read_event, io_snap_write_event, snap_place_event, refused_flush_event, refused_read_event, refused_write_event}
 use Rattle.volume_laws.proofs.IssuingWrites.{snap_write_event}
 use Rattle.snapshot.specs.Kept.{Kept, books_of as snap_books, due_of_kept}
 use Rattle.merge_beside.specs.Rooms.{room_of}
@@ -51,7 +51,7 @@ use Rattle.volume.proofs.Changing.{same_disk, StaysAttached, few_same, changed, 
 use Rattle.volume.proofs.Counting.{counts_same, counts_store, store_within, lives_same, kept_changed}
 use Rattle.volume.proofs.Good.{IsGood}
 use Rattle.volume.proofs.IssueEvents.{no_more, reply_good, taken_out, fits_read, fits_write}
-use Rattle.volume.proofs.DiskIssues.{read_kinds, write_kinds}
+use Rattle.volume.proofs.DiskIssues.{flush_kinds, read_kinds, write_kinds}
 use Rattle.volume.proofs.StartsLeft.{left_same}
 use Rattle.volume.proofs.MovedCounts.{counted_device}
 
@@ -63,6 +63,9 @@ snap_reads dev op n d o = ap (λ x. kind_at x op) d ∙ ap (kind_at (Snap n)) o
 
 pub snap_writes : (dev : Dev) (op : Op) (n : ℕ) (bytes : List ℕ) → dev ≡ Snap n → op ≡ Write bytes → kind_at dev op ≡ SnapWrite n
 snap_writes dev op n bytes d o = ap (λ x. kind_at x op) d ∙ ap (kind_at (Snap n)) o
+
+pub snap_flushes : (dev : Dev) (op : Op) (n : ℕ) → dev ≡ Snap n → op ≡ Flush → kind_at dev op ≡ SnapFlush n
+snap_flushes dev op n d o = ap (λ x. kind_at x op) d ∙ ap (kind_at (Snap n)) o
 
 -- a piece lies in its chunk
 pub piece_part : (chunk first count : ℕ) → first + count ≤ chunk * (first / chunk) + chunk → first % chunk + count ≤ chunk
@@ -89,6 +92,7 @@ module _ {B : Type 0} (contents : B → List ℕ) (layers : B → List Layer) (s
       at : (n : ℕ) → r.request.dev ≡ Snap n → (op : Op) → r.request.op ≡ op → Any (λ (s : SnapBooks). s.number ≡ n) vb.snaps
       at n of Read is = waiting.read_attached n (snap_reads r.request.dev r.request.op n of is)
       at n of (Write bytes) is = waiting.write_attached n (snap_writes r.request.dev r.request.op n bytes of is)
+      at n of Flush is = waiting.flush_attached n (snap_flushes r.request.dev r.request.op n of is)
 
       by : (dev : Dev) → r.request.dev ≡ dev → (n : ℕ) × (r.request.dev ≡ Snap n) × Any (λ (s : SnapBooks). s.number ≡ n) vb.snaps
       by AtOrigin of = absurd (other of)
@@ -97,7 +101,7 @@ module _ {B : Type 0} (contents : B → List ℕ) (layers : B → List Layer) (s
   -- it is answered Invalid
   pub refused_good : r.route ≡ Refused → IsGood contents layers size faults done (Issue number) (Replied number (IsRefused IsInvalid)) v (record v { flights = remove v.flights place })
   refused_good route = reply_good contents layers size faults done v w h number place (IsRefused IsInvalid) in_list refl refl refl refl (snaps_fit contents layers size v (size v.origin) h refl)
-      (goes_same contents layers size v w v.merge refl refl refl h.merge) refl (no_more _) refl refl (record { attached = refl; numbers = refl; chunks = refl; merged = refl; sizes = refl }) refl (by r.request.op refl)
+      (goes_same contents layers size v w v.merge refl refl refl h.merge) refl (no_more _) (no_more _) refl (record { attached = refl; numbers = refl; chunks = refl; merged = refl; sizes = refl }) refl (by r.request.op refl)
       (waits_out place vb wb h.waits in_list refl refl refl) (record { counts = refl; lives = refl }) (inl refl) (taken_out number place (IsRefused IsInvalid) r vb wb only.out tt)
     where
       w : Volumed B
@@ -117,6 +121,10 @@ module _ {B : Type 0} (contents : B → List ℕ) (layers : B → List Layer) (s
       by (Write bytes) is = elim (write_kinds r.request.dev r.request.op bytes is) [
         | inl kind ↦ absurd (waiting.write_goes kind route)
         | inr k ↦ (let any = waiting.write_attached k.0 k.1 in refused_write_event number place r vb wb h.holds only any.0 any.1 any.2 (sym any.3) (k.1 ∙ ap SnapWrite (sym any.4)) route)
+      ]
+      by Flush is = elim (flush_kinds r.request.dev r.request.op is) [
+        | inl kind ↦ absurd (waiting.flush_goes kind route)
+        | inr k ↦ (let any = waiting.flush_attached k.0 k.1 in refused_flush_event number place r vb wb h.holds only any.0 any.1 any.2 (sym any.3) (k.1 ∙ ap SnapFlush (sym any.4)) route)
       ]
 
   -- at the store of snapshot k
@@ -141,6 +149,18 @@ module _ {B : Type 0} (contents : B → List ℕ) (layers : B → List Layer) (s
 
     routed : (kind_of r.request ≡ SnapRead s.number) ⊎ (kind_of r.request ≡ SnapWrite s.number) → RouteHolds s.number s.state.chunk s.pairs s.marks r
     routed kind = subst (RouteHolds s.number s.state.chunk s.pairs s.marks) (sym was) ((here.alive (alive kind)).routes place r in_list)
+
+    store_ne_whole : Store at ≢ Whole
+    store_ne_whole c = cc
+
+    -- no flush goes there
+    pub unflushed : r.request.op ≡ Flush → ⊥
+    unflushed op =
+        let kind = snap_flushes r.request.dev r.request.op s.number dev op in
+        elim (cases_Bool s.live) [
+          | inl live ↦ (let held : RouteHolds s.number s.state.chunk s.pairs s.marks r = subst (RouteHolds s.number s.state.chunk s.pairs s.marks) (sym was) ((here.alive live).routes place r in_list) in store_ne_whole (sym route ∙ held.flush kind))
+          | inr dead ↦ (let old : RefusedHolds s.number r = subst (RefusedHolds s.number) (sym was) ((here.spoilt dead).routes place r in_list) in store_ne_refused at (sym route ∙ old.flush kind))
+        ]
 
     pub read_placed : r.request.op ≡ Read → (c : ℕ) × (place_of s.pairs c ≡ Some at)
     read_placed op = (let kind = snap_reads r.request.dev r.request.op s.number dev op in (chunk_of s.state.chunk r, (routed (inl kind)).read_stored at kind route))
@@ -194,7 +214,7 @@ module _ {B : Type 0} (contents : B → List ℕ) (layers : B → List Layer) (s
       out : TakesOut number place r vb wb
       out = record { found = found; was = was; requests = refl; sectors = refl; loud = refl; merge = refl }
 
-      lefts : sum_by left_in (dues_of contents layers issued) ≡ sum_by left_in (dues_of contents layers v)
+      lefts : sum_by left_in (dues_of contents layers issued) ≤ sum_by left_in (dues_of contents layers v)
       lefts =
           let due = due_of_kept contents layers in
           let e = sum_by-set left_in (map due v.snaps) k (due s') (due s) (omega (arith, within, length-map v.snaps due)) in
@@ -231,7 +251,7 @@ module _ {B : Type 0} (contents : B → List ℕ) (layers : B → List Layer) (s
         where
           same_now : snap_books contents layers s' ≡ snap_books contents layers s
           same_now = ap (snap_books contents layers) f
-              ∙ same_books (snap_books contents layers (record s { device = d })) (snap_books contents layers s) refl refl refl refl loud refl refl refl refl same refl refl refl refl
+              ∙ same_books (snap_books contents layers (record s { device = d })) (snap_books contents layers s) refl refl refl refl loud refl refl refl refl same refl refl refl refl refl
 
       pub store_read : r.request.op ≡ Read → (bytes : List ℕ) → length bytes ≡ 512 * r.request.range.count → contents d ≡ contents s.device → bytes ≡ sectors_at (contents s.device) (s.state.chunk * at + r.request.range.first % s.state.chunk) r.request.range.count → faults d ≡ faults s.device
           → IsGood contents layers size faults done (Issue number) (Replied number (Data bytes)) v issued

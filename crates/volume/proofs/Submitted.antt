@@ -10,11 +10,12 @@ use Rattle.sector.specs.declared.pair.Pair.{Pair}
 use Rattle.plain.specs.declared.request.Request.{Request}
 use Rattle.plain.specs.Plain.{did_overflow}
 use Rattle.pending.specs.Kinds.{kind_of}
-use Rattle.pending.specs.Routes.{read_route_of, write_route_of}
+use Rattle.pending.specs.Routes.{flush_route_of, read_route_of, write_route_of}
 use Rattle.pending.specs.declared.copies.Mark.{Mark}
-use Rattle.pending.specs.declared.flights.Kind.TheVariants.{OriginRead, OriginWrite, SnapRead, SnapWrite}
+use Rattle.pending.specs.declared.flights.Kind.TheVariants.{OriginRead, OriginWrite, OriginFlush, SnapRead, SnapWrite, SnapFlush}
 use Rattle.pending.specs.declared.flights.Route.{Route}
-use Rattle.pending.specs.declared.flights.Route.TheVariants.{Held}
+use Rattle.pending.specs.declared.flights.Route.TheVariants.{Held, Whole}
+use Rattle.plain.specs.Kept.{kept}
 use Rattle.volume_laws.specs.Again.{published_place}
 use Rattle.volume_laws.specs.Published.{is_published}
 use Rattle.snapshot.specs.Kept.{Kept}
@@ -25,7 +26,7 @@ use Rattle.snapshots.specs.Starting.{lacks}
 use Rattle.volume.specs.Submitting.{IsEntered}
 use Rattle.volume.specs.Exact.{IsSubmittedAs}
 use Rattle.volume.proofs.Exactly.{holds_live}
-use Rattle.volume.proofs.MovedAccepts.{origin_read_is, merged_write_is, snap_read_is, snap_write_placed_is, snap_write_waits_is}
+use Rattle.volume.proofs.MovedAccepts.{origin_flush_is, snap_flush_is, origin_read_is, merged_write_is, snap_read_is, snap_write_placed_is, snap_write_waits_is}
 use Rattle.volume.proofs.MovedFound.{snap_first}
 use Rattle.volume.proofs.MovedLists.{IsFirst, if_true, if_false}
 use Rattle.volume.proofs.MovedSubmits.{IsSized}
@@ -64,6 +65,9 @@ module _ {B : Type 0} (contents : B → List ℕ) (layers : B → List Layer) (s
     pub origin_read_submitted : kind_of request ≡ OriginRead → route ≡ read_route_of (place_at request.range.first v.merge) → IsSubmittedAs contents layers request number v w
     origin_read_submitted kind is replied = origin_read_is contents layers replied number request e.flight e.number_is e.request_is v w kind (e.route_is ∙ is) e.becomes
 
+    pub origin_flush_submitted : kept request ≡ request → kind_of request ≡ OriginFlush → route ≡ flush_route_of (is_some v.merge) → IsSubmittedAs contents layers request number v w
+    origin_flush_submitted whole kind is replied = origin_flush_is contents layers replied number request e.flight e.number_is e.request_is v w whole kind (e.route_is ∙ is) e.becomes
+
     -- a write of the origin that is the merge's
     pub merged_write_submitted : kind_of request ≡ OriginWrite → is_merged_at request.range.first v.merge ≡ true → route ≡ write_route_of (is_grouped_at request.range.first v.merge) (place_at request.range.first v.merge) false → IsSubmittedAs contents layers request number v w
     merged_write_submitted kind merged is replied = merged_write_is contents layers replied number request e.flight e.number_is e.request_is v w kind merged (e.route_is ∙ is) e.becomes
@@ -75,6 +79,10 @@ module _ {B : Type 0} (contents : B → List ℕ) (layers : B → List Layer) (s
 
       pub snap_read_submitted : kind_of request ≡ SnapRead id → route ≡ read_route_of (place_of s.pairs (request.range.first / s.state.chunk)) → IsSubmittedAs contents layers request number v w
       snap_read_submitted kind is replied = snap_read_is contents layers replied number request e.flight e.number_is e.request_is v w id k s (named_first id k s n) kind n.live
+          (e.route_is ∙ is) e.becomes
+
+      pub snap_flush_submitted : kept request ≡ request → kind_of request ≡ SnapFlush id → route ≡ Whole → IsSubmittedAs contents layers request number v w
+      snap_flush_submitted whole kind is replied = snap_flush_is contents layers replied number request e.flight e.number_is e.request_is v w id k s (named_first id k s n) whole kind n.live
           (e.route_is ∙ is) e.becomes
 
       -- a write of a chunk that is published

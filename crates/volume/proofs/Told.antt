@@ -337,10 +337,12 @@ module _ {B : Type 0} (m : Measures B) (layers : B → List Layer) (v : Volumed 
   pub origin_refused : IfErr r (λ e. IsNotTold m layers Origin depth message e v told_origin)
   origin_refused = if_err_also r (IsRefusal (layers v.origin) depth message) (λ e. IsNotTold m layers Origin depth message e v told_origin) (layers o ≡ layers v.origin) by_refusal err unchanged
 
+  pub origin_told : IsVolumeAlike m.contents layers m.size v told_origin
+  origin_told =
+      of_both r _ _ (λ a h. told_alike m layers Origin depth message v told_origin a h) (λ e h. untold_alike m layers Origin depth message v told_origin e h) origin_answered origin_refused
+
   pub origin_whole : IsWhole m.contents layers m.size v → IsWhole m.contents layers m.size told_origin
-  origin_whole whole =
-      whole_alike m.contents layers m.size v told_origin
-      (of_both r _ _ (λ a h. told_alike m layers Origin depth message v told_origin a h) (λ e h. untold_alike m layers Origin depth message v told_origin e h) origin_answered origin_refused) whole
+  origin_whole whole = whole_alike m.contents layers m.size v told_origin origin_told whole
 
 -- a snapshot that is there is not the one that is being merged
 pub apart_found : {B : Type 0} (contents : B → List ℕ) (layers : B → List Layer) (size : B → ℕ) (v : Volumed B) (number k : ℕ) (s : Kept B) → place_of_snap number v.snaps ≡ Some k → s ≡ get_or v.snaps k s → IsWhole contents layers size v → IsNotMerging number v.merge
@@ -386,10 +388,12 @@ module _ {B : Type 0} (m : Measures B) (layers : B → List Layer) (v : Volumed 
   pub store_refused : IfErr r (λ e. IsNotTold m layers (Snap number) depth message e v told_store)
   store_refused = if_err_also r (IsRefusal (layers s.device) depth message) (λ e. IsNotTold m layers (Snap number) depth message e v told_store) (layers t.device ≡ layers s.device) by_unmoved err unchanged
 
+  pub store_told : IsVolumeAlike m.contents layers m.size v told_store
+  store_told =
+      of_both r _ _ (λ a h. told_alike m layers (Snap number) depth message v told_store a h) (λ e h. untold_alike m layers (Snap number) depth message v told_store e h) store_answered store_refused
+
   pub store_whole : IsWhole m.contents layers m.size v → IsWhole m.contents layers m.size told_store
-  store_whole whole =
-      whole_alike m.contents layers m.size v told_store
-      (of_both r _ _ (λ a h. told_alike m layers (Snap number) depth message v told_store a h) (λ e h. untold_alike m layers (Snap number) depth message v told_store e h) store_answered store_refused) whole
+  store_whole whole = whole_alike m.contents layers m.size v told_store store_told whole
 
 -- the merging store did, or there is no such snapshot
 module _ {B : Type 0} (m : Measures B) (layers : B → List Layer) (v : Volumed B) (number : ℕ) (none : place_of_snap number v.snaps ≡ None) (g : Option (Merging B)) (depth : ℕ) (message : Message) (r : Result Answer Refusal)
@@ -432,10 +436,12 @@ module _ {B : Type 0} (m : Measures B) (layers : B → List Layer) (v : Volumed 
   pub merge_refused : IfErr r (λ e. IsNotTold m layers (Snap number) depth message e v told_merge)
   merge_refused = if_err r _ _ by_unheard err
 
+  pub merge_told : IsVolumeAlike m.contents layers m.size v told_merge
+  merge_told =
+      of_both r _ _ (λ a h. told_alike m layers (Snap number) depth message v told_merge a h) (λ e h. untold_alike m layers (Snap number) depth message v told_merge e h) merge_answered merge_refused
+
   pub merge_whole : IsWhole m.contents layers m.size v → IsWhole m.contents layers m.size told_merge
-  merge_whole whole =
-      whole_alike m.contents layers m.size v told_merge
-      (of_both r _ _ (λ a h. told_alike m layers (Snap number) depth message v told_merge a h) (λ e h. untold_alike m layers (Snap number) depth message v told_merge e h) merge_answered merge_refused) whole
+  merge_whole whole = whole_alike m.contents layers m.size v told_merge merge_told whole
 
 -- what the merging store answered
 module _ {B : Type 0} (m : Measures B) (layers : B → List Layer) (number depth : ℕ) (message : Message) (x y : Merging B) (mine : x.number ≡ number) (r : Result Answer Refusal)

@@ -50,7 +50,7 @@ module _ {B : Type 0} (contents : B → List ℕ) (layers : B → List Layer) (s
         counted = λ counts. subst IsCounted (sym f) (counted_marked s counts d);
         left = left_same s s' (ap (λ (x : Kept B). x.live) f) (ap (λ (x : Kept B). x.state.size) f) (ap (λ (x : Kept B). x.next) f);
       } in
-      silent_good contents layers size faults done v h (WriteInvalid number) Done (λ p q x. x) (λ xs ys e. e) (λ b. refl) v.origin k s s' within is disk (ap (λ x. is_loud (layers x)) device ∙ loud) (ap size device ∙ sized) v.flights refl stays (ap (λ (x : Kept B). x.overflow) f)
+      silent_good contents layers size faults done v h (WriteInvalid number) Done (λ p q x. x) (λ xs ys e. e) (λ b. refl) v.origin k s s' within is disk (ap (λ x. is_loud (layers x)) device ∙ loud) (ap size device ∙ sized) v.flights refl refl stays (ap (λ (x : Kept B). x.overflow) f)
       (mark_event k (sb s) (sb s') (books_of contents layers size v) (books_of contents layers size w) h.holds e_is r)
       (waits_changed k (sb s) (sb s') (books_of contents layers size v) (books_of contents layers size w) h.waits e_is (mark_keeps (sb s) (sb s') r))
       (mark_left (due_of_kept contents layers s) (due_of_kept contents layers s') (trying_untried contents layers size faults done v h number k s s' within is found) (trying_unmarked contents layers size faults done v h number k s s' within is found) r)

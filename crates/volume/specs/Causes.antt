@@ -16,9 +16,9 @@ use Rattle.plain.specs.declared.request.Reply.TheVariants.{Refused}
 use Rattle.plain.specs.declared.request.Failure.TheVariants.{Io}
 use Rattle.pending.specs.declared.copies.Mark.{Mark}
 use Rattle.pending.specs.declared.flights.Flight.{Flight}
-use Rattle.pending.specs.declared.flights.Route.TheVariants.{Origin, Store}
+use Rattle.pending.specs.declared.flights.Route.TheVariants.{Origin, Store, Whole}
 use Rattle.pending.specs.Kinds.{kind_of}
-use Rattle.pending.specs.declared.flights.Kind.TheVariants.{OriginRead, OriginWrite, SnapRead, SnapWrite}
+use Rattle.pending.specs.declared.flights.Kind.TheVariants.{OriginRead, OriginWrite, OriginFlush, SnapRead, SnapWrite, SnapFlush}
 use Rattle.snapshot.specs.Kept.{Kept}
 use Rattle.volume_laws.specs.MergeDue.{last_of}
 use Rattle.merge.specs.Lists.{next_of_group, waiting_of}
@@ -117,7 +117,7 @@ abbrev pub merging_device : {B : Type 0} → Volumed B → ℕ
 merging_device v = suc (length v.snaps)
 
 -- the device that a request of this kind goes to by its route: the origin disk, the store of the first snapshot with its
--- number, or of an origin's request the merging store
+-- number, or of an origin's request the merging store; a flush of a whole store to that store
 pub record GoesTo {B : Type 0} (number device : ℕ) (v : Volumed B) : Type 0 where
   pub place : ℕ
   pub flight : Flight
@@ -129,6 +129,8 @@ pub record GoesTo {B : Type 0} (number device : ℕ) (v : Volumed B) : Type 0 wh
       × ((kind_of flight.request ≡ SnapRead s.number) ⊎ (kind_of flight.request ≡ SnapWrite s.number)))
       ⊎ ((stored : ℕ) × (m : Merging B) × (flight.route ≡ Store stored) × (v.merge ≡ Some m) × (device ≡ merging_device v)
       × ((kind_of flight.request ≡ OriginRead) ⊎ (kind_of flight.request ≡ OriginWrite)))
+      ⊎ ((snap : ℕ) × (s : Kept B) × (flight.route ≡ Whole) × IsAt snap s v × (device ≡ suc snap) × (kind_of flight.request ≡ SnapFlush s.number))
+      ⊎ ((m : Merging B) × (flight.route ≡ Whole) × (v.merge ≡ Some m) × (device ≡ merging_device v) × (kind_of flight.request ≡ OriginFlush))
 
 -- whether a snapshot lacks the chunk that a pair waits for next in it, of merged chunks of so many sectors, on an origin of
 -- so many, and its store is full

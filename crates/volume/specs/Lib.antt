@@ -22,3 +22,9 @@ pub mod Telling
 pub mod Running
 pub mod Stopped
 pub mod Stopping
+pub mod Lasting
+pub mod MergeLasting
+pub mod SnapLasting
+pub mod Handing
+pub mod Adding
+pub mod Closing

@@ -10,13 +10,14 @@ use Rattle.device.specs.Layers.{Layer}
 use Rattle.plain.specs.declared.request.Dev.{Dev}
 use Rattle.plain.specs.declared.request.Dev.TheVariants.{Origin, Snap}
 use Rattle.plain.specs.declared.request.Op.TheVariants.{Write}
+use Rattle.plain.specs.Kept.{kept, kept_range}
 use Rattle.plain.specs.declared.request.Overflowing.TheVariants.{Never, May, Did}
 use Rattle.plain.specs.declared.request.Request.{Request}
 use Rattle.pending.specs.Kinds.{in_flight, kind_of}
 use Rattle.pending.specs.Routes.{refused_of}
 use Rattle.pending.specs.declared.flights.Flight.{Flight}
 use Rattle.pending.specs.declared.flights.Kind.{Kind}
-use Rattle.pending.specs.declared.flights.Kind.TheVariants.{OriginRead, OriginWrite, SnapRead, SnapWrite}
+use Rattle.pending.specs.declared.flights.Kind.TheVariants.{OriginRead, OriginWrite, OriginFlush, SnapRead, SnapWrite, SnapFlush}
 use Rattle.snapshot.specs.Kept.{Kept}
 use Rattle.pending.specs.declared.flights.Route.{Route}
 use Rattle.plain.specs.Plain.{did_overflow}
@@ -61,8 +62,10 @@ shut_at snaps (Some k) = if did_overflow (slice_index_or (map (λ s. s.overflow)
 abbrev pub shut_refusal : {B : Type 0} → Kind → List (Kept B) → Option Refusal
 shut_refusal OriginRead snaps = None
 shut_refusal OriginWrite snaps = None
+shut_refusal OriginFlush snaps = None
 shut_refusal (SnapRead number) snaps = None
 shut_refusal (SnapWrite number) snaps = shut_at snaps (place_of_snap number snaps)
+shut_refusal (SnapFlush number) snaps = None
 
 -- a range of some sectors, inside a device of so many, and inside one piece
 abbrev pub is_piece_of : ℕ → ℕ → Range → Bool
@@ -73,8 +76,10 @@ is_piece_of piece sectors range = nat_lt 0 range.count && nat_le (range.first + 
 abbrev pub starting : {B : Type 0} → Kind → ℕ → Option (Merging B) → List (Kept B) → ℕ
 starting OriginRead first merge snaps = 0
 starting OriginWrite first merge snaps = if is_merged_at first merge then 0 else count_by (starts first) snaps
+starting OriginFlush first merge snaps = 0
 starting (SnapRead number) first merge snaps = 0
 starting (SnapWrite number) first merge snaps = count_by (λ s. (s.number == number) && starts first s) snaps
+starting (SnapFlush number) first merge snaps = 0
 
 -- One request too many, or one copy, with so many new ones. (The numbers of copies never run out.)
 abbrev pub are_too_many : {B : Type 0} → ℕ → Volumed B → Bool
@@ -86,12 +91,13 @@ limit_refusal new v = if are_too_many new v then Some TooMany else None
 abbrev pub range_refusal : ℕ → ℕ → Range → Option Refusal
 range_refusal piece sectors range = if is_piece_of piece sectors range then None else Some OutOfRange
 
--- the first reason to refuse a request; want of memory comes after it, and that a store is found full last
+-- The first reason to refuse a request; want of memory comes after it, and that a store is found full last. The range of a
+-- Flush is not looked at: it is kept with the first sector, so an origin without a sector takes none.
 abbrev pub submit_refusal : {B : Type 0} → (B → ℕ) → Request → Volumed B → Option Refusal
 submit_refusal size request v =
     first_of_two (dev_refusal request.dev v.merge v.snaps)
     (first_of_two (shut_refusal (kind_of request) v.snaps)
-    (first_of_two (range_refusal (piece_with v.merge v.snaps) (size v.origin) request.range)
+    (first_of_two (range_refusal (piece_with v.merge v.snaps) (size v.origin) (kept_range request.op request.range))
     (limit_refusal (starting (kind_of request) request.range.first v.merge v.snaps) v)))
 
 -- a request is in flight, under the next number
@@ -121,15 +127,19 @@ pub record IsAsked (sectors chunk : ℕ) (request : Request) : Type 0 where
 abbrev pub spoiled_by : {B : Type 0} → Kind → ℕ → Option (Merging B) → List (Kept B) → List ℕ
 spoiled_by OriginRead first merge snaps = []
 spoiled_by OriginWrite first merge snaps = if is_merged_at first merge then [] else overflowing (own_of first) snaps
+spoiled_by OriginFlush first merge snaps = []
 spoiled_by (SnapRead number) first merge snaps = []
 spoiled_by (SnapWrite number) first merge snaps = []
+spoiled_by (SnapFlush number) first merge snaps = []
 
 -- which snapshots are live afterwards, in their order: those that were, but for the spoiled ones
 abbrev pub lives_after : {B : Type 0} → Kind → ℕ → Option (Merging B) → List (Kept B) → List Bool
 lives_after OriginRead first merge snaps = map (λ s. s.live) snaps
 lives_after OriginWrite first merge snaps = if is_merged_at first merge then map (λ s. s.live) snaps else map (λ s. if overflows first s then false else s.live) snaps
+lives_after OriginFlush first merge snaps = map (λ s. s.live) snaps
 lives_after (SnapRead number) first merge snaps = map (λ s. s.live) snaps
 lives_after (SnapWrite number) first merge snaps = map (λ s. s.live) snaps
+lives_after (SnapFlush number) first merge snaps = map (λ s. s.live) snaps
 
 -- a request was accepted, under the next number; just the snapshots that it finds full were spoiled
 pub record IsAcceptedAs {B : Type 0} (contents : B → List ℕ) (layers : B → List Layer) (request : Request) (number : ℕ) (old new : Volumed B) : Type 0 where
@@ -142,7 +152,7 @@ pub record IsAcceptedAs {B : Type 0} (contents : B → List ℕ) (layers : B →
       → IsSubmitted (spoiled_by (kind_of request) request.range.first old.merge old.snaps) (plain_of contents layers old) number request (plain_of contents layers new)
   pub lives : lives_of new ≡ lives_after (kind_of request) request.range.first old.merge old.snaps
   pub overflows : map (λ s. s.overflow) new.snaps ≡ map (λ s. s.overflow) old.snaps
-  pub flown : map in_flight new.flights ≡ map in_flight old.flights ++ record { number = number; request = request } ∷ []
+  pub flown : map in_flight new.flights ≡ map in_flight old.flights ++ record { number = number; request = kept request } ∷ []
   pub exact : IsSubmittedAs contents layers request number old new
   pub kept : KeepsDevices old new
 

@@ -9,7 +9,8 @@ ghost use Rattle.plain.specs.Plain.{overflow_of};
 ghost use Rattle.snapshot.specs.Opened.{IsBack};
 ghost use Rattle.snapshot.specs.Opening.{shown_array};
 ghost use Rattle.snapshot.specs.Kept.{Kept};
-ghost use Rattle.snapshot.specs.StopsOpening.{StopsOpening, StopsRefused};
+ghost use Rattle.snapshot.specs.StopsOpening.{Leaves, MayOpen};
+ghost use Rattle.stop_laws.specs.Firm.{IsFirm};
 ghost use Rattle.volume.specs.Volumed.{Volumed, plain_of, is_loud_in_all};
 ghost use Rattle.volume.specs.Taking.{attach_refusal, IsNotTaken};
 ghost use Rattle.volume.specs.Attached.{store_of, volume_in, IsAttachedAs, IsGained, IsRefusedOver};
@@ -59,8 +60,10 @@ impl<B: Block> Volume<B> {
     /// The store is given back with a refusal. After all of these refusals, and before the first write of the load, the
     /// origin's device and then the store's are flushed, and the store's again after each write; a flush that fails refuses
     /// with `Io`, as a read or a write does. With any refusal but `Io` the volume is as it was; after `Io` its origin's
-    /// device may have met the flush, and nothing else changed. Whatever a stop before, within or after the call leaves of
-    /// the store, where that drops no writes, is as it was, fresh as it was, or loaded again with the pairs that it had.
+    /// device may have met the flush, and nothing else changed. Whatever a stop
+    /// before, within or after the call leaves of the store, where that drops no writes, might be left before, is fresh as it
+    /// was, or is loaded again with the pairs that it had. The origin's disk may be left with nothing that it might not be left
+    /// with before; after `Ok` neither it nor the store may be left with anything but what is there.
     pub fn attach(
         &mut self,
         alloc: Global,
@@ -79,9 +82,12 @@ impl<B: Block> Volume<B> {
         ensures starved { IfErr result (λ e. e.0 ≡ NoMemory → (B.contents e.1.device ≡ B.contents store.device) × AreRead (B.layers store.device) (B.layers e.1.device)) }
         ensures size { IfErr result (λ e. B.size e.1.device ≡ B.size store.device) }
         ensures loud { MatchResult result (λ _. is_loud_in_all B.layers self.new ≡ (is_loud_in_all B.layers self.old && is_loud (B.layers store.device))) (λ e. is_loud (B.layers e.1.device) ≡ is_loud (B.layers store.device)) }
-        ensures stops { OnOk result (StopsAround B.contents B.layers B.size self.old self.new) }
-        ensures stops_store { IfOk result (λ _. is_loud (B.layers store.device) ≡ true → (s : Kept B) → s ≡ slice_index_or self.new.snaps (length self.old.snaps) s → StopsOpening chunk (B.size self.old.origin) (B.size store.device) (found_in (sector_at (B.contents store.device) 0)) (B.contents store.device) (B.contents s.device)) }
-        ensures stops_back { IfErr result (λ e. is_loud (B.layers store.device) ≡ true → StopsRefused chunk (B.size self.old.origin) (B.size store.device) (B.contents store.device) (B.contents e.1.device)) }
+        ensures stops { OnOk result (StopsAround B.may_hold B.layers B.size self.old self.new) }
+        ensures leaves { IfOk result (λ _. is_loud (B.layers store.device) ≡ true → (s : Kept B) → s ≡ slice_index_or self.new.snaps (length self.old.snaps) s → Leaves (B.may_hold store.device) (B.may_hold s.device) (B.size store.device) (MayOpen chunk (B.size self.old.origin) (B.size store.device) (B.contents store.device) (found_in (sector_at (B.contents store.device) 0)))) }
+        ensures leaves_back { IfErr result (λ e. is_loud (B.layers store.device) ≡ true → Leaves (B.may_hold store.device) (B.may_hold e.1.device) (B.size store.device) (MayOpen chunk (B.size self.old.origin) (B.size store.device) (B.contents store.device) (found_in (sector_at (B.contents store.device) 0)))) }
+        ensures origin_kept { (s : ℕ) (v : List ℕ) → B.may_hold self.new.origin s v → B.may_hold self.old.origin s v }
+        ensures origin_firm { OnOk result (is_loud (B.layers self.old.origin) ≡ true → IsFirm (B.may_hold self.new.origin) (B.contents self.new.origin) (B.size self.new.origin)) }
+        ensures firm { IfOk result (λ _. is_loud (B.layers store.device) ≡ true → (s : Kept B) → s ≡ slice_index_or self.new.snaps (length self.old.snaps) s → IsFirm (B.may_hold s.device) (B.contents s.device) (B.size s.device)) }
         ensures same { IfErr result (λ e. IsRefusedOver B.contents B.layers B.size e.0 self.old self.new) }
         ensures stale { IfErr result (λ e. e.1.stale ≡ store.stale) }
     {

@@ -1,14 +1,15 @@
 // The events of copies, stores and marks, each a call of its own.
-ghost use Rattle.std.specs.Prelude.{◌≡◌, [], ◌∷◌, false, IfOk, OnErr, is_ok, map, true};
+ghost use Rattle.std.specs.Prelude.{◌≡◌, [], ◌∷◌, false, IfOk, OnErr, is_ok, map, true, OnOk, None};
 ghost use Rattle.plain.specs.declared.event.Event.TheVariants.{CopyRead, CopyWrite, FlushStore, Publish, WriteArea, WriteInvalid, ZeroNext};
 ghost use Rattle.pending.specs.Routes.{refused_of};
 ghost use Rattle.volume_laws.specs.Due.{is_due};
 ghost use Rattle.volume_laws.specs.Steps.{SpoilsSnap};
 ghost use Rattle.snapshot.specs.Kept.{books_of};
-ghost use Rattle.volume.specs.Stopping.{CommitsWithin, MarksWithin, WritesOne};
 ghost use Rattle.volume.specs.Volumed.{dues_of, is_loud_in_all};
 ghost use Rattle.volume.specs.Stepping.{IsStepped};
 ghost use Rattle.volume.specs.Exact.{IsExact};
+ghost use Rattle.volume.specs.Lasting.{StopsSnaps};
+ghost use Rattle.volume.specs.MergeLasting.{StopsOriginOn};
 
 use crate::Volume;
 use device::{Block, Io};
@@ -36,6 +37,8 @@ impl<B: Block> Volume<B> {
     pub(crate) fn copy_read(&mut self, number: CopyId) -> Result<Outcome, NotDue>
         ensures step { IfOk result (λ outcome. IsStepped B.contents B.layers B.size B.fault_count B.done_count (CopyRead number) outcome self.old self.new) }
         ensures exact { IfOk result (λ outcome. IsExact B.contents B.layers (CopyRead number) outcome self.old self.new) }
+        ensures stops_snaps { OnOk result (StopsSnaps B.may_hold B.layers B.size None self.old self.new) }
+        ensures stops_origin { OnOk result (StopsOriginOn B.may_hold B.layers B.size None self.old.origin self.new.origin self.old.merge self.new.merge) }
         ensures due { is_ok result ≡ is_due (dues_of B.contents B.layers self.old) self.old.flights (CopyRead number) }
         ensures same { OnErr result (self.new ≡ self.old) }
     {
@@ -58,6 +61,8 @@ impl<B: Block> Volume<B> {
     pub(crate) fn copy_write(&mut self, number: CopyId) -> Result<Outcome, NotDue>
         ensures step { IfOk result (λ outcome. IsStepped B.contents B.layers B.size B.fault_count B.done_count (CopyWrite number) outcome self.old self.new) }
         ensures exact { IfOk result (λ outcome. IsExact B.contents B.layers (CopyWrite number) outcome self.old self.new) }
+        ensures stops_snaps { OnOk result (StopsSnaps B.may_hold B.layers B.size None self.old self.new) }
+        ensures stops_origin { OnOk result (StopsOriginOn B.may_hold B.layers B.size None self.old.origin self.new.origin self.old.merge self.new.merge) }
         ensures due { is_ok result ≡ is_due (dues_of B.contents B.layers self.old) self.old.flights (CopyWrite number) }
         ensures same { OnErr result (self.new ≡ self.old) }
     {
@@ -81,6 +86,8 @@ impl<B: Block> Volume<B> {
     pub(crate) fn zero_next(&mut self, number: SnapId) -> Result<Outcome, NotDue>
         ensures step { IfOk result (λ outcome. IsStepped B.contents B.layers B.size B.fault_count B.done_count (ZeroNext number) outcome self.old self.new) }
         ensures exact { IfOk result (λ outcome. IsExact B.contents B.layers (ZeroNext number) outcome self.old self.new) }
+        ensures stops_snaps { OnOk result (StopsSnaps B.may_hold B.layers B.size None self.old self.new) }
+        ensures stops_origin { OnOk result (StopsOriginOn B.may_hold B.layers B.size None self.old.origin self.new.origin self.old.merge self.new.merge) }
         ensures due { is_ok result ≡ is_due (dues_of B.contents B.layers self.old) self.old.flights (ZeroNext number) }
         ensures same { OnErr result (self.new ≡ self.old) }
     {
@@ -108,8 +115,9 @@ impl<B: Block> Volume<B> {
     pub(crate) fn write_area(&mut self, number: SnapId) -> Result<Outcome, NotDue>
         ensures step { IfOk result (λ outcome. IsStepped B.contents B.layers B.size B.fault_count B.done_count (WriteArea number) outcome self.old self.new) }
         ensures exact { IfOk result (λ outcome. IsExact B.contents B.layers (WriteArea number) outcome self.old self.new) }
+        ensures stops_snaps { OnOk result (StopsSnaps B.may_hold B.layers B.size None self.old self.new) }
+        ensures stops_origin { OnOk result (StopsOriginOn B.may_hold B.layers B.size None self.old.origin self.new.origin self.old.merge self.new.merge) }
         ensures due { is_ok result ≡ is_due (dues_of B.contents B.layers self.old) self.old.flights (WriteArea number) }
-        ensures stops { IfOk result (λ outcome. is_loud_in_all B.layers self.old ≡ true → WritesOne B.contents (CommitsWithin B.contents) self.old self.new) }
         ensures same { OnErr result (self.new ≡ self.old) }
     {
         match committing_at(&self.snaps, number) {
@@ -135,6 +143,8 @@ impl<B: Block> Volume<B> {
     pub(crate) fn publish(&mut self, number: CopyId) -> Result<Outcome, NotDue>
         ensures step { IfOk result (λ outcome. IsStepped B.contents B.layers B.size B.fault_count B.done_count (Publish number) outcome self.old self.new) }
         ensures exact { IfOk result (λ outcome. IsExact B.contents B.layers (Publish number) outcome self.old self.new) }
+        ensures stops_snaps { OnOk result (StopsSnaps B.may_hold B.layers B.size None self.old self.new) }
+        ensures stops_origin { OnOk result (StopsOriginOn B.may_hold B.layers B.size None self.old.origin self.new.origin self.old.merge self.new.merge) }
         ensures due { is_ok result ≡ is_due (dues_of B.contents B.layers self.old) self.old.flights (Publish number) }
         ensures same { OnErr result (self.new ≡ self.old) }
     {
@@ -161,8 +171,9 @@ impl<B: Block> Volume<B> {
     pub(crate) fn write_invalid(&mut self, number: SnapId) -> Result<Outcome, NotDue>
         ensures step { IfOk result (λ outcome. IsStepped B.contents B.layers B.size B.fault_count B.done_count (WriteInvalid number) outcome self.old self.new) }
         ensures exact { IfOk result (λ outcome. IsExact B.contents B.layers (WriteInvalid number) outcome self.old self.new) }
+        ensures stops_snaps { OnOk result (StopsSnaps B.may_hold B.layers B.size None self.old self.new) }
+        ensures stops_origin { OnOk result (StopsOriginOn B.may_hold B.layers B.size None self.old.origin self.new.origin self.old.merge self.new.merge) }
         ensures due { is_ok result ≡ is_due (dues_of B.contents B.layers self.old) self.old.flights (WriteInvalid number) }
-        ensures stops { IfOk result (λ outcome. is_loud_in_all B.layers self.old ≡ true → WritesOne B.contents (MarksWithin B.contents) self.old self.new) }
         ensures same { OnErr result (self.new ≡ self.old) }
     {
         match trying_at(&self.snaps, number) {
@@ -187,6 +198,8 @@ impl<B: Block> Volume<B> {
     pub(crate) fn flush_store(&mut self, number: SnapId) -> Result<Outcome, NotDue>
         ensures step { IfOk result (λ outcome. IsStepped B.contents B.layers B.size B.fault_count B.done_count (FlushStore number) outcome self.old self.new) }
         ensures exact { IfOk result (λ outcome. IsExact B.contents B.layers (FlushStore number) outcome self.old self.new) }
+        ensures stops_snaps { OnOk result (StopsSnaps B.may_hold B.layers B.size None self.old self.new) }
+        ensures stops_origin { OnOk result (StopsOriginOn B.may_hold B.layers B.size None self.old.origin self.new.origin self.old.merge self.new.merge) }
         ensures due { is_ok result ≡ is_due (dues_of B.contents B.layers self.old) self.old.flights (FlushStore number) }
         ensures same { OnErr result (self.new ≡ self.old) }
     {

@@ -21,7 +21,7 @@ impl<B: Block> Volume<B> {
         ensures taken { IfOk result (λ store. IsWithout number self.old self.new store) }
         ensures plain { IfOk result (λ store. is_loud_in_all B.layers self.old ≡ true → IsDetached (plain_of B.contents B.layers self.old) number (plain_of B.contents B.layers self.new)) }
         ensures loud { IfOk result (λ store. is_loud_in_all B.layers self.old ≡ (is_loud_in_all B.layers self.new && is_loud (B.layers store.device))) }
-        ensures stops { OnOk result (StopsAround B.contents B.layers B.size self.old self.new) }
+        ensures stops { OnOk result (StopsAround B.may_hold B.layers B.size self.old self.new) }
         ensures err { IfErr result (λ refusal. (detach_refusal number self.old ≡ Some refusal) × (self.new ≡ self.old)) }
     {
         self.look_at_stores();

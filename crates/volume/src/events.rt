@@ -7,10 +7,13 @@ ghost use Rattle.volume.specs.Volumed.{is_due_of, is_loud_in_all, left_in_all, n
 ghost use Rattle.volume.specs.Causes.{HasCause, IsOneAtMost};
 ghost use Rattle.volume.specs.Flying.{IsFlown};
 ghost use Rattle.volume.specs.Stepping.{IsStepped, KeepsAll, failed_by, has_failed, starts_by};
-ghost use Rattle.volume.specs.Stopping.{StopsOwn, StopsVolume, given_by, of_all};
+ghost use Rattle.volume.specs.Stopping.{StopsVolume, given_by};
 ghost use Rattle.volume.specs.Stored.{RemovesPairs, is_finished_on};
 ghost use Rattle.volume.specs.Exact.{IsExact};
 ghost use Rattle.volume.specs.Whole.{IsWhole};
+ghost use Rattle.volume.specs.Closing.{ClosesBy};
+ghost use Rattle.volume.specs.Lasting.{StopsSnaps};
+ghost use Rattle.volume.specs.MergeLasting.{StopsOriginOn};
 
 use crate::Volume;
 use device::Block;
@@ -23,7 +26,9 @@ impl<B: Block> Volume<B> {
         ensures exact { IfOk result (λ outcome. IsExact B.contents B.layers event outcome self.old self.new) }
         ensures due { is_ok result ≡ is_due_of B.contents B.layers self.old event }
         ensures removes { IfOk result (λ outcome. RemovesPairs B.contents B.layers event outcome self.old self.new) }
-        ensures stops { IfOk result (λ outcome. is_loud_in_all B.layers self.old ≡ true → StopsOwn B.contents event self.old self.new) }
+        ensures stops_snaps { OnOk result (StopsSnaps B.may_hold B.layers B.size (given_by event (map in_flight self.old.flights)) self.old self.new) }
+        ensures stops_origin { OnOk result (StopsOriginOn B.may_hold B.layers B.size (given_by event (map in_flight self.old.flights)) self.old.origin self.new.origin self.old.merge self.new.merge) }
+        ensures closes { IfOk result (λ outcome. ClosesBy B.may_hold B.contents B.layers B.size event outcome (map in_flight self.old.flights) self.new) }
         ensures same { OnErr result (self.new ≡ self.old) }
     {
         match event {
@@ -47,12 +52,16 @@ impl<B: Block> Volume<B> {
 
     /// Does one event, where it is due. It does at most one operation of one device, and where no device drops writes it
     /// is a step of the plain machine: only Issue replies, and every other event is not seen, or spoils the snapshot whose
-    /// device failed, or snapshots whose stores are full. Whatever the devices do, a request leaves only where it is
+    /// device failed, or snapshots whose stores are full. An Issue that does not reply is the first of a flush of the origin
+    /// beside a merge, and is not seen. Whatever the devices do, a request leaves only where it is
     /// answered, and a read that is not refused is answered with as many bytes as were asked for; no snapshot is marked
     /// for a full store, and no mark is taken away; and a merge stops just where one of its own operations fails. A commit of a merge takes pairs away, and it is finished where its store's
-    /// bytes have none. Where no device drops writes, whatever a stop before, within or after the event leaves is loaded
-    /// again with the same arrays, but for what an Issue writes; a spoiled snapshot's store whose mark is untried may be
-    /// refused instead, and one that was marked is. Where an event is not due, nothing changes at all.
+    /// bytes have none. Where no device drops writes, and whatever of what was written since a device's last flush is lost by
+    /// a stop before, within or after the event, each store is loaded again, and each sector of its array holds a value that
+    /// was open for it before (one that some content which a stop may have left would show there), or that the event's own
+    /// write gives; a spoiled snapshot's store whose mark is untried may be refused instead, and one whose mark was tried is.
+    /// An Issue that answers a flush closes, in the sectors that every such content takes from the flushed device, all values
+    /// but the present one. Where an event is not due, nothing changes at all.
     pub fn step(&mut self, event: Event) -> Result<Outcome, NotDue>
         ensures legal { IfOk result (λ outcome. is_loud_in_all B.layers self.old ≡ true → IsLegalStep (plain_of B.contents B.layers self.old) event outcome (plain_of B.contents B.layers self.new)) }
         ensures exact { IfOk result (λ outcome. IsExact B.contents B.layers event outcome self.old self.new) }
@@ -69,7 +78,8 @@ impl<B: Block> Volume<B> {
         ensures overflows { OnOk result (map (λ s. s.overflow) self.new.snaps ≡ map (λ s. s.overflow) self.old.snaps) }
         ensures removes { IfOk result (λ outcome. RemovesPairs B.contents B.layers event outcome self.old self.new) }
         ensures finished { OnOk result (is_loud_in_all B.layers self.new ≡ true → is_finished_in self.new.merge ≡ is_finished_on B.contents self.new.merge) }
-        ensures stops { IfOk result (λ outcome. is_loud_in_all B.layers self.old ≡ true → StopsVolume B.contents B.size of_all (given_by event (map in_flight self.old.flights)) self.old self.new) }
+        ensures closes { IfOk result (λ outcome. ClosesBy B.may_hold B.contents B.layers B.size event outcome (map in_flight self.old.flights) self.new) }
+        ensures stops { IfOk result (λ outcome. is_loud_in_all B.layers self.old ≡ true → StopsVolume B.may_hold B.size (given_by event (map in_flight self.old.flights)) self.old self.new) }
         ensures same { OnErr result (self.new ≡ self.old) }
     {
         // Looks: what the type keeps, and what the stores say, is known from here on.

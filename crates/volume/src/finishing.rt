@@ -8,6 +8,7 @@ ghost use Rattle.volume.specs.Volumed.{is_loud_in_all, plain_of};
 ghost use Rattle.volume.specs.Moved.{moving_of};
 ghost use Rattle.volume.specs.Finishing.{IsTakenOut, finish_refusal};
 ghost use Rattle.volume.specs.Stopping.{StopsAround};
+ghost use Rattle.volume.specs.Handing.{OpensTaken};
 
 use crate::Volume;
 use device::Block;
@@ -17,7 +18,8 @@ use snapshot::StoreDev;
 
 impl<B: Block> Volume<B> {
     /// Takes a merge out that has neither a pair nor a group left, and gives the device of its store back. Where no device
-    /// drops writes, the origin disk's own bytes are then what the origin shows.
+    /// drops writes, the origin disk's own bytes are then what the origin shows; and on disks with caches a stop leaves nothing
+    /// in a sector of the origin disk that it might not leave in the origin's array before.
     ///
     /// Refused, in this order: no merge is begun, or a pair or a group is left (`NotFinished`), or the volume is not quiet
     /// (`NotQuiet`).
@@ -28,7 +30,8 @@ impl<B: Block> Volume<B> {
         ensures disk { IfOk result (λ store. is_loud_in_all B.layers self.old ≡ true → (plain_of B.contents B.layers self.old).origin ≡ B.contents self.new.origin) }
         ensures exact { IfOk result (λ store. (replied : Option Reply) → finished (moving_of B.contents B.layers replied self.old) ≡ moving_of B.contents B.layers replied self.new) }
         ensures loud { IfOk result (λ store. is_loud_in_all B.layers self.old ≡ (is_loud_in_all B.layers self.new && is_loud (B.layers store.device))) }
-        ensures stops { OnOk result (StopsAround B.contents B.layers B.size self.old self.new) }
+        ensures stops { OnOk result (StopsAround B.may_hold B.layers B.size self.old self.new) }
+        ensures opens { OnOk result (is_loud_in_all B.layers self.old ≡ true → OpensTaken B.may_hold B.size self.old self.new) }
         ensures err { IfErr result (λ refusal. (finish_refusal self.old ≡ Some refusal) × (self.new ≡ self.old)) }
     {
         self.look_at_stores();

@@ -1,16 +1,21 @@
-// Issue: the one read or write of a request's route, and its reply.
-ghost use Rattle.std.specs.Prelude.{◌≡◌, ◌≢◌, ◌==◌, ◌<◌, ℕ, false, length, IfNone, IfOk, IfSome, MatchOption, OnErr, Some, is_ok, slice_index_or};
+// Issue: the one read, write or flush of a request's route, and its reply.
+ghost use Rattle.std.specs.Prelude.{◌≡◌, ◌≢◌, ◌==◌, ◌<◌, ℕ, false, length, IfNone, IfOk, IfSome, MatchOption, OnErr, Some, is_ok, slice_index_or, OnOk, map};
 ghost use Rattle.std.specs.List.{list_any, position};
 ghost use Rattle.plain.specs.declared.event.Event.TheVariants.{Issue};
 ghost use Rattle.plain.specs.declared.request.Dev.TheVariants.{Origin as ToOrigin, Snap};
 ghost use Rattle.pending.specs.declared.flights.Flight.{Flight};
-ghost use Rattle.pending.specs.declared.flights.Route.TheVariants.{Origin, Refused, Store};
+ghost use Rattle.pending.specs.declared.flights.Route.TheVariants.{Origin, Refused, Store, Whole};
 ghost use Rattle.pending.specs.Due.{is_routed as goes_somewhere};
 ghost use Rattle.volume_laws.specs.Due.{is_due, is_issued};
 ghost use Rattle.snapshot.specs.Kept.{Kept};
 ghost use Rattle.volume.specs.Volumed.{dues_of};
 ghost use Rattle.volume.specs.Stepping.{IsStepped};
 ghost use Rattle.volume.specs.Exact.{IsExact};
+ghost use Rattle.pending.specs.Kinds.{in_flight};
+ghost use Rattle.volume.specs.Closing.{ClosesBy};
+ghost use Rattle.volume.specs.Lasting.{StopsSnaps};
+ghost use Rattle.volume.specs.MergeLasting.{StopsOriginOn};
+ghost use Rattle.volume.specs.Stopping.{given_by};
 
 use crate::Volume;
 use device::{Block, Io};
@@ -54,6 +59,9 @@ impl<B: Block> Volume<B> {
         requires route { (f : Flight) → (slice_index_or self.old.flights place f).route ≡ Origin }
         ensures step { IsStepped B.contents B.layers B.size B.fault_count B.done_count (Issue number) result self.old self.new }
         ensures exact { IsExact B.contents B.layers (Issue number) result self.old self.new }
+        ensures stops_snaps { StopsSnaps B.may_hold B.layers B.size (given_by (Issue number) (map in_flight self.old.flights)) self.old self.new }
+        ensures stops_origin { StopsOriginOn B.may_hold B.layers B.size (given_by (Issue number) (map in_flight self.old.flights)) self.old.origin self.new.origin self.old.merge self.new.merge }
+        ensures closes { ClosesBy B.may_hold B.contents B.layers B.size (Issue number) result (map in_flight self.old.flights) self.new }
     {
         let flight = self.flights.remove(place);
         let Flight {
@@ -72,6 +80,10 @@ impl<B: Block> Volume<B> {
                 Ok(()) => Outcome::Reply(number, Reply::Written),
                 Err(Io) => Outcome::Reply(number, Reply::Refused(Failure::Io)),
             },
+            Op::Flush => match self.origin.flush() {
+                Ok(()) => Outcome::Reply(number, Reply::Flushed),
+                Err(Io) => Outcome::Reply(number, Reply::Refused(Failure::Io)),
+            },
         }
     }
 
@@ -81,6 +93,9 @@ impl<B: Block> Volume<B> {
         requires route { (f : Flight) → (slice_index_or self.old.flights place f).route ≡ Refused }
         ensures step { IsStepped B.contents B.layers B.size B.fault_count B.done_count (Issue number) result self.old self.new }
         ensures exact { IsExact B.contents B.layers (Issue number) result self.old self.new }
+        ensures stops_snaps { StopsSnaps B.may_hold B.layers B.size (given_by (Issue number) (map in_flight self.old.flights)) self.old self.new }
+        ensures stops_origin { StopsOriginOn B.may_hold B.layers B.size (given_by (Issue number) (map in_flight self.old.flights)) self.old.origin self.new.origin self.old.merge self.new.merge }
+        ensures closes { ClosesBy B.may_hold B.contents B.layers B.size (Issue number) result (map in_flight self.old.flights) self.new }
     {
         let _ = self.flights.remove(place);
         Outcome::Reply(number, Reply::Refused(Failure::Invalid))
@@ -93,6 +108,9 @@ impl<B: Block> Volume<B> {
         requires dev { (f : Flight) → (slice_index_or self.old.flights place f).request.dev ≢ ToOrigin }
         ensures step { IsStepped B.contents B.layers B.size B.fault_count B.done_count (Issue number) result self.old self.new }
         ensures exact { IsExact B.contents B.layers (Issue number) result self.old self.new }
+        ensures stops_snaps { StopsSnaps B.may_hold B.layers B.size (given_by (Issue number) (map in_flight self.old.flights)) self.old self.new }
+        ensures stops_origin { StopsOriginOn B.may_hold B.layers B.size (given_by (Issue number) (map in_flight self.old.flights)) self.old.origin self.new.origin self.old.merge self.new.merge }
+        ensures closes { ClosesBy B.may_hold B.contents B.layers B.size (Issue number) result (map in_flight self.old.flights) self.new }
     {
         let flight = self.flights.remove(place);
         let Flight {
@@ -117,14 +135,42 @@ impl<B: Block> Volume<B> {
                 Ok(()) => Outcome::Reply(number, Reply::Written),
                 Err(Io) => Outcome::Reply(number, Reply::Refused(Failure::Io)),
             },
+            Op::Flush => unreachable!(),
         }
     }
 
-    /// Issues a request that goes somewhere: the one read or write of its route, and its reply. Where the device fails, the
-    /// reply is Io, and nothing else changes.
+    /// Issues a flush of a live snapshot at its store, which is then as FlushStore leaves it: what was written to it counts as
+    /// written, and what was committed may be published. Where it fails, the reply is Io, and nothing else changes.
+    fn flush_whole(&mut self, number: ReqId, place: usize) -> Outcome
+        requires found { position (λ f. f.number == number) self.old.flights ≡ Some place }
+        requires route { (f : Flight) → (slice_index_or self.old.flights place f).route ≡ Whole }
+        requires dev { (f : Flight) → (slice_index_or self.old.flights place f).request.dev ≢ ToOrigin }
+        ensures step { IsStepped B.contents B.layers B.size B.fault_count B.done_count (Issue number) result self.old self.new }
+        ensures exact { IsExact B.contents B.layers (Issue number) result self.old self.new }
+        ensures stops_snaps { StopsSnaps B.may_hold B.layers B.size (given_by (Issue number) (map in_flight self.old.flights)) self.old self.new }
+        ensures stops_origin { StopsOriginOn B.may_hold B.layers B.size (given_by (Issue number) (map in_flight self.old.flights)) self.old.origin self.new.origin self.old.merge self.new.merge }
+        ensures closes { ClosesBy B.may_hold B.contents B.layers B.size (Issue number) result (map in_flight self.old.flights) self.new }
+    {
+        let flight = self.flights.remove(place);
+        let index = match holder_at(&self.snaps, flight.request.dev) {
+            Some(index) => index,
+            None => unreachable!(),
+        };
+        match self.snaps[index].flush_store() {
+            Ok(()) => Outcome::Reply(number, Reply::Flushed),
+            Err(Io) => Outcome::Reply(number, Reply::Refused(Failure::Io)),
+        }
+    }
+
+    /// Issues a request that goes somewhere: the one read, write or flush of its route, and its reply. Where the device fails,
+    /// the reply is Io, and nothing else changes. A flush of the origin beside a merge is issued twice: the merging store is
+    /// flushed first, and nothing is answered.
     pub(crate) fn issue(&mut self, number: ReqId) -> Result<Outcome, NotDue>
         ensures step { IfOk result (λ outcome. IsStepped B.contents B.layers B.size B.fault_count B.done_count (Issue number) outcome self.old self.new) }
         ensures exact { IfOk result (λ outcome. IsExact B.contents B.layers (Issue number) outcome self.old self.new) }
+        ensures stops_snaps { OnOk result (StopsSnaps B.may_hold B.layers B.size (given_by (Issue number) (map in_flight self.old.flights)) self.old self.new) }
+        ensures stops_origin { OnOk result (StopsOriginOn B.may_hold B.layers B.size (given_by (Issue number) (map in_flight self.old.flights)) self.old.origin self.new.origin self.old.merge self.new.merge) }
+        ensures closes { IfOk result (λ outcome. ClosesBy B.may_hold B.contents B.layers B.size (Issue number) outcome (map in_flight self.old.flights) self.new) }
         ensures due { is_ok result ≡ is_due (dues_of B.contents B.layers self.old) self.old.flights (Issue number) }
         ensures same { OnErr result (self.new ≡ self.old) }
     {
@@ -136,6 +182,10 @@ impl<B: Block> Volume<B> {
                 Route::Store(at) => match dev {
                     Dev::Origin => Ok(self.issue_merging(number, place, at)),
                     Dev::Snap(_) => Ok(self.issue_store(number, place, at)),
+                },
+                Route::Whole => match dev {
+                    Dev::Origin => Ok(self.flush_merging(number, place)),
+                    Dev::Snap(_) => Ok(self.flush_whole(number, place)),
                 },
             },
             None => Err(NotDue),

@@ -4,7 +4,8 @@
 //!
 //! It stands on `snapshots` (the list of its snapshots: what is due of them, and which copies a write needs), on `snapshot`
 //! (each of them, with its store), on `merge` (the one that is being merged), on `pending` (copies, marks and requests in
-//! flight), on `volume_laws` (the laws of every event and of every request), and on `event_machine`. Words of its contracts
+//! flight), on `volume_laws` (the laws of every event and of every request), on `loss_laws` (what a stop leaves where some of
+//! what was written is lost: its invariants are the volume's own), and on `event_machine`. Words of its contracts
 //! are those of `plain` (the machine that all layers above see), `sector`, `device`, `chunk`, `model`, `cow_header`, `store`,
 //! `chunk_alloc` and `settled`.
 //!
@@ -14,7 +15,8 @@
 //! or marks. Where no device drops writes, each event is exactly the event machine's, and so is each request that is accepted,
 //! found invalid or refused for a store that overflowed, whatever is in flight. The time and messages change layers, and
 //! nothing that callers see. A list of calls does what its calls do one after another, each with its answer, and `peek` copies
-//! what the origin or a snapshot shows.
+//! what the origin or a snapshot shows. Devices may have caches: whatever of what was written since the last flush of each a
+//! stop loses, the stores are loaded again, and a call opens no value of an array but those that it writes.
 #![tactic(auto)]
 
 mod attach;

@@ -8,6 +8,7 @@ ghost use Rattle.snapshots.specs.Finding.{place_of_snap};
 ghost use Rattle.volume.specs.Volumed.{is_loud_in_all, plain_of};
 ghost use Rattle.volume.specs.Moved.{moving_of};
 ghost use Rattle.volume.specs.Stopping.{StopsAround};
+ghost use Rattle.volume.specs.Handing.{HandsOver};
 ghost use Rattle.volume.specs.Beginning.{IsMergeBegun, IsNotBegun, IsResumed, begin_refusal, beside_refusal};
 
 use crate::Volume;
@@ -21,7 +22,8 @@ use std::alloc::Global;
 
 impl<B: Block> Volume<B> {
     /// Begins to merge a live snapshot into the origin, which from then on shows what the snapshot showed; the snapshot is
-    /// none of the others any more. No device is asked for anything yet: what is left to do are events.
+    /// none of the others any more. No device is asked for anything yet: what is left to do are events. On disks with caches a
+    /// stop leaves no value in a sector of the origin's array but those that it might leave in the snapshot's before.
     ///
     /// Refused, in this order: there is no such snapshot, also not as the one that is being merged (`NoSuchDevice`), a merge
     /// is begun (`MergeInProgress`), the snapshot is spoiled (`Invalid`), the volume is not quiet (`NotQuiet`), or memory is
@@ -32,7 +34,8 @@ impl<B: Block> Volume<B> {
         ensures legal { OnOk result (is_loud_in_all B.layers self.old ≡ true → IsBegun (plain_of B.contents B.layers self.old) number (plain_of B.contents B.layers self.new)) }
         ensures exact { OnOk result ((replied : Option Reply) → begun number (moving_of B.contents B.layers replied self.old) ≡ moving_of B.contents B.layers replied self.new) }
         ensures loud { is_loud_in_all B.layers self.new ≡ is_loud_in_all B.layers self.old }
-        ensures stops { OnOk result (StopsAround B.contents B.layers B.size self.old self.new) }
+        ensures stops { OnOk result (StopsAround B.may_hold B.layers B.size self.old self.new) }
+        ensures hands { OnOk result (HandsOver B.may_hold B.size number self.old self.new) }
         ensures refused { IfErr result (λ refusal. IsNotBegun number refusal self.old self.new) }
         ensures starved { OnErr result ((replied : Option Reply) → moving_of B.contents B.layers replied self.new ≡ moving_of B.contents B.layers replied self.old) }
     {

@@ -6,6 +6,7 @@ ghost use Rattle.plain.specs.declared.request.Reply.{Reply};
 ghost use Rattle.volume.specs.Volumed.{books_of, is_loud_in_all, plain_of};
 ghost use Rattle.volume.specs.Moved.{moving_of};
 ghost use Rattle.volume.specs.Telling.{IsMergeNotTold, IsMergeTold, IsNotTold, IsTold, dev_relayered, layers_told};
+ghost use Rattle.volume.specs.Adding.{AddsMerge};
 
 use crate::Volume;
 use layers::{Answer, Layered, Message};
@@ -21,6 +22,7 @@ fn tell_merge<B: Layered>(
     depth: usize,
     message: &Message,
 ) -> Result<Answer, Refusal>
+    ensures adds { AddsMerge B.may_hold B.contents merge.old merge.new }
     ensures ok { IfOk result (λ answer. IsMergeTold (record { contents = B.contents; durable = B.durable; size = B.size; faults = B.fault_count; done = B.done_count }) B.layers number depth message.now answer merge.old merge.new) }
     ensures err { IfErr result (λ refusal. IsMergeNotTold (record { contents = B.contents; durable = B.durable; size = B.size; faults = B.fault_count; done = B.done_count }) B.layers number depth message.now refusal merge.old merge.new) }
 {

@@ -1,5 +1,6 @@
 // Why a request is refused, memory and full stores aside.
 ghost use Rattle.std.specs.Prelude.{◌≡◌};
+ghost use Rattle.plain.specs.Kept.{kept_range};
 ghost use Rattle.pending.specs.Kinds.{kind_of};
 ghost use Rattle.volume.specs.Volumed.{piece_with};
 ghost use Rattle.snapshots.specs.Finding.{place_of_snap};
@@ -17,8 +18,9 @@ impl<B: Block> Volume<B> {
     /// Why a request is refused, memory and full stores aside: there is no such snapshot (`NoSuchDevice`), it is being merged
     /// (`MergingSnapshot`) or is spoiled (`Invalid`), it is a write of one whose store overflowed (`Overflow`), the range is
     /// empty or lies not inside the origin and one piece (`OutOfRange`), or there are too many requests, copies or numbers
-    /// (`TooMany`).
+    /// (`TooMany`). The request is one that is kept.
     pub(crate) fn submit_refused(&self, request: &Request) -> Option<Refusal>
+        requires whole { kept_range request.now.op request.now.range ≡ request.now.range }
         ensures { result ≡ submit_refusal B.size request.now self.now }
     {
         if let Some(refusal) = self.dev_refused(request.dev) {
@@ -81,7 +83,8 @@ impl<B: Block> Volume<B> {
         ensures { result ≡ shut_refusal (kind_of request.now) self.now.snaps }
     {
         match request_kind(request) {
-            Kind::OriginRead | Kind::OriginWrite | Kind::SnapRead(_) => None,
+            Kind::OriginRead | Kind::OriginWrite | Kind::OriginFlush => None,
+            Kind::SnapRead(_) | Kind::SnapFlush(_) => None,
             Kind::SnapWrite(number) => self.overflow_refused(number),
         }
     }
@@ -117,13 +120,13 @@ impl<B: Block> Volume<B> {
         let snaps = self.snaps.as_slice();
         let first = request.range.first;
         match request_kind(request) {
-            Kind::OriginRead => 0,
+            Kind::OriginRead | Kind::OriginFlush => 0,
             Kind::OriginWrite => if is_merged_at(&self.merge, first) {
                 0
             } else {
                 starting_count(snaps, first)
             },
-            Kind::SnapRead(_) => 0,
+            Kind::SnapRead(_) | Kind::SnapFlush(_) => 0,
             Kind::SnapWrite(number) => starting_count_of(snaps, number, first),
         }
     }

@@ -4,12 +4,13 @@ ghost use Rattle.sector.specs.declared.refusal.Refusal.TheVariants.{Invalid, NoM
 ghost use Rattle.plain.specs.declared.request.Failure.{Failure};
 ghost use Rattle.plain.specs.declared.request.Failure.TheVariants.{Io as IsIo};
 ghost use Rattle.plain.specs.Failures.{refusal_of};
+ghost use Rattle.plain.specs.Kept.{kept_range};
 ghost use Rattle.plain.specs.declared.request.Op.TheVariants.{Write};
 ghost use Rattle.plain.specs.declared.request.Reply.{Reply};
 ghost use Rattle.plain.specs.declared.request.Reply.TheVariants.{Refused};
 ghost use Rattle.pending.specs.Kinds.{kind_of, room_of};
 ghost use Rattle.pending.specs.declared.flights.Flight.{Flight};
-ghost use Rattle.pending.specs.declared.flights.Kind.TheVariants.{OriginRead, OriginWrite};
+ghost use Rattle.pending.specs.declared.flights.Kind.TheVariants.{OriginFlush, OriginRead, OriginWrite};
 ghost use Rattle.volume_laws.specs.Accepting.{IsTakenIn};
 ghost use Rattle.event_machine.specs.Submitting.{submitted};
 ghost use Rattle.snapshots.specs.Numbers.{count_in};
@@ -25,7 +26,7 @@ ghost use Rattle.volume.specs.Whole.{IsWhole};
 use crate::Volume;
 use device::Block;
 use merge_beside::{is_merged_at, merged_route, place_at};
-use pending::{Flight, Kind, Route, read_route, request_kind, write_route};
+use pending::{Flight, Kind, Route, flush_route, read_route, request_kind, write_route};
 use plain::{ReqId, Request};
 use sector::Refusal;
 use snapshots::{is_clear, save_in_all, take_rooms};
@@ -38,11 +39,13 @@ impl<B: Block> Volume<B> {
     /// origin is held until each live snapshot has published its chunk, and starts the copies that are lacking: snapshots
     /// whose stores are full are spoiled. Where a merge has the chunk it starts none: it goes to the place on the merging
     /// store, or is held while the chunk is in the present group. A write of a snapshot is held until that one has published
-    /// its chunk, and starts its copy.
+    /// its chunk, and starts its copy. A flush of a snapshot goes to its whole store. One of the origin goes to the merging
+    /// store where a merge is begun, and from there to the origin disk, or else to the origin disk at once. Its range is not
+    /// looked at: it is kept with the origin's first sector.
     ///
     /// Refused, in this order: there is no such snapshot (`NoSuchDevice`), it is being merged (`MergingSnapshot`), it is
     /// spoiled (`Invalid`), it is a write and the snapshot's store overflowed (`Overflow`), the range is empty or lies not
-    /// inside the origin and one piece (`OutOfRange`), it is the 65th request, starts the 257th copy, or is past the last
+    /// inside the origin and one piece, or it is a flush and the origin has no sector (`OutOfRange`), it is the 65th request, starts the 257th copy, or is past the last
     /// number (`TooMany`), memory is refused (`NoMemory`), or a snapshot's write finds its store full. That last reason alone
     /// changes something: the snapshot is spoiled (`Invalid`), or, where it may overflow, is marked (`Overflow`), and what it
     /// shows stays, and so do its requests in flight.
@@ -51,7 +54,24 @@ impl<B: Block> Volume<B> {
         ensures ok { IfOk result (λ number. IsAcceptedAs B.contents B.layers request number self.old self.new) }
         ensures kept { KeepsAll B.size self.old self.new }
         ensures untouched { KeepsDevices self.old self.new }
-        ensures stops { StopsNow B.contents B.layers B.size self.old }
+        ensures stops { StopsNow B.may_hold B.layers B.size self.old }
+        ensures admitted { IfOk result (λ _. submit_refusal B.size request self.old ≡ None) }
+        ensures exact { IfOk result (λ number. (replied : Option Reply) → submitted number request (moving_of B.contents B.layers replied self.old) ≡ moving_of B.contents B.layers replied self.new) }
+        ensures refused { IfErr result (λ refusal. IsRefusedAs B.contents B.layers B.size request refusal self.old self.new) }
+        ensures declined { IfErr result (λ refusal. (failure : Failure) → refusal ≡ refusal_of failure → failure ≢ IsIo → (number : ℕ) (replied : Option Reply) → submitted number request (moving_of B.contents B.layers replied self.old) ≡ moving_of B.contents B.layers (Some (Refused failure)) self.new) }
+        ensures starved { IfErr result (λ refusal. refusal ≢ Invalid → refusal ≢ Overflow → (replied : Option Reply) → moving_of B.contents B.layers replied self.new ≡ moving_of B.contents B.layers replied self.old) }
+    {
+        self.submit_kept(alloc, request.kept())
+    }
+
+    /// Accepts a request that is one that is kept.
+    fn submit_kept(&mut self, alloc: Global, request: Request) -> Result<ReqId, Refusal>
+        requires whole { kept_range request.op request.range ≡ request.range }
+        requires bytes { (bytes : List ℕ) → request.op ≡ Write bytes → length bytes ≡ 512 * request.range.count }
+        ensures ok { IfOk result (λ number. IsAcceptedAs B.contents B.layers request number self.old self.new) }
+        ensures kept { KeepsAll B.size self.old self.new }
+        ensures untouched { KeepsDevices self.old self.new }
+        ensures stops { StopsNow B.may_hold B.layers B.size self.old }
         ensures admitted { IfOk result (λ _. submit_refusal B.size request self.old ≡ None) }
         ensures exact { IfOk result (λ number. (replied : Option Reply) → submitted number request (moving_of B.contents B.layers replied self.old) ≡ moving_of B.contents B.layers replied self.new) }
         ensures refused { IfErr result (λ refusal. IsRefusedAs B.contents B.layers B.size request refusal self.old self.new) }
@@ -68,8 +88,10 @@ impl<B: Block> Volume<B> {
         match request_kind(&request) {
             Kind::OriginRead => self.submit_origin_read(alloc, request),
             Kind::OriginWrite => self.submit_origin_write(alloc, request),
+            Kind::OriginFlush => self.submit_origin_flush(alloc, request),
             Kind::SnapRead(id) => self.submit_snap_read(alloc, request, id),
             Kind::SnapWrite(id) => self.submit_snap_write(alloc, request, id),
+            Kind::SnapFlush(id) => self.submit_snap_flush(alloc, request, id),
         }
     }
 
@@ -107,6 +129,20 @@ impl<B: Block> Volume<B> {
         ensures err { IfErr result (λ e. (e ≡ NoMemory) × (self.new ≡ self.old)) }
     {
         let route = read_route(place_at(&self.merge, request.range.first));
+        self.enter(alloc, request, route)
+    }
+
+    /// Accepts a flush of the origin: it goes to the merging store first where a merge is begun, or else to the origin disk.
+    fn submit_origin_flush(&mut self, alloc: Global, request: Request) -> Result<ReqId, Refusal>
+        requires kind { kind_of request ≡ OriginFlush }
+        requires whole { kept_range request.op request.range ≡ request.range }
+        requires asked { IsAsked (B.size self.old.origin) (piece_with self.old.merge self.old.snaps) request }
+        requires room { length self.old.flights < 64 }
+        requires numbers { self.old.requests + 1 < 2 ^ 64 }
+        ensures ok { IfOk result (λ number. IsAcceptedAs B.contents B.layers request number self.old self.new) }
+        ensures err { IfErr result (λ e. (e ≡ NoMemory) × (self.new ≡ self.old)) }
+    {
+        let route = flush_route(self.merge.is_some());
         self.enter(alloc, request, route)
     }
 

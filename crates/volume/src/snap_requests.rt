@@ -3,8 +3,9 @@ ghost use Rattle.std.specs.Prelude.{◌≡◌, ◌≢◌, ◌⊎◌, ◌==◌, �
 ghost use Rattle.sector.specs.declared.refusal.Refusal.TheVariants.{NoMemory, Invalid, Overflow};
 ghost use Rattle.plain.specs.Plain.{did_overflow};
 ghost use Rattle.plain.specs.declared.request.Overflowing.TheVariants.{Did, May, Never};
+ghost use Rattle.plain.specs.Kept.{kept_range};
 ghost use Rattle.pending.specs.Kinds.{kind_of};
-ghost use Rattle.pending.specs.declared.flights.Kind.TheVariants.{SnapRead, SnapWrite};
+ghost use Rattle.pending.specs.declared.flights.Kind.TheVariants.{SnapFlush, SnapRead, SnapWrite};
 ghost use Rattle.snapshot.specs.Kept.{Kept};
 ghost use Rattle.volume.specs.Volumed.{piece_with};
 ghost use Rattle.snapshots.specs.Numbers.{count_in};
@@ -43,6 +44,28 @@ impl<B: Block> Volume<B> {
         let snap = &self.snaps[k];
         let route = read_route(snap.place_of(own_chunk(snap, request.range.first)));
         self.enter(alloc, request, route)
+    }
+
+    /// Accepts a flush of a live snapshot: it goes to its whole store.
+    pub(crate) fn submit_snap_flush(
+        &mut self,
+        alloc: Global,
+        request: Request,
+        id: SnapId,
+    ) -> Result<ReqId, Refusal>
+        requires kind { kind_of request ≡ SnapFlush id }
+        requires whole { kept_range request.op request.range ≡ request.range }
+        requires found { dev_refusal request.dev self.old.merge self.old.snaps ≡ None }
+        requires asked { IsAsked (B.size self.old.origin) (piece_with self.old.merge self.old.snaps) request }
+        requires room { length self.old.flights < 64 }
+        requires numbers { self.old.requests + 1 < 2 ^ 64 }
+        ensures ok { IfOk result (λ number. IsAcceptedAs B.contents B.layers request number self.old self.new) }
+        ensures err { IfErr result (λ e. (e ≡ NoMemory) × (self.new ≡ self.old)) }
+    {
+        let Some(_) = snap_at(self.snaps.as_slice(), id) else {
+            return Err(Refusal::NoSuchDevice);
+        };
+        self.enter(alloc, request, Route::Whole)
     }
 
     /// Accepts a write of a live snapshot: it goes to the place of its chunk's copy once that is published, and is held until

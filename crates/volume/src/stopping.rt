@@ -1,7 +1,7 @@
 // A machine stops: its volume ends, and the devices are left.
 ghost use Rattle.std.specs.Prelude.{◌≡◌, ◌∷◌, IfNone, IfSome, None, [], true};
 ghost use Rattle.volume.specs.Stopped.{devices_of, is_merge_next};
-ghost use Rattle.volume.specs.Stopping.{StopsVolume, of_all};
+ghost use Rattle.volume.specs.Stopping.{StopsVolume};
 ghost use Rattle.volume.specs.Volumed.{is_loud_in_all};
 
 use crate::Volume;
@@ -67,11 +67,11 @@ impl<B: Block + Drop> Stopped<B> {
 
 impl<B: Block> Volume<B> {
     /// Ends a volume without a further event, whatever is in flight, as a machine does that stops: what is left are its
-    /// devices, as they are. Where none drops writes, each live snapshot's store and the origin are loaded again with their
-    /// arrays.
+    /// devices, as they are. Where none drops writes, and whatever of what was written since a device's last flush is lost,
+    /// each live snapshot's store and the origin are loaded again with their arrays, up to values that are open in them.
     pub fn stop(self) -> Stopped<B>
         ensures devices { result ≡ devices_of self }
-        ensures stops { is_loud_in_all B.layers self ≡ true → StopsVolume B.contents B.size of_all None self self }
+        ensures stops { is_loud_in_all B.layers self ≡ true → StopsVolume B.may_hold B.size None self self }
     {
         self.look_at_stores();
         let Volume {

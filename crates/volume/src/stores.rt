@@ -3,7 +3,7 @@ ghost use Rattle.std.specs.Prelude.{◌≡◌, None, true};
 ghost use Rattle.std.specs.List.{All};
 ghost use Rattle.snapshot.specs.InStep.{IsInStep};
 ghost use Rattle.volume.specs.Asking.{IsMergeInStep};
-ghost use Rattle.volume.specs.Stopping.{StopsVolume, of_all};
+ghost use Rattle.volume.specs.Stopping.{StopsVolume};
 ghost use Rattle.volume.specs.Volumed.{is_loud_in_all};
 
 use crate::Volume;
@@ -26,11 +26,12 @@ impl<B: Block> Volume<B> {
     /// bytes hold those pairs and its first sector is the header with its chunk size. So a live snapshot's store, and a
     /// spoiled one's whose mark was not yet written, can be loaded as it is; once the mark was written it is invalid. The
     /// merging store is in step with its merge in the same way, until it is finished. Where no device drops writes, a stop at
-    /// that moment leaves what is loaded again with the same arrays.
+    /// that moment, which may lose what was written since a device's last flush, leaves what is loaded again with the same
+    /// arrays, up to values that are open in them.
     pub fn look_at_stores(&self)
         ensures in_step { All (IsInStep B.contents B.layers B.size) self.now.snaps }
         ensures merge { IsMergeInStep B.contents B.layers B.size self.now.merge }
-        ensures stops { is_loud_in_all B.layers self.now ≡ true → StopsVolume B.contents B.size of_all None self.now self.now }
+        ensures stops { is_loud_in_all B.layers self.now ≡ true → StopsVolume B.may_hold B.size None self.now self.now }
     {
         look_at_each(self.snaps.as_slice());
         match &self.merge {

@@ -6,6 +6,8 @@ ghost use Rattle.snapshot.specs.Kept.{Kept};
 ghost use Rattle.volume.specs.Volumed.{books_of, is_loud_in_all, plain_of};
 ghost use Rattle.volume.specs.Moved.{moving_of};
 ghost use Rattle.volume.specs.Layering.{IsMergeLater, IsSnapLater, IsTicked, moving_relayered};
+ghost use Rattle.stop_laws.specs.Firm.{AddsNow};
+ghost use Rattle.volume.specs.Adding.{AddsMerge};
 
 use crate::Volume;
 use layers::Layered;
@@ -15,6 +17,7 @@ use snapshot::Snapshot;
 /// Lets so many seconds pass for the layers of all stores.
 fn tick_all<B: Layered>(snaps: &mut [Snapshot<B>], seconds: u32)
     ensures count { length snaps.new ≡ length snaps.old }
+    ensures adds { (k : ℕ) (d : Kept B) → k < length snaps.old → AddsNow (B.may_hold (slice_index_or snaps.old k d).device) (B.may_hold (slice_index_or snaps.new k d).device) (B.contents (slice_index_or snaps.new k d).device) }
     ensures each { (k : ℕ) (d : Kept B) → k < length snaps.old → IsSnapLater (record { contents = B.contents; durable = B.durable; size = B.size; faults = B.fault_count; done = B.done_count }) B.layers seconds (slice_index_or snaps.old k d) (slice_index_or snaps.new k d) }
 {
     for k in 0..snaps.len() {
@@ -24,7 +27,8 @@ fn tick_all<B: Layered>(snaps: &mut [Snapshot<B>], seconds: u32)
 
 /// Lets so many seconds pass for the layers of the merging store.
 fn tick_merge<B: Layered>(merge: &mut Option<Merge<B>>, seconds: u32)
-    ensures { IsMergeLater (record { contents = B.contents; durable = B.durable; size = B.size; faults = B.fault_count; done = B.done_count }) B.layers seconds merge.old merge.new }
+    ensures adds { AddsMerge B.may_hold B.contents merge.old merge.new }
+    ensures later { IsMergeLater (record { contents = B.contents; durable = B.durable; size = B.size; faults = B.fault_count; done = B.done_count }) B.layers seconds merge.old merge.new }
 {
     match merge {
         None => {}

@@ -52,11 +52,11 @@ impl<B: Block> Model for Volume<B> {
 
     ghost Value = { Volumed B };
 
-    ghost use Rattle.volume.specs.Whole.{IsWhole};
+    ghost use Rattle.volume.specs.Lasting.{IsKept};
 
     ghost view = { λ v. record { origin = v.origin; snaps = v.snaps.items; merge = v.merge; flights = v.flights.items; requests = v.requests; copies = v.copies; attached = v.attached } };
 
-    ghost invariant = { λ v. IsWhole B.contents B.layers B.size (record { origin = v.origin; snaps = v.snaps.items; merge = v.merge; flights = v.flights.items; requests = v.requests; copies = v.copies; attached = v.attached }) };
+    ghost invariant = { λ v. IsKept B.may_hold B.contents B.layers B.size (record { origin = v.origin; snaps = v.snaps.items; merge = v.merge; flights = v.flights.items; requests = v.requests; copies = v.copies; attached = v.attached }) };
 }
 
 /// The sectors of the least chunk of some snapshots, or of the largest chunk where there is none.

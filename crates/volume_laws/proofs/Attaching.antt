@@ -1,5 +1,5 @@
 -- A snapshot is taken, and let go, in a quiet volume; the volume as it begins.
-use Rattle.std.proofs.Common.{◌≡◌, ◌≢◌, ℕ, ◌*◌, Bool, List, [], ◌∷◌, ◌++◌, None, length, map, sym, ◌∙◌, ap, subst, arith, append-nil}
+use Rattle.std.proofs.Common.{◌≡◌, ◌≢◌, ℕ, ◌*◌, Bool, List, [], ◌∷◌, ◌++◌, None, length, map, drop, sym, ◌∙◌, ap, subst, arith, append-nil}
 use Rattle.std.specs.List.{All, remove}
 use Rattle.std.specs.Prelude.{AllPairs}
 use Rattle.std.proofs.lemmas.Bool.{false≢true}
@@ -13,10 +13,11 @@ use Rattle.plain.specs.Legal.{IsTaken, IsDetached}
 use Rattle.pending.specs.Copies.{pair_of}
 use Rattle.pending.specs.Kinds.{in_flight}
 use Rattle.volume_laws.specs.Books.{SnapBooks, Books, number_of}
-use Rattle.volume_laws.specs.Held.{StoreHolds, LiveHolds, SnapHolds, CopyHolds, MarkHolds, RouteHolds, RequestHolds}
+use Rattle.volume_laws.specs.Held.{StoreHolds, LiveHolds, SnapHolds, CopyHolds, MarkHolds, RouteHolds, RequestHolds, IsLinked}
 use Rattle.volume_laws.specs.Whole.{Holds, plain_of, entry_of, origin_of, begun_of, UnmergedHolds}
 use Rattle.volume_laws.specs.Steps.{IsNewSnap, Attaches, Detaches}
 use Rattle.volume_laws.proofs.Lists.{All-remove, map-remove}
+use Rattle.volume_laws.proofs.Sure.{link_flushed}
 use Rattle.volume_laws.proofs.Same.{same_volume, plain}
 use Rattle.volume_laws.proofs.Entries.{saved_at, without_saved_at}
 use Rattle.volume_laws.proofs.WholeOne.{shown}
@@ -33,6 +34,8 @@ new_live o s n = record {
   fits = n.fits;
   tried = n.tried;
   agree = n.begun ∙ ap (map pair_of) (sym n.copies);
+  few = omega (arith, n.sure);
+  link = subst (λ x. All (IsLinked s.marks) (drop x s.pairs)) (sym n.sure) (link_flushed s.pairs s.marks);
   copies = subst (All (CopyHolds s.loud s.chunk s.sectors o s.store)) (sym n.copies) (All-nil (CopyHolds s.loud s.chunk s.sectors o s.store));
   unpublished = λ _. subst (All (MarkHolds s.chunk o s.store s.pairs)) (sym n.marks) (All-nil (MarkHolds s.chunk o s.store s.pairs));
   routes = All-nil (RouteHolds s.number s.chunk s.pairs s.marks);

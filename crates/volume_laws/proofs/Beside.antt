@@ -9,14 +9,14 @@ use Rattle.std.proofs.lemmas.List.Edits.{get_or-remove_below, get_or-remove_abov
 use Rattle.std.proofs.lemmas.List.Elements.{All-set}
 use Rattle.pending.specs.Kinds.{kind_of}
 use Rattle.pending.specs.declared.flights.Flight.{Flight}
-use Rattle.pending.specs.declared.flights.Kind.TheVariants.{OriginRead, OriginWrite, SnapRead, SnapWrite}
+use Rattle.pending.specs.declared.flights.Kind.TheVariants.{OriginRead, OriginWrite, OriginFlush, SnapRead, SnapWrite, SnapFlush}
 use Rattle.volume_laws.specs.Books.{SnapBooks, MergeBooks, number_of}
 use Rattle.volume_laws.specs.Published.{IsPiece}
 use Rattle.volume_laws.specs.Accepting.{IsBeside, IsNumberedApart}
 use Rattle.volume_laws.proofs.Lists.{All-remove}
 use Rattle.volume_laws.proofs.Spoiling.{numbers_differ}
 use Rattle.volume_laws.proofs.MergeEvents.{begun}
-use Rattle.volume_laws.proofs.Routing.{origin_read_ne_read, origin_read_ne_write, origin_write_ne_read, origin_write_ne_write, reads_ne_writes, snap_of_read, snap_of_write}
+use Rattle.volume_laws.proofs.Routing.{origin_read_ne_read, origin_read_ne_write, origin_write_ne_read, origin_write_ne_write, reads_ne_writes, snap_of_read, snap_of_write, snap_of_flush}
 
 -- without a merge
 pub apart_alone : (merge : Option MergeBooks) (snaps : List SnapBooks) → merge ≡ None → IsNumberedApart merge snaps
@@ -56,17 +56,23 @@ apart_merge m m' snaps same h x is =
 
 -- a request of the origin, and one of another snapshot
 pub beside_origin_read : (f : Flight) (m : MergeBooks) → kind_of f.request ≡ OriginRead → IsPiece m.chunk f.request.range → IsBeside f m
-beside_origin_read f m kind piece = record { piece = piece; no_read = λ e. origin_read_ne_read m.number (sym kind ∙ e); no_write = λ e. origin_read_ne_write m.number (sym kind ∙ e) }
+beside_origin_read f m kind piece = record { piece = piece; no_read = λ e. origin_read_ne_read m.number (sym kind ∙ e); no_write = λ e. origin_read_ne_write m.number (sym kind ∙ e); no_flush = λ e. cc }
 
 pub beside_origin_write : (f : Flight) (m : MergeBooks) → kind_of f.request ≡ OriginWrite → IsPiece m.chunk f.request.range → IsBeside f m
-beside_origin_write f m kind piece = record { piece = piece; no_read = λ e. origin_write_ne_read m.number (sym kind ∙ e); no_write = λ e. origin_write_ne_write m.number (sym kind ∙ e) }
+beside_origin_write f m kind piece = record { piece = piece; no_read = λ e. origin_write_ne_read m.number (sym kind ∙ e); no_write = λ e. origin_write_ne_write m.number (sym kind ∙ e); no_flush = λ e. cc }
+
+pub beside_origin_flush : (f : Flight) (m : MergeBooks) → kind_of f.request ≡ OriginFlush → IsPiece m.chunk f.request.range → IsBeside f m
+beside_origin_flush f m kind piece = record { piece = piece; no_read = λ e. cc; no_write = λ e. cc; no_flush = λ e. cc }
 
 module _ (merge : Option MergeBooks) (snaps : List SnapBooks) (h : IsNumberedApart merge snaps) (f : Flight) (m : MergeBooks) (is : merge ≡ Some m) (j : ℕ) (s : SnapBooks) (within : j < length snaps) (was : s ≡ get_or snaps j s) (piece : IsPiece m.chunk f.request.range) where
   other : s.number ≢ m.number
   other = subst (λ (x : SnapBooks). x.number ≢ m.number) (sym was) (h m is j s within)
 
   pub beside_snap_read : kind_of f.request ≡ SnapRead s.number → IsBeside f m
-  beside_snap_read kind = record { piece = piece; no_read = λ e. other (snap_of_read s.number m.number (sym kind ∙ e)); no_write = λ e. reads_ne_writes s.number m.number (sym kind ∙ e) }
+  beside_snap_read kind = record { piece = piece; no_read = λ e. other (snap_of_read s.number m.number (sym kind ∙ e)); no_write = λ e. reads_ne_writes s.number m.number (sym kind ∙ e); no_flush = λ e. cc }
 
   pub beside_snap_write : kind_of f.request ≡ SnapWrite s.number → IsBeside f m
-  beside_snap_write kind = record { piece = piece; no_read = λ e. reads_ne_writes m.number s.number (sym e ∙ kind); no_write = λ e. other (snap_of_write s.number m.number (sym kind ∙ e)) }
+  beside_snap_write kind = record { piece = piece; no_read = λ e. reads_ne_writes m.number s.number (sym e ∙ kind); no_write = λ e. other (snap_of_write s.number m.number (sym kind ∙ e)); no_flush = λ e. cc }
+
+  pub beside_snap_flush : kind_of f.request ≡ SnapFlush s.number → IsBeside f m
+  beside_snap_flush kind = record { piece = piece; no_read = λ e. cc; no_write = λ e. cc; no_flush = λ e. other (snap_of_flush s.number m.number (sym kind ∙ e)) }

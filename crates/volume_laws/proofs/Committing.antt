@@ -4,7 +4,7 @@ use Rattle.std.specs.List.{All, Any}
 use Rattle.std.specs.Prelude.{AllPairs}
 use Rattle.std.proofs.lemmas.Bool.{cases_Bool, eqb-true}
 use Rattle.std.proofs.Math.Seq.{take-append-add}
-use Rattle.std.proofs.lemmas.List.{get_or_default, get_or_append_left, get_or-append-add, take-map, drop-map, take-append-drop, get_or-take, length-take-le}
+use Rattle.std.proofs.lemmas.List.{get_or_default, get_or-append-add, take-map, drop-map, take-append-drop, get_or-take, length-take-le}
 use Rattle.std.proofs.lemmas.List.Elements.{All-weaker, All-append, All-take, All-drop, All-map}
 use Rattle.sector.specs.declared.pair.Pair.{Pair}
 use Rattle.model.specs.Places.{area_place, is_area_place, ChangesOnly}
@@ -23,6 +23,7 @@ use Rattle.volume_laws.specs.Steps.{ZeroesArea, Commits, mark_of}
 use Rattle.volume_laws.proofs.Lists.{All-front, AllPairs-front}
 use Rattle.volume_laws.proofs.Same.{same_books}
 use Rattle.volume_laws.proofs.Pairs.{place_of-front_kept, place_of-whole_none, some_ne_none}
+use Rattle.volume_laws.proofs.Sure.{any_front, any_back, link_committed}
 use Rattle.volume_laws.proofs.Stores.{not_placed, inside_at, copied_kept, mark_kept, picture_kept, area_unnamed}
 
 -- no copy stands on an area's place
@@ -51,13 +52,15 @@ area_zeroed o rs a v w h e =
     let s = e.same in
     let t = h.text in
     let u : SnapBooks = record v { store = w.store } in
-    let now : w ≡ u = same_books w u s.number s.live s.untried s.marked s.loud s.overflow s.chunk s.sectors s.size refl e.pairs e.begun e.copies e.marks in
+    let now : w ≡ u = same_books w u s.number s.live s.untried s.marked s.loud s.overflow s.chunk s.sectors s.size refl e.pairs e.begun e.sure e.copies e.marks in
     subst (LiveHolds o rs) (sym now) (record {
       text = record { some = t.some; allowed = t.allowed; whole = e.only.len ∙ t.whole; inside = t.inside; apart = t.apart };
       stored = e.stored;
       fits = h.fits;
       tried = h.tried;
       agree = h.agree;
+      few = h.few;
+      link = h.link;
       copies = area_copies o rs v w.store h a e.only;
       unpublished = λ loud. All-weaker (MarkHolds v.chunk o v.store v.pairs) (MarkHolds v.chunk o w.store v.pairs)
           (λ m. mark_kept v.chunk (area_place v.chunk a) o v.store w.store v.pairs m t.some e.only (area_unnamed o rs v h a)) v.marks (h.unpublished loud);
@@ -79,12 +82,6 @@ published_more ps qs ms ns c fresh old = record {
     placed_at : (r : Option ℕ) → place_of ps c ≡ r → place_of (ps ++ qs) c ≢ None
     placed_at None is = absurd (old.placed is)
     placed_at (Some place) is = λ none. some_ne_none place (sym (place_of-front_kept ps qs c place is) ∙ none)
-
-any_front : (P : Mark → Type 0) (ms ns : List Mark) → Any P ms → Any P (ms ++ ns)
-any_front P ms ns (k, x, lt, is, holds) = (k, x, omega (arith, lt, length-append ms ns), get_or_append_left ms ns x k lt ∙ is, holds)
-
-any_back : (P : Mark → Type 0) (ms ns : List Mark) → Any P ns → Any P (ms ++ ns)
-any_back P ms ns (k, x, lt, is, holds) = (length ms + k, x, omega (arith, lt, length-append ms ns), get_or-append-add ms ns k x ∙ is, holds)
 
 -- the mark of a chunk that these copies have
 marked_by : (cs : List ChunkCopy) (c n : ℕ) → place_of (map pair_of cs) c ≡ Some n → Any (λ (m : Mark). m.chunk ≡ c) (map mark_of cs)
@@ -117,6 +114,7 @@ route_more number chunk ps ms cs r fresh h =
       write_stored = λ place kind route. (let old = h.write_stored place kind route in (place_of-front_kept ps qs c place old.0, published_more ps qs ms ns c fresh old.1));
       read_alive = h.read_alive;
       write_alive = h.write_alive;
+      flush = h.flush;
     }
 
 -- an element of a list's front
@@ -183,7 +181,7 @@ module _ (o : List ℕ) (rs : List Flight) (count a : ℕ) (v w : SnapBooks) (h 
   after = record v { store = w.store; pairs = v.pairs ++ new; begun = drop count v.begun; copies = drop count v.copies; marks = v.marks ++ map mark_of first }
 
   after_is : w ≡ after
-  after_is = (let s = e.same in same_books w after s.number s.live s.untried s.marked s.loud s.overflow s.chunk s.sectors s.size refl (e.pairs ∙ ap (λ x. v.pairs ++ x) front_begun) e.begun e.copies e.marks)
+  after_is = (let s = e.same in same_books w after s.number s.live s.untried s.marked s.loud s.overflow s.chunk s.sectors s.size refl (e.pairs ∙ ap (λ x. v.pairs ++ x) front_begun) e.begun e.sure e.copies e.marks)
 
   after_holds : LiveHolds o rs after
   after_holds = (let t = h.text in record {
@@ -198,6 +196,8 @@ module _ (o : List ℕ) (rs : List Flight) (count a : ℕ) (v w : SnapBooks) (h 
     fits = h.fits;
     tried = h.tried;
     agree = ap (drop count) h.agree ∙ drop-map pair_of count v.copies;
+    few = omega (arith, h.few, length-append v.pairs new);
+    link = link_committed v.sure v.pairs v.marks first h.few h.link;
     copies = All-drop (CopyHolds v.loud v.chunk v.sectors o w.store) count v.copies (area_copies o rs v w.store h a e.only);
     unpublished = λ loud. All-append (MarkHolds v.chunk o w.store (v.pairs ++ new)) v.marks (map mark_of first)
         (All-weaker (MarkHolds v.chunk o v.store v.pairs) (MarkHolds v.chunk o w.store (v.pairs ++ new)) (λ m old. record { same = λ i lt at. same_at loud i lt ∙ old.same i lt at }) v.marks (h.unpublished loud))

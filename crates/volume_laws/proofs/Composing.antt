@@ -9,8 +9,9 @@ use Rattle.plain.specs.declared.request.Request.{Request}
 use Rattle.plain.specs.declared.request.Dev.{Dev}
 use Rattle.plain.specs.declared.request.Dev.TheVariants.{Origin, Snap}
 use Rattle.plain.specs.declared.request.Op.{Op}
-use Rattle.plain.specs.declared.request.Op.TheVariants.{Read, Write}
+use Rattle.plain.specs.declared.request.Op.TheVariants.{Read, Write, Flush}
 use Rattle.plain.specs.Plain.{Plain, Entry, Invalid, is_in, spoiled, spoiled_entry, overflow_under, did_overflow}
+use Rattle.plain.specs.Kept.{kept}
 use Rattle.plain.specs.Legal.{Spoils, is_shut}
 use Rattle.volume_laws.specs.Books.{SnapBooks, Books}
 use Rattle.volume_laws.specs.Whole.{IsLoud, plain_of}
@@ -63,6 +64,7 @@ shut_spoiled : (which : List ℕ) (dev : Dev) (op : Op) (es : List Entry) → is
 shut_spoiled which Origin op es = refl
 shut_spoiled which (Snap number) Read es = refl
 shut_spoiled which (Snap number) (Write bytes) es = ap did_overflow (overflow_spoiled which number es)
+shut_spoiled which (Snap number) Flush es = refl
 
 -- snapshots are spoiled, and then a request is accepted
 pub accept_then : (which : List ℕ) (number : ℕ) (request : Request) (v u w : Books) → IsSpoil which v u → IsAccepted [] number request u w → (IsLoud v → IsLoud u) → IsAccepted which number request v w
@@ -70,8 +72,8 @@ accept_then which number request v u w one two loud = record {
   holds = two.holds;
   step = λ l. (let a = one.step l in let b = (two.step (loud l)).becomes in record {
     writable = sym (shut_spoiled which request.dev request.op (plain_of v).saved) ∙ sym (ap (λ (p : Plain). is_shut request.dev request.op p.saved) a) ∙ (two.step (loud l)).writable;
-    becomes = b ∙ ap (λ (p : Plain). plain p.origin p.begun (spoiled [] p).saved (p.requests ++ record { number = number; request = request } ∷ [])) a
-        ∙ ap (λ x. plain (plain_of v).origin (plain_of v).begun x ((plain_of v).requests ++ record { number = number; request = request } ∷ [])) (none_more (map (spoiled_entry which) (plain_of v).saved));
+    becomes = b ∙ ap (λ (p : Plain). plain p.origin p.begun (spoiled [] p).saved (p.requests ++ record { number = number; request = kept request } ∷ [])) a
+        ∙ ap (λ x. plain (plain_of v).origin (plain_of v).begun x ((plain_of v).requests ++ record { number = number; request = kept request } ∷ [])) (none_more (map (spoiled_entry which) (plain_of v).saved));
   });
 }
   where

@@ -37,6 +37,8 @@ goes_on o rs v h k p q is same holds = record {
   fits = h.fits;
   tried = h.tried;
   agree = h.agree ∙ sym (map-set_same pair_of v.copies k q p (same ∙ ap pair_of is));
+  few = h.few;
+  link = h.link;
   copies = All-set (CopyHolds v.loud v.chunk v.sectors o v.store) v.copies k q holds h.copies;
   unpublished = h.unpublished;
   routes = h.routes;
@@ -47,7 +49,7 @@ copy_read o rs k p q v w h e =
     let old = copy_holds o rs v h k p e.copy.within e.copy.was in
     let s = e.same in
     let now : w ≡ record v { copies = set v.copies k q } =
-    same_books w (record v { copies = set v.copies k q }) s.number s.live s.untried s.marked s.loud s.overflow s.chunk s.sectors s.size e.store.store e.store.pairs e.store.begun e.copy.copies e.marks in
+    same_books w (record v { copies = set v.copies k q }) s.number s.live s.untried s.marked s.loud s.overflow s.chunk s.sectors s.size e.store.store e.store.pairs e.store.begun e.store.sure e.copy.copies e.marks in
     subst (LiveHolds o rs) (sym now) (goes_on o rs v h k p q e.copy.was e.copy.pair (record {
       room = e.room ∙ old.room ∙ ap (λ (x : Pair). 512 * count_of v.chunk v.sectors x.old) (sym e.copy.pair);
       read = λ _. e.read ∙ ap (λ (x : Pair). sectors_at o (v.chunk * x.old) (count_of v.chunk v.sectors x.old)) (sym e.copy.pair);
@@ -98,6 +100,8 @@ place_written o rs v new h k p within is unwritten only =
       fits = h.fits;
       tried = h.tried;
       agree = h.agree;
+      few = h.few;
+      link = h.link;
       copies = other_copies o rs v new h k p within is unwritten only;
       unpublished = λ loud. All-weaker (MarkHolds v.chunk o v.store v.pairs) (MarkHolds v.chunk o new v.pairs)
           (λ m. mark_kept v.chunk p.pair.new o v.store new v.pairs m t.some only (place_unused o rs v h k p within is)) v.marks (h.unpublished loud);
@@ -110,7 +114,7 @@ copy_write o rs k p q v w h e =
     let inside = inside_at o rs v h k p e.copy.within e.copy.was in
     let s = e.same in
     let u : SnapBooks = record v { store = w.store; copies = set v.copies k q } in
-    let now : w ≡ u = same_books w u s.number s.live s.untried s.marked s.loud s.overflow s.chunk s.sectors s.size refl e.pairs e.begun e.copy.copies e.marks in
+    let now : w ≡ u = same_books w u s.number s.live s.untried s.marked s.loud s.overflow s.chunk s.sectors s.size refl e.pairs e.begun e.sure e.copy.copies e.marks in
     subst (LiveHolds o rs) (sym now)
     (goes_on o rs (record v { store = w.store }) (place_written o rs v w.store h k p e.copy.within e.copy.was (ap is_stored e.was_read) e.only) k p q e.copy.was e.copy.pair (record {
       room = ap length e.buffer ∙ old.room ∙ ap (λ (x : Pair). 512 * count_of v.chunk v.sectors x.old) (sym e.copy.pair);

@@ -46,6 +46,8 @@ module _ (o o' : List ℕ) (rs : List Flight) (v : SnapBooks) (h : LiveHolds o r
     fits = e.len ∙ h.fits;
     tried = h.tried;
     agree = h.agree;
+    few = h.few;
+    link = h.link;
     copies = copies_kept;
     unpublished = λ loud k d lt.
         (let m = get_or v.marks k d in

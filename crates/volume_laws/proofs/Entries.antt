@@ -6,7 +6,7 @@ use Rattle.std.proofs.lemmas.List.{length-map, get_or-map}
 use Rattle.plain.specs.declared.request.Dev.{Dev}
 use Rattle.plain.specs.declared.request.Dev.TheVariants.{Origin as AtOrigin, Snap}
 use Rattle.plain.specs.declared.request.Op.{Op}
-use Rattle.plain.specs.declared.request.Op.TheVariants.{Read, Write}
+use Rattle.plain.specs.declared.request.Op.TheVariants.{Read, Write, Flush}
 use Rattle.plain.specs.declared.request.Reply.{Reply}
 use Rattle.plain.specs.declared.request.Reply.TheVariants.{Refused}
 use Rattle.plain.specs.declared.request.Failure.TheVariants.{Invalid as IsInvalid, Io}
@@ -18,7 +18,7 @@ use Rattle.plain.specs.Plain.{Plain, Entry, Saved, saved_under, with_saved, with
 use Rattle.plain.specs.Legal.{is_shut}
 use Rattle.plain.specs.Serves.{Serves, SameArrays, IsShowing, IsSpoilt}
 use Rattle.pending.specs.Kinds.{kind_at}
-use Rattle.pending.specs.declared.flights.Kind.TheVariants.{OriginRead, OriginWrite, SnapRead, SnapWrite}
+use Rattle.pending.specs.declared.flights.Kind.TheVariants.{OriginRead, OriginWrite, OriginFlush, SnapRead, SnapWrite, SnapFlush}
 use Rattle.volume_laws.specs.Books.{SnapBooks, number_of}
 use Rattle.volume_laws.specs.Whole.{entry_of}
 use Rattle.volume_laws.proofs.Lists.{AllPairs-tail}
@@ -77,26 +77,50 @@ without_saved_at o (v ∷ snaps) (suc j) s all within is =
 pub origin_read_is : (dev : Dev) (op : Op) → kind_at dev op ≡ OriginRead → (dev ≡ AtOrigin) × (op ≡ Read)
 origin_read_is AtOrigin Read e = (refl, refl)
 origin_read_is AtOrigin (Write b) e = cc
+origin_read_is AtOrigin Flush e = cc
 origin_read_is (Snap n) Read e = cc
 origin_read_is (Snap n) (Write b) e = cc
+origin_read_is (Snap n) Flush e = cc
 
 pub origin_write_is : (dev : Dev) (op : Op) → kind_at dev op ≡ OriginWrite → dev ≡ AtOrigin
 origin_write_is AtOrigin Read e = refl
 origin_write_is AtOrigin (Write b) e = refl
+origin_write_is AtOrigin Flush e = refl
 origin_write_is (Snap n) Read e = cc
 origin_write_is (Snap n) (Write b) e = cc
+origin_write_is (Snap n) Flush e = cc
+
+pub origin_flush_is : (dev : Dev) (op : Op) → kind_at dev op ≡ OriginFlush → (dev ≡ AtOrigin) × (op ≡ Flush)
+origin_flush_is AtOrigin Read e = cc
+origin_flush_is AtOrigin (Write b) e = cc
+origin_flush_is AtOrigin Flush e = (refl, refl)
+origin_flush_is (Snap n) Read e = cc
+origin_flush_is (Snap n) (Write b) e = cc
+origin_flush_is (Snap n) Flush e = cc
 
 pub snap_read_is : (dev : Dev) (op : Op) (n : ℕ) → kind_at dev op ≡ SnapRead n → (dev ≡ Snap n) × (op ≡ Read)
 snap_read_is AtOrigin Read n e = cc
 snap_read_is AtOrigin (Write b) n e = cc
+snap_read_is AtOrigin Flush n e = cc
 snap_read_is (Snap m) Read n e = let same : m ≡ n = cc in (ap Snap same, refl)
 snap_read_is (Snap m) (Write b) n e = cc
+snap_read_is (Snap m) Flush n e = cc
 
 pub snap_write_is : (dev : Dev) (op : Op) (n : ℕ) → kind_at dev op ≡ SnapWrite n → dev ≡ Snap n
 snap_write_is AtOrigin Read n e = cc
 snap_write_is AtOrigin (Write b) n e = cc
+snap_write_is AtOrigin Flush n e = cc
 snap_write_is (Snap m) Read n e = cc
 snap_write_is (Snap m) (Write b) n e = let same : m ≡ n = cc in ap Snap same
+snap_write_is (Snap m) Flush n e = cc
+
+pub snap_flush_is : (dev : Dev) (op : Op) (n : ℕ) → kind_at dev op ≡ SnapFlush n → (dev ≡ Snap n) × (op ≡ Flush)
+snap_flush_is AtOrigin Read n e = cc
+snap_flush_is AtOrigin (Write b) n e = cc
+snap_flush_is AtOrigin Flush n e = cc
+snap_flush_is (Snap m) Read n e = cc
+snap_flush_is (Snap m) (Write b) n e = cc
+snap_flush_is (Snap m) Flush n e = let same : m ≡ n = cc in (ap Snap same, refl)
 
 -- a request that is no write of a snapshot is never shut out, and a write of snapshot s while s did not overflow
 pub origin_open : (dev : Dev) (op : Op) (es : List Entry) → dev ≡ AtOrigin → is_shut dev op es ≡ false
@@ -105,10 +129,15 @@ origin_open dev op es is = ap (λ d. is_shut d op es) is
 pub read_open : (dev : Dev) (op : Op) (es : List Entry) (n : ℕ) → kind_at dev op ≡ SnapRead n → is_shut dev op es ≡ false
 read_open dev op es n kind = (let (dev_is, op_is) = snap_read_is dev op n kind in ap (λ d. is_shut d op es) dev_is ∙ ap (λ x. is_shut (Snap n) x es) op_is)
 
+pub flush_open : (dev : Dev) (op : Op) (es : List Entry) (n : ℕ) → kind_at dev op ≡ SnapFlush n → is_shut dev op es ≡ false
+flush_open dev op es n kind = (let (dev_is, op_is) = snap_flush_is dev op n kind in ap (λ d. is_shut d op es) dev_is ∙ ap (λ x. is_shut (Snap n) x es) op_is)
+
 pub write_open : (dev : Dev) (op : Op) (es : List Entry) (n : ℕ) → kind_at dev op ≡ SnapWrite n → did_overflow (overflow_under n es) ≡ false → is_shut dev op es ≡ false
 write_open AtOrigin Read es n kind writable = refl
 write_open AtOrigin (Write b) es n kind writable = refl
+write_open AtOrigin Flush es n kind writable = refl
 write_open (Snap m) Read es n kind writable = refl
+write_open (Snap m) Flush es n kind writable = refl
 write_open (Snap m) (Write b) es n kind writable = (let same : m ≡ n = cc in ap (λ x. did_overflow (overflow_under x es)) same ∙ writable)
 
 -- a request that is served as another with its device and operation
@@ -119,7 +148,9 @@ serves_as old new reply request dev op dev_is op_is h =
 pub io_served : (old new : Plain) (dev : Dev) (op : Op) (range : Range) → SameArrays old new → IsShowing old dev → Serves old dev op range (Refused Io) new
 io_served old new dev Read range h showing = (h, showing)
 io_served old new dev (Write b) range h showing = (h, showing)
+io_served old new dev Flush range h showing = (h, showing)
 
 pub invalid_served : (old new : Plain) (dev : Dev) (op : Op) (range : Range) → SameArrays old new → IsSpoilt old dev → Serves old dev op range (Refused IsInvalid) new
 invalid_served old new dev Read range h spoilt = (h, spoilt)
 invalid_served old new dev (Write b) range h spoilt = (h, spoilt)
+invalid_served old new dev Flush range h spoilt = (h, spoilt)

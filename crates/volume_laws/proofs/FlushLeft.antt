@@ -117,6 +117,16 @@ some_ready : (cs : List ChunkCopy) → front_ready cs ≡ true → 0 < length cs
 some_ready [] e = absurd (false≢true e)
 some_ready (c ∷ cs) e = omega arith
 
+-- A flush of a live snapshot's store leaves no more, whatever waits for it.
+pub flush_no_more : (s s' : DueSnap) → FlushesStore s.books s'.books → s.books.live ≡ true → s'.zeroed ≡ s.zeroed → s'.firm ≡ s.zeroed → (s.firm ≡ true → s.zeroed ≡ true) → left_in s' ≤ left_in s
+flush_no_more s s' e live zeroed now firm =
+    let invalid = invalid_same s.books s'.books e.same.untried e.same.marked in
+    let copies : sum_by steps_of s'.books.copies ≡ sum_by steps_of (map flushed_copy s.books.copies) = ap (sum_by steps_of) e.copies in
+    let marks : sum_by steps_of_mark s'.books.marks ≡ sum_by steps_of_mark (map safe_mark s.books.marks) = ap (sum_by steps_of_mark) e.marks in
+    let was : steps_of_area s ≡ area_at true s.zeroed s.firm = ap (λ x. area_at x s.zeroed s.firm) live in
+    let is : steps_of_area s' ≡ area_at true s.zeroed s.zeroed = ap (λ x. area_at x s'.zeroed s'.firm) (e.same.live ∙ live) ∙ ap (λ x. area_at true x s'.firm) zeroed ∙ ap (λ x. area_at true s.zeroed x) now in
+    omega (arith, invalid, copies, marks, was, is, area_flushed s.zeroed s.firm firm, copies_le s.books.copies, marks_le s.books.marks)
+
 -- The flush is answered. What the first copies wait for is not firm, and where they do not need it, it is zeroed.
 pub flush_left : (s s' : DueSnap) → FlushesStore s.books s'.books → s.books.live ≡ true → s.books.untried ≡ false → s'.zeroed ≡ s.zeroed → s'.firm ≡ s.zeroed
     → (s.firm ≡ true → s.zeroed ≡ true) → (s.waits ≡ true → s.firm ≡ false) → (s.waits ≡ true → s.needs ≡ false → s.zeroed ≡ true) → can_flush_store s ≡ true → left_in s' < left_in s

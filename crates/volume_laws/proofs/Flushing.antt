@@ -1,5 +1,5 @@
 -- A snapshot's store is flushed: FlushStore, of one live snapshot. What is in its lists names the same chunks and places.
-use Rattle.std.proofs.Common.{◌≡◌, ◌≢◌, inl, inr, ℕ, zero, suc, Bool, true, List, [], ◌∷◌, map, refl, sym, ◌∙◌, ap, subst, arith, nat_eq}
+use Rattle.std.proofs.Common.{◌≡◌, ◌≢◌, inl, inr, ℕ, zero, suc, Bool, true, List, [], ◌∷◌, length, map, refl, sym, ◌∙◌, ap, subst, arith, nat_eq}
 use Rattle.std.specs.Prelude.{◌||◌, Any}
 use Rattle.std.specs.List.{list_any}
 use Rattle.std.proofs.lemmas.List.Elements.{All-map, All-weaker}
@@ -15,6 +15,7 @@ use Rattle.volume_laws.specs.Books.{SnapBooks}
 use Rattle.volume_laws.specs.Published.{IsPublished, IsUnpublished, is_published}
 use Rattle.volume_laws.specs.Held.{LiveHolds, CopyHolds, MarkHolds, RouteHolds, is_stored}
 use Rattle.volume_laws.specs.Steps.{FlushesStore}
+use Rattle.volume_laws.proofs.Sure.{link_flushed}
 use Rattle.volume_laws.proofs.Same.{same_books}
 
 -- what some element has, where each has it after it is changed
@@ -68,19 +69,22 @@ route_flushed number chunk pairs marks r h = record {
   write_stored = λ place kind route. (let old = h.write_stored place kind route in (old.0, published_flushed pairs marks _ old.1));
   read_alive = h.read_alive;
   write_alive = h.write_alive;
+  flush = h.flush;
 }
 
 pub flush : (o : List ℕ) (rs : List Flight) (v w : SnapBooks) → LiveHolds o rs v → FlushesStore v w → LiveHolds o rs w
 flush o rs v w h e =
     let s = e.same in
-    let u : SnapBooks = record v { copies = map flushed_copy v.copies; marks = map safe_mark v.marks } in
-    let now : w ≡ u = same_books w u s.number s.live s.untried s.marked s.loud s.overflow s.chunk s.sectors s.size e.store e.pairs e.begun e.copies e.marks in
+    let u : SnapBooks = record v { sure = length v.pairs; copies = map flushed_copy v.copies; marks = map safe_mark v.marks } in
+    let now : w ≡ u = same_books w u s.number s.live s.untried s.marked s.loud s.overflow s.chunk s.sectors s.size e.store e.pairs e.begun e.sure e.copies e.marks in
     subst (LiveHolds o rs) (sym now) (record {
       text = h.text;
       stored = h.stored;
       fits = h.fits;
       tried = h.tried;
       agree = h.agree ∙ sym (same_pairs v.copies);
+      few = omega arith;
+      link = link_flushed v.pairs (map safe_mark v.marks);
       copies = All-map (CopyHolds v.loud v.chunk v.sectors o v.store) flushed_copy v.copies
           (All-weaker (CopyHolds v.loud v.chunk v.sectors o v.store) (λ p. CopyHolds v.loud v.chunk v.sectors o v.store (flushed_copy p)) (copy_flushed v.loud v.chunk v.sectors o v.store) v.copies h.copies);
       unpublished = λ loud. All-map (MarkHolds v.chunk o v.store v.pairs) safe_mark v.marks

@@ -6,17 +6,17 @@ use Rattle.sector.specs.Bytes.{sectors_at}
 use Rattle.model.specs.Picture.{picture}
 use Rattle.plain.specs.declared.request.Dev.{Dev}
 use Rattle.plain.specs.declared.request.Dev.TheVariants.{Origin as AtOrigin, Snap}
-use Rattle.plain.specs.declared.request.Op.TheVariants.{Read}
+use Rattle.plain.specs.declared.request.Op.TheVariants.{Read, Flush}
 use Rattle.plain.specs.declared.request.Reply.{Reply}
-use Rattle.plain.specs.declared.request.Reply.TheVariants.{Data, Refused as IsRefused}
+use Rattle.plain.specs.declared.request.Reply.TheVariants.{Data, Flushed, Refused as IsRefused}
 use Rattle.plain.specs.declared.request.Failure.TheVariants.{Invalid as IsInvalid, Io}
 use Rattle.plain.specs.Plain.{Live, Invalid, saved_under}
 use Rattle.plain.specs.Serves.{Serves, SameArrays, IsShowing}
 use Rattle.plain.specs.Legal.{IsAnswered}
 use Rattle.pending.specs.Kinds.{kind_of}
 use Rattle.pending.specs.declared.flights.Flight.{Flight}
-use Rattle.pending.specs.declared.flights.Kind.TheVariants.{OriginRead, OriginWrite, SnapRead, SnapWrite}
-use Rattle.pending.specs.declared.flights.Route.TheVariants.{Origin, Store, Refused}
+use Rattle.pending.specs.declared.flights.Kind.TheVariants.{OriginRead, OriginWrite, OriginFlush, SnapRead, SnapWrite, SnapFlush}
+use Rattle.pending.specs.declared.flights.Route.TheVariants.{Origin, Store, Whole, Refused}
 use Rattle.volume_laws.specs.Books.{SnapBooks, Books}
 use Rattle.volume_laws.specs.Held.{SnapHolds, RouteHolds, RefusedHolds, RequestHolds}
 use Rattle.volume_laws.specs.Whole.{Holds, plain_of, entry_of, origin_of, begun_of}
@@ -25,7 +25,7 @@ use Rattle.volume_laws.specs.Outcomes.{IsReply}
 use Rattle.volume_laws.proofs.Lists.{All-remove}
 use Rattle.volume_laws.proofs.Same.{same_volume}
 use Rattle.volume_laws.proofs.Requests.{asked, gone, found_holds, origin_out, snap_out}
-use Rattle.volume_laws.proofs.Entries.{saved_at, origin_read_is, origin_write_is, snap_read_is, snap_write_is, serves_as, io_served, invalid_served}
+use Rattle.volume_laws.proofs.Entries.{saved_at, origin_read_is, origin_write_is, origin_flush_is, snap_flush_is, snap_read_is, snap_write_is, serves_as, io_served, invalid_served}
 use Rattle.volume_laws.proofs.SnapRequests.{disk_read, place_read}
 use Rattle.volume_laws.proofs.WholeOne.{snap_holds, snap_loud, shown}
 
@@ -65,12 +65,24 @@ module _ (number k : ℕ) (r : Flight) (v w : Books) (h : Holds v) (e : OnlyTake
         (io_served (plain_of v) (plain_of w) dev r.request.op r.request.range same_arrays showing));
   }
 
-  -- at a read or a write of the origin
+  -- at a read, a write or a flush of the origin
   pub io_read_event : kind_of r.request ≡ OriginRead → IsReply number (IsRefused Io) v w
   io_read_event kind = io_at AtOrigin (origin_read_is r.request.dev r.request.op kind).0 ((plain_of v).origin, refl)
 
   pub io_write_event : kind_of r.request ≡ OriginWrite → IsReply number (IsRefused Io) v w
   io_write_event kind = io_at AtOrigin (origin_write_is r.request.dev r.request.op kind) ((plain_of v).origin, refl)
+
+  pub io_flush_event : kind_of r.request ≡ OriginFlush → IsReply number (IsRefused Io) v w
+  io_flush_event kind = io_at AtOrigin (origin_flush_is r.request.dev r.request.op kind).0 ((plain_of v).origin, refl)
+
+  -- the origin disk was flushed
+  pub flush_disk_event : kind_of r.request ≡ OriginFlush → IsReply number Flushed v w
+  flush_disk_event kind =
+      let is = origin_flush_is r.request.dev r.request.op kind in
+      record {
+        holds = left_holds;
+        step = λ _. answered Flushed (serves_as (plain_of v) (plain_of w) Flushed r.request AtOrigin Flush is.0 is.1 (same_arrays, ((plain_of v).origin, refl)));
+      }
 
   -- an origin read, without a merge
   pub read_disk_event : (bytes : List ℕ) → v.merge ≡ None → kind_of r.request ≡ OriginRead → bytes ≡ sectors_at v.origin r.request.range.first r.request.range.count → IsReply number (Data bytes) v w
@@ -116,12 +128,19 @@ module _ (number k : ℕ) (r : Flight) (v w : Books) (h : Holds v) (e : OnlyTake
     pub writing_live : kind_of r.request ≡ SnapWrite s.number → r.route ≢ Refused → s.live ≡ true
     writing_live kind ne = elim (cases_Bool s.live) [ inl live ↦ live | inr dead ↦ absurd (ne ((refused_at dead).write kind)) ]
 
-    -- a device failed at a read or a write of the snapshot
+    -- one that flushes is live, where its route is not the refusal
+    pub flushing_live : kind_of r.request ≡ SnapFlush s.number → r.route ≢ Refused → s.live ≡ true
+    flushing_live kind ne = elim (cases_Bool s.live) [ inl live ↦ live | inr dead ↦ absurd (ne ((refused_at dead).flush kind)) ]
+
+    -- a device failed at a read, a write or a flush of the snapshot
     pub io_snap_read_event : kind_of r.request ≡ SnapRead s.number → r.route ≢ Refused → IsReply number (IsRefused Io) v w
     io_snap_read_event kind ne = io_at (Snap s.number) (snap_read_is r.request.dev r.request.op s.number kind).0 (picture s.chunk v.origin s.store, shows_live (reading_live kind ne))
 
     pub io_snap_write_event : kind_of r.request ≡ SnapWrite s.number → r.route ≢ Refused → IsReply number (IsRefused Io) v w
     io_snap_write_event kind ne = io_at (Snap s.number) (snap_write_is r.request.dev r.request.op s.number kind) (picture s.chunk v.origin s.store, shows_live (writing_live kind ne))
+
+    pub io_snap_flush_event : kind_of r.request ≡ SnapFlush s.number → r.route ≢ Refused → IsReply number (IsRefused Io) v w
+    io_snap_flush_event kind ne = io_at (Snap s.number) (snap_flush_is r.request.dev r.request.op s.number kind).0 (picture s.chunk v.origin s.store, shows_live (flushing_live kind ne))
 
     read_served : (bytes : List ℕ) → s.live ≡ true → kind_of r.request ≡ SnapRead s.number → bytes ≡ sectors_at (picture s.chunk v.origin s.store) r.request.range.first r.request.range.count
         → Serves (plain_of v) r.request.dev r.request.op r.request.range (Data bytes) (plain_of w)
@@ -175,5 +194,18 @@ module _ (number k : ℕ) (r : Flight) (v w : Books) (h : Holds v) (e : OnlyTake
         record {
           holds = left_holds;
           step = λ _. answered (IsRefused IsInvalid) (serves_as (plain_of v) (plain_of w) (IsRefused IsInvalid) r.request (Snap s.number) r.request.op is refl
+              (invalid_served (plain_of v) (plain_of w) (Snap s.number) r.request.op r.request.range same_arrays (shows_dead dead)));
+        }
+
+    whole_ne_refused : Whole ≢ Refused
+    whole_ne_refused c = cc
+
+    pub refused_flush_event : kind_of r.request ≡ SnapFlush s.number → r.route ≡ Refused → IsReply number (IsRefused IsInvalid) v w
+    refused_flush_event kind route =
+        let is = snap_flush_is r.request.dev r.request.op s.number kind in
+        let dead : s.live ≡ false = elim (cases_Bool s.live) [ inl live ↦ absurd (whole_ne_refused (sym ((route_at live).flush kind) ∙ route)) | inr dead ↦ dead ] in
+        record {
+          holds = left_holds;
+          step = λ _. answered (IsRefused IsInvalid) (serves_as (plain_of v) (plain_of w) (IsRefused IsInvalid) r.request (Snap s.number) r.request.op is.0 refl
               (invalid_served (plain_of v) (plain_of w) (Snap s.number) r.request.op r.request.range same_arrays (shows_dead dead)));
         }

@@ -2,7 +2,6 @@
 use Rattle.std.proofs.Common.{◌≡◌, ℕ, ◌+◌, ◌*◌, ◌<◌, ◌≤◌, Bool, true, false, List, [], ◌∷◌, length, get_or, set, map, take, drop, refl, sym, ◌∙◌, ap, arith, if◌then◌else◌}
 use Rattle.std.specs.Prelude.{◌&&◌, not, sum_by}
 use Rattle.std.specs.List.{All, remove}
-use Rattle.std.proofs.lemmas.List.Edits.{length-remove}
 use Rattle.std.proofs.lemmas.List.{length-take-le}
 use Rattle.std.proofs.lemmas.List.Elements.{All-head, All-tail}
 use Rattle.std.proofs.lemmas.List.Sums.{sum_by-cons, sum_by-append, sum_by-set, sum_by-remove, sum_by-take-drop}
@@ -10,10 +9,15 @@ use Rattle.pending.specs.declared.copies.Stage.{Stage}
 use Rattle.pending.specs.declared.copies.Stage.TheVariants.{Waiting, Read, Written, Flushed}
 use Rattle.pending.specs.declared.copies.ChunkCopy.{ChunkCopy}
 use Rattle.pending.specs.declared.copies.Mark.{Mark}
+use Rattle.pending.specs.Kinds.{kind_of}
 use Rattle.pending.specs.declared.flights.Flight.{Flight}
+use Rattle.pending.specs.declared.flights.Kind.{Kind}
+use Rattle.pending.specs.declared.flights.Kind.TheVariants.{OriginRead, OriginWrite, OriginFlush, SnapRead, SnapWrite, SnapFlush}
+use Rattle.pending.specs.declared.flights.Route.{Route}
+use Rattle.pending.specs.declared.flights.Route.TheVariants.{Held, Origin, Store, Whole, Refused}
 use Rattle.volume_laws.specs.Books.{SnapBooks}
 use Rattle.volume_laws.specs.Steps.{ReadsCopy, WritesCopy, ZeroesArea, Commits, Unmarks, SpoilsSnap, WritesMark, TriesMark, CopyGoesOn, mark_of}
-use Rattle.volume_laws.specs.Due.{DueSnap, steps_at, steps_of, steps_of_mark, steps_of_invalid, steps_of_area, left_in, left_of}
+use Rattle.volume_laws.specs.Due.{DueSnap, weight_at, weight_of, steps_at, steps_of, steps_of_mark, steps_of_invalid, steps_of_area, left_in, left_of}
 
 -- one snapshot's number falls, and so does the whole
 pub one_left : (snaps : List DueSnap) (k : ℕ) (s s' : DueSnap) (rs : List Flight) → k < length snaps → s ≡ get_or snaps k s → left_in s' < left_in s → left_of (set snaps k s') rs < left_of snaps rs
@@ -23,8 +27,26 @@ one_left snaps k s s' rs within is less =
     omega (arith, e, at, less)
 
 -- a request is answered
+weight_at_some : (kind : Kind) (route : Route) → 1 ≤ weight_at kind route
+weight_at_some OriginRead route = omega arith
+weight_at_some OriginWrite route = omega arith
+weight_at_some OriginFlush Held = omega arith
+weight_at_some OriginFlush Origin = omega arith
+weight_at_some OriginFlush (Store place) = omega arith
+weight_at_some OriginFlush Whole = omega arith
+weight_at_some OriginFlush Refused = omega arith
+weight_at_some (SnapRead n) route = omega arith
+weight_at_some (SnapWrite n) route = omega arith
+weight_at_some (SnapFlush n) route = omega arith
+
+pub weight_some : (f : Flight) → 1 ≤ weight_of f
+weight_some f = weight_at_some (kind_of f.request) f.route
+
 pub issue_left : (snaps : List DueSnap) (rs : List Flight) (k : ℕ) → k < length rs → left_of snaps (remove rs k) < left_of snaps rs
-issue_left snaps rs k within = omega (arith, length-remove rs k within)
+issue_left snaps rs k within = elim rs as (λ rs. k < length rs → left_of snaps (remove rs k) < left_of snaps rs) [
+  | [] ↦ λ lt. absurd (omega (arith, lt))
+  | f ∷ fs ↦ λ lt. omega (arith, sum_by-remove weight_of (f ∷ fs) k f lt, weight_some (get_or (f ∷ fs) k f))
+] within
 
 -- what a snapshot's number is made of
 parts : (s : DueSnap) → left_in s ≡ steps_of_invalid s.books + sum_by steps_of s.books.copies + sum_by steps_of_mark s.books.marks + steps_of_area s

@@ -1,6 +1,8 @@
 pub mod Lists
 pub mod Pairs
 pub mod Same
+pub mod Sure
+pub mod Wholes
 pub mod Stores
 pub mod Copying
 pub mod Committing
@@ -21,6 +23,7 @@ pub mod Requests
 pub mod Entries
 pub mod Issuing
 pub mod IssuingWrites
+pub mod IssuingFlushes
 pub mod Composing
 pub mod Overflowing
 pub mod Submitting

@@ -12,7 +12,7 @@ use Rattle.volume_laws.specs.Books.{SnapBooks, MergeBooks}
 use Rattle.volume_laws.specs.Published.{next_over}
 use Rattle.volume_laws.specs.Touched.{lacks_chunk, touched_by}
 use Rattle.volume_laws.specs.Steps.{StartsCopy, SpoilsSnap}
-use Rattle.volume_laws.specs.Due.{DueSnap, books_of, left_in}
+use Rattle.volume_laws.specs.Due.{DueSnap, books_of, left_in, weight_of}
 use Rattle.volume_laws.specs.MergeDue.{DueMerge, per_copy, lacking_of, lacking_in, left_in_merge, left_beside, left_with}
 use Rattle.volume_laws.specs.MergeSteps.{CommitsGroup}
 use Rattle.volume_laws.specs.MergeRooms.{ComesNext}
@@ -78,7 +78,7 @@ weigh_sum chunk sectors pairs (s ∷ snaps) =
     omega (arith, rest, a, b, c)
 
 -- of a whole volume whose merge has not failed
-pub left_weighed : (snaps : List DueSnap) (rs : List Flight) (d : DueMerge) → d.failed ≡ false → left_with snaps rs d ≡ sum_by (weigh d.books.chunk d.books.sectors d.books.pairs) snaps + length rs + left_in_merge d
+pub left_weighed : (snaps : List DueSnap) (rs : List Flight) (d : DueMerge) → d.failed ≡ false → left_with snaps rs d ≡ sum_by (weigh d.books.chunk d.books.sectors d.books.pairs) snaps + sum_by weight_of rs + left_in_merge d
 left_weighed snaps rs d running =
     let beside : left_beside (map books_of snaps) d ≡ per_copy * sum_by (lacking_in d.books) (map books_of snaps) = ap (λ b. if b then 0 else per_copy * sum_by (lacking_in d.books) (map books_of snaps)) running in
     omega (arith, weigh_sum d.books.chunk d.books.sectors d.books.pairs snaps, beside)
@@ -139,5 +139,5 @@ beside_committed snaps kept store d d' e =
 
 -- an event of the merge that starts copies: no snapshot weighs more, and less is left of the merge
 pub with_left : (snaps snaps' : List DueSnap) (rs rs' : List Flight) (d d' : DueMerge) → d.failed ≡ false → left_beside (map books_of snaps') d' ≡ left_beside (map books_of snaps') d
-    → sum_by (weigh d.books.chunk d.books.sectors d.books.pairs) snaps' ≤ sum_by (weigh d.books.chunk d.books.sectors d.books.pairs) snaps → length rs' ≡ length rs → left_in_merge d' < left_in_merge d → left_with snaps' rs' d' < left_with snaps rs d
+    → sum_by (weigh d.books.chunk d.books.sectors d.books.pairs) snaps' ≤ sum_by (weigh d.books.chunk d.books.sectors d.books.pairs) snaps → sum_by weight_of rs' ≡ sum_by weight_of rs → left_in_merge d' < left_in_merge d → left_with snaps' rs' d' < left_with snaps rs d
 with_left snaps snaps' rs rs' d d' running beside more same less = omega (arith, left_weighed snaps rs d running, left_weighed snaps' rs' d running, beside, more, same, less)

@@ -88,6 +88,8 @@ merge_read o rs m h rest q bytes last none read sized quiet =
                 (All-back (λ p. p.old ≢ c) m.reading done before));
             no_read = old.no_read;
             no_write = old.no_write;
+            flush = old.flush;
+            no_flush = old.no_flush;
           });
     }
 
@@ -197,6 +199,8 @@ module _ (o : List ℕ) (rs : List Flight) (m : MergeBooks) (h : MergeHolds o rs
       untaken = old.untaken;
       no_read = old.no_read;
       no_write = old.no_write;
+      flush = old.flush;
+      no_flush = old.no_flush;
     });
   }
 
@@ -264,6 +268,8 @@ merge_dissolve o rs m h elsewhere = record {
         untaken = λ place kind route. All-nil (λ q. q.old ≢ c);
         no_read = old.no_read;
         no_write = old.no_write;
+        flush = old.flush;
+        no_flush = old.no_flush;
       });
 }
 

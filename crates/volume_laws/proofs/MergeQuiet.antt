@@ -12,7 +12,7 @@ use Rattle.pending.specs.Kinds.{kind_of}
 use Rattle.pending.specs.Due.{is_issuable}
 use Rattle.pending.specs.declared.flights.Flight.{Flight}
 use Rattle.pending.specs.declared.flights.Kind.{Kind}
-use Rattle.pending.specs.declared.flights.Kind.TheVariants.{OriginRead, OriginWrite, SnapRead, SnapWrite}
+use Rattle.pending.specs.declared.flights.Kind.TheVariants.{OriginRead, OriginWrite, OriginFlush, SnapRead, SnapWrite, SnapFlush}
 use Rattle.pending.specs.declared.flights.Route.TheVariants.{Held}
 use Rattle.volume_laws.specs.Books.{SnapBooks, MergeBooks, Books, group_of}
 use Rattle.volume_laws.specs.Published.{chunk_of, unpublished_in, next_over, is_saved_over, is_clear_over}
@@ -34,14 +34,18 @@ none_is (x ∷ xs) e = absurd (false≢true e)
 held_goes : (place : ℕ) (kind : Kind) → goes_to place kind Held ≡ false
 held_goes place OriginRead = refl
 held_goes place OriginWrite = refl
+held_goes place OriginFlush = refl
 held_goes place (SnapRead n) = refl
 held_goes place (SnapWrite n) = refl
+held_goes place (SnapFlush n) = refl
 
 held_writes : (place : ℕ) (kind : Kind) → writes_to place kind Held ≡ false
 held_writes place OriginRead = refl
 held_writes place OriginWrite = refl
+held_writes place OriginFlush = refl
 held_writes place (SnapRead n) = refl
 held_writes place (SnapWrite n) = refl
+held_writes place (SnapFlush n) = refl
 
 none_using : (pairs : List Pair) (rs : List Flight) → All (λ f. is_issuable f ≡ false) rs → list_any (is_using pairs) rs ≡ false
 none_using pairs rs idle = list_any_none (is_using pairs) rs (All-weaker (λ f. is_issuable f ≡ false) (λ f. is_using pairs f ≡ false) one rs idle)

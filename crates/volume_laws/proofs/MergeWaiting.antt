@@ -37,6 +37,10 @@ grouped_still m m' snaps f free h = record {
   write_goes = h.write_goes;
   read_attached = h.read_attached;
   write_attached = h.write_attached;
+  origin_flush = h.origin_flush;
+  snap_flush = h.snap_flush;
+  flush_goes = h.flush_goes;
+  flush_attached = h.flush_attached;
 }
 
 waits_merge : (m m' : MergeBooks) (v w : Books) → Waits v → ChangesMerge m m' v w → ((f : Flight) → is_grouped (Some m') f ≡ false → is_grouped (Some m) f ≡ false) → Waits w
@@ -113,6 +117,10 @@ half_of m m' snaps f saves h = record {
   write_goes = h.write_goes;
   read_attached = h.read_attached;
   write_attached = h.write_attached;
+  origin_flush = h.origin_flush;
+  snap_flush = h.snap_flush;
+  flush_goes = h.flush_goes;
+  flush_attached = h.flush_attached;
 }
 
 waits_again : (m m' : MergeBooks) (v u w : Books) → Waits v → ChangesMerge m m' v u

@@ -25,6 +25,8 @@ marked_holds v s live h = live_snap v.origin v.requests (record s { overflow = D
   fits = h.fits;
   tried = h.tried;
   agree = h.agree;
+  few = h.few;
+  link = h.link;
   copies = h.copies;
   unpublished = h.unpublished;
   routes = h.routes;

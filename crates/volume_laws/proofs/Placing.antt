@@ -1,5 +1,5 @@
 -- Held writes of a snapshot whose chunk is published now are routed to its place, in a whole volume.
-use Rattle.std.proofs.Common.{◌≡◌, ◌≢◌, ◌⊎◌, inl, inr, ℕ, ◌<◌, true, List, [], ◌∷◌, Option, Some, None, length, get_or, map, refl, sym, ◌∙◌, ap, subst, nat_eq}
+use Rattle.std.proofs.Common.{◌≡◌, ◌≢◌, ◌⊎◌, inl, inr, ℕ, ◌<◌, true, List, [], ◌∷◌, Option, Some, None, length, get_or, map, take, refl, sym, ◌∙◌, ap, subst, nat_eq}
 use Rattle.std.specs.List.{All}
 use Rattle.std.proofs.lemmas.Bool.{cases_Bool, cases_eq, eqb-true, false≢true}
 use Rattle.std.proofs.lemmas.List.{get_or_default}
@@ -11,9 +11,9 @@ use Rattle.pending.specs.Routes.{placed_route_of}
 use Rattle.pending.specs.declared.copies.Mark.{Mark}
 use Rattle.pending.specs.declared.flights.Flight.{Flight}
 use Rattle.pending.specs.declared.flights.Kind.{Kind}
-use Rattle.pending.specs.declared.flights.Kind.TheVariants.{OriginRead, OriginWrite, SnapRead, SnapWrite}
+use Rattle.pending.specs.declared.flights.Kind.TheVariants.{OriginRead, OriginWrite, OriginFlush, SnapRead, SnapWrite, SnapFlush}
 use Rattle.pending.specs.declared.flights.Route.{Route}
-use Rattle.pending.specs.declared.flights.Route.TheVariants.{Held, Origin, Store, Refused}
+use Rattle.pending.specs.declared.flights.Route.TheVariants.{Held, Origin, Store, Whole, Refused}
 use Rattle.volume_laws.specs.Books.{SnapBooks, MergeBooks, Books, listed, taken}
 use Rattle.volume_laws.specs.Published.{chunk_of, IsPublished, is_published}
 use Rattle.volume_laws.specs.Held.{SnapHolds, RouteHolds, RefusedHolds, UntriedHolds, RequestHolds}
@@ -21,6 +21,7 @@ use Rattle.volume_laws.specs.Merging.{MergeRouteHolds}
 use Rattle.volume_laws.specs.Whole.{Holds, plain_of, entry_of, origin_of, begun_of, UnmergedHolds, OriginHolds}
 use Rattle.volume_laws.specs.Again.{published_place, placed_of, Places}
 use Rattle.volume_laws.specs.Outcomes.{IsSilent}
+use Rattle.volume_laws.proofs.Wholes.{placed_whole}
 use Rattle.volume_laws.proofs.Same.{same_volume, plain}
 use Rattle.volume_laws.proofs.Clear.{published_true}
 use Rattle.volume_laws.proofs.Refusing.{merge_requests, live_requests}
@@ -40,9 +41,12 @@ pub record IsPlaced (snap : ℕ) (kind : Kind) (route : Route) (place : Option �
 pub placed_cases : (snap : ℕ) (kind : Kind) (route : Route) (place : Option ℕ) → (placed_route_of snap kind route place ≡ route) ⊎ IsPlaced snap kind route place
 placed_cases snap OriginRead route place = inl refl
 placed_cases snap OriginWrite route place = inl refl
+placed_cases snap OriginFlush route place = inl refl
 placed_cases snap (SnapRead n) route place = inl refl
+placed_cases snap (SnapFlush n) route place = inl refl
 placed_cases snap (SnapWrite n) Origin place = inl refl
 placed_cases snap (SnapWrite n) (Store p) place = inl refl
+placed_cases snap (SnapWrite n) Whole place = inl refl
 placed_cases snap (SnapWrite n) Refused place = inl refl
 placed_cases snap (SnapWrite n) Held None = inl refl
 placed_cases snap (SnapWrite n) Held (Some p) = elim (cases_Bool (nat_eq n snap)) [
@@ -102,7 +106,7 @@ module _ (k : ℕ) (s : SnapBooks) (v w : Books) (h : Holds v) (e : Places k s v
                 copies = gone.copies;
                 unpublished = gone.unpublished;
                 routes = all_placed (RefusedHolds x.number) s v.requests gone.routes (λ r _ goes. refused_other_write x.number s.number (placed_of s r) goes.mine ne);
-                waited = λ waits. all_placed (UntriedHolds x.chunk x.pairs) s v.requests (gone.waited waits) (λ r _ goes. untried_other x.chunk x.pairs (placed_of s r) (λ e. origin_write_ne_write s.number (sym e ∙ goes.mine)));
+                waited = λ waits. all_placed (UntriedHolds x.chunk (take x.sure x.pairs)) s v.requests (gone.waited waits) (λ r _ goes. untried_other x.chunk (take x.sure x.pairs) (placed_of s r) (λ e. origin_write_ne_write s.number (sym e ∙ goes.mine)));
               });
             })
       ]
@@ -121,7 +125,7 @@ module _ (k : ℕ) (s : SnapBooks) (v w : Books) (h : Holds v) (e : Places k s v
           merge = origin_moved v.merge h.merge;
           snaps = snap_moved;
           requests = All-map (RequestHolds v.sectors) (placed_of s) v.requests
-              (All-weaker (RequestHolds v.sectors) (λ r. RequestHolds v.sectors (placed_of s r)) (λ r old. record { some = old.some; inside = old.inside; room = old.room; bytes = old.bytes }) v.requests h.requests);
+              (All-weaker (RequestHolds v.sectors) (λ r. RequestHolds v.sectors (placed_of s r)) (λ r old. record { some = old.some; inside = old.inside; room = old.room; bytes = old.bytes; whole = λ e. old.whole (placed_whole s.number (kind_of r.request) r.route (published_place s.pairs s.marks (chunk_of s.chunk r)) e) }) v.requests h.requests);
           numbers = h.numbers;
         });
         step = λ _. silent_step (plain_of v) (plain_of w)

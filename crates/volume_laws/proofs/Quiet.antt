@@ -14,9 +14,9 @@ use Rattle.pending.specs.declared.copies.ChunkCopy.{ChunkCopy}
 use Rattle.pending.specs.declared.copies.Mark.{Mark}
 use Rattle.pending.specs.declared.flights.Flight.{Flight}
 use Rattle.pending.specs.declared.flights.Kind.{Kind}
-use Rattle.pending.specs.declared.flights.Kind.TheVariants.{OriginRead, OriginWrite, SnapRead, SnapWrite}
+use Rattle.pending.specs.declared.flights.Kind.TheVariants.{OriginRead, OriginWrite, OriginFlush, SnapRead, SnapWrite, SnapFlush}
 use Rattle.pending.specs.declared.flights.Route.{Route}
-use Rattle.pending.specs.declared.flights.Route.TheVariants.{Held, Origin, Store, Refused}
+use Rattle.pending.specs.declared.flights.Route.TheVariants.{Held, Origin, Store, Whole, Refused}
 use Rattle.pending.specs.Routes.{is_reading, reads_origin_of}
 use Rattle.pending.specs.Due.{is_copy_at, number_of_copy, number_of_mark, front_ready, front_unflushed, is_publishable, is_issuable, is_routed, is_stage, first_by}
 use Rattle.volume_laws.specs.Books.{SnapBooks, Books}
@@ -50,10 +50,13 @@ no_copies (x ∷ xs) needs waits a b c d e f = absurd (front_stage x.stage needs
 reading_routed : (snap : ℕ) (kind : Kind) (route : Route) → reads_origin_of snap kind route ≡ true → is_routed route ≡ true
 reading_routed snap OriginRead route e = absurd (false≢true e)
 reading_routed snap OriginWrite route e = absurd (false≢true e)
+reading_routed snap OriginFlush route e = absurd (false≢true e)
 reading_routed snap (SnapWrite n) route e = absurd (false≢true e)
+reading_routed snap (SnapFlush n) route e = absurd (false≢true e)
 reading_routed snap (SnapRead n) Held e = absurd (false≢true e)
 reading_routed snap (SnapRead n) Origin e = refl
 reading_routed snap (SnapRead n) (Store place) e = refl
+reading_routed snap (SnapRead n) Whole e = refl
 reading_routed snap (SnapRead n) Refused e = refl
 
 and_second : (a b : Bool) → (a && b) ≡ true → b ≡ true
@@ -162,13 +165,16 @@ no_wait v f done h ungrouped held = at (kind_of f.request) refl
     at : (kind : Kind) → kind_of f.request ≡ kind → ⊥
     at OriginRead is = h.origin_read is held
     at OriginWrite is = write_left is
+    at OriginFlush is = h.origin_flush is held
     at (SnapRead n) is = h.snap_read n is held
     at (SnapWrite n) is = snap_left n (h.snap_write n is held)
+    at (SnapFlush n) is = h.snap_flush n is held
 
 pub unrouted : (route : Route) → is_routed route ≡ false → route ≡ Held
 unrouted Held e = refl
 unrouted Origin e = absurd (false≢true (sym e))
 unrouted (Store place) e = absurd (false≢true (sym e))
+unrouted Whole e = absurd (false≢true (sym e))
 unrouted Refused e = absurd (false≢true (sym e))
 
 pub none_left : (v : Books) (rs : List Flight) → All (λ f. is_issuable f ≡ false) rs → All (WaitsHolds v.merge v.snaps) rs → All IsDone v.snaps → ((f : Flight) → is_grouped v.merge f ≡ false) → rs ≡ []

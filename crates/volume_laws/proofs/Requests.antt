@@ -1,5 +1,5 @@
 -- A request is found under its number, and taken out, in a whole volume.
-use Rattle.std.proofs.Common.{◌≡◌, ℕ, zero, suc, ◌<◌, true, false, List, [], ◌∷◌, Option, Some, None, length, get_or, map, refl, sym, ◌∙◌, ap, subst, arith, nat_eq}
+use Rattle.std.proofs.Common.{◌≡◌, ℕ, zero, suc, ◌<◌, true, false, List, [], ◌∷◌, Option, Some, None, length, get_or, map, take, refl, sym, ◌∙◌, ap, subst, arith, nat_eq}
 use Rattle.std.specs.Prelude.{◌==◌}
 use Rattle.std.specs.List.{All, remove, position}
 use Rattle.std.proofs.lemmas.List.Quantifiers.{position-Some}
@@ -41,8 +41,12 @@ found_first number k r rs found is =
     let at = position-Some (λ (f : Flight). f.number == number) rs k r found in
     record { within = at.0; mine = ap (λ (y : Flight). nat_eq y.number number) is ∙ at.1; before = at.2 }
 
+-- what is asked under the number
+pub asked_first : (number k : ℕ) (r : Flight) (rs : List Flight) → position (λ (f : Flight). f.number == number) rs ≡ Some k → r ≡ get_or rs k r → asked_under number (map in_flight rs) ≡ Some r.request
+asked_first number k r rs found is = let f = found_first number k r rs found is in first_asked rs k number r f.within is f.mine f.before
+
 pub asked : (number k : ℕ) (r : Flight) (v w : Books) → TakesOut number k r v w → asked_under number (map in_flight v.requests) ≡ Some r.request
-asked number k r v w e = let f = found_first number k r v.requests e.found e.was in first_asked v.requests k number r f.within e.was f.mine f.before
+asked number k r v w e = asked_first number k r v.requests e.found e.was
 
 pub gone : (number k : ℕ) (r : Flight) (v w : Books) → TakesOut number k r v w → map in_flight w.requests ≡ without number (map in_flight v.requests)
 gone number k r v w e = let f = found_first number k r v.requests e.found e.was in ap (map in_flight) e.requests ∙ first_out v.requests k number r f.within e.was f.mine f.before
@@ -66,6 +70,6 @@ snap_out o rs v k h = record {
     copies = old.copies;
     unpublished = old.unpublished;
     routes = All-remove (RefusedHolds v.number) rs k old.routes;
-    waited = λ waits. All-remove (UntriedHolds v.chunk v.pairs) rs k (old.waited waits);
+    waited = λ waits. All-remove (UntriedHolds v.chunk (take v.sure v.pairs)) rs k (old.waited waits);
   });
 }

@@ -1,5 +1,5 @@
 -- Held origin writes are routed again, and an invalid mark is tried, in a whole volume.
-use Rattle.std.proofs.Common.{◌≡◌, ◌⊎◌, inl, inr, ℕ, Bool, true, false, List, [], ◌∷◌, Option, Some, None, get_or, map, refl, sym, ◌∙◌, ap, subst}
+use Rattle.std.proofs.Common.{◌≡◌, ◌⊎◌, inl, inr, ℕ, Bool, true, false, List, [], ◌∷◌, Option, Some, None, get_or, map, take, refl, sym, ◌∙◌, ap, subst}
 use Rattle.std.specs.List.{All}
 use Rattle.std.proofs.lemmas.Bool.{false≢true}
 use Rattle.std.proofs.lemmas.List.Elements.{All-weaker, All-map}
@@ -7,9 +7,9 @@ use Rattle.pending.specs.Kinds.{kind_of, in_flight}
 use Rattle.pending.specs.Routes.{again_route_of}
 use Rattle.pending.specs.declared.flights.Flight.{Flight}
 use Rattle.pending.specs.declared.flights.Kind.{Kind}
-use Rattle.pending.specs.declared.flights.Kind.TheVariants.{OriginRead, OriginWrite, SnapRead, SnapWrite}
+use Rattle.pending.specs.declared.flights.Kind.TheVariants.{OriginRead, OriginWrite, OriginFlush, SnapRead, SnapWrite, SnapFlush}
 use Rattle.pending.specs.declared.flights.Route.{Route}
-use Rattle.pending.specs.declared.flights.Route.TheVariants.{Held, Origin, Store, Refused}
+use Rattle.pending.specs.declared.flights.Route.TheVariants.{Held, Origin, Store, Whole, Refused}
 use Rattle.model.specs.Picture.{place_of, picture}
 use Rattle.volume_laws.specs.Books.{SnapBooks, MergeBooks, Books, listed, taken, group_of}
 use Rattle.volume_laws.specs.Published.{chunk_of, IsPublished, IsSaved, is_clear}
@@ -19,6 +19,7 @@ use Rattle.volume_laws.specs.Whole.{Holds, plain_of, entry_of, origin_of, begun_
 use Rattle.volume_laws.specs.Steps.{ChangesSnap, WritesMark, TriesMark}
 use Rattle.volume_laws.specs.Again.{has_chunk, new_route, again_of, Reroutes}
 use Rattle.volume_laws.specs.Outcomes.{IsSilent}
+use Rattle.volume_laws.proofs.Wholes.{new_whole, again_whole}
 use Rattle.volume_laws.proofs.Same.{same_volume, plain}
 use Rattle.volume_laws.proofs.Clear.{clear_saved, clear_tried}
 use Rattle.volume_laws.proofs.Refusing.{merge_requests, live_requests}
@@ -30,11 +31,14 @@ use Rattle.volume_laws.proofs.WholeOne.{silent_step, one_holds, one_plain, snap_
 again_cases : (kind : Kind) (route new : Route) → (again_route_of kind route new ≡ route) ⊎ ((kind ≡ OriginWrite) × (again_route_of kind route new ≡ new))
 again_cases kind Origin new = inl refl
 again_cases kind (Store place) new = inl refl
+again_cases kind Whole new = inl refl
 again_cases kind Refused new = inl refl
 again_cases OriginRead Held new = inl refl
 again_cases OriginWrite Held new = inr (refl, refl)
+again_cases OriginFlush Held new = inl refl
 again_cases (SnapRead snap) Held new = inl refl
 again_cases (SnapWrite snap) Held new = inl refl
+again_cases (SnapFlush snap) Held new = inl refl
 
 -- what holds of a request and of each routed origin write holds again
 again_holds : (P : Flight → Type 0) (merge : Option MergeBooks) (clear : ℕ → Bool) (r : Flight) → P r
@@ -66,7 +70,7 @@ again_write v (Some m) clear r published old kind new =
 
 -- and as to a spoiled one whose mark is untried
 again_untried : (v : SnapBooks) (merge : Option MergeBooks) (clear : ℕ → Bool) (r : Flight) → (clear r.request.range.first ≡ true → v.untried ≡ false) → v.untried ≡ true → again_route_of (kind_of r.request) r.route (new_route merge clear r) ≡ new_route merge clear r
-    → UntriedHolds v.chunk v.pairs (again_of merge clear r)
+    → UntriedHolds v.chunk (take v.sure v.pairs) (again_of merge clear r)
 again_untried v None clear r tried waits new = untried_write v (again_of None clear r) false None (clear r.request.range.first) new tried waits
 again_untried v (Some m) clear r tried waits new = untried_write v (again_of (Some m) clear r) (has_chunk (group_of m) (chunk_of m.chunk r)) (place_of m.pairs (chunk_of m.chunk r)) (clear r.request.range.first) new tried waits
 
@@ -79,7 +83,7 @@ again_snap o rs merge clear v h published tried = record {
     copies = old.copies;
     unpublished = old.unpublished;
     routes = all_again (RefusedHolds v.number) (RefusedHolds v.number) merge clear rs old.routes old.routes (λ r _ kind new. refused_origin_write v.number (again_of merge clear r) kind);
-    waited = λ waits. (let P = UntriedHolds v.chunk v.pairs in
+    waited = λ waits. (let P = UntriedHolds v.chunk (take v.sure v.pairs) in
         all_again P P merge clear rs (old.waited waits) (old.waited waits) (λ r _ kind new. again_untried v merge clear r (tried r.request.range.first) waits new));
   });
 }
@@ -99,7 +103,7 @@ reroute_by clear v w h e published tried =
         merge = again_origin v.origin v.requests v.merge clear h.merge;
         snaps = λ k d lt. again_snap v.origin v.requests v.merge clear (get_or v.snaps k d) (h.snaps k d lt) (λ first is. published first is k d lt) (λ first is. tried first is k d lt);
         requests = All-map (RequestHolds v.sectors) (again_of v.merge clear) v.requests
-            (All-weaker (RequestHolds v.sectors) (λ r. RequestHolds v.sectors (again_of v.merge clear r)) (λ r old. record { some = old.some; inside = old.inside; room = old.room; bytes = old.bytes }) v.requests h.requests);
+            (All-weaker (RequestHolds v.sectors) (λ r. RequestHolds v.sectors (again_of v.merge clear r)) (λ r old. record { some = old.some; inside = old.inside; room = old.room; bytes = old.bytes; whole = λ e. old.whole (again_whole (kind_of r.request) r.route (new_route v.merge clear r) (new_whole v.merge clear r) e) }) v.requests h.requests);
         numbers = h.numbers;
       });
       step = λ _. silent_step (plain_of v) (plain_of w)
@@ -127,7 +131,9 @@ mark_event k s s' v w h e t =
           copies = t.copies ∙ old.copies;
           unpublished = t.marks ∙ old.unpublished;
           routes = subst (λ n. All (RefusedHolds n) v.requests) (sym t.number) old.routes;
-          waited = λ waits. subst (λ n. All (UntriedHolds n s'.pairs) v.requests) (sym t.chunk) (subst (λ ps. All (UntriedHolds s.chunk ps) v.requests) (sym t.pairs) (old.waited (sym t.untried ∙ waits)));
+          waited = λ waits. subst (λ n. All (UntriedHolds n (take s'.sure s'.pairs)) v.requests) (sym t.chunk)
+              (subst (λ n. All (UntriedHolds s.chunk (take n s'.pairs)) v.requests) (sym t.sure)
+              (subst (λ ps. All (UntriedHolds s.chunk (take s.sure ps)) v.requests) (sym t.pairs) (old.waited (sym t.untried ∙ waits))));
         };
       });
       step = λ _. silent_step (plain_of v) (plain_of w) (one_plain k s s' v w e (dead_entry v.origin s s' t.number t.was t.live t.overflow));

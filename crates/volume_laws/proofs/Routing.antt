@@ -5,10 +5,10 @@ use Rattle.std.proofs.lemmas.List.Elements.{All-weaker}
 use Rattle.sector.specs.declared.pair.Pair.{Pair}
 use Rattle.model.specs.Picture.{place_of}
 use Rattle.pending.specs.Kinds.{kind_of}
-use Rattle.pending.specs.Routes.{read_route_of, placed_write_route, write_route_of}
+use Rattle.pending.specs.Routes.{read_route_of, placed_write_route, write_route_of, flush_route_of}
 use Rattle.pending.specs.declared.flights.Flight.{Flight}
-use Rattle.pending.specs.declared.flights.Kind.TheVariants.{OriginRead, OriginWrite, SnapRead, SnapWrite}
-use Rattle.pending.specs.declared.flights.Route.TheVariants.{Held, Origin, Store, Refused}
+use Rattle.pending.specs.declared.flights.Kind.TheVariants.{OriginRead, OriginWrite, OriginFlush, SnapRead, SnapWrite, SnapFlush}
+use Rattle.pending.specs.declared.flights.Route.TheVariants.{Held, Origin, Store, Whole, Refused}
 use Rattle.volume_laws.specs.Books.{SnapBooks, MergeBooks, listed, taken, group_of}
 use Rattle.volume_laws.specs.Published.{chunk_of, IsPiece, IsPublished}
 use Rattle.volume_laws.specs.Held.{RouteHolds, RefusedHolds}
@@ -111,6 +111,7 @@ origin_read_snap v r kind piece = record {
   write_stored = λ place e _. absurd (origin_read_ne_write v.number (sym kind ∙ e));
   read_alive = λ e _. absurd (origin_read_ne_read v.number (sym kind ∙ e));
   write_alive = λ e _. absurd (origin_read_ne_write v.number (sym kind ∙ e));
+  flush = λ e. absurd (let no : ⊥ = cc in no);
 }
 
 -- an origin write, as to a live snapshot, which has published the chunk where the write is clear
@@ -125,6 +126,7 @@ origin_write_snap v r grouped found clear kind piece route published = record {
   write_stored = λ place e _. absurd (origin_write_ne_write v.number (sym kind ∙ e));
   read_alive = λ e _. absurd (origin_write_ne_read v.number (sym kind ∙ e));
   write_alive = λ e _. absurd (origin_write_ne_write v.number (sym kind ∙ e));
+  flush = λ e. absurd (let no : ⊥ = cc in no);
 }
 
 -- a snapshot read, as to that snapshot, and as to another
@@ -140,6 +142,7 @@ snap_read_snap v r n kind piece route =
       write_stored = λ place e _. absurd (reads_ne_writes n v.number (sym kind ∙ e));
       read_alive = λ e goes. read_refused (place_of v.pairs (chunk_of v.chunk r)) (sym (mine e) ∙ goes);
       write_alive = λ e _. absurd (reads_ne_writes n v.number (sym kind ∙ e));
+      flush = λ e. absurd (let no : ⊥ = cc in no);
     }
 
 store_ne_origin : (place : ℕ) → Store place ≢ Origin
@@ -171,6 +174,7 @@ snap_write_other v r n kind other piece = record {
   write_stored = λ place e _. absurd (other (snap_of_write n v.number (sym kind ∙ e)));
   read_alive = λ e _. absurd (reads_ne_writes v.number n (sym e ∙ kind));
   write_alive = λ e _. absurd (other (snap_of_write n v.number (sym kind ∙ e)));
+  flush = λ e. absurd (let no : ⊥ = cc in no);
 }
 
 -- a snapshot write to its place, its chunk being published, and one that is held
@@ -185,6 +189,7 @@ snap_write_placed v r place kind piece route named published = record {
   write_stored = λ p _ e. (named ∙ ap Some (store_same place p (sym route ∙ e)), published);
   read_alive = λ e _. absurd (reads_ne_writes v.number v.number (sym e ∙ kind));
   write_alive = λ _ e. store_ne_refused place (sym route ∙ e);
+  flush = λ e. absurd (let no : ⊥ = cc in no);
 }
 
 pub snap_write_held : (v : SnapBooks) (r : Flight) → kind_of r.request ≡ SnapWrite v.number → IsPiece v.chunk r.request.range → r.route ≡ Held → RouteHolds v.number v.chunk v.pairs v.marks r
@@ -197,20 +202,57 @@ snap_write_held v r kind piece route = record {
   write_stored = λ p _ e. absurd (held_ne_store p (sym route ∙ e));
   read_alive = λ e _. absurd (reads_ne_writes v.number v.number (sym e ∙ kind));
   write_alive = λ _ e. held_ne_refused (sym route ∙ e);
+  flush = λ e. absurd (let no : ⊥ = cc in no);
+}
+
+-- a flush of the origin, as to a live snapshot, and one of a snapshot, as to that snapshot, and as to another
+pub origin_flush_snap : (v : SnapBooks) (r : Flight) → kind_of r.request ≡ OriginFlush → IsPiece v.chunk r.request.range → RouteHolds v.number v.chunk v.pairs v.marks r
+origin_flush_snap v r kind piece = record {
+  piece = piece;
+  origin_write = λ e _. absurd (let no : ⊥ = cc in no);
+  read = λ e _. absurd (let no : ⊥ = cc in no);
+  read_stored = λ place e _. absurd (let no : ⊥ = cc in no);
+  write = λ e _. cc;
+  write_stored = λ place e _. absurd (let no : ⊥ = cc in no);
+  read_alive = λ e _. cc;
+  write_alive = λ e _. cc;
+  flush = λ e. absurd (let no : ⊥ = cc in no);
+}
+
+pub snap_of_flush : (m n : ℕ) → SnapFlush m ≡ SnapFlush n → m ≡ n
+snap_of_flush m n e = cc
+
+pub snap_flush_snap : (v : SnapBooks) (r : Flight) (n : ℕ) → kind_of r.request ≡ SnapFlush n → IsPiece v.chunk r.request.range → (n ≡ v.number → r.route ≡ Whole) → RouteHolds v.number v.chunk v.pairs v.marks r
+snap_flush_snap v r n kind piece route = record {
+  piece = piece;
+  origin_write = λ e _. absurd (let no : ⊥ = cc in no);
+  read = λ e _. absurd (let no : ⊥ = cc in no);
+  read_stored = λ place e _. absurd (let no : ⊥ = cc in no);
+  write = λ e _. cc;
+  write_stored = λ place e _. absurd (let no : ⊥ = cc in no);
+  read_alive = λ e _. cc;
+  write_alive = λ e _. cc;
+  flush = λ e. route (snap_of_flush n v.number (sym kind ∙ e));
 }
 
 -- as to a spoiled snapshot, an origin request, and one of another snapshot
 pub refused_origin_read : (n : ℕ) (r : Flight) → kind_of r.request ≡ OriginRead → RefusedHolds n r
-refused_origin_read n r kind = record { read = λ e. absurd (origin_read_ne_read n (sym kind ∙ e)); write = λ e. absurd (origin_read_ne_write n (sym kind ∙ e)) }
+refused_origin_read n r kind = record { read = λ e. absurd (origin_read_ne_read n (sym kind ∙ e)); write = λ e. absurd (origin_read_ne_write n (sym kind ∙ e)); flush = λ e. absurd (let no : ⊥ = cc in no) }
 
 pub refused_origin_write : (n : ℕ) (r : Flight) → kind_of r.request ≡ OriginWrite → RefusedHolds n r
-refused_origin_write n r kind = record { read = λ e. absurd (origin_write_ne_read n (sym kind ∙ e)); write = λ e. absurd (origin_write_ne_write n (sym kind ∙ e)) }
+refused_origin_write n r kind = record { read = λ e. absurd (origin_write_ne_read n (sym kind ∙ e)); write = λ e. absurd (origin_write_ne_write n (sym kind ∙ e)); flush = λ e. absurd (let no : ⊥ = cc in no) }
 
 pub refused_other_read : (n m : ℕ) (r : Flight) → kind_of r.request ≡ SnapRead m → m ≢ n → RefusedHolds n r
-refused_other_read n m r kind ne = record { read = λ e. absurd (ne (snap_of_read m n (sym kind ∙ e))); write = λ e. absurd (reads_ne_writes m n (sym kind ∙ e)) }
+refused_other_read n m r kind ne = record { read = λ e. absurd (ne (snap_of_read m n (sym kind ∙ e))); write = λ e. absurd (reads_ne_writes m n (sym kind ∙ e)); flush = λ e. absurd (let no : ⊥ = cc in no) }
 
 pub refused_other_write : (n m : ℕ) (r : Flight) → kind_of r.request ≡ SnapWrite m → m ≢ n → RefusedHolds n r
-refused_other_write n m r kind ne = record { read = λ e. absurd (reads_ne_writes n m (sym e ∙ kind)); write = λ e. absurd (ne (snap_of_write m n (sym kind ∙ e))) }
+refused_other_write n m r kind ne = record { read = λ e. absurd (reads_ne_writes n m (sym e ∙ kind)); write = λ e. absurd (ne (snap_of_write m n (sym kind ∙ e))); flush = λ e. absurd (let no : ⊥ = cc in no) }
+
+pub refused_origin_flush : (n : ℕ) (r : Flight) → kind_of r.request ≡ OriginFlush → RefusedHolds n r
+refused_origin_flush n r kind = record { read = λ e. absurd (let no : ⊥ = cc in no); write = λ e. absurd (let no : ⊥ = cc in no); flush = λ e. absurd (let no : ⊥ = cc in no) }
+
+pub refused_other_flush : (n m : ℕ) (r : Flight) → kind_of r.request ≡ SnapFlush m → m ≢ n → RefusedHolds n r
+refused_other_flush n m r kind ne = record { read = λ e. absurd (let no : ⊥ = cc in no); write = λ e. absurd (let no : ⊥ = cc in no); flush = λ e. absurd (ne (snap_of_flush m n (sym kind ∙ e))) }
 
 -- without a merge
 read_ne_store : (place : ℕ) → read_route_of None ≢ Store place
@@ -221,16 +263,22 @@ placed_ne_store true place e = cc
 placed_ne_store false place e = cc
 
 pub unmerged_read : (r : Flight) → kind_of r.request ≡ OriginRead → r.route ≡ read_route_of None → UnmergedHolds r
-unmerged_read r kind route = record { read = λ place _ e. read_ne_store place (sym route ∙ e); write = λ place e _. read_ne_write (sym kind ∙ e) }
+unmerged_read r kind route = record { read = λ place _ e. read_ne_store place (sym route ∙ e); write = λ place e _. read_ne_write (sym kind ∙ e); flush = λ e. absurd (let no : ⊥ = cc in no) }
 
 pub unmerged_write : (r : Flight) (clear : Bool) → kind_of r.request ≡ OriginWrite → r.route ≡ write_route_of false None clear → UnmergedHolds r
-unmerged_write r clear kind route = record { read = λ place e _. write_ne_read (sym kind ∙ e); write = λ place _ e. placed_ne_store clear place (sym route ∙ e) }
+unmerged_write r clear kind route = record { read = λ place e _. write_ne_read (sym kind ∙ e); write = λ place _ e. placed_ne_store clear place (sym route ∙ e); flush = λ e. absurd (let no : ⊥ = cc in no) }
 
 pub unmerged_snap_read : (r : Flight) (n : ℕ) → kind_of r.request ≡ SnapRead n → UnmergedHolds r
-unmerged_snap_read r n kind = record { read = λ place e _. snap_read_ne_read n (sym kind ∙ e); write = λ place e _. snap_read_ne_write n (sym kind ∙ e) }
+unmerged_snap_read r n kind = record { read = λ place e _. snap_read_ne_read n (sym kind ∙ e); write = λ place e _. snap_read_ne_write n (sym kind ∙ e); flush = λ e. absurd (let no : ⊥ = cc in no) }
 
 pub unmerged_snap_write : (r : Flight) (n : ℕ) → kind_of r.request ≡ SnapWrite n → UnmergedHolds r
-unmerged_snap_write r n kind = record { read = λ place e _. snap_write_ne_read n (sym kind ∙ e); write = λ place e _. snap_write_ne_write n (sym kind ∙ e) }
+unmerged_snap_write r n kind = record { read = λ place e _. snap_write_ne_read n (sym kind ∙ e); write = λ place e _. snap_write_ne_write n (sym kind ∙ e); flush = λ e. absurd (let no : ⊥ = cc in no) }
+
+pub unmerged_flush : (r : Flight) → kind_of r.request ≡ OriginFlush → r.route ≡ Origin → UnmergedHolds r
+unmerged_flush r kind route = record { read = λ place e _. cc; write = λ place e _. cc; flush = λ _. route }
+
+pub unmerged_snap_flush : (r : Flight) (n : ℕ) → kind_of r.request ≡ SnapFlush n → UnmergedHolds r
+unmerged_snap_flush r n kind = record { read = λ place e _. cc; write = λ place e _. cc; flush = λ e. absurd (let no : ⊥ = cc in no) }
 
 -- as to a merge
 pub merge_read_routed : (m : MergeBooks) (r : Flight) → kind_of r.request ≡ OriginRead → IsPiece m.chunk r.request.range → r.route ≡ read_route_of (place_of m.pairs (chunk_of m.chunk r)) → MergeRouteHolds m.number m.chunk m.pairs (listed m) (taken m) r
@@ -243,6 +291,8 @@ merge_read_routed m r kind piece route = let c : ℕ = chunk_of m.chunk r in rec
   untaken = λ place e _. absurd (read_ne_write (sym kind ∙ e));
   no_read = λ e. origin_read_ne_read m.number (sym kind ∙ e);
   no_write = λ e. origin_read_ne_write m.number (sym kind ∙ e);
+  flush = λ e. absurd (let no : ⊥ = cc in no);
+  no_flush = λ e. cc;
 }
 
 pub merge_write_routed : (m : MergeBooks) (r : Flight) (clear : Bool) → kind_of r.request ≡ OriginWrite → IsPiece m.chunk r.request.range → r.route ≡ write_route_of (has_chunk (group_of m) (chunk_of m.chunk r)) (place_of m.pairs (chunk_of m.chunk r)) clear
@@ -262,6 +312,8 @@ merge_write_routed m r clear kind piece route = let c : ℕ = chunk_of m.chunk r
       (All-from_list_any (λ q. nat_eq q.old c) (taken m) (has-back m.waiting (taken m) c goes.0)));
   no_read = λ e. origin_write_ne_read m.number (sym kind ∙ e);
   no_write = λ e. origin_write_ne_write m.number (sym kind ∙ e);
+  flush = λ e. absurd (let no : ⊥ = cc in no);
+  no_flush = λ e. cc;
 }
 
 pub merge_snap_read : (m : MergeBooks) (r : Flight) (n : ℕ) → kind_of r.request ≡ SnapRead n → n ≢ m.number → IsPiece m.chunk r.request.range → MergeRouteHolds m.number m.chunk m.pairs (listed m) (taken m) r
@@ -274,6 +326,8 @@ merge_snap_read m r n kind other piece = record {
   untaken = λ place e _. absurd (snap_read_ne_write n (sym kind ∙ e));
   no_read = λ e. other (snap_of_read n m.number (sym kind ∙ e));
   no_write = λ e. reads_ne_writes n m.number (sym kind ∙ e);
+  flush = λ e. absurd (let no : ⊥ = cc in no);
+  no_flush = λ e. cc;
 }
 
 pub merge_snap_write : (m : MergeBooks) (r : Flight) (n : ℕ) → kind_of r.request ≡ SnapWrite n → n ≢ m.number → IsPiece m.chunk r.request.range → MergeRouteHolds m.number m.chunk m.pairs (listed m) (taken m) r
@@ -286,6 +340,36 @@ merge_snap_write m r n kind other piece = record {
   untaken = λ place e _. absurd (snap_write_ne_write n (sym kind ∙ e));
   no_read = λ e. reads_ne_writes m.number n (sym e ∙ kind);
   no_write = λ e. other (snap_of_write n m.number (sym kind ∙ e));
+  flush = λ e. absurd (let no : ⊥ = cc in no);
+  no_flush = λ e. cc;
+}
+
+pub merge_flush_routed : (m : MergeBooks) (r : Flight) → kind_of r.request ≡ OriginFlush → IsPiece m.chunk r.request.range → r.route ≡ Whole → MergeRouteHolds m.number m.chunk m.pairs (listed m) (taken m) r
+merge_flush_routed m r kind piece route = record {
+  piece = piece;
+  read = λ e _. absurd (let no : ⊥ = cc in no);
+  read_stored = λ place e _. absurd (let no : ⊥ = cc in no);
+  write = λ e _. absurd (let no : ⊥ = cc in no);
+  write_stored = λ place e _. absurd (let no : ⊥ = cc in no);
+  untaken = λ place e _. absurd (let no : ⊥ = cc in no);
+  no_read = λ e. cc;
+  no_write = λ e. cc;
+  flush = λ _. inl route;
+  no_flush = λ e. cc;
+}
+
+pub merge_snap_flush : (m : MergeBooks) (r : Flight) (n : ℕ) → kind_of r.request ≡ SnapFlush n → n ≢ m.number → IsPiece m.chunk r.request.range → MergeRouteHolds m.number m.chunk m.pairs (listed m) (taken m) r
+merge_snap_flush m r n kind other piece = record {
+  piece = piece;
+  read = λ e _. absurd (let no : ⊥ = cc in no);
+  read_stored = λ place e _. absurd (let no : ⊥ = cc in no);
+  write = λ e _. absurd (let no : ⊥ = cc in no);
+  write_stored = λ place e _. absurd (let no : ⊥ = cc in no);
+  untaken = λ place e _. absurd (let no : ⊥ = cc in no);
+  no_read = λ e. cc;
+  no_write = λ e. cc;
+  flush = λ e. absurd (let no : ⊥ = cc in no);
+  no_flush = λ e. other (snap_of_flush n m.number (sym kind ∙ e));
 }
 
 -- a read by the table is not held and not refused
@@ -302,3 +386,8 @@ write_goes true found clear = (λ _ free. absurd (false≢true (sym free)), λ e
 write_goes false (Some n) clear = (λ e _. cc, λ e. cc)
 write_goes false None true = (λ e _. cc, λ e. cc)
 write_goes false None false = (λ _ _. refl, λ e. cc)
+
+-- a flush by the table is not held and not refused
+pub flush_goes : (begun : Bool) → (flush_route_of begun ≢ Held) × (flush_route_of begun ≢ Refused)
+flush_goes true = (λ e. cc, λ e. cc)
+flush_goes false = (λ e. cc, λ e. cc)

@@ -8,8 +8,8 @@ use Rattle.plain.specs.declared.request.Overflowing.{Overflowing}
 use Rattle.plain.specs.Plain.{Plain, Entry, InFlight}
 use Rattle.volume_laws.specs.Books.{SnapBooks, MergeBooks, Books}
 
-abbrev snap : ℕ → Bool → Bool → Bool → Bool → Overflowing → ℕ → ℕ → ℕ → List ℕ → List Pair → List Pair → List ChunkCopy → List Mark → SnapBooks
-snap number live untried marked loud overflow chunk sectors size store pairs begun copies marks = record {
+abbrev snap : ℕ → Bool → Bool → Bool → Bool → Overflowing → ℕ → ℕ → ℕ → List ℕ → List Pair → List Pair → ℕ → List ChunkCopy → List Mark → SnapBooks
+snap number live untried marked loud overflow chunk sectors size store pairs begun sure copies marks = record {
   number = number;
   live = live;
   untried = untried;
@@ -22,27 +22,29 @@ snap number live untried marked loud overflow chunk sectors size store pairs beg
   store = store;
   pairs = pairs;
   begun = begun;
+  sure = sure;
   copies = copies;
   marks = marks;
 }
 
 pub same_books : (w u : SnapBooks) → w.number ≡ u.number → w.live ≡ u.live → w.untried ≡ u.untried → w.marked ≡ u.marked → w.loud ≡ u.loud → w.overflow ≡ u.overflow → w.chunk ≡ u.chunk → w.sectors ≡ u.sectors → w.size ≡ u.size
-    → w.store ≡ u.store → w.pairs ≡ u.pairs → w.begun ≡ u.begun → w.copies ≡ u.copies → w.marks ≡ u.marks → w ≡ u
-same_books w u number live untried marked loud overflow chunk sectors size store pairs begun copies marks =
-    ap (λ x. snap x w.live w.untried w.marked w.loud w.overflow w.chunk w.sectors w.size w.store w.pairs w.begun w.copies w.marks) number
-    ∙ ap (λ x. snap u.number x w.untried w.marked w.loud w.overflow w.chunk w.sectors w.size w.store w.pairs w.begun w.copies w.marks) live
-    ∙ ap (λ x. snap u.number u.live x w.marked w.loud w.overflow w.chunk w.sectors w.size w.store w.pairs w.begun w.copies w.marks) untried
-    ∙ ap (λ x. snap u.number u.live u.untried x w.loud w.overflow w.chunk w.sectors w.size w.store w.pairs w.begun w.copies w.marks) marked
-    ∙ ap (λ x. snap u.number u.live u.untried u.marked x w.overflow w.chunk w.sectors w.size w.store w.pairs w.begun w.copies w.marks) loud
-    ∙ ap (λ x. snap u.number u.live u.untried u.marked u.loud x w.chunk w.sectors w.size w.store w.pairs w.begun w.copies w.marks) overflow
-    ∙ ap (λ x. snap u.number u.live u.untried u.marked u.loud u.overflow x w.sectors w.size w.store w.pairs w.begun w.copies w.marks) chunk
-    ∙ ap (λ x. snap u.number u.live u.untried u.marked u.loud u.overflow u.chunk x w.size w.store w.pairs w.begun w.copies w.marks) sectors
-    ∙ ap (λ x. snap u.number u.live u.untried u.marked u.loud u.overflow u.chunk u.sectors x w.store w.pairs w.begun w.copies w.marks) size
-    ∙ ap (λ x. snap u.number u.live u.untried u.marked u.loud u.overflow u.chunk u.sectors u.size x w.pairs w.begun w.copies w.marks) store
-    ∙ ap (λ x. snap u.number u.live u.untried u.marked u.loud u.overflow u.chunk u.sectors u.size u.store x w.begun w.copies w.marks) pairs
-    ∙ ap (λ x. snap u.number u.live u.untried u.marked u.loud u.overflow u.chunk u.sectors u.size u.store u.pairs x w.copies w.marks) begun
-    ∙ ap (λ x. snap u.number u.live u.untried u.marked u.loud u.overflow u.chunk u.sectors u.size u.store u.pairs u.begun x w.marks) copies
-    ∙ ap (λ x. snap u.number u.live u.untried u.marked u.loud u.overflow u.chunk u.sectors u.size u.store u.pairs u.begun u.copies x) marks
+    → w.store ≡ u.store → w.pairs ≡ u.pairs → w.begun ≡ u.begun → w.sure ≡ u.sure → w.copies ≡ u.copies → w.marks ≡ u.marks → w ≡ u
+same_books w u number live untried marked loud overflow chunk sectors size store pairs begun sure copies marks =
+    ap (λ x. snap x w.live w.untried w.marked w.loud w.overflow w.chunk w.sectors w.size w.store w.pairs w.begun w.sure w.copies w.marks) number
+    ∙ ap (λ x. snap u.number x w.untried w.marked w.loud w.overflow w.chunk w.sectors w.size w.store w.pairs w.begun w.sure w.copies w.marks) live
+    ∙ ap (λ x. snap u.number u.live x w.marked w.loud w.overflow w.chunk w.sectors w.size w.store w.pairs w.begun w.sure w.copies w.marks) untried
+    ∙ ap (λ x. snap u.number u.live u.untried x w.loud w.overflow w.chunk w.sectors w.size w.store w.pairs w.begun w.sure w.copies w.marks) marked
+    ∙ ap (λ x. snap u.number u.live u.untried u.marked x w.overflow w.chunk w.sectors w.size w.store w.pairs w.begun w.sure w.copies w.marks) loud
+    ∙ ap (λ x. snap u.number u.live u.untried u.marked u.loud x w.chunk w.sectors w.size w.store w.pairs w.begun w.sure w.copies w.marks) overflow
+    ∙ ap (λ x. snap u.number u.live u.untried u.marked u.loud u.overflow x w.sectors w.size w.store w.pairs w.begun w.sure w.copies w.marks) chunk
+    ∙ ap (λ x. snap u.number u.live u.untried u.marked u.loud u.overflow u.chunk x w.size w.store w.pairs w.begun w.sure w.copies w.marks) sectors
+    ∙ ap (λ x. snap u.number u.live u.untried u.marked u.loud u.overflow u.chunk u.sectors x w.store w.pairs w.begun w.sure w.copies w.marks) size
+    ∙ ap (λ x. snap u.number u.live u.untried u.marked u.loud u.overflow u.chunk u.sectors u.size x w.pairs w.begun w.sure w.copies w.marks) store
+    ∙ ap (λ x. snap u.number u.live u.untried u.marked u.loud u.overflow u.chunk u.sectors u.size u.store x w.begun w.sure w.copies w.marks) pairs
+    ∙ ap (λ x. snap u.number u.live u.untried u.marked u.loud u.overflow u.chunk u.sectors u.size u.store u.pairs x w.sure w.copies w.marks) begun
+    ∙ ap (λ x. snap u.number u.live u.untried u.marked u.loud u.overflow u.chunk u.sectors u.size u.store u.pairs u.begun x w.copies w.marks) sure
+    ∙ ap (λ x. snap u.number u.live u.untried u.marked u.loud u.overflow u.chunk u.sectors u.size u.store u.pairs u.begun u.sure x w.marks) copies
+    ∙ ap (λ x. snap u.number u.live u.untried u.marked u.loud u.overflow u.chunk u.sectors u.size u.store u.pairs u.begun u.sure u.copies x) marks
 
 abbrev pub books : List ℕ → ℕ → Bool → List SnapBooks → Option MergeBooks → List Flight → Books
 books origin sectors loud snaps merge requests = record { origin = origin; sectors = sectors; loud = loud; snaps = snaps; merge = merge; requests = requests }

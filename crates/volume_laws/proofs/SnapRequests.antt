@@ -115,7 +115,7 @@ module _ (o : List ℕ) (rs : List Flight) (v w : SnapBooks) (h : LiveHolds o rs
   place_write count whole fits =
       let s = e.same in
       let u : SnapBooks = record v { store = w.store } in
-      let now : w ≡ u = same_books w u s.number s.live s.untried s.marked s.loud s.overflow s.chunk s.sectors s.size refl e.pairs e.begun e.copies e.marks in
+      let now : w ≡ u = same_books w u s.number s.live s.untried s.marked s.loud s.overflow s.chunk s.sectors s.size refl e.pairs e.begun e.sure e.copies e.marks in
       let t = h.text in
       subst (LiveHolds o rs) (sym now) (record {
         text = record { some = t.some; allowed = t.allowed; whole = e.only.len ∙ t.whole; inside = t.inside; apart = t.apart };
@@ -123,6 +123,8 @@ module _ (o : List ℕ) (rs : List Flight) (v w : SnapBooks) (h : LiveHolds o rs
         fits = h.fits;
         tried = h.tried;
         agree = h.agree;
+        few = h.few;
+        link = h.link;
         copies = copies_apart;
         unpublished = λ loud k d lt.
             (let m = get_or v.marks k d in

@@ -1,5 +1,5 @@
 -- One snapshot is spoiled, in a whole volume: its copies are dropped, and its requests refused.
-use Rattle.std.proofs.Common.{◌≡◌, ◌≢◌, inl, inr, ℕ, zero, suc, ◌<◌, true, false, List, [], ◌∷◌, length, get_or, set, map, refl, sym, ◌∙◌, ap, subst, arith, eq-eqb, ne_eqb}
+use Rattle.std.proofs.Common.{◌≡◌, ◌≢◌, inl, inr, ℕ, zero, suc, ◌<◌, true, false, List, [], ◌∷◌, length, get_or, set, map, take, refl, sym, ◌∙◌, ap, subst, arith, eq-eqb, ne_eqb}
 use Rattle.std.specs.List.{All}
 use Rattle.std.specs.Prelude.{AllPairs}
 use Rattle.std.proofs.lemmas.Bool.{false≢true, cases_eq, cases_order}
@@ -70,9 +70,11 @@ module _ (k : ℕ) (s s' : SnapBooks) (v w : Books) (h : Holds v) (e : SpoilsOne
       copies = e.spoils.copies;
       unpublished = e.spoils.marks;
       routes = refuses which s'.number v.requests (ap (is_in which) e.spoils.number ∙ alone_in s.number);
-      waited = λ _. subst (λ c. All (UntriedHolds c s'.pairs) (map (refused_of which) v.requests)) (sym e.spoils.chunk)
-          (subst (λ ps. All (UntriedHolds s.chunk ps) (map (refused_of which) v.requests)) (sym e.spoils.pairs)
-          (untried_refused which s.chunk s.pairs v.requests (all_untried s.number s.chunk s.pairs s.marks v.requests ((snap_holds v k s h e.within e.was).alive e.spoils.was).routes)));
+      waited = λ _. (let live = (snap_holds v k s h e.within e.was).alive e.spoils.was in
+          subst (λ c. All (UntriedHolds c (take s'.sure s'.pairs)) (map (refused_of which) v.requests)) (sym e.spoils.chunk)
+          (subst (λ n. All (UntriedHolds s.chunk (take n s'.pairs)) (map (refused_of which) v.requests)) (sym e.spoils.sure)
+          (subst (λ ps. All (UntriedHolds s.chunk (take s.sure ps)) (map (refused_of which) v.requests)) (sym e.spoils.pairs)
+          (untried_refused which s.chunk (take s.sure s.pairs) v.requests (all_untried s.number s.chunk s.sure s.pairs s.marks v.requests live.link live.routes)))));
     };
   }
 

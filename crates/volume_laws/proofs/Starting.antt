@@ -16,13 +16,15 @@ pub start : (o : List ℕ) (rs : List Flight) (p : ChunkCopy) (v w : SnapBooks) 
 start o rs p v w h e =
     let s = e.same in
     let u : SnapBooks = record v { begun = v.begun ++ p.pair ∷ []; copies = v.copies ++ p ∷ [] } in
-    let now : w ≡ u = same_books w u s.number s.live s.untried s.marked s.loud s.overflow s.chunk s.sectors s.size e.store e.pairs e.begun e.copies e.marks in
+    let now : w ≡ u = same_books w u s.number s.live s.untried s.marked s.loud s.overflow s.chunk s.sectors s.size e.store e.pairs e.begun e.sure e.copies e.marks in
     subst (LiveHolds o rs) (sym now) (record {
       text = e.text;
       stored = h.stored;
       fits = h.fits;
       tried = h.tried;
       agree = ap (λ x. x ++ p.pair ∷ []) h.agree ∙ sym (map_push pair_of v.copies p);
+      few = h.few;
+      link = h.link;
       copies = All-push (CopyHolds v.loud v.chunk v.sectors o v.store) v.copies p h.copies
           (record { room = e.room; read = λ is. absurd (waiting_ne_read (sym e.stage ∙ is)); written = λ _ is. absurd (false≢true (sym (ap is_stored e.stage) ∙ is)) });
       unpublished = h.unpublished;

@@ -1,9 +1,10 @@
 -- A request is accepted, in a whole volume.
-use Rattle.std.proofs.Common.{◌≡◌, ℕ, false, List, [], ◌∷◌, ◌++◌, Option, Some, None, get_or, map, refl, sym, ◌∙◌, ap, subst}
+use Rattle.std.proofs.Common.{◌≡◌, ℕ, false, List, [], ◌∷◌, ◌++◌, Option, Some, None, get_or, map, take, refl, sym, ◌∙◌, ap, subst}
 use Rattle.std.specs.List.{All}
 use Rattle.std.proofs.lemmas.List.{map_push}
 use Rattle.std.proofs.lemmas.List.Elements.{All-push}
 use Rattle.plain.specs.Plain.{Entry, spoiled_entry}
+use Rattle.plain.specs.Kept.{kept}
 use Rattle.plain.specs.Legal.{is_shut}
 use Rattle.pending.specs.Kinds.{in_flight}
 use Rattle.pending.specs.declared.flights.Flight.{Flight}
@@ -27,7 +28,7 @@ snap_more o rs f s h fits = record {
     copies = old.copies;
     unpublished = old.unpublished;
     routes = All-push (RefusedHolds s.number) rs f old.routes (fits.spoilt dead);
-    waited = λ waits. All-push (UntriedHolds s.chunk s.pairs) rs f (old.waited waits) (fits.waited waits);
+    waited = λ waits. All-push (UntriedHolds s.chunk (take s.sure s.pairs)) rs f (old.waited waits) (fits.waited waits);
   });
 }
 
@@ -35,8 +36,8 @@ spoiled_none : (es : List Entry) → map (spoiled_entry []) es ≡ es
 spoiled_none [] = refl
 spoiled_none (e ∷ es) = ap (λ x. e ∷ x) (spoiled_none es)
 
-pub accept_event : (f : Flight) (v w : Books) → Holds v → Accepts f v w → is_shut f.request.dev f.request.op (plain_of v).saved ≡ false → RequestHolds v.sectors f → FitsMerge f v.merge → All (FitsSnap f) v.snaps → IsAccepted [] f.number f.request v w
-accept_event f v w h e writable one merge snaps =
+pub accept_event : (f : Flight) (v w : Books) → Holds v → Accepts f v w → is_shut f.request.dev f.request.op (plain_of v).saved ≡ false → RequestHolds v.sectors f → kept f.request ≡ f.request → FitsMerge f v.merge → All (FitsSnap f) v.snaps → IsAccepted [] f.number f.request v w
+accept_event f v w h e writable one keeps merge snaps =
     let after : Books = record v { requests = v.requests ++ f ∷ [] } in
     let now : w ≡ after = same_volume w after e.origin e.sectors e.loud e.snaps e.merge e.requests in
     record {
@@ -51,6 +52,7 @@ accept_event f v w h e writable one merge snaps =
         writable = writable;
         becomes = ap plain_of now
             ∙ ap (λ x. plain (origin_of v.origin v.merge) (begun_of v.merge) (map (entry_of v.origin) v.snaps) x) (map_push in_flight v.requests f)
-            ∙ ap (λ x. plain (origin_of v.origin v.merge) (begun_of v.merge) x (map in_flight v.requests ++ in_flight f ∷ [])) (sym (spoiled_none (map (entry_of v.origin) v.snaps)));
+            ∙ ap (λ x. plain (origin_of v.origin v.merge) (begun_of v.merge) x (map in_flight v.requests ++ in_flight f ∷ [])) (sym (spoiled_none (map (entry_of v.origin) v.snaps)))
+            ∙ ap (λ x. plain (origin_of v.origin v.merge) (begun_of v.merge) (map (spoiled_entry []) (map (entry_of v.origin) v.snaps)) (map in_flight v.requests ++ record { number = f.number; request = x } ∷ [])) (sym keeps);
       };
     }

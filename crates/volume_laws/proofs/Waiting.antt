@@ -72,6 +72,10 @@ waits_one merge snaps k s s' f within is keeps h = record {
   write_goes = h.write_goes;
   read_attached = λ n kind. any_one (λ v. v.number ≡ n) snaps k s s' within is (λ e. keeps.number ∙ e) (h.read_attached n kind);
   write_attached = λ n kind. any_one (λ v. v.number ≡ n) snaps k s s' within is (λ e. keeps.number ∙ e) (h.write_attached n kind);
+  origin_flush = h.origin_flush;
+  snap_flush = h.snap_flush;
+  flush_goes = h.flush_goes;
+  flush_attached = λ n kind. any_one (λ v. v.number ≡ n) snaps k s s' within is (λ e. keeps.number ∙ e) (h.flush_attached n kind);
 }
 
 -- of a whole volume, whose other fields stay

@@ -13,9 +13,9 @@ use Rattle.pending.specs.Routes.{again_route_of, write_route_of, placed_route_of
 use Rattle.pending.specs.declared.copies.Mark.{Mark}
 use Rattle.pending.specs.declared.flights.Flight.{Flight}
 use Rattle.pending.specs.declared.flights.Kind.{Kind}
-use Rattle.pending.specs.declared.flights.Kind.TheVariants.{OriginRead, OriginWrite, SnapRead, SnapWrite}
+use Rattle.pending.specs.declared.flights.Kind.TheVariants.{OriginRead, OriginWrite, OriginFlush, SnapRead, SnapWrite, SnapFlush}
 use Rattle.pending.specs.declared.flights.Route.{Route}
-use Rattle.pending.specs.declared.flights.Route.TheVariants.{Held, Origin, Store, Refused}
+use Rattle.pending.specs.declared.flights.Route.TheVariants.{Held, Origin, Store, Whole, Refused}
 use Rattle.volume_laws.specs.Books.{SnapBooks, MergeBooks, Books, group_of}
 use Rattle.volume_laws.specs.Published.{chunk_of, IsPublished, is_saved, is_clear}
 use Rattle.volume_laws.specs.Steps.{ChangesSnap, Unmarks, TriesMark, SpoilsOne}
@@ -36,6 +36,10 @@ pub record HalfWaits (merge : Option MergeBooks) (snaps : List SnapBooks) (f : F
   pub write_goes : kind_of f.request ≡ OriginWrite → f.route ≢ Refused
   pub read_attached : (n : ℕ) → kind_of f.request ≡ SnapRead n → Any (λ s. s.number ≡ n) snaps
   pub write_attached : (n : ℕ) → kind_of f.request ≡ SnapWrite n → Any (λ s. s.number ≡ n) snaps
+  pub origin_flush : kind_of f.request ≡ OriginFlush → f.route ≢ Held
+  pub snap_flush : (n : ℕ) → kind_of f.request ≡ SnapFlush n → f.route ≢ Held
+  pub flush_goes : kind_of f.request ≡ OriginFlush → f.route ≢ Refused
+  pub flush_attached : (n : ℕ) → kind_of f.request ≡ SnapFlush n → Any (λ s. s.number ≡ n) snaps
 
 -- a request is in the group by its range
 same_group : (merge : Option MergeBooks) (f : Flight) (route : Route) → is_grouped merge f ≡ is_grouped merge (record f { route = route })
@@ -46,12 +50,21 @@ same_group (Some m) f route = refl
 again_held : (kind : Kind) (route new : Route) → again_route_of kind route new ≡ Held → (route ≡ Held) × (kind ≡ OriginWrite → new ≡ Held)
 again_held kind Origin new e = cc
 again_held kind (Store place) new e = cc
+again_held kind Whole new e = cc
 again_held kind Refused new e = cc
 again_held OriginRead Held new e = (refl, λ k. absurd (read_ne_write k))
   where
     read_ne_write : OriginRead ≢ OriginWrite
     read_ne_write k = cc
 again_held OriginWrite Held new e = (refl, λ _. e)
+again_held OriginFlush Held new e = (refl, λ k. absurd (flush_ne k))
+  where
+    flush_ne : OriginFlush ≢ OriginWrite
+    flush_ne k = cc
+again_held (SnapFlush n) Held new e = (refl, λ k. absurd (snap_ne k))
+  where
+    snap_ne : SnapFlush n ≢ OriginWrite
+    snap_ne k = cc
 again_held (SnapRead n) Held new e = (refl, λ k. absurd (snap_ne k))
   where
     snap_ne : SnapRead n ≢ OriginWrite
@@ -74,10 +87,13 @@ new_ne_refused (Some m) clear f = write_ne_refused (has_chunk (group_of m) (chun
 again_refused : (kind : Kind) (route new : Route) → new ≢ Refused → again_route_of kind route new ≡ Refused → route ≡ Refused
 again_refused kind Origin new ne e = cc
 again_refused kind (Store place) new ne e = cc
+again_refused kind Whole new ne e = cc
 again_refused kind Refused new ne e = refl
 again_refused OriginRead Held new ne e = cc
 again_refused OriginWrite Held new ne e = absurd (ne e)
+again_refused OriginFlush Held new ne e = cc
 again_refused (SnapRead n) Held new ne e = cc
+again_refused (SnapFlush n) Held new ne e = cc
 again_refused (SnapWrite n) Held new ne e = cc
 
 -- a write that is held by the table, and is in no group, is not clear
@@ -107,6 +123,10 @@ again_waits merge snaps f h =
       write_goes = λ kind e. h.write_goes kind (refused e);
       read_attached = h.read_attached;
       write_attached = h.write_attached;
+      origin_flush = λ kind held. h.origin_flush kind (was held).0;
+      snap_flush = λ n kind held. h.snap_flush n kind (was held).0;
+      flush_goes = λ kind e. h.flush_goes kind (refused e);
+      flush_attached = h.flush_attached;
     }
   where
     any_same : (n : ℕ) (f : Flight) → Any (WaitsFor n f) snaps → Any (WaitsFor n (again_of merge (is_clear snaps) f)) snaps
@@ -158,17 +178,26 @@ waits_tried k s s' v u w h e t again = waits_rerouted u w
       write_goes = old.write_goes;
       read_attached = λ n kind. any_other (λ x. x.number ≡ n) v.snaps k s s' e.within e.was (λ m. t.number ∙ m) (old.read_attached n kind);
       write_attached = λ n kind. any_other (λ x. x.number ≡ n) v.snaps k s s' e.within e.was (λ m. t.number ∙ m) (old.write_attached n kind);
+      origin_flush = old.origin_flush;
+      snap_flush = old.snap_flush;
+      flush_goes = old.flush_goes;
+      flush_attached = λ n kind. any_other (λ x. x.number ≡ n) v.snaps k s s' e.within e.was (λ m. t.number ∙ m) (old.flush_attached n kind);
     }
 
 -- the routes after a spoil
 refused_held : (which : List ℕ) (kind : Kind) (route : Route) → refused_route_of which kind route ≡ Held → route ≡ Held
 refused_held which OriginRead route e = e
 refused_held which OriginWrite route e = e
+refused_held which OriginFlush route e = e
 refused_held which (SnapRead n) route e = elim (cases_Bool (is_in which n)) [
   | inl one ↦ (let got : Refused ≡ Held = rw one at e in absurd (cc))
   | inr none ↦ rw none at e
 ]
 refused_held which (SnapWrite n) route e = elim (cases_Bool (is_in which n)) [
+  | inl one ↦ (let got : Refused ≡ Held = rw one at e in absurd (cc))
+  | inr none ↦ rw none at e
+]
+refused_held which (SnapFlush n) route e = elim (cases_Bool (is_in which n)) [
   | inl one ↦ (let got : Refused ≡ Held = rw one at e in absurd (cc))
   | inr none ↦ rw none at e
 ]
@@ -183,6 +212,9 @@ held_not_in which n kind route is e = elim (cases_Bool (is_in which n)) [
 refused_origin : (which : List ℕ) (kind : Kind) (route : Route) → (kind ≡ OriginRead) ⊎ (kind ≡ OriginWrite) → refused_route_of which kind route ≡ route
 refused_origin which kind route (inl is) = rw is refl
 refused_origin which kind route (inr is) = rw is refl
+
+refused_flush : (which : List ℕ) (kind : Kind) (route : Route) → kind ≡ OriginFlush → refused_route_of which kind route ≡ route
+refused_flush which kind route is = rw is refl
 
 not_clear : (first : ℕ) (snaps : List SnapBooks) (k : ℕ) (s' : SnapBooks) → k < length snaps → s'.untried ≡ true → is_clear (set snaps k s') first ≡ false
 not_clear first snaps k s' within untried = rw (one snaps k within) (right_false (list_all (is_saved first) (set snaps k s')))
@@ -230,6 +262,10 @@ waits_spoiled k s s' v w h e untried = record {
           write_goes = λ is goes. old.write_goes is (sym (refused_origin (s.number ∷ []) (kind_of f.request) f.route (inr is)) ∙ goes);
           read_attached = λ n is. any_other (λ x. x.number ≡ n) v.snaps k s s' e.within e.was (λ m. e.spoils.number ∙ m) (old.read_attached n is);
           write_attached = λ n is. any_other (λ x. x.number ≡ n) v.snaps k s s' e.within e.was (λ m. e.spoils.number ∙ m) (old.write_attached n is);
+          origin_flush = λ is held. old.origin_flush is (was held);
+          snap_flush = λ n is held. old.snap_flush n is (was held);
+          flush_goes = λ is goes. old.flush_goes is (sym (refused_flush (s.number ∷ []) (kind_of f.request) f.route is) ∙ goes);
+          flush_attached = λ n is. any_other (λ x. x.number ≡ n) v.snaps k s s' e.within e.was (λ m. e.spoils.number ∙ m) (old.flush_attached n is);
         }
       where
         same_waits : (n : ℕ) (f : Flight) → Any (WaitsFor n f) v.snaps → Any (WaitsFor n (refused_of (s.number ∷ []) f)) v.snaps
@@ -340,4 +376,8 @@ waits_published k j m s s' v u x w h e t places again = waits_rerouted x w
       write_goes = λ is goes. old.write_goes is (was_refused f goes);
       read_attached = λ n is. any_other (λ y. y.number ≡ n) v.snaps k s s' e.within e.was (λ q. t.same.number ∙ q) (old.read_attached n is);
       write_attached = λ n is. any_other (λ y. y.number ≡ n) v.snaps k s s' e.within e.was (λ q. t.same.number ∙ q) (old.write_attached n is);
+      origin_flush = λ is held. old.origin_flush is (was_held f held);
+      snap_flush = λ n is held. old.snap_flush n is (was_held f held);
+      flush_goes = λ is goes. old.flush_goes is (was_refused f goes);
+      flush_attached = λ n is. any_other (λ y. y.number ≡ n) v.snaps k s s' e.within e.was (λ q. t.same.number ∙ q) (old.flush_attached n is);
     }

@@ -6,7 +6,7 @@ use Rattle.plain.specs.declared.request.Request.{Request}
 use Rattle.plain.specs.Legal.{Spoils, IsSubmitted}
 use Rattle.pending.specs.Kinds.{kind_of, in_flight}
 use Rattle.pending.specs.declared.flights.Flight.{Flight}
-use Rattle.pending.specs.declared.flights.Kind.TheVariants.{SnapRead, SnapWrite}
+use Rattle.pending.specs.declared.flights.Kind.TheVariants.{SnapRead, SnapWrite, SnapFlush}
 use Rattle.volume_laws.specs.Books.{SnapBooks, MergeBooks, Books}
 use Rattle.volume_laws.specs.Published.{IsPiece}
 use Rattle.volume_laws.specs.Whole.{Holds, IsLoud, plain_of}
@@ -35,6 +35,7 @@ pub record IsBeside (f : Flight) (m : MergeBooks) : Type 0 where
   pub piece : IsPiece m.chunk f.request.range
   pub no_read : kind_of f.request ≢ SnapRead m.number
   pub no_write : kind_of f.request ≢ SnapWrite m.number
+  pub no_flush : kind_of f.request ≢ SnapFlush m.number
 
 -- the merged snapshot's number is none of the others'
 abbrev pub IsNumberedApart : Option MergeBooks → List SnapBooks → Type 0

@@ -26,6 +26,8 @@ pub record SnapBooks : Type 0 where
   -- the committed pairs, and those that the store began and did not commit
   pub pairs : List Pair
   pub begun : List Pair
+  -- how many of the committed pairs were flushed: the first ones
+  pub sure : ℕ
   -- the copies that are not committed, in order of handing out, and those that are not published
   pub copies : List ChunkCopy
   pub marks : List Mark

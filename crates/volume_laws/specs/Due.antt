@@ -2,7 +2,7 @@
 -- Which event is due first, and a whole number that every event lowers. The order is this project's own: spoiled
 -- snapshots' marks first, then the flushes that something waits for, then what frees held writes, then the copies' own steps,
 -- and requests last; in each kind the least number.
-use Rattle.std.specs.Prelude.{◌==◌, ◌&&◌, ◌||◌, not, ℕ, ◌+◌, Bool, false, List, [], ◌∷◌, length, Option, Some, None, if◌then◌else◌, sum_by}
+use Rattle.std.specs.Prelude.{◌==◌, ◌&&◌, ◌||◌, not, ℕ, ◌+◌, Bool, false, List, [], ◌∷◌, Option, Some, None, if◌then◌else◌, sum_by}
 use Rattle.std.specs.List.{list_any}
 use Rattle.plain.specs.declared.event.Event.{Event}
 use Rattle.plain.specs.declared.event.Event.TheVariants.{Issue, CopyRead, CopyWrite, ZeroNext, WriteArea, Publish, WriteInvalid, FlushStore, MergeGroup, MergeAreaRead, MergeRead, MergeWrite, MergeFlush, MergeCommit, MergeRelease}
@@ -10,7 +10,12 @@ use Rattle.pending.specs.declared.copies.Stage.{Stage}
 use Rattle.pending.specs.declared.copies.Stage.TheVariants.{Waiting, Read, Written, Flushed}
 use Rattle.pending.specs.declared.copies.ChunkCopy.{ChunkCopy}
 use Rattle.pending.specs.declared.copies.Mark.{Mark}
+use Rattle.pending.specs.Kinds.{kind_of}
 use Rattle.pending.specs.declared.flights.Flight.{Flight}
+use Rattle.pending.specs.declared.flights.Kind.{Kind}
+use Rattle.pending.specs.declared.flights.Kind.TheVariants.{OriginRead, OriginWrite, OriginFlush, SnapRead, SnapWrite, SnapFlush}
+use Rattle.pending.specs.declared.flights.Route.{Route}
+use Rattle.pending.specs.declared.flights.Route.TheVariants.{Held, Origin, Store, Whole, Refused}
 use Rattle.pending.specs.Due.{first_by, least, is_copy_at, number_of_copy, number_of_mark, number_of_flight, front_ready, front_unflushed, is_publishable, is_issuable}
 use Rattle.volume_laws.specs.Books.{SnapBooks}
 
@@ -130,6 +135,22 @@ steps_of_area s = (if s.books.live && not s.zeroed then 1 else 0) + (if s.books.
 abbrev pub left_in : DueSnap → ℕ
 left_in s = steps_of_invalid s.books + sum_by steps_of s.books.copies + sum_by steps_of_mark s.books.marks + steps_of_area s
 
+-- a request: an Issue, and one more of a flush of the origin that still goes to the store that is being merged
+abbrev pub weight_at : Kind → Route → ℕ
+weight_at OriginRead route = 1
+weight_at OriginWrite route = 1
+weight_at OriginFlush Held = 1
+weight_at OriginFlush Origin = 1
+weight_at OriginFlush (Store place) = 1
+weight_at OriginFlush Whole = 2
+weight_at OriginFlush Refused = 1
+weight_at (SnapRead snap) route = 1
+weight_at (SnapWrite snap) route = 1
+weight_at (SnapFlush snap) route = 1
+
+abbrev pub weight_of : Flight → ℕ
+weight_of f = weight_at (kind_of f.request) f.route
+
 -- a whole number that every event of a volume lowers
 abbrev pub left_of : List DueSnap → List Flight → ℕ
-left_of snaps rs = sum_by left_in snaps + length rs
+left_of snaps rs = sum_by left_in snaps + sum_by weight_of rs

@@ -1,11 +1,11 @@
 -- What is true of a snapshot that is not being merged, over the origin disk's bytes and the requests in flight.
-use Rattle.std.specs.Prelude.{◌≡◌, ◌≢◌, ℕ, ◌+◌, ◌*◌, ◌/◌, ◌<◌, ◌≤◌, Bool, true, false, List, [], None, Some, length, map, AllPairs, slice_index}
+use Rattle.std.specs.Prelude.{◌≡◌, ◌≢◌, ℕ, ◌+◌, ◌*◌, ◌/◌, ◌<◌, ◌≤◌, Bool, true, false, List, [], None, Some, Any, length, map, take, drop, AllPairs, slice_index}
 use Rattle.std.specs.List.{All}
 use Rattle.sector.specs.Bytes.{sectors_at}
 use Rattle.sector.specs.declared.pair.Pair.{Pair}
 use Rattle.model.specs.Pairs.{pairs_of, IsApart, IsInside}
 use Rattle.model.specs.Picture.{place_of, picture_at, IsCopied}
-use Rattle.plain.specs.declared.request.Op.TheVariants.{Write}
+use Rattle.plain.specs.declared.request.Op.TheVariants.{Write, Flush}
 use Rattle.pending.specs.Copies.{count_of, pair_of}
 use Rattle.pending.specs.Kinds.{kind_of, room_of}
 use Rattle.pending.specs.declared.copies.ChunkCopy.{ChunkCopy}
@@ -13,8 +13,8 @@ use Rattle.pending.specs.declared.copies.Mark.{Mark}
 use Rattle.pending.specs.declared.copies.Stage.{Stage}
 use Rattle.pending.specs.declared.copies.Stage.TheVariants.{Waiting, Read, Written, Flushed}
 use Rattle.pending.specs.declared.flights.Flight.{Flight}
-use Rattle.pending.specs.declared.flights.Kind.TheVariants.{OriginWrite, SnapRead, SnapWrite}
-use Rattle.pending.specs.declared.flights.Route.TheVariants.{Origin, Store, Refused}
+use Rattle.pending.specs.declared.flights.Kind.TheVariants.{OriginWrite, SnapRead, SnapWrite, SnapFlush}
+use Rattle.pending.specs.declared.flights.Route.TheVariants.{Origin, Store, Whole, Refused}
 use Rattle.volume_laws.specs.Books.{SnapBooks, given}
 use Rattle.volume_laws.specs.Published.{chunk_of, IsPiece, IsPublished, IsUnpublished}
 
@@ -54,6 +54,11 @@ pub record RouteHolds (number chunk : ℕ) (pairs : List Pair) (marks : List Mar
   pub write_stored : (place : ℕ) → kind_of r.request ≡ SnapWrite number → r.route ≡ Store place → (place_of pairs (chunk_of chunk r) ≡ Some place) × IsPublished pairs marks (chunk_of chunk r)
   pub read_alive : kind_of r.request ≡ SnapRead number → r.route ≢ Refused
   pub write_alive : kind_of r.request ≡ SnapWrite number → r.route ≢ Refused
+  pub flush : kind_of r.request ≡ SnapFlush number → r.route ≡ Whole
+
+-- a committed pair that was not flushed bears a mark that is not safe
+abbrev pub IsLinked : List Mark → Pair → Type 0
+IsLinked marks q = Any (λ m. (m.chunk ≡ q.old) × (m.safe ≡ false)) marks
 
 -- A live snapshot. What is said of the store's bytes is said where its stack is loud; the rest always.
 pub record LiveHolds (origin : List ℕ) (rs : List Flight) (v : SnapBooks) : Type 0 where
@@ -62,6 +67,8 @@ pub record LiveHolds (origin : List ℕ) (rs : List Flight) (v : SnapBooks) : Ty
   pub fits : length origin ≡ 512 * v.sectors
   pub tried : v.untried ≡ false
   pub agree : v.begun ≡ map pair_of v.copies
+  pub few : v.sure ≤ length v.pairs
+  pub link : All (IsLinked v.marks) (drop v.sure v.pairs)
   pub copies : All (CopyHolds v.loud v.chunk v.sectors origin v.store) v.copies
   pub unpublished : v.loud ≡ true → All (MarkHolds v.chunk origin v.store v.pairs) v.marks
   pub routes : All (RouteHolds v.number v.chunk v.pairs v.marks) rs
@@ -70,20 +77,21 @@ pub record LiveHolds (origin : List ℕ) (rs : List Flight) (v : SnapBooks) : Ty
 pub record RefusedHolds (number : ℕ) (r : Flight) : Type 0 where
   pub read : kind_of r.request ≡ SnapRead number → r.route ≡ Refused
   pub write : kind_of r.request ≡ SnapWrite number → r.route ≡ Refused
+  pub flush : kind_of r.request ≡ SnapFlush number → r.route ≡ Refused
 
--- Where an origin write goes, as to a spoiled snapshot whose invalid mark is untried: to the origin disk only in a chunk that
--- the snapshot has. So its store, if it is loaded again, still shows the array that the snapshot had.
+-- Where an origin write goes, as to a spoiled snapshot whose invalid mark is untried: to the origin disk only in a chunk of
+-- these pairs: those that were flushed. So its store, if it is loaded again, still shows the array that the snapshot had.
 pub record UntriedHolds (chunk : ℕ) (pairs : List Pair) (r : Flight) : Type 0 where
   pub piece : kind_of r.request ≡ OriginWrite → r.route ≡ Origin → IsPiece chunk r.request.range
   pub placed : kind_of r.request ≡ OriginWrite → r.route ≡ Origin → place_of pairs (chunk_of chunk r) ≢ None
 
 -- A spoiled snapshot: no copies, and its requests are refused. Until its mark was tried, origin writes go where it has the
--- chunk.
+-- chunk for sure.
 pub record SpoiltHolds (rs : List Flight) (v : SnapBooks) : Type 0 where
   pub copies : v.copies ≡ []
   pub unpublished : v.marks ≡ []
   pub routes : All (RefusedHolds v.number) rs
-  pub waited : v.untried ≡ true → All (UntriedHolds v.chunk v.pairs) rs
+  pub waited : v.untried ≡ true → All (UntriedHolds v.chunk (take v.sure v.pairs)) rs
 
 pub record SnapHolds (origin : List ℕ) (rs : List Flight) (v : SnapBooks) : Type 0 where
   pub alive : v.live ≡ true → LiveHolds origin rs v
@@ -95,3 +103,4 @@ pub record RequestHolds (sectors : ℕ) (r : Flight) : Type 0 where
   pub inside : r.request.range.first + r.request.range.count ≤ sectors
   pub room : length r.room.items ≡ room_of r.request
   pub bytes : (bytes : List ℕ) → r.request.op ≡ Write bytes → length bytes ≡ 512 * r.request.range.count
+  pub whole : r.route ≡ Whole → r.request.op ≡ Flush

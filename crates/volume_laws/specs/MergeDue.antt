@@ -10,9 +10,9 @@ use Rattle.pending.specs.Copies.{count_of}
 use Rattle.pending.specs.Kinds.{kind_of}
 use Rattle.pending.specs.declared.flights.Flight.{Flight}
 use Rattle.pending.specs.declared.flights.Kind.{Kind}
-use Rattle.pending.specs.declared.flights.Kind.TheVariants.{OriginRead, OriginWrite, SnapRead, SnapWrite}
+use Rattle.pending.specs.declared.flights.Kind.TheVariants.{OriginRead, OriginWrite, OriginFlush, SnapRead, SnapWrite, SnapFlush}
 use Rattle.pending.specs.declared.flights.Route.{Route}
-use Rattle.pending.specs.declared.flights.Route.TheVariants.{Held, Origin, Store, Refused}
+use Rattle.pending.specs.declared.flights.Route.TheVariants.{Held, Origin, Store, Whole, Refused}
 use Rattle.pending.specs.declared.copies.Stage.TheVariants.{Waiting}
 use Rattle.volume_laws.specs.Books.{SnapBooks, MergeBooks, group_of}
 use Rattle.volume_laws.specs.Published.{is_clear_over}
@@ -56,19 +56,25 @@ abbrev pub goes_to : ℕ → Kind → Route → Bool
 goes_to place OriginRead Held = false
 goes_to place OriginRead Origin = false
 goes_to place OriginRead (Store n) = n == place
+goes_to place OriginRead Whole = false
 goes_to place OriginRead Refused = false
 goes_to place OriginWrite Held = false
 goes_to place OriginWrite Origin = false
 goes_to place OriginWrite (Store n) = n == place
+goes_to place OriginWrite Whole = false
 goes_to place OriginWrite Refused = false
+goes_to place OriginFlush route = false
 goes_to place (SnapRead snap) route = false
 goes_to place (SnapWrite snap) route = false
+goes_to place (SnapFlush snap) route = false
 
 abbrev pub writes_to : ℕ → Kind → Route → Bool
 writes_to place OriginRead route = false
 writes_to place OriginWrite route = goes_to place OriginWrite route
+writes_to place OriginFlush route = false
 writes_to place (SnapRead snap) route = false
 writes_to place (SnapWrite snap) route = false
+writes_to place (SnapFlush snap) route = false
 
 abbrev pub is_writing : ℕ → Flight → Bool
 is_writing place f = writes_to place (kind_of f.request) f.route

@@ -1,5 +1,5 @@
 -- What is true of the store that is being merged.
-use Rattle.std.specs.Prelude.{◌≡◌, ◌≢◌, ℕ, ◌*◌, true, List, ◌++◌, Some, None, length, take}
+use Rattle.std.specs.Prelude.{◌≡◌, ◌≢◌, ◌⊎◌, ℕ, ◌*◌, true, List, ◌++◌, Some, None, length, take}
 use Rattle.std.specs.List.{All}
 use Rattle.sector.specs.Bytes.{sectors_at}
 use Rattle.sector.specs.declared.pair.Pair.{Pair}
@@ -8,8 +8,8 @@ use Rattle.model.specs.Picture.{place_of, IsCopied}
 use Rattle.pending.specs.Copies.{count_of}
 use Rattle.pending.specs.Kinds.{kind_of}
 use Rattle.pending.specs.declared.flights.Flight.{Flight}
-use Rattle.pending.specs.declared.flights.Kind.TheVariants.{OriginRead, OriginWrite, SnapRead, SnapWrite}
-use Rattle.pending.specs.declared.flights.Route.TheVariants.{Origin, Store}
+use Rattle.pending.specs.declared.flights.Kind.TheVariants.{OriginRead, OriginWrite, OriginFlush, SnapRead, SnapWrite, SnapFlush}
+use Rattle.pending.specs.declared.flights.Route.TheVariants.{Origin, Store, Whole}
 use Rattle.volume_laws.specs.Books.{MergeBooks, listed, taken}
 use Rattle.volume_laws.specs.Published.{chunk_of, IsPiece}
 use Rattle.volume_laws.specs.Held.{StoreHolds}
@@ -24,6 +24,8 @@ pub record MergeRouteHolds (number chunk : ℕ) (pairs all done : List Pair) (r 
   pub untaken : (place : ℕ) → kind_of r.request ≡ OriginWrite → r.route ≡ Store place → All (λ q. q.old ≢ chunk_of chunk r) done
   pub no_read : kind_of r.request ≢ SnapRead number
   pub no_write : kind_of r.request ≢ SnapWrite number
+  pub flush : kind_of r.request ≡ OriginFlush → (r.route ≡ Whole) ⊎ (r.route ≡ Origin)
+  pub no_flush : kind_of r.request ≢ SnapFlush number
 
 -- the merge over the origin disk's bytes and the requests in flight
 pub record MergeHolds (origin : List ℕ) (rs : List Flight) (m : MergeBooks) : Type 0 where

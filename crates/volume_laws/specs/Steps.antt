@@ -15,6 +15,7 @@ use Rattle.pending.specs.declared.copies.ChunkCopy.{ChunkCopy}
 use Rattle.pending.specs.declared.copies.Mark.{Mark}
 use Rattle.pending.specs.declared.copies.Stage.TheVariants.{Waiting, Read, Written, Flushed}
 use Rattle.pending.specs.declared.flights.Flight.{Flight}
+use Rattle.pending.specs.declared.flights.Route.TheVariants.{Origin}
 use Rattle.volume_laws.specs.Books.{SnapBooks, MergeBooks, Books, listed, taken, number_of}
 use Rattle.volume_laws.specs.Held.{StoreHolds, RouteHolds, RefusedHolds, UntriedHolds}
 use Rattle.volume_laws.specs.Merging.{MergeRouteHolds}
@@ -37,6 +38,7 @@ pub record SameStore (v w : SnapBooks) : Type 0 where
   pub store : w.store ≡ v.store
   pub pairs : w.pairs ≡ v.pairs
   pub begun : w.begun ≡ v.begun
+  pub sure : w.sure ≡ v.sure
 
 -- copy k goes from p to q, with its pair
 pub record CopyGoesOn (k : ℕ) (p q : ChunkCopy) (v w : SnapBooks) : Type 0 where
@@ -60,6 +62,7 @@ pub record WritesCopy (k : ℕ) (p q : ChunkCopy) (v w : SnapBooks) : Type 0 whe
   pub same : IsSame v w
   pub pairs : w.pairs ≡ v.pairs
   pub begun : w.begun ≡ v.begun
+  pub sure : w.sure ≡ v.sure
   pub copy : CopyGoesOn k p q v w
   pub marks : w.marks ≡ v.marks
   pub was_read : p.stage ≡ Read
@@ -73,6 +76,7 @@ pub record ZeroesArea (a : ℕ) (v w : SnapBooks) : Type 0 where
   pub same : IsSame v w
   pub pairs : w.pairs ≡ v.pairs
   pub begun : w.begun ≡ v.begun
+  pub sure : w.sure ≡ v.sure
   pub copies : w.copies ≡ v.copies
   pub marks : w.marks ≡ v.marks
   pub only : ChangesOnly v.chunk (area_place v.chunk a) v.store w.store
@@ -89,27 +93,31 @@ pub record Commits (count a : ℕ) (v w : SnapBooks) : Type 0 where
   pub ready : All (λ p. p.stage ≡ Flushed) (take count v.copies)
   pub pairs : w.pairs ≡ v.pairs ++ take count v.begun
   pub begun : w.begun ≡ drop count v.begun
+  pub sure : w.sure ≡ v.sure
   pub copies : w.copies ≡ drop count v.copies
   pub marks : w.marks ≡ v.marks ++ map mark_of (take count v.copies)
   pub only : ChangesOnly v.chunk (area_place v.chunk a) v.store w.store
   pub stored : v.loud ≡ true → pairs_of v.chunk w.store ≡ w.pairs
 
--- FlushStore of a live snapshot: what is written counts as written, and what is committed may be published
+-- FlushStore of a live snapshot, or a flush that is asked of one: what is written counts as written, and what is committed is
+-- sure, and may be published
 pub record FlushesStore (v w : SnapBooks) : Type 0 where
   pub same : IsSame v w
   pub store : w.store ≡ v.store
   pub pairs : w.pairs ≡ v.pairs
   pub begun : w.begun ≡ v.begun
+  pub sure : w.sure ≡ length v.pairs
   pub copies : w.copies ≡ map flushed_copy v.copies
   pub marks : w.marks ≡ map safe_mark v.marks
 
--- Publish: mark k is taken away
+-- Publish: mark k, which is safe, is taken away
 pub record Unmarks (k : ℕ) (m : Mark) (v w : SnapBooks) : Type 0 where
   pub same : IsSame v w
   pub store : SameStore v w
   pub copies : w.copies ≡ v.copies
   pub within : k < length v.marks
   pub was : m ≡ slice_index_or v.marks k m
+  pub safe : m.safe ≡ true
   pub marks : w.marks ≡ remove v.marks k
 
 -- a copy is started: its pair is the store's last begun one
@@ -118,6 +126,7 @@ pub record StartsCopy (p : ChunkCopy) (v w : SnapBooks) : Type 0 where
   pub pairs : w.pairs ≡ v.pairs
   pub store : w.store ≡ v.store
   pub begun : w.begun ≡ v.begun ++ p.pair ∷ []
+  pub sure : w.sure ≡ v.sure
   pub copies : w.copies ≡ v.copies ++ p ∷ []
   pub marks : w.marks ≡ v.marks
   pub stage : p.stage ≡ Waiting
@@ -129,6 +138,7 @@ pub record WritesPlace (c place off : ℕ) (bytes : List ℕ) (v w : SnapBooks) 
   pub same : IsSame v w
   pub pairs : w.pairs ≡ v.pairs
   pub begun : w.begun ≡ v.begun
+  pub sure : w.sure ≡ v.sure
   pub copies : w.copies ≡ v.copies
   pub marks : w.marks ≡ v.marks
   pub only : ChangesOnly v.chunk place v.store w.store
@@ -142,6 +152,7 @@ pub record SpoilsSnap (v w : SnapBooks) : Type 0 where
   pub overflow : w.overflow ≡ v.overflow
   pub chunk : w.chunk ≡ v.chunk
   pub pairs : w.pairs ≡ v.pairs
+  pub sure : w.sure ≡ v.sure
   pub copies : w.copies ≡ []
   pub marks : w.marks ≡ []
 
@@ -155,6 +166,7 @@ pub record WritesMark (v w : SnapBooks) : Type 0 where
   pub marked : w.marked ≡ true
   pub chunk : w.chunk ≡ v.chunk
   pub pairs : w.pairs ≡ v.pairs
+  pub sure : w.sure ≡ v.sure
   pub copies : w.copies ≡ v.copies
   pub marks : w.marks ≡ v.marks
 
@@ -235,6 +247,27 @@ pub record WritesSnapOut (number k : ℕ) (r : Flight) (bytes : List ℕ) (j pla
   pub snaps : w.snaps ≡ slice_set v.snaps j s'
   pub store : WritesPlace (r.request.range.first / s.chunk) place (r.request.range.first % s.chunk) bytes s s'
 
+-- a flush of snapshot j is answered: its store was flushed
+pub record FlushesSnapOut (number k : ℕ) (r : Flight) (j : ℕ) (s s' : SnapBooks) (v w : Books) : Type 0 where
+  pub out : TakesOut number k r v w
+  pub origin : w.origin ≡ v.origin
+  pub within : j < length v.snaps
+  pub was : s ≡ slice_index_or v.snaps j s
+  pub snaps : w.snaps ≡ slice_set v.snaps j s'
+  pub flush : FlushesStore s s'
+
+-- the first Issue of a flush of the origin beside a merge: the merging store was flushed, and the request goes on to the origin
+-- disk
+pub record RoutesOn (number k : ℕ) (r : Flight) (v w : Books) : Type 0 where
+  pub found : position (λ (f : Flight). f.number == number) v.requests ≡ Some k
+  pub was : r ≡ slice_index_or v.requests k r
+  pub requests : w.requests ≡ slice_set v.requests k (record r { route = Origin })
+  pub origin : w.origin ≡ v.origin
+  pub sectors : w.sectors ≡ v.sectors
+  pub loud : w.loud ≡ v.loud
+  pub snaps : w.snaps ≡ v.snaps
+  pub merge : w.merge ≡ v.merge
+
 -- an accepted request is the last in flight
 pub record Accepts (f : Flight) (v w : Books) : Type 0 where
   pub requests : w.requests ≡ v.requests ++ f ∷ []
@@ -248,7 +281,7 @@ pub record Accepts (f : Flight) (v w : Books) : Type 0 where
 pub record FitsSnap (f : Flight) (s : SnapBooks) : Type 0 where
   pub alive : s.live ≡ true → RouteHolds s.number s.chunk s.pairs s.marks f
   pub spoilt : s.live ≡ false → RefusedHolds s.number f
-  pub waited : s.untried ≡ true → UntriedHolds s.chunk s.pairs f
+  pub waited : s.untried ≡ true → UntriedHolds s.chunk (take s.sure s.pairs) f
 
 abbrev pub FitsMerge : Flight → Option MergeBooks → Type 0
 FitsMerge f None = UnmergedHolds f
@@ -260,6 +293,7 @@ pub record IsNewSnap (origin : List ℕ) (s : SnapBooks) : Type 0 where
   pub strict : did_overflow s.overflow ≡ false
   pub tried : s.untried ≡ false
   pub begun : s.begun ≡ []
+  pub sure : s.sure ≡ length s.pairs
   pub copies : s.copies ≡ []
   pub marks : s.marks ≡ []
   pub fits : length origin ≡ 512 * s.sectors

@@ -4,7 +4,7 @@ use Rattle.std.specs.List.{All}
 use Rattle.model.specs.Picture.{place_of}
 use Rattle.pending.specs.Kinds.{kind_of}
 use Rattle.pending.specs.declared.flights.Flight.{Flight}
-use Rattle.pending.specs.declared.flights.Kind.TheVariants.{OriginRead, OriginWrite, SnapRead, SnapWrite}
+use Rattle.pending.specs.declared.flights.Kind.TheVariants.{OriginRead, OriginWrite, OriginFlush, SnapRead, SnapWrite, SnapFlush}
 use Rattle.pending.specs.declared.flights.Route.TheVariants.{Held, Refused}
 use Rattle.volume_laws.specs.Books.{SnapBooks, MergeBooks, Books, group_of}
 use Rattle.volume_laws.specs.Published.{chunk_of, is_clear}
@@ -29,7 +29,7 @@ pub record WaitsFor (number : ℕ) (f : Flight) (s : SnapBooks) : Type 0 where
   pub live : s.live ≡ true
   pub copying : IsCopying (chunk_of s.chunk f) s
 
--- Reads go somewhere. A held origin write waits for some snapshot's copy or mark, and each live snapshot that lacks the
+-- Reads and flushes go somewhere. A held origin write waits for some snapshot's copy or mark, and each live snapshot that lacks the
 -- chunk has a copy of it under way; a held snapshot write waits for that snapshot's copy.
 pub record WaitsHolds (merge : Option MergeBooks) (snaps : List SnapBooks) (f : Flight) : Type 0 where
   pub origin_read : kind_of f.request ≡ OriginRead → f.route ≢ Held
@@ -41,6 +41,10 @@ pub record WaitsHolds (merge : Option MergeBooks) (snaps : List SnapBooks) (f : 
   pub write_goes : kind_of f.request ≡ OriginWrite → f.route ≢ Refused
   pub read_attached : (n : ℕ) → kind_of f.request ≡ SnapRead n → Any (λ s. s.number ≡ n) snaps
   pub write_attached : (n : ℕ) → kind_of f.request ≡ SnapWrite n → Any (λ s. s.number ≡ n) snaps
+  pub origin_flush : kind_of f.request ≡ OriginFlush → f.route ≢ Held
+  pub snap_flush : (n : ℕ) → kind_of f.request ≡ SnapFlush n → f.route ≢ Held
+  pub flush_goes : kind_of f.request ≡ OriginFlush → f.route ≢ Refused
+  pub flush_attached : (n : ℕ) → kind_of f.request ≡ SnapFlush n → Any (λ s. s.number ≡ n) snaps
 
 -- of a whole volume; no two requests have one number
 pub record Waits (v : Books) : Type 0 where

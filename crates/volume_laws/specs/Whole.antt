@@ -5,8 +5,8 @@ use Rattle.model.specs.Picture.{picture}
 use Rattle.plain.specs.Plain.{Plain, Entry, Live, Invalid}
 use Rattle.pending.specs.Kinds.{kind_of, in_flight}
 use Rattle.pending.specs.declared.flights.Flight.{Flight}
-use Rattle.pending.specs.declared.flights.Kind.TheVariants.{OriginRead, OriginWrite}
-use Rattle.pending.specs.declared.flights.Route.TheVariants.{Store}
+use Rattle.pending.specs.declared.flights.Kind.TheVariants.{OriginRead, OriginWrite, OriginFlush}
+use Rattle.pending.specs.declared.flights.Route.TheVariants.{Origin, Store}
 use Rattle.volume_laws.specs.Books.{SnapBooks, MergeBooks, Books, number_of}
 use Rattle.volume_laws.specs.Held.{SnapHolds, RequestHolds}
 use Rattle.volume_laws.specs.Merging.{MergeHolds}
@@ -32,10 +32,11 @@ plain_of v = record {
   requests = map in_flight v.requests;
 }
 
--- without a merge no origin request goes to a store
+-- without a merge no origin request goes to a store, and a flush goes to the origin disk
 pub record UnmergedHolds (r : Flight) : Type 0 where
   pub read : (place : ℕ) → kind_of r.request ≡ OriginRead → r.route ≢ Store place
   pub write : (place : ℕ) → kind_of r.request ≡ OriginWrite → r.route ≢ Store place
+  pub flush : kind_of r.request ≡ OriginFlush → r.route ≡ Origin
 
 abbrev pub OriginHolds : List ℕ → List Flight → Option MergeBooks → Type 0
 OriginHolds origin rs None = All UnmergedHolds rs

@@ -1,6 +1,6 @@
 -- A place of the store is the group's or not; any other route goes to none.
 use Rattle.std.proofs.Common.{◌∙◌, refl}
-use Rattle.pending.specs.declared.flights.Route.TheVariants.{Held, Origin, Refused}
+use Rattle.pending.specs.declared.flights.Route.TheVariants.{Held, Origin, Refused, Whole}
 use Rattle.merge.specs.Lists.{group_pairs}
 use Rattle.merge_beside.proofs.Using.{stored_read, stored_write, nowhere_read, nowhere_write}
 use Rattle.merge_beside.proofs.due.is_routed_there.Goals as goal
@@ -28,3 +28,9 @@ returns-in-Refused-clause-read g c = nowhere_read (group_pairs c.args.merge.now.
 
 pub returns-in-Refused-clause-write : goal.returns-in-Refused-clause-write
 returns-in-Refused-clause-write g c = nowhere_write (group_pairs c.args.merge.now.group) c.args.route Refused c.in-Refused.is (λ q. refl)
+
+pub returns-in-Whole-clause-read : goal.returns-in-Whole-clause-read
+returns-in-Whole-clause-read g c = nowhere_read (group_pairs c.args.merge.now.group) c.args.route Whole c.in-Whole.is (λ q. refl)
+
+pub returns-in-Whole-clause-write : goal.returns-in-Whole-clause-write
+returns-in-Whole-clause-write g c = nowhere_write (group_pairs c.args.merge.now.group) c.args.route Whole c.in-Whole.is (λ q. refl)

@@ -2,7 +2,7 @@
 use Rattle.std.proofs.Common.{◌++◌, List, ℕ, refl, ◌∙◌, ap}
 use Rattle.chunk.specs.Pieces.{span_of}
 use Rattle.plain.specs.declared.request.Op.TheVariants.{Read}
-use Rattle.plain.specs.declared.request.Reply.TheVariants.{Data, Written}
+use Rattle.plain.specs.declared.request.Reply.TheVariants.{Data, Written, Flushed}
 use Rattle.resting.proofs.Amongs.{piece_served, piece_failed, piece_refused}
 use Rattle.resting.proofs.AmongRuns.{cut_same, cut_none}
 use Rattle.resting.proofs.among_pieces.read_piece_among.Goals as goal
@@ -17,6 +17,14 @@ returns-in-Ok-Written-clause-read g c = (
   Written,
   piece_served g.B.Block.contents g.B.Block.layers g.B.Block.size c.args.dev Read (span_of c.args.piece) (record { dev = c.args.dev; op = Read; range = c.args.piece }) (record { dev_is = refl; op_is = refl; range_is = refl }) c.args.volume.now c.serve_among.new.volume c.args.ended.now.items c.serve_among.new.ended.items
       c.in-Ok-Written.field-0 Written tt c.in-Ok-Written.field-0-is c.in-Ok-Written.ensures.served,
+  cut_none _ c.args.out.now.items,
+)
+
+pub returns-in-Ok-Flushed-clause-read : goal.returns-in-Ok-Flushed-clause-read
+returns-in-Ok-Flushed-clause-read g c = (
+  Flushed,
+  piece_served g.B.Block.contents g.B.Block.layers g.B.Block.size c.args.dev Read (span_of c.args.piece) (record { dev = c.args.dev; op = Read; range = c.args.piece }) (record { dev_is = refl; op_is = refl; range_is = refl }) c.args.volume.now c.serve_among.new.volume c.args.ended.now.items c.serve_among.new.ended.items
+      c.in-Ok-Flushed.field-0 Flushed tt c.in-Ok-Flushed.field-0-is c.in-Ok-Flushed.ensures.served,
   cut_none _ c.args.out.now.items,
 )
 

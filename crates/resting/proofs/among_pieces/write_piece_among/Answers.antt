@@ -2,7 +2,7 @@
 use Rattle.std.proofs.Common.{refl, ap}
 use Rattle.chunk.specs.Pieces.{span_of}
 use Rattle.plain.specs.declared.request.Op.TheVariants.{Write}
-use Rattle.plain.specs.declared.request.Reply.TheVariants.{Written}
+use Rattle.plain.specs.declared.request.Reply.TheVariants.{Written, Flushed}
 use Rattle.resting.proofs.Amongs.{piece_served, piece_failed, piece_refused}
 use Rattle.resting.proofs.among_pieces.write_piece_among.Goals as goal
 
@@ -20,6 +20,15 @@ returns-in-Ok-Written-clause-written g c = (
       (record { dev = c.args.dev; op = Write c.in-Ok.bytes; range = c.args.piece }) (record { dev_is = refl; op_is = ap (λ bs. Write bs) c.in-Ok.ensures; range_is = refl })
       c.args.volume.now c.serve_among.new.volume c.args.ended.now.items c.serve_among.new.ended.items
       c.in-Ok-Written.field-0 Written tt c.in-Ok-Written.field-0-is c.in-Ok-Written.ensures.served,
+)
+
+pub returns-in-Ok-Flushed-clause-written : goal.returns-in-Ok-Flushed-clause-written
+returns-in-Ok-Flushed-clause-written g c = (
+  Flushed,
+  piece_served g.B.Block.contents g.B.Block.layers g.B.Block.size c.args.dev (Write c.args.bytes.now) (span_of c.args.piece)
+      (record { dev = c.args.dev; op = Write c.in-Ok.bytes; range = c.args.piece }) (record { dev_is = refl; op_is = ap (λ bs. Write bs) c.in-Ok.ensures; range_is = refl })
+      c.args.volume.now c.serve_among.new.volume c.args.ended.now.items c.serve_among.new.ended.items
+      c.in-Ok-Flushed.field-0 Flushed tt c.in-Ok-Flushed.field-0-is c.in-Ok-Flushed.ensures.served,
 )
 
 pub returns-in-Ok-Data-clause-written : goal.returns-in-Ok-Data-clause-written

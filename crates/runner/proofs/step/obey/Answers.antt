@@ -20,7 +20,7 @@ use Rattle.named.specs.Journal.{enters_journal}
 use Rattle.named.specs.Events.{is_merge_event, origin_by, rested}
 use Rattle.named.specs.Merging.{merge_begun}
 use Rattle.named.specs.Places.{volume_at}
-use Rattle.named.specs.Starting.{read_asked, write_asked}
+use Rattle.named.specs.Starting.{flush_asked, read_asked, write_asked}
 use Rattle.runner.specs.Asking.{IsFirst, first_refusal}
 use Rattle.runner.specs.Output.{IsPartDone, told}
 use Rattle.runner.specs.Ruled.{is_ruled}
@@ -65,6 +65,21 @@ pub returns-in-Read-clause-left : goal.returns-in-Read-clause-left
 returns-in-Read-clause-left c =
     let P : Command → Type 0 = λ command. IsLeft command c.given-in-Read.result (table_of c.args.held.now) (table_of c.read_device.new.held) c.args.ended.now.items c.read_device.new.ended.items in
     subst P (sym c.in-Read.is) (record { got = c.read_device.result; answer_is = c.given-in-Read.ensures; others = c.read_device.ensures.one; among = c.read_device.ensures.among })
+
+pub returns-in-Flush-clause-asks : goal.returns-in-Flush-clause-asks
+returns-in-Flush-clause-asks c =
+    let P : Command → Type 0 = λ command. IsFirst (first_refusal command (table_of c.args.held.now)) (told (reworded Some c.did-in-Flush.result)) in
+    subst P (sym c.in-Flush.is) (worded_asked (λ _. Done) (flush_asked c.in-Flush.name (table_of c.args.held.now)) c.flush_device.result c.did-in-Flush.result c.flush_device.ensures.asks c.did-in-Flush.ensures)
+
+pub returns-in-Flush-clause-still : goal.returns-in-Flush-clause-still
+returns-in-Flush-clause-still c =
+    let P : Command → Type 0 = λ command. IfSome (first_refusal command (table_of c.args.held.now)) (λ _. (table_of c.flush_device.new.held ≡ table_of c.args.held.now) × (c.flush_device.new.ended.items ≡ c.args.ended.now.items)) in
+    subst P (sym c.in-Flush.is) (asked_still _ (flush_asked c.in-Flush.name (table_of c.args.held.now)) c.flush_device.ensures.stays)
+
+pub returns-in-Flush-clause-left : goal.returns-in-Flush-clause-left
+returns-in-Flush-clause-left c =
+    let P : Command → Type 0 = λ command. IsLeft command c.did-in-Flush.result (table_of c.args.held.now) (table_of c.flush_device.new.held) c.args.ended.now.items c.flush_device.new.ended.items in
+    subst P (sym c.in-Flush.is) (record { did = c.flush_device.result; answer_is = c.did-in-Flush.ensures; others = c.flush_device.ensures.one; among = c.flush_device.ensures.among })
 
 pub returns-in-Write-clause-asks : goal.returns-in-Write-clause-asks
 returns-in-Write-clause-asks c =

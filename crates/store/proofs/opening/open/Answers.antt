@@ -25,6 +25,7 @@ returns-in-Ok-open_written-clause-opened g c =
       part = is.part;
       tail = is.tail;
       rest = is.rest;
+      sure = is.sure;
       valid = is.valid;
     }
 

@@ -62,7 +62,7 @@ invariant_of-result-clause-front g c =
     let below : c.len.result - current * (32 * c.args.chunk) < 32 * c.args.chunk = omega arith in
     let chunk : c.read_areas.new.area.chunk ≡ c.args.chunk = c.in-Ok-read_areas.ensures.chunk ∙ c.in-Ok.ensures.chunk in
     let clear : IsCleared c.args.chunk (c.len.result - current * (32 * c.args.chunk)) area c.clear_load-left.result area' = rw chunk at c.clear_load-left.ensures.cleared in
-    let state : State = record { chunk = c.args.chunk; origin = c.args.origin; size = c.sectors-size.result; current = current; filled = c.len.result - current * (32 * c.args.chunk); zeroed = false; firm = false; left = c.clear_load-left.result; awaits = true; copying = true; valid = true } in
+    let state : State = record { chunk = c.args.chunk; origin = c.args.origin; size = c.sectors-size.result; current = current; filled = c.len.result - current * (32 * c.args.chunk); zeroed = false; firm = false; sure = 0; left = c.clear_load-left.result; awaits = true; copying = true; valid = true } in
     let whole : length area' ≡ 512 * c.args.chunk = c.clear_load-left.new.area.whole ∙ ap (λ n. 512 * n) (c.clear_load-left.ensures.chunk ∙ chunk) in
     rw held (front_loaded state bytes area area' ps c.requires.some c.requires.allowed c.requires.size refl there count below clear whole refl refl)
 
@@ -106,7 +106,7 @@ invariant_of-result-clause-stored g c = λ loud.
     let below : c.len.result - current * (32 * c.args.chunk) < 32 * c.args.chunk = omega arith in
     let chunk : c.read_areas.new.area.chunk ≡ c.args.chunk = c.in-Ok-read_areas.ensures.chunk ∙ c.in-Ok.ensures.chunk in
     let clear : IsCleared c.args.chunk (c.len.result - current * (32 * c.args.chunk)) area c.clear_load-left.result area' = rw chunk at c.clear_load-left.ensures.cleared in
-    let state : State = record { chunk = c.args.chunk; origin = c.args.origin; size = c.sectors-size.result; current = current; filled = c.len.result - current * (32 * c.args.chunk); zeroed = false; firm = false; left = c.clear_load-left.result; awaits = true; copying = true; valid = true } in
+    let state : State = record { chunk = c.args.chunk; origin = c.args.origin; size = c.sectors-size.result; current = current; filled = c.len.result - current * (32 * c.args.chunk); zeroed = false; firm = false; sure = 0; left = c.clear_load-left.result; awaits = true; copying = true; valid = true } in
     rw (held, c.in-Ok-read_areas.ensures.contents) (stored_loaded state bytes area area' ps c.requires.some (c.requires.found ∙ sym (head_loaded c.clear_load-left.result c.args.chunk c.clear_load-left.ensures.tail)) there count below clear refl)
 
 pub returns-clause-formed : goal.returns-clause-formed

@@ -1,4 +1,4 @@
-use Rattle.std.proofs.Common.{rules, ◌≡◌, ◌≢◌, ◌+◌, ◌++◌, ◌∷◌, [], sym, ap, ◌∙◌, arith, map}
+use Rattle.std.proofs.Common.{rules, ◌≡◌, ◌≢◌, ◌+◌, ◌++◌, ◌∷◌, [], sym, ap, ◌∙◌, arith, map, append-nil}
 use Rattle.journal.specs.Seats.{seated}
 use Rattle.journal.specs.declared.entry.Entry.TheVariants.{Answered}
 use Rattle.std.proofs.lemmas.List.{get_or_default}
@@ -6,8 +6,8 @@ use Rattle.volume.specs.Volumed.{plain_of}
 use Rattle.journal.specs.Books.{AuditShape, count_of}
 use Rattle.journal.specs.declared.entry.Held.{Held}
 use Rattle.journal.proofs.Beginning.{plain_long, shows_long}
-use Rattle.journal.proofs.Bounds.{count_low, issued_bounds, long_kept, size_kept}
-use Rattle.journal.proofs.Keeping.{first_of, held_at, fits_held, taken_here, number_same, issued_keeps, answer_of}
+use Rattle.journal.proofs.Bounds.{count_low, issued_bounds, long_kept, quiet_bounds, size_kept}
+use Rattle.journal.proofs.Keeping.{first_of, held_at, fits_held, going_is, going_keeps, taken_here, number_same, issued_keeps, answer_of}
 use Rattle.journal.proofs.Receipts.{saved_same, mine_none, mine_other, mine_own, not_both, by_second, receipt_has}
 use Rattle.journal.proofs.audit.Audit.issue.Goals as goal
 
@@ -98,3 +98,38 @@ returns-in-Ok-Reply-clause-legal g c = rw (← c.self.view_is) (λ loud. rw c.in
 
 pub returns-in-Ok-Reply-clause-flown : goal.returns-in-Ok-Reply-clause-flown
 returns-in-Ok-Reply-clause-flown g c = rw (← c.self.view_is) (rw c.in-Ok-Reply.field-0-is at c.in-Ok-Reply.ensures.flown)
+
+pub invariant_of-self-in-Ok-Done : goal.invariant_of-self-in-Ok-Done
+invariant_of-self-in-Ok-Done g c =
+    let flown = rw c.in-Ok-Done.field-0-is at c.in-Ok-Done.ensures.flown in record {
+      audit = going_keeps _ _ c.self.inside.loud (plain_of g.B.Block.contents g.B.Block.layers c.self.inside.volume) (plain_of g.B.Block.contents g.B.Block.layers c.step.new.self) _ c.self.invariant.audit c.in-Ok-Done.ensures.loud
+          (saved_same g.B.Block.contents g.B.Block.layers c.self.inside.volume c.step.new.self c.in-Ok-Done.ensures.kept.numbers) flown.same (λ loud. (rw c.in-Ok-Done.field-0-is at (c.in-Ok-Done.ensures.legal loud)).0);
+      bounded = quiet_bounds _ _ c.self.inside.loud c.self.inside.loud (plain_of g.B.Block.contents g.B.Block.layers c.self.inside.volume) (plain_of g.B.Block.contents g.B.Block.layers c.step.new.self) _ c.self.invariant.bounded c.in-Ok-Done.ensures.counts.0 (λ on. on)
+          (long_kept g.B.Block.contents g.B.Block.layers g.B.Block.size g.met.B.Block.whole c.self.inside.volume c.step.new.self (size_kept g.B.Block.size c.self.inside.volume c.step.new.self c.in-Ok-Done.ensures.kept.sizes)) flown.same;
+    }
+
+pub returns-in-Ok-Done-clause-noted : goal.returns-in-Ok-Done-clause-noted
+returns-in-Ok-Done-clause-noted g c = record {
+  held = ap (λ (a : AuditShape _). a.held) c.self.view_is;
+  spoils = record { which = []; entries = ap (λ (a : AuditShape _). a.entries) c.self.view_is ∙ sym (append-nil _) };
+}
+
+pub returns-in-Ok-Done-clause-unanswered : goal.returns-in-Ok-Done-clause-unanswered
+returns-in-Ok-Done-clause-unanswered g c =
+    let x = c.index.result.now in
+    let first = first_of c.args.number c.self.inside.held.items c.in-Some.place x c.index.ensures (rw c.as_slice.ensures.value at c.in-Some.ensures.some) in
+    going_is (plain_of g.B.Block.contents g.B.Block.layers c.self.inside.volume) _ c.args.number c.in-Some.place x _ _ c.self.invariant.audit.counted first (rw c.in-Ok-Done.field-0-is at c.in-Ok-Done.ensures.flown) (ap (λ (a : AuditShape _). a.held) c.self.view_is)
+
+pub returns-in-Ok-Done-clause-due : goal.returns-in-Ok-Done-clause-due
+returns-in-Ok-Done-clause-due g c =
+    let x = c.index.result.now in
+    let first = first_of c.args.number c.self.inside.held.items c.in-Some.place x c.index.ensures (rw c.as_slice.ensures.value at c.in-Some.ensures.some) in
+    let theirs : x.seat ≡ c.args.seat = search rules in
+    by_second _ _ _ (mine_own c.args.seat c.args.number c.self.inside.held.items _ c.in-Some.place x (ap (λ (a : AuditShape _). a.held) c.self.view_is) first theirs)
+    (rw (← c.self.view_is) c.in-Ok-Done.ensures.due)
+
+pub returns-in-Ok-Done-clause-legal : goal.returns-in-Ok-Done-clause-legal
+returns-in-Ok-Done-clause-legal g c = rw (← c.self.view_is) (λ loud. rw c.in-Ok-Done.field-0-is at (c.in-Ok-Done.ensures.legal loud))
+
+pub returns-in-Ok-Done-clause-flown : goal.returns-in-Ok-Done-clause-flown
+returns-in-Ok-Done-clause-flown g c = rw (← c.self.view_is) (rw c.in-Ok-Done.field-0-is at c.in-Ok-Done.ensures.flown)

@@ -1,5 +1,6 @@
 use Rattle.std.proofs.Common.{length, refl, sym, ap, ◌∙◌, arith, map}
 use Rattle.std.proofs.lemmas.Bool.{MatchBool-at_false, MatchBool-at_true, ltb-false}
+use Rattle.plain.specs.Kept.{kept}
 use Rattle.pending.specs.Kinds.{room_of}
 use Rattle.volume.specs.Volumed.{plain_of}
 use Rattle.journal.specs.Books.{AuditShape}
@@ -7,7 +8,7 @@ use Rattle.journal.proofs.Mays.{kept_same}
 use Rattle.journal.specs.Seats.{seated}
 use Rattle.volume.proofs.Declines.{refused_declined, refused_loud}
 use Rattle.journal.proofs.Bounds.{admitted_asked, long_kept, refused_given, spoilt_bounds, submitted_bounds}
-use Rattle.journal.proofs.Keeping.{submitted_keeps, spoilt_keeps, declined_spoils}
+use Rattle.journal.proofs.Keeping.{kept_room, submitted_kept, submitted_keeps, spoilt_keeps, declined_spoils}
 use Rattle.journal.proofs.Marks.{mark_noted, marked_bounds, marked_keeps, none_noted}
 use Rattle.journal.proofs.Receipts.{saved_count, saved_same, snaps_same, noted_all, only_spoils, refused_requests}
 use Rattle.journal.proofs.audit.Audit.submit.Goals as goal
@@ -30,12 +31,12 @@ invariant_of-self-in-Ok-submit g c =
     let held = c.in-Ok-hold.ensures in
     rw (c.push_reserved.ensures.items, c.reserve.ensures.items)
     (record {
-      audit = submitted_keeps _ _ c.self.inside.loud (plain_of g.B.Block.contents g.B.Block.layers c.self.inside.volume) (plain_of g.B.Block.contents g.B.Block.layers c.submit.new.self) _ _ c.in-Ok-submit.number c.args.request _ _ _ c.self.invariant.audit
-          ok.loud (saved_same g.B.Block.contents g.B.Block.layers c.self.inside.volume c.submit.new.self c.in-Ok-submit.ensures.kept.numbers) ok.flown (λ loud. (_, ok.legal loud))
+      audit = submitted_keeps _ _ c.self.inside.loud (plain_of g.B.Block.contents g.B.Block.layers c.self.inside.volume) (plain_of g.B.Block.contents g.B.Block.layers c.submit.new.self) _ _ c.in-Ok-submit.number (kept c.args.request) _ _ _ c.self.invariant.audit
+          ok.loud (saved_same g.B.Block.contents g.B.Block.layers c.self.inside.volume c.submit.new.self c.in-Ok-submit.ensures.kept.numbers) ok.flown (λ loud. (_, submitted_kept _ _ _ c.args.request _ (ok.legal loud)))
           (noted_all g.B.Block.contents g.B.Block.layers c.submit.new.self _ _ _ _ c.note_spoils.ensures.noted) c.note_spoils.ensures.capacity
-          (record { same = held.2 ∙ sym held.1; entry_room = held.3 ∙ ap room_of (sym held.1); receipt_room = held.4 ∙ ap room_of (sym held.1); seat = omega (arith, held.0, c.requires.seat) }) refl held.1
+          (record { same = held.2 ∙ sym held.1; entry_room = held.3 ∙ kept_room c.args.request ∙ ap room_of (sym held.1); receipt_room = held.4 ∙ kept_room c.args.request ∙ ap room_of (sym held.1); seat = omega (arith, held.0, c.requires.seat) }) refl held.1
           (omega (arith, ltb-false 65_536 _ (sym c.is_full.ensures ∙ c.if-is_full.false), c.len.ensures, c.len-2.ensures, kept_same _ _ _ _ c.as_slice.ensures.value c.as_slice-2.ensures.value));
-      bounded = submitted_bounds _ _ c.self.inside.loud _ _ _ _ c.in-Ok-submit.number c.args.request c.note_spoils.ensures.noted.which _ _ _ c.self.invariant.bounded ok.given ok.next
+      bounded = submitted_bounds _ _ c.self.inside.loud _ _ _ _ c.in-Ok-submit.number (kept c.args.request) c.note_spoils.ensures.noted.which _ _ _ c.self.invariant.bounded ok.given ok.next
           (long_kept g.B.Block.contents g.B.Block.layers g.B.Block.size g.met.B.Block.whole c.self.inside.volume c.submit.new.self (ap g.B.Block.size ok.origin)) ok.flown (admitted_asked g.B.Block.contents g.B.Block.layers g.B.Block.size g.met.B.Block.whole c.args.request c.self.inside.volume c.in-Ok-submit.ensures.admitted c.requires.bytes) c.note_spoils.ensures.noted.entries_are;
     })
 

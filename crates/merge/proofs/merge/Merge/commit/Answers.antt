@@ -3,7 +3,7 @@ use Rattle.std.specs.Prelude.{Some, None}
 use Rattle.chunk.specs.Sizes.{is_chunk}
 use Rattle.model.specs.Pairs.{pairs_of}
 use Rattle.store.specs.Loading.{is_begun}
-use Rattle.store.specs.Held.{committed, pairs_pending}
+use Rattle.store.specs.Held.{committed}
 use Rattle.store.specs.declared.state.State.{State}
 use Rattle.merge.specs.Due.{can_commit_of}
 use Rattle.merge.specs.Lists.{changed, committed_in, copied_count}
@@ -11,7 +11,6 @@ use Rattle.merge.specs.Merging.{Merging}
 use Rattle.merge.proofs.Groups.{group_small}
 use Rattle.merge.proofs.Stages.{ready_group, falls, present_committed}
 use Rattle.merge.proofs.Changes.{merging, same_merging, clears, CommitStep}
-use Rattle.merge.proofs.Stops.{commit_stops}
 use Rattle.merge.proofs.merge.Merge.commit.Goals as goal
 
 pub overflow_sub-last : goal.overflow_sub-last
@@ -95,16 +94,8 @@ returns-in-Ok-clause-step g c =
     (clears g.B.Block.contents loud v t.device t.state t.places.next c.self.invariant.present c.self.invariant.alone due filled current chunk origin size c.merge_commit.ensures.only
     (λ l. ap (λ k. pairs_of k (g.B.Block.contents t.device)) (sym chunk) ∙ (t.stored (c.merge_commit.ensures.loud ∙ louder l)).listed (ap is_begun ready) ∙ pairs)))
 
-pub returns-in-Ok-clause-stops : goal.returns-in-Ok-clause-stops
-returns-in-Ok-clause-stops g c =
-    let s = c.self.inside.store in
-    let due : can_commit_of c.self.inside.group ≡ true = ap (λ (m : Merging g.row.B.Denot). can_commit_of m.group) c.self.view_is ∙ c.requires.due in
-    rw (← c.self.view_is) (λ loud. commit_stops (committed s.exceptions) (pairs_pending s.exceptions) s.state s.area.bytes.items (g.B.Block.contents s.device) s.places.next c.self.inside.group s.front s.given c.self.invariant.ready (g.met.B.Block.whole s.device ∙ ap (λ n. 512 * n) (sym s.size)) c.self.invariant.present (s.stored loud)
-    c.in-Some.group.copied (g.B.Block.contents c.merge_commit.new.self.device) due (ap copied_count c.in-Some.is) c.merge_commit.ensures.only (c.merge_commit.ensures.stops c.self.invariant.valid loud))
+pub returns-in-Ok-clause-adds : goal.returns-in-Ok-clause-adds
+returns-in-Ok-clause-adds g c = rw (← c.self.view_is) c.merge_commit.ensures.adds
 
-pub returns-in-Err-clause-stops : goal.returns-in-Err-clause-stops
-returns-in-Err-clause-stops g c =
-    let s = c.self.inside.store in
-    let due : can_commit_of c.self.inside.group ≡ true = ap (λ (m : Merging g.row.B.Denot). can_commit_of m.group) c.self.view_is ∙ c.requires.due in
-    rw (← c.self.view_is) (λ loud. commit_stops (committed s.exceptions) (pairs_pending s.exceptions) s.state s.area.bytes.items (g.B.Block.contents s.device) s.places.next c.self.inside.group s.front s.given c.self.invariant.ready (g.met.B.Block.whole s.device ∙ ap (λ n. 512 * n) (sym s.size)) c.self.invariant.present (s.stored loud)
-    c.in-Some.group.copied (g.B.Block.contents c.merge_commit.new.self.device) due (ap copied_count c.in-Some.is) c.merge_commit.ensures.only (c.merge_commit.ensures.stops c.self.invariant.valid loud))
+pub returns-in-Err-clause-adds : goal.returns-in-Err-clause-adds
+returns-in-Err-clause-adds g c = rw (← c.self.view_is) c.merge_commit.ensures.adds

@@ -18,3 +18,6 @@ returns-clause-step g c =
     rw (← c.self.view_is) (λ loud.
     subst (λ (x : Merging g.row.B.Denot). ReadsArea (due_of g.B.Block.contents loud v) (due_of g.B.Block.contents loud x)) (sym fields)
     (reads_area g.B.Block.contents loud v t.device t.state due c.merge_area_read.ensures.same c.in-Ok.ensures.state))
+
+pub returns-clause-adds : goal.returns-clause-adds
+returns-clause-adds g c = rw (← c.self.view_is) c.merge_area_read.ensures.adds

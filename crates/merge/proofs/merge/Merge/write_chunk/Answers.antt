@@ -3,14 +3,13 @@ use Rattle.std.specs.Prelude.{Some}
 use Rattle.sector.specs.Bytes.{with_sectors}
 use Rattle.sector.specs.declared.pair.Pair.{Pair}
 use Rattle.pending.specs.Copies.{count_of}
-use Rattle.store.specs.Held.{committed, pairs_pending}
+use Rattle.store.specs.Held.{committed}
 use Rattle.merge.specs.Due.{full_of}
 use Rattle.merge.specs.Lists.{changed, written_in}
 use Rattle.merge.specs.Merging.{Merging}
 use Rattle.volume_laws.specs.Steps.{WritesDisk}
 use Rattle.merge.proofs.Stages.{full_inside, full_room, present_written, wrote_back}
 use Rattle.merge.proofs.Changes.{merging, same_merging, writes, WriteStep}
-use Rattle.merge.proofs.Stops.{write_stops}
 use Rattle.merge.proofs.merge.Merge.write_chunk.Goals as goal
 
 pub put_back-requires-clause-begins : goal.put_back-requires-clause-begins
@@ -67,29 +66,3 @@ returns-in-Ok-clause-step g c =
     (λ l. wrote_back o o' m.buffer.items s.state.chunk s.state.origin q.old (g.met.B.Block.whole c.args.origin.now ∙ ap (λ k. 512 * k) size) h.old c.self.invariant.room
     (c.in-Ok.ensures.written (louder l) ∙ ap (λ k. with_sectors o (s.state.chunk * q.old) (take (512 * count_of s.state.chunk k q.old) c.as_slice.result.now)) size
     ∙ ap (λ x. with_sectors o (s.state.chunk * q.old) (take (512 * n) x)) c.as_slice.ensures.value))))))
-
-pub returns-in-Ok-clause-stops : goal.returns-in-Ok-clause-stops
-returns-in-Ok-clause-stops g c =
-    let s = c.self.inside.store in
-    let q = c.in-Some.pair in
-    let o = g.B.Block.contents c.args.origin.now in
-    let o' = g.B.Block.contents c.put_back.new.origin in
-    let is : full_of c.self.inside.group ≡ Some q = ap (λ (m : Merging g.row.B.Denot). full_of m.group) c.self.view_is ∙ sym c.full.ensures ∙ c.in-Some.is in
-    let size : g.B.Block.size c.args.origin.now ≡ s.state.origin = c.requires.sectors ∙ sym (ap (λ (m : Merging g.row.B.Denot). m.state.origin) c.self.view_is) in
-    let disk : WritesDisk (s.state.chunk * q.old) (count_of s.state.chunk s.state.origin q.old) o o' = subst (λ (k : ℕ). WritesDisk (s.state.chunk * q.old) (count_of s.state.chunk k q.old) o o') size c.put_back.ensures.disk in
-    let fits = g.met.B.Block.whole c.args.origin.now ∙ ap (λ k. 512 * k) size in
-    rw (← c.self.view_is) (λ loud. write_stops (committed s.exceptions) (pairs_pending s.exceptions) s.state s.area.bytes.items (g.B.Block.contents s.device) s.places.next c.self.inside.group s.front s.given c.self.invariant.ready (g.met.B.Block.whole s.device ∙ ap (λ n. 512 * n) (sym s.size)) c.self.invariant.present (s.stored loud)
-    q o o' is c.self.invariant.valid fits (disk.len ∙ fits) disk)
-
-pub returns-in-Err-clause-stops : goal.returns-in-Err-clause-stops
-returns-in-Err-clause-stops g c =
-    let s = c.self.inside.store in
-    let q = c.in-Some.pair in
-    let o = g.B.Block.contents c.args.origin.now in
-    let o' = g.B.Block.contents c.put_back.new.origin in
-    let is : full_of c.self.inside.group ≡ Some q = ap (λ (m : Merging g.row.B.Denot). full_of m.group) c.self.view_is ∙ sym c.full.ensures ∙ c.in-Some.is in
-    let size : g.B.Block.size c.args.origin.now ≡ s.state.origin = c.requires.sectors ∙ sym (ap (λ (m : Merging g.row.B.Denot). m.state.origin) c.self.view_is) in
-    let disk : WritesDisk (s.state.chunk * q.old) (count_of s.state.chunk s.state.origin q.old) o o' = subst (λ (k : ℕ). WritesDisk (s.state.chunk * q.old) (count_of s.state.chunk k q.old) o o') size c.put_back.ensures.disk in
-    let fits = g.met.B.Block.whole c.args.origin.now ∙ ap (λ k. 512 * k) size in
-    rw (← c.self.view_is) (λ loud. write_stops (committed s.exceptions) (pairs_pending s.exceptions) s.state s.area.bytes.items (g.B.Block.contents s.device) s.places.next c.self.inside.group s.front s.given c.self.invariant.ready (g.met.B.Block.whole s.device ∙ ap (λ n. 512 * n) (sym s.size)) c.self.invariant.present (s.stored loud)
-    q o o' is c.self.invariant.valid fits (disk.len ∙ fits) disk)

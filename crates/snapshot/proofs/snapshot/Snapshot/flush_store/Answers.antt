@@ -1,5 +1,5 @@
 -- What was written counts as written, and what was committed may be published.
-use Rattle.std.proofs.Common.{◌≡◌, ◌*◌, ◌∙◌, ap, arith, length, map, sym, true}
+use Rattle.std.proofs.Common.{◌≡◌, ◌∙◌, ap, arith, length, map, sym, true}
 use Rattle.std.proofs.lemmas.List.{length-map}
 use Rattle.pending.specs.Flushed.{flushed_copy, safe_mark}
 use Rattle.store.specs.Held.{committed, pairs_pending, reserved}
@@ -7,7 +7,6 @@ use Rattle.store.specs.declared.state.State.{State}
 use Rattle.snapshot.proofs.Copies.{copies_flushed, like_firm, like_same}
 use Rattle.snapshot.proofs.Spared.{spared_flushed, spared_like}
 use Rattle.snapshot.proofs.Steps.{step_like}
-use Rattle.snapshot.proofs.Stops.{still_same, valid_live}
 use Rattle.snapshot.proofs.snapshot.Snapshot.flush_store.Goals as goal
 
 pub invariant_of-self : goal.invariant_of-self
@@ -21,7 +20,7 @@ invariant_of-self g c =
     let more : length c.flush_lists.new.marks.items ≡ length marks = ap length c.flush_lists.ensures.marks ∙ length-map marks safe_mark in
     let has = c.self.invariant.1 in (
       rw c.flush_lists.ensures.copies
-          (copies_flushed _ _ _ _ s.state t.state _ _ copies _ _ alive c.self.invariant.0 c.in-Ok.ensures.state (ap pairs_pending c.flush.ensures.exceptions)),
+          (copies_flushed _ _ _ _ s.state t.state _ _ _ copies _ _ alive c.self.invariant.0 c.in-Ok.ensures.state (ap pairs_pending c.flush.ensures.exceptions)),
       record {
         for_pairs = has.for_pairs ∙ sym (ap reserved c.flush.ensures.exceptions);
         counted = has.counted;
@@ -33,27 +32,11 @@ invariant_of-self g c =
           (spared_flushed s.state.chunk c.self.inside.spare c.self.inside.merging copies c.self.invariant.2)),
     )
 
-pub returns-in-Ok-clause-stops : goal.returns-in-Ok-clause-stops
-returns-in-Ok-clause-stops g c =
-    let s = c.self.inside.store in
-    let alive : c.self.inside.live ≡ true = ap (λ v. v.live) c.self.view_is ∙ c.requires.live in
-    let valid = valid_live c.self.inside.live c.self.inside.marked s.state.valid c.self.invariant.0.dead c.self.invariant.0.valid alive in
-    rw (← c.self.view_is) (λ loud. still_same (committed s.exceptions) (pairs_pending s.exceptions) s.state s.area.bytes.items (g.B.Block.contents s.device) (g.B.Block.contents c.flush.new.self.device) s.places.next s.front s.given c.self.invariant.0.ready
-    (g.met.B.Block.whole s.device ∙ ap (λ n. 512 * n) (sym s.size)) (s.stored loud) valid c.flush.ensures.same)
-
-pub returns-in-Err-clause-stops : goal.returns-in-Err-clause-stops
-returns-in-Err-clause-stops g c =
-    let s = c.self.inside.store in
-    let alive : c.self.inside.live ≡ true = ap (λ v. v.live) c.self.view_is ∙ c.requires.live in
-    let valid = valid_live c.self.inside.live c.self.inside.marked s.state.valid c.self.invariant.0.dead c.self.invariant.0.valid alive in
-    rw (← c.self.view_is) (λ loud. still_same (committed s.exceptions) (pairs_pending s.exceptions) s.state s.area.bytes.items (g.B.Block.contents s.device) (g.B.Block.contents c.flush.new.self.device) s.places.next s.front s.given c.self.invariant.0.ready
-    (g.met.B.Block.whole s.device ∙ ap (λ n. 512 * n) (sym s.size)) (s.stored loud) valid c.flush.ensures.same)
-
 pub returns-in-Ok-clause-in_step : goal.returns-in-Ok-clause-in_step
 returns-in-Ok-clause-in_step g c =
     let s = c.self.inside.store in
     let t = c.flush.new.self in
-    step_like g.B.Block.contents g.B.Block.layers g.B.Block.size _ s.state t.area.bytes.items _ _ _ c.self.invariant.0 (like_firm s.state t.state c.in-Ok.ensures.state) t.size t.given t.stored
+    step_like g.B.Block.contents g.B.Block.layers g.B.Block.size _ s.state t.area.bytes.items _ _ _ c.self.invariant.0 (like_firm s.state t.state _ c.in-Ok.ensures.state) t.size t.given t.stored
 
 pub returns-in-Err-clause-in_step : goal.returns-in-Err-clause-in_step
 returns-in-Err-clause-in_step g c =

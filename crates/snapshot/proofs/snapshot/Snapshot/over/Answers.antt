@@ -24,6 +24,7 @@ returns-clause-new g c = λ origin fits.
       strict = ap did_overflow c.overflowing.ensures ∙ new_strict c.args.overflow;
       tried = refl;
       begun = begun;
+      sure = c.requires.sure;
       copies = c.new.ensures.items;
       marks = c.new-2.ensures.items;
       fits = fits;

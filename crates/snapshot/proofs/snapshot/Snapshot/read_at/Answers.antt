@@ -1,10 +1,9 @@
-use Rattle.std.proofs.Common.{◌*◌, ap, ◌∙◌, sym}
+use Rattle.std.proofs.Common.{ap, ◌∙◌}
 use Rattle.model.specs.Picture.{place_of}
 use Rattle.store.specs.Held.{committed, pairs_pending}
 use Rattle.snapshot.proofs.Stores.{placed_inside}
 use Rattle.snapshot.proofs.Copies.{like_same}
 use Rattle.snapshot.proofs.Steps.{step_like}
-use Rattle.snapshot.proofs.Stops.{still_same, valid_live}
 use Rattle.snapshot.proofs.snapshot.Snapshot.read_at.Goals as goal
 
 pub read_chunk-requires-clause-inside : goal.read_chunk-requires-clause-inside
@@ -19,9 +18,3 @@ returns-clause-in_step g c =
     let s = c.self.inside.store in
     let t = c.read_chunk.new.self in
     step_like g.B.Block.contents g.B.Block.layers g.B.Block.size _ s.state t.area.bytes.items _ _ _ c.self.invariant.0 (like_same s.state t.state c.read_chunk.ensures.state) t.size t.given t.stored
-
-pub returns-clause-stops : goal.returns-clause-stops
-returns-clause-stops g c =
-    let s = c.self.inside.store in
-    rw (← c.self.view_is) (λ alive loud. still_same (committed s.exceptions) (pairs_pending s.exceptions) s.state s.area.bytes.items (g.B.Block.contents s.device) (g.B.Block.contents c.read_chunk.new.self.device) s.places.next s.front s.given c.self.invariant.0.ready (g.met.B.Block.whole s.device ∙ ap (λ n. 512 * n) (sym s.size)) (s.stored loud)
-    (valid_live c.self.inside.live c.self.inside.marked s.state.valid c.self.invariant.0.dead c.self.invariant.0.valid alive) c.read_chunk.ensures.same)

@@ -9,12 +9,11 @@ use Rattle.store.specs.Held.{committed, pending, pairs_pending}
 use Rattle.store.specs.Slots.{pairs_bytes, slot_start}
 use Rattle.std.specs.Option.{is_some}
 use Rattle.snapshot.specs.Kept.{Kept}
-use Rattle.snapshot.proofs.Copies.{ahead_commit, copies_drop, like_commit, like_same}
+use Rattle.snapshot.proofs.Copies.{ahead_commit, copies_drop, like_commit, like_same, sure_commit}
 use Rattle.snapshot.proofs.Stores.{listed_now, pairs_dropped}
 use Rattle.snapshot.proofs.Events.{commit_fields, commits_at, marked_count}
 use Rattle.snapshot.proofs.Spared.{copies_slots, marks_slots, spared_like}
 use Rattle.snapshot.proofs.Steps.{step_like}
-use Rattle.snapshot.proofs.Stops.{commit_stops, valid_live}
 use Rattle.snapshot.proofs.snapshot.Snapshot.write_area.Goals as goal
 
 pub invariant_of-self : goal.invariant_of-self
@@ -74,7 +73,7 @@ returns-in-Ok-clause-commits g c =
     rw (← c.self.view_is)
     (commits_at g.B.Block.contents g.B.Block.layers c.args.count v w t.device t.state
     (rw c.write_area.ensures.places (commit_fields c.args.count t.device t.state t.state v (pending s.exceptions) _ _ _ _ _ refl refl e.committed (pairs_dropped c.args.count (pending s.exceptions) (pending t.exceptions) e.pending) c.mark_first.ensures.copies c.mark_first.ensures.marks c.mark_first.ensures.spare))
-    like few
+    like (sure_commit s.state t.state c.args.count e.state) few
     (subst (λ (v : Kept g.row.B.Denot). All (λ p. p.stage ≡ Flushed) (take c.args.count v.copies)) (sym c.self.view_is) c.requires.ready)
     c.write_area.ensures.loud e.only
     (λ l. listed_now (g.B.Block.contents t.device) (committed t.exceptions) s.state t.state t.area.bytes.items (t.stored (c.write_area.ensures.loud ∙ l)) (like.left ∙ c.self.invariant.0.ready) like.chunk))
@@ -91,16 +90,8 @@ returns-in-Err-clause-in_step g c =
     let t = c.write_area.new.self in
     step_like g.B.Block.contents g.B.Block.layers g.B.Block.size _ s.state t.area.bytes.items _ _ _ c.self.invariant.0 (like_same s.state t.state c.in-Err.ensures.kept.0) t.size t.given t.stored
 
-pub returns-in-Ok-clause-stops : goal.returns-in-Ok-clause-stops
-returns-in-Ok-clause-stops g c =
-    let s = c.self.inside.store in
-    let valid = valid_live c.self.inside.live c.self.inside.marked s.state.valid c.self.invariant.0.dead c.self.invariant.0.valid (ap (λ v. v.live) c.self.view_is ∙ c.requires.live) in
-    rw (← c.self.view_is) (λ loud. commit_stops (committed s.exceptions) (pairs_pending s.exceptions) s.state s.area.bytes.items (g.B.Block.contents s.device) (g.B.Block.contents c.write_area.new.self.device) s.places.next s.front s.given c.self.invariant.0.ready (g.met.B.Block.whole s.device ∙ ap (λ n. 512 * n) (sym s.size)) (s.stored loud)
-    c.args.count (pending s.exceptions) refl c.write_area.ensures.only (c.write_area.ensures.stops valid loud))
+pub returns-in-Ok-clause-adds : goal.returns-in-Ok-clause-adds
+returns-in-Ok-clause-adds g c = rw (← c.self.view_is) c.write_area.ensures.adds
 
-pub returns-in-Err-clause-stops : goal.returns-in-Err-clause-stops
-returns-in-Err-clause-stops g c =
-    let s = c.self.inside.store in
-    let valid = valid_live c.self.inside.live c.self.inside.marked s.state.valid c.self.invariant.0.dead c.self.invariant.0.valid (ap (λ v. v.live) c.self.view_is ∙ c.requires.live) in
-    rw (← c.self.view_is) (λ loud. commit_stops (committed s.exceptions) (pairs_pending s.exceptions) s.state s.area.bytes.items (g.B.Block.contents s.device) (g.B.Block.contents c.write_area.new.self.device) s.places.next s.front s.given c.self.invariant.0.ready (g.met.B.Block.whole s.device ∙ ap (λ n. 512 * n) (sym s.size)) (s.stored loud)
-    c.args.count (pending s.exceptions) refl c.write_area.ensures.only (c.write_area.ensures.stops valid loud))
+pub returns-in-Err-clause-adds : goal.returns-in-Err-clause-adds
+returns-in-Err-clause-adds g c = rw (← c.self.view_is) c.write_area.ensures.adds

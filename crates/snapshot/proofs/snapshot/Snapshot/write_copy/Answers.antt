@@ -8,7 +8,6 @@ use Rattle.snapshot.proofs.Copies.{copy_inside, copy_set, state_same, like_same}
 use Rattle.snapshot.proofs.Events.{writes_at}
 use Rattle.snapshot.proofs.Spared.{spared_like, spared_set}
 use Rattle.snapshot.proofs.Steps.{step_like}
-use Rattle.snapshot.proofs.Stops.{copy_stops, valid_live}
 use Rattle.snapshot.proofs.snapshot.Snapshot.write_copy.Goals as goal
 
 pub sectors_of-count-requires : goal.sectors_of-count-requires
@@ -93,19 +92,3 @@ returns-in-Err-clause-in_step g c =
     let s = c.self.inside.store in
     let t = c.write_chunk.new.self in
     step_like g.B.Block.contents g.B.Block.layers g.B.Block.size _ s.state t.area.bytes.items _ _ _ c.self.invariant.0 (like_same s.state t.state c.write_chunk.ensures.state) t.size t.given t.stored
-
-pub returns-in-Ok-clause-stops : goal.returns-in-Ok-clause-stops
-returns-in-Ok-clause-stops g c =
-    let s = c.self.inside.store in
-    let valid = valid_live c.self.inside.live c.self.inside.marked s.state.valid c.self.invariant.0.dead c.self.invariant.0.valid (ap (λ v. v.live) c.self.view_is ∙ c.requires.live) in
-    let within : c.args.index < length c.self.inside.copies.items = omega (arith, ap (λ v. length v.copies) c.self.view_is) in
-    rw (← c.self.view_is) (λ loud. copy_stops (committed s.exceptions) (pairs_pending s.exceptions) s.state s.area.bytes.items (g.B.Block.contents s.device) (g.B.Block.contents c.write_chunk.new.self.device) s.places.next s.front s.given c.self.invariant.0.ready (g.met.B.Block.whole s.device ∙ ap (λ n. 512 * n) (sym s.size)) (s.stored loud)
-    c.self.inside.copies.items c.args.index c.index-copy.result.now c.self.invariant.0.agree within c.index-copy.ensures c.write_chunk.ensures.only (c.write_chunk.ensures.stops c.self.invariant.0.ready valid loud))
-
-pub returns-in-Err-clause-stops : goal.returns-in-Err-clause-stops
-returns-in-Err-clause-stops g c =
-    let s = c.self.inside.store in
-    let valid = valid_live c.self.inside.live c.self.inside.marked s.state.valid c.self.invariant.0.dead c.self.invariant.0.valid (ap (λ v. v.live) c.self.view_is ∙ c.requires.live) in
-    let within : c.args.index < length c.self.inside.copies.items = omega (arith, ap (λ v. length v.copies) c.self.view_is) in
-    rw (← c.self.view_is) (λ loud. copy_stops (committed s.exceptions) (pairs_pending s.exceptions) s.state s.area.bytes.items (g.B.Block.contents s.device) (g.B.Block.contents c.write_chunk.new.self.device) s.places.next s.front s.given c.self.invariant.0.ready (g.met.B.Block.whole s.device ∙ ap (λ n. 512 * n) (sym s.size)) (s.stored loud)
-    c.self.inside.copies.items c.args.index c.index-copy.result.now c.self.invariant.0.agree within c.index-copy.ensures c.write_chunk.ensures.only (c.write_chunk.ensures.stops c.self.invariant.0.ready valid loud))

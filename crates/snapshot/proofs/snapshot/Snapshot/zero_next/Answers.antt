@@ -1,16 +1,10 @@
-use Rattle.std.proofs.Common.{◌≡◌, ◌+◌, ◌*◌, ◌<◌, length, arith, ap, ◌∙◌, sym, true}
-use Rattle.model.specs.Pairs.{IsInside}
-use Rattle.model.specs.Places.{area_place}
-use Rattle.model.proofs.Views.{place_unnamed}
-use Rattle.store.specs.Held.{committed, pairs_pending, reserved}
-use Rattle.volume_laws.proofs.Lists.{All-front}
+use Rattle.std.proofs.Common.{◌≡◌, ◌+◌, ◌*◌, ◌<◌, length, arith, ap, ◌∙◌}
+use Rattle.store.specs.Held.{pairs_pending, reserved}
 use Rattle.snapshot.specs.Held.{IsSnapshot}
 use Rattle.snapshot.specs.Kept.{batch_of, needs_area}
 use Rattle.snapshot.proofs.Copies.{ahead_zeroed, like_same, like_zeroed, needs_is, state_kept, state_same}
 use Rattle.snapshot.proofs.Spared.{spared_like}
 use Rattle.snapshot.proofs.Steps.{step_like}
-use Rattle.store.proofs.Shown.{same_shown}
-use Rattle.snapshot.proofs.Stops.{valid_live}
 use Rattle.snapshot.proofs.snapshot.Snapshot.zero_next.Goals as goal
 use Rattle.snapshot.proofs.snapshot.Snapshot.zero_next.Goals.{in-Ok, in-Err}
 
@@ -35,12 +29,5 @@ returns-clause-in_step g c =
     let t = c.zero_next.new.self in
     step_like g.B.Block.contents g.B.Block.layers g.B.Block.size _ s.state t.area.bytes.items _ _ _ c.self.invariant.0 (elim c.match-zero_next.branch [ in-Ok w ↦ like_zeroed s.state t.state w.in-Ok.ensures.zeroed | in-Err w ↦ like_same s.state t.state w.in-Err.ensures.kept ]) t.size t.given t.stored
 
-pub returns-clause-stops : goal.returns-clause-stops
-returns-clause-stops g c =
-    let s = c.self.inside.store in
-    let ps = committed s.exceptions in
-    let inside = All-front (IsInside s.state.chunk s.state.origin s.state.size) ps (pairs_pending s.exceptions) s.given.inside in
-    let alive : c.self.inside.live ≡ true = ap (λ v. v.live) c.self.view_is ∙ c.requires.live in
-    let valid = valid_live c.self.inside.live c.self.inside.marked s.state.valid c.self.invariant.0.dead c.self.invariant.0.valid alive in
-    rw (← c.self.view_is) (λ loud. same_shown ps s.state s.area.bytes.items (g.B.Block.contents s.device) (g.B.Block.contents c.zero_next.new.self.device) s.front (s.stored loud) c.self.invariant.0.ready (g.met.B.Block.whole s.device ∙ ap (λ n. 512 * n) (sym s.size))
-    (area_place s.state.chunk (s.state.current + 1)) c.zero_next.ensures.only (place_unnamed s.state.chunk s.state.origin s.state.size (s.state.current + 1) ps s.front.some inside) (c.zero_next.ensures.stops valid loud))
+pub returns-clause-adds : goal.returns-clause-adds
+returns-clause-adds g c = rw (← c.self.view_is) c.zero_next.ensures.adds

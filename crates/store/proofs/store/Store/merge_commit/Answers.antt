@@ -11,7 +11,6 @@ use Rattle.store.specs.Loading.{is_settled}
 use Rattle.store.specs.Stored.{AreGiven}
 use Rattle.store.proofs.Given.{front_room}
 use Rattle.store.proofs.Merges.{IsCut, front_less, stored_less, given_less, cut-written}
-use Rattle.store.proofs.Stops.{cut_stops, kept_stops}
 use Rattle.store.proofs.store.Store.merge_commit.Goals as goal
 
 pub invariant_of-self-clause-front : goal.invariant_of-self-clause-front
@@ -26,7 +25,7 @@ invariant_of-self-clause-front g c =
       others = c.clear.ensures.others;
       cleared = c.clear.ensures.cleared;
     }) in
-    rw (c.remove_last.ensures.committed, c.swap.ensures.x_after) (front_less c.args.count ps s.state s.area.bytes.items x s.front cut c.requires.some c.requires.fits c.requires.ready)
+    rw (c.remove_last.ensures.committed, c.swap.ensures.x_after) (front_less c.args.count c.len.result ps s.state s.area.bytes.items x s.front cut c.requires.some c.requires.fits c.requires.ready)
 
 pub invariant_of-self-clause-given : goal.invariant_of-self-clause-given
 invariant_of-self-clause-given g c =
@@ -43,7 +42,7 @@ invariant_of-self-clause-given g c =
     let some = c.requires.some in
     let fits = s.front.fits in
     let few = c.requires.fits in
-    let room = front_room (take (length ps - c.args.count) ps) (record s.state { filled = s.state.filled - c.args.count; copying = false }) x (front_less c.args.count ps s.state s.area.bytes.items x s.front cut c.requires.some c.requires.fits c.requires.ready) (omega arith) in
+    let room = front_room (take (length ps - c.args.count) ps) (record s.state { filled = s.state.filled - c.args.count; sure = length (committed c.remove_last.new.exceptions); copying = false }) x (front_less c.args.count (length (committed c.remove_last.new.exceptions)) ps s.state s.area.bytes.items x s.front cut c.requires.some c.requires.fits c.requires.ready) (omega arith) in
     let less = given_less s.state.chunk s.state.origin s.state.size s.places.next c.after_merge.new.self.next (length ps - c.args.count) s.state.copying ps (pairs_pending s.exceptions) s.given (length-map (pending s.exceptions) pair_of ∙ c.requires.idle) (omega arith) room in
     subst (λ (P : List Begun). AreGiven s.state.chunk s.state.origin s.state.size c.after_merge.new.self.next false (committed c.remove_last.new.exceptions) (pairs P)) (sym c.remove_last.ensures.pending)
     (subst (λ (C : List Pair). AreGiven s.state.chunk s.state.origin s.state.size c.after_merge.new.self.next false C (pairs_pending s.exceptions)) (sym c.remove_last.ensures.committed) less)
@@ -63,7 +62,7 @@ invariant_of-self-clause-stored g c = λ loud.
     let l : IsTrue (is_loud (g.B.Block.layers s.device)) = sym c.in-Ok.ensures.loud ∙ loud in
     let whole : length (g.B.Block.contents s.device) ≡ 512 * s.state.size = g.met.B.Block.whole s.device ∙ ap (λ n. 512 * n) (sym s.size) in
     let written = c.in-Ok.ensures.written l ∙ ap (λ y. with_sectors (g.B.Block.contents s.device) (s.state.chunk * area_place s.state.chunk s.state.current) y) c.encode.ensures in
-    rw (c.remove_last.ensures.committed, c.swap.ensures.x_after) (stored_less c.args.count ps s.state s.area.bytes.items x (g.B.Block.contents s.device) _ s.front (s.stored l) cut c.requires.some c.requires.fits c.requires.ready whole written)
+    rw (c.remove_last.ensures.committed, c.swap.ensures.x_after) (stored_less c.args.count c.len.result ps s.state s.area.bytes.items x (g.B.Block.contents s.device) _ s.front (s.stored l) cut c.requires.some c.requires.fits c.requires.ready whole written)
 
 pub returns-in-Ok-clause-written : goal.returns-in-Ok-clause-written
 returns-in-Ok-clause-written g c = λ loud.
@@ -83,26 +82,3 @@ returns-in-Ok-clause-written g c = λ loud.
     let fits = s.front.fits in
     let few = c.requires.fits in
     written ∙ cut-written s.state.size s.state.chunk (area_place s.state.chunk s.state.current) (s.state.filled - c.args.count) c.args.count s.area.bytes.items x (g.B.Block.contents s.device) cut ((s.stored l).here (ap is_settled c.requires.ready)) whole s.front.place (omega arith)
-
-pub returns-in-Ok-clause-stops : goal.returns-in-Ok-clause-stops
-returns-in-Ok-clause-stops g c = λ valid loud.
-    let s = c.args.self.now in
-    let x = c.clear.new.self.bytes.items in
-    let copy = c.copy_area.new.area in
-    let cut : IsCut s.area.bytes.items (s.state.filled - c.args.count) c.args.count x = subst (λ (a : List ℕ). IsCut a (s.state.filled - c.args.count) c.args.count x) c.copy_area.ensures.bytes (record {
-      all = c.clear.ensures.bytes;
-      len = c.clear.new.self.whole ∙ ap (λ n. 512 * n) c.clear.ensures.chunk ∙ sym copy.whole;
-      others = c.clear.ensures.others;
-      cleared = c.clear.ensures.cleared;
-    }) in
-    let l : IsTrue (is_loud (g.B.Block.layers s.device)) = loud in
-    let whole : length (g.B.Block.contents s.device) ≡ 512 * s.state.size = g.met.B.Block.whole s.device ∙ ap (λ n. 512 * n) (sym s.size) in
-    let written = c.in-Ok.ensures.written l ∙ ap (λ y. with_sectors (g.B.Block.contents s.device) (s.state.chunk * area_place s.state.chunk s.state.current) y) c.encode.ensures in
-    cut_stops c.args.count s.places.next (committed s.exceptions) (pairs_pending s.exceptions) s.state s.area.bytes.items x (g.B.Block.contents s.device) _ s.front (s.stored l) s.given cut c.requires.some c.requires.fits c.requires.ready valid whole written c.in-Ok.ensures.only
-
-pub returns-in-Err-clause-stops : goal.returns-in-Err-clause-stops
-returns-in-Err-clause-stops g c = λ valid loud.
-    let s = c.args.self.now in
-    let l : IsTrue (is_loud (g.B.Block.layers s.device)) = loud in
-    let whole : length (g.B.Block.contents s.device) ≡ 512 * s.state.size = g.met.B.Block.whole s.device ∙ ap (λ n. 512 * n) (sym s.size) in
-    kept_stops c.args.count s.places.next (committed s.exceptions) (pairs_pending s.exceptions) s.state s.area.bytes.items (g.B.Block.contents s.device) _ s.front (s.stored l) s.given c.requires.ready valid whole c.in-Err.ensures.err

@@ -4,7 +4,7 @@ use Rattle.sector.specs.declared.pair.Pair.{Pair}
 use Rattle.device.specs.Layers.{is_loud}
 use Rattle.model.specs.Places.{area_place}
 use Rattle.exception_arena.specs.Pending.{pairs}
-use Rattle.store.specs.Held.{committed, pending, pairs_pending}
+use Rattle.store.specs.Held.{committed, pending}
 use Rattle.store.specs.Slots.{IsPut}
 use Rattle.store.specs.Loading.{is_settled}
 use Rattle.store.proofs.Areas.{all_zero}
@@ -12,7 +12,6 @@ use Rattle.store.proofs.Commits.{front_more, stored_more, front_full, stored_ful
 use Rattle.store.proofs.Given.{given_moved, front_room}
 use Rattle.store.proofs.Parts.{put-written}
 use Rattle.store.proofs.Pending.{length-first, first_valid, first_moved}
-use Rattle.store.proofs.Stops.{commit_stops, still_stops}
 use Rattle.store.proofs.store.Store.write_area.Goals as goal
 
 pub invariant_of-self-clause-front : goal.invariant_of-self-clause-front
@@ -124,34 +123,3 @@ returns-else-self-clause-written g c = λ loud.
     let fits = c.requires.fits in
     c.in-Ok.ensures.written l ∙ ap (λ y. with_sectors (g.B.Block.contents s.device) (s.state.chunk * area_place s.state.chunk s.state.current) y) c.encode.ensures
     ∙ put-written s.state.size s.state.chunk (area_place s.state.chunk s.state.current) s.state.filled qs s.area.bytes.items x (g.B.Block.contents s.device) put ((s.stored l).here (ap is_settled c.requires.ready)) whole s.front.place (omega arith)
-
-pub returns-then-self-clause-stops : goal.returns-then-self-clause-stops
-returns-then-self-clause-stops g c = λ valid loud.
-    let s = c.args.self.now in
-    let P = pending s.exceptions in
-    let qs : List Pair = pairs (take c.args.count P) in
-    let x = c.put_first.new.area.bytes.items in
-    let put : IsPut s.area.bytes.items s.state.filled qs x = subst (λ (a : List ℕ). IsPut a s.state.filled qs x) c.copy_area.ensures.bytes c.put_first.ensures.put in
-    let l : IsTrue (is_loud (g.B.Block.layers s.device)) = loud in
-    let whole : length (g.B.Block.contents s.device) ≡ 512 * s.state.size = g.met.B.Block.whole s.device ∙ ap (λ n. 512 * n) (sym s.size) in
-    let written = c.in-Ok.ensures.written l ∙ ap (λ y. with_sectors (g.B.Block.contents s.device) (s.state.chunk * area_place s.state.chunk s.state.current) y) c.encode.ensures in
-    commit_stops c.args.count s.places.next (committed s.exceptions) P s.state s.area.bytes.items x (g.B.Block.contents s.device) _ s.front (s.stored l) s.given put c.requires.pending c.requires.ready valid c.requires.fits (λ e. s.front.firm (c.requires.next e)) whole written
-
-pub returns-else-self-clause-stops : goal.returns-else-self-clause-stops
-returns-else-self-clause-stops g c = λ valid loud.
-    let s = c.args.self.now in
-    let P = pending s.exceptions in
-    let qs : List Pair = pairs (take c.args.count P) in
-    let x = c.put_first.new.area.bytes.items in
-    let put : IsPut s.area.bytes.items s.state.filled qs x = subst (λ (a : List ℕ). IsPut a s.state.filled qs x) c.copy_area.ensures.bytes c.put_first.ensures.put in
-    let l : IsTrue (is_loud (g.B.Block.layers s.device)) = loud in
-    let whole : length (g.B.Block.contents s.device) ≡ 512 * s.state.size = g.met.B.Block.whole s.device ∙ ap (λ n. 512 * n) (sym s.size) in
-    let written = c.in-Ok.ensures.written l ∙ ap (λ y. with_sectors (g.B.Block.contents s.device) (s.state.chunk * area_place s.state.chunk s.state.current) y) c.encode.ensures in
-    commit_stops c.args.count s.places.next (committed s.exceptions) P s.state s.area.bytes.items x (g.B.Block.contents s.device) _ s.front (s.stored l) s.given put c.requires.pending c.requires.ready valid c.requires.fits (λ e. s.front.firm (c.requires.next e)) whole written
-
-pub returns-in-Err-clause-stops : goal.returns-in-Err-clause-stops
-returns-in-Err-clause-stops g c = λ valid loud.
-    let s = c.args.self.now in
-    let l : IsTrue (is_loud (g.B.Block.layers s.device)) = loud in
-    let whole : length (g.B.Block.contents s.device) ≡ 512 * s.state.size = g.met.B.Block.whole s.device ∙ ap (λ n. 512 * n) (sym s.size) in
-    still_stops s.places.next (committed s.exceptions) (pairs_pending s.exceptions) (pairs (take c.args.count (pending s.exceptions))) s.state s.area.bytes.items (g.B.Block.contents s.device) _ s.front (s.stored l) s.given c.requires.ready valid whole c.in-Err.ensures.err

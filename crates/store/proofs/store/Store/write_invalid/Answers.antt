@@ -1,12 +1,11 @@
-use Rattle.std.proofs.Common.{◌≡◌, ◌∙◌, ◌*◌, inl, [], length, ap, sym, false, IsTrue}
+use Rattle.std.proofs.Common.{◌≡◌, ◌∙◌, ◌*◌, length, ap, sym, false, IsTrue}
 use Rattle.sector.specs.Bytes.{with_sectors}
 use Rattle.device.specs.Layers.{is_loud}
 use Rattle.model.specs.Places.{area_place}
 use Rattle.cow_header.specs.HeaderText.{header_bytes}
-use Rattle.store.specs.Held.{committed, pairs_pending}
+use Rattle.store.specs.Held.{committed}
 use Rattle.store.proofs.Heads.{first_inside, head_written}
 use Rattle.store.proofs.Writes.{front_invalid, stored_invalid}
-use Rattle.store.proofs.Stops.{mark_stops, still_stops}
 use Rattle.store.proofs.store.Store.write_invalid.Goals as goal
 
 pub invariant_of-self-clause-front : goal.invariant_of-self-clause-front
@@ -23,20 +22,3 @@ invariant_of-self-clause-stored g c = λ loud.
     let says = head_written s.state.size s.state.chunk (g.B.Block.contents s.device) _ false s.front.size s.front.some (first_inside s.state.chunk (area_place s.state.chunk s.state.current) s.state.size s.front.place) whole
     (c.in-Ok.ensures.written l ∙ ap (λ n. with_sectors (g.B.Block.contents s.device) 0 (header_bytes (512 * n) false n)) s.spare_chunk) in
     stored_invalid (committed s.exceptions) s.state s.area.bytes.items (g.B.Block.contents s.device) _ s.front (s.stored l) c.requires.ready only says
-
-pub returns-in-Ok-clause-stops : goal.returns-in-Ok-clause-stops
-returns-in-Ok-clause-stops g c = λ valid loud.
-    let s = c.args.self.now in
-    let l : IsTrue (is_loud (g.B.Block.layers s.device)) = loud in
-    let whole : length (g.B.Block.contents s.device) ≡ 512 * s.state.size = g.met.B.Block.whole s.device ∙ ap (λ n. 512 * n) (sym s.size) in
-    let only = rw s.spare_chunk at c.in-Ok.ensures.only in
-    let says = head_written s.state.size s.state.chunk (g.B.Block.contents s.device) _ false s.front.size s.front.some (first_inside s.state.chunk (area_place s.state.chunk s.state.current) s.state.size s.front.place) whole
-    (c.in-Ok.ensures.written l ∙ ap (λ n. with_sectors (g.B.Block.contents s.device) 0 (header_bytes (512 * n) false n)) s.spare_chunk) in
-    mark_stops s.places.next (committed s.exceptions) (pairs_pending s.exceptions) s.state s.area.bytes.items (g.B.Block.contents s.device) _ s.front (s.stored l) s.given c.requires.ready valid whole only says
-
-pub returns-in-Err-clause-stops : goal.returns-in-Err-clause-stops
-returns-in-Err-clause-stops g c = λ valid loud torn within.
-    let s = c.args.self.now in
-    let l : IsTrue (is_loud (g.B.Block.layers s.device)) = loud in
-    let whole : length (g.B.Block.contents s.device) ≡ 512 * s.state.size = g.met.B.Block.whole s.device ∙ ap (λ n. 512 * n) (sym s.size) in
-    inl (still_stops s.places.next (committed s.exceptions) (pairs_pending s.exceptions) [] s.state s.area.bytes.items (g.B.Block.contents s.device) _ s.front (s.stored l) s.given c.requires.ready valid whole c.in-Err.ensures.same torn within)

@@ -18,7 +18,7 @@ use Rattle.volume.proofs.volume.Volume.due.Goals as goal
 pub merge_due-requires : goal.merge_due-requires
 merge_due-requires g c =
     let v : Volumed g.row.B.Denot = record { origin = c.self.inside.origin; snaps = c.self.inside.snaps.items; merge = c.self.inside.merge; flights = c.self.inside.flights.items; requests = c.self.inside.requests; copies = c.self.inside.copies; attached = c.self.inside.attached } in
-    record { begins = λ q full. full_starts g.B.Block.contents g.B.Block.layers g.B.Block.size v c.self.invariant c.in-Some-merge.merge q c.in-Some-merge.is full }
+    record { begins = λ q full. full_starts g.B.Block.contents g.B.Block.layers g.B.Block.size v c.self.invariant.whole c.in-Some-merge.merge q c.in-Some-merge.is full }
 
 pub returns-in-Some-clause-event : goal.returns-in-Some-clause-event
 returns-in-Some-clause-event g c =
@@ -34,7 +34,7 @@ returns-in-Some-clause-machine g c =
     let first : c.first_due.result ≡ due_of (dues_of g.B.Block.contents g.B.Block.layers v) v.flights =
     c.first_due.ensures ∙ ap (λ xs. due_of (map (due_of_kept g.B.Block.contents g.B.Block.layers) xs) c.deref-2.result.now) c.deref.ensures.value
     ∙ ap (due_of (map (due_of_kept g.B.Block.contents g.B.Block.layers) c.self.inside.snaps.items)) c.deref-2.ensures.value in
-    rw (← c.self.view_is) (λ replied. due_all_is g.B.Block.contents g.B.Block.layers g.B.Block.size v c.self.invariant replied ∙ next_first g.B.Block.contents g.B.Block.layers v c.in-Some.event (sym first ∙ c.in-Some.is))
+    rw (← c.self.view_is) (λ replied. due_all_is g.B.Block.contents g.B.Block.layers g.B.Block.size v c.self.invariant.whole replied ∙ next_first g.B.Block.contents g.B.Block.layers v c.in-Some.event (sym first ∙ c.in-Some.is))
 
 pub returns-in-Some-merge-clause-event : goal.returns-in-Some-merge-clause-event
 returns-in-Some-merge-clause-event g c =
@@ -62,7 +62,7 @@ returns-in-Some-merge-clause-machine g c =
     ∙ ap (λ xs. due_of_merge (map (snap_books g.B.Block.contents g.B.Block.layers) xs) c.deref-in-Some-merge-2.result.now (merging_due g.B.Block.contents true m)) c.deref-in-Some-merge.ensures.value
     ∙ ap (λ fs. due_of_merge (map (snap_books g.B.Block.contents g.B.Block.layers) v.snaps) fs (merging_due g.B.Block.contents true m)) c.deref-in-Some-merge-2.ensures.value
     ∙ sym (next_merge g.B.Block.contents g.B.Block.layers v m c.in-Some-merge.is (sym first ∙ c.in-None.is)) in
-    rw (← c.self.view_is) (λ replied. due_all_is g.B.Block.contents g.B.Block.layers g.B.Block.size v c.self.invariant replied ∙ sym here)
+    rw (← c.self.view_is) (λ replied. due_all_is g.B.Block.contents g.B.Block.layers g.B.Block.size v c.self.invariant.whole replied ∙ sym here)
 
 pub returns-in-Some-merge-clause-quiet : goal.returns-in-Some-merge-clause-quiet
 returns-in-Some-merge-clause-quiet g c =
@@ -77,7 +77,7 @@ returns-in-Some-merge-clause-quiet g c =
     ∙ ap (λ fs. due_of_merge (map (snap_books g.B.Block.contents g.B.Block.layers) v.snaps) fs (merging_due g.B.Block.contents true m)) c.deref-in-Some-merge-2.ensures.value
     ∙ sym (next_merge g.B.Block.contents g.B.Block.layers v m c.in-Some-merge.is (sym first ∙ c.in-None.is)) in
     rw (← c.self.view_is) (none_quiet c.merge_due.result _
-    (λ none. quiet_merging g.B.Block.contents g.B.Block.layers g.B.Block.size v c.self.invariant m c.in-Some-merge.is (c.has_group.ensures.looks true) (sym here ∙ none)))
+    (λ none. quiet_merging g.B.Block.contents g.B.Block.layers g.B.Block.size v c.self.invariant.whole m c.in-Some-merge.is (c.has_group.ensures.looks true) (sym here ∙ none)))
   where
     none_quiet : (found : Option Event) (A : Type 0) → (found ≡ None → A) → IfNone found A
     none_quiet None A h = h refl
@@ -97,7 +97,7 @@ returns-in-None-merge-clause-machine g c =
     let first : c.first_due.result ≡ due_of (dues_of g.B.Block.contents g.B.Block.layers v) v.flights =
     c.first_due.ensures ∙ ap (λ xs. due_of (map (due_of_kept g.B.Block.contents g.B.Block.layers) xs) c.deref-2.result.now) c.deref.ensures.value
     ∙ ap (due_of (map (due_of_kept g.B.Block.contents g.B.Block.layers) c.self.inside.snaps.items)) c.deref-2.ensures.value in
-    rw (← c.self.view_is) (λ replied. due_all_is g.B.Block.contents g.B.Block.layers g.B.Block.size v c.self.invariant replied ∙ next_none g.B.Block.contents g.B.Block.layers v c.in-None-merge.is (sym first ∙ c.in-None.is))
+    rw (← c.self.view_is) (λ replied. due_all_is g.B.Block.contents g.B.Block.layers g.B.Block.size v c.self.invariant.whole replied ∙ next_none g.B.Block.contents g.B.Block.layers v c.in-None-merge.is (sym first ∙ c.in-None.is))
 
 pub returns-in-None-merge-clause-quiet : goal.returns-in-None-merge-clause-quiet
 returns-in-None-merge-clause-quiet g c =
@@ -105,7 +105,7 @@ returns-in-None-merge-clause-quiet g c =
     let first : c.first_due.result ≡ due_of (dues_of g.B.Block.contents g.B.Block.layers v) v.flights =
     c.first_due.ensures ∙ ap (λ xs. due_of (map (due_of_kept g.B.Block.contents g.B.Block.layers) xs) c.deref-2.result.now) c.deref.ensures.value
     ∙ ap (due_of (map (due_of_kept g.B.Block.contents g.B.Block.layers) c.self.inside.snaps.items)) c.deref-2.ensures.value in
-    rw (← c.self.view_is) (quiet_alone g.B.Block.contents g.B.Block.layers g.B.Block.size v c.self.invariant c.in-None-merge.is
+    rw (← c.self.view_is) (quiet_alone g.B.Block.contents g.B.Block.layers g.B.Block.size v c.self.invariant.whole c.in-None-merge.is
     (next_none g.B.Block.contents g.B.Block.layers v c.in-None-merge.is (sym first ∙ c.in-None.is)))
 
 pub returns-in-Some-clause-calm : goal.returns-in-Some-clause-calm
@@ -123,7 +123,7 @@ returns-in-Some-merge-clause-calm g c =
     c.first_due.ensures ∙ ap (λ xs. due_of (map (due_of_kept g.B.Block.contents g.B.Block.layers) xs) c.deref-2.result.now) c.deref.ensures.value
     ∙ ap (due_of (map (due_of_kept g.B.Block.contents g.B.Block.layers) c.self.inside.snaps.items)) c.deref-2.ensures.value in
     rw (← c.self.view_is) (some_by c.merge_due.result (λ event. is_of_merge event ≡ true → has_group_in v.merge ≡ false → is_quiet_of v ≡ true)
-    (λ event merges free. quiet_unmerged g.B.Block.contents g.B.Block.layers g.B.Block.size v c.self.invariant c.in-Some-merge.merge c.in-Some-merge.is (c.has_group.ensures.looks true) free (sym first ∙ c.in-None.is)))
+    (λ event merges free. quiet_unmerged g.B.Block.contents g.B.Block.layers g.B.Block.size v c.self.invariant.whole c.in-Some-merge.merge c.in-Some-merge.is (c.has_group.ensures.looks true) free (sym first ∙ c.in-None.is)))
   where
     some_by : (found : Option Event) (P : Event → Type 0) → ((e : Event) → P e) → IfSome found P
     some_by None P h = tt

@@ -1,22 +1,33 @@
 -- The merge is taken out, and its store's device is given back.
-use Rattle.std.proofs.Common.{◌≡◌, None, Some, map, refl, sym, ◌∙◌, ap}
+use Rattle.std.proofs.Common.{◌≡◌, None, Some, map, refl, sym, ◌∙◌, ap, subst, Option}
 use Rattle.merge.specs.Merging.{Merging}
 use Rattle.merge_beside.specs.Keeping.{unkept}
-use Rattle.volume.specs.Finishing.{finish_refusal}
+use Rattle.volume.specs.Finishing.{finish_refusal, finish_with}
 use Rattle.volume.specs.Volumed.{Volumed, is_loud_in_all}
 use Rattle.volume.proofs.Finishes.{back}
 use Rattle.volume.proofs.Finished.{whole_finished, plain_finished, disk_finished, exact_finished, loud_finished}
+use Rattle.volume.proofs.MergeStarts.{all_unkept}
+use Rattle.volume.proofs.BeginLasts.{taken_opens, taken_finished}
+use Rattle.volume.specs.Leaving.{is_quiet_of}
+use Rattle.volume.specs.Stopping.{StopsVolume}
 use Rattle.volume.proofs.volume.Volume.finish_merge.Goals as goal
 
 pub invariant_of-self-2 : goal.invariant_of-self-2
-invariant_of-self-2 g c =
-    let v : Volumed g.row.B.Denot = record { origin = c.self.inside.origin; snaps = c.self.inside.snaps.items; merge = c.self.inside.merge; flights = c.self.inside.flights.items; requests = c.self.inside.requests; copies = c.self.inside.copies; attached = c.self.inside.attached } in
-    let m : Merging g.row.B.Denot = c.in-Some-take.merge in
-    let is : v.merge ≡ Some m = sym c.in-Some-take.ensures.value in
-    let admitted : finish_refusal v ≡ None = ap finish_refusal c.self.view_is ∙ sym c.in-None.ensures in
-    let left = back c.self.inside.snaps.len c.let_go_all.new.snaps c.self.inside.snaps.items (c.let_go_all.auto.snaps ∙ c.as_mut_slice.ensures.len) ∙ c.let_go_all.ensures ∙ ap (map (unkept {B = g.row.B.Denot})) c.as_mut_slice.ensures.value in
-    let gone : c.take.new.self ≡ None = c.take.ensures.after in
-    rw (left, gone) (whole_finished v m is admitted g.B.Block.contents g.B.Block.layers g.B.Block.size c.self.invariant)
+invariant_of-self-2 g c = record {
+  whole =
+      let v : Volumed g.row.B.Denot = record { origin = c.self.inside.origin; snaps = c.self.inside.snaps.items; merge = c.self.inside.merge; flights = c.self.inside.flights.items; requests = c.self.inside.requests; copies = c.self.inside.copies; attached = c.self.inside.attached } in
+      let m : Merging g.row.B.Denot = c.in-Some-take.merge in
+      let is : v.merge ≡ Some m = sym c.in-Some-take.ensures.value in
+      let admitted : finish_refusal v ≡ None = ap finish_refusal c.self.view_is ∙ sym c.in-None.ensures in
+      let left = back c.self.inside.snaps.len c.let_go_all.new.snaps c.self.inside.snaps.items (c.let_go_all.auto.snaps ∙ c.as_mut_slice.ensures.len) ∙ c.let_go_all.ensures ∙ ap (map (unkept {B = g.row.B.Denot})) c.as_mut_slice.ensures.value in
+      let gone : c.take.new.self ≡ None = c.take.ensures.after in
+      rw (left, gone) (whole_finished v m is admitted g.B.Block.contents g.B.Block.layers g.B.Block.size c.self.invariant.whole);
+  lasting =
+      let v : Volumed g.row.B.Denot = record { origin = c.self.inside.origin; snaps = c.self.inside.snaps.items; merge = c.self.inside.merge; flights = c.self.inside.flights.items; requests = c.self.inside.requests; copies = c.self.inside.copies; attached = c.self.inside.attached } in
+      let left = back c.self.inside.snaps.len c.let_go_all.new.snaps c.self.inside.snaps.items (c.let_go_all.auto.snaps ∙ c.as_mut_slice.ensures.len) ∙ c.let_go_all.ensures ∙ ap (map (unkept {B = g.row.B.Denot})) c.as_mut_slice.ensures.value in
+      let gone : c.take.new.self ≡ None = c.take.ensures.after in
+      rw (left, gone) (record { snaps = all_unkept g.B.Block.may_hold g.B.Block.contents g.B.Block.layers g.B.Block.size g.met.B.Block.whole g.met.B.Block.holds_now v.origin v.snaps c.self.invariant.lasting.snaps; merge = tt });
+}
 
 pub returns-clause-taken : goal.returns-clause-taken
 returns-clause-taken g c =
@@ -36,7 +47,7 @@ returns-clause-legal g c =
     let admitted : finish_refusal v ≡ None = ap finish_refusal c.self.view_is ∙ sym c.in-None.ensures in
     let left = back c.self.inside.snaps.len c.let_go_all.new.snaps c.self.inside.snaps.items (c.let_go_all.auto.snaps ∙ c.as_mut_slice.ensures.len) ∙ c.let_go_all.ensures ∙ ap (map (unkept {B = g.row.B.Denot})) c.as_mut_slice.ensures.value in
     let gone : c.take.new.self ≡ None = c.take.ensures.after in
-    λ loud. rw (← c.self.view_is, left, gone) (plain_finished v m is admitted g.B.Block.contents g.B.Block.layers g.B.Block.size c.self.invariant (ap (is_loud_in_all g.B.Block.layers) c.self.view_is ∙ loud))
+    λ loud. rw (← c.self.view_is, left, gone) (plain_finished v m is admitted g.B.Block.contents g.B.Block.layers g.B.Block.size c.self.invariant.whole (ap (is_loud_in_all g.B.Block.layers) c.self.view_is ∙ loud))
 
 pub returns-clause-disk : goal.returns-clause-disk
 returns-clause-disk g c =
@@ -46,7 +57,7 @@ returns-clause-disk g c =
     let admitted : finish_refusal v ≡ None = ap finish_refusal c.self.view_is ∙ sym c.in-None.ensures in
     let left = back c.self.inside.snaps.len c.let_go_all.new.snaps c.self.inside.snaps.items (c.let_go_all.auto.snaps ∙ c.as_mut_slice.ensures.len) ∙ c.let_go_all.ensures ∙ ap (map (unkept {B = g.row.B.Denot})) c.as_mut_slice.ensures.value in
     let gone : c.take.new.self ≡ None = c.take.ensures.after in
-    λ loud. rw (← c.self.view_is) (disk_finished v m is admitted g.B.Block.contents g.B.Block.layers g.B.Block.size c.self.invariant (ap (is_loud_in_all g.B.Block.layers) c.self.view_is ∙ loud))
+    λ loud. rw (← c.self.view_is) (disk_finished v m is admitted g.B.Block.contents g.B.Block.layers g.B.Block.size c.self.invariant.whole (ap (is_loud_in_all g.B.Block.layers) c.self.view_is ∙ loud))
 
 pub returns-clause-exact : goal.returns-clause-exact
 returns-clause-exact g c =
@@ -56,7 +67,7 @@ returns-clause-exact g c =
     let admitted : finish_refusal v ≡ None = ap finish_refusal c.self.view_is ∙ sym c.in-None.ensures in
     let left = back c.self.inside.snaps.len c.let_go_all.new.snaps c.self.inside.snaps.items (c.let_go_all.auto.snaps ∙ c.as_mut_slice.ensures.len) ∙ c.let_go_all.ensures ∙ ap (map (unkept {B = g.row.B.Denot})) c.as_mut_slice.ensures.value in
     let gone : c.take.new.self ≡ None = c.take.ensures.after in
-    λ replied. rw (← c.self.view_is, left, gone) (exact_finished v m is admitted g.B.Block.contents g.B.Block.layers g.B.Block.size c.self.invariant replied)
+    λ replied. rw (← c.self.view_is, left, gone) (exact_finished v m is admitted g.B.Block.contents g.B.Block.layers g.B.Block.size c.self.invariant.whole replied)
 
 pub returns-clause-loud : goal.returns-clause-loud
 returns-clause-loud g c =
@@ -66,4 +77,16 @@ returns-clause-loud g c =
     let admitted : finish_refusal v ≡ None = ap finish_refusal c.self.view_is ∙ sym c.in-None.ensures in
     let left = back c.self.inside.snaps.len c.let_go_all.new.snaps c.self.inside.snaps.items (c.let_go_all.auto.snaps ∙ c.as_mut_slice.ensures.len) ∙ c.let_go_all.ensures ∙ ap (map (unkept {B = g.row.B.Denot})) c.as_mut_slice.ensures.value in
     let gone : c.take.new.self ≡ None = c.take.ensures.after in
-    rw (← c.self.view_is, left, gone, c.into_device.ensures) (loud_finished v m is admitted g.B.Block.contents g.B.Block.layers g.B.Block.size c.self.invariant)
+    rw (← c.self.view_is, left, gone, c.into_device.ensures) (loud_finished v m is admitted g.B.Block.contents g.B.Block.layers g.B.Block.size c.self.invariant.whole)
+
+pub returns-clause-opens : goal.returns-clause-opens
+returns-clause-opens g c =
+    let v : Volumed g.row.B.Denot = record { origin = c.self.inside.origin; snaps = c.self.inside.snaps.items; merge = c.self.inside.merge; flights = c.self.inside.flights.items; requests = c.self.inside.requests; copies = c.self.inside.copies; attached = c.self.inside.attached } in
+    let m : Merging g.row.B.Denot = c.in-Some-take.merge in
+    let is : v.merge ≡ Some m = sym c.in-Some-take.ensures.value in
+    let admitted : finish_refusal v ≡ None = ap finish_refusal c.self.view_is ∙ sym c.in-None.ensures in
+    let left = back c.self.inside.snaps.len c.let_go_all.new.snaps c.self.inside.snaps.items (c.let_go_all.auto.snaps ∙ c.as_mut_slice.ensures.len) ∙ c.let_go_all.ensures ∙ ap (map (unkept {B = g.row.B.Denot})) c.as_mut_slice.ensures.value in
+    let gone : c.take.new.self ≡ None = c.take.ensures.after in
+    let w : Volumed g.row.B.Denot = record v { snaps = map unkept v.snaps; merge = None } in
+    let finished = taken_finished m (is_quiet_of v) (sym (ap (λ (x : Option (Merging g.row.B.Denot)). finish_with x (is_quiet_of v)) is) ∙ admitted) in
+    λ loud. rw (← c.self.view_is) (taken_opens g.B.Block.may_hold g.B.Block.size v w m is finished (subst (λ (x : Volumed g.row.B.Denot). StopsVolume g.B.Block.may_hold g.B.Block.size None x x) (sym c.self.view_is) (c.look_at_stores.ensures.stops loud)) refl)

@@ -21,7 +21,7 @@ returns-clause-between g c = λ quiet loud replied.
     let still : All (IsStillOn g.B.Block.contents g.B.Block.layers) v.snaps = subst (λ (ss : List (Kept g.row.B.Denot)). All (IsStillOn g.B.Block.contents g.B.Block.layers) ss) c.as_slice.ensures.value (c.are_done.ensures.still quiet) in
     let loud' : is_loud_in_all g.B.Block.layers v ≡ true = ap (is_loud_in_all g.B.Block.layers) c.self.view_is ∙ loud in
     let free : has_group_in v.merge ≡ false = ap (λ (x : Volumed g.row.B.Denot). has_group_in x.merge) c.self.view_is ∙ sym c.has_group.ensures ∙ c.if-has_group.false in
-    rw (← c.self.view_is) (between g.B.Block.contents g.B.Block.layers g.B.Block.size v replied c.self.invariant (g.met.B.Block.small v.origin) none done still loud' free)
+    rw (← c.self.view_is) (between g.B.Block.contents g.B.Block.layers g.B.Block.size v replied c.self.invariant.whole (g.met.B.Block.small v.origin) none done still loud' free)
 
 pub returns-clause-rest : goal.returns-clause-rest
 returns-clause-rest g c = λ quiet loud alone replied.
@@ -31,7 +31,7 @@ returns-clause-rest g c = λ quiet loud alone replied.
     let done : list_all is_done_of v.snaps ≡ true = ap (list_all is_done_of) (sym c.as_slice.ensures.value) ∙ sym c.are_done.ensures.value ∙ quiet in
     let still : All (IsStillOn g.B.Block.contents g.B.Block.layers) v.snaps = subst (λ (ss : List (Kept g.row.B.Denot)). All (IsStillOn g.B.Block.contents g.B.Block.layers) ss) c.as_slice.ensures.value (c.are_done.ensures.still quiet) in
     let loud' : is_loud_in_all g.B.Block.layers v ≡ true = ap (is_loud_in_all g.B.Block.layers) c.self.view_is ∙ loud in
-    rw (← c.self.view_is) (rests g.B.Block.contents g.B.Block.layers g.B.Block.size v replied c.self.invariant (g.met.B.Block.small v.origin) none done still loud' (ap (λ (x : Volumed g.row.B.Denot). x.merge) c.self.view_is ∙ alone))
+    rw (← c.self.view_is) (rests g.B.Block.contents g.B.Block.layers g.B.Block.size v replied c.self.invariant.whole (g.met.B.Block.small v.origin) none done still loud' (ap (λ (x : Volumed g.row.B.Denot). x.merge) c.self.view_is ∙ alone))
 
 pub returns-clause-calm : goal.returns-clause-calm
 returns-clause-calm g c = λ quiet replied.
@@ -51,10 +51,10 @@ returns-clause-under g c = λ quiet loud replied.
     let loud' : is_loud_in_all g.B.Block.layers v ≡ true = ap (is_loud_in_all g.B.Block.layers) c.self.view_is ∙ loud in
     let free : has_group_in v.merge ≡ false = ap (λ (x : Volumed g.row.B.Denot). has_group_in x.merge) c.self.view_is ∙ sym c.has_group.ensures ∙ c.if-has_group.false in
     let step : IsMergeInStep g.B.Block.contents g.B.Block.layers g.B.Block.size v.merge = subst (λ (x : Volumed g.row.B.Denot). IsMergeInStep g.B.Block.contents g.B.Block.layers g.B.Block.size x.merge) (sym c.self.view_is) c.look_at_stores.ensures.merge in
-    rw (← c.self.view_is) (under_way g.B.Block.contents g.B.Block.layers g.B.Block.size v c.self.invariant loud' replied (between g.B.Block.contents g.B.Block.layers g.B.Block.size v replied c.self.invariant (g.met.B.Block.small v.origin) none done still loud' free) step)
+    rw (← c.self.view_is) (under_way g.B.Block.contents g.B.Block.layers g.B.Block.size v c.self.invariant.whole loud' replied (between g.B.Block.contents g.B.Block.layers g.B.Block.size v replied c.self.invariant.whole (g.met.B.Block.small v.origin) none done still loud' free) step)
 
 pub returns-then-has_group-clause-numbers : goal.returns-then-has_group-clause-numbers
-returns-then-has_group-clause-numbers g c = rw (← c.self.view_is) c.self.invariant.numbers.ascending
+returns-then-has_group-clause-numbers g c = rw (← c.self.view_is) c.self.invariant.whole.numbers.ascending
 
 pub returns-clause-numbers : goal.returns-clause-numbers
-returns-clause-numbers g c = rw (← c.self.view_is) c.self.invariant.numbers.ascending
+returns-clause-numbers g c = rw (← c.self.view_is) c.self.invariant.whole.numbers.ascending

@@ -58,3 +58,21 @@ returns-in-Held-clause-due g c =
 pub returns-in-None-clause-due : goal.returns-in-None-clause-due
 returns-in-None-clause-due g c =
     sym (ap (λ (x : Volumed _). is_issued c.args.number x.flights) (sym c.self.view_is) ∙ ap (is_issued c.args.number) (sym c.deref.ensures.value) ∙ c.in-None.ensures.due)
+
+pub flush_merging-requires-clause-found : goal.flush_merging-requires-clause-found
+flush_merging-requires-clause-found g c =
+    let found = ap (λ (x : Volumed _). position (λ (f : Flight). nat_eq f.number c.args.number) x.flights) (sym c.self.view_is) ∙ ap (position (λ (f : Flight). nat_eq f.number c.args.number)) (sym c.deref.ensures.value) ∙ c.in-Some.ensures.found in
+    found
+
+pub flush_merging-requires-clause-route : goal.flush_merging-requires-clause-route
+flush_merging-requires-clause-route g c =
+    λ f. ap (λ (x : Volumed _). (get_or x.flights c.in-Some.place f).route) (sym c.self.view_is) ∙ ap (λ xs. (get_or xs c.in-Some.place f).route) (sym c.deref.ensures.value) ∙ c.in-Some.ensures.route f ∙ c.in-Whole.is
+
+pub flush_whole-requires-clause-found : goal.flush_whole-requires-clause-found
+flush_whole-requires-clause-found g c =
+    let found = ap (λ (x : Volumed _). position (λ (f : Flight). nat_eq f.number c.args.number) x.flights) (sym c.self.view_is) ∙ ap (position (λ (f : Flight). nat_eq f.number c.args.number)) (sym c.deref.ensures.value) ∙ c.in-Some.ensures.found in
+    found
+
+pub flush_whole-requires-clause-route : goal.flush_whole-requires-clause-route
+flush_whole-requires-clause-route g c =
+    λ f. ap (λ (x : Volumed _). (get_or x.flights c.in-Some.place f).route) (sym c.self.view_is) ∙ ap (λ xs. (get_or xs c.in-Some.place f).route) (sym c.deref.ensures.value) ∙ c.in-Some.ensures.route f ∙ c.in-Whole.is

@@ -2,4 +2,4 @@
 use Rattle.volume.proofs.volume.Volume.look_inside.Goals as goal
 
 pub returns : goal.returns
-returns g c = rw (← c.self.view_is) (record { whole = c.self.invariant })
+returns g c = rw (← c.self.view_is) (record { whole = c.self.invariant.whole })

@@ -1,5 +1,5 @@
 -- The merging store's area is written without the slots of the group.
-use Rattle.std.proofs.Common.{◌≡◌, inl, inr, ap, sym, refl, ◌∙◌, true, false, map, subst, length, Some, ◌<◌}
+use Rattle.std.proofs.Common.{◌≡◌, ap, sym, refl, ◌∙◌, true, false, map, subst, length, Some, ◌<◌}
 use Rattle.std.specs.List.{All}
 use Rattle.std.proofs.lemmas.Bool.{false≢true}
 use Rattle.device.specs.Layers.{is_loud}
@@ -17,7 +17,8 @@ use Rattle.volume.proofs.MergeOperations.{loud_merging, commit_good, store_stops
 use Rattle.volume.proofs.MergeChanging.{disk_stays, merged_in}
 use Rattle.volume.proofs.MovedMerges.{commit_moved, commit_stopped}
 use Rattle.volume.proofs.StoredPairs.{committed}
-use Rattle.volume.proofs.StopOwn.{commits_merge}
+use Rattle.volume.proofs.MergeBoth.{fault_both, committed_both}
+use Rattle.volume.proofs.Lefts.{all_same}
 use Rattle.volume.proofs.volume.Volume.merge_commit.Goals as goal
 
 pub returns-then-not-can_commit-clause-due : goal.returns-then-not-can_commit-clause-due
@@ -26,24 +27,31 @@ returns-then-not-can_commit-clause-due g c =
     rw (← c.self.view_is) (sym (commit_due g.B.Block.contents g.B.Block.layers v c.in-Some.merge c.in-Some.is ∙ sym (c.has_group.ensures.looks true).commit ∙ sym c.if-not-can_commit.ensures))
 
 pub invariant_of-self-in-Ok : goal.invariant_of-self-in-Ok
-invariant_of-self-in-Ok g c =
-    let v : Volumed g.row.B.Denot = record { origin = c.self.inside.origin; snaps = c.self.inside.snaps.items; merge = c.self.inside.merge; flights = c.self.inside.flights.items; requests = c.self.inside.requests; copies = c.self.inside.copies; attached = c.self.inside.attached } in
-    let fields = c.in-Ok.ensures.fields in
-    (commit_good g.B.Block.contents g.B.Block.layers g.B.Block.size g.B.Block.fault_count g.B.Block.done_count v c.self.invariant c.in-Some.merge c.in-Some.is c.commit.new.self
-    (record {
-      number = ap (λ x. x.number) fields;
-      chunk_is = ap (λ x. x.state.chunk) fields;
-      origin = ap (λ x. x.state.origin) fields;
-      loud = c.in-Ok.ensures.loud;
-      sized = c.in-Ok.ensures.size;
-    })
-    c.in-Ok.ensures.step (c.in-Ok.ensures.operation).faulty (c.in-Ok.ensures.operation).counted).whole
+invariant_of-self-in-Ok g c = record {
+  whole =
+      let v : Volumed g.row.B.Denot = record { origin = c.self.inside.origin; snaps = c.self.inside.snaps.items; merge = c.self.inside.merge; flights = c.self.inside.flights.items; requests = c.self.inside.requests; copies = c.self.inside.copies; attached = c.self.inside.attached } in
+      let fields = c.in-Ok.ensures.fields in
+      (commit_good g.B.Block.contents g.B.Block.layers g.B.Block.size g.B.Block.fault_count g.B.Block.done_count v c.self.invariant.whole c.in-Some.merge c.in-Some.is c.commit.new.self
+      (record {
+        number = ap (λ x. x.number) fields;
+        chunk_is = ap (λ x. x.state.chunk) fields;
+        origin = ap (λ x. x.state.origin) fields;
+        loud = c.in-Ok.ensures.loud;
+        sized = c.in-Ok.ensures.size;
+      })
+      c.in-Ok.ensures.step (c.in-Ok.ensures.operation).faulty (c.in-Ok.ensures.operation).counted).whole;
+  lasting =
+      let v : Volumed g.row.B.Denot = record { origin = c.self.inside.origin; snaps = c.self.inside.snaps.items; merge = c.self.inside.merge; flights = c.self.inside.flights.items; requests = c.self.inside.requests; copies = c.self.inside.copies; attached = c.self.inside.attached } in
+      let w : Volumed g.row.B.Denot = record v { merge = Some c.commit.new.self } in
+      let goes = committed_both g.B.Block.may_hold g.B.Block.contents g.B.Block.layers g.B.Block.size g.met.B.Block.whole g.met.B.Block.holds_now v c.self.invariant.whole c.self.invariant.lasting w c.commit.new.self refl c.in-Some.merge c.in-Some.is (all_same v.snaps v.snaps refl) refl (record { adds = c.in-Ok.ensures.adds; sectors = c.in-Ok.ensures.size; loud = c.in-Ok.ensures.loud }) (sym c.if-not-can_commit.ensures) c.look_at_store.ensures.in_step c.in-Ok.ensures.step c.in-Ok.ensures.written in
+      record { snaps = goes.lasts; merge = goes.merge };
+}
 
 pub returns-in-Ok-clause-removes : goal.returns-in-Ok-clause-removes
 returns-in-Ok-clause-removes g c =
     let v : Volumed g.row.B.Denot = record { origin = c.self.inside.origin; snaps = c.self.inside.snaps.items; merge = c.self.inside.merge; flights = c.self.inside.flights.items; requests = c.self.inside.requests; copies = c.self.inside.copies; attached = c.self.inside.attached } in
     let fields = c.in-Ok.ensures.fields in
-    let good = (commit_good g.B.Block.contents g.B.Block.layers g.B.Block.size g.B.Block.fault_count g.B.Block.done_count v c.self.invariant c.in-Some.merge c.in-Some.is c.commit.new.self
+    let good = (commit_good g.B.Block.contents g.B.Block.layers g.B.Block.size g.B.Block.fault_count g.B.Block.done_count v c.self.invariant.whole c.in-Some.merge c.in-Some.is c.commit.new.self
     (record {
       number = ap (λ x. x.number) fields;
       chunk_is = ap (λ x. x.state.chunk) fields;
@@ -53,13 +61,13 @@ returns-in-Ok-clause-removes g c =
     })
     c.in-Ok.ensures.step (c.in-Ok.ensures.operation).faulty (c.in-Ok.ensures.operation).counted) in
     let w : Volumed g.row.B.Denot = record v { merge = Some c.commit.new.self } in
-    rw (← c.self.view_is) (committed g.B.Block.contents g.B.Block.layers g.B.Block.size v w c.self.invariant good.whole good.stepped.loud c.in-Some.merge c.commit.new.self c.in-Some.is refl false (c.in-Ok.ensures.step false (λ e. absurd (false≢true e))).0)
+    rw (← c.self.view_is) (committed g.B.Block.contents g.B.Block.layers g.B.Block.size v w c.self.invariant.whole good.whole good.stepped.loud c.in-Some.merge c.commit.new.self c.in-Some.is refl false (c.in-Ok.ensures.step false (λ e. absurd (false≢true e))).0)
 
 pub returns-in-Ok-clause-step : goal.returns-in-Ok-clause-step
 returns-in-Ok-clause-step g c =
     let v : Volumed g.row.B.Denot = record { origin = c.self.inside.origin; snaps = c.self.inside.snaps.items; merge = c.self.inside.merge; flights = c.self.inside.flights.items; requests = c.self.inside.requests; copies = c.self.inside.copies; attached = c.self.inside.attached } in
     let fields = c.in-Ok.ensures.fields in
-    rw (← c.self.view_is) (commit_good g.B.Block.contents g.B.Block.layers g.B.Block.size g.B.Block.fault_count g.B.Block.done_count v c.self.invariant c.in-Some.merge c.in-Some.is c.commit.new.self
+    rw (← c.self.view_is) (commit_good g.B.Block.contents g.B.Block.layers g.B.Block.size g.B.Block.fault_count g.B.Block.done_count v c.self.invariant.whole c.in-Some.merge c.in-Some.is c.commit.new.self
     (record {
       number = ap (λ x. x.number) fields;
       chunk_is = ap (λ x. x.state.chunk) fields;
@@ -74,7 +82,7 @@ returns-in-Ok-clause-exact g c =
     let v : Volumed g.row.B.Denot = record { origin = c.self.inside.origin; snaps = c.self.inside.snaps.items; merge = c.self.inside.merge; flights = c.self.inside.flights.items; requests = c.self.inside.requests; copies = c.self.inside.copies; attached = c.self.inside.attached } in
     let due : can_commit_group (merging_due g.B.Block.contents true c.in-Some.merge) ≡ true = sym (c.has_group.ensures.looks true).commit ∙ sym c.if-not-can_commit.ensures in
     let fields = c.in-Ok.ensures.fields in
-    rw (← c.self.view_is) (record { step = λ loud replied. commit_moved g.B.Block.contents g.B.Block.layers replied v c.in-Some.merge c.in-Some.is _ _ _ _ ((merged_in g.B.Block.contents g.B.Block.layers g.B.Block.size v c.in-Some.merge c.in-Some.is c.self.invariant).goes true).staged c.commit.new.self due (sym c.if-not-can_commit.ensures) ((merged_in g.B.Block.contents g.B.Block.layers g.B.Block.size v c.in-Some.merge c.in-Some.is c.self.invariant).goes true).area (c.in-Ok.ensures.step true (λ _. (loud_merging g.B.Block.contents g.B.Block.layers g.B.Block.size v c.in-Some.merge c.in-Some.is loud))).0 c.in-Ok.ensures.operation (c.in-Ok.ensures.written ((loud_merging g.B.Block.contents g.B.Block.layers g.B.Block.size v c.in-Some.merge c.in-Some.is loud))) (ap (λ x. x.group) fields) (ap (λ x. x.next) fields) })
+    rw (← c.self.view_is) (record { step = λ loud replied. commit_moved g.B.Block.contents g.B.Block.layers replied v c.in-Some.merge c.in-Some.is _ _ _ _ ((merged_in g.B.Block.contents g.B.Block.layers g.B.Block.size v c.in-Some.merge c.in-Some.is c.self.invariant.whole).goes true).staged c.commit.new.self due (sym c.if-not-can_commit.ensures) ((merged_in g.B.Block.contents g.B.Block.layers g.B.Block.size v c.in-Some.merge c.in-Some.is c.self.invariant.whole).goes true).area (c.in-Ok.ensures.step true (λ _. (loud_merging g.B.Block.contents g.B.Block.layers g.B.Block.size v c.in-Some.merge c.in-Some.is loud))).0 c.in-Ok.ensures.operation (c.in-Ok.ensures.written ((loud_merging g.B.Block.contents g.B.Block.layers g.B.Block.size v c.in-Some.merge c.in-Some.is loud))) (ap (λ x. x.group) fields) (ap (λ x. x.next) fields) })
 
 pub returns-in-Ok-clause-due : goal.returns-in-Ok-clause-due
 returns-in-Ok-clause-due g c =
@@ -85,39 +93,46 @@ pub fail-requires-clause-running : goal.fail-requires-clause-running
 fail-requires-clause-running g c =
     let v : Volumed g.row.B.Denot = record { origin = c.self.inside.origin; snaps = c.self.inside.snaps.items; merge = c.self.inside.merge; flights = c.self.inside.flights.items; requests = c.self.inside.requests; copies = c.self.inside.copies; attached = c.self.inside.attached } in
     let due : can_commit_group (merging_due g.B.Block.contents true c.in-Some.merge) ≡ true = sym (c.has_group.ensures.looks true).commit ∙ sym c.if-not-can_commit.ensures in
-    ap (λ x. x.failed) c.in-Err.ensures.kept ∙ due_running g.B.Block.contents g.B.Block.layers g.B.Block.size g.B.Block.fault_count g.B.Block.done_count v c.self.invariant c.in-Some.merge c.in-Some.is MergeCommit due
+    ap (λ x. x.failed) c.in-Err.ensures.kept ∙ due_running g.B.Block.contents g.B.Block.layers g.B.Block.size g.B.Block.fault_count g.B.Block.done_count v c.self.invariant.whole c.in-Some.merge c.in-Some.is MergeCommit due
 
 pub fail-requires-clause-unfinished : goal.fail-requires-clause-unfinished
 fail-requires-clause-unfinished g c =
     let v : Volumed g.row.B.Denot = record { origin = c.self.inside.origin; snaps = c.self.inside.snaps.items; merge = c.self.inside.merge; flights = c.self.inside.flights.items; requests = c.self.inside.requests; copies = c.self.inside.copies; attached = c.self.inside.attached } in
     let due : can_commit_group (merging_due g.B.Block.contents true c.in-Some.merge) ≡ true = sym (c.has_group.ensures.looks true).commit ∙ sym c.if-not-can_commit.ensures in
-    subst (λ ps. 0 < length ps) (sym (ap (λ x. x.pairs) c.in-Err.ensures.kept)) (due_unfinished g.B.Block.contents g.B.Block.layers g.B.Block.size g.B.Block.fault_count g.B.Block.done_count v c.self.invariant c.in-Some.merge c.in-Some.is MergeCommit (λ e. cc) due)
+    subst (λ ps. 0 < length ps) (sym (ap (λ x. x.pairs) c.in-Err.ensures.kept)) (due_unfinished g.B.Block.contents g.B.Block.layers g.B.Block.size g.B.Block.fault_count g.B.Block.done_count v c.self.invariant.whole c.in-Some.merge c.in-Some.is MergeCommit (λ e. cc) due)
 
 pub route_again-requires : goal.route_again-requires
 route_again-requires g c =
     let v : Volumed g.row.B.Denot = record { origin = c.self.inside.origin; snaps = c.self.inside.snaps.items; merge = c.self.inside.merge; flights = c.self.inside.flights.items; requests = c.self.inside.requests; copies = c.self.inside.copies; attached = c.self.inside.attached } in
-    subst (All (λ (x : Kept _). 0 < x.state.chunk)) (sym c.deref.ensures.value) (chunks_all g.B.Block.contents g.B.Block.layers g.B.Block.size v c.self.invariant)
+    subst (All (λ (x : Kept _). 0 < x.state.chunk)) (sym c.deref.ensures.value) (chunks_all g.B.Block.contents g.B.Block.layers g.B.Block.size v c.self.invariant.whole)
 
 pub invariant_of-self-in-Err : goal.invariant_of-self-in-Err
-invariant_of-self-in-Err g c =
-    let v : Volumed g.row.B.Denot = record { origin = c.self.inside.origin; snaps = c.self.inside.snaps.items; merge = c.self.inside.merge; flights = c.self.inside.flights.items; requests = c.self.inside.requests; copies = c.self.inside.copies; attached = c.self.inside.attached } in
-    let due : can_commit_group (merging_due g.B.Block.contents true c.in-Some.merge) ≡ true = sym (c.has_group.ensures.looks true).commit ∙ sym c.if-not-can_commit.ensures in
-    let flights = c.route_again.ensures ∙ ap (λ xs. map (again_of (merge_books g.B.Block.contents g.B.Block.layers true (Some c.fail.new.self)) (is_clear (map (books_of g.B.Block.contents g.B.Block.layers) xs))) c.self.inside.flights.items) c.deref.ensures.value in
-    let m1 = c.commit.new.self in
-    let kept_as : Merging g.row.B.Denot = record c.in-Some.merge { device = m1.device } in
-    let fields = stopped_from kept_as m1 c.fail.new.self c.fail.ensures.fields c.in-Err.ensures.kept in
-    let device = ap (λ x. x.device) c.fail.ensures.fields in
-    let step = fails_from g.B.Block.contents c.in-Some.merge m1 c.fail.new.self c.in-Err.ensures.kept c.in-Err.ensures.same c.fail.ensures.step in
-    (store_stops g.B.Block.contents g.B.Block.layers g.B.Block.size g.B.Block.fault_count g.B.Block.done_count v c.self.invariant c.in-Some.merge c.in-Some.is c.self.inside.origin c.fail.new.self
-    (record {
-      number = ap (λ x. x.number) fields;
-      chunk_is = ap (λ x. x.state.chunk) fields;
-      origin = ap (λ x. x.state.origin) fields;
-      loud = ap (λ d. is_loud (g.B.Block.layers d)) device ∙ c.in-Err.ensures.loud;
-      sized = ap g.B.Block.size device ∙ c.in-Err.ensures.size;
-    })
-    (disk_stays g.B.Block.layers g.B.Block.size c.self.inside.origin) refl c.route_again.new.flights.items flights MergeCommit (λ e. cc) (λ p q x. x) (λ xs ys e. e) refl due step (λ x. x) refl refl
-    (ap g.B.Block.fault_count device ∙ (c.in-Err.ensures.operation).faulty) (ap g.B.Block.done_count device ∙ (c.in-Err.ensures.operation).counted)).whole
+invariant_of-self-in-Err g c = record {
+  whole =
+      let v : Volumed g.row.B.Denot = record { origin = c.self.inside.origin; snaps = c.self.inside.snaps.items; merge = c.self.inside.merge; flights = c.self.inside.flights.items; requests = c.self.inside.requests; copies = c.self.inside.copies; attached = c.self.inside.attached } in
+      let due : can_commit_group (merging_due g.B.Block.contents true c.in-Some.merge) ≡ true = sym (c.has_group.ensures.looks true).commit ∙ sym c.if-not-can_commit.ensures in
+      let flights = c.route_again.ensures ∙ ap (λ xs. map (again_of (merge_books g.B.Block.contents g.B.Block.layers true (Some c.fail.new.self)) (is_clear (map (books_of g.B.Block.contents g.B.Block.layers) xs))) c.self.inside.flights.items) c.deref.ensures.value in
+      let m1 = c.commit.new.self in
+      let kept_as : Merging g.row.B.Denot = record c.in-Some.merge { device = m1.device } in
+      let fields = stopped_from kept_as m1 c.fail.new.self c.fail.ensures.fields c.in-Err.ensures.kept in
+      let device = ap (λ x. x.device) c.fail.ensures.fields in
+      let step = fails_from g.B.Block.contents c.in-Some.merge m1 c.fail.new.self c.in-Err.ensures.kept c.in-Err.ensures.same c.fail.ensures.step in
+      (store_stops g.B.Block.contents g.B.Block.layers g.B.Block.size g.B.Block.fault_count g.B.Block.done_count v c.self.invariant.whole c.in-Some.merge c.in-Some.is c.self.inside.origin c.fail.new.self
+      (record {
+        number = ap (λ x. x.number) fields;
+        chunk_is = ap (λ x. x.state.chunk) fields;
+        origin = ap (λ x. x.state.origin) fields;
+        loud = ap (λ d. is_loud (g.B.Block.layers d)) device ∙ c.in-Err.ensures.loud;
+        sized = ap g.B.Block.size device ∙ c.in-Err.ensures.size;
+      })
+      (disk_stays g.B.Block.layers g.B.Block.size c.self.inside.origin) refl c.route_again.new.flights.items flights MergeCommit (λ e. cc) (λ p q x. x) (λ xs ys e. e) refl due step (λ x. x) refl refl
+      (ap g.B.Block.fault_count device ∙ (c.in-Err.ensures.operation).faulty) (ap g.B.Block.done_count device ∙ (c.in-Err.ensures.operation).counted)).whole;
+  lasting =
+      let v : Volumed g.row.B.Denot = record { origin = c.self.inside.origin; snaps = c.self.inside.snaps.items; merge = c.self.inside.merge; flights = c.self.inside.flights.items; requests = c.self.inside.requests; copies = c.self.inside.copies; attached = c.self.inside.attached } in
+      let w : Volumed g.row.B.Denot = record v { merge = Some c.fail.new.self; flights = c.route_again.new.flights.items } in
+      let goes = fault_both g.B.Block.may_hold g.B.Block.contents g.B.Block.layers g.B.Block.size g.met.B.Block.whole g.met.B.Block.holds_now v c.self.invariant.whole c.self.invariant.lasting w c.fail.new.self refl c.in-Some.merge c.in-Some.is (all_same v.snaps v.snaps refl) c.commit.new.self refl (record { adds = c.in-Err.ensures.adds; bytes = c.in-Err.ensures.same; sectors = c.in-Err.ensures.size; loud = c.in-Err.ensures.loud }) c.in-Err.ensures.kept c.fail.ensures.fields in
+      record { snaps = goes.lasts; merge = goes.merge };
+}
 
 pub returns-in-Err-clause-step : goal.returns-in-Err-clause-step
 returns-in-Err-clause-step g c =
@@ -129,7 +144,7 @@ returns-in-Err-clause-step g c =
     let fields = stopped_from kept_as m1 c.fail.new.self c.fail.ensures.fields c.in-Err.ensures.kept in
     let device = ap (λ x. x.device) c.fail.ensures.fields in
     let step = fails_from g.B.Block.contents c.in-Some.merge m1 c.fail.new.self c.in-Err.ensures.kept c.in-Err.ensures.same c.fail.ensures.step in
-    rw (← c.self.view_is) (store_stops g.B.Block.contents g.B.Block.layers g.B.Block.size g.B.Block.fault_count g.B.Block.done_count v c.self.invariant c.in-Some.merge c.in-Some.is c.self.inside.origin c.fail.new.self
+    rw (← c.self.view_is) (store_stops g.B.Block.contents g.B.Block.layers g.B.Block.size g.B.Block.fault_count g.B.Block.done_count v c.self.invariant.whole c.in-Some.merge c.in-Some.is c.self.inside.origin c.fail.new.self
     (record {
       number = ap (λ x. x.number) fields;
       chunk_is = ap (λ x. x.state.chunk) fields;
@@ -157,13 +172,30 @@ returns-in-Err-clause-due g c =
     let v : Volumed g.row.B.Denot = record { origin = c.self.inside.origin; snaps = c.self.inside.snaps.items; merge = c.self.inside.merge; flights = c.self.inside.flights.items; requests = c.self.inside.requests; copies = c.self.inside.copies; attached = c.self.inside.attached } in
     rw (← c.self.view_is) (sym (commit_due g.B.Block.contents g.B.Block.layers v c.in-Some.merge c.in-Some.is ∙ sym (c.has_group.ensures.looks true).commit ∙ sym c.if-not-can_commit.ensures))
 
-pub returns-in-Ok-clause-stops : goal.returns-in-Ok-clause-stops
-returns-in-Ok-clause-stops g c =
+pub returns-in-Err-clause-stops_snaps : goal.returns-in-Err-clause-stops_snaps
+returns-in-Err-clause-stops_snaps g c =
     let v : Volumed g.row.B.Denot = record { origin = c.self.inside.origin; snaps = c.self.inside.snaps.items; merge = c.self.inside.merge; flights = c.self.inside.flights.items; requests = c.self.inside.requests; copies = c.self.inside.copies; attached = c.self.inside.attached } in
-    rw (← c.self.view_is) (λ loud. commits_merge g.B.Block.contents v c.in-Some.merge c.commit.new.self v.flights c.in-Some.is (inr (c.in-Ok.ensures.stops (loud_merging g.B.Block.contents g.B.Block.layers g.B.Block.size v c.in-Some.merge c.in-Some.is loud))))
+    let w : Volumed g.row.B.Denot = record v { merge = Some c.fail.new.self; flights = c.route_again.new.flights.items } in
+    let goes = fault_both g.B.Block.may_hold g.B.Block.contents g.B.Block.layers g.B.Block.size g.met.B.Block.whole g.met.B.Block.holds_now v c.self.invariant.whole c.self.invariant.lasting w c.fail.new.self refl c.in-Some.merge c.in-Some.is (all_same v.snaps v.snaps refl) c.commit.new.self refl (record { adds = c.in-Err.ensures.adds; bytes = c.in-Err.ensures.same; sectors = c.in-Err.ensures.size; loud = c.in-Err.ensures.loud }) c.in-Err.ensures.kept c.fail.ensures.fields in
+    rw (← c.self.view_is) goes.stops_snaps
 
-pub returns-in-Err-clause-stops : goal.returns-in-Err-clause-stops
-returns-in-Err-clause-stops g c =
+pub returns-in-Err-clause-stops_origin : goal.returns-in-Err-clause-stops_origin
+returns-in-Err-clause-stops_origin g c =
     let v : Volumed g.row.B.Denot = record { origin = c.self.inside.origin; snaps = c.self.inside.snaps.items; merge = c.self.inside.merge; flights = c.self.inside.flights.items; requests = c.self.inside.requests; copies = c.self.inside.copies; attached = c.self.inside.attached } in
-    let device = ap (λ x. x.device) c.fail.ensures.fields in
-    rw (← c.self.view_is) (λ loud. commits_merge g.B.Block.contents v c.in-Some.merge c.fail.new.self c.route_again.new.flights.items c.in-Some.is (inl (ap g.B.Block.contents device ∙ c.in-Err.ensures.same)))
+    let w : Volumed g.row.B.Denot = record v { merge = Some c.fail.new.self; flights = c.route_again.new.flights.items } in
+    let goes = fault_both g.B.Block.may_hold g.B.Block.contents g.B.Block.layers g.B.Block.size g.met.B.Block.whole g.met.B.Block.holds_now v c.self.invariant.whole c.self.invariant.lasting w c.fail.new.self refl c.in-Some.merge c.in-Some.is (all_same v.snaps v.snaps refl) c.commit.new.self refl (record { adds = c.in-Err.ensures.adds; bytes = c.in-Err.ensures.same; sectors = c.in-Err.ensures.size; loud = c.in-Err.ensures.loud }) c.in-Err.ensures.kept c.fail.ensures.fields in
+    rw (← c.self.view_is) goes.stops_origin
+
+pub returns-in-Ok-clause-stops_snaps : goal.returns-in-Ok-clause-stops_snaps
+returns-in-Ok-clause-stops_snaps g c =
+    let v : Volumed g.row.B.Denot = record { origin = c.self.inside.origin; snaps = c.self.inside.snaps.items; merge = c.self.inside.merge; flights = c.self.inside.flights.items; requests = c.self.inside.requests; copies = c.self.inside.copies; attached = c.self.inside.attached } in
+    let w : Volumed g.row.B.Denot = record v { merge = Some c.commit.new.self } in
+    let goes = committed_both g.B.Block.may_hold g.B.Block.contents g.B.Block.layers g.B.Block.size g.met.B.Block.whole g.met.B.Block.holds_now v c.self.invariant.whole c.self.invariant.lasting w c.commit.new.self refl c.in-Some.merge c.in-Some.is (all_same v.snaps v.snaps refl) refl (record { adds = c.in-Ok.ensures.adds; sectors = c.in-Ok.ensures.size; loud = c.in-Ok.ensures.loud }) (sym c.if-not-can_commit.ensures) c.look_at_store.ensures.in_step c.in-Ok.ensures.step c.in-Ok.ensures.written in
+    rw (← c.self.view_is) goes.stops_snaps
+
+pub returns-in-Ok-clause-stops_origin : goal.returns-in-Ok-clause-stops_origin
+returns-in-Ok-clause-stops_origin g c =
+    let v : Volumed g.row.B.Denot = record { origin = c.self.inside.origin; snaps = c.self.inside.snaps.items; merge = c.self.inside.merge; flights = c.self.inside.flights.items; requests = c.self.inside.requests; copies = c.self.inside.copies; attached = c.self.inside.attached } in
+    let w : Volumed g.row.B.Denot = record v { merge = Some c.commit.new.self } in
+    let goes = committed_both g.B.Block.may_hold g.B.Block.contents g.B.Block.layers g.B.Block.size g.met.B.Block.whole g.met.B.Block.holds_now v c.self.invariant.whole c.self.invariant.lasting w c.commit.new.self refl c.in-Some.merge c.in-Some.is (all_same v.snaps v.snaps refl) refl (record { adds = c.in-Ok.ensures.adds; sectors = c.in-Ok.ensures.size; loud = c.in-Ok.ensures.loud }) (sym c.if-not-can_commit.ensures) c.look_at_store.ensures.in_step c.in-Ok.ensures.step c.in-Ok.ensures.written in
+    rw (← c.self.view_is) goes.stops_origin

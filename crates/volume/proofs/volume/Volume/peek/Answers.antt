@@ -25,7 +25,7 @@ peek_pieces-requires-clause-places g c =
     let v : Volumed g.row.B.Denot = record { origin = c.self.inside.origin; snaps = c.self.inside.snaps.items; merge = c.self.inside.merge; flights = c.self.inside.flights.items; requests = c.self.inside.requests; copies = c.self.inside.copies; attached = c.self.inside.attached } in
     let s : Kept g.row.B.Denot = c.index-snap.result.now in
     let found : Some c.in-Some.k ≡ place_of_snap c.in-Snap.number v.snaps = c.in-Some.ensures ∙ ap (place_of_snap c.in-Snap.number) c.as_slice.ensures.value in
-    places_inside g.B.Block.contents g.B.Block.layers g.B.Block.size v c.self.invariant c.in-Some.k s (found_within c.in-Snap.number v.snaps c.in-Some.k found) c.index-snap.ensures (sym c.if-not-is_live.ensures) g.met.B.Block.whole
+    places_inside g.B.Block.contents g.B.Block.layers g.B.Block.size v c.self.invariant.whole c.in-Some.k s (found_within c.in-Snap.number v.snaps c.in-Some.k found) c.index-snap.ensures (sym c.if-not-is_live.ensures) g.met.B.Block.whole
 
 pub returns-then-not-is_live-clause-err : goal.returns-then-not-is_live-clause-err
 returns-then-not-is_live-clause-err g c =
@@ -50,7 +50,7 @@ returns-else-not-is_live-clause-bytes g c = λ loud array shown.
     let first : IsFirst (λ (x : Kept g.row.B.Denot). x.number == c.in-Snap.number) c.in-Some.k s v.snaps = first_position (λ (x : Kept g.row.B.Denot). x.number == c.in-Snap.number) c.in-Some.k s v.snaps c.index-snap.ensures (sym found) in
     let mine : Shows (plain_of g.B.Block.contents g.B.Block.layers v) (Snap c.in-Snap.number) array =
     subst (λ (d : Dev). Shows (plain_of g.B.Block.contents g.B.Block.layers v) d array) c.in-Snap.is (subst (λ (x : Volumed g.row.B.Denot). Shows (plain_of g.B.Block.contents g.B.Block.layers x) c.args.dev array) (sym c.self.view_is) shown) in
-    let stored = pairs_stored g.B.Block.contents g.B.Block.layers g.B.Block.size v c.self.invariant c.in-Some.k s (found_within c.in-Snap.number v.snaps c.in-Some.k found) c.index-snap.ensures live (snap_loud g.B.Block.layers v.merge v.snaps c.args.dev c.in-Snap.number c.in-Some.k s c.in-Snap.is found c.index-snap.ensures (ap (λ (x : Volumed g.row.B.Denot). is_loud_under g.B.Block.layers c.args.dev x.merge x.snaps) c.self.view_is ∙ loud)) in
+    let stored = pairs_stored g.B.Block.contents g.B.Block.layers g.B.Block.size v c.self.invariant.whole c.in-Some.k s (found_within c.in-Snap.number v.snaps c.in-Some.k found) c.index-snap.ensures live (snap_loud g.B.Block.layers v.merge v.snaps c.args.dev c.in-Snap.number c.in-Some.k s c.in-Snap.is found c.index-snap.ensures (ap (λ (x : Volumed g.row.B.Denot). is_loud_under g.B.Block.layers c.args.dev x.merge x.snaps) c.self.view_is ∙ loud)) in
     c.peek_pieces.ensures stored
     ∙ ap (λ (a : List ℕ). sectors_at a c.args.range.first c.args.range.count) (sym (shown_snap g.B.Block.contents (g.B.Block.contents v.origin) c.in-Snap.number c.in-Some.k s v.snaps array first live mine))
 

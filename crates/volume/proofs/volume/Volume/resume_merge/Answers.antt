@@ -4,16 +4,27 @@ use Rattle.volume.specs.Volumed.{Volumed, plain_of, is_loud_in_all}
 use Rattle.volume.specs.Whole.{IsWhole}
 use Rattle.volume.specs.Moved.{moving_of}
 use Rattle.volume.proofs.Resumed.{whole_resumed, plain_resumed, loud_resumed, exact_resumed, unfailed_same, with_own}
+use Rattle.volume.specs.MergeLasting.{MergeLasting}
 use Rattle.volume.proofs.volume.Volume.resume_merge.Goals.{then-is_failed, else-is_failed}
 use Rattle.volume.proofs.volume.Volume.resume_merge.Goals as goal
 
 pub invariant_of-self-2 : goal.invariant_of-self-2
-invariant_of-self-2 g c =
-    let v : Volumed g.row.B.Denot = record { origin = c.self.inside.origin; snaps = c.self.inside.snaps.items; merge = c.self.inside.merge; flights = c.self.inside.flights.items; requests = c.self.inside.requests; copies = c.self.inside.copies; attached = c.self.inside.attached } in
-    elim c.if-is_failed.branch [
-      | then-is_failed w ↦ rw (w.self-inside-is, w.resume.ensures.fields) (whole_resumed g.B.Block.contents g.B.Block.layers g.B.Block.size v c.in-Some.merge c.in-Some.is c.self.invariant)
-      | else-is_failed w ↦ rw (w.self-inside-is) (subst (IsWhole g.B.Block.contents g.B.Block.layers g.B.Block.size) (with_own v c.in-Some.merge c.in-Some.is) c.self.invariant)
-    ]
+invariant_of-self-2 g c = record {
+  whole =
+      let v : Volumed g.row.B.Denot = record { origin = c.self.inside.origin; snaps = c.self.inside.snaps.items; merge = c.self.inside.merge; flights = c.self.inside.flights.items; requests = c.self.inside.requests; copies = c.self.inside.copies; attached = c.self.inside.attached } in
+      elim c.if-is_failed.branch [
+        | then-is_failed w ↦ rw (w.self-inside-is, w.resume.ensures.fields) (whole_resumed g.B.Block.contents g.B.Block.layers g.B.Block.size v c.in-Some.merge c.in-Some.is c.self.invariant.whole)
+        | else-is_failed w ↦ rw (w.self-inside-is) (subst (IsWhole g.B.Block.contents g.B.Block.layers g.B.Block.size) (with_own v c.in-Some.merge c.in-Some.is) c.self.invariant.whole)
+      ];
+  lasting =
+      let v : Volumed g.row.B.Denot = record { origin = c.self.inside.origin; snaps = c.self.inside.snaps.items; merge = c.self.inside.merge; flights = c.self.inside.flights.items; requests = c.self.inside.requests; copies = c.self.inside.copies; attached = c.self.inside.attached } in
+      let l = c.self.invariant.lasting in
+      let m = subst (MergeLasting g.B.Block.may_hold g.B.Block.contents g.B.Block.layers g.B.Block.size v.origin) c.in-Some.is l.merge in
+      elim c.if-is_failed.branch [
+        | then-is_failed w ↦ rw (w.self-inside-is, w.resume.ensures.fields) (record { snaps = l.snaps; merge = m })
+        | else-is_failed w ↦ rw (w.self-inside-is) (record { snaps = l.snaps; merge = m })
+      ];
+}
 
 pub returns-clause-resumed : goal.returns-clause-resumed
 returns-clause-resumed g c =

@@ -1,20 +1,16 @@
 -- The event that is due first is due, and what a stop within an event leaves is by what the looks say before and after it.
-use Rattle.std.proofs.Common.{◌∙◌, sym, ap, subst}
+use Rattle.std.proofs.Common.{◌∙◌, sym, ap}
 use Rattle.volume.specs.Volumed.{Volumed, is_due_of, next_of}
-use Rattle.volume.specs.Whole.{IsWhole}
 use Rattle.volume.proofs.DueBeside.{first_due}
-use Rattle.volume.proofs.StopSteps.{told_event}
+use Rattle.volume.proofs.LastBoth.{volume_stops}
 use Rattle.volume.proofs.volume.Volume.step.Goals as goal
 
 pub returns-in-Err-clause-first : goal.returns-in-Err-clause-first
 returns-in-Err-clause-first g c = λ e.
     (let v : Volumed g.row.B.Denot = record { origin = c.self.inside.origin; snaps = c.self.inside.snaps.items; merge = c.self.inside.merge; flights = c.self.inside.flights.items; requests = c.self.inside.requests; copies = c.self.inside.copies; attached = c.self.inside.attached } in
     let first = ap (λ (x : Volumed _). next_of g.B.Block.contents g.B.Block.layers x) c.self.view_is ∙ e in
-    c.in-Err.ensures.due ∙ ap (λ (x : Volumed _). is_due_of g.B.Block.contents g.B.Block.layers x c.args.event) (sym c.self.view_is) ∙ first_due g.B.Block.contents g.B.Block.layers v c.args.event c.self.invariant.waits.numbers first)
+    c.in-Err.ensures.due ∙ ap (λ (x : Volumed _). is_due_of g.B.Block.contents g.B.Block.layers x c.args.event) (sym c.self.view_is) ∙ first_due g.B.Block.contents g.B.Block.layers v c.args.event c.self.invariant.whole.waits.numbers first)
 
 pub returns-in-Ok-clause-stops : goal.returns-in-Ok-clause-stops
 returns-in-Ok-clause-stops g c = λ loud.
-    let whole : IsWhole g.B.Block.contents g.B.Block.layers g.B.Block.size c.args.self.now = subst (λ (x : Volumed g.row.B.Denot). IsWhole g.B.Block.contents g.B.Block.layers g.B.Block.size x) c.self.view_is c.self.invariant in
-    let step = c.in-Ok.ensures.step in
-    told_event g.B.Block.contents g.B.Block.layers g.B.Block.size g.met.B.Block.whole c.args.self.now c.step_by_kind.new.self whole c.look_inside.ensures.whole loud (step.loud ∙ loud)
-    c.look_at_stores.ensures.in_step c.look_at_stores-in-Ok.ensures.in_step c.look_at_stores.ensures.merge c.look_at_stores-in-Ok.ensures.merge step.kept c.args.event c.in-Ok.outcome c.in-Ok.ensures.exact (step.legal loud) (c.in-Ok.ensures.stops loud)
+    volume_stops g.B.Block.may_hold g.B.Block.contents g.B.Block.layers g.B.Block.size g.met.B.Block.whole g.met.B.Block.holds_now _ c.args.self.now c.step_by_kind.new.self loud c.in-Ok.ensures.stops_snaps c.in-Ok.ensures.stops_origin

@@ -1,230 +1,43 @@
--- A request that no limit, range or missing snapshot refuses is taken by its kind.
-use Rattle.std.proofs.Common.{◌≡◌, ◌∙◌, inl, refl, sym, ap, subst, arith}
-use Rattle.volume.specs.Volumed.{Volumed}
-use Rattle.volume.specs.Submitting.{starting, shut_refusal}
-use Rattle.volume.proofs.Admits.{admitted}
-use Rattle.volume.specs.Whole.{IsWhole}
+-- A request is taken as it is kept.
+use Rattle.std.proofs.Common.{◌≡◌, refl, sym, ◌∙◌, ap, subst}
+use Rattle.plain.specs.declared.request.Request.{Request}
+use Rattle.plain.specs.Kept.{kept}
+use Rattle.event_machine.specs.Submitting.{submitted}
+use Rattle.volume.specs.Moved.{moving_of}
+use Rattle.volume.specs.Submitting.{IsAcceptedAs, IsRefusedAs, submit_refusal}
 use Rattle.volume.proofs.Accepts.{if_ok, if_err}
-use Rattle.volume.proofs.Refusals.{failure_declined, others_unseen, same_refused, starved_refused, write_refused}
-use Rattle.volume.proofs.Keeping.{keeps_all, keeps_same, keeps_refused, of_both}
+use Rattle.volume.proofs.Unflushed.{accepted_kept, kept_bytes, kept_twice, refusal_kept, rejected_kept, submitted_kept}
 use Rattle.volume.proofs.volume.Volume.submit.Goals as goal
 
-pub submit_origin_read-requires-clause-numbers : goal.submit_origin_read-requires-clause-numbers
-submit_origin_read-requires-clause-numbers g c =
-    let a = admitted g.B.Block.size c.args.request c.args.self.now (sym c.in-None.ensures) in
-    omega (arith, a.requests)
+pub submit_kept-requires-clause-whole : goal.submit_kept-requires-clause-whole
+submit_kept-requires-clause-whole g c = rw c.kept.ensures (kept_twice c.args.request.op c.args.request.range)
 
-pub submit_origin_read-requires-clause-kind : goal.submit_origin_read-requires-clause-kind
-submit_origin_read-requires-clause-kind g c =
-    sym c.in-OriginRead.ensures
+pub submit_kept-requires-clause-bytes : goal.submit_kept-requires-clause-bytes
+submit_kept-requires-clause-bytes g c = rw c.kept.ensures (kept_bytes c.args.request.op c.args.request.range c.requires.bytes)
 
-pub submit_origin_read-requires-clause-asked : goal.submit_origin_read-requires-clause-asked
-submit_origin_read-requires-clause-asked g c =
-    let a = admitted g.B.Block.size c.args.request c.args.self.now (sym c.in-None.ensures) in
-    record { some = a.some; inside = a.inside; piece = a.piece; bytes = c.requires.bytes }
+pub returns-clause-ok : goal.returns-clause-ok
+returns-clause-ok g c =
+    let v = c.args.self.now in
+    let w = c.submit_kept.new.self in
+    if_ok c.submit_kept.result _ _ (λ number e. accepted_kept g.B.Block.contents g.B.Block.layers g.B.Block.size v w c.args.request number (subst (λ (r : Request). IsAcceptedAs g.B.Block.contents g.B.Block.layers r number v w) c.kept.ensures e)) c.submit_kept.ensures.ok
 
-pub submit_origin_read-requires-clause-room : goal.submit_origin_read-requires-clause-room
-submit_origin_read-requires-clause-room g c =
-    let a = admitted g.B.Block.size c.args.request c.args.self.now (sym c.in-None.ensures) in
-    a.flights
+pub returns-clause-admitted : goal.returns-clause-admitted
+returns-clause-admitted g c =
+    let v = c.args.self.now in
+    if_ok c.submit_kept.result _ _ (λ number e. sym (refusal_kept g.B.Block.contents g.B.Block.layers g.B.Block.size v v c.args.request) ∙ sym (ap (λ (r : Request). submit_refusal g.B.Block.size r v) c.kept.ensures) ∙ e) c.submit_kept.ensures.admitted
 
-pub submit_origin_write-requires-clause-numbers : goal.submit_origin_write-requires-clause-numbers
-submit_origin_write-requires-clause-numbers g c =
-    let a = admitted g.B.Block.size c.args.request c.args.self.now (sym c.in-None.ensures) in
-    omega (arith, a.requests)
+pub returns-clause-exact : goal.returns-clause-exact
+returns-clause-exact g c =
+    let v = c.args.self.now in
+    if_ok c.submit_kept.result _ _ (λ number e. λ replied. sym (submitted_kept g.B.Block.contents g.B.Block.layers g.B.Block.size v v c.args.request number (moving_of g.B.Block.contents g.B.Block.layers replied v)) ∙ sym (ap (λ (r : Request). submitted number r (moving_of g.B.Block.contents g.B.Block.layers replied v)) c.kept.ensures) ∙ e replied) c.submit_kept.ensures.exact
 
-pub submit_origin_write-requires-clause-kind : goal.submit_origin_write-requires-clause-kind
-submit_origin_write-requires-clause-kind g c =
-    sym c.in-OriginWrite.ensures
+pub returns-clause-refused : goal.returns-clause-refused
+returns-clause-refused g c =
+    let v = c.args.self.now in
+    let w = c.submit_kept.new.self in
+    if_err c.submit_kept.result _ _ (λ refusal e. rejected_kept g.B.Block.contents g.B.Block.layers g.B.Block.size v w c.args.request refusal (subst (λ (r : Request). IsRefusedAs g.B.Block.contents g.B.Block.layers g.B.Block.size r refusal v w) c.kept.ensures e)) c.submit_kept.ensures.refused
 
-pub submit_origin_write-requires-clause-asked : goal.submit_origin_write-requires-clause-asked
-submit_origin_write-requires-clause-asked g c =
-    let a = admitted g.B.Block.size c.args.request c.args.self.now (sym c.in-None.ensures) in
-    record { some = a.some; inside = a.inside; piece = a.piece; bytes = c.requires.bytes }
-
-pub submit_origin_write-requires-clause-room : goal.submit_origin_write-requires-clause-room
-submit_origin_write-requires-clause-room g c =
-    let a = admitted g.B.Block.size c.args.request c.args.self.now (sym c.in-None.ensures) in
-    a.flights
-
-pub submit_origin_write-requires-clause-copies : goal.submit_origin_write-requires-clause-copies
-submit_origin_write-requires-clause-copies g c =
-    let whole : IsWhole g.B.Block.contents g.B.Block.layers g.B.Block.size c.args.self.now = subst (IsWhole g.B.Block.contents g.B.Block.layers g.B.Block.size) c.self.view_is c.self.invariant in
-    let same : c.self.inside.attached ≡ c.args.self.now.attached = ap (λ (x : Volumed g.row.B.Denot). x.attached) c.self.view_is in
-    omega (arith, whole.numbers_left, same, c.self.ranges)
-
-pub submit_origin_write-requires-clause-few : goal.submit_origin_write-requires-clause-few
-submit_origin_write-requires-clause-few g c =
-    let a = admitted g.B.Block.size c.args.request c.args.self.now (sym c.in-None.ensures) in
-    let kind = ap (λ k. starting k c.args.request.range.first c.args.self.now.merge c.args.self.now.snaps) c.in-OriginWrite.ensures in
-    omega (arith, a.few, kind)
-
-pub submit_snap_read-requires-clause-numbers : goal.submit_snap_read-requires-clause-numbers
-submit_snap_read-requires-clause-numbers g c =
-    let a = admitted g.B.Block.size c.args.request c.args.self.now (sym c.in-None.ensures) in
-    omega (arith, a.requests)
-
-pub submit_snap_read-requires-clause-kind : goal.submit_snap_read-requires-clause-kind
-submit_snap_read-requires-clause-kind g c =
-    sym c.in-SnapRead.ensures
-
-pub submit_snap_read-requires-clause-asked : goal.submit_snap_read-requires-clause-asked
-submit_snap_read-requires-clause-asked g c =
-    let a = admitted g.B.Block.size c.args.request c.args.self.now (sym c.in-None.ensures) in
-    record { some = a.some; inside = a.inside; piece = a.piece; bytes = c.requires.bytes }
-
-pub submit_snap_read-requires-clause-room : goal.submit_snap_read-requires-clause-room
-submit_snap_read-requires-clause-room g c =
-    let a = admitted g.B.Block.size c.args.request c.args.self.now (sym c.in-None.ensures) in
-    a.flights
-
-pub submit_snap_read-requires-clause-found : goal.submit_snap_read-requires-clause-found
-submit_snap_read-requires-clause-found g c =
-    let a = admitted g.B.Block.size c.args.request c.args.self.now (sym c.in-None.ensures) in
-    a.dev
-
-pub submit_snap_write-requires-clause-numbers : goal.submit_snap_write-requires-clause-numbers
-submit_snap_write-requires-clause-numbers g c =
-    let a = admitted g.B.Block.size c.args.request c.args.self.now (sym c.in-None.ensures) in
-    omega (arith, a.requests)
-
-pub submit_snap_write-requires-clause-kind : goal.submit_snap_write-requires-clause-kind
-submit_snap_write-requires-clause-kind g c =
-    sym c.in-SnapWrite.ensures
-
-pub submit_snap_write-requires-clause-asked : goal.submit_snap_write-requires-clause-asked
-submit_snap_write-requires-clause-asked g c =
-    let a = admitted g.B.Block.size c.args.request c.args.self.now (sym c.in-None.ensures) in
-    record { some = a.some; inside = a.inside; piece = a.piece; bytes = c.requires.bytes }
-
-pub submit_snap_write-requires-clause-room : goal.submit_snap_write-requires-clause-room
-submit_snap_write-requires-clause-room g c =
-    let a = admitted g.B.Block.size c.args.request c.args.self.now (sym c.in-None.ensures) in
-    a.flights
-
-pub submit_snap_write-requires-clause-found : goal.submit_snap_write-requires-clause-found
-submit_snap_write-requires-clause-found g c =
-    let a = admitted g.B.Block.size c.args.request c.args.self.now (sym c.in-None.ensures) in
-    a.dev
-
-pub submit_snap_write-requires-clause-copies : goal.submit_snap_write-requires-clause-copies
-submit_snap_write-requires-clause-copies g c =
-    let whole : IsWhole g.B.Block.contents g.B.Block.layers g.B.Block.size c.args.self.now = subst (IsWhole g.B.Block.contents g.B.Block.layers g.B.Block.size) c.self.view_is c.self.invariant in
-    let same : c.self.inside.attached ≡ c.args.self.now.attached = ap (λ (x : Volumed g.row.B.Denot). x.attached) c.self.view_is in
-    omega (arith, whole.numbers_left, same, c.self.ranges)
-
-pub submit_snap_write-requires-clause-few : goal.submit_snap_write-requires-clause-few
-submit_snap_write-requires-clause-few g c =
-    let a = admitted g.B.Block.size c.args.request c.args.self.now (sym c.in-None.ensures) in
-    let kind = ap (λ k. starting k c.args.request.range.first c.args.self.now.merge c.args.self.now.snaps) c.in-SnapWrite.ensures in
-    omega (arith, a.few, kind)
-
-pub submit_snap_write-requires-clause-writable : goal.submit_snap_write-requires-clause-writable
-submit_snap_write-requires-clause-writable g c =
-    let a = admitted g.B.Block.size c.args.request c.args.self.now (sym c.in-None.ensures) in
-    ap (λ k. shut_refusal k c.args.self.now.snaps) c.in-SnapWrite.ensures ∙ a.writable
-
-pub returns-in-Some-clause-declined : goal.returns-in-Some-clause-declined
-returns-in-Some-clause-declined g c =
-    let whole : IsWhole g.B.Block.contents g.B.Block.layers g.B.Block.size c.args.self.now = subst (IsWhole g.B.Block.contents g.B.Block.layers g.B.Block.size) c.self.view_is c.self.invariant in
-    failure_declined g.B.Block.contents g.B.Block.layers g.B.Block.size c.args.self.now c.args.self.now whole c.args.request c.in-Some.refusal (inl (sym c.in-Some.ensures, refl))
-
-pub returns-in-Some-clause-starved : goal.returns-in-Some-clause-starved
-returns-in-Some-clause-starved g c =
-    λ other unmarked replied. refl
-
-pub returns-in-OriginRead-clause-exact : goal.returns-in-OriginRead-clause-exact
-returns-in-OriginRead-clause-exact g c =
-    if_ok c.submit_origin_read.result _ _ (λ number e. e.exact) c.submit_origin_read.ensures.ok
-
-pub returns-in-OriginRead-clause-declined : goal.returns-in-OriginRead-clause-declined
-returns-in-OriginRead-clause-declined g c =
-    let whole : IsWhole g.B.Block.contents g.B.Block.layers g.B.Block.size c.args.self.now = subst (IsWhole g.B.Block.contents g.B.Block.layers g.B.Block.size) c.self.view_is c.self.invariant in
-    if_err c.submit_origin_read.result _ _ (λ e r. failure_declined g.B.Block.contents g.B.Block.layers g.B.Block.size c.args.self.now c.submit_origin_read.new.self whole c.args.request e (same_refused g.B.Block.contents g.B.Block.layers g.B.Block.size c.args.request e c.args.self.now c.submit_origin_read.new.self (sym c.in-None.ensures) r)) c.submit_origin_read.ensures.err
-
-pub returns-in-OriginRead-clause-starved : goal.returns-in-OriginRead-clause-starved
-returns-in-OriginRead-clause-starved g c =
-    let whole : IsWhole g.B.Block.contents g.B.Block.layers g.B.Block.size c.args.self.now = subst (IsWhole g.B.Block.contents g.B.Block.layers g.B.Block.size) c.self.view_is c.self.invariant in
-    if_err c.submit_origin_read.result _ _ (λ e r. others_unseen g.B.Block.contents g.B.Block.layers g.B.Block.size c.args.self.now c.submit_origin_read.new.self whole c.args.request e (same_refused g.B.Block.contents g.B.Block.layers g.B.Block.size c.args.request e c.args.self.now c.submit_origin_read.new.self (sym c.in-None.ensures) r)) c.submit_origin_read.ensures.err
-
-pub returns-in-OriginWrite-clause-exact : goal.returns-in-OriginWrite-clause-exact
-returns-in-OriginWrite-clause-exact g c =
-    if_ok c.submit_origin_write.result _ _ (λ number e. e.exact) c.submit_origin_write.ensures.ok
-
-pub returns-in-OriginWrite-clause-declined : goal.returns-in-OriginWrite-clause-declined
-returns-in-OriginWrite-clause-declined g c =
-    let whole : IsWhole g.B.Block.contents g.B.Block.layers g.B.Block.size c.args.self.now = subst (IsWhole g.B.Block.contents g.B.Block.layers g.B.Block.size) c.self.view_is c.self.invariant in
-    if_err c.submit_origin_write.result _ _ (λ e r. failure_declined g.B.Block.contents g.B.Block.layers g.B.Block.size c.args.self.now c.submit_origin_write.new.self whole c.args.request e (starved_refused g.B.Block.contents g.B.Block.layers g.B.Block.size c.args.request e c.args.self.now c.submit_origin_write.new.self (sym c.in-None.ensures) r)) c.submit_origin_write.ensures.err
-
-pub returns-in-OriginWrite-clause-starved : goal.returns-in-OriginWrite-clause-starved
-returns-in-OriginWrite-clause-starved g c =
-    let whole : IsWhole g.B.Block.contents g.B.Block.layers g.B.Block.size c.args.self.now = subst (IsWhole g.B.Block.contents g.B.Block.layers g.B.Block.size) c.self.view_is c.self.invariant in
-    if_err c.submit_origin_write.result _ _ (λ e r. others_unseen g.B.Block.contents g.B.Block.layers g.B.Block.size c.args.self.now c.submit_origin_write.new.self whole c.args.request e (starved_refused g.B.Block.contents g.B.Block.layers g.B.Block.size c.args.request e c.args.self.now c.submit_origin_write.new.self (sym c.in-None.ensures) r)) c.submit_origin_write.ensures.err
-
-pub returns-in-SnapRead-clause-exact : goal.returns-in-SnapRead-clause-exact
-returns-in-SnapRead-clause-exact g c =
-    if_ok c.submit_snap_read.result _ _ (λ number e. e.exact) c.submit_snap_read.ensures.ok
-
-pub returns-in-SnapRead-clause-declined : goal.returns-in-SnapRead-clause-declined
-returns-in-SnapRead-clause-declined g c =
-    let whole : IsWhole g.B.Block.contents g.B.Block.layers g.B.Block.size c.args.self.now = subst (IsWhole g.B.Block.contents g.B.Block.layers g.B.Block.size) c.self.view_is c.self.invariant in
-    if_err c.submit_snap_read.result _ _ (λ e r. failure_declined g.B.Block.contents g.B.Block.layers g.B.Block.size c.args.self.now c.submit_snap_read.new.self whole c.args.request e (same_refused g.B.Block.contents g.B.Block.layers g.B.Block.size c.args.request e c.args.self.now c.submit_snap_read.new.self (sym c.in-None.ensures) r)) c.submit_snap_read.ensures.err
-
-pub returns-in-SnapRead-clause-starved : goal.returns-in-SnapRead-clause-starved
-returns-in-SnapRead-clause-starved g c =
-    let whole : IsWhole g.B.Block.contents g.B.Block.layers g.B.Block.size c.args.self.now = subst (IsWhole g.B.Block.contents g.B.Block.layers g.B.Block.size) c.self.view_is c.self.invariant in
-    if_err c.submit_snap_read.result _ _ (λ e r. others_unseen g.B.Block.contents g.B.Block.layers g.B.Block.size c.args.self.now c.submit_snap_read.new.self whole c.args.request e (same_refused g.B.Block.contents g.B.Block.layers g.B.Block.size c.args.request e c.args.self.now c.submit_snap_read.new.self (sym c.in-None.ensures) r)) c.submit_snap_read.ensures.err
-
-pub returns-in-SnapWrite-clause-exact : goal.returns-in-SnapWrite-clause-exact
-returns-in-SnapWrite-clause-exact g c =
-    if_ok c.submit_snap_write.result _ _ (λ number e. e.exact) c.submit_snap_write.ensures.ok
-
-pub returns-in-SnapWrite-clause-declined : goal.returns-in-SnapWrite-clause-declined
-returns-in-SnapWrite-clause-declined g c =
-    let whole : IsWhole g.B.Block.contents g.B.Block.layers g.B.Block.size c.args.self.now = subst (IsWhole g.B.Block.contents g.B.Block.layers g.B.Block.size) c.self.view_is c.self.invariant in
-    if_err c.submit_snap_write.result _ _ (λ e r. failure_declined g.B.Block.contents g.B.Block.layers g.B.Block.size c.args.self.now c.submit_snap_write.new.self whole c.args.request e (write_refused g.B.Block.contents g.B.Block.layers g.B.Block.size c.args.request e c.args.self.now c.submit_snap_write.new.self (sym c.in-None.ensures) c.in-SnapWrite.id (sym c.in-SnapWrite.ensures) r)) c.submit_snap_write.ensures.err
-
-pub returns-in-SnapWrite-clause-starved : goal.returns-in-SnapWrite-clause-starved
-returns-in-SnapWrite-clause-starved g c =
-    let whole : IsWhole g.B.Block.contents g.B.Block.layers g.B.Block.size c.args.self.now = subst (IsWhole g.B.Block.contents g.B.Block.layers g.B.Block.size) c.self.view_is c.self.invariant in
-    if_err c.submit_snap_write.result _ _ (λ e r. others_unseen g.B.Block.contents g.B.Block.layers g.B.Block.size c.args.self.now c.submit_snap_write.new.self whole c.args.request e (write_refused g.B.Block.contents g.B.Block.layers g.B.Block.size c.args.request e c.args.self.now c.submit_snap_write.new.self (sym c.in-None.ensures) c.in-SnapWrite.id (sym c.in-SnapWrite.ensures) r)) c.submit_snap_write.ensures.err
-
-pub returns-in-Some-clause-kept : goal.returns-in-Some-clause-kept
-returns-in-Some-clause-kept g c =
-    keeps_all g.B.Block.size c.args.self.now c.args.self.now (keeps_same g.B.Block.contents g.B.Block.layers c.args.self.now c.args.self.now refl)
-
-pub returns-in-Some-clause-untouched : goal.returns-in-Some-clause-untouched
-returns-in-Some-clause-untouched g c =
-    keeps_same g.B.Block.contents g.B.Block.layers c.args.self.now c.args.self.now refl
-
-pub returns-in-OriginRead-clause-kept : goal.returns-in-OriginRead-clause-kept
-returns-in-OriginRead-clause-kept g c =
-    keeps_all g.B.Block.size c.args.self.now c.submit_origin_read.new.self (of_both c.submit_origin_read.result _ _ (λ number e. e.kept) (λ e r. keeps_refused g.B.Block.contents g.B.Block.layers g.B.Block.size c.args.request e c.args.self.now c.submit_origin_read.new.self (same_refused g.B.Block.contents g.B.Block.layers g.B.Block.size c.args.request e c.args.self.now c.submit_origin_read.new.self (sym c.in-None.ensures) r)) c.submit_origin_read.ensures.ok c.submit_origin_read.ensures.err)
-
-pub returns-in-OriginRead-clause-untouched : goal.returns-in-OriginRead-clause-untouched
-returns-in-OriginRead-clause-untouched g c =
-    of_both c.submit_origin_read.result _ _ (λ number e. e.kept) (λ e r. keeps_refused g.B.Block.contents g.B.Block.layers g.B.Block.size c.args.request e c.args.self.now c.submit_origin_read.new.self (same_refused g.B.Block.contents g.B.Block.layers g.B.Block.size c.args.request e c.args.self.now c.submit_origin_read.new.self (sym c.in-None.ensures) r)) c.submit_origin_read.ensures.ok c.submit_origin_read.ensures.err
-
-pub returns-in-OriginWrite-clause-kept : goal.returns-in-OriginWrite-clause-kept
-returns-in-OriginWrite-clause-kept g c =
-    keeps_all g.B.Block.size c.args.self.now c.submit_origin_write.new.self (of_both c.submit_origin_write.result _ _ (λ number e. e.kept) (λ e r. keeps_refused g.B.Block.contents g.B.Block.layers g.B.Block.size c.args.request e c.args.self.now c.submit_origin_write.new.self (starved_refused g.B.Block.contents g.B.Block.layers g.B.Block.size c.args.request e c.args.self.now c.submit_origin_write.new.self (sym c.in-None.ensures) r)) c.submit_origin_write.ensures.ok c.submit_origin_write.ensures.err)
-
-pub returns-in-OriginWrite-clause-untouched : goal.returns-in-OriginWrite-clause-untouched
-returns-in-OriginWrite-clause-untouched g c =
-    of_both c.submit_origin_write.result _ _ (λ number e. e.kept) (λ e r. keeps_refused g.B.Block.contents g.B.Block.layers g.B.Block.size c.args.request e c.args.self.now c.submit_origin_write.new.self (starved_refused g.B.Block.contents g.B.Block.layers g.B.Block.size c.args.request e c.args.self.now c.submit_origin_write.new.self (sym c.in-None.ensures) r)) c.submit_origin_write.ensures.ok c.submit_origin_write.ensures.err
-
-pub returns-in-SnapRead-clause-kept : goal.returns-in-SnapRead-clause-kept
-returns-in-SnapRead-clause-kept g c =
-    keeps_all g.B.Block.size c.args.self.now c.submit_snap_read.new.self (of_both c.submit_snap_read.result _ _ (λ number e. e.kept) (λ e r. keeps_refused g.B.Block.contents g.B.Block.layers g.B.Block.size c.args.request e c.args.self.now c.submit_snap_read.new.self (same_refused g.B.Block.contents g.B.Block.layers g.B.Block.size c.args.request e c.args.self.now c.submit_snap_read.new.self (sym c.in-None.ensures) r)) c.submit_snap_read.ensures.ok c.submit_snap_read.ensures.err)
-
-pub returns-in-SnapRead-clause-untouched : goal.returns-in-SnapRead-clause-untouched
-returns-in-SnapRead-clause-untouched g c =
-    of_both c.submit_snap_read.result _ _ (λ number e. e.kept) (λ e r. keeps_refused g.B.Block.contents g.B.Block.layers g.B.Block.size c.args.request e c.args.self.now c.submit_snap_read.new.self (same_refused g.B.Block.contents g.B.Block.layers g.B.Block.size c.args.request e c.args.self.now c.submit_snap_read.new.self (sym c.in-None.ensures) r)) c.submit_snap_read.ensures.ok c.submit_snap_read.ensures.err
-
-pub returns-in-SnapWrite-clause-kept : goal.returns-in-SnapWrite-clause-kept
-returns-in-SnapWrite-clause-kept g c =
-    keeps_all g.B.Block.size c.args.self.now c.submit_snap_write.new.self (of_both c.submit_snap_write.result _ _ (λ number e. e.kept) (λ e r. keeps_refused g.B.Block.contents g.B.Block.layers g.B.Block.size c.args.request e c.args.self.now c.submit_snap_write.new.self (write_refused g.B.Block.contents g.B.Block.layers g.B.Block.size c.args.request e c.args.self.now c.submit_snap_write.new.self (sym c.in-None.ensures) c.in-SnapWrite.id (sym c.in-SnapWrite.ensures) r)) c.submit_snap_write.ensures.ok c.submit_snap_write.ensures.err)
-
-pub returns-in-SnapWrite-clause-untouched : goal.returns-in-SnapWrite-clause-untouched
-returns-in-SnapWrite-clause-untouched g c =
-    of_both c.submit_snap_write.result _ _ (λ number e. e.kept) (λ e r. keeps_refused g.B.Block.contents g.B.Block.layers g.B.Block.size c.args.request e c.args.self.now c.submit_snap_write.new.self (write_refused g.B.Block.contents g.B.Block.layers g.B.Block.size c.args.request e c.args.self.now c.submit_snap_write.new.self (sym c.in-None.ensures) c.in-SnapWrite.id (sym c.in-SnapWrite.ensures) r)) c.submit_snap_write.ensures.ok c.submit_snap_write.ensures.err
+pub returns-clause-declined : goal.returns-clause-declined
+returns-clause-declined g c =
+    let v = c.args.self.now in
+    if_err c.submit_kept.result _ _ (λ refusal e. λ failure is other number replied. sym (submitted_kept g.B.Block.contents g.B.Block.layers g.B.Block.size v v c.args.request number (moving_of g.B.Block.contents g.B.Block.layers replied v)) ∙ sym (ap (λ (r : Request). submitted number r (moving_of g.B.Block.contents g.B.Block.layers replied v)) c.kept.ensures) ∙ e failure is other number replied) c.submit_kept.ensures.declined

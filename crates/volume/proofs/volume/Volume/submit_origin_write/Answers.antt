@@ -23,7 +23,7 @@ enter-requires-clause-goes g c = λ f h number same route room.
 
 pub returns-then-is_merged_at-clause-ok : goal.returns-then-is_merged_at-clause-ok
 returns-then-is_merged_at-clause-ok g c =
-    let whole : IsWhole g.B.Block.contents g.B.Block.layers g.B.Block.size c.args.self.now = subst (IsWhole g.B.Block.contents g.B.Block.layers g.B.Block.size) c.self.view_is c.self.invariant in
+    let whole : IsWhole g.B.Block.contents g.B.Block.layers g.B.Block.size c.args.self.now = subst (IsWhole g.B.Block.contents g.B.Block.layers g.B.Block.size) c.self.view_is c.self.invariant.whole in
     let merged : is_merged_at c.args.request.range.first c.args.self.now.merge ≡ true = ap (λ (x : Volumed g.row.B.Denot). is_merged_at c.args.request.range.first x.merge) (sym c.self.view_is) ∙ sym c.if-is_merged_at.ensures in
     let to = c.merged_route-route.ensures ∙ ap (λ (x : Volumed g.row.B.Denot). write_route_of (is_grouped_at c.args.request.range.first x.merge) (place_at c.args.request.range.first x.merge) false) c.self.view_is in
     if_ok c.enter.result _ _ (λ number e. merged_accepted g.B.Block.contents g.B.Block.layers g.B.Block.size c.args.request c.merged_route-route.result number c.args.self.now c.enter.new.self whole c.requires.kind merged to e) c.enter.ensures.ok

@@ -12,6 +12,7 @@ use Rattle.snapshots.specs.Finding.{place_of_snap}
 use Rattle.volume.specs.Submitting.{IsAsked}
 use Rattle.volume.proofs.Named.{dev_of_read, found_some, found_within, is_named, snap_read_goes}
 use Rattle.volume.proofs.Accepts.{if_ok, entered_accepted}
+use Rattle.volume.proofs.Unflushed.{unflushed}
 use Rattle.volume.proofs.Submitted.{snap_read_submitted}
 use Rattle.volume.proofs.volume.Volume.submit_snap_read.Goals as goal
 
@@ -38,8 +39,8 @@ pub returns-clause-ok : goal.returns-clause-ok
 returns-clause-ok g c =
     let s : Kept g.row.B.Denot = c.index-snap.result.now in
     let named = is_named c.args.self.now c.self.inside.snaps.items c.args.request.dev c.args.id c.in-Some.k s (ap (λ (x : Volumed g.row.B.Denot). x.snaps) c.self.view_is) c.index-snap.ensures c.requires.found (dev_of_read c.args.request c.args.id c.requires.kind) (c.in-Some.ensures ∙ ap (place_of_snap c.args.id) c.as_slice.ensures.value) in
-    let whole : IsWhole g.B.Block.contents g.B.Block.layers g.B.Block.size c.args.self.now = subst (IsWhole g.B.Block.contents g.B.Block.layers g.B.Block.size) c.self.view_is c.self.invariant in
+    let whole : IsWhole g.B.Block.contents g.B.Block.layers g.B.Block.size c.args.self.now = subst (IsWhole g.B.Block.contents g.B.Block.layers g.B.Block.size) c.self.view_is c.self.invariant.whole in
     let route = c.read_route-route.ensures ∙ ap read_route_of c.place_of.ensures ∙ ap (λ (n : ℕ). read_route_of (place_of s.pairs n)) c.own_chunk.ensures in
     if_ok c.enter.result _ _
-    (λ number e. entered_accepted g.B.Block.contents g.B.Block.layers c.args.request c.read_route-route.result number c.args.self.now c.enter.new.self (SnapRead c.args.id) c.requires.kind refl refl e
+    (λ number e. entered_accepted g.B.Block.contents g.B.Block.layers c.args.request c.read_route-route.result number c.args.self.now c.enter.new.self (SnapRead c.args.id) c.requires.kind (unflushed c.args.request (SnapRead c.args.id) c.requires.kind tt) refl refl e
     (snap_read_submitted g.B.Block.contents g.B.Block.layers g.B.Block.size c.args.self.now whole c.args.request c.read_route-route.result number c.enter.new.self e c.args.id c.in-Some.k s named c.requires.kind route)) c.enter.ensures.ok

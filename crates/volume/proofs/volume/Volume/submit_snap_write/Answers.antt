@@ -16,6 +16,7 @@ use Rattle.snapshots.specs.Starting.{lacks}
 use Rattle.volume.specs.Submitting.{IsAsked}
 use Rattle.volume.proofs.Named.{dev_of_write, found_open, found_some, found_within, is_named, index_same, snap_write_placed_goes, snap_write_held_goes}
 use Rattle.volume.proofs.Accepts.{if_ok, entered_accepted}
+use Rattle.volume.proofs.Unflushed.{unflushed}
 use Rattle.volume.proofs.Submitted.{snap_placed_submitted, snap_waits_submitted}
 use Rattle.volume.proofs.volume.Volume.submit_snap_write.Goals as goal
 
@@ -59,11 +60,11 @@ returns-then-is_published-clause-ok g c =
     let place = c.in-Some.ensures ∙ ap (place_of_snap c.args.id) c.as_slice.ensures.value in
     let named = is_named c.args.self.now c.self.inside.snaps.items c.args.request.dev c.args.id c.in-Some.k s (ap (λ (x : Volumed g.row.B.Denot). x.snaps) c.self.view_is) c.index-snap.ensures c.requires.found (dev_of_write c.args.request c.args.id c.requires.kind) place in
     let published = sym (ap (is_published s.pairs s.marks) c.own_chunk-chunk.ensures) ∙ sym c.if-is_published.ensures in
-    let whole : IsWhole g.B.Block.contents g.B.Block.layers g.B.Block.size c.args.self.now = subst (IsWhole g.B.Block.contents g.B.Block.layers g.B.Block.size) c.self.view_is c.self.invariant in
+    let whole : IsWhole g.B.Block.contents g.B.Block.layers g.B.Block.size c.args.self.now = subst (IsWhole g.B.Block.contents g.B.Block.layers g.B.Block.size) c.self.view_is c.self.invariant.whole in
     let route = c.read_route-route.ensures ∙ ap read_route_of c.place_of.ensures ∙ ap (λ (n : ℕ). read_route_of (place_of s.pairs n)) c.own_chunk-chunk.ensures in
     let did = ap (λ (x : Kept g.row.B.Denot). did_overflow x.overflow) named.is ∙ found_open c.args.self.now.snaps c.args.id c.in-Some.k s c.requires.writable (place ∙ ap (λ (x : Volumed g.row.B.Denot). place_of_snap c.args.id x.snaps) c.self.view_is) in
     if_ok c.enter.result _ _
-    (λ number e. entered_accepted g.B.Block.contents g.B.Block.layers c.args.request c.read_route-route.result number c.args.self.now c.enter.new.self (SnapWrite c.args.id) c.requires.kind refl refl e
+    (λ number e. entered_accepted g.B.Block.contents g.B.Block.layers c.args.request c.read_route-route.result number c.args.self.now c.enter.new.self (SnapWrite c.args.id) c.requires.kind (unflushed c.args.request (SnapWrite c.args.id) c.requires.kind tt) refl refl e
     (snap_placed_submitted g.B.Block.contents g.B.Block.layers g.B.Block.size c.args.self.now whole c.args.request c.read_route-route.result number c.enter.new.self e c.args.id c.in-Some.k s named c.requires.kind did (sym c.if-is_lacking.ensures) published route)) c.enter.ensures.ok
 
 pub returns-clause-ok : goal.returns-clause-ok
@@ -72,10 +73,10 @@ returns-clause-ok g c =
     let place = c.in-Some.ensures ∙ ap (place_of_snap c.args.id) c.as_slice.ensures.value in
     let named = is_named c.args.self.now c.self.inside.snaps.items c.args.request.dev c.args.id c.in-Some.k s (ap (λ (x : Volumed g.row.B.Denot). x.snaps) c.self.view_is) c.index-snap.ensures c.requires.found (dev_of_write c.args.request c.args.id c.requires.kind) place in
     let published = sym (ap (is_published s.pairs s.marks) c.own_chunk-chunk.ensures) ∙ sym c.if-is_published.ensures in
-    let whole : IsWhole g.B.Block.contents g.B.Block.layers g.B.Block.size c.args.self.now = subst (IsWhole g.B.Block.contents g.B.Block.layers g.B.Block.size) c.self.view_is c.self.invariant in
+    let whole : IsWhole g.B.Block.contents g.B.Block.layers g.B.Block.size c.args.self.now = subst (IsWhole g.B.Block.contents g.B.Block.layers g.B.Block.size) c.self.view_is c.self.invariant.whole in
     let did = ap (λ (x : Kept g.row.B.Denot). did_overflow x.overflow) named.is ∙ found_open c.args.self.now.snaps c.args.id c.in-Some.k s c.requires.writable (place ∙ ap (λ (x : Volumed g.row.B.Denot). place_of_snap c.args.id x.snaps) c.self.view_is) in
     if_ok c.enter-2.result _ _
-    (λ number e. entered_accepted g.B.Block.contents g.B.Block.layers c.args.request Held number c.args.self.now c.enter-2.new.self (SnapWrite c.args.id) c.requires.kind refl refl e
+    (λ number e. entered_accepted g.B.Block.contents g.B.Block.layers c.args.request Held number c.args.self.now c.enter-2.new.self (SnapWrite c.args.id) c.requires.kind (unflushed c.args.request (SnapWrite c.args.id) c.requires.kind tt) refl refl e
     (snap_waits_submitted g.B.Block.contents g.B.Block.layers g.B.Block.size c.args.self.now whole c.args.request Held number c.enter-2.new.self e c.args.id c.in-Some.k s named c.requires.kind did published (sym c.if-is_lacking.ensures) refl)) c.enter-2.ensures.ok
 
 pub start_and_enter-requires-clause-lacking : goal.start_and_enter-requires-clause-lacking

@@ -10,10 +10,10 @@ use Rattle.volume.proofs.DueEvents.{due_by, snap_found, snap_due}
 use Rattle.volume.proofs.Chunks.{chunks_set}
 use Rattle.volume.proofs.Tried.{marked_done, marked_fault}
 use Rattle.volume.proofs.Exactly.{marked_exact, marked_fault_exact}
-use Rattle.volume.specs.Stopping.{MarksWithin}
 use Rattle.volume.specs.Volumed.{Volumed}
-use Rattle.volume.proofs.StopOwn.{writes_at}
-use Rattle.volume.proofs.StopStill.{loud_snap}
+use Rattle.volume.proofs.LastMoves.{mark_moves, fails_moves}
+use Rattle.volume.proofs.LastBoth.{met_both, beside_both}
+use Rattle.std.specs.Prelude.{None}
 use Rattle.volume.proofs.volume.Volume.write_invalid.Goals as goal
 use Rattle.merge_beside.specs.Rooms.{merge_books}
 
@@ -25,7 +25,7 @@ write_invalid-requires-clause-untried g c =
     let within : k < length v.snaps.items = omega (arith, c.in-Some.ensures.found.0, ap length c.deref.ensures.value) in
     let is = c.index_mut-snap.ensures.value in
     let found : is_trying c.args.number s ≡ true = snap_found (is_trying c.args.number) k v.snaps.items c.deref.result.now s c.deref.ensures.value is (c.in-Some.ensures.found.1 s) in
-    trying_untried g.B.Block.contents g.B.Block.layers g.B.Block.size g.B.Block.fault_count g.B.Block.done_count _ c.self.invariant c.args.number k s s within is found
+    trying_untried g.B.Block.contents g.B.Block.layers g.B.Block.size g.B.Block.fault_count g.B.Block.done_count _ c.self.invariant.whole c.args.number k s s within is found
 
 pub write_invalid-requires-clause-unmarked : goal.write_invalid-requires-clause-unmarked
 write_invalid-requires-clause-unmarked g c =
@@ -35,18 +35,30 @@ write_invalid-requires-clause-unmarked g c =
     let within : k < length v.snaps.items = omega (arith, c.in-Some.ensures.found.0, ap length c.deref.ensures.value) in
     let is = c.index_mut-snap.ensures.value in
     let found : is_trying c.args.number s ≡ true = snap_found (is_trying c.args.number) k v.snaps.items c.deref.result.now s c.deref.ensures.value is (c.in-Some.ensures.found.1 s) in
-    trying_unmarked g.B.Block.contents g.B.Block.layers g.B.Block.size g.B.Block.fault_count g.B.Block.done_count _ c.self.invariant c.args.number k s s within is found
+    trying_unmarked g.B.Block.contents g.B.Block.layers g.B.Block.size g.B.Block.fault_count g.B.Block.done_count _ c.self.invariant.whole c.args.number k s s within is found
 
 pub invariant_of-self : goal.invariant_of-self
-invariant_of-self g c =
-    let v = c.self.inside in
-    let s = c.index_mut-snap.result.now in
-    let k = c.in-Some.place in
-    let within : k < length v.snaps.items = omega (arith, c.in-Some.ensures.found.0, ap length c.deref.ensures.value) in
-    let is = c.index_mut-snap.ensures.value in
-    let found : is_trying c.args.number s ≡ true = snap_found (is_trying c.args.number) k v.snaps.items c.deref.result.now s c.deref.ensures.value is (c.in-Some.ensures.found.1 s) in
-    let good = marked_done g.B.Block.contents g.B.Block.layers g.B.Block.size g.B.Block.fault_count g.B.Block.done_count _ c.self.invariant c.args.number k s c.write_invalid.new.self within is found c.write_invalid.new.self.device c.in-Ok.ensures.fields c.in-Ok.ensures.writes c.write_invalid.ensures.loud c.write_invalid.ensures.size c.in-Ok.ensures.operation.counted c.in-Ok.ensures.operation.faulty in
-    good.whole
+invariant_of-self g c = record {
+  whole =
+      let v = c.self.inside in
+      let s = c.index_mut-snap.result.now in
+      let k = c.in-Some.place in
+      let within : k < length v.snaps.items = omega (arith, c.in-Some.ensures.found.0, ap length c.deref.ensures.value) in
+      let is = c.index_mut-snap.ensures.value in
+      let found : is_trying c.args.number s ≡ true = snap_found (is_trying c.args.number) k v.snaps.items c.deref.result.now s c.deref.ensures.value is (c.in-Some.ensures.found.1 s) in
+      let good = marked_done g.B.Block.contents g.B.Block.layers g.B.Block.size g.B.Block.fault_count g.B.Block.done_count _ c.self.invariant.whole c.args.number k s c.write_invalid.new.self within is found c.write_invalid.new.self.device c.in-Ok.ensures.fields c.in-Ok.ensures.writes c.write_invalid.ensures.loud c.write_invalid.ensures.size c.in-Ok.ensures.operation.counted c.in-Ok.ensures.operation.faulty in
+      good.whole;
+  lasting =
+      let v = c.self.inside in
+      let s = c.index_mut-snap.result.now in
+      let k = c.in-Some.place in
+      let within : k < length v.snaps.items = omega (arith, c.in-Some.ensures.found.0, ap length c.deref.ensures.value) in
+      let is = c.index_mut-snap.ensures.value in
+      let found : is_trying c.args.number s ≡ true = snap_found (is_trying c.args.number) k v.snaps.items c.deref.result.now s c.deref.ensures.value is (c.in-Some.ensures.found.1 s) in
+      let goes = mark_moves g.B.Block.may_hold g.B.Block.contents g.B.Block.layers g.B.Block.size g.met.B.Block.whole g.met.B.Block.holds_now _ c.self.invariant.whole c.self.invariant.lasting.snaps None k s c.write_invalid.new.self v.flights.items within c.index_mut-snap.ensures.value (trying_untried g.B.Block.contents g.B.Block.layers g.B.Block.size g.B.Block.fault_count g.B.Block.done_count _ c.self.invariant.whole c.args.number k s s within is found) c.in-Ok.ensures.fields c.write_invalid.ensures.only c.write_invalid.ensures.in_step (record { adds = c.write_invalid.ensures.adds; sectors = c.write_invalid.ensures.size; loud = c.write_invalid.ensures.loud }) in
+      let both = beside_both g.B.Block.may_hold g.B.Block.contents g.B.Block.layers g.B.Block.size g.met.B.Block.whole g.met.B.Block.holds_now _ c.self.invariant.whole c.self.invariant.lasting None _ goes refl refl in
+      record { snaps = both.lasts; merge = both.merge };
+}
 
 pub route_again-requires : goal.route_again-requires
 route_again-requires g c =
@@ -56,20 +68,34 @@ route_again-requires g c =
     let within : k < length v.snaps.items = omega (arith, c.in-Some.ensures.found.0, ap length c.deref.ensures.value) in
     let is = c.index_mut-snap.ensures.value in
     let found : is_trying c.args.number s ≡ true = snap_found (is_trying c.args.number) k v.snaps.items c.deref.result.now s c.deref.ensures.value is (c.in-Some.ensures.found.1 s) in
-    subst (All (λ (x : Kept _). 0 < x.state.chunk)) (sym c.deref-in-Err.ensures.value) (chunks_set g.B.Block.contents g.B.Block.layers g.B.Block.size _ c.self.invariant k s c.write_invalid.new.self within is (ap (λ (x : Kept _). x.state.chunk) c.in-Err.ensures.fails))
+    subst (All (λ (x : Kept _). 0 < x.state.chunk)) (sym c.deref-in-Err.ensures.value) (chunks_set g.B.Block.contents g.B.Block.layers g.B.Block.size _ c.self.invariant.whole k s c.write_invalid.new.self within is (ap (λ (x : Kept _). x.state.chunk) c.in-Err.ensures.fails))
 
 pub invariant_of-self-in-Err : goal.invariant_of-self-in-Err
-invariant_of-self-in-Err g c =
-    let v = c.self.inside in
-    let s = c.index_mut-snap.result.now in
-    let k = c.in-Some.place in
-    let within : k < length v.snaps.items = omega (arith, c.in-Some.ensures.found.0, ap length c.deref.ensures.value) in
-    let is = c.index_mut-snap.ensures.value in
-    let found : is_trying c.args.number s ≡ true = snap_found (is_trying c.args.number) k v.snaps.items c.deref.result.now s c.deref.ensures.value is (c.in-Some.ensures.found.1 s) in
-    let good = marked_fault g.B.Block.contents g.B.Block.layers g.B.Block.size g.B.Block.fault_count g.B.Block.done_count _ c.self.invariant c.args.number k s c.write_invalid.new.self within is c.write_invalid.new.self.device true c.in-Err.ensures.fails c.in-Err.ensures.tries c.write_invalid.ensures.loud c.write_invalid.ensures.size c.in-Err.ensures.operation.counted found refl c.in-Err.ensures.operation.faulty in
-    let flights : c.route_again.new.flights.items ≡ map (again_of (merge_books g.B.Block.contents g.B.Block.layers true v.merge) (is_clear (map (books_of g.B.Block.contents g.B.Block.layers) (slice_set v.snaps.items k c.write_invalid.new.self)))) v.flights.items =
-    c.route_again.ensures ∙ ap (λ xs. map (again_of (merge_books g.B.Block.contents g.B.Block.layers true v.merge) (is_clear (map (books_of g.B.Block.contents g.B.Block.layers) xs))) v.flights.items) c.deref-in-Err.ensures.value in
-    rw flights good.whole
+invariant_of-self-in-Err g c = record {
+  whole =
+      let v = c.self.inside in
+      let s = c.index_mut-snap.result.now in
+      let k = c.in-Some.place in
+      let within : k < length v.snaps.items = omega (arith, c.in-Some.ensures.found.0, ap length c.deref.ensures.value) in
+      let is = c.index_mut-snap.ensures.value in
+      let found : is_trying c.args.number s ≡ true = snap_found (is_trying c.args.number) k v.snaps.items c.deref.result.now s c.deref.ensures.value is (c.in-Some.ensures.found.1 s) in
+      let good = marked_fault g.B.Block.contents g.B.Block.layers g.B.Block.size g.B.Block.fault_count g.B.Block.done_count _ c.self.invariant.whole c.args.number k s c.write_invalid.new.self within is c.write_invalid.new.self.device true c.in-Err.ensures.fails c.in-Err.ensures.tries c.write_invalid.ensures.loud c.write_invalid.ensures.size c.in-Err.ensures.operation.counted found refl c.in-Err.ensures.operation.faulty in
+      let flights : c.route_again.new.flights.items ≡ map (again_of (merge_books g.B.Block.contents g.B.Block.layers true v.merge) (is_clear (map (books_of g.B.Block.contents g.B.Block.layers) (slice_set v.snaps.items k c.write_invalid.new.self)))) v.flights.items =
+      c.route_again.ensures ∙ ap (λ xs. map (again_of (merge_books g.B.Block.contents g.B.Block.layers true v.merge) (is_clear (map (books_of g.B.Block.contents g.B.Block.layers) xs))) v.flights.items) c.deref-in-Err.ensures.value in
+      rw flights good.whole;
+  lasting =
+      let v = c.self.inside in
+      let s = c.index_mut-snap.result.now in
+      let k = c.in-Some.place in
+      let within : k < length v.snaps.items = omega (arith, c.in-Some.ensures.found.0, ap length c.deref.ensures.value) in
+      let is = c.index_mut-snap.ensures.value in
+      let found : is_trying c.args.number s ≡ true = snap_found (is_trying c.args.number) k v.snaps.items c.deref.result.now s c.deref.ensures.value is (c.in-Some.ensures.found.1 s) in
+      let flights : c.route_again.new.flights.items ≡ map (again_of (merge_books g.B.Block.contents g.B.Block.layers true v.merge) (is_clear (map (books_of g.B.Block.contents g.B.Block.layers) (slice_set v.snaps.items k c.write_invalid.new.self)))) v.flights.items =
+      c.route_again.ensures ∙ ap (λ xs. map (again_of (merge_books g.B.Block.contents g.B.Block.layers true v.merge) (is_clear (map (books_of g.B.Block.contents g.B.Block.layers) xs))) v.flights.items) c.deref-in-Err.ensures.value in
+      let goes = fails_moves g.B.Block.may_hold g.B.Block.contents g.B.Block.layers g.B.Block.size g.met.B.Block.whole g.met.B.Block.holds_now _ c.self.invariant.whole c.self.invariant.lasting.snaps None k s c.write_invalid.new.self v.flights.items within c.index_mut-snap.ensures.value (trying_untried g.B.Block.contents g.B.Block.layers g.B.Block.size g.B.Block.fault_count g.B.Block.done_count _ c.self.invariant.whole c.args.number k s s within is found) c.in-Err.ensures.fails (record { adds = c.write_invalid.ensures.adds; bytes = c.in-Err.ensures.same; sectors = c.write_invalid.ensures.size; loud = c.write_invalid.ensures.loud }) in
+      let both = beside_both g.B.Block.may_hold g.B.Block.contents g.B.Block.layers g.B.Block.size g.met.B.Block.whole g.met.B.Block.holds_now _ c.self.invariant.whole c.self.invariant.lasting None _ goes refl refl in
+      record { snaps = both.lasts; merge = both.merge };
+}
 
 pub returns-in-Ok-clause-step : goal.returns-in-Ok-clause-step
 returns-in-Ok-clause-step g c =
@@ -79,7 +105,7 @@ returns-in-Ok-clause-step g c =
     let within : k < length v.snaps.items = omega (arith, c.in-Some.ensures.found.0, ap length c.deref.ensures.value) in
     let is = c.index_mut-snap.ensures.value in
     let found : is_trying c.args.number s ≡ true = snap_found (is_trying c.args.number) k v.snaps.items c.deref.result.now s c.deref.ensures.value is (c.in-Some.ensures.found.1 s) in
-    let good = marked_done g.B.Block.contents g.B.Block.layers g.B.Block.size g.B.Block.fault_count g.B.Block.done_count _ c.self.invariant c.args.number k s c.write_invalid.new.self within is found c.write_invalid.new.self.device c.in-Ok.ensures.fields c.in-Ok.ensures.writes c.write_invalid.ensures.loud c.write_invalid.ensures.size c.in-Ok.ensures.operation.counted c.in-Ok.ensures.operation.faulty in
+    let good = marked_done g.B.Block.contents g.B.Block.layers g.B.Block.size g.B.Block.fault_count g.B.Block.done_count _ c.self.invariant.whole c.args.number k s c.write_invalid.new.self within is found c.write_invalid.new.self.device c.in-Ok.ensures.fields c.in-Ok.ensures.writes c.write_invalid.ensures.loud c.write_invalid.ensures.size c.in-Ok.ensures.operation.counted c.in-Ok.ensures.operation.faulty in
     rw (← c.self.view_is) good.stepped
 
 pub returns-in-Ok-clause-exact : goal.returns-in-Ok-clause-exact
@@ -90,7 +116,7 @@ returns-in-Ok-clause-exact g c =
     let within : k < length v.snaps.items = omega (arith, c.in-Some.ensures.found.0, ap length c.deref.ensures.value) in
     let is = c.index_mut-snap.ensures.value in
     let found : is_trying c.args.number s ≡ true = snap_found (is_trying c.args.number) k v.snaps.items c.deref.result.now s c.deref.ensures.value is (c.in-Some.ensures.found.1 s) in
-    rw (← c.self.view_is) (marked_exact g.B.Block.contents g.B.Block.layers g.B.Block.size _ c.self.invariant c.args.number k s within is _ _ _ _ found c.write_invalid.new.self c.in-Ok.ensures.operation c.in-Ok.ensures.written c.in-Ok.ensures.fields)
+    rw (← c.self.view_is) (marked_exact g.B.Block.contents g.B.Block.layers g.B.Block.size _ c.self.invariant.whole c.args.number k s within is _ _ _ _ found c.write_invalid.new.self c.in-Ok.ensures.operation c.in-Ok.ensures.written c.in-Ok.ensures.fields)
 
 pub returns-in-Ok-clause-due : goal.returns-in-Ok-clause-due
 returns-in-Ok-clause-due g c =
@@ -110,7 +136,7 @@ returns-in-Err-clause-step g c =
     let within : k < length v.snaps.items = omega (arith, c.in-Some.ensures.found.0, ap length c.deref.ensures.value) in
     let is = c.index_mut-snap.ensures.value in
     let found : is_trying c.args.number s ≡ true = snap_found (is_trying c.args.number) k v.snaps.items c.deref.result.now s c.deref.ensures.value is (c.in-Some.ensures.found.1 s) in
-    let good = marked_fault g.B.Block.contents g.B.Block.layers g.B.Block.size g.B.Block.fault_count g.B.Block.done_count _ c.self.invariant c.args.number k s c.write_invalid.new.self within is c.write_invalid.new.self.device true c.in-Err.ensures.fails c.in-Err.ensures.tries c.write_invalid.ensures.loud c.write_invalid.ensures.size c.in-Err.ensures.operation.counted found refl c.in-Err.ensures.operation.faulty in
+    let good = marked_fault g.B.Block.contents g.B.Block.layers g.B.Block.size g.B.Block.fault_count g.B.Block.done_count _ c.self.invariant.whole c.args.number k s c.write_invalid.new.self within is c.write_invalid.new.self.device true c.in-Err.ensures.fails c.in-Err.ensures.tries c.write_invalid.ensures.loud c.write_invalid.ensures.size c.in-Err.ensures.operation.counted found refl c.in-Err.ensures.operation.faulty in
     let flights : c.route_again.new.flights.items ≡ map (again_of (merge_books g.B.Block.contents g.B.Block.layers true v.merge) (is_clear (map (books_of g.B.Block.contents g.B.Block.layers) (slice_set v.snaps.items k c.write_invalid.new.self)))) v.flights.items =
     c.route_again.ensures ∙ ap (λ xs. map (again_of (merge_books g.B.Block.contents g.B.Block.layers true v.merge) (is_clear (map (books_of g.B.Block.contents g.B.Block.layers) xs))) v.flights.items) c.deref-in-Err.ensures.value in
     rw (← c.self.view_is, flights) good.stepped
@@ -125,7 +151,7 @@ returns-in-Err-clause-exact g c =
     let found : is_trying c.args.number s ≡ true = snap_found (is_trying c.args.number) k v.snaps.items c.deref.result.now s c.deref.ensures.value is (c.in-Some.ensures.found.1 s) in
     let flights : c.route_again.new.flights.items ≡ map (again_of (merge_books g.B.Block.contents g.B.Block.layers true v.merge) (is_clear (map (books_of g.B.Block.contents g.B.Block.layers) (slice_set v.snaps.items k c.write_invalid.new.self)))) v.flights.items =
     c.route_again.ensures ∙ ap (λ xs. map (again_of (merge_books g.B.Block.contents g.B.Block.layers true v.merge) (is_clear (map (books_of g.B.Block.contents g.B.Block.layers) xs))) v.flights.items) c.deref-in-Err.ensures.value in
-    rw (← c.self.view_is) (marked_fault_exact g.B.Block.contents g.B.Block.layers g.B.Block.size _ c.self.invariant c.args.number k s within is _ _ _ _ found c.write_invalid.new.self c.route_again.new.flights.items c.in-Err.ensures.operation c.in-Err.ensures.same c.in-Err.ensures.fails flights)
+    rw (← c.self.view_is) (marked_fault_exact g.B.Block.contents g.B.Block.layers g.B.Block.size _ c.self.invariant.whole c.args.number k s within is _ _ _ _ found c.write_invalid.new.self c.route_again.new.flights.items c.in-Err.ensures.operation c.in-Err.ensures.same c.in-Err.ensures.fails flights)
 
 pub returns-in-Err-clause-due : goal.returns-in-Err-clause-due
 returns-in-Err-clause-due g c =
@@ -141,25 +167,54 @@ pub returns-in-None-clause-due : goal.returns-in-None-clause-due
 returns-in-None-clause-due g c =
     rw (← c.self.view_is) (sym (due_by g.B.Block.contents g.B.Block.layers _ (is_trying c.args.number) c.self.inside.snaps.items c.deref.result.now false c.deref.ensures.value (λ s. refl) c.in-None.ensures.none))
 
-pub returns-in-Ok-clause-stops : goal.returns-in-Ok-clause-stops
-returns-in-Ok-clause-stops g c =
-    let v : Volumed g.row.B.Denot = record { origin = c.self.inside.origin; snaps = c.self.inside.snaps.items; merge = c.self.inside.merge; flights = c.self.inside.flights.items; requests = c.self.inside.requests; copies = c.self.inside.copies; attached = c.self.inside.attached } in
+pub returns-in-Ok-clause-stops_snaps : goal.returns-in-Ok-clause-stops_snaps
+returns-in-Ok-clause-stops_snaps g c =
+    let v = c.self.inside in
     let s = c.index_mut-snap.result.now in
     let k = c.in-Some.place in
-    let within : k < length v.snaps = omega (arith, c.in-Some.ensures.found.0, ap length c.deref.ensures.value) in
+    let within : k < length v.snaps.items = omega (arith, c.in-Some.ensures.found.0, ap length c.deref.ensures.value) in
     let is = c.index_mut-snap.ensures.value in
-    let found : is_trying c.args.number s ≡ true = snap_found (is_trying c.args.number) k v.snaps c.deref.result.now s c.deref.ensures.value is (c.in-Some.ensures.found.1 s) in
-    rw (← c.self.view_is) (λ loud. writes_at g.B.Block.contents (MarksWithin g.B.Block.contents) v k s c.write_invalid.new.self v.flights within is (inr (record {
-      untried = trying_untried g.B.Block.contents g.B.Block.layers g.B.Block.size g.B.Block.fault_count g.B.Block.done_count v c.self.invariant c.args.number k s s within is found;
-      stops = c.write_invalid.ensures.stops (loud_snap g.B.Block.contents g.B.Block.layers g.B.Block.size g.met.B.Block.whole v c.self.invariant loud k s within is);
-    })))
+    let found : is_trying c.args.number s ≡ true = snap_found (is_trying c.args.number) k v.snaps.items c.deref.result.now s c.deref.ensures.value is (c.in-Some.ensures.found.1 s) in
+    let goes = mark_moves g.B.Block.may_hold g.B.Block.contents g.B.Block.layers g.B.Block.size g.met.B.Block.whole g.met.B.Block.holds_now _ c.self.invariant.whole c.self.invariant.lasting.snaps None k s c.write_invalid.new.self v.flights.items within c.index_mut-snap.ensures.value (trying_untried g.B.Block.contents g.B.Block.layers g.B.Block.size g.B.Block.fault_count g.B.Block.done_count _ c.self.invariant.whole c.args.number k s s within is found) c.in-Ok.ensures.fields c.write_invalid.ensures.only c.write_invalid.ensures.in_step (record { adds = c.write_invalid.ensures.adds; sectors = c.write_invalid.ensures.size; loud = c.write_invalid.ensures.loud }) in
+    let both = beside_both g.B.Block.may_hold g.B.Block.contents g.B.Block.layers g.B.Block.size g.met.B.Block.whole g.met.B.Block.holds_now _ c.self.invariant.whole c.self.invariant.lasting None _ goes refl refl in
+    rw (← c.self.view_is) both.stops_snaps
 
-pub returns-in-Err-clause-stops : goal.returns-in-Err-clause-stops
-returns-in-Err-clause-stops g c =
-    let v : Volumed g.row.B.Denot = record { origin = c.self.inside.origin; snaps = c.self.inside.snaps.items; merge = c.self.inside.merge; flights = c.self.inside.flights.items; requests = c.self.inside.requests; copies = c.self.inside.copies; attached = c.self.inside.attached } in
+pub returns-in-Ok-clause-stops_origin : goal.returns-in-Ok-clause-stops_origin
+returns-in-Ok-clause-stops_origin g c =
+    let v = c.self.inside in
     let s = c.index_mut-snap.result.now in
     let k = c.in-Some.place in
-    let within : k < length v.snaps = omega (arith, c.in-Some.ensures.found.0, ap length c.deref.ensures.value) in
+    let within : k < length v.snaps.items = omega (arith, c.in-Some.ensures.found.0, ap length c.deref.ensures.value) in
     let is = c.index_mut-snap.ensures.value in
-    let found : is_trying c.args.number s ≡ true = snap_found (is_trying c.args.number) k v.snaps c.deref.result.now s c.deref.ensures.value is (c.in-Some.ensures.found.1 s) in
-    rw (← c.self.view_is) (λ loud. writes_at g.B.Block.contents (MarksWithin g.B.Block.contents) v k s c.write_invalid.new.self c.route_again.new.flights.items within is (inl c.in-Err.ensures.same))
+    let found : is_trying c.args.number s ≡ true = snap_found (is_trying c.args.number) k v.snaps.items c.deref.result.now s c.deref.ensures.value is (c.in-Some.ensures.found.1 s) in
+    let goes = mark_moves g.B.Block.may_hold g.B.Block.contents g.B.Block.layers g.B.Block.size g.met.B.Block.whole g.met.B.Block.holds_now _ c.self.invariant.whole c.self.invariant.lasting.snaps None k s c.write_invalid.new.self v.flights.items within c.index_mut-snap.ensures.value (trying_untried g.B.Block.contents g.B.Block.layers g.B.Block.size g.B.Block.fault_count g.B.Block.done_count _ c.self.invariant.whole c.args.number k s s within is found) c.in-Ok.ensures.fields c.write_invalid.ensures.only c.write_invalid.ensures.in_step (record { adds = c.write_invalid.ensures.adds; sectors = c.write_invalid.ensures.size; loud = c.write_invalid.ensures.loud }) in
+    let both = beside_both g.B.Block.may_hold g.B.Block.contents g.B.Block.layers g.B.Block.size g.met.B.Block.whole g.met.B.Block.holds_now _ c.self.invariant.whole c.self.invariant.lasting None _ goes refl refl in
+    rw (← c.self.view_is) both.stops_origin
+
+pub returns-in-Err-clause-stops_snaps : goal.returns-in-Err-clause-stops_snaps
+returns-in-Err-clause-stops_snaps g c =
+    let v = c.self.inside in
+    let s = c.index_mut-snap.result.now in
+    let k = c.in-Some.place in
+    let within : k < length v.snaps.items = omega (arith, c.in-Some.ensures.found.0, ap length c.deref.ensures.value) in
+    let is = c.index_mut-snap.ensures.value in
+    let found : is_trying c.args.number s ≡ true = snap_found (is_trying c.args.number) k v.snaps.items c.deref.result.now s c.deref.ensures.value is (c.in-Some.ensures.found.1 s) in
+    let flights : c.route_again.new.flights.items ≡ map (again_of (merge_books g.B.Block.contents g.B.Block.layers true v.merge) (is_clear (map (books_of g.B.Block.contents g.B.Block.layers) (slice_set v.snaps.items k c.write_invalid.new.self)))) v.flights.items =
+    c.route_again.ensures ∙ ap (λ xs. map (again_of (merge_books g.B.Block.contents g.B.Block.layers true v.merge) (is_clear (map (books_of g.B.Block.contents g.B.Block.layers) xs))) v.flights.items) c.deref-in-Err.ensures.value in
+    let goes = fails_moves g.B.Block.may_hold g.B.Block.contents g.B.Block.layers g.B.Block.size g.met.B.Block.whole g.met.B.Block.holds_now _ c.self.invariant.whole c.self.invariant.lasting.snaps None k s c.write_invalid.new.self v.flights.items within c.index_mut-snap.ensures.value (trying_untried g.B.Block.contents g.B.Block.layers g.B.Block.size g.B.Block.fault_count g.B.Block.done_count _ c.self.invariant.whole c.args.number k s s within is found) c.in-Err.ensures.fails (record { adds = c.write_invalid.ensures.adds; bytes = c.in-Err.ensures.same; sectors = c.write_invalid.ensures.size; loud = c.write_invalid.ensures.loud }) in
+    let both = beside_both g.B.Block.may_hold g.B.Block.contents g.B.Block.layers g.B.Block.size g.met.B.Block.whole g.met.B.Block.holds_now _ c.self.invariant.whole c.self.invariant.lasting None _ goes refl refl in
+    rw (← c.self.view_is) both.stops_snaps
+
+pub returns-in-Err-clause-stops_origin : goal.returns-in-Err-clause-stops_origin
+returns-in-Err-clause-stops_origin g c =
+    let v = c.self.inside in
+    let s = c.index_mut-snap.result.now in
+    let k = c.in-Some.place in
+    let within : k < length v.snaps.items = omega (arith, c.in-Some.ensures.found.0, ap length c.deref.ensures.value) in
+    let is = c.index_mut-snap.ensures.value in
+    let found : is_trying c.args.number s ≡ true = snap_found (is_trying c.args.number) k v.snaps.items c.deref.result.now s c.deref.ensures.value is (c.in-Some.ensures.found.1 s) in
+    let flights : c.route_again.new.flights.items ≡ map (again_of (merge_books g.B.Block.contents g.B.Block.layers true v.merge) (is_clear (map (books_of g.B.Block.contents g.B.Block.layers) (slice_set v.snaps.items k c.write_invalid.new.self)))) v.flights.items =
+    c.route_again.ensures ∙ ap (λ xs. map (again_of (merge_books g.B.Block.contents g.B.Block.layers true v.merge) (is_clear (map (books_of g.B.Block.contents g.B.Block.layers) xs))) v.flights.items) c.deref-in-Err.ensures.value in
+    let goes = fails_moves g.B.Block.may_hold g.B.Block.contents g.B.Block.layers g.B.Block.size g.met.B.Block.whole g.met.B.Block.holds_now _ c.self.invariant.whole c.self.invariant.lasting.snaps None k s c.write_invalid.new.self v.flights.items within c.index_mut-snap.ensures.value (trying_untried g.B.Block.contents g.B.Block.layers g.B.Block.size g.B.Block.fault_count g.B.Block.done_count _ c.self.invariant.whole c.args.number k s s within is found) c.in-Err.ensures.fails (record { adds = c.write_invalid.ensures.adds; bytes = c.in-Err.ensures.same; sectors = c.write_invalid.ensures.size; loud = c.write_invalid.ensures.loud }) in
+    let both = beside_both g.B.Block.may_hold g.B.Block.contents g.B.Block.layers g.B.Block.size g.met.B.Block.whole g.met.B.Block.holds_now _ c.self.invariant.whole c.self.invariant.lasting None _ goes refl refl in
+    rw (← c.self.view_is) both.stops_origin

@@ -1,0 +1,23 @@
+use Rattle.std.proofs.Common.{refl, sym, ◌∙◌}
+use Rattle.chunk.specs.Pieces.{span_of}
+use Rattle.named_volume.proofs.Events.{behind, flush_served}
+use Rattle.named_volume.proofs.Serves.{flush_refused, flush_does}
+use Rattle.named_volume.proofs.Merges.{goes_on, inside_is, merge_is, still_begun}
+use Rattle.named_volume.proofs.origin.NamedVolume.flush.Goals as goal
+
+pub returns-in-Err-clause-done : goal.returns-in-Err-clause-done
+returns-in-Err-clause-done c =
+    rw (← c.self.view_is) (λ sound quiet.
+    flush_refused c.args.role _ _ c.in-Err.refusal (c.in-Err.ensures.err _ refl refl) (rw c.in-Err.ensures.same refl))
+
+pub returns-then-is_quiet-clause-done : goal.returns-then-is_quiet-clause-done
+returns-then-is_quiet-clause-done c =
+    rw (← c.self.view_is) (λ sound quiet.
+    flush_does c.args.role _ _ c.in-Ok.asks.0 (span_of c.in-Ok.asks.1) c.self.inside.volume c.flush.new.self (c.in-Ok.ensures.ok _ refl refl) (inside_is _ c.self.inside.volume c.self.invariant.begun) (rw (goes_on _ c.self.inside.volume c.flush.new.self c.self.invariant.begun (c.self.invariant.begun ∙ still_begun c.self.inside.volume c.flush.new.self c.flush.ensures.kept.merging)) (rw c.flush.ensures.kept.attached (rw c.in-Ok.ensures.more.0 (rw c.flush.ensures.quiet (rw (sym c.is_quiet.ensures.value ∙ c.if-is_quiet.true) refl)))))
+    (c.is_quiet.ensures.rest c.if-is_quiet.true (c.self.invariant.loud sound)) c.in-Ok.ensures.there c.flush.result c.flush.ensures.done c.flush.ensures.refused)
+
+pub returns-clause-among : goal.returns-clause-among
+returns-clause-among c =
+    rw (← c.self.view_is) (λ busy.
+    flush_served c.self.inside.volume c.flush_among.new.self _ _ (behind c.self.inside.volume _ c.flush_among.ensures.whole.0 refl (merge_is _ c.self.inside.volume c.self.invariant.begun) refl refl) (behind c.flush_among.new.self _ c.flush_among.ensures.whole.1 refl (merge_is _ c.flush_among.new.self (c.self.invariant.begun ∙ still_begun c.self.inside.volume c.flush_among.new.self c.flush_among.ensures.kept.merging)) refl refl) c.in-Ok.asks.0 c.in-Ok.asks.1 _ (c.in-Ok.ensures.ok _ refl refl)
+    c.flush_among.ensures.whole.0 c.flush_among.ensures.whole.1 c.args.ended.now.items c.flush_among.new.ended.items c.flush_among.result c.flush_among.ensures.flushed c.flush_among.ensures.refused)

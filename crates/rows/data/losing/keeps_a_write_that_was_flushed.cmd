@@ -1,0 +1,16 @@
+# A flush of the origin makes its writes last; one that comes after it is lost.
+# That a disk keeps what was flushed is how a volatile cache is defined; that a volume is stopped by a command is this project's.
+disk base 128
+disk cow 64
+create vol 0 128 snapshot-origin base
+write vol 0 65536*11
+create snap 0 128 snapshot base cow P 1
+write vol 5 512*aa
+flush vol
+write vol 6 512*bb
+stop vol lose
+save base 5 2
+create vol 0 128 snapshot-origin base
+create snap 0 128 snapshot base cow P 1
+read snap 5 2
+read vol 5 2
