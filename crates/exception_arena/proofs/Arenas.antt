@@ -540,3 +540,7 @@ shortened_sound nodes nodes1 heads slots slots0 free queue count reserved nodes_
     ∙ sym (append_assoc (pairs_on nodes slots0) (pairs_from run.first (run.count - 1)) (pair_after run.first (run.count - 1) ∷ [])) in
     let n : length front ≡ length (pairs_on nodes slots) - 1 = omega (arith, ap length parts, length-append front (pair_after run.first (run.count - 1) ∷ [])) in
     (r.0, (r.1.0 ∙ sym (take-append_seam front (pair_after run.first (run.count - 1) ∷ [])) ∙ ap (λ x. take x (front ++ pair_after run.first (run.count - 1) ∷ [])) n ∙ ap (take (length (pairs_on nodes slots) - 1)) (sym parts), r.1.1))
+
+-- no list's room changed, so the rooms are the same
+pub same_memory : (nodes heads slots nodes1 heads1 slots1 : ℕ) → nodes1 ≡ nodes → heads1 ≡ heads → slots1 ≡ slots → (nodes1 ∷ heads1 ∷ slots1 ∷ []) ≡ (nodes ∷ heads ∷ slots ∷ [])
+same_memory nodes heads slots nodes1 heads1 slots1 n h s = rw n (rw h (rw s refl))

@@ -55,9 +55,10 @@ IsTaken [] n place n1 = (place ≡ n) × (n1 ≡ n + 1)
 IsTaken (free ∷ frees) n place n1 = (place ≡ free) × (n1 ≡ n)
 
 -- what it stands for
-abbrev pub kept : List Node → List ℕ → Queue → ℕ → Kept
-kept nodes slots queue reserved = record {
+abbrev pub kept : List Node → List ℕ → Queue → ℕ → List ℕ → Kept
+kept nodes slots queue reserved memory = record {
   committed = pairs_on nodes slots;
   pending = map (begun_at nodes) (list_from nodes queue.first);
   reserved = reserved;
+  memory = memory;
 }

@@ -1,5 +1,5 @@
 // The arena: the lasting form. Its nodes stand in one vector, each on one of three kinds of list.
-ghost use Rattle.std.specs.Prelude.{◌≡◌, ℕ, List, vec_capacity};
+ghost use Rattle.std.specs.Prelude.{◌≡◌, ℕ, List, [], ◌∷◌, vec_capacity};
 ghost use Rattle.exception_arena.specs.Kept.{Kept};
 ghost use Rattle.exception_arena.specs.Arenas.{IsSound, kept};
 
@@ -31,7 +31,7 @@ pub struct Arena {
 impl Model for Arena {
     ghost Value = { Kept };
 
-    ghost view = { λ a. kept a.nodes.items a.slots.items a.queue a.reserved };
+    ghost view = { λ a. kept a.nodes.items a.slots.items a.queue a.reserved (vec_capacity a.nodes ∷ vec_capacity a.heads ∷ vec_capacity a.slots ∷ []) };
 
     ghost invariant = { λ a. IsSound a.nodes.items a.heads.items a.slots.items a.free a.queue a.count a.reserved (vec_capacity a.nodes) (vec_capacity a.slots) };
 }
@@ -42,6 +42,8 @@ impl Exceptions for Arena {
     ghost pending = { λ e. e.pending };
 
     ghost reserved = { λ e. e.reserved };
+
+    ghost memory = { λ e. e.memory };
 
     fn new(alloc: Global) -> Arena {
         Arena {

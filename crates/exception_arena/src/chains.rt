@@ -27,6 +27,7 @@ pub fn hang(nodes: &mut Vec<Node>, heads: &mut Vec<Link>, place: usize)
     ensures nodes { nodes.new.items ≡ led nodes.old.items place (head_at heads.old.items ((run_at nodes.old.items place).first.old / block % length heads.old.items)) }
     ensures heads { heads.new.items ≡ slice_set heads.old.items ((run_at nodes.old.items place).first.old / block % length heads.old.items) (To place) }
     ensures capacity { vec_capacity nodes.new ≡ vec_capacity nodes.old }
+    ensures heads_capacity { vec_capacity heads.new ≡ vec_capacity heads.old }
 {
     let bucket = bucket_of(nodes[place].run.first.old, heads.len());
     lead(nodes, place, heads[bucket]);
@@ -96,6 +97,7 @@ pub fn take_down(nodes: &[Node], heads: &mut Vec<Link>, place: usize)
     requires inside { place < length nodes.now }
     requires some { 0 < length heads.old.items }
     ensures heads { heads.new.items ≡ slice_set heads.old.items ((run_at nodes.now place).first.old / block % length heads.old.items) (node_at nodes.now place).next }
+    ensures capacity { vec_capacity heads.new ≡ vec_capacity heads.old }
 {
     let node = nodes[place];
     let bucket = bucket_of(node.run.first.old, heads.len());

@@ -21,6 +21,9 @@ pub trait Exceptions: Drop {
     /// How many more may begin.
     ghost reserved: { Self → ℕ };
 
+    /// For how many elements each of its lists in memory has room. Only `reserve` changes it, so nothing else takes memory.
+    ghost memory: { Self → List ℕ };
+
     /// No pairs, and room for none. It takes no memory.
     fn new(alloc: Global) -> Self
         ensures committed { committed result ≡ [] }
@@ -41,21 +44,24 @@ pub trait Exceptions: Drop {
         ensures committed { committed self.new ≡ committed self.old }
         ensures pending { pending self.new ≡ pending self.old ++ (record { id = result; pair = record { old = old_chunk; new = new_chunk } }) ∷ [] }
         ensures own { begun_under result (pending self.old) ≡ None }
-        ensures reserved { reserved self.new + 1 ≡ reserved self.old };
+        ensures reserved { reserved self.new + 1 ≡ reserved self.old }
+        ensures memory { memory self.new ≡ memory self.old };
 
     /// Commits a pending pair: it goes to the end of the list.
     fn finish(&mut self, id: Id)
         requires { IsSome (begun_under id (pending self.old)) }
         ensures committed { IfSome (begun_under id (pending self.old)) (λ pair. committed self.new ≡ committed self.old ++ pair ∷ []) }
         ensures pending { pending self.new ≡ without id (pending self.old) }
-        ensures reserved { reserved self.new ≡ reserved self.old };
+        ensures reserved { reserved self.new ≡ reserved self.old }
+        ensures memory { memory self.new ≡ memory self.old };
 
     /// Drops a pending pair. The places that are reserved stay as many.
     fn abandon(&mut self, id: Id)
         requires { IsSome (begun_under id (pending self.old)) }
         ensures committed { committed self.new ≡ committed self.old }
         ensures pending { pending self.new ≡ without id (pending self.old) }
-        ensures reserved { reserved self.new ≡ reserved self.old };
+        ensures reserved { reserved self.new ≡ reserved self.old }
+        ensures memory { memory self.new ≡ memory self.old };
 
     /// The chunk of the store with the committed copy of a chunk of the origin.
     fn get(&self, old_chunk: Chunk) -> Option<Chunk>
@@ -67,7 +73,8 @@ pub trait Exceptions: Drop {
         requires last { (d : Pair) → (slice_index_or (committed self.old) (length (committed self.old) - 1) d).old ≡ old_chunk }
         ensures committed { committed self.new ≡ take (length (committed self.old) - 1) (committed self.old) }
         ensures pending { pending self.new ≡ pending self.old }
-        ensures reserved { reserved self.new ≡ reserved self.old };
+        ensures reserved { reserved self.new ≡ reserved self.old }
+        ensures memory { memory self.new ≡ memory self.old };
 
     /// How many pairs are committed.
     fn len(&self) -> usize

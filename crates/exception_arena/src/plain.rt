@@ -1,5 +1,5 @@
 // The plain form: two vectors, the committed and the pending pairs, searched from the front and grown by `reserve` alone.
-ghost use Rattle.std.specs.Prelude.{◌≡◌, ℕ, ◌+◌, ◌^◌, ◌<◌, ◌≤◌, length, vec_capacity, IsSome, IfSome, slice_index_or, IsTrue};
+ghost use Rattle.std.specs.Prelude.{◌≡◌, ℕ, [], ◌∷◌, ◌+◌, ◌^◌, ◌<◌, ◌≤◌, length, vec_capacity, IsSome, IfSome, slice_index_or, IsTrue};
 ghost use Rattle.std.specs.List.{All, remove};
 ghost use Rattle.model.specs.Picture.{place_of};
 ghost use Rattle.exception_arena.specs.Pending.{begun_under, without};
@@ -30,6 +30,8 @@ impl Exceptions for PlainExceptions {
     ghost pending = { λ e. e.pending.items };
 
     ghost reserved = { λ e. e.reserved };
+
+    ghost memory = { λ e. vec_capacity e.committed ∷ vec_capacity e.pending ∷ [] };
 
     fn new(alloc: Global) -> PlainExceptions {
         PlainExceptions {

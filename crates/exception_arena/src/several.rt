@@ -12,6 +12,7 @@ pub fn finish_first<E: Exceptions>(exceptions: &mut E, count: usize)
     ensures committed { E.committed exceptions.new ≡ E.committed exceptions.old ++ pairs (take count (E.pending exceptions.old)) }
     ensures pending { E.pending exceptions.new ≡ drop count (E.pending exceptions.old) }
     ensures reserved { E.reserved exceptions.new ≡ E.reserved exceptions.old }
+    ensures memory { E.memory exceptions.new ≡ E.memory exceptions.old }
 {
     for _i in 0..count {
         let first = exceptions.pending_at(0);
@@ -24,6 +25,7 @@ pub fn abandon_all<E: Exceptions>(exceptions: &mut E)
     ensures committed { E.committed exceptions.new ≡ E.committed exceptions.old }
     ensures pending { E.pending exceptions.new ≡ [] }
     ensures reserved { E.reserved exceptions.new ≡ E.reserved exceptions.old }
+    ensures memory { E.memory exceptions.new ≡ E.memory exceptions.old }
 {
     let count = exceptions.pending_len();
     for _i in 0..count {
@@ -40,6 +42,7 @@ pub fn remove_last<E: Exceptions>(exceptions: &mut E, old_chunk: Chunk, count: u
     ensures committed { E.committed exceptions.new ≡ take (length (E.committed exceptions.old) - count) (E.committed exceptions.old) }
     ensures pending { E.pending exceptions.new ≡ E.pending exceptions.old }
     ensures reserved { E.reserved exceptions.new ≡ E.reserved exceptions.old }
+    ensures memory { E.memory exceptions.new ≡ E.memory exceptions.old }
 {
     for i in 0..count {
         exceptions.remove(old_chunk - i as u64);

@@ -20,3 +20,7 @@ pairs_pending exceptions = pairs exceptions.pending
 -- how many copies may start without more memory
 abbrev pub reserved : Kept → ℕ
 reserved exceptions = exceptions.reserved
+
+-- for how many elements each list of them has room in memory
+abbrev pub memory : Kept → List ℕ
+memory exceptions = exceptions.memory

@@ -7,7 +7,7 @@ ghost use Rattle.model.specs.Places.{area_place, ChangesOnly};
 ghost use Rattle.model.specs.NextPlace.{LacksArea};
 ghost use Rattle.store.specs.declared.state.Left.TheVariants.{Nothing};
 ghost use Rattle.exception_arena.specs.Pending.{pairs};
-ghost use Rattle.store.specs.Held.{committed, pending, reserved};
+ghost use Rattle.store.specs.Held.{committed, memory, pending, reserved};
 ghost use Rattle.store.specs.Slots.{IsPut, pairs_bytes, slot_start};
 ghost use Rattle.store.specs.Stored.{after_commit};
 ghost use Rattle.store.specs.Operations.{IsOneOperation};
@@ -99,6 +99,7 @@ impl<B: Block> Store<B> {
         ensures committed { OnOk result (committed self.new.exceptions ≡ committed self.old.exceptions ++ pairs (take count (pending self.old.exceptions))) }
         ensures pending { OnOk result (pending self.new.exceptions ≡ drop count (pending self.old.exceptions)) }
         ensures reserved { reserved self.new.exceptions ≡ reserved self.old.exceptions }
+        ensures memory { memory self.new.exceptions ≡ memory self.old.exceptions }
         ensures places { self.new.places ≡ self.old.places }
         ensures state { OnOk result (self.new.state ≡ after_commit self.old.state count) }
         ensures kept { OnErr result ((self.new.state ≡ self.old.state) × (self.new.exceptions ≡ self.old.exceptions)) }

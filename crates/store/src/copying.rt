@@ -10,7 +10,7 @@ ghost use Rattle.model.specs.NextPlace.{IsFull, stepped};
 ghost use Rattle.model.specs.Picture.{place_of};
 ghost use Rattle.exception_arena.specs.Pending.{begun_under};
 ghost use Rattle.exception_arena.specs.declared.begun.Begun.{Begun};
-ghost use Rattle.store.specs.Held.{committed, pending, pairs_pending, reserved};
+ghost use Rattle.store.specs.Held.{committed, memory, pending, pairs_pending, reserved};
 ghost use Rattle.store.specs.declared.state.Left.TheVariants.{Nothing};
 ghost use Rattle.store.specs.Operations.{IsOneOperation};
 ghost use Rattle.stop_laws.specs.Firm.{AddsNow};
@@ -60,6 +60,7 @@ impl<B: Block> Store<B> {
         ensures next { MatchOption result (self.new.places.next ≡ self.old.places.next) (λ begun. self.new.places.next ≡ stepped self.old.state.chunk (self.old.places.next + 1)) }
         ensures used { MatchOption result (Unit {0}) (λ begun. reserved self.new.exceptions + 1 ≡ reserved self.old.exceptions) }
         ensures committed { committed self.new.exceptions ≡ committed self.old.exceptions }
+        ensures memory { memory self.new.exceptions ≡ memory self.old.exceptions }
         ensures device { self.new.device ≡ self.old.device }
         ensures state { self.new.state ≡ self.old.state }
     {
@@ -78,6 +79,7 @@ impl<B: Block> Store<B> {
         ensures committed { committed self.new.exceptions ≡ committed self.old.exceptions }
         ensures pending { pending self.new.exceptions ≡ [] }
         ensures reserved { reserved self.new.exceptions ≡ reserved self.old.exceptions }
+        ensures memory { memory self.new.exceptions ≡ memory self.old.exceptions }
         ensures device { self.new.device ≡ self.old.device }
         ensures places { self.new.places ≡ self.old.places }
         ensures state { self.new.state ≡ record self.old.state { copying = false } }

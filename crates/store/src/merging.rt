@@ -6,7 +6,7 @@ ghost use Rattle.device.specs.declared.operation.Operation.TheVariants.{Reads, W
 ghost use Rattle.device.specs.Layers.{is_loud};
 ghost use Rattle.model.specs.Places.{area_place, ChangesOnly};
 ghost use Rattle.store.specs.declared.state.Left.TheVariants.{Nothing};
-ghost use Rattle.store.specs.Held.{committed, pending, reserved};
+ghost use Rattle.store.specs.Held.{committed, memory, pending, reserved};
 ghost use Rattle.store.specs.Operations.{IsOneOperation};
 ghost use Rattle.store.specs.Slots.{slot_start};
 ghost use Rattle.stop_laws.specs.Firm.{AddsNow};
@@ -39,6 +39,7 @@ impl<B: Block> Store<B> {
         ensures committed { OnOk result (committed self.new.exceptions ≡ take (length (committed self.old.exceptions) - count) (committed self.old.exceptions)) }
         ensures pending { pending self.new.exceptions ≡ pending self.old.exceptions }
         ensures reserved { reserved self.new.exceptions ≡ reserved self.old.exceptions }
+        ensures memory { memory self.new.exceptions ≡ memory self.old.exceptions }
         ensures next { OnOk result (self.new.places.next ≡ area_place self.old.state.chunk self.old.state.current + (self.old.state.filled - count) + 1) }
         ensures state { OnOk result (self.new.state ≡ record self.old.state { filled = self.old.state.filled - count; sure = length (committed self.new.exceptions); copying = false }) }
         ensures kept { OnErr result ((self.new.state ≡ self.old.state) × (self.new.exceptions ≡ self.old.exceptions) × (self.new.places ≡ self.old.places)) }

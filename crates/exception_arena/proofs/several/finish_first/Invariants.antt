@@ -3,4 +3,4 @@ use Rattle.exception_arena.specs.Pending.{pairs}
 use Rattle.exception_arena.proofs.several.finish_first.Given as goal
 
 abbrev pub invariant-loop-i : goal.invariant-loop-i
-invariant-loop-i g l = (g.E.Exceptions.committed l.exceptions ≡ g.E.Exceptions.committed l.fn.exceptions ++ pairs (take l._i (g.E.Exceptions.pending l.fn.exceptions))) × (g.E.Exceptions.pending l.exceptions ≡ drop l._i (g.E.Exceptions.pending l.fn.exceptions)) × (g.E.Exceptions.reserved l.exceptions ≡ g.E.Exceptions.reserved l.fn.exceptions)
+invariant-loop-i g l = (g.E.Exceptions.committed l.exceptions ≡ g.E.Exceptions.committed l.fn.exceptions ++ pairs (take l._i (g.E.Exceptions.pending l.fn.exceptions))) × (g.E.Exceptions.pending l.exceptions ≡ drop l._i (g.E.Exceptions.pending l.fn.exceptions)) × (g.E.Exceptions.reserved l.exceptions ≡ g.E.Exceptions.reserved l.fn.exceptions) × (g.E.Exceptions.memory l.exceptions ≡ g.E.Exceptions.memory l.fn.exceptions)

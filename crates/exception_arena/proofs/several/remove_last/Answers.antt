@@ -11,7 +11,7 @@ overflow_sub-old_chunk g c =
 
 pub remove-requires-clause-last : goal.remove-requires-clause-last
 remove-requires-clause-last g c d =
-    let (is, rest, kept) = c.loop-i.invariant in
+    let (is, rest, kept, room) = c.loop-i.invariant in
     let same = last_left (g.E.Exceptions.committed c.args.exceptions.now) (g.E.Exceptions.committed c.loop-i.exceptions) c.loop-i.i d (omega arith) is in
     let e : (get_or (g.E.Exceptions.committed c.args.exceptions.now) (length (g.E.Exceptions.committed c.args.exceptions.now) - (c.loop-i.i + 1)) d).old + c.loop-i.i ≡ c.args.old_chunk = c.requires.falling c.loop-i.i d (omega arith) in
     ap (λ pair. pair.old) same ∙ omega arith

@@ -1,9 +1,9 @@
-use Rattle.std.proofs.Common.{◌∙◌, ap, sym, arith}
+use Rattle.std.proofs.Common.{◌∙◌, ap, sym, refl, arith}
 use Rattle.exception_arena.specs.Kept.{Kept}
 use Rattle.exception_arena.specs.Pending.{without}
 use Rattle.exception_arena.specs.Links.{list_from}
 use Rattle.exception_arena.proofs.Queues.{under_some, without_omit}
-use Rattle.exception_arena.proofs.Arenas.{abandoned_sound}
+use Rattle.exception_arena.proofs.Arenas.{abandoned_sound, same_memory}
 use Rattle.exception_arena.proofs.arena.ArenaExceptions.abandon.Goals as goal
 
 pub take_out-requires-clause-here : goal.take_out-requires-clause-here
@@ -27,4 +27,5 @@ returns c =
       committed = h.0 ∙ ap (λ (k : Kept). k.committed) c.self.view_is;
       pending = h.1 ∙ sym (without_omit c.self.inside.nodes.items c.args.id (list_from c.self.inside.nodes.items c.self.inside.queue.first)) ∙ ap (λ (k : Kept). without c.args.id k.pending) c.self.view_is;
       reserved = ap (λ (k : Kept). k.reserved) c.self.view_is;
+      memory = same_memory _ _ _ _ _ _ (c.put_back.ensures.capacity ∙ c.take_out.ensures.capacity) refl refl ∙ ap (λ (k : Kept). k.memory) c.self.view_is;
     }

@@ -2,7 +2,7 @@ use Rattle.std.proofs.Common.{◌∙◌, ◌-◌, ◌++◌, ◌∷◌, [], ap, r
 use Rattle.exception_arena.specs.Kept.{Kept}
 use Rattle.exception_arena.specs.Links.{list_from}
 use Rattle.exception_arena.proofs.Queues.{under_none}
-use Rattle.exception_arena.proofs.Arenas.{begun_ready, begun_sound}
+use Rattle.exception_arena.proofs.Arenas.{begun_ready, begun_sound, same_memory}
 use Rattle.exception_arena.proofs.Runs.{run_single}
 use Rattle.exception_arena.proofs.arena.ArenaExceptions.begin.Goals as goal
 
@@ -38,4 +38,5 @@ returns c =
       pending = s.1 ∙ ap (λ (k : Kept). k.pending ++ record { id = c.take_node-place.result; pair = record { old = c.args.old_chunk; new = c.args.new_chunk } } ∷ []) c.self.view_is;
       own = rw (← c.self.view_is) (under_none c.self.inside.nodes.items c.take_node-place.result (list_from c.self.inside.nodes.items c.self.inside.queue.first) r.1.1.0);
       reserved = rw (← c.self.view_is) (omega arith);
+      memory = same_memory _ _ _ _ _ _ (c.put_last.ensures.capacity ∙ c.take_node-place.ensures.capacity) refl refl ∙ ap (λ (k : Kept). k.memory) c.self.view_is;
     }

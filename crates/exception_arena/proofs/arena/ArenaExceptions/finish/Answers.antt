@@ -1,4 +1,4 @@
-use Rattle.std.proofs.Common.{◌∙◌, ap, sym, subst, arith}
+use Rattle.std.proofs.Common.{◌∙◌, ap, sym, subst, refl, arith}
 use Rattle.exception_arena.specs.declared.node.Node.{Node}
 use Rattle.exception_arena.specs.Kept.{Kept}
 use Rattle.exception_arena.specs.Pending.{without}
@@ -7,7 +7,7 @@ use Rattle.exception_arena.specs.Runs.{GoesOn}
 use Rattle.exception_arena.proofs.Runs.{room_more}
 use Rattle.exception_arena.proofs.Places.{led_run}
 use Rattle.exception_arena.proofs.Queues.{under_some, without_omit}
-use Rattle.exception_arena.proofs.Arenas.{finished_sound, joined_sound}
+use Rattle.exception_arena.proofs.Arenas.{finished_sound, joined_sound, same_memory}
 use Rattle.exception_arena.proofs.SlotOrder.{ends_on}
 use Rattle.exception_arena.proofs.arena.ArenaExceptions.finish.Goals as goal
 
@@ -56,6 +56,7 @@ returns-in-Some c =
       committed = rw (← c.self.view_is) (rw u.1 h.0);
       pending = h.1 ∙ sym (without_omit c.self.inside.nodes.items c.args.id (list_from c.self.inside.nodes.items c.self.inside.queue.first)) ∙ ap (λ (k : Kept). without c.args.id k.pending) c.self.view_is;
       reserved = ap (λ (k : Kept). k.reserved) c.self.view_is;
+      memory = same_memory _ _ _ _ _ _ (c.lengthen.ensures.capacity ∙ c.put_back.ensures.capacity ∙ c.take_out.ensures.capacity) refl refl ∙ ap (λ (k : Kept). k.memory) c.self.view_is;
     }
 
 pub invariant_of-self-2 : goal.invariant_of-self-2
@@ -71,4 +72,5 @@ returns c =
       committed = rw (← c.self.view_is) (rw u.1 h.0);
       pending = h.1 ∙ sym (without_omit c.self.inside.nodes.items c.args.id (list_from c.self.inside.nodes.items c.self.inside.queue.first)) ∙ ap (λ (k : Kept). without c.args.id k.pending) c.self.view_is;
       reserved = ap (λ (k : Kept). k.reserved) c.self.view_is;
+      memory = same_memory _ _ _ _ _ _ (c.hang.ensures.capacity ∙ c.take_out.ensures.capacity) c.hang.ensures.heads_capacity c.push_reserved.ensures.capacity ∙ ap (λ (k : Kept). k.memory) c.self.view_is;
     }

@@ -1,8 +1,8 @@
-use Rattle.std.proofs.Common.{◌∙◌, ◌-◌, ◌<◌, ◌≤◌, take, length, ap, arith}
+use Rattle.std.proofs.Common.{◌∙◌, ◌-◌, ◌<◌, ◌≤◌, take, length, ap, refl, arith}
 use Rattle.exception_arena.specs.Kept.{Kept}
 use Rattle.exception_arena.specs.Links.{run_at}
 use Rattle.exception_arena.specs.declared.node.Node.{Node}
-use Rattle.exception_arena.proofs.Arenas.{slot_inside, removed_sound, shortened_sound}
+use Rattle.exception_arena.proofs.Arenas.{slot_inside, removed_sound, shortened_sound, same_memory}
 use Rattle.exception_arena.proofs.SlotOrder.{some_slots, ends_on, same_last}
 use Rattle.exception_arena.proofs.arena.ArenaExceptions.remove.Goals as goal
 
@@ -53,6 +53,7 @@ returns-then-read-gt1 c =
       committed = s.0 ∙ ap (λ (k : Kept). take (length k.committed - 1) k.committed) c.self.view_is;
       pending = s.1 ∙ ap (λ (k : Kept). k.pending) c.self.view_is;
       reserved = ap (λ (k : Kept). k.reserved) c.self.view_is;
+      memory = same_memory _ _ _ _ _ _ c.shorten.ensures.capacity refl refl ∙ ap (λ (k : Kept). k.memory) c.self.view_is;
     }
 
 pub returns : goal.returns
@@ -67,4 +68,5 @@ returns c =
       committed = s.0 ∙ ap (λ (k : Kept). take (length k.committed - 1) k.committed) c.self.view_is;
       pending = s.1 ∙ ap (λ (k : Kept). k.pending) c.self.view_is;
       reserved = ap (λ (k : Kept). k.reserved) c.self.view_is;
+      memory = same_memory _ _ _ _ _ _ c.put_back.ensures.capacity c.take_down.ensures.capacity c.in-Some.ensures.capacity ∙ ap (λ (k : Kept). k.memory) c.self.view_is;
     }
