@@ -92,7 +92,7 @@ gives_none number s x dev range Flush none gives = gives
 gives_none number s x Origin range (Write bytes) none gives = none_some number gives.0
 gives_none number s x (Snap n) range (Write bytes) none gives = (let e : Some n ≡ Some number = gives.0 in let same : n ≡ number = cc in true≢false (sym (eq-eqb n number same) ∙ none))
 
-asked_none : (number s : ℕ) (x : List ℕ) (requests : List InFlight) → is_written number requests ≡ false → IsSomeOf (GivesAsked (Some number) s x) requests → ⊥
+pub asked_none : (number s : ℕ) (x : List ℕ) (requests : List InFlight) → is_written number requests ≡ false → IsSomeOf (GivesAsked (Some number) s x) requests → ⊥
 asked_none number s x [] none one = one
 asked_none number s x (r ∷ rs) none one =
     let parts = or_parts (writes number r.request.dev r.request.op) (is_written number rs) none in

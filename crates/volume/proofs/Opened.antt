@@ -57,7 +57,7 @@ module _ {B : Type 0} (holds : B → ℕ → List ℕ → Type 0) (size : B → 
   left_before : (d d' : B) (b : List ℕ) → size d' ≡ size d → LeavesNoMore holds size d d' → MayLeave (holds d') (size d') b → MayLeave (holds d) (size d) b
   left_before d d' b same less left = record { whole = left.whole ∙ ap (λ k. 512 * k) same; each = λ s lt. less s (sector_at b s) lt (left.each s (omega (arith, lt, same))) }
 
-  open_before : (chunk chunk' s : ℕ) (x : List ℕ) (o o' d d' : B) → chunk' ≡ chunk → size o' ≡ size o → size d' ≡ size d → LeavesNoMore holds size o o' → LeavesNoMore holds size d d' → IsOpen chunk' (holds o') (holds d') (size o') (size d') s x → IsOpen chunk (holds o) (holds d) (size o) (size d) s x
+  pub open_before : (chunk chunk' s : ℕ) (x : List ℕ) (o o' d d' : B) → chunk' ≡ chunk → size o' ≡ size o → size d' ≡ size d → LeavesNoMore holds size o o' → LeavesNoMore holds size d d' → IsOpen chunk' (holds o') (holds d') (size o') (size d') s x → IsOpen chunk (holds o) (holds d) (size o) (size d) s x
   open_before chunk chunk' s x o o' d d' chunks so sd lo ld may = record {
     origin = may.origin;
     store = may.store;

@@ -24,7 +24,7 @@ use Rattle.snapshots.specs.Numbers.{number_of_snap}
 use Rattle.merge.specs.Merging.{Merging}
 use Rattle.merge_beside.specs.Keeping.{kept_back, kept_for, unkept}
 use Rattle.volume.specs.declared.calls.Call.{Call}
-use Rattle.volume.specs.declared.calls.Call.TheVariants.{Submit, Step, Tick, Message as Tell, BeginMerge, ResumeMerge}
+use Rattle.volume.specs.declared.calls.Call.TheVariants.{BeginMerge}
 use Rattle.volume.specs.AddedUp.{GivesAsked, IsFrom, IsGiven, IsSomeOf, IsOpenIn, IsOpenOrigin, IsOpenSnap, OpensOnly}
 use Rattle.volume.specs.Adding.{LeavesNoMore, MergeLeavesNoMore, OpensNothing}
 use Rattle.volume.specs.Beginning.{IsMergeBegun, IsNotBegun, IsResumed, SameButKept, begin_refusal, merging_from}
@@ -45,7 +45,7 @@ use Rattle.volume.proofs.Told.{told_alike, untold_alike}
 
 module _ {B : Type 0} (holds : B → ℕ → List ℕ → Type 0) (contents : B → List ℕ) (layers : B → List Layer) (size : B → ℕ) where
   -- a device that is the same
-  no_more : (d : B) → LeavesNoMore holds size d d
+  pub no_more : (d : B) → LeavesNoMore holds size d d
   no_more d s x lt h = h
 
   -- what a value came from where a call opened none
@@ -67,7 +67,7 @@ module _ {B : Type 0} (holds : B → ℕ → List ℕ → Type 0) (contents : B 
       itself (Some m) = (refl, refl, no_more m.device)
 
   -- a snapshot that is the same but for what is not seen of it
-  same_snap : (v : Volumed B) (k : ℕ) (s t : Kept B) → IsAt k s v → t.number ≡ s.number → t.live ≡ s.live → t.state.chunk ≡ s.state.chunk → t.device ≡ s.device → t.live ≡ true → IsEarlier holds size v t
+  pub same_snap : (v : Volumed B) (k : ℕ) (s t : Kept B) → IsAt k s v → t.number ≡ s.number → t.live ≡ s.live → t.state.chunk ≡ s.state.chunk → t.device ≡ s.device → t.live ≡ true → IsEarlier holds size v t
   same_snap v k s t at number live chunk device alive = record {
     place = k;
     snap = s;
@@ -79,7 +79,7 @@ module _ {B : Type 0} (holds : B → ℕ → List ℕ → Type 0) (contents : B 
     less = subst (λ (d : B). LeavesNoMore holds size s.device d) (sym device) (no_more s.device);
   }
 
-  same_snaps : (v w : Volumed B) → w.snaps ≡ v.snaps → (k : ℕ) (t : Kept B) → IsAt k t w → t.live ≡ true → IsEarlier holds size v t
+  pub same_snaps : (v w : Volumed B) → w.snaps ≡ v.snaps → (k : ℕ) (t : Kept B) → IsAt k t w → t.live ≡ true → IsEarlier holds size v t
   same_snaps v w same k t at live = same_snap v k t t (record { within = subst (λ (l : List (Kept B)). k < length l) same at.within; is = at.is ∙ ap (λ l. get_or l k t) same }) refl refl refl refl live
 
   -- nothing changed
@@ -141,9 +141,9 @@ module _ {B : Type 0} (holds : B → ℕ → List ℕ → Type 0) (contents : B 
             less = subst (λ (d : B). LeavesNoMore holds size b.device d) (sym device) (no_more b.device);
           }
 
-  pub opens_submitted : (request : Request) (result : Result ℕ Refusal) (v w : Volumed B) → IfOk result (λ number. IsAcceptedAs contents layers request number v w) → IfErr result (λ refusal. IsRefusedAs contents layers size request refusal v w) → KeepsDevices v w → OpensOnly holds size (Submit request ∷ []) v w
-  opens_submitted request (Ok number) v w ok err kept = opens_submit (Submit request ∷ []) v w kept (accepted_lives v w contents layers request number ok)
-  opens_submitted request (Err refusal) v w ok err kept = opens_submit (Submit request ∷ []) v w kept (refused_lives v w contents layers size request refusal err)
+  pub opens_submitted : (calls : List Call) (request : Request) (result : Result ℕ Refusal) (v w : Volumed B) → IfOk result (λ number. IsAcceptedAs contents layers request number v w) → IfErr result (λ refusal. IsRefusedAs contents layers size request refusal v w) → KeepsDevices v w → OpensOnly holds size calls v w
+  opens_submitted calls request (Ok number) v w ok err kept = opens_submit calls v w kept (accepted_lives v w contents layers request number ok)
+  opens_submitted calls request (Err refusal) v w ok err kept = opens_submit calls v w kept (refused_lives v w contents layers size request refusal err)
 
   -- an event
   module _ (event : Event) (outcome : Outcome) (faults : B → ℕ) (v w : Volumed B) (kept : KeepsAll size v w) (cause : HasCause faults event outcome v w) (stops : StopsVolume holds size (given_by event (map in_flight v.flights)) v w) (whole : (d : B) → length (contents d) ≡ 512 * size d) (here : (d : B) (s : ℕ) → s < size d → holds d s (sector_at (contents d) s)) where
@@ -164,10 +164,10 @@ module _ {B : Type 0} (holds : B → ℕ → List ℕ → Type 0) (contents : B 
     given_from MergeCommit array s x gives = absurd gives
     given_from MergeRelease array s x gives = absurd gives
 
-    pub opens_event : OpensOnly holds size (Step event ∷ []) v w
-    opens_event array s x may = record { from = array; comes = inl refl; is = by array s x may }
+    pub opens_event : (calls : List Call) → OpensOnly holds size calls v w
+    opens_event calls array s x may = record { from = array; comes = inl refl; is = by array s x may }
       where
-        found : (array : Option ℕ) (s : ℕ) (x : List ℕ) → IsOpenIn holds size v array s x ⊎ Gives (given_by event (map in_flight v.flights)) array s x → IsOpenIn holds size v array s x ⊎ IsGiven (map in_flight v.flights) (Step event ∷ []) array s x
+        found : (array : Option ℕ) (s : ℕ) (x : List ℕ) → IsOpenIn holds size v array s x ⊎ Gives (given_by event (map in_flight v.flights)) array s x → IsOpenIn holds size v array s x ⊎ IsGiven (map in_flight v.flights) calls array s x
         found array s x (inl before) = inl before
         found array s x (inr gives) = inr (inl (given_from event array s x gives))
 
@@ -178,7 +178,7 @@ module _ {B : Type 0} (holds : B → ℕ → List ℕ → Type 0) (contents : B 
         beside P Q s lt (inl p) = inl (lt, p)
         beside P Q s lt (inr q) = inr q
 
-        by : (array : Option ℕ) (s : ℕ) (x : List ℕ) → IsOpenIn holds size w array s x → IsOpenIn holds size v array s x ⊎ IsGiven (map in_flight v.flights) (Step event ∷ []) array s x
+        by : (array : Option ℕ) (s : ℕ) (x : List ℕ) → IsOpenIn holds size w array s x → IsOpenIn holds size v array s x ⊎ IsGiven (map in_flight v.flights) calls array s x
         by None s x may = found None s x (beside _ _ s (subst (λ n. s < n) so may.0) (event_origin holds size contents whole here (given_by event (map in_flight v.flights)) v w kept stops s x may.0 may.1))
         by (Some number) s x may =
             found (Some number) s x (beside _ _ s (subst (λ n. s < n) so may.0) (event_snap holds size (given_by event (map in_flight v.flights)) v w kept stops (caused_lives v w faults event outcome cause) number s x may.0 may.1))
@@ -191,6 +191,15 @@ module _ {B : Type 0} (holds : B → ℕ → List ℕ → Type 0) (contents : B 
       either true n = (refl, refl, refl, refl)
       either false n = (refl, refl, refl, refl)
 
+  -- a snapshot that is left stood before one that is taken out, or behind it
+  pub stood : (snaps : List (Kept B)) (place k : ℕ) (t : Kept B) → place < length snaps → k < length (remove snaps place) → (j : ℕ) × (j < length snaps) × (get_or (remove snaps place) k t ≡ get_or snaps j t)
+  stood snaps place k t at lt =
+      let long = length-remove snaps place at in
+      elim (cases_lt k place) [
+        | inl below ↦ (k, omega (arith, below, at), get_or-remove_below snaps place t k below at)
+        | inr above ↦ (k + 1, omega (arith, lt, long), get_or-remove_above snaps place t k above at)
+      ]
+
   module _ (number : ℕ) (v w : Volumed B) (admitted : begin_refusal number v ≡ None) (begun : IsMergeBegun number v w) where
     abbrev left : List (Kept B)
     left = remove v.snaps begun.place
@@ -201,23 +210,13 @@ module _ {B : Type 0} (holds : B → ℕ → List ℕ → Type 0) (contents : B 
     origin_same : w.origin ≡ v.origin
     origin_same = ap (λ (y : Volumed B). y.origin) begun.becomes
 
-    -- a snapshot that is left stood before the one that is merged, or behind it
-    stood : (k : ℕ) (t : Kept B) → k < length left → (j : ℕ) × (j < length v.snaps) × (get_or left k t ≡ get_or v.snaps j t)
-    stood k t lt =
-        let long = length-remove v.snaps begun.place inside in
-        let at = inside in
-        elim (cases_lt k begun.place) [
-          | inl below ↦ (k, omega (arith, below, at), get_or-remove_below v.snaps begun.place t k below at)
-          | inr above ↦ (k + 1, omega (arith, lt, long), get_or-remove_above v.snaps begun.place t k above at)
-        ]
-
     begun_snap : (k : ℕ) (t : Kept B) → IsAt k t w → t.live ≡ true → IsEarlier holds size v t
     begun_snap k t at live =
         let f : Kept B → Kept B = kept_for number (length begun.snap.pairs) begun.snap.state.chunk in
         let are : w.snaps ≡ map f left = ap (λ (y : Volumed B). y.snaps) begun.becomes in
         let within = at.within in
         let lt : k < length left = omega (arith, within, ap length are, length-map left f) in
-        let (j, below, is) = stood k t lt in
+        let (j, below, is) = stood v.snaps begun.place k t inside lt in
         let b : Kept B = get_or v.snaps j t in
         let shown : t ≡ f b = at.is ∙ ap (λ l. get_or l k t) are ∙ get_or-map f left k t t lt ∙ ap f is in
         let same = kept_same number (length begun.snap.pairs) begun.snap.state.chunk b in
@@ -244,7 +243,7 @@ module _ {B : Type 0} (holds : B → ℕ → List ℕ → Type 0) (contents : B 
             }
 
   -- it does not, and the snapshots may keep nothing back for one any more
-  kept_snaps : (v w : Volumed B) → (w.snaps ≡ v.snaps) ⊎ (w.snaps ≡ map unkept v.snaps) → (k : ℕ) (t : Kept B) → IsAt k t w → t.live ≡ true → IsEarlier holds size v t
+  pub kept_snaps : (v w : Volumed B) → (w.snaps ≡ v.snaps) ⊎ (w.snaps ≡ map unkept v.snaps) → (k : ℕ) (t : Kept B) → IsAt k t w → t.live ≡ true → IsEarlier holds size v t
   kept_snaps v w (inl same) k t at live = same_snaps v w same k t at live
   kept_snaps v w (inr same) k t at live =
       let lt = at.within in
@@ -265,23 +264,23 @@ module _ {B : Type 0} (holds : B → ℕ → List ℕ → Type 0) (contents : B 
   opens_begin number (Err refusal) v w admitted begun refused = opens_unbegun (BeginMerge number ∷ []) number refusal v w refused
 
   -- a merge goes on: its device is the same
-  pub opens_resume : {A : Type 0} (result : Result A Refusal) (v w : Volumed B) → OnOk result (IsResumed v w) → IfErr result (λ refusal. (refusal ≡ NotMerging) × (v.merge ≡ None) × (w ≡ v)) → OpensOnly holds size (ResumeMerge ∷ []) v w
-  opens_resume (Err refusal) v w resumed err = opens_same (ResumeMerge ∷ []) v w err.2
-  opens_resume (Ok done) v w resumed err =
+  pub opens_resume : {A : Type 0} (calls : List Call) (result : Result A Refusal) (v w : Volumed B) → OnOk result (IsResumed v w) → IfErr result (λ refusal. (refusal ≡ NotMerging) × (v.merge ≡ None) × (w ≡ v)) → OpensOnly holds size calls v w
+  opens_resume calls (Err refusal) v w resumed err = opens_same calls v w err.2
+  opens_resume calls (Ok done) v w resumed err =
       let origin : w.origin ≡ v.origin = ap (λ (y : Volumed B). y.origin) resumed.becomes in
       let merge : IsEarlierMerge holds size (Some resumed.merge) (Some (record resumed.merge { failed = false })) = (refl, refl, no_more resumed.merge.device) in
-      opens_none (ResumeMerge ∷ []) v w (ap size origin) (subst (λ (d : B). LeavesNoMore holds size v.origin d) (sym origin) (no_more v.origin))
+      opens_none calls v w (ap size origin) (subst (λ (d : B). LeavesNoMore holds size v.origin d) (sym origin) (no_more v.origin))
       (subst (λ m. IsEarlierMerge holds size m w.merge) (sym resumed.was) (subst (IsEarlierMerge holds size (Some resumed.merge)) (sym (ap (λ (y : Volumed B). y.merge) resumed.becomes)) merge))
       (same_snaps v w (ap (λ (y : Volumed B). y.snaps) resumed.becomes))
 
   -- an event that was due, or was not
-  pub opens_stepped : (event : Event) (result : Result Outcome NotDue) (faults : B → ℕ) (v w : Volumed B) → ((d : B) → length (contents d) ≡ 512 * size d) → ((d : B) (s : ℕ) → s < size d → holds d s (sector_at (contents d) s)) → is_loud_in_all layers v ≡ true
-      → OnOk result (KeepsAll size v w) → IfOk result (λ outcome. HasCause faults event outcome v w) → IfOk result (λ outcome. is_loud_in_all layers v ≡ true → StopsVolume holds size (given_by event (map in_flight v.flights)) v w) → OnErr result (w ≡ v) → OpensOnly holds size (Step event ∷ []) v w
-  opens_stepped event (Ok outcome) faults v w whole here loud kept cause stops same = opens_event event outcome faults v w kept cause (stops loud) whole here
-  opens_stepped event (Err early) faults v w whole here loud kept cause stops same = opens_same (Step event ∷ []) v w same
+  pub opens_stepped : (calls : List Call) (event : Event) (result : Result Outcome NotDue) (faults : B → ℕ) (v w : Volumed B) → ((d : B) → length (contents d) ≡ 512 * size d) → ((d : B) (s : ℕ) → s < size d → holds d s (sector_at (contents d) s)) → is_loud_in_all layers v ≡ true
+      → OnOk result (KeepsAll size v w) → IfOk result (λ outcome. HasCause faults event outcome v w) → IfOk result (λ outcome. is_loud_in_all layers v ≡ true → StopsVolume holds size (given_by event (map in_flight v.flights)) v w) → OnErr result (w ≡ v) → OpensOnly holds size calls v w
+  opens_stepped calls event (Ok outcome) faults v w whole here loud kept cause stops same = opens_event event outcome faults v w kept cause (stops loud) whole here calls
+  opens_stepped calls event (Err early) faults v w whole here loud kept cause stops same = opens_same calls v w same
 
 -- a message
-pub opens_told : {B : Type 0} (holds : B → ℕ → List ℕ → Type 0) (m : Measures B) (layers : B → List Layer) (dev : Dev) (depth : ℕ) (message : Message) (result : Result Answer Refusal) (v w : Volumed B)
-    → IfOk result (λ answer. IsTold m layers dev depth message answer v w) → IfErr result (λ refusal. IsNotTold m layers dev depth message refusal v w) → OpensNothing holds m.size v w → OpensOnly holds m.size (Tell dev depth message ∷ []) v w
-opens_told holds m layers dev depth message (Ok answer) v w told untold opens = opens_alike holds m.contents layers m.size v w (told_alike m layers dev depth message v w answer told) opens (Tell dev depth message ∷ [])
-opens_told holds m layers dev depth message (Err refusal) v w told untold opens = opens_alike holds m.contents layers m.size v w (untold_alike m layers dev depth message v w refusal untold) opens (Tell dev depth message ∷ [])
+pub opens_told : {B : Type 0} (holds : B → ℕ → List ℕ → Type 0) (m : Measures B) (layers : B → List Layer) (calls : List Call) (dev : Dev) (depth : ℕ) (message : Message) (result : Result Answer Refusal) (v w : Volumed B)
+    → IfOk result (λ answer. IsTold m layers dev depth message answer v w) → IfErr result (λ refusal. IsNotTold m layers dev depth message refusal v w) → OpensNothing holds m.size v w → OpensOnly holds m.size calls v w
+opens_told holds m layers calls dev depth message (Ok answer) v w told untold opens = opens_alike holds m.contents layers m.size v w (told_alike m layers dev depth message v w answer told) opens calls
+opens_told holds m layers calls dev depth message (Err refusal) v w told untold opens = opens_alike holds m.contents layers m.size v w (untold_alike m layers dev depth message v w refusal untold) opens calls

@@ -1,10 +1,10 @@
 -- Each turn does the next call, and its answer has its place.
-use Rattle.std.proofs.Common.{rules, inl, ◌∙◌, ◌++◌, [], ◌∷◌, length, ap, refl, arith}
+use Rattle.std.proofs.Common.{◌≡◌, rules, inl, true, ◌∙◌, ◌++◌, [], ◌∷◌, length, ap, refl, arith}
 use Rattle.std.proofs.lemmas.Iterator.Adapters.{YieldsList-from_vec}
 use Rattle.std.proofs.lemmas.Iterator.Consumers.{YieldsList-turn, YieldsList-end}
 use Rattle.std.proofs.lemmas.List.{length-append}
 use Rattle.volume.specs.Layering.{Measures}
-use Rattle.volume.specs.Volumed.{plain_of}
+use Rattle.volume.specs.Volumed.{is_loud_in_all, plain_of}
 use Rattle.volume.specs.Running.{AreReturned}
 use Rattle.volume.proofs.AddedUp.{all_opened, asks_empty, asks_one, asks_then, opens_empty, opens_then, opens_unwritten}
 use Rattle.volume.proofs.Ran.{all_returned, are_legal, are_loud, are_more, returned_legal}
@@ -31,7 +31,7 @@ loop-call-preserved g c =
     let i = c.loop-call.invariant in
     let more : AreReturned m g.B.Block.layers (c.loop-call.yielded ++ c.in-Some.call ∷ []) (c.loop-call.returned.items ++ c.call-answer.result ∷ []) c.args.self.now c.call-answer.new.self =
     are_more m g.B.Block.layers c.loop-call.yielded c.loop-call.returned.items c.in-Some.call c.call-answer.result c.args.self.now c.loop-call.self c.call-answer.new.self i.done c.call-answer.ensures.returned in
-    let still = λ loud. are_loud m g.B.Block.layers c.loop-call.yielded c.loop-call.returned.items c.args.self.now c.loop-call.self i.done ∙ loud in
+    let still : is_loud_in_all g.B.Block.layers c.args.self.now ≡ true → is_loud_in_all g.B.Block.layers c.loop-call.self ≡ true = λ loud. are_loud m g.B.Block.layers c.loop-call.yielded c.loop-call.returned.items c.args.self.now c.loop-call.self i.done ∙ loud in
     record {
       done = rw c.push_reserved.ensures.items more;
       opens = λ loud. opens_then g.B.Block.may_hold g.B.Block.size c.loop-call.yielded (c.in-Some.call ∷ []) c.args.self.now c.loop-call.self c.call-answer.new.self (i.opens loud) (i.asks loud) (c.call-answer.ensures.opens (still loud));
