@@ -1,13 +1,15 @@
 -- To be believed: what `live` says of stops is said in these words.
 -- Disks with caches: whatever a stop leaves after a list of deeds, the snapshots that were taken over fresh stores and not written
 -- since are as they were taken. holds: what a device may hold in a sector after a stop. This project's own.
-use Rattle.std.specs.Prelude.{◌≡◌, ◌⊎◌, ℕ, ◌<◌, true, List, [], ◌∷◌, Some, Ok, map}
+use Rattle.std.specs.Prelude.{◌≡◌, ◌⊎◌, ℕ, ◌<◌, Bool, true, List, [], ◌∷◌, Some, Ok, map}
 use Rattle.sector.specs.Bytes.{sector_at}
 use Rattle.device.specs.Layers.{Layer}
 use Rattle.model.specs.Picture.{picture}
+use Rattle.plain.specs.Plain.{Plain}
 use Rattle.pending.specs.Kinds.{in_flight}
 use Rattle.snapshot.specs.Kept.{Kept}
 use Rattle.snapshot.specs.Opening.{shown_array}
+use Rattle.snapshot.specs.declared.opening.StoreDev.{StoreDev}
 use Rattle.stop_laws.specs.Stop.{MayLeave}
 use Rattle.stop_laws.specs.Again.{LoadsAgain}
 use Rattle.volume.specs.AddedUp.{GivesAsked, IsOpenIn, IsSomeOf}
@@ -40,14 +42,18 @@ IsLasting {B} holds m layers taken (deed ∷ deeds) (done ∷ dones) old new =
 IsLasting holds m layers taken [] (done ∷ dones) old new = ⊥
 IsLasting holds m layers taken (deed ∷ deeds) [] old new = ⊥
 
--- the array that a deed takes as that of a snapshot
-abbrev pub TakesAs : {B : Type 0} → (B → List ℕ) → Deed B → Done B → Volumed B → ℕ → List ℕ → Type 0
-TakesAs contents (Attach store chunk overflow) (Attached (Ok taken)) old number array = (number ≡ taken) × (array ≡ shown_array (contents old.origin) (contents store.device))
-TakesAs contents deed done old number array = ⊥
+-- a deed takes a snapshot, of this array
+pub record TakesAs {B : Type 0} (contents : B → List ℕ) (deed : Deed B) (done : Done B) (old : Plain) (number : ℕ) (array : List ℕ) : Type 0 where
+  pub store : StoreDev B
+  pub chunk : ℕ
+  pub overflow : Bool
+  pub attach : deed ≡ Attach store chunk overflow
+  pub attached : done ≡ Attached (Ok number)
+  pub shown : array ≡ shown_array old.origin (contents store.device)
 
 -- One deed: no value is open for a live snapshot then but those that were, those that a write in flight gives, and of one that it
 -- takes those of its array.
-abbrev pub OpensByDeed : {B : Type 0} → (B → ℕ → List ℕ → Type 0) → (B → ℕ) → (B → List ℕ) → Deed B → Done B → Volumed B → Volumed B → Type 0
-OpensByDeed holds size contents deed done old new =
-    (number s : ℕ) (x : List ℕ) → IsOpenIn holds size new (Some number) s x →
-    IsOpenIn holds size old (Some number) s x ⊎ (IsSomeOf (GivesAsked (Some number) s x) (map in_flight old.flights) ⊎ ((array : List ℕ) × TakesAs contents deed done old number array × (x ≡ sector_at array s)))
+abbrev pub OpensByDeed : {B : Type 0} → (B → ℕ → List ℕ → Type 0) → Measures B → (B → List Layer) → Deed B → Done B → Volumed B → Volumed B → Type 0
+OpensByDeed holds m layers deed done old new =
+    (number s : ℕ) (x : List ℕ) → IsOpenIn holds m.size new (Some number) s x →
+    IsOpenIn holds m.size old (Some number) s x ⊎ (IsSomeOf (GivesAsked (Some number) s x) (map in_flight old.flights) ⊎ ((array : List ℕ) × TakesAs m.contents deed done (plain_of m.contents layers old) number array × (x ≡ sector_at array s)))
