@@ -1,2 +1,3 @@
 pub mod Plains
 pub mod Lives
+pub mod Lasts

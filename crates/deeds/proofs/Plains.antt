@@ -100,7 +100,7 @@ stepped_keeps event outcome p q taken legal all = all_kept p q taken
     (λ t kept. (let (shows, none) = step_keeps t.number t.array p q kept.free kept.shows event (inl (outcome, legal)) in record { shows = shows; free = none })) all
 
 -- a snapshot is taken
-apart : (number : ℕ) (p : Plain) (t : Taken) → saved_under number p.saved ≡ None → IsKept p t → (number == t.number) ≡ false
+pub apart : (number : ℕ) (p : Plain) (t : Taken) → saved_under number p.saved ≡ None → IsKept p t → (number == t.number) ≡ false
 apart number p t none kept = elim (cases_eq number t.number) [
   | inr other ↦ ne_eqb number t.number other
   | inl same ↦ elim kept.shows [

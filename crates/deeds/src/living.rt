@@ -5,6 +5,7 @@ ghost use Rattle.sector.specs.declared.refusal.Refusal.TheVariants.{NoMemory};
 ghost use Rattle.volume.specs.Layering.{Measures};
 ghost use Rattle.volume.specs.Volumed.{is_loud_in_all};
 ghost use Rattle.deeds.specs.Answered.{AreAnswered};
+ghost use Rattle.deeds.specs.Lasted.{IsLasting, OpensByDeed};
 ghost use Rattle.deeds.specs.Lived.{IsDone, IsFitDeed, IsLived, IsLoudDeed};
 
 use crate::{Deed, Done};
@@ -13,10 +14,12 @@ use sector::Refusal;
 use std::alloc::Global;
 use volume::Volume;
 
-/// Does one thing.
+/// Does one thing. What a stop may leave of a snapshot then might be left before, or a write that is in flight gives it, or it is what
+/// a snapshot that was taken shows.
 fn one<B: Layered>(alloc: Global, volume: &mut Volume<B>, deed: Deed<B>) -> Done<B>
     requires fits { IsFitDeed deed }
-    ensures { IsDone (record { contents = B.contents; durable = B.durable; size = B.size; faults = B.fault_count; done = B.done_count }) B.layers deed result volume.old volume.new }
+    ensures done { IsDone (record { contents = B.contents; durable = B.durable; size = B.size; faults = B.fault_count; done = B.done_count }) B.layers deed result volume.old volume.new }
+    ensures opens { is_loud_in_all B.layers volume.old ≡ true → IsLoudDeed B.layers deed → OpensByDeed B.may_hold (record { contents = B.contents; durable = B.durable; size = B.size; faults = B.fault_count; done = B.done_count }) B.layers deed result volume.old volume.new }
 {
     match deed {
         Deed::Submit(request) => Done::Submitted(volume.submit(alloc, request)),
@@ -40,7 +43,9 @@ fn one<B: Layered>(alloc: Global, volume: &mut Volume<B>, deed: Deed<B>) -> Done
 /// one that the volume has nor one that a deed brings: every read answers what saved arrays answer at that event; every reply,
 /// fault and spoiled snapshot has its cause; a merge begins by the one assignment of the snapshot's array to the origin; so the
 /// merge of a snapshot over a fresh store that nobody wrote undoes all that was written to the origin since it was taken, and
-/// once it is taken out that stands on the disk itself. Whatever devices do, each answer is the volume's own. The room for the
+/// once it is taken out that stands on the disk itself. On disks with caches, whatever a stop behind a deed leaves, the store of each live
+/// snapshot that was taken over a fresh one and not written since is loaded again, and shows in each sector what the origin showed
+/// when that was taken. Whatever devices do, each answer is the volume's own. The room for the
 /// answers is taken first: where it is refused (`NoMemory`), nothing is done, and the deeds are given back.
 pub fn live<B: Layered + Drop>(
     alloc: Global,
@@ -49,6 +54,7 @@ pub fn live<B: Layered + Drop>(
 ) -> Result<Vec<Done<B>>, (Refusal, Vec<Deed<B>>)>
     requires fits { All IsFitDeed deeds.items }
     ensures lived { IfOk result (λ done. is_loud_in_all B.layers volume.old ≡ true → All (IsLoudDeed B.layers) deeds.items → IsLived (record { contents = B.contents; durable = B.durable; size = B.size; faults = B.fault_count; done = B.done_count }) B.layers [] deeds.items done.items volume.old volume.new) }
+    ensures lasts { IfOk result (λ done. is_loud_in_all B.layers volume.old ≡ true → All (IsLoudDeed B.layers) deeds.items → IsLasting B.may_hold (record { contents = B.contents; durable = B.durable; size = B.size; faults = B.fault_count; done = B.done_count }) B.layers [] deeds.items done.items volume.old volume.new) }
     ensures answered { IfOk result (λ done. AreAnswered (record { contents = B.contents; durable = B.durable; size = B.size; faults = B.fault_count; done = B.done_count }) B.layers deeds.items done.items volume.old volume.new) }
     ensures err { IfErr result (λ e. (e.0 ≡ NoMemory) × (e.1 ≡ deeds) × (volume.new ≡ volume.old)) }
 {
@@ -57,6 +63,7 @@ pub fn live<B: Layered + Drop>(
     };
     for deed in deeds {
         let answer = one(alloc, volume, deed);
+        volume.look_at_stores();
         answers.push_reserved(answer);
     }
     Ok(answers)

@@ -117,3 +117,9 @@ pub mod MergeBoth
 pub mod BeginLasts
 mod LastTime
 mod LastCloses
+pub mod FewerLives
+pub mod OpensNothing
+pub mod Opened
+pub mod OpenedCalls
+pub mod AskedFor
+pub mod AddedUp

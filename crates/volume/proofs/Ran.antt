@@ -122,7 +122,7 @@ module _ {B : Type 0} (m : Measures B) (layers : B → List Layer) where
   returned_loud ResumeMerge (Told result) v w e = absurd e
   returned_loud ResumeMerge (Begun result) v w e = absurd e
 
-  returned_legal : (call : Call) (returned : Returned) (v w : Volumed B) → is_loud_in_all layers v ≡ true → IsReturned m layers call returned v w → MayCall call (plain v) (plain w)
+  pub returned_legal : (call : Call) (returned : Returned) (v w : Volumed B) → is_loud_in_all layers v ≡ true → IsReturned m layers call returned v w → MayCall call (plain v) (plain w)
   returned_legal (Submit request) (Submitted result) v w loud e = submit_legal request result v w loud e
   returned_legal (Step event) (Stepped result) v w loud e = step_legal event result v w loud e
   returned_legal (Tick seconds) Ticked v w loud e = plain_alike m.contents layers m.size v w (ticked_alike m layers seconds v w e)

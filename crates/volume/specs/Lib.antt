@@ -28,3 +28,4 @@ pub mod SnapLasting
 pub mod Handing
 pub mod Adding
 pub mod Closing
+pub mod AddedUp

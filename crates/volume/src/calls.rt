@@ -1,8 +1,10 @@
 // Calls of a volume as values, what comes of them, and lists of calls that are done one after another.
-ghost use Rattle.std.specs.Prelude.{◌≡◌, IfErr, IfOk, OnOk, true};
+ghost use Rattle.std.specs.Prelude.{◌≡◌, ◌∷◌, IfErr, IfOk, OnOk, [], true};
 ghost use Rattle.std.specs.List.{All};
 ghost use Rattle.sector.specs.declared.refusal.Refusal.TheVariants.{NoMemory};
 ghost use Rattle.plain.specs.Runs.{IsRun};
+ghost use Rattle.volume.specs.AddedUp.{OpensNoneUnwritten, OpensOnly};
+ghost use Rattle.volume.specs.Stopping.{StopsNow};
 ghost use Rattle.volume.specs.Volumed.{is_loud_in_all, plain_of};
 ghost use Rattle.volume.specs.Running.{AreReturned, IsFitCall, IsReturned, KeepsUnwritten, MayCall};
 
@@ -47,10 +49,11 @@ pub enum Returned {
 }
 
 impl<B: Layered> Volume<B> {
-    /// Does one call.
+    /// Does one call. What a stop may leave then might be left before, or the call's write gives it.
     fn call(&mut self, alloc: Global, call: Call) -> Returned
         requires fits { IsFitCall call }
-        ensures { IsReturned (record { contents = B.contents; durable = B.durable; size = B.size; faults = B.fault_count; done = B.done_count }) B.layers call result self.old self.new }
+        ensures returned { IsReturned (record { contents = B.contents; durable = B.durable; size = B.size; faults = B.fault_count; done = B.done_count }) B.layers call result self.old self.new }
+        ensures opens { is_loud_in_all B.layers self.old ≡ true → OpensOnly B.may_hold B.size (call ∷ []) self.old self.new }
     {
         match call {
             Call::Submit(request) => Returned::Submitted(self.submit(alloc, request)),
@@ -69,13 +72,18 @@ impl<B: Layered> Volume<B> {
 
     /// Does calls one after another, and tells what each answered. Where no device drops writes, callers see a run of the
     /// plain machine: each call is a step of it, or changes nothing; and a live snapshot that nobody writes or begins to
-    /// merge shows the array that it showed, or is lost. The room for the answers is taken first: where it is refused (`NoMemory`), no call
-    /// is done.
+    /// merge shows the array that it showed, or is lost. On disks with caches a stop then leaves stores that are loaded again with their arrays;
+    /// and whatever of a cache is lost, each sector of an array has a value that a stop might have left there before all calls, or
+    /// one that a write gives it which was in flight or is submitted by one of them: so of a snapshot that nobody writes, no
+    /// other than before. The room for the answers is taken first: where it is refused (`NoMemory`), no call is done.
     pub fn run(&mut self, alloc: Global, calls: Vec<Call>) -> Result<Vec<Returned>, Refusal>
         requires fits { All IsFitCall calls.items }
         ensures ok { IfOk result (λ returned. AreReturned (record { contents = B.contents; durable = B.durable; size = B.size; faults = B.fault_count; done = B.done_count }) B.layers calls.items returned.items self.old self.new) }
         ensures legal { OnOk result (is_loud_in_all B.layers self.old ≡ true → IsRun MayCall calls.items (plain_of B.contents B.layers self.old) (plain_of B.contents B.layers self.new)) }
         ensures keeps { OnOk result (is_loud_in_all B.layers self.old ≡ true → KeepsUnwritten calls.items (plain_of B.contents B.layers self.old) (plain_of B.contents B.layers self.new)) }
+        ensures stops { OnOk result (StopsNow B.may_hold B.layers B.size self.new) }
+        ensures opens { OnOk result (is_loud_in_all B.layers self.old ≡ true → OpensOnly B.may_hold B.size calls.items self.old self.new) }
+        ensures unwritten { OnOk result (is_loud_in_all B.layers self.old ≡ true → OpensNoneUnwritten B.may_hold B.size calls.items self.old self.new) }
         ensures loud { is_loud_in_all B.layers self.new ≡ is_loud_in_all B.layers self.old }
         ensures err { IfErr result (λ refusal. (refusal ≡ NoMemory) × (self.new ≡ self.old)) }
     {
@@ -86,6 +94,7 @@ impl<B: Layered> Volume<B> {
             let answer = self.call(alloc, call);
             returned.push_reserved(answer);
         }
+        self.look_at_stores();
         Ok(returned)
     }
 }

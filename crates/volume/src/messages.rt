@@ -6,7 +6,7 @@ ghost use Rattle.plain.specs.declared.request.Reply.{Reply};
 ghost use Rattle.volume.specs.Volumed.{books_of, is_loud_in_all, plain_of};
 ghost use Rattle.volume.specs.Moved.{moving_of};
 ghost use Rattle.volume.specs.Telling.{IsMergeNotTold, IsMergeTold, IsNotTold, IsTold, dev_relayered, layers_told};
-ghost use Rattle.volume.specs.Adding.{AddsMerge};
+ghost use Rattle.volume.specs.Adding.{AddsMerge, OpensNothing};
 
 use crate::Volume;
 use layers::{Answer, Layered, Message};
@@ -42,6 +42,7 @@ impl<B: Layered> Volume<B> {
     fn tell_origin(&mut self, depth: usize, message: &Message) -> Result<Answer, Refusal>
         ensures ok { IfOk result (λ answer. IsTold (record { contents = B.contents; durable = B.durable; size = B.size; faults = B.fault_count; done = B.done_count }) B.layers Origin depth message.now answer self.old self.new) }
         ensures err { IfErr result (λ refusal. IsNotTold (record { contents = B.contents; durable = B.durable; size = B.size; faults = B.fault_count; done = B.done_count }) B.layers Origin depth message.now refusal self.old self.new) }
+        ensures opens { OpensNothing B.may_hold B.size self.old self.new }
     {
         self.origin.message(depth, message)
     }
@@ -55,6 +56,7 @@ impl<B: Layered> Volume<B> {
     ) -> Result<Answer, Refusal>
         ensures ok { IfOk result (λ answer. IsTold (record { contents = B.contents; durable = B.durable; size = B.size; faults = B.fault_count; done = B.done_count }) B.layers (Snap number) depth message.now answer self.old self.new) }
         ensures err { IfErr result (λ refusal. IsNotTold (record { contents = B.contents; durable = B.durable; size = B.size; faults = B.fault_count; done = B.done_count }) B.layers (Snap number) depth message.now refusal self.old self.new) }
+        ensures opens { OpensNothing B.may_hold B.size self.old self.new }
     {
         let Some(k) = snap_at(self.snaps.as_slice(), number) else {
             return tell_merge(&mut self.merge, number, depth, message);
@@ -65,7 +67,8 @@ impl<B: Layered> Volume<B> {
     /// Tells the layer at a depth, counted from the top, from 0, of the device under the origin or of a snapshot's store, also
     /// of the one that is being merged. In this order: `NoSuchDevice` where there is no such snapshot, `BadTable` where that is no dust layer or there is none,
     /// `OutOfRange` for a block past its end, `NoMemory` where a block is added and the allocator refuses room. No request,
-    /// no copy and no byte changes, and no operation is counted; what is refused changes no layer either.
+    /// no copy and no byte changes, and no operation is counted; what is refused changes no layer either. A stop leaves nothing
+    /// then but what it might have left before.
     pub fn message(&mut self, dev: Dev, depth: usize, message: &Message) -> Result<Answer, Refusal>
         ensures ok { IfOk result (λ answer. IsTold (record { contents = B.contents; durable = B.durable; size = B.size; faults = B.fault_count; done = B.done_count }) B.layers dev depth message.now answer self.old self.new) }
         ensures err { IfErr result (λ refusal. IsNotTold (record { contents = B.contents; durable = B.durable; size = B.size; faults = B.fault_count; done = B.done_count }) B.layers dev depth message.now refusal self.old self.new) }
@@ -74,6 +77,7 @@ impl<B: Layered> Volume<B> {
         ensures books { books_of B.contents B.layers B.size self.new ≡ books_of B.contents B.layers B.size self.old }
         ensures plain { plain_of B.contents B.layers self.new ≡ plain_of B.contents B.layers self.old }
         ensures loud { is_loud_in_all B.layers self.new ≡ is_loud_in_all B.layers self.old }
+        ensures opens { OpensNothing B.may_hold B.size self.old self.new }
     {
         match dev {
             Dev::Origin => self.tell_origin(depth, message),

@@ -7,7 +7,7 @@ ghost use Rattle.volume.specs.Volumed.{books_of, is_loud_in_all, plain_of};
 ghost use Rattle.volume.specs.Moved.{moving_of};
 ghost use Rattle.volume.specs.Layering.{IsMergeLater, IsSnapLater, IsTicked, moving_relayered};
 ghost use Rattle.stop_laws.specs.Firm.{AddsNow};
-ghost use Rattle.volume.specs.Adding.{AddsMerge};
+ghost use Rattle.volume.specs.Adding.{AddsMerge, OpensNothing};
 
 use crate::Volume;
 use layers::Layered;
@@ -38,7 +38,7 @@ fn tick_merge<B: Layered>(merge: &mut Option<Merge<B>>, seconds: u32)
 
 impl<B: Layered> Volume<B> {
     /// Lets so many seconds pass for the layers of every device. No request, no copy and no byte changes, and no operation
-    /// is counted.
+    /// is counted. A stop leaves nothing then but what it might have left before.
     #[tactic(auto, using(crate::proofs::Relayered::ticked_moving, crate::proofs::Relayered::whole_alike))]
     pub fn tick(&mut self, seconds: u32)
         ensures ticked { IsTicked (record { contents = B.contents; durable = B.durable; size = B.size; faults = B.fault_count; done = B.done_count }) B.layers seconds self.old self.new }
@@ -46,6 +46,7 @@ impl<B: Layered> Volume<B> {
         ensures books { books_of B.contents B.layers B.size self.new ≡ books_of B.contents B.layers B.size self.old }
         ensures plain { plain_of B.contents B.layers self.new ≡ plain_of B.contents B.layers self.old }
         ensures loud { is_loud_in_all B.layers self.new ≡ is_loud_in_all B.layers self.old }
+        ensures opens { OpensNothing B.may_hold B.size self.old self.new }
     {
         self.origin.tick(seconds);
         tick_all(self.snaps.as_mut_slice(), seconds);

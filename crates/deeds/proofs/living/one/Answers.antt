@@ -1,26 +1,80 @@
 -- Each arm by the volume's own contract.
-use Rattle.std.proofs.Common.{sym, subst}
+use Rattle.std.proofs.Common.{[], sym, subst}
 use Rattle.volume.specs.Layering.{Measures}
 use Rattle.deeds.specs.declared.deed.Deed.{Deed}
-use Rattle.deeds.specs.declared.deed.Done.TheVariants.{Submitted, Attached, Begun}
-use Rattle.deeds.specs.Lived.{IsDone}
+use Rattle.deeds.specs.declared.deed.Deed.TheVariants.{Submit, Step, Tick, Tell, Attach, Detach, BeginMerge, ResumeMerge, FinishMerge}
+use Rattle.deeds.specs.declared.deed.Done.TheVariants.{Submitted, Stepped, Ticked, Told, Attached, Begun, Resumed}
+use Rattle.volume.proofs.OpenedCalls.{opens_alike, opens_begin, opens_resume, opens_stepped, opens_submitted, opens_told}
+use Rattle.volume.proofs.Relayered.{ticked_alike}
+use Rattle.deeds.specs.Lasted.{OpensByDeed}
+use Rattle.deeds.specs.Lived.{IsDone, IsLoudDeed}
+use Rattle.deeds.proofs.Lasts.{attached_opens, begin_opens, by_calls, detached_opens, finished_opens}
 use Rattle.deeds.proofs.Lives.{attach_done, begin_done, submit_done}
 use Rattle.deeds.proofs.living.one.Goals as goal
 
-pub returns-in-Submit : goal.returns-in-Submit
-returns-in-Submit g c =
+pub returns-in-Submit-clause-done : goal.returns-in-Submit-clause-done
+returns-in-Submit-clause-done g c =
     let m : Measures g.row.B.Denot = record { contents = g.B.Block.contents; durable = g.B.Block.durable; size = g.B.Block.size; faults = g.B.Block.fault_count; done = g.B.Block.done_count } in
     subst (λ (d : Deed g.row.B.Denot). IsDone m g.B.Block.layers d (Submitted c.submit.result) c.args.volume.now c.submit.new.self) (sym c.in-Submit.is)
     (submit_done m g.B.Block.layers c.in-Submit.request c.submit.result c.args.volume.now c.submit.new.self c.submit.ensures.ok c.submit.ensures.refused c.submit.ensures.admitted)
 
-pub returns-in-Attach : goal.returns-in-Attach
-returns-in-Attach g c =
+pub returns-in-Attach-clause-done : goal.returns-in-Attach-clause-done
+returns-in-Attach-clause-done g c =
     let m : Measures g.row.B.Denot = record { contents = g.B.Block.contents; durable = g.B.Block.durable; size = g.B.Block.size; faults = g.B.Block.fault_count; done = g.B.Block.done_count } in
     subst (λ (d : Deed g.row.B.Denot). IsDone m g.B.Block.layers d (Attached c.attach.result) c.args.volume.now c.attach.new.self) (sym c.in-Attach.is)
     (attach_done m g.B.Block.layers c.in-Attach.store c.in-Attach.chunk c.in-Attach.overflow c.args.volume.now c.attach.new.self c.attach.result c.attach.ensures.admitted c.attach.ensures.taken c.attach.ensures.gained c.attach.ensures.loud c.attach.ensures.same c.attach.ensures.refused)
 
-pub returns-in-BeginMerge : goal.returns-in-BeginMerge
-returns-in-BeginMerge g c =
+pub returns-in-BeginMerge-clause-done : goal.returns-in-BeginMerge-clause-done
+returns-in-BeginMerge-clause-done g c =
     let m : Measures g.row.B.Denot = record { contents = g.B.Block.contents; durable = g.B.Block.durable; size = g.B.Block.size; faults = g.B.Block.fault_count; done = g.B.Block.done_count } in
     subst (λ (d : Deed g.row.B.Denot). IsDone m g.B.Block.layers d (Begun c.begin_merge.result) c.args.volume.now c.begin_merge.new.self) (sym c.in-BeginMerge.is)
     (begin_done m g.B.Block.layers c.in-BeginMerge.number c.begin_merge.result c.args.volume.now c.begin_merge.new.self c.begin_merge.ensures.legal c.begin_merge.ensures.refused c.begin_merge.ensures.loud c.begin_merge.ensures.admitted c.begin_merge.ensures.begun)
+
+pub returns-in-Submit-clause-opens : goal.returns-in-Submit-clause-opens
+returns-in-Submit-clause-opens g c = λ loud brought.
+    let m : Measures g.row.B.Denot = record { contents = g.B.Block.contents; durable = g.B.Block.durable; size = g.B.Block.size; faults = g.B.Block.fault_count; done = g.B.Block.done_count } in
+    rw c.in-Submit.is (by_calls g.B.Block.may_hold m g.B.Block.layers (Submit c.in-Submit.request) (Submitted c.submit.result) c.args.volume.now c.submit.new.self (opens_submitted g.B.Block.may_hold g.B.Block.contents g.B.Block.layers g.B.Block.size [] c.in-Submit.request c.submit.result c.args.volume.now c.submit.new.self c.submit.ensures.ok c.submit.ensures.refused c.submit.ensures.untouched))
+
+pub returns-in-Step-clause-opens : goal.returns-in-Step-clause-opens
+returns-in-Step-clause-opens g c = λ loud brought.
+    let m : Measures g.row.B.Denot = record { contents = g.B.Block.contents; durable = g.B.Block.durable; size = g.B.Block.size; faults = g.B.Block.fault_count; done = g.B.Block.done_count } in
+    rw c.in-Step.is (by_calls g.B.Block.may_hold m g.B.Block.layers (Step c.in-Step.event) (Stepped c.step.result) c.args.volume.now c.step.new.self (opens_stepped g.B.Block.may_hold g.B.Block.contents g.B.Block.layers g.B.Block.size [] c.in-Step.event c.step.result g.B.Block.fault_count c.args.volume.now c.step.new.self g.met.B.Block.whole g.met.B.Block.holds_now loud c.step.ensures.kept c.step.ensures.cause c.step.ensures.stops c.step.ensures.same))
+
+pub returns-in-Tick-clause-opens : goal.returns-in-Tick-clause-opens
+returns-in-Tick-clause-opens g c = λ loud brought.
+    let m : Measures g.row.B.Denot = record { contents = g.B.Block.contents; durable = g.B.Block.durable; size = g.B.Block.size; faults = g.B.Block.fault_count; done = g.B.Block.done_count } in
+    rw c.in-Tick.is (by_calls g.B.Block.may_hold m g.B.Block.layers (Tick c.in-Tick.seconds) Ticked c.args.volume.now c.tick.new.self (opens_alike g.B.Block.may_hold g.B.Block.contents g.B.Block.layers g.B.Block.size c.args.volume.now c.tick.new.self (ticked_alike m g.B.Block.layers c.in-Tick.seconds c.args.volume.now c.tick.new.self c.tick.ensures.ticked) c.tick.ensures.opens []))
+
+pub returns-in-Tell-clause-opens : goal.returns-in-Tell-clause-opens
+returns-in-Tell-clause-opens g c = λ loud brought.
+    let m : Measures g.row.B.Denot = record { contents = g.B.Block.contents; durable = g.B.Block.durable; size = g.B.Block.size; faults = g.B.Block.fault_count; done = g.B.Block.done_count } in
+    rw c.in-Tell.is (by_calls g.B.Block.may_hold m g.B.Block.layers (Tell c.in-Tell.dev c.in-Tell.depth c.in-Tell.message) (Told c.message.result) c.args.volume.now c.message.new.self (opens_told g.B.Block.may_hold m g.B.Block.layers [] c.in-Tell.dev c.in-Tell.depth c.in-Tell.message c.message.result c.args.volume.now c.message.new.self c.message.ensures.ok c.message.ensures.err c.message.ensures.opens))
+
+pub returns-in-Attach-clause-opens : goal.returns-in-Attach-clause-opens
+returns-in-Attach-clause-opens g c = λ loud brought.
+    let m : Measures g.row.B.Denot = record { contents = g.B.Block.contents; durable = g.B.Block.durable; size = g.B.Block.size; faults = g.B.Block.fault_count; done = g.B.Block.done_count } in
+    let deed : Deed g.row.B.Denot = Attach c.in-Attach.store c.in-Attach.chunk c.in-Attach.overflow in
+    let done = attach_done m g.B.Block.layers c.in-Attach.store c.in-Attach.chunk c.in-Attach.overflow c.args.volume.now c.attach.new.self c.attach.result c.attach.ensures.admitted c.attach.ensures.taken c.attach.ensures.gained c.attach.ensures.loud c.attach.ensures.same c.attach.ensures.refused in
+    let fits : IsLoudDeed g.B.Block.layers deed = subst (IsLoudDeed g.B.Block.layers) c.in-Attach.is brought in
+    subst (λ (d : Deed g.row.B.Denot). OpensByDeed g.B.Block.may_hold m g.B.Block.layers d (Attached c.attach.result) c.args.volume.now c.attach.new.self) (sym c.in-Attach.is)
+    (attached_opens g.B.Block.may_hold m g.B.Block.layers c.in-Attach.store c.in-Attach.chunk c.in-Attach.overflow c.args.volume.now c.attach.new.self c.attach.ensures.origin_kept c.attach.result g.met.B.Block.whole g.met.B.Block.holds_now loud fits done c.attach.ensures.origin_firm c.attach.ensures.firm)
+
+pub returns-in-Detach-clause-opens : goal.returns-in-Detach-clause-opens
+returns-in-Detach-clause-opens g c = λ loud brought.
+    let m : Measures g.row.B.Denot = record { contents = g.B.Block.contents; durable = g.B.Block.durable; size = g.B.Block.size; faults = g.B.Block.fault_count; done = g.B.Block.done_count } in
+    rw c.in-Detach.is (detached_opens g.B.Block.may_hold m g.B.Block.layers c.in-Detach.number c.detach.result c.args.volume.now c.detach.new.self c.detach.ensures.taken c.detach.ensures.err)
+
+pub returns-in-BeginMerge-clause-opens : goal.returns-in-BeginMerge-clause-opens
+returns-in-BeginMerge-clause-opens g c = λ loud brought.
+    let m : Measures g.row.B.Denot = record { contents = g.B.Block.contents; durable = g.B.Block.durable; size = g.B.Block.size; faults = g.B.Block.fault_count; done = g.B.Block.done_count } in
+    rw c.in-BeginMerge.is (begin_opens g.B.Block.may_hold m g.B.Block.layers c.in-BeginMerge.number (Begun c.begin_merge.result) c.args.volume.now c.begin_merge.new.self (opens_begin g.B.Block.may_hold g.B.Block.contents g.B.Block.layers g.B.Block.size c.in-BeginMerge.number c.begin_merge.result c.args.volume.now c.begin_merge.new.self c.begin_merge.ensures.admitted c.begin_merge.ensures.begun c.begin_merge.ensures.refused))
+
+pub returns-in-ResumeMerge-clause-opens : goal.returns-in-ResumeMerge-clause-opens
+returns-in-ResumeMerge-clause-opens g c = λ loud brought.
+    let m : Measures g.row.B.Denot = record { contents = g.B.Block.contents; durable = g.B.Block.durable; size = g.B.Block.size; faults = g.B.Block.fault_count; done = g.B.Block.done_count } in
+    rw c.in-ResumeMerge.is (by_calls g.B.Block.may_hold m g.B.Block.layers ResumeMerge (Resumed c.resume_merge.result) c.args.volume.now c.resume_merge.new.self (opens_resume g.B.Block.may_hold g.B.Block.contents g.B.Block.layers g.B.Block.size [] c.resume_merge.result c.args.volume.now c.resume_merge.new.self c.resume_merge.ensures.resumed c.resume_merge.ensures.err))
+
+pub returns-in-FinishMerge-clause-opens : goal.returns-in-FinishMerge-clause-opens
+returns-in-FinishMerge-clause-opens g c = λ loud brought.
+    let m : Measures g.row.B.Denot = record { contents = g.B.Block.contents; durable = g.B.Block.durable; size = g.B.Block.size; faults = g.B.Block.fault_count; done = g.B.Block.done_count } in
+    rw c.in-FinishMerge.is (finished_opens g.B.Block.may_hold m g.B.Block.layers c.finish_merge.result c.args.volume.now c.finish_merge.new.self c.finish_merge.ensures.taken c.finish_merge.ensures.err)

@@ -8,6 +8,7 @@ use Rattle.std.proofs.Common.{inl}
 use Rattle.volume.proofs.LastTime.{one_adds}
 use Rattle.volume.proofs.Told.{merge_told, store_told}
 use Rattle.volume.proofs.LastTime.{alike_lasts, no_adds, no_adds_merge}
+use Rattle.volume.proofs.OpensNothing.{alike_opens}
 use Rattle.snapshot.specs.Kept.{Kept}
 use Rattle.std.proofs.Common.{nat_eq}
 use Rattle.volume.proofs.volume.Volume.tell_store.Goals as goal
@@ -77,3 +78,19 @@ returns-clause-err g c =
     let e = c.message.ensures in
     let other = apart_found g.B.Block.contents g.B.Block.layers g.B.Block.size _ c.args.number c.in-Some.k c.index_mut.result.now found c.index_mut.ensures.value c.self.invariant.whole in
     rw (← c.self.view_is) (store_refused m g.B.Block.layers _ c.args.number c.in-Some.k c.index_mut.result.now c.message.new.self found other c.index_mut.ensures.value c.args.depth c.args.message.now c.message.result e.ok e.err e.unchanged e.rest e.same)
+
+pub returns-in_default-clause-opens : goal.returns-in_default-clause-opens
+returns-in_default-clause-opens g c =
+    let m : Measures g.row.B.Denot = record { contents = g.B.Block.contents; durable = g.B.Block.durable; size = g.B.Block.size; faults = g.B.Block.fault_count; done = g.B.Block.done_count } in
+    let none : place_of_snap c.args.number c.self.inside.snaps.items ≡ None = sym (c.in_default.ensures ∙ ap (place_of_snap c.args.number) c.as_slice.ensures.value) in
+    let e = c.tell_merge.ensures in
+    rw (← c.self.view_is) (alike_opens g.B.Block.may_hold g.B.Block.contents g.B.Block.layers g.B.Block.size g.met.B.Block.whole g.met.B.Block.holds_now _ _ (merge_told m g.B.Block.layers _ c.args.number none c.tell_merge.new.merge c.args.depth c.args.message.now c.tell_merge.result e.ok e.err) (record { origin = no_adds g.B.Block.may_hold g.B.Block.contents g.B.Block.layers g.B.Block.size g.met.B.Block.whole g.met.B.Block.holds_now _; snaps = λ k d lt s x there. inl there; merge = c.tell_merge.ensures.adds }))
+
+pub returns-clause-opens : goal.returns-clause-opens
+returns-clause-opens g c =
+    let m : Measures g.row.B.Denot = record { contents = g.B.Block.contents; durable = g.B.Block.durable; size = g.B.Block.size; faults = g.B.Block.fault_count; done = g.B.Block.done_count } in
+    let found : place_of_snap c.args.number c.self.inside.snaps.items ≡ Some c.in-Some.k = sym (c.in-Some.ensures ∙ ap (place_of_snap c.args.number) c.as_slice.ensures.value) in
+    let e = c.message.ensures in
+    let other = apart_found g.B.Block.contents g.B.Block.layers g.B.Block.size _ c.args.number c.in-Some.k c.index_mut.result.now found c.index_mut.ensures.value c.self.invariant.whole in
+    let at = position_within (λ (x : Kept g.row.B.Denot). nat_eq x.number c.args.number) c.self.inside.snaps.items c.in-Some.k found in
+    rw (← c.self.view_is) (alike_opens g.B.Block.may_hold g.B.Block.contents g.B.Block.layers g.B.Block.size g.met.B.Block.whole g.met.B.Block.holds_now _ _ (store_told m g.B.Block.layers _ c.args.number c.in-Some.k c.index_mut.result.now c.message.new.self found other c.index_mut.ensures.value c.args.depth c.args.message.now c.message.result e.ok e.err e.unchanged e.rest e.same) (record { origin = no_adds g.B.Block.may_hold g.B.Block.contents g.B.Block.layers g.B.Block.size g.met.B.Block.whole g.met.B.Block.holds_now _; snaps = one_adds g.B.Block.may_hold g.B.Block.contents g.B.Block.layers g.B.Block.size g.met.B.Block.whole g.met.B.Block.holds_now c.self.inside.snaps.items c.in-Some.k c.index_mut.result.now c.message.new.self (omega (arith, at)) c.index_mut.ensures.value e.adds; merge = no_adds_merge g.B.Block.may_hold g.B.Block.contents g.B.Block.layers g.B.Block.size g.met.B.Block.whole g.met.B.Block.holds_now _ }))
