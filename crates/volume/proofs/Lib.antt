@@ -117,3 +117,4 @@ pub mod MergeBoth
 pub mod BeginLasts
 mod LastTime
 mod LastCloses
+pub mod Limits
