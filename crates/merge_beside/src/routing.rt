@@ -2,7 +2,8 @@
 ghost use Rattle.std.specs.Prelude.{◌≡◌, ◌<◌, ◌/◌, false, map, true};
 ghost use Rattle.std.specs.List.{All};
 ghost use Rattle.model.specs.Picture.{place_of as place_in};
-ghost use Rattle.pending.specs.Routes.{write_route_of};
+ghost use Rattle.pending.specs.declared.flights.Route.{Route};
+ghost use Rattle.pending.specs.Routes.{again_route_of, write_route_of};
 ghost use Rattle.volume_laws.specs.Again.{again_of, has_chunk, new_route};
 ghost use Rattle.volume_laws.specs.Published.{is_clear as is_clear_in};
 ghost use Rattle.snapshot.specs.Kept.{books_of};
@@ -12,7 +13,7 @@ ghost use Rattle.merge_beside.specs.Routing.{is_grouped_at as is_grouped_in, is_
 
 use device::Block;
 use merge::Merge;
-use pending::{Flight, Route, again_route, request_kind, write_route};
+use pending::{Flight, Kind, Route, again_route, request_kind, write_route};
 use sector::Chunk;
 use snapshot::Snapshot;
 use snapshots::is_clear;
@@ -59,11 +60,13 @@ fn route_beside<B: Block>(snaps: &[Snapshot<B>], merge: &Merge<B>, first: u64) -
     ensures { result ≡ write_route_of (has_chunk (group_pairs merge.now.group) (first / merge.now.state.chunk)) (place_in merge.now.pairs (first / merge.now.state.chunk)) (is_clear_in (map (books_of B.contents B.layers) snaps.now) first) }
 {
     let chunk = first / merge.chunk() as u64;
-    write_route(
-        merge.in_group(chunk),
-        merge.place_of(chunk),
-        is_clear(snaps, first),
-    )
+    if merge.in_group(chunk) {
+        return Route::Held;
+    }
+    match merge.place_of(chunk) {
+        Some(place) => Route::Store(place),
+        None => write_route(false, None, is_clear(snaps, first)),
+    }
 }
 
 /// The route of an origin write.
@@ -78,11 +81,28 @@ fn route_of<B: Block>(snaps: &[Snapshot<B>], merge: &Option<Merge<B>>, flight: &
     }
 }
 
-/// The route of a request after held origin writes were routed again.
+/// Whether a request is a held origin write: every other keeps its route.
+fn is_held_write(kind: Kind, route: Route) -> bool
+    ensures { result ≡ false → (new : Route) → again_route_of kind route new ≡ route }
+{
+    match route {
+        Route::Held => match kind {
+            Kind::OriginWrite => true,
+            Kind::OriginRead | Kind::OriginFlush => false,
+            Kind::SnapRead(_) | Kind::SnapWrite(_) | Kind::SnapFlush(_) => false,
+        },
+        Route::Origin | Route::Store(_) | Route::Whole | Route::Refused => false,
+    }
+}
+
+/// The route of a request after held origin writes were routed again: a new one is sought for those alone.
 fn again_for<B: Block>(snaps: &[Snapshot<B>], merge: &Option<Merge<B>>, flight: &Flight) -> Route
     requires { All (λ s. 0 < s.state.chunk) snaps.now }
     ensures { result ≡ (again_of (merge_books B.contents B.layers true merge.now) (is_clear_in (map (books_of B.contents B.layers) snaps.now)) flight.now).route }
 {
+    if !is_held_write(request_kind(&flight.request), flight.route) {
+        return flight.route;
+    }
     let new = route_of(snaps, merge, flight);
     again_route(request_kind(&flight.request), flight.route, new)
 }

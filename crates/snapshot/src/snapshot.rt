@@ -248,6 +248,6 @@ impl<B: Block> Snapshot<B> {
     pub fn is_published(&self, chunk: Chunk) -> bool
         ensures { result ≡ is_published_in self.now.pairs self.now.marks chunk }
     {
-        self.store.get(chunk).is_some() && !is_marked(self.marks.as_slice(), chunk)
+        !is_marked(self.marks.as_slice(), chunk) && self.store.get(chunk).is_some()
     }
 }

@@ -1,8 +1,8 @@
 -- What a search finds, and what is so where it finds nothing.
-use Rattle.std.proofs.Common.{◌≡◌, ℕ, suc, ◌+◌, ◌<◌, Bool, true, false, List, [], ◌∷◌, Some, None, length, get_or, map, drop, nat_lt, refl, sym, ◌∙◌, ap, inl, inr, arith, cond, ◌≤◌}
+use Rattle.std.proofs.Common.{◌≡◌, ℕ, zero, suc, ◌+◌, ◌<◌, Bool, true, false, List, [], ◌∷◌, Some, None, length, get_or, map, drop, nat_lt, refl, sym, ◌∙◌, ap, inl, inr, arith, cond, ◌≤◌}
 use Rattle.std.specs.Prelude.{◌==◌, ◌&&◌, ◌||◌}
-use Rattle.std.specs.List.{list_any, position, position_or_len}
-use Rattle.std.proofs.lemmas.Bool.{cases_Bool, cases_lt, eqb-true, false≢true}
+use Rattle.std.specs.List.{list_all, list_any, position, position_or_len}
+use Rattle.std.proofs.lemmas.Bool.{and_right, cases_Bool, cases_lt, eqb-true, false≢true}
 use Rattle.std.proofs.lemmas.List.{drop_more}
 use Rattle.std.proofs.lemmas.List.Folds.{list_any-from_Any}
 
@@ -62,6 +62,12 @@ any_passes test xs k x within is passes = list_any-from_Any test xs (k, x, withi
 pub any_of : {X Y : Type 0} (test : Y → Bool) (f : X → Y) (xs : List X) → list_any test (map f xs) ≡ list_any (λ x. test (f x)) xs
 any_of test f [] = refl
 any_of test f (x ∷ xs) = ap (λ b. test (f x) || b) (any_of test f xs)
+
+-- not all pass where one does not
+pub one_fails : {X Y : Type 0} (test : Y → Bool) (f : X → Y) (xs : List X) (k : ℕ) (x : X) → k < length xs → x ≡ get_or xs k x → test (f x) ≡ false → list_all test (map f xs) ≡ false
+one_fails test f [] k x lt is e = absurd (omega (arith, lt))
+one_fails test f (y ∷ ys) zero x lt is e = ap (λ z. test (f z) && list_all test (map f ys)) (sym is) ∙ ap (λ b. b && list_all test (map f ys)) e
+one_fails test f (y ∷ ys) (suc k) x lt is e = and_right (test (f y)) (list_all test (map f ys)) (one_fails test f ys k x (omega (arith, lt)) is e)
 
 -- one of two tests fails: the second, or that of a number
 pub second_fails : (a b : Bool) → b ≡ false → (a && b) ≡ false

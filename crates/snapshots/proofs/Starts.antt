@@ -12,7 +12,7 @@ use Rattle.device.specs.Layers.{Layer}
 use Rattle.pending.specs.declared.flights.Flight.{Flight}
 use Rattle.snapshot.specs.Kept.{Kept}
 use Rattle.snapshot.specs.Calls.{StartsAt, started}
-use Rattle.snapshots.specs.Starting.{unroomed, HasRoomFor, HaveRooms, IsSavedIn, AreSavedIn, lacks_chunk, starts_chunk, overflows_chunk, is_full_of}
+use Rattle.snapshots.specs.Starting.{unroomed, HasRoomFor, HaveRooms, IsSavedIn, AreSavedIn, lacks, lacks_chunk, starts_chunk, overflows_chunk, is_full_of}
 
 -- a chunk begins at its sector or before it
 pub own_begins : (p first : ℕ) → p * (first / p) ≤ first
@@ -23,6 +23,13 @@ own_begins p first =
 
 pub unroomed_set : {B : Type 0} (snaps : List (Kept B)) (k : ℕ) (s t : Kept B) → s ≡ get_or snaps k s → unroomed t ≡ unroomed s → map unroomed (set snaps k t) ≡ map unroomed snaps
 unroomed_set snaps k s t is same = map-set_same unroomed snaps k t s (same ∙ ap unroomed is)
+
+-- room of some bytes is there only where the chunk is lacking
+pub lacks_by : {B : Type 0} (first : ℕ) (s : Kept B) (room : Vec ℕ) → HasRoomFor first s room → (length room.items ≡ 0 → ⊥) → lacks first s ≡ true
+lacks_by first s room h some = elim (cases_Bool (lacks first s)) [
+  | inl lacking ↦ lacking
+  | inr has ↦ absurd (some (h.none has))
+]
 
 -- the first snapshots have room
 pub record HaveRoomBelow {B : Type 0} (first k : ℕ) (snaps : List (Kept B)) (rooms : List (Vec ℕ)) : Type 0 where

@@ -62,10 +62,11 @@ spoilt_of s = record s { live = false; untried = true; state = record s.state { 
 abbrev pub unroomed : {B : Type 0} → Kept B → Kept B
 unroomed s = record s { room = 0 }
 
--- room for the copy of its chunk, where a snapshot lacks it
+-- room for the copy of its chunk, where a snapshot lacks it, and none where it does not
 pub record HasRoomFor {B : Type 0} (first : ℕ) (s : Kept B) (room : Vec ℕ) : Type 0 where
   pub pairs : lacks first s ≡ true → 0 < s.room
   pub bytes : lacks first s ≡ true → length room.items ≡ 512 * count_of s.state.chunk s.state.origin (first / s.state.chunk)
+  pub none : lacks first s ≡ false → length room.items ≡ 0
 
 -- and for those of all snapshots
 pub record HaveRooms {B : Type 0} (first : ℕ) (snaps : List (Kept B)) (rooms : List (Vec ℕ)) : Type 0 where

@@ -1,14 +1,15 @@
 // What is due of a volume's snapshots and requests: the first event, by kind and then by number.
 ghost use Rattle.std.specs.Prelude.{◌≡◌, ◌<◌, map};
-ghost use Rattle.std.specs.List.{All};
+ghost use Rattle.std.specs.List.{All, list_any};
 ghost use Rattle.pending.specs.Due.{first_by};
 ghost use Rattle.volume_laws.specs.Due.{can_commit as can_be_committed, can_flush_store as can_be_flushed, can_mark as can_be_marked, can_zero as can_be_zeroed, copy_of, due_of, least_of, publishable_of, snap_number};
 ghost use Rattle.snapshot.specs.Kept.{due_of_kept};
+ghost use Rattle.snapshots.specs.Busy.{AreAlike, busy_due, is_begun, is_busy as is_busy_in, waiting_due};
 
 use device::Block;
 use pending::{
-    Flight, Stage, first_copy, first_publishable, first_routed, front_ready, front_unflushed,
-    has_unsafe, least,
+    ChunkCopy, Flight, Stage, first_copy, first_publishable, first_routed, front_ready,
+    front_unflushed, has_unsafe, is_at, least,
 };
 use plain::{CopyId, Event, SnapId};
 use snapshot::Snapshot;
@@ -107,7 +108,6 @@ fn least_copy<B: Block>(snaps: &[Snapshot<B>], stage: Stage) -> Option<CopyId>
 
 /// The least number of a mark that can be taken away, of each snapshot's first.
 fn least_mark<B: Block>(snaps: &[Snapshot<B>], flights: &[Flight]) -> Option<CopyId>
-    requires { All (λ s. 0 < s.state.chunk) snaps.now }
     ensures { result ≡ least_of (publishable_of flights.now) (map (due_of_kept B.contents B.layers) snaps.now) }
 {
     let mut found = None;
@@ -120,11 +120,48 @@ fn least_mark<B: Block>(snaps: &[Snapshot<B>], flights: &[Flight]) -> Option<Cop
     found
 }
 
-/// The event that is due first: a mark of a spoiled snapshot, a flush of a store, a publication, a commit, a zeroed area, a
-/// copy's write, a copy's read, or the first request that goes somewhere; in each kind the one with the least number.
-pub fn first_due<B: Block>(snaps: &[Snapshot<B>], flights: &[Flight]) -> Option<Event>
-    requires { All (λ s. 0 < s.state.chunk) snaps.now }
-    ensures { result ≡ due_of (map (due_of_kept B.contents B.layers) snaps.now) flights.now }
+/// Whether one of these copies does not wait to be read any more.
+fn has_begun(copies: &[ChunkCopy]) -> bool
+    ensures { result ≡ list_any is_begun copies.now }
+{
+    copies.iter().any(|c| !is_at(Stage::Waiting, c.stage))
+}
+
+/// Whether more may be due of a snapshot than reads of chunks: it has a mark, or a copy whose chunk was read, or the header of
+/// its store is to be marked invalid.
+fn is_busy<B: Block>(snap: &Snapshot<B>) -> bool
+    ensures { result ≡ is_busy_in (due_of_kept B.contents B.layers snap.now) }
+{
+    snap.is_untried() || !snap.marks().is_empty() || has_begun(snap.copies())
+}
+
+/// The snapshots from the first that is busy on: what is due of all, but reads of chunks, is due of these.
+fn from_busy<B: Block>(snaps: &[Snapshot<B>]) -> &[Snapshot<B>]
+    ensures { AreAlike (map (due_of_kept B.contents B.layers) result.now) (map (due_of_kept B.contents B.layers) snaps.now) }
+{
+    for k in 0..snaps.len() {
+        if is_busy(&snaps[k]) {
+            return &snaps[k..];
+        }
+    }
+    &snaps[snaps.len()..]
+}
+
+/// The snapshots up to the last that is busy.
+fn to_busy<B: Block>(snaps: &[Snapshot<B>]) -> &[Snapshot<B>]
+    ensures { AreAlike (map (due_of_kept B.contents B.layers) result.now) (map (due_of_kept B.contents B.layers) snaps.now) }
+{
+    for k in (0..snaps.len()).rev() {
+        if is_busy(&snaps[k]) {
+            return &snaps[..k + 1];
+        }
+    }
+    &snaps[..0]
+}
+
+/// The event that is due first, but for reads of chunks and requests.
+fn first_busy<B: Block>(snaps: &[Snapshot<B>], flights: &[Flight]) -> Option<Event>
+    ensures { result ≡ busy_due (map (due_of_kept B.contents B.layers) snaps.now) flights.now }
 {
     if let Some(number) = first_marking(snaps) {
         return Some(Event::WriteInvalid(number));
@@ -141,14 +178,34 @@ pub fn first_due<B: Block>(snaps: &[Snapshot<B>], flights: &[Flight]) -> Option<
     if let Some(number) = first_zeroing(snaps) {
         return Some(Event::ZeroNext(number));
     }
-    if let Some(number) = least_copy(snaps, Stage::Read) {
-        return Some(Event::CopyWrite(number));
+    match least_copy(snaps, Stage::Read) {
+        Some(number) => Some(Event::CopyWrite(number)),
+        None => None,
     }
+}
+
+/// The read of a chunk or the request that is due first, where nothing else is.
+fn first_waiting<B: Block>(snaps: &[Snapshot<B>], flights: &[Flight]) -> Option<Event>
+    ensures { result ≡ waiting_due (map (due_of_kept B.contents B.layers) snaps.now) flights.now }
+{
     if let Some(number) = least_copy(snaps, Stage::Waiting) {
         return Some(Event::CopyRead(number));
     }
     match first_routed(flights) {
         Some(number) => Some(Event::Issue(number)),
         None => None,
+    }
+}
+
+/// The event that is due first: a mark of a spoiled snapshot, a flush of a store, a publication, a commit, a zeroed area, a
+/// copy's write, a copy's read, or the first request that goes somewhere; in each kind the one with the least number.
+/// Snapshots that only wait are looked at for the last two alone.
+pub fn first_due<B: Block>(snaps: &[Snapshot<B>], flights: &[Flight]) -> Option<Event>
+    requires { All (λ s. 0 < s.state.chunk) snaps.now }
+    ensures { result ≡ due_of (map (due_of_kept B.contents B.layers) snaps.now) flights.now }
+{
+    match first_busy(to_busy(from_busy(snaps)), flights) {
+        Some(event) => Some(event),
+        None => first_waiting(snaps, flights),
     }
 }

@@ -1,14 +1,16 @@
 // Whether an origin write may go to the disk, or a merge's; which chunk that it waits for comes first; and held writes of a
 // snapshot are routed again, after a publication.
-ghost use Rattle.std.specs.Prelude.{◌≡◌, ◌+◌, ◌^◌, ◌<◌, map};
+ghost use Rattle.std.specs.Prelude.{◌≡◌, ℕ, ◌+◌, ◌^◌, ◌<◌, false, map, Option};
 ghost use Rattle.std.specs.List.{All, list_all, list_any};
+ghost use Rattle.pending.specs.Routes.{placed_route_of};
 ghost use Rattle.volume_laws.specs.Again.{placed_of, published_place as place_if_published};
 ghost use Rattle.volume_laws.specs.Published.{is_clear as is_clear_in, is_clear_over as is_clear_in_all, is_saved as is_saved_in, is_saved_over as is_saved_in_all, next_over, unpublished_in};
 ghost use Rattle.snapshot.specs.Kept.{books_of};
 
 use crate::starting::own_chunk;
 use device::Block;
-use pending::{Flight, placed_route, request_kind};
+use pending::{Flight, Kind, Route, placed_route, request_kind};
+use plain::SnapId;
 use sector::Chunk;
 use snapshot::Snapshot;
 
@@ -20,13 +22,14 @@ fn is_saved<B: Block>(snap: &Snapshot<B>, first: u64) -> bool
     !snap.is_live() || snap.is_published(first / snap.chunk() as u64)
 }
 
-/// Whether every live snapshot has published the chunk of this sector of the origin.
+/// Whether every live snapshot has published the chunk of this sector of the origin. The last are asked first: their copies
+/// are the last that are published.
 fn are_saved<B: Block>(snaps: &[Snapshot<B>], first: u64) -> bool
     requires { All (λ s. 0 < s.state.chunk) snaps.now }
     ensures { result ≡ list_all (is_saved_in first) (map (books_of B.contents B.layers) snaps.now) }
 {
-    for s in snaps {
-        if !is_saved(s, first) {
+    for k in (0..snaps.len()).rev() {
+        if !is_saved(&snaps[k], first) {
             return false;
         }
     }
@@ -51,7 +54,7 @@ pub fn is_clear<B: Block>(snaps: &[Snapshot<B>], first: u64) -> bool
     requires { All (λ s. 0 < s.state.chunk) snaps.now }
     ensures { result ≡ is_clear_in (map (books_of B.contents B.layers) snaps.now) first }
 {
-    are_saved(snaps, first) && !is_any_untried(snaps)
+    !is_any_untried(snaps) && are_saved(snaps, first)
 }
 
 /// The first chunk that a snapshot has not published, of those that so many sectors of the origin touch from this one on.
@@ -110,7 +113,21 @@ pub fn is_clear_over<B: Block>(snaps: &[Snapshot<B>], first: u64, count: u32) ->
     requires { first + count < 2 ^ 64 }
     ensures { result ≡ is_clear_in_all (map (books_of B.contents B.layers) snaps.now) first count }
 {
-    are_saved_over(snaps, first, count) && !is_any_untried(snaps)
+    !is_any_untried(snaps) && are_saved_over(snaps, first, count)
+}
+
+/// Whether a request is a held write of the snapshot with this number: every other keeps its route.
+fn waits_for(snap: SnapId, kind: Kind, route: Route) -> bool
+    ensures { result ≡ false → (place : Option ℕ) → placed_route_of snap kind route place ≡ route }
+{
+    match kind {
+        Kind::OriginRead | Kind::OriginWrite | Kind::OriginFlush => false,
+        Kind::SnapRead(_) | Kind::SnapFlush(_) => false,
+        Kind::SnapWrite(other) => match route {
+            Route::Held => other == snap,
+            Route::Origin | Route::Store(_) | Route::Whole | Route::Refused => false,
+        },
+    }
 }
 
 /// The place of a chunk of the origin, where the snapshot has published it.
@@ -122,6 +139,19 @@ fn published_place<B: Block>(snap: &Snapshot<B>, chunk: Chunk) -> Option<Chunk>
     } else {
         None
     }
+}
+
+/// The route of a request after its snapshot published a chunk: that is looked up for a held write of the snapshot alone.
+fn placed_for<B: Block>(snap: &Snapshot<B>, flight: &Flight) -> Route
+    requires { 0 < snap.now.state.chunk }
+    ensures { result ≡ (placed_of (books_of B.contents B.layers snap.now) flight.now).route }
+{
+    let kind = request_kind(&flight.request);
+    if !waits_for(snap.number(), kind, flight.route) {
+        return flight.route;
+    }
+    let place = published_place(snap, flight.request.range.first / snap.chunk() as u64);
+    placed_route(snap.number(), kind, flight.route, place)
 }
 
 /// Routes the held writes of a snapshot again, each to its chunk's place if that is published.
@@ -138,7 +168,6 @@ fn route_all_placed<B: Block>(snap: &Snapshot<B>, flights: &mut [Flight])
     ensures { flights.new ≡ map (placed_of (books_of B.contents B.layers snap.now)) flights.old }
 {
     for f in flights.iter_mut() {
-        let place = published_place(snap, f.request.range.first / snap.chunk() as u64);
-        f.route = placed_route(snap.number(), request_kind(&f.request), f.route, place);
+        f.route = placed_for(snap, f);
     }
 }

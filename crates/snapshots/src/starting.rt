@@ -98,7 +98,9 @@ pub fn save_in<B: Block>(
     requires few { copies + 1 < 2 ^ 64 }
     ensures saved { IsSavedIn B.contents B.layers (own_of first snap.old) snap.old snap.new copies result flights.old flights.new }
 {
-    if !is_lacking(snap, first) {
+    // A look: a chunk has a sector at least. So the room tells whether the chunk is lacking, and it is not sought again.
+    let _ = snap.chunk();
+    if room.is_empty() {
         return copies;
     }
     let chunk = own_chunk(snap, first);

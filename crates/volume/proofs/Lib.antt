@@ -123,3 +123,4 @@ pub mod Opened
 pub mod OpenedCalls
 pub mod AskedFor
 pub mod AddedUp
+pub mod Limits

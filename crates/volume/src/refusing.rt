@@ -32,7 +32,7 @@ impl<B: Block> Volume<B> {
         if !self.is_piece(&request.range) {
             return Some(Refusal::OutOfRange);
         }
-        if self.is_too_many(self.starting(request)) {
+        if self.is_past_limits(request) {
             Some(Refusal::TooMany)
         } else {
             None
@@ -129,6 +129,16 @@ impl<B: Block> Volume<B> {
             Kind::SnapRead(_) | Kind::SnapFlush(_) => 0,
             Kind::SnapWrite(number) => starting_count_of(snaps, number, first),
         }
+    }
+
+    /// Whether a request passes a limit. Which copies it starts is looked up only where one in every snapshot would.
+    fn is_past_limits(&self, request: &Request) -> bool
+        ensures { result ≡ are_too_many (starting_of (kind_of request.now) request.now.range.first self.now.merge self.now.snaps) self.now }
+    {
+        if !self.is_too_many(self.snaps.len()) {
+            return false;
+        }
+        self.is_too_many(self.starting(request))
     }
 
     /// Whether one request more, with so many copies, passes a limit.

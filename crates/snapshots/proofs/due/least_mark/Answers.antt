@@ -1,10 +1,14 @@
 -- One snapshot more.
 use Rattle.std.proofs.Common.{◌∙◌, sym, ap, map, drop, ◌+◌}
+use Rattle.chunk.proofs.Limits.{is_chunk-some}
 use Rattle.pending.specs.Due.{first_by, is_publishable, least, number_of_mark}
 use Rattle.volume_laws.specs.Due.{least_of, publishable_of}
 use Rattle.snapshot.specs.Kept.{due_of_kept}
 use Rattle.snapshots.proofs.Firsts.{least_more}
 use Rattle.snapshots.proofs.due.least_mark.Goals as goal
+
+pub first_publishable-requires : goal.first_publishable-requires
+first_publishable-requires g c = is_chunk-some c.chunk.result c.chunk.ensures.allowed
 
 pub loop-s-preserved : goal.loop-s-preserved
 loop-s-preserved g c =

@@ -8,5 +8,5 @@ pub loop-f-preserved : goal.loop-f-preserved
 loop-f-preserved g c =
     let x = c.f-item.result in
     let i = c.loop-f.f-index in
-    rw (c.placed_route-f.ensures, c.number.ensures, c.request_kind.ensures, c.published_place-place.ensures, c.chunk.ensures.is, ← c.f-item.is)
+    rw (c.placed_for-f.ensures, ← c.f-item.is)
     (map_over_more (placed_of (books_of g.B.Block.contents g.B.Block.layers c.args.snap.now)) c.args.flights.now c.loop-f.flights i x c.loop-f-test.true c.loop-f.invariant c.f-item.is)

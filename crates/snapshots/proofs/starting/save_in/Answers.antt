@@ -1,8 +1,9 @@
 -- The copy of the snapshot's own chunk is started.
-use Rattle.std.proofs.Common.{◌+◌, ◌*◌, ℕ, sym, ap, subst, arith}
+use Rattle.std.proofs.Common.{◌+◌, ◌*◌, ◌∙◌, ℕ, vec_len, sym, ap, subst, arith}
+use Rattle.std.proofs.lemmas.Bool.{eqb-false}
 use Rattle.snapshot.specs.Calls.{StartsAt, started}
 use Rattle.snapshots.specs.Starting.{own_of}
-use Rattle.snapshots.proofs.Starts.{saved_started, own_begins}
+use Rattle.snapshots.proofs.Starts.{lacks_by, saved_started, own_begins}
 use Rattle.snapshots.proofs.starting.save_in.Goals as goal
 
 pub start-requires-clause-begins : goal.start-requires-clause-begins
@@ -12,7 +13,10 @@ start-requires-clause-begins g c =
     omega (arith, low, is, c.requires.begins)
 
 pub returns-then-start : goal.returns-then-start
-returns-then-start g c = record {
-  saved = saved_started g.B.Block.contents g.B.Block.layers (own_of c.args.first c.args.snap.now) c.args.snap.now c.start.new.self c.args.copies c.args.flights.now c.args.room (sym c.if-not-is_lacking.ensures) c.if-start.ensures.place
-      (subst (λ (n : ℕ). StartsAt g.B.Block.contents g.B.Block.layers (started (c.args.copies + 1) n c.args.snap.now.next c.args.room) c.args.snap.now c.start.new.self) c.own_chunk-chunk.ensures c.if-start.ensures.started);
-}
+returns-then-start g c =
+    let no = eqb-false (vec_len c.args.room) 0 (sym c.is_empty.ensures ∙ c.if-is_empty.false) in
+    let lacking = lacks_by c.args.first c.args.snap.now c.args.room c.requires.room (λ e. no (omega (arith, e))) in
+    record {
+      saved = saved_started g.B.Block.contents g.B.Block.layers (own_of c.args.first c.args.snap.now) c.args.snap.now c.start.new.self c.args.copies c.args.flights.now c.args.room lacking c.if-start.ensures.place
+          (subst (λ (n : ℕ). StartsAt g.B.Block.contents g.B.Block.layers (started (c.args.copies + 1) n c.args.snap.now.next c.args.room) c.args.snap.now c.start.new.self) c.own_chunk-chunk.ensures c.if-start.ensures.started);
+    }
