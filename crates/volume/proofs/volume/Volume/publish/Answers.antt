@@ -14,10 +14,11 @@ use Rattle.volume.proofs.Filled.{mark_number, published_cause, published_copies}
 use Rattle.volume.proofs.NextPublished.{published_good, unmarked_can_save}
 use Rattle.volume.proofs.PublishMoved.{published_exact}
 use Rattle.volume.proofs.LastMoves.{list_moves}
-use Rattle.volume.proofs.LastBoth.{beside_both}
+use Rattle.volume.proofs.LastBoth.{met_both, beside_both}
 use Rattle.volume.proofs.Lefts.{all_then, one_left}
 use Rattle.volume.proofs.LastNext.{left_marks, next_beside}
 use Rattle.std.specs.Prelude.{None}
+use Rattle.std.proofs.Common.{List}
 use Rattle.volume.proofs.volume.Volume.publish.Goals as goal
 use Rattle.merge_beside.specs.Rooms.{merge_books}
 
