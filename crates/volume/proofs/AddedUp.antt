@@ -1,7 +1,6 @@
 -- Calls added up: what a stop may leave after a list of calls, and one call more.
-use Rattle.std.proofs.Common.{◌≡◌, ◌⊎◌, inl, inr, ℕ, ◌<◌, false, List, [], ◌∷◌, ◌++◌, Option, None, Some, map, refl, sym, ◌∙◌, ap, subst}
+use Rattle.std.proofs.Common.{◌≡◌, ◌⊎◌, inl, inr, ℕ, false, List, [], ◌∷◌, ◌++◌, Option, None, Some, map, refl, sym, ◌∙◌, subst}
 use Rattle.std.proofs.lemmas.List.{map-id}
-use Rattle.std.specs.Prelude.{◌||◌, ◌==◌}
 use Rattle.std.specs.List.{list_any}
 use Rattle.std.proofs.lemmas.Bool.{eq-eqb, or_parts, true≢false}
 use Rattle.device.specs.Layers.{Layer}
@@ -11,14 +10,13 @@ use Rattle.plain.specs.declared.request.Dev.{Dev}
 use Rattle.plain.specs.declared.request.Dev.TheVariants.{Origin, Snap}
 use Rattle.plain.specs.declared.request.Op.{Op}
 use Rattle.plain.specs.declared.request.Op.TheVariants.{Read, Write, Flush}
-use Rattle.plain.specs.declared.request.Request.{Request}
 use Rattle.sector.specs.declared.range.Range.{Range}
 use Rattle.pending.specs.Kinds.{in_flight}
 use Rattle.stop_laws.specs.Clauses.{Gives}
 use Rattle.volume.specs.declared.calls.Call.{Call}
 use Rattle.volume.specs.declared.calls.Call.TheVariants.{Submit, Step, Tick, Message as Tell, BeginMerge, ResumeMerge}
-use Rattle.volume.specs.AddedUp.{ComesFrom, GivesAsked, GivesCall, IsFrom, IsGiven, IsOpenIn, IsOpenSnap, IsSomeOf, Merges, OpensNoneUnwritten, OpensOnly, is_write_of}
-use Rattle.volume.specs.Stopping.{given_as, given_in}
+use Rattle.volume.specs.AddedUp.{ComesFrom, GivesAsked, GivesCall, IsFrom, IsGiven, IsOpenIn, IsSomeOf, Merges, OpensNoneUnwritten, OpensOnly, is_write_of}
+use Rattle.volume.specs.Stopping.{given_as}
 use Rattle.volume.specs.Running.{MayCall}
 use Rattle.volume.specs.Volumed.{Volumed, plain_of}
 use Rattle.volume.proofs.AskedFor.{call_asked, some_left, some_right}

@@ -1,5 +1,5 @@
 -- The requests that are in flight after some calls were in flight before them, or one of the calls submits them.
-use Rattle.std.proofs.Common.{◌≡◌, ◌⊎◌, inl, inr, ℕ, List, [], ◌∷◌, ◌++◌, Option, None, Some, subst}
+use Rattle.std.proofs.Common.{◌⊎◌, inl, inr, ℕ, List, [], ◌∷◌, ◌++◌, Option, Some, subst}
 use Rattle.std.specs.Prelude.{◌==◌}
 use Rattle.std.proofs.lemmas.Bool.{cases_Bool, cond-false, cond-true}
 use Rattle.sector.specs.declared.range.Range.{Range}
@@ -18,7 +18,7 @@ use Rattle.plain.specs.Runs.{MayStep, MaySubmit}
 use Rattle.stop_laws.specs.Clauses.{Gives}
 use Rattle.volume.specs.declared.calls.Call.{Call}
 use Rattle.volume.specs.declared.calls.Call.TheVariants.{Submit, Step, Tick, Message as Tell, BeginMerge, ResumeMerge}
-use Rattle.volume.specs.AddedUp.{GivesAsked, GivesCall, IsGiven, IsSomeOf}
+use Rattle.volume.specs.AddedUp.{GivesAsked, IsGiven, IsSomeOf}
 use Rattle.volume.specs.Running.{MayBegin, MayCall}
 use Rattle.volume.specs.Stopping.{given_as, given_in}
 

@@ -1,6 +1,6 @@
 -- Values that a stop may leave in a sector of an array after one call: they might be left there before, or the call's write gives
 -- them.
-use Rattle.std.proofs.Common.{◌≡◌, ◌⊎◌, inl, inr, ℕ, suc, ◌+◌, ◌*◌, ◌<◌, true, false, List, [], ◌∷◌, ◌++◌, length, get_or, map, Option, None, Some, refl, sym, ◌∙◌, ap, subst, arith, length-take, length-drop, min, ◌-◌}
+use Rattle.std.proofs.Common.{◌≡◌, ◌⊎◌, inl, inr, ℕ, suc, ◌*◌, ◌<◌, true, false, List, [], ◌∷◌, length, get_or, map, Option, None, Some, refl, sym, ◌∙◌, ap, subst, arith, length-take, length-drop, min, ◌-◌}
 use Rattle.std.proofs.lemmas.List.{get_or-map, get_or_default, get_or_append_left, get_or_push, length-map}
 use Rattle.sector.specs.Bytes.{sector_at, with_sectors}
 use Rattle.sector.proofs.Sectors.{sectors_at-with_same}
@@ -12,11 +12,11 @@ use Rattle.stop_laws.proofs.Opens.{left_with}
 use Rattle.snapshot.specs.Kept.{Kept}
 use Rattle.snapshots.specs.Numbers.{number_of_snap}
 use Rattle.merge.specs.Merging.{Merging}
-use Rattle.volume.specs.AddedUp.{IsOpenSnap, IsLeftAt, IsOpenOrigin, IsOpenIn}
+use Rattle.volume.specs.AddedUp.{IsOpenSnap, IsLeftAt, IsOpenOrigin}
 use Rattle.volume.specs.Adding.{LeavesNoMore}
-use Rattle.volume.specs.Causes.{IsAt, counts_of, counts_with, lives_of}
+use Rattle.volume.specs.Causes.{IsAt, counts_with, lives_of}
 use Rattle.volume.specs.Stepping.{KeepsAll, merged_of}
-use Rattle.volume.specs.Stopping.{StopsVolume, StopsOrigin, stopping_of}
+use Rattle.volume.specs.Stopping.{StopsVolume, StopsOrigin}
 use Rattle.volume.specs.Volumed.{Volumed}
 use Rattle.volume.proofs.FewerLives.{AreFewer}
 

@@ -1,6 +1,6 @@
 -- What each call of a volume may open: an event what its write gives, a begun merge what the snapshot might be left with, and the
 -- others nothing.
-use Rattle.std.proofs.Common.{◌≡◌, ◌⊎◌, inl, inr, ℕ, ◌+◌, ◌<◌, ◌≤◌, Bool, true, false, List, [], ◌∷◌, length, get_or, map, Option, None, Some, refl, sym, ◌∙◌, ap, subst, arith}
+use Rattle.std.proofs.Common.{◌≡◌, ◌⊎◌, inl, inr, ℕ, ◌+◌, ◌<◌, Bool, true, false, List, [], ◌∷◌, length, get_or, map, Option, None, Some, refl, sym, ◌∙◌, ap, subst, arith}
 use Rattle.std.specs.Prelude.{◌*◌, ◌&&◌, ◌==◌, IfErr, IfOk, OnErr, OnOk, Result, Ok, Err, not, if◌then◌else◌}
 use Rattle.std.specs.List.{remove}
 use Rattle.std.proofs.lemmas.Bool.{cases_lt}
@@ -25,9 +25,9 @@ use Rattle.merge.specs.Merging.{Merging}
 use Rattle.merge_beside.specs.Keeping.{kept_back, kept_for, unkept}
 use Rattle.volume.specs.declared.calls.Call.{Call}
 use Rattle.volume.specs.declared.calls.Call.TheVariants.{BeginMerge}
-use Rattle.volume.specs.AddedUp.{GivesAsked, IsFrom, IsGiven, IsSomeOf, IsOpenIn, IsOpenOrigin, IsOpenSnap, OpensOnly}
+use Rattle.volume.specs.AddedUp.{GivesAsked, IsFrom, IsGiven, IsSomeOf, IsOpenIn, IsOpenOrigin, OpensOnly}
 use Rattle.volume.specs.Adding.{LeavesNoMore, MergeLeavesNoMore, OpensNothing}
-use Rattle.volume.specs.Beginning.{IsMergeBegun, IsNotBegun, IsResumed, SameButKept, begin_refusal, merging_from}
+use Rattle.volume.specs.Beginning.{IsMergeBegun, IsNotBegun, IsResumed, begin_refusal, merging_from}
 use Rattle.sector.specs.Bytes.{sector_at}
 use Rattle.volume.specs.Causes.{HasCause, IsAt, lives_of}
 use Rattle.volume.specs.Layering.{Measures}

@@ -3,7 +3,6 @@ use Rattle.std.proofs.Common.{◌≡◌, inl, inr, ℕ, ◌*◌, ◌<◌, List, 
 use Rattle.sector.specs.Bytes.{sector_at}
 use Rattle.device.specs.Layers.{Layer}
 use Rattle.stop_laws.specs.Firm.{AddsNow}
-use Rattle.snapshot.specs.Kept.{Kept}
 use Rattle.merge.specs.Merging.{Merging}
 use Rattle.volume.specs.Adding.{AddsMerge, LeavesNoMore, MergeLeavesNoMore, OpensNothing}
 use Rattle.volume.specs.Volumed.{Volumed}

@@ -3,7 +3,7 @@ use Rattle.volume.specs.Layering.{Measures}
 use Rattle.volume.proofs.Told.{origin_answered, origin_refused, origin_whole}
 use Rattle.std.proofs.Common.{inl}
 use Rattle.volume.proofs.Told.{origin_told}
-use Rattle.volume.proofs.LastTime.{alike_lasts, no_adds, no_adds_merge}
+use Rattle.volume.proofs.LastTime.{alike_lasts, no_adds_merge}
 use Rattle.volume.proofs.OpensNothing.{alike_opens}
 use Rattle.stop_laws.proofs.Firm.{adds_none}
 use Rattle.volume.proofs.volume.Volume.tell_origin.Goals as goal
