@@ -1,5 +1,5 @@
 -- What a stop leaves of the snapshots that are remembered, deed by deed.
-use Rattle.std.proofs.Common.{◌≡◌, ◌≢◌, ◌⊎◌, inl, inr, ℕ, ◌+◌, ◌*◌, ◌<◌, Bool, true, false, List, [], ◌∷◌, ◌++◌, filter, length, get_or, map, None, Some, Option, refl, sym, ◌∙◌, ap, subst, arith}
+use Rattle.std.proofs.Common.{◌≡◌, ◌⊎◌, inl, inr, ℕ, ◌+◌, ◌*◌, ◌<◌, Bool, true, false, List, [], ◌∷◌, ◌++◌, filter, length, get_or, map, None, Some, Option, refl, sym, ◌∙◌, ap, subst, arith}
 use Rattle.std.specs.Prelude.{◌==◌, nat_eq, Err, IfErr, IfOk, Ok, OnOk, Result, if◌then◌else◌}
 use Rattle.std.specs.List.{All, remove}
 use Rattle.std.proofs.lemmas.Bool.{cases_Bool, cases_lt, eq-eqb, true≢false}
@@ -21,7 +21,7 @@ use Rattle.snapshot.specs.Kept.{Kept}
 use Rattle.snapshot.specs.Opening.{shown_array}
 use Rattle.snapshots.proofs.Finds.{position_within}
 use Rattle.volume_laws.specs.Shape.{shown_entry}
-use Rattle.volume.specs.AddedUp.{GivesAsked, GivesCall, IsOpenIn, IsOpenSnap, IsSomeOf, OpensOnly}
+use Rattle.volume.specs.AddedUp.{GivesAsked, IsOpenIn, IsOpenSnap, IsSomeOf, OpensOnly}
 use Rattle.volume.specs.Adding.{LeavesNoMore}
 use Rattle.volume.specs.Attached.{IsGained, IsRefusedOver}
 use Rattle.volume.specs.Causes.{IsAt}
@@ -43,7 +43,7 @@ use Rattle.deeds.specs.declared.deed.Deed.TheVariants.{Submit, Step, Tick, Tell,
 use Rattle.deeds.specs.declared.deed.Done.{Done}
 use Rattle.deeds.specs.declared.deed.Done.TheVariants.{Submitted, Stepped, Ticked, Told, Attached, Detached, Begun, Resumed, Finished}
 use Rattle.deeds.specs.Lasted.{IsLasting, LastAll, LastsTaken, OpensByDeed, TakesAs}
-use Rattle.deeds.specs.Lived.{IsDone, IsLoudDeed, IsSeen, Sees, Taken, others, remembered}
+use Rattle.deeds.specs.Lived.{IsDone, IsLoudDeed, IsSeen, Sees, Taken, remembered}
 use Rattle.deeds.proofs.Lives.{AreDone, seen_keeps}
 use Rattle.deeds.proofs.Plains.{AreKept, IsKept, apart}
 

@@ -2,7 +2,7 @@
 use Rattle.std.proofs.Common.{[], sym, subst}
 use Rattle.volume.specs.Layering.{Measures}
 use Rattle.deeds.specs.declared.deed.Deed.{Deed}
-use Rattle.deeds.specs.declared.deed.Deed.TheVariants.{Submit, Step, Tick, Tell, Attach, Detach, BeginMerge, ResumeMerge, FinishMerge}
+use Rattle.deeds.specs.declared.deed.Deed.TheVariants.{Submit, Step, Tick, Tell, Attach, ResumeMerge}
 use Rattle.deeds.specs.declared.deed.Done.TheVariants.{Submitted, Stepped, Ticked, Told, Attached, Begun, Resumed}
 use Rattle.volume.proofs.OpenedCalls.{opens_alike, opens_begin, opens_resume, opens_stepped, opens_submitted, opens_told}
 use Rattle.volume.proofs.Relayered.{ticked_alike}
