@@ -1,6 +1,6 @@
 -- What is true under a lock stays true.
-use Rattle.std.proofs.Common.{◌≡◌, inl, inr, ℕ, Bool, true, List, [], ◌∷◌, ◌++◌, Option, Some, None, refl, sym, ap, ◌∙◌, subst}
-use Rattle.std.specs.Prelude.{◌≢◌, ◌&&◌}
+use Rattle.std.proofs.Common.{◌≡◌, inl, inr, ℕ, ◌+◌, Bool, true, List, [], ◌∷◌, ◌++◌, length, Option, Some, None, refl, sym, ap, ◌∙◌, subst, arith, length-append}
+use Rattle.std.specs.Prelude.{◌≢◌, ◌&&◌, slice_index_or}
 use Rattle.sector.specs.declared.range.Range.{Range}
 use Rattle.plain.specs.Kept.{kept, kept_range}
 use Rattle.atomic_table.specs.Seated.{TableId}
@@ -136,6 +136,14 @@ pub settled_own : (start all entries old : List Entry) (mine : List _) (seat s :
     → entries_by seat entries ≡ entries_by seat start ++ (entries_by seat old ++ mine)
 settled_own start all entries old mine seat s is by own =
     ap (entries_by seat) is ∙ entries_by-append seat start all ∙ ap (λ l. entries_by seat start ++ l) (subst (λ n. entries_by n all ≡ entries_by n old ++ mine) by own)
+
+-- a receipt's count is the place of its entry among the seat's
+pub counted_from : (start all entries old : List Entry) (mine : List _) (seat s : ℕ) (folds now : List ℕ) (count : ℕ) → entries ≡ start ++ all → s ≡ seat → now ≡ folds → entries_by s all ≡ entries_by s old ++ mine
+    → count ≡ slice_index_or now seat 0 + length (entries_by seat entries) + 1 → count ≡ (slice_index_or folds seat 0 + length (entries_by seat start)) + length (entries_by seat old ++ mine) + 1
+counted_from start all entries old mine seat s folds now count is by folded own counts =
+    let long = ap length (settled_own start all entries old mine seat s is by own) ∙ length-append (entries_by seat start) (entries_by seat old ++ mine) in
+    let same = ap (λ (l : List ℕ). slice_index_or l seat 0) folded in
+    omega (arith, long, same, counts)
 
 -- an event that is no request's may be done by anyone
 pub may_any : (seat : ℕ) (event : Event) (held : List Seated) → ((n : ℕ) → event ≡ Issue n → ⊥) → may_do seat event held ≡ true

@@ -48,20 +48,20 @@ rest_of n (x ∷ xs) some all k d low =
     let one = all (suc k) d (omega (arith, low)) in
     (omega (arith, one.0), one.1)
 
-module _ (denies : ℕ → List Entry → Wish → Refusal → Type 0) where
+module _ (denies : ℕ → List Entry → Wish → Refusal → Type 0) (pieces : ℕ → ℕ) where
   -- the seats before this place ended their tasks
   abbrev pub AreEnded : (ℕ → List Task) → ℕ → ℕ → List (Vec Task) → List SeatShape → Type 0
-  AreEnded asked places n tasks seats = (j : ℕ) (d : SeatShape) → j < n → j < places → IsEnded denies (asked (j + 1)) (tasks_at tasks j) (j + 1) (get_or seats j d)
+  AreEnded asked places n tasks seats = (j : ℕ) (d : SeatShape) → j < n → j < places → IsEnded denies pieces (asked (j + 1)) (tasks_at tasks j) (j + 1) (get_or seats j d)
 
   pub ended_more : (asked : ℕ → List Task) (places n : ℕ) (old new : List (Vec Task)) (seats : List SeatShape) (list : List Task) (seat : SeatShape) → length seats ≡ n
-      → AreEnded asked places n old seats → (n < places → tasks_at new n ≡ list) → ((k : ℕ) → k ≢ n → tasks_at new k ≡ tasks_at old k) → IsEnded denies (asked (n + 1)) list (n + 1) seat
+      → AreEnded asked places n old seats → (n < places → tasks_at new n ≡ list) → ((k : ℕ) → k ≢ n → tasks_at new k ≡ tasks_at old k) → IsEnded denies pieces (asked (n + 1)) list (n + 1) seat
       → AreEnded asked places (n + 1) new (seats ++ seat ∷ [])
   ended_more asked places n old new seats list seat long all put others one j d =
-      below_more (λ m. m < places → IsEnded denies (asked (m + 1)) (tasks_at new m) (m + 1) (get_or (seats ++ seat ∷ []) m d)) n
-      (λ m low within. subst (λ (x : List Task × SeatShape). IsEnded denies (asked (m + 1)) x.0 (m + 1) x.1)
+      below_more (λ m. m < places → IsEnded denies pieces (asked (m + 1)) (tasks_at new m) (m + 1) (get_or (seats ++ seat ∷ []) m d)) n
+      (λ m low within. subst (λ (x : List Task × SeatShape). IsEnded denies pieces (asked (m + 1)) x.0 (m + 1) x.1)
       (λ i. (sym (others m (λ same. omega (arith, low, same))) i, sym (get_or-append seats (seat ∷ []) d m (omega (arith, long, low))) i))
       (all m d low within))
-      (λ within. subst (λ (x : List Task × SeatShape). IsEnded denies (asked (n + 1)) x.0 (n + 1) x.1)
+      (λ within. subst (λ (x : List Task × SeatShape). IsEnded denies pieces (asked (n + 1)) x.0 (n + 1) x.1)
       (λ i. (sym (put within) i, sym (ap (λ m. get_or (seats ++ seat ∷ []) m d) (sym long) ∙ get_or-append_seam seats seat [] d) i))
       one)
       j

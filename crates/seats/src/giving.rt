@@ -1,7 +1,7 @@
 // Tasks are given to seats, and taken back from them.
 ghost use Rattle.std.specs.Prelude.{◌≡◌, ◌≢◌, ◌+◌, ◌<◌, ◌≤◌, ℕ, [], length, slice_index_or, vec_capacity};
 ghost use Rattle.rig.specs.Rigs.{AreNewSeats, SeatShape};
-ghost use Rattle.seats.specs.Tasks.{IsEnded, denied_of, tasks_at};
+ghost use Rattle.seats.specs.Tasks.{IsEnded, denied_of, pieces_at, tasks_at};
 
 use crate::plan::Plan;
 use crate::seat_run::SeatRun;
@@ -73,7 +73,7 @@ pub(crate) fn end_all<J: Plan, R: Wait>(
 )
     requires { (seats.old.items ≡ []) × (8 ≤ vec_capacity seats.old) }
     ensures many { (length tasks.new.items ≡ length tasks.old.items) × (length seats.new.items ≡ 8) }
-    ensures ended { (i : ℕ) (d : SeatShape) → i < 8 → i < length tasks.old.items → IsEnded (denied_of J.start J.fixed) (J.tasks (i + 1)) (tasks_at tasks.new.items i) (i + 1) (slice_index_or seats.new.items i d) }
+    ensures ended { (i : ℕ) (d : SeatShape) → i < 8 → i < length tasks.old.items → IsEnded (denied_of J.start J.fixed) (pieces_at J.fixed) (J.tasks (i + 1)) (tasks_at tasks.new.items i) (i + 1) (slice_index_or seats.new.items i d) }
     ensures others { (i : ℕ) → 8 ≤ i → tasks_at tasks.new.items i ≡ tasks_at tasks.old.items i }
 {
     let mut runs = runs;

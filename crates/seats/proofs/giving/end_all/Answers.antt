@@ -1,6 +1,6 @@
 -- One seat more gave its tasks back.
 use Rattle.std.proofs.Common.{◌≡◌, ◌+◌, ◌<◌, ◌++◌, ◌∷◌, [], length, length-append, subst, sym, ap, ◌∙◌, arith}
-use Rattle.seats.specs.Tasks.{denied_of}
+use Rattle.seats.specs.Tasks.{denied_of, pieces_at}
 use Rattle.seats.proofs.Places.{AreEnded, ended_more}
 use Rattle.seats.proofs.giving.end_all.Goals as goal
 
@@ -16,8 +16,8 @@ loop-i-preserved g c =
       many = c.put_tasks.ensures.many ∙ c.loop-i.invariant.many;
       count = ap length c.push_reserved.ensures.items ∙ count;
       room = c.push_reserved.ensures.capacity ∙ c.loop-i.invariant.room;
-      ended = subst (AreEnded (denied_of g.J.Room.start g.J.Room.fixed) g.J.Plan.tasks places (i + 1) c.put_tasks.new.tasks.items) (sym c.push_reserved.ensures.items)
-          (ended_more (denied_of g.J.Room.start g.J.Room.fixed) g.J.Plan.tasks places i c.loop-i.tasks.items c.put_tasks.new.tasks.items seats list seat c.loop-i.invariant.count c.loop-i.invariant.ended
+      ended = subst (AreEnded (denied_of g.J.Room.start g.J.Room.fixed) (pieces_at g.J.Room.fixed) g.J.Plan.tasks places (i + 1) c.put_tasks.new.tasks.items) (sym c.push_reserved.ensures.items)
+          (ended_more (denied_of g.J.Room.start g.J.Room.fixed) (pieces_at g.J.Room.fixed) g.J.Plan.tasks places i c.loop-i.tasks.items c.put_tasks.new.tasks.items seats list seat c.loop-i.invariant.count c.loop-i.invariant.ended
           (λ within. c.put_tasks.ensures.put (subst (λ n. i < n) (sym c.loop-i.invariant.many) within))
           c.put_tasks.ensures.others
           c.into_parts-seat.ensures);

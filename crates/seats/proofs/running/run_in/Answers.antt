@@ -4,7 +4,7 @@ use Rattle.rig.specs.Rigs.{IsSettledAt, SeatShape, fixed_in, start_in}
 use Rattle.journal.specs.declared.entry.Entry.{Entry}
 use Rattle.post.specs.Fixed.{Fixed}
 use Rattle.seats.specs.Left.{AreLeft}
-use Rattle.seats.specs.Tasks.{IsEnded, denied_of, tasks_at}
+use Rattle.seats.specs.Tasks.{IsEnded, denied_of, pieces_at, tasks_at}
 use Rattle.seats.proofs.Stays.{closed, none_ran}
 use Rattle.seats.proofs.running.run_in.Goals as goal
 
@@ -18,8 +18,8 @@ returns-then-ran-clause-told g c i low within =
     let seat = slice_index_or c.end_all.new.seats.items i nobody in
     let ended = c.end_all.ensures.ended i nobody low (subst (λ n. i < n) (sym c.begin_all.ensures.many) within) in (
       seat,
-      subst (λ asked. IsEnded (denied_of (start_in c.args.audits.items) (fixed_in g.B.Block.size g.B.Block.layers c.args.audits.items)) asked (tasks_at c.end_all.new.tasks.items i) (i + 1) seat) (c.requires.plan i)
-          (subst (λ (x : (ℕ → List Entry) × (ℕ → Fixed)). IsEnded (denied_of x.0 x.1) (g.J.Plan.tasks (i + 1)) (tasks_at c.end_all.new.tasks.items i) (i + 1) seat) (λ j. (c.requires.room.starts j, c.requires.room.fixed_is j)) ended),
+      subst (λ asked. IsEnded (denied_of (start_in c.args.audits.items) (fixed_in g.B.Block.size g.B.Block.layers c.args.audits.items)) (pieces_at (fixed_in g.B.Block.size g.B.Block.layers c.args.audits.items)) asked (tasks_at c.end_all.new.tasks.items i) (i + 1) seat) (c.requires.plan i)
+          (subst (λ (x : (ℕ → List Entry) × (ℕ → Fixed)). IsEnded (denied_of x.0 x.1) (pieces_at x.1) (g.J.Plan.tasks (i + 1)) (tasks_at c.end_all.new.tasks.items i) (i + 1) seat) (λ j. (c.requires.room.starts j, c.requires.room.fixed_is j)) ended),
       λ k d at. subst (λ (x : List SeatShape). IsSettledAt (start_in c.args.audits.items k) (slice_index_or c.close-audits.result.items k d) k (slice_index_or x i nobody)) seats
           (subst (λ start. IsSettledAt (start k) (slice_index_or c.close-audits.result.items k d) k (slice_index_or c.close-audits.new.seats i nobody)) c.requires.room.starts
           (c.close-audits.ensures.settled k d i nobody
