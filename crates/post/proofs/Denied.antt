@@ -316,34 +316,34 @@ module _ {B : Type 0} (contents : B → List ℕ) (size : B → ℕ) (layers : B
       here_is = ap (λ n. is_piece_of n (size v.origin) asked_range) (piece_is v.merge v.snaps)
 
       by_limit : (b : Bool) → Opened → is_here ≡ true → (if b then Some TooMany else None) ≡ Some refusal → Denied
-      by_limit true open fits e = inr (inr (inr (inl (sym (some_is TooMany refusal e), open, here_is ∙ fits))))
-      by_limit false open fits e = no_some refusal e
+      by_limit true opens fits e = inr (inr (inr (inl (sym (some_is TooMany refusal e), opens, here_is ∙ fits))))
+      by_limit false opens fits e = no_some refusal e
 
       by_range : (b : Bool) → Opened → is_here ≡ b → first_of_two (if b then None else Some OutOfRange) (if many then Some TooMany else None) ≡ Some refusal → Denied
-      by_range true open fits e = by_limit many open fits e
-      by_range false open out e = inr (inr (inl (sym (some_is OutOfRange refusal e), open, here_is ∙ out)))
+      by_range true opens fits e = by_limit many opens fits e
+      by_range false opens out e = inr (inr (inl (sym (some_is OutOfRange refusal e), opens, here_is ∙ out)))
 
       rest : Option Refusal
       rest = first_of_two (range_refusal (piece_with v.merge v.snaps) (size v.origin) (kept_range request.op request.range)) (limit_refusal (starting (kind_of request) request.range.first v.merge v.snaps) v)
 
       by_did : (number k : ℕ) (b : Bool) → Opened → kind_of request ≡ SnapWrite number → is_merging number v.merge ≡ false → place_of_snap number v.snaps ≡ Some k → did_overflow (get_or (map (λ (s : Kept B). s.overflow) v.snaps) k Never) ≡ b
           → first_of_two (if b then Some OverflowRefusal else None) rest ≡ Some refusal → Denied
-      by_did number k true open kind other found did e = inr (inl (sym (some_is OverflowRefusal refusal e), shut seen a request number k is kind other found did))
-      by_did number k false open kind other found did e = by_range is_here open refl e
+      by_did number k true opens kind other found did e = inr (inl (sym (some_is OverflowRefusal refusal e), shut seen a request number k is kind other found did))
+      by_did number k false opens kind other found did e = by_range is_here opens refl e
 
       by_place : (number : ℕ) (p : Option ℕ) → Opened → kind_of request ≡ SnapWrite number → is_merging number v.merge ≡ false → place_of_snap number v.snaps ≡ p → first_of_two (shut_at v.snaps p) rest ≡ Some refusal → Denied
-      by_place number None open kind other found e = by_range is_here open refl e
-      by_place number (Some k) open kind other found e = by_did number k (did_overflow (get_or (map (λ (s : Kept B). s.overflow) v.snaps) k Never)) open kind other found refl e
+      by_place number None opens kind other found e = by_range is_here opens refl e
+      by_place number (Some k) opens kind other found e = by_did number k (did_overflow (get_or (map (λ (s : Kept B). s.overflow) v.snaps) k Never)) opens kind other found refl e
 
       by_kind : (kind : Kind) → Opened → kind_of request ≡ kind → dev_refusal request.dev v.merge v.snaps ≡ None → first_of_two (shut_refusal kind v.snaps) rest ≡ Some refusal → Denied
-      by_kind OriginRead open kind free e = by_range is_here open refl e
-      by_kind OriginWrite open kind free e = by_range is_here open refl e
-      by_kind OriginFlush open kind free e = by_range is_here open refl e
-      by_kind (SnapRead n) open kind free e = by_range is_here open refl e
-      by_kind (SnapFlush n) open kind free e = by_range is_here open refl e
-      by_kind (SnapWrite n) open kind free e =
+      by_kind OriginRead opens kind free e = by_range is_here opens refl e
+      by_kind OriginWrite opens kind free e = by_range is_here opens refl e
+      by_kind OriginFlush opens kind free e = by_range is_here opens refl e
+      by_kind (SnapRead n) opens kind free e = by_range is_here opens refl e
+      by_kind (SnapFlush n) opens kind free e = by_range is_here opens refl e
+      by_kind (SnapWrite n) opens kind free e =
           let alone = not_merging n v None (ap (λ d. first_of_two (dev_refusal d v.merge v.snaps) None) (sym (snap_of request.dev request.op n kind)) ∙ ap (λ r. first_of_two r None) free) in
-          by_place n (place_of_snap n v.snaps) open kind alone refl e
+          by_place n (place_of_snap n v.snaps) opens kind alone refl e
 
       by_dev : (d : Option Refusal) → dev_refusal request.dev v.merge v.snaps ≡ d
           → first_of_two d (first_of_two (shut_refusal (kind_of request) v.snaps) rest) ≡ Some refusal

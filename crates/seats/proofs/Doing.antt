@@ -1,18 +1,20 @@
 -- Tasks that are done one after the other.
 use Rattle.std.proofs.Common.{◌≡◌, ◌+◌, ◌<◌, ℕ, List, [], ◌∷◌, ◌++◌, Option, None, Some, drop, get_or, length, length-set, set, take, inl, inr, refl, sym, ap, ◌∙◌, subst, arith}
-use Rattle.std.proofs.Math.Logic.{∥∥₁_map}
+use Rattle.std.proofs.Math.Logic.{∥∥₁_elim, ∥∥₁_map}
+use native.Mathlib.Nat.{ℕ_set}
+use Rattle.journal.specs.declared.entry.Receipt.{Receipt}
 use Rattle.std.proofs.Math.Seq.{take-length}
 use Rattle.std.proofs.lemmas.List.{drop_more, drop-set-lt, get_or-drop, take_more, take_more_set}
 use Rattle.reply.specs.declared.seated.Answered.{Answered}
 use Rattle.reply.specs.declared.seated.Answered.TheVariants as answered
-use Rattle.rig.specs.Rigs.{SeatShape}
+use Rattle.rig.specs.Rigs.{SeatShape, receipts_at}
 use Rattle.seats.specs.declared.task.Job.{Job}
 use Rattle.seats.specs.declared.task.Job.TheVariants.{Read, Write, Merge, RefusedRead, Refused}
 use Rattle.seats.specs.declared.task.Task.{Task}
 use Rattle.post.specs.Denying.{Wish}
 use Rattle.journal.specs.declared.entry.Entry.{Entry}
 use Rattle.sector.specs.declared.refusal.Refusal.{Refusal}
-use Rattle.seats.specs.Tasks.{AreCalled, AreDone, AreUnderWay, IsCall, IsDone, IsDoneAs, IsEnded, IsNew}
+use Rattle.seats.specs.Tasks.{AreCalled, AreDone, AreUnderWay, IsCall, IsDone, IsDoneAs, IsEnded, IsNew, IsUnbegun}
 
 -- the first of two lists that are equal from a place on
 first_same : (asked tasks : List Task) (n : ℕ) (b : Task) → drop n tasks ≡ drop n asked → get_or tasks n b ≡ get_or asked n b
@@ -86,3 +88,15 @@ module _ (denies : ℕ → List Entry → Wish → Refusal → Type 0) (pieces :
   pub none_done : (asked tasks : List Task) (n : ℕ) (s : SeatShape) → n ≡ 0 → AreUnderWay denies pieces asked tasks n s → IsEnded denies pieces asked tasks s.number s
   none_done asked tasks n s none h =
       (refl, inr (subst (λ m. drop m tasks ≡ drop m asked) none h.others, subst (λ m. AreCalled denies pieces (take m asked) (take m tasks) s) none h.firsts))
+
+  -- a seat that was asked nothing has no receipts
+  called_none : (s : SeatShape) → AreCalled denies pieces [] [] s → IsNew s
+  called_none s h k = empty (receipts_at s k) (∥∥₁_elim h (ℕ_set (length (receipts_at s k)) 0) (λ x. ap length (ap (λ (t : SeatShape). receipts_at t k) x.2 ∙ x.1 k)))
+    where
+      empty : (rs : List Receipt) → length rs ≡ 0 → rs ≡ []
+      empty [] e = refl
+      empty (r ∷ rs) e = absurd (omega (arith, e))
+
+  pub unbegun : (asked tasks : List Task) (n : ℕ) (s : SeatShape) → n ≡ 0 → AreUnderWay denies pieces asked tasks n s → IsUnbegun asked tasks s
+  unbegun asked tasks n s none h =
+      (subst (λ m. drop m tasks ≡ drop m asked) none h.others, called_none s (subst (λ m. AreCalled denies pieces (take m asked) (take m tasks) s) none h.firsts))

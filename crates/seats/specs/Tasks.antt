@@ -24,6 +24,10 @@ use Rattle.seats.specs.declared.task.Task.{Task}
 abbrev pub IsNew : SeatShape → Type 0
 IsNew seat = (k : ℕ) → receipts_at seat k ≡ []
 
+-- a seat that made no request, and its tasks as they were given
+abbrev pub IsUnbegun : List Task → List Task → SeatShape → Type 0
+IsUnbegun asked tasks seat = (tasks ≡ asked) × IsNew seat
+
 -- denies: what a volume denied, by its entries, as far as the seat had seen them; pieces: the sectors of a piece of each volume
 module _ (denies : ℕ → List Entry → Wish → Refusal → Type 0) (pieces : ℕ → ℕ) where
   -- A read answers the bytes of the receipts that it added, in words, or it is cut short by what it answers.

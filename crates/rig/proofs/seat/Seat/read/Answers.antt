@@ -41,9 +41,9 @@ loop-part-preserved g c =
       can = tt;
       finite = tt;
       under = subst (λ (bytes : List ℕ). IsUnderWay read_op Data c.args.dev c.args.volume all c.next.new.self c.args.self.now c.read_piece.new.self bytes) (sym done.5)
-            (goes read_op Data c.args.dev c.args.volume all c.next.new.self (span_of c.in-Some.part) c.args.self.now c.loop-part.self c.read_piece.new.self c.loop-part.out.items done.0 done.1
-            (subst (λ (left : List Span). IsUnderWay read_op Data c.args.dev c.args.volume all left c.args.self.now c.loop-part.self c.loop-part.out.items) c.in-Some.ensures.steps under)
-            done.2 done.3 done.4);
+          (goes read_op Data c.args.dev c.args.volume all c.next.new.self (span_of c.in-Some.part) c.args.self.now c.loop-part.self c.read_piece.new.self c.loop-part.out.items done.0 done.1
+          (subst (λ (left : List Span). IsUnderWay read_op Data c.args.dev c.args.volume all left c.args.self.now c.loop-part.self c.loop-part.out.items) c.in-Some.ensures.steps under)
+          done.2 done.3 done.4);
     }
 
 pub returns-in-Err-clause-err : goal.returns-in-Err-clause-err

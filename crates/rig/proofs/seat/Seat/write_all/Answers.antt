@@ -25,7 +25,7 @@ loop-part-init g c = record {
       let piece : place.piece ≡ piece_at (g.J.Room.fixed c.args.volume) = place.is_piece ∙ ap (λ n. piece_at (g.J.Room.fixed n)) (numbered_at (λ p. p.volume) c.args.rig c.args.volume place) in
       let all = pieces_of place.piece (span_of c.args.range) in
       subst (λ (n : ℕ). StandsAt n c.args.range.first (c.args.range.first + c.args.range.count) 0 c.into_iter-part-iterator.result
-          × IsUnderWay Write written_reply c.args.dev c.args.volume (pieces_of n (span_of c.args.range)) c.into_iter-part-iterator.result c.args.self.now c.args.self.now [])
+      × IsUnderWay Write written_reply c.args.dev c.args.volume (pieces_of n (span_of c.args.range)) c.into_iter-part-iterator.result c.args.self.now c.args.self.now [])
       piece (
         stands_first place.piece (span_of c.args.range) _ _ c.pieces-part-items.ensures.cut c.into_iter-part-iterator.ensures.into_iter_gives,
         subst (λ (left : List Span). IsUnderWay Write written_reply c.args.dev c.args.volume all left c.args.self.now c.args.self.now [])
