@@ -1,4 +1,4 @@
-use Rattle.std.proofs.Common.{◌≡◌, ℕ, List, inl, refl, sym, ap, ◌∙◌, subst}
+use Rattle.std.proofs.Common.{◌≡◌, ◌<◌, ℕ, List, inl, refl, sym, ap, ◌∙◌, subst}
 use Rattle.chunk.specs.Pieces.{Span, pieces_of, span_of}
 use Rattle.chunk.proofs.Limits.{is_chunk-some, is_chunk-small}
 use Rattle.plain.specs.declared.request.Reply.TheVariants.{Data}
@@ -25,7 +25,7 @@ loop-part-init g c = record {
   finite = tt;
   under =
       let place = c.index.result.now in
-      let piece : place.piece ≡ piece_at (g.J.Room.fixed c.args.volume) = place.is_piece ∙ ap (λ n. piece_at (g.J.Room.fixed n)) (numbered_at (λ p. p.volume) c.args.rig c.args.volume place) in
+      let piece : place.piece ≡ piece_at (g.J.Room.fixed c.args.volume) = place.is_piece ∙ ap (λ n. piece_at (g.J.Room.fixed n)) (ap (λ p. p.volume) c.index.ensures ∙ c.rig.invariant.0 c.args.volume place (subst (λ (n : ℕ). c.args.volume < n) (sym c.rig.invariant.1) c.requires.volume)) in
       let all = pieces_of place.piece (span_of c.args.range) in
       subst (λ (x : ℕ × List Span × List ℕ). IsUnderWay read_op Data c.args.dev c.args.volume (pieces_of x.0 (span_of c.args.range)) x.1 c.args.self.now c.args.self.now x.2)
       (λ i. (piece i, sym (c.into_iter-part-iterator.ensures.into_iter_gives ∙ c.pieces-part-items.ensures.pieces) i, sym c.in-Ok.ensures.items i))

@@ -1,5 +1,5 @@
 -- One piece more is written, and where the write ends.
-use Rattle.std.proofs.Common.{◌≡◌, ℕ, List, ◌+◌, ◌-◌, ◌*◌, [], take, drop, sym, ap, ◌∙◌, subst, arith}
+use Rattle.std.proofs.Common.{◌≡◌, ◌<◌, ℕ, List, ◌+◌, ◌-◌, ◌*◌, [], take, drop, sym, ap, ◌∙◌, subst, arith}
 use Rattle.chunk.specs.Pieces.{Span, pieces_of, span_of}
 use Rattle.chunk.proofs.Limits.{is_chunk-some, is_chunk-small}
 use Rattle.chunk.proofs.Runs.{StandsAt, first_piece, stands_first, stands_last, stands_next}
@@ -22,7 +22,7 @@ loop-part-init g c = record {
   finite = tt;
   under =
       let place = c.index.result.now in
-      let piece : place.piece ≡ piece_at (g.J.Room.fixed c.args.volume) = place.is_piece ∙ ap (λ n. piece_at (g.J.Room.fixed n)) (numbered_at (λ p. p.volume) c.args.rig c.args.volume place) in
+      let piece : place.piece ≡ piece_at (g.J.Room.fixed c.args.volume) = place.is_piece ∙ ap (λ n. piece_at (g.J.Room.fixed n)) (ap (λ p. p.volume) c.index.ensures ∙ c.rig.invariant.0 c.args.volume place (subst (λ (n : ℕ). c.args.volume < n) (sym c.rig.invariant.1) c.requires.volume)) in
       let all = pieces_of place.piece (span_of c.args.range) in
       subst (λ (n : ℕ). StandsAt n c.args.range.first (c.args.range.first + c.args.range.count) 0 c.into_iter-part-iterator.result
       × IsUnderWay Write written_reply c.args.dev c.args.volume (pieces_of n (span_of c.args.range)) c.into_iter-part-iterator.result c.args.self.now c.args.self.now [])
