@@ -124,12 +124,12 @@ mine_after log v (AnsweredTold number entry) may owns waits =
     )
 mine_after log v (Noted entry) may owns waits = (owns_still log v.seat _ entry.value (silent_of v.seat entry.value may) owns, waits)
 
-known_after : (v : View) (t : Told) → MayNote v t → (v.sits ≡ true → Waits v.flying v) → Knows v t
-known_after v (Asked number request) may waits = tt
-known_after v (AnsweredTold number entry) may waits =
+known_after : (v : View) (t : Told) → MayNote v t → (v.sits ≡ true → Waits v.flying v) → (v.sits ≡ true → Owns v.all v) → Knows v t
+known_after v (Asked number request) may waits owns = tt
+known_after v (AnsweredTold number entry) may waits owns =
     let asked : HasAsked number v = may.2 in
-    ap (seated_under number) (sym (waits may.0)) ∙ under_held number v.seat v.flying asked.0 asked.1 asked.2 ∙ sym asked.1
-known_after v (Noted entry) may waits = tt
+    (ap (seated_under number) (sym (waits may.0)) ∙ under_held number v.seat v.flying asked.0 asked.1 asked.2 ∙ sym asked.1, owns may.0)
+known_after v (Noted entry) may waits owns = tt
 
 pub same_keeps : (v : View) (t : Told) → (told_of v t).keeps ≡ v.keeps
 same_keeps v (Asked number request) = refl
@@ -199,7 +199,7 @@ notes slots id me t f mine may s h same at small =
                   (x.0 ∙ ap h.1 (sym (same_seat v t)), subst (λ n. n < h.4) (sym (same_seat v t)) x.1, more.0, subst (λ l. Waits (flying_after v.seat l t) w) k0.2 more.1, subst (λ l. Begins l log) (sym (same_seen v t)) (begins_more v.seen h.2 t x.4));
             }),
       ),
-      (refl, refl, known_after v t may waits, λ k. subst (λ l. Begins v.seen l) (sym k0.1) (known.sits k).4),
+      (refl, refl, known_after v t may waits (λ k. subst (λ l. Owns l v) (sym k0.1) (known.sits k).2), λ k. subst (λ l. Begins v.seen l) (sym k0.1) (known.sits k).4),
     )
 
 pub checks : (slots id : ℕ) (me : Me Told View) (f : ℕ → ℕ) → Allows IsKept slots id me 0 f (IsChecked (step slots 0 0 0 none) me)

@@ -121,10 +121,10 @@ IsKept s =
 abbrev pub HasSeen : View → Type 0
 HasSeen v = v.sits ≡ true → Begins v.seen v.all
 
--- what a request in flight is, as the seat knows it too
+-- what a request in flight is, as the seat knows it too, and which of all entries are the seat's, before it is answered
 abbrev pub Knows : View → Told → Type 0
 Knows v (Asked number request) = Unit {0}
-Knows v (Answered number entry) = seated_under number v.waits ≡ seated_under number v.flying
+Knows v (Answered number entry) = (seated_under number v.waits ≡ seated_under number v.flying) × Owns v.all v
 Knows v (Noted entry) = Unit {0}
 
 abbrev pub noted_said : View → Option Told → View

@@ -87,7 +87,7 @@ impl History {
     }
 
     /// The request of this seat under a number is answered by an entry. What was asked under the number is what the seat
-    /// waits for under it.
+    /// waits for under it. The seat's own entries before it are its entries of all, after those that it had.
     pub fn answer(&self, keeper: &mut Pass, me: Pass, number: ReqId, entry: &Entry) -> Pass
         requires keeper { IsPassOf (table_of self.now) keeper.old × (keeper.old.me.0.keeps ≡ true) }
         requires seat { IsPassOf (table_of self.now) me × (me.me.0.sits ≡ true) × Answers me.me.0.seat entry.now }
@@ -95,6 +95,7 @@ impl History {
         ensures keeper { IsPassOf (table_of self.now) keeper.new × (keeper.new.me.0 ≡ keeper_of (answered_by number entry.now (seated_with keeper.old.me.0 me.me.0))) }
         ensures seat { IsPassOf (table_of self.now) result × (result.me.0 ≡ looking_of (answered_by number entry.now (seated_with keeper.old.me.0 me.me.0))) }
         ensures knows { seated_under number me.me.0.waits ≡ seated_under number keeper.old.me.0.flying }
+        ensures own { entries_by me.me.0.seat keeper.old.me.0.all ≡ entries_by me.me.0.seat me.me.0.old ++ me.me.0.mine }
         ensures later { Begins me.me.0.seen keeper.old.me.0.all }
     {
         self.tell_for(keeper, me, &Told::Answered(number, Snapshot::of(entry)))

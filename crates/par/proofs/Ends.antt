@@ -9,15 +9,15 @@ use Rattle.journal.specs.Entries.{answered_of, entries_by}
 use Rattle.named.specs.State.{Volume}
 use Rattle.rig.specs.Rigs.{fixed_in, receipts_at, seen_at, start_in}
 use Rattle.seats.specs.declared.task.Task.{Task}
-use Rattle.seats.specs.Tasks.{AreTold, denied_of}
+use Rattle.seats.specs.Tasks.{AreTold, IsEnded, denied_of, pieces_at}
 use Rattle.par.specs.Answering.{AreEnded}
 use Rattle.layers.specs.Stack.{stack_layers, stack_size}
 use Rattle.post.specs.Denying.{Wish, WasDenied}
-use Rattle.post.specs.Fixed.{Fixed, fixed_of}
+use Rattle.post.specs.Fixed.{Fixed, fixed_of, piece_at}
 use Rattle.post.specs.Names.{nothing_fixed}
 use Rattle.sector.specs.declared.refusal.Refusal.{Refusal}
 use Rattle.seats.proofs.Mapping.{ended_by}
-use Rattle.par.specs.Played.{ArePlayed, Story, denied_in, no_story}
+use Rattle.par.specs.Played.{ArePlayed, Story, denied_in, no_story, pieces_in}
 use Rattle.par.specs.Running.{AreRun, IsRunIf}
 use Rattle.par.specs.Taking.{IsMade}
 use Rattle.par.proofs.Made.{AreMade, made_at, made_few, made_long, made_of, uses_of}
@@ -79,6 +79,20 @@ made_denied uses bs cs es olds news made k seen wish refusal h = elim (cases_lt 
       h)
 ]
 
+-- and their pieces are the same
+made_piece : (uses : List Bool) (befores afters : List (AuditShape Stack)) (entries : List Story) (olds news : List Volume) → AreMade IsMade uses befores afters entries olds news
+    → (k : ℕ) → pieces_at (fixed_in stack_size stack_layers befores) k ≡ pieces_in entries k
+made_piece uses bs cs es olds news made k = elim (cases_lt k (length bs)) [
+  | inl here ↦
+      let long = made_long IsMade uses bs cs es olds news made in
+      let d = some_of bs k here in
+      let one = (made_at IsMade uses bs cs es olds news made k d d no_story (omega (arith, here, long.0))).2 in
+      ap piece_at (get_or-map (fixed_of stack_size stack_layers) bs k d nothing_fixed here) ∙ one.piece
+  | inr high ↦
+      let long = made_long IsMade uses bs cs es olds news made in
+      ap piece_at (beyond (fixed_of stack_size stack_layers) bs k nothing_fixed high) ∙ ap (λ (s : Story). piece_at s.stood) (sym (beyond_all es k (omega (arith, high, long.0))))
+]
+
 -- and the tasks of each seat are answered by its own
 pub made_told : (uses : List Bool) (befores afters : List (AuditShape Stack)) (entries : List Story) (olds news : List Volume) (asked told : ℕ → List Task) → AreMade IsMade uses befores afters entries olds news
     → ((i : ℕ) → i < 8 → AreTold stack_size stack_layers befores afters (i + 1) (asked i) (told i)) → AreEnded entries asked told
@@ -86,7 +100,8 @@ made_told uses bs cs es olds news asked told made seats i low =
     let t = seats i low in
     let long = made_long IsMade uses bs cs es olds news made in (
       t.0,
-      ended_by (denied_of (start_in bs) (fixed_in stack_size stack_layers bs)) (denied_in es) (made_denied uses bs cs es olds news made) (asked i) (told i) (i + 1) t.0 t.1,
+      ended_by (denied_of (start_in bs) (fixed_in stack_size stack_layers bs)) (denied_in es) (pieces_in es) (made_denied uses bs cs es olds news made) (asked i) (told i) (i + 1) t.0
+          (subst (λ (p : ℕ → ℕ). IsEnded (denied_of (start_in bs) (fixed_in stack_size stack_layers bs)) p (asked i) (told i) (i + 1) t.0) (λ j k. made_piece uses bs cs es olds news made k j) t.1),
       λ k small.
           let here : k < length bs = omega (arith, small, long.0) in
           let d = some_of bs k here in

@@ -9,3 +9,4 @@ pub mod Rests
 pub mod Runs
 pub mod Slots
 pub mod Tells
+pub mod Spares

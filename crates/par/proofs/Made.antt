@@ -77,10 +77,10 @@ made_long is (u ∷ us) bs cs es (o ∷ os) (n ∷ ns) (inr (used, bs', cs', es'
     (omega (arith, less.0, a, c), omega (arith, less.1, b, c))
 
 -- the items at a place
-at_last : {X : Type 0} (xs ys : List X) (y d : X) (k : ℕ) → xs ≡ ys ++ y ∷ [] → k ≡ length ys → get_or xs k d ≡ y
+pub at_last : {X : Type 0} (xs ys : List X) (y d : X) (k : ℕ) → xs ≡ ys ++ y ∷ [] → k ≡ length ys → get_or xs k d ≡ y
 at_last xs ys y d k is here = ap (λ (l : List _). get_or l k d) is ∙ ap (λ (n : ℕ). get_or (ys ++ y ∷ []) n d) here ∙ get_or-append_seam ys y [] d
 
-at_first : {X : Type 0} (xs ys : List X) (y d : X) (k : ℕ) → xs ≡ ys ++ y ∷ [] → k < length ys → get_or xs k d ≡ get_or ys k d
+pub at_first : {X : Type 0} (xs ys : List X) (y d : X) (k : ℕ) → xs ≡ ys ++ y ∷ [] → k < length ys → get_or xs k d ≡ get_or ys k d
 at_first xs ys y d k is low = ap (λ (l : List _). get_or l k d) is ∙ get_or-append ys (y ∷ []) d k low
 
 module _ {A E V : Type 0} (is : A → A → E → V → V → Type 0) where

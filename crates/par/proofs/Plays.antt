@@ -25,7 +25,7 @@ use Rattle.sector.specs.declared.refusal.Refusal.{Refusal}
 use Rattle.snapshots.specs.Numbers.{number_of_snap}
 use Rattle.volume.specs.Stepping.{merged_of}
 use Rattle.volume.specs.Volumed.{is_loud_in_all}
-use Rattle.post.specs.Denying.{IsClosed, IsDenied, IsLost, IsShut, WasDenied, Wish, Serve, Begin}
+use Rattle.post.specs.Denying.{IsClosed, IsDenied, IsLost, IsOpen, IsShut, WasDenied, Wish, Serve, Begin}
 use Rattle.post.specs.Fixed.{Fixed, fixed_of}
 use Rattle.par.specs.Played.{IsPlayedIn, Story, shown_by}
 use Rattle.par.specs.Running.{IsRun}
@@ -62,26 +62,33 @@ stood_of a = record {
   sound = is_loud_in_all stack_layers a.volume;
   loud = a.loud;
   base = shown_by a.volume;
+  folded = [];
 }
 
 -- What is denied by one list of entries is denied by another that shows the same.
 module _ (g : Fixed) (base s t : Saves) (same : g.loud ≡ true → t ≡ s) where
-  still_lost : (number : ℕ) → IsLost g s number → IsLost (record g { base = base }) t number
+  still_lost : (number : ℕ) → IsLost g s number → IsLost (record g { base = base; folded = [] }) t number
   still_lost number h = (h.0, h.1, λ loud. ap (λ (x : Saves). saved_under number x.saved) (same loud) ∙ h.2 loud)
 
-  still_closed : (dev : Dev) (refusal : Refusal) → IsClosed g s dev refusal → IsClosed (record g { base = base }) t dev refusal
+  still_closed : (dev : Dev) (refusal : Refusal) → IsClosed g s dev refusal → IsClosed (record g { base = base; folded = [] }) t dev refusal
   still_closed Origin refusal h = absurd h
   still_closed (Snap number) refusal (inl merging) = inl merging
   still_closed (Snap number) refusal (inr (inl missing)) = inr (inl missing)
   still_closed (Snap number) refusal (inr (inr lost)) = inr (inr (lost.0, still_lost number lost.1))
 
-  still_shut : (request : Request) → IsShut g s request → IsShut (record g { base = base }) t request
+  still_open : (dev : Dev) → IsOpen g s dev → IsOpen (record g { base = base; folded = [] }) t dev
+  still_open Origin h = tt
+  still_open (Snap number) h = (h.0, h.1, λ loud lost. h.2 loud (ap (λ (x : Saves). saved_under number x.saved) (sym (same loud)) ∙ lost))
+
+  still_shut : (request : Request) → IsShut g s request → IsShut (record g { base = base; folded = [] }) t request
   still_shut request h = (h.0, h.1, h.2, h.3, h.4, h.5, λ loud. ap (λ (x : Saves). overflow_under h.0 x.saved) (same loud) ∙ h.6 loud)
 
-  still_denied : (wish : Wish) (refusal : Refusal) → IsDenied g s wish refusal → IsDenied (record g { base = base }) t wish refusal
+  still_denied : (wish : Wish) (refusal : Refusal) → IsDenied g s wish refusal → IsDenied (record g { base = base; folded = [] }) t wish refusal
   still_denied (Serve request) refusal (inl closed) = inl (still_closed request.dev refusal closed)
   still_denied (Serve request) refusal (inr (inl shut)) = inr (inl (shut.0, still_shut request shut.1))
-  still_denied (Serve request) refusal (inr (inr other)) = inr (inr other)
+  still_denied (Serve request) refusal (inr (inr (inl out))) = inr (inr (inl (out.0, still_open request.dev out.1, out.2)))
+  still_denied (Serve request) refusal (inr (inr (inr (inl many)))) = inr (inr (inr (inl (many.0, still_open request.dev many.1, many.2))))
+  still_denied (Serve request) refusal (inr (inr (inr (inr full)))) = inr (inr (inr (inr full)))
   still_denied (Begin number) refusal (inl begun) = inl begun
   still_denied (Begin number) refusal (inr (inl missing)) = inr (inl missing)
   still_denied (Begin number) refusal (inr (inr (inl lost))) = inr (inr (inl (lost.0, still_lost number lost.1)))
@@ -94,8 +101,8 @@ denied_so before truth seen wish refusal (inr (g, stays, agrees, denied)) =
     let same : g.loud ≡ true → replay (shown_by before.volume) seen ≡ replay g.base (before.entries ++ seen) =
     λ loud. ap (λ (x : Saves). replay x seen) (sym (truth.gives (sym stays.loud ∙ loud))) ∙ sym (replay_then before.base before.entries seen) ∙ ap (λ (x : Saves). replay x (before.entries ++ seen)) (sym stays.base) in
     inr (
-      record g { base = shown_by before.volume },
-      record { attached = stays.attached; sectors = stays.sectors; snaps = stays.snaps; sound = stays.sound; loud = stays.loud; base = refl },
+      record g { base = shown_by before.volume; folded = [] },
+      record { attached = stays.attached; sectors = stays.sectors; snaps = stays.snaps; sound = stays.sound; loud = stays.loud; base = refl; folded = refl; piece = stays.piece },
       (λ loud. ap (λ (x : Saves). x.begun) (same loud) ∙ agrees loud),
       still_denied g (shown_by before.volume) (replay g.base (before.entries ++ seen)) (replay (shown_by before.volume) seen) same wish refusal denied,
     )
@@ -128,6 +135,7 @@ plays before p audit rested old new back done truth is sound =
           sound = is_loud_in_all stack_layers before.volume;
           loud = was_loud i;
           base = shown_by before.volume;
+          folded = [];
         };
         lawful = rest;
         own = meets_own (shown_by before.volume) entries rest (subst (λ (s : Saves). AllInside s entries) shown (inside_rest before.base before.entries entries inside));
@@ -160,5 +168,6 @@ is_made before p audit rested old new back done truth is run = (
     added = adds before p audit rested old back done;
     first = first_of before p audit rested old back done;
     denied = denied_so before back.out.truth;
+    piece = refl;
   },
 )

@@ -17,7 +17,7 @@ use Rattle.reply.specs.declared.Reply.TheVariants.{Gate}
 use Rattle.rig.specs.Rigs.{SeatShape}
 use Rattle.seats.specs.declared.task.Task.{Task}
 use Rattle.journal.specs.declared.entry.Entry.{Entry}
-use Rattle.par.specs.Played.{denied_in}
+use Rattle.par.specs.Played.{denied_in, pieces_in}
 use Rattle.post.specs.Denying.{Wish}
 use Rattle.sector.specs.declared.refusal.Refusal.{Refusal}
 use Rattle.seats.specs.Tasks.{AreDone, IsEnded}
@@ -64,15 +64,15 @@ seat_fits i told low =
 
 -- The seats leave as many tasks as there were.
 
-done_many : (denies : ℕ → List Entry → Wish → Refusal → Type 0) (asked told : List Task) (old new : SeatShape) → AreDone denies asked told old new → length told ≡ length asked
-done_many denies [] [] old new h = refl
-done_many denies [] (a ∷ after) old new h = absurd h
-done_many denies (b ∷ before) [] old new h = absurd h
-done_many denies (b ∷ before) (a ∷ after) old new h = ap suc (done_many denies before after h.0 new h.2)
+done_many : (denies : ℕ → List Entry → Wish → Refusal → Type 0) (pieces : ℕ → ℕ) (asked told : List Task) (old new : SeatShape) → AreDone denies pieces asked told old new → length told ≡ length asked
+done_many denies pieces [] [] old new h = refl
+done_many denies pieces [] (a ∷ after) old new h = absurd h
+done_many denies pieces (b ∷ before) [] old new h = absurd h
+done_many denies pieces (b ∷ before) (a ∷ after) old new h = ap suc (done_many denies pieces before after h.0 new h.2)
 
-seat_many : (denies : ℕ → List Entry → Wish → Refusal → Type 0) (asked told : List Task) (number : ℕ) (seat : SeatShape) → IsEnded denies asked told number seat → length told ≡ length asked
-seat_many denies asked told number seat (is, inl called) = ∥∥₁_elim called (ℕ_set (length told) (length asked)) (λ x. done_many denies asked told x.0 seat x.2)
-seat_many denies asked told number seat (is, inr none) = ap length none.0
+seat_many : (denies : ℕ → List Entry → Wish → Refusal → Type 0) (pieces : ℕ → ℕ) (asked told : List Task) (number : ℕ) (seat : SeatShape) → IsEnded denies pieces asked told number seat → length told ≡ length asked
+seat_many denies pieces asked told number seat (is, inl called) = ∥∥₁_elim called (ℕ_set (length told) (length asked)) (λ x. done_many denies pieces asked told x.0 seat x.2)
+seat_many denies pieces asked told number seat (is, inr none) = ap length none.0
 
 first_many : (n : ℕ) (asked told : ℕ → List Task) → ((i : ℕ) → i < n → length (told i) ≡ length (asked i)) → length (first_replies n told) ≡ length (first_replies n asked)
 first_many zero asked told same = refl
@@ -82,7 +82,7 @@ first_many (suc n) asked told same =
     (omega (arith, less, many_more n told, many_more n asked, same n (omega arith)))
 
 pub ended_many : (played : List Story) (asked told : ℕ → List Task) → AreEnded played asked told → length (replies_of told) ≡ length (replies_of asked)
-ended_many played asked told ended = first_many 8 asked told (λ i low. let e = ended i low in seat_many (denied_in played) (asked i) (told i) (i + 1) e.0 e.1)
+ended_many played asked told ended = first_many 8 asked told (λ i low. let e = ended i low in seat_many (denied_in played) (pieces_in played) (asked i) (told i) (i + 1) e.0 e.1)
 
 -- There are as many tasks as lines.
 
@@ -158,7 +158,7 @@ seats_are used table lines played asked told ticket opened are ended =
     let seats : List ℕ = map (λ (l : SeatLine). l.seat) lines in
     map-append seat_in (replies_of told) (gate_replies ticket opened)
     ∙ ap (λ (l : List (Option ℕ)). l ++ map seat_in (gate_replies ticket opened))
-    (first_seats 8 seats told (λ i low. let e = ended i low in seat_many (denied_in played) (asked i) (told i) (i + 1) e.0 e.1 ∙ asked_many used table lines asked are i low ∙ count_seats (i + 1) lines))
+    (first_seats 8 seats told (λ i low. let e = ended i low in seat_many (denied_in played) (pieces_in played) (asked i) (told i) (i + 1) e.0 e.1 ∙ asked_many used table lines asked are i low ∙ count_seats (i + 1) lines))
     ∙ ap (λ (l : List (Option ℕ)). seats_told seats ++ l) (gate_seat ticket opened)
 
 -- All are replies of a block.

@@ -4,3 +4,4 @@ pub mod Looking
 pub mod Played
 pub mod Running
 pub mod Taking
+pub mod Spared

@@ -12,7 +12,7 @@ use Rattle.sector.specs.declared.refusal.Refusal.{Refusal}
 use Rattle.named.specs.State.{Volume}
 use Rattle.named_volume.specs.Flights.{InEvents}
 use Rattle.post.specs.Denying.{Wish, WasDenied}
-use Rattle.post.specs.Fixed.{Fixed}
+use Rattle.post.specs.Fixed.{Fixed, piece_at}
 use Rattle.post.specs.Names.{nothing_fixed}
 use Rattle.rig.specs.Rigs.{SeatShape, receipts_at, seen_at}
 use Rattle.seats.specs.declared.task.Task.{Task}
@@ -34,7 +34,7 @@ no_story = record { stood = nothing_fixed; entries = [] }
 abbrev pub shown_by : Volumed Stack → Saves
 shown_by events = saves_of (plain_of stack_contents stack_layers events)
 
--- how a volume stands, no device of which ever dropped writes
+-- how a volume stands, no device of which ever dropped writes, where no entries are counted yet
 abbrev pub standing_of : Volumed Stack → Fixed
 standing_of v = record {
   attached = v.attached;
@@ -45,6 +45,7 @@ standing_of v = record {
   sound = is_loud_in_all stack_layers v;
   loud = true;
   base = shown_by v;
+  folded = [];
 }
 
 -- Entries that were made at a volume that stood so: each is lawful after those before it, and all of them give what the volume
@@ -68,6 +69,10 @@ pub record ArePlayed (used : List Bool) (played : List Story) (old new : List Vo
 abbrev pub denied_in : List Story → ℕ → List Entry → Wish → Refusal → Type 0
 denied_in played k seen wish refusal = WasDenied [] (slice_index_or played k no_story).stood seen wish refusal
 
+-- and the sectors of a piece of it
+abbrev pub pieces_in : List Story → ℕ → ℕ
+pieces_in played k = piece_at (slice_index_or played k no_story).stood
+
 -- what a seat knows of a volume's entries: its receipts are its own, in their order, and what it has seen are the first
 pub record IsToldOf (entries : List Entry) (number k : ℕ) (seat : SeatShape) : Type 0 where
   pub own : entries_by number entries ≡ map answered_of (receipts_at seat k)
@@ -76,5 +81,5 @@ pub record IsToldOf (entries : List Entry) (number k : ℕ) (seat : SeatShape) :
 -- A seat did these tasks, or none of them, by its own entries, and what was denied was denied by what it saw.
 abbrev pub IsPlayedBy : List Story → ℕ → List Task → List Task → Type 0
 IsPlayedBy played number asked told =
-    (seat : SeatShape) × IsEnded (denied_in played) asked told number seat
+    (seat : SeatShape) × IsEnded (denied_in played) (pieces_in played) asked told number seat
     × ((k : ℕ) → k < length played → IsToldOf (slice_index_or played k no_story).entries number k seat)

@@ -14,7 +14,7 @@ use Rattle.resting.specs.Kept.{KeepsDevices}
 use Rattle.resting.specs.Rested.{rested_of}
 use Rattle.history.specs.Keeping.{Begins}
 use Rattle.post.specs.Denying.{Wish, WasDenied}
-use Rattle.post.specs.Fixed.{StaysFrom, fixed_of}
+use Rattle.post.specs.Fixed.{StaysFrom, fixed_of, piece_at}
 use Rattle.sector.specs.declared.refusal.Refusal.{Refusal}
 use Rattle.par.specs.Played.{IsPlayedIn, Story, shown_by}
 use Rattle.par.specs.Running.{IsRun}
@@ -57,7 +57,7 @@ pub record IsRested (old new : AuditShape Stack) : Type 0 where
 
 -- What seats made of a volume, by its audits before and as they left it: these entries lead from the one volume to the other,
 -- each seat's among them are those that it added, the first of them are those that the audit was left with, and what was denied
--- by these is denied by them.
+-- by these is denied by them; its pieces are the same.
 pub record IsMade (before audit : AuditShape Stack) (story : Story) (old new : Volume) : Type 0 where
   pub run : IsRun old new
   pub played : IsPlayedIn story old new
@@ -65,6 +65,7 @@ pub record IsMade (before audit : AuditShape Stack) (story : Story) (old new : V
   pub first : (seen : List Entry) → Begins (before.entries ++ seen) audit.entries → Begins seen story.entries
   pub denied : (seen : List Entry) (wish : Wish) (refusal : Refusal)
       → WasDenied before.entries (fixed_of stack_size stack_layers before) seen wish refusal → WasDenied [] story.stood seen wish refusal
+  pub piece : piece_at (fixed_of stack_size stack_layers before) ≡ piece_at story.stood
 
 -- What a place of the table has: its volume, or the names of one that lines use, whose audit is the last of all.
 abbrev pub IsSlot : Bool → Slot → List (AuditShape Stack) → List (AuditShape Stack) → Volume → Type 0

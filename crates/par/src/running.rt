@@ -1,5 +1,5 @@
 // The run of a block.
-ghost use Rattle.std.specs.Prelude.{◌≡◌, ◌+◌, ◌<◌, ◌≤◌, ◌++◌, ℕ, List, [], None, map, length, slice_index_or, vec_len, vec_capacity, true, IfErr, IfOk, IfSome, OnOk};
+ghost use Rattle.std.specs.Prelude.{◌≡◌, ◌+◌, ◌<◌, ◌≤◌, ◌++◌, ℕ, List, [], None, map, length, slice_index_or, vec_len, vec_capacity, false, true, IfErr, IfOk, IfSome, OnErr, OnOk};
 ghost use Rattle.std.specs.List.{All, AllZip, count_by};
 ghost use Rattle.sector.specs.declared.refusal.Refusal.TheVariants.{NoMemory};
 ghost use Rattle.layers.specs.declared.stack.Stack.{Stack as StackShape};
@@ -13,6 +13,7 @@ ghost use Rattle.par.specs.Answering.{AreAnswered, AreEnded, AreReplied, gate_re
 ghost use Rattle.par.specs.Looking.{block_refusal};
 ghost use Rattle.par.specs.Played.{ArePlayed, Story};
 ghost use Rattle.par.specs.Running.{AreRun, IsOfBlock, IsRefusedFor, IsTableRun, all_told, seat_in};
+ghost use Rattle.par.specs.Spared.{AreSpared, NoneAdded};
 ghost use Rattle.par.specs.Taking.{IsLeft};
 
 use crate::looking::all_found;
@@ -63,6 +64,7 @@ fn run<R: Threads + Wait + Sync>(
     ensures many { result.1 ≡ true → many ≤ length result.0.items }
     ensures left { AllZip IsLeft audits.items result.0.items }
     ensures eight { length tasks.new.items ≡ 8 }
+    ensures spared { result.1 ≡ false → NoneAdded audits.items result.0.items }
     ensures told { result.1 ≡ true → (i : ℕ) → i < 8 → AreTold stack_size stack_layers audits.items result.0.items (i + 1) (tasks_at tasks.old.items i) (tasks_at tasks.new.items i) }
 {
     if audits.len() < many {
@@ -98,6 +100,7 @@ fn at_once<R: Threads + Wait + Sync>(
     ensures eight { OnOk result (length tasks.new.items ≡ 8) }
     ensures played { OnOk result ((played : List Story) × ArePlayed used.now played (table_of held.old).volumes (table_of held.new).volumes × AreEnded played (tasks_at tasks.old.items) (tasks_at tasks.new.items)) }
     ensures err { IfErr result (λ e. e ≡ NoMemory) }
+    ensures spared { OnErr result (AreSpared (table_of held.old).volumes (table_of held.new).volumes) }
     ensures stacks { (table_of held.new).stacks ≡ (table_of held.old).stacks }
     ensures volumes { AreRun used.now (table_of held.old).volumes (table_of held.new).volumes }
 {
@@ -176,6 +179,7 @@ fn run_plan<R: Threads + Wait + Sync>(
     requires room { length (replies_of (tasks_at plan.tasks.items)) < vec_capacity plan.replies }
     ensures told { IfOk result (λ replies. (played : List Story) × ArePlayed plan.used.items played (table_of held.old).volumes (table_of held.new).volumes × AreReplied ticket played (tasks_at plan.tasks.items) replies.items) }
     ensures err { IfErr result (λ e. e ≡ NoMemory) }
+    ensures spared { OnErr result (AreSpared (table_of held.old).volumes (table_of held.new).volumes) }
     ensures stacks { (table_of held.new).stacks ≡ (table_of held.old).stacks }
     ensures volumes { AreRun plan.used.items (table_of held.old).volumes (table_of held.new).volumes }
 {
@@ -212,6 +216,7 @@ pub fn run_block<R: Threads + Wait + Sync>(
     ensures answers { IfOk result (λ replies. AreAnswered block (table_of held.old) (table_of held.new) replies.items) }
     ensures runs { IfOk result (λ _. block_refusal block (table_of held.old) ≡ None) }
     ensures refused { IfErr result (λ e. IsRefusedFor e block (table_of held.old)) }
+    ensures spared { OnErr result (AreSpared (table_of held.old).volumes (table_of held.new).volumes) }
     ensures stays { IfSome (block_refusal block (table_of held.old)) (λ _. table_of held.new ≡ table_of held.old) }
     ensures run { IsTableRun block.lines (table_of held.old) (table_of held.new) }
     ensures sound { is_sound (table_of held.old) ≡ true → is_sound (table_of held.new) ≡ true }

@@ -6,8 +6,9 @@ use Rattle.std.proofs.lemmas.Bool.{cases_Bool, cases_lt}
 use Rattle.std.proofs.lemmas.List.{length-map}
 use Rattle.device.specs.Layers.{Layer}
 use Rattle.model.specs.Picture.{picture}
+use Rattle.sector.specs.declared.range.Range.{Range}
 use Rattle.sector.specs.declared.refusal.Refusal.{Refusal}
-use Rattle.sector.specs.declared.refusal.Refusal.TheVariants.{Invalid as IsInvalid, MergingSnapshot, NoSuchDevice, NotQuiet, OutOfRange, Overflow as OverflowRefusal, TooMany, MergeInProgress}
+use Rattle.sector.specs.declared.refusal.Refusal.TheVariants.{Invalid as IsInvalid, JournalFull, MergingSnapshot, NoMemory, NoSuchDevice, NotQuiet, OutOfRange, Overflow as OverflowRefusal, TooMany, MergeInProgress}
 use Rattle.plain.specs.Kept.{kept_range}
 use Rattle.plain.specs.Plain.{Live, Invalid, did_overflow, is_in, overflow_under, saved_under}
 use Rattle.plain.specs.declared.request.Dev.{Dev}
@@ -28,6 +29,7 @@ use Rattle.snapshots.specs.Starting.{spoilt_of, unroomed}
 use Rattle.snapshots.proofs.Finds.{any_of, position_any, position_none, position_within}
 use Rattle.volume_laws.specs.Shape.{shown_begun, shown_entry}
 use Rattle.volume.specs.Beginning.{begin_refusal, begin_with, beside_refusal, place_refusal}
+use Rattle.volume.specs.Leaving.{is_quiet_of}
 use Rattle.volume.specs.Stepping.{KeepsAll, merged_of}
 use Rattle.volume.specs.Submitting.{IsFoundFull, IsOverflown, IsRefusedAs, are_too_many, dev_refusal, first_of_two, is_merging, is_piece_of, limit_refusal, range_refusal, refusal_at, shut_at, shut_refusal, starting, submit_refusal}
 use Rattle.volume.specs.Volumed.{Volumed, piece_of, piece_with, merge_shape, plain_of, snap_shape}
@@ -35,8 +37,8 @@ use Rattle.journal.specs.declared.entry.Entry.{Entry}
 use Rattle.journal.specs.Books.{AuditShape}
 use Rattle.journal.specs.Journaled.{IsBarred, IsNotMerged, is_full_by}
 use Rattle.journal.specs.Replay.{Saves, replay, saves_of}
-use Rattle.post.specs.Denying.{Agrees, merged_number, IsClosed, IsDenied, IsLost, IsShut, Begin, Serve, WasDenied, is_merged, least_of, piece_in}
-use Rattle.post.specs.Fixed.{Fixed, StaysFrom, fixed_of}
+use Rattle.post.specs.Denying.{Agrees, merged_number, IsClosed, IsDenied, IsLost, IsOpen, IsShut, Begin, Serve, WasDenied, is_merged}
+use Rattle.post.specs.Fixed.{Fixed, StaysFrom, fixed_of, least_of, piece_at, piece_in}
 
 no_some : {A C : Type 0} (x : A) → None ≡ Some x → C
 no_some x e = absurd (let h : None ≡ Some x = e in cc)
@@ -50,6 +52,9 @@ some_is {A} x y e = ap or_else e
     or_else : Option A → A
     or_else (Some z) = z
     or_else None = x
+
+not_lost : (array : List ℕ) → Some (Live array) ≡ Some Invalid → ⊥
+not_lost array e = let h : Live array ≡ Invalid = some_is (Live array) Invalid e in cc
 
 lt-true : (m n : ℕ) → m < n → nat_lt m n ≡ true
 lt-true m n lt = search (arith)
@@ -78,7 +83,7 @@ module _ {B : Type 0} where
   least_is [] = refl
   least_is (s ∷ snaps) = ap (min s.state.chunk) (least_is snaps)
 
-  piece_is : (merge : Option (Merging B)) (snaps : List (Kept B)) → piece_in (merged_of merge) (map (λ s. s.state.chunk) snaps) ≡ piece_with merge snaps
+  pub piece_is : (merge : Option (Merging B)) (snaps : List (Kept B)) → piece_in (merged_of merge) (map (λ s. s.state.chunk) snaps) ≡ piece_with merge snaps
   piece_is None snaps = least_is snaps
   piece_is (Some m) snaps = ap (min m.state.chunk) (least_is snaps)
 
@@ -116,6 +121,21 @@ module _ {B : Type 0} where
     | inl here ↦ (let lost : s.live ≡ false = rw here at dead in rw here (ap (λ b. Some (if b then Live (picture s.state.chunk origin (contents s.device)) else Invalid)) lost))
     | inr other ↦ rw other (dead_at contents origin number snaps (let lt = rw other at within in omega (arith, lt))
         (sym (get_next s.live (map (λ (x : Kept B). x.live) snaps) (position_or_len (λ (x : Kept B). x.number == number) snaps) false) ∙ (rw other at dead)))
+  ]
+
+  -- one that is live shows something
+  live_at : (contents : B → List ℕ) (origin : List ℕ) (number : ℕ) (snaps : List (Kept B)) → position_or_len (λ (s : Kept B). s.number == number) snaps < length snaps
+      → get_or (map (λ (s : Kept B). s.live) snaps) (position_or_len (λ (s : Kept B). s.number == number) snaps) false ≡ true
+      → saved_under number (map (shown_entry contents origin) (map snap_shape snaps)) ≡ Some Invalid → ⊥
+  live_at contents origin number [] within live lost = absurd (omega (arith, within))
+  live_at contents origin number (s ∷ snaps) within live lost = elim (cases_Bool (s.number == number)) [
+    | inl here ↦ (
+        let lives : s.live ≡ true = rw here at live in
+        let same : Some (if s.live then Live (picture s.state.chunk origin (contents s.device)) else Invalid) ≡ Some Invalid = rw here at lost in
+        not_lost (picture s.state.chunk origin (contents s.device)) (ap (λ b. Some (if b then Live (picture s.state.chunk origin (contents s.device)) else Invalid)) (sym lives) ∙ same))
+    | inr other ↦ live_at contents origin number snaps (let lt = rw other at within in omega (arith, lt))
+        (sym (get_next s.live (map (λ (x : Kept B). x.live) snaps) (position_or_len (λ (x : Kept B). x.number == number) snaps) false) ∙ (rw other at live))
+        (rw other at lost)
   ]
 
   -- one whose store overflowed
@@ -197,6 +217,38 @@ module _ {B : Type 0} (contents : B → List ℕ) (size : B → ℕ) (layers : B
       by_merge true mine e = inl (sym (some_is MergingSnapshot refusal e), merged_is number v.merge ∙ mine)
       by_merge false other e = by_place (place_of_snap number v.snaps) other refl e
 
+  -- a device that takes requests
+  opened : (seen : List Entry) (a : AuditShape B) (dev : Dev) → IsSeen seen a → dev_refusal dev a.volume.merge a.volume.snaps ≡ None → IsOpen (fixed_of size layers a) (shown_in a seen) dev
+  opened seen a Origin is e = tt
+  opened seen a (Snap number) is e = by_merge (is_merging number a.volume.merge) refl e
+    where
+      v : Volumed B
+      v = a.volume
+
+      Opened : Type 0
+      Opened = IsOpen (fixed_of size layers a) (shown_in a seen) (Snap number)
+
+      by_life : (k : ℕ) (b : Bool) → is_merging number v.merge ≡ false → place_of_snap number v.snaps ≡ Some k → get_or (map (λ (s : Kept B). s.live) v.snaps) k false ≡ b
+          → (if b then None else Some IsInvalid) ≡ None → Opened
+      by_life k true other found live e =
+          let test : Kept B → Bool = λ s. s.number == number in
+          let at = place_is number k v.snaps found in (
+            merged_is number v.merge ∙ other,
+            there number k v.snaps found,
+            λ loud lost. live_at contents (contents v.origin) number v.snaps (subst (λ n. n < length v.snaps) (sym at) (position_within test v.snaps k found))
+                (ap (λ n. get_or (map (λ (s : Kept B). s.live) v.snaps) n false) at ∙ live)
+                (sym (ap (λ (s : Saves). saved_under number s.saved) (ap (replay a.base) (sym is.entries) ∙ is.truth loud)) ∙ lost),
+          )
+      by_life k false other found dead e = some_none IsInvalid e
+
+      by_place : (p : Option ℕ) → is_merging number v.merge ≡ false → place_of_snap number v.snaps ≡ p → refusal_at v.snaps p ≡ None → Opened
+      by_place None other none e = some_none NoSuchDevice e
+      by_place (Some k) other found e = by_life k (get_or (map (λ (s : Kept B). s.live) v.snaps) k false) other found refl e
+
+      by_merge : (b : Bool) → is_merging number v.merge ≡ b → (if b then Some MergingSnapshot else refusal_at v.snaps (place_of_snap number v.snaps)) ≡ None → Opened
+      by_merge true mine e = some_none MergingSnapshot e
+      by_merge false other e = by_place (place_of_snap number v.snaps) other refl e
+
   -- a write of one whose store overflowed
   snap_of : (dev : Dev) (op : Op) (number : ℕ) → kind_at dev op ≡ SnapWrite number → dev ≡ Snap number
   snap_of Origin Read number e = absurd (let h : kind_at Origin Read ≡ SnapWrite number = e in cc)
@@ -248,42 +300,56 @@ module _ {B : Type 0} (contents : B → List ℕ) (size : B → ℕ) (layers : B
       many : Bool
       many = are_too_many (starting (kind_of request) request.range.first v.merge v.snaps) v
 
-      by_limit : (b : Bool) → (if b then Some TooMany else None) ≡ Some refusal → IsDenied (fixed_of size layers a) (shown_in a seen) (Serve request) refusal
-      by_limit true e = inr (inr (inr (inl (sym (some_is TooMany refusal e)))))
-      by_limit false e = no_some refusal e
+      Denied : Type 0
+      Denied = IsDenied (fixed_of size layers a) (shown_in a seen) (Serve request) refusal
 
-      by_range : (b : Bool) → is_piece_of (piece_with v.merge v.snaps) (size v.origin) (kept_range request.op request.range) ≡ b → first_of_two (if b then None else Some OutOfRange) (if many then Some TooMany else None) ≡ Some refusal
-          → IsDenied (fixed_of size layers a) (shown_in a seen) (Serve request) refusal
-      by_range true fits e = by_limit many e
-      by_range false out e = inr (inr (inl (sym (some_is OutOfRange refusal e), ap (λ n. is_piece_of n (size v.origin) (kept_range request.op request.range)) (piece_is v.merge v.snaps) ∙ out)))
+      Opened : Type 0
+      Opened = IsOpen (fixed_of size layers a) (shown_in a seen) request.dev
+
+      asked_range : Range
+      asked_range = kept_range request.op request.range
+
+      is_here : Bool
+      is_here = is_piece_of (piece_with v.merge v.snaps) (size v.origin) asked_range
+
+      here_is : is_piece_of (piece_at (fixed_of size layers a)) (size v.origin) asked_range ≡ is_here
+      here_is = ap (λ n. is_piece_of n (size v.origin) asked_range) (piece_is v.merge v.snaps)
+
+      by_limit : (b : Bool) → Opened → is_here ≡ true → (if b then Some TooMany else None) ≡ Some refusal → Denied
+      by_limit true opens fits e = inr (inr (inr (inl (sym (some_is TooMany refusal e), opens, here_is ∙ fits))))
+      by_limit false opens fits e = no_some refusal e
+
+      by_range : (b : Bool) → Opened → is_here ≡ b → first_of_two (if b then None else Some OutOfRange) (if many then Some TooMany else None) ≡ Some refusal → Denied
+      by_range true opens fits e = by_limit many opens fits e
+      by_range false opens out e = inr (inr (inl (sym (some_is OutOfRange refusal e), opens, here_is ∙ out)))
 
       rest : Option Refusal
       rest = first_of_two (range_refusal (piece_with v.merge v.snaps) (size v.origin) (kept_range request.op request.range)) (limit_refusal (starting (kind_of request) request.range.first v.merge v.snaps) v)
 
-      by_did : (number k : ℕ) (b : Bool) → kind_of request ≡ SnapWrite number → is_merging number v.merge ≡ false → place_of_snap number v.snaps ≡ Some k → did_overflow (get_or (map (λ (s : Kept B). s.overflow) v.snaps) k Never) ≡ b
-          → first_of_two (if b then Some OverflowRefusal else None) rest ≡ Some refusal → IsDenied (fixed_of size layers a) (shown_in a seen) (Serve request) refusal
-      by_did number k true kind other found did e = inr (inl (sym (some_is OverflowRefusal refusal e), shut seen a request number k is kind other found did))
-      by_did number k false kind other found did e = by_range (is_piece_of (piece_with v.merge v.snaps) (size v.origin) (kept_range request.op request.range)) refl e
+      by_did : (number k : ℕ) (b : Bool) → Opened → kind_of request ≡ SnapWrite number → is_merging number v.merge ≡ false → place_of_snap number v.snaps ≡ Some k → did_overflow (get_or (map (λ (s : Kept B). s.overflow) v.snaps) k Never) ≡ b
+          → first_of_two (if b then Some OverflowRefusal else None) rest ≡ Some refusal → Denied
+      by_did number k true opens kind other found did e = inr (inl (sym (some_is OverflowRefusal refusal e), shut seen a request number k is kind other found did))
+      by_did number k false opens kind other found did e = by_range is_here opens refl e
 
-      by_place : (number : ℕ) (p : Option ℕ) → kind_of request ≡ SnapWrite number → is_merging number v.merge ≡ false → place_of_snap number v.snaps ≡ p → first_of_two (shut_at v.snaps p) rest ≡ Some refusal → IsDenied (fixed_of size layers a) (shown_in a seen) (Serve request) refusal
-      by_place number None kind other found e = by_range (is_piece_of (piece_with v.merge v.snaps) (size v.origin) (kept_range request.op request.range)) refl e
-      by_place number (Some k) kind other found e = by_did number k (did_overflow (get_or (map (λ (s : Kept B). s.overflow) v.snaps) k Never)) kind other found refl e
+      by_place : (number : ℕ) (p : Option ℕ) → Opened → kind_of request ≡ SnapWrite number → is_merging number v.merge ≡ false → place_of_snap number v.snaps ≡ p → first_of_two (shut_at v.snaps p) rest ≡ Some refusal → Denied
+      by_place number None opens kind other found e = by_range is_here opens refl e
+      by_place number (Some k) opens kind other found e = by_did number k (did_overflow (get_or (map (λ (s : Kept B). s.overflow) v.snaps) k Never)) opens kind other found refl e
 
-      by_kind : (kind : Kind) → kind_of request ≡ kind → dev_refusal request.dev v.merge v.snaps ≡ None → first_of_two (shut_refusal kind v.snaps) rest ≡ Some refusal → IsDenied (fixed_of size layers a) (shown_in a seen) (Serve request) refusal
-      by_kind OriginRead kind free e = by_range (is_piece_of (piece_with v.merge v.snaps) (size v.origin) (kept_range request.op request.range)) refl e
-      by_kind OriginWrite kind free e = by_range (is_piece_of (piece_with v.merge v.snaps) (size v.origin) (kept_range request.op request.range)) refl e
-      by_kind OriginFlush kind free e = by_range (is_piece_of (piece_with v.merge v.snaps) (size v.origin) (kept_range request.op request.range)) refl e
-      by_kind (SnapRead n) kind free e = by_range (is_piece_of (piece_with v.merge v.snaps) (size v.origin) (kept_range request.op request.range)) refl e
-      by_kind (SnapFlush n) kind free e = by_range (is_piece_of (piece_with v.merge v.snaps) (size v.origin) (kept_range request.op request.range)) refl e
-      by_kind (SnapWrite n) kind free e =
+      by_kind : (kind : Kind) → Opened → kind_of request ≡ kind → dev_refusal request.dev v.merge v.snaps ≡ None → first_of_two (shut_refusal kind v.snaps) rest ≡ Some refusal → Denied
+      by_kind OriginRead opens kind free e = by_range is_here opens refl e
+      by_kind OriginWrite opens kind free e = by_range is_here opens refl e
+      by_kind OriginFlush opens kind free e = by_range is_here opens refl e
+      by_kind (SnapRead n) opens kind free e = by_range is_here opens refl e
+      by_kind (SnapFlush n) opens kind free e = by_range is_here opens refl e
+      by_kind (SnapWrite n) opens kind free e =
           let alone = not_merging n v None (ap (λ d. first_of_two (dev_refusal d v.merge v.snaps) None) (sym (snap_of request.dev request.op n kind)) ∙ ap (λ r. first_of_two r None) free) in
-          by_place n (place_of_snap n v.snaps) kind alone refl e
+          by_place n (place_of_snap n v.snaps) opens kind alone refl e
 
       by_dev : (d : Option Refusal) → dev_refusal request.dev v.merge v.snaps ≡ d
           → first_of_two d (first_of_two (shut_refusal (kind_of request) v.snaps) rest) ≡ Some refusal
           → IsDenied (fixed_of size layers a) (shown_in a seen) (Serve request) refusal
       by_dev (Some r) at e = inl (closed seen a refusal request.dev is (at ∙ e))
-      by_dev None at e = by_kind (kind_of request) refl at e
+      by_dev None at e = by_kind (kind_of request) (opened seen a request.dev is at) refl at e
 
   -- a write of a snapshot that found its store full
   full : (seen : List Entry) (a b : AuditShape B) (request : Request) (number : ℕ) → IsSeen seen b → KeepsAll size a.volume b.volume → submit_refusal size request a.volume ≡ None → request.dev ≡ Snap number
@@ -393,3 +459,27 @@ module _ {B : Type 0} (contents : B → List ℕ) (size : B → ℕ) (layers : B
   merge_denied seen a b number refusal is (inl full) calm = inr (fixed_of size layers a, is.stays, agrees seen a is, inr (inr (inr full.1)))
   merge_denied seen a b number refusal is (inr (free, inl told, kept)) calm = inr (fixed_of size layers a, is.stays, agrees seen a is, not_begun seen a number refusal is calm told.0)
   merge_denied seen a b number refusal is (inr (free, inr starved, kept)) calm = inl starved.1
+
+-- a merge is told to wait only where the volume is not quiet
+busy_place : (lives : List Bool) (quiet : Bool) (p : Option ℕ) → place_refusal lives quiet p ≡ Some NotQuiet → quiet ≡ false
+busy_place lives false p e = refl
+busy_place lives true None e = absurd (let h : NoSuchDevice ≡ NotQuiet = some_is NoSuchDevice NotQuiet e in cc)
+busy_place lives true (Some k) e = by_life (get_or lives k false) e
+  where
+    by_life : (b : Bool) → (if b then None else Some IsInvalid) ≡ Some NotQuiet → true ≡ false
+    by_life true e = no_some NotQuiet e
+    by_life false e = absurd (let h : IsInvalid ≡ NotQuiet = some_is IsInvalid NotQuiet e in cc)
+
+busy_beside : (mine : Bool) (p : Option ℕ) → beside_refusal mine p ≡ NotQuiet → ⊥
+busy_beside mine (Some k) e = let h : MergeInProgress ≡ NotQuiet = e in cc
+busy_beside true None e = let h : MergeInProgress ≡ NotQuiet = e in cc
+busy_beside false None e = let h : NoSuchDevice ≡ NotQuiet = e in cc
+
+busy_with : {B : Type 0} (merge : Option (Merging B)) (number : ℕ) (v : Volumed B) → begin_with merge number v ≡ Some NotQuiet → is_quiet_of v ≡ false
+busy_with None number v e = busy_place _ (is_quiet_of v) (place_of_snap number v.snaps) e
+busy_with (Some m) number v e = absurd (busy_beside (m.number == number) (place_of_snap number v.snaps) (some_is _ NotQuiet e))
+
+pub busy_so : {B : Type 0} (number : ℕ) (refusal : Refusal) (a b : AuditShape B) → refusal ≡ NotQuiet → IsNotMerged number refusal a b → is_quiet_of a.volume ≡ false
+busy_so number refusal a b told (inl full) = absurd (let h : JournalFull ≡ NotQuiet = sym full.1 ∙ told in cc)
+busy_so number refusal a b told (inr (free, inl why, kept)) = busy_with a.volume.merge number a.volume (why.0 ∙ ap Some told)
+busy_so number refusal a b told (inr (free, inr starved, kept)) = absurd (let h : NoMemory ≡ NotQuiet = sym starved.1 ∙ told in cc)

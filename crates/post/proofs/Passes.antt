@@ -6,7 +6,8 @@ use Rattle.board.specs.Growth.{EndsIn}
 use Rattle.board.specs.Passes.{BoardId, Seen}
 use Rattle.board.specs.declared.usage.Usage.{Usage}
 use Rattle.volume.specs.Volumed.{Volumed}
-use Rattle.post.specs.Boards.{ArePublishers, AreShown, IsKeptUp, IsPublished, Publishes}
+use Rattle.post.specs.Boards.{AreKeptUp, ArePublishers, AreShown, IsKeptUp, IsPublished, Publishes}
+use Rattle.post.specs.Usages.{usage_at}
 use Rattle.post.proofs.Matched.{each_set, last_is}
 
 -- the first of the passes did something each, and the others are as they were
@@ -47,6 +48,10 @@ published_ends usage p q is = (p.seen, is)
 pub kept_ends : (usage : Usage) (p q : Seen) → IsKeptUp usage p q → EndsIn q.seen usage
 kept_ends usage p q (inl (ends, same)) = subst (λ l. EndsIn l usage) (sym same) ends
 kept_ends usage p q (inr (moved, is)) = published_ends usage p q is
+
+-- nothing is published where nothing changed
+pub kept_still : {B : Type 0} (boards : List BoardId) (v w : Volumed B) (ps : List Seen) → v ≡ w → AreShown boards w ps → AreKeptUp v ps ps
+kept_still boards v w ps is h k d low = inl (subst (λ x. EndsIn (get_or ps k d).seen (usage_at k x)) (sym is) (h.last k d low), refl)
 
 -- there is one last publication
 ends_same : (seen : List Usage) (u w : Usage) → EndsIn seen u → EndsIn seen w → u ≡ w

@@ -1,6 +1,7 @@
 -- What is true under a lock stays true.
-use Rattle.std.proofs.Common.{◌≡◌, inl, inr, ℕ, Bool, true, List, [], ◌∷◌, ◌++◌, Option, Some, None, refl, sym, ap, ◌∙◌, subst}
-use Rattle.std.specs.Prelude.{◌≢◌, ◌&&◌}
+use Rattle.std.proofs.Common.{◌≡◌, inl, inr, ℕ, ◌+◌, Bool, true, List, [], ◌∷◌, ◌++◌, length, Option, Some, None, refl, sym, ap, ◌∙◌, subst, arith, append_assoc, if◌then◌else◌, length-append}
+use Rattle.std.specs.Prelude.{◌≢◌, ◌&&◌, slice_index_or}
+use Rattle.std.proofs.lemmas.Bool.{eq-eqb}
 use Rattle.sector.specs.declared.range.Range.{Range}
 use Rattle.plain.specs.Kept.{kept, kept_range}
 use Rattle.atomic_table.specs.Seated.{TableId}
@@ -15,18 +16,21 @@ use Rattle.plain.specs.declared.request.Op.TheVariants.{Read, Write, Flush}
 use Rattle.plain.specs.declared.request.Reply.{Reply}
 use Rattle.plain.specs.declared.request.Request.{Request}
 use Rattle.sector.specs.declared.refusal.Refusal.{Refusal}
+use Rattle.journal.specs.declared.entry.Answered.{Answered as AnsweredEntry}
 use Rattle.journal.specs.declared.entry.Entry.{Entry}
+use Rattle.journal.specs.declared.entry.Entry.TheVariants.{Answered}
 use Rattle.journal.specs.declared.entry.Receipt.{Receipt}
 use Rattle.journal.specs.Books.{AuditShape}
-use Rattle.journal.specs.Entries.{entries_by}
+use Rattle.journal.specs.Entries.{answered_of, entries_by}
 use Rattle.journal.specs.Journaled.{HasReceipt, IsNotMerged, IsNoted, IsSilent, KeepsJournal}
-use Rattle.journal.specs.Seats.{IsUnanswered, Seated, may_do, seated_under}
-use Rattle.history.specs.Keeping.{asked_by, keeper_of, seated_with}
+use Rattle.journal.specs.Seats.{IsUnanswered, Seated, may_do, seated_under, without_seated}
+use Rattle.history.specs.Keeping.{Begins, answered_by, asked_by, keeper_of, looking_of, seated_with}
 use Rattle.history.specs.declared.rule.View.{View}
 use Rattle.history.specs.declared.told.Told.{Told}
 use Rattle.history.proofs.Moves.{entries_by-append}
-use Rattle.post.specs.Fixed.{Fixed, StaysFrom, fixed_of}
+use Rattle.post.specs.Fixed.{Fixed, StaysFrom, count_at, fixed_of}
 use Rattle.post.specs.Posts.{IsKeeper, PostHolds, with_more}
+use Rattle.post.specs.Seats.{IsReceipted, IsSeat}
 use Rattle.post.proofs.Fresh.{fresh_in, knows_more}
 use Rattle.post.proofs.Staying.{stays_not_begun}
 
@@ -38,6 +42,24 @@ range_same Flush range other = absurd (other refl)
 
 pub kept_same : (request : Request) → request.op ≢ Flush → request ≡ kept request
 kept_same request other = ap (λ (range : Range). record request { range = range }) (range_same request.op request.range other)
+
+-- a seat's entries are those of the start, and then its own
+pub settled_own : (start all entries old : List Entry) (mine : List _) (seat s : ℕ) → entries ≡ start ++ all → s ≡ seat → entries_by s all ≡ entries_by s old ++ mine
+    → entries_by seat entries ≡ entries_by seat start ++ (entries_by seat old ++ mine)
+settled_own start all entries old mine seat s is by own =
+    ap (entries_by seat) is ∙ entries_by-append seat start all ∙ ap (λ l. entries_by seat start ++ l) (subst (λ n. entries_by n all ≡ entries_by n old ++ mine) by own)
+
+-- a receipt's count is the place of its entry among the seat's
+pub counted_from : (start all entries old : List Entry) (mine : List _) (seat s : ℕ) (folds now : List ℕ) (count : ℕ) → entries ≡ start ++ all → s ≡ seat → now ≡ folds → entries_by s all ≡ entries_by s old ++ mine
+    → count ≡ slice_index_or now seat 0 + length (entries_by seat entries) + 1 → count ≡ (slice_index_or folds seat 0 + length (entries_by seat start)) + length (entries_by seat old ++ mine) + 1
+counted_from start all entries old mine seat s folds now count is by folded own counts =
+    let long = ap length (settled_own start all entries old mine seat s is by own) ∙ length-append (entries_by seat start) (entries_by seat old ++ mine) in
+    let same = ap (λ (l : List ℕ). slice_index_or l seat 0) folded in
+    omega (arith, long, same, counts)
+
+-- the one entry of a seat
+one_by : (seat : ℕ) (a : AnsweredEntry) → a.seat ≡ seat → entries_by seat (Answered a ∷ []) ≡ a ∷ []
+one_by seat a by = ap (λ (b : Bool). if b then (a ∷ []) else []) (eq-eqb a.seat seat by)
 
 module _ {B : Type 0} (size : B → ℕ) (layers : B → List Layer) (history : TableId) (start : List Entry) (fixed : Fixed) where
   -- new entries were told, none of which answers a request
@@ -87,6 +109,46 @@ module _ {B : Type 0} (size : B → ℕ) (layers : B → List Layer) (history : 
     stays = h.stays;
   }
 
+  -- a request is answered, and its entry told
+  pub answered_holds : (a b : AuditShape B) (keeper after : Seat Told View) (me : View) (seat number : ℕ) (reply : Reply) (r : Receipt) (e : Entry) → PostHolds size layers history start fixed a keeper
+      → after.table_id ≡ history → after.me.1 ≡ [] → after.me.0 ≡ keeper_of (answered_by number e (seated_with keeper.me.0 me)) → e ≡ Answered (answered_of r) → HasReceipt seat number reply r a b
+      → StaysFrom fixed (fixed_of size layers b) → PostHolds size layers history start fixed b after
+  answered_holds a b keeper after me seat number reply r e h table bare answers is done stays = record {
+    is_keeper = record {
+      table = table;
+      bare = bare;
+      keeps = ap (λ (v : View). v.keeps) answers ∙ h.is_keeper.keeps;
+      stands = ap (λ (v : View). v.sits) answers;
+    };
+    knows = done.added ∙ ap (λ (l : List Entry). l ++ Answered (answered_of r) ∷ []) h.knows ∙ append_assoc start keeper.me.0.all (Answered (answered_of r) ∷ [])
+        ∙ ap (λ (x : Entry). start ++ (keeper.me.0.all ++ x ∷ [])) (sym is) ∙ ap (λ (v : View). start ++ v.all) (sym answers);
+    flying = ap (λ (v : View). v.flying) answers ∙ ap (without_seated number) h.flying ∙ sym done.gone;
+    stays = stays;
+  }
+
+  -- and there is a receipt for it
+  pub receipted : (a b : AuditShape B) (keeper me after : Seat Told View) (seat number : ℕ) (reply : Reply) (r : Receipt) (e : Entry) → PostHolds size layers history start fixed a keeper
+      → IsSeat history seat me → after.table_id ≡ history → after.me.1 ≡ [] → after.me.0 ≡ looking_of (answered_by number e (seated_with keeper.me.0 me.me.0)) → e ≡ Answered (answered_of r) → HasReceipt seat number reply r a b
+      → seated_under number me.me.0.waits ≡ seated_under number keeper.me.0.flying → entries_by me.me.0.seat keeper.me.0.all ≡ entries_by me.me.0.seat me.me.0.old ++ me.me.0.mine → Begins me.me.0.seen keeper.me.0.all
+      → IsReceipted history (count_at fixed start seat) seat me after reply r
+  receipted a b keeper me after seat number reply r e h sits table bare looks is done knows own later = record {
+    is_seat = record {
+      table = table;
+      bare = bare;
+      sits = ap (λ (v : View). v.sits) looks ∙ sits.sits;
+      number = ap (λ (v : View). v.seat) looks ∙ sits.number;
+    };
+    old = ap (λ (v : View). v.old) looks;
+    mine = ap (λ (v : View). v.mine) looks ∙ ap (λ (x : Entry). me.me.0.mine ++ entries_by me.me.0.seat (x ∷ [])) is ∙ ap (λ l. me.me.0.mine ++ l) (one_by me.me.0.seat (answered_of r) (done.by ∙ sym sits.number));
+    reply = done.answer;
+    by = done.by;
+    count = counted_from start keeper.me.0.all a.entries me.me.0.old me.me.0.mine seat me.me.0.seat fixed.folded a.folded r.count h.knows sits.number h.stays.folded own done.count;
+    number = number;
+    asked = knows ∙ ap (seated_under number) h.flying ∙ done.asked;
+    waits = ap (λ (v : View). v.waits) looks;
+    later = (later.0 ++ e ∷ [], ap (λ (v : View). v.seen) looks ∙ ap (λ (l : List Entry). l ++ e ∷ []) later.1 ∙ append_assoc me.me.0.seen later.0 (e ∷ []));
+  }
+
   -- nothing but the volume changed
   pub same_holds : (a b : AuditShape B) (keeper : Seat Told View) → PostHolds size layers history start fixed a keeper → b.entries ≡ a.entries → b.held ≡ a.held
       → StaysFrom fixed (fixed_of size layers b) → PostHolds size layers history start fixed b keeper
@@ -130,12 +192,6 @@ receipt_of seat number reply r outcome receipt a b replied some noted =
 pub has_asked : {B : Type 0} (seat number : ℕ) (reply : Reply) (r : Receipt) (a b : AuditShape B) (flying : List Seated) (s : ℕ) → flying ≡ a.held → s ≡ seat → HasReceipt seat number reply r a b
     → (x : Seated) × (seated_under number flying ≡ Some x) × (x.seat ≡ s)
 has_asked seat number reply r a b flying s flies by h = (record { number = number; seat = seat; request = r.request }, ap (seated_under number) flies ∙ h.asked, sym by)
-
--- a seat's entries are those of the start, and then its own
-pub settled_own : (start all entries old : List Entry) (mine : List _) (seat s : ℕ) → entries ≡ start ++ all → s ≡ seat → entries_by s all ≡ entries_by s old ++ mine
-    → entries_by seat entries ≡ entries_by seat start ++ (entries_by seat old ++ mine)
-settled_own start all entries old mine seat s is by own =
-    ap (entries_by seat) is ∙ entries_by-append seat start all ∙ ap (λ l. entries_by seat start ++ l) (subst (λ n. entries_by n all ≡ entries_by n old ++ mine) by own)
 
 -- an event that is no request's may be done by anyone
 pub may_any : (seat : ℕ) (event : Event) (held : List Seated) → ((n : ℕ) → event ≡ Issue n → ⊥) → may_do seat event held ≡ true

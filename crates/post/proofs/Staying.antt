@@ -1,6 +1,6 @@
 -- What a rig leaves of a volume as it was.
-use Rattle.std.proofs.Common.{◌≡◌, ◌⊎◌, inl, inr, ℕ, ◌*◌, ◌/◌, ◌<◌, ◌==◌, if◌then◌else◌, Bool, true, false, List, [], ◌∷◌, length, get_or, map, Option, Some, None, refl, sym, ap, ◌∙◌, subst}
-use Rattle.std.specs.Prelude.{◌&&◌, max, not}
+use Rattle.std.proofs.Common.{◌≡◌, ◌⊎◌, inl, inr, ℕ, zero, suc, ◌*◌, ◌/◌, ◌<◌, ◌==◌, if◌then◌else◌, Bool, true, false, List, [], ◌∷◌, length, get_or, map, Option, Some, None, refl, sym, ap, ◌∙◌, subst, arith}
+use Rattle.std.specs.Prelude.{◌&&◌, max, min, not}
 use Rattle.std.specs.List.{list_all, remove}
 use Rattle.std.proofs.lemmas.List.{get_or-map, length-map}
 use Rattle.device.specs.Layers.{Layer, is_loud}
@@ -17,7 +17,7 @@ use Rattle.volume.specs.Stepping.{KeepsAll, merged_of}
 use Rattle.volume.specs.Volumed.{Volumed, is_loud_in_all, is_loud_with}
 use Rattle.journal.specs.Books.{AuditShape}
 use Rattle.journal.specs.Journaled.{KeepsBase, KeepsJournal}
-use Rattle.post.specs.Fixed.{Fixed, StaysFrom, fixed_of}
+use Rattle.post.specs.Fixed.{Fixed, StaysFrom, fixed_of, least_of, piece_at, piece_in}
 
 -- device 0 is the origin disk
 first_count : {B : Type 0} (size : B → ℕ) (merge : Option (Merging B)) (n : ℕ) (ns : List ℕ) → get_or (counts_with size merge (n ∷ ns)) 0 0 ≡ n
@@ -39,6 +39,7 @@ stays_same size layers f a b stays kept sound base =
       sound = sym sound i;
       loud = sym base.loud i;
       base = sym base.base i;
+      folded = sym base.folded i;
     } in
     subst (StaysFrom f) same stays
 
@@ -70,10 +71,19 @@ chunks_kept number count chunk (x ∷ xs) = λ i. if_chunk (x.live && not (x.num
 at_mapped : {B : Type 0} (f : Kept B → ℕ) (xs : List (Kept B)) (ns : List ℕ) (k : ℕ) (s : Kept B) → map f xs ≡ ns → k < length xs → s ≡ get_or xs k s → f s ≡ get_or ns k 0
 at_mapped f xs ns k s named within is = ap f is ∙ sym (get_or-map f xs k s 0 within) ∙ ap (λ (l : List ℕ). get_or l k 0) named
 
+-- the least of some sizes, one of which stands apart
+min_swap : (a b c : ℕ) → min a (min b c) ≡ min b (min a c)
+min_swap a b c = search (arith)
+
+least_without : (chunks : List ℕ) (k : ℕ) → k < length chunks → min (get_or chunks k 0) (least_of (remove chunks k)) ≡ least_of chunks
+least_without [] k low = absurd (omega (arith, low))
+least_without (c ∷ chunks) zero low = refl
+least_without (c ∷ chunks) (suc k) low = min_swap (get_or chunks k 0) c (least_of (remove chunks k)) ∙ ap (min c) (least_without chunks k (omega (arith, low)))
+
 pub stays_begun : {B : Type 0} (size : B → ℕ) (layers : B → List Layer) (f : Fixed) (a b : AuditShape B) (number : ℕ) → StaysFrom f (fixed_of size layers a)
-    → begin_refusal number a.volume ≡ None → IsMergeBegun number a.volume b.volume → is_loud_in_all layers b.volume ≡ is_loud_in_all layers a.volume → b.loud ≡ a.loud → b.base ≡ a.base
+    → begin_refusal number a.volume ≡ None → IsMergeBegun number a.volume b.volume → is_loud_in_all layers b.volume ≡ is_loud_in_all layers a.volume → b.loud ≡ a.loud → b.base ≡ a.base → b.folded ≡ a.folded
     → StaysFrom f (fixed_of size layers b)
-stays_begun {B} size layers f a b number stays admitted begun sound loud base =
+stays_begun {B} size layers f a b number stays admitted begun sound loud base folded =
     let k = begun.place in
     let s = begun.snap in
     let alone : a.volume.merge ≡ None = none_merged a.volume.merge number a.volume admitted in
@@ -83,6 +93,11 @@ stays_begun {B} size layers f a b number stays admitted begun sound loud base =
     ap (λ (v : Volumed B). map number_of_snap v.snaps) begun.becomes ∙ numbers_kept number _ _ (remove a.volume.snaps k) ∙ map-remove number_of_snap a.volume.snaps k in
     let chunks_now : map (λ (t : Kept B). t.state.chunk) b.volume.snaps ≡ remove (map (λ t. t.state.chunk) a.volume.snaps) k =
     ap (λ (v : Volumed B). map (λ (t : Kept B). t.state.chunk) v.snaps) begun.becomes ∙ chunks_kept number _ _ (remove a.volume.snaps k) ∙ map-remove (λ (t : Kept B). t.state.chunk) a.volume.snaps k in
+    let chunks : List ℕ = map (λ (t : Kept B). t.state.chunk) a.volume.snaps in
+    let chunk_is : s.state.chunk ≡ get_or chunks k 0 = at_mapped (λ t. t.state.chunk) a.volume.snaps chunks k s refl within begun.is in
+    let piece_now : piece_at (fixed_of size layers b) ≡ piece_at (fixed_of size layers a) =
+    (λ i. piece_in (merge_now i) (chunks_now i)) ∙ ap (λ n. min n (least_of (remove chunks k))) chunk_is
+    ∙ least_without chunks k (subst (λ n. k < n) (sym (length-map a.volume.snaps (λ (t : Kept B). t.state.chunk))) within) ∙ ap (λ m. piece_in m chunks) (sym (ap merged_of alone)) in
     record {
       attached = ap (λ (v : Volumed B). v.attached) begun.becomes ∙ stays.attached;
       sectors = ap (λ (v : Volumed B). size v.origin) begun.becomes ∙ stays.sectors;
@@ -102,6 +117,8 @@ stays_begun {B} size layers f a b number stays admitted begun sound loud base =
       sound = sound ∙ stays.sound;
       loud = loud ∙ stays.loud;
       base = base ∙ stays.base;
+      folded = folded ∙ stays.folded;
+      piece = piece_now ∙ stays.piece;
     }
 
 unkept_numbers : {B : Type 0} (xs : List (Kept B)) → map number_of_snap (map unkept xs) ≡ map number_of_snap xs
@@ -130,6 +147,7 @@ kept_same size layers a snaps (inr freed) =
       sound = is_loud_with layers a.volume.merge (is_loud (layers a.volume.origin) && unkept_devices layers a.volume.snaps i);
       loud = a.loud;
       base = a.base;
+      folded = a.folded;
     })
 
 -- a merge did not begin

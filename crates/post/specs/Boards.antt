@@ -2,6 +2,7 @@
 use Rattle.std.specs.Prelude.{◌≡◌, ◌⊎◌, ◌<◌, ◌++◌, ◌∷◌, [], ℕ, true, List, length, slice_index_or}
 use Rattle.board.specs.Growth.{EndsIn, StartsWith}
 use Rattle.board.specs.Passes.{BoardId, Seen}
+use Rattle.board.specs.Words.{no_usage}
 use Rattle.board.specs.declared.usage.Usage.{Usage}
 use Rattle.volume.specs.Volumed.{Volumed}
 use Rattle.post.specs.Usages.{usage_at}
@@ -29,6 +30,18 @@ IsPublished usage old new = new.seen ≡ old.seen ++ usage ∷ []
 -- none where this was published last, and else one more
 abbrev pub IsKeptUp : Usage → Seen → Seen → Type 0
 IsKeptUp usage old new = (EndsIn old.seen usage × (new.seen ≡ old.seen)) ⊎ ((EndsIn old.seen usage → ⊥) × IsPublished usage old new)
+
+-- the usage of each place was published where another was published last, once, and nothing else
+abbrev pub AreKeptUp : {B : Type 0} → Volumed B → List Seen → List Seen → Type 0
+AreKeptUp v old new = (k : ℕ) (d : Seen) → k < 8 → IsKeptUp (usage_at k v) (slice_index_or old k d) (slice_index_or new k d)
+
+-- nothing was published on new boards but that their places are empty
+abbrev pub AreUnused : List Seen → Type 0
+AreUnused ps = (k : ℕ) (d : Seen) → k < 8 → (slice_index_or ps k d).seen ≡ no_usage ∷ []
+
+-- and then the usage of each place, once
+abbrev pub AreFirstTold : {B : Type 0} → Volumed B → List Seen → Type 0
+AreFirstTold v ps = (k : ℕ) (d : Seen) → k < 8 → (slice_index_or ps k d).seen ≡ no_usage ∷ usage_at k v ∷ []
 
 -- eight boards, and a pass to each
 pub record AreReaders (boards : List BoardId) (ps : List Seen) : Type 0 where

@@ -1,7 +1,7 @@
 -- Why a volume with a journal takes no request, and why it begins no merge, by what its entries say that it shows and by what stays
 -- of it. The limits and the order of the refusals are this project's own; that a lost snapshot is Invalid, and that one whose store
 -- overflowed takes no write, is the kernel's rule, of its admin-guide page on snapshots.
-use Rattle.std.specs.Prelude.{◌≡◌, ◌≢◌, ◌⊎◌, ◌==◌, ℕ, Bool, true, false, List, [], ◌∷◌, ◌++◌, Option, Some, None, min}
+use Rattle.std.specs.Prelude.{◌≡◌, ◌≢◌, ◌⊎◌, ◌==◌, ℕ, Bool, true, false, List, [], ◌∷◌, ◌++◌, Option, Some, None}
 use Rattle.sector.specs.declared.refusal.Refusal.{Refusal}
 use Rattle.sector.specs.declared.refusal.Refusal.TheVariants.{Invalid as IsInvalid, JournalFull, MergeInProgress, MergingSnapshot, NoMemory, NoSuchDevice, OutOfRange, Overflow, TooMany}
 use Rattle.plain.specs.Kept.{kept_range}
@@ -16,7 +16,7 @@ use Rattle.journal.specs.declared.entry.Entry.TheVariants.{Begun}
 use Rattle.journal.specs.Replay.{Saves, replay}
 use Rattle.history.specs.Keeping.{Begins}
 use Rattle.volume.specs.Submitting.{is_piece_of}
-use Rattle.post.specs.Fixed.{Fixed, StaysFrom}
+use Rattle.post.specs.Fixed.{Fixed, StaysFrom, piece_at}
 
 -- what a seat asks of a volume: a request, or that the merge of the snapshot with a number begins
 pub data Wish : Type 0 where
@@ -27,16 +27,6 @@ pub data Wish : Type 0 where
 abbrev pub is_merged : ℕ → Option (ℕ × ℕ) → Bool
 is_merged number None = false
 is_merged number (Some m) = m.0 == number
-
--- the least of these sizes, and that of the largest chunk where there is none
-abbrev pub least_of : List ℕ → ℕ
-least_of [] = 1024
-least_of (chunk ∷ chunks) = min chunk (least_of chunks)
-
--- the sectors of a piece: those of the least chunk of the snapshots, the one that is being merged among them
-abbrev pub piece_in : Option (ℕ × ℕ) → List ℕ → ℕ
-piece_in None chunks = least_of chunks
-piece_in (Some m) chunks = min m.1 (least_of chunks)
 
 -- the number of the snapshot that is being merged
 abbrev pub merged_number : Option (ℕ × ℕ) → Option ℕ
@@ -67,13 +57,21 @@ IsShut g shown request =
     (number : ℕ) × (bytes : List ℕ) × (request.dev ≡ Snap number) × (request.op ≡ Write bytes)
     × (is_merged number g.merged ≡ false) × (is_in g.numbers number ≡ true) × (g.loud ≡ true → overflow_under number shown.saved ≡ Did)
 
--- What is asked of a volume is denied, as it stands. (TooMany: 64 requests are in flight, or 256 copies would be pending.)
+-- A device takes requests: it is the origin, or a snapshot that is there, is not being merged and is not lost.
+abbrev pub IsOpen : Fixed → Saves → Dev → Type 0
+IsOpen g shown Origin = Unit {0}
+IsOpen g shown (Snap number) =
+    (is_merged number g.merged ≡ false) × (is_in g.numbers number ≡ true) × (g.loud ≡ true → saved_under number shown.saved ≢ Some Invalid)
+
+-- What is asked of a volume is denied, as it stands: by the first of its reasons. (TooMany: 64 requests are in flight, or more than
+-- 256 copies would be pending. JournalFull comes before all of them, where the journal has no place.)
 abbrev pub IsDenied : Fixed → Saves → Wish → Refusal → Type 0
 IsDenied g shown (Serve request) refusal =
     IsClosed g shown request.dev refusal
     ⊎ ((refusal ≡ Overflow) × IsShut g shown request)
-    ⊎ ((refusal ≡ OutOfRange) × (is_piece_of (piece_in g.merged g.chunks) g.sectors (kept_range request.op request.range) ≡ false))
-    ⊎ ((refusal ≡ TooMany) ⊎ (refusal ≡ JournalFull))
+    ⊎ ((refusal ≡ OutOfRange) × IsOpen g shown request.dev × (is_piece_of (piece_at g) g.sectors (kept_range request.op request.range) ≡ false))
+    ⊎ ((refusal ≡ TooMany) × IsOpen g shown request.dev × (is_piece_of (piece_at g) g.sectors (kept_range request.op request.range) ≡ true))
+    ⊎ (refusal ≡ JournalFull)
 IsDenied g shown (Begin number) refusal =
     ((refusal ≡ MergeInProgress) × (g.merged ≢ None))
     ⊎ ((refusal ≡ NoSuchDevice) × IsMissing g number)

@@ -1,16 +1,19 @@
 -- What a rig leaves of a volume as it was. This project's own.
-use Rattle.std.specs.Prelude.{◌≡◌, ◌⊎◌, ◌<◌, ℕ, Bool, List, Option, None, Some, length, map, slice_index}
+use Rattle.std.specs.Prelude.{◌≡◌, ◌⊎◌, ◌+◌, ◌<◌, ℕ, Bool, List, [], ◌∷◌, Option, None, Some, length, map, min, slice_index, slice_index_or}
 use Rattle.std.specs.List.{remove}
 use Rattle.device.specs.Layers.{Layer}
 use Rattle.snapshots.specs.Numbers.{number_of_snap}
 use Rattle.volume.specs.Stepping.{merged_of}
 use Rattle.volume.specs.Volumed.{is_loud_in_all}
+use Rattle.journal.specs.declared.entry.Entry.{Entry}
 use Rattle.journal.specs.Books.{AuditShape}
+use Rattle.journal.specs.Entries.{entries_by}
 use Rattle.journal.specs.Replay.{Saves}
 
 -- attached: how many snapshots were ever attached; sectors: of the origin; numbers, chunks: of the snapshots in order of
 -- attaching, but for the one that is being merged, and merged: of that one; sound: whether no device drops writes; loud:
--- whether none did since the journal began; base: what its entries are replayed on.
+-- whether none did since the journal began; base: what its entries are replayed on; folded: of each seat, how many of its request
+-- entries checkpoints folded into that.
 pub record Fixed : Type 0 where
   pub attached : ℕ
   pub sectors : ℕ
@@ -20,6 +23,7 @@ pub record Fixed : Type 0 where
   pub sound : Bool
   pub loud : Bool
   pub base : Saves
+  pub folded : List ℕ
 
 abbrev pub fixed_of : {B : Type 0} → (B → ℕ) → (B → List Layer) → AuditShape B → Fixed
 fixed_of size layers a = record {
@@ -31,7 +35,25 @@ fixed_of size layers a = record {
   sound = is_loud_in_all layers a.volume;
   loud = a.loud;
   base = a.base;
+  folded = a.folded;
 }
+
+-- the least of these sizes, and that of the largest chunk where there is none
+abbrev pub least_of : List ℕ → ℕ
+least_of [] = 1024
+least_of (chunk ∷ chunks) = min chunk (least_of chunks)
+
+-- the sectors of a piece: those of the least chunk of the snapshots, the one that is being merged among them
+abbrev pub piece_in : Option (ℕ × ℕ) → List ℕ → ℕ
+piece_in None chunks = least_of chunks
+piece_in (Some m) chunks = min m.1 (least_of chunks)
+
+abbrev pub piece_at : Fixed → ℕ
+piece_at g = piece_in g.merged g.chunks
+
+-- how many request entries a seat had when the journal had these, with those that a checkpoint folded
+abbrev pub count_at : Fixed → List Entry → ℕ → ℕ
+count_at g entries seat = slice_index_or g.folded seat 0 + length (entries_by seat entries)
 
 -- the same snapshots, and the same one of them is being merged, if one is
 abbrev pub HasSame : Fixed → Fixed → Type 0
@@ -51,3 +73,5 @@ pub record StaysFrom (f g : Fixed) : Type 0 where
   pub sound : g.sound ≡ f.sound
   pub loud : g.loud ≡ f.loud
   pub base : g.base ≡ f.base
+  pub folded : g.folded ≡ f.folded
+  pub piece : piece_at g ≡ piece_at f

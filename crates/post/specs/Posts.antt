@@ -2,6 +2,7 @@
 use Rattle.std.specs.Prelude.{◌≡◌, ◌++◌, ℕ, Bool, true, false, List, []}
 use Rattle.atomic_table.specs.Seated.{TableId}
 use Rattle.atomic_table.specs.declared.shared.Seat.{Seat}
+use Rattle.board.specs.Passes.{Seen}
 use Rattle.device.specs.Layers.{Layer}
 use Rattle.plain.specs.declared.event.Event.{Event}
 use Rattle.plain.specs.declared.event.Event.TheVariants.{Issue, CopyRead, CopyWrite, ZeroNext, WriteArea, Publish, WriteInvalid, FlushStore, MergeGroup, MergeAreaRead, MergeRead, MergeWrite, MergeFlush, MergeCommit, MergeRelease}
@@ -11,10 +12,11 @@ use Rattle.history.specs.declared.rule.View.{View}
 use Rattle.history.specs.declared.told.Told.{Told}
 use Rattle.post.specs.Fixed.{Fixed, StaysFrom, fixed_of}
 
--- volume: the place of the volume in the rig, from 0
+-- volume: the place of the volume in the rig, from 0; told: what was published on the board of each of its places
 pub record PostShape (B : Type 0) : Type 0 where
   pub volume : ℕ
   pub audit : AuditShape B
+  pub told : List Seen
 
 -- a keeper's pass
 pub record IsKeeper (history : TableId) (keeper : Seat Told View) : Type 0 where

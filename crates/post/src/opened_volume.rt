@@ -1,7 +1,7 @@
 // What a volume of a rig is opened with.
 ghost use Rattle.std.specs.Prelude.{◌≡◌, ◌+◌, [], IfOk};
 ghost use Rattle.post.specs.Beside.{IsBeside};
-ghost use Rattle.post.specs.Boards.{AreReaders};
+ghost use Rattle.post.specs.Boards.{AreFirstTold, AreReaders};
 ghost use Rattle.post.specs.Fixed.{fixed_of};
 ghost use Rattle.post.specs.Seats.{IsSeat};
 
@@ -32,11 +32,11 @@ impl Model for OpenedVolume {
     ghost use Rattle.std.specs.Prelude.{◌≡◌, []};
     ghost use Rattle.history.specs.Keeping.{knower};
     ghost use Rattle.history.specs.Ties.{IsPassOf, table_of};
-    ghost use Rattle.post.specs.Boards.{ArePublishers};
+    ghost use Rattle.post.specs.Boards.{ArePublishers, AreUnused};
 
     ghost view = { λ o. record { table = table_of o.beside.history; boards = o.beside.boards; next = o.keeper.me.0.dealt } };
 
-    ghost invariant = { λ o. IsPassOf (table_of o.beside.history) o.keeper × (o.keeper.me.0 ≡ knower [] o.keeper.me.0.dealt) × ArePublishers o.beside.boards o.publishers };
+    ghost invariant = { λ o. IsPassOf (table_of o.beside.history) o.keeper × (o.keeper.me.0 ≡ knower [] o.keeper.me.0.dealt) × ArePublishers o.beside.boards o.publishers × AreUnused o.publishers };
 }
 
 impl OpenedVolume {
@@ -72,7 +72,7 @@ impl OpenedVolume {
     }
 
     /// What stands beside the lock of the volume at a place, and what stands under it: an audit with no request in flight. The
-    /// usage of each place is published once.
+    /// usage of each place is published once, and nothing before it.
     pub fn into_post<B: Layered, J: Room>(
         self,
         volume: usize,
@@ -85,6 +85,7 @@ impl OpenedVolume {
         requires fixed { fixed_of B.size B.layers audit ≡ J.fixed volume }
         ensures beside { IsBeside (J.history volume) (J.boards volume) result.0 }
         ensures volume { result.1.volume ≡ volume }
+        ensures told { AreFirstTold audit.volume result.1.told }
     {
         let OpenedVolume {
             beside,

@@ -2,7 +2,7 @@
 ghost use Rattle.std.specs.Prelude.{◌≡◌, ◌<◌, ℕ, IfOk, slice_index_or, true};
 ghost use Rattle.board.specs.Passes.{Seen};
 ghost use Rattle.board.specs.Words.{IsNarrow};
-ghost use Rattle.post.specs.Boards.{ArePublishers, AreReaders, AreShown, IsKeptUp, IsPublished};
+ghost use Rattle.post.specs.Boards.{AreKeptUp, ArePublishers, AreReaders, AreShown, AreUnused, IsKeptUp, IsPublished};
 ghost use Rattle.post.specs.Usages.{usage_at as usage_of_place};
 
 use crate::boards::{Boards, PLACES, Publishers, Readers};
@@ -28,7 +28,8 @@ fn keep_up(board: &Board, pass: &mut Pass, usage: Usage)
 impl Boards {
     /// Boards of empty places, and the passes that publish on them.
     pub(crate) fn new(alloc: Global) -> Result<(Boards, Publishers), AllocError>
-        ensures { IfOk result (λ r. ArePublishers r.0 r.1) }
+        ensures passes { IfOk result (λ r. ArePublishers r.0 r.1) }
+        ensures unused { IfOk result (λ r. AreUnused r.1) }
     {
         let mut padded = Vec::new(alloc);
         let mut passes = Vec::new(alloc);
@@ -56,7 +57,7 @@ impl Boards {
     pub(crate) fn keep_up<B: Block>(&self, publishers: &mut Publishers, volume: &Volume<B>)
         requires { ArePublishers self.now publishers.old }
         ensures shown { AreShown self.now volume.now publishers.new }
-        ensures once { (k : ℕ) (d : Seen) → k < 8 → IsKeptUp (usage_of_place k volume.now) (slice_index_or publishers.old k d) (slice_index_or publishers.new k d) }
+        ensures once { AreKeptUp volume.now publishers.old publishers.new }
     {
         for place in 0..PLACES {
             let usage = usage_at(volume, place);

@@ -3,7 +3,7 @@ ghost use Rattle.std.specs.Prelude.{◌≡◌, ◌<◌, ℕ, length, slice_index
 ghost use Rattle.journal.specs.declared.entry.Entry.{Entry};
 ghost use Rattle.history.specs.Keeping.{is_silent};
 ghost use Rattle.history.specs.Ties.{table_of};
-ghost use Rattle.post.specs.Boards.{ArePublishers, AreShown};
+ghost use Rattle.post.specs.Boards.{AreKeptUp, ArePublishers, AreShown};
 ghost use Rattle.post.specs.Posts.{IsKeeper, with_more};
 
 use crate::beside::Beside;
@@ -28,7 +28,8 @@ impl Beside {
     /// Publishes the usage of each place where another was published last.
     pub(crate) fn keep_up<B: Layered>(&self, publishers: &mut Publishers, audit: &Audit<B>)
         requires { ArePublishers self.now.boards publishers.old }
-        ensures { AreShown self.now.boards audit.now.volume publishers.new }
+        ensures shown { AreShown self.now.boards audit.now.volume publishers.new }
+        ensures once { AreKeptUp audit.now.volume publishers.old publishers.new }
     {
         self.boards.keep_up(publishers, audit.volume());
     }

@@ -1,23 +1,27 @@
 // What threads do with an audit while they hold its lock: each call tells the history what is new in the journal, and publishes
 // each usage that changed.
-ghost use Rattle.std.specs.Prelude.{◌≡◌, ◌≢◌, ◌&&◌, ◌||◌, false, is_some, ◌*◌, ◌<◌, ◌++◌, ◌∷◌, [], ℕ, List, length, IfErr, IfSome, MatchOption, MatchResult, OnOk, Some, None, true};
+ghost use Rattle.std.specs.Prelude.{◌≡◌, ◌≢◌, ◌&&◌, ◌||◌, false, is_some, ◌⊎◌, ◌*◌, ◌<◌, ◌++◌, ◌∷◌, [], ℕ, List, length, IfErr, IfSome, MatchOption, MatchResult, OnOk, Some, None, true};
 ghost use Rattle.chunk.specs.Sizes.{is_chunk};
 ghost use Rattle.plain.specs.declared.event.Outcome.{Outcome as OutcomeShape};
 ghost use Rattle.volume.specs.Asking.{is_finished_in};
 ghost use Rattle.volume.specs.Exact.{IsExact};
+ghost use Rattle.volume.specs.Leaving.{is_quiet_of};
 ghost use Rattle.volume.specs.Stepping.{has_failed};
+ghost use Rattle.volume.specs.Submitting.{IsRefusedAs};
 ghost use Rattle.volume.specs.Volumed.{is_due_of, next_of};
 ghost use Rattle.plain.specs.declared.event.Event.{Event as EventShape};
 ghost use Rattle.plain.specs.declared.event.Event.TheVariants.{Issue};
 ghost use Rattle.plain.specs.declared.request.Op.TheVariants.{Flush, Write};
 ghost use Rattle.journal.specs.Entries.{entries_by};
+ghost use Rattle.journal.specs.Journaled.{IsBarred, IsNotMerged, is_full_by};
 ghost use Rattle.journal.specs.Seats.{Seated, may_do, seated_under};
 ghost use Rattle.journal.specs.declared.entry.Entry.{Entry};
 ghost use Rattle.history.specs.Keeping.{held_by};
 ghost use Rattle.sector.specs.declared.refusal.Refusal.TheVariants.{NotQuiet};
 ghost use Rattle.post.specs.Beside.{IsBeside};
 ghost use Rattle.post.specs.Denying.{Begin, Serve, WasBegun, WasDenied};
-ghost use Rattle.post.specs.Fixed.{StaysFrom, fixed_of};
+ghost use Rattle.post.specs.Boards.{AreKeptUp};
+ghost use Rattle.post.specs.Fixed.{StaysFrom, count_at, fixed_of, piece_at};
 ghost use Rattle.post.specs.Posts.{is_apart};
 ghost use Rattle.post.specs.Seats.{IsAsked, IsReceipted, IsSameSeat, IsSeat};
 
@@ -51,7 +55,8 @@ impl<B: Layered, J: Room> Post<B, J> {
 
     /// The sectors of a piece of its volume.
     pub fn piece(&self) -> u32
-        ensures { is_chunk result ≡ true }
+        ensures allowed { is_chunk result ≡ true }
+        ensures piece { result ≡ piece_at (J.fixed self.now.volume) }
     {
         self.audit.volume().piece()
     }
@@ -62,7 +67,8 @@ impl<B: Layered, J: Room> Post<B, J> {
     }
 
     /// Submits a read or a write of a seat. Where it is accepted, it is one more that the seat waits for. The seat has then seen all
-    /// entries, and where the request is refused, they and what stays of the volume say why.
+    /// entries, and where the request is refused, they and what stays of the volume say why: by the first of its reasons, which is a
+    /// full journal, then want of memory, then the volume's own.
     pub fn submit(
         &mut self,
         beside: &Beside,
@@ -78,6 +84,8 @@ impl<B: Layered, J: Room> Post<B, J> {
         ensures volume { self.new.volume ≡ self.old.volume }
         ensures seat { MatchResult result.1 (λ number. IsAsked (J.history self.old.volume) seat number request me result.0) (λ _. IsSameSeat (J.history self.old.volume) seat me result.0) }
         ensures denied { IfErr result.1 (λ refusal. WasDenied (J.start self.old.volume) (J.fixed self.old.volume) result.0.me.0.seen (Serve request) refusal) }
+        ensures refused { IfErr result.1 (λ refusal. IsBarred 1 refusal self.old.audit self.new.audit ⊎ ((is_full_by 1 self.old.audit ≡ false) × IsRefusedAs B.contents B.layers B.size request refusal self.old.audit.volume self.new.audit.volume)) }
+        ensures told { AreKeptUp self.new.audit.volume self.old.told self.new.told }
     {
         let said = Snapshot::of(&request);
         let from = self.audit.entries().len();
@@ -98,7 +106,8 @@ impl<B: Layered, J: Room> Post<B, J> {
     }
 
     /// Issues a request of a seat, where it is due. Its entry is one more of the journal, and of the seat's own. A flush may go to
-    /// its next device in place of a reply: then the seat waits for it still.
+    /// its next device in place of a reply: then the seat waits for it still. The receipt's count is the place of its entry among
+    /// the seat's.
     pub fn issue(
         &mut self,
         beside: &Beside,
@@ -110,7 +119,8 @@ impl<B: Layered, J: Room> Post<B, J> {
         requires seat { IsSeat (J.history self.old.volume) seat me }
         ensures volume { self.new.volume ≡ self.old.volume }
         ensures due { ((x : Seated) → seated_under number self.old.audit.held ≡ Some x → x.request.op ≢ Flush) → is_some result.1 ≡ (may_do seat (Issue number) self.old.audit.held && is_due_of B.contents B.layers self.old.audit.volume (Issue number)) }
-        ensures seat { MatchOption result.1 (IsSameSeat (J.history self.old.volume) seat me result.0) (λ r. IsReceipted (J.history self.old.volume) seat me result.0 r.0 r.1) }
+        ensures seat { MatchOption result.1 (IsSameSeat (J.history self.old.volume) seat me result.0) (λ r. IsReceipted (J.history self.old.volume) (count_at (J.fixed self.old.volume) (J.start self.old.volume) seat) seat me result.0 r.0 r.1) }
+        ensures told { AreKeptUp self.new.audit.volume self.old.told self.new.told }
     {
         let from = self.audit.entries().len();
         let (outcome, receipt) = match self.audit.apply(seat, Event::Issue(number)) {
@@ -143,6 +153,7 @@ impl<B: Layered, J: Room> Post<B, J> {
         ensures first { next_of B.contents B.layers self.old.audit.volume ≡ Some event → result ≡ true }
         ensures done { result ≡ true → (is_due_of B.contents B.layers self.old.audit.volume event ≡ true) × ((outcome : OutcomeShape) × IsExact B.contents B.layers event outcome self.old.audit.volume self.new.audit.volume) }
         ensures still { result ≡ false → self.new ≡ self.old }
+        ensures told { AreKeptUp self.new.audit.volume self.old.told self.new.told }
     {
         let from = self.audit.entries().len();
         match self.audit.apply(0, event) {
@@ -167,6 +178,7 @@ impl<B: Layered, J: Room> Post<B, J> {
         ensures volume { self.new.volume ≡ self.old.volume }
         ensures done { result ≡ true → (event : EventShape) × (outcome : OutcomeShape) × (next_of B.contents B.layers self.old.audit.volume ≡ Some event) × IsExact B.contents B.layers event outcome self.old.audit.volume self.new.audit.volume }
         ensures still { result ≡ false → (self.new ≡ self.old) × IfSome (next_of B.contents B.layers self.old.audit.volume) (λ event. is_apart event ≡ true) }
+        ensures told { AreKeptUp self.new.audit.volume self.old.told self.new.told }
     {
         let Some(event) = self.audit.volume().due() else {
             return false;
@@ -205,6 +217,9 @@ impl<B: Layered, J: Room> Post<B, J> {
         ensures seat { IsSameSeat (J.history self.old.volume) seat me result.0 }
         ensures begun { OnOk result.1 (WasBegun number me.me.0.seen result.0.me.0.seen) }
         ensures denied { IfErr result.1 (λ refusal. refusal ≢ NotQuiet → WasDenied (J.start self.old.volume) (J.fixed self.old.volume) result.0.me.0.seen (Begin number) refusal) }
+        ensures refused { IfErr result.1 (λ refusal. IsNotMerged number refusal self.old.audit self.new.audit) }
+        ensures busy { IfErr result.1 (λ refusal. refusal ≡ NotQuiet → is_quiet_of self.old.audit.volume ≡ false) }
+        ensures told { AreKeptUp self.new.audit.volume self.old.told self.new.told }
     {
         let me = beside.history.look(&mut self.keeper, me);
         let from = self.audit.entries().len();
@@ -239,6 +254,7 @@ impl<B: Layered, J: Room> Post<B, J> {
         ensures still { result.me.0.seen ≡ me.me.0.seen }
         ensures own { entries_by seat self.old.audit.entries ≡ entries_by seat (J.start self.old.volume) ++ (entries_by seat me.me.0.old ++ me.me.0.mine) }
         ensures waits { held_by seat self.old.audit.held ≡ me.me.0.waits }
+        ensures folded { self.old.audit.folded ≡ (J.fixed self.old.volume).folded }
         ensures seen { (more : List Entry) × (self.old.audit.entries ≡ J.start self.old.volume ++ (me.me.0.seen ++ more)) }
     {
         beside.history.settle(&mut self.keeper, me)

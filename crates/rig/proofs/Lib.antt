@@ -4,3 +4,4 @@ mod Asking
 mod Parts
 mod Rows
 mod Begun
+mod Counting

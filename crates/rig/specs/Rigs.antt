@@ -6,7 +6,8 @@ use Rattle.device.specs.Layers.{Layer}
 use Rattle.journal.specs.declared.entry.Entry.{Entry}
 use Rattle.journal.specs.declared.entry.Receipt.{Receipt}
 use Rattle.journal.specs.Books.{AuditShape}
-use Rattle.journal.specs.Entries.{answered_of, entries_by}
+use Rattle.journal.specs.declared.entry.Verdict.TheVariants.{Agrees}
+use Rattle.journal.specs.Entries.{HasVerdict, answered_of, entries_by}
 use Rattle.chunk.specs.Pieces.{Span}
 use Rattle.plain.specs.Failures.{refusal_of}
 use Rattle.plain.specs.declared.request.Dev.{Dev}
@@ -22,7 +23,7 @@ use Rattle.post.specs.Fixed.{Fixed, fixed_of}
 use Rattle.board.specs.Passes.{BoardId, Seen}
 use Rattle.post.specs.Beside.{OpenedAt}
 use Rattle.post.specs.Names.{no_table, nothing_fixed}
-use Rattle.rig.specs.Sittings.{SittingShape}
+use Rattle.rig.specs.Sittings.{AreCounted, SittingShape}
 
 -- how many workers there are
 pub record RigShape : Type 0 where
@@ -120,10 +121,18 @@ IsPieceCut op reply lost denies dev piece refusal volume old new =
     ⊎ ((own : List ℕ) × (r : Receipt) × IsOf dev (op own) piece r × HasAdded volume (r ∷ []) old new
     × (((r.reply ≡ reply own) × lost refusal) ⊎ ((failure : Failure) × (r.reply ≡ Refused failure) × (refusal ≡ refusal_of failure))))
 
+-- each receipt is for an entry of the journal, as `check` tells
+abbrev pub AllAgree : {B : Type 0} → AuditShape B → List Receipt → Type 0
+AllAgree audit receipts =
+    (i : ℕ) (d : Receipt) → i < length receipts → HasVerdict (slice_index_or audit.folded (slice_index_or receipts i d).seat 0) audit.entries (slice_index_or receipts i d) Agrees
+
 -- A seat's receipts of a volume are its entries in the journal after those that it had, in their order, and there are as
--- many; and what it has seen are the first entries after those.
+-- many; the count of each is the place of its entry among the seat's, and `check` agrees with it; and what it has seen are the
+-- first entries after those.
 pub record IsSettledAt {B : Type 0} (start : List Entry) (audit : AuditShape B) (k : ℕ) (s : SeatShape) : Type 0 where
   pub own : entries_by s.number audit.entries ≡ entries_by s.number start ++ map answered_of (receipts_at s k)
+  pub counts : AreCounted s.number (slice_index_or audit.folded s.number 0 + length (entries_by s.number start)) (receipts_at s k)
+  pub agree : AllAgree audit (receipts_at s k)
   pub seen : (more : List Entry) × (audit.entries ≡ start ++ (seen_at s k ++ more))
 
 -- seat i, from 0, has number i + 1 and no receipts

@@ -36,9 +36,9 @@ module _ (op : List ℕ → Op) (reply : List ℕ → Reply) (dev : Dev) where
   AreServed (p ∷ ps) (r ∷ rs) bytes =
       (own : List ℕ) × (rest : List ℕ) × IsOf dev (op own) p r × (r.reply ≡ reply own) × AreServed ps rs rest × (bytes ≡ own ++ rest)
 
-  -- The receipts are of all pieces.
-  abbrev pub IsServed : Span → List Receipt → List ℕ → Type 0
-  IsServed span receipts bytes = (chunk : ℕ) × AreServed (pieces_of chunk span) receipts bytes
+  -- The receipts are of all pieces, of so many sectors each.
+  abbrev pub IsServed : ℕ → Span → List Receipt → List ℕ → Type 0
+  IsServed piece span receipts bytes = AreServed (pieces_of piece span) receipts bytes
 
   -- The first pieces were done, and then the next one was denied, or what was done is lost, where none is left; or one more was
   -- asked for, and it was answered by a failure.
@@ -49,8 +49,8 @@ module _ (op : List ℕ → Op) (reply : List ℕ → Reply) (dev : Dev) where
       ⊎ ((p : Span) × (ps : List Span) × (r : Receipt) × (own : List ℕ) × (failure : Failure)
       × (rest ≡ p ∷ ps) × (receipts ≡ firsts ++ r ∷ []) × IsOf dev (op own) p r × (r.reply ≡ Refused failure) × (refusal ≡ refusal_of failure)))
 
-  abbrev pub IsCutShort : (Refusal → Type 0) → (Request → Refusal → Type 0) → Span → List Receipt → Refusal → Type 0
-  IsCutShort lost denies span receipts refusal = (chunk : ℕ) × IsCut lost denies (pieces_of chunk span) receipts refusal
+  abbrev pub IsCutShort : (Refusal → Type 0) → (Request → Refusal → Type 0) → ℕ → Span → List Receipt → Refusal → Type 0
+  IsCutShort lost denies piece span receipts refusal = IsCut lost denies (pieces_of piece span) receipts refusal
 
 abbrev pub read_op : List ℕ → Op
 read_op bytes = Read
@@ -65,16 +65,16 @@ IsReadLost refusal = refusal ≡ NoMemory
 abbrev pub IsWriteLost : Refusal → Type 0
 IsWriteLost refusal = ⊥
 
--- reads of the pieces of a range, which gave these bytes
-abbrev pub IsReadBy : Dev → Span → List Receipt → List ℕ → Type 0
-IsReadBy = IsServed read_op Data
+-- reads of the pieces of a range, of so many sectors each, which gave these bytes
+abbrev pub IsReadBy : ℕ → Dev → Span → List Receipt → List ℕ → Type 0
+IsReadBy piece dev = IsServed read_op Data dev piece
 
-abbrev pub IsReadCut : (Request → Refusal → Type 0) → Dev → Span → List Receipt → Refusal → Type 0
-IsReadCut denies dev = IsCutShort read_op Data dev IsReadLost denies
+abbrev pub IsReadCut : (Request → Refusal → Type 0) → ℕ → Dev → Span → List Receipt → Refusal → Type 0
+IsReadCut denies piece dev = IsCutShort read_op Data dev IsReadLost denies piece
 
 -- writes of the pieces of a range, by these bytes
-abbrev pub IsWrittenBy : Dev → Span → List Receipt → List ℕ → Type 0
-IsWrittenBy = IsServed Write written_reply
+abbrev pub IsWrittenBy : ℕ → Dev → Span → List Receipt → List ℕ → Type 0
+IsWrittenBy piece dev = IsServed Write written_reply dev piece
 
-abbrev pub IsWriteCut : (Request → Refusal → Type 0) → Dev → Span → List Receipt → Refusal → Type 0
-IsWriteCut denies dev = IsCutShort Write written_reply dev IsWriteLost denies
+abbrev pub IsWriteCut : (Request → Refusal → Type 0) → ℕ → Dev → Span → List Receipt → Refusal → Type 0
+IsWriteCut denies piece dev = IsCutShort Write written_reply dev IsWriteLost denies piece

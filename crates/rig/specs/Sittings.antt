@@ -1,5 +1,5 @@
 -- A seat at one volume: its pass and its receipts. This project's own.
-use Rattle.std.specs.Prelude.{◌≡◌, ℕ, true, List, [], ◌∷◌, ◌++◌, map}
+use Rattle.std.specs.Prelude.{◌≡◌, ◌+◌, ℕ, true, List, [], ◌∷◌, ◌++◌, map}
 use Rattle.atomic_table.specs.Seated.{TableId}
 use Rattle.atomic_table.specs.declared.badge.Badge.{Badge}
 use Rattle.plain.specs.declared.request.Reply.{Reply}
@@ -25,6 +25,11 @@ pub record SittingShape : Type 0 where
   pub seen : List Entry
   pub room : ℕ
 
+-- Receipts of a seat for its entries one by one, after so many that it had: their counts go on from that number.
+abbrev pub AreCounted : ℕ → ℕ → List Receipt → Type 0
+AreCounted seat first [] = Unit {0}
+AreCounted seat first (r ∷ rs) = (r.seat ≡ seat) × (r.count ≡ first + 1) × AreCounted seat (first + 1) rs
+
 abbrev pub waits_of : List View → List Seated
 waits_of [] = []
 waits_of (v ∷ vs) = v.waits
@@ -33,8 +38,8 @@ abbrev pub seen_of : List View → List Entry
 seen_of [] = []
 seen_of (v ∷ vs) = v.seen
 
--- the pass knows just the entries of the receipts
-pub record SittingHolds (history : TableId) (seat : ℕ) (pass : Badge View) (receipts : List Receipt) : Type 0 where
+-- the pass knows just the entries of the receipts, whose counts go on from those that the seat had at first
+pub record SittingHolds (history : TableId) (first seat : ℕ) (pass : Badge View) (receipts : List Receipt) : Type 0 where
   pub view : View
   pub has : pass.views ≡ view ∷ []
   pub table : pass.table_id ≡ history
@@ -42,6 +47,7 @@ pub record SittingHolds (history : TableId) (seat : ℕ) (pass : Badge View) (re
   pub number : view.seat ≡ seat
   pub old : view.old ≡ []
   pub mine : view.mine ≡ map answered_of receipts
+  pub counts : AreCounted seat first receipts
 
 -- nothing changed but the room, and that more may be seen
 pub record IsSameSitting (old new : SittingShape) : Type 0 where

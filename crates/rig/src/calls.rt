@@ -5,6 +5,7 @@ ghost use Rattle.plain.specs.declared.request.Op.TheVariants.{Flush, Read, Write
 ghost use Rattle.plain.specs.declared.request.Reply.TheVariants.{Data, Written};
 ghost use Rattle.journal.specs.declared.entry.Receipt.{Receipt};
 ghost use Rattle.post.specs.Denying.{Begin, Serve, WasBegun, WasDenied};
+ghost use Rattle.post.specs.Fixed.{piece_at};
 ghost use Rattle.rig.specs.Rigs.{HasAdded, IsPieceCut, receipts_at, seen_at};
 ghost use Rattle.rig.specs.Sittings.{IsSameSitting};
 ghost use Rattle.rig.specs.Served.{IsOf, IsReadBy, IsReadCut, IsReadLost, IsWriteCut, IsWriteLost, IsWrittenBy, read_op, written_reply};
@@ -135,7 +136,7 @@ impl<J: Room> Seat<J> {
         }
     }
 
-    /// Reads a range of a device, piece after piece. The first piece that is refused, or that is answered by a failure, ends it,
+    /// Reads a range of a device, piece after piece, which are the volume's. The first piece that is refused, or that is answered by a failure, ends it,
     /// and those before it were read. Where all were read it is refused for want of memory alone (`NoMemory`). A piece is refused
     /// for want of memory, or by what the journal's entries, as far as the seat has then seen them, and what stays of the volume
     /// say. A range of no sectors is refused as the volume refuses it.
@@ -148,8 +149,8 @@ impl<J: Room> Seat<J> {
         range: Range,
     ) -> Result<Buf, Refusal>
         requires volume { volume < J.volumes }
-        ensures ok { IfOk result (λ bytes. (more : List Receipt) × HasAdded volume more self.old self.new × IsReadBy dev (span_of range) more bytes) }
-        ensures err { IfErr result (λ refusal. (more : List Receipt) × HasAdded volume more self.old self.new × IsReadCut (λ request r. WasDenied (J.start volume) (J.fixed volume) (seen_at self.new volume) (Serve request) r) dev (span_of range) more refusal) }
+        ensures ok { IfOk result (λ bytes. (more : List Receipt) × HasAdded volume more self.old self.new × IsReadBy (piece_at (J.fixed volume)) dev (span_of range) more bytes) }
+        ensures err { IfErr result (λ refusal. (more : List Receipt) × HasAdded volume more self.old self.new × IsReadCut (λ request r. WasDenied (J.start volume) (J.fixed volume) (seen_at self.new volume) (Serve request) r) (piece_at (J.fixed volume)) dev (span_of range) more refusal) }
     {
         let Ok(mut out) = Vec::with_capacity(self.alloc, range.count as usize * SECTOR_BYTES) else {
             return Err(Refusal::NoMemory);
@@ -179,8 +180,8 @@ impl<J: Room> Seat<J> {
     ) -> Result<(), Refusal>
         requires volume { volume < J.volumes }
         requires bytes { length bytes.now ≡ 512 * range.count }
-        ensures ok { OnOk result ((more : List Receipt) × HasAdded volume more self.old self.new × IsWrittenBy dev (span_of range) more bytes.now) }
-        ensures err { IfErr result (λ refusal. (more : List Receipt) × HasAdded volume more self.old self.new × IsWriteCut (λ request r. WasDenied (J.start volume) (J.fixed volume) (seen_at self.new volume) (Serve request) r) dev (span_of range) more refusal) }
+        ensures ok { OnOk result ((more : List Receipt) × HasAdded volume more self.old self.new × IsWrittenBy (piece_at (J.fixed volume)) dev (span_of range) more bytes.now) }
+        ensures err { IfErr result (λ refusal. (more : List Receipt) × HasAdded volume more self.old self.new × IsWriteCut (λ request r. WasDenied (J.start volume) (J.fixed volume) (seen_at self.new volume) (Serve request) r) (piece_at (J.fixed volume)) dev (span_of range) more refusal) }
     {
         let geometry = Geometry {
             chunk: rig.places[volume].piece,
@@ -198,7 +199,7 @@ impl<J: Room> Seat<J> {
         Ok(())
     }
 
-    /// Writes a range of a device, piece after piece. The first piece that is refused, or that is answered by a failure, ends
+    /// Writes a range of a device, piece after piece, which are the volume's. The first piece that is refused, or that is answered by a failure, ends
     /// it, and those before it stand: a write whose pieces were all done is not refused. A piece is refused as one that is read.
     pub fn write<B: Layered, G: Gate + Drop, R: Wait>(
         &mut self,
@@ -211,8 +212,8 @@ impl<J: Room> Seat<J> {
     ) -> Result<(), Refusal>
         requires volume { volume < J.volumes }
         requires bytes { length bytes ≡ 512 * range.count }
-        ensures ok { OnOk result ((more : List Receipt) × HasAdded volume more self.old self.new × IsWrittenBy dev (span_of range) more bytes) }
-        ensures err { IfErr result (λ refusal. (more : List Receipt) × HasAdded volume more self.old self.new × IsWriteCut (λ request r. WasDenied (J.start volume) (J.fixed volume) (seen_at self.new volume) (Serve request) r) dev (span_of range) more refusal) }
+        ensures ok { OnOk result ((more : List Receipt) × HasAdded volume more self.old self.new × IsWrittenBy (piece_at (J.fixed volume)) dev (span_of range) more bytes) }
+        ensures err { IfErr result (λ refusal. (more : List Receipt) × HasAdded volume more self.old self.new × IsWriteCut (λ request r. WasDenied (J.start volume) (J.fixed volume) (seen_at self.new volume) (Serve request) r) (piece_at (J.fixed volume)) dev (span_of range) more refusal) }
     {
         self.write_all(rt, rig, volume, dev, range, bytes.as_slice())
     }

@@ -87,7 +87,8 @@ fn close_one<B: Layered, J: Room, R: Wait>(
 
 impl<B: Layered + Drop, G: Gate + Drop, J: Room> Rig<B, G, J> {
     /// Gives the audits back, in their order. A journal begins with the entries that it had when the rig was made, and each
-    /// seat's receipts of the volume are its entries after those, in their order, and there are as many.
+    /// seat's receipts of the volume are its entries after those, in their order, and there are as many; each one's count is the
+    /// place of its entry among the seat's, so that the audit's `check` agrees with it.
     pub fn close<R: Wait>(
         self,
         rt: &R,

@@ -2,6 +2,7 @@
 ghost use Rattle.std.specs.Prelude.{◌≡◌, true};
 ghost use Rattle.chunk.specs.Sizes.{is_chunk};
 ghost use Rattle.post.specs.Beside.{IsBeside};
+ghost use Rattle.post.specs.Fixed.{piece_at};
 
 use layers::Layered;
 use post::{Beside, Post, Room};
@@ -17,6 +18,7 @@ pub struct Place<B: Layered, J: Room> {
     pub(crate) lock: Mutex<Post<B, J>>,
     pub(crate) moved: Condvar,
     pub(crate) beside: Beside,
-    ghost is_piece: { is_chunk piece ≡ true },
+    ghost is_allowed: { is_chunk piece ≡ true },
+    ghost is_piece: { piece ≡ piece_at (J.fixed volume) },
     ghost is_beside: { IsBeside (J.history volume) (J.boards volume) beside },
 }

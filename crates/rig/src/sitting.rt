@@ -21,9 +21,10 @@ impl<J: Room> Model for Sitting<J> {
     ghost Value = { SittingShape };
 
     ghost use Rattle.std.specs.Prelude.{vec_capacity};
+    ghost use Rattle.post.specs.Fixed.{count_at};
     ghost use Rattle.rig.specs.Sittings.{SittingHolds, seen_of, waits_of};
 
     ghost view = { λ s. record { volume = s.volume; seat = s.seat; receipts = s.receipts.items; waits = waits_of s.pass.views; seen = seen_of s.pass.views; room = vec_capacity s.receipts } };
 
-    ghost invariant = { λ s. SittingHolds (J.history s.volume) s.seat s.pass s.receipts.items };
+    ghost invariant = { λ s. SittingHolds (J.history s.volume) (count_at (J.fixed s.volume) (J.start s.volume) s.seat) s.seat s.pass s.receipts.items };
 }

@@ -1,5 +1,5 @@
 // What a seat does at one volume, under its lock.
-ghost use Rattle.std.specs.Prelude.{◌≡◌, ◌≢◌, ◌*◌, ◌<◌, ◌++◌, ◌∷◌, ℕ, List, [], length, map, IfErr, IfOk, IfSome, IfNone, MatchResult, OnErr, OnOk};
+ghost use Rattle.std.specs.Prelude.{◌≡◌, ◌≢◌, ◌+◌, ◌*◌, ◌<◌, ◌++◌, ◌∷◌, ℕ, List, [], length, map, slice_index_or, IfErr, IfOk, IfSome, IfNone, MatchResult, OnErr, OnOk};
 ghost use Rattle.plain.specs.declared.request.Op.TheVariants.{Flush, Write};
 ghost use Rattle.journal.specs.Entries.{answered_of, entries_by};
 ghost use Rattle.journal.specs.Seats.{Seated};
@@ -9,7 +9,8 @@ ghost use Rattle.post.specs.Beside.{IsBeside};
 ghost use Rattle.post.specs.Denying.{Begin, Serve, WasBegun, WasDenied};
 ghost use Rattle.post.specs.Seats.{IsSeat};
 ghost use Rattle.sector.specs.declared.refusal.Refusal.TheVariants.{NotQuiet};
-ghost use Rattle.rig.specs.Sittings.{IsAnswered, IsSameSitting, IsTurnedAway, IsWaiting};
+ghost use Rattle.rig.specs.Rigs.{AllAgree};
+ghost use Rattle.rig.specs.Sittings.{AreCounted, IsAnswered, IsSameSitting, IsTurnedAway, IsWaiting};
 
 use crate::sitting::Sitting;
 use atomic_table::Badge;
@@ -123,13 +124,16 @@ impl<J: Room> Sitting<J> {
     }
 
     /// The receipts of this seat are its entries in the journal after those that it had, in their order, and there are as
-    /// many; and what it has seen are the first entries since the rig was made.
+    /// many; the count of each is the place of its entry among the seat's; and what it has seen are the first entries since the rig
+    /// was made.
     pub(crate) fn settle<B: Layered>(&mut self, post: &mut Post<B, J>, beside: &Beside)
         requires beside { IsBeside (J.history post.old.volume) (J.boards post.old.volume) beside.now }
         requires volume { post.old.volume ≡ self.old.volume }
         ensures seat { self.new ≡ self.old }
         ensures post { post.new ≡ post.old }
         ensures own { entries_by self.old.seat post.old.audit.entries ≡ entries_by self.old.seat (J.start self.old.volume) ++ map answered_of self.old.receipts }
+        ensures counts { AreCounted self.old.seat (slice_index_or post.old.audit.folded self.old.seat 0 + length (entries_by self.old.seat (J.start self.old.volume))) self.old.receipts }
+        ensures agree { AllAgree post.old.audit self.old.receipts }
         ensures seen { (more : List Entry) × (post.old.audit.entries ≡ J.start self.old.volume ++ (self.old.seen ++ more)) }
     {
         let badge = mem::replace(&mut self.pass, Badge::blank());

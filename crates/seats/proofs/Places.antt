@@ -1,15 +1,13 @@
 -- Tasks at their places, and seats in their order.
-use Rattle.std.proofs.Common.{◌≡◌, ◌≢◌, ◌+◌, ◌<◌, ◌≤◌, ℕ, zero, suc, List, [], ◌∷◌, ◌++◌, get_or, length, set, refl, sym, ap, ◌∙◌, subst, arith, below_more}
+use Rattle.std.proofs.Common.{◌≡◌, ◌≢◌, ◌+◌, ◌<◌, ◌≤◌, ℕ, zero, suc, List, [], ◌∷◌, ◌++◌, get_or, length, set, refl, sym, ap, ◌∙◌, subst, arith, below_more, inl, inr}
+use Rattle.std.proofs.lemmas.Bool.{cases_lt}
 use Rattle.std.specs.Global.{Vec}
 use Rattle.std.specs.List.{remove}
 use Rattle.std.proofs.Math.ListN.{get_or-append}
 use Rattle.std.proofs.Math.Seq.{get_or-append_seam}
-use Rattle.journal.specs.declared.entry.Entry.{Entry}
-use Rattle.post.specs.Denying.{Wish}
 use Rattle.rig.specs.Rigs.{SeatShape}
-use Rattle.sector.specs.declared.refusal.Refusal.{Refusal}
 use Rattle.seats.specs.declared.task.Task.{Task}
-use Rattle.seats.specs.Tasks.{IsEnded, IsNew, tasks_at}
+use Rattle.seats.specs.Tasks.{IsNew, tasks_at}
 
 pub behind : (all : List (Vec Task)) (i : ℕ) → length all ≤ i → tasks_at all i ≡ []
 behind [] i last = refl
@@ -48,20 +46,40 @@ rest_of n (x ∷ xs) some all k d low =
     let one = all (suc k) d (omega (arith, low)) in
     (omega (arith, one.0), one.1)
 
-module _ (denies : ℕ → List Entry → Wish → Refusal → Type 0) where
-  -- the seats before this place ended their tasks
-  abbrev pub AreEnded : (ℕ → List Task) → ℕ → ℕ → List (Vec Task) → List SeatShape → Type 0
-  AreEnded asked places n tasks seats = (j : ℕ) (d : SeatShape) → j < n → j < places → IsEnded denies (asked (j + 1)) (tasks_at tasks j) (j + 1) (get_or seats j d)
+-- one seat more
+pub seats_more : (P : ℕ → SeatShape → Type 0) (n : ℕ) (seats : List SeatShape) (seat : SeatShape) → length seats ≡ n → ((j : ℕ) (d : SeatShape) → j < n → P j (get_or seats j d)) → P n seat
+    → (j : ℕ) (d : SeatShape) → j < n + 1 → P j (get_or (seats ++ seat ∷ []) j d)
+seats_more P n seats seat long all one j d =
+    below_more (λ m. P m (get_or (seats ++ seat ∷ []) m d)) n
+    (λ m low. subst (P m) (sym (get_or-append seats (seat ∷ []) d m (omega (arith, long, low)))) (all m d low))
+    (subst (P n) (sym (ap (λ m. get_or (seats ++ seat ∷ []) m d) (sym long) ∙ get_or-append_seam seats seat [] d)) one)
+    j
 
-  pub ended_more : (asked : ℕ → List Task) (places n : ℕ) (old new : List (Vec Task)) (seats : List SeatShape) (list : List Task) (seat : SeatShape) → length seats ≡ n
-      → AreEnded asked places n old seats → (n < places → tasks_at new n ≡ list) → ((k : ℕ) → k ≢ n → tasks_at new k ≡ tasks_at old k) → IsEnded denies (asked (n + 1)) list (n + 1) seat
-      → AreEnded asked places (n + 1) new (seats ++ seat ∷ [])
-  ended_more asked places n old new seats list seat long all put others one j d =
-      below_more (λ m. m < places → IsEnded denies (asked (m + 1)) (tasks_at new m) (m + 1) (get_or (seats ++ seat ∷ []) m d)) n
-      (λ m low within. subst (λ (x : List Task × SeatShape). IsEnded denies (asked (m + 1)) x.0 (m + 1) x.1)
+-- the seats before this place gave these tasks back
+module _ (Gave : ℕ → List Task → SeatShape → Type 0) where
+  abbrev pub HaveGiven : ℕ → ℕ → List (Vec Task) → List SeatShape → Type 0
+  HaveGiven places n tasks seats = (j : ℕ) (d : SeatShape) → j < n → j < places → Gave j (tasks_at tasks j) (get_or seats j d)
+
+  pub given_more : (places n : ℕ) (old new : List (Vec Task)) (seats : List SeatShape) (list : List Task) (seat : SeatShape) → length seats ≡ n
+      → HaveGiven places n old seats → (n < places → tasks_at new n ≡ list) → ((k : ℕ) → k ≢ n → tasks_at new k ≡ tasks_at old k) → Gave n list seat
+      → HaveGiven places (n + 1) new (seats ++ seat ∷ [])
+  given_more places n old new seats list seat long all put others one j d =
+      below_more (λ m. m < places → Gave m (tasks_at new m) (get_or (seats ++ seat ∷ []) m d)) n
+      (λ m low within. subst (λ (x : List Task × SeatShape). Gave m x.0 x.1)
       (λ i. (sym (others m (λ same. omega (arith, low, same))) i, sym (get_or-append seats (seat ∷ []) d m (omega (arith, long, low))) i))
       (all m d low within))
-      (λ within. subst (λ (x : List Task × SeatShape). IsEnded denies (asked (n + 1)) x.0 (n + 1) x.1)
+      (λ within. subst (λ (x : List Task × SeatShape). Gave n x.0 x.1)
       (λ i. (sym (put within) i, sym (ap (λ m. get_or (seats ++ seat ∷ []) m d) (sym long) ∙ get_or-append_seam seats seat [] d) i))
       one)
       j
+
+-- tasks that are as they were at each of the first places, and behind them
+pub tasks_same : (old new : List (Vec Task)) → length new ≡ length old → ((i : ℕ) → i < 8 → i < length old → tasks_at new i ≡ tasks_at old i) → ((i : ℕ) → 8 ≤ i → tasks_at new i ≡ tasks_at old i)
+    → (i : ℕ) → tasks_at new i ≡ tasks_at old i
+tasks_same old new many firsts others i = elim (cases_lt i 8) [
+  | inl low ↦ elim (cases_lt i (length old)) [
+    | inl within ↦ firsts i low within
+    | inr last ↦ behind new i (omega (arith, many, last)) ∙ sym (behind old i last)
+  ]
+  | inr high ↦ others i high
+]

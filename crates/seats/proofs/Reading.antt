@@ -13,7 +13,7 @@ use Rattle.rig.specs.Served.{IsReadBy, IsReadCut}
 nothing_left : {C : Type 0} (p : Span) (ps : List Span) → [] ≡ p ∷ ps → C
 nothing_left p ps e = absurd (let h : [] ≡ p ∷ ps = e in cc)
 
-pub unsaid : (denies : Request → Refusal → Type 0) (dev : Dev) (span : Span) (receipts : List Receipt) (bytes : List ℕ) → IsReadBy dev span receipts bytes → IsReadCut denies dev span receipts NoMemory
-unsaid denies dev span receipts bytes h =
-    let pieces = pieces_of h.0 span in
-    (h.0, (pieces, [], receipts, bytes, sym (append-nil pieces), h.1, inl (refl, (λ over. refl), λ p ps e. nothing_left p ps e)))
+pub unsaid : (denies : Request → Refusal → Type 0) (piece : ℕ) (dev : Dev) (span : Span) (receipts : List Receipt) (bytes : List ℕ) → IsReadBy piece dev span receipts bytes → IsReadCut denies piece dev span receipts NoMemory
+unsaid denies piece dev span receipts bytes h =
+    let pieces = pieces_of piece span in
+    (pieces, [], receipts, bytes, sym (append-nil pieces), h, inl (refl, (λ over. refl), λ p ps e. nothing_left p ps e))

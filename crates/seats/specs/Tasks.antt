@@ -9,7 +9,7 @@ use Rattle.sector.specs.declared.refusal.Refusal.{Refusal}
 use Rattle.journal.specs.declared.entry.Entry.{Entry}
 use Rattle.journal.specs.declared.entry.Receipt.{Receipt}
 use Rattle.post.specs.Denying.{Wish, Serve, Begin, WasBegun, WasDenied}
-use Rattle.post.specs.Fixed.{Fixed}
+use Rattle.post.specs.Fixed.{Fixed, piece_at}
 use Rattle.journal.specs.Books.{AuditShape}
 use Rattle.reply.specs.declared.seated.Answered.{Answered}
 use Rattle.reply.specs.declared.seated.Answered.TheVariants as answered
@@ -24,19 +24,23 @@ use Rattle.seats.specs.declared.task.Task.{Task}
 abbrev pub IsNew : SeatShape → Type 0
 IsNew seat = (k : ℕ) → receipts_at seat k ≡ []
 
--- denies: what a volume denied, by its entries, as far as the seat had seen them
-module _ (denies : ℕ → List Entry → Wish → Refusal → Type 0) where
+-- a seat that made no request, and its tasks as they were given
+abbrev pub IsUnbegun : List Task → List Task → SeatShape → Type 0
+IsUnbegun asked tasks seat = (tasks ≡ asked) × IsNew seat
+
+-- denies: what a volume denied, by its entries, as far as the seat had seen them; pieces: the sectors of a piece of each volume
+module _ (denies : ℕ → List Entry → Wish → Refusal → Type 0) (pieces : ℕ → ℕ) where
   -- A read answers the bytes of the receipts that it added, in words, or it is cut short by what it answers.
   abbrev pub IsReadAs : ℕ → Dev → Range → Answered → SeatShape → SeatShape → Type 0
   IsReadAs volume dev range answered.Done old new = ⊥
-  IsReadAs volume dev range (answered.Data words) old new = (more : List Receipt) × (bytes : List ℕ) × HasAdded volume more old new × IsReadBy dev (span_of range) more bytes × (words ≡ data_words bytes)
-  IsReadAs volume dev range (answered.Refused refusal) old new = (more : List Receipt) × HasAdded volume more old new × IsReadCut (λ request r. denies volume (seen_at new volume) (Serve request) r) dev (span_of range) more refusal
+  IsReadAs volume dev range (answered.Data words) old new = (more : List Receipt) × (bytes : List ℕ) × HasAdded volume more old new × IsReadBy (pieces volume) dev (span_of range) more bytes × (words ≡ data_words bytes)
+  IsReadAs volume dev range (answered.Refused refusal) old new = (more : List Receipt) × HasAdded volume more old new × IsReadCut (λ request r. denies volume (seen_at new volume) (Serve request) r) (pieces volume) dev (span_of range) more refusal
 
   -- A write is done by the receipts that it added, or cut short.
   abbrev pub IsWrittenAs : ℕ → Dev → Range → List ℕ → Answered → SeatShape → SeatShape → Type 0
-  IsWrittenAs volume dev range bytes answered.Done old new = (more : List Receipt) × HasAdded volume more old new × IsWrittenBy dev (span_of range) more bytes
+  IsWrittenAs volume dev range bytes answered.Done old new = (more : List Receipt) × HasAdded volume more old new × IsWrittenBy (pieces volume) dev (span_of range) more bytes
   IsWrittenAs volume dev range bytes (answered.Data words) old new = ⊥
-  IsWrittenAs volume dev range bytes (answered.Refused refusal) old new = (more : List Receipt) × HasAdded volume more old new × IsWriteCut (λ request r. denies volume (seen_at new volume) (Serve request) r) dev (span_of range) more refusal
+  IsWrittenAs volume dev range bytes (answered.Refused refusal) old new = (more : List Receipt) × HasAdded volume more old new × IsWriteCut (λ request r. denies volume (seen_at new volume) (Serve request) r) (pieces volume) dev (span_of range) more refusal
 
   -- A merge adds no receipt, and answers no bytes: it began, after all that the seat had seen before, or was denied.
   abbrev pub IsMergedAs : ℕ → ℕ → Answered → SeatShape → SeatShape → Type 0
@@ -86,11 +90,15 @@ module _ (denies : ℕ → List Entry → Wish → Refusal → Type 0) where
 abbrev pub denied_of : (ℕ → List Entry) → (ℕ → Fixed) → ℕ → List Entry → Wish → Refusal → Type 0
 denied_of start fixed k seen wish refusal = WasDenied (start k) (fixed k) seen wish refusal
 
+-- and the sectors of a piece of it
+abbrev pub pieces_at : (ℕ → Fixed) → ℕ → ℕ
+pieces_at fixed k = piece_at (fixed k)
+
 -- The tasks that a seat of this number leaves, by entries that it made in the journals: its receipts of a volume are its entries
 -- there after those that it had, in their order, and there are as many.
 abbrev pub AreTold : {B : Type 0} → (B → ℕ) → (B → List Layer) → List (AuditShape B) → List (AuditShape B) → ℕ → List Task → List Task → Type 0
 AreTold {B = B} size layers old new number asked tasks =
-    (seat : SeatShape) × IsEnded (denied_of (start_in old) (fixed_in size layers old)) asked tasks number seat
+    (seat : SeatShape) × IsEnded (denied_of (start_in old) (fixed_in size layers old)) (pieces_at (fixed_in size layers old)) asked tasks number seat
     × ((k : ℕ) (d : AuditShape B) → k < length old → IsSettledAt (start_in old k) (slice_index_or new k d) k seat)
 
 -- the tasks at a place; none behind the last

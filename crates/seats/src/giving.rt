@@ -1,7 +1,8 @@
 // Tasks are given to seats, and taken back from them.
 ghost use Rattle.std.specs.Prelude.{◌≡◌, ◌≢◌, ◌+◌, ◌<◌, ◌≤◌, ℕ, [], length, slice_index_or, vec_capacity};
+ghost use Rattle.std.specs.List.{All};
 ghost use Rattle.rig.specs.Rigs.{AreNewSeats, SeatShape};
-ghost use Rattle.seats.specs.Tasks.{IsEnded, denied_of, tasks_at};
+ghost use Rattle.seats.specs.Tasks.{IsEnded, IsNew, denied_of, pieces_at, tasks_at};
 
 use crate::plan::Plan;
 use crate::seat_run::SeatRun;
@@ -46,6 +47,7 @@ pub(crate) fn begin_all<J: Plan>(
     requires room { (runs.old.items ≡ []) × (8 ≤ vec_capacity runs.old) }
     ensures many { length tasks.new.items ≡ length tasks.old.items }
     ensures others { (i : ℕ) → 8 ≤ i → tasks_at tasks.new.items i ≡ tasks_at tasks.old.items i }
+    ensures unbegun { All (λ run. run.done ≡ 0) runs.new.items }
 {
     let mut seats = seats;
     for i in 0..SEATS {
@@ -56,7 +58,10 @@ pub(crate) fn begin_all<J: Plan>(
 }
 
 /// The first of them. There are as many as seats; else this would wait for ever.
-fn next<J: Plan, R: Wait>(rt: &R, runs: &mut Vec<SeatRun<J>>) -> SeatRun<J> {
+fn next<J: Plan, R: Wait>(rt: &R, runs: &mut Vec<SeatRun<J>>) -> SeatRun<J>
+    ensures first { All (λ run. run.done ≡ 0) runs.old.items → result.done ≡ 0 }
+    ensures rest { All (λ run. run.done ≡ 0) runs.old.items → All (λ run. run.done ≡ 0) runs.new.items }
+{
     if runs.is_empty() {
         for _ in rt.forever() {}
         unreachable!()
@@ -64,7 +69,7 @@ fn next<J: Plan, R: Wait>(rt: &R, runs: &mut Vec<SeatRun<J>>) -> SeatRun<J> {
     runs.remove(0)
 }
 
-/// Takes the seats and their tasks back.
+/// Takes the seats and their tasks back. Where no run did any of its tasks, they are as they were given.
 pub(crate) fn end_all<J: Plan, R: Wait>(
     rt: &R,
     runs: Vec<SeatRun<J>>,
@@ -73,7 +78,10 @@ pub(crate) fn end_all<J: Plan, R: Wait>(
 )
     requires { (seats.old.items ≡ []) × (8 ≤ vec_capacity seats.old) }
     ensures many { (length tasks.new.items ≡ length tasks.old.items) × (length seats.new.items ≡ 8) }
-    ensures ended { (i : ℕ) (d : SeatShape) → i < 8 → i < length tasks.old.items → IsEnded (denied_of J.start J.fixed) (J.tasks (i + 1)) (tasks_at tasks.new.items i) (i + 1) (slice_index_or seats.new.items i d) }
+    ensures ended { (i : ℕ) (d : SeatShape) → i < 8 → i < length tasks.old.items → IsEnded (denied_of J.start J.fixed) (pieces_at J.fixed) (J.tasks (i + 1)) (tasks_at tasks.new.items i) (i + 1) (slice_index_or seats.new.items i d) }
+    ensures numbers { (i : ℕ) (d : SeatShape) → i < 8 → (slice_index_or seats.new.items i d).number ≡ i + 1 }
+    ensures unbegun { All (λ run. run.done ≡ 0) runs.items → (i : ℕ) (d : SeatShape) → i < 8 → IsNew (slice_index_or seats.new.items i d) }
+    ensures kept { All (λ run. run.done ≡ 0) runs.items → (i : ℕ) → i < 8 → i < length tasks.old.items → tasks_at tasks.new.items i ≡ J.tasks (i + 1) }
     ensures others { (i : ℕ) → 8 ≤ i → tasks_at tasks.new.items i ≡ tasks_at tasks.old.items i }
 {
     let mut runs = runs;

@@ -1,10 +1,11 @@
 // Seats and workers have threads.
-ghost use Rattle.std.specs.Prelude.{◌≡◌, ◌+◌, ◌<◌, ◌≤◌, ℕ, [], length, slice_index_or, IfErr, IfOk};
+ghost use Rattle.std.specs.Prelude.{◌≡◌, ◌+◌, ◌<◌, ◌≤◌, ℕ, [], false, length, slice_index_or, IfErr, IfOk};
+ghost use Rattle.std.specs.List.{All};
 ghost use denote.Param.Send.{IsSend, IsSync};
 ghost use Rattle.sector.specs.declared.refusal.Refusal.TheVariants.{NoMemory};
 ghost use Rattle.journal.specs.Books.{AuditShape};
 ghost use Rattle.rig.specs.Rigs.{IsRoomOf};
-ghost use Rattle.seats.specs.Left.{AreLeft};
+ghost use Rattle.seats.specs.Left.{AreLeft, NothingRan};
 ghost use Rattle.seats.specs.Tasks.{AreTold, tasks_at};
 
 use crate::giving::{begin_all, end_all};
@@ -65,7 +66,9 @@ fn end<B: Layered, G: Gate + Drop, J: Plan, R: Wait>(
     rt: &R,
     rig: &Rig<B, G, J>,
     runs: &mut Vec<SeatRun<J>>,
-) {
+)
+    ensures { All (λ run. run.done ≡ 0) runs.old.items → All (λ run. run.done ≡ 0) runs.new.items }
+{
     if let Some(run) = runs.first_mut() {
         rig.end(rt, &mut run.seat);
     }
@@ -106,24 +109,29 @@ fn work_all<B, G, J, R>(
     rt: &R,
     rig: &Rig<B, G, J>,
     workers: Vec<Worker<J>>,
-    runs: &mut Vec<SeatRun<J>>,
+    runs: Vec<SeatRun<J>>,
     volumes: usize,
     hold: &Hold,
-) -> bool
+) -> (Vec<SeatRun<J>>, bool)
 where
     B: Layered + Send + Sync,
     G: Gate + Drop + Sync,
     J: Plan + Send + Sync,
     R: Threads + Wait + Sync,
-    requires { volumes ≡ J.volumes }
+    requires volumes { volumes ≡ J.volumes }
+    requires unbegun { All (λ run. run.done ≡ 0) runs.items }
+    ensures { result.1 ≡ false → All (λ run. run.done ≡ 0) result.0.items }
 {
     thread::scope(
         thread::scope_env(),
         rt,
         move |scope|
             requires volumes { volumes ≡ J.volumes }
+            requires unbegun { All (λ run. run.done ≡ 0) runs.items }
             requires crosses { IsSend B.row × IsSync B.row × IsSync G.row × IsSend J.row × IsSync J.row × IsSync R.row }
+            ensures { result.1 ≡ false → All (λ run. run.done ≡ 0) result.0.items }
         {
+            let mut runs = runs;
             let mut started = true;
             for worker in workers {
                 if scope.spawn(move || work(rt, rig, worker)).is_err() {
@@ -131,11 +139,11 @@ where
                 }
             }
             if started {
-                seat_and_end(rt, rig, runs, volumes, hold);
+                seat_and_end(rt, rig, &mut runs, volumes, hold);
             } else {
-                end(rt, rig, runs);
+                end(rt, rig, &mut runs);
             }
-            started
+            (runs, started)
         },
     )
 }
@@ -160,6 +168,7 @@ where
     requires quiet { (k : ℕ) (d : AuditShape B) → k < length audits.items → (slice_index_or audits.items k d).held ≡ [] }
     ensures ok { IfOk result (λ after. AreLeft B.size B.layers audits.items after.items) }
     ensures err { IfErr result (λ e. (e.0 ≡ NoMemory) × AreLeft B.size B.layers audits.items e.1.items) }
+    ensures spared { IfErr result (λ e. NothingRan audits.items e.1.items (tasks_at tasks.old.items) (tasks_at tasks.new.items)) }
     ensures told { IfOk result (λ after. (i : ℕ) → i < 8 → i < length tasks.old.items → AreTold B.size B.layers audits.items after.items (i + 1) (tasks_at tasks.old.items i) (tasks_at tasks.new.items i)) }
     ensures others { (length tasks.new.items ≡ length tasks.old.items) × ((i : ℕ) → 8 ≤ i → tasks_at tasks.new.items i ≡ tasks_at tasks.old.items i) }
 {
@@ -182,7 +191,7 @@ where
         Err(refused) => return Err(refused),
     };
     begin_all::<J>(alloc, all, tasks, &mut runs);
-    let ran = work_all(rt, &rig, team, &mut runs, volumes, hold);
+    let (runs, ran) = work_all(rt, &rig, team, runs, volumes, hold);
     end_all(rt, runs, tasks, &mut seats);
     let mut nobody = Vec::new(alloc);
     let audits = rig.close(rt, nobody.as_mut_slice(), seats.as_mut_slice());
@@ -213,6 +222,7 @@ where
     requires quiet { (k : ℕ) (d : AuditShape B) → k < length audits.items → (slice_index_or audits.items k d).held ≡ [] }
     ensures ok { IfOk result (λ after. AreLeft B.size B.layers audits.items after.items) }
     ensures err { IfErr result (λ e. (e.0 ≡ NoMemory) × AreLeft B.size B.layers audits.items e.1.items) }
+    ensures spared { IfErr result (λ e. NothingRan audits.items e.1.items (tasks_at tasks.old.items) (tasks_at tasks.new.items)) }
     ensures told { IfOk result (λ after. (i : ℕ) → i < 8 → i < length tasks.old.items → AreTold B.size B.layers audits.items after.items (i + 1) (tasks_at tasks.old.items i) (tasks_at tasks.new.items i)) }
     ensures others { (length tasks.new.items ≡ length tasks.old.items) × ((i : ℕ) → 8 ≤ i → tasks_at tasks.new.items i ≡ tasks_at tasks.old.items i) }
 {

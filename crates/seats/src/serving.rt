@@ -1,6 +1,6 @@
 // What the thread of a seat does.
 ghost use Rattle.std.specs.Prelude.{◌≡◌, ◌*◌, ◌<◌, length};
-ghost use Rattle.seats.specs.Tasks.{IsCall, IsDone, IsMergedAs, IsReadAs, IsWrittenAs, denied_of};
+ghost use Rattle.seats.specs.Tasks.{IsCall, IsDone, IsMergedAs, IsReadAs, IsWrittenAs, denied_of, pieces_at};
 
 use crate::hold::Hold;
 use crate::plan::Plan;
@@ -48,7 +48,7 @@ fn read<B: Layered, G: Gate + Drop, J: Room, R: Wait>(
     range: Range,
 ) -> Answered
     requires { volume < J.volumes }
-    ensures { IsReadAs (denied_of J.start J.fixed) volume dev range result seat.old seat.new }
+    ensures { IsReadAs (denied_of J.start J.fixed) (pieces_at J.fixed) volume dev range result seat.old seat.new }
 {
     match seat.read(rt, rig, volume, dev, range) {
         Ok(bytes) => match words_of_data(alloc, bytes.as_slice()) {
@@ -69,7 +69,7 @@ fn write<B: Layered, G: Gate + Drop, J: Room, R: Wait>(
     bytes: Buf,
 ) -> Answered
     requires { volume < J.volumes }
-    ensures { IsWrittenAs (denied_of J.start J.fixed) volume dev range bytes result seat.old seat.new }
+    ensures { IsWrittenAs (denied_of J.start J.fixed) (pieces_at J.fixed) volume dev range bytes result seat.old seat.new }
 {
     fits(rt, range, &bytes);
     match seat.write(rt, rig, volume, dev, range, bytes) {
@@ -86,7 +86,7 @@ fn merge<B: Layered, G: Gate + Drop, J: Room, R: Wait>(
     snap: SnapId,
 ) -> Answered
     requires { volume < J.volumes }
-    ensures { IsMergedAs (denied_of J.start J.fixed) volume snap result seat.old seat.new }
+    ensures { IsMergedAs (denied_of J.start J.fixed) (pieces_at J.fixed) volume snap result seat.old seat.new }
 {
     match seat.merge(rt, rig, volume, snap) {
         Ok(()) => Answered::Done,
@@ -105,7 +105,7 @@ fn answer<B: Layered, G: Gate + Drop, J: Room, R: Wait>(
     job: Job,
 ) -> Answered
     requires { volumes ≡ J.volumes }
-    ensures { IsCall (denied_of J.start J.fixed) job result seat.old seat.new }
+    ensures { IsCall (denied_of J.start J.fixed) (pieces_at J.fixed) job result seat.old seat.new }
 {
     match job {
         Job::Read { volume, dev, range } => {
@@ -146,7 +146,7 @@ fn perform<B: Layered, G: Gate + Drop, J: Room, R: Wait>(
     task: &mut Task,
 )
     requires { volumes ≡ J.volumes }
-    ensures { IsDone (denied_of J.start J.fixed) task.old task.new seat.old seat.new }
+    ensures { IsDone (denied_of J.start J.fixed) (pieces_at J.fixed) task.old task.new seat.old seat.new }
 {
     if let Some(job) = task.job.take() {
         task.answer = Some(answer(rt, alloc, rig, seat, volumes, hold, job));

@@ -7,6 +7,7 @@ use Rattle.par.specs.declared.taking.Slot.{Slot}
 use Rattle.par.proofs.Ends.{made_played, made_run, made_told}
 use Rattle.par.proofs.Made.{uses_of}
 use Rattle.par.proofs.Runs.{none_run}
+use Rattle.par.proofs.Spares.{all_spared, made_spared}
 use Rattle.par.proofs.Slots.{AreLeft, first_left, none_held, none_left, none_popped, one_left, slot_left}
 use Rattle.par.proofs.running.at_once.Goals as goal
 
@@ -28,6 +29,7 @@ loop-slot-init g c = let none = ap length c.take_all.ensures.empty in record {
     c.take_all.new.audits.items,
     first_left c.args.used.now c.args.held.now.volumes.items c.take_all.new.audits.items c.run-audits.result.0.items c.take_all.new.slots.items c.take_all.new.volumes.items c.take_all.ensures.empty c.take_all.ensures.slots c.run-audits.ensures.left,
     c.run-audits.ensures.told,
+    c.run-audits.ensures.spared,
   );
 }
 
@@ -52,7 +54,7 @@ loop-slot-preserved g c =
     record {
       stacks = c.loop-slot.invariant.stacks;
       room = omega (arith, c.loop-slot.invariant.room, c.in-Some.ensures.cases, c.push_reserved.ensures.len, c.push_reserved.ensures.capacity);
-      left = (befores, subst (λ (l : List Volume). AreLeft c.args.used.now olds befores afters c.pop.new.self.items c.put_back.new.audits.items l) (sym c.push_reserved.ensures.items) left, c.loop-slot.invariant.left.2);
+      left = (befores, subst (λ (l : List Volume). AreLeft c.args.used.now olds befores afters c.pop.new.self.items c.put_back.new.audits.items l) (sym c.push_reserved.ensures.items) left, c.loop-slot.invariant.left.2, c.loop-slot.invariant.left.3);
     }
 
 pub returns-then-ran-clause-volumes : goal.returns-then-ran-clause-volumes
@@ -82,3 +84,17 @@ returns-clause-volumes g c =
     let afters = c.run-audits.result.0.items in
     let made = none_left c.args.used.now olds befores afters c.loop-slot.slots.items c.loop-slot.audits.items c.loop-slot.held.volumes.items (none_popped c.loop-slot.slots.items c.loop-slot.slots.len c.pop.new.self.len c.pop.result (omega (arith, c.loop-slot.slots.ok)) c.pop.ensures.cases c.in_default.not-Some) c.loop-slot.invariant.left.1 in
     made_run c.args.used.now befores afters made.0 olds c.loop-slot.held.volumes.items made.1
+
+pub returns-in_err-slots-clause-spared : goal.returns-in_err-slots-clause-spared
+returns-in_err-slots-clause-spared g c = all_spared c.args.held.now.volumes.items
+
+pub returns-in_err-audits-clause-spared : goal.returns-in_err-audits-clause-spared
+returns-in_err-audits-clause-spared g c = all_spared c.args.held.now.volumes.items
+
+pub returns-clause-spared : goal.returns-clause-spared
+returns-clause-spared g c =
+    let olds = c.args.held.now.volumes.items in
+    let befores = c.loop-slot.invariant.left.0 in
+    let afters = c.run-audits.result.0.items in
+    let made = none_left c.args.used.now olds befores afters c.loop-slot.slots.items c.loop-slot.audits.items c.loop-slot.held.volumes.items (none_popped c.loop-slot.slots.items c.loop-slot.slots.len c.pop.new.self.len c.pop.result (omega (arith, c.loop-slot.slots.ok)) c.pop.ensures.cases c.in_default.not-Some) c.loop-slot.invariant.left.1 in
+    made_spared c.args.used.now befores afters made.0 olds c.loop-slot.held.volumes.items made.1 (c.loop-slot.invariant.left.3 c.if-ran.false)

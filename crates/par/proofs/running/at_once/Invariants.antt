@@ -1,9 +1,10 @@
 -- Some volumes are back in their places, and the others have theirs.
-use Rattle.std.proofs.Common.{◌≡◌, ◌+◌, ◌<◌, ◌≤◌, ℕ, List, true, vec_len, vec_capacity}
+use Rattle.std.proofs.Common.{◌≡◌, ◌+◌, ◌<◌, ◌≤◌, ℕ, List, false, true, vec_len, vec_capacity}
 use Rattle.layers.specs.declared.stack.Stack.{Stack}
 use Rattle.layers.specs.Stack.{stack_layers, stack_size}
 use Rattle.journal.specs.Books.{AuditShape}
 use Rattle.seats.specs.Tasks.{AreTold, tasks_at}
+use Rattle.par.specs.Spared.{NoneAdded}
 use Rattle.par.proofs.Slots.{AreLeft}
 use Rattle.par.proofs.running.at_once.Given as goal
 
@@ -12,7 +13,8 @@ invariant-loop-slot g l = record {
   stacks : l.held.stacks.items ≡ l.fn.held.stacks.items;
   room : vec_len l.held.volumes + vec_len l.slots ≤ vec_capacity l.held.volumes;
   left : (befores : List (AuditShape Stack)) × AreLeft l.used l.fn.held.volumes.items befores l.initial.audits.items l.slots.items l.audits.items l.held.volumes.items
-      × (l.ran ≡ true → (i : ℕ) → i < 8 → AreTold stack_size stack_layers befores l.initial.audits.items (i + 1) (tasks_at l.fn.tasks.items i) (tasks_at l.tasks.items i));
+      × (l.ran ≡ true → (i : ℕ) → i < 8 → AreTold stack_size stack_layers befores l.initial.audits.items (i + 1) (tasks_at l.fn.tasks.items i) (tasks_at l.tasks.items i))
+      × (l.ran ≡ false → NoneAdded befores l.initial.audits.items);
 }
 
 abbrev pub decreases-loop-slot : goal.decreases-loop-slot

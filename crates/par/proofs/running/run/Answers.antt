@@ -2,6 +2,7 @@
 use Rattle.std.proofs.Common.{arith}
 use Rattle.par.specs.Taking.{IsLeft}
 use Rattle.par.proofs.Slots.{none_ran, zip_at}
+use Rattle.par.proofs.Spares.{none_added}
 use Rattle.par.proofs.running.run.Goals as goal
 
 pub returns-then-len-many-clause-left : goal.returns-then-len-many-clause-left
@@ -24,3 +25,9 @@ returns-in-Err-clause-left g c =
     let left = c.in-Err.ensures.err.1 in
     zip_at IsLeft c.args.audits.items c.in-Err.audits.items left.many
     (λ k d low. let grown = left.grows k d low in record { held = left.quiet k d low; stays = left.stays k d low; more = grown.0; grows = grown.1 })
+
+pub returns-then-len-many-clause-spared : goal.returns-then-len-many-clause-spared
+returns-then-len-many-clause-spared g c missed = none_added c.args.audits.items
+
+pub returns-in-Err-clause-spared : goal.returns-in-Err-clause-spared
+returns-in-Err-clause-spared g c missed = c.in-Err.ensures.spared.entries

@@ -1,5 +1,6 @@
 -- The first seats have their tasks, and the others are left.
 use Rattle.std.proofs.Common.{◌≡◌, ◌+◌, ◌≤◌, ℕ, length, vec_capacity}
+use Rattle.std.specs.List.{All}
 use Rattle.seats.specs.Tasks.{tasks_at}
 use Rattle.seats.proofs.Places.{AreNewFrom}
 use Rattle.seats.proofs.giving.begin_all.Given as goal
@@ -12,4 +13,5 @@ invariant-loop-i g l = record {
   others : (k : ℕ) → l.i ≤ k → tasks_at l.tasks.items k ≡ tasks_at l.fn.tasks.items k;
   count : length l.runs.items ≡ l.i;
   room : vec_capacity l.runs ≡ vec_capacity l.fn.runs;
+  unbegun : All (λ run. run.done ≡ 0) l.runs.items;
 }

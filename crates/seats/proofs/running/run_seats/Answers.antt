@@ -1,7 +1,8 @@
 -- Nothing ran; or what was opened is for these audits.
 use Rattle.std.proofs.Common.{refl, subst, ◌∙◌}
 use Rattle.rig.specs.Rigs.{AreOpened}
-use Rattle.seats.proofs.Stays.{none_ran, room_of}
+use Rattle.seats.specs.Tasks.{tasks_at}
+use Rattle.seats.proofs.Stays.{none_ran, room_of, same_spared}
 use Rattle.seats.proofs.running.run_seats.Goals as goal
 
 pub returns-in_default-clause-err : goal.returns-in_default-clause-err
@@ -10,3 +11,6 @@ returns-in_default-clause-err g c = (refl, none_ran g.B.Block.size g.B.Block.lay
 pub run_in-requires-clause-room : goal.run_in-requires-clause-room
 run_in-requires-clause-room g c κs within =
     room_of g.B.Block.size g.B.Block.layers c.args.audits.items c.in-Ok.opened (subst (λ n. AreOpened n c.in-Ok.opened) (c.len.ensures ∙ c.args.audits.ok.0) c.in-Ok.ensures)
+
+pub returns-in_default-clause-spared : goal.returns-in_default-clause-spared
+returns-in_default-clause-spared g c = same_spared c.args.audits.items (tasks_at c.args.tasks.now.items)

@@ -1,6 +1,7 @@
 -- A read whose bytes are not put into words is cut short behind its last piece.
 use Rattle.chunk.specs.Pieces.{span_of}
 use Rattle.post.specs.Denying.{Serve}
+use Rattle.post.specs.Fixed.{piece_at}
 use Rattle.rig.specs.Rigs.{seen_at}
 use Rattle.seats.specs.Tasks.{denied_of}
 use Rattle.seats.proofs.Reading.{unsaid}
@@ -9,4 +10,4 @@ use Rattle.seats.proofs.serving.read.Goals as goal
 pub returns-in-Ok : goal.returns-in-Ok
 returns-in-Ok g c =
     let done = c.in-Ok.ensures.ok in
-    (done.0, done.1, unsaid (λ request r. denied_of g.J.Room.start g.J.Room.fixed c.args.volume (seen_at c.read.new.self c.args.volume) (Serve request) r) c.args.dev (span_of c.args.range) done.0 c.in-Ok.bytes done.2)
+    (done.0, done.1, unsaid (λ request r. denied_of g.J.Room.start g.J.Room.fixed c.args.volume (seen_at c.read.new.self c.args.volume) (Serve request) r) (piece_at (g.J.Room.fixed c.args.volume)) c.args.dev (span_of c.args.range) done.0 c.in-Ok.bytes done.2)

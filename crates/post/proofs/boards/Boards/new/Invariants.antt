@@ -1,5 +1,6 @@
 -- So many boards are there, with what publishes on them.
-use Rattle.std.proofs.Common.{◌≡◌, length}
+use Rattle.std.proofs.Common.{◌≡◌, length, ◌∷◌, []}
+use Rattle.board.specs.Words.{no_usage}
 use Rattle.crossbeam_utils.specs.Padded.{padded_value}
 use Rattle.post.specs.Boards.{Publishes}
 use Rattle.post.proofs.Matched.{AreMatched}
@@ -9,5 +10,5 @@ abbrev pub invariant-loop : goal.invariant-loop
 invariant-loop l = record {
   many : length l.padded.items ≡ l.counter;
   wide : length l.passes.items ≡ l.counter;
-  each : AreMatched (λ b p. Publishes (padded_value b) p) l.counter l.padded.items l.passes.items;
+  each : AreMatched (λ b p. Publishes (padded_value b) p × (p.seen ≡ no_usage ∷ [])) l.counter l.padded.items l.passes.items;
 }

@@ -1,9 +1,10 @@
 -- A seat has seen all entries, before and after.
-use Rattle.std.proofs.Common.{◌++◌, [], ◌∷◌, refl, sym, ap, ◌∙◌, subst}
+use Rattle.std.proofs.Common.{◌≡◌, false, ◌++◌, [], ◌∷◌, refl, sym, ap, ◌∙◌, subst}
 use Rattle.journal.specs.declared.entry.Entry.TheVariants.{Begun}
+use Rattle.volume.specs.Leaving.{is_quiet_of}
 use Rattle.post.specs.Denying.{Begin, WasDenied}
 use Rattle.post.specs.Posts.{IsKeeper}
-use Rattle.post.proofs.Denied.{merge_denied}
+use Rattle.post.proofs.Denied.{busy_so, merge_denied}
 use Rattle.post.proofs.Fresh.{fresh_is}
 use Rattle.post.proofs.Passes.{shown_as}
 use Rattle.post.proofs.Posting.{looked_holds, noted_holds, not_begun_holds}
@@ -43,11 +44,11 @@ invariant_of-self g c =
     c.note.ensures.is c.entries.ensures.value c.entries-from.ensures.value
     (ap (λ a. a.entries) left.becomes) (ap (λ a. a.held) left.becomes)
     (stays_begun g.B.Block.size g.B.Block.layers _ c.self.inside.audit c.begin_merge.new.self c.args.number c.self.invariant.0.stays
-    c.in-Ok.ensures.admitted c.in-Ok.ensures.begun c.in-Ok.ensures.loud (ap (λ a. a.loud) left.becomes) (ap (λ a. a.base) left.becomes)) in (
+    c.in-Ok.ensures.admitted c.in-Ok.ensures.begun c.in-Ok.ensures.loud (ap (λ a. a.loud) left.becomes) (ap (λ a. a.base) left.becomes) (ap (λ a. a.folded) left.becomes)) in (
       looked_holds g.B.Block.size g.B.Block.layers history start fixed c.begin_merge.new.self c.note.new.keeper c.look-me-in-Ok.new.keeper c.look-me.result.me.0 noted
           (c.look-me-in-Ok.ensures.keeper.0.0 ∙ named) c.look-me-in-Ok.ensures.keeper.0.1 c.look-me-in-Ok.ensures.keeper.1,
       shown_as c.args.beside.now.boards (g.J.Room.boards c.self.inside.volume) c.begin_merge.new.self.volume c.begin_merge.new.self.volume c.keep_up.new.publishers
-          (c.requires.beside.boards_are ∙ sym (ap (λ p. g.J.Room.boards p.volume) c.self.view_is)) refl c.keep_up.ensures,
+          (c.requires.beside.boards_are ∙ sym (ap (λ p. g.J.Room.boards p.volume) c.self.view_is)) refl c.keep_up.ensures.shown,
     )
 
 pub invariant_of-self-in-Err : goal.invariant_of-self-in-Err
@@ -60,5 +61,9 @@ invariant_of-self-in-Err g c =
     (c.look-me.ensures.keeper.0.0 ∙ named) c.look-me.ensures.keeper.0.1 c.look-me.ensures.keeper.1 in (
       not_begun_holds g.B.Block.size g.B.Block.layers history start fixed c.self.inside.audit c.begin_merge.new.self c.look-me.new.keeper c.args.number c.in-Err.refusal looked c.in-Err.ensures.refused,
       shown_as c.args.beside.now.boards (g.J.Room.boards c.self.inside.volume) c.begin_merge.new.self.volume c.begin_merge.new.self.volume c.keep_up-in-Err.new.publishers
-          (c.requires.beside.boards_are ∙ sym (ap (λ p. g.J.Room.boards p.volume) c.self.view_is)) refl c.keep_up-in-Err.ensures,
+          (c.requires.beside.boards_are ∙ sym (ap (λ p. g.J.Room.boards p.volume) c.self.view_is)) refl c.keep_up-in-Err.ensures.shown,
     )
+
+pub returns-in-Err-clause-busy : goal.returns-in-Err-clause-busy
+returns-in-Err-clause-busy g c = λ told.
+    subst (λ p. is_quiet_of p.audit.volume ≡ false) c.self.view_is (busy_so c.args.number c.in-Err.refusal c.self.inside.audit c.begin_merge.new.self told c.in-Err.ensures.refused)

@@ -1,7 +1,7 @@
 -- The pieces so far were read.
-use Rattle.std.proofs.Common.{ℕ}
 use Rattle.chunk.specs.Pieces.{pieces_of, span_of}
 use Rattle.plain.specs.declared.request.Reply.TheVariants.{Data}
+use Rattle.post.specs.Fixed.{piece_at}
 use Rattle.rig.specs.Served.{read_op}
 use Rattle.rig.proofs.UnderWay.{IsUnderWay}
 use Rattle.rig.proofs.seat.Seat.read.Given as goal
@@ -10,5 +10,5 @@ abbrev pub invariant-loop-part : goal.invariant-loop-part
 invariant-loop-part g l = record {
   can : (goal.iterator-loop-part g).can_next l.part-iterator;
   finite : (goal.iterator-loop-part g).is_finite l.part-iterator;
-  under : (chunk : ℕ) × IsUnderWay read_op Data l.fn.dev l.fn.volume (pieces_of chunk (span_of l.fn.range)) l.part-iterator l.fn.self l.self l.out.items;
+  under : IsUnderWay read_op Data l.fn.dev l.fn.volume (pieces_of (piece_at (g.J.Room.fixed l.fn.volume)) (span_of l.fn.range)) l.part-iterator l.fn.self l.self l.out.items;
 }

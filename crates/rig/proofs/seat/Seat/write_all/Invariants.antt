@@ -1,8 +1,9 @@
 -- The pieces so far were written.
-use Rattle.std.proofs.Common.{ℕ, ◌+◌, take}
+use Rattle.std.proofs.Common.{◌+◌, take}
 use Rattle.chunk.specs.Pieces.{pieces_of, span_of}
 use Rattle.chunk.proofs.Runs.{StandsAt}
 use Rattle.plain.specs.declared.request.Op.TheVariants.{Write}
+use Rattle.post.specs.Fixed.{piece_at}
 use Rattle.rig.specs.Served.{written_reply}
 use Rattle.rig.proofs.UnderWay.{IsUnderWay}
 use Rattle.rig.proofs.seat.Seat.write_all.Given as goal
@@ -11,6 +12,6 @@ abbrev pub invariant-loop-part : goal.invariant-loop-part
 invariant-loop-part g l = record {
   can : (goal.iterator-loop-part g).can_next l.part-iterator;
   finite : (goal.iterator-loop-part g).is_finite l.part-iterator;
-  under : (chunk : ℕ) × StandsAt chunk l.fn.range.first (l.fn.range.first + l.fn.range.count) l.from l.part-iterator
-      × IsUnderWay Write written_reply l.fn.dev l.fn.volume (pieces_of chunk (span_of l.fn.range)) l.part-iterator l.fn.self l.self (take l.from l.fn.bytes);
+  under : StandsAt (piece_at (g.J.Room.fixed l.fn.volume)) l.fn.range.first (l.fn.range.first + l.fn.range.count) l.from l.part-iterator
+      × IsUnderWay Write written_reply l.fn.dev l.fn.volume (pieces_of (piece_at (g.J.Room.fixed l.fn.volume)) (span_of l.fn.range)) l.part-iterator l.fn.self l.self (take l.from l.fn.bytes);
 }
