@@ -10,3 +10,5 @@ pub mod Settles
 pub mod Stops
 pub mod Orders
 pub mod Folds
+pub mod Starts
+pub mod Denied

@@ -14,7 +14,9 @@ use Rattle.named.proofs.AtPlace.{put_back, stack_here, volume_here}
 use Rattle.named.proofs.NamedFrames.{taken_by_named, put_named}
 use Rattle.named_volume.specs.Names.{IsNamedMore}
 use Rattle.devices.specs.Busy.{IsBusyRefused, busy_with}
+use Rattle.named_volume.specs.Taking.{IsNotMet}
 use Rattle.devices.specs.Devices.{named_at}
+use Rattle.devices.specs.Meeting.{IsMetBy}
 
 by_those : (name : List ℕ) (chunk : ℕ) (overflow : Bool) (i v : ℕ) (table : Table) (stacked : Stacked) (old : Volume) → i < length table.stacks → stacked ≡ get_or table.stacks i stacked → v < length table.volumes → old ≡ get_or table.volumes v old → snapshot_by name chunk overflow table (named_at v i table) ≡ snapshot_met i v (meet name chunk overflow stacked old) table
 by_those name chunk overflow i v table stacked old i_lt i_at v_lt v_at =
@@ -82,3 +84,31 @@ put_back_named table i stacked back stacks volumes lt at put same names named =
     let P : List Stacked → Type 0 = λ ss. AreNamed (record { stacks = ss; volumes = table.volumes }) in
     let Q : List Volume → Type 0 = λ ws. AreNamed (record { stacks = stacks; volumes = ws }) in
     subst Q (sym same) (subst P (sym put) (put_named table i stacked back lt at names named))
+
+-- what was made of the stack and the volume, whatever is in flight and whichever device drops writes
+pub made_ok : (name : List ℕ) (chunk : ℕ) (overflow : Bool) (i v : ℕ) (table : Table) (stacked : Stacked) (old new : Volume) (stacks : List Stacked) → i < length table.stacks → stacked ≡ get_or table.stacks i stacked → v < length table.volumes → old ≡ get_or table.volumes v old → stacks ≡ remove table.stacks i
+    → IsNamedMore name overflow stacked old new → old.quiet ≡ true → IsMetBy name chunk overflow (Ok tt) table (record { stacks = stacks; volumes = set table.volumes v new }) (named_at v i table)
+made_ok name chunk overflow i v table stacked old new stacks i_lt i_at v_lt v_at out more quiet =
+    let below = stack_here table i stacked i_lt i_at in
+    let here = volume_here table v old v_lt v_at in
+    rw below (rw here (record {
+      after = new;
+      more = more;
+      quiet = quiet;
+      left = ap (λ (ss : List Stacked). record { stacks = ss; volumes = set table.volumes v new }) out;
+    }))
+
+pub made_err : (name : List ℕ) (chunk : ℕ) (overflow : Bool) (i v : ℕ) (table : Table) (stacked back : Stacked) (old : Volume) (stacks : List Stacked) (volumes : List Volume) (e : Refusal) → i < length table.stacks → stacked ≡ get_or table.stacks i stacked → v < length table.volumes → old ≡ get_or table.volumes v old → stacks ≡ set table.stacks i back → volumes ≡ table.volumes
+    → IsNotMet chunk stacked e old → back.names ≡ stacked.names → (is_starved e ≡ true → back ≡ stacked) → (old.quiet ≡ false → ((is_starved e ≡ true) ⊎ (e ≡ busy_with stacked old)) × (back ≡ stacked))
+    → IsMetBy name chunk overflow (Err e) table (record { stacks = stacks; volumes = volumes }) (named_at v i table)
+made_err name chunk overflow i v table stacked back old stacks volumes e i_lt i_at v_lt v_at put same cause names starved busy =
+    let below = stack_here table i stacked i_lt i_at in
+    let here = volume_here table v old v_lt v_at in
+    rw below (rw here (record {
+      cause = cause;
+      back = back;
+      names = names;
+      left = ap (λ (ws : List Volume). record { stacks = stacks; volumes = ws }) same ∙ ap (λ (ss : List Stacked). record { stacks = ss; volumes = table.volumes }) put;
+      starved = starved;
+      busy = λ quiet. (busy quiet).1;
+    }))

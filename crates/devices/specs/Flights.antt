@@ -1,6 +1,7 @@
 -- What commands do to the volume that they are asked of, whatever is in flight in it: that of its volume of events.
-use Rattle.std.specs.Prelude.{◌≡◌, ℕ, Bool, true, false, List, [], Option, Some, None, Result, Ok, Err, slice_index_or}
+use Rattle.std.specs.Prelude.{◌≡◌, ◌≢◌, ℕ, Bool, true, false, List, [], Option, Some, None, Result, Ok, Err, slice_index_or}
 use Rattle.sector.specs.declared.refusal.Refusal.{Refusal}
+use Rattle.sector.specs.declared.refusal.Refusal.TheVariants.{Invalid, Overflow}
 use Rattle.command.specs.declared.events.Event.{Event}
 use Rattle.plain.specs.declared.event.Event.{Event as Step}
 use Rattle.plain.specs.declared.event.Outcome.{Outcome}
@@ -15,7 +16,7 @@ use Rattle.named.specs.State.{Volume, Table}
 use Rattle.named.specs.Places.{place_of, found, volume_at}
 use Rattle.named.specs.Events.{numbered, snapshot_named}
 use Rattle.named.specs.Sectors.{Asked, IsAtRole}
-use Rattle.named_volume.specs.Flights.{IsFlushServed, IsNotDue, IsReadServed, IsStarted, IsStepped, IsWriteServed}
+use Rattle.named_volume.specs.Flights.{IsFlushServed, IsNotDue, IsNotStarted, IsReadServed, IsStarted, IsStepped, IsWriteServed}
 
 -- the number of the snapshot at a place of a volume
 abbrev pub number_in : ℕ → Result Volume Refusal → ℕ
@@ -78,6 +79,13 @@ IsFlushedAmong result before after asks old new = old.quiet ≡ false → IsFlus
 
 abbrev pub IsStartedAs : Op → ℕ → Asked → Volume → Volume → Type 0
 IsStartedAs op number asks old new = IsStarted op number old new asks
+
+-- Or it was not, for this reason: no device is changed, and nothing more is in flight, but where a snapshot is lost, or overflows,
+-- by it.
+pub record IsNotStartedAs (op : Op) (refusal : Refusal) (asks : Asked) (old new : Volume) : Type 0 where
+  pub cause : IsNotStarted op refusal old new asks
+  pub same : refusal ≢ Invalid → refusal ≢ Overflow → new.state ≡ old.state
+  pub still : refusal ≢ Invalid → new.quiet ≡ old.quiet
 
 -- this was done to the volume that has the device of a name
 abbrev pub IsDoneFor : List ℕ → (Volume → Volume → Type 0) → Table → Table → Type 0

@@ -6,3 +6,4 @@ pub mod Merging
 pub mod Stopping
 pub mod Order
 pub mod Status
+pub mod Meeting

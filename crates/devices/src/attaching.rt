@@ -11,6 +11,7 @@ ghost use Rattle.named.specs.declared.place.Role.TheVariants.{Snapshot};
 ghost use Rattle.devices.specs.Busy.{IsBusyRefused};
 ghost use Rattle.device_list.specs.Tables.{table_of};
 ghost use Rattle.devices.specs.Devices.{named_at};
+ghost use Rattle.devices.specs.Meeting.{IsMetBy};
 ghost use Rattle.devices.specs.Ruled.{is_sound_for};
 
 use crate::back::put_stack_back;
@@ -47,6 +48,7 @@ fn meet(
     requires volume { v < length held.old.volumes.items }
     ensures done { is_sound_for (named_at v i (table_of held.old)) ≡ true → Serves result (table_of held.new) (λ t. t ≡ table_of held.old) (snapshot_by name chunk overflow (table_of held.old) (named_at v i (table_of held.old))) }
     ensures busy { IsBusyRefused result (table_of held.old) (table_of held.new) (named_at v i (table_of held.old)) }
+    ensures made { IsMetBy name chunk overflow result (table_of held.old) (table_of held.new) (named_at v i (table_of held.old)) }
     ensures named { place_of name (table_of held.old) ≡ None → nat_le 64 (device_count (table_of held.old)) ≡ false → AreNamed (table_of held.old) → AreNamed (table_of held.new) }
 {
     let stack = held.stacks.remove(i);
@@ -74,6 +76,7 @@ pub fn make_snapshot(
 ) -> Result<(), Refusal>
     ensures done { is_sound_for (named_in sectors device.now store.now (table_of held.old)) ≡ true → Serves result (table_of held.new) (λ t. t ≡ table_of held.old) (snapshot_made name sectors device.now store.now chunk overflow (table_of held.old)) }
     ensures busy { IsBusyRefused result (table_of held.old) (table_of held.new) (named_in sectors device.now store.now (table_of held.old)) }
+    ensures made { IsMetBy name chunk overflow result (table_of held.old) (table_of held.new) (named_in sectors device.now store.now (table_of held.old)) }
     ensures named { place_of name (table_of held.old) ≡ None → nat_le 64 (device_count (table_of held.old)) ≡ false → AreNamed (table_of held.old) → AreNamed (table_of held.new) }
 {
     let v = volume_over(held, device)?;

@@ -10,6 +10,7 @@ ghost use Rattle.named.specs.Places.{place_of};
 ghost use Rattle.named.specs.Sound.{drops_writes, is_sound};
 ghost use Rattle.devices.specs.Busy.{IsBusyTarget};
 ghost use Rattle.device_list.specs.Tables.{table_of};
+ghost use Rattle.devices.specs.Meeting.{IsCreated, IsMadeBy};
 ghost use Rattle.devices.specs.Ruled.{is_sound_target};
 
 use crate::attaching::make_snapshot;
@@ -34,6 +35,7 @@ fn made(
     requires { is_target target ≡ true }
     ensures done { is_sound_target sectors target (table_of held.old) ≡ true → ServesIf (enters_journal target) result (table_of held.new) (λ t. t ≡ table_of held.old) (made name sectors target (table_of held.old)) }
     ensures busy { IsBusyTarget result (table_of held.old) (table_of held.new) sectors target }
+    ensures made { IsMadeBy name sectors target result (table_of held.old) (table_of held.new) }
     ensures named { place_of name (table_of held.old) ≡ None → nat_le 64 (device_count (table_of held.old)) ≡ false → AreNamed (table_of held.old) → AreNamed (table_of held.new) }
 {
     match target {
@@ -71,11 +73,12 @@ fn is_merge(target: &Target) -> bool
 /// `create NAME LINE`: makes the device of a table line. In this order: `BadTable` for `snapshot-merge`, `Busy` for a name
 /// that a device has, `TooMany` where there are 64 devices, then by the target: `JournalFull` only for a snapshot, where the
 /// journal of its origin's volume has no room.
-#[tactic(auto, unfolding(named::specs::Creating::create))]
+#[tactic(auto, unfolding(named::specs::Creating::create, crate::specs::Meeting::IsCreated))]
 pub fn create_device(alloc: Global, held: &mut Held, name: Name, line: Line) -> Result<(), Refusal>
     requires { is_line line ≡ true }
     ensures done { is_sound_target line.sectors line.target (table_of held.old) ≡ true → ServesIf (enters_journal line.target) result (table_of held.new) (λ t. t ≡ table_of held.old) (create name line (table_of held.old)) }
     ensures busy { is_merge line.target ≡ false → place_of name (table_of held.old) ≡ None → nat_le 64 (device_count (table_of held.old)) ≡ false → IsBusyTarget result (table_of held.old) (table_of held.new) line.sectors line.target }
+    ensures made { IsCreated name line result (table_of held.old) (table_of held.new) }
     ensures sound { is_sound (table_of held.old) ≡ true → drops_writes line.target ≡ false → is_sound (table_of held.new) ≡ true }
     ensures named { AreNamed (table_of held.old) → AreNamed (table_of held.new) }
 {

@@ -16,7 +16,7 @@ ghost use Rattle.named_volume.specs.Flights.{IsSettledBy, IsStepped};
 ghost use Rattle.named_volume.specs.Names.{KeepsNames};
 ghost use Rattle.device_list.specs.Tables.{table_of};
 ghost use Rattle.devices.specs.Devices.{Flies, KeepsOthers};
-ghost use Rattle.devices.specs.Flights.{IsDoneFor, IsNotDueIn, IsStartedAs, event_of, is_about_merging, number_about};
+ghost use Rattle.devices.specs.Flights.{IsDoneFor, IsNotDueIn, IsNotStartedAs, IsStartedAs, event_of, is_about_merging, number_about};
 ghost use Rattle.devices.specs.Merging.{settled_at};
 ghost use Rattle.devices.specs.Ruled.{is_alone_in, is_quiet_in, is_sound_in, rests_at, volume_for};
 ghost use Rattle.volume.specs.EventKinds.{is_of_merge};
@@ -47,6 +47,7 @@ fn start_at(
     ensures asks { IfErr (asked_at (In v role) first count (table_of held.old)) (λ e. result ≡ Err e) }
     ensures stays { IfErr (asked_at (In v role) first count (table_of held.old)) (λ _. table_of held.new ≡ table_of held.old) }
     ensures started { IfOk result (λ number. IfOk (asked_at (In v role) first count (table_of held.old)) (λ asks. IsInVolume (IsStartedAs op number asks) v (table_of held.old) (table_of held.new) (volume_at v (table_of held.old)))) }
+    ensures refused { IfErr result (λ e. IfOk (asked_at (In v role) first count (table_of held.old)) (λ asks. IsInVolume (IsNotStartedAs op e asks) v (table_of held.old) (table_of held.new) (volume_at v (table_of held.old)))) }
     ensures flies { OnOk result (IsInVolume (λ was now. now.quiet ≡ false) v (table_of held.old) (table_of held.new) (volume_at v (table_of held.old))) }
     ensures one { IsInVolume KeepsNames v (table_of held.old) (table_of held.new) (volume_at v (table_of held.old)) }
     ensures named { AreNamed (table_of held.old) → AreNamed (table_of held.new) }
@@ -69,6 +70,7 @@ pub fn start_read(
     ensures asks { IfErr (read_asked name.now first count (table_of held.old)) (λ e. result ≡ Err e) }
     ensures stays { IfErr (read_asked name.now first count (table_of held.old)) (λ _. table_of held.new ≡ table_of held.old) }
     ensures started { IfOk result (λ number. IfOk (read_asked name.now first count (table_of held.old)) (λ asks. IsDoneFor name.now (IsStartedAs Read number asks) (table_of held.old) (table_of held.new))) }
+    ensures refused { IfErr result (λ e. IfOk (read_asked name.now first count (table_of held.old)) (λ asks. IsDoneFor name.now (IsNotStartedAs Read e asks) (table_of held.old) (table_of held.new))) }
     ensures flies { OnOk result (Flies name.now (table_of held.old) (table_of held.new)) }
     ensures one { KeepsOthers name.now (table_of held.old) (table_of held.new) }
     ensures named { AreNamed (table_of held.old) → AreNamed (table_of held.new) }
@@ -93,6 +95,7 @@ pub fn start_write(
     ensures asks { IfErr (write_asked name.now first bytes (table_of held.old)) (λ e. result ≡ Err e) }
     ensures stays { IfErr (write_asked name.now first bytes (table_of held.old)) (λ _. table_of held.new ≡ table_of held.old) }
     ensures started { IfOk result (λ number. IfOk (write_asked name.now first bytes (table_of held.old)) (λ asks. IsDoneFor name.now (IsStartedAs (Write bytes) number asks) (table_of held.old) (table_of held.new))) }
+    ensures refused { IfErr result (λ e. IfOk (write_asked name.now first bytes (table_of held.old)) (λ asks. IsDoneFor name.now (IsNotStartedAs (Write bytes) e asks) (table_of held.old) (table_of held.new))) }
     ensures flies { OnOk result (Flies name.now (table_of held.old) (table_of held.new)) }
     ensures one { KeepsOthers name.now (table_of held.old) (table_of held.new) }
     ensures named { AreNamed (table_of held.old) → AreNamed (table_of held.new) }
@@ -275,6 +278,7 @@ pub fn settle_device(held: &mut Held, name: &Name, ended: &mut Vec<Replied>) -> 
     ensures alone { is_alone_in (volume_for name.now (table_of held.old)) ≡ true → table_of held.new ≡ table_of held.old }
     ensures drained { OnOk result (IsDoneFor name.now (IsSettledBy ended.old.items ended.new.items) (table_of held.old) (table_of held.new)) }
     ensures err { OnErr result ((table_of held.new ≡ table_of held.old) × (ended.new.items ≡ ended.old.items)) }
+    ensures refused { IfErr result (λ e. IfOk (origin_by name.now (table_of held.old)) (λ _. e ≡ NoMemory)) }
     ensures rested { OnOk result (rested name.now (table_of held.old) (table_of held.new) ≡ Ok tt) }
     ensures one { KeepsOthers name.now (table_of held.old) (table_of held.new) }
     ensures sound { is_sound (table_of held.old) ≡ true → is_sound (table_of held.new) ≡ true }

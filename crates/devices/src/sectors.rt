@@ -7,6 +7,7 @@ ghost use Rattle.named.specs.Sectors.{IsFlushStarved, IsInVolume, IsPartWritten,
 ghost use Rattle.named.specs.Sound.{is_sound};
 ghost use Rattle.named.specs.Starting.{asked_at, flush_asked, read_asked, write_asked};
 ghost use Rattle.named.specs.declared.place.Place.TheVariants.{In};
+ghost use Rattle.named_volume.specs.Flights.{IsDenied};
 ghost use Rattle.named_volume.specs.Names.{KeepsNames};
 ghost use Rattle.device_list.specs.Tables.{table_of};
 ghost use Rattle.devices.specs.Devices.{KeepsOthers};
@@ -39,6 +40,7 @@ fn read_at(
     ensures asks { IfErr (asked_at (In v role) first count (table_of held.old)) (λ e. result ≡ Err e) }
     ensures stays { IfErr (asked_at (In v role) first count (table_of held.old)) (λ _. (table_of held.new ≡ table_of held.old) × (ended.new.items ≡ ended.old.items)) }
     ensures among { IfOk (asked_at (In v role) first count (table_of held.old)) (λ asks. IsInVolume (IsReadAmong result ended.old.items ended.new.items asks) v (table_of held.old) (table_of held.new) (volume_at v (table_of held.old))) }
+    ensures denied { is_quiet_in (volume_at v (table_of held.old)) ≡ true → IfErr result (λ e. IfOk (asked_at (In v role) first count (table_of held.old)) (λ _. IsDenied e)) }
     ensures one { IsInVolume KeepsNames v (table_of held.old) (table_of held.new) (volume_at v (table_of held.old)) }
     ensures sound { is_sound (table_of held.old) ≡ true → is_sound (table_of held.new) ≡ true }
     ensures named { AreNamed (table_of held.old) → AreNamed (table_of held.new) }
@@ -66,6 +68,7 @@ pub fn read_device(
     ensures asks { IfErr (read_asked name.now first count (table_of held.old)) (λ e. result ≡ Err e) }
     ensures stays { IfErr (read_asked name.now first count (table_of held.old)) (λ _. (table_of held.new ≡ table_of held.old) × (ended.new.items ≡ ended.old.items)) }
     ensures among { IfOk (read_asked name.now first count (table_of held.old)) (λ asks. IsDoneFor name.now (IsReadAmong result ended.old.items ended.new.items asks) (table_of held.old) (table_of held.new)) }
+    ensures denied { is_quiet_in (volume_for name.now (table_of held.old)) ≡ true → IfErr result (λ e. IfOk (read_asked name.now first count (table_of held.old)) (λ _. IsDenied e)) }
     ensures one { KeepsOthers name.now (table_of held.old) (table_of held.new) }
     ensures sound { is_sound (table_of held.old) ≡ true → is_sound (table_of held.new) ≡ true }
     ensures named { AreNamed (table_of held.old) → AreNamed (table_of held.new) }
@@ -97,6 +100,7 @@ fn write_at(
     ensures asks { IfErr (asked_at (In v role) first count (table_of held.old)) (λ e. result ≡ Err e) }
     ensures stays { IfErr (asked_at (In v role) first count (table_of held.old)) (λ _. (table_of held.new ≡ table_of held.old) × (ended.new.items ≡ ended.old.items)) }
     ensures among { IfOk (asked_at (In v role) first count (table_of held.old)) (λ asks. IsInVolume (IsWrittenAmong bytes.now result ended.old.items ended.new.items asks) v (table_of held.old) (table_of held.new) (volume_at v (table_of held.old))) }
+    ensures denied { is_quiet_in (volume_at v (table_of held.old)) ≡ true → IfErr result (λ e. IfOk (asked_at (In v role) first count (table_of held.old)) (λ _. IsDenied e)) }
     ensures one { IsInVolume KeepsNames v (table_of held.old) (table_of held.new) (volume_at v (table_of held.old)) }
     ensures sound { is_sound (table_of held.old) ≡ true → is_sound (table_of held.new) ≡ true }
     ensures named { AreNamed (table_of held.old) → AreNamed (table_of held.new) }
@@ -123,6 +127,7 @@ pub fn write_device(
     ensures asks { IfErr (write_asked name.now first bytes.now (table_of held.old)) (λ e. result ≡ Err e) }
     ensures stays { IfErr (write_asked name.now first bytes.now (table_of held.old)) (λ _. (table_of held.new ≡ table_of held.old) × (ended.new.items ≡ ended.old.items)) }
     ensures among { IfOk (write_asked name.now first bytes.now (table_of held.old)) (λ asks. IsDoneFor name.now (IsWrittenAmong bytes.now result ended.old.items ended.new.items asks) (table_of held.old) (table_of held.new)) }
+    ensures denied { is_quiet_in (volume_for name.now (table_of held.old)) ≡ true → IfErr result (λ e. IfOk (write_asked name.now first bytes.now (table_of held.old)) (λ _. IsDenied e)) }
     ensures one { KeepsOthers name.now (table_of held.old) (table_of held.new) }
     ensures sound { is_sound (table_of held.old) ≡ true → is_sound (table_of held.new) ≡ true }
     ensures named { AreNamed (table_of held.old) → AreNamed (table_of held.new) }
@@ -143,6 +148,7 @@ fn flush_at(held: &mut Held, v: usize, role: Role, ended: &mut Vec<Replied>) -> 
     ensures asks { IfErr (asked_at (In v role) 0 1 (table_of held.old)) (λ e. result ≡ Err e) }
     ensures stays { IfErr (asked_at (In v role) 0 1 (table_of held.old)) (λ _. (table_of held.new ≡ table_of held.old) × (ended.new.items ≡ ended.old.items)) }
     ensures among { IfOk (asked_at (In v role) 0 1 (table_of held.old)) (λ asks. IsInVolume (IsFlushedAmong result ended.old.items ended.new.items asks) v (table_of held.old) (table_of held.new) (volume_at v (table_of held.old))) }
+    ensures denied { is_quiet_in (volume_at v (table_of held.old)) ≡ true → IfErr result (λ e. IfOk (asked_at (In v role) 0 1 (table_of held.old)) (λ _. IsDenied e)) }
     ensures one { IsInVolume KeepsNames v (table_of held.old) (table_of held.new) (volume_at v (table_of held.old)) }
     ensures sound { is_sound (table_of held.old) ≡ true → is_sound (table_of held.new) ≡ true }
     ensures named { AreNamed (table_of held.old) → AreNamed (table_of held.new) }
@@ -162,6 +168,7 @@ pub fn flush_device(held: &mut Held, name: &Name, ended: &mut Vec<Replied>) -> R
     ensures asks { IfErr (flush_asked name.now (table_of held.old)) (λ e. result ≡ Err e) }
     ensures stays { IfErr (flush_asked name.now (table_of held.old)) (λ _. (table_of held.new ≡ table_of held.old) × (ended.new.items ≡ ended.old.items)) }
     ensures among { IfOk (flush_asked name.now (table_of held.old)) (λ asks. IsDoneFor name.now (IsFlushedAmong result ended.old.items ended.new.items asks) (table_of held.old) (table_of held.new)) }
+    ensures denied { is_quiet_in (volume_for name.now (table_of held.old)) ≡ true → IfErr result (λ e. IfOk (flush_asked name.now (table_of held.old)) (λ _. IsDenied e)) }
     ensures one { KeepsOthers name.now (table_of held.old) (table_of held.new) }
     ensures sound { is_sound (table_of held.old) ≡ true → is_sound (table_of held.new) ≡ true }
     ensures named { AreNamed (table_of held.old) → AreNamed (table_of held.new) }

@@ -6,7 +6,7 @@ ghost use Rattle.named.specs.Status.{status_at, status_text};
 ghost use Rattle.named.specs.declared.place.Place.TheVariants.{In};
 ghost use Rattle.device_list.specs.Tables.{table_of};
 ghost use Rattle.devices.specs.Ruled.{is_sound_in, volume_for};
-ghost use Rattle.devices.specs.Status.{IsStatusAmong, IsStatusIn};
+ghost use Rattle.devices.specs.Status.{IsStatusAmong, IsStatusHeld, IsStatusHeldIn, IsStatusIn};
 
 use device_list::{Held, find_device};
 use named::{Place, Role};
@@ -20,6 +20,7 @@ fn status_at(alloc: Global, held: &Held, v: usize, role: Role) -> Result<Text, R
     requires { IsPlaceIn (In v role) (table_of held.now) }
     ensures done { is_sound_in (volume_at v (table_of held.now)) ≡ true → Gives result (status_at (In v role) (table_of held.now)) }
     ensures among { IsStatusIn result role (volume_at v (table_of held.now)) }
+    ensures held { IsStatusHeldIn result role (volume_at v (table_of held.now)) }
 {
     held.volumes[v].status(alloc, role)
 }
@@ -30,6 +31,7 @@ fn status_at(alloc: Global, held: &Held, v: usize, role: Role) -> Result<Text, R
 pub fn status_text(alloc: Global, held: &Held, name: &Name) -> Result<Text, Refusal>
     ensures done { is_sound_in (volume_for name.now (table_of held.now)) ≡ true → Gives result (status_text name.now (table_of held.now)) }
     ensures among { IsStatusAmong result name.now (table_of held.now) }
+    ensures held { IsStatusHeld result name.now (table_of held.now) }
 {
     match find_device(held, name)? {
         Place::Free(_, _) => Err(Refusal::BadTable),

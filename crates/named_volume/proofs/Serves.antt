@@ -22,6 +22,7 @@ use Rattle.named.specs.declared.place.Role.{Role}
 use Rattle.named.specs.State.{Volume, merged_in}
 use Rattle.named.specs.Changes.{Did, Serves}
 use Rattle.named.specs.Sectors.{Asked, asked_of, after_asking, flush_by, flushed_in, read_answer, read_by, read_in, IsReadAsked, write_answer, write_by, written_in, ArePartWritten, IsPartWritten, IsPartWrittenBy}
+use Rattle.named_volume.specs.Flights.{IsDenied}
 use Rattle.named_volume.specs.Held.{merged_inside, IsSettledIn}
 use Rattle.named_volume.proofs.Unflushed.{flush_leaves}
 
@@ -139,3 +140,42 @@ module _ (role : Role) (volume new : Volume) (dev : Dev) (span : Span) (before a
       | inr starved ↦ (λ other. absurd (not_both (is_starved e) starved.1 other), λ none. inr (sym (flush_left starved.2)))
     ]
   ]
+
+-- Why what may be asked of a volume is refused, whichever device drops writes.
+module _ (dev : Dev) (before after : Rested Stack) (there : has_dev dev before ≡ true) (asks : Result Asked Refusal) where
+  of_it : (e : Refusal) → IsDenied e → IfOk asks (λ _. IsDenied e)
+  of_it e why = for asks
+    where
+      for : (r : Result Asked Refusal) → IfOk r (λ _. IsDenied e)
+      for (Ok a) = why
+      for (Err x) = tt
+
+  pub read_denied : (span : Span) (result : Result (List ℕ) Refusal) → IfErr result (λ e. IsReadRefused stack_contents stack_layers dev span e before after) → IfErr result (λ e. IfOk asks (λ _. IsDenied e))
+  read_denied span (Ok bytes) why = tt
+  read_denied span (Err e) why = of_it e (elim why [
+    | inl missing ↦ absurd (not_both (has_dev dev before) there missing.1)
+    | inr more ↦ elim more [
+      | inl failed ↦ inr (failed.1.0, failed.1.1)
+      | inr starved ↦ inl starved.1
+    ]
+  ])
+
+  pub write_denied : (span : Span) (bytes : List ℕ) (result : Result (Unit {0}) Refusal) → IfErr result (λ e. IsWriteRefused stack_contents stack_layers dev span bytes e before after) → IfErr result (λ e. IfOk asks (λ _. IsDenied e))
+  write_denied span bytes (Ok unit) why = tt
+  write_denied span bytes (Err e) why = of_it e (elim why [
+    | inl missing ↦ absurd (not_both (has_dev dev before) there missing.1)
+    | inr more ↦ elim more [
+      | inl failed ↦ inr (failed.1.0, failed.1.1)
+      | inr starved ↦ inl starved.1
+    ]
+  ])
+
+  pub flush_denied : (result : Result (Unit {0}) Refusal) → IfErr result (λ e. IsFlushRefused stack_contents stack_layers dev e before after) → IfErr result (λ e. IfOk asks (λ _. IsDenied e))
+  flush_denied (Ok unit) why = tt
+  flush_denied (Err e) why = of_it e (elim why [
+    | inl missing ↦ absurd (not_both (has_dev dev before) there missing.1)
+    | inr more ↦ elim more [
+      | inl failed ↦ inr (failed.1.0, failed.1.1)
+      | inr starved ↦ inl starved.1
+    ]
+  ])

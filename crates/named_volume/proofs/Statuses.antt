@@ -85,13 +85,18 @@ module _ (volume : Rested Stack) (whole : IsWhole volume) (k : ℕ) (within : k 
       rw is refl
 
   -- its status line
-  pub flying_says : (sectors : ℕ) (state : State) (text : List ℕ) (seen : Volume) (moving : Moving) (r : Result (List ℕ) AllocError) → seen.state ≡ settled_in volume → flying_in volume.events ≡ Some moving → state ≡ state_kept kept → r ≡ Ok text → IfOk r (λ t. t ≡ snapshot_text sectors state) → sectors ≡ size_of seen.state.origin
-      → status_flying (Snapshot k) seen moving ≡ Ok text
+  pub held_says : (sectors : ℕ) (state : State) (text : List ℕ) (seen : Volume) (r : Result (List ℕ) AllocError) → seen.state ≡ settled_in volume → state ≡ state_kept kept → r ≡ Ok text → IfOk r (λ t. t ≡ snapshot_text sectors state) → sectors ≡ size_of seen.state.origin
+      → status_flying (Snapshot k) seen (flying_of stack_contents stack_layers volume.events) ≡ Ok text
   unfolding status_flying
-  flying_says sectors state text seen moving r in_state flies of is says size =
+  held_says sectors state text seen r in_state of is says size =
       let at = at_place volume k within in
       let same : at.0 ≡ attached_of kept = sym (at.1.is at.0) ∙ attached_there at.0 in
       let there : snap_at k seen.state ≡ Ok (stack_snap (attached_of kept)) = ap (snap_at k) in_state ∙ at.1.seen ∙ ap (λ (s : Attached Stack). Ok (stack_snap s)) same in
+      rw there (rw held_there (rw (sym size) (rw (sym of) (rw (IfOk-at_ok (λ (t : List ℕ). t ≡ snapshot_text sectors state) is says) refl))))
+
+  -- while something is in flight
+  pub flying_says : (sectors : ℕ) (state : State) (text : List ℕ) (seen : Volume) (moving : Moving) (r : Result (List ℕ) AllocError) → seen.state ≡ settled_in volume → flying_in volume.events ≡ Some moving → state ≡ state_kept kept → r ≡ Ok text → IfOk r (λ t. t ≡ snapshot_text sectors state) → sectors ≡ size_of seen.state.origin
+      → status_flying (Snapshot k) seen moving ≡ Ok text
+  flying_says sectors state text seen moving r in_state flies of is says size =
       let mine : flying_of stack_contents stack_layers volume.events ≡ moving = some_flown (is_quiet_of volume.events) (flying_of stack_contents stack_layers volume.events) moving flies in
-      let held : held_at k moving ≡ Ok (kept_held kept) = ap (held_at k) (sym mine) ∙ held_there in
-      rw there (rw held (rw (sym size) (rw (sym of) (rw (IfOk-at_ok (λ (t : List ℕ). t ≡ snapshot_text sectors state) is says) refl))))
+      subst (λ (m : Moving). status_flying (Snapshot k) seen m ≡ Ok text) mine (held_says sectors state text seen r in_state of is says size)

@@ -8,8 +8,10 @@ use Rattle.plain.specs.declared.event.Event.{Event}
 use Rattle.plain.specs.declared.event.Outcome.{Outcome}
 use Rattle.plain.specs.declared.request.Op.{Op}
 use Rattle.plain.specs.declared.request.Request.{Request}
+use Rattle.plain.specs.declared.request.Failure.{Failure}
+use Rattle.plain.specs.Failures.{refusal_of}
 use Rattle.plain.specs.Legal.{IsLegalStep}
-use Rattle.served.specs.Refusals.{IsStarved}
+use Rattle.served.specs.Refusals.{IsStarved, is_starved}
 use Rattle.volume.specs.Volumed.{Volumed, is_due_of, is_loud_in_all, piece_with, plain_of}
 use Rattle.volume.specs.Causes.{HasCause, IsOneAtMost}
 use Rattle.volume.specs.Exact.{IsExact}
@@ -90,6 +92,11 @@ IsFlushServed result earlier later old new asks =
     InEvents (λ before after. MatchResult result
     (λ done. IsFlushedAmong stack_contents stack_layers asks.dev before after earlier later)
     (λ refusal. IsFlushRefusedAmong stack_contents stack_layers stack_size asks.dev refusal (rested_of before) (rested_of after) earlier later)) old new
+
+-- Why a volume in which nothing is in flight refuses what may be asked of it, whichever device drops writes: memory or the room of
+-- its journal ran out, or the request of a piece failed.
+abbrev pub IsDenied : Refusal → Type 0
+IsDenied refusal = (is_starved refusal ≡ true) ⊎ ((failure : Failure) × (refusal ≡ refusal_of failure))
 
 -- a merge is not finished, for this reason
 abbrev pub IsUnfinished : Refusal → Volume → Type 0

@@ -4,3 +4,4 @@ pub mod Flights
 pub mod Stopping
 pub mod Parting
 pub mod Status
+pub mod Taking

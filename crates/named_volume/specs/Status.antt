@@ -5,7 +5,7 @@ use Rattle.layers.specs.declared.stack.Stack.{Stack}
 use Rattle.layers.specs.Stack.{stack_contents, stack_layers}
 use Rattle.sector.specs.declared.refusal.Refusal.{Refusal}
 use Rattle.sector.specs.declared.refusal.Refusal.TheVariants.{NoSuchDevice}
-use Rattle.words.specs.Given.{◌>>=◌}
+use Rattle.words.specs.Given.{Gives, ◌>>=◌}
 use Rattle.status.specs.declared.State.{State}
 use Rattle.status.specs.declared.State.TheVariants.{Invalid, Overflow, Used}
 use Rattle.status.specs.Lines.{snapshot_text}
@@ -14,7 +14,8 @@ use Rattle.settled.specs.Devices.{Device, sectors_of}
 use Rattle.event_machine.specs.Held.{Held, Moving}
 use Rattle.snapshot.specs.Kept.{Kept}
 use Rattle.volume.specs.Moved.{held_of}
-use Rattle.resting.specs.Flying.{without_store}
+use Rattle.volume.specs.Volumed.{Volumed}
+use Rattle.resting.specs.Flying.{flying_of, without_store}
 use Rattle.resting.specs.Rested.{Rested}
 use Rattle.named.specs.declared.place.Role.{Role}
 use Rattle.named.specs.declared.place.Role.TheVariants.{Origin, Under, Snapshot, Store, Merging, MergingStore}
@@ -22,6 +23,7 @@ use Rattle.named.specs.Stacks.{device_of}
 use Rattle.named.specs.State.{Volume}
 use Rattle.named.specs.Messages.{snap_at}
 use Rattle.named.specs.Status.{status_in}
+use Rattle.named_volume.specs.Flights.{IsBehind}
 
 -- What is used of a store: all up to the next place, and the header and the areas, which hold no copies.
 abbrev pub used_flying : Held → Device → State
@@ -65,3 +67,13 @@ status_flying (Under depth) volume moving = status_in (Under depth) volume
 status_flying (Store k depth) volume moving = status_in (Store k depth) volume
 status_flying Merging volume moving = status_in Merging volume
 status_flying (MergingStore depth) volume moving = status_in (MergingStore depth) volume
+
+-- What a status line says of a device in any case, whatever is in flight and whichever device drops writes: of a snapshot by what is
+-- in memory in the volume of events behind.
+abbrev pub IsStatusOf : Result (List ℕ) Refusal → Role → Volume → Type 0
+IsStatusOf result (Snapshot k) volume = (events : Volumed Stack) × IsBehind events volume × Gives result (status_flying (Snapshot k) volume (flying_of stack_contents stack_layers events))
+IsStatusOf result Origin volume = Gives result (status_in Origin volume)
+IsStatusOf result (Under depth) volume = Gives result (status_in (Under depth) volume)
+IsStatusOf result (Store k depth) volume = Gives result (status_in (Store k depth) volume)
+IsStatusOf result Merging volume = Gives result (status_in Merging volume)
+IsStatusOf result (MergingStore depth) volume = Gives result (status_in (MergingStore depth) volume)

@@ -5,6 +5,7 @@ ghost use Rattle.device.specs.Layers.{is_loud};
 ghost use Rattle.served.specs.Refusals.{is_starved};
 ghost use Rattle.named.specs.Snapshots.{meet, parted};
 ghost use Rattle.named_volume.specs.Names.{IsNamedMore};
+ghost use Rattle.named_volume.specs.Taking.{IsNotMet};
 
 use crate::names::SnapNames;
 use crate::origin::NamedVolume;
@@ -31,6 +32,7 @@ impl NamedVolume {
         ensures ok { OnOk result (self.old.sound ≡ true → self.old.quiet ≡ true → is_loud stack.device.layers ≡ true → ((meet name chunk overflow stack self.old).refused ≡ None) × ((meet name chunk overflow stack self.old).volume ≡ self.new)) }
         ensures err { IfErr result (λ e. is_starved e.0 ≡ false → self.old.sound ≡ true → self.old.quiet ≡ true → is_loud stack.device.layers ≡ true → ((meet name chunk overflow stack self.old).refused ≡ Some e.0) × ((meet name chunk overflow stack self.old).stacked ≡ e.1)) }
         ensures busy { IfErr result (λ e. self.old.quiet ≡ false → ((is_starved e.0 ≡ true) ⊎ (e.0 ≡ (if stack.stale then Stale else (if is_some self.old.merging then MergeInProgress else NotQuiet)))) × (e.1 ≡ stack)) }
+        ensures refused { IfErr result (λ e. IsNotMet chunk stack e.0 self.old) }
         ensures starved { IfErr result (λ e. is_starved e.0 ≡ true → e.1 ≡ stack) }
         ensures named { OnOk result (IsNamedMore name overflow stack self.old self.new) }
         ensures names { IfErr result (λ e. e.1.names ≡ stack.names) }

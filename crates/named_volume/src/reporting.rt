@@ -9,7 +9,7 @@ ghost use Rattle.named.specs.State.{Merging as Begun, names_in};
 ghost use Rattle.named.specs.Lines.{line_in_merging, line_of_role, merging_line as merging_line_of, origin_line as origin_line_of, snapshot_line as snapshot_line_of};
 ghost use Rattle.named.specs.Raw.{raw_in_merging, raw_under};
 ghost use Rattle.named.specs.Status.{status_in};
-ghost use Rattle.named_volume.specs.Status.{status_flying};
+ghost use Rattle.named_volume.specs.Status.{IsStatusOf, status_flying};
 
 use crate::names::SnapNames;
 use crate::origin::NamedVolume;
@@ -190,6 +190,7 @@ impl NamedVolume {
         requires { IsRoleIn role self.now }
         ensures done { self.now.sound ≡ true → self.now.quiet ≡ true → Gives result (status_in role self.now) }
         ensures among { (moving : Moving) → self.now.flying ≡ Some moving → Gives result (status_flying role self.now moving) }
+        ensures held { IsStatusOf result role self.now }
     {
         look(&self.volume);
         let sectors = u64::from(sectors_of(self.volume.origin()));

@@ -8,7 +8,7 @@ ghost use Rattle.named.specs.State.{Volume};
 ghost use Rattle.named.specs.Changes.{Serves};
 ghost use Rattle.named.specs.Places.{HasRole, IsRoleIn};
 ghost use Rattle.named.specs.Sectors.{asked_of, dev_of, serves, takes, flushed_in, read_in, written_in, IsReadAsked, IsPartWritten};
-ghost use Rattle.named_volume.specs.Flights.{IsFlushServed, IsReadServed, IsWriteServed};
+ghost use Rattle.named_volume.specs.Flights.{IsDenied, IsFlushServed, IsReadServed, IsWriteServed};
 ghost use Rattle.named_volume.specs.Held.{settled_in};
 ghost use Rattle.named_volume.specs.Names.{KeepsNames};
 
@@ -125,6 +125,7 @@ impl NamedVolume {
         ensures counts { IfOk (asked_of role first count self.old) (λ _. self.new.asked ≡ self.old.asked + count) }
         ensures told { self.old.quiet ≡ true → ended.new.items ≡ ended.old.items }
         ensures asks { IfErr (asked_of role first count self.old) (λ e. result ≡ Err e) }
+        ensures denied { self.old.quiet ≡ true → IfErr result (λ e. IfOk (asked_of role first count self.old) (λ _. IsDenied e)) }
         ensures stays { IfErr (asked_of role first count self.old) (λ _. (self.new ≡ self.old) × (ended.new.items ≡ ended.old.items)) }
         ensures quiet { self.old.quiet ≡ true → self.new.quiet ≡ true }
         ensures kept { KeepsNames self.old self.new }
@@ -159,6 +160,7 @@ impl NamedVolume {
         ensures counts { IfOk (asked_of role first count self.old) (λ _. self.new.asked ≡ self.old.asked + count) }
         ensures told { self.old.quiet ≡ true → ended.new.items ≡ ended.old.items }
         ensures asks { IfErr (asked_of role first count self.old) (λ e. result ≡ Err e) }
+        ensures denied { self.old.quiet ≡ true → IfErr result (λ e. IfOk (asked_of role first count self.old) (λ _. IsDenied e)) }
         ensures stays { IfErr (asked_of role first count self.old) (λ _. (self.new ≡ self.old) × (ended.new.items ≡ ended.old.items)) }
         ensures quiet { self.old.quiet ≡ true → self.new.quiet ≡ true }
         ensures kept { KeepsNames self.old self.new }
@@ -181,6 +183,7 @@ impl NamedVolume {
         ensures counts { IfOk (asked_of role 0 1 self.old) (λ _. self.new.asked ≡ self.old.asked + 1) }
         ensures told { self.old.quiet ≡ true → ended.new.items ≡ ended.old.items }
         ensures asks { IfErr (asked_of role 0 1 self.old) (λ e. result ≡ Err e) }
+        ensures denied { self.old.quiet ≡ true → IfErr result (λ e. IfOk (asked_of role 0 1 self.old) (λ _. IsDenied e)) }
         ensures stays { IfErr (asked_of role 0 1 self.old) (λ _. (self.new ≡ self.old) × (ended.new.items ≡ ended.old.items)) }
         ensures quiet { self.old.quiet ≡ true → self.new.quiet ≡ true }
         ensures kept { KeepsNames self.old self.new }

@@ -8,3 +8,6 @@ pub mod Layers
 pub mod Making
 pub mod Lines
 pub mod Devices
+pub mod Undoing
+pub mod Places
+pub mod OnDisk

@@ -2,3 +2,4 @@ pub mod Arrays
 pub mod Shown
 pub mod Commands
 pub mod Well
+pub mod Undoing

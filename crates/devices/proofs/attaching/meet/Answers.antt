@@ -1,7 +1,7 @@
 use Rattle.device_list.specs.Tables.{table_of}
 use Rattle.named.proofs.AtPlace.{put_back}
 use Rattle.devices.proofs.Places.{placed}
-use Rattle.devices.proofs.Meeting.{met_ok, met_err, busy_ok, busy_err, attached_named, put_back_named}
+use Rattle.devices.proofs.Meeting.{made_ok, made_err, met_ok, met_err, busy_ok, busy_err, attached_named, put_back_named}
 use Rattle.devices.proofs.Ruled.{both_here}
 use Rattle.devices.proofs.attaching.meet.Goals as goal
 
@@ -15,6 +15,9 @@ returns-in-Ok c = record {
   busy =
       busy_ok c.args.i c.args.v (table_of c.args.held.now) _ c.remove-stack.result c.index_mut.result.now
       c.requires.stack c.remove-stack.ensures.value c.requires.volume c.index_mut.ensures.value c.in-Ok.ensures.still;
+  made =
+      made_ok c.args.name c.args.chunk c.args.overflow c.args.i c.args.v (table_of c.args.held.now) c.remove-stack.result c.index_mut.result.now c.attach.new.self c.remove-stack.new.self.items
+      c.requires.stack c.remove-stack.ensures.value c.requires.volume c.index_mut.ensures.value c.remove-stack.ensures.items c.in-Ok.ensures.named c.in-Ok.ensures.still;
   named = λ none room named.
       attached_named (table_of c.args.held.now) c.args.name c.args.overflow c.args.i c.args.v c.remove-stack.result c.index_mut.result.now c.attach.new.self c.remove-stack.new.self.items
       none room c.requires.stack c.remove-stack.ensures.value c.requires.volume c.index_mut.ensures.value c.remove-stack.ensures.items c.in-Ok.ensures.named named;
@@ -36,6 +39,12 @@ returns-in-Err c = record {
       (placed c.args.held.now.stacks.items c.remove-stack.new.self.items c.put_stack_back.new.stacks.items c.args.i c.in-Err.stack c.requires.stack c.remove-stack.ensures.items c.put_stack_back.ensures)
       (put_back c.args.held.now.volumes.items c.args.v c.index_mut.result.now c.attach.new.self c.index_mut.ensures.value c.in-Err.ensures.same)
       c.in-Err.ensures.busy;
+  made =
+      made_err c.args.name c.args.chunk c.args.overflow c.args.i c.args.v (table_of c.args.held.now) c.remove-stack.result c.in-Err.stack c.index_mut.result.now _ _ c.in-Err.refusal
+      c.requires.stack c.remove-stack.ensures.value c.requires.volume c.index_mut.ensures.value
+      (placed c.args.held.now.stacks.items c.remove-stack.new.self.items c.put_stack_back.new.stacks.items c.args.i c.in-Err.stack c.requires.stack c.remove-stack.ensures.items c.put_stack_back.ensures)
+      (put_back c.args.held.now.volumes.items c.args.v c.index_mut.result.now c.attach.new.self c.index_mut.ensures.value c.in-Err.ensures.same)
+      c.in-Err.ensures.refused c.in-Err.ensures.names c.in-Err.ensures.starved c.in-Err.ensures.busy;
   named = λ none room named.
       put_back_named (table_of c.args.held.now) c.args.i c.remove-stack.result c.in-Err.stack c.put_stack_back.new.stacks.items _ c.requires.stack c.remove-stack.ensures.value
       (placed c.args.held.now.stacks.items c.remove-stack.new.self.items c.put_stack_back.new.stacks.items c.args.i c.in-Err.stack c.requires.stack c.remove-stack.ensures.items c.put_stack_back.ensures)

@@ -1,6 +1,7 @@
 use Rattle.device_list.specs.Tables.{table_of}
 use Rattle.named.proofs.NamedFrames.{put_volume_named}
 use Rattle.devices.proofs.InVolume.{number_did, remains_in}
+use Rattle.devices.proofs.Starts.{unstarted}
 use Rattle.devices.specs.Flights.{IsStartedAs}
 use Rattle.devices.proofs.flights.start_at.Goals as goal
 
@@ -16,3 +17,8 @@ returns-clause-stays c =
 pub returns-clause-started : goal.returns-clause-started
 returns-clause-started c =
     number_did (IsStartedAs c.args.op) c.start.result c.args.v c.args.role c.args.first c.args.count (table_of c.args.held.now) c.index_mut.result.now c.start.new.self c.requires.place.0 c.index_mut.ensures.value c.start.ensures.started
+
+pub returns-clause-refused : goal.returns-clause-refused
+returns-clause-refused c =
+    unstarted c.args.op c.start.result c.args.v c.args.role c.args.first c.args.count (table_of c.args.held.now) c.index_mut.result.now c.start.new.self c.requires.place.0 c.index_mut.ensures.value
+    c.start.ensures.refused c.start.ensures.same c.start.ensures.still

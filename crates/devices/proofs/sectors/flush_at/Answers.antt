@@ -7,6 +7,7 @@ use Rattle.named.proofs.SoundFrames.{of_both, put_volume_sound, volume_quiet, vo
 use Rattle.named_volume.specs.Names.{KeepsNames}
 use Rattle.named_volume.specs.Flights.{IsFlushServed}
 use Rattle.devices.specs.Flights.{IsFlushedAmong}
+use Rattle.devices.proofs.Denied.{denied_in}
 use Rattle.devices.proofs.InVolume.{later_asked, asked_did, asked_in, changed_in, serves_in, stays_in}
 use Rattle.devices.proofs.Ruled.{quiet_here, sound_here}
 use Rattle.devices.proofs.sectors.flush_at.Goals as goal
@@ -25,6 +26,7 @@ returns c =
       asks = asked_in (λ e. c.flush.result ≡ Err e) c.args.v c.args.role 0 1 table old lt at c.flush.ensures.asks;
       stays = stays_in (c.flush.new.ended.items ≡ c.args.ended.now.items) c.args.v c.args.role 0 1 table old c.flush.new.self lt at c.flush.ensures.stays;
       among = asked_did (IsFlushedAmong c.flush.result c.args.ended.now.items c.flush.new.ended.items) c.args.v c.args.role 0 1 table old c.flush.new.self lt at (later_asked (IsFlushServed c.flush.result c.args.ended.now.items c.flush.new.ended.items old c.flush.new.self) (old.quiet ≡ false) (asked_of c.args.role 0 1 old) c.flush.ensures.among);
+      denied = denied_in c.flush.result c.args.v c.args.role 0 1 table old lt at c.flush.ensures.denied;
       one = changed_in KeepsNames c.args.v table old c.flush.new.self lt at c.flush.ensures.kept;
       sound = λ sound.
           put_volume_sound table c.args.v c.flush.new.self

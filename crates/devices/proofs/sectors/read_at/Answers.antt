@@ -7,6 +7,7 @@ use Rattle.named.proofs.SoundFrames.{of_both, put_volume_sound, volume_quiet, vo
 use Rattle.named_volume.specs.Names.{KeepsNames}
 use Rattle.named_volume.specs.Flights.{IsReadServed}
 use Rattle.devices.specs.Flights.{IsReadAmong}
+use Rattle.devices.proofs.Denied.{denied_in}
 use Rattle.devices.proofs.InVolume.{later_asked, asked_did, asked_in, changed_in, serves_in, stays_in}
 use Rattle.devices.proofs.Ruled.{quiet_here, sound_here}
 use Rattle.devices.proofs.sectors.read_at.Goals as goal
@@ -25,6 +26,7 @@ returns c =
       asks = asked_in (λ e. c.read.result ≡ Err e) c.args.v c.args.role c.args.first c.args.count table old lt at c.read.ensures.asks;
       stays = stays_in (c.read.new.ended.items ≡ c.args.ended.now.items) c.args.v c.args.role c.args.first c.args.count table old c.read.new.self lt at c.read.ensures.stays;
       among = asked_did (IsReadAmong c.read.result c.args.ended.now.items c.read.new.ended.items) c.args.v c.args.role c.args.first c.args.count table old c.read.new.self lt at (later_asked (IsReadServed c.read.result c.args.ended.now.items c.read.new.ended.items old c.read.new.self) (old.quiet ≡ false) (asked_of c.args.role c.args.first c.args.count old) c.read.ensures.among);
+      denied = denied_in c.read.result c.args.v c.args.role c.args.first c.args.count table old lt at c.read.ensures.denied;
       one = changed_in KeepsNames c.args.v table old c.read.new.self lt at c.read.ensures.kept;
       sound = λ sound.
           put_volume_sound table c.args.v c.read.new.self

@@ -7,6 +7,7 @@ use Rattle.named.proofs.SoundFrames.{of_both, put_volume_sound, volume_quiet, vo
 use Rattle.named_volume.specs.Names.{KeepsNames}
 use Rattle.named_volume.specs.Flights.{IsWriteServed}
 use Rattle.devices.specs.Flights.{IsWrittenAmong}
+use Rattle.devices.proofs.Denied.{denied_in}
 use Rattle.devices.proofs.InVolume.{later_asked, asked_did, asked_in, changed_in, serves_in, stays_in}
 use Rattle.devices.proofs.Ruled.{quiet_here, sound_here}
 use Rattle.devices.proofs.sectors.write_at.Goals as goal
@@ -25,6 +26,7 @@ returns c =
       asks = asked_in (λ e. c.write.result ≡ Err e) c.args.v c.args.role c.args.first c.args.count table old lt at c.write.ensures.asks;
       stays = stays_in (c.write.new.ended.items ≡ c.args.ended.now.items) c.args.v c.args.role c.args.first c.args.count table old c.write.new.self lt at c.write.ensures.stays;
       among = asked_did (IsWrittenAmong c.args.bytes.now c.write.result c.args.ended.now.items c.write.new.ended.items) c.args.v c.args.role c.args.first c.args.count table old c.write.new.self lt at (later_asked (IsWriteServed c.args.bytes.now c.write.result c.args.ended.now.items c.write.new.ended.items old c.write.new.self) (old.quiet ≡ false) (asked_of c.args.role c.args.first c.args.count old) c.write.ensures.among);
+      denied = denied_in c.write.result c.args.v c.args.role c.args.first c.args.count table old lt at c.write.ensures.denied;
       one = changed_in KeepsNames c.args.v table old c.write.new.self lt at c.write.ensures.kept;
       sound = λ sound.
           put_volume_sound table c.args.v c.write.new.self

@@ -1,4 +1,5 @@
 use Rattle.device_list.specs.Tables.{table_of}
+use Rattle.devices.proofs.Denied.{held_in}
 use Rattle.devices.proofs.InVolume.{among_in, shown_in}
 use Rattle.devices.proofs.Ruled.{sound_here}
 use Rattle.devices.proofs.shown.status_at.Goals as goal
@@ -13,3 +14,7 @@ returns-clause-done c = λ sound.
 pub returns-clause-among : goal.returns-clause-among
 returns-clause-among c =
     among_in c.status.result c.args.role c.args.v (table_of c.args.held.now) c.index.result.now c.requires.0 c.index.ensures c.status.ensures.among
+
+pub returns-clause-held : goal.returns-clause-held
+returns-clause-held c =
+    held_in c.status.result c.args.role c.args.v (table_of c.args.held.now) c.index.result.now c.requires.0 c.index.ensures c.status.ensures.held

@@ -56,6 +56,22 @@ returns-in-Err-attach-clause-busy c =
           why c.in-Err-attach.ensures.unread c.into_parts-names.ensures c.of_parts.ensures _ (begun_too _ c.self.inside.volume c.self.invariant.begun ∙ c.self.invariant.begun) busy
     ])
 
+pub returns-in-Err-attach-clause-refused : goal.returns-in-Err-attach-clause-refused
+returns-in-Err-attach-clause-refused c =
+    rw (← c.self.view_is) (elim c.in-Err-attach.ensures.refused [
+      | inl starved ↦ inl starved.0
+      | inr why ↦ inr (rw c.into_parts-names.ensures (record {
+        events = c.self.inside.volume.events;
+        origin = c.self.inside.volume.origin;
+        store = c.into_parts-names.result.1;
+        quiet = refl;
+        merge = sym (begun_too _ c.self.inside.volume c.self.invariant.begun ∙ c.self.invariant.begun);
+        origin_is = refl;
+        store_is = refl;
+        cause = why;
+      }))
+    ])
+
 -- at most its origin was flushed
 pub returns-in-Err-attach-clause-same : goal.returns-in-Err-attach-clause-same
 returns-in-Err-attach-clause-same c =

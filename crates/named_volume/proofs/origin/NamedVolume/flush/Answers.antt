@@ -1,7 +1,7 @@
 use Rattle.std.proofs.Common.{refl, sym, ◌∙◌}
 use Rattle.chunk.specs.Pieces.{span_of}
 use Rattle.named_volume.proofs.Events.{behind, flush_served}
-use Rattle.named_volume.proofs.Serves.{flush_refused, flush_does}
+use Rattle.named_volume.proofs.Serves.{flush_refused, flush_denied, flush_does}
 use Rattle.named_volume.proofs.Merges.{goes_on, inside_is, merge_is, still_begun}
 use Rattle.named_volume.proofs.origin.NamedVolume.flush.Goals as goal
 
@@ -21,3 +21,7 @@ returns-clause-among c =
     rw (← c.self.view_is) (λ busy.
     flush_served c.self.inside.volume c.flush_among.new.self _ _ (behind c.self.inside.volume _ c.flush_among.ensures.whole.0 refl (merge_is _ c.self.inside.volume c.self.invariant.begun) refl refl) (behind c.flush_among.new.self _ c.flush_among.ensures.whole.1 refl (merge_is _ c.flush_among.new.self (c.self.invariant.begun ∙ still_begun c.self.inside.volume c.flush_among.new.self c.flush_among.ensures.kept.merging)) refl refl) c.in-Ok.asks.0 c.in-Ok.asks.1 _ (c.in-Ok.ensures.ok _ refl refl)
     c.flush_among.ensures.whole.0 c.flush_among.ensures.whole.1 c.args.ended.now.items c.flush_among.new.ended.items c.flush_among.result c.flush_among.ensures.flushed c.flush_among.ensures.refused)
+
+pub returns-then-is_quiet-clause-denied : goal.returns-then-is_quiet-clause-denied
+returns-then-is_quiet-clause-denied c =
+    rw (← c.self.view_is) (λ quiet. flush_denied c.in-Ok.asks.0 c.self.inside.volume c.flush.new.self c.in-Ok.ensures.there _ c.flush.result c.flush.ensures.refused)

@@ -1,7 +1,7 @@
 use Rattle.std.proofs.Common.{refl, sym, ◌∙◌}
 use Rattle.chunk.specs.Pieces.{span_of}
 use Rattle.named_volume.proofs.Events.{behind, read_served}
-use Rattle.named_volume.proofs.Serves.{read_refused, read_does}
+use Rattle.named_volume.proofs.Serves.{read_refused, read_denied, read_does}
 use Rattle.named_volume.proofs.Merges.{goes_on, inside_is, merge_is, still_begun}
 use Rattle.named_volume.proofs.origin.NamedVolume.read.Goals as goal
 
@@ -21,3 +21,7 @@ returns-clause-among c =
     rw (← c.self.view_is) (λ busy.
     read_served c.self.inside.volume c.read_among.new.self _ _ (behind c.self.inside.volume _ c.read_among.ensures.whole.0 refl (merge_is _ c.self.inside.volume c.self.invariant.begun) refl refl) (behind c.read_among.new.self _ c.read_among.ensures.whole.1 refl (merge_is _ c.read_among.new.self (c.self.invariant.begun ∙ still_begun c.self.inside.volume c.read_among.new.self c.read_among.ensures.kept.merging)) refl refl) c.in-Ok.asks.0 c.in-Ok.asks.1 _ (c.in-Ok.ensures.ok _ refl refl)
     c.read_among.ensures.whole.0 c.read_among.ensures.whole.1 c.args.ended.now.items c.read_among.new.ended.items c.read_among.result c.read_among.ensures.read c.read_among.ensures.refused)
+
+pub returns-then-is_quiet-clause-denied : goal.returns-then-is_quiet-clause-denied
+returns-then-is_quiet-clause-denied c =
+    rw (← c.self.view_is) (λ quiet. read_denied c.in-Ok.asks.0 c.self.inside.volume c.read.new.self c.in-Ok.ensures.there _ (span_of c.in-Ok.asks.1) c.read.result c.read.ensures.refused)
