@@ -1,5 +1,5 @@
 // Data words, `COUNT*HH` each.
-ghost use Rattle.std.specs.Prelude.{◌≡◌, ◌≤◌, ◌<◌, ◌+◌, ◌*◌, ◌^◌, ◌++◌, length, replicate, true, false, OnOk, IfOk, IfSome, MatchOption, vec_len};
+ghost use Rattle.std.specs.Prelude.{◌≡◌, ◌≤◌, ◌<◌, ◌+◌, ◌*◌, ◌^◌, ◌++◌, ◌∷◌, [], length, replicate, true, false, OnOk, IfOk, IfSome, MatchOption, vec_len};
 ghost use Rattle.words.specs.Given.{Gives};
 ghost use Rattle.words.specs.Words.{words_of};
 ghost use Rattle.command.specs.Words.{sectors_of};
@@ -134,11 +134,40 @@ fn payload_size(text: &[u8]) -> Result<usize, Refusal>
     Ok(size as usize)
 }
 
+/// The word of a text that has one alone.
+fn only_word(text: &[u8]) -> Option<&[u8]>
+    ensures { IfSome result (λ word. words_of text.now ≡ word.now ∷ []) }
+{
+    let (word, rest) = next_word(text)?;
+    if next_word(rest).is_some() {
+        return None;
+    }
+    Some(word)
+}
+
+/// The bytes of the sectors that one data word says, made at once. Refused as `payload_size` is; then `NoMemory`.
+fn even_payload(alloc: Global, word: &[u8]) -> Result<Buf, Refusal>
+    ensures { Gives result (payload_of (word.now ∷ [])) }
+{
+    let Some(run) = run_in(word) else {
+        return Err(Refusal::BadTable);
+    };
+    if run.count as usize % SECTOR_BYTES != 0 {
+        return Err(Refusal::BadTable);
+    }
+    sectors(run.count / SECTOR_BYTES as u32)?;
+    let bytes = vec![in alloc; run.byte; run.count as usize].map_err(|_| Refusal::NoMemory)?;
+    Ok(Buf::from_vec(bytes))
+}
+
 /// The bytes of the sectors that the data words of a text say. Refused as `payload_size` is; then `NoMemory`.
 pub fn payload(alloc: Global, text: &[u8]) -> Result<Buf, Refusal>
     requires { length text.now ≤ 65536 }
     ensures { Gives result (payload_of (words_of text.now)) }
 {
+    if let Some(word) = only_word(text) {
+        return even_payload(alloc, word);
+    }
     let size = payload_size(text)?;
     let bytes = data_in(alloc, text, size).map_err(|_| Refusal::NoMemory)?;
     Ok(Buf::from_vec(bytes))

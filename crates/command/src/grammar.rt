@@ -1,5 +1,6 @@
 // The commands, and the words that say them.
-ghost use Rattle.std.specs.Prelude.{◌≡◌, ◌≤◌, [], ◌∷◌, length};
+ghost use Rattle.std.specs.Prelude.{◌≡◌, ◌≤◌, [], ◌∷◌, length, codes, false};
+ghost use Rattle.std.specs.Str.{bytes_eq};
 ghost use Rattle.words.specs.Given.{Gives};
 ghost use Rattle.words.specs.Texts.{texts};
 ghost use Rattle.words.specs.Words.{words_of};
@@ -398,7 +399,55 @@ fn table(text: &[u8]) -> Result<Command, Refusal>
     Ok(Command::Table { name })
 }
 
-/// The command that the words of a text say.
+// A command by a verb that is not one of those that most lines have, and by the words of the text after it.
+fn other_command(alloc: Global, verb: &[u8], text: &[u8]) -> Result<Command, Refusal>
+    requires short { length text.now ≤ 65536 }
+    requires no_write { bytes_eq verb.now (codes "write") ≡ false }
+    requires no_read { bytes_eq verb.now (codes "read") ≡ false }
+    requires no_status { bytes_eq verb.now (codes "status") ≡ false }
+    ensures { Gives result (command_of (verb.now ∷ words_of text.now)) }
+{
+    if verb == b"disk".as_slice() {
+        disk(text)
+    } else if verb == b"create".as_slice() {
+        create(alloc, text)
+    } else if verb == b"remove".as_slice() {
+        remove(text)
+    } else if verb == b"load".as_slice() {
+        load(alloc, text)
+    } else if verb == b"save".as_slice() {
+        save(text)
+    } else if verb == b"message".as_slice() {
+        message(text)
+    } else if verb == b"tick".as_slice() {
+        tick(text)
+    } else if verb == b"flush".as_slice() {
+        flush(text)
+    } else if verb == b"start".as_slice() {
+        start(alloc, text)
+    } else if verb == b"step".as_slice() {
+        step(text)
+    } else if verb == b"settle".as_slice() {
+        settle(text)
+    } else if verb == b"merge".as_slice() {
+        merge(text)
+    } else if verb == b"resume".as_slice() {
+        resume(text)
+    } else if verb == b"finish".as_slice() {
+        finish(text)
+    } else if verb == b"checkpoint".as_slice() {
+        checkpoint(text)
+    } else if verb == b"stop".as_slice() {
+        stop(text)
+    } else if verb == b"table".as_slice() {
+        table(text)
+    } else {
+        Err(Refusal::BadTable)
+    }
+}
+
+/// The command that the words of a text say. The verbs that most lines have are asked for first.
+#[tactic(auto, using(crate::proofs::Verbs::says_write, crate::proofs::Verbs::says_read, crate::proofs::Verbs::says_status))]
 pub fn command_in(alloc: Global, text: &[u8]) -> Result<Command, Refusal>
     requires { length text.now ≤ 65536 }
     ensures { Gives result (command_of (words_of text.now)) }
@@ -406,47 +455,13 @@ pub fn command_in(alloc: Global, text: &[u8]) -> Result<Command, Refusal>
     let Some((verb, rest)) = next_word(text) else {
         return Err(Refusal::BadTable);
     };
-    if verb == b"disk".as_slice() {
-        disk(rest)
-    } else if verb == b"create".as_slice() {
-        create(alloc, rest)
-    } else if verb == b"remove".as_slice() {
-        remove(rest)
-    } else if verb == b"load".as_slice() {
-        load(alloc, rest)
-    } else if verb == b"save".as_slice() {
-        save(rest)
-    } else if verb == b"message".as_slice() {
-        message(rest)
-    } else if verb == b"tick".as_slice() {
-        tick(rest)
+    if verb == b"write".as_slice() {
+        write(alloc, rest)
     } else if verb == b"read".as_slice() {
         read(rest)
-    } else if verb == b"write".as_slice() {
-        write(alloc, rest)
-    } else if verb == b"flush".as_slice() {
-        flush(rest)
-    } else if verb == b"start".as_slice() {
-        start(alloc, rest)
-    } else if verb == b"step".as_slice() {
-        step(rest)
-    } else if verb == b"settle".as_slice() {
-        settle(rest)
-    } else if verb == b"merge".as_slice() {
-        merge(rest)
-    } else if verb == b"resume".as_slice() {
-        resume(rest)
-    } else if verb == b"finish".as_slice() {
-        finish(rest)
-    } else if verb == b"checkpoint".as_slice() {
-        checkpoint(rest)
-    } else if verb == b"stop".as_slice() {
-        stop(rest)
     } else if verb == b"status".as_slice() {
         status(rest)
-    } else if verb == b"table".as_slice() {
-        table(rest)
     } else {
-        Err(Refusal::BadTable)
+        other_command(alloc, verb, rest)
     }
 }
