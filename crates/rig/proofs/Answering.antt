@@ -31,10 +31,10 @@ one_found n x y e = go (x.number == n) e
     go true h = (some_is h, refl)
     go false h = absurd (let f : None ≡ Some y = h in cc)
 
-pub answered_at : (history : TableId) (seat : ℕ) (me after : Seat Told View) (reply : Reply) (r : Receipt) (old new : SittingShape) → IsReceipted history seat me after reply r
+pub answered_at : (history : TableId) (first seat : ℕ) (me after : Seat Told View) (reply : Reply) (r : Receipt) (old new : SittingShape) → IsReceipted history first seat me after reply r
     → old.waits ≡ me.me.0.waits → new.waits ≡ after.me.0.waits → new.volume ≡ old.volume → new.seat ≡ old.seat → old.seat ≡ seat → new.receipts ≡ old.receipts ++ r ∷ []
     → ((x : Seated) × (old.waits ≡ x ∷ [])) → Begins old.seen new.seen → IsAnswered reply r old new
-answered_at history seat me after reply r old new h was now volume same by receipts one later =
+answered_at history first seat me after reply r old new h was now volume same by receipts one later =
     let found = λ (x : Seated) (is : old.waits ≡ x ∷ []). one_found h.number x _ (ap (seated_under h.number) (sym is ∙ was) ∙ h.asked) in
     record {
       volume = volume;

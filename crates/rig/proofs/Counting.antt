@@ -1,11 +1,19 @@
 -- The counts of receipts, and that `check` agrees with them.
 use Rattle.std.proofs.Common.{◌≡◌, ℕ, zero, suc, ◌+◌, ◌-◌, ◌<◌, List, [], ◌∷◌, ◌++◌, length, map, get_or, Some, refl, sym, ap, ◌∙◌, subst, arith}
 use Rattle.std.specs.Prelude.{slice_get, slice_index_or}
+use Rattle.std.proofs.lemmas.List.{length-map, map-append}
+use Rattle.atomic_table.specs.Seated.{TableId}
+use Rattle.atomic_table.specs.declared.badge.Badge.{Badge}
+use Rattle.atomic_table.specs.declared.shared.Seat.{Seat}
+use Rattle.plain.specs.declared.request.Reply.{Reply}
+use Rattle.history.specs.declared.rule.View.{View}
+use Rattle.history.specs.declared.told.Told.{Told}
+use Rattle.post.specs.Seats.{IsReceipted}
 use Rattle.journal.specs.declared.entry.Answered.{Answered}
 use Rattle.journal.specs.declared.entry.Entry.{Entry}
 use Rattle.journal.specs.declared.entry.Receipt.{Receipt}
 use Rattle.journal.specs.Entries.{Agreeing, answered_of, entries_by}
-use Rattle.rig.specs.Sittings.{AreCounted}
+use Rattle.rig.specs.Sittings.{AreCounted, SittingHolds}
 
 -- one receipt more
 pub counted_more : (seat first : ℕ) (rs : List Receipt) (r : Receipt) → AreCounted seat first rs → r.seat ≡ seat → r.count ≡ first + length rs + 1 → AreCounted seat first (rs ++ r ∷ [])
@@ -40,3 +48,30 @@ agreeing folded start entries n rs own counts i d low =
     let place : r.count - folds - 1 ≡ had + i = omega (arith, at.1) in
     subst (λ (s : ℕ). (slice_index_or folded s 0 < r.count) × (slice_get (entries_by s entries) (r.count - slice_index_or folded s 0 - 1) ≡ Some (answered_of r))) (sym at.0)
     (omega (arith, at.1), ap (λ l. slice_get l (r.count - folds - 1)) own ∙ behind (entries_by n start) (map answered_of rs) (r.count - folds - 1) i place ∙ answered_at rs i d low)
+
+-- a list of one view has one first view
+pub one_view : (views : List View) (v w : View) → views ≡ v ∷ [] → views ≡ w ∷ [] → v ≡ w
+one_view views v w a b = ap first (sym a ∙ b)
+  where
+    first : List View → View
+    first [] = v
+    first (x ∷ xs) = x
+
+-- a seat at a volume has one receipt more
+pub holds_more : (history : TableId) (first seat : ℕ) (pass badge : Badge View) (receipts more : List Receipt) (me after : Seat Told View) (reply : Reply) (r : Receipt) → SittingHolds history first seat pass receipts
+    → pass.views ≡ me.me.0 ∷ [] → IsReceipted history first seat me after reply r → badge.table_id ≡ after.table_id → badge.views ≡ after.me.0 ∷ [] → more ≡ receipts ++ r ∷ [] → SittingHolds history first seat badge more
+holds_more history first seat pass badge receipts more me after reply r held at h table has grown =
+    let same : held.view ≡ me.me.0 = one_view pass.views held.view me.me.0 held.has at in
+    let old : me.me.0.old ≡ [] = ap (λ (v : View). v.old) (sym same) ∙ held.old in
+    let mine : me.me.0.mine ≡ map answered_of receipts = ap (λ (v : View). v.mine) (sym same) ∙ held.mine in
+    let long : length (entries_by seat me.me.0.old ++ me.me.0.mine) ≡ length receipts = (λ i. length (entries_by seat (old i) ++ mine i)) ∙ length-map receipts answered_of in
+    record {
+      view = after.me.0;
+      has = has;
+      table = table ∙ h.is_seat.table;
+      sits = h.is_seat.sits;
+      number = h.is_seat.number;
+      old = h.old ∙ old;
+      mine = h.mine ∙ ap (λ l. l ++ answered_of r ∷ []) mine ∙ sym (map-append answered_of receipts (r ∷ [])) ∙ ap (map answered_of) (sym grown);
+      counts = subst (AreCounted seat first) (sym grown) (counted_more seat first receipts r held.counts h.by (omega (arith, h.count, long)));
+    }
