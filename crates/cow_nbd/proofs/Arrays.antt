@@ -1,7 +1,6 @@
 -- Bytes of arrays.
 use Rattle.std.proofs.Common.{◌≡◌, ℕ, zero, suc, ◌+◌, ◌-◌, ◌*◌, ◌<◌, ◌≤◌, List, [], ◌++◌, length, take, drop, Option, None, Some, IfSome, refl, arith, ap, ◌∙◌, sym, subst, zero-add, drop_at, inl, inr}
 use Rattle.std.proofs.Math.Seq.{take-append_seam}
-use Rattle.std.proofs.lemmas.List.{take-append-le}
 use Rattle.std.proofs.lemmas.List.FromFn.{length-map-range_with_len}
 use Rattle.sector.specs.declared.pair.Pair.{Pair}
 use Rattle.model.specs.Picture.{picture_at}
@@ -9,7 +8,7 @@ use Rattle.cow_shown.specs.Shown.{shown}
 use Rattle.cow_shown.specs.Fails.{ShownFails}
 use Rattle.cow_shown.proofs.Exports.{shown_parts}
 use Rattle.cow_shown.proofs.Fails.{shown_calm}
-use Rattle.cow_nbd.specs.Shows.{known_shown, known_at, arrays, FailsAt, IsServed, IsServedBy}
+use Rattle.cow_nbd.specs.Shows.{known_shown, known_at, arrays, FailsAt, FailsFresh, IsServedBy}
 use Rattle.nbd_server.proofs.Calm.{talk_calm}
 use Rattle.nbd_server.specs.Talk.{beginning}
 
@@ -71,7 +70,14 @@ pub fails_own : (o c : ℕ → ℕ → Type 0) (chunk : ℕ) (ps : List Pair) (s
 fails_own o c chunk ps size zero at n other fails = absurd (other refl)
 fails_own o c chunk ps size (suc k) at n other fails = inr fails
 
--- the same session where any read may fail
-pub served_any : (fails : ℕ → ℕ → ℕ → Type 0) (size : ℕ) (snapshot origin heard : List ℕ) (old new : Option (List ℕ)) → IsServedBy fails size snapshot origin heard old new → IsServed size snapshot origin heard old new
-served_any fails size snapshot origin heard old new (exports, are, said, turns, talk, written) =
-    (exports, are, said, turns, talk_calm exports (arrays snapshot origin) fails (λ _ _ _. Unit {0}) beginning heard said turns (λ k from count h. tt) talk, written)
+-- without a pair the origin alone is read
+pub fresh_fails : (o c : ℕ → ℕ → Type 0) (size k at n : ℕ) → FailsAt o c 128 [] size k at n → FailsFresh o size k at n
+fresh_fails o c size zero at n (inl past) = inl past
+fresh_fails o c size zero at n (inr (number, inside, m, low, high, fails)) = inr (512 * 128 * number + inside, m, omega arith, omega arith, fails)
+fresh_fails o c size (suc k) at n (inl past) = inl past
+fresh_fails o c size (suc k) at n (inr fails) = inr (at, n, omega arith, omega arith, inr fails)
+
+-- the same session, whose reads of the origin alone may fail
+pub served_fresh : (o c : ℕ → ℕ → Type 0) (size : ℕ) (pairs : List Pair) (snapshot origin heard : List ℕ) (old new : Option (List ℕ)) → pairs ≡ [] → IsServedBy (FailsAt o c 128 pairs size) size snapshot origin heard old new → IsServedBy (FailsFresh o size) size snapshot origin heard old new
+served_fresh o c size pairs snapshot origin heard old new none (exports, are, said, turns, talk, written) =
+    (exports, are, said, turns, talk_calm exports (arrays snapshot origin) (FailsAt o c 128 pairs size) (FailsFresh o size) beginning heard said turns (λ k from count h. fresh_fails o c size k from count (subst (λ ps. FailsAt o c 128 ps size k from count) none h)) talk, written)

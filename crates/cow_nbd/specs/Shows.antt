@@ -1,9 +1,9 @@
 -- To be believed: the two arrays that a server of a store shows, and what it says to a client.
-use Rattle.std.specs.Prelude.{◌≡◌, ℕ, zero, suc, ◌+◌, ◌*◌, ◌<◌, ◌⊎◌, List, [], ◌∷◌, ◌++◌, length, codes, Option, Some, None}
+use Rattle.std.specs.Prelude.{◌≡◌, ℕ, zero, suc, ◌+◌, ◌*◌, ◌<◌, ◌≤◌, ◌⊎◌, List, [], ◌∷◌, ◌++◌, codes, Option, Some, None}
 use Rattle.std.specs.Io.KnownBytes.{Appends}
 use Rattle.sector.specs.declared.pair.Pair.{Pair}
 use Rattle.cow_shown.specs.Shown.{shown}
-use Rattle.cow_shown.specs.Fails.{ShownFails}
+use Rattle.cow_shown.specs.Fails.{ShownFails, ReadFails}
 use Rattle.nbd_messages.specs.Replies.{greeting}
 use Rattle.nbd_server.specs.declared.served.Export.{Export}
 use Rattle.nbd_server.specs.Talk.{Talk, Turn, beginning}
@@ -28,14 +28,15 @@ IsServedBy may_fail size snapshot origin heard old new =
     (exports : List Export) × AreExports size exports
     × (said : List ℕ) × (turns : List Turn) × Talk exports (arrays snapshot origin) may_fail beginning heard said turns × Appends old new (greeting ++ said)
 
--- the same where any read may fail
-abbrev pub IsServed : ℕ → List ℕ → List ℕ → List ℕ → Option (List ℕ) → Option (List ℕ) → Type 0
-IsServed size snapshot origin heard old new = IsServedBy (λ _ _ _. Unit {0}) size snapshot origin heard old new
-
 -- a read of an array may fail: past its end, or where a read of the images may
 abbrev pub FailsAt : (ℕ → ℕ → Type 0) → (ℕ → ℕ → Type 0) → ℕ → List Pair → ℕ → ℕ → ℕ → ℕ → Type 0
 FailsAt origin cow chunk pairs size zero at count = (512 * size < at + count) ⊎ ShownFails origin cow chunk pairs at count
 FailsAt origin cow chunk pairs size (suc k) at count = (512 * size < at + count) ⊎ origin at count
+
+-- A read of an array of a fresh store may fail: past its end, or where a read of some of the origin's bytes there may. Both
+-- arrays are the origin.
+abbrev pub FailsFresh : (ℕ → ℕ → Type 0) → ℕ → ℕ → ℕ → ℕ → Type 0
+FailsFresh origin size export at count = (512 * size < at + count) ⊎ ((from : ℕ) × (n : ℕ) × (at ≤ from) × (from + n ≤ at + count) × ReadFails origin from n)
 
 -- an array's bytes by pairs, where both images' bytes are known
 abbrev pub known_shown : ℕ → List Pair → ℕ → Option (List ℕ) → Option (List ℕ) → Option (List ℕ)

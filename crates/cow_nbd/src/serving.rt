@@ -3,7 +3,7 @@ ghost use Rattle.std.specs.Prelude.{◌≡◌, ℕ, ◌*◌, ◌≤◌, List, le
 ghost use Rattle.cow_map.specs.Maps.{IsMapOf};
 ghost use Rattle.cow_shown.specs.Shown.{shown};
 ghost use Rattle.model.specs.Picture.{picture};
-ghost use Rattle.cow_nbd.specs.Shows.{IsServed, IsServedBy, FailsAt};
+ghost use Rattle.cow_nbd.specs.Shows.{IsServedBy, FailsAt, FailsFresh};
 
 use crate::pictures::Pictures;
 use cow_map::CowMap;
@@ -48,7 +48,7 @@ pub fn serve_written<O: Image + Drop, C: Image + Drop, R: Read, W: Write>(
     writer: &mut W,
 ) -> Result<(), Stopped>
     requires { size ≤ 68_719_476_736 }
-    ensures { OnOk result ((o : List ℕ) → (b : List ℕ) → (heard : List ℕ) → O.bytes origin ≡ Some o → C.bytes cow ≡ Some b → R.remaining reader.old ≡ Some heard → length o ≡ 512 * size → IsMapOf size b map → IsServed size (picture map.chunk o b) o heard (W.contents writer.old) (W.contents writer.new)) }
+    ensures { OnOk result ((o : List ℕ) → (b : List ℕ) → (heard : List ℕ) → O.bytes origin ≡ Some o → C.bytes cow ≡ Some b → R.remaining reader.old ≡ Some heard → length o ≡ 512 * size → IsMapOf size b map → IsServedBy (FailsAt (O.may_fail origin) (C.may_fail cow) map.chunk map.pairs.items size) size (picture map.chunk o b) o heard (W.contents writer.old) (W.contents writer.new)) }
 {
     let mut pictures = Pictures {
         origin,
@@ -75,7 +75,7 @@ pub fn serve_fresh<O: Image + Drop, R: Read, W: Write>(
     writer: &mut W,
 ) -> Result<(), Stopped>
     requires { size ≤ 68_719_476_736 }
-    ensures { OnOk result ((o : List ℕ) → (heard : List ℕ) → O.bytes origin ≡ Some o → R.remaining reader.old ≡ Some heard → length o ≡ 512 * size → IsServed size o o heard (W.contents writer.old) (W.contents writer.new)) }
+    ensures { OnOk result ((o : List ℕ) → (heard : List ℕ) → O.bytes origin ≡ Some o → R.remaining reader.old ≡ Some heard → length o ≡ 512 * size → IsServedBy (FailsFresh (O.may_fail origin) size) size o o heard (W.contents writer.old) (W.contents writer.new)) }
 {
     let cow = MemImage {
         bytes: Vec::new(alloc),

@@ -1,6 +1,7 @@
--- What the snapshot of a store shows.
+-- What the snapshot of a store shows, and where a read of it may fail.
 use Rattle.std.specs.Prelude.{ℕ, List, []}
 use Rattle.model.specs.Picture.{picture}
+use Rattle.cow_nbd.specs.Shows.{FailsAt, FailsFresh}
 use Rattle.cow_map.specs.declared.found.Told.{Told}
 use Rattle.cow_map.specs.declared.found.Told.TheVariants.{Fresh, Refused, Written}
 
@@ -9,3 +10,9 @@ abbrev pub array_of : Told → List ℕ → List ℕ → List ℕ
 array_of Fresh origin store = origin
 array_of (Refused reason) origin store = []
 array_of (Written map) origin store = picture map.chunk origin store
+
+-- a read of the snapshot, or of the origin, of so many sectors, may fail
+abbrev pub FailsTold : Told → (ℕ → ℕ → Type 0) → (ℕ → ℕ → Type 0) → ℕ → ℕ → ℕ → ℕ → Type 0
+FailsTold Fresh origin cow size export at count = FailsFresh origin size export at count
+FailsTold (Refused reason) origin cow size export at count = ⊥
+FailsTold (Written map) origin cow size export at count = FailsAt origin cow map.chunk map.pairs.items size export at count

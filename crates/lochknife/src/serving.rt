@@ -1,8 +1,8 @@
 // A snapshot is served to a client, on standard input and output.
 ghost use Rattle.std.specs.Prelude.{◌≡◌, ℕ, ◌*◌, ◌≤◌, List, length, OnOk, IsTrue, Some};
 ghost use Rattle.cow_map.specs.Maps.{IsToldOf};
-ghost use Rattle.cow_nbd.specs.Shows.{IsServed};
-ghost use Rattle.lochknife.specs.Arrays.{array_of};
+ghost use Rattle.cow_nbd.specs.Shows.{IsServedBy};
+ghost use Rattle.lochknife.specs.Arrays.{array_of, FailsTold};
 ghost use Rattle.cow_answers.specs.Answers.{is_good};
 
 use cow_answers::{look, shown};
@@ -49,8 +49,8 @@ pub fn serve<'a>(rt: &'a HostRuntime, origin: &'a str, cow: &'a str) -> Result<b
     }
 }
 
-/// Serves the snapshot of a store of which this was told, and its origin, which has so many sectors. To a client of a store
-/// that is refused nothing is said.
+/// Serves the snapshot of a store of which this was told, and its origin, which has so many sectors. A read is answered EIO
+/// only where a read of the images may fail.
 fn serve_told<O: Image + Drop, C: Image + Drop, R: Read, W: Write>(
     alloc: Global,
     origin: O,
@@ -62,7 +62,7 @@ fn serve_told<O: Image + Drop, C: Image + Drop, R: Read, W: Write>(
 ) -> Result<(), Stopped>
     requires size { size ≤ 68_719_476_736 }
     requires good { IsTrue (is_good told) }
-    ensures { OnOk result ((o : List ℕ) → (b : List ℕ) → (heard : List ℕ) → O.bytes origin ≡ Some o → C.bytes cow ≡ Some b → R.remaining reader.old ≡ Some heard → length o ≡ 512 * size → IsToldOf size b told → IsServed size (array_of told o b) o heard (W.contents writer.old) (W.contents writer.new)) }
+    ensures { OnOk result ((o : List ℕ) → (b : List ℕ) → (heard : List ℕ) → O.bytes origin ≡ Some o → C.bytes cow ≡ Some b → R.remaining reader.old ≡ Some heard → length o ≡ 512 * size → IsToldOf size b told → IsServedBy (FailsTold told (O.may_fail origin) (C.may_fail cow) size) size (array_of told o b) o heard (W.contents writer.old) (W.contents writer.new)) }
 {
     match told {
         Told::Fresh => match serve_fresh(alloc, origin, size, reader, writer) {

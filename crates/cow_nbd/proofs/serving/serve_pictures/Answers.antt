@@ -1,4 +1,4 @@
-use Rattle.std.proofs.Common.{◌≡◌, ℕ, ◌*◌, List, refl}
+use Rattle.std.proofs.Common.{◌*◌, refl}
 use Rattle.cow_shown.specs.Shown.{shown}
 use Rattle.cow_nbd.specs.Shows.{arrays}
 use Rattle.cow_nbd.proofs.Arrays.{known_both}
