@@ -1,7 +1,7 @@
 // Finding a device by its name.
-ghost use Rattle.std.specs.Prelude.{◌≡◌, ◌<◌, ◌-◌, length, IfSome, IfOk, nat_le, sum_by, slice_get, is_some, Some, position};
+ghost use Rattle.std.specs.Prelude.{◌≡◌, ◌<◌, ◌-◌, length, IfSome, IfOk, nat_le, sum_by, slice_get, Some, position};
 ghost use Rattle.device_list.specs.Tables.{table_of};
-ghost use Rattle.named.specs.Places.{place_of, place_free, place_among, found, role_of, is_among, IsDepthAt, IsRoleAt, IsPlaceIn};
+ghost use Rattle.named.specs.Places.{place_of, place_free, place_among, found, is_among, IsDepthAt, IsRoleAt, IsPlaceIn};
 ghost use Rattle.named.specs.declared.place.Place.TheVariants.{Free, In};
 ghost use Rattle.named.specs.Disks.{device_count, devices_in, devices_of};
 
@@ -19,13 +19,6 @@ fn stack_of(stacks: &[NamedStack], name: &Name) -> Option<usize>
     stacks.iter().position(|stack| stack.has(name))
 }
 
-fn volume_of(volumes: &[NamedVolume], name: &Name) -> Option<usize>
-    ensures place { result ≡ position (λ v. is_some (role_of name.now v)) volumes.now }
-    ensures within { IfSome result (λ v. v < length volumes.now) }
-{
-    volumes.iter().position(|volume| volume.has(name))
-}
-
 /// Where a name stands among the stacks that nothing uses.
 #[tactic(auto, unfolding(named::specs::Places::place_free))]
 fn place_free(held: &Held, name: &Name) -> Option<Place>
@@ -41,19 +34,18 @@ fn place_free(held: &Held, name: &Name) -> Option<Place>
     }
 }
 
-/// Where a name stands among the volumes.
-#[tactic(auto, unfolding(named::specs::Places::place_among))]
+/// Where a name stands among the volumes. Each is asked once, up to the first that has it.
+#[tactic(auto, using(crate::proofs::Firsts::passed_by))]
 fn place_among(held: &Held, name: &Name) -> Option<Place>
     ensures place { result ≡ place_among name.now held.now.volumes.items }
     ensures within { IfSome result (λ place. IsPlaceIn place (table_of held.now)) }
 {
-    match volume_of(&held.volumes, name) {
-        None => None,
-        Some(v) => match held.volumes[v].role(name) {
-            None => None,
-            Some(role) => Some(Place::In(v, role)),
-        },
+    for (v, volume) in held.volumes.iter().enumerate() {
+        if let Some(role) = volume.role(name) {
+            return Some(Place::In(v, role));
+        }
     }
+    None
 }
 
 /// Where a name stands.
