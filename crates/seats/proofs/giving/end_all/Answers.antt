@@ -40,3 +40,6 @@ loop-i-preserved g c =
           (none fresh).0);
       others = λ k behind. c.put_tasks.ensures.others k (λ same. omega (arith, behind, same)) ∙ c.loop-i.invariant.others k (omega (arith, behind));
     }
+
+pub returns-clause-kept : goal.returns-clause-kept
+returns-clause-kept g c = λ fresh i low within. c.loop-i.invariant.kept fresh i (record { number = 0; sittings = []; watches = [] }) (omega (arith, low, c.loop-i-test.false)) within
