@@ -1,6 +1,6 @@
 -- What a line leaves of the devices, by what its command does.
 use Rattle.std.proofs.Common.{◌≡◌, ◌≢◌, ℕ, List, [], ◌++◌, Option, Some, None, refl, sym, ap, ◌∙◌, inl, inr, subst}
-use Rattle.std.specs.Prelude.{IfErr, IfSome, OnErr, OnOk, Result, Ok, Err}
+use Rattle.std.specs.Prelude.{IfErr, IfSome, OnErr, Result, Ok, Err}
 use Rattle.sector.specs.declared.refusal.Refusal.{Refusal}
 use Rattle.sector.specs.declared.refusal.Refusal.TheVariants.{NoMemory}
 use Rattle.command.specs.Line.{said_of}
@@ -17,20 +17,6 @@ use Rattle.runner.specs.Output.{answered, told}
 use Rattle.runner.specs.Done.{IsToldFor}
 use Rattle.runner.specs.Steps.{reworded}
 use Rattle.runner.proofs.AskingLemmas.{memory_or_not}
-
--- what holds of a call that answered holds of its answer in other words
-pub on_worded : {A B : Type 0} (words : A → B) (call : Result A Refusal) (reply : Result B Refusal) (P : Type 0) → reply ≡ reworded words call → OnOk call P → OnOk reply P
-on_worded {B = B} words (Ok x) reply P is h = let Q : Result B Refusal → Type 0 = λ r. OnOk r P in subst Q (sym is) h
-on_worded {B = B} words (Err e) reply P is h = let Q : Result B Refusal → Type 0 = λ r. OnOk r P in subst Q (sym is) tt
-
--- and what holds of its refusal
-pub err_worded : {A B : Type 0} (words : A → B) (call : Result A Refusal) (reply : Result B Refusal) (P : Type 0) → reply ≡ reworded words call → OnErr call P → OnErr reply P
-err_worded {B = B} words (Ok x) reply P is h = let Q : Result B Refusal → Type 0 = λ r. OnErr r P in subst Q (sym is) tt
-err_worded {B = B} words (Err e) reply P is h = let Q : Result B Refusal → Type 0 = λ r. OnErr r P in subst Q (sym is) h
-
-pub refused_worded : {A B : Type 0} (words : A → B) (call : Result A Refusal) (reply : Result B Refusal) (P : Refusal → Type 0) → reply ≡ reworded words call → IfErr call P → IfErr reply P
-refused_worded {B = B} words (Ok x) reply P is h = let Q : Result B Refusal → Type 0 = λ r. IfErr r P in subst Q (sym is) tt
-refused_worded {B = B} words (Err e) reply P is h = let Q : Result B Refusal → Type 0 = λ r. IfErr r P in subst Q (sym is) h
 
 -- a command that is refused before its volume is asked
 pub worded_asked : {A B : Type 0} (words : B → Reply) (asks : Result A Refusal) (call : Result B Refusal) (reply : Result Reply Refusal) → IfErr asks (λ e. call ≡ Err e) → reply ≡ reworded words call → IsFirst (refusal_in asks) (told (reworded Some reply))

@@ -14,3 +14,4 @@ pub mod WellLemmas
 pub mod Orders
 pub mod BlockLemmas
 pub mod SessionLemmas
+pub mod UndoingLemmas

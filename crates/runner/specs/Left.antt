@@ -11,6 +11,7 @@ use Rattle.plain.specs.declared.event.Outcome.{Outcome}
 use Rattle.plain.specs.declared.event.Outcome.TheVariants as outcomes
 use Rattle.plain.specs.declared.request.Op.{Op}
 use Rattle.plain.specs.declared.request.Op.TheVariants.{Read as ReadOp, Write as WriteOp}
+use Rattle.table.specs.declared.lines.Line.{Line}
 use Rattle.reply.specs.declared.Reply.{Reply}
 use Rattle.reply.specs.declared.Reply.TheVariants.{Data, Done, Fault, Number, Said}
 use Rattle.plain.specs.Replies.{reply_in}
@@ -24,19 +25,22 @@ use Rattle.named.specs.Places.{volume_at}
 use Rattle.named.specs.Sectors.{Asked}
 use Rattle.named.specs.Starting.{flush_asked, read_asked, write_asked}
 use Rattle.devices.specs.Devices.{Flies, KeepsOthers}
-use Rattle.devices.specs.Flights.{IsDoneFor, IsEventDoneFor, IsFlushedAmong, IsNotDueIn, IsReadAmong, IsStartedAs, IsWrittenAmong, event_of, is_about_merging}
+use Rattle.devices.specs.Flights.{IsDoneFor, IsEventDoneFor, IsFlushedAmong, IsNotDueIn, IsNotStartedAs, IsReadAmong, IsStartedAs, IsWrittenAmong, event_of, is_about_merging}
+use Rattle.devices.specs.Meeting.{IsCreated}
 use Rattle.devices.specs.Merging.{IsBegunIn, IsFinishedIn, IsUnfinishedIn}
 use Rattle.devices.specs.Ruled.{is_alone_in, is_quiet_in, volume_for}
-use Rattle.devices.specs.Status.{IsStatusAmong}
-use Rattle.named_volume.specs.Flights.{IsSettledBy}
+use Rattle.devices.specs.Status.{IsStatusAmong, IsStatusHeld}
+use Rattle.named_volume.specs.Flights.{IsDenied, IsSettledBy}
 use Rattle.runner.specs.Steps.{reworded}
 
--- What was read, and what was done for it of what is in flight in the volume.
+-- What was read, and what was done for it of what is in flight in the volume; where nothing is, why it was refused, whichever device
+-- drops writes.
 pub record IsReadLeft (device : List ℕ) (first count : ℕ) (answer : Result Reply Refusal) (old new : Table) (before after : List Replied) : Type 0 where
   pub got : Result (List ℕ) Refusal
   pub answer_is : answer ≡ reworded Data got
   pub others : KeepsOthers device old new
   pub among : IfOk (read_asked device first count old) (λ asks. IsDoneFor device (IsReadAmong got before after asks) old new)
+  pub denied : is_quiet_in (volume_for device old) ≡ true → IfErr got (λ e. IfOk (read_asked device first count old) (λ _. IsDenied e))
 
 -- and of a write
 pub record IsWriteLeft (device : List ℕ) (first : ℕ) (bytes : List ℕ) (answer : Result Reply Refusal) (old new : Table) (before after : List Replied) : Type 0 where
@@ -44,6 +48,7 @@ pub record IsWriteLeft (device : List ℕ) (first : ℕ) (bytes : List ℕ) (ans
   pub answer_is : answer ≡ reworded (λ _. Done) did
   pub others : KeepsOthers device old new
   pub among : IfOk (write_asked device first bytes old) (λ asks. IsDoneFor device (IsWrittenAmong bytes did before after asks) old new)
+  pub denied : is_quiet_in (volume_for device old) ≡ true → IfErr did (λ e. IfOk (write_asked device first bytes old) (λ _. IsDenied e))
 
 -- and of a flush
 pub record IsFlushLeft (device : List ℕ) (answer : Result Reply Refusal) (old new : Table) (before after : List Replied) : Type 0 where
@@ -51,14 +56,17 @@ pub record IsFlushLeft (device : List ℕ) (answer : Result Reply Refusal) (old 
   pub answer_is : answer ≡ reworded (λ _. Done) did
   pub others : KeepsOthers device old new
   pub among : IfOk (flush_asked device old) (λ asks. IsDoneFor device (IsFlushedAmong did before after asks) old new)
+  pub denied : is_quiet_in (volume_for device old) ≡ true → IfErr did (λ e. IfOk (flush_asked device old) (λ _. IsDenied e))
 
--- a request that is started is in flight then, under the number that is told, and alone changes its volume
+-- A request that is started is in flight then, under the number that is told, and alone changes its volume. One that is refused by
+-- its volume is so for its reason.
 pub record IsStartLeft (device : List ℕ) (op : Op) (asked : Result Asked Refusal) (answer : Result Reply Refusal) (old new : Table) (before after : List Replied) : Type 0 where
   pub number : Result ℕ Refusal
   pub answer_is : answer ≡ reworded Number number
   pub others : KeepsOthers device old new
   pub flies : OnOk number (Flies device old new)
   pub started : IfOk number (λ n. IfOk asked (λ asks. IsDoneFor device (IsStartedAs op n asks) old new))
+  pub refused : IfErr number (λ e. IfOk asked (λ asks. IsDoneFor device (IsNotStartedAs op e asks) old new))
   pub alone : after ≡ before
 
 -- an event's own reply: its request's comes before it, and a fault is told
@@ -80,33 +88,52 @@ pub record IsStepLeft (volume : List ℕ) (event : Event) (answer : Result Reply
   pub due : IfErr outcome (λ e. e ≢ NoMemory → IfOk (event_asked volume event old) (λ v. is_about_merging (snapshot_named event) old ≡ false
       → (not (is_merge_event event) && is_quiet_in (volume_at v old)) ≡ false → IsNotDueIn (event_of event old) (volume_at v old)))
 
--- Once a volume was settled nothing is in flight in it: all that was due was done. A settle that is refused does nothing, and one of
--- a volume in which nothing is in flight and no merge is begun changes nothing.
+-- Once a volume was settled nothing is in flight in it: all that was due was done. A settle is refused for want of memory alone where
+-- there is its volume, and then does nothing; one of a volume in which nothing is in flight is not, and changes nothing where no merge
+-- is begun.
 pub record IsSettleLeft (volume : List ℕ) (answer : Result Reply Refusal) (old new : Table) (before after : List Replied) : Type 0 where
+  pub did : Result (Unit {0}) Refusal
+  pub answer_is : answer ≡ reworded (λ _. Done) did
   pub others : KeepsOthers volume old new
-  pub rested : OnOk answer (rested volume old new ≡ Ok tt)
-  pub drained : OnOk answer (IsDoneFor volume (IsSettledBy before after) old new)
-  pub stays : OnErr answer ((new ≡ old) × (after ≡ before))
+  pub rested : OnOk did (rested volume old new ≡ Ok tt)
+  pub drained : OnOk did (IsDoneFor volume (IsSettledBy before after) old new)
+  pub refused : IfErr did (λ e. IfOk (origin_by volume old) (λ _. e ≡ NoMemory))
+  pub idle : IfOk (origin_by volume old) (λ v. is_quiet_in (volume_at v old) ≡ true → is_ok did ≡ true)
+  pub stays : OnErr did ((new ≡ old) × (after ≡ before))
   pub alone : is_alone_in (volume_for volume old) ≡ true → new ≡ old
 
 -- A merge that is begun changes its volume alone. One that isn't is refused by its rule, or memory was refused; then all is as it was.
 pub record IsMergeLeft (name : List ℕ) (answer : Result Reply Refusal) (old new : Table) (before after : List Replied) : Type 0 where
-  pub begun : OnOk answer (IsDoneFor name IsBegunIn old new)
-  pub refused : IfErr answer (λ e. (new ≡ old) × (is_starved e ≡ false → merge_begun name old ≡ Err e))
+  pub did : Result (Unit {0}) Refusal
+  pub answer_is : answer ≡ reworded (λ _. Done) did
+  pub begun : OnOk did (IsDoneFor name IsBegunIn old new)
+  pub refused : IfErr did (λ e. (new ≡ old) × (is_starved e ≡ false → merge_begun name old ≡ Err e))
   pub alone : after ≡ before
 
 -- a merge that is finished gives the stack of its store back, and changes its volume alone
 pub record IsFinishLeft (volume : List ℕ) (answer : Result Reply Refusal) (old new : Table) (before after : List Replied) : Type 0 where
-  pub finished : OnOk answer (IfOk (origin_by volume old) (λ v. IsFinishedIn v old new (volume_at v old)))
-  pub unfinished : IfErr answer (λ e. IfOk (origin_by volume old) (λ v. is_starved e ≡ false → IsUnfinishedIn e (volume_at v old)))
-  pub stays : OnErr answer (new ≡ old)
+  pub did : Result (Unit {0}) Refusal
+  pub answer_is : answer ≡ reworded (λ _. Done) did
+  pub finished : OnOk did (IfOk (origin_by volume old) (λ v. IsFinishedIn v old new (volume_at v old)))
+  pub unfinished : IfErr did (λ e. IfOk (origin_by volume old) (λ v. is_starved e ≡ false → IsUnfinishedIn e (volume_at v old)))
+  pub stays : OnErr did (new ≡ old)
   pub alone : after ≡ before
 
--- a status line changes nothing, and says what is in memory of a snapshot while something is in flight in its volume
+-- A snapshot is made just where its volume takes it, and all else is as it was; where it is not, there is a reason, and no volume
+-- changed. Every other line has its rule.
+pub record IsCreateLeft (name : List ℕ) (line : Line) (answer : Result Reply Refusal) (old new : Table) (before after : List Replied) : Type 0 where
+  pub did : Result (Unit {0}) Refusal
+  pub answer_is : answer ≡ reworded (λ _. Done) did
+  pub made : IsCreated name line did old new
+  pub alone : after ≡ before
+
+-- A status line changes nothing, and says what is in memory of a snapshot in any case: what its store's bytes say, where nothing is
+-- in flight and no device drops writes.
 pub record IsStatusLeft (device : List ℕ) (answer : Result Reply Refusal) (old new : Table) (before after : List Replied) : Type 0 where
   pub text : Result (List ℕ) Refusal
   pub answer_is : answer ≡ reworded Said text
   pub among : IsStatusAmong text device old
+  pub held : IsStatusHeld text device old
   pub stays : new ≡ old
   pub alone : after ≡ before
 
@@ -133,7 +160,7 @@ IsLeft (commands.Status device) answer old new before after = IsStatusLeft devic
 IsLeft (commands.Table device) answer old new before after = (new ≡ old) × (after ≡ before)
 IsLeft (commands.Save disk first count) answer old new before after = (new ≡ old) × (after ≡ before)
 IsLeft (commands.Checkpoint volume) answer old new before after = (new ≡ old) × (after ≡ before)
-IsLeft (commands.Create name line) answer old new before after = after ≡ before
+IsLeft (commands.Create name line) answer old new before after = IsCreateLeft name line answer old new before after
 IsLeft (commands.Disk name sectors) answer old new before after = after ≡ before
 IsLeft (commands.Remove name) answer old new before after = after ≡ before
 IsLeft (commands.Load disk first bytes) answer old new before after = after ≡ before

@@ -15,3 +15,4 @@ pub mod Shown
 pub mod Changed
 pub mod Sessions
 pub mod Runs
+pub mod Undoing

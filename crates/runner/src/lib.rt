@@ -31,9 +31,11 @@ mod session;
 mod step;
 mod summary;
 mod text;
+mod undoing;
 
 pub use desk::Desk;
 pub use error::{RunError, exit_status};
 pub use session::Session;
 pub use summary::Summary;
 pub use text::run;
+pub use undoing::look_at_undoing;

@@ -1,14 +1,9 @@
-use Rattle.std.proofs.Common.{◌≡◌, true, false, Some, Ok, Err, refl, sym, subst}
-use Rattle.std.specs.Prelude.{IfOk, IfSome}
-use Rattle.sector.specs.declared.refusal.Refusal.{Refusal}
-use Rattle.served.specs.Refusals.{is_starved}
+use Rattle.std.proofs.Common.{◌≡◌, true, Some, refl, sym, subst}
+use Rattle.std.specs.Prelude.{IfSome}
 use Rattle.reply.specs.declared.Reply.TheVariants.{Data, Done}
 use Rattle.command.specs.declared.grammar.Command.{Command}
 use Rattle.device_list.specs.Tables.{table_of}
-use Rattle.devices.specs.Flights.{IsDoneFor}
-use Rattle.devices.specs.Merging.{IsBegunIn, IsFinishedIn, IsUnfinishedIn}
 use Rattle.devices.specs.Ruled.{volume_for}
-use Rattle.named_volume.specs.Flights.{IsSettledBy}
 use Rattle.named.specs.Naming.{AreNamed}
 use Rattle.named.specs.Sound.{is_sound}
 use Rattle.named.specs.State.{Table}
@@ -17,9 +12,7 @@ use Rattle.named.proofs.SoundRules.{ticked_sound}
 use Rattle.named.specs.Changes.{ServesIf}
 use Rattle.named.specs.Creating.{create}
 use Rattle.named.specs.Journal.{enters_journal}
-use Rattle.named.specs.Events.{is_merge_event, origin_by, rested}
-use Rattle.named.specs.Merging.{merge_begun}
-use Rattle.named.specs.Places.{volume_at}
+use Rattle.named.specs.Events.{is_merge_event, origin_by}
 use Rattle.named.specs.Starting.{flush_asked, read_asked, write_asked}
 use Rattle.runner.specs.Asking.{IsFirst, first_refusal}
 use Rattle.runner.specs.Output.{IsPartDone, told}
@@ -30,7 +23,7 @@ use Rattle.runner.specs.Wants.{enters}
 use Rattle.runner.proofs.RuledLemmas.{not_true, quiet_too, step_ruled}
 use Rattle.runner.proofs.AskingLemmas.{numbered_first}
 use Rattle.runner.proofs.StepLemmas.{serves_worded}
-use Rattle.runner.proofs.LeftLemmas.{asked_both, asked_still, err_worded, on_worded, refused_stays, refused_worded, worded_asked}
+use Rattle.runner.proofs.LeftLemmas.{asked_both, asked_still, refused_stays, worded_asked}
 use Rattle.runner.specs.Left.{IsLeft}
 use Rattle.runner.proofs.step.obey.Goals as goal
 
@@ -64,7 +57,7 @@ returns-in-Read-clause-still c =
 pub returns-in-Read-clause-left : goal.returns-in-Read-clause-left
 returns-in-Read-clause-left c =
     let P : Command → Type 0 = λ command. IsLeft command c.given-in-Read.result (table_of c.args.held.now) (table_of c.read_device.new.held) c.args.ended.now.items c.read_device.new.ended.items in
-    subst P (sym c.in-Read.is) (record { got = c.read_device.result; answer_is = c.given-in-Read.ensures; others = c.read_device.ensures.one; among = c.read_device.ensures.among })
+    subst P (sym c.in-Read.is) (record { got = c.read_device.result; answer_is = c.given-in-Read.ensures; others = c.read_device.ensures.one; among = c.read_device.ensures.among; denied = c.read_device.ensures.denied })
 
 pub returns-in-Flush-clause-asks : goal.returns-in-Flush-clause-asks
 returns-in-Flush-clause-asks c =
@@ -79,7 +72,7 @@ returns-in-Flush-clause-still c =
 pub returns-in-Flush-clause-left : goal.returns-in-Flush-clause-left
 returns-in-Flush-clause-left c =
     let P : Command → Type 0 = λ command. IsLeft command c.did-in-Flush.result (table_of c.args.held.now) (table_of c.flush_device.new.held) c.args.ended.now.items c.flush_device.new.ended.items in
-    subst P (sym c.in-Flush.is) (record { did = c.flush_device.result; answer_is = c.did-in-Flush.ensures; others = c.flush_device.ensures.one; among = c.flush_device.ensures.among })
+    subst P (sym c.in-Flush.is) (record { did = c.flush_device.result; answer_is = c.did-in-Flush.ensures; others = c.flush_device.ensures.one; among = c.flush_device.ensures.among; denied = c.flush_device.ensures.denied })
 
 pub returns-in-Write-clause-asks : goal.returns-in-Write-clause-asks
 returns-in-Write-clause-asks c =
@@ -94,7 +87,7 @@ returns-in-Write-clause-still c =
 pub returns-in-Write-clause-left : goal.returns-in-Write-clause-left
 returns-in-Write-clause-left c =
     let P : Command → Type 0 = λ command. IsLeft command c.did-in-Write.result (table_of c.args.held.now) (table_of c.write_device.new.held) c.args.ended.now.items c.write_device.new.ended.items in
-    subst P (sym c.in-Write.is) (record { did = c.write_device.result; answer_is = c.did-in-Write.ensures; others = c.write_device.ensures.one; among = c.write_device.ensures.among })
+    subst P (sym c.in-Write.is) (record { did = c.write_device.result; answer_is = c.did-in-Write.ensures; others = c.write_device.ensures.one; among = c.write_device.ensures.among; denied = c.write_device.ensures.denied })
 
 pub returns-in-StartRead-clause-still : goal.returns-in-StartRead-clause-still
 returns-in-StartRead-clause-still c =
@@ -104,7 +97,7 @@ returns-in-StartRead-clause-still c =
 pub returns-in-StartRead-clause-left : goal.returns-in-StartRead-clause-left
 returns-in-StartRead-clause-left c =
     let P : Command → Type 0 = λ command. IsLeft command c.number.result (table_of c.args.held.now) (table_of c.start_read.new.held) c.args.ended.now.items c.args.ended.now.items in
-    subst P (sym c.in-StartRead.is) (record { number = c.start_read.result; answer_is = c.number.ensures; others = c.start_read.ensures.one; flies = c.start_read.ensures.flies; started = c.start_read.ensures.started; alone = refl })
+    subst P (sym c.in-StartRead.is) (record { number = c.start_read.result; answer_is = c.number.ensures; others = c.start_read.ensures.one; flies = c.start_read.ensures.flies; started = c.start_read.ensures.started; refused = c.start_read.ensures.refused; alone = refl })
 
 pub returns-in-StartWrite-clause-still : goal.returns-in-StartWrite-clause-still
 returns-in-StartWrite-clause-still c =
@@ -114,7 +107,7 @@ returns-in-StartWrite-clause-still c =
 pub returns-in-StartWrite-clause-left : goal.returns-in-StartWrite-clause-left
 returns-in-StartWrite-clause-left c =
     let P : Command → Type 0 = λ command. IsLeft command c.number-in-StartWrite.result (table_of c.args.held.now) (table_of c.start_write.new.held) c.args.ended.now.items c.args.ended.now.items in
-    subst P (sym c.in-StartWrite.is) (record { number = c.start_write.result; answer_is = c.number-in-StartWrite.ensures; others = c.start_write.ensures.one; flies = c.start_write.ensures.flies; started = c.start_write.ensures.started; alone = refl })
+    subst P (sym c.in-StartWrite.is) (record { number = c.start_write.result; answer_is = c.number-in-StartWrite.ensures; others = c.start_write.ensures.one; flies = c.start_write.ensures.flies; started = c.start_write.ensures.started; refused = c.start_write.ensures.refused; alone = refl })
 
 pub returns-in-Settle-clause-asks : goal.returns-in-Settle-clause-asks
 returns-in-Settle-clause-asks c =
@@ -129,18 +122,15 @@ returns-in-Settle-clause-still c =
 pub returns-in-Settle-clause-left : goal.returns-in-Settle-clause-left
 returns-in-Settle-clause-left c =
     let P : Command → Type 0 = λ command. IsLeft command c.did-in-Settle.result (table_of c.args.held.now) (table_of c.settle_device.new.held) c.args.ended.now.items c.settle_device.new.ended.items in
-    let old = table_of c.args.held.now in
-    let new = table_of c.settle_device.new.held in
-    let before = c.args.ended.now.items in
-    let after = c.settle_device.new.ended.items in
-    let call = c.settle_device.result in
-    let answer = c.did-in-Settle.result in
-    let is = c.did-in-Settle.ensures in
     subst P (sym c.in-Settle.is) (record {
+      did = c.settle_device.result;
+      answer_is = c.did-in-Settle.ensures;
       others = c.settle_device.ensures.one;
-      rested = on_worded (λ _. Done) call answer (rested c.in-Settle.volume old new ≡ Ok tt) is c.settle_device.ensures.rested;
-      drained = on_worded (λ _. Done) call answer (IsDoneFor c.in-Settle.volume (IsSettledBy before after) old new) is c.settle_device.ensures.drained;
-      stays = err_worded (λ _. Done) call answer ((new ≡ old) × (after ≡ before)) is c.settle_device.ensures.err;
+      rested = c.settle_device.ensures.rested;
+      drained = c.settle_device.ensures.drained;
+      refused = c.settle_device.ensures.refused;
+      idle = c.settle_device.ensures.idle;
+      stays = c.settle_device.ensures.err;
       alone = c.settle_device.ensures.alone;
     })
 
@@ -163,31 +153,19 @@ returns-in-Finish-clause-still c =
 pub returns-in-Finish-clause-left : goal.returns-in-Finish-clause-left
 returns-in-Finish-clause-left c =
     let P : Command → Type 0 = λ command. IsLeft command c.did-in-Finish.result (table_of c.args.held.now) (table_of c.finish_device.new.held) c.args.ended.now.items c.args.ended.now.items in
-    let old = table_of c.args.held.now in
-    let new = table_of c.finish_device.new.held in
-    let asks = origin_by c.in-Finish.volume old in
-    let call = c.finish_device.result in
-    let answer = c.did-in-Finish.result in
-    let is = c.did-in-Finish.ensures in
-    let U : Refusal → Type 0 = λ e. IfOk asks (λ v. is_starved e ≡ false → IsUnfinishedIn e (volume_at v old)) in
     subst P (sym c.in-Finish.is) (record {
-      finished = on_worded (λ _. Done) call answer (IfOk asks (λ v. IsFinishedIn v old new (volume_at v old))) is c.finish_device.ensures.finished;
-      unfinished = refused_worded (λ _. Done) call answer U is c.finish_device.ensures.unfinished;
-      stays = err_worded (λ _. Done) call answer (new ≡ old) is c.finish_device.ensures.err;
+      did = c.finish_device.result;
+      answer_is = c.did-in-Finish.ensures;
+      finished = c.finish_device.ensures.finished;
+      unfinished = c.finish_device.ensures.unfinished;
+      stays = c.finish_device.ensures.err;
       alone = refl;
     })
 
 pub returns-in-Merge-clause-left : goal.returns-in-Merge-clause-left
 returns-in-Merge-clause-left c =
     let P : Command → Type 0 = λ command. IsLeft command c.did-in-Merge.result (table_of c.args.held.now) (table_of c.merge_device.new.held) c.args.ended.now.items c.args.ended.now.items in
-    let old = table_of c.args.held.now in
-    let new = table_of c.merge_device.new.held in
-    let R : Refusal → Type 0 = λ e. (new ≡ old) × (is_starved e ≡ false → merge_begun c.in-Merge.name old ≡ Err e) in
-    subst P (sym c.in-Merge.is) (record {
-      begun = on_worded (λ _. Done) c.merge_device.result c.did-in-Merge.result (IsDoneFor c.in-Merge.name IsBegunIn old new) c.did-in-Merge.ensures c.merge_device.ensures.begun;
-      refused = refused_worded (λ _. Done) c.merge_device.result c.did-in-Merge.result R c.did-in-Merge.ensures c.merge_device.ensures.refused;
-      alone = refl;
-    })
+    subst P (sym c.in-Merge.is) (record { did = c.merge_device.result; answer_is = c.did-in-Merge.ensures; begun = c.merge_device.ensures.begun; refused = c.merge_device.ensures.refused; alone = refl })
 
 pub returns-in-Step-clause-done : goal.returns-in-Step-clause-done
 unfolding step
@@ -209,7 +187,7 @@ pub returns-in-Status-clause-left : goal.returns-in-Status-clause-left
 returns-in-Status-clause-left c =
     let table = table_of c.args.held.now in
     let P : Command → Type 0 = λ command. IsLeft command c.text.result table table c.args.ended.now.items c.args.ended.now.items in
-    subst P (sym c.in-Status.is) (record { text = c.status_text.result; answer_is = c.text.ensures; among = c.status_text.ensures.among; stays = refl; alone = refl })
+    subst P (sym c.in-Status.is) (record { text = c.status_text.result; answer_is = c.text.ensures; among = c.status_text.ensures.among; held = c.status_text.ensures.held; stays = refl; alone = refl })
 
 pub returns-in-Create-clause-done : goal.returns-in-Create-clause-done
 unfolding step
@@ -236,3 +214,8 @@ pub returns-in-StopLosing-clause-left : goal.returns-in-StopLosing-clause-left
 returns-in-StopLosing-clause-left c =
     let P : Command → Type 0 = λ command. IsLeft command c.did-in-StopLosing.result (table_of c.args.held.now) (table_of c.stop_losing.new.held) c.args.ended.now.items c.args.ended.now.items in
     subst P (sym c.in-StopLosing.is) (record { did = c.stop_losing.result; answer_is = c.did-in-StopLosing.ensures; lost = c.stop_losing.ensures.done; alone = refl })
+
+pub returns-in-Create-clause-left : goal.returns-in-Create-clause-left
+returns-in-Create-clause-left c =
+    let P : Command → Type 0 = λ command. IsLeft command c.did-in-Create.result (table_of c.args.held.now) (table_of c.create_device.new.held) c.args.ended.now.items c.args.ended.now.items in
+    subst P (sym c.in-Create.is) (record { did = c.create_device.result; answer_is = c.did-in-Create.ensures; made = c.create_device.ensures.made; alone = refl })
