@@ -20,7 +20,7 @@ fn clear_area<F: FileSet>(
     ensures passes { (o c : List ℕ) (from : ℕ) → from ≤ index → Rolls (begun sizes o c) from (F.is_known files.old) (F.bytes files.old) (F.may_hold files.old) → Passes (begun sizes o c) (F.moment files.old) (F.moment files.new) (F.left_since files.old) (F.left_since files.new) }
     ensures clears { OnOk result ((o c : List ℕ) (from : ℕ) → from ≤ index → Rolls (begun sizes o c) from (F.is_known files.old) (F.bytes files.old) (F.may_hold files.old) → Clears (begun sizes o c) from (F.is_known files.new) (F.bytes files.old) (F.bytes files.new) (F.may_hold files.new)) }
     ensures zero { OnOk result ((o c : List ℕ) (from : ℕ) → from ≤ index → Rolls (begun sizes o c) from (F.is_known files.old) (F.bytes files.old) (F.may_hold files.old) → IsZero sizes.chunk (F.bytes files.new 1) index) }
-    ensures cause { HasCause ((o : List ℕ) × (c : List ℕ) × (from : ℕ) × (from ≤ index) × (index ≤ length (pairs (begun sizes o c)) / (32 * sizes.chunk)) × Rolls (begun sizes o c) from (F.is_known files.old) (F.bytes files.old) (F.may_hold files.old)) (F.fault_count files.old) (F.fault_count files.new) result }
+    ensures cause { HasCause ((o : List ℕ) × (c : List ℕ) × (from : ℕ) × (from ≤ index) × (index ≤ length (pairs (begun sizes o c)) / (32 * sizes.chunk)) × Rolls (begun sizes o c) from (F.is_known files.old) (F.bytes files.old) (F.may_hold files.old) × (F.lacks_memory files.new → ⊥)) (F.fault_count files.old) (F.fault_count files.new) result }
 {
     let chunk = sizes.chunk as u64;
     let place = index * (32 * chunk + 1) + 1;
@@ -44,7 +44,7 @@ pub fn clear_areas<F: FileSet>(
     ensures passes { (o c : List ℕ) → Rolls (begun sizes o c) from (F.is_known files.old) (F.bytes files.old) (F.may_hold files.old) → Passes (begun sizes o c) (F.moment files.old) (F.moment files.new) (F.left_since files.old) (F.left_since files.new) }
     ensures clears { OnOk result ((o c : List ℕ) → Rolls (begun sizes o c) from (F.is_known files.old) (F.bytes files.old) (F.may_hold files.old) → Clears (begun sizes o c) from (F.is_known files.new) (F.bytes files.old) (F.bytes files.new) (F.may_hold files.new)) }
     ensures zero { OnOk result ((o c : List ℕ) → Rolls (begun sizes o c) from (F.is_known files.old) (F.bytes files.old) (F.may_hold files.old) → (area : ℕ) → from ≤ area → area < end → IsZero sizes.chunk (F.bytes files.new 1) area) }
-    ensures cause { HasCause ((o : List ℕ) × (c : List ℕ) × (end ≤ length (pairs (begun sizes o c)) / (32 * sizes.chunk) + 1) × Rolls (begun sizes o c) from (F.is_known files.old) (F.bytes files.old) (F.may_hold files.old)) (F.fault_count files.old) (F.fault_count files.new) result }
+    ensures cause { HasCause ((o : List ℕ) × (c : List ℕ) × (end ≤ length (pairs (begun sizes o c)) / (32 * sizes.chunk) + 1) × Rolls (begun sizes o c) from (F.is_known files.old) (F.bytes files.old) (F.may_hold files.old) × (F.lacks_memory files.new → ⊥)) (F.fault_count files.old) (F.fault_count files.new) result }
 {
     let mut index = end;
     while from < index {

@@ -57,7 +57,7 @@ fn copy_pair<F: FileSet>(
     ensures passes { (o c : List ℕ) (from : ℕ) → IsPairOf (begun sizes o c) pair → Rolls (begun sizes o c) from (F.is_known files.old) (F.bytes files.old) (F.may_hold files.old) → Passes (begun sizes o c) (F.moment files.old) (F.moment files.new) (F.left_since files.old) (F.left_since files.new) }
     ensures copies { OnOk result ((o c : List ℕ) (from : ℕ) → IsPairOf (begun sizes o c) pair → Rolls (begun sizes o c) from (F.is_known files.old) (F.bytes files.old) (F.may_hold files.old) → Copies (begun sizes o c) from (F.is_known files.new) (F.bytes files.old) (F.bytes files.new) (F.may_hold files.new)) }
     ensures back { OnOk result ((o c : List ℕ) (from : ℕ) → IsPairOf (begun sizes o c) pair → Rolls (begun sizes o c) from (F.is_known files.old) (F.bytes files.old) (F.may_hold files.old) → IsBack (begun sizes o c) (F.bytes files.new 0) pair.old) }
-    ensures cause { HasCause ((o : List ℕ) × (c : List ℕ) × (from : ℕ) × IsPairOf (begun sizes o c) pair × Rolls (begun sizes o c) from (F.is_known files.old) (F.bytes files.old) (F.may_hold files.old)) (F.fault_count files.old) (F.fault_count files.new) result }
+    ensures cause { HasCause ((o : List ℕ) × (c : List ℕ) × (from : ℕ) × IsPairOf (begun sizes o c) pair × Rolls (begun sizes o c) from (F.is_known files.old) (F.bytes files.old) (F.may_hold files.old) × (F.lacks_memory files.new → ⊥)) (F.fault_count files.old) (F.fault_count files.new) result }
 {
     let Some(place) = place_of(sizes, pair) else {
         return Err(Stopped::Changed);
@@ -81,7 +81,7 @@ fn read_area<F: FileSet>(
     ensures data { OnOk result (F.is_known files.old → area.new.bytes.items ≡ chunk_at sizes.chunk (F.bytes files.old 1) (area_place sizes.chunk index)) }
     ensures rolls { (o c : List ℕ) (from : ℕ) → Rolls (begun sizes o c) from (F.is_known files.old) (F.bytes files.old) (F.may_hold files.old) → Copies (begun sizes o c) from (F.is_known files.new) (F.bytes files.old) (F.bytes files.new) (F.may_hold files.new) }
     ensures passes { (o c : List ℕ) (from : ℕ) → Rolls (begun sizes o c) from (F.is_known files.old) (F.bytes files.old) (F.may_hold files.old) → Passes (begun sizes o c) (F.moment files.old) (F.moment files.new) (F.left_since files.old) (F.left_since files.new) }
-    ensures cause { HasCause ((o : List ℕ) × (c : List ℕ) × (from : ℕ) × (index < from) × Rolls (begun sizes o c) from (F.is_known files.old) (F.bytes files.old) (F.may_hold files.old)) (F.fault_count files.old) (F.fault_count files.new) result }
+    ensures cause { HasCause ((o : List ℕ) × (c : List ℕ) × (from : ℕ) × (index < from) × Rolls (begun sizes o c) from (F.is_known files.old) (F.bytes files.old) (F.may_hold files.old) × (F.lacks_memory files.new → ⊥)) (F.fault_count files.old) (F.fault_count files.new) result }
 {
     let chunk = sizes.chunk as u64;
     let place = index * (32 * chunk + 1) + 1;
@@ -107,7 +107,7 @@ fn copy_area<F: FileSet>(
     ensures passes { (o c : List ℕ) (from : ℕ) → index < from → Rolls (begun sizes o c) from (F.is_known files.old) (F.bytes files.old) (F.may_hold files.old) → Passes (begun sizes o c) (F.moment files.old) (F.moment files.new) (F.left_since files.old) (F.left_since files.new) }
     ensures copies { OnOk result ((o c : List ℕ) (from : ℕ) → index < from → Rolls (begun sizes o c) from (F.is_known files.old) (F.bytes files.old) (F.may_hold files.old) → Copies (begun sizes o c) from (F.is_known files.new) (F.bytes files.old) (F.bytes files.new) (F.may_hold files.new)) }
     ensures back { OnOk result ((o c : List ℕ) (from : ℕ) → index < from → Rolls (begun sizes o c) from (F.is_known files.old) (F.bytes files.old) (F.may_hold files.old) → AreBack (begun sizes o c) (F.bytes files.new 0) (index * (32 * sizes.chunk)) ((index + 1) * (32 * sizes.chunk))) }
-    ensures cause { HasCause ((o : List ℕ) × (c : List ℕ) × (from : ℕ) × (index < from) × Rolls (begun sizes o c) from (F.is_known files.old) (F.bytes files.old) (F.may_hold files.old)) (F.fault_count files.old) (F.fault_count files.new) result }
+    ensures cause { HasCause ((o : List ℕ) × (c : List ℕ) × (from : ℕ) × (index < from) × Rolls (begun sizes o c) from (F.is_known files.old) (F.bytes files.old) (F.may_hold files.old) × (F.lacks_memory files.new → ⊥)) (F.fault_count files.old) (F.fault_count files.new) result }
 {
     read_area(files, sizes, area, index)?;
     for slot in 0..area.first_empty() {
@@ -132,7 +132,7 @@ pub fn copy_areas<F: FileSet>(
     ensures passes { (o c : List ℕ) → Rolls (begun sizes o c) end (F.is_known files.old) (F.bytes files.old) (F.may_hold files.old) → Passes (begun sizes o c) (F.moment files.old) (F.moment files.new) (F.left_since files.old) (F.left_since files.new) }
     ensures copies { OnOk result ((o c : List ℕ) → Rolls (begun sizes o c) end (F.is_known files.old) (F.bytes files.old) (F.may_hold files.old) → Copies (begun sizes o c) end (F.is_known files.new) (F.bytes files.old) (F.bytes files.new) (F.may_hold files.new)) }
     ensures back { OnOk result ((o c : List ℕ) → Rolls (begun sizes o c) end (F.is_known files.old) (F.bytes files.old) (F.may_hold files.old) → AreBack (begun sizes o c) (F.bytes files.new 0) (from * (32 * sizes.chunk)) (end * (32 * sizes.chunk))) }
-    ensures cause { HasCause ((o : List ℕ) × (c : List ℕ) × Rolls (begun sizes o c) end (F.is_known files.old) (F.bytes files.old) (F.may_hold files.old)) (F.fault_count files.old) (F.fault_count files.new) result }
+    ensures cause { HasCause ((o : List ℕ) × (c : List ℕ) × Rolls (begun sizes o c) end (F.is_known files.old) (F.bytes files.old) (F.may_hold files.old) × (F.lacks_memory files.new → ⊥)) (F.fault_count files.old) (F.fault_count files.new) result }
 {
     for index in from..end {
         copy_area(files, sizes, area, room, index)?;

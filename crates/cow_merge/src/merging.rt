@@ -32,7 +32,7 @@ fn copy_batch<F: FileSet>(
     ensures passes { (o c : List ℕ) → Rolls (begun sizes o c) end (F.is_known files.old) (F.bytes files.old) (F.may_hold files.old) → Passes (begun sizes o c) (F.moment files.old) (F.moment files.new) (F.left_since files.old) (F.left_since files.new) }
     ensures rolls { OnOk result ((o c : List ℕ) → Rolls (begun sizes o c) end (F.is_known files.old) (F.bytes files.old) (F.may_hold files.old) → Rolls (begun sizes o c) from (F.is_known files.new) (F.bytes files.new) (F.may_hold files.new)) }
     ensures store { OnOk result ((o c : List ℕ) → Rolls (begun sizes o c) end (F.is_known files.old) (F.bytes files.old) (F.may_hold files.old) → F.bytes files.new 1 ≡ F.bytes files.old 1) }
-    ensures cause { HasCause ((o : List ℕ) × (c : List ℕ) × Rolls (begun sizes o c) end (F.is_known files.old) (F.bytes files.old) (F.may_hold files.old)) (F.fault_count files.old) (F.fault_count files.new) result }
+    ensures cause { HasCause ((o : List ℕ) × (c : List ℕ) × Rolls (begun sizes o c) end (F.is_known files.old) (F.bytes files.old) (F.may_hold files.old) × (F.lacks_memory files.new → ⊥)) (F.fault_count files.old) (F.fault_count files.new) result }
 {
     copy_areas(files, sizes, area, room, from, end)?;
     files.sync(ORIGIN)?;
@@ -53,7 +53,7 @@ fn clear_batch<F: FileSet>(
     ensures clears { OnOk result ((o c : List ℕ) → Rolls (begun sizes o c) from (F.is_known files.old) (F.bytes files.old) (F.may_hold files.old) → Clears (begun sizes o c) from (F.is_known files.new) (F.bytes files.old) (F.bytes files.new) (F.may_hold files.new)) }
     ensures zero { OnOk result ((o c : List ℕ) → Rolls (begun sizes o c) from (F.is_known files.old) (F.bytes files.old) (F.may_hold files.old) → (area : ℕ) → from ≤ area → area < end → IsZero sizes.chunk (F.bytes files.new 1) area) }
     ensures synced { OnOk result ((o c : List ℕ) → Rolls (begun sizes o c) from (F.is_known files.old) (F.bytes files.old) (F.may_hold files.old) → IsSynced (F.bytes files.new) (F.may_hold files.new) 1) }
-    ensures cause { HasCause ((o : List ℕ) × (c : List ℕ) × (end ≤ length (pairs (begun sizes o c)) / (32 * sizes.chunk) + 1) × Rolls (begun sizes o c) from (F.is_known files.old) (F.bytes files.old) (F.may_hold files.old)) (F.fault_count files.old) (F.fault_count files.new) result }
+    ensures cause { HasCause ((o : List ℕ) × (c : List ℕ) × (end ≤ length (pairs (begun sizes o c)) / (32 * sizes.chunk) + 1) × Rolls (begun sizes o c) from (F.is_known files.old) (F.bytes files.old) (F.may_hold files.old) × (F.lacks_memory files.new → ⊥)) (F.fault_count files.old) (F.fault_count files.new) result }
 {
     clear_areas(files, sizes, zeros, from, end)?;
     files.sync(STORE)?;
@@ -77,7 +77,7 @@ fn merge_areas<F: FileSet>(
     requires step { 0 < step }
     ensures passes { (o c : List ℕ) → Rolls (begun sizes o c) (last + 1) (F.is_known files.old) (F.bytes files.old) (F.may_hold files.old) → Passes (begun sizes o c) (F.moment files.old) (F.moment files.new) (F.left_since files.old) (F.left_since files.new) }
     ensures ends { OnOk result ((o c : List ℕ) → Rolls (begun sizes o c) (last + 1) (F.is_known files.old) (F.bytes files.old) (F.may_hold files.old) → Ends (begun sizes o c) last (F.is_known files.new) (F.bytes files.new) (F.may_hold files.new)) }
-    ensures cause { HasCause ((o : List ℕ) × (c : List ℕ) × Rolls (begun sizes o c) (last + 1) (F.is_known files.old) (F.bytes files.old) (F.may_hold files.old)) (F.fault_count files.old) (F.fault_count files.new) result }
+    ensures cause { HasCause ((o : List ℕ) × (c : List ℕ) × Rolls (begun sizes o c) (last + 1) (F.is_known files.old) (F.bytes files.old) (F.may_hold files.old) × (F.lacks_memory files.new → ⊥)) (F.fault_count files.old) (F.fault_count files.new) result }
 {
     let mut end = last + 1;
     while 0 < end {
@@ -136,7 +136,7 @@ pub fn merge<F: FileSet>(
     requires { room.area.chunk ≡ map.now.chunk }
     ensures stops { F.is_known files.old → length (F.bytes files.old 0) ≡ 512 * origin → IsMapOf origin (F.bytes files.old 1) map.now → (left : ℕ → List ℕ) → F.left_since files.new (F.moment files.old) left → AreLeft (F.bytes files.old) (F.may_hold files.old) left ⊎ StillShows map.now.chunk origin map.now.size (F.bytes files.old 0) (F.bytes files.old 1) left }
     ensures done { OnOk result (F.is_known files.old → length (F.bytes files.old 0) ≡ 512 * origin → IsMapOf origin (F.bytes files.old 1) map.now → F.is_known files.new × ((left : ℕ → List ℕ) → AreLeft (F.bytes files.new) (F.may_hold files.new) left → IsMerged map.now.chunk map.now.size map.now.current (F.bytes files.old 0) (F.bytes files.old 1) left)) }
-    ensures cause { HasCause (F.is_known files.old × (length (F.bytes files.old 0) ≡ 512 * origin) × IsMapOf origin (F.bytes files.old 1) map.now) (F.fault_count files.old) (F.fault_count files.new) result }
+    ensures cause { HasCause (F.is_known files.old × (length (F.bytes files.old 0) ≡ 512 * origin) × IsMapOf origin (F.bytes files.old 1) map.now × (F.lacks_memory files.new → ⊥)) (F.fault_count files.old) (F.fault_count files.new) result }
 {
     let sizes = Sizes {
         chunk: map.chunk,

@@ -11,7 +11,7 @@ use file_set::FileSet;
 pub fn settle<F: FileSet>(files: &mut F) -> Result<(), Stopped>
     ensures stays { Stays (F.moment files.old) (F.moment files.new) (F.left_since files.old) (F.left_since files.new) (F.bytes files.old) (F.may_hold files.old) }
     ensures settles { OnOk result (F.is_known files.old → Settles (F.is_known files.new) (F.bytes files.old) (F.bytes files.new) (F.may_hold files.new)) }
-    ensures cause { HasCause (F.is_known files.old) (F.fault_count files.old) (F.fault_count files.new) result }
+    ensures cause { HasCause (F.is_known files.old × (F.lacks_memory files.new → ⊥)) (F.fault_count files.old) (F.fault_count files.new) result }
 {
     files.sync(STORE)?;
     files.sync(ORIGIN)?;

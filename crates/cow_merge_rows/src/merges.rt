@@ -8,6 +8,7 @@ use crate::torn::{Torn, TornFile, TornFiles};
 use cow_map::{CowMap, Told, read_store};
 use cow_merge::{Room, Stopped, merge};
 use cow_shown::export;
+use file_set::{MemFile, MemFiles, Two};
 use image::{MemImage, MemSink};
 use std::alloc::Global;
 use std::process::Abort;
@@ -158,6 +159,26 @@ fn two_areas_are_merged(rt: HostRuntime) -> Result<(), Fail> {
         shown,
     } = two(rt.alloc())?;
     merge_to_the_end(&rt, origin, store, shown.as_slice())
+}
+
+#[test]
+fn files_in_memory_are_merged(rt: HostRuntime) -> Result<(), Fail> {
+    let Case {
+        origin,
+        store,
+        shown,
+    } = two(rt.alloc())?;
+    let map = map_of(&rt, store.as_slice(), origin.len())?;
+    let room = Room::new(rt.alloc(), map.chunk)?;
+    let sectors = origin.len() as u64 / 512;
+    let first = MemFile::new(rt.alloc(), origin)?;
+    let second = MemFile::new(rt.alloc(), store)?;
+    let mut files = MemFiles::new(rt.alloc(), Two { first, second });
+    assert!(rt; merge(&mut files, &map, sectors, room).is_ok());
+    assert!(rt; files.files.first.synced.as_slice() == shown.as_slice());
+    let map = map_of(&rt, files.files.second.synced.as_slice(), shown.len())?;
+    assert_eq!(rt; map.pairs.len(), 0);
+    Ok(())
 }
 
 #[test]

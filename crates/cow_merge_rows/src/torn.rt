@@ -121,6 +121,8 @@ impl FileSet for TornFiles {
 
     ghost fault_count = { λ _. 0 };
 
+    ghost lacks_memory = { λ _. ⊥ };
+
     fn len(&mut self, file: usize) -> io::Result<u64> {
         if self.fails() {
             return Err(io::ErrorKind::Other.into());

@@ -1,1 +1,3 @@
 pub mod Stops
+pub mod MemFiles
+pub mod Past

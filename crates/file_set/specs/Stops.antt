@@ -16,7 +16,7 @@ pub record Elapses (before now : ℕ) (past since : ℕ → (ℕ → List ℕ) �
   pub nothing_else : (t : ℕ) (left : ℕ → List ℕ) → t ≤ before → since t left → past t left ⊎ AreLeft bytes may_hold left
   pub keeps : (t : ℕ) (left : ℕ → List ℕ) → t ≤ before → past t left → since t left
 
--- A call fails only where a read, a write or a sync of a file has failed since, if what it asks for is there.
+-- A call fails only where a read, a write or a sync of a file has failed since, if what it asks for is there, and memory too.
 pub record HasCause {T E : Type 0} (there : Type 0) (before now : ℕ) (result : Result T E) : Type 0 where
   pub later : before ≤ now
   pub failed : IsErr result → there → before < now

@@ -92,6 +92,8 @@ impl FileSet for DiskFiles {
 
     ghost fault_count = { λ _. 0 };
 
+    ghost lacks_memory = { λ _. ⊥ };
+
     fn len(&mut self, file: usize) -> io::Result<u64> {
         is_there(file)?;
         let len = self.file(file).seek(SeekFrom::End(0));

@@ -25,6 +25,9 @@ pub trait FileSet {
     /// How often a read, a write or a sync has failed.
     ghost fault_count: { Self → ℕ };
 
+    /// Whether memory was refused to it. To one that takes none it never is, as to real files.
+    ghost lacks_memory: { Self → Type 0 };
+
     /// How many bytes a file has.
     fn len(&mut self, file: usize) -> io::Result<u64>
         ensures value { IfOk result (λ n. is_known self.old → n ≡ length (bytes self.old file)) }
@@ -32,7 +35,7 @@ pub trait FileSet {
         ensures bytes { (f : ℕ) → bytes self.new f ≡ bytes self.old f }
         ensures stop { (f s : ℕ) (v : List ℕ) → may_hold self.new f s v → may_hold self.old f s v }
         ensures time { Elapses (moment self.old) (moment self.new) (left_since self.old) (left_since self.new) (bytes self.new) (may_hold self.new) }
-        ensures cause { HasCause (is_known self.old) (fault_count self.old) (fault_count self.new) result };
+        ensures cause { HasCause (is_known self.old × (lacks_memory self.new → ⊥)) (fault_count self.old) (fault_count self.new) result };
 
     /// Reads as many bytes as the buffer has.
     fn read_at(&mut self, file: usize, at: u64, out: &mut [u8]) -> io::Result<()>
@@ -41,7 +44,7 @@ pub trait FileSet {
         ensures bytes { (f : ℕ) → bytes self.new f ≡ bytes self.old f }
         ensures stop { (f s : ℕ) (v : List ℕ) → may_hold self.new f s v → may_hold self.old f s v }
         ensures time { Elapses (moment self.old) (moment self.new) (left_since self.old) (left_since self.new) (bytes self.new) (may_hold self.new) }
-        ensures cause { HasCause (is_known self.old × (at + length out.old ≤ length (bytes self.old file))) (fault_count self.old) (fault_count self.new) result };
+        ensures cause { HasCause (is_known self.old × (at + length out.old ≤ length (bytes self.old file)) × (lacks_memory self.new → ⊥)) (fault_count self.old) (fault_count self.new) result };
 
     /// Writes whole sectors, from this one on. What is written may be lost until the next sync. Where it fails, and where
     /// it is stopped, each of these sectors is old or new, each by itself.
@@ -53,7 +56,7 @@ pub trait FileSet {
         ensures known { is_known self.old → is_known self.new }
         ensures stop { (f s : ℕ) (v : List ℕ) → may_hold self.new f s v → may_hold self.old f s v ⊎ ((f ≡ file) × (sector ≤ s) × (512 * (s - sector) < length part.now) × (v ≡ sector_at part.now (s - sector))) }
         ensures time { Elapses (moment self.old) (moment self.new) (left_since self.old) (left_since self.new) (bytes self.new) (may_hold self.new) }
-        ensures cause { HasCause (is_known self.old × (512 * sector + length part.now ≤ length (bytes self.old file))) (fault_count self.old) (fault_count self.new) result };
+        ensures cause { HasCause (is_known self.old × (512 * sector + length part.now ≤ length (bytes self.old file)) × (lacks_memory self.new → ⊥)) (fault_count self.old) (fault_count self.new) result };
 
     /// Makes all that was written to a file last through a stop. Where it fails it may be lost as before, and what reads
     /// give is not known.
@@ -64,7 +67,7 @@ pub trait FileSet {
         ensures known { is_known self.old → is_known self.new }
         ensures stop { (f s : ℕ) (v : List ℕ) → may_hold self.new f s v → may_hold self.old f s v }
         ensures time { Elapses (moment self.old) (moment self.new) (left_since self.old) (left_since self.new) (bytes self.new) (may_hold self.new) }
-        ensures cause { HasCause (is_known self.old) (fault_count self.old) (fault_count self.new) result };
+        ensures cause { HasCause (is_known self.old × (lacks_memory self.new → ⊥)) (fault_count self.old) (fault_count self.new) result };
 
     /// A stop may leave what is there.
     ghost holds_now: { (d : Self) → is_known d → (f s : ℕ) → 512 * s < length (bytes d f) → may_hold d f s (sector_at (bytes d f) s) };

@@ -205,6 +205,8 @@ impl FileSet for Merging<'_> {
 
     ghost fault_count = { λ _. 0 };
 
+    ghost lacks_memory = { λ _. ⊥ };
+
     fn len(&mut self, file: usize) -> io::Result<u64> {
         self.files.len(file)
     }

@@ -23,12 +23,12 @@ returns-in_err-clear_area-clause-passes g c = λ o s rolls.
 pub returns-in_err-clear_area-clause-cause : goal.returns-in_err-clear_area-clause-cause
 returns-in_err-clear_area-clause-cause g c = record {
   later = (let x = c.loop-index.invariant.faults in let y = c.clear_area.ensures.cause.later in omega arith);
-  failed = λ e there. (let (o, s, reach, rolls) = there in
+  failed = λ e there. (let (o, s, reach, rolls, given) = there in
       let i = c.loop-index.invariant in
       let test = c.loop-index-test.true in
       let high = i.high in
       let x = i.faults in
-      let y = c.in_err-clear_area.ensures.cause.failed refl (o, s, c.args.from, omega arith, omega arith, (i.clears o s rolls).rolls) in
+      let y = c.in_err-clear_area.ensures.cause.failed refl (o, s, c.args.from, omega arith, omega arith, (i.clears o s rolls).rolls, given) in
       omega arith);
 }
 

@@ -29,14 +29,14 @@ returns-in_err-copy_pair-clause-passes g c = λ o s from lt rolls.
 pub returns-in_err-copy_pair-clause-cause : goal.returns-in_err-copy_pair-clause-cause
 returns-in_err-copy_pair-clause-cause g c = record {
   later = (let x = c.loop-slot.invariant.faults in let y = c.copy_pair.ensures.cause.later in omega arith);
-  failed = λ e there. (let (o, s, from, lt, rolls) = there in
+  failed = λ e there. (let (o, s, from, lt, rolls, given) = there in
       let i = c.loop-slot.invariant in
       let test = c.loop-slot-test.true in
       let chunk_is = c.read_area.ensures.chunk in
       let within = c.first_empty-slot-end.ensures.within in
       let pair = slot_pair (begun c.args.sizes o s) from c.args.index c.first_empty-slot-end.result c.loop-slot.slot _ _ _ c.read_area.new.area.bytes.items rolls lt (c.in_ok-read_area.ensures.data rolls.is_known) (omega arith) c.first_empty-slot-end.ensures.used (omega arith) in
       let x = i.faults in
-      let y = c.in_err-copy_pair.ensures.cause.failed refl (o, s, from, (c.args.index * (32 * c.args.sizes.chunk) + c.loop-slot.slot, pair.0, λ d. pair.1 d ∙ sym c.pair.ensures), (i.copies o s from lt rolls).rolls) in
+      let y = c.in_err-copy_pair.ensures.cause.failed refl (o, s, from, (c.args.index * (32 * c.args.sizes.chunk) + c.loop-slot.slot, pair.0, λ d. pair.1 d ∙ sym c.pair.ensures), (i.copies o s from lt rolls).rolls, given) in
       omega arith);
 }
 

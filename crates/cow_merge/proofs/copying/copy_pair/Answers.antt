@@ -7,7 +7,7 @@ use Rattle.cow_merge.proofs.copying.copy_pair.Goals as goal
 pub returns-in_default-clause-cause : goal.returns-in_default-clause-cause
 returns-in_default-clause-cause g c = record {
   later = omega arith;
-  failed = λ e there. (let (o, s, from, of, rolls) = there in
+  failed = λ e there. (let (o, s, from, of, rolls, given) = there in
       let (place, first, fits, free) = pair_place (begun c.args.sizes o s) c.args.pair rolls.leaves.begin of in
       absurd (c.in_default.ensures.found first fits));
 }
@@ -33,7 +33,7 @@ returns-in_err-write_at-clause-passes g c = λ o s from of rolls.
 pub returns-in_err-write_at-clause-cause : goal.returns-in_err-write_at-clause-cause
 returns-in_err-write_at-clause-cause g c = record {
   later = (let x = c.read_at.ensures.cause.later in let y = c.write_at.ensures.cause.later in omega arith);
-  failed = λ e there. (let (o, s, from, of, rolls) = there in
+  failed = λ e there. (let (o, s, from, of, rolls, given) = there in
       let b = begun c.args.sizes o s in
       let found = c.in-Some.ensures.found in
       let place = c.in-Some.place in
@@ -43,7 +43,7 @@ returns-in_err-write_at-clause-cause g c = record {
       let same = ap length (c.read_at.ensures.bytes 0) in
       let first = found.1 in let inside = found.2 in let size = found.4 in
       let x = c.read_at.ensures.cause.later in
-      let y = c.in_err-write_at.ensures.cause.failed refl (c.read_at.ensures.known rolls.is_known, omega arith) in
+      let y = c.in_err-write_at.ensures.cause.failed refl (c.read_at.ensures.known rolls.is_known, omega arith, given) in
       omega arith);
 }
 

@@ -8,7 +8,7 @@ use Rattle.cow_merge.proofs.copying.read_area.Goals as goal
 pub returns-then-sizes-chunk-clause-cause : goal.returns-then-sizes-chunk-clause-cause
 returns-then-sizes-chunk-clause-cause g c = record {
   later = omega arith;
-  failed = λ e there. (let (o, s, from, lt, rolls) = there in
+  failed = λ e there. (let (o, s, from, lt, rolls, given) = there in
       let reach = rolls.reach in
       let room = area_room (begun c.args.sizes o s) c.args.index rolls.leaves.begin (omega arith) in
       let test = c.if-sizes-chunk.true in

@@ -1,4 +1,4 @@
-use Rattle.std.proofs.Common.{ℕ, List, length, arith, ap, ◌∙◌, sym, subst}
+use Rattle.std.proofs.Common.{ℕ, List, length, arith, refl, ap, ◌∙◌, sym, subst}
 use Rattle.sector.specs.Bytes.{sector_at}
 use Rattle.cow_merge.specs.Holding.{IsZero}
 use Rattle.cow_merge.proofs.Steps.{passes_one, passes_both, leaves_kept, rolls_kept}
@@ -9,6 +9,16 @@ returns-in_err-sync-clause-passes g c = λ o s rolls.
     let clears = c.in_ok-clear_areas.ensures.clears o s rolls in
     let leaves = leaves_kept _ c.args.from _ _ _ _ clears.rolls.leaves c.sync.ensures.len c.sync.ensures.stop in
     passes_both _ _ _ _ _ _ _ (c.clear_areas.ensures.passes o s rolls) (passes_one _ c.args.from _ _ _ _ _ _ c.sync.ensures.time leaves)
+
+pub returns-in_err-sync-clause-cause : goal.returns-in_err-sync-clause-cause
+returns-in_err-sync-clause-cause g c = record {
+  later = (let x = c.clear_areas.ensures.cause.later in let y = c.sync.ensures.cause.later in omega arith);
+  failed = λ e there. (let (o, s, reach, rolls, given) = there in
+      let clears = c.in_ok-clear_areas.ensures.clears o s rolls in
+      let x = c.clear_areas.ensures.cause.later in
+      let y = c.in_err-sync.ensures.cause.failed refl (clears.rolls.is_known, given) in
+      omega arith);
+}
 
 pub returns-clause-passes : goal.returns-clause-passes
 returns-clause-passes g c = λ o s rolls.

@@ -37,9 +37,9 @@ returns-clause-done g c = on_ok_weaker c.merge_areas.result (λ ends known len i
 pub returns-clause-cause : goal.returns-clause-cause
 returns-clause-cause g c = record {
   later = (let x = c.settle.ensures.cause.later in let y = c.merge_areas.ensures.cause.later in omega arith);
-  failed = λ e there. (let (known, len, is) = there in
+  failed = λ e there. (let (known, len, is, given) = there in
       let rolls = first c.args.map.now c.args.origin _ (g.F.FileSet.bytes c.args.files.now) _ _ len is (c.in_ok-settle.ensures.settles known) in
       let x = c.settle.ensures.cause.later in
-      let y = c.merge_areas.ensures.cause.failed e (g.F.FileSet.bytes c.args.files.now 0, g.F.FileSet.bytes c.args.files.now 1, rolls) in
+      let y = c.merge_areas.ensures.cause.failed e (g.F.FileSet.bytes c.args.files.now 0, g.F.FileSet.bytes c.args.files.now 1, rolls, given) in
       omega arith);
 }

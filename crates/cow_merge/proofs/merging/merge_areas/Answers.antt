@@ -8,9 +8,9 @@ use Rattle.cow_merge.proofs.merging.merge_areas.Goals as goal
 pub returns-in_err-copy_batch-clause-cause : goal.returns-in_err-copy_batch-clause-cause
 returns-in_err-copy_batch-clause-cause g c = record {
   later = (let x = c.loop-end.invariant.faults in let y = c.copy_batch.ensures.cause.later in omega arith);
-  failed = λ e there. (let (o, s, rolls) = there in
+  failed = λ e there. (let (o, s, rolls, given) = there in
       let x = c.loop-end.invariant.faults in
-      let y = c.in_err-copy_batch.ensures.cause.failed refl (o, s, c.loop-end.invariant.rolls o s rolls) in
+      let y = c.in_err-copy_batch.ensures.cause.failed refl (o, s, c.loop-end.invariant.rolls o s rolls, given) in
       omega arith);
 }
 
@@ -23,12 +23,12 @@ returns-in_err-clear_batch-clause-passes g c = λ o s rolls.
 pub returns-in_err-clear_batch-clause-cause : goal.returns-in_err-clear_batch-clause-cause
 returns-in_err-clear_batch-clause-cause g c = record {
   later = (let x = c.loop-end.invariant.faults in let y = c.copy_batch.ensures.cause.later in let z = c.clear_batch.ensures.cause.later in omega arith);
-  failed = λ e there. (let (o, s, rolls) = there in
+  failed = λ e there. (let (o, s, rolls, given) = there in
       let i = c.loop-end.invariant in
       let x = i.faults in
       let y = c.copy_batch.ensures.cause.later in
       let of = i.rolls o s rolls in
-      let z = c.in_err-clear_batch.ensures.cause.failed refl (o, s, of.reach, c.in_ok-copy_batch.ensures.rolls o s of) in
+      let z = c.in_err-clear_batch.ensures.cause.failed refl (o, s, of.reach, c.in_ok-copy_batch.ensures.rolls o s of, given) in
       omega arith);
 }
 
