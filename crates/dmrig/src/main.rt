@@ -6,18 +6,41 @@
 //! could not begin).
 #![tactic(auto)]
 
-ghost use Rattle.std.specs.Prelude.{◌≡◌, ◌≤◌, IfOk};
+ghost use Rattle.std.specs.Prelude.{◌≡◌, ◌≤◌, IfOk, IfSome};
 ghost use Rattle.dmrig.specs.Ended.{ended};
 
-mod command_line;
-
-use crate::command_line::{Wanted, asked};
+use clap::{Arg, ArgAction, Command};
 use runner::{RunError, Summary, exit_status, run};
+use std::alloc::Global;
 use std::io::{BufReader, BufWriter, Read, Write};
 use std::process::ExitCode;
 use std::sync::Wait;
 use std::thread::Threads;
 use std::{fs, io};
+
+/// What the words of the command line say: the file's name, if there is one, and the number of copy workers. `None`
+/// where the words are wrong.
+fn asked<'a>(alloc: Global, words: &'a [String]) -> Option<(Option<&'a str>, u32)>
+    ensures some { IfSome result (λ asked. 1 ≤ asked.1) }
+    ensures few { IfSome result (λ asked. asked.1 ≤ 4) }
+{
+    let file = Arg::new(alloc, "FILE").action(ArgAction::Set);
+    let workers = Arg::new(alloc, "WORKERS").action(ArgAction::Set);
+    let command = Command::new(alloc, "dmrig")
+        .arg(file)
+        .ok()?
+        .arg(workers)
+        .ok()?;
+    let matches = command.try_get_matches_from(words).ok()?;
+    let workers = match matches.get_str("WORKERS") {
+        None | Some("1") => 1,
+        Some("2") => 2,
+        Some("3") => 3,
+        Some("4") => 4,
+        Some(_) => return None,
+    };
+    Some((matches.get_str("FILE"), workers))
+}
 
 /// Runs the lines of a reader into standard output. An error is the writer's own.
 fn printed<R: Read + Drop>(
@@ -57,7 +80,7 @@ fn finished(
 
 fn main(rt: HostRuntime) -> io::Result<ExitCode> {
     let words: Vec<String> = std::env::args(&rt)?.collect(rt.alloc())?;
-    let Some(Wanted { file, workers }) = asked(&words) else {
+    let Some((file, workers)) = asked(rt.alloc(), &words) else {
         eprintln!(rt; "dmrig: usage: dmrig [FILE [WORKERS]]")?;
         return Ok(ExitCode::from(2));
     };
