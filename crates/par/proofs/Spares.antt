@@ -1,5 +1,6 @@
 -- Volumes at which no line was run.
 use Rattle.std.proofs.Common.{◌≡◌, ◌⊎◌, inl, inr, ℕ, ◌+◌, ◌<◌, Bool, List, [], ◌∷◌, ◌++◌, length, get_or, refl, sym, ap, ◌∙◌, subst, arith}
+use Rattle.std.specs.Prelude.{Err, Ok, OnErr, Result}
 use Rattle.std.proofs.lemmas.List.{append_cancel_left, append-nil, length_push}
 use Rattle.layers.specs.declared.stack.Stack.{Stack}
 use Rattle.journal.specs.declared.entry.Answered.{Answered}
@@ -10,6 +11,11 @@ use Rattle.par.specs.Played.{Story}
 use Rattle.par.specs.Spared.{AreSpared, NoneAdded}
 use Rattle.par.specs.Taking.{IsMade}
 use Rattle.par.proofs.Made.{AreMade, at_first, at_last, made_long}
+
+-- what is so in any case is so where there is an error
+pub on_error : {T E : Type 0} (P : Type 0) (r : Result T E) → P → OnErr r P
+on_error P (Ok x) p = tt
+on_error P (Err e) p = p
 
 -- nothing was done
 pub all_spared : (volumes : List Volume) → AreSpared volumes volumes

@@ -7,7 +7,8 @@ use Rattle.par.specs.declared.taking.Slot.{Slot}
 use Rattle.par.proofs.Ends.{made_played, made_run, made_told}
 use Rattle.par.proofs.Made.{uses_of}
 use Rattle.par.proofs.Runs.{none_run}
-use Rattle.par.proofs.Spares.{all_spared, made_spared}
+use Rattle.par.specs.Spared.{AreSpared}
+use Rattle.par.proofs.Spares.{all_spared, made_spared, on_error}
 use Rattle.par.proofs.Slots.{AreLeft, first_left, none_held, none_left, none_popped, one_left, slot_left}
 use Rattle.par.proofs.running.at_once.Goals as goal
 
@@ -86,10 +87,10 @@ returns-clause-volumes g c =
     made_run c.args.used.now befores afters made.0 olds c.loop-slot.held.volumes.items made.1
 
 pub returns-in_err-slots-clause-spared : goal.returns-in_err-slots-clause-spared
-returns-in_err-slots-clause-spared g c = all_spared c.args.held.now.volumes.items
+returns-in_err-slots-clause-spared g c = on_error (AreSpared c.args.held.now.volumes.items c.args.held.now.volumes.items) _ (all_spared c.args.held.now.volumes.items)
 
 pub returns-in_err-audits-clause-spared : goal.returns-in_err-audits-clause-spared
-returns-in_err-audits-clause-spared g c = all_spared c.args.held.now.volumes.items
+returns-in_err-audits-clause-spared g c = on_error (AreSpared c.args.held.now.volumes.items c.args.held.now.volumes.items) _ (all_spared c.args.held.now.volumes.items)
 
 pub returns-clause-spared : goal.returns-clause-spared
 returns-clause-spared g c =

@@ -8,7 +8,8 @@ use Rattle.seats.specs.Tasks.{tasks_at}
 use Rattle.par.specs.Answering.{AreAsked, AreReplied}
 use Rattle.par.specs.Played.{ArePlayed}
 use Rattle.par.specs.Running.{IsOfBlock, gate_told, seat_in, seats_told, used_in}
-use Rattle.par.proofs.Spares.{all_spared}
+use Rattle.par.specs.Spared.{AreSpared}
+use Rattle.par.proofs.Spares.{all_spared, on_error}
 use Rattle.par.proofs.Runs.{marks_many, not_run, still_named, still_sound, table_run}
 use Rattle.par.proofs.Tells.{are_of_block, asked_few, seats_are}
 use Rattle.par.proofs.running.run_block.Goals as goal
@@ -74,7 +75,7 @@ returns-clause-named g c =
     (table_run c.into_lines.result.items (table_of c.args.held.now) (table_of c.run_plan.new.held) c.in_ok-plan.plan.used.items used c.run_plan.ensures.stacks c.run_plan.ensures.volumes)
 
 pub returns-in_err-refused-clause-spared : goal.returns-in_err-refused-clause-spared
-returns-in_err-refused-clause-spared g c = all_spared (table_of c.args.held.now).volumes
+returns-in_err-refused-clause-spared g c = on_error (AreSpared (table_of c.args.held.now).volumes (table_of c.args.held.now).volumes) _ (all_spared (table_of c.args.held.now).volumes)
 
 pub returns-in_err-plan-clause-spared : goal.returns-in_err-plan-clause-spared
-returns-in_err-plan-clause-spared g c = all_spared (table_of c.args.held.now).volumes
+returns-in_err-plan-clause-spared g c = on_error (AreSpared (table_of c.args.held.now).volumes (table_of c.args.held.now).volumes) _ (all_spared (table_of c.args.held.now).volumes)
