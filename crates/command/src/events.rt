@@ -10,7 +10,8 @@ use words::{Name, next_word, numeral};
 /// most.
 #[derive(Drop)]
 pub enum Event {
-    /// `issue R`: the request's one read or write, and its reply.
+    /// `issue R`: the request's read, write or flush, and its reply; of a flush of the origin beside a merge the flush of the
+    /// merging store first, without a reply.
     Issue(u32),
     /// `copy-read P`: reads a copy's chunk from the origin disk.
     CopyRead(u32),

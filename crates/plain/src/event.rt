@@ -7,7 +7,8 @@ pub type CopyId = u64;
 /// One table decision or one device operation of a volume.
 #[derive(Clone, Copy, PartialEq, Eq)]
 pub enum Event {
-    /// Does the one read or write of a request's route, and replies.
+    /// Does the read, the write or the flush of a request's route, and replies. A flush of the origin beside a merge takes two:
+    /// the first flushes the merging store, and replies only where that fails.
     Issue(ReqId),
     /// Reads a copy's chunk from the origin disk.
     CopyRead(CopyId),

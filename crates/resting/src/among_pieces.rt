@@ -152,7 +152,7 @@ fn read_pieces_among<B: Layered>(
 
 impl<B: Layered> Resting<B> {
     /// Reads sectors of the origin or of a snapshot, while requests may be in flight. The range is cut into pieces of the
-    /// snapshots' chunk size: the request of each is submitted, and all that is due is done, before the next. The replies to
+    /// least chunk of the snapshots: the request of each is submitted, and all that is due is done, before the next. The replies to
     /// other requests are put at the end of `ended`.
     ///
     /// Refused: there is no such snapshot (`NoSuchDevice`), and then nothing changed; a piece's request is refused, as

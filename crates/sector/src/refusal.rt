@@ -45,7 +45,7 @@ pub enum Refusal {
     NotDue,
     /// The journal has no room for the entries that may come.
     JournalFull,
-    /// The snapshots of one origin would have different chunk sizes.
+    /// Answered no more, for the snapshots of one origin may have different chunk sizes; its number stays taken.
     ChunkMismatch,
     /// The merge has not come to its end.
     NotFinished,

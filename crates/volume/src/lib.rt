@@ -1,6 +1,6 @@
 //! A volume: an origin disk, the snapshots of it, and the requests in flight. Each event is one call, which does at most
-//! one operation of one device, and which either changes nothing that is seen, or spoils the one snapshot whose device
-//! failed, or answers the one request that it names.
+//! one operation of one device, and which changes nothing that is seen but this: it answers the one request that it names, or
+//! spoils the one snapshot whose device failed, or, where it starts copies, those whose stores are full.
 //!
 //! It stands on `snapshots` (the list of its snapshots: what is due of them, and which copies a write needs), on `snapshot`
 //! (each of them, with its store), on `merge` (the one that is being merged), on `pending` (copies, marks and requests in
