@@ -1,11 +1,11 @@
 -- What is printed of what is seen of a store, and the exit status.
 use Rattle.std.specs.Prelude.{ℕ, ◌*◌, Bool, true, false, List, [], ◌++◌, Option}
 use Rattle.sector.specs.declared.pair.Pair.{Pair}
-use Rattle.cow_map.specs.declared.fault.Fault.{Fault}
-use Rattle.cow_map.specs.declared.found.Told.{Told}
-use Rattle.cow_map.specs.declared.found.Told.TheVariants.{Fresh, Refused, Written}
-use Rattle.cow_map.specs.declared.reading.Listed.{Listed}
-use Rattle.cow_map.specs.declared.reading.Listed.TheVariants.{Ends, Lacks}
+use Rattle.cow_image.specs.declared.fault.Fault.{Fault}
+use Rattle.cow_image.specs.declared.found.Told.{Told}
+use Rattle.cow_image.specs.declared.found.Told.TheVariants.{Fresh, Refused, Written}
+use Rattle.cow_image.specs.declared.reading.Listed.{Listed}
+use Rattle.cow_image.specs.declared.reading.Listed.TheVariants.{Ends, Lacks}
 use Rattle.cow_words.specs.Json.{json_text}
 use Rattle.cow_words.specs.Lines.{runs_text, slots_text, listed_text}
 use Rattle.cow_words.specs.Reasons.{faults_text}

@@ -1,8 +1,8 @@
 -- What is printed by the form that is asked for: lines, or objects.
 use Rattle.std.specs.Prelude.{ℕ, List, Option}
 use Rattle.sector.specs.declared.pair.Pair.{Pair}
-use Rattle.cow_map.specs.declared.fault.Fault.{Fault}
-use Rattle.cow_map.specs.declared.reading.Listed.{Listed}
+use Rattle.cow_image.specs.declared.fault.Fault.{Fault}
+use Rattle.cow_image.specs.declared.reading.Listed.{Listed}
 use Rattle.cow_asked.specs.declared.asked.Form.{Form}
 use Rattle.cow_asked.specs.declared.asked.Form.TheVariants.{Lines, Json}
 use Rattle.cow_kept.specs.declared.span.Span.{Span}

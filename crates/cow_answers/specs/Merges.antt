@@ -1,7 +1,7 @@
 -- What is printed of a merge, by the form that is asked for.
 use Rattle.std.specs.Prelude.{ℕ, List, codes}
 use Rattle.sector.specs.declared.pair.Pair.{Pair}
-use Rattle.cow_map.specs.declared.map.CowMap.{CowMap}
+use Rattle.cow_image.specs.declared.map.CowMap.{CowMap}
 use Rattle.cow_asked.specs.declared.asked.Form.{Form}
 use Rattle.cow_asked.specs.declared.asked.Form.TheVariants.{Lines, Json}
 use Rattle.cow_words.specs.Items.{number_object, run_objects}

@@ -1,8 +1,8 @@
 -- What is printed of a salvage.
 use Rattle.std.specs.Prelude.{◌≡◌, ℕ, List, [], ◌++◌, length, codes, Option, Some, None}
 use Rattle.sector.specs.declared.pair.Pair.{Pair}
-use Rattle.cow_map.specs.declared.fault.Fault.{Fault}
-use Rattle.cow_map.specs.declared.reading.Listed.TheVariants.{Lacks}
+use Rattle.cow_image.specs.declared.fault.Fault.{Fault}
+use Rattle.cow_image.specs.declared.reading.Listed.TheVariants.{Lacks}
 use Rattle.cow_kept.specs.declared.span.Span.{Span}
 use Rattle.cow_words.specs.Lines.{runs_text, listed_text}
 use Rattle.cow_words.specs.Salvage.{skipped_text, spans_text, behind_text}

@@ -1,11 +1,11 @@
 -- What is printed as JSON of what is seen of a store: an object for each item, on a line of its own.
 use Rattle.std.specs.Prelude.{ℕ, ◌*◌, List, [], ◌++◌, length, codes, Option, Some, None}
 use Rattle.sector.specs.declared.pair.Pair.{Pair}
-use Rattle.cow_map.specs.declared.fault.Fault.{Fault}
-use Rattle.cow_map.specs.declared.found.Told.{Told}
-use Rattle.cow_map.specs.declared.found.Told.TheVariants.{Fresh, Refused, Written}
-use Rattle.cow_map.specs.declared.reading.Listed.{Listed}
-use Rattle.cow_map.specs.declared.reading.Listed.TheVariants.{Ends, Lacks}
+use Rattle.cow_image.specs.declared.fault.Fault.{Fault}
+use Rattle.cow_image.specs.declared.found.Told.{Told}
+use Rattle.cow_image.specs.declared.found.Told.TheVariants.{Fresh, Refused, Written}
+use Rattle.cow_image.specs.declared.reading.Listed.{Listed}
+use Rattle.cow_image.specs.declared.reading.Listed.TheVariants.{Ends, Lacks}
 use Rattle.cow_kept.specs.declared.span.Span.{Span}
 use Rattle.cow_words.specs.Items.{number_object, run_objects, slot_objects, listed_object, fault_objects, behind_object, unread_objects}
 use Rattle.cow_words.specs.Json.{json_text}

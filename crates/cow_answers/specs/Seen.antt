@@ -2,7 +2,7 @@
 use Rattle.std.specs.Prelude.{◌≡◌, ℕ, ◌*◌, ◌<◌, List, length, Option, Some, None}
 use Rattle.sector.specs.Bytes.{sector_at}
 use Rattle.sector.specs.Number.{number_at}
-use Rattle.cow_map.specs.Maps.{IsToldOf}
+use Rattle.cow_image.specs.Maps.{IsToldOf}
 use Rattle.cow_words.specs.declared.showing.Numbers.{Numbers}
 use Rattle.cow_answers.specs.declared.looking.Seen.{Seen}
 

@@ -3,7 +3,7 @@ ghost use Rattle.std.specs.Prelude.{◌≡◌, ◌*◌, ◌<◌, ◌≤◌, ◌+
 ghost use Rattle.cow_answers.specs.Answers.{shown_text, object_text, map_text, raw_text, refusal_text, check_text, lacks_text};
 
 use crate::looking::Seen;
-use cow_map::{Fault, Listed, Told};
+use cow_image::{Fault, Listed, Told};
 use cow_words::{
     Numbers, push_faults, push_json, push_listed, push_runs, push_show, push_slots, push_told,
     slots_of,

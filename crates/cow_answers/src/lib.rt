@@ -1,5 +1,5 @@
 //! What `lochknife` answers of a store: what is seen of its image, and what is printed of that, in lines or as JSON, an object
-//! for each item on a line of its own. It stands on `cow_map` and `cow_kept`, which read, and on `cow_words`, which puts into words,
+//! for each item on a line of its own. It stands on `cow_image` and `cow_kept`, which read, and on `cow_words`, which puts into words,
 //! and promises that each answer is the one of its definition in `specs/`.
 #![tactic(auto)]
 

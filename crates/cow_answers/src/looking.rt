@@ -1,12 +1,12 @@
 // A store is looked at.
 ghost use Rattle.std.specs.Prelude.{◌≡◌, ◌↔◌, ℕ, ◌*◌, ◌<◌, ◌≤◌, List, length, IfOk, IfSome, IsTrue, Some};
-ghost use Rattle.model.specs.Pairs.{pairs_of};
-ghost use Rattle.cow_map.specs.Judged.{faults_of};
-ghost use Rattle.cow_map.specs.declared.reading.Listed.TheVariants.{Ends};
+ghost use Rattle.store_bytes.specs.Pairs.{pairs_of};
+ghost use Rattle.cow_image.specs.Judged.{faults_of};
+ghost use Rattle.cow_image.specs.declared.reading.Listed.TheVariants.{Ends};
 ghost use Rattle.cow_answers.specs.Seen.{AreNumbersIn, IsSeenOf};
 ghost use Rattle.cow_answers.specs.Answers.{is_good as is_good_by};
 
-use cow_map::{
+use cow_image::{
     Failure, Fault, Listed, Reason, Told, faults, read_first, read_slots, read_store, sectors_of,
 };
 use cow_words::Numbers;

@@ -3,8 +3,8 @@ ghost use Rattle.std.specs.Prelude.{◌≡◌, ◌<◌, ◌++◌, IfOk, OnOk};
 ghost use Rattle.cow_answers.specs.Objects.{count_object, kept_objects, unknown_objects, notes_objects, salvaged_objects, lacks_object_of, behind_object_of};
 
 use crate::notes::{Behind, Notes};
+use cow_image::Listed;
 use cow_kept::{Saved, Span};
-use cow_map::Listed;
 use cow_words::{
     push_behind_json, push_faults_json, push_listed_json, push_number_json, push_runs_json,
     push_unread_json,

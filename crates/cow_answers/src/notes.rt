@@ -2,8 +2,8 @@
 ghost use Rattle.std.specs.Prelude.{◌≡◌, ◌<◌, ◌++◌, IfOk, OnOk, MatchBool};
 ghost use Rattle.cow_answers.specs.Notes.{salvaged_words, kept_text, unknown_text, notes_text, salvaged_text, lacks_of, behind_of, IsWhole};
 
+use cow_image::Listed;
 use cow_kept::{Saved, Span, Used, front_of};
-use cow_map::Listed;
 use cow_words::{push_behind, push_listed, push_runs, push_skipped, push_spans};
 use std::alloc::{AllocError, Global};
 

@@ -3,7 +3,7 @@ ghost use Rattle.std.specs.Prelude.{◌≡◌, ◌*◌, ◌<◌, ◌≤◌, ◌+
 ghost use Rattle.cow_answers.specs.Objects.{map_objects, raw_objects, refusal_object, check_objects, lacks_object};
 
 use crate::looking::Seen;
-use cow_map::{Fault, Listed, Told};
+use cow_image::{Fault, Listed, Told};
 use cow_words::{
     Numbers, push_faults_json, push_json, push_listed_json, push_runs_json, push_slots_json,
     slots_of,

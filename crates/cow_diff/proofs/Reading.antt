@@ -11,11 +11,11 @@ use Rattle.std.proofs.lemmas.List.FromFn.{length-map-range_with_len}
 use Rattle.std.proofs.Math.Seq.{drop-append_seam, take-append_seam}
 use Rattle.sector.specs.Bytes.{sector_at}
 use Rattle.sector.specs.declared.pair.Pair.{Pair}
-use Rattle.model.specs.Picture.{picture_at}
-use Rattle.cow_shown.specs.Runs.{IsRun}
-use Rattle.cow_shown.specs.Shown.{shown}
-use Rattle.cow_shown.proofs.Exports.{shown_parts}
-use Rattle.cow_shown.proofs.Ranges.{own_shown}
+use Rattle.store_bytes.specs.Picture.{picture_at}
+use Rattle.cow_image.specs.Runs.{IsRun}
+use Rattle.cow_image.specs.Shown.{shown}
+use Rattle.cow_image.proofs.Exports.{shown_parts}
+use Rattle.cow_image.proofs.Ranges.{own_shown}
 
 -- a sector of what was read is that of the array
 pub part_at : (xs out : List ℕ) (first count i : ℕ) → out ≡ take (512 * count) (drop (512 * first) xs) → i < count → take 512 (drop (512 * i) out) ≡ sector_at xs (first + i)

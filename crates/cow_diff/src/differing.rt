@@ -1,15 +1,14 @@
 // A snapshot is compared with its origin.
 ghost use Rattle.std.specs.Prelude.{◌≡◌, ℕ, ◌+◌, ◌*◌, ◌<◌, ◌≤◌, List, length, IfOk, OnOk, Some};
-ghost use Rattle.model.specs.Picture.{picture};
-ghost use Rattle.cow_map.specs.Maps.{IsMapOf};
-ghost use Rattle.cow_map.specs.Sorted.{IsRisingBy, old_of};
-ghost use Rattle.cow_shown.specs.Shown.{shown};
+ghost use Rattle.store_bytes.specs.Picture.{picture};
+ghost use Rattle.cow_image.specs.Maps.{IsMapOf};
+ghost use Rattle.cow_image.specs.Sorted.{IsRisingBy, old_of};
+ghost use Rattle.cow_image.specs.Shown.{shown};
 ghost use Rattle.cow_diff.specs.Differences.{AreDifferences};
 
 use crate::comparing::compare;
+use cow_image::{CowMap, run_at, show_range};
 use cow_kept::Span;
-use cow_map::CowMap;
-use cow_shown::{run_at, show_range};
 use image::Image;
 use sector::Pair;
 use std::alloc::Global;

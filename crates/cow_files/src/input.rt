@@ -3,7 +3,7 @@ ghost use Rattle.std.specs.Prelude.{◌≤◌, IfOk, None};
 
 use crate::teller::Teller;
 use crate::trouble::{Trouble, Why, about};
-use cow_map::{Failure, MAX_IMAGE, sectors_of};
+use cow_image::{Failure, MAX_IMAGE, sectors_of};
 use image::{FileImage, Image};
 use std::fs::{File, Metadata, TryLockError};
 use std::os::unix::fs::{FileTypeExt, MetadataExt};

@@ -1,6 +1,6 @@
 //! The files of `lochknife`: inputs, which are only read and locked for that, a new file that is written whole or not at all,
-//! what went wrong with which, and how far a command is. It stands on `image`, `cow_map`, `cow_shown` and `file_set`, whose errors it
-//! words. No contract says what a file holds: these functions are safe, and end.
+//! what went wrong with which, and how far a command is. It stands on `image`, `cow_image` and `file_set`, whose errors it words.
+//! No contract says what a file holds: these functions are safe, and end.
 #![tactic(auto)]
 
 mod files;

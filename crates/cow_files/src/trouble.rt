@@ -1,7 +1,6 @@
 // Why nothing is told of a store, or nothing is written.
 
-use cow_map::Failure;
-use cow_shown::Stopped;
+use cow_image::{Failure, Stopped};
 use file_set::Asked;
 use std::alloc::AllocError;
 use std::{fmt, io};

@@ -6,15 +6,15 @@ use Rattle.std.specs.List.Sorted.{IsPermutation}
 use Rattle.std.proofs.lemmas.Bool.{cases_lt, cases_eq, eq-eqb, ne_eqb, true≢false}
 use Rattle.std.proofs.lemmas.List.{get_or_append_left, get_or_push, length_push}
 use Rattle.sector.specs.declared.pair.Pair.{Pair}
-use Rattle.model.specs.Picture.{byte_of, picture_at}
-use Rattle.cow_map.specs.declared.fault.Fault.{Fault}
-use Rattle.cow_map.specs.declared.fault.Fault.TheVariants.{PastOrigin, OutsideStore, AtArea, OldTwice, NewTwice}
-use Rattle.model.specs.Places.{is_area_place}
-use Rattle.cow_map.specs.Judged.{stands_in}
-use Rattle.cow_map.specs.Sorted.{old_of, new_of}
-use Rattle.cow_map.proofs.Sorts.{Differ}
-use Rattle.cow_map.proofs.Places.{place_moved}
-use Rattle.cow_shown.specs.Shown.{shown}
+use Rattle.store_bytes.specs.Picture.{byte_of, picture_at}
+use Rattle.cow_image.specs.declared.fault.Fault.{Fault}
+use Rattle.cow_image.specs.declared.fault.Fault.TheVariants.{PastOrigin, OutsideStore, AtArea, OldTwice, NewTwice}
+use Rattle.store_bytes.specs.Places.{is_area_place}
+use Rattle.cow_image.specs.Judged.{stands_in}
+use Rattle.cow_image.specs.Sorted.{old_of, new_of}
+use Rattle.cow_image.proofs.Sorts.{Differ}
+use Rattle.cow_image.proofs.Places.{place_moved}
+use Rattle.cow_image.specs.Shown.{shown}
 use Rattle.cow_kept.specs.declared.using.Slot.{Slot}
 use Rattle.cow_kept.specs.Kept.{Sifted, why_skipped, sifted_as, sifted_by, sifted_more, sifted}
 

@@ -6,8 +6,8 @@ use Rattle.std.proofs.lemmas.List.{take_more}
 use Rattle.std.proofs.lemmas.List.Folds.{list_any-append}
 use Rattle.std.proofs.lemmas.List.Sums.{fold_push}
 use Rattle.sector.specs.declared.pair.Pair.{Pair}
-use Rattle.cow_map.specs.declared.fault.Fault.{Fault}
-use Rattle.cow_map.specs.Judged.{stands_in}
+use Rattle.cow_image.specs.declared.fault.Fault.{Fault}
+use Rattle.cow_image.specs.Judged.{stands_in}
 use Rattle.cow_kept.specs.declared.using.Slot.{Slot}
 use Rattle.cow_kept.specs.Kept.{Sifted, why_skipped, sifted_as, sifted_by, sifted_more, sifted}
 

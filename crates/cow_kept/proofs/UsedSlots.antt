@@ -1,10 +1,10 @@
 -- Slots that are taken one by one.
 use Rattle.std.proofs.Common.{◌≡◌, ℕ, suc, ◌+◌, ◌*◌, ◌<◌, ◌≤◌, List, ◌++◌, arith, ap, ◌∙◌, sym, subst}
 use Rattle.sector.specs.declared.pair.Pair.{Pair}
-use Rattle.model.specs.Slots.{pair_in}
-use Rattle.model.specs.Places.{area_place, chunk_at, slot}
-use Rattle.model.proofs.Slots.{slot-at}
-use Rattle.cow_map.proofs.Loads.{areas_rise}
+use Rattle.store_bytes.specs.Slots.{pair_in}
+use Rattle.store_bytes.specs.Places.{area_place, chunk_at, slot}
+use Rattle.store_bytes.proofs.Slots.{slot-at}
+use Rattle.cow_image.proofs.Loads.{areas_rise}
 use Rattle.cow_kept.specs.declared.using.Slot.{Slot}
 use Rattle.cow_kept.specs.Used.{AreWhole, AreUsedIn, used_below, used_if}
 

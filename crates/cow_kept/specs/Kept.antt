@@ -2,11 +2,11 @@
 -- Which pairs of a damaged store are kept: this project's own rule.
 use Rattle.std.specs.Prelude.{◌==◌, ℕ, ◌+◌, ◌*◌, ◌||◌, List, [], ◌∷◌, ◌++◌, Option, Some, None, nat_le, nat_lt, if◌then◌else◌, fold}
 use Rattle.sector.specs.declared.pair.Pair.{Pair}
-use Rattle.model.specs.Places.{is_area_place}
-use Rattle.cow_map.specs.declared.fault.Fault.{Fault}
-use Rattle.cow_map.specs.declared.fault.Fault.TheVariants.{PastOrigin, OutsideStore, AtArea, OldTwice, NewTwice}
-use Rattle.cow_map.specs.Judged.{stands_in}
-use Rattle.cow_map.specs.Sorted.{old_of, new_of}
+use Rattle.store_bytes.specs.Places.{is_area_place}
+use Rattle.cow_image.specs.declared.fault.Fault.{Fault}
+use Rattle.cow_image.specs.declared.fault.Fault.TheVariants.{PastOrigin, OutsideStore, AtArea, OldTwice, NewTwice}
+use Rattle.cow_image.specs.Judged.{stands_in}
+use Rattle.cow_image.specs.Sorted.{old_of, new_of}
 use Rattle.cow_kept.specs.declared.using.Slot.{Slot}
 
 -- the pairs that are kept, and of each other one the slot and why it is not

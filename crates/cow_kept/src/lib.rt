@@ -1,5 +1,5 @@
 //! What can still be known of a store that is damaged: its slots whether they are good or not, which pairs of them are kept,
-//! and images of which some sectors can't be read. It stands on `image`, `metadata_area`, `cow_map` and `cow_shown`. It
+//! and images of which some sectors can't be read. It stands on `image`, `metadata_area` and `cow_image`. It
 //! promises that the kept pairs and those that are skipped are just those of the definition, that what is written is what the
 //! kept ones show, and that an image reads as zeros where it is told so, and nowhere else.
 #![tactic(auto)]

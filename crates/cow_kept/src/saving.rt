@@ -2,13 +2,12 @@
 ghost use Rattle.std.specs.Prelude.{◌≡◌, ℕ, ◌*◌, ◌<◌, ◌≤◌, List, length, IfOk, OnErr, Some};
 ghost use Rattle.std.specs.List.Sorted.{IsPermutation};
 ghost use Rattle.std.specs.Io.KnownBytes.{Appends};
-ghost use Rattle.cow_map.specs.Sorted.{IsRisingBy, old_of};
-ghost use Rattle.cow_shown.specs.Shown.{shown, IsFrontOf};
+ghost use Rattle.cow_image.specs.Sorted.{IsRisingBy, old_of};
+ghost use Rattle.cow_image.specs.Shown.{shown, IsFrontOf};
 ghost use Rattle.cow_kept.specs.Kept.{sifted};
 
 use crate::{Slot, sift};
-use cow_map::{Fault, sort_by_old};
-use cow_shown::{Stopped, export_pairs};
+use cow_image::{Fault, Stopped, export_pairs, sort_by_old};
 use image::{Image, Sink};
 use sector::Pair;
 use std::alloc::Global;

@@ -3,16 +3,16 @@ ghost use Rattle.std.specs.Prelude.{◌≡◌, ℕ, ◌*◌, ◌<◌, ◌≤◌,
 ghost use Rattle.std.specs.HashSet as bag;
 ghost use Rattle.std.specs.Bool.{nat_eq};
 ghost use Rattle.sector.specs.declared.pair.Pair.{Pair as PairOf};
-ghost use Rattle.cow_map.specs.Judged.{stands_in};
-ghost use Rattle.cow_map.specs.Sorted.{old_of, new_of};
+ghost use Rattle.cow_image.specs.Judged.{stands_in};
+ghost use Rattle.cow_image.specs.Sorted.{old_of, new_of};
 ghost use Rattle.cow_kept.specs.Kept.{sifted, sifted_as, sifted_by, why_skipped};
 
 use crate::Slot;
-use cow_map::{Fault, begins_before, lies_within};
-use model::is_area_place;
+use cow_image::{Fault, begins_before, lies_within};
 use sector::Pair;
 use std::alloc::{AllocError, Global};
 use std::collections::HashSet;
+use store_bytes::is_area_place;
 
 /// The pairs that are kept, in slot order, and why the others are not.
 #[derive(Drop)]

@@ -1,10 +1,10 @@
 // The slots of a store that are not empty are read from an image, whatever they hold.
 ghost use Rattle.std.specs.Prelude.{◌≡◌, ℕ, ◌+◌, ◌*◌, ◌<◌, ◌≤◌, List, ◌++◌, IfOk, OnOk, Some};
 ghost use Rattle.sector.specs.declared.pair.Pair.{Pair as PairOf};
-ghost use Rattle.model.specs.Slots.{pair_in};
+ghost use Rattle.store_bytes.specs.Slots.{pair_in};
 ghost use Rattle.cow_kept.specs.Used.{AreUsedIn, used_below, used_if};
 
-use cow_map::{Failure, MAX_IMAGE, read_area};
+use cow_image::{Failure, MAX_IMAGE, read_area};
 use image::Image;
 use metadata_area::Area;
 use sector::Pair;

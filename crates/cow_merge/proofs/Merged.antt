@@ -6,13 +6,13 @@ use Rattle.std.proofs.lemmas.Nat.{mod_below, div-add-mod'}
 use Rattle.std.proofs.lemmas.List.{take_all, get_or-take, get_or_default, length-take-le}
 use Rattle.sector.specs.Bytes.{sector_at}
 use Rattle.sector.specs.declared.pair.Pair.{Pair}
-use Rattle.model.specs.Slots.{pair_in}
-use Rattle.model.specs.Places.{area_place}
-use Rattle.model.specs.Pairs.{pairs_of}
-use Rattle.model.specs.Picture.{place_of}
-use Rattle.model.proofs.Pictures.{place_found, length-picture}
-use Rattle.model.proofs.Slots.{pairs-are}
-use Rattle.cow_map.proofs.Places.{place_first}
+use Rattle.store_bytes.specs.Slots.{pair_in}
+use Rattle.store_bytes.specs.Places.{area_place}
+use Rattle.store_bytes.specs.Pairs.{pairs_of}
+use Rattle.store_bytes.specs.Picture.{place_of}
+use Rattle.store_bytes.proofs.Pictures.{place_found, length-picture}
+use Rattle.store_bytes.proofs.Slots.{pairs-are}
+use Rattle.cow_image.proofs.Places.{place_first}
 use Rattle.stop_laws.specs.May.{sector_of, number_of}
 use Rattle.stop_laws.proofs.May.{slot_there}
 use Rattle.stop_laws.proofs.Open.{sector_plain}

@@ -7,12 +7,12 @@ use Rattle.std.proofs.Math.Nat.{mul-le-mul_right, div-mul-le_self}
 use Rattle.std.proofs.lemmas.List.{take_all}
 use Rattle.sector.specs.Bytes.{sector_at}
 use Rattle.sector.specs.declared.pair.Pair.{Pair}
-use Rattle.model.specs.Slots.{pair_in}
-use Rattle.model.specs.Places.{area_place, slot}
-use Rattle.model.specs.Pairs.{pairs_of}
-use Rattle.model.specs.Picture.{place_of, picture}
-use Rattle.model.proofs.Slots.{IsListed-of}
-use Rattle.model.proofs.Pictures.{length-picture}
+use Rattle.store_bytes.specs.Slots.{pair_in}
+use Rattle.store_bytes.specs.Places.{area_place, slot}
+use Rattle.store_bytes.specs.Pairs.{pairs_of}
+use Rattle.store_bytes.specs.Picture.{place_of, picture}
+use Rattle.store_bytes.proofs.Slots.{IsListed-of}
+use Rattle.store_bytes.proofs.Pictures.{length-picture}
 use Rattle.cow_header.specs.HeaderText.{found_in}
 use Rattle.cow_header.specs.declared.found.Found.TheVariants.{Header}
 use Rattle.stop_laws.specs.May.{sector_of, number_of}

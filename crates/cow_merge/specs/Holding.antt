@@ -2,9 +2,9 @@
 use Rattle.std.specs.Prelude.{◌≡◌, ◌≢◌, ◌⊎◌, ℕ, ◌+◌, ◌*◌, ◌/◌, ◌<◌, ◌≤◌, List, length, replicate, take, slice_index_or, Ok, None}
 use Rattle.sector.specs.Bytes.{sector_at}
 use Rattle.sector.specs.declared.pair.Pair.{Pair}
-use Rattle.model.specs.Places.{area_place}
-use Rattle.model.specs.Pairs.{pairs_of, AreWellFormed}
-use Rattle.model.specs.Picture.{place_of, picture}
+use Rattle.store_bytes.specs.Places.{area_place}
+use Rattle.store_bytes.specs.Pairs.{pairs_of, AreWellFormed}
+use Rattle.store_bytes.specs.Picture.{place_of, picture}
 use Rattle.cow_header.specs.HeaderText.{found_in}
 use Rattle.cow_header.specs.declared.found.Found.TheVariants.{Header}
 use Rattle.file_set.specs.Stops.{AreLeft}

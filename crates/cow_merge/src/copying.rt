@@ -1,6 +1,6 @@
 // Copies are taken back into the origin.
 ghost use Rattle.std.specs.Prelude.{◌≡◌, ℕ, ◌+◌, ◌*◌, ◌-◌, ◌<◌, ◌≤◌, List, length, min, MatchOption, OnOk};
-ghost use Rattle.model.specs.Places.{area_place, chunk_at};
+ghost use Rattle.store_bytes.specs.Places.{area_place, chunk_at};
 ghost use Rattle.file_set.specs.Stops.{HasCause};
 ghost use Rattle.cow_merge.specs.Begun.{begun};
 ghost use Rattle.cow_merge.specs.Holding.{Rolls, Passes, Copies, IsPairOf, IsBack, AreBack, Begin};

@@ -1,6 +1,6 @@
 // A store's copies are taken back into its origin.
 ghost use Rattle.std.specs.Prelude.{◌≡◌, ◌≢◌, ◌⊎◌, ℕ, ◌+◌, ◌*◌, ◌-◌, ◌/◌, ◌<◌, ◌≤◌, List, length, replicate, IfErr, IfOk, IsErr, OnOk, Err};
-ghost use Rattle.cow_map.specs.Maps.{IsMapOf};
+ghost use Rattle.cow_image.specs.Maps.{IsMapOf};
 ghost use Rattle.file_set.specs.Stops.{AreLeft, HasCause};
 ghost use Rattle.cow_merge.specs.Begun.{begun};
 ghost use Rattle.cow_merge.specs.Holding.{Rolls, Passes, Copies, Clears, IsZero, IsSynced, Settles, Stays, Ends, Begin, pairs};
@@ -10,7 +10,7 @@ use crate::clearing::clear_areas;
 use crate::copying::{ORIGIN, STORE, copy_areas};
 use crate::settling::settle;
 use crate::{Sizes, Stopped};
-use cow_map::CowMap;
+use cow_image::CowMap;
 use file_set::FileSet;
 use metadata_area::Area;
 use std::alloc::{AllocError, Global};

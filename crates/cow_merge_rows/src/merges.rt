@@ -5,9 +5,8 @@ use crate::images::{
     two_areas_shown,
 };
 use crate::torn::{Torn, TornFile, TornFiles};
-use cow_map::{CowMap, Told, read_store};
+use cow_image::{CowMap, Told, export, read_store};
 use cow_merge::{Room, Stopped, merge};
-use cow_shown::export;
 use file_set::{MemFile, MemFiles, Two};
 use image::{MemImage, MemSink};
 use std::alloc::Global;

@@ -3,11 +3,11 @@ use Rattle.std.proofs.Common.{◌≡◌, ℕ, zero, suc, ◌+◌, ◌-◌, ◌*�
 use Rattle.std.proofs.Math.Seq.{take-append_seam}
 use Rattle.std.proofs.lemmas.List.FromFn.{length-map-range_with_len}
 use Rattle.sector.specs.declared.pair.Pair.{Pair}
-use Rattle.model.specs.Picture.{picture_at}
-use Rattle.cow_shown.specs.Shown.{shown}
-use Rattle.cow_shown.specs.Fails.{ShownFails}
-use Rattle.cow_shown.proofs.Exports.{shown_parts}
-use Rattle.cow_shown.proofs.Fails.{shown_calm}
+use Rattle.store_bytes.specs.Picture.{picture_at}
+use Rattle.cow_image.specs.Shown.{shown}
+use Rattle.cow_image.specs.Fails.{ShownFails}
+use Rattle.cow_image.proofs.Exports.{shown_parts}
+use Rattle.cow_image.proofs.Fails.{shown_calm}
 use Rattle.cow_nbd.specs.Shows.{known_shown, known_at, arrays, FailsAt, FailsFresh, IsServedBy}
 use Rattle.nbd_server.proofs.Calm.{talk_calm}
 use Rattle.nbd_server.specs.Talk.{beginning}

@@ -1,10 +1,10 @@
 // The arrays that are served.
 ghost use Rattle.std.specs.Prelude.{◌≡◌, ℕ, ◌+◌, ◌*◌, ◌^◌, ◌<◌, ◌≤◌, List, length, take, drop, Some, IfSome, OnErr, OnOk};
-ghost use Rattle.cow_map.specs.Sorted.{IsRisingBy, old_of};
-ghost use Rattle.cow_shown.specs.Fails.{ShownFails};
+ghost use Rattle.cow_image.specs.Sorted.{IsRisingBy, old_of};
+ghost use Rattle.cow_image.specs.Fails.{ShownFails};
 ghost use Rattle.cow_nbd.specs.Shows.{known_at, known_shown, FailsAt};
 
-use cow_shown::show_range;
+use cow_image::show_range;
 use image::Image;
 use nbd_server::{Fault, Served};
 use sector::Pair;

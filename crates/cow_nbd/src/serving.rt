@@ -1,12 +1,12 @@
 // A store and its origin are served.
 ghost use Rattle.std.specs.Prelude.{◌≡◌, ℕ, ◌*◌, ◌≤◌, List, length, OnOk, Some};
-ghost use Rattle.cow_map.specs.Maps.{IsMapOf};
-ghost use Rattle.cow_shown.specs.Shown.{shown};
-ghost use Rattle.model.specs.Picture.{picture};
+ghost use Rattle.cow_image.specs.Maps.{IsMapOf};
+ghost use Rattle.cow_image.specs.Shown.{shown};
+ghost use Rattle.store_bytes.specs.Picture.{picture};
 ghost use Rattle.cow_nbd.specs.Shows.{IsServedBy, FailsAt, FailsFresh};
 
 use crate::pictures::Pictures;
-use cow_map::CowMap;
+use cow_image::CowMap;
 use image::{Image, MemImage};
 use nbd_server::{Export, Stopped, serve};
 use std::alloc::Global;

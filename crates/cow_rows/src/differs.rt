@@ -2,7 +2,7 @@
 
 use crate::images::{WRITTEN_ORIGIN, WRITTEN_STORE, image_of};
 use cow_diff::differences;
-use cow_map::{Told, read_store};
+use cow_image::{Told, read_store};
 use std::process::Abort;
 use std::test::Fail;
 

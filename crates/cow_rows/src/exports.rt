@@ -1,8 +1,7 @@
 // What a snapshot shows is written out.
 
 use crate::images::{WRITTEN_ORIGIN, WRITTEN_SHOWN, WRITTEN_STORE, bytes_of, image_of};
-use cow_map::{CowMap, Told, read_store};
-use cow_shown::{Stopped, export, export_fresh};
+use cow_image::{CowMap, Stopped, Told, export, export_fresh, read_store};
 use image::{FailingImage, MemSink};
 use std::alloc::Global;
 use std::process::Abort;

@@ -1,7 +1,7 @@
 // A store with one bit flipped, beside a slow plain judge.
 
 use crate::images::{WRITTEN_STORE, image_of};
-use cow_map::{Told, read_store};
+use cow_image::{Told, read_store};
 use std::alloc::Global;
 use std::test::Fail;
 

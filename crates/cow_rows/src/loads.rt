@@ -1,7 +1,7 @@
 // A store with one bit flipped, beside a load of the same bytes from a disk.
 
 use crate::images::{WRITTEN_STORE, image_of};
-use cow_map::{Reason, Told, read_store};
+use cow_image::{Reason, Told, read_store};
 use device::MemDisk;
 use sector::{Range, Refusal};
 use std::alloc::Global;

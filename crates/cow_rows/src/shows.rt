@@ -1,7 +1,7 @@
 // What is printed of a store.
 
 use crate::images::{FIRST_STORE, image_of};
-use cow_map::{Failure, Fault, Listed, Reason, Told, faults, read_slots, read_store, sectors_of};
+use cow_image::{Failure, Fault, Listed, Reason, Told, faults, read_slots, read_store, sectors_of};
 use cow_words::{
     Numbers, push_behind_json, push_faults, push_faults_json, push_json, push_listed_json,
     push_numbers, push_runs, push_runs_json, push_sectors, push_show, push_slots, push_told,

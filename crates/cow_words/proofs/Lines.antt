@@ -4,7 +4,7 @@ use Rattle.std.specs.Prelude.{flat_map}
 use Rattle.std.proofs.lemmas.Bool.{cond-true, cond-false}
 use Rattle.std.proofs.lemmas.List.{take_more, drop_more, drop_all, append-nil, flat_map_more}
 use Rattle.sector.specs.declared.pair.Pair.{Pair}
-use Rattle.cow_map.specs.declared.fault.Fault.{Fault}
+use Rattle.cow_image.specs.declared.fault.Fault.{Fault}
 use Rattle.cow_words.specs.Lines.{follows, run_text, runs_from, runs_text, slot_line, slots_text}
 use Rattle.cow_words.specs.Reasons.{fault_line, faults_text}
 

@@ -1,10 +1,10 @@
 -- What is listed of a store as JSON: an object for each item, on a line of its own.
 use Rattle.std.specs.Prelude.{ℕ, ◌+◌, ◌*◌, ◌/◌, ◌%◌, List, [], ◌∷◌, ◌++◌, codes, decimal, flat_map, if◌then◌else◌}
 use Rattle.sector.specs.declared.pair.Pair.{Pair}
-use Rattle.cow_map.specs.declared.fault.Fault.{Fault}
-use Rattle.cow_map.specs.declared.fault.Fault.TheVariants.{PastOrigin, OutsideStore, AtArea, OldTwice, NewTwice}
-use Rattle.cow_map.specs.declared.reading.Listed.{Listed}
-use Rattle.cow_map.specs.declared.reading.Listed.TheVariants.{Ends, Lacks}
+use Rattle.cow_image.specs.declared.fault.Fault.{Fault}
+use Rattle.cow_image.specs.declared.fault.Fault.TheVariants.{PastOrigin, OutsideStore, AtArea, OldTwice, NewTwice}
+use Rattle.cow_image.specs.declared.reading.Listed.{Listed}
+use Rattle.cow_image.specs.declared.reading.Listed.TheVariants.{Ends, Lacks}
 use Rattle.cow_kept.specs.declared.span.Span.{Span}
 use Rattle.cow_words.specs.Json.{member_text}
 use Rattle.cow_words.specs.Lines.{follows}

@@ -1,10 +1,10 @@
 -- What is printed of a store as one JSON object on a line. The keys are those of the lines; a status has three numbers.
 use Rattle.std.specs.Prelude.{ℕ, ◌*◌, ◌%◌, List, [], ◌++◌, codes, decimal, flat_map, length, Option, Some, None}
-use Rattle.cow_map.specs.Usage.{allocated_by, metadata_by}
-use Rattle.cow_map.specs.declared.map.CowMap.{CowMap}
-use Rattle.cow_map.specs.declared.found.Reason.{Reason}
-use Rattle.cow_map.specs.declared.found.Told.{Told}
-use Rattle.cow_map.specs.declared.found.Told.TheVariants.{Fresh, Refused, Written}
+use Rattle.cow_image.specs.Usage.{allocated_by, metadata_by}
+use Rattle.cow_image.specs.declared.map.CowMap.{CowMap}
+use Rattle.cow_image.specs.declared.found.Reason.{Reason}
+use Rattle.cow_image.specs.declared.found.Told.{Told}
+use Rattle.cow_image.specs.declared.found.Told.TheVariants.{Fresh, Refused, Written}
 use Rattle.cow_kept.specs.declared.span.Span.{Span}
 use Rattle.cow_words.specs.declared.showing.Numbers.{Numbers}
 use Rattle.cow_words.specs.Reasons.{reason_text, refused_name}

@@ -1,6 +1,6 @@
 -- What is printed of what a merge left: how many pairs are gone, how many are left, and the store's status.
 use Rattle.std.specs.Prelude.{ℕ, List, ◌++◌, codes}
-use Rattle.cow_map.specs.declared.map.CowMap.{CowMap}
+use Rattle.cow_image.specs.declared.map.CowMap.{CowMap}
 use Rattle.cow_words.specs.Items.{first_member}
 use Rattle.cow_words.specs.Json.{member_text, usage_members}
 use Rattle.cow_words.specs.Shows.{line_text, usage_text}

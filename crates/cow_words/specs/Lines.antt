@@ -1,8 +1,8 @@
 -- The pairs of a store, in lines.
 use Rattle.std.specs.Prelude.{ℕ, ◌+◌, ◌/◌, ◌%◌, ◌==◌, ◌&&◌, Bool, List, [], ◌∷◌, ◌++◌, codes, decimal, if◌then◌else◌}
 use Rattle.sector.specs.declared.pair.Pair.{Pair}
-use Rattle.cow_map.specs.declared.reading.Listed.{Listed}
-use Rattle.cow_map.specs.declared.reading.Listed.TheVariants.{Ends, Lacks}
+use Rattle.cow_image.specs.declared.reading.Listed.{Listed}
+use Rattle.cow_image.specs.declared.reading.Listed.TheVariants.{Ends, Lacks}
 use Rattle.cow_words.specs.Shows.{line_text}
 
 -- whether both chunks of a pair come right after those of another

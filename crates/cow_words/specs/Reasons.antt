@@ -3,10 +3,10 @@ use Rattle.std.specs.Prelude.{ℕ, ◌*◌, ◌/◌, ◌%◌, List, ◌++◌, co
 use Rattle.sector.specs.Refusal.{name_of}
 use Rattle.sector.specs.declared.refusal.Refusal.{Refusal}
 use Rattle.sector.specs.declared.refusal.Refusal.TheVariants.{BadHeader, BadVersion, BadChunk, Invalid, StoreTooSmall, Damaged}
-use Rattle.cow_map.specs.declared.fault.Fault.{Fault}
-use Rattle.cow_map.specs.declared.fault.Fault.TheVariants.{PastOrigin, OutsideStore, AtArea, OldTwice, NewTwice}
-use Rattle.cow_map.specs.declared.found.Reason.{Reason}
-use Rattle.cow_map.specs.declared.found.Reason.TheVariants.{Empty, Header, TooSmall, NoRoom, NoArea, Pairs}
+use Rattle.cow_image.specs.declared.fault.Fault.{Fault}
+use Rattle.cow_image.specs.declared.fault.Fault.TheVariants.{PastOrigin, OutsideStore, AtArea, OldTwice, NewTwice}
+use Rattle.cow_image.specs.declared.found.Reason.{Reason}
+use Rattle.cow_image.specs.declared.found.Reason.TheVariants.{Empty, Header, TooSmall, NoRoom, NoArea, Pairs}
 
 -- the place of a slot, in a store whose areas have so many slots
 abbrev pub slot_text : ℕ → ℕ → List ℕ

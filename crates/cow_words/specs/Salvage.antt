@@ -1,6 +1,6 @@
 -- What is listed of a salvage, in lines.
 use Rattle.std.specs.Prelude.{ℕ, ◌*◌, List, ◌++◌, codes, decimal, flat_map}
-use Rattle.cow_map.specs.declared.fault.Fault.{Fault}
+use Rattle.cow_image.specs.declared.fault.Fault.{Fault}
 use Rattle.cow_kept.specs.declared.span.Span.{Span}
 use Rattle.cow_words.specs.Reasons.{fault_text, slot_text}
 

@@ -1,10 +1,10 @@
 -- What is printed of a store: lines of a key and a value. They are this project's own, but the status, which is as the
 -- kernel's admin-guide page on snapshots has it.
 use Rattle.std.specs.Prelude.{ℕ, ◌*◌, ◌%◌, ◌==◌, List, [], ◌++◌, codes, decimal, length, Option, Some, None, if◌then◌else◌}
-use Rattle.cow_map.specs.Usage.{allocated_by, metadata_by}
-use Rattle.cow_map.specs.declared.map.CowMap.{CowMap}
-use Rattle.cow_map.specs.declared.found.Told.{Told}
-use Rattle.cow_map.specs.declared.found.Told.TheVariants.{Fresh, Refused, Written}
+use Rattle.cow_image.specs.Usage.{allocated_by, metadata_by}
+use Rattle.cow_image.specs.declared.map.CowMap.{CowMap}
+use Rattle.cow_image.specs.declared.found.Told.{Told}
+use Rattle.cow_image.specs.declared.found.Told.TheVariants.{Fresh, Refused, Written}
 use Rattle.cow_words.specs.declared.showing.Numbers.{Numbers}
 use Rattle.cow_words.specs.Reasons.{reason_text, refused_name}
 

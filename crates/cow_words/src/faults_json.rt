@@ -4,8 +4,8 @@ ghost use Rattle.cow_words.specs.Items.{faulty_object, fault_object, fault_objec
 
 use crate::json::push_member;
 use crate::members::{push_first, push_first_quoted, push_pair_end, push_slot_members};
+use cow_image::Fault;
 use cow_kept::Span;
-use cow_map::Fault;
 use sector::Pair;
 use std::alloc::AllocError;
 

@@ -5,8 +5,8 @@ ghost use Rattle.cow_words.specs.Json.{member_text, header_members, name_member,
 use crate::reasons::{push_reason, refused_as};
 use crate::showing::{Numbers, slots_of};
 use crate::text::push_number;
+use cow_image::{CowMap, Reason, Told};
 use cow_kept::Span;
-use cow_map::{CowMap, Reason, Told};
 use std::alloc::AllocError;
 
 /// Adds one member more: a key and a number.

@@ -1,5 +1,5 @@
 //! What is printed of a store that is read from an image: lines of a key and a value, or JSON, an
-//! object a line. It stands on `cow_map` and `cow_kept`, whose answers it puts into words, and promises that each text is the one of its definition in `specs/`.
+//! object a line. It stands on `cow_image` and `cow_kept`, whose answers it puts into words, and promises that each text is the one of its definition in `specs/`.
 #![tactic(auto)]
 
 mod faults_json;

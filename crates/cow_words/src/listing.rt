@@ -3,7 +3,7 @@ ghost use Rattle.std.specs.Prelude.{◌≡◌, ◌<◌, ◌++◌, OnOk, codes, d
 ghost use Rattle.cow_words.specs.Lines.{follows as follows_in, run_text, runs_text, listed_text, slot_line, slots_text, two_text};
 
 use crate::text::{push_line, push_number};
-use cow_map::Listed;
+use cow_image::Listed;
 use sector::Pair;
 use std::alloc::AllocError;
 

@@ -5,7 +5,7 @@ ghost use Rattle.cow_words.specs.Items.{run_object, run_objects, slot_object, sl
 use crate::json::push_member;
 use crate::listing::{Run, follows};
 use crate::members::{push_first, push_number_json, push_pair_end};
-use cow_map::Listed;
+use cow_image::Listed;
 use sector::Pair;
 use std::alloc::AllocError;
 

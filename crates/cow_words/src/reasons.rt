@@ -3,7 +3,7 @@ ghost use Rattle.std.specs.Prelude.{◌≡◌, ℕ, ◌*◌, ◌<◌, ◌++◌, 
 ghost use Rattle.cow_words.specs.Reasons.{slot_text, fault_text, fault_line, faults_text, header_text, reason_text, refused_name};
 
 use crate::text::push_number;
-use cow_map::{Fault, Reason};
+use cow_image::{Fault, Reason};
 use sector::Refusal;
 use std::alloc::AllocError;
 

@@ -6,7 +6,7 @@ use crate::json::{push_member, push_usage as push_usage_members};
 use crate::members::push_first;
 use crate::showing::push_usage;
 use crate::text::push_line;
-use cow_map::CowMap;
+use cow_image::CowMap;
 use std::alloc::AllocError;
 
 /// Adds how many pairs a merge took away, how many are left, and the store's status.

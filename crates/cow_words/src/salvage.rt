@@ -4,8 +4,8 @@ ghost use Rattle.cow_words.specs.Salvage.{skipped_line, skipped_text, span_line,
 
 use crate::reasons::{push_fault, push_slot};
 use crate::text::push_number;
+use cow_image::Fault;
 use cow_kept::Span;
-use cow_map::Fault;
 use std::alloc::AllocError;
 
 /// Adds a line for each pair that is skipped, in a store whose areas have so many slots.

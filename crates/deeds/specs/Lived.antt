@@ -7,7 +7,7 @@ use Rattle.plain.specs.Plain.{Plain, overflow_of, saved_under}
 use Rattle.plain.specs.Legal.{IsBegun, IsDeclined, IsDetached, IsFinished, IsLegalStep, IsSubmitted, IsTaken}
 use Rattle.plain.specs.Unwritten.{writes}
 use Rattle.plain.specs.declared.request.Op.TheVariants.{Write}
-use Rattle.pending.specs.Kinds.{kind_of}
+use Rattle.in_flight.specs.Kinds.{kind_of}
 use Rattle.snapshot.specs.Opening.{shown_array}
 use Rattle.volume.specs.Causes.{HasCause, IsOneAtMost, lives_of}
 use Rattle.volume.specs.Fresh.{is_fresh}

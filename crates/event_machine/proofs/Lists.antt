@@ -2,7 +2,7 @@
 use Rattle.std.proofs.Common.{◌≡◌, ℕ, ◌<◌, Bool, true, false, List, [], ◌∷◌, ◌++◌, Option, Some, None, min, refl, ap, ◌∙◌, eq-eqb, arith}
 use Rattle.std.specs.Prelude.{◌==◌, ◌&&◌}
 use Rattle.std.proofs.lemmas.Bool.{cond-true, cond-false}
-use Rattle.pending.specs.Due.{first_by, least}
+use Rattle.in_flight.specs.Due.{first_by, least}
 use Rattle.event_machine.specs.Held.{Held}
 use Rattle.event_machine.specs.Due.{least_in}
 use Rattle.event_machine.specs.Stepping.{first_that, with_first}

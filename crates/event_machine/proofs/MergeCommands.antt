@@ -3,7 +3,7 @@ use Rattle.std.proofs.Common.{◌≡◌, ◌⊎◌, inl, inr, ℕ, ◌*◌, ◌/
 use Rattle.std.specs.Prelude.{◌==◌, ◌&&◌, not, nat_lt, is_some, if◌then◌else◌}
 use Rattle.std.proofs.lemmas.Bool.{cases_Bool, cond-true, cond-false, lt-ltb}
 use Rattle.sector.specs.declared.pair.Pair.{Pair}
-use Rattle.model.specs.Pairs.{pairs_of}
+use Rattle.store_bytes.specs.Pairs.{pairs_of}
 use Rattle.volume_laws.specs.MergeDue.{is_none}
 use Rattle.settled.specs.Saves.{next_of}
 use Rattle.settled.specs.Snaps.{Snap, Volume}

@@ -4,11 +4,11 @@ use Rattle.std.specs.Prelude.{◌==◌, ◌&&◌, not, nat_lt}
 use Rattle.std.proofs.lemmas.List.{length-drop}
 use Rattle.sector.specs.declared.pair.Pair.{Pair}
 use Rattle.plain.specs.declared.request.Reply.{Reply}
-use Rattle.pending.specs.declared.flights.Flight.{Flight}
-use Rattle.pending.specs.declared.flights.Route.{Route}
-use Rattle.pending.specs.Copies.{count_of}
-use Rattle.pending.specs.Kinds.{kind_of}
-use Rattle.pending.specs.Routes.{write_route_of, again_route_of}
+use Rattle.in_flight.specs.declared.flights.Flight.{Flight}
+use Rattle.in_flight.specs.declared.flights.Route.{Route}
+use Rattle.in_flight.specs.Copies.{count_of}
+use Rattle.in_flight.specs.Kinds.{kind_of}
+use Rattle.in_flight.specs.Routes.{write_route_of, again_route_of}
 use Rattle.volume_laws.specs.Published.{is_clear as is_clear_in}
 use Rattle.volume_laws.specs.Again.{merged_place as place_in_books, new_route, again_of}
 use Rattle.volume_laws.specs.Waits.{is_grouped as grouped_in_books}

@@ -4,13 +4,13 @@ use Rattle.std.specs.Prelude.{◌&&◌, ◌||◌, not, if◌then◌else◌}
 use Rattle.std.specs.List.{list_any, list_all}
 use Rattle.std.proofs.lemmas.Bool.{cases_Bool}
 use Rattle.plain.specs.declared.request.Reply.{Reply}
-use Rattle.pending.specs.Kinds.{kind_of}
-use Rattle.pending.specs.Routes.{refused_of, again_route_of, write_route_of}
-use Rattle.pending.specs.Due.{first_by, least, front_ready, front_unflushed, is_copy_at, number_of_copy, number_of_mark, number_of_flight, is_publishable as can_publish, is_issuable as can_issue}
-use Rattle.pending.specs.declared.copies.Stage.{Stage}
-use Rattle.pending.specs.declared.copies.Stage.TheVariants.{Waiting, Read}
-use Rattle.pending.specs.declared.copies.ChunkCopy.{ChunkCopy}
-use Rattle.pending.specs.declared.flights.Flight.{Flight}
+use Rattle.in_flight.specs.Kinds.{kind_of}
+use Rattle.in_flight.specs.Routes.{refused_of, again_route_of, write_route_of}
+use Rattle.in_flight.specs.Due.{first_by, least, front_ready, front_unflushed, is_copy_at, number_of_copy, number_of_mark, number_of_flight, is_publishable as can_publish, is_issuable as can_issue}
+use Rattle.in_flight.specs.declared.copies.Stage.{Stage}
+use Rattle.in_flight.specs.declared.copies.Stage.TheVariants.{Waiting, Read}
+use Rattle.in_flight.specs.declared.copies.ChunkCopy.{ChunkCopy}
+use Rattle.in_flight.specs.declared.flights.Flight.{Flight}
 use Rattle.volume_laws.specs.Due.{DueSnap, snap_number, can_mark as marks_in, can_flush_store as flushes_in, can_commit as commits, can_zero as zeroes, copy_of, publishable_of, least_of, due_of}
 use Rattle.volume_laws.specs.Published.{is_saved as is_saved_in, is_clear as is_clear_in, is_saved_over as is_saved_over_in, is_clear_over as is_clear_over_in}
 use Rattle.volume_laws.specs.Again.{placed_of, again_of}

@@ -1,13 +1,13 @@
--- How requests are routed, and those in flight routed again, as `pending` has it.
+-- How requests are routed, and those in flight routed again, as `in_flight` has it.
 use Rattle.std.specs.Prelude.{◌&&◌, ◌||◌, not, ℕ, ◌/◌, Bool, false, List, [], ◌∷◌, Option, Some, None, map}
 use Rattle.std.specs.List.{list_any, list_all}
 use Rattle.std.specs.Option.{is_some, unwrap_or}
 use Rattle.chunk.specs.Pieces.{chunks_over}
-use Rattle.model.specs.Picture.{place_of}
-use Rattle.pending.specs.Due.{first_by}
-use Rattle.pending.specs.Kinds.{kind_of}
-use Rattle.pending.specs.Routes.{write_route_of, again_route_of, placed_route_of, refused_route_of}
-use Rattle.pending.specs.declared.flights.Route.{Route}
+use Rattle.store_bytes.specs.Picture.{place_of}
+use Rattle.in_flight.specs.Due.{first_by}
+use Rattle.in_flight.specs.Kinds.{kind_of}
+use Rattle.in_flight.specs.Routes.{write_route_of, again_route_of, placed_route_of, refused_route_of}
+use Rattle.in_flight.specs.declared.flights.Route.{Route}
 use Rattle.volume_laws.specs.Published.{is_published}
 use Rattle.volume_laws.specs.Again.{has_chunk, published_place}
 use Rattle.event_machine.specs.Held.{Held, Going, MergeHeld, Moving, is_untried, group_in}

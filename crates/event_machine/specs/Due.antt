@@ -4,12 +4,12 @@ use Rattle.std.specs.Prelude.{◌==◌, ◌&&◌, ◌||◌, not, ℕ, ◌+◌, �
 use Rattle.std.specs.List.{list_any, prefix_len}
 use Rattle.plain.specs.declared.event.Event.{Event}
 use Rattle.plain.specs.declared.event.Event.TheVariants.{Issue, CopyRead, CopyWrite, ZeroNext, WriteArea, Publish, WriteInvalid, FlushStore}
-use Rattle.pending.specs.declared.copies.Stage.{Stage}
-use Rattle.pending.specs.declared.copies.Stage.TheVariants.{Waiting, Read, Written, Flushed}
-use Rattle.pending.specs.declared.copies.Mark.{Mark}
-use Rattle.pending.specs.Kinds.{kind_of}
-use Rattle.pending.specs.Routes.{reads_origin_of}
-use Rattle.pending.specs.Due.{first_by, least, is_stage, is_routed, number_of_mark}
+use Rattle.in_flight.specs.declared.copies.Stage.{Stage}
+use Rattle.in_flight.specs.declared.copies.Stage.TheVariants.{Waiting, Read, Written, Flushed}
+use Rattle.in_flight.specs.declared.copies.Mark.{Mark}
+use Rattle.in_flight.specs.Kinds.{kind_of}
+use Rattle.in_flight.specs.Routes.{reads_origin_of}
+use Rattle.in_flight.specs.Due.{first_by, least, is_stage, is_routed, number_of_mark}
 use Rattle.volume_laws.specs.Due.{event_or, is_unsafe}
 use Rattle.event_machine.specs.Held.{Copying, Held, Going, Moving, number_of}
 

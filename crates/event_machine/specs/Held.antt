@@ -4,10 +4,10 @@ use Rattle.std.specs.Prelude.{ℕ, Bool, false, true, List, [], ◌++◌, Option
 use Rattle.sector.specs.declared.pair.Pair.{Pair}
 use Rattle.plain.specs.declared.request.Request.{Request}
 use Rattle.plain.specs.declared.request.Reply.{Reply}
-use Rattle.pending.specs.declared.copies.Stage.{Stage}
-use Rattle.pending.specs.declared.copies.Mark.{Mark}
-use Rattle.pending.specs.Flushed.{flushed_stage, safe_mark}
-use Rattle.pending.specs.declared.flights.Route.{Route}
+use Rattle.in_flight.specs.declared.copies.Stage.{Stage}
+use Rattle.in_flight.specs.declared.copies.Mark.{Mark}
+use Rattle.in_flight.specs.Flushed.{flushed_stage, safe_mark}
+use Rattle.in_flight.specs.declared.flights.Route.{Route}
 use Rattle.settled.specs.Devices.{Device}
 use Rattle.settled.specs.Snaps.{Snap}
 use Rattle.settled.specs.Merges.{Merge}

@@ -1,7 +1,7 @@
 -- A volume with a merge between two requests, and between two groups of its merge.
 use Rattle.std.specs.Prelude.{◌≡◌, ℕ, ◌*◌, [], length, map, Option, Some, None}
 use Rattle.std.specs.List.{All}
-use Rattle.model.specs.Pairs.{pairs_of}
+use Rattle.store_bytes.specs.Pairs.{pairs_of}
 use Rattle.settled.specs.Merges.{Merge, Merged, Merging}
 use Rattle.event_machine.specs.Held.{Held, MergeHeld, Moving}
 use Rattle.event_machine.specs.MergeStepping.{without_group}

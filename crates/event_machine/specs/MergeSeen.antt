@@ -3,8 +3,8 @@ use Rattle.std.specs.Prelude.{◌≡◌, ℕ, ◌+◌, ◌*◌, List, [], ◌∷
 use Rattle.sector.specs.declared.pair.Pair.{Pair}
 use Rattle.device.specs.Layers.{Layer}
 use Rattle.plain.specs.declared.request.Reply.{Reply}
-use Rattle.pending.specs.Copies.{count_of}
-use Rattle.pending.specs.declared.flights.Flight.{Flight}
+use Rattle.in_flight.specs.Copies.{count_of}
+use Rattle.in_flight.specs.declared.flights.Flight.{Flight}
 use Rattle.volume_laws.specs.Books.{MergeBooks}
 use Rattle.volume_laws.specs.MergeDue.{DueMerge}
 use Rattle.settled.specs.Devices.{Device}

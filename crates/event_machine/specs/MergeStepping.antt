@@ -8,8 +8,8 @@ use Rattle.device.specs.declared.operation.Operation.{Operation}
 use Rattle.device.specs.declared.operation.Operation.TheVariants.{Reads, Writes, Flushes}
 use Rattle.plain.specs.declared.event.Event.{Event}
 use Rattle.plain.specs.declared.event.Event.TheVariants.{Publish, MergeGroup, MergeAreaRead, MergeRead, MergeWrite, MergeFlush, MergeCommit, MergeRelease}
-use Rattle.model.specs.Places.{area_place}
-use Rattle.pending.specs.Copies.{count_of}
+use Rattle.store_bytes.specs.Places.{area_place}
+use Rattle.in_flight.specs.Copies.{count_of}
 use Rattle.volume_laws.specs.MergeDue.{last_of}
 use Rattle.settled.specs.Devices.{sectors_of, answers, met, written_by}
 use Rattle.settled.specs.Merges.{Merge, last_run, without_slots}

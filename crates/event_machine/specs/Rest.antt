@@ -1,7 +1,7 @@
 -- A volume between two requests.
 use Rattle.std.specs.Prelude.{◌≡◌, ℕ, ◌*◌, true, false, [], length, None}
 use Rattle.std.specs.List.{All}
-use Rattle.model.specs.Pairs.{pairs_of}
+use Rattle.store_bytes.specs.Pairs.{pairs_of}
 use Rattle.settled.specs.Saves.{next_of}
 use Rattle.settled.specs.Order.{IsInOrder}
 use Rattle.event_machine.specs.Held.{Held, Moving}

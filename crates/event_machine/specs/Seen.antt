@@ -5,10 +5,10 @@ use Rattle.device.specs.Layers.{Layer}
 use Rattle.plain.specs.declared.event.Outcome.{Outcome}
 use Rattle.plain.specs.declared.event.Outcome.TheVariants.{Done, Fault, Reply as Replied}
 use Rattle.plain.specs.declared.request.Reply.{Reply}
-use Rattle.pending.specs.declared.copies.ChunkCopy.{ChunkCopy}
-use Rattle.pending.specs.declared.copies.Stage.TheVariants.{Waiting}
-use Rattle.pending.specs.declared.flights.Flight.{Flight}
-use Rattle.pending.specs.Due.{is_stage, front_ready}
+use Rattle.in_flight.specs.declared.copies.ChunkCopy.{ChunkCopy}
+use Rattle.in_flight.specs.declared.copies.Stage.TheVariants.{Waiting}
+use Rattle.in_flight.specs.declared.flights.Flight.{Flight}
+use Rattle.in_flight.specs.Due.{is_stage, front_ready}
 use Rattle.volume_laws.specs.Due.{DueSnap}
 use Rattle.settled.specs.Devices.{Device}
 use Rattle.event_machine.specs.Held.{Copying, Held, Going, Moving}

@@ -15,14 +15,14 @@ use Rattle.plain.specs.declared.request.Op.TheVariants.{Read as ReadOp, Write as
 use Rattle.plain.specs.declared.request.Reply.{Reply}
 use Rattle.plain.specs.declared.request.Reply.TheVariants.{Written as Done, Flushed, Refused as Declined}
 use Rattle.plain.specs.declared.request.Failure.TheVariants.{Invalid, Io}
-use Rattle.model.specs.Places.{area_place}
-use Rattle.model.specs.Slots.{pair_bytes}
-use Rattle.pending.specs.Copies.{count_of}
-use Rattle.pending.specs.declared.copies.Stage.{Stage}
-use Rattle.pending.specs.declared.copies.Stage.TheVariants.{Waiting, Read, Written}
-use Rattle.pending.specs.declared.copies.Mark.{Mark}
-use Rattle.pending.specs.declared.flights.Route.{Route}
-use Rattle.pending.specs.declared.flights.Route.TheVariants.{Held as Waits, Origin, Store, Whole, Refused}
+use Rattle.store_bytes.specs.Places.{area_place}
+use Rattle.store_bytes.specs.Slots.{pair_bytes}
+use Rattle.in_flight.specs.Copies.{count_of}
+use Rattle.in_flight.specs.declared.copies.Stage.{Stage}
+use Rattle.in_flight.specs.declared.copies.Stage.TheVariants.{Waiting, Read, Written}
+use Rattle.in_flight.specs.declared.copies.Mark.{Mark}
+use Rattle.in_flight.specs.declared.flights.Route.{Route}
+use Rattle.in_flight.specs.declared.flights.Route.TheVariants.{Held as Waits, Origin, Store, Whole, Refused}
 use Rattle.settled.specs.Saves.{marked, zeroed}
 use Rattle.settled.specs.Devices.{Device, sectors_of, answers, met, written_by, read_reply, flush_reply}
 use Rattle.settled.specs.Saving.{lacks_area}

@@ -8,15 +8,15 @@ use Rattle.plain.specs.declared.request.Request.{Request}
 use Rattle.plain.specs.declared.request.Reply.TheVariants.{Refused as Declined}
 use Rattle.plain.specs.declared.request.Failure.{Failure}
 use Rattle.plain.specs.declared.request.Failure.TheVariants.{Invalid, Overflow}
-use Rattle.model.specs.NextPlace.{stepped as stepped_place}
-use Rattle.model.specs.Picture.{place_of}
-use Rattle.pending.specs.Kinds.{kind_of}
-use Rattle.pending.specs.Routes.{read_route_of, flush_route_of}
-use Rattle.pending.specs.declared.copies.Stage.TheVariants.{Waiting}
-use Rattle.pending.specs.declared.flights.Kind.{Kind}
-use Rattle.pending.specs.declared.flights.Kind.TheVariants.{OriginRead, OriginWrite, OriginFlush, SnapRead, SnapWrite, SnapFlush}
-use Rattle.pending.specs.declared.flights.Route.{Route}
-use Rattle.pending.specs.declared.flights.Route.TheVariants.{Held as Waits, Store, Whole}
+use Rattle.store_bytes.specs.NextPlace.{stepped as stepped_place}
+use Rattle.store_bytes.specs.Picture.{place_of}
+use Rattle.in_flight.specs.Kinds.{kind_of}
+use Rattle.in_flight.specs.Routes.{read_route_of, flush_route_of}
+use Rattle.in_flight.specs.declared.copies.Stage.TheVariants.{Waiting}
+use Rattle.in_flight.specs.declared.flights.Kind.{Kind}
+use Rattle.in_flight.specs.declared.flights.Kind.TheVariants.{OriginRead, OriginWrite, OriginFlush, SnapRead, SnapWrite, SnapFlush}
+use Rattle.in_flight.specs.declared.flights.Route.{Route}
+use Rattle.in_flight.specs.declared.flights.Route.TheVariants.{Held as Waits, Store, Whole}
 use Rattle.volume_laws.specs.Again.{published_place}
 use Rattle.event_machine.specs.Held.{Held, Going, Moving, spoiled}
 use Rattle.event_machine.specs.Again.{is_grouped, merged_place, write_route, refused}

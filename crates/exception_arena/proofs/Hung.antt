@@ -4,7 +4,7 @@ use lib.Dec.{eqb}
 use Rattle.std.proofs.lemmas.Bool.{cases_eq, cond-true, cond-false, eq-eqb, ne_eqb}
 use Rattle.std.proofs.lemmas.List.{reverse-append, get_or-set_same, get_or-set_other, length-set, length-reverse, drop_all}
 use Rattle.sector.specs.declared.pair.Pair.{Pair}
-use Rattle.model.specs.Picture.{place_of}
+use Rattle.store_bytes.specs.Picture.{place_of}
 use Rattle.exception_arena.specs.Runs.{block, pairs_in, IsRun, or_else}
 use Rattle.exception_arena.specs.Links.{node_at, run_at, pairs_on, led, Leads, count_of, in_bucket, head_at, AreHung}
 use Rattle.exception_arena.specs.declared.node.Link.{Link}

@@ -1,7 +1,7 @@
 // The committed list: a chain of nodes for each bucket, and the buckets' heads. A run stands in the bucket of the block of
 // its old chunks, and the newest node of a bucket comes first.
 ghost use Rattle.std.specs.Prelude.{◌≡◌, ℕ, ◌<◌, ◌≤◌, ◌/◌, ◌%◌, IsOk, IfErr, OnErr, OnOk, length, replicate, reverse, vec_capacity, slice_set};
-ghost use Rattle.model.specs.Picture.{place_of};
+ghost use Rattle.store_bytes.specs.Picture.{place_of};
 ghost use Rattle.exception_arena.specs.Links.{node_at, run_at, pairs_on, led, head_at, AreHung, count_of};
 ghost use Rattle.exception_arena.specs.Runs.{block, IsRun};
 ghost use Rattle.sector.specs.declared.refusal.Refusal.TheVariants.{NoMemory};

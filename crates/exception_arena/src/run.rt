@@ -1,6 +1,6 @@
 // Runs of pairs: what a node holds.
 ghost use Rattle.std.specs.Prelude.{◌≡◌, ℕ, ◌+◌, ◌<◌, ◌≤◌, MatchBool};
-ghost use Rattle.model.specs.Picture.{place_of};
+ghost use Rattle.store_bytes.specs.Picture.{place_of};
 ghost use Rattle.exception_arena.specs.Runs.{pair_after, pairs_in, IsRun, GoesOn, or_else};
 
 use sector::{Chunk, Pair};

@@ -7,8 +7,8 @@ use Rattle.std.proofs.lemmas.List.{get_or-map, map-append}
 use Rattle.std.proofs.lemmas.List.Folds.{list_all-append}
 use Rattle.std.proofs.Math.Seq.{take-suc, take-length}
 use Rattle.device.specs.Layers.{Layer, is_loud}
-use Rattle.model.specs.Picture.{picture}
-use Rattle.model.proofs.Pictures.{length-picture}
+use Rattle.store_bytes.specs.Picture.{picture}
+use Rattle.store_bytes.proofs.Pictures.{length-picture}
 use Rattle.plain.specs.Plain.{Entry as Shown, Saved as State, Live, Invalid, may_overflow, saved_under}
 use Rattle.plain.specs.Serves.{Shows}
 use Rattle.plain.specs.declared.request.Dev.{Dev}

@@ -7,8 +7,8 @@ use Rattle.device.specs.Layers.{Layer}
 use Rattle.plain.specs.Plain.{Plain}
 use Rattle.plain.specs.Legal.{IsFinished}
 use Rattle.snapshot.specs.declared.opening.StoreDev.{StoreDev}
-use Rattle.merge_beside.specs.Keeping.{unkept}
-use Rattle.pending.specs.Kinds.{in_flight}
+use Rattle.snapshots.specs.Keeping.{unkept}
+use Rattle.in_flight.specs.Kinds.{in_flight}
 use Rattle.volume.specs.Volumed.{Volumed, plain_of}
 use Rattle.volume.specs.Finishing.{IsTakenOut}
 use Rattle.journal.specs.declared.entry.Answered.{Answered as AnsweredEntry}

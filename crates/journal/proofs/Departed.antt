@@ -8,12 +8,12 @@ use Rattle.std.proofs.lemmas.List.Edits.{length-remove}
 use Rattle.device.specs.Layers.{Layer}
 use Rattle.plain.specs.Plain.{Plain, Entry as Shown, Saved, without_saved}
 use Rattle.plain.specs.Legal.{IsBegun, IsDetached}
-use Rattle.pending.specs.Kinds.{in_flight}
+use Rattle.in_flight.specs.Kinds.{in_flight}
 use Rattle.snapshot.specs.Kept.{Kept}
 use Rattle.snapshot.specs.declared.opening.StoreDev.{StoreDev}
 use Rattle.snapshots.specs.Finding.{place_of_snap}
 use Rattle.snapshots.proofs.Finds.{position_within}
-use Rattle.merge_beside.specs.Keeping.{kept_for}
+use Rattle.snapshots.specs.Keeping.{kept_for}
 use Rattle.volume_laws.specs.Shape.{shown_entry}
 use Rattle.volume.specs.Beginning.{IsMergeBegun}
 use Rattle.volume.specs.Leaving.{IsWithout}

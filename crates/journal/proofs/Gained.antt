@@ -13,7 +13,7 @@ use Rattle.plain.specs.Plain.{Plain, Entry as Shown, Saved, Live, overflow_of, s
 use Rattle.plain.specs.declared.request.Overflowing.{Overflowing}
 use Rattle.plain.specs.Legal.{IsTaken}
 use Rattle.plain.specs.declared.request.Dev.TheVariants.{Snap}
-use Rattle.pending.specs.Kinds.{in_flight}
+use Rattle.in_flight.specs.Kinds.{in_flight}
 use Rattle.snapshot.specs.Kept.{Kept}
 use Rattle.snapshot.specs.declared.opening.StoreDev.{StoreDev}
 use Rattle.snapshots.specs.Finding.{place_of_snap}

@@ -23,7 +23,7 @@ use Rattle.plain.specs.Serves.{Serves}
 use Rattle.sector.specs.declared.range.Range.{Range}
 use Rattle.sector.specs.declared.refusal.Refusal.{Refusal}
 use Rattle.sector.specs.declared.refusal.Refusal.TheVariants.{Overflow}
-use Rattle.pending.specs.Kinds.{room_of, room_at}
+use Rattle.in_flight.specs.Kinds.{room_of, room_at}
 use Rattle.volume.specs.Flying.{Fits, IsFlown, IsLeftGoing, IsTakenOut}
 use Rattle.journal.specs.declared.entry.Answered.{Answered as AnsweredEntry}
 use Rattle.journal.specs.declared.entry.Entry.{Entry}

@@ -16,7 +16,7 @@ use Rattle.plain.specs.Plain.{InFlight, Entry as Shown}
 use Rattle.volume_laws.specs.Shape.{shown_entry}
 use Rattle.snapshots.specs.Numbers.{number_of_snap}
 use Rattle.volume.specs.Volumed.{Volumed, plain_of, snap_shape}
-use Rattle.pending.specs.Kinds.{in_flight}
+use Rattle.in_flight.specs.Kinds.{in_flight}
 use Rattle.sector.specs.declared.refusal.Refusal.{Refusal}
 use Rattle.volume_laws.proofs.Refusing.{refused_in_flight}
 use Rattle.volume.specs.Submitting.{IsRefusedAs, SameButRoom, IsFoundFull, IsOverflown}

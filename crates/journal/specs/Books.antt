@@ -1,7 +1,7 @@
 -- What is true of every audit. This project's own.
 use Rattle.std.specs.Prelude.{◌≡◌, ℕ, ◌+◌, ◌<◌, ◌≤◌, Bool, true, List, Option, Some, None, length, map, slice_index_or}
 use Rattle.std.specs.List.{All}
-use Rattle.pending.specs.Kinds.{room_of}
+use Rattle.in_flight.specs.Kinds.{room_of}
 use Rattle.plain.specs.Plain.{Plain, InFlight, Entry as Shown, Saved as State, Live, Invalid}
 use Rattle.volume.specs.Volumed.{Volumed}
 use Rattle.journal.specs.declared.entry.Base.{Base}

@@ -1,6 +1,6 @@
 // The events of a volume, each with what it comes to in the journal.
 ghost use Rattle.std.specs.Prelude.{◌≡◌, ◌≢◌, ◌&&◌, ◌+◌, ◌<◌, ◌≤◌, ℕ, IfOk, IsOk, OnErr, None, OnOk, Some, is_ok, map, true};
-ghost use Rattle.pending.specs.Kinds.{in_flight};
+ghost use Rattle.in_flight.specs.Kinds.{in_flight};
 ghost use Rattle.plain.specs.Legal.{IsLegalStep};
 ghost use Rattle.plain.specs.declared.event.Event.TheVariants.{Issue};
 ghost use Rattle.volume.specs.Asking.{is_finished_in};

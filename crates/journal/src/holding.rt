@@ -1,6 +1,6 @@
 // What stands beside each request in flight, and whether the journal has room.
 ghost use Rattle.std.specs.Prelude.{◌≡◌, ◌≢◌, ◌+◌, ◌<◌, ◌≤◌, nat_lt, IfNone, IfOk, IfSome, ℕ, length, slice_index_or, slice_set};
-ghost use Rattle.pending.specs.Kinds.{room_of};
+ghost use Rattle.in_flight.specs.Kinds.{room_of};
 ghost use Rattle.plain.specs.Kept.{kept};
 ghost use Rattle.journal.specs.Noted.{kept_count, live_count, may_count};
 ghost use Rattle.journal.specs.declared.entry.Held.{Held};

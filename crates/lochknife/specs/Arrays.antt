@@ -1,9 +1,9 @@
 -- What the snapshot of a store shows, and where a read of it may fail.
 use Rattle.std.specs.Prelude.{ℕ, List, []}
-use Rattle.model.specs.Picture.{picture}
+use Rattle.store_bytes.specs.Picture.{picture}
 use Rattle.cow_nbd.specs.Shows.{FailsAt, FailsFresh}
-use Rattle.cow_map.specs.declared.found.Told.{Told}
-use Rattle.cow_map.specs.declared.found.Told.TheVariants.{Fresh, Refused, Written}
+use Rattle.cow_image.specs.declared.found.Told.{Told}
+use Rattle.cow_image.specs.declared.found.Told.TheVariants.{Fresh, Refused, Written}
 
 -- the array of a store's bytes, of which this is told, over an origin's bytes
 abbrev pub array_of : Told → List ℕ → List ℕ → List ℕ

@@ -1,12 +1,11 @@
 // The array of a snapshot is written out.
 ghost use Rattle.std.specs.Prelude.{◌≡◌, ℕ, ◌*◌, ◌≤◌, List, length, OnErr, OnOk, Some};
 ghost use Rattle.std.specs.Io.KnownBytes.{Appends};
-ghost use Rattle.cow_map.specs.Maps.{IsToldOf};
-ghost use Rattle.cow_shown.specs.Shown.{IsFrontOf};
+ghost use Rattle.cow_image.specs.Maps.{IsToldOf};
+ghost use Rattle.cow_image.specs.Shown.{IsFrontOf};
 ghost use Rattle.lochknife.specs.Arrays.{array_of};
 
-use cow_map::Told;
-use cow_shown::{Stopped, export, export_fresh};
+use cow_image::{Stopped, Told, export, export_fresh};
 use image::{Image, Sink};
 use std::alloc::Global;
 

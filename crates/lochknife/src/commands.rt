@@ -7,8 +7,8 @@ use cow_answers::{
 };
 use cow_asked::Form;
 use cow_files::{Input, Trouble, held, of_input, printed, size_of};
+use cow_image::{Reason, Told, read_slots, sectors_of};
 use cow_kept::read_used;
-use cow_map::{Reason, Told, read_slots, sectors_of};
 
 /// Reads a store, for an origin of so many sectors, and sees that it was not written meanwhile.
 pub fn seen_in<'a>(

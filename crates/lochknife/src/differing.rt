@@ -1,6 +1,6 @@
 // In which bytes a snapshot and its origin differ.
 ghost use Rattle.std.specs.Prelude.{◌≡◌, ℕ, ◌*◌, ◌≤◌, List, length, true, IfOk, Some};
-ghost use Rattle.cow_map.specs.Maps.{IsToldOf};
+ghost use Rattle.cow_image.specs.Maps.{IsToldOf};
 ghost use Rattle.cow_diff.specs.Differences.{AreDifferences};
 ghost use Rattle.cow_answers.specs.Answers.{is_good as is_good_by};
 ghost use Rattle.lochknife.specs.Differing.{differing_by};
@@ -12,9 +12,8 @@ use cow_answers::{Seen, is_good, shown};
 use cow_asked::Form;
 use cow_diff::{Undone, differences};
 use cow_files::{Input, Trouble, held, printed, size_of};
+use cow_image::{Stopped, Told};
 use cow_kept::Span;
-use cow_map::Told;
-use cow_shown::Stopped;
 use cow_words::{push_spans, push_spans_json};
 use image::Image;
 use std::alloc::{AllocError, Global};

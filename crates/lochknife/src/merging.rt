@@ -5,7 +5,7 @@ ghost use Rattle.file_set.specs.Stops.{AreLeft};
 use cow_answers::{is_good, look, push_bytes, push_left, push_runs, shown};
 use cow_asked::Form;
 use cow_files::{Input, Teller, Trouble, Why, about, folder_synced, held, of_input, printed};
-use cow_map::{CowMap, Told, read_store, sectors_of};
+use cow_image::{CowMap, Told, read_store, sectors_of};
 use cow_merge::{ORIGIN, Room, Stopped};
 use file_set::{DiskFiles, FileSet};
 use std::fs::{File, TryLockError};

@@ -9,8 +9,7 @@ use cow_files::{
     Input, Trouble, Watched, Why, about, begun, ended, held, is_free, of_input, size_of,
     told_beside,
 };
-use cow_map::{Failure, MAX_IMAGE, Told, read_store};
-use cow_shown::Stopped;
+use cow_image::{Failure, MAX_IMAGE, Stopped, Told, read_store};
 
 /// Writes a snapshot's array to a new file, or prints why its store is refused. With no other snapshot of the origin this
 /// is also what the origin holds once the snapshot was merged into it.

@@ -7,8 +7,8 @@ use cow_asked::Form;
 use cow_files::{
     Input, Trouble, Watched, about, begun, ended, held, is_free, of_input, size_of, told_beside,
 };
+use cow_image::{MAX_IMAGE, Told};
 use cow_kept::{Blanked, Saved, Slot, Span, Used, export_kept, front_of, read_used, unreadable};
-use cow_map::{MAX_IMAGE, Told};
 
 /// What is asked of a salvage.
 #[derive(Clone, Copy)]

@@ -1,6 +1,6 @@
 // A snapshot is served to a client, on standard input and output.
 ghost use Rattle.std.specs.Prelude.{◌≡◌, ℕ, ◌*◌, ◌≤◌, List, length, OnOk, IsTrue, Some};
-ghost use Rattle.cow_map.specs.Maps.{IsToldOf};
+ghost use Rattle.cow_image.specs.Maps.{IsToldOf};
 ghost use Rattle.cow_nbd.specs.Shows.{IsServedBy};
 ghost use Rattle.lochknife.specs.Arrays.{array_of, FailsTold};
 ghost use Rattle.cow_answers.specs.Answers.{is_good};
@@ -8,7 +8,7 @@ ghost use Rattle.cow_answers.specs.Answers.{is_good};
 use cow_answers::{look, shown};
 use cow_asked::Form;
 use cow_files::{Input, Trouble, Why, held, of_input, size_of};
-use cow_map::Told;
+use cow_image::Told;
 use cow_nbd::{serve_fresh, serve_written};
 use image::Image;
 use nbd_server::Stopped;

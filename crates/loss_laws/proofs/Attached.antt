@@ -6,8 +6,8 @@ use Rattle.sector.specs.Bytes.{sector_at}
 use Rattle.sector.specs.declared.pair.Pair.{Pair}
 use Rattle.cow_header.specs.HeaderText.{found_in}
 use Rattle.cow_header.specs.declared.found.Found.TheVariants.{Header}
-use Rattle.model.specs.Places.{slot}
-use Rattle.model.proofs.Slots.{IsListed-of}
+use Rattle.store_bytes.specs.Places.{slot}
+use Rattle.store_bytes.proofs.Slots.{IsListed-of}
 use Rattle.stop_laws.specs.Firm.{IsFirm}
 use Rattle.stop_laws.specs.May.{sector_of, SlotMay}
 use Rattle.stop_laws.proofs.May.{may_flush}

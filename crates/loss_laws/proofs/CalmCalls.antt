@@ -9,11 +9,11 @@ use Rattle.sector.specs.declared.pair.Pair.{Pair}
 use Rattle.sector.specs.declared.refusal.Refusal.TheVariants.{Invalid}
 use Rattle.sector.proofs.Sectors.{sector_after_write, length-with_sectors, byte_outside}
 use Rattle.cow_header.specs.HeaderText.{found_in}
-use Rattle.model.specs.Places.{area_place, is_area_place, slot, ChangesOnly}
-use Rattle.model.specs.Picture.{place_of}
-use Rattle.model.proofs.AreaPlaces.{place_is, places_apart}
-use Rattle.model.proofs.Pictures.{place_apart}
-use Rattle.model.proofs.Slots.{changes_only, slot-outside}
+use Rattle.store_bytes.specs.Places.{area_place, is_area_place, slot, ChangesOnly}
+use Rattle.store_bytes.specs.Picture.{place_of}
+use Rattle.store_bytes.proofs.AreaPlaces.{place_is, places_apart}
+use Rattle.store_bytes.proofs.Pictures.{place_apart}
+use Rattle.store_bytes.proofs.Slots.{changes_only, slot-outside}
 use Rattle.stop_laws.specs.May.{sector_of}
 use Rattle.stop_laws.proofs.Loads.{header_kept}
 use Rattle.loss_laws.specs.Kept.{Kept, last_of, IsThere, SnapLasts}

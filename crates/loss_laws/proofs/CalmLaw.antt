@@ -5,8 +5,8 @@ use Rattle.std.specs.List.{All}
 use Rattle.std.proofs.lemmas.List.Elements.{All-drop}
 use Rattle.sector.specs.Bytes.{sector_at}
 use Rattle.sector.specs.declared.pair.Pair.{Pair}
-use Rattle.model.specs.Pairs.{pairs_of, AreWellFormed, IsInside}
-use Rattle.model.specs.Picture.{place_of, picture}
+use Rattle.store_bytes.specs.Pairs.{pairs_of, AreWellFormed, IsInside}
+use Rattle.store_bytes.specs.Picture.{place_of, picture}
 use Rattle.stop_laws.specs.Stop.{MayLeave, Within}
 use Rattle.stop_laws.specs.Again.{IsOpen}
 use Rattle.stop_laws.specs.Firm.{IsFirmAt, AddsNow}

@@ -5,7 +5,7 @@ use Rattle.std.proofs.lemmas.Bool.{true≢false}
 use Rattle.std.proofs.lemmas.Nat.{div-add-mod'}
 use Rattle.sector.specs.Bytes.{sector_at}
 use Rattle.sector.specs.declared.pair.Pair.{Pair}
-use Rattle.model.specs.Picture.{picture}
+use Rattle.store_bytes.specs.Picture.{picture}
 use Rattle.stop_laws.specs.Clauses.{Held, Given, Gives, StopsSnap, StopsMerge}
 use Rattle.loss_laws.specs.Kept.{Kept, SnapRefused}
 use Rattle.loss_laws.specs.Merging.{Merging, StopsMergeLost}

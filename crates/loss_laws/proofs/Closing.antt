@@ -3,9 +3,9 @@ use Rattle.std.proofs.Common.{◌≡◌, ◌≢◌, ℕ, ◌*◌, ◌/◌, ◌<�
 use Rattle.std.specs.Prelude.{Option, Some, None, true, false}
 use Rattle.std.proofs.lemmas.List.{ext_get_or}
 use Rattle.sector.specs.Bytes.{sector_at}
-use Rattle.model.specs.Pairs.{pairs_of}
-use Rattle.model.specs.Picture.{place_of, picture}
-use Rattle.model.proofs.Pictures.{length-picture}
+use Rattle.store_bytes.specs.Pairs.{pairs_of}
+use Rattle.store_bytes.specs.Picture.{place_of, picture}
+use Rattle.store_bytes.proofs.Pictures.{length-picture}
 use Rattle.stop_laws.specs.Stop.{MayLeave}
 use Rattle.stop_laws.specs.Firm.{IsFirm}
 use Rattle.stop_laws.specs.Again.{IsOpen}

@@ -9,9 +9,9 @@ use Rattle.sector.specs.declared.pair.Pair.{Pair}
 use Rattle.sector.specs.declared.refusal.Refusal.TheVariants.{Invalid}
 use Rattle.cow_header.specs.HeaderText.{found_in}
 use Rattle.cow_header.specs.declared.found.Found.TheVariants.{Header}
-use Rattle.model.specs.Places.{area_place, slot, ChangesOnly}
-use Rattle.model.specs.Pairs.{pairs_of, AreWellFormed}
-use Rattle.model.proofs.Slots.{slot-other}
+use Rattle.store_bytes.specs.Places.{area_place, slot, ChangesOnly}
+use Rattle.store_bytes.specs.Pairs.{pairs_of, AreWellFormed}
+use Rattle.store_bytes.proofs.Slots.{slot-other}
 use Rattle.stop_laws.specs.Stop.{MayLeave, Within}
 use Rattle.stop_laws.specs.Firm.{AddsNow}
 use Rattle.stop_laws.specs.May.{sector_of}

@@ -7,10 +7,10 @@ use Rattle.std.proofs.lemmas.Nat.{mod_below}
 use Rattle.sector.specs.Bytes.{sector_at}
 use Rattle.sector.proofs.Sectors.{byte_read}
 use Rattle.sector.specs.declared.pair.Pair.{Pair}
-use Rattle.model.specs.Pairs.{IsApart}
-use Rattle.model.specs.Picture.{place_of, IsCopied}
-use Rattle.model.proofs.Pictures.{place_found}
-use Rattle.model.proofs.Views.{place_none}
+use Rattle.store_bytes.specs.Pairs.{IsApart}
+use Rattle.store_bytes.specs.Picture.{place_of, IsCopied}
+use Rattle.store_bytes.proofs.Pictures.{place_found}
+use Rattle.store_bytes.proofs.Views.{place_none}
 use Rattle.stop_laws.proofs.Sectors.{sector_chunk}
 use Rattle.loss_laws.proofs.Parts.{place_first}
 

@@ -5,9 +5,9 @@ use Rattle.std.proofs.lemmas.Bool.{cases_lt}
 use Rattle.std.proofs.lemmas.List.{take_all}
 use Rattle.sector.specs.Bytes.{sector_at}
 use Rattle.sector.specs.declared.pair.Pair.{Pair}
-use Rattle.model.specs.Places.{slot}
-use Rattle.model.specs.Picture.{place_of, IsCopied}
-use Rattle.model.proofs.Slots.{IsListed-of}
+use Rattle.store_bytes.specs.Places.{slot}
+use Rattle.store_bytes.specs.Picture.{place_of, IsCopied}
+use Rattle.store_bytes.proofs.Slots.{IsListed-of}
 use Rattle.stop_laws.specs.Firm.{AddsNow, IsFirm}
 use Rattle.stop_laws.specs.May.{sector_of, SlotMay}
 use Rattle.stop_laws.proofs.May.{slot_there, may_flush}

@@ -6,8 +6,8 @@ use Rattle.std.proofs.lemmas.List.{take-append-le}
 use Rattle.std.proofs.lemmas.Nat.{mod_below}
 use Rattle.sector.specs.Bytes.{sector_at}
 use Rattle.sector.specs.declared.pair.Pair.{Pair}
-use Rattle.model.specs.Pairs.{pairs_of, AreWellFormed}
-use Rattle.model.specs.Picture.{place_of, picture}
+use Rattle.store_bytes.specs.Pairs.{pairs_of, AreWellFormed}
+use Rattle.store_bytes.specs.Picture.{place_of, picture}
 use Rattle.stop_laws.specs.Stop.{MayLeave}
 use Rattle.stop_laws.specs.Again.{IsOpen}
 use Rattle.stop_laws.specs.May.{sector_of, MayList}

@@ -8,12 +8,12 @@ use Rattle.std.proofs.lemmas.List.Elements.{All-append, All-drop}
 use Rattle.std.proofs.lemmas.Nat.{mod_below}
 use Rattle.sector.specs.Bytes.{sector_at}
 use Rattle.sector.specs.declared.pair.Pair.{Pair}
-use Rattle.model.specs.Places.{area_place, is_area_place, slot, ChangesOnly}
-use Rattle.model.specs.Pairs.{pairs_of, AreWellFormed, IsInside}
-use Rattle.model.specs.Picture.{place_of, picture}
-use Rattle.model.proofs.AreaPlaces.{place_is}
-use Rattle.model.proofs.Slots.{IsListed-of}
-use Rattle.model.proofs.Views.{byte_same}
+use Rattle.store_bytes.specs.Places.{area_place, is_area_place, slot, ChangesOnly}
+use Rattle.store_bytes.specs.Pairs.{pairs_of, AreWellFormed, IsInside}
+use Rattle.store_bytes.specs.Picture.{place_of, picture}
+use Rattle.store_bytes.proofs.AreaPlaces.{place_is}
+use Rattle.store_bytes.proofs.Slots.{IsListed-of}
+use Rattle.store_bytes.proofs.Views.{byte_same}
 use Rattle.stop_laws.specs.Stop.{MayLeave, Within}
 use Rattle.stop_laws.specs.Again.{IsOpen}
 use Rattle.stop_laws.specs.Firm.{IsFirmAt, AddsNow}

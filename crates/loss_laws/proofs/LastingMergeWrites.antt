@@ -8,12 +8,12 @@ use Rattle.std.proofs.lemmas.Nat.{mod_below}
 use Rattle.sector.specs.Bytes.{sector_at, sectors_at, with_sectors}
 use Rattle.sector.proofs.Sectors.{length-with_sectors, sectors_at-with_inside, sectors_at_apart, sector_after_write, byte_outside, byte_read}
 use Rattle.sector.specs.declared.pair.Pair.{Pair}
-use Rattle.model.specs.Places.{area_place, is_area_place, ChangesOnly}
-use Rattle.model.specs.Pairs.{pairs_of, AreWellFormed}
-use Rattle.model.specs.Picture.{place_of, picture}
-use Rattle.model.proofs.AreaPlaces.{chunks_apart, place_is}
-use Rattle.model.proofs.Pictures.{place_apart}
-use Rattle.model.proofs.Slots.{changes_only, pairs-outside, slot-outside}
+use Rattle.store_bytes.specs.Places.{area_place, is_area_place, ChangesOnly}
+use Rattle.store_bytes.specs.Pairs.{pairs_of, AreWellFormed}
+use Rattle.store_bytes.specs.Picture.{place_of, picture}
+use Rattle.store_bytes.proofs.AreaPlaces.{chunks_apart, place_is}
+use Rattle.store_bytes.proofs.Pictures.{place_apart}
+use Rattle.store_bytes.proofs.Slots.{changes_only, pairs-outside, slot-outside}
 use Rattle.stop_laws.specs.Stop.{MayLeave, Within}
 use Rattle.stop_laws.specs.Again.{IsOpen}
 use Rattle.stop_laws.specs.Firm.{AddsNow}

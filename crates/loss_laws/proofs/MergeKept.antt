@@ -9,10 +9,10 @@ use Rattle.sector.specs.declared.pair.Pair.{Pair}
 use Rattle.sector.proofs.Sectors.{length-with_sectors, byte_outside}
 use Rattle.cow_header.specs.HeaderText.{found_in}
 use Rattle.cow_header.specs.declared.found.Found.TheVariants.{Header}
-use Rattle.model.specs.Places.{area_place, slot, ChangesOnly}
-use Rattle.model.specs.Pairs.{pairs_of, AreWellFormed}
-use Rattle.model.specs.Picture.{place_of, picture, IsCopied}
-use Rattle.model.proofs.Slots.{changes_only, IsListed-of}
+use Rattle.store_bytes.specs.Places.{area_place, slot, ChangesOnly}
+use Rattle.store_bytes.specs.Pairs.{pairs_of, AreWellFormed}
+use Rattle.store_bytes.specs.Picture.{place_of, picture, IsCopied}
+use Rattle.store_bytes.proofs.Slots.{changes_only, IsListed-of}
 use Rattle.stop_laws.specs.Stop.{MayLeave, Within}
 use Rattle.stop_laws.specs.Firm.{IsFirmAt, IsFirm, AddsNow}
 use Rattle.stop_laws.specs.May.{sector_of, SlotMay, MayList}

@@ -8,11 +8,11 @@ use Rattle.std.proofs.lemmas.Nat.{mod_below}
 use Rattle.sector.specs.Bytes.{sector_at, with_sectors}
 use Rattle.sector.proofs.Sectors.{byte_read, byte_outside, length-with_sectors}
 use Rattle.sector.specs.declared.pair.Pair.{Pair}
-use Rattle.model.specs.Places.{is_area_place, ChangesOnly}
-use Rattle.model.specs.Pairs.{pairs_of, IsInside}
-use Rattle.model.specs.Picture.{place_of, picture, IsCopied}
-use Rattle.model.proofs.Slots.{changes_only, pairs-outside}
-use Rattle.model.proofs.Pictures.{place_found, length-picture}
+use Rattle.store_bytes.specs.Places.{is_area_place, ChangesOnly}
+use Rattle.store_bytes.specs.Pairs.{pairs_of, IsInside}
+use Rattle.store_bytes.specs.Picture.{place_of, picture, IsCopied}
+use Rattle.store_bytes.proofs.Slots.{changes_only, pairs-outside}
+use Rattle.store_bytes.proofs.Pictures.{place_found, length-picture}
 use Rattle.loss_laws.proofs.Parts.{from_bytes}
 use Rattle.stop_laws.proofs.Sectors.{sector_chunk}
 

@@ -7,7 +7,7 @@ use Rattle.std.proofs.lemmas.List.Elements.{All-append}
 use Rattle.sector.specs.Bytes.{sector_at, with_sectors}
 use Rattle.sector.proofs.Sectors.{sectors_at-with_inside}
 use Rattle.sector.specs.declared.pair.Pair.{Pair}
-use Rattle.model.specs.Picture.{place_of}
+use Rattle.store_bytes.specs.Picture.{place_of}
 use Rattle.stop_laws.specs.Stop.{MayLeave, Within, IsTorn}
 use Rattle.stop_laws.specs.Firm.{AddsNow, IsFirm}
 use Rattle.stop_laws.specs.Clauses.{Given, Gives, StopsDisk}

@@ -9,10 +9,10 @@ use Rattle.sector.specs.Number.{number_at}
 use Rattle.sector.proofs.Numbers.{same_number}
 use Rattle.sector.proofs.Sectors.{byte_read}
 use Rattle.sector.specs.declared.pair.Pair.{Pair}
-use Rattle.model.specs.Slots.{pair_in}
-use Rattle.model.specs.Places.{area_place, chunk_at, slot, ChangesOnly}
-use Rattle.model.proofs.AreaPlaces.{area_of, number_in}
-use Rattle.model.proofs.Slots.{slot-at, slot-other, changes_only}
+use Rattle.store_bytes.specs.Slots.{pair_in}
+use Rattle.store_bytes.specs.Places.{area_place, chunk_at, slot, ChangesOnly}
+use Rattle.store_bytes.proofs.AreaPlaces.{area_of, number_in}
+use Rattle.store_bytes.proofs.Slots.{slot-at, slot-other, changes_only}
 use Rattle.stop_laws.specs.May.{sector_of}
 use Rattle.loss_laws.specs.Lasting.{ClearsSlots}
 use Rattle.loss_laws.proofs.Parts.{from_bytes}

@@ -4,8 +4,8 @@ use Rattle.sector.specs.Bytes.{sector_at}
 use Rattle.sector.specs.declared.pair.Pair.{Pair}
 use Rattle.sector.specs.declared.refusal.Refusal.TheVariants.{Invalid}
 use Rattle.cow_header.specs.HeaderText.{found_in}
-use Rattle.model.specs.Places.{slot}
-use Rattle.model.specs.Picture.{place_of, picture}
+use Rattle.store_bytes.specs.Places.{slot}
+use Rattle.store_bytes.specs.Picture.{place_of, picture}
 use Rattle.stop_laws.specs.Stop.{MayLeave, Within}
 use Rattle.stop_laws.specs.Again.{IsOpen, LoadsAgain, IsRefusedAgain}
 use Rattle.stop_laws.specs.May.{sector_of}

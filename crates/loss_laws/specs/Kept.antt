@@ -5,9 +5,9 @@ use Rattle.sector.specs.declared.pair.Pair.{Pair}
 use Rattle.sector.specs.declared.refusal.Refusal.TheVariants.{Invalid}
 use Rattle.cow_header.specs.HeaderText.{found_in}
 use Rattle.cow_header.specs.declared.found.Found.TheVariants.{Header}
-use Rattle.model.specs.Places.{slot}
-use Rattle.model.specs.Pairs.{pairs_of, AreWellFormed, IsInside}
-use Rattle.model.specs.Picture.{place_of}
+use Rattle.store_bytes.specs.Places.{slot}
+use Rattle.store_bytes.specs.Pairs.{pairs_of, AreWellFormed, IsInside}
+use Rattle.store_bytes.specs.Picture.{place_of}
 use Rattle.stop_laws.specs.Stop.{MayLeave}
 use Rattle.stop_laws.specs.Firm.{IsFirmAt}
 use Rattle.stop_laws.specs.May.{sector_of, MayList}

@@ -1,11 +1,11 @@
 -- A snapshot's store of which not all is flushed: what holds so that whatever a stop leaves shows the same array.
 use Rattle.std.specs.Prelude.{◌≡◌, ◌⊎◌, ℕ, ◌+◌, ◌*◌, ◌/◌, ◌%◌, ◌<◌, ◌≤◌, List, ◌++◌, length, take, drop, None}
 use Rattle.sector.specs.Bytes.{sector_at}
-use Rattle.model.specs.Places.{slot}
+use Rattle.store_bytes.specs.Places.{slot}
 use Rattle.std.specs.List.{All}
 use Rattle.sector.specs.declared.pair.Pair.{Pair}
-use Rattle.model.specs.Pairs.{pairs_of, AreWellFormed}
-use Rattle.model.specs.Picture.{place_of, IsCopied}
+use Rattle.store_bytes.specs.Pairs.{pairs_of, AreWellFormed}
+use Rattle.store_bytes.specs.Picture.{place_of, IsCopied}
 use Rattle.stop_laws.specs.Stop.{MayLeave}
 use Rattle.stop_laws.specs.Firm.{IsFirmAt}
 use Rattle.stop_laws.specs.May.{sector_of, MayList}

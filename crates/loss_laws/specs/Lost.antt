@@ -5,9 +5,9 @@ use Rattle.std.specs.Prelude.{◌≡◌, ◌⊎◌, ℕ, ◌+◌, ◌-◌, ◌*�
 use Rattle.std.specs.List.{All}
 use Rattle.sector.specs.Bytes.{sector_at, with_sectors}
 use Rattle.sector.specs.declared.pair.Pair.{Pair}
-use Rattle.model.specs.Places.{area_place, slot, ChangesOnly}
-use Rattle.model.specs.Pairs.{pairs_of, AreWellFormed}
-use Rattle.model.specs.Picture.{place_of, IsCopied}
+use Rattle.store_bytes.specs.Places.{area_place, slot, ChangesOnly}
+use Rattle.store_bytes.specs.Pairs.{pairs_of, AreWellFormed}
+use Rattle.store_bytes.specs.Picture.{place_of, IsCopied}
 use Rattle.stop_laws.specs.Stop.{MayLeave}
 use Rattle.stop_laws.specs.Firm.{IsFirm, AddsNow}
 use Rattle.loss_laws.specs.Lasting.{ClearsSlots}

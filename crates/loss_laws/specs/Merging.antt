@@ -5,8 +5,8 @@ use Rattle.sector.specs.Bytes.{sector_at}
 use Rattle.sector.specs.declared.pair.Pair.{Pair}
 use Rattle.cow_header.specs.HeaderText.{found_in}
 use Rattle.cow_header.specs.declared.found.Found.TheVariants.{Header}
-use Rattle.model.specs.Places.{slot}
-use Rattle.model.specs.Pairs.{pairs_of, AreWellFormed}
+use Rattle.store_bytes.specs.Places.{slot}
+use Rattle.store_bytes.specs.Pairs.{pairs_of, AreWellFormed}
 use Rattle.stop_laws.specs.Stop.{MayLeave, Within}
 use Rattle.stop_laws.specs.Again.{IsOpen}
 use Rattle.stop_laws.specs.Firm.{IsFirmAt}

@@ -3,7 +3,7 @@ use Rattle.std.proofs.Common.{◌≡◌, inl, inr, ◌==◌, ◌&&◌, not, ℕ,
 use Rattle.std.specs.Prelude.{Option, Some, None, if◌then◌else◌}
 use Rattle.std.proofs.lemmas.Bool.{cases_lt}
 use Rattle.sector.specs.declared.pair.Pair.{Pair}
-use Rattle.pending.specs.declared.flights.Flight.{Flight}
+use Rattle.in_flight.specs.declared.flights.Flight.{Flight}
 use Rattle.store.specs.Grouping.{shifted, run_at}
 use Rattle.store.specs.declared.state.State.{State}
 use Rattle.volume_laws.specs.MergeDue.{is_none, last_of, is_readable, is_writable}

@@ -1,7 +1,7 @@
 -- What the looks at a merge say of its books: they are those by which a volume tells which event is due.
 use Rattle.std.specs.Prelude.{◌≡◌, not, ℕ, Bool, List, [], ◌∷◌, Option, Some, None}
 use Rattle.sector.specs.declared.pair.Pair.{Pair}
-use Rattle.pending.specs.declared.flights.Flight.{Flight}
+use Rattle.in_flight.specs.declared.flights.Flight.{Flight}
 use Rattle.volume_laws.specs.Books.{SnapBooks}
 use Rattle.volume_laws.specs.MergeDue.{has_group, is_finished, can_group, can_read_area, can_read, can_write, can_flush, can_commit_group, is_none, is_readable, is_writable, last_of}
 use Rattle.merge.specs.Due.{has_group_of, is_finished_of, can_group_of, can_read_area_of, next_of, next_read_of, full_of, can_flush_of, can_commit_of, can_release_of}

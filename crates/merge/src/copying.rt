@@ -4,8 +4,8 @@ ghost use Rattle.sector.specs.Bytes.{sectors_at, with_sectors, with_part};
 ghost use Rattle.sector.specs.declared.pair.Pair.{Pair};
 ghost use Rattle.device.specs.declared.operation.Operation.TheVariants.{Reads, Writes, Flushes};
 ghost use Rattle.device.specs.Layers.{fate, is_passed, is_loud};
-ghost use Rattle.model.specs.Pairs.{IsInside};
-ghost use Rattle.pending.specs.Copies.{count_of};
+ghost use Rattle.store_bytes.specs.Pairs.{IsInside};
+ghost use Rattle.in_flight.specs.Copies.{count_of};
 ghost use Rattle.store.specs.Held.{pending};
 ghost use Rattle.store.specs.Operations.{IsOneOperation};
 ghost use Rattle.merge.specs.Due.{next_read_of, full_of, can_flush_of};
@@ -19,7 +19,7 @@ ghost use Rattle.stop_laws.specs.Firm.{AddsNow, IsFirm};
 
 use crate::{Group, Merge, Progress};
 use device::{Block, Io};
-use pending::sectors_of;
+use in_flight::sectors_of;
 use sector::{Chunk, Pair, Range, SECTOR_BYTES};
 use store::Store;
 

@@ -1,6 +1,6 @@
 // An area, and the pairs in its slots.
 ghost use Rattle.std.specs.Prelude.{◌≡◌, ◌≢◌, ℕ, ◌+◌, ◌*◌, ◌<◌, ◌≤◌, length, replicate, IfOk, IfErr};
-ghost use Rattle.model.specs.Slots.{pair_in, with_pair};
+ghost use Rattle.store_bytes.specs.Slots.{pair_in, with_pair};
 ghost use Rattle.sector.specs.declared.refusal.Refusal.TheVariants.{NoMemory};
 
 use numbers::{put_u64, u64_at};

@@ -10,12 +10,12 @@ use Rattle.layers.specs.declared.broken.Broken.{Broken}
 use Rattle.device.specs.declared.mem_disk.MemDisk.{MemDisk}
 use Rattle.layers.specs.Windows.{layers_below, bytes_below}
 use Rattle.layers.specs.Beneath.{IsOver, stack_over}
-use Rattle.named.specs.Stacks.{device_of}
-use Rattle.named.specs.State.{Stacked, Table}
-use Rattle.named.specs.Layers.{put}
-use Rattle.named.specs.Removing.{left_with, left_as, lowered_device, lowered_to, lowered}
-use Rattle.named.specs.Lines.{device_at}
-use Rattle.named.proofs.AtPlace.{stack_here}
+use Rattle.command_rules.specs.Stacks.{device_of}
+use Rattle.command_rules.specs.State.{Stacked, Table}
+use Rattle.command_rules.specs.Layers.{put}
+use Rattle.command_rules.specs.Removing.{left_with, left_as, lowered_device, lowered_to, lowered}
+use Rattle.command_rules.specs.Lines.{device_at}
+use Rattle.command_rules.proofs.AtPlace.{stack_here}
 
 -- whether the top of a stack is a layer over another device
 abbrev pub is_over : Stack → Bool

@@ -5,9 +5,9 @@ use Rattle.layers.specs.declared.stack.Stack.{Stack}
 use Rattle.layers.specs.Stack.{stack_contents, stack_layers, stack_size}
 use Rattle.layers.specs.Whole.{stack_whole}
 use Rattle.layers.specs.Windows.{without_windows}
-use Rattle.named.specs.State.{Stacked}
-use Rattle.named.specs.Stacks.{device_of}
-use Rattle.named.specs.Losing.{Lasting, lasting}
+use Rattle.command_rules.specs.State.{Stacked}
+use Rattle.command_rules.specs.Stacks.{device_of}
+use Rattle.command_rules.specs.Losing.{Lasting, lasting}
 
 pub lost_lasting : (names : List (List ℕ)) (stale : Bool) (old new : Stack) (was : Stacked) → record { names = names; device = device_of old; stale = stale } ≡ was → without_windows (stack_layers new) ≡ without_windows (stack_layers old) → stack_size new ≡ stack_size old
     → lasting (record { names = names; device = device_of new; stale = stale }) ≡ lasting was

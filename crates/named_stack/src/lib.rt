@@ -1,6 +1,6 @@
 //! A stack of layers with the names of its devices, which nothing uses.
 //!
-//! It stands on `layers` for stacks and on `named` for definitions. It promises that each call answers and leaves exactly
+//! It stands on `layers` for stacks and on `command_rules` for definitions. It promises that each call answers and leaves exactly
 //! what its definition says of the stack, with the first refusal in the stated order, and that a refusal changes nothing.
 #![tactic(auto)]
 

@@ -1,7 +1,7 @@
 // Numbers of sectors.
 ghost use Rattle.std.specs.Prelude.{◌≡◌, ◌≤◌, ◌<◌, ◌+◌, ◌*◌, length, MatchResult, IfOk, OnOk, Ok, Err};
 ghost use Rattle.command.specs.Words.{sectors_of};
-ghost use Rattle.named.specs.Raw.{fits, whole};
+ghost use Rattle.command_rules.specs.Raw.{fits, whole};
 
 use sector::{Range, Refusal, SECTOR_BYTES};
 

@@ -7,10 +7,10 @@ use Rattle.chunk.specs.Pieces.{Span}
 use Rattle.plain.specs.declared.request.Dev.{Dev}
 use Rattle.settled.specs.Devices.{sectors_of as size_of}
 use Rattle.settled.specs.Snaps.{Volume as Settled}
-use Rattle.named.specs.declared.place.Role.{Role}
-use Rattle.named.specs.State.{Volume}
-use Rattle.named.specs.Raw.{fits}
-use Rattle.named.specs.Sectors.{Asked, dev_of, serves, takes, asked_of}
+use Rattle.command_rules.specs.declared.place.Role.{Role}
+use Rattle.command_rules.specs.State.{Volume}
+use Rattle.command_rules.specs.Raw.{fits}
+use Rattle.command_rules.specs.Sectors.{Asked, dev_of, serves, takes, asked_of}
 
 module _ (role : Role) (first count : ℕ) (v : Volume) (state : Settled) (same : v.state ≡ state) where
   -- the role takes no request

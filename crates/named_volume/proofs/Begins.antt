@@ -19,12 +19,12 @@ use Rattle.merge.specs.Merging.{Merging}
 use Rattle.volume.specs.Beginning.{begin_refusal, begin_with, place_refusal}
 use Rattle.volume.specs.Causes.{lives_of}
 use Rattle.volume.specs.Leaving.{is_quiet_of}
-use Rattle.resting.specs.Flying.{IsWhole}
-use Rattle.resting.specs.Merging.{IsAlike, IsBegunAs}
-use Rattle.resting.proofs.Leaves.{at_place as first_at}
-use Rattle.resting.specs.Rested.{Attached, Rested, attached_of, is_loud_in, snap_at as first_snap}
-use Rattle.named.specs.State.{Names, Volume}
-use Rattle.named.specs.Merging.{begun}
+use Rattle.volume_commands.specs.Flying.{IsWhole}
+use Rattle.volume_commands.specs.Merging.{IsAlike, IsBegunAs}
+use Rattle.volume_commands.proofs.Leaves.{at_place as first_at}
+use Rattle.volume_commands.specs.Rested.{Attached, Rested, attached_of, is_loud_in, snap_at as first_snap}
+use Rattle.command_rules.specs.State.{Names, Volume}
+use Rattle.command_rules.specs.Merging.{begun}
 use Rattle.named_volume.specs.Held.{flying_in, merged_inside, merging_with, settled_in, with_names}
 use Rattle.named_volume.proofs.Merges.{merge_by}
 use Rattle.named_volume.proofs.Places.{at_place, stack_snap}

@@ -6,8 +6,8 @@ use Rattle.sector.specs.declared.refusal.Refusal.{Refusal}
 use Rattle.sector.specs.declared.refusal.Refusal.TheVariants.{Busy, NotQuiet}
 use Rattle.layers.specs.declared.stack.Stack.{Stack}
 use Rattle.volume.specs.Leaving.{is_quiet_of}
-use Rattle.resting.specs.Rested.{Rested}
-use Rattle.named.specs.State.{Names}
+use Rattle.volume_commands.specs.Rested.{Rested}
+use Rattle.command_rules.specs.State.{Names}
 use Rattle.named_volume.specs.Held.{merging_with}
 use Rattle.named_volume.proofs.Merges.{begun_too, merge_by, no_names}
 

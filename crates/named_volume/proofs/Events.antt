@@ -10,7 +10,7 @@ use Rattle.plain.specs.declared.event.Event.{Event}
 use Rattle.plain.specs.declared.event.Outcome.{Outcome}
 use Rattle.plain.specs.declared.event.NotDue.{NotDue}
 use Rattle.plain.specs.Legal.{IsLegalStep}
-use Rattle.served.specs.Refusals.{IsStarved}
+use Rattle.settled.specs.Refusals.{IsStarved}
 use Rattle.volume.specs.Volumed.{is_due_of, is_loud_in_all, plain_of}
 use Rattle.volume.specs.Causes.{HasCause, IsOneAtMost}
 use Rattle.volume.specs.Exact.{IsExact}
@@ -19,11 +19,11 @@ use Rattle.plain.specs.declared.request.Op.{Op}
 use Rattle.volume.specs.Leaving.{is_quiet_of}
 use Rattle.volume.specs.Submitting.{IsAcceptedAs, IsRefusedAs}
 use Rattle.plain.specs.declared.request.Replied.{Replied}
-use Rattle.resting.specs.Rested.{Rested, rested_of}
-use Rattle.resting.specs.Flying.{IsWhole}
-use Rattle.resting.specs.Among.{AreReadAmong, AreWrittenAmong, IsFlushedAmong, IsFlushRefusedAmong, IsReadRefusedAmong, IsWriteRefusedAmong, pieces_among}
-use Rattle.named.specs.State.{Volume, merge_in}
-use Rattle.named.specs.Sectors.{Asked}
+use Rattle.volume_commands.specs.Rested.{Rested, rested_of}
+use Rattle.volume_commands.specs.Flying.{IsWhole}
+use Rattle.volume_commands.specs.Among.{AreReadAmong, AreWrittenAmong, IsFlushedAmong, IsFlushRefusedAmong, IsReadRefusedAmong, IsWriteRefusedAmong, pieces_among}
+use Rattle.command_rules.specs.State.{Volume, merge_in}
+use Rattle.command_rules.specs.Sectors.{Asked}
 use Rattle.named_volume.specs.Held.{flying_in, merged_inside, settled_in}
 use Rattle.named_volume.specs.Flights.{IsBehind, IsStarted, IsNotStarted, IsStepped, IsFlushServed, IsReadServed, IsWriteServed}
 

@@ -11,16 +11,16 @@ use Rattle.snapshot.specs.declared.opening.StoreDev.{StoreDev}
 use Rattle.settled.specs.Snaps.{Volume as Settled}
 use Rattle.settled.specs.Attaching.{Store}
 use Rattle.settled.specs.Merges.{Merge, Finished, finished as finished_in_big_steps, finished_by as finished_in_big_steps_by, pairs_in}
-use Rattle.served.specs.Refusals.{is_starved}
+use Rattle.settled.specs.Refusals.{is_starved}
 use Rattle.merge.specs.Due.{is_finished_of}
 use Rattle.merge.specs.Merging.{Merging}
-use Rattle.resting.specs.Merging.{IsTakenOutAs, IsUnfinished}
-use Rattle.resting.specs.Rested.{Rested}
+use Rattle.volume_commands.specs.Merging.{IsTakenOutAs, IsUnfinished}
+use Rattle.volume_commands.specs.Rested.{Rested}
 use Rattle.volume.specs.Finishing.{finish_with}
 use Rattle.volume.specs.Volumed.{is_loud_with}
-use Rattle.named.specs.Stacks.{device_of}
-use Rattle.named.specs.State.{Stacked, Names, Volume}
-use Rattle.named.specs.Merging.{finished}
+use Rattle.command_rules.specs.Stacks.{device_of}
+use Rattle.command_rules.specs.State.{Stacked, Names, Volume}
+use Rattle.command_rules.specs.Merging.{finished}
 use Rattle.named_volume.specs.Held.{merged_inside, merging_with, settled_in, with_names, IsSettledIn}
 use Rattle.named_volume.proofs.Merges.{merge_by}
 

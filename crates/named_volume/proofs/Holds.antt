@@ -4,9 +4,9 @@ use Rattle.std.specs.Prelude.{Option}
 use Rattle.std.proofs.lemmas.List.{length-map}
 use Rattle.layers.specs.declared.stack.Stack.{Stack}
 use Rattle.layers.specs.Stack.{stack_layers, stack_size}
-use Rattle.resting.specs.Rested.{Rested, Attached, numbers_of}
-use Rattle.resting.specs.Kept.{KeepsDevices}
-use Rattle.named.specs.State.{Names}
+use Rattle.volume_commands.specs.Rested.{Rested, Attached, numbers_of}
+use Rattle.volume_commands.specs.Kept.{KeepsDevices}
+use Rattle.command_rules.specs.State.{Names}
 use Rattle.named_volume.specs.Held.{IsHeld}
 use Rattle.named_volume.proofs.Merges.{still_begun}
 

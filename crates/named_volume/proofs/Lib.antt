@@ -19,3 +19,4 @@ pub mod Stops
 pub mod Orders
 pub mod Begun
 pub mod Statuses
+mod Firsts

@@ -9,9 +9,9 @@ use Rattle.event_machine.specs.MergeSeen.{held_in}
 use Rattle.merge.specs.Merging.{Merging}
 use Rattle.volume.specs.Asking.{merging_number}
 use Rattle.volume.specs.Moved.{merge_seen}
-use Rattle.resting.specs.Rested.{Rested}
-use Rattle.named.specs.Stacks.{device_of}
-use Rattle.named.specs.State.{Names, Merging as Named, merge_in, names_in, with_merge}
+use Rattle.volume_commands.specs.Rested.{Rested}
+use Rattle.command_rules.specs.Stacks.{device_of}
+use Rattle.command_rules.specs.State.{Names, Merging as Named, merge_in, names_in, with_merge}
 use Rattle.named_volume.specs.Held.{merged_inside, merging_with, settled_in, with_names}
 
 -- a merge of the volume of events, as the settled machine has it

@@ -6,9 +6,9 @@ use Rattle.layers.specs.declared.stack.Stack.{Stack}
 use Rattle.settled.specs.Snaps.{Snap}
 use Rattle.settled.specs.Merges.{Merge, Merged}
 use Rattle.volume.proofs.Relayered.{map_twice}
-use Rattle.resting.specs.Rested.{Rested, numbers_of}
-use Rattle.resting.specs.Ordered.{IsOrdered}
-use Rattle.named.specs.State.{Names, merge_in}
+use Rattle.volume_commands.specs.Rested.{Rested, numbers_of}
+use Rattle.volume_commands.specs.Ordered.{IsOrdered}
+use Rattle.command_rules.specs.State.{Names, merge_in}
 use Rattle.named_volume.specs.Held.{merged_inside, merging_with, settled_in}
 use Rattle.named_volume.proofs.Merges.{merge_is}
 use Rattle.named_volume.proofs.Places.{stack_snap}

@@ -10,12 +10,12 @@ use Rattle.layers.specs.declared.stack.Stack.{Stack}
 use Rattle.layers.specs.Stack.{stack_contents, stack_layers}
 use Rattle.snapshot.specs.declared.opening.StoreDev.{StoreDev}
 use Rattle.settled.specs.Attaching.{detached}
-use Rattle.resting.specs.Rested.{Attached, Rested, snap_at as first_snap}
-use Rattle.resting.specs.Leaving.{IsDetachedAs}
-use Rattle.named.specs.Stacks.{device_of}
-use Rattle.named.specs.State.{Stacked, Names, Volume}
-use Rattle.named.specs.Origins.{still}
-use Rattle.named.specs.Snapshots.{parted}
+use Rattle.volume_commands.specs.Rested.{Attached, Rested, snap_at as first_snap}
+use Rattle.volume_commands.specs.Leaving.{IsDetachedAs}
+use Rattle.command_rules.specs.Stacks.{device_of}
+use Rattle.command_rules.specs.State.{Stacked, Names, Volume}
+use Rattle.command_rules.specs.Origins.{still}
+use Rattle.command_rules.specs.Snapshots.{parted}
 use Rattle.named_volume.specs.Held.{settled_in, IsSettledIn}
 use Rattle.named_volume.proofs.Places.{here, at_place}
 use Rattle.volume.proofs.Shown.{loud_but}

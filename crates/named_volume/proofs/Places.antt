@@ -9,10 +9,10 @@ use Rattle.layers.specs.declared.stack.Stack.{Stack}
 use Rattle.layers.specs.Stack.{stack_contents, stack_layers}
 use Rattle.plain.specs.declared.request.Dev.TheVariants.{Snap as ToSnap}
 use Rattle.settled.specs.Snaps.{Snap}
-use Rattle.resting.specs.Rested.{Attached, Rested, snap_of, snap_at as first_snap, has_number}
-use Rattle.named.specs.declared.place.Role.TheVariants.{Snapshot}
-use Rattle.named.specs.Messages.{snap_at}
-use Rattle.named.specs.Sectors.{dev_of}
+use Rattle.volume_commands.specs.Rested.{Attached, Rested, snap_of, snap_at as first_snap, has_number}
+use Rattle.command_rules.specs.declared.place.Role.TheVariants.{Snapshot}
+use Rattle.command_rules.specs.Messages.{snap_at}
+use Rattle.command_rules.specs.Sectors.{dev_of}
 use Rattle.named_volume.specs.Held.{settled_in}
 
 -- an element at a place

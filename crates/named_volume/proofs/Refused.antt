@@ -13,10 +13,10 @@ use Rattle.layers.specs.Beneath.{stack_flushes}
 use Rattle.volume.specs.Attached.{IsTriedOrigin}
 use Rattle.volume.specs.Leaving.{is_quiet_of}
 use Rattle.volume.specs.Volumed.{is_loud_with}
-use Rattle.resting.specs.Rested.{Rested, is_loud_in}
-use Rattle.resting.specs.Taking.{IsRefusedAt}
-use Rattle.named.specs.Stacks.{device_of}
-use Rattle.named.specs.State.{Names, Volume}
+use Rattle.volume_commands.specs.Rested.{Rested, is_loud_in}
+use Rattle.volume_commands.specs.Taking.{IsRefusedAt}
+use Rattle.command_rules.specs.Stacks.{device_of}
+use Rattle.command_rules.specs.State.{Names, Volume}
 use Rattle.named_volume.specs.Held.{IsHeld, flying_in, merging_with, settled_in}
 
 -- an origin that a store was tried over is the same device

@@ -11,11 +11,11 @@ use Rattle.event_machine.specs.Held.{Moving}
 use Rattle.event_machine.specs.Merging.{resumed as machine_resumed}
 use Rattle.merge.specs.Merging.{Merging}
 use Rattle.volume.specs.Leaving.{is_quiet_of}
-use Rattle.resting.specs.Flying.{flying_of}
-use Rattle.resting.specs.Rested.{Rested}
-use Rattle.named.specs.Changes.{Changes}
-use Rattle.named.specs.State.{Names, Volume}
-use Rattle.named.specs.Merging.{resumed}
+use Rattle.volume_commands.specs.Flying.{flying_of}
+use Rattle.volume_commands.specs.Rested.{Rested}
+use Rattle.command_rules.specs.Changes.{Changes}
+use Rattle.command_rules.specs.State.{Names, Volume}
+use Rattle.command_rules.specs.Merging.{resumed}
 use Rattle.named_volume.specs.Held.{flying_in, merged_inside, merging_with, settled_in, with_names}
 use Rattle.named_volume.proofs.Merges.{machine_merge, merge_by}
 

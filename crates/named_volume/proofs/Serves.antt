@@ -12,16 +12,16 @@ use Rattle.plain.specs.declared.request.Reply.TheVariants.{Data, Written, Flushe
 use Rattle.plain.specs.declared.request.Failure.{Failure}
 use Rattle.plain.specs.declared.request.Failure.TheVariants.{Invalid, Io, Overflow}
 use Rattle.settled.specs.Merges.{Merged}
-use Rattle.served.specs.Beside.{Served, read_beside, written_beside, flushed_beside, written_first_beside, count_beside}
-use Rattle.served.specs.Refusals.{is_starved}
-use Rattle.resting.specs.Rested.{Rested, has_dev}
+use Rattle.settled.specs.Beside.{Served, read_beside, written_beside, flushed_beside, written_first_beside, count_beside}
+use Rattle.settled.specs.Refusals.{is_starved}
+use Rattle.volume_commands.specs.Rested.{Rested, has_dev}
 use Rattle.plain.specs.Failures.{refusal_of}
-use Rattle.resting.specs.Commands.{IsDoneBy, IsFlushRefused, IsReadRefused, IsWriteRefused}
-use Rattle.resting.proofs.Unread.{read_leaves, refused_read_leaves}
-use Rattle.named.specs.declared.place.Role.{Role}
-use Rattle.named.specs.State.{Volume, merged_in}
-use Rattle.named.specs.Changes.{Did, Serves}
-use Rattle.named.specs.Sectors.{Asked, asked_of, after_asking, flush_by, flushed_in, read_answer, read_by, read_in, IsReadAsked, write_answer, write_by, written_in, ArePartWritten, IsPartWritten, IsPartWrittenBy}
+use Rattle.volume_commands.specs.Commands.{IsDoneBy, IsFlushRefused, IsReadRefused, IsWriteRefused}
+use Rattle.volume_commands.proofs.Unread.{read_leaves, refused_read_leaves}
+use Rattle.command_rules.specs.declared.place.Role.{Role}
+use Rattle.command_rules.specs.State.{Volume, merged_in}
+use Rattle.command_rules.specs.Changes.{Did, Serves}
+use Rattle.command_rules.specs.Sectors.{Asked, asked_of, after_asking, flush_by, flushed_in, read_answer, read_by, read_in, IsReadAsked, write_answer, write_by, written_in, ArePartWritten, IsPartWritten, IsPartWrittenBy}
 use Rattle.named_volume.specs.Flights.{IsDenied}
 use Rattle.named_volume.specs.Held.{merged_inside, IsSettledIn}
 use Rattle.named_volume.proofs.Unflushed.{flush_leaves}

@@ -19,14 +19,14 @@ use Rattle.event_machine.specs.Held.{Held, Moving}
 use Rattle.snapshot.specs.Kept.{Kept}
 use Rattle.volume.specs.Leaving.{is_quiet_of}
 use Rattle.volume.specs.Moved.{held_of}
-use Rattle.resting.specs.Flying.{IsWhole, flying_of, without_store}
-use Rattle.resting.specs.Rested.{Attached, Rested, attached_of}
-use Rattle.resting.specs.Using.{IsInUse}
-use Rattle.named.specs.declared.place.Role.TheVariants.{Origin, Merging, Snapshot}
-use Rattle.named.specs.Stacks.{device_of}
-use Rattle.named.specs.State.{Volume}
-use Rattle.named.specs.Messages.{snap_at}
-use Rattle.named.specs.Status.{status_in}
+use Rattle.volume_commands.specs.Flying.{IsWhole, flying_of, without_store}
+use Rattle.volume_commands.specs.Rested.{Attached, Rested, attached_of}
+use Rattle.volume_commands.specs.Using.{IsInUse}
+use Rattle.command_rules.specs.declared.place.Role.TheVariants.{Origin, Merging, Snapshot}
+use Rattle.command_rules.specs.Stacks.{device_of}
+use Rattle.command_rules.specs.State.{Volume}
+use Rattle.command_rules.specs.Messages.{snap_at}
+use Rattle.command_rules.specs.Status.{status_in}
 use Rattle.named_stack.proofs.StackSizes.{size_of as size_of_stack}
 use Rattle.named_volume.specs.Held.{flying_in, settled_in}
 use Rattle.named_volume.specs.Status.{held_at, kept_held, state_kept, status_flying}

@@ -4,11 +4,11 @@ use Rattle.std.specs.Prelude.{◌&&◌, nat_lt, is_some, if◌then◌else◌}
 use Rattle.std.specs.List.{list_all}
 use Rattle.std.proofs.lemmas.Bool.{cases_Bool, cond-true, cond-false, lt-ltb, le-ltb}
 use Rattle.std.proofs.lemmas.List.{at_drop_more, length-map}
-use Rattle.resting.specs.Flying.{IsWhole}
+use Rattle.volume_commands.specs.Flying.{IsWhole}
 use Rattle.named_volume.proofs.Places.{here}
 use Rattle.layers.specs.declared.stack.Stack.{Stack}
 use Rattle.settled.specs.Snaps.{Snap, Volume as Settled}
-use Rattle.resting.specs.Rested.{Attached, Rested, attached_of, snap_of, is_loud_in}
+use Rattle.volume_commands.specs.Rested.{Attached, Rested, attached_of, snap_of, is_loud_in}
 use Rattle.layers.specs.Stack.{stack_contents, stack_layers}
 use Rattle.event_machine.specs.MergeSeen.{merge_held_of}
 use Rattle.snapshot.specs.Kept.{Kept}
@@ -17,13 +17,13 @@ use Rattle.volume.specs.Asking.{merging_number}
 use Rattle.device.specs.Layers.{is_loud}
 use Rattle.volume.specs.Volumed.{is_loud_with}
 use Rattle.volume.proofs.Shown.{and_left, and_right}
-use Rattle.named.specs.Sound.{is_sound_stack}
-use Rattle.named.specs.Stacks.{device_of}
-use Rattle.named.specs.Stopping.{freed, store_freed, merging_freed, snap_stores, stores_among, stores_left, stopped}
+use Rattle.command_rules.specs.Sound.{is_sound_stack}
+use Rattle.command_rules.specs.Stacks.{device_of}
+use Rattle.command_rules.specs.Stopping.{freed, store_freed, merging_freed, snap_stores, stores_among, stores_left, stopped}
 use Rattle.volume.specs.Stopped.{stores_by, devices_of}
 use Rattle.named_volume.specs.Held.{merging_with, with_names, settled_in}
 use Rattle.named_volume.proofs.Merges.{merge_by, begun_too}
-use Rattle.named.specs.State.{Stacked, Names, Merging as Begun, Volume}
+use Rattle.command_rules.specs.State.{Stacked, Names, Merging as Begun, Volume}
 use Rattle.named_volume.specs.Stopping.{earlier, earlier_than, freed_by, names_among, names_with, store_names}
 
 -- the names of the merge come first where it stands after none, or no other is left

@@ -9,14 +9,14 @@ use Rattle.layers.specs.declared.message.Answer.{Answer}
 use Rattle.layers.specs.Messages.{Answered, Refused, told}
 use Rattle.settled.specs.Merges.{Merge, Merged}
 use Rattle.settled.specs.Snaps.{Volume as Settled}
-use Rattle.resting.specs.Rested.{Attached, Rested}
-use Rattle.resting.specs.Telling.{IsMergingTold, IsMergingUntold, IsOriginTold, IsStoreTold, IsTellRefused, place_relayered}
-use Rattle.named.specs.declared.place.Role.{Role}
-use Rattle.named.specs.State.{Volume, merged_in, with_merged}
-use Rattle.named.specs.Changes.{Steps}
-use Rattle.named.specs.Messages.{told_in, told_under, told_snap, told_store, told_role, told_mounted, told_beside, told_merge, told_merging}
+use Rattle.volume_commands.specs.Rested.{Attached, Rested}
+use Rattle.volume_commands.specs.Telling.{IsMergingTold, IsMergingUntold, IsOriginTold, IsStoreTold, IsTellRefused, place_relayered}
+use Rattle.command_rules.specs.declared.place.Role.{Role}
+use Rattle.command_rules.specs.State.{Volume, merged_in, with_merged}
+use Rattle.command_rules.specs.Changes.{Steps}
+use Rattle.command_rules.specs.Messages.{told_in, told_under, told_snap, told_store, told_role, told_mounted, told_beside, told_merge, told_merging}
 use Rattle.named_volume.specs.Held.{merged_inside, settled_in}
-use Rattle.named.proofs.Begun.{merged_same}
+use Rattle.command_rules.proofs.Begun.{merged_same}
 use Rattle.named_volume.proofs.Merges.{machine_merge, merge_by}
 use Rattle.named_volume.proofs.Places.{at_place}
 

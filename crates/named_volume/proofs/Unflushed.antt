@@ -20,9 +20,9 @@ use Rattle.event_machine.specs.MergeRest.{merge_in}
 use Rattle.event_machine.specs.MergeSeen.{held_in}
 use Rattle.merge.specs.Merging.{Merging as MergingStack}
 use Rattle.volume.specs.Moved.{merge_seen}
-use Rattle.served.specs.Beside.{Served as Done, served_by, flushed_beside}
-use Rattle.resting.specs.Rested.{Attached, Rested, snap_of, settled_of, merged_of, IsSettled}
-use Rattle.resting.specs.Commands.{IsDoneBy}
+use Rattle.settled.specs.Beside.{Served as Done, served_by, flushed_beside}
+use Rattle.volume_commands.specs.Rested.{Attached, Rested, snap_of, settled_of, merged_of, IsSettled}
+use Rattle.volume_commands.specs.Commands.{IsDoneBy}
 
 -- no flush changes the device's layers
 abbrev IsStill : Device → Type 0

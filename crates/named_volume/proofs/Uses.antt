@@ -12,17 +12,17 @@ use Rattle.status.specs.declared.State.TheVariants.{Invalid, Failed, Overflow, U
 use Rattle.status.specs.Lines.{merge_text, origin_text, snapshot_text}
 use Rattle.settled.specs.Devices.{sectors_of as size_of}
 use Rattle.settled.specs.Snaps.{Snap}
-use Rattle.resting.specs.Rested.{Attached, Rested}
-use Rattle.resting.specs.Using.{IsUsed}
+use Rattle.volume_commands.specs.Rested.{Attached, Rested}
+use Rattle.volume_commands.specs.Using.{IsUsed}
 use Rattle.settled.specs.Merges.{Merge}
 use Rattle.merge.specs.Merging.{Merging}
 use Rattle.volume.specs.Asking.{merging_usage}
 use Rattle.volume.specs.Stepping.{has_failed}
-use Rattle.named.specs.declared.place.Role.TheVariants.{Origin, Snapshot, Merging as Merging'}
-use Rattle.named.specs.Stacks.{device_of}
-use Rattle.named.specs.State.{Volume, Merging as Named}
-use Rattle.named.specs.Messages.{snap_at}
-use Rattle.named.specs.Status.{merge_state, state_of, state_at, status_in}
+use Rattle.command_rules.specs.declared.place.Role.TheVariants.{Origin, Snapshot, Merging as Merging'}
+use Rattle.command_rules.specs.Stacks.{device_of}
+use Rattle.command_rules.specs.State.{Volume, Merging as Named}
+use Rattle.command_rules.specs.Messages.{snap_at}
+use Rattle.command_rules.specs.Status.{merge_state, state_of, state_at, status_in}
 use Rattle.named_stack.proofs.StackSizes.{size_of as size_of_stack}
 use Rattle.named_volume.specs.Held.{merged_inside, settled_in}
 use Rattle.named_volume.proofs.Merges.{machine_merge, merge_by}

@@ -11,7 +11,7 @@ use Rattle.plain.specs.declared.request.Request.{Request}
 use Rattle.plain.specs.declared.request.Failure.{Failure}
 use Rattle.plain.specs.Failures.{refusal_of}
 use Rattle.plain.specs.Legal.{IsLegalStep}
-use Rattle.served.specs.Refusals.{IsStarved, is_starved}
+use Rattle.settled.specs.Refusals.{IsStarved, is_starved}
 use Rattle.volume.specs.Volumed.{Volumed, is_due_of, is_loud_in_all, piece_with, plain_of}
 use Rattle.volume.specs.Causes.{HasCause, IsOneAtMost}
 use Rattle.volume.specs.Exact.{IsExact}
@@ -19,11 +19,11 @@ use Rattle.volume.specs.Leaving.{is_quiet_of}
 use Rattle.volume.specs.Finishing.{finish_refusal}
 use Rattle.volume.specs.Submitting.{IsAcceptedAs, IsRefusedAs}
 use Rattle.plain.specs.declared.request.Replied.{Replied}
-use Rattle.resting.specs.Rested.{rested_of}
-use Rattle.resting.specs.Among.{IsRequestOf, AreReadAmong, AreWrittenAmong, IsFlushedAmong, IsFlushRefusedAmong, IsReadRefusedAmong, IsWriteRefusedAmong}
-use Rattle.resting.specs.Draining.{IsDrained}
-use Rattle.named.specs.State.{Volume, merge_in}
-use Rattle.named.specs.Sectors.{Asked}
+use Rattle.volume_commands.specs.Rested.{rested_of}
+use Rattle.volume_commands.specs.Among.{IsRequestOf, AreReadAmong, AreWrittenAmong, IsFlushedAmong, IsFlushRefusedAmong, IsReadRefusedAmong, IsWriteRefusedAmong}
+use Rattle.volume_commands.specs.Draining.{IsDrained}
+use Rattle.command_rules.specs.State.{Volume, merge_in}
+use Rattle.command_rules.specs.Sectors.{Asked}
 use Rattle.named_volume.specs.Held.{flying_in, merged_inside, settled_in}
 
 -- A volume of events that stands behind a volume with names: the same devices, and the same in flight.

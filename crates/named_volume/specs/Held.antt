@@ -6,10 +6,10 @@ use Rattle.event_machine.specs.Held.{Moving}
 use Rattle.settled.specs.Snaps.{Volume as Settled}
 use Rattle.volume.specs.Volumed.{Volumed}
 use Rattle.volume.specs.Leaving.{is_quiet_of}
-use Rattle.resting.specs.Flying.{flying_of}
-use Rattle.resting.specs.Rested.{Rested, settled_of, merged_of, is_loud_in, IsSettled}
+use Rattle.volume_commands.specs.Flying.{flying_of}
+use Rattle.volume_commands.specs.Rested.{Rested, settled_of, merged_of, is_loud_in, IsSettled}
 use Rattle.settled.specs.Merges.{Merge, Merged}
-use Rattle.named.specs.State.{Names, Merging}
+use Rattle.command_rules.specs.State.{Names, Merging}
 
 -- the settled machine's volume of a volume over stacks
 abbrev pub settled_in : Rested Stack → Settled

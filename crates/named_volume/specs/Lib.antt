@@ -5,3 +5,4 @@ pub mod Stopping
 pub mod Parting
 pub mod Status
 pub mod Taking
+pub mod Tables

@@ -5,9 +5,9 @@ use Rattle.layers.specs.declared.stack.Stack.{Stack}
 use Rattle.layers.specs.Stack.{stack_layers}
 use Rattle.volume.specs.Asking.{merging_number}
 use Rattle.volume.specs.Leaving.{is_quiet_of}
-use Rattle.resting.specs.Rested.{Rested, is_loud_in}
-use Rattle.named.specs.Naming.{merging_sum, names_sum}
-use Rattle.named.specs.State.{Names, Volume}
+use Rattle.volume_commands.specs.Rested.{Rested, is_loud_in}
+use Rattle.command_rules.specs.Naming.{merging_sum, names_sum}
+use Rattle.command_rules.specs.State.{Names, Volume}
 use Rattle.named_volume.specs.Held.{flying_in, merging_with, settled_in}
 use Rattle.named_volume.specs.Stopping.{earlier_than}
 

@@ -15,14 +15,14 @@ use Rattle.event_machine.specs.Held.{Held, Moving}
 use Rattle.snapshot.specs.Kept.{Kept}
 use Rattle.volume.specs.Moved.{held_of}
 use Rattle.volume.specs.Volumed.{Volumed}
-use Rattle.resting.specs.Flying.{flying_of, without_store}
-use Rattle.resting.specs.Rested.{Rested}
-use Rattle.named.specs.declared.place.Role.{Role}
-use Rattle.named.specs.declared.place.Role.TheVariants.{Origin, Under, Snapshot, Store, Merging, MergingStore}
-use Rattle.named.specs.Stacks.{device_of}
-use Rattle.named.specs.State.{Volume}
-use Rattle.named.specs.Messages.{snap_at}
-use Rattle.named.specs.Status.{status_in}
+use Rattle.volume_commands.specs.Flying.{flying_of, without_store}
+use Rattle.volume_commands.specs.Rested.{Rested}
+use Rattle.command_rules.specs.declared.place.Role.{Role}
+use Rattle.command_rules.specs.declared.place.Role.TheVariants.{Origin, Under, Snapshot, Store, Merging, MergingStore}
+use Rattle.command_rules.specs.Stacks.{device_of}
+use Rattle.command_rules.specs.State.{Volume}
+use Rattle.command_rules.specs.Messages.{snap_at}
+use Rattle.command_rules.specs.Status.{status_in}
 use Rattle.named_volume.specs.Flights.{IsBehind}
 
 -- What is used of a store: all up to the next place, and the header and the areas, which hold no copies.

@@ -1,10 +1,10 @@
 -- A volume that was stopped, as far as its stacks are not taken yet. This project's own.
 use Rattle.std.specs.Prelude.{ℕ, zero, suc, nat_lt, List, [], ◌∷◌, map, Option, Some, None, if◌then◌else◌}
 use Rattle.layers.specs.declared.stack.Stack.{Stack}
-use Rattle.resting.specs.Rested.{Attached}
-use Rattle.named.specs.Stacks.{device_of}
-use Rattle.named.specs.State.{Stacked, Names}
-use Rattle.named.specs.Stopping.{freed}
+use Rattle.volume_commands.specs.Rested.{Attached}
+use Rattle.command_rules.specs.Stacks.{device_of}
+use Rattle.command_rules.specs.State.{Stacked, Names}
+use Rattle.command_rules.specs.Stopping.{freed}
 
 abbrev pub store_names : Names → List (List ℕ)
 store_names names = names.store

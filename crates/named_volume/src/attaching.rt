@@ -2,8 +2,8 @@
 ghost use Rattle.std.specs.Prelude.{◌≡◌, ◌≢◌, ◌⊎◌, ◌&&◌, ◌<◌, true, false, length, Some, None, is_some, Ok, Err, IfOk, IfErr, OnOk, OnErr, if◌then◌else◌};
 ghost use Rattle.sector.specs.declared.refusal.Refusal.TheVariants.{JournalFull, Stale, MergeInProgress, NotQuiet};
 ghost use Rattle.device.specs.Layers.{is_loud};
-ghost use Rattle.served.specs.Refusals.{is_starved};
-ghost use Rattle.named.specs.Snapshots.{meet, parted};
+ghost use Rattle.settled.specs.Refusals.{is_starved};
+ghost use Rattle.command_rules.specs.Snapshots.{meet, parted};
 ghost use Rattle.named_volume.specs.Names.{IsNamedMore};
 ghost use Rattle.named_volume.specs.Taking.{IsNotMet};
 

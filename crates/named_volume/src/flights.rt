@@ -4,21 +4,21 @@ ghost use Rattle.sector.specs.declared.refusal.Refusal.TheVariants.{NoMemory, In
 ghost use Rattle.plain.specs.declared.request.Op.TheVariants.{Write};
 ghost use Rattle.settled.specs.Snaps.{Snap};
 ghost use Rattle.volume.specs.EventKinds.{is_of_merge};
-ghost use Rattle.named.specs.Events.{merge_done};
-ghost use Rattle.named.specs.Places.{IsRoleIn};
-ghost use Rattle.named.specs.Sectors.{asked_of};
+ghost use Rattle.command_rules.specs.Events.{merge_done};
+ghost use Rattle.command_rules.specs.Places.{IsRoleIn};
+ghost use Rattle.command_rules.specs.Sectors.{asked_of};
 ghost use Rattle.named_volume.specs.Flights.{IsNotDue, IsNotStarted, IsSettledBy, IsStarted, IsStepped};
 ghost use Rattle.named_volume.specs.Names.{KeepsNames};
 
 use crate::origin::NamedVolume;
 use crate::sectors::ask;
 use crate::stored::{look, number_at};
-use named::Role;
+use command_rules::Role;
 use plain::{Event, NotDue, Op, Outcome, ReqId, Request, SnapId};
-use resting::Replied;
 use sector::Refusal;
 use std::alloc::Global;
 use volume::is_of_merge;
+use volume_commands::Replied;
 
 impl NamedVolume {
     /// Whether nothing is in flight or left to do.

@@ -1,13 +1,17 @@
-//! A volume with the names of its devices: an origin, the stack under it, and its snapshots with the stacks of their stores.
+//! A volume with the names of its devices: an origin, the stack under it, and its snapshots with the stacks of their stores; and
+//! all devices by their names: the stacks that nothing uses, and the volumes with those that they use (`Held`).
 //!
-//! It stands on `named` for definitions, on `named_stack` for stacks that nothing uses, and on `resting` for what a volume
-//! does. It promises that each call answers and leaves exactly what its definition says, where no device drops writes, with
-//! the first refusal in the stated order.
+//! It stands on `command_rules` for definitions, on `named_stack` for stacks that nothing uses, and on `volume_commands` for
+//! what a volume does. It promises that each call answers and leaves exactly what its definition says, where no device drops
+//! writes, with the first refusal in the stated order; where a name stands among all devices; and whether there are as many
+//! devices as there may be.
 #![tactic(auto)]
 
 mod attaching;
 mod checkpointing;
+mod finding;
 mod flights;
+mod held;
 mod merging;
 mod names;
 mod order;
@@ -20,6 +24,8 @@ mod stopping;
 mod stored;
 mod telling;
 
+pub use finding::{find, find_device, is_full};
+pub use held::{Held, MOST_DEVICES};
 pub use origin::NamedVolume;
 pub use parting::NamedParts;
 pub use stopping::StoppedVolume;

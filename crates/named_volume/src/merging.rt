@@ -2,9 +2,9 @@
 ghost use Rattle.std.specs.Prelude.{◌≡◌, ◌≢◌, ◌<◌, length, true, false, Ok, Err, IfErr, IfOk, OnErr, OnOk};
 ghost use Rattle.sector.specs.declared.refusal.Refusal.TheVariants.{JournalFull};
 ghost use Rattle.device.specs.Layers.{is_loud};
-ghost use Rattle.served.specs.Refusals.{is_starved};
-ghost use Rattle.named.specs.Changes.{Changes, Enters};
-ghost use Rattle.named.specs.Merging.{begun, finished, resumed};
+ghost use Rattle.settled.specs.Refusals.{is_starved};
+ghost use Rattle.command_rules.specs.Changes.{Changes, Enters};
+ghost use Rattle.command_rules.specs.Merging.{begun, finished, resumed};
 ghost use Rattle.named_volume.specs.Flights.{IsUnfinished};
 ghost use Rattle.named_volume.specs.Names.{IsNamedBegun, IsNamedLess};
 

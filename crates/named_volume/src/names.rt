@@ -3,10 +3,10 @@ ghost use Rattle.std.specs.Prelude.{◌≡◌, ◌<◌, length, slice_get, Match
 ghost use Rattle.std.specs.Option.{option_copied};
 ghost use Rattle.std.specs.Str.{bytes_eq};
 ghost use Rattle.device.specs.Disk.{disk_contents};
-ghost use Rattle.named.specs.Places.{depth_in};
-ghost use Rattle.named.specs.Lines.{line_in};
-ghost use Rattle.named.specs.Raw.{raw_in};
-ghost use Rattle.named.specs.Stacks.{device_of};
+ghost use Rattle.command_rules.specs.Places.{depth_in};
+ghost use Rattle.command_rules.specs.Lines.{line_in};
+ghost use Rattle.command_rules.specs.Raw.{raw_in};
+ghost use Rattle.command_rules.specs.Stacks.{device_of};
 
 use device::MemDisk;
 use layers::Stack;
@@ -25,7 +25,7 @@ pub struct SnapNames {
 }
 
 impl Model for SnapNames {
-    ghost use Rattle.named.specs.State.{Names};
+    ghost use Rattle.command_rules.specs.State.{Names};
 
     ghost Value = { Names };
 

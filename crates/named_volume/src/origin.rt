@@ -4,18 +4,18 @@ ghost use Rattle.std.specs.Str.{bytes_eq};
 ghost use Rattle.sector.specs.declared.refusal.Refusal.TheVariants.{NoMemory, Busy, NotQuiet};
 ghost use Rattle.device.specs.Layers.{is_loud};
 ghost use Rattle.settled.specs.Devices.{sectors_of as size_of};
-ghost use Rattle.named.specs.Places.{role_of, role_among, role_merging, store_among, is_among, IsRoleAmong, IsRoleMerging, IsRoleIn};
-ghost use Rattle.named.specs.Disks.{devices_in, devices_merging, devices_under};
-ghost use Rattle.named.specs.Origins.{origin_on, stack_under};
+ghost use Rattle.command_rules.specs.Places.{role_of, role_among, role_merging, store_among, is_among, IsRoleAmong, IsRoleMerging, IsRoleIn};
+ghost use Rattle.command_rules.specs.Disks.{devices_in, devices_merging, devices_under};
+ghost use Rattle.command_rules.specs.Origins.{origin_on, stack_under};
 
 use crate::names::SnapNames;
+use command_rules::Role;
 use layers::Stack;
-use named::Role;
 use named_stack::{NamedStack, depth_in, sectors_of};
-use resting::Resting;
 use sector::Refusal;
 use std::alloc::Global;
 use std::marker::Model;
+use volume_commands::Resting;
 use words::Name;
 
 /// An origin with its snapshots, and the names of all their devices.
@@ -33,7 +33,7 @@ pub struct NamedVolume {
 
 impl Model for NamedVolume {
     ghost use Rattle.volume.specs.Leaving.{is_quiet_of};
-    ghost use Rattle.named.specs.State.{Volume};
+    ghost use Rattle.command_rules.specs.State.{Volume};
     ghost use Rattle.named_volume.specs.Held.{flying_in, merging_with, settled_in, IsHeld};
 
     ghost Value = { Volume };
@@ -58,7 +58,7 @@ fn store_of(snaps: &[SnapNames], name: &Name) -> Option<usize>
 }
 
 /// What a name is among the stores.
-#[tactic(auto, unfolding(named::specs::Places::store_among))]
+#[tactic(auto, unfolding(command_rules::specs::Places::store_among))]
 fn store_among(snaps: &[SnapNames], name: &Name) -> Option<Role>
     ensures role { result ≡ store_among name.now snaps.now }
     ensures within { IfSome result (λ role. IsRoleAmong role snaps.now) }
@@ -73,7 +73,7 @@ fn store_among(snaps: &[SnapNames], name: &Name) -> Option<Role>
 }
 
 /// What a name is among the snapshots and their stores.
-#[tactic(auto, unfolding(named::specs::Places::role_among))]
+#[tactic(auto, unfolding(command_rules::specs::Places::role_among))]
 fn role_among(snaps: &[SnapNames], name: &Name) -> Option<Role>
     ensures role { result ≡ role_among name.now snaps.now }
     ensures within { IfSome result (λ role. IsRoleAmong role snaps.now) }
@@ -85,7 +85,7 @@ fn role_among(snaps: &[SnapNames], name: &Name) -> Option<Role>
 }
 
 /// What a name is of the snapshot that is being merged and its store.
-#[tactic(auto, unfolding(named::specs::Places::role_merging))]
+#[tactic(auto, unfolding(command_rules::specs::Places::role_merging))]
 fn role_merging(merging: &Option<SnapNames>, name: &Name) -> Option<Role>
     ensures role { result ≡ role_merging name.now merging.now }
     ensures within { IfSome result (λ role. IsRoleMerging role merging.now) }
@@ -203,7 +203,7 @@ impl NamedVolume {
     }
 
     /// What a name is in the volume.
-    #[tactic(auto, unfolding(named::specs::Places::role_of))]
+    #[tactic(auto, unfolding(command_rules::specs::Places::role_of))]
     pub fn role(&self, name: &Name) -> Option<Role>
         ensures role { result ≡ role_of name.now self.now }
         ensures within { IfSome result (λ role. IsRoleIn role self.now) }

@@ -2,8 +2,8 @@
 ghost use Rattle.std.specs.Prelude.{◌≡◌, ◌+◌, ◌⊎◌, ℕ, List, sum_by, true, None, Some, is_some, slice_get, length, suc};
 ghost use Rattle.std.specs.List.{remove};
 ghost use Rattle.layers.specs.Stack.{stack_layers};
-ghost use Rattle.resting.specs.Rested.{is_loud_in};
-ghost use Rattle.named.specs.Naming.{merging_sum, names_sum, volume_sum};
+ghost use Rattle.volume_commands.specs.Rested.{is_loud_in};
+ghost use Rattle.command_rules.specs.Naming.{merging_sum, names_sum, volume_sum};
 ghost use Rattle.volume.specs.Leaving.{is_quiet_of};
 ghost use Rattle.named_volume.specs.Parting.{HasAll, HasBegun, IsParted, named_with, parts_sum, place_begun, with_begun, with_requests};
 
@@ -11,8 +11,8 @@ use crate::names::SnapNames;
 use crate::origin::NamedVolume;
 use crate::stopping::earlier;
 use layers::Stack;
-use resting::Resting;
 use std::marker::Model;
+use volume_commands::Resting;
 use words::Name;
 
 /// The names of a volume's devices without the volume itself, the mark of the disk under its origin, the sectors that it was
@@ -29,7 +29,7 @@ pub struct NamedParts {
 }
 
 impl Model for NamedParts {
-    ghost use Rattle.named.specs.Naming.{merging_sum, names_sum, volume_sum};
+    ghost use Rattle.command_rules.specs.Naming.{merging_sum, names_sum, volume_sum};
     ghost use Rattle.volume.specs.Leaving.{is_quiet_of};
     ghost use Rattle.named_volume.specs.Parting.{Parts};
 

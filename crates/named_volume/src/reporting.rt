@@ -3,12 +3,12 @@ ghost use Rattle.std.specs.Prelude.{◌≡◌, ◌<◌, true, is_some, length, S
 ghost use Rattle.device.specs.Disk.{disk_contents};
 ghost use Rattle.words.specs.Given.{Gives};
 ghost use Rattle.event_machine.specs.Held.{Moving};
-ghost use Rattle.named.specs.Places.{IsRoleIn, IsRoleMerging};
-ghost use Rattle.named.specs.declared.place.Role.TheVariants.{MergingStore};
-ghost use Rattle.named.specs.State.{Merging as Begun, names_in};
-ghost use Rattle.named.specs.Lines.{line_in_merging, line_of_role, merging_line as merging_line_of, origin_line as origin_line_of, snapshot_line as snapshot_line_of};
-ghost use Rattle.named.specs.Raw.{raw_in_merging, raw_under};
-ghost use Rattle.named.specs.Status.{status_in};
+ghost use Rattle.command_rules.specs.Places.{IsRoleIn, IsRoleMerging};
+ghost use Rattle.command_rules.specs.declared.place.Role.TheVariants.{MergingStore};
+ghost use Rattle.command_rules.specs.State.{Merging as Begun, names_in};
+ghost use Rattle.command_rules.specs.Lines.{line_in_merging, line_of_role, merging_line as merging_line_of, origin_line as origin_line_of, snapshot_line as snapshot_line_of};
+ghost use Rattle.command_rules.specs.Raw.{raw_in_merging, raw_under};
+ghost use Rattle.command_rules.specs.Status.{status_in};
 ghost use Rattle.named_volume.specs.Status.{IsStatusOf, status_flying};
 
 use crate::names::SnapNames;
@@ -16,8 +16,8 @@ use crate::origin::NamedVolume;
 use crate::stored::{
     chunk_at, look, merging_chunk, merging_state, merging_store, state_at, store_at,
 };
+use command_rules::Role;
 use device::MemDisk;
-use named::Role;
 use named_stack::{disk_in, line_in, sectors_of};
 use sector::Refusal;
 use status::{State, merge_line, origin_line, snapshot_line};
@@ -27,7 +27,7 @@ use words::Text;
 
 impl NamedVolume {
     /// The disk of this role. `BadTable` for another device.
-    #[tactic(auto, unfolding(named::specs::Raw::raw_in_store))]
+    #[tactic(auto, unfolding(command_rules::specs::Raw::raw_in_store))]
     pub fn disk(&self, role: Role) -> Result<&MemDisk, Refusal>
         requires { IsRoleIn role self.now }
         ensures { MatchResult result (λ disk. raw_under role self.now ≡ Ok (disk_contents disk.now)) (λ e. raw_under role self.now ≡ Err e) }
@@ -41,7 +41,7 @@ impl NamedVolume {
     }
 
     /// The disk so deep in the store of the snapshot that is being merged. `BadTable` for another device.
-    #[tactic(auto, unfolding(named::specs::Raw::raw_in_merging))]
+    #[tactic(auto, unfolding(command_rules::specs::Raw::raw_in_merging))]
     fn disk_of_merging(&self, depth: usize) -> Result<&MemDisk, Refusal>
         requires { IsRoleMerging (MergingStore depth) (names_in self.now.merging) }
         ensures { MatchResult result (λ disk. raw_in_merging depth self.now ≡ Ok (disk_contents disk.now)) (λ e. raw_in_merging depth self.now ≡ Err e) }
@@ -56,7 +56,7 @@ impl NamedVolume {
     }
 
     /// The line of the device so deep in that store. `BadTable` for a disk.
-    #[tactic(auto, unfolding(named::specs::Lines::line_in_merging))]
+    #[tactic(auto, unfolding(command_rules::specs::Lines::line_in_merging))]
     fn line_in_merging(&self, depth: usize) -> Result<Line, Refusal>
         requires { IsRoleMerging (MergingStore depth) (names_in self.now.merging) }
         ensures { result ≡ line_in_merging depth self.now }
@@ -71,7 +71,7 @@ impl NamedVolume {
     }
 
     /// The line of the snapshot that is being merged: that of any other.
-    #[tactic(auto, unfolding(named::specs::Lines::merging_line))]
+    #[tactic(auto, unfolding(command_rules::specs::Lines::merging_line))]
     fn line_of_merging(&self) -> Result<Line, Refusal>
         requires { is_some self.now.merging ≡ true }
         ensures { result ≡ merging_line_of self.now }
@@ -98,7 +98,7 @@ impl NamedVolume {
     }
 
     /// The origin's line where no merge is begun.
-    #[tactic(auto, unfolding(named::specs::Lines::origin_line, named::specs::Lines::origin_target))]
+    #[tactic(auto, unfolding(command_rules::specs::Lines::origin_line, command_rules::specs::Lines::origin_target))]
     fn line_of_plain_origin(&self) -> Result<Line, Refusal>
         requires { self.now.merging ≡ None }
         ensures { result ≡ origin_line_of self.now }
@@ -115,7 +115,7 @@ impl NamedVolume {
     }
 
     /// The origin's line while a merge is begun.
-    #[tactic(auto, unfolding(named::specs::Lines::origin_line, named::specs::Lines::origin_target))]
+    #[tactic(auto, unfolding(command_rules::specs::Lines::origin_line, command_rules::specs::Lines::origin_target))]
     fn line_of_merged_origin(&self, names: &SnapNames) -> Result<Line, Refusal>
         requires { (g : Begun) × (self.now.merging ≡ Some g) × (g.names ≡ names.now) }
         ensures { result ≡ origin_line_of self.now }
@@ -148,7 +148,7 @@ impl NamedVolume {
     }
 
     /// The line of a snapshot.
-    #[tactic(auto, unfolding(named::specs::Lines::snapshot_line))]
+    #[tactic(auto, unfolding(command_rules::specs::Lines::snapshot_line))]
     fn line_of_snapshot(&self, k: usize) -> Result<Line, Refusal>
         requires { k < length self.now.snaps }
         ensures { result ≡ snapshot_line_of k self.now }
@@ -168,7 +168,7 @@ impl NamedVolume {
     }
 
     /// The line of the device of this role. `BadTable` for a disk.
-    #[tactic(auto, unfolding(named::specs::Lines::line_in_store))]
+    #[tactic(auto, unfolding(command_rules::specs::Lines::line_in_store))]
     pub fn line(&self, role: Role) -> Result<Line, Refusal>
         requires { IsRoleIn role self.now }
         ensures { result ≡ line_of_role role self.now }
@@ -185,7 +185,7 @@ impl NamedVolume {
 
     /// The status line of a device of this role. Where something is in flight, that of a snapshot is by what is in memory of
     /// it. In this order: `BadTable` for disks and layers, `NoMemory` where the allocator refuses room.
-    #[tactic(auto, unfolding(named::specs::Status::status_in, crate::specs::Status::status_flying))]
+    #[tactic(auto, unfolding(command_rules::specs::Status::status_in, crate::specs::Status::status_flying))]
     pub fn status(&self, alloc: Global, role: Role) -> Result<Text, Refusal>
         requires { IsRoleIn role self.now }
         ensures done { self.now.sound ≡ true → self.now.quiet ≡ true → Gives result (status_in role self.now) }

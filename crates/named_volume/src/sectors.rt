@@ -3,23 +3,23 @@ ghost use Rattle.std.specs.Prelude.{◌≡◌, ◌≢◌, ◌⊎◌, ◌+◌, �
 ghost use Rattle.sector.specs.declared.refusal.Refusal.TheVariants.{NoMemory, BadTable, TooMany};
 ghost use Rattle.chunk.specs.Pieces.{span_of};
 ghost use Rattle.layers.specs.Stack.{stack_size};
-ghost use Rattle.resting.specs.Rested.{has_dev};
-ghost use Rattle.named.specs.State.{Volume};
-ghost use Rattle.named.specs.Changes.{Serves};
-ghost use Rattle.named.specs.Places.{HasRole, IsRoleIn};
-ghost use Rattle.named.specs.Sectors.{asked_of, dev_of, serves, takes, flushed_in, read_in, written_in, IsReadAsked, IsPartWritten};
+ghost use Rattle.volume_commands.specs.Rested.{has_dev};
+ghost use Rattle.command_rules.specs.State.{Volume};
+ghost use Rattle.command_rules.specs.Changes.{Serves};
+ghost use Rattle.command_rules.specs.Places.{HasRole, IsRoleIn};
+ghost use Rattle.command_rules.specs.Sectors.{asked_of, dev_of, serves, takes, flushed_in, read_in, written_in, IsReadAsked, IsPartWritten};
 ghost use Rattle.named_volume.specs.Flights.{IsDenied, IsFlushServed, IsReadServed, IsWriteServed};
 ghost use Rattle.named_volume.specs.Held.{settled_in};
 ghost use Rattle.named_volume.specs.Names.{KeepsNames};
 
 use crate::origin::NamedVolume;
+use command_rules::Role;
 use layers::Stack;
-use named::Role;
 use named_stack::{range_in, sectors_of};
 use plain::Dev;
-use resting::{Replied, Resting};
 use sector::{Buf, Range, Refusal};
 use std::alloc::Global;
+use volume_commands::{Replied, Resting};
 
 /// One more than the most sectors that a volume is asked for in all.
 const ASKED_END: u64 = 1_152_921_504_606_846_976;
@@ -37,7 +37,7 @@ fn serves(role: Role) -> Result<(), Refusal>
 
 /// What a request to this role is sent to. `BadTable` for disks and layers, `MergingSnapshot` for the one that is being
 /// merged.
-#[tactic(auto, unfolding(named::specs::Sectors::dev_of))]
+#[tactic(auto, unfolding(command_rules::specs::Sectors::dev_of))]
 fn dev_of(volume: &Resting<Stack>, role: Role) -> Result<Dev, Refusal>
     requires { HasRole role (length volume.now.snaps) (is_some volume.now.events.merge) }
     ensures value { result ≡ dev_of role (settled_in volume.now) }

@@ -1,8 +1,8 @@
 // A volume is stopped, and its stacks are given back one by one.
 ghost use Rattle.std.specs.Prelude.{◌≡◌, [], ◌∷◌, length, true, IfNone, IfSome};
 ghost use Rattle.std.specs.List.{list_all};
-ghost use Rattle.named.specs.Sound.{is_sound_stack};
-ghost use Rattle.named.specs.Stopping.{stopped};
+ghost use Rattle.command_rules.specs.Sound.{is_sound_stack};
+ghost use Rattle.command_rules.specs.Stopping.{stopped};
 ghost use Rattle.named_volume.specs.Stopping.{earlier_than};
 ghost use Rattle.volume.specs.Asking.{merging_number};
 
@@ -10,9 +10,9 @@ use crate::origin::NamedVolume;
 use crate::stack_names::StackNames;
 use layers::Stack;
 use named_stack::NamedStack;
-use resting::Resting;
 use std::marker::Model;
 use volume::Stopped;
+use volume_commands::Resting;
 
 /// The stacks of a volume that was stopped, which are left to take: the one under the origin, then those of the stores in
 /// order of attaching, that of a snapshot that was being merged among them.
@@ -24,7 +24,7 @@ pub struct StoppedVolume {
 
 impl Model for StoppedVolume {
     ghost use Rattle.std.specs.Prelude.{◌≡◌, List, length};
-    ghost use Rattle.named.specs.State.{Stacked};
+    ghost use Rattle.command_rules.specs.State.{Stacked};
     ghost use Rattle.named_volume.specs.Stopping.{freed_by};
 
     ghost Value = { List Stacked };

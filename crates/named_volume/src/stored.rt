@@ -5,10 +5,10 @@ ghost use Rattle.settled.specs.Merges.{Merge};
 ghost use Rattle.settled.specs.Snaps.{Snap};
 ghost use Rattle.status.specs.declared.State.TheVariants.{Used};
 ghost use Rattle.volume.specs.Leaving.{is_quiet_of};
-ghost use Rattle.resting.specs.Flying.{IsWhole};
-ghost use Rattle.resting.specs.Rested.{is_loud_in};
-ghost use Rattle.named.specs.Stacks.{device_of};
-ghost use Rattle.named.specs.Status.{merge_state, state_of};
+ghost use Rattle.volume_commands.specs.Flying.{IsWhole};
+ghost use Rattle.volume_commands.specs.Rested.{is_loud_in};
+ghost use Rattle.command_rules.specs.Stacks.{device_of};
+ghost use Rattle.command_rules.specs.Status.{merge_state, state_of};
 ghost use Rattle.named_volume.specs.Held.{merged_inside, settled_in, IsSettledIn};
 ghost use Rattle.named_volume.specs.Status.{IsStateAt};
 
@@ -16,8 +16,8 @@ use chunk_alloc::Usage;
 use layers::Stack;
 use named_stack::sectors_of;
 use plain::{Overflowing, SnapId};
-use resting::Resting;
 use status::State;
+use volume_commands::Resting;
 
 /// A look at whether the volume is quiet: one that is, and of which no device drops writes, is settled.
 pub(crate) fn look(volume: &Resting<Stack>)

@@ -2,18 +2,18 @@
 ghost use Rattle.std.specs.Prelude.{◌≡◌, is_some, length};
 ghost use Rattle.layers.specs.Stack.{stack_contents, stack_layers, stack_size};
 ghost use Rattle.volume.specs.Leaving.{is_quiet_of};
-ghost use Rattle.resting.specs.Flying.{flying_of};
-ghost use Rattle.resting.specs.Kept.{KeepsDevices};
-ghost use Rattle.named.specs.Changes.{Steps};
-ghost use Rattle.named.specs.Places.{HasRole, IsRoleIn};
-ghost use Rattle.named.specs.Messages.{told_mounted, told_role, volume_ticked};
+ghost use Rattle.volume_commands.specs.Flying.{flying_of};
+ghost use Rattle.volume_commands.specs.Kept.{KeepsDevices};
+ghost use Rattle.command_rules.specs.Changes.{Steps};
+ghost use Rattle.command_rules.specs.Places.{HasRole, IsRoleIn};
+ghost use Rattle.command_rules.specs.Messages.{told_mounted, told_role, volume_ticked};
 ghost use Rattle.named_volume.specs.Held.{merged_inside, IsSettledIn};
 
 use crate::origin::NamedVolume;
+use command_rules::Role;
 use layers::{Answer, Message, Stack};
-use named::Role;
-use resting::Resting;
 use sector::Refusal;
+use volume_commands::Resting;
 
 /// Tells the layer of this role. `BadTable` for the origin and a snapshot, then as for a stack.
 fn tell_role(volume: &mut Resting<Stack>, role: Role, message: &Message) -> Result<Answer, Refusal>

@@ -1,6 +1,6 @@
 // A client is served, and what it is answered is judged.
 
-use cow_map::{Told, read_store};
+use cow_image::{Told, read_store};
 use cow_nbd::serve_written;
 use image::MemImage;
 use std::alloc::Global;

@@ -1,5 +1,5 @@
 // Where the areas of a store lie.
-use model::is_area_place;
+use store_bytes::is_area_place;
 
 // Areas 0, 1 and 2 by chunk size. The kernel's stores of 1, 8 and 16 sectors a chunk have area 1 at 34, 258 and 514.
 #[test]

@@ -1,9 +1,9 @@
 // Boards that one thread publishes and others read.
 ghost use Rattle.std.specs.Prelude.{◌≡◌, ◌<◌, ◌^◌, true};
 
-use board::{Board, Pass, State, Usage};
 use std::test::Fail;
 use std::thread;
+use usage_board::{Board, Pass, State, Usage};
 
 // Publishes usages of more and more sectors.
 fn publish_all(board: &Board, mut pass: Pass, count: u64) -> Pass

@@ -1,5 +1,5 @@
 // Worked values: the short last chunk of a small origin, and the ways of two requests for one chunk.
-use pending::*;
+use in_flight::*;
 use plain::{Dev, Op, Request};
 use sector::{Buf, Pair, Range};
 use std::test::Fail;

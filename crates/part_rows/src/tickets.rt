@@ -1,8 +1,8 @@
 // Workers that take what others put, in one thread and in several.
 ghost use Rattle.std.specs.Prelude.{◌≡◌, ⊤};
-ghost use Rattle.copier.specs.declared.ticket.PendingCopy.{PendingCopy};
+ghost use Rattle.copy_queue.specs.declared.ticket.PendingCopy.{PendingCopy};
 
-use copier::{Copies, Count, Ended, Gate, Pass, PendingCopy, Ticket, Tickets, work};
+use copy_queue::{Copies, Count, Ended, Gate, Pass, PendingCopy, Ticket, Tickets, work};
 use std::alloc::{AllocError, Global};
 use std::sync::atomic::{AtomicU64, Ordering};
 use std::sync::{Arc, Wait};

@@ -8,7 +8,7 @@ use Rattle.command.specs.declared.grammar.Command.{Command}
 use Rattle.reply.specs.declared.Reply.{Reply}
 use Rattle.reply.specs.declared.Reply.TheVariants.{Number, Refused}
 use Rattle.plain.specs.declared.request.Replied.{Replied}
-use Rattle.named.specs.State.{Table}
+use Rattle.command_rules.specs.State.{Table}
 use Rattle.runner.specs.Asking.{refusal_in, first_refusal, said_first, line_first, IsFirst}
 use Rattle.runner.specs.Ended.{line_replies}
 use Rattle.runner.specs.Output.{answered, told}

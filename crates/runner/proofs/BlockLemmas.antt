@@ -5,16 +5,16 @@ use Rattle.std.specs.List.{All}
 use Rattle.std.specs.Prelude.{IfSome, map}
 use Rattle.sector.specs.declared.refusal.Refusal.{Refusal}
 use Rattle.sector.specs.declared.refusal.Refusal.TheVariants.{NoMemory}
-use Rattle.named.specs.State.{Table}
-use Rattle.par.specs.Answering.{AreAnswered}
-use Rattle.par.specs.Running.{IsOfBlock, IsTableRun, all_told, seat_in}
+use Rattle.command_rules.specs.State.{Table}
+use Rattle.block_run.specs.Answering.{AreAnswered}
+use Rattle.block_run.specs.Running.{IsOfBlock, IsTableRun, all_told, seat_in}
 use Rattle.reply.specs.declared.Reply.{Reply}
 use Rattle.reply.specs.declared.Reply.TheVariants.{Done, Refused}
 use Rattle.reply.specs.Texts.{text_of}
 use Rattle.runner.specs.declared.summary.Summary.{Summary}
 use Rattle.runner.specs.Counts.{with_reply}
-use Rattle.block.specs.Blocks.{Lines}
-use Rattle.par.specs.Looking.{block_refusal}
+use Rattle.block_lines.specs.Blocks.{Lines}
+use Rattle.block_run.specs.Looking.{block_refusal}
 use Rattle.runner.specs.Output.{Outcome, Standing, counted, followed, printed}
 use Rattle.runner.specs.Sessions.{IsBlockBy, IsBlockDone, refuses}
 use Rattle.runner.proofs.AskingLemmas.{memory_or_not}

@@ -7,11 +7,11 @@ use Rattle.reply.specs.declared.Reply.{Reply}
 use Rattle.reply.specs.declared.Reply.TheVariants.{Refused}
 use Rattle.plain.specs.declared.request.Replied.{Replied}
 use Rattle.runner.specs.declared.summary.Summary.{Summary}
-use Rattle.served.specs.Refusals.{is_starved}
-use Rattle.named.specs.Changes.{ServesIf}
-use Rattle.named.specs.Naming.{AreNamed}
-use Rattle.named.specs.State.{Table}
-use Rattle.served.proofs.Starved.{starved_by}
+use Rattle.settled.specs.Refusals.{is_starved}
+use Rattle.command_rules.specs.Changes.{ServesIf}
+use Rattle.command_rules.specs.Naming.{AreNamed}
+use Rattle.command_rules.specs.State.{Table}
+use Rattle.settled.proofs.Starved.{starved_by}
 use Rattle.runner.specs.Steps.{answer_of}
 use Rattle.runner.specs.Wants.{enters_line}
 use Rattle.runner.specs.Starts.{AreStartReplies, starts_line}

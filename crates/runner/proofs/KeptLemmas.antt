@@ -9,13 +9,13 @@ use Rattle.lines.specs.Lines.{IsKept}
 use Rattle.command.proofs.Kept.{said_kept}
 use Rattle.command.specs.Line.{said_of}
 use Rattle.command.specs.declared.grammar.Command.{Command}
-use Rattle.block.specs.Blocks.{Lines, ends_block, with_line, with_said}
-use Rattle.block.specs.Lines.{ends_with, said_in}
-use Rattle.block.specs.Opening.{has_par, is_par}
+use Rattle.block_lines.specs.Blocks.{Lines, ends_block, with_line, with_said}
+use Rattle.block_lines.specs.Lines.{ends_with, said_in}
+use Rattle.block_lines.specs.Opening.{has_par, is_par}
 use Rattle.plain.specs.declared.request.Replied.{Replied}
 use Rattle.reply.specs.declared.Reply.{Reply}
-use Rattle.named.specs.State.{Table}
-use Rattle.shown.specs.Arrays.{arrays_in}
+use Rattle.command_rules.specs.State.{Table}
+use Rattle.command_arrays.specs.Arrays.{arrays_in}
 use Rattle.runner.specs.Asking.{IsFirst, line_first, said_first}
 use Rattle.runner.specs.Done.{IsLineDone, IsToldFor}
 use Rattle.runner.specs.Left.{IsLeftSaid, IsLineLeft}

@@ -7,11 +7,11 @@ use Rattle.command.specs.Line.{said_of}
 use Rattle.command.specs.declared.grammar.Command.{Command}
 use Rattle.reply.specs.declared.Reply.{Reply}
 use Rattle.plain.specs.declared.request.Replied.{Replied}
-use Rattle.named.specs.State.{Table}
+use Rattle.command_rules.specs.State.{Table}
 use Rattle.runner.specs.Asking.{refusal_in, IsFirst}
 use Rattle.runner.specs.Ended.{ended_lines, line_replies}
 use Rattle.command.specs.declared.events.Event.{Event}
-use Rattle.devices.specs.Devices.{KeepsOthers}
+use Rattle.named_devices.specs.Devices.{KeepsOthers}
 use Rattle.runner.specs.Left.{IsLeft, IsLeftSaid, IsLineLeft, IsStepLeft}
 use Rattle.runner.specs.Output.{answered, told}
 use Rattle.runner.specs.Done.{IsToldFor}

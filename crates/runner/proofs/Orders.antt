@@ -2,15 +2,15 @@
 use Rattle.std.proofs.Common.{◌≡◌, ℕ, true, List, refl, sym, ap, ◌∙◌, subst}
 use Rattle.std.specs.Prelude.{Option, Some, None, Result, Ok, Err}
 use Rattle.sector.specs.declared.refusal.Refusal.{Refusal}
-use Rattle.named.specs.declared.place.Role.{Role}
-use Rattle.named.specs.declared.place.Place.{Place}
-use Rattle.named.specs.declared.place.Place.TheVariants.{Free, In}
-use Rattle.named.specs.State.{Volume, Table}
-use Rattle.named.specs.Places.{found, place_of, volume_at}
-use Rattle.named.proofs.Keeping.{not_ok, same_ok}
-use Rattle.shown.specs.Well.{HoldsFor, IsNumbered, IsNumberedFor, IsWell, IsWellFor}
-use Rattle.devices.specs.Order.{IsInOrder, IsInOrderAt, IsInOrderFor, IsInOrderIn}
-use Rattle.devices.specs.Ruled.{is_sound_in, volume_for, volume_with}
+use Rattle.command_rules.specs.declared.place.Role.{Role}
+use Rattle.command_rules.specs.declared.place.Place.{Place}
+use Rattle.command_rules.specs.declared.place.Place.TheVariants.{Free, In}
+use Rattle.command_rules.specs.State.{Volume, Table}
+use Rattle.command_rules.specs.Places.{found, place_of, volume_at}
+use Rattle.command_rules.proofs.Keeping.{not_ok, same_ok}
+use Rattle.command_arrays.specs.Well.{HoldsFor, IsNumbered, IsNumberedFor, IsWell, IsWellFor}
+use Rattle.named_devices.specs.Order.{IsInOrder, IsInOrderAt, IsInOrderFor, IsInOrderIn}
+use Rattle.named_devices.specs.Ruled.{is_sound_in, volume_for, volume_with}
 
 numbered_of : (volume : Volume) → IsInOrder volume → IsNumbered volume
 numbered_of volume order = record { named = order.named; numbers = order.numbers }

@@ -14,16 +14,16 @@ use Rattle.words.specs.Given.{◌>>=◌}
 use Rattle.settled.specs.Devices.{Device}
 use Rattle.settled.specs.Snaps.{Snap, Volume as Settled}
 use Rattle.settled.specs.Merges.{Merge, Merged}
-use Rattle.named.specs.declared.place.Role.{Role}
-use Rattle.named.specs.declared.place.Role.TheVariants.{Origin, Under, Snapshot, Store, Merging as MergingRole, MergingStore}
-use Rattle.named.specs.declared.place.Place.{Place}
-use Rattle.named.specs.declared.place.Place.TheVariants.{Free, In}
-use Rattle.named.specs.State.{Stacked, Merging, Volume, Table, merge_in, merged_in, with_merge, with_merged}
-use Rattle.named.specs.Places.{place_of, found, stack_at, volume_at}
-use Rattle.named.specs.Layers.{put}
-use Rattle.named.specs.Messages.{with_layers, told_in, told_free, told_under, snap_at, told_snap, told_store, told_beside, told_merge, told_merging, told_role, told_mounted, put_volume, told_at, tell}
-use Rattle.named.proofs.AtPlace.{put_back}
-use Rattle.named.proofs.Keeping.{same_ok, not_ok, stack_there, volume_there}
+use Rattle.command_rules.specs.declared.place.Role.{Role}
+use Rattle.command_rules.specs.declared.place.Role.TheVariants.{Origin, Under, Snapshot, Store, Merging as MergingRole, MergingStore}
+use Rattle.command_rules.specs.declared.place.Place.{Place}
+use Rattle.command_rules.specs.declared.place.Place.TheVariants.{Free, In}
+use Rattle.command_rules.specs.State.{Stacked, Merging, Volume, Table, merge_in, merged_in, with_merge, with_merged}
+use Rattle.command_rules.specs.Places.{place_of, found, stack_at, volume_at}
+use Rattle.command_rules.specs.Layers.{put}
+use Rattle.command_rules.specs.Messages.{with_layers, told_in, told_free, told_under, snap_at, told_snap, told_store, told_beside, told_merge, told_merging, told_role, told_mounted, put_volume, told_at, tell}
+use Rattle.command_rules.proofs.AtPlace.{put_back}
+use Rattle.command_rules.proofs.Keeping.{same_ok, not_ok, stack_there, volume_there}
 
 -- an answer with words leaves what was there
 abbrev IsQuiet : {X : Type 0} → X → Told X → Type 0

@@ -8,15 +8,15 @@ use Rattle.std.proofs.lemmas.Grind.{flat_map-append}
 use Rattle.words.proofs.Bools.{and-split}
 use Rattle.lines.proofs.Written.{appends_more}
 use Rattle.lines.specs.Lines.{left, lines_of, ReadsLine}
-use Rattle.block.specs.Blocks.{Lines}
-use Rattle.block.specs.Opening.{is_par}
+use Rattle.block_lines.specs.Blocks.{Lines}
+use Rattle.block_lines.specs.Opening.{is_par}
 use Rattle.reply.specs.declared.Reply.{Reply}
 use Rattle.reply.specs.Texts.{text_of}
 use Rattle.runner.specs.declared.error.RunError.{RunError}
 use Rattle.runner.specs.declared.summary.Summary.{Summary}
 use Rattle.runner.specs.Exit.{IsWriters}
-use Rattle.named.specs.Sound.{is_sound}
-use Rattle.named.specs.State.{Table}
+use Rattle.command_rules.specs.Sound.{is_sound}
+use Rattle.command_rules.specs.State.{Table}
 use Rattle.runner.specs.Runs.{AreDone, IsNext, IsTextBegun, IsTextDone, begun}
 use Rattle.runner.specs.Sessions.{IsEndedBy, Sitting}
 use Rattle.runner.specs.Sound.{is_alone_line, is_sound_line, are_sound_lines, is_sound_text}

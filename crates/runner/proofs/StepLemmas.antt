@@ -11,10 +11,10 @@ use Rattle.command.specs.declared.grammar.Command.{Command}
 use Rattle.command.specs.declared.grammar.Command.TheVariants as commands
 use Rattle.reply.specs.declared.Reply.{Reply}
 use Rattle.reply.specs.Answers.{reply_to}
-use Rattle.named.specs.State.{Table}
-use Rattle.named.specs.Changes.{Did, Does, ServesIf, kept}
-use Rattle.named.specs.Messages.{tell}
-use Rattle.served.proofs.Starved.{other_memory}
+use Rattle.command_rules.specs.State.{Table}
+use Rattle.command_rules.specs.Changes.{Did, Does, ServesIf, kept}
+use Rattle.command_rules.specs.Messages.{tell}
+use Rattle.settled.proofs.Starved.{other_memory}
 use Rattle.runner.specs.Steps.{reworded, told_as, step, obeyed, answer_of}
 use Rattle.runner.specs.Sound.{is_sound_command, is_sound_said, is_sound_line}
 use Rattle.runner.specs.Starts.{starts, starts_said, starts_line}

@@ -9,14 +9,14 @@ use Rattle.command.specs.declared.grammar.Command.TheVariants as commands
 use Rattle.table.specs.declared.lines.Target.{Target}
 use Rattle.table.specs.declared.lines.Target.TheVariants as targets
 use Rattle.reply.specs.declared.Reply.TheVariants.{Refused}
-use Rattle.named.specs.Changes.{changed}
-use Rattle.named.specs.Merging.{merge_finished}
-use Rattle.named.specs.State.{Table}
-use Rattle.shown.specs.Arrays.{Arrays, arrays_in}
-use Rattle.shown.specs.Commands.{IsAnswered, IsMade}
-use Rattle.shown.specs.Undoing.{ShowsStill}
-use Rattle.shown.proofs.OnDisk.{finished_on_disk}
-use Rattle.shown.proofs.Undoing.{made_shows, merge_shows, still_shown}
+use Rattle.command_rules.specs.Changes.{changed}
+use Rattle.command_rules.specs.Merging.{merge_finished}
+use Rattle.command_rules.specs.State.{Table}
+use Rattle.command_arrays.specs.Arrays.{Arrays, arrays_in}
+use Rattle.command_arrays.specs.Commands.{IsAnswered, IsMade}
+use Rattle.command_arrays.specs.Undoing.{ShowsStill}
+use Rattle.command_arrays.proofs.OnDisk.{finished_on_disk}
+use Rattle.command_arrays.proofs.Undoing.{made_shows, merge_shows, still_shown}
 use Rattle.runner.specs.Output.{Outcome, outcome, outcome_of}
 use Rattle.runner.specs.Steps.{answer_of, done_as, obeyed, step, told_as}
 use Rattle.runner.specs.Shown.{IsLineShown, IsSaidShown, answer_in}

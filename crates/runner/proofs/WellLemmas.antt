@@ -7,8 +7,8 @@ use Rattle.table.specs.declared.lines.Target.TheVariants as targets
 use Rattle.command.specs.Line.{said_of}
 use Rattle.command.specs.declared.grammar.Command.{Command}
 use Rattle.command.specs.declared.grammar.Command.TheVariants as commands
-use Rattle.named.specs.State.{Table}
-use Rattle.shown.specs.Well.{IsNumberedTarget, IsWellOf}
+use Rattle.command_rules.specs.State.{Table}
+use Rattle.command_arrays.specs.Well.{IsNumberedTarget, IsWellOf}
 use Rattle.runner.proofs.Orders.{numbered_for, well_for}
 use Rattle.runner.specs.Changed.{changed_by, changed_under, IsLookedAt}
 use Rattle.runner.specs.Ruled.{is_ruled, is_ruled_line}

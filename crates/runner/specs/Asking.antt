@@ -7,9 +7,9 @@ use Rattle.command.specs.declared.grammar.Command.{Command}
 use Rattle.command.specs.declared.grammar.Command.TheVariants as commands
 use Rattle.reply.specs.declared.Reply.{Reply}
 use Rattle.reply.specs.declared.Reply.TheVariants.{Refused}
-use Rattle.named.specs.State.{Table}
-use Rattle.named.specs.Starting.{flush_asked, read_asked, write_asked}
-use Rattle.named.specs.Events.{event_asked, origin_by}
+use Rattle.command_rules.specs.State.{Table}
+use Rattle.command_rules.specs.Starting.{flush_asked, read_asked, write_asked}
+use Rattle.command_rules.specs.Events.{event_asked, origin_by}
 
 -- the refusal, if it is one
 abbrev pub refusal_in : {A : Type 0} → Result A Refusal → Option Refusal

@@ -4,8 +4,8 @@ use Rattle.table.specs.declared.lines.Target.{Target}
 use Rattle.table.specs.declared.lines.Target.TheVariants as targets
 use Rattle.command.specs.declared.grammar.Command.{Command}
 use Rattle.command.specs.declared.grammar.Command.TheVariants as commands
-use Rattle.named.specs.State.{Table}
-use Rattle.devices.specs.Order.{IsInOrderFor}
+use Rattle.command_rules.specs.State.{Table}
+use Rattle.named_devices.specs.Order.{IsInOrderFor}
 
 -- the name on whose volume a target's snapshot is made
 abbrev pub changed_under : Target → Option (List ℕ)

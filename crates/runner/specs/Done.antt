@@ -3,7 +3,7 @@ use Rattle.std.specs.Prelude.{◌≡◌, ℕ, true, List, [], ◌++◌, Option, 
 use Rattle.sector.specs.declared.refusal.Refusal.{Refusal}
 use Rattle.reply.specs.declared.Reply.{Reply}
 use Rattle.plain.specs.declared.request.Replied.{Replied}
-use Rattle.named.specs.State.{Table}
+use Rattle.command_rules.specs.State.{Table}
 use Rattle.runner.specs.Asking.{IsFirst, line_first}
 use Rattle.runner.specs.Ended.{ended_lines}
 use Rattle.runner.specs.Left.{IsLineLeft}

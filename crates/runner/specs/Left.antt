@@ -16,20 +16,20 @@ use Rattle.reply.specs.declared.Reply.{Reply}
 use Rattle.reply.specs.declared.Reply.TheVariants.{Data, Done, Fault, Number, Said}
 use Rattle.plain.specs.Replies.{reply_in}
 use Rattle.plain.specs.declared.request.Replied.{Replied}
-use Rattle.served.specs.Refusals.{is_starved}
-use Rattle.named.specs.State.{Table}
-use Rattle.named.specs.Events.{event_asked, is_merge_event, origin_by, rested, snapshot_named, step_event}
-use Rattle.named.specs.Losing.{StopsLosing}
-use Rattle.named.specs.Merging.{merge_begun}
-use Rattle.named.specs.Places.{volume_at}
-use Rattle.named.specs.Sectors.{Asked}
-use Rattle.named.specs.Starting.{flush_asked, read_asked, write_asked}
-use Rattle.devices.specs.Devices.{Flies, KeepsOthers}
-use Rattle.devices.specs.Flights.{IsDoneFor, IsEventDoneFor, IsFlushedAmong, IsNotDueIn, IsNotStartedAs, IsReadAmong, IsStartedAs, IsWrittenAmong, event_of, is_about_merging}
-use Rattle.devices.specs.Meeting.{IsCreated}
-use Rattle.devices.specs.Merging.{IsBegunIn, IsFinishedIn, IsUnfinishedIn}
-use Rattle.devices.specs.Ruled.{is_alone_in, is_quiet_in, volume_for}
-use Rattle.devices.specs.Status.{IsStatusAmong, IsStatusHeld}
+use Rattle.settled.specs.Refusals.{is_starved}
+use Rattle.command_rules.specs.State.{Table}
+use Rattle.command_rules.specs.Events.{event_asked, is_merge_event, origin_by, rested, snapshot_named, step_event}
+use Rattle.command_rules.specs.Losing.{StopsLosing}
+use Rattle.command_rules.specs.Merging.{merge_begun}
+use Rattle.command_rules.specs.Places.{volume_at}
+use Rattle.command_rules.specs.Sectors.{Asked}
+use Rattle.command_rules.specs.Starting.{flush_asked, read_asked, write_asked}
+use Rattle.named_devices.specs.Devices.{Flies, KeepsOthers}
+use Rattle.named_devices.specs.Flights.{IsDoneFor, IsEventDoneFor, IsFlushedAmong, IsNotDueIn, IsNotStartedAs, IsReadAmong, IsStartedAs, IsWrittenAmong, event_of, is_about_merging}
+use Rattle.named_devices.specs.Meeting.{IsCreated}
+use Rattle.named_devices.specs.Merging.{IsBegunIn, IsFinishedIn, IsUnfinishedIn}
+use Rattle.named_devices.specs.Ruled.{is_alone_in, is_quiet_in, volume_for}
+use Rattle.named_devices.specs.Status.{IsStatusAmong, IsStatusHeld}
 use Rattle.named_volume.specs.Flights.{IsDenied, IsSettledBy}
 use Rattle.runner.specs.Steps.{reworded}
 

@@ -11,9 +11,9 @@ use Rattle.command.specs.declared.grammar.Command.TheVariants as commands
 use Rattle.reply.specs.declared.Reply.{Reply}
 use Rattle.reply.specs.declared.Reply.TheVariants.{Refused}
 use Rattle.reply.specs.Texts.{text_of}
-use Rattle.named.specs.State.{Table}
-use Rattle.named.specs.Changes.{Did}
-use Rattle.named.specs.Sectors.{IsFlushStarved, IsReadStarved, IsWriteStarved}
+use Rattle.command_rules.specs.State.{Table}
+use Rattle.command_rules.specs.Changes.{Did}
+use Rattle.command_rules.specs.Sectors.{IsFlushStarved, IsReadStarved, IsWriteStarved}
 use Rattle.runner.specs.declared.summary.Summary.{Summary}
 use Rattle.runner.specs.Steps.{answer_of}
 use Rattle.runner.specs.Counts.{with_reply}

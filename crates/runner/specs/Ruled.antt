@@ -7,9 +7,9 @@ use Rattle.sector.specs.declared.refusal.Refusal.{Refusal}
 use Rattle.command.specs.Line.{said_of}
 use Rattle.command.specs.declared.grammar.Command.{Command}
 use Rattle.command.specs.declared.grammar.Command.TheVariants as commands
-use Rattle.named.specs.Events.{is_merge_event}
-use Rattle.named.specs.State.{Table}
-use Rattle.devices.specs.Ruled.{is_quiet_in, is_sound_in, is_sound_target, volume_for}
+use Rattle.command_rules.specs.Events.{is_merge_event}
+use Rattle.command_rules.specs.State.{Table}
+use Rattle.named_devices.specs.Ruled.{is_quiet_in, is_sound_in, is_sound_target, volume_for}
 
 abbrev pub is_ruled : Command → Table → Bool
 is_ruled (commands.Read device first count) table = is_sound_in (volume_for device table)

@@ -3,13 +3,13 @@ use Rattle.std.specs.Prelude.{◌≡◌, ◌⊎◌, ℕ, true, false, List, [], 
 use Rattle.std.specs.List.{All}
 use Rattle.sector.specs.declared.refusal.Refusal.{Refusal}
 use Rattle.sector.specs.declared.refusal.Refusal.TheVariants.{NoMemory}
-use Rattle.block.specs.Blocks.{Lines, ends_block, opened, with_line}
-use Rattle.block.specs.Opening.{is_par, opening_of}
-use Rattle.block.specs.declared.opening.Opening.{Opening}
-use Rattle.named.specs.State.{Table}
-use Rattle.par.specs.Answering.{AreAnswered}
-use Rattle.par.specs.Looking.{block_refusal}
-use Rattle.par.specs.Running.{IsOfBlock, IsTableRun, all_told, seat_in}
+use Rattle.block_lines.specs.Blocks.{Lines, ends_block, opened, with_line}
+use Rattle.block_lines.specs.Opening.{is_par, opening_of}
+use Rattle.block_lines.specs.declared.opening.Opening.{Opening}
+use Rattle.command_rules.specs.State.{Table}
+use Rattle.block_run.specs.Answering.{AreAnswered}
+use Rattle.block_run.specs.Looking.{block_refusal}
+use Rattle.block_run.specs.Running.{IsOfBlock, IsTableRun, all_told, seat_in}
 use Rattle.reply.specs.declared.Reply.{Reply}
 use Rattle.reply.specs.declared.Reply.TheVariants.{Done, Refused}
 use Rattle.runner.specs.Done.{IsLineDone}

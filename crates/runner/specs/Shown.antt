@@ -1,14 +1,14 @@
 -- To be believed: what lines do to what volumes show is said in these words.
--- What a line does to what volumes show, by the reply that it prints (`shown`).
+-- What a line does to what volumes show, by the reply that it prints (`command_arrays`).
 use Rattle.std.specs.Prelude.{◌≡◌, ℕ, List, [], ◌∷◌, Option, Some, None, Result, Ok, Err}
 use Rattle.sector.specs.declared.refusal.Refusal.{Refusal}
 use Rattle.command.specs.Line.{said_of}
 use Rattle.command.specs.declared.grammar.Command.{Command}
 use Rattle.reply.specs.declared.Reply.{Reply}
 use Rattle.reply.specs.declared.Reply.TheVariants.{Done, Data, Said, Number, Fault, Ended, Seat, Gate, Refused}
-use Rattle.named.specs.State.{Table}
-use Rattle.shown.specs.Arrays.{Arrays, arrays_in}
-use Rattle.shown.specs.Commands.{IsShown}
+use Rattle.command_rules.specs.State.{Table}
+use Rattle.command_arrays.specs.Arrays.{Arrays, arrays_in}
+use Rattle.command_arrays.specs.Commands.{IsShown}
 use Rattle.runner.specs.Output.{Outcome}
 
 -- whether a reply is a refusal

@@ -5,12 +5,12 @@ use Rattle.std.specs.Prelude.{ℕ, Bool, true, false, ◌&&◌, not, List, Optio
 use Rattle.std.specs.List.{list_all}
 use Rattle.sector.specs.declared.refusal.Refusal.{Refusal}
 use Rattle.lines.specs.Lines.{lines_of}
-use Rattle.block.specs.Opening.{is_par}
+use Rattle.block_lines.specs.Opening.{is_par}
 use Rattle.command.specs.Line.{said_of}
 use Rattle.command.specs.declared.grammar.Command.{Command}
 use Rattle.command.specs.declared.grammar.Command.TheVariants as commands
-use Rattle.named.specs.Events.{is_merge_event}
-use Rattle.named.specs.Sound.{drops_writes}
+use Rattle.command_rules.specs.Events.{is_merge_event}
+use Rattle.command_rules.specs.Sound.{drops_writes}
 
 -- a command that makes no layer that drops writes, starts no request, does no single event of a merge, and loses nothing
 abbrev pub is_sound_command : Command → Bool

@@ -11,20 +11,20 @@ use Rattle.command.specs.declared.grammar.Command.TheVariants as commands
 use Rattle.reply.specs.declared.Reply.{Reply}
 use Rattle.reply.specs.declared.Reply.TheVariants.{Done, Data, Said}
 use Rattle.reply.specs.Answers.{reply_to}
-use Rattle.named.specs.State.{Table}
-use Rattle.named.specs.Changes.{Did, refused, kept, changed}
-use Rattle.named.specs.Disks.{make}
-use Rattle.named.specs.Creating.{create}
-use Rattle.named.specs.Removing.{take_away}
-use Rattle.named.specs.Raw.{load, save}
-use Rattle.named.specs.Messages.{tell, ticked}
-use Rattle.named.specs.Sectors.{flush, read, write}
-use Rattle.named.specs.Status.{status_text}
-use Rattle.named.specs.Lines.{line_text}
-use Rattle.named.specs.Events.{settle, step_event}
-use Rattle.named.specs.Merging.{merge_begun, merge_resumed, merge_finished}
-use Rattle.named.specs.Stopping.{volume_stopped}
-use Rattle.named.specs.Journal.{checkpointed}
+use Rattle.command_rules.specs.State.{Table}
+use Rattle.command_rules.specs.Changes.{Did, refused, kept, changed}
+use Rattle.command_rules.specs.Disks.{make}
+use Rattle.command_rules.specs.Creating.{create}
+use Rattle.command_rules.specs.Removing.{take_away}
+use Rattle.command_rules.specs.Raw.{load, save}
+use Rattle.command_rules.specs.Messages.{tell, ticked}
+use Rattle.command_rules.specs.Sectors.{flush, read, write}
+use Rattle.command_rules.specs.Status.{status_text}
+use Rattle.command_rules.specs.Lines.{line_text}
+use Rattle.command_rules.specs.Events.{settle, step_event}
+use Rattle.command_rules.specs.Merging.{merge_begun, merge_resumed, merge_finished}
+use Rattle.command_rules.specs.Stopping.{volume_stopped}
+use Rattle.command_rules.specs.Journal.{checkpointed}
 
 -- an answer in other words, unless there is a refusal
 abbrev pub reworded : {A B : Type 0} → (A → B) → Result A Refusal → Result B Refusal

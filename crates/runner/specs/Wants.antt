@@ -4,7 +4,7 @@ use Rattle.sector.specs.declared.refusal.Refusal.{Refusal}
 use Rattle.command.specs.Line.{said_of}
 use Rattle.command.specs.declared.grammar.Command.{Command}
 use Rattle.command.specs.declared.grammar.Command.TheVariants as commands
-use Rattle.named.specs.Journal.{enters_journal}
+use Rattle.command_rules.specs.Journal.{enters_journal}
 
 -- a command that submits requests, or by which a snapshot comes, goes or is merged
 abbrev pub enters : Command → Bool

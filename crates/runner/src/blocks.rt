@@ -1,8 +1,8 @@
 // A block of lines at a desk, and what it answers.
 ghost use Rattle.std.specs.Prelude.{◌≡◌, ◌≤◌, ◌++◌, ◌∷◌, [], true, IfErr, OnOk};
 ghost use Rattle.std.specs.Io.KnownBytes.{Appends};
-ghost use Rattle.named.specs.Naming.{AreNamed};
-ghost use Rattle.named.specs.Sound.{is_sound};
+ghost use Rattle.command_rules.specs.Naming.{AreNamed};
+ghost use Rattle.command_rules.specs.Sound.{is_sound};
 ghost use Rattle.reply.specs.declared.Reply.TheVariants.{Done, Refused};
 ghost use Rattle.runner.specs.Exit.{IsWriters};
 ghost use Rattle.runner.specs.Output.{Outcome, followed, printed};
@@ -10,8 +10,8 @@ ghost use Rattle.runner.specs.Sessions.{IsBlockDone, refuses};
 
 use crate::desk::Desk;
 use crate::error::RunError;
-use block::Block;
-use par::run_block;
+use block_lines::Block;
+use block_run::run_block;
 use reply::Reply;
 use sector::Refusal;
 use std::io;

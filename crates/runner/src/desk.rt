@@ -3,9 +3,9 @@ ghost use Rattle.std.specs.Prelude.{◌≡◌, [], true, MatchResult, IfErr, IfS
 ghost use Rattle.std.specs.Io.KnownBytes.{Appends};
 ghost use Rattle.sector.specs.declared.refusal.Refusal.{Refusal as AnyRefusal};
 ghost use Rattle.reply.specs.declared.Reply.{Reply as AnyReply};
-ghost use Rattle.named.specs.Naming.{AreNamed};
-ghost use Rattle.named.specs.Sound.{is_sound};
-ghost use Rattle.device_list.specs.Tables.{table_of};
+ghost use Rattle.command_rules.specs.Naming.{AreNamed};
+ghost use Rattle.command_rules.specs.Sound.{is_sound};
+ghost use Rattle.named_volume.specs.Tables.{table_of};
 ghost use Rattle.runner.specs.Asking.{IsFirst, line_first};
 ghost use Rattle.runner.specs.Counts.{summary_of};
 ghost use Rattle.runner.specs.Exit.{IsMemory, IsWriters};
@@ -21,7 +21,7 @@ use crate::ended::print_all;
 use crate::error::RunError;
 use crate::step::answer;
 use crate::summary::Summary;
-use device_list::Held;
+use named_volume::Held;
 use plain::Replied;
 use reply::Reply;
 use std::alloc::Global;
@@ -38,13 +38,13 @@ pub struct Desk {
 
 impl Model for Desk {
     ghost use Rattle.runner.specs.Output.{Standing};
-    ghost use Rattle.device_list.specs.Tables.{table_of};
+    ghost use Rattle.named_volume.specs.Tables.{table_of};
 
     ghost Value = { Standing };
 
     ghost view = { λ d. record { table = table_of d.held; summary = d.summary } };
 
-    ghost use Rattle.named.specs.Naming.{AreNamed};
+    ghost use Rattle.command_rules.specs.Naming.{AreNamed};
 
     ghost invariant = { λ d. AreNamed (table_of d.held) };
 }

@@ -1,19 +1,19 @@
 // Events, one by one.
 ghost use Rattle.std.specs.Prelude.{◌≡◌, true, false, Some, IfSome, OnErr};
-ghost use Rattle.named.specs.Changes.{Does, refused};
-ghost use Rattle.named.specs.Events.{event_asked, is_merge_event, step_event};
-ghost use Rattle.named.specs.Naming.{AreNamed};
-ghost use Rattle.named.specs.Sound.{is_sound};
-ghost use Rattle.device_list.specs.Tables.{table_of};
-ghost use Rattle.devices.specs.Ruled.{is_quiet_in, volume_for};
+ghost use Rattle.command_rules.specs.Changes.{Does, refused};
+ghost use Rattle.command_rules.specs.Events.{event_asked, is_merge_event, step_event};
+ghost use Rattle.command_rules.specs.Naming.{AreNamed};
+ghost use Rattle.command_rules.specs.Sound.{is_sound};
+ghost use Rattle.named_volume.specs.Tables.{table_of};
+ghost use Rattle.named_devices.specs.Ruled.{is_quiet_in, volume_for};
 ghost use Rattle.runner.specs.Asking.{IsFirst, refusal_in};
 ghost use Rattle.runner.specs.Left.{IsStepLeft};
 ghost use Rattle.runner.specs.Output.{told};
 ghost use Rattle.runner.specs.Steps.{reworded};
 
 use command::Event;
-use device_list::Held;
-use devices::step_device;
+use named_devices::step_device;
+use named_volume::Held;
 use plain::{Outcome, Replied};
 use reply::Reply;
 use sector::Refusal;

@@ -1,12 +1,12 @@
 // A look at the volume that a command changes, before it does.
 ghost use Rattle.std.specs.Prelude.{◌≡◌};
 ghost use Rattle.std.specs.Option.{option_copied};
-ghost use Rattle.device_list.specs.Tables.{table_of};
+ghost use Rattle.named_volume.specs.Tables.{table_of};
 ghost use Rattle.runner.specs.Changed.{changed_by, changed_under, IsLookedAt};
 
 use command::Command;
-use device_list::Held;
-use devices::look_at_snapshots;
+use named_devices::look_at_snapshots;
+use named_volume::Held;
 use table::Target;
 use words::Name;
 

@@ -1,19 +1,19 @@
 // A desk at which a block of lines may be open.
 ghost use Rattle.std.specs.Prelude.{◌≡◌, ◌≤◌, None, true, MatchResult, IfErr, OnOk};
 ghost use Rattle.std.specs.Io.KnownBytes.{Appends};
-ghost use Rattle.named.specs.Naming.{AreNamed};
-ghost use Rattle.named.specs.Sound.{is_sound};
+ghost use Rattle.command_rules.specs.Naming.{AreNamed};
+ghost use Rattle.command_rules.specs.Sound.{is_sound};
 ghost use Rattle.runner.specs.Exit.{IsMemory, IsWriters};
 ghost use Rattle.runner.specs.Output.{Outcome, followed, printed};
 ghost use Rattle.runner.specs.Runs.{begun};
 ghost use Rattle.runner.specs.Sessions.{IsEndedBy, IsOpenedBy, IsSessionDone};
 ghost use Rattle.runner.specs.Sound.{is_sound_line};
-ghost use Rattle.block.specs.Opening.{opening_of};
+ghost use Rattle.block_lines.specs.Opening.{opening_of};
 
 use crate::desk::Desk;
 use crate::error::RunError;
 use crate::summary::Summary;
-use block::{Block, is_par, opening_by};
+use block_lines::{Block, is_par, opening_by};
 use command::LINE_LIMIT;
 use std::alloc::Global;
 use std::io::Write;

@@ -4,11 +4,11 @@ ghost use Rattle.sector.specs.declared.refusal.Refusal.TheVariants.{NoMemory};
 ghost use Rattle.layers.specs.declared.message.Answer.TheVariants as answers;
 ghost use Rattle.reply.specs.declared.Reply.TheVariants.{Done, Data, Said, Number};
 ghost use Rattle.reply.specs.Answers.{reply_to};
-ghost use Rattle.named.specs.Changes.{Does, ServesIf, kept};
-ghost use Rattle.named.specs.Messages.{tell};
-ghost use Rattle.named.specs.Naming.{AreNamed};
-ghost use Rattle.named.specs.Sound.{is_sound};
-ghost use Rattle.device_list.specs.Tables.{table_of};
+ghost use Rattle.command_rules.specs.Changes.{Does, ServesIf, kept};
+ghost use Rattle.command_rules.specs.Messages.{tell};
+ghost use Rattle.command_rules.specs.Naming.{AreNamed};
+ghost use Rattle.command_rules.specs.Sound.{is_sound};
+ghost use Rattle.named_volume.specs.Tables.{table_of};
 ghost use Rattle.runner.specs.Asking.{IsFirst, first_refusal, line_first};
 ghost use Rattle.runner.specs.Lawful.{is_lawful};
 ghost use Rattle.runner.specs.Left.{IsLeft, IsLineLeft};
@@ -27,13 +27,13 @@ use command::Command::{
     StartRead, StartWrite, Status, Step, Stop, StopLosing, Table, Tick, Write,
 };
 use command::{Command, LINE_LIMIT, said};
-use device_list::Held;
-use devices::{
+use layers::{Answer, Message};
+use named_devices::{
     checkpoint_device, create_device, finish_device, flush_device, line_text, load_disk, make_disk,
     merge_device, read_device, remove_device, resume_device, save_disk, settle_device, start_read,
     start_write, status_text, stop_device, stop_losing, tell, tick, write_device,
 };
-use layers::{Answer, Message};
+use named_volume::Held;
 use plain::{Replied, ReqId};
 use reply::Reply;
 use sector::{Buf, Refusal};

@@ -3,9 +3,9 @@ use Rattle.std.proofs.Common.{◌≡◌, ◌≢◌, ℕ, ◌+◌, ◌*◌, ◌/�
 use Rattle.std.specs.Prelude.{Some, None, is_some}
 use Rattle.std.proofs.lemmas.Bool.{cond-true, cond-false, eq-eqb, ne_eqb, lt-ltb, le-ltb}
 use Rattle.sector.specs.declared.pair.Pair.{Pair}
-use Rattle.model.specs.Places.{area_place}
-use Rattle.model.specs.Pairs.{pairs_of}
-use Rattle.model.specs.Picture.{place_of}
+use Rattle.store_bytes.specs.Places.{area_place}
+use Rattle.store_bytes.specs.Pairs.{pairs_of}
+use Rattle.store_bytes.specs.Picture.{place_of}
 use Rattle.settled.specs.Saves.{next_of, copied, zeroed, paired, committed, saved, spoilt}
 
 -- the pair of a new copy

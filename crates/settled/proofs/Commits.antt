@@ -4,11 +4,11 @@ use Rattle.std.specs.Prelude.{replicate}
 use Rattle.std.proofs.lemmas.List.{length-replicate}
 use Rattle.sector.specs.Bytes.{with_part}
 use Rattle.sector.specs.declared.pair.Pair.{Pair}
-use Rattle.model.specs.Slots.{pair_in, pair_bytes, with_pair}
-use Rattle.model.specs.Places.{chunk_at, area_place, ChangesOnly}
-use Rattle.model.specs.Pairs.{pairs_of}
-use Rattle.model.proofs.AreaPlaces.{places_apart}
-use Rattle.model.proofs.Slots.{pairs-committed}
+use Rattle.store_bytes.specs.Slots.{pair_in, pair_bytes, with_pair}
+use Rattle.store_bytes.specs.Places.{chunk_at, area_place, ChangesOnly}
+use Rattle.store_bytes.specs.Pairs.{pairs_of}
+use Rattle.store_bytes.proofs.AreaPlaces.{places_apart}
+use Rattle.store_bytes.proofs.Slots.{pairs-committed}
 use Rattle.settled.specs.Saves.{zeroed}
 use Rattle.settled.specs.Order.{AreEmptyFrom}
 use Rattle.settled.proofs.Parts.{part_only, part_here, whole_here, length-chunk_at}

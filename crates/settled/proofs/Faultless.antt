@@ -10,7 +10,7 @@ use Rattle.plain.specs.declared.request.Dev.TheVariants.{Origin as ToOrigin}
 use Rattle.plain.specs.declared.request.Reply.{Reply}
 use Rattle.plain.specs.declared.request.Reply.TheVariants.{Written}
 use Rattle.plain.specs.Plain.{Saved, Live, Invalid}
-use Rattle.model.specs.Pairs.{pairs_of}
+use Rattle.store_bytes.specs.Pairs.{pairs_of}
 use Rattle.settled.specs.Saves.{Saving as Stored, copied, committed, saved}
 use Rattle.settled.specs.Faultless.{Snap as Plainly, Settled, save_in, save_for, after_saving, write_piece as settled_piece, write_pieces as settled_pieces, piece_of as settled_piece_of, written as settled_written}
 use Rattle.settled.specs.Devices.{Device}

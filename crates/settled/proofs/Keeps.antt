@@ -5,9 +5,9 @@ use Rattle.std.proofs.lemmas.Bool.{cases_Bool, cond-true, cond-false}
 use Rattle.sector.specs.declared.pair.Pair.{Pair}
 use Rattle.device.specs.declared.operation.Operation.{Operation}
 use Rattle.device.specs.declared.operation.Operation.TheVariants.{Writes, Flushes}
-use Rattle.model.specs.Places.{area_place}
-use Rattle.model.specs.Pairs.{pairs_of}
-use Rattle.pending.specs.Copies.{count_of}
+use Rattle.store_bytes.specs.Places.{area_place}
+use Rattle.store_bytes.specs.Pairs.{pairs_of}
+use Rattle.in_flight.specs.Copies.{count_of}
 use Rattle.settled.specs.Saves.{copied, zeroed, paired}
 use Rattle.settled.specs.Devices.{Device, answers, met, written_by}
 use Rattle.settled.specs.Snaps.{Snap}

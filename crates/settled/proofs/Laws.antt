@@ -3,9 +3,9 @@ use Rattle.std.proofs.Common.{◌≡◌, ◌≢◌, ◌⊎◌, inl, inr, ℕ, �
 use Rattle.std.specs.Prelude.{Option, Some, None}
 use Rattle.std.proofs.lemmas.Bool.{cases_eq, cases_lt, true≢false}
 use Rattle.std.proofs.lemmas.Nat.{mul-le, div-add-mod', mod_below}
-use Rattle.model.specs.Places.{area_place}
-use Rattle.model.specs.Pairs.{pairs_of}
-use Rattle.model.specs.Picture.{place_of}
+use Rattle.store_bytes.specs.Places.{area_place}
+use Rattle.store_bytes.specs.Pairs.{pairs_of}
+use Rattle.store_bytes.specs.Picture.{place_of}
 use Rattle.sector.proofs.Numbers.{length-number_bytes}
 use Rattle.cow_header.specs.HeaderText.{header_bytes}
 use Rattle.std.proofs.lemmas.List.{length-replicate}
@@ -16,7 +16,7 @@ use Rattle.settled.proofs.Parts.{length-with_part}
 use Rattle.settled.proofs.Cases.{next_pair, copied_next, saved-kept, saved-full, saved-more, saved-lacks, saved-filled}
 use Rattle.settled.proofs.Commits.{zeroed_empty}
 use Rattle.settled.proofs.Saved.{IsSavedTo, AfterSaving, IsCopiedTo, copied_to, zeroed_to, put_to, kept_to, above_unnamed, slot_more, slot_full}
-use Rattle.model.proofs.Views.{place_unnamed}
+use Rattle.store_bytes.proofs.Views.{place_unnamed}
 
 -- a store has room for its header
 pub header_fits : (chunk origin size : ℕ) (store : List ℕ) → IsInOrder chunk origin size store → 512 * chunk ≤ length store

@@ -24,3 +24,4 @@ pub mod Shows
 pub mod Named
 pub mod Rounds
 pub mod RoundSaves
+pub mod Starved

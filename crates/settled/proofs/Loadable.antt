@@ -6,7 +6,7 @@ use Rattle.std.proofs.lemmas.Bool.{true≢false, ltb-true, leb-true, lt-ltb, le-
 use Rattle.std.proofs.lemmas.List.Elements.{All-cons, All-nil}
 use Rattle.std.proofs.lemmas.List.Kept.{AllPairs-cons}
 use Rattle.sector.specs.declared.pair.Pair.{Pair}
-use Rattle.model.specs.Pairs.{IsApart, IsInside, AreWellFormed}
+use Rattle.store_bytes.specs.Pairs.{IsApart, IsInside, AreWellFormed}
 use Rattle.settled.specs.Loads.{is_inside, is_shared, are_apart, is_loadable}
 use Rattle.sector.specs.declared.refusal.Refusal.{Refusal}
 use Rattle.sector.specs.declared.refusal.Refusal.TheVariants.{BadHeader, BadVersion, BadChunk, Invalid as InvalidRefusal}

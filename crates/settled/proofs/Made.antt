@@ -4,11 +4,11 @@ use Rattle.std.proofs.lemmas.List.{ext_get_or}
 use Rattle.std.proofs.lemmas.List.Elements.{All-nil}
 use Rattle.std.proofs.lemmas.Nat.{div-mul-add, mod-mul-add}
 use Rattle.sector.specs.Bytes.{with_part}
-use Rattle.model.specs.Places.{slot, ChangesOnly}
-use Rattle.model.specs.Pairs.{pairs_of, IsInside}
-use Rattle.model.specs.Picture.{picture, picture_at}
-use Rattle.model.proofs.Slots.{pairs-are, slot-at}
-use Rattle.model.proofs.Pictures.{length-picture, get_or-picture}
+use Rattle.store_bytes.specs.Places.{slot, ChangesOnly}
+use Rattle.store_bytes.specs.Pairs.{pairs_of, IsInside}
+use Rattle.store_bytes.specs.Picture.{picture, picture_at}
+use Rattle.store_bytes.proofs.Slots.{pairs-are, slot-at}
+use Rattle.store_bytes.proofs.Pictures.{length-picture, get_or-picture}
 use Rattle.cow_header.specs.HeaderText.{header_bytes}
 use Rattle.settled.specs.Saves.{zeroed}
 use Rattle.settled.specs.Loads.{made}

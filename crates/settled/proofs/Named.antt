@@ -4,8 +4,8 @@ use Rattle.std.specs.Prelude.{◌==◌, not, ◌||◌, Option, Some, None}
 use Rattle.std.proofs.lemmas.Bool.{cases_Bool, cond-true, cond-false, eqb-true, eq-eqb, true≢false}
 use Rattle.sector.specs.declared.pair.Pair.{Pair}
 use Rattle.chunk.specs.Pieces.{Span}
-use Rattle.model.specs.Pairs.{pairs_of}
-use Rattle.model.specs.Picture.{place_of}
+use Rattle.store_bytes.specs.Pairs.{pairs_of}
+use Rattle.store_bytes.specs.Picture.{place_of}
 use Rattle.settled.specs.Devices.{Device, answers}
 use Rattle.settled.specs.Snaps.{Snap, shown}
 use Rattle.settled.specs.Saving.{Saving, next_place, is_full, has_chunk, save}

@@ -4,10 +4,10 @@ use Rattle.std.specs.List.{All}
 use Rattle.std.proofs.lemmas.List.Elements.{All-cons, All-nil, All-weaker}
 use Rattle.std.proofs.lemmas.Bool.{cases_Bool, cond-true, cond-false}
 use Rattle.sector.specs.declared.pair.Pair.{Pair}
-use Rattle.model.specs.NextPlace.{IsNextPlace, stepped}
-use Rattle.model.proofs.NextPlaces.{next-loaded}
+use Rattle.store_bytes.specs.NextPlace.{IsNextPlace, stepped}
+use Rattle.store_bytes.proofs.NextPlaces.{next-loaded}
 use Rattle.settled.specs.Saves.{greatest, next_of}
-use Rattle.model.specs.Places.{is_area_place}
+use Rattle.store_bytes.specs.Places.{is_area_place}
 
 greatest_some : (pairs : List Pair) → 1 ≤ greatest pairs
 greatest_some [] = omega arith

@@ -5,8 +5,8 @@ use Rattle.sector.specs.Bytes.{sector_at}
 use Rattle.sector.specs.Number.{number_at}
 use Rattle.sector.specs.declared.refusal.Refusal.{Refusal}
 use Rattle.chunk.proofs.Limits.{is_chunk-some}
-use Rattle.model.specs.Places.{area_place}
-use Rattle.model.specs.Pairs.{pairs_of, AreWellFormed}
+use Rattle.store_bytes.specs.Places.{area_place}
+use Rattle.store_bytes.specs.Pairs.{pairs_of, AreWellFormed}
 use Rattle.cow_header.specs.HeaderText.{found_in}
 use Rattle.cow_header.specs.declared.found.Found.TheVariants.{Header}
 use Rattle.settled.specs.Loads.{made, trimmed, is_loadable}

@@ -2,8 +2,8 @@
 use Rattle.std.proofs.Common.{◌≡◌, ◌⊎◌, inl, inr, ℕ, ◌+◌, ◌*◌, ◌<◌, ◌≤◌, List, length, get_or, arith, rules, length-take, length-drop}
 use Rattle.std.proofs.lemmas.List.{places, same_lists}
 use Rattle.sector.specs.Bytes.{with_part, sectors_at}
-use Rattle.model.specs.Places.{chunk_at, ChangesOnly}
-use Rattle.model.proofs.Slots.{changes_only}
+use Rattle.store_bytes.specs.Places.{chunk_at, ChangesOnly}
+use Rattle.store_bytes.proofs.Slots.{changes_only}
 
 -- the length stays
 pub length-with_part : (b part : List ℕ) (at : ℕ) → at + length part ≤ length b → length (with_part b at part) ≡ length b

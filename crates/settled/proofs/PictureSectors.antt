@@ -8,10 +8,10 @@ use Rattle.std.proofs.lemmas.Bool.{cases_lt}
 use Rattle.sector.specs.Bytes.{sectors_at}
 use Rattle.sector.proofs.Sectors.{byte_read}
 use Rattle.sector.specs.declared.pair.Pair.{Pair}
-use Rattle.model.specs.Pairs.{pairs_of, IsInside}
-use Rattle.model.specs.Picture.{place_of, picture, picture_at}
+use Rattle.store_bytes.specs.Pairs.{pairs_of, IsInside}
+use Rattle.store_bytes.specs.Picture.{place_of, picture, picture_at}
 use Rattle.chunk.proofs.PiecePlaces.{piece_high}
-use Rattle.model.proofs.Pictures.{picture-plain, picture-written, length-picture, get_or-picture, place_found}
+use Rattle.store_bytes.proofs.Pictures.{picture-plain, picture-written, length-picture, get_or-picture, place_found}
 
 length-sectors_of : (b : List ℕ) (first count : ℕ) → 512 * (first + count) ≤ length b → length (sectors_at b first count) ≡ 512 * count
 length-sectors_of b first count fits = simp (length-take, length-drop) (omega arith)

@@ -12,7 +12,7 @@ use Rattle.chunk.proofs.PiecePlaces.{piece_low}
 use Rattle.chunk.proofs.Cuts.{touched_some}
 use Rattle.chunk.proofs.Wider.{by_border}
 use Rattle.chunk.proofs.Over.{touches}
-use Rattle.pending.specs.Due.{first_by}
+use Rattle.in_flight.specs.Due.{first_by}
 use Rattle.settled.specs.Snaps.{Snap, Volume}
 use Rattle.settled.specs.Saving.{has_chunk}
 use Rattle.settled.specs.Merges.{unsaved_in, next_over, saved_round, saved_rounds}

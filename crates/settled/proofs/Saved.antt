@@ -9,13 +9,13 @@ use Rattle.std.proofs.lemmas.List.{get_or-map, length-map, same_lists, places}
 use Rattle.std.proofs.lemmas.Nat.{mul-le, div-mul-add, mod-mul-add, mod_below}
 use Rattle.sector.specs.Bytes.{with_part, sectors_at}
 use Rattle.sector.specs.declared.pair.Pair.{Pair}
-use Rattle.model.specs.Places.{chunk_at, area_place, is_area_place, ChangesOnly}
-use Rattle.model.specs.Pairs.{pairs_of, IsApart, IsInside, AreWellFormed}
-use Rattle.model.specs.Picture.{place_of, picture_at, picture, IsCopied}
-use Rattle.model.proofs.AreaPlaces.{place_is, places_apart}
-use Rattle.model.proofs.Slots.{pairs-outside, pairs-later}
-use Rattle.model.proofs.Pictures.{same_picture, place-pushed, place_found, front_copied}
-use Rattle.model.proofs.Views.{byte_same, picture-only, picture-commit, place_unnamed}
+use Rattle.store_bytes.specs.Places.{chunk_at, area_place, is_area_place, ChangesOnly}
+use Rattle.store_bytes.specs.Pairs.{pairs_of, IsApart, IsInside, AreWellFormed}
+use Rattle.store_bytes.specs.Picture.{place_of, picture_at, picture, IsCopied}
+use Rattle.store_bytes.proofs.AreaPlaces.{place_is, places_apart}
+use Rattle.store_bytes.proofs.Slots.{pairs-outside, pairs-later}
+use Rattle.store_bytes.proofs.Pictures.{same_picture, place-pushed, place_found, front_copied}
+use Rattle.store_bytes.proofs.Views.{byte_same, picture-only, picture-commit, place_unnamed}
 use Rattle.settled.specs.Saves.{next_of, pairs_after, copied, zeroed, Saving}
 use Rattle.settled.specs.Order.{AreEmptyFrom, IsInOrder}
 use Rattle.settled.proofs.Nexts.{next_of_is}

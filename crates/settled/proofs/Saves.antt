@@ -6,9 +6,9 @@ use Rattle.sector.specs.declared.pair.Pair.{Pair}
 use Rattle.device.specs.declared.operation.Operation.{Operation}
 use Rattle.device.specs.declared.operation.Operation.TheVariants.{Reads, Writes, Flushes}
 use Rattle.device.specs.Layers.{layers_after}
-use Rattle.model.specs.Places.{area_place}
-use Rattle.model.specs.Pairs.{pairs_of}
-use Rattle.pending.specs.Copies.{count_of}
+use Rattle.store_bytes.specs.Places.{area_place}
+use Rattle.store_bytes.specs.Pairs.{pairs_of}
+use Rattle.in_flight.specs.Copies.{count_of}
 use Rattle.settled.specs.Saves.{Saving as Stored, copied, zeroed, paired, committed, saved}
 use Rattle.settled.specs.Devices.{Device, sectors_of, answers, met, written_by}
 use Rattle.settled.specs.Snaps.{Snap}

@@ -4,9 +4,9 @@ use Rattle.std.proofs.Common.{◌≡◌, ℕ, ◌+◌, ◌*◌, ◌<◌, ◌≤�
 use Rattle.std.specs.Prelude.{◌/◌, Result, Ok}
 use Rattle.sector.specs.Bytes.{sector_at}
 use Rattle.sector.specs.declared.refusal.Refusal.{Refusal}
-use Rattle.model.specs.Places.{area_place}
-use Rattle.model.specs.Pairs.{pairs_of, AreWellFormed}
-use Rattle.model.specs.Picture.{picture}
+use Rattle.store_bytes.specs.Places.{area_place}
+use Rattle.store_bytes.specs.Pairs.{pairs_of, AreWellFormed}
+use Rattle.store_bytes.specs.Picture.{picture}
 use Rattle.cow_header.specs.HeaderText.{found_in}
 use Rattle.cow_header.specs.declared.found.Found.{Found}
 use Rattle.cow_header.specs.declared.found.Found.TheVariants.{Fresh, Header}

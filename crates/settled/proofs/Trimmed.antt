@@ -5,13 +5,13 @@ use Rattle.std.proofs.lemmas.List.{length-replicate, take_all}
 use Rattle.std.proofs.lemmas.Bool.{cases_lt}
 use Rattle.std.proofs.lemmas.Nat.{div-add-mod', mod_below}
 use Rattle.sector.specs.Bytes.{with_part}
-use Rattle.model.specs.Slots.{pair_in}
-use Rattle.model.specs.Places.{chunk_at, area_place, slot, ChangesOnly}
-use Rattle.model.specs.Pairs.{pairs_of, AreWellFormed}
-use Rattle.model.specs.Picture.{picture}
-use Rattle.model.proofs.Slots.{IsListed-pairs, slot-at, pairs-cleared}
-use Rattle.model.proofs.Pictures.{same_picture}
-use Rattle.model.proofs.Views.{picture-only, place_unnamed}
+use Rattle.store_bytes.specs.Slots.{pair_in}
+use Rattle.store_bytes.specs.Places.{chunk_at, area_place, slot, ChangesOnly}
+use Rattle.store_bytes.specs.Pairs.{pairs_of, AreWellFormed}
+use Rattle.store_bytes.specs.Picture.{picture}
+use Rattle.store_bytes.proofs.Slots.{IsListed-pairs, slot-at, pairs-cleared}
+use Rattle.store_bytes.proofs.Pictures.{same_picture}
+use Rattle.store_bytes.proofs.Views.{picture-only, place_unnamed}
 use Rattle.settled.specs.Loads.{trimmed}
 use Rattle.settled.specs.Order.{IsInOrder}
 use Rattle.settled.proofs.Parts.{part_only, part_here, part_outside, part_inside, length-chunk_at}

@@ -7,9 +7,9 @@ use Rattle.sector.specs.Bytes.{with_sectors}
 use Rattle.sector.proofs.Sectors.{length-with_sectors, byte_outside}
 use Rattle.chunk.specs.Pieces.{touched}
 use Rattle.chunk.proofs.Over.{in_touched}
-use Rattle.model.specs.Pairs.{pairs_of}
-use Rattle.model.specs.Picture.{place_of, byte_of, picture_at, picture}
-use Rattle.model.proofs.Pictures.{picture-origin, same_picture}
+use Rattle.store_bytes.specs.Pairs.{pairs_of}
+use Rattle.store_bytes.specs.Picture.{place_of, byte_of, picture_at, picture}
+use Rattle.store_bytes.proofs.Pictures.{picture-origin, same_picture}
 use Rattle.settled.proofs.Laws.{option_cases}
 use Rattle.settled.proofs.Rounds.{span_over}
 

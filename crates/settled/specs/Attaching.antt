@@ -12,8 +12,8 @@ use Rattle.plain.specs.declared.request.Overflowing.{Overflowing}
 use Rattle.device.specs.declared.operation.Operation.{Operation}
 use Rattle.device.specs.declared.operation.Operation.TheVariants.{Reads, Writes, Flushes}
 use Rattle.chunk.specs.Sizes.{is_chunk}
-use Rattle.model.specs.Places.{chunk_at, area_place}
-use Rattle.model.specs.Pairs.{pairs_of}
+use Rattle.store_bytes.specs.Places.{chunk_at, area_place}
+use Rattle.store_bytes.specs.Pairs.{pairs_of}
 use Rattle.cow_header.specs.HeaderText.{header_bytes, found_in}
 use Rattle.cow_header.specs.declared.found.Found.{Found}
 use Rattle.cow_header.specs.declared.found.Found.TheVariants.{Fresh, Header}

@@ -15,3 +15,6 @@ pub mod Attaching
 pub mod Moments
 pub mod Merges
 pub mod MergeShown
+pub mod Beside
+pub mod MergedMoments
+pub mod Refusals

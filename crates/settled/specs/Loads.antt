@@ -7,9 +7,9 @@ use Rattle.sector.specs.Bytes.{with_part, sector_at}
 use Rattle.sector.specs.declared.pair.Pair.{Pair}
 use Rattle.sector.specs.declared.refusal.Refusal.{Refusal}
 use Rattle.sector.specs.declared.refusal.Refusal.TheVariants.{StoreTooSmall, Damaged}
-use Rattle.model.specs.Places.{area_place, is_area_place}
-use Rattle.model.specs.Pairs.{pairs_of}
-use Rattle.model.specs.Picture.{picture}
+use Rattle.store_bytes.specs.Places.{area_place, is_area_place}
+use Rattle.store_bytes.specs.Pairs.{pairs_of}
+use Rattle.store_bytes.specs.Picture.{picture}
 use Rattle.cow_header.specs.HeaderText.{header_bytes, found_in}
 use Rattle.cow_header.specs.declared.found.Found.{Found}
 use Rattle.cow_header.specs.declared.found.Found.TheVariants.{Fresh, Header}

@@ -2,8 +2,8 @@
 -- beginning on; its snapshots show what they do without a merge.
 use Rattle.std.specs.Prelude.{◌≡◌, ℕ, ◌+◌, ◌*◌, ◌<◌, ◌≤◌, true, List, length, Option, Some, None}
 use Rattle.chunk.specs.Sizes.{is_chunk}
-use Rattle.model.specs.Pairs.{AreWellFormed}
-use Rattle.model.specs.Picture.{picture}
+use Rattle.store_bytes.specs.Pairs.{AreWellFormed}
+use Rattle.store_bytes.specs.Picture.{picture}
 use Rattle.settled.specs.Order.{IsInOrder}
 use Rattle.settled.specs.Snaps.{Snap}
 use Rattle.std.specs.List.{All}

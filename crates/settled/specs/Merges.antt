@@ -10,11 +10,11 @@ use Rattle.sector.specs.declared.pair.Pair.{Pair}
 use Rattle.device.specs.declared.operation.Operation.{Operation}
 use Rattle.device.specs.declared.operation.Operation.TheVariants.{Reads, Writes, Flushes}
 use Rattle.chunk.specs.Pieces.{Span, pieces_of, chunks_over}
-use Rattle.model.specs.Places.{area_place}
-use Rattle.model.specs.Pairs.{pairs_of}
-use Rattle.model.specs.Picture.{place_of}
-use Rattle.pending.specs.Copies.{count_of}
-use Rattle.pending.specs.Due.{first_by}
+use Rattle.store_bytes.specs.Places.{area_place}
+use Rattle.store_bytes.specs.Pairs.{pairs_of}
+use Rattle.store_bytes.specs.Picture.{place_of}
+use Rattle.in_flight.specs.Copies.{count_of}
+use Rattle.in_flight.specs.Due.{first_by}
 use Rattle.plain.specs.declared.request.Dev.{Dev}
 use Rattle.plain.specs.declared.request.Dev.TheVariants.{Origin, Snap as ToSnap}
 use Rattle.plain.specs.declared.request.Reply.{Reply}

@@ -1,8 +1,8 @@
 -- What holds of a live snapshot's store between two commands.
 use Rattle.std.specs.Prelude.{◌≡◌, ℕ, ◌*◌, ◌/◌, ◌%◌, ◌<◌, ◌≤◌, List, length}
-use Rattle.model.specs.Slots.{pair_in}
-use Rattle.model.specs.Places.{chunk_at, area_place}
-use Rattle.model.specs.Pairs.{pairs_of, AreWellFormed}
+use Rattle.store_bytes.specs.Slots.{pair_in}
+use Rattle.store_bytes.specs.Places.{chunk_at, area_place}
+use Rattle.store_bytes.specs.Pairs.{pairs_of, AreWellFormed}
 
 -- the slots of area a from slot j on are empty
 pub record AreEmptyFrom (chunk a j : ℕ) (store : List ℕ) : Type 0 where

@@ -5,8 +5,8 @@ use Rattle.std.specs.Prelude.{◌==◌, ◌&&◌, ◌||◌, not, ℕ, ◌+◌, �
 use Rattle.sector.specs.Bytes.{with_sectors}
 use Rattle.device.specs.declared.operation.Operation.TheVariants.{Reads, Writes, Flushes}
 use Rattle.chunk.specs.Pieces.{Span}
-use Rattle.model.specs.Pairs.{pairs_of}
-use Rattle.model.specs.Picture.{place_of}
+use Rattle.store_bytes.specs.Pairs.{pairs_of}
+use Rattle.store_bytes.specs.Picture.{place_of}
 use Rattle.plain.specs.Plain.{did_overflow, may_overflow}
 use Rattle.plain.specs.declared.request.Overflowing.TheVariants.{Did}
 use Rattle.plain.specs.declared.request.Reply.{Reply}

@@ -4,11 +4,11 @@
 use Rattle.std.specs.Prelude.{◌==◌, ℕ, ◌+◌, ◌*◌, ◌/◌, ◌%◌, Bool, true, false, List, [], ◌∷◌, ◌++◌, length, max, nat_lt, is_some, replicate, if◌then◌else◌}
 use Rattle.sector.specs.Bytes.{with_part}
 use Rattle.sector.specs.declared.pair.Pair.{Pair}
-use Rattle.model.specs.Slots.{pair_bytes}
-use Rattle.model.specs.Places.{chunk_at, area_place}
-use Rattle.model.specs.Pairs.{pairs_of}
-use Rattle.model.specs.NextPlace.{stepped}
-use Rattle.model.specs.Picture.{place_of}
+use Rattle.store_bytes.specs.Slots.{pair_bytes}
+use Rattle.store_bytes.specs.Places.{chunk_at, area_place}
+use Rattle.store_bytes.specs.Pairs.{pairs_of}
+use Rattle.store_bytes.specs.NextPlace.{stepped}
+use Rattle.store_bytes.specs.Picture.{place_of}
 use Rattle.cow_header.specs.HeaderText.{header_bytes}
 
 -- the greatest new chunk of these pairs; 1, the place of area 0, without pairs

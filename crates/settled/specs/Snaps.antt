@@ -2,7 +2,7 @@
 -- A snapshot between two commands: all that it is stands in its store's bytes, but whether it is still live, and whether its
 -- store overflowed.
 use Rattle.std.specs.Prelude.{ℕ, Bool, List, if◌then◌else◌}
-use Rattle.model.specs.Picture.{picture}
+use Rattle.store_bytes.specs.Picture.{picture}
 use Rattle.plain.specs.declared.request.Overflowing.{Overflowing}
 use Rattle.plain.specs.Plain.{Saved, Live, Invalid}
 use Rattle.settled.specs.Devices.{Device}

@@ -12,8 +12,8 @@ use Rattle.plain.specs.declared.request.Op.TheVariants.{Flush}
 use Rattle.plain.specs.declared.request.Reply.{Reply}
 use Rattle.plain.specs.declared.request.Reply.TheVariants.{Flushed, Refused}
 use Rattle.plain.specs.declared.request.Failure.TheVariants.{Invalid, Io}
-use Rattle.pending.specs.Flushed.{safe_mark}
-use Rattle.pending.specs.declared.flights.Route.TheVariants.{Origin, Whole}
+use Rattle.in_flight.specs.Flushed.{safe_mark}
+use Rattle.in_flight.specs.declared.flights.Route.TheVariants.{Origin, Whole}
 use Rattle.settled.specs.Devices.{Device, answers, met, flush_reply}
 use Rattle.settled.specs.Snaps.{Snap}
 use Rattle.settled.specs.Pieces.{Answered, Served, flush_origin, flush_snap, in_snap}

@@ -4,7 +4,7 @@ use Rattle.std.specs.Prelude.{◌==◌}
 use Rattle.std.proofs.lemmas.Bool.{cond-true}
 use Rattle.plain.specs.declared.event.Event.TheVariants.{Issue}
 use Rattle.plain.specs.declared.request.Reply.{Reply}
-use Rattle.pending.specs.Due.{is_routed}
+use Rattle.in_flight.specs.Due.{is_routed}
 use Rattle.settled.specs.Devices.{Device}
 use Rattle.settled.specs.Pieces.{Answered}
 use Rattle.event_machine.specs.Held.{Held, Going, MergeHeld, Moving}

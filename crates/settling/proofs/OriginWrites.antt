@@ -10,9 +10,9 @@ use Rattle.plain.specs.declared.request.Request.{Request}
 use Rattle.plain.specs.declared.request.Dev.TheVariants.{Origin as ToOrigin}
 use Rattle.plain.specs.declared.request.Op.TheVariants.{Write}
 use Rattle.plain.specs.declared.request.Reply.{Reply}
-use Rattle.pending.specs.Routes.{write_route_of}
-use Rattle.pending.specs.declared.flights.Route.{Route}
-use Rattle.pending.specs.declared.flights.Route.TheVariants.{Held as Waits, Origin}
+use Rattle.in_flight.specs.Routes.{write_route_of}
+use Rattle.in_flight.specs.declared.flights.Route.{Route}
+use Rattle.in_flight.specs.declared.flights.Route.TheVariants.{Held as Waits, Origin}
 use Rattle.settled.specs.Devices.{Device, written_by}
 use Rattle.event_machine.specs.Held.{Held, Going, MergeHeld, Moving, is_untried}
 use Rattle.event_machine.specs.Again.{again, is_saved, is_clear, is_grouped, merged_place, write_route}

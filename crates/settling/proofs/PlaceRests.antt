@@ -6,12 +6,12 @@ use Rattle.std.proofs.lemmas.Nat.{div-add-mod'}
 use Rattle.sector.specs.Bytes.{with_part, with_sectors}
 use Rattle.sector.specs.declared.pair.Pair.{Pair}
 use Rattle.device.specs.declared.operation.Operation.TheVariants.{Writes}
-use Rattle.model.specs.Places.{area_place, is_area_place, ChangesOnly}
-use Rattle.model.specs.Pairs.{pairs_of, IsInside}
-use Rattle.model.specs.Picture.{place_of}
-use Rattle.model.proofs.AreaPlaces.{place_is}
-use Rattle.model.proofs.Slots.{pairs-outside}
-use Rattle.model.proofs.Pictures.{place_found}
+use Rattle.store_bytes.specs.Places.{area_place, is_area_place, ChangesOnly}
+use Rattle.store_bytes.specs.Pairs.{pairs_of, IsInside}
+use Rattle.store_bytes.specs.Picture.{place_of}
+use Rattle.store_bytes.proofs.AreaPlaces.{place_is}
+use Rattle.store_bytes.proofs.Slots.{pairs-outside}
+use Rattle.store_bytes.proofs.Pictures.{place_found}
 use Rattle.settled.specs.Order.{IsInOrder}
 use Rattle.settled.proofs.Parts.{part_only}
 use Rattle.settled.proofs.Commits.{tail_kept}

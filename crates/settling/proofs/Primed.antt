@@ -4,12 +4,12 @@ use Rattle.std.proofs.Common.{◌≡◌, inl, inr, ℕ, ◌+◌, ◌<◌, ◌≤
 use Rattle.std.specs.Prelude.{◌==◌, ◌&&◌, ◌||◌, not, is_some, if◌then◌else◌}
 use Rattle.std.specs.List.{list_any}
 use Rattle.std.proofs.lemmas.Bool.{cases_Bool, cond-true, cond-false}
-use Rattle.pending.specs.declared.copies.Stage.TheVariants.{Waiting}
-use Rattle.pending.specs.Due.{least}
+use Rattle.in_flight.specs.declared.copies.Stage.TheVariants.{Waiting}
+use Rattle.in_flight.specs.Due.{least}
 use Rattle.device.specs.declared.operation.Operation.TheVariants.{Writes, Flushes}
 use Rattle.settled.specs.Devices.{answers, met}
 use Rattle.settled.specs.Saving.{spoilt, header_written}
-use Rattle.model.specs.Picture.{place_of}
+use Rattle.store_bytes.specs.Picture.{place_of}
 use Rattle.event_machine.specs.Held.{Copying, Held}
 use Rattle.event_machine.specs.Due.{can_mark, copy_at, least_in}
 use Rattle.event_machine.specs.Rest.{IsResting}

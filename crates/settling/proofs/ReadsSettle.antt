@@ -12,11 +12,11 @@ use Rattle.plain.specs.declared.request.Op.TheVariants.{Read}
 use Rattle.plain.specs.declared.request.Reply.{Reply}
 use Rattle.plain.specs.declared.request.Reply.TheVariants.{Refused}
 use Rattle.plain.specs.declared.request.Failure.TheVariants.{Invalid}
-use Rattle.model.specs.Picture.{place_of}
-use Rattle.model.specs.Pairs.{pairs_of}
-use Rattle.pending.specs.Routes.{read_route_of}
-use Rattle.pending.specs.declared.flights.Route.{Route}
-use Rattle.pending.specs.declared.flights.Route.TheVariants.{Origin, Store}
+use Rattle.store_bytes.specs.Picture.{place_of}
+use Rattle.store_bytes.specs.Pairs.{pairs_of}
+use Rattle.in_flight.specs.Routes.{read_route_of}
+use Rattle.in_flight.specs.declared.flights.Route.{Route}
+use Rattle.in_flight.specs.declared.flights.Route.TheVariants.{Origin, Store}
 use Rattle.settled.proofs.Laws.{option_cases}
 use Rattle.settled.specs.Devices.{Device, met, read_reply}
 use Rattle.settled.specs.Pieces.{Answered, read_origin, read_snap, read_place, in_snap}

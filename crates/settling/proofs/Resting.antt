@@ -3,8 +3,8 @@ use Rattle.std.proofs.Common.{◌≡◌, inl, inr, ℕ, ◌+◌, ◌*◌, ◌<�
 use Rattle.std.specs.Prelude.{if◌then◌else◌}
 use Rattle.std.proofs.lemmas.Bool.{cases_Bool, cond-true, cond-false}
 use Rattle.sector.specs.declared.pair.Pair.{Pair}
-use Rattle.model.specs.Pairs.{pairs_of}
-use Rattle.model.specs.NextPlace.{stepped}
+use Rattle.store_bytes.specs.Pairs.{pairs_of}
+use Rattle.store_bytes.specs.NextPlace.{stepped}
 use Rattle.settled.specs.Saves.{Saving as Stored, next_of, saved}
 use Rattle.settled.proofs.Saved.{AfterSaving, IsSavedTo}
 use Rattle.settled.proofs.Laws.{saving_law}

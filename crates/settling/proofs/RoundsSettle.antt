@@ -8,11 +8,11 @@ use Rattle.std.proofs.lemmas.Bool.{cases_Bool, cond-true, cond-false, true≢fal
 use Rattle.sector.specs.declared.pair.Pair.{Pair}
 use Rattle.plain.specs.declared.request.Reply.{Reply}
 use Rattle.chunk.specs.Pieces.{chunks_over}
-use Rattle.model.specs.NextPlace.{stepped}
-use Rattle.model.specs.Picture.{place_of}
-use Rattle.pending.specs.Copies.{count_of}
-use Rattle.pending.specs.declared.copies.Mark.{Mark}
-use Rattle.pending.specs.declared.copies.Stage.TheVariants.{Waiting}
+use Rattle.store_bytes.specs.NextPlace.{stepped}
+use Rattle.store_bytes.specs.Picture.{place_of}
+use Rattle.in_flight.specs.Copies.{count_of}
+use Rattle.in_flight.specs.declared.copies.Mark.{Mark}
+use Rattle.in_flight.specs.declared.copies.Stage.TheVariants.{Waiting}
 use Rattle.volume_laws.specs.Published.{is_published}
 use Rattle.settled.specs.Devices.{Device, met}
 use Rattle.settled.specs.Snaps.{Snap, Volume}

@@ -7,9 +7,9 @@ use Rattle.std.specs.Prelude.{◌||◌, not, is_some, nat_lt}
 use Rattle.std.proofs.lemmas.Bool.{cases_Bool, cond-true, cond-false, true≢false}
 use Rattle.sector.specs.declared.pair.Pair.{Pair}
 use Rattle.plain.specs.declared.request.Reply.{Reply}
-use Rattle.model.specs.NextPlace.{stepped}
-use Rattle.model.specs.Picture.{place_of}
-use Rattle.pending.specs.declared.copies.Stage.TheVariants.{Waiting}
+use Rattle.store_bytes.specs.NextPlace.{stepped}
+use Rattle.store_bytes.specs.Picture.{place_of}
+use Rattle.in_flight.specs.declared.copies.Stage.TheVariants.{Waiting}
 use Rattle.chunk.proofs.PiecePlaces.{piece_low}
 use Rattle.settled.specs.Devices.{Device, met}
 use Rattle.settled.specs.Snaps.{Snap, Volume}

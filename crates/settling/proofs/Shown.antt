@@ -5,7 +5,7 @@ use Rattle.std.proofs.lemmas.Bool.{cond-true}
 use Rattle.sector.specs.Bytes.{with_sectors}
 use Rattle.device.specs.declared.operation.Operation.TheVariants.{Writes}
 use Rattle.chunk.specs.Pieces.{Span}
-use Rattle.model.specs.Picture.{picture}
+use Rattle.store_bytes.specs.Picture.{picture}
 use Rattle.plain.specs.Plain.{Live}
 use Rattle.settled.specs.Saves.{Saving as Stored, saved}
 use Rattle.settled.proofs.Saved.{AfterSaving, IsSavedTo}

@@ -15,16 +15,16 @@ use Rattle.plain.specs.declared.request.Reply.{Reply}
 use Rattle.plain.specs.declared.request.Reply.TheVariants.{Refused as Declined}
 use Rattle.plain.specs.declared.request.Failure.TheVariants.{Invalid, Overflow}
 use Rattle.plain.specs.Plain.{did_overflow, may_overflow}
-use Rattle.model.specs.NextPlace.{stepped}
-use Rattle.model.specs.Picture.{place_of}
-use Rattle.model.proofs.Pictures.{place-pushed}
-use Rattle.pending.specs.Due.{least}
-use Rattle.pending.specs.Routes.{placed_route_of}
-use Rattle.pending.specs.declared.copies.Stage.TheVariants.{Waiting}
-use Rattle.pending.specs.declared.copies.Mark.{Mark}
-use Rattle.pending.specs.declared.flights.Kind.TheVariants.{SnapWrite}
-use Rattle.pending.specs.declared.flights.Route.{Route}
-use Rattle.pending.specs.declared.flights.Route.TheVariants.{Held as Waits, Store, Refused}
+use Rattle.store_bytes.specs.NextPlace.{stepped}
+use Rattle.store_bytes.specs.Picture.{place_of}
+use Rattle.store_bytes.proofs.Pictures.{place-pushed}
+use Rattle.in_flight.specs.Due.{least}
+use Rattle.in_flight.specs.Routes.{placed_route_of}
+use Rattle.in_flight.specs.declared.copies.Stage.TheVariants.{Waiting}
+use Rattle.in_flight.specs.declared.copies.Mark.{Mark}
+use Rattle.in_flight.specs.declared.flights.Kind.TheVariants.{SnapWrite}
+use Rattle.in_flight.specs.declared.flights.Route.{Route}
+use Rattle.in_flight.specs.declared.flights.Route.TheVariants.{Held as Waits, Store, Refused}
 use Rattle.settled.proofs.Laws.{option_cases}
 use Rattle.chunk.proofs.PiecePlaces.{piece_low}
 use Rattle.volume_laws.specs.Again.{published_place}

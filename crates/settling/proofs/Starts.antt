@@ -4,12 +4,12 @@ use Rattle.std.specs.Prelude.{◌&&◌, ◌||◌, not, is_some}
 use Rattle.std.proofs.lemmas.Bool.{cases_Bool}
 use Rattle.sector.specs.Bytes.{sectors_at, with_sectors}
 use Rattle.sector.specs.declared.pair.Pair.{Pair}
-use Rattle.model.specs.NextPlace.{stepped}
-use Rattle.model.specs.Picture.{place_of}
-use Rattle.model.proofs.Pictures.{place-pushed}
-use Rattle.pending.specs.Copies.{count_of}
-use Rattle.pending.specs.declared.copies.Stage.TheVariants.{Waiting}
-use Rattle.pending.specs.declared.copies.Mark.{Mark}
+use Rattle.store_bytes.specs.NextPlace.{stepped}
+use Rattle.store_bytes.specs.Picture.{place_of}
+use Rattle.store_bytes.proofs.Pictures.{place-pushed}
+use Rattle.in_flight.specs.Copies.{count_of}
+use Rattle.in_flight.specs.declared.copies.Stage.TheVariants.{Waiting}
+use Rattle.in_flight.specs.declared.copies.Mark.{Mark}
 use Rattle.settled.specs.Saves.{copied, next_of}
 use Rattle.settled.proofs.Saved.{chunk_front}
 use Rattle.settled.specs.Devices.{Device, sectors_of}

@@ -3,8 +3,8 @@ use Rattle.std.proofs.Common.{◌≡◌, inl, inr, ℕ, ◌+◌, ◌<◌, ◌≤
 use Rattle.std.specs.Prelude.{◌==◌, ◌&&◌, ◌||◌, not, is_some}
 use Rattle.std.specs.List.{list_any}
 use Rattle.std.proofs.lemmas.Bool.{cases_Bool, cond-true, cond-false, ne_eqb}
-use Rattle.model.specs.Picture.{place_of}
-use Rattle.pending.specs.declared.copies.Stage.TheVariants.{Waiting}
+use Rattle.store_bytes.specs.Picture.{place_of}
+use Rattle.in_flight.specs.declared.copies.Stage.TheVariants.{Waiting}
 use Rattle.event_machine.specs.Held.{Copying, Held, spoiled}
 use Rattle.event_machine.specs.Due.{is_at}
 use Rattle.event_machine.specs.Stepping.{is_copy}

@@ -7,13 +7,13 @@ use Rattle.std.proofs.lemmas.List.{get_or-map, length-map, drop-map, map_push}
 use Rattle.std.proofs.lemmas.List.Elements.{All-set, All-drop, All-push, All-map}
 use Rattle.std.proofs.Math.Seq.{map-set_same}
 use Rattle.sector.specs.declared.pair.Pair.{Pair}
-use Rattle.model.specs.Pairs.{IsInside}
-use Rattle.model.specs.Picture.{place_of}
-use Rattle.pending.specs.Copies.{count_of, pair_of}
-use Rattle.pending.specs.Flushed.{flushed_copy}
-use Rattle.pending.proofs.Batches.{batch_few}
-use Rattle.pending.specs.declared.copies.ChunkCopy.{ChunkCopy}
-use Rattle.pending.specs.declared.copies.Mark.{Mark}
+use Rattle.store_bytes.specs.Pairs.{IsInside}
+use Rattle.store_bytes.specs.Picture.{place_of}
+use Rattle.in_flight.specs.Copies.{count_of, pair_of}
+use Rattle.in_flight.specs.Flushed.{flushed_copy}
+use Rattle.in_flight.proofs.Batches.{batch_few}
+use Rattle.in_flight.specs.declared.copies.ChunkCopy.{ChunkCopy}
+use Rattle.in_flight.specs.declared.copies.Mark.{Mark}
 use Rattle.store.specs.declared.state.State.{State}
 use Rattle.store.specs.Stored.{after_commit}
 use Rattle.volume_laws.proofs.Lists.{All-back, All-from_list_any}

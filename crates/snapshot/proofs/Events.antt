@@ -5,13 +5,13 @@ use Rattle.std.proofs.lemmas.List.{take-map, length-map}
 use Rattle.sector.specs.Bytes.{sectors_at, with_sectors}
 use Rattle.sector.specs.declared.pair.Pair.{Pair}
 use Rattle.device.specs.Layers.{Layer, is_loud}
-use Rattle.model.specs.Places.{area_place, ChangesOnly}
-use Rattle.model.specs.Pairs.{pairs_of}
-use Rattle.model.specs.NextPlace.{stepped}
-use Rattle.pending.specs.Copies.{count_of}
-use Rattle.pending.specs.declared.copies.ChunkCopy.{ChunkCopy}
-use Rattle.pending.specs.declared.copies.Mark.{Mark}
-use Rattle.pending.specs.declared.copies.Stage.TheVariants.{Waiting, Read, Written, Flushed}
+use Rattle.store_bytes.specs.Places.{area_place, ChangesOnly}
+use Rattle.store_bytes.specs.Pairs.{pairs_of}
+use Rattle.store_bytes.specs.NextPlace.{stepped}
+use Rattle.in_flight.specs.Copies.{count_of}
+use Rattle.in_flight.specs.declared.copies.ChunkCopy.{ChunkCopy}
+use Rattle.in_flight.specs.declared.copies.Mark.{Mark}
+use Rattle.in_flight.specs.declared.copies.Stage.TheVariants.{Waiting, Read, Written, Flushed}
 use Rattle.exception_arena.specs.declared.begun.Begun.{Begun}
 use Rattle.exception_arena.specs.Pending.{pairs, pair_of}
 use Rattle.store.specs.declared.state.State.{State}

@@ -4,7 +4,7 @@ use Rattle.std.proofs.lemmas.Bool.{true≢false, false≢true, cond-true, cond-f
 use Rattle.sector.specs.declared.refusal.Refusal.TheVariants.{Io}
 use Rattle.device.specs.declared.operation.Operation.TheVariants.{Flushes}
 use Rattle.device.specs.Layers.{Layer}
-use Rattle.model.specs.Places.{ChangesOnly}
+use Rattle.store_bytes.specs.Places.{ChangesOnly}
 use Rattle.store.specs.Loading.{after_write, chunk_left, is_left}
 use Rattle.store.specs.Operations.{IsOneOperation}
 use Rattle.store.specs.declared.state.Left.{Left}

@@ -8,9 +8,9 @@ use Rattle.std.proofs.lemmas.Bool.{cases_Bool, eq-eqb, true≢false, MatchBool-a
 use Rattle.std.proofs.lemmas.List.Folds.{list_any-append}
 use Rattle.std.proofs.lemmas.List.{append_assoc, map-append}
 use Rattle.std.specs.Option.{is_some}
-use Rattle.pending.specs.Flushed.{flushed_copy}
-use Rattle.pending.specs.declared.copies.ChunkCopy.{ChunkCopy}
-use Rattle.pending.specs.declared.copies.Mark.{Mark}
+use Rattle.in_flight.specs.Flushed.{flushed_copy}
+use Rattle.in_flight.specs.declared.copies.ChunkCopy.{ChunkCopy}
+use Rattle.in_flight.specs.declared.copies.Mark.{Mark}
 use Rattle.snapshot.specs.Held.{HasRoom, IsLent, IsSpared, copies_kept, marks_kept}
 use Rattle.volume_laws.specs.Steps.{mark_of}
 use Rattle.snapshot.specs.Kept.{is_among}

@@ -12,9 +12,9 @@ use Rattle.sector.specs.declared.refusal.Refusal.TheVariants.{NoMemory, Io, Dama
 use Rattle.device.specs.declared.operation.Operation.{Operation}
 use Rattle.device.specs.declared.operation.Operation.TheVariants.{Flushes, Reads, Writes}
 use Rattle.device.specs.Layers.{Layer, fate, is_answered, layers_after}
-use Rattle.model.specs.Places.{chunk_at, area_place}
-use Rattle.model.specs.Pairs.{pairs_of, AreWellFormed}
-use Rattle.model.proofs.AreaPlaces.{area_of, number_in}
+use Rattle.store_bytes.specs.Places.{chunk_at, area_place}
+use Rattle.store_bytes.specs.Pairs.{pairs_of, AreWellFormed}
+use Rattle.store_bytes.proofs.AreaPlaces.{area_of, number_in}
 use Rattle.metadata_area.specs.Cleared.{HasTail, HasNoTail}
 use Rattle.cow_header.specs.HeaderText.{found_in}
 use Rattle.cow_header.specs.declared.found.Found.{Found}

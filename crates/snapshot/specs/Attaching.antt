@@ -3,7 +3,7 @@
 use Rattle.std.specs.Prelude.{ℕ, ◌*◌, List}
 use Rattle.device.specs.declared.operation.Operation.TheVariants.{Writes}
 use Rattle.device.specs.Layers.{Layer}
-use Rattle.model.specs.Places.{area_place}
+use Rattle.store_bytes.specs.Places.{area_place}
 use Rattle.store.specs.declared.state.Left.{Left}
 use Rattle.store.specs.declared.state.Left.TheVariants.{FirstArea, HeaderChunk, Tail, Nothing}
 use Rattle.store.specs.declared.state.State.{State}

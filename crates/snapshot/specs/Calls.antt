@@ -3,11 +3,11 @@ use Rattle.std.specs.Prelude.{◌≡◌, ℕ, ◌+◌, ◌-◌, ◌*◌, false, 
 use Rattle.std.specs.Global.{Vec}
 use Rattle.sector.specs.Bytes.{sectors_at}
 use Rattle.device.specs.Layers.{Layer}
-use Rattle.model.specs.NextPlace.{stepped}
-use Rattle.pending.specs.Copies.{count_of}
-use Rattle.pending.specs.declared.copies.ChunkCopy.{ChunkCopy}
-use Rattle.pending.specs.declared.copies.Stage.{Stage}
-use Rattle.pending.specs.declared.copies.Stage.TheVariants.{Waiting, Read, Written}
+use Rattle.store_bytes.specs.NextPlace.{stepped}
+use Rattle.in_flight.specs.Copies.{count_of}
+use Rattle.in_flight.specs.declared.copies.ChunkCopy.{ChunkCopy}
+use Rattle.in_flight.specs.declared.copies.Stage.{Stage}
+use Rattle.in_flight.specs.declared.copies.Stage.TheVariants.{Waiting, Read, Written}
 use Rattle.volume_laws.specs.Steps.{ReadsCopy, WritesCopy, StartsCopy}
 use Rattle.snapshot.specs.Kept.{Kept, books_of}
 

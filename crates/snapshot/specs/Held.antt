@@ -4,9 +4,9 @@ use Rattle.std.specs.List.{All}
 use Rattle.std.specs.Global.{Vec}
 use Rattle.sector.specs.declared.pair.Pair.{Pair}
 use Rattle.chunk.specs.Sizes.{is_chunk}
-use Rattle.pending.specs.Copies.{count_of, pair_of}
-use Rattle.pending.specs.declared.copies.ChunkCopy.{ChunkCopy}
-use Rattle.pending.specs.declared.copies.Mark.{Mark}
+use Rattle.in_flight.specs.Copies.{count_of, pair_of}
+use Rattle.in_flight.specs.declared.copies.ChunkCopy.{ChunkCopy}
+use Rattle.in_flight.specs.declared.copies.Mark.{Mark}
 use Rattle.store.specs.declared.state.Left.TheVariants.{Nothing}
 use Rattle.store.specs.declared.state.State.{State}
 

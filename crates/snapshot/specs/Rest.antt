@@ -1,6 +1,6 @@
 -- A live snapshot of which nothing is under way: what its store's bytes say of it. This project's own.
 use Rattle.std.specs.Prelude.{◌≡◌, ℕ, false, List}
-use Rattle.model.specs.Pairs.{pairs_of}
+use Rattle.store_bytes.specs.Pairs.{pairs_of}
 use Rattle.settled.specs.Saves.{next_of}
 use Rattle.settled.specs.Order.{IsInOrder}
 use Rattle.snapshot.specs.Kept.{Kept}

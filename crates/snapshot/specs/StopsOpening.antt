@@ -3,7 +3,7 @@
 use Rattle.std.specs.Prelude.{◌⊎◌, ℕ, List, [], Result, Ok, Err}
 use Rattle.sector.specs.declared.pair.Pair.{Pair}
 use Rattle.sector.specs.declared.refusal.Refusal.{Refusal}
-use Rattle.model.specs.Pairs.{pairs_of}
+use Rattle.store_bytes.specs.Pairs.{pairs_of}
 use Rattle.cow_header.specs.declared.found.Found.{Found}
 use Rattle.cow_header.specs.declared.found.Found.TheVariants.{Fresh, Header}
 use Rattle.store.specs.declared.state.Left.{Left}

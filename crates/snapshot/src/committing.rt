@@ -5,9 +5,9 @@ ghost use Rattle.std.specs.List.{All, remove};
 ghost use Rattle.sector.specs.Bytes.{with_part, with_sectors};
 ghost use Rattle.device.specs.declared.operation.Operation.TheVariants.{Writes};
 ghost use Rattle.device.specs.Layers.{is_loud};
-ghost use Rattle.model.specs.Places.{area_place};
-ghost use Rattle.pending.specs.declared.copies.Mark.{Mark};
-ghost use Rattle.pending.specs.declared.copies.Stage.TheVariants.{Flushed};
+ghost use Rattle.store_bytes.specs.Places.{area_place};
+ghost use Rattle.in_flight.specs.declared.copies.Mark.{Mark};
+ghost use Rattle.in_flight.specs.declared.copies.Stage.TheVariants.{Flushed};
 ghost use Rattle.store.specs.Operations.{IsOneOperation};
 ghost use Rattle.store.specs.Slots.{pairs_bytes, slot_start};
 ghost use Rattle.store.specs.Stored.{after_commit};
@@ -20,7 +20,7 @@ ghost use Rattle.stop_laws.specs.Firm.{AddsNow};
 
 use crate::Snapshot;
 use device::{Block, Io};
-use pending::{ChunkCopy, Mark};
+use in_flight::{ChunkCopy, Mark};
 use plain::CopyId;
 
 impl<B: Block> Snapshot<B> {

@@ -3,9 +3,9 @@ ghost use Rattle.std.specs.Prelude.{◌≡◌, ◌*◌, ◌<◌, length, slice_i
 ghost use Rattle.sector.specs.Bytes.{sectors_at};
 ghost use Rattle.device.specs.declared.operation.Operation.TheVariants.{Reads, Writes};
 ghost use Rattle.device.specs.Layers.{is_loud};
-ghost use Rattle.pending.specs.Copies.{count_of};
-ghost use Rattle.pending.specs.declared.copies.ChunkCopy.{ChunkCopy};
-ghost use Rattle.pending.specs.declared.copies.Stage.TheVariants.{Read};
+ghost use Rattle.in_flight.specs.Copies.{count_of};
+ghost use Rattle.in_flight.specs.declared.copies.ChunkCopy.{ChunkCopy};
+ghost use Rattle.in_flight.specs.declared.copies.Stage.TheVariants.{Read};
 ghost use Rattle.store.specs.Operations.{IsOneOperation};
 ghost use Rattle.snapshot.specs.InStep.{IsInStep};
 ghost use Rattle.snapshot.specs.Calls.{GoesTo, ReadsAt, StaysAt, WritesAt};
@@ -13,7 +13,7 @@ ghost use Rattle.stop_laws.specs.Firm.{AddsNow};
 
 use crate::Snapshot;
 use device::{Block, Io};
-use pending::{ChunkCopy, Stage, sectors_of};
+use in_flight::{ChunkCopy, Stage, sectors_of};
 use sector::Range;
 
 impl<B: Block> Snapshot<B> {

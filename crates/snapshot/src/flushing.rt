@@ -3,7 +3,7 @@
 ghost use Rattle.std.specs.Prelude.{◌≡◌, length, map, not, vec_capacity, is_ok, OnOk, OnErr, IsTrue, true, false, if◌then◌else◌};
 ghost use Rattle.device.specs.declared.operation.Operation.TheVariants.{Flushes};
 ghost use Rattle.device.specs.Layers.{fate, is_passed, is_loud};
-ghost use Rattle.pending.specs.Flushed.{flushed_copy, safe_mark};
+ghost use Rattle.in_flight.specs.Flushed.{flushed_copy, safe_mark};
 ghost use Rattle.store.specs.Operations.{IsOneOperation};
 ghost use Rattle.volume_laws.specs.Steps.{FlushesStore, TriesMark};
 ghost use Rattle.snapshot.specs.InStep.{IsInStep};
@@ -12,7 +12,7 @@ ghost use Rattle.stop_laws.specs.Firm.{AddsNow, IsFirm};
 
 use crate::Snapshot;
 use device::{Block, Io};
-use pending::{ChunkCopy, Mark, flush_copies, flush_marks};
+use in_flight::{ChunkCopy, Mark, flush_copies, flush_marks};
 
 impl<B: Block> Snapshot<B> {
     /// Flushes the store of a live snapshot, as an event or for a request: the copies that are written may be committed,

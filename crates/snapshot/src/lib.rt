@@ -1,7 +1,7 @@
 //! One snapshot of a volume: its store, whether it is live, whether its store overflowed, the copies that are not committed,
 //! and those that are committed and not published. Each call is one event of it, or one look at it.
 //!
-//! It stands on `store`, which keeps the pairs on the device, and on `pending`, whose lists it holds. It promises of each
+//! It stands on `store`, which keeps the pairs on the device, and on `in_flight`, whose lists it holds. It promises of each
 //! event the relation between the snapshot before and after that `volume_laws` has laws for, the one operation of its
 //! device, and every field of what contracts see. A device that fails changes nothing but that device's counts and layers;
 //! what becomes of the snapshot then, its volume decides. No event takes memory: `reserve` does, before a copy starts, and

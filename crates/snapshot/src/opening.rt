@@ -7,13 +7,13 @@ ghost use Rattle.sector.specs.declared.refusal.Refusal.TheVariants.{NoMemory, Io
 ghost use Rattle.chunk.specs.Sizes.{is_chunk};
 ghost use Rattle.device.specs.declared.operation.Operation.TheVariants.{Flushes};
 ghost use Rattle.device.specs.Layers.{is_loud};
-ghost use Rattle.model.specs.Places.{slot, ChangesOnly};
+ghost use Rattle.store_bytes.specs.Places.{slot, ChangesOnly};
 ghost use Rattle.store.specs.declared.state.Left.TheVariants.{Nothing};
 ghost use Rattle.store.specs.Held.{committed, pending, reserved};
 ghost use Rattle.store.specs.Loading.{after_write, chunk_left, is_left, with_left};
 ghost use Rattle.store.specs.Opening.{IsRefused, faults_after};
 ghost use Rattle.store.specs.Stopping.{MayPrepare};
-ghost use Rattle.model.specs.Picture.{picture};
+ghost use Rattle.store_bytes.specs.Picture.{picture};
 ghost use Rattle.volume_laws.specs.Steps.{IsNewSnap};
 ghost use Rattle.snapshot.specs.InStep.{IsInStep};
 ghost use Rattle.snapshot.specs.Kept.{books_of};

@@ -1,9 +1,9 @@
 // A snapshot, and what callers ask of it.
 ghost use Rattle.std.specs.Prelude.{◌≡◌, ◌==◌, ◌&&◌, not, ℕ, ◌+◌, ◌*◌, ◌<◌, ◌≤◌, length, MatchBool, Some, true, false};
 ghost use Rattle.chunk.specs.Sizes.{is_chunk};
-ghost use Rattle.model.specs.NextPlace.{IsFull, LacksArea};
-ghost use Rattle.model.specs.Places.{area_place};
-ghost use Rattle.model.specs.Picture.{place_of as place_in};
+ghost use Rattle.store_bytes.specs.NextPlace.{IsFull, LacksArea};
+ghost use Rattle.store_bytes.specs.Places.{area_place};
+ghost use Rattle.store_bytes.specs.Picture.{place_of as place_in};
 ghost use Rattle.volume_laws.specs.Published.{is_published as is_published_in};
 ghost use Rattle.device.specs.Layers.{is_loud};
 ghost use Rattle.snapshot.specs.InStep.{IsInStep};
@@ -12,7 +12,7 @@ ghost use Rattle.snapshot.specs.Rest.{IsStill};
 
 use chunk_alloc::Usage;
 use device::Block;
-use pending::{ChunkCopy, Mark, batch, is_marked};
+use in_flight::{ChunkCopy, Mark, batch, is_marked};
 use plain::{CopyId, Overflowing, SnapId};
 use sector::Chunk;
 use std::marker::Model;

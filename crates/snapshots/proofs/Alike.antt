@@ -6,12 +6,12 @@ use Rattle.std.proofs.lemmas.Bool.{eqb-true, not-false, or_parts, true≢false}
 use Rattle.std.proofs.lemmas.List.{drop_more, nil_from_length, take_more}
 use Rattle.plain.specs.declared.event.Event.{Event}
 use Rattle.plain.specs.declared.event.Event.TheVariants.{CopyWrite, ZeroNext, WriteArea, Publish, WriteInvalid, FlushStore}
-use Rattle.pending.specs.Due.{first_by, front_ready, front_unflushed, is_copy_at, is_publishable, is_stage, least, number_of_copy, number_of_mark}
-use Rattle.pending.specs.declared.copies.ChunkCopy.{ChunkCopy}
-use Rattle.pending.specs.declared.copies.Mark.{Mark}
-use Rattle.pending.specs.declared.copies.Stage.{Stage}
-use Rattle.pending.specs.declared.copies.Stage.TheVariants.{Waiting, Read, Written, Flushed}
-use Rattle.pending.specs.declared.flights.Flight.{Flight}
+use Rattle.in_flight.specs.Due.{first_by, front_ready, front_unflushed, is_copy_at, is_publishable, is_stage, least, number_of_copy, number_of_mark}
+use Rattle.in_flight.specs.declared.copies.ChunkCopy.{ChunkCopy}
+use Rattle.in_flight.specs.declared.copies.Mark.{Mark}
+use Rattle.in_flight.specs.declared.copies.Stage.{Stage}
+use Rattle.in_flight.specs.declared.copies.Stage.TheVariants.{Waiting, Read, Written, Flushed}
+use Rattle.in_flight.specs.declared.flights.Flight.{Flight}
 use Rattle.volume_laws.specs.Due.{DueSnap, can_commit, can_flush_store, can_mark, can_zero, copy_of, due_of, event_or, is_unsafe, least_of, publishable_of, snap_number}
 use Rattle.snapshots.specs.Busy.{AreAlike, busy_due, is_begun, is_busy, waiting_due}
 

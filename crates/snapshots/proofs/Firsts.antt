@@ -1,7 +1,7 @@
 -- The first of a kind, and the least of all, in a list of snapshots that are seen one by one.
 use Rattle.std.proofs.Common.{◌≡◌, ℕ, ◌+◌, ◌<◌, ◌≤◌, Bool, true, false, List, [], Option, Some, None, length, get_or, map, drop, refl, sym, ◌∙◌, ap, arith}
 use Rattle.std.proofs.lemmas.List.{drop_more, drop_all}
-use Rattle.pending.specs.Due.{first_by, least}
+use Rattle.in_flight.specs.Due.{first_by, least}
 use Rattle.volume_laws.specs.Due.{DueSnap, least_of}
 
 pub drop_end : {X : Type 0} (xs : List X) (i : ℕ) → length xs ≤ i → drop i xs ≡ []

@@ -5,3 +5,6 @@ pub mod Overflowing
 pub mod Roomed
 pub mod Starts
 pub mod Unpublished
+pub mod Using
+pub mod Unkept
+pub mod NextStarts

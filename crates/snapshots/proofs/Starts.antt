@@ -9,7 +9,7 @@ use Rattle.std.proofs.lemmas.Nat.{div-add-mod'}
 use Rattle.std.proofs.lemmas.Grind.{drop_more_same}
 use Rattle.std.proofs.Math.Seq.{map-set_same, take-suc-set, take-suc}
 use Rattle.device.specs.Layers.{Layer}
-use Rattle.pending.specs.declared.flights.Flight.{Flight}
+use Rattle.in_flight.specs.declared.flights.Flight.{Flight}
 use Rattle.snapshot.specs.Kept.{Kept}
 use Rattle.snapshot.specs.Calls.{StartsAt, started}
 use Rattle.snapshots.specs.Starting.{unroomed, HasRoomFor, HaveRooms, IsSavedIn, AreSavedIn, lacks, lacks_chunk, starts_chunk, overflows_chunk, is_full_of}

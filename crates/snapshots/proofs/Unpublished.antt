@@ -2,7 +2,7 @@
 use Rattle.std.proofs.Common.{◌≡◌, ℕ, suc, ◌+◌, ◌-◌, ◌/◌, ◌<◌, ◌≤◌, Bool, true, false, refl, ◌∙◌, ap, arith}
 use Rattle.std.specs.Prelude.{Option, Some, None}
 use Rattle.std.specs.List.{range_with_len}
-use Rattle.pending.specs.Due.{first_by}
+use Rattle.in_flight.specs.Due.{first_by}
 use Rattle.chunk.specs.Pieces.{Span, touched, chunks_over}
 use Rattle.chunk.proofs.Chunks.{chunk_order}
 use Rattle.chunk.proofs.Cuts.{touched_some}

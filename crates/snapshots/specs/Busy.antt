@@ -3,10 +3,10 @@ use Rattle.std.specs.Prelude.{◌≡◌, ◌==◌, ◌||◌, not, Bool, List, le
 use Rattle.std.specs.List.{list_any}
 use Rattle.plain.specs.declared.event.Event.{Event}
 use Rattle.plain.specs.declared.event.Event.TheVariants.{Issue, CopyRead, CopyWrite, ZeroNext, WriteArea, Publish, WriteInvalid, FlushStore}
-use Rattle.pending.specs.Due.{first_by, is_issuable, is_stage, number_of_flight}
-use Rattle.pending.specs.declared.copies.ChunkCopy.{ChunkCopy}
-use Rattle.pending.specs.declared.copies.Stage.TheVariants.{Waiting, Read}
-use Rattle.pending.specs.declared.flights.Flight.{Flight}
+use Rattle.in_flight.specs.Due.{first_by, is_issuable, is_stage, number_of_flight}
+use Rattle.in_flight.specs.declared.copies.ChunkCopy.{ChunkCopy}
+use Rattle.in_flight.specs.declared.copies.Stage.TheVariants.{Waiting, Read}
+use Rattle.in_flight.specs.declared.flights.Flight.{Flight}
 use Rattle.volume_laws.specs.Due.{DueSnap, can_commit, can_flush_store, can_mark, can_zero, copy_of, event_or, least_of, publishable_of, snap_number}
 
 -- a copy that does not wait to be read any more

@@ -1,11 +1,11 @@
 -- What an event or a request looks for: a snapshot by its number, or a copy or a mark by its own.
 use Rattle.std.specs.Prelude.{◌==◌, ◌&&◌, ◌||◌, not, ℕ, Bool, List, Option}
 use Rattle.std.specs.List.{list_any, position}
-use Rattle.pending.specs.Due.{is_copy_at, is_publishable, front_ready, front_unflushed}
-use Rattle.pending.specs.declared.copies.Stage.{Stage}
-use Rattle.pending.specs.declared.copies.ChunkCopy.{ChunkCopy}
-use Rattle.pending.specs.declared.copies.Mark.{Mark}
-use Rattle.pending.specs.declared.flights.Flight.{Flight}
+use Rattle.in_flight.specs.Due.{is_copy_at, is_publishable, front_ready, front_unflushed}
+use Rattle.in_flight.specs.declared.copies.Stage.{Stage}
+use Rattle.in_flight.specs.declared.copies.ChunkCopy.{ChunkCopy}
+use Rattle.in_flight.specs.declared.copies.Mark.{Mark}
+use Rattle.in_flight.specs.declared.flights.Flight.{Flight}
 use Rattle.snapshot.specs.Kept.{Kept, needs_area, waits_area}
 use Rattle.volume_laws.specs.Due.{is_unsafe}
 

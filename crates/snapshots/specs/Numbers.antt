@@ -1,6 +1,6 @@
 -- The numbers of snapshots and of their copies.
 use Rattle.std.specs.Prelude.{ℕ, ◌-◌, List, ◌++◌, length, map, Option, None, Some}
-use Rattle.pending.specs.Due.{number_of_copy, number_of_mark}
+use Rattle.in_flight.specs.Due.{number_of_copy, number_of_mark}
 use Rattle.snapshot.specs.Kept.{Kept}
 
 abbrev pub number_of_snap : {B : Type 0} → Kept B → ℕ

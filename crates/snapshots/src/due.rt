@@ -1,13 +1,13 @@
 // What is due of a volume's snapshots and requests: the first event, by kind and then by number.
 ghost use Rattle.std.specs.Prelude.{◌≡◌, ◌<◌, map};
 ghost use Rattle.std.specs.List.{All, list_any};
-ghost use Rattle.pending.specs.Due.{first_by};
+ghost use Rattle.in_flight.specs.Due.{first_by};
 ghost use Rattle.volume_laws.specs.Due.{can_commit as can_be_committed, can_flush_store as can_be_flushed, can_mark as can_be_marked, can_zero as can_be_zeroed, copy_of, due_of, least_of, publishable_of, snap_number};
 ghost use Rattle.snapshot.specs.Kept.{due_of_kept};
 ghost use Rattle.snapshots.specs.Busy.{AreAlike, busy_due, is_begun, is_busy as is_busy_in, waiting_due};
 
 use device::Block;
-use pending::{
+use in_flight::{
     ChunkCopy, Flight, Stage, first_copy, first_publishable, first_routed, front_ready,
     front_unflushed, has_unsafe, is_at, least,
 };

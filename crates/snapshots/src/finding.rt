@@ -6,7 +6,7 @@ ghost use Rattle.snapshots.specs.Finding.{place_of_snap, has_copy_at, has_mark_a
 
 use crate::due::{can_commit, can_flush_store, can_mark, can_zero};
 use device::Block;
-use pending::{Flight, Stage, copy_at, publishable_at};
+use in_flight::{Flight, Stage, copy_at, publishable_at};
 use plain::{CopyId, SnapId};
 use snapshot::Snapshot;
 

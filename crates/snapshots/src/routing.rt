@@ -2,14 +2,14 @@
 // snapshot are routed again, after a publication.
 ghost use Rattle.std.specs.Prelude.{◌≡◌, ℕ, ◌+◌, ◌^◌, ◌<◌, false, map, Option};
 ghost use Rattle.std.specs.List.{All, list_all, list_any};
-ghost use Rattle.pending.specs.Routes.{placed_route_of};
+ghost use Rattle.in_flight.specs.Routes.{placed_route_of};
 ghost use Rattle.volume_laws.specs.Again.{placed_of, published_place as place_if_published};
 ghost use Rattle.volume_laws.specs.Published.{is_clear as is_clear_in, is_clear_over as is_clear_in_all, is_saved as is_saved_in, is_saved_over as is_saved_in_all, next_over, unpublished_in};
 ghost use Rattle.snapshot.specs.Kept.{books_of};
 
 use crate::starting::own_chunk;
 use device::Block;
-use pending::{Flight, Kind, Route, placed_route, request_kind};
+use in_flight::{Flight, Kind, Route, placed_route, request_kind};
 use plain::SnapId;
 use sector::Chunk;
 use snapshot::Snapshot;

@@ -7,7 +7,7 @@ ghost use Rattle.snapshots.specs.Numbers.{count_in};
 ghost use Rattle.snapshots.specs.Starting.{AreSavedIn, HasRoomFor, HaveRooms, IsSavedIn, lacks, lacks_chunk, own_of, starts, unroomed};
 
 use device::Block;
-use pending::{Flight, has_copy, refuse, sectors_of};
+use in_flight::{Flight, has_copy, refuse, sectors_of};
 use plain::SnapId;
 use sector::{Chunk, Refusal};
 use snapshot::Snapshot;

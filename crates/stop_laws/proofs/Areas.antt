@@ -4,11 +4,11 @@ use Rattle.std.proofs.Math.Seq.{take-append-add, take-add}
 use Rattle.std.proofs.lemmas.List.{get_or_append_left, get_or-take, length-take-le, take-take, take-append-drop, get_or-drop, length-drop, take_all}
 use Rattle.std.specs.Prelude.{Some, None}
 use Rattle.sector.specs.declared.pair.Pair.{Pair}
-use Rattle.model.specs.Places.{slot, ChangesOnly}
-use Rattle.model.specs.Pairs.{pairs_of}
-use Rattle.model.specs.Picture.{place_of, picture, IsCopied}
-use Rattle.model.proofs.Slots.{IsListed-of}
-use Rattle.model.proofs.Views.{picture-commit, picture-merged}
+use Rattle.store_bytes.specs.Places.{slot, ChangesOnly}
+use Rattle.store_bytes.specs.Pairs.{pairs_of}
+use Rattle.store_bytes.specs.Picture.{place_of, picture, IsCopied}
+use Rattle.store_bytes.proofs.Slots.{IsListed-of}
+use Rattle.store_bytes.proofs.Views.{picture-commit, picture-merged}
 use Rattle.cow_header.specs.HeaderText.{found_in}
 use Rattle.stop_laws.specs.Stop.{IsTorn}
 use Rattle.stop_laws.specs.Again.{LoadsAgain, IsRefusedAgain}

@@ -6,10 +6,10 @@ use Rattle.sector.specs.declared.pair.Pair.{Pair}
 use Rattle.sector.specs.Number.{number_at}
 use Rattle.sector.proofs.Sectors.{byte_read}
 use Rattle.sector.proofs.Numbers.{same_number}
-use Rattle.model.specs.Slots.{pair_in}
-use Rattle.model.specs.Places.{chunk_at, area_place, slot}
-use Rattle.model.specs.Pairs.{pairs_of, IsListed}
-use Rattle.model.proofs.Slots.{pairs-are}
+use Rattle.store_bytes.specs.Slots.{pair_in}
+use Rattle.store_bytes.specs.Places.{chunk_at, area_place, slot}
+use Rattle.store_bytes.specs.Pairs.{pairs_of, IsListed}
+use Rattle.store_bytes.proofs.Slots.{pairs-are}
 use Rattle.std.proofs.lemmas.Nat.{mod_below}
 use Rattle.stop_laws.specs.Stop.{IsTorn}
 use Rattle.stop_laws.proofs.Torn.{torn_sector}

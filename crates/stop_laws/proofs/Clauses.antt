@@ -2,8 +2,8 @@
 use Rattle.std.proofs.Common.{◌≡◌, ◌⊎◌, inl, inr, ℕ, ◌*◌, ◌<◌, List, length, refl, ◌∙◌}
 use Rattle.std.specs.Prelude.{Option}
 use Rattle.sector.specs.Bytes.{sector_at}
-use Rattle.model.specs.Pairs.{pairs_of}
-use Rattle.model.specs.Picture.{picture}
+use Rattle.store_bytes.specs.Pairs.{pairs_of}
+use Rattle.store_bytes.specs.Picture.{picture}
 use Rattle.stop_laws.specs.Stop.{MayLeave, HoldsNow, Within}
 use Rattle.stop_laws.specs.Again.{LoadsAgain, IsRefusedAgain}
 use Rattle.stop_laws.specs.Clauses.{Given, Gives, OpensNone}

@@ -8,9 +8,9 @@ use Rattle.sector.specs.Bytes.{sector_at}
 use Rattle.sector.proofs.Sectors.{byte_read}
 use Rattle.sector.specs.declared.pair.Pair.{Pair}
 use Rattle.sector.specs.declared.refusal.Refusal.TheVariants.{Invalid}
-use Rattle.model.specs.Places.{area_place, is_area_place, ChangesOnly}
-use Rattle.model.specs.Pairs.{pairs_of, AreWellFormed, IsInside}
-use Rattle.model.proofs.Slots.{pairs-outside}
+use Rattle.store_bytes.specs.Places.{area_place, is_area_place, ChangesOnly}
+use Rattle.store_bytes.specs.Pairs.{pairs_of, AreWellFormed, IsInside}
+use Rattle.store_bytes.proofs.Slots.{pairs-outside}
 use Rattle.cow_header.specs.HeaderText.{found_in}
 use Rattle.cow_header.specs.declared.found.Found.TheVariants.{Header}
 use Rattle.stop_laws.specs.Stop.{IsTorn}
@@ -18,7 +18,7 @@ use Rattle.stop_laws.specs.Again.{LoadsAgain, IsRefusedAgain}
 use Rattle.stop_laws.proofs.Torn.{torn_only}
 use Rattle.std.proofs.Math.Seq.{take-append-add}
 use Rattle.std.proofs.lemmas.Bool.{ne_eqb}
-use Rattle.model.specs.Places.{slot}
+use Rattle.store_bytes.specs.Places.{slot}
 use Rattle.stop_laws.proofs.Between.{IsBetween}
 use Rattle.stop_laws.proofs.Areas.{torn_pairs}
 use Rattle.stop_laws.proofs.Sectors.{sectors_same}

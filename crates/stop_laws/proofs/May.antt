@@ -8,9 +8,9 @@ use Rattle.sector.specs.Number.{number_at}
 use Rattle.sector.proofs.Sectors.{byte_read}
 use Rattle.sector.proofs.Numbers.{moved_number}
 use Rattle.sector.specs.declared.pair.Pair.{Pair}
-use Rattle.model.specs.Slots.{pair_in}
-use Rattle.model.specs.Places.{chunk_at, area_place, slot}
-use Rattle.model.specs.Pairs.{pairs_of}
+use Rattle.store_bytes.specs.Slots.{pair_in}
+use Rattle.store_bytes.specs.Places.{chunk_at, area_place, slot}
+use Rattle.store_bytes.specs.Pairs.{pairs_of}
 use Rattle.stop_laws.specs.Stop.{MayLeave, HoldsNow}
 use Rattle.stop_laws.specs.May.{sector_of, number_of, SlotMay, MayList}
 use Rattle.stop_laws.proofs.Between.{IsBetween, pairs_between}

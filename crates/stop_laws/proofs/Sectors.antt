@@ -6,9 +6,9 @@ use Rattle.std.proofs.lemmas.List.{ext_get_or}
 use Rattle.sector.specs.Bytes.{sector_at}
 use Rattle.sector.proofs.Sectors.{byte_read}
 use Rattle.sector.specs.declared.pair.Pair.{Pair}
-use Rattle.model.specs.Pairs.{pairs_of}
-use Rattle.model.specs.Picture.{place_of, byte_of, picture_at, picture}
-use Rattle.model.proofs.Pictures.{length-picture, get_or-picture}
+use Rattle.store_bytes.specs.Pairs.{pairs_of}
+use Rattle.store_bytes.specs.Picture.{place_of, byte_of, picture_at, picture}
+use Rattle.store_bytes.proofs.Pictures.{length-picture, get_or-picture}
 use Rattle.stop_laws.specs.Stop.{IsTorn}
 use Rattle.stop_laws.proofs.Torn.{torn_sector}
 

@@ -7,11 +7,11 @@ use Rattle.std.proofs.lemmas.Nat.{mod_below, div-add-mod', div-mul-add}
 use Rattle.sector.specs.Bytes.{sector_at, with_sectors}
 use Rattle.sector.specs.declared.pair.Pair.{Pair}
 use Rattle.sector.proofs.Sectors.{kept_or_written}
-use Rattle.model.specs.Places.{ChangesOnly}
-use Rattle.model.specs.Pairs.{pairs_of, IsApart, IsInside}
-use Rattle.model.specs.Picture.{place_of, byte_of, picture_at, picture}
-use Rattle.model.proofs.Pictures.{place_found, place_apart, same_picture}
-use Rattle.model.proofs.Views.{picture-only}
+use Rattle.store_bytes.specs.Places.{ChangesOnly}
+use Rattle.store_bytes.specs.Pairs.{pairs_of, IsApart, IsInside}
+use Rattle.store_bytes.specs.Picture.{place_of, byte_of, picture_at, picture}
+use Rattle.store_bytes.proofs.Pictures.{place_found, place_apart, same_picture}
+use Rattle.store_bytes.proofs.Views.{picture-only}
 use Rattle.stop_laws.specs.Stop.{IsTorn}
 use Rattle.stop_laws.proofs.Torn.{torn_byte, torn_only}
 use Rattle.stop_laws.proofs.Open.{sector_plain, sector_copied}

@@ -4,7 +4,7 @@ use Rattle.std.proofs.lemmas.Bool.{cases_lt}
 use Rattle.std.proofs.lemmas.List.{get_or_past, ext_get_or}
 use Rattle.sector.specs.Bytes.{sector_at}
 use Rattle.sector.proofs.Sectors.{byte_read}
-use Rattle.model.specs.Places.{chunk_at, ChangesOnly}
+use Rattle.store_bytes.specs.Places.{chunk_at, ChangesOnly}
 use Rattle.stop_laws.specs.Stop.{IsTorn}
 
 -- a byte by its sector

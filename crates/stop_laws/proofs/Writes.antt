@@ -2,10 +2,10 @@
 use Rattle.std.proofs.Common.{◌≡◌, ◌≢◌, inl, inr, ℕ, ◌+◌, ◌*◌, ◌-◌, ◌<◌, ◌≤◌, List, ◌++◌, length, get_or, arith, ap, ◌∙◌}
 use Rattle.std.proofs.lemmas.Bool.{cases_lt}
 use Rattle.sector.specs.declared.pair.Pair.{Pair}
-use Rattle.model.specs.Slots.{pair_in}
-use Rattle.model.specs.Places.{area_place, chunk_at, slot}
-use Rattle.model.specs.Pairs.{pairs_of}
-use Rattle.model.proofs.Slots.{slot-at}
+use Rattle.store_bytes.specs.Slots.{pair_in}
+use Rattle.store_bytes.specs.Places.{area_place, chunk_at, slot}
+use Rattle.store_bytes.specs.Pairs.{pairs_of}
+use Rattle.store_bytes.proofs.Slots.{slot-at}
 use Rattle.stop_laws.proofs.Between.{IsBetween}
 use Rattle.stop_laws.proofs.Areas.{between_first}
 

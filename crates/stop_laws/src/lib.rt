@@ -8,5 +8,5 @@
 //!
 //! The laws: of a torn area write the list is the old one and the first few of the new pairs, and of a merge's commit the kept
 //! ones and the first few of the cleared (`proofs/Areas`), and each of these is loaded again (`Loads`); a call that leaves a
-//! store's list leaves it at every stop within (`proofs/Clauses`). It stands on `model` and `cow_header`, and has no code.
+//! store's list leaves it at every stop within (`proofs/Clauses`). It stands on `store_bytes` and `cow_header`, and has no code.
 #![tactic(auto)]

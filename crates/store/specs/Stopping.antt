@@ -3,7 +3,7 @@
 use Rattle.std.specs.Prelude.{◌≡◌, ◌⊎◌, ℕ, ◌≤◌, List, [], ◌++◌, length, take, Ok}
 use Rattle.sector.specs.declared.pair.Pair.{Pair}
 use Rattle.sector.specs.Bytes.{sector_at}
-use Rattle.model.specs.Pairs.{pairs_of}
+use Rattle.store_bytes.specs.Pairs.{pairs_of}
 use Rattle.cow_header.specs.HeaderText.{found_in}
 use Rattle.cow_header.specs.declared.found.Found.TheVariants.{Fresh}
 use Rattle.store.specs.declared.state.Left.{Left}

@@ -3,8 +3,8 @@ ghost use Rattle.std.specs.Prelude.{◌≡◌, ◌+◌, ◌*◌, ◌<◌, ◌≤
 ghost use Rattle.sector.specs.Bytes.{with_part, with_sectors};
 ghost use Rattle.device.specs.declared.operation.Operation.TheVariants.{Writes};
 ghost use Rattle.device.specs.Layers.{is_loud};
-ghost use Rattle.model.specs.Places.{area_place, ChangesOnly};
-ghost use Rattle.model.specs.NextPlace.{LacksArea};
+ghost use Rattle.store_bytes.specs.Places.{area_place, ChangesOnly};
+ghost use Rattle.store_bytes.specs.NextPlace.{LacksArea};
 ghost use Rattle.store.specs.declared.state.Left.TheVariants.{Nothing};
 ghost use Rattle.exception_arena.specs.Pending.{pairs};
 ghost use Rattle.store.specs.Held.{committed, memory, pending, reserved};

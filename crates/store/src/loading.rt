@@ -4,8 +4,8 @@ ghost use Rattle.sector.specs.declared.refusal.Refusal.TheVariants.{NoMemory, Io
 ghost use Rattle.device.specs.Layers.{is_loud};
 ghost use Rattle.store.specs.Reading.{all_read, read_pairs, IsEnded};
 ghost use Rattle.store.specs.Starved.{ArePartRead};
-ghost use Rattle.model.specs.Places.{area_place, chunk_at};
-ghost use Rattle.model.specs.Pairs.{pairs_of};
+ghost use Rattle.store_bytes.specs.Places.{area_place, chunk_at};
+ghost use Rattle.store_bytes.specs.Pairs.{pairs_of};
 ghost use Rattle.exception_arena.specs.Pending.{begun_under};
 ghost use Rattle.store.specs.Held.{committed, pending, reserved};
 ghost use Rattle.store.specs.Opening.{faults_after};

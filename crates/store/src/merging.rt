@@ -4,7 +4,7 @@ ghost use Rattle.sector.specs.Bytes.{with_part};
 ghost use Rattle.sector.specs.declared.pair.Pair.{Pair};
 ghost use Rattle.device.specs.declared.operation.Operation.TheVariants.{Reads, Writes};
 ghost use Rattle.device.specs.Layers.{is_loud};
-ghost use Rattle.model.specs.Places.{area_place, ChangesOnly};
+ghost use Rattle.store_bytes.specs.Places.{area_place, ChangesOnly};
 ghost use Rattle.store.specs.declared.state.Left.TheVariants.{Nothing};
 ghost use Rattle.store.specs.Held.{committed, memory, pending, reserved};
 ghost use Rattle.store.specs.Operations.{IsOneOperation};

@@ -2,7 +2,7 @@
 ghost use Rattle.std.specs.Prelude.{◌≡◌, ◌+◌, ◌*◌, ◌<◌, ◌↔◌, ◌||◌, length, is_ok, OnOk, OnErr, IfOk, IsTrue, Ok, true, false};
 ghost use Rattle.device.specs.declared.operation.Operation.TheVariants.{Writes, Flushes};
 ghost use Rattle.device.specs.Layers.{is_loud};
-ghost use Rattle.model.specs.Places.{area_place, ChangesOnly};
+ghost use Rattle.store_bytes.specs.Places.{area_place, ChangesOnly};
 ghost use Rattle.store.specs.declared.state.Left.TheVariants.{FirstArea, HeaderChunk, Tail, Nothing};
 ghost use Rattle.store.specs.Operations.{IsOneOperation};
 ghost use Rattle.store.specs.Held.{committed};

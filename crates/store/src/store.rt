@@ -2,7 +2,7 @@
 ghost use Rattle.std.specs.Prelude.{◌≡◌, ℕ, ◌+◌, ◌*◌, ◌<◌, ◌≤◌, List, length, slice_index_or, is_ok, OnOk, OnErr, if◌then◌else◌, MatchBool, IsTrue, true, false};
 ghost use Rattle.device.specs.Layers.{fate, is_passed, is_loud};
 ghost use Rattle.device.specs.declared.operation.Operation.TheVariants.{Flushes};
-ghost use Rattle.model.specs.NextPlace.{IsFull};
+ghost use Rattle.store_bytes.specs.NextPlace.{IsFull};
 ghost use Rattle.exception_arena.specs.declared.begun.Begun.{Begun};
 ghost use Rattle.store.specs.Operations.{IsOneOperation};
 ghost use Rattle.store.specs.Held.{committed, pending, pairs_pending, reserved};

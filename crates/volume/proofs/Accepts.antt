@@ -5,10 +5,10 @@ use Rattle.device.specs.Layers.{Layer}
 use Rattle.plain.specs.Legal.{IsSubmitted}
 use Rattle.plain.specs.declared.request.Request.{Request}
 use Rattle.plain.specs.Plain.{InFlight}
-use Rattle.pending.specs.Kinds.{in_flight, kind_of}
-use Rattle.pending.specs.declared.flights.Flight.{Flight}
-use Rattle.pending.specs.declared.flights.Kind.{Kind}
-use Rattle.pending.specs.declared.flights.Route.{Route}
+use Rattle.in_flight.specs.Kinds.{in_flight, kind_of}
+use Rattle.in_flight.specs.declared.flights.Flight.{Flight}
+use Rattle.in_flight.specs.declared.flights.Kind.{Kind}
+use Rattle.in_flight.specs.declared.flights.Route.{Route}
 use Rattle.snapshot.specs.Kept.{Kept}
 use Rattle.volume.specs.Volumed.{Volumed, is_loud_in_all, plain_of}
 use Rattle.volume.specs.Causes.{lives_of}

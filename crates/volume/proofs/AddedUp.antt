@@ -11,7 +11,7 @@ use Rattle.plain.specs.declared.request.Dev.TheVariants.{Origin, Snap}
 use Rattle.plain.specs.declared.request.Op.{Op}
 use Rattle.plain.specs.declared.request.Op.TheVariants.{Read, Write, Flush}
 use Rattle.sector.specs.declared.range.Range.{Range}
-use Rattle.pending.specs.Kinds.{in_flight}
+use Rattle.in_flight.specs.Kinds.{in_flight}
 use Rattle.stop_laws.specs.Clauses.{Gives}
 use Rattle.volume.specs.declared.calls.Call.{Call}
 use Rattle.volume.specs.declared.calls.Call.TheVariants.{Submit, Step, Tick, Message as Tell, BeginMerge, ResumeMerge}

@@ -12,8 +12,8 @@ use Rattle.plain.specs.declared.request.Op.{Op}
 use Rattle.plain.specs.declared.request.Op.TheVariants.{Read, Write, Flush}
 use Rattle.plain.specs.Kept.{kept_range}
 use Rattle.plain.specs.declared.request.Dev.TheVariants.{Origin}
-use Rattle.pending.specs.declared.flights.Kind.TheVariants.{SnapRead, SnapWrite}
-use Rattle.pending.specs.Kinds.{kind_of, kind_at}
+use Rattle.in_flight.specs.declared.flights.Kind.TheVariants.{SnapRead, SnapWrite}
+use Rattle.in_flight.specs.Kinds.{kind_of, kind_at}
 use Rattle.volume_laws.specs.Published.{IsPiece}
 use Rattle.volume.specs.Volumed.{Volumed, piece_with}
 use Rattle.snapshots.specs.Numbers.{count_in}

@@ -10,12 +10,12 @@ use Rattle.sector.specs.Bytes.{next_count}
 use Rattle.device.specs.Layers.{Layer, is_loud}
 use Rattle.plain.specs.declared.event.Event.{Event}
 use Rattle.plain.specs.declared.event.Outcome.{Outcome}
-use Rattle.pending.specs.Due.{number_of_copy, number_of_mark, is_publishable}
-use Rattle.pending.specs.Kinds.{in_flight}
-use Rattle.pending.specs.Routes.{is_reading}
-use Rattle.pending.specs.declared.copies.ChunkCopy.{ChunkCopy}
-use Rattle.pending.specs.declared.copies.Mark.{Mark}
-use Rattle.pending.specs.declared.flights.Flight.{Flight}
+use Rattle.in_flight.specs.Due.{number_of_copy, number_of_mark, is_publishable}
+use Rattle.in_flight.specs.Kinds.{in_flight}
+use Rattle.in_flight.specs.Routes.{is_reading}
+use Rattle.in_flight.specs.declared.copies.ChunkCopy.{ChunkCopy}
+use Rattle.in_flight.specs.declared.copies.Mark.{Mark}
+use Rattle.in_flight.specs.declared.flights.Flight.{Flight}
 use Rattle.volume_laws.specs.Books.{SnapBooks, MergeBooks}
 use Rattle.volume_laws.specs.Published.{is_clear}
 use Rattle.volume_laws.specs.Again.{again_of, placed_of, Reroutes, Places}
@@ -32,7 +32,7 @@ use Rattle.volume_laws.proofs.WaitingAgain.{waits_published, waits_tried}
 use Rattle.volume_laws.proofs.Left.{unmark_left, tried_left}
 use Rattle.volume_laws.proofs.Lists.{map-remove}
 use Rattle.snapshot.specs.Kept.{Kept, books_of as snap_books, due_of_kept, unpublished}
-use Rattle.merge_beside.specs.Rooms.{merge_books, room_of}
+use Rattle.snapshots.specs.Rooms.{merge_books, room_of}
 use Rattle.volume_laws.specs.MergeRooms.{unpublished as unpublished_room}
 use Rattle.volume_laws.proofs.MergeRooms.{KeepsSpace}
 use Rattle.volume_laws.proofs.MergeRoomEvents.{publish_room, tried_room}

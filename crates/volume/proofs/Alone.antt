@@ -4,7 +4,7 @@ use Rattle.device.specs.Layers.{Layer}
 use Rattle.plain.specs.declared.event.Event.{Event}
 use Rattle.volume_laws.specs.Due.{due_of, is_due}
 use Rattle.merge.specs.Merging.{Merging}
-use Rattle.merge_beside.specs.Rooms.{merge_books}
+use Rattle.snapshots.specs.Rooms.{merge_books}
 use Rattle.volume.specs.Volumed.{Volumed, dues_of, merge_due, due_by, is_due_by, next_of, is_due_of, merge_shape, plain_of}
 use Rattle.volume_laws.specs.Shape.{shown_origin}
 

@@ -9,7 +9,7 @@ use Rattle.sector.specs.declared.refusal.Refusal.{Refusal}
 use Rattle.sector.specs.declared.refusal.Refusal.TheVariants.{Stale, MergeInProgress, TooMany, BadChunk, NoMemory, NotQuiet}
 use Rattle.chunk.specs.Sizes.{is_chunk}
 use Rattle.device.specs.Layers.{Layer, is_loud}
-use Rattle.model.specs.NextPlace.{IsNextPlace}
+use Rattle.store_bytes.specs.NextPlace.{IsNextPlace}
 use Rattle.plain.specs.declared.request.Overflowing.{Overflowing}
 use Rattle.plain.specs.declared.request.Reply.{Reply}
 use Rattle.plain.specs.Plain.{overflow_of}

@@ -13,7 +13,7 @@ use Rattle.snapshot.specs.Kept.{Kept}
 use Rattle.snapshots.proofs.Finds.{position_within}
 use Rattle.merge.specs.Due.{is_finished_of}
 use Rattle.merge.specs.Merging.{Merging}
-use Rattle.merge_beside.specs.Keeping.{unkept}
+use Rattle.snapshots.specs.Keeping.{unkept}
 use Rattle.volume.specs.Beginning.{merging_from, IsMergeBegun}
 use Rattle.volume.specs.Finishing.{finish_with}
 use Rattle.volume.specs.Handing.{HandsOver, OpensTaken}

@@ -19,8 +19,8 @@ use Rattle.snapshot.specs.Kept.{Kept}
 use Rattle.snapshots.specs.Finding.{place_of_snap}
 use Rattle.snapshots.proofs.Finds.{position_within}
 use Rattle.merge.specs.Merging.{Merging}
-use Rattle.merge_beside.specs.Keeping.{unkept, kept_for}
-use Rattle.merge_beside.proofs.Unkept.{kept_unkept}
+use Rattle.snapshots.specs.Keeping.{unkept, kept_for}
+use Rattle.snapshots.proofs.Unkept.{kept_unkept}
 use Rattle.volume.specs.Beginning.{IsMergeBegun, begin_refusal, begin_with, beside_refusal, merging_from, place_refusal}
 use Rattle.volume.specs.Causes.{lives_of}
 use Rattle.volume.specs.Leaving.{is_quiet_of}

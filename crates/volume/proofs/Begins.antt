@@ -10,8 +10,8 @@ use Rattle.std.proofs.lemmas.List.Sums.{sum_by-set}
 use Rattle.std.proofs.Math.Seq.{map-set_same}
 use Rattle.chunk.specs.Sizes.{is_chunk}
 use Rattle.device.specs.Layers.{Layer}
-use Rattle.pending.specs.Due.{number_of_copy, number_of_mark}
-use Rattle.pending.specs.declared.copies.ChunkCopy.{ChunkCopy}
+use Rattle.in_flight.specs.Due.{number_of_copy, number_of_mark}
+use Rattle.in_flight.specs.declared.copies.ChunkCopy.{ChunkCopy}
 use Rattle.volume_laws.specs.Whole.{Holds}
 use Rattle.volume_laws.specs.Waits.{Waits}
 use Rattle.volume_laws.proofs.MergeRooms.{KeepsRoom}
@@ -19,7 +19,7 @@ use Rattle.volume_laws.proofs.MergeRoomEvents.{start_room, spoil_room}
 use Rattle.snapshot.specs.Kept.{Kept}
 use Rattle.snapshot.specs.Calls.{StartsAt}
 use Rattle.snapshots.specs.Starting.{spoilt_of}
-use Rattle.merge_beside.specs.Rooms.{room_of}
+use Rattle.snapshots.specs.Rooms.{room_of}
 use Rattle.volume.specs.Volumed.{Volumed, books_of}
 use Rattle.snapshots.specs.Numbers.{number_of_snap, numbers_in, count_in, merged_count}
 use Rattle.volume.specs.Whole.{AreNumbers, SharesNone, IsAttached, IsWhole, IsCounted, starts_left}

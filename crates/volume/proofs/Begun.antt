@@ -12,8 +12,8 @@ use Rattle.device.specs.Layers.{Layer, is_loud}
 use Rattle.plain.specs.Plain.{Plain}
 use Rattle.plain.specs.Legal.{IsBegun}
 use Rattle.plain.specs.declared.request.Reply.{Reply}
-use Rattle.pending.specs.Copies.{pair_of}
-use Rattle.pending.specs.declared.flights.Flight.{Flight}
+use Rattle.in_flight.specs.Copies.{pair_of}
+use Rattle.in_flight.specs.declared.flights.Flight.{Flight}
 use Rattle.volume_laws.specs.Books.{SnapBooks, MergeBooks}
 use Rattle.volume_laws.specs.MergeRooms.{KeepsBack, RoomSnap}
 use Rattle.volume_laws.specs.Touched.{touched_by}
@@ -33,8 +33,8 @@ use Rattle.event_machine.specs.Stepping.{first_that, for_some, without_first}
 use Rattle.snapshot.specs.Kept.{Kept, books_of as snap_books}
 use Rattle.snapshots.specs.Numbers.{number_of_snap, count_in}
 use Rattle.merge.specs.Merging.{Merging, due_of as merging_due}
-use Rattle.merge_beside.specs.Keeping.{kept_back, kept_for}
-use Rattle.merge_beside.specs.Rooms.{merge_books, room_of}
+use Rattle.snapshots.specs.Keeping.{kept_back, kept_for}
+use Rattle.snapshots.specs.Rooms.{merge_books, room_of}
 use Rattle.volume.specs.Beginning.{merging_from}
 use Rattle.volume.specs.Volumed.{Volumed, books_of, is_loud_in_all, is_loud_with, plain_of}
 use Rattle.volume.specs.Whole.{AreNumbers, SharesNone, IsAttached, IsCounted, IsMerged, IsWhole, starts_left}

@@ -3,13 +3,13 @@ use Rattle.std.proofs.Common.{◌≡◌, ◌≢◌, ℕ, ◌+◌, ◌<◌, true,
 use Rattle.std.specs.List.{All}
 use Rattle.std.specs.Prelude.{is_some}
 use Rattle.device.specs.Layers.{Layer, is_loud}
-use Rattle.model.specs.Picture.{place_of}
+use Rattle.store_bytes.specs.Picture.{place_of}
 use Rattle.plain.specs.Plain.{did_overflow}
-use Rattle.pending.specs.Kinds.{kind_of, room_of}
-use Rattle.pending.specs.Routes.{flush_route_of, read_route_of}
-use Rattle.pending.specs.declared.flights.Flight.{Flight}
-use Rattle.pending.specs.declared.flights.Kind.TheVariants.{OriginRead, OriginWrite, OriginFlush, SnapRead, SnapWrite, SnapFlush}
-use Rattle.pending.specs.declared.flights.Route.TheVariants.{Store, Held, Whole}
+use Rattle.in_flight.specs.Kinds.{kind_of, room_of}
+use Rattle.in_flight.specs.Routes.{flush_route_of, read_route_of}
+use Rattle.in_flight.specs.declared.flights.Flight.{Flight}
+use Rattle.in_flight.specs.declared.flights.Kind.TheVariants.{OriginRead, OriginWrite, OriginFlush, SnapRead, SnapWrite, SnapFlush}
+use Rattle.in_flight.specs.declared.flights.Route.TheVariants.{Store, Held, Whole}
 use Rattle.plain.specs.Kept.{kept}
 use Rattle.volume_laws.specs.Held.{RequestHolds}
 use Rattle.volume_laws.specs.Books.{MergeBooks}
@@ -31,7 +31,7 @@ use Rattle.volume.proofs.Enters.{accepts, fresh, pieces_all}
 use Rattle.volume.proofs.Least.{piece_in_merge}
 use Rattle.volume.proofs.MergeRoutes.{piece_beside_is, numbered_apart}
 use Rattle.volume.proofs.Unflushed.{IsUnflushed, kept_is, unflushed}
-use Rattle.pending.specs.declared.flights.Kind.{Kind}
+use Rattle.in_flight.specs.declared.flights.Kind.{Kind}
 
 -- no other request goes to a whole store
 read_whole : (place : Option ℕ) → read_route_of place ≢ Whole

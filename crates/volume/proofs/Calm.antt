@@ -6,12 +6,12 @@ use Rattle.std.proofs.lemmas.Bool.{eqb-true, false≢true}
 use Rattle.std.proofs.lemmas.List.{nil_from_length}
 use Rattle.device.specs.Layers.{Layer}
 use Rattle.plain.specs.declared.request.Reply.{Reply}
-use Rattle.pending.specs.declared.copies.ChunkCopy.{ChunkCopy}
-use Rattle.pending.specs.declared.copies.Mark.{Mark}
-use Rattle.pending.specs.declared.copies.Stage.{Stage}
-use Rattle.pending.specs.declared.copies.Stage.TheVariants.{Waiting, Read}
-use Rattle.pending.specs.declared.flights.Flight.{Flight}
-use Rattle.pending.specs.Due.{first_by, least, number_of_mark}
+use Rattle.in_flight.specs.declared.copies.ChunkCopy.{ChunkCopy}
+use Rattle.in_flight.specs.declared.copies.Mark.{Mark}
+use Rattle.in_flight.specs.declared.copies.Stage.{Stage}
+use Rattle.in_flight.specs.declared.copies.Stage.TheVariants.{Waiting, Read}
+use Rattle.in_flight.specs.declared.flights.Flight.{Flight}
+use Rattle.in_flight.specs.Due.{first_by, least, number_of_mark}
 use Rattle.volume_laws.specs.Due.{is_unsafe}
 use Rattle.event_machine.specs.Held.{Held, Going, number_of}
 use Rattle.event_machine.specs.Due.{is_at, copy_at, number_of_copying, is_publishable, publishable_in, is_front_ready, is_front_unflushed, needs_area, waits_for_area, can_mark, can_flush_store, can_commit, can_zero, is_issuable, number_of_going, least_in, chosen, due}

@@ -8,9 +8,9 @@ use Rattle.std.proofs.lemmas.List.Sums.{sum_by-set}
 use Rattle.std.proofs.Math.Seq.{map-set_same}
 use Rattle.chunk.specs.Sizes.{is_chunk}
 use Rattle.device.specs.Layers.{Layer, is_loud}
-use Rattle.pending.specs.Due.{number_of_flight}
-use Rattle.pending.specs.Routes.{refused_of}
-use Rattle.pending.specs.declared.flights.Flight.{Flight}
+use Rattle.in_flight.specs.Due.{number_of_flight}
+use Rattle.in_flight.specs.Routes.{refused_of}
+use Rattle.in_flight.specs.declared.flights.Flight.{Flight}
 use Rattle.volume_laws.specs.Books.{SnapBooks}
 use Rattle.volume_laws.specs.Due.{left_in, left_of, weight_of, books_of as due_in}
 use Rattle.volume_laws.specs.MergeDue.{DueMerge, left_beside}
@@ -26,7 +26,7 @@ use Rattle.volume_laws.proofs.MergeRoomEvents.{rooms_changed}
 use Rattle.volume_laws.proofs.MergeSaved.{KeepsSaved, goes_changed as goes_set}
 use Rattle.merge.specs.Merging.{Merging, due_of as merging_due}
 use Rattle.snapshot.specs.Kept.{Kept, books_of as snap_books, due_of_kept}
-use Rattle.merge_beside.specs.Rooms.{merge_books, room_of}
+use Rattle.snapshots.specs.Rooms.{merge_books, room_of}
 use Rattle.volume.specs.Volumed.{Volumed, books_of, piece_of, piece_with, is_loud_in_all, left_by, left_in_all, merge_due, dues_of, is_loud_with}
 use Rattle.snapshots.specs.Numbers.{number_of_snap, numbers_in, count_in, merged_count}
 use Rattle.volume.specs.Whole.{AreNumbers, SharesNone, IsAttached, IsWhole, GoesOn, IsCounted, starts_left}

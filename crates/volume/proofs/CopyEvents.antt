@@ -11,18 +11,18 @@ use Rattle.sector.specs.Bytes.{next_count}
 use Rattle.device.specs.Layers.{Layer, is_loud}
 use Rattle.plain.specs.declared.event.Event.TheVariants.{CopyRead, CopyWrite}
 use Rattle.plain.specs.declared.event.Outcome.TheVariants.{Done, Fault}
-use Rattle.pending.specs.Due.{number_of_copy, number_of_mark, is_stage}
-use Rattle.pending.specs.Routes.{refused_of}
-use Rattle.pending.specs.declared.copies.ChunkCopy.{ChunkCopy}
-use Rattle.pending.specs.declared.copies.Stage.{Stage}
-use Rattle.pending.specs.declared.copies.Stage.TheVariants.{Waiting, Read, Written, Flushed}
+use Rattle.in_flight.specs.Due.{number_of_copy, number_of_mark, is_stage}
+use Rattle.in_flight.specs.Routes.{refused_of}
+use Rattle.in_flight.specs.declared.copies.ChunkCopy.{ChunkCopy}
+use Rattle.in_flight.specs.declared.copies.Stage.{Stage}
+use Rattle.in_flight.specs.declared.copies.Stage.TheVariants.{Waiting, Read, Written, Flushed}
 use Rattle.volume_laws.specs.Steps.{ChangesSnap}
 use Rattle.volume_laws.proofs.WholeOne.{snap_holds, live_by_copy, copy_read_event, copy_write_event}
 use Rattle.volume_laws.proofs.Keeping.{copy_read_keeps, copy_write_keeps}
 use Rattle.volume_laws.proofs.Waiting.{waits_changed}
 use Rattle.volume_laws.proofs.Left.{copy_read_left, copy_write_left}
 use Rattle.volume_laws.proofs.MergeRoomEvents.{read_room, write_room}
-use Rattle.merge_beside.specs.Rooms.{room_of}
+use Rattle.snapshots.specs.Rooms.{room_of}
 use Rattle.snapshot.specs.Kept.{Kept, books_of as snap_books, due_of_kept}
 use Rattle.snapshot.specs.Calls.{ReadsAt, WritesAt}
 use Rattle.volume.specs.Volumed.{Volumed, books_of}

@@ -3,7 +3,7 @@ use Rattle.std.proofs.Common.{◌≡◌, ℕ, suc, ◌<◌, true, false, List, �
 use Rattle.std.proofs.lemmas.List.{map-set, length-map, get_or-map, set-append_left}
 use Rattle.std.proofs.Math.Seq.{map-set_same}
 use Rattle.sector.specs.Bytes.{next_count}
-use Rattle.pending.specs.declared.flights.Flight.{Flight}
+use Rattle.in_flight.specs.declared.flights.Flight.{Flight}
 use Rattle.snapshot.specs.Kept.{Kept}
 use Rattle.volume.specs.Volumed.{Volumed}
 use Rattle.snapshots.specs.Numbers.{number_of_snap}

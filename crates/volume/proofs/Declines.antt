@@ -10,8 +10,8 @@ use Rattle.plain.specs.declared.request.Op.TheVariants.{Read, Write, Flush}
 use Rattle.plain.specs.declared.request.Request.{Request}
 use Rattle.plain.specs.Plain.{overflow_under}
 use Rattle.plain.specs.Legal.{IsDeclined}
-use Rattle.pending.specs.Kinds.{kind_at, in_flight}
-use Rattle.pending.specs.declared.flights.Kind.TheVariants.{SnapWrite}
+use Rattle.in_flight.specs.Kinds.{kind_at, in_flight}
+use Rattle.in_flight.specs.declared.flights.Kind.TheVariants.{SnapWrite}
 use Rattle.volume_laws.specs.Shape.{shown_entry}
 use Rattle.volume_laws.specs.Waits.{IsQuiet}
 use Rattle.snapshot.specs.Kept.{Kept}

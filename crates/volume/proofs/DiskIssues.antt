@@ -15,10 +15,10 @@ use Rattle.plain.specs.declared.request.Op.TheVariants.{Read, Write, Flush}
 use Rattle.plain.specs.declared.request.Reply.{Reply}
 use Rattle.plain.specs.declared.request.Reply.TheVariants.{Data, Written as IsWritten, Flushed as IsFlushed, Refused as IsRefused}
 use Rattle.plain.specs.declared.request.Failure.TheVariants.{Io}
-use Rattle.pending.specs.Kinds.{kind_at, kind_of}
-use Rattle.pending.specs.declared.flights.Flight.{Flight}
-use Rattle.pending.specs.declared.flights.Kind.TheVariants.{OriginRead, OriginWrite, OriginFlush, SnapRead, SnapWrite, SnapFlush}
-use Rattle.pending.specs.declared.flights.Route.TheVariants.{Origin, Whole, Refused}
+use Rattle.in_flight.specs.Kinds.{kind_at, kind_of}
+use Rattle.in_flight.specs.declared.flights.Flight.{Flight}
+use Rattle.in_flight.specs.declared.flights.Kind.TheVariants.{OriginRead, OriginWrite, OriginFlush, SnapRead, SnapWrite, SnapFlush}
+use Rattle.in_flight.specs.declared.flights.Route.TheVariants.{Origin, Whole, Refused}
 use Rattle.volume_laws.specs.Books.{Books}
 use Rattle.volume_laws.specs.Held.{SnapHolds, RouteHolds, RefusedHolds}
 use Rattle.volume_laws.specs.Steps.{OnlyTakesOut, TakesOut, WritesDisk}
@@ -28,7 +28,7 @@ use Rattle.volume_laws.proofs.Requests.{found_holds}
 use Rattle.volume_laws.proofs.Waiting.{waits_out}
 use Rattle.volume_laws.proofs.Issuing.{flush_disk_event, io_flush_event, io_read_event, io_write_event, io_snap_read_event, snap_disk_event}
 use Rattle.snapshot.specs.Kept.{Kept}
-use Rattle.merge_beside.specs.Rooms.{merge_books}
+use Rattle.snapshots.specs.Rooms.{merge_books}
 use Rattle.volume.specs.Volumed.{Volumed, books_of, is_loud_with}
 use Rattle.volume.specs.Whole.{IsWhole}
 use Rattle.volume.specs.Causes.{HasReplied, IsFaultless, FailsAlone, GoesTo, IsOneAtMost, counts_of, counts_with, counted}

@@ -8,19 +8,19 @@ use Rattle.sector.specs.Bytes.{with_part, with_sectors}
 use Rattle.device.specs.Layers.{Layer, is_loud}
 use Rattle.device.specs.declared.operation.Operation.TheVariants.{Reads, Writes, Flushes}
 use Rattle.cow_header.specs.HeaderText.{header_bytes}
-use Rattle.model.specs.Places.{area_place}
-use Rattle.model.specs.NextPlace.{LacksArea}
+use Rattle.store_bytes.specs.Places.{area_place}
+use Rattle.store_bytes.specs.NextPlace.{LacksArea}
 use Rattle.plain.specs.declared.event.Event.TheVariants.{CopyRead, CopyWrite, FlushStore, ZeroNext, WriteArea, Publish, WriteInvalid}
 use Rattle.plain.specs.declared.event.Outcome.TheVariants.{Done, Fault}
 use Rattle.plain.specs.declared.request.Reply.{Reply}
-use Rattle.pending.specs.Copies.{count_of, pair_of}
-use Rattle.pending.specs.Due.{front_ready}
-use Rattle.pending.specs.Flushed.{flushed_copy, safe_mark}
-use Rattle.pending.specs.Routes.{refused_of}
-use Rattle.pending.specs.declared.copies.ChunkCopy.{ChunkCopy}
-use Rattle.pending.specs.declared.copies.Mark.{Mark}
-use Rattle.pending.specs.declared.copies.Stage.TheVariants.{Waiting, Read}
-use Rattle.pending.specs.declared.flights.Flight.{Flight}
+use Rattle.in_flight.specs.Copies.{count_of, pair_of}
+use Rattle.in_flight.specs.Due.{front_ready}
+use Rattle.in_flight.specs.Flushed.{flushed_copy, safe_mark}
+use Rattle.in_flight.specs.Routes.{refused_of}
+use Rattle.in_flight.specs.declared.copies.ChunkCopy.{ChunkCopy}
+use Rattle.in_flight.specs.declared.copies.Mark.{Mark}
+use Rattle.in_flight.specs.declared.copies.Stage.TheVariants.{Waiting, Read}
+use Rattle.in_flight.specs.declared.flights.Flight.{Flight}
 use Rattle.store.specs.Operations.{IsOneOperation}
 use Rattle.store.specs.Slots.{pairs_bytes, slot_start}
 use Rattle.store.specs.Stored.{after_commit}
@@ -32,7 +32,7 @@ use Rattle.event_machine.specs.Seen.{going_of}
 use Rattle.event_machine.specs.Stepping.{first_that, publishes, stepped}
 use Rattle.snapshot.specs.Kept.{Kept, books_of as snap_books, batch_of, needs_area, waits_area, spare_after, unpublished}
 use Rattle.snapshot.specs.Calls.{ReadsAt, StaysAt, WritesAt}
-use Rattle.merge_beside.specs.Rooms.{merge_books}
+use Rattle.snapshots.specs.Rooms.{merge_books}
 use Rattle.volume.specs.Volumed.{Volumed, is_loud_in_all}
 use Rattle.volume.specs.Whole.{IsWhole, IsCounted}
 use Rattle.snapshots.specs.Finding.{is_copy_of, is_flushing, is_mark_of, is_trying, waits_for_flush, is_committing, is_zeroing}

@@ -9,10 +9,10 @@ use Rattle.std.proofs.Math.Seq.{map-set_same}
 use Rattle.sector.specs.declared.pair.Pair.{Pair}
 use Rattle.device.specs.Layers.{Layer}
 use Rattle.plain.specs.declared.event.Event.TheVariants.{Publish}
-use Rattle.pending.specs.Copies.{count_of}
-use Rattle.pending.specs.declared.copies.Mark.{Mark}
-use Rattle.pending.specs.Due.{is_publishable}
-use Rattle.pending.specs.declared.flights.Flight.{Flight}
+use Rattle.in_flight.specs.Copies.{count_of}
+use Rattle.in_flight.specs.declared.copies.Mark.{Mark}
+use Rattle.in_flight.specs.Due.{is_publishable}
+use Rattle.in_flight.specs.declared.flights.Flight.{Flight}
 use Rattle.volume_laws.specs.Books.{SnapBooks}
 use Rattle.volume_laws.specs.MergeDue.{last_of}
 use Rattle.volume_laws.specs.MergeWaits.{IsSavedSoon, next_pairs}
@@ -23,7 +23,7 @@ use Rattle.snapshots.specs.Finding.{is_mark_of}
 use Rattle.snapshots.specs.Starting.{lacks_chunk, is_full_of}
 use Rattle.merge.specs.Lists.{first_or, next_of_group, reading_of, waiting_of}
 use Rattle.merge.specs.Merging.{Merging}
-use Rattle.merge_beside.specs.Starting.{IsNextSaved, IsNextSavedBeside, next_for}
+use Rattle.snapshots.specs.MergeStarting.{IsNextSaved, IsNextSavedBeside, next_for}
 use Rattle.volume.specs.Volumed.{Volumed}
 use Rattle.volume.specs.Whole.{IsWhole}
 use Rattle.volume.specs.Causes.{HasDone, counts_of, counts_with, is_lost, lives_of, lives_saved, unmarked}

@@ -10,7 +10,7 @@ use Rattle.sector.specs.declared.refusal.Refusal.TheVariants.{NotFinished, NotQu
 use Rattle.plain.specs.Plain.{Plain}
 use Rattle.plain.specs.Legal.{IsFinished}
 use Rattle.plain.specs.declared.request.Reply.{Reply}
-use Rattle.pending.specs.declared.flights.Flight.{Flight}
+use Rattle.in_flight.specs.declared.flights.Flight.{Flight}
 use Rattle.volume_laws.specs.Books.{MergeBooks}
 use Rattle.volume_laws.specs.MergeDue.{is_none}
 use Rattle.volume_laws.specs.Whole.{Holds, UnmergedHolds, plain_of as plain_books}
@@ -27,8 +27,8 @@ use Rattle.merge.specs.declared.group.Group.{Group}
 use Rattle.merge.specs.Due.{has_group_of, is_finished_of}
 use Rattle.merge.specs.Lists.{group_pairs}
 use Rattle.merge.specs.Merging.{Merging, books_of as merging_books, due_of as merging_due}
-use Rattle.merge_beside.specs.Keeping.{unkept}
-use Rattle.merge_beside.specs.Rooms.{merge_books}
+use Rattle.snapshots.specs.Keeping.{unkept}
+use Rattle.snapshots.specs.Rooms.{merge_books}
 use Rattle.volume.specs.Finishing.{finish_refusal, finish_with}
 use Rattle.volume.specs.Leaving.{is_quiet_of}
 use Rattle.volume.specs.Volumed.{Volumed, books_of, is_loud_in_all, plain_of}

@@ -9,11 +9,11 @@ use Rattle.std.proofs.lemmas.List.{take_at}
 use Rattle.device.specs.Layers.{Layer, is_loud}
 use Rattle.plain.specs.Plain.{Plain}
 use Rattle.plain.specs.Legal.{IsSubmitted}
-use Rattle.pending.specs.Kinds.{kind_of, room_of, in_flight}
-use Rattle.pending.specs.Routes.{write_route_of}
-use Rattle.pending.specs.declared.flights.Flight.{Flight}
-use Rattle.pending.specs.declared.flights.Kind.{Kind}
-use Rattle.pending.specs.declared.flights.Kind.TheVariants.{OriginWrite}
+use Rattle.in_flight.specs.Kinds.{kind_of, room_of, in_flight}
+use Rattle.in_flight.specs.Routes.{write_route_of}
+use Rattle.in_flight.specs.declared.flights.Flight.{Flight}
+use Rattle.in_flight.specs.declared.flights.Kind.{Kind}
+use Rattle.in_flight.specs.declared.flights.Kind.TheVariants.{OriginWrite}
 use Rattle.volume_laws.specs.Books.{SnapBooks, Books}
 use Rattle.volume_laws.specs.Published.{chunk_of, is_clear}
 use Rattle.volume_laws.specs.Waits.{IsSaving}
@@ -22,7 +22,7 @@ use Rattle.volume_laws.specs.Accepting.{IsTakenIn}
 use Rattle.volume_laws.proofs.Preparing.{prepared_none}
 use Rattle.snapshot.specs.Kept.{Kept, books_of as snap_books}
 use Rattle.merge.specs.Merging.{Merging}
-use Rattle.merge_beside.specs.Routing.{is_merged_at}
+use Rattle.snapshots.specs.Routing.{is_merged_at}
 use Rattle.volume.specs.Volumed.{Volumed, books_of, piece_of, piece_with, plain_of, is_loud_in_all, is_loud_with}
 use Rattle.snapshots.specs.Numbers.{count_in}
 use Rattle.volume.specs.Whole.{IsWhole}

@@ -19,12 +19,12 @@ use Rattle.plain.specs.declared.request.Op.TheVariants.{Flush}
 use Rattle.plain.specs.declared.request.Reply.{Reply}
 use Rattle.plain.specs.declared.request.Reply.TheVariants.{Flushed as IsFlushed, Refused as IsRefused}
 use Rattle.plain.specs.declared.request.Failure.TheVariants.{Io}
-use Rattle.pending.specs.Due.{number_of_flight}
-use Rattle.pending.specs.Flushed.{flushed_copy, safe_mark}
-use Rattle.pending.specs.Kinds.{in_flight, kind_of}
-use Rattle.pending.specs.declared.flights.Flight.{Flight}
-use Rattle.pending.specs.declared.flights.Kind.TheVariants.{OriginFlush, SnapFlush}
-use Rattle.pending.specs.declared.flights.Route.TheVariants.{Origin, Whole, Refused}
+use Rattle.in_flight.specs.Due.{number_of_flight}
+use Rattle.in_flight.specs.Flushed.{flushed_copy, safe_mark}
+use Rattle.in_flight.specs.Kinds.{in_flight, kind_of}
+use Rattle.in_flight.specs.declared.flights.Flight.{Flight}
+use Rattle.in_flight.specs.declared.flights.Kind.TheVariants.{OriginFlush, SnapFlush}
+use Rattle.in_flight.specs.declared.flights.Route.TheVariants.{Origin, Whole, Refused}
 use Rattle.volume_laws.specs.Books.{MergeBooks, SnapBooks, Books}
 use Rattle.volume_laws.specs.Due.{left_in, weight_of}
 use Rattle.volume_laws.specs.Held.{RefusedHolds, RequestHolds, SnapHolds}
@@ -50,7 +50,7 @@ use Rattle.volume_laws.proofs.Waiting.{KeepsWaiting, waits_out, waits_changed}
 use Rattle.volume_laws.proofs.WholeOne.{snap_holds}
 use Rattle.snapshot.specs.Kept.{Kept, books_of as snap_books, due_of_kept}
 use Rattle.merge.specs.Merging.{Merging, books_of as merging_books, due_of as merging_due}
-use Rattle.merge_beside.specs.Rooms.{merge_books, room_of}
+use Rattle.snapshots.specs.Rooms.{merge_books, room_of}
 use Rattle.snapshots.specs.Numbers.{numbers_in}
 use Rattle.snapshots.proofs.Finds.{position_within}
 use Rattle.volume.specs.Flying.{Fits}

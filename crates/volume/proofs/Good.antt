@@ -8,11 +8,11 @@ use Rattle.plain.specs.Plain.{InFlight, Plain, spoiled}
 use Rattle.plain.specs.Legal.{IsLegalStep, Spoils}
 use Rattle.plain.specs.declared.event.Event.{Event}
 use Rattle.plain.specs.declared.event.Outcome.{Outcome}
-use Rattle.pending.specs.Due.{number_of_flight, number_of_copy, number_of_mark}
-use Rattle.pending.specs.Kinds.{in_flight}
-use Rattle.pending.specs.Routes.{refused_of}
-use Rattle.pending.specs.declared.copies.Mark.{Mark}
-use Rattle.pending.specs.declared.flights.Flight.{Flight}
+use Rattle.in_flight.specs.Due.{number_of_flight, number_of_copy, number_of_mark}
+use Rattle.in_flight.specs.Kinds.{in_flight}
+use Rattle.in_flight.specs.Routes.{refused_of}
+use Rattle.in_flight.specs.declared.copies.Mark.{Mark}
+use Rattle.in_flight.specs.declared.flights.Flight.{Flight}
 use Rattle.volume_laws.specs.Due.{left_in, weight_of}
 use Rattle.volume_laws.specs.Steps.{SpoilsSnap}
 use Rattle.volume_laws.specs.Waits.{Waits}
@@ -24,7 +24,7 @@ use Rattle.volume_laws.proofs.WaitingAgain.{waits_spoiled}
 use Rattle.volume_laws.proofs.Left.{spoil_left}
 use Rattle.volume_laws.proofs.MergeRooms.{KeepsRoom}
 use Rattle.volume_laws.proofs.MergeRoomEvents.{spoil_room}
-use Rattle.merge_beside.specs.Rooms.{room_of}
+use Rattle.snapshots.specs.Rooms.{room_of}
 use Rattle.snapshot.specs.Kept.{Kept, books_of as snap_books, due_of_kept}
 use Rattle.volume.specs.Volumed.{Volumed, books_of, plain_of, is_loud_in_all, left_in_all}
 use Rattle.snapshots.specs.Numbers.{numbers_in}

@@ -14,13 +14,13 @@ use Rattle.plain.specs.declared.request.Op.{Op}
 use Rattle.plain.specs.declared.request.Op.TheVariants.{Read, Write, Flush}
 use Rattle.plain.specs.declared.request.Reply.{Reply}
 use Rattle.plain.specs.declared.request.Reply.TheVariants.{Data, Written as IsWritten, Flushed as IsFlushed}
-use Rattle.pending.specs.Kinds.{in_flight}
+use Rattle.in_flight.specs.Kinds.{in_flight}
 use Rattle.volume_laws.specs.Books.{Books}
 use Rattle.volume_laws.specs.Steps.{TakesOut}
 use Rattle.volume_laws.proofs.Requests.{asked, gone}
 use Rattle.volume.specs.Flying.{Fits, IsTakenOut}
-use Rattle.pending.specs.Due.{number_of_flight}
-use Rattle.pending.specs.declared.flights.Flight.{Flight}
+use Rattle.in_flight.specs.Due.{number_of_flight}
+use Rattle.in_flight.specs.declared.flights.Flight.{Flight}
 use Rattle.volume_laws.specs.Due.{left_in, weight_of}
 use Rattle.volume_laws.specs.Held.{RequestHolds}
 use Rattle.volume_laws.specs.Waits.{Waits}

@@ -14,7 +14,7 @@ use Rattle.event_machine.specs.Held.{Held, Moving}
 use Rattle.snapshot.specs.Kept.{Kept, books_of as snap_books}
 use Rattle.snapshots.specs.Numbers.{number_of_snap, numbers_in, count_in}
 use Rattle.merge.specs.Merging.{Merging}
-use Rattle.merge_beside.specs.Keeping.{unkept}
+use Rattle.snapshots.specs.Keeping.{unkept}
 use Rattle.volume.specs.Volumed.{Volumed, books_of, plain_of, is_loud_in_all, is_loud_with}
 use Rattle.volume.specs.Whole.{AreNumbers, SharesNone, IsAttached, IsWhole, IsCounted, GoesOn, starts_left}
 use Rattle.volume.specs.Moved.{held_of, moving_of}

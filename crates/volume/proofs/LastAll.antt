@@ -6,7 +6,7 @@ use Rattle.std.proofs.lemmas.List.{length-map, get_or-map, get_or_default, get_o
 use Rattle.std.proofs.lemmas.Grind.{get_or-set_at}
 use Rattle.sector.specs.Bytes.{sector_at}
 use Rattle.device.specs.Layers.{Layer, is_loud}
-use Rattle.pending.specs.declared.flights.Flight.{Flight}
+use Rattle.in_flight.specs.declared.flights.Flight.{Flight}
 use Rattle.stop_laws.specs.Clauses.{Given}
 use Rattle.volume_laws.specs.Held.{SnapHolds}
 use Rattle.volume_laws.proofs.WholeOne.{snap_holds}

@@ -10,10 +10,10 @@ use Rattle.device.specs.Layers.{Layer, is_loud}
 use Rattle.plain.specs.declared.event.Event.TheVariants.{Issue}
 use Rattle.plain.specs.declared.request.Dev.TheVariants.{Origin as AtOrigin, Snap}
 use Rattle.plain.specs.declared.request.Op.TheVariants.{Write}
-use Rattle.pending.specs.Kinds.{kind_at, kind_of, in_flight}
-use Rattle.pending.specs.declared.flights.Flight.{Flight}
-use Rattle.pending.specs.declared.flights.Kind.TheVariants.{OriginWrite, SnapWrite}
-use Rattle.pending.specs.declared.flights.Route.TheVariants.{Origin, Store, Refused}
+use Rattle.in_flight.specs.Kinds.{kind_at, kind_of, in_flight}
+use Rattle.in_flight.specs.declared.flights.Flight.{Flight}
+use Rattle.in_flight.specs.declared.flights.Kind.TheVariants.{OriginWrite, SnapWrite}
+use Rattle.in_flight.specs.declared.flights.Route.TheVariants.{Origin, Store, Refused}
 use Rattle.stop_laws.specs.Clauses.{Given}
 use Rattle.stop_laws.proofs.Firm.{adds_written}
 use Rattle.volume_laws.specs.Held.{RequestHolds}

@@ -16,9 +16,9 @@ use Rattle.plain.specs.declared.request.Op.{Op}
 use Rattle.plain.specs.declared.request.Op.TheVariants.{Read, Write, Flush}
 use Rattle.plain.specs.declared.request.Reply.TheVariants.{Flushed}
 use Rattle.plain.specs.declared.request.Request.{Request}
-use Rattle.pending.specs.Kinds.{kind_at, in_flight}
-use Rattle.pending.specs.declared.flights.Flight.{Flight}
-use Rattle.pending.specs.declared.flights.Kind.TheVariants.{OriginFlush}
+use Rattle.in_flight.specs.Kinds.{kind_at, in_flight}
+use Rattle.in_flight.specs.declared.flights.Flight.{Flight}
+use Rattle.in_flight.specs.declared.flights.Kind.TheVariants.{OriginFlush}
 use Rattle.stop_laws.specs.Firm.{IsFirm}
 use Rattle.loss_laws.specs.Lost.{ClosesOn}
 use Rattle.loss_laws.proofs.OnDevices.{store_closes_on, origin_closes_on}

@@ -13,18 +13,18 @@ use Rattle.sector.specs.declared.pair.Pair.{Pair}
 use Rattle.sector.specs.declared.refusal.Refusal.TheVariants.{Invalid}
 use Rattle.cow_header.specs.HeaderText.{found_in}
 use Rattle.device.specs.Layers.{Layer, is_loud}
-use Rattle.model.specs.Pairs.{pairs_of, AreWellFormed, IsInside}
-use Rattle.model.specs.Picture.{place_of, IsCopied}
-use Rattle.model.specs.Places.{area_place, is_area_place, chunk_at, slot, ChangesOnly}
-use Rattle.model.proofs.AreaPlaces.{area_of}
-use Rattle.model.proofs.Slots.{pairs-outside, slot-at}
-use Rattle.model.specs.Slots.{pair_in, pair_bytes}
-use Rattle.pending.specs.Flushed.{flushed_stage, flushed_copy, safe_mark}
-use Rattle.pending.specs.Copies.{pair_of}
-use Rattle.pending.specs.declared.copies.ChunkCopy.{ChunkCopy}
-use Rattle.pending.specs.declared.copies.Stage.{Stage}
-use Rattle.pending.specs.declared.copies.Stage.TheVariants.{Waiting, Read, Written, Flushed}
-use Rattle.pending.specs.declared.flights.Flight.{Flight}
+use Rattle.store_bytes.specs.Pairs.{pairs_of, AreWellFormed, IsInside}
+use Rattle.store_bytes.specs.Picture.{place_of, IsCopied}
+use Rattle.store_bytes.specs.Places.{area_place, is_area_place, chunk_at, slot, ChangesOnly}
+use Rattle.store_bytes.proofs.AreaPlaces.{area_of}
+use Rattle.store_bytes.proofs.Slots.{pairs-outside, slot-at}
+use Rattle.store_bytes.specs.Slots.{pair_in, pair_bytes}
+use Rattle.in_flight.specs.Flushed.{flushed_stage, flushed_copy, safe_mark}
+use Rattle.in_flight.specs.Copies.{pair_of}
+use Rattle.in_flight.specs.declared.copies.ChunkCopy.{ChunkCopy}
+use Rattle.in_flight.specs.declared.copies.Stage.{Stage}
+use Rattle.in_flight.specs.declared.copies.Stage.TheVariants.{Waiting, Read, Written, Flushed}
+use Rattle.in_flight.specs.declared.flights.Flight.{Flight}
 use Rattle.stop_laws.specs.Firm.{AddsNow, IsFirm}
 use Rattle.stop_laws.specs.Stop.{MayLeave}
 use Rattle.stop_laws.proofs.May.{slot_there}

@@ -2,7 +2,7 @@
 use Rattle.std.proofs.Common.{◌≡◌, ℕ, Bool, true, false, refl, sym, ◌∙◌, ap}
 use Rattle.std.specs.Prelude.{◌&&◌, ◌==◌, not}
 use Rattle.std.proofs.lemmas.Bool.{true≢false}
-use Rattle.pending.specs.Due.{front_ready}
+use Rattle.in_flight.specs.Due.{front_ready}
 use Rattle.snapshot.specs.Kept.{Kept, needs_area, fills_area}
 use Rattle.snapshots.specs.Finding.{is_zeroing}
 

@@ -6,11 +6,11 @@ use Rattle.sector.specs.declared.refusal.Refusal.{Refusal}
 use Rattle.plain.specs.declared.request.Overflowing.{Overflowing}
 use Rattle.plain.specs.declared.request.Overflowing.TheVariants.{Did}
 use Rattle.device.specs.Layers.{Layer}
-use Rattle.pending.specs.declared.copies.Mark.{Mark}
-use Rattle.pending.specs.declared.flights.Flight.{Flight}
+use Rattle.in_flight.specs.declared.copies.Mark.{Mark}
+use Rattle.in_flight.specs.declared.flights.Flight.{Flight}
 use Rattle.merge.specs.Lists.{next_of_group}
 use Rattle.merge.specs.Merging.{Merging}
-use Rattle.merge_beside.specs.Starting.{IsNextSaved, IsNextSavedBeside, next_for}
+use Rattle.snapshots.specs.MergeStarting.{IsNextSaved, IsNextSavedBeside, next_for}
 use Rattle.snapshot.specs.Kept.{Kept}
 use Rattle.snapshots.specs.Starting.{own_of}
 use Rattle.volume.specs.SnapLasting.{IsReady}

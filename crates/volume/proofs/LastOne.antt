@@ -8,14 +8,14 @@ use Rattle.std.proofs.Math.ListN.{get_or-append}
 use Rattle.sector.specs.Bytes.{sector_at}
 use Rattle.sector.specs.declared.pair.Pair.{Pair}
 use Rattle.device.specs.Layers.{Layer, is_loud}
-use Rattle.model.specs.Pairs.{pairs_of, AreWellFormed, IsApart, IsInside}
-use Rattle.model.specs.Picture.{place_of}
-use Rattle.model.specs.Places.{area_place}
-use Rattle.model.proofs.Views.{place_none}
-use Rattle.pending.specs.Copies.{pair_of}
-use Rattle.pending.specs.declared.copies.ChunkCopy.{ChunkCopy}
-use Rattle.pending.specs.declared.copies.Stage.TheVariants.{Flushed}
-use Rattle.pending.specs.declared.flights.Flight.{Flight}
+use Rattle.store_bytes.specs.Pairs.{pairs_of, AreWellFormed, IsApart, IsInside}
+use Rattle.store_bytes.specs.Picture.{place_of}
+use Rattle.store_bytes.specs.Places.{area_place}
+use Rattle.store_bytes.proofs.Views.{place_none}
+use Rattle.in_flight.specs.Copies.{pair_of}
+use Rattle.in_flight.specs.declared.copies.ChunkCopy.{ChunkCopy}
+use Rattle.in_flight.specs.declared.copies.Stage.TheVariants.{Flushed}
+use Rattle.in_flight.specs.declared.flights.Flight.{Flight}
 use Rattle.stop_laws.specs.Stop.{MayLeave, Within}
 use Rattle.stop_laws.specs.Firm.{AddsNow, IsFirm}
 use Rattle.stop_laws.specs.Clauses.{Held, Given, Gives, StopsSnap}

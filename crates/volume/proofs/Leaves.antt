@@ -19,7 +19,7 @@ use Rattle.volume_laws.proofs.MergeRoomEvents.{rooms_detached}
 use Rattle.volume_laws.proofs.MergeSaved.{goes_detached}
 use Rattle.volume_laws.proofs.Waiting.{waits_none}
 use Rattle.merge.specs.Merging.{Merging, due_of as merging_due}
-use Rattle.merge_beside.specs.Rooms.{room_of}
+use Rattle.snapshots.specs.Rooms.{room_of}
 use Rattle.snapshot.specs.Kept.{Kept, books_of as snap_books}
 use Rattle.snapshot.specs.declared.opening.StoreDev.{StoreDev}
 use Rattle.volume.specs.Volumed.{Volumed, books_of, is_loud_in_all, plain_of, is_loud_with}

@@ -8,13 +8,13 @@ use Rattle.std.proofs.Math.ListN.{get_or-append}
 use Rattle.std.proofs.Math.Seq.{get_or-append_seam}
 use Rattle.sector.specs.declared.pair.Pair.{Pair}
 use Rattle.device.specs.Layers.{Layer}
-use Rattle.pending.specs.declared.copies.ChunkCopy.{ChunkCopy}
-use Rattle.pending.specs.declared.copies.Stage.TheVariants.{Waiting, Flushed}
-use Rattle.pending.specs.declared.flights.Flight.{Flight}
+use Rattle.in_flight.specs.declared.copies.ChunkCopy.{ChunkCopy}
+use Rattle.in_flight.specs.declared.copies.Stage.TheVariants.{Waiting, Flushed}
+use Rattle.in_flight.specs.declared.flights.Flight.{Flight}
 use Rattle.snapshot.specs.Kept.{Kept}
 use Rattle.snapshot.specs.Calls.{StartsAt, StartsMerging, started}
 use Rattle.snapshots.specs.Starting.{starts_chunk, overflows_chunk, lacks_chunk, spoilt_of, unroomed, IsSavedIn, AreSavedIn}
-use Rattle.merge_beside.specs.Starting.{IsNextSavedIn, AreNextSavedIn}
+use Rattle.snapshots.specs.MergeStarting.{IsNextSavedIn, AreNextSavedIn}
 use Rattle.volume.specs.SnapLasting.{IsReady}
 use Rattle.volume.proofs.LastOne.{IsLeft, Stays, Spoils, none_ready}
 

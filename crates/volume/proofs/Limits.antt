@@ -3,13 +3,13 @@ use Rattle.std.proofs.Common.{◌≡◌, ℕ, ◌+◌, ◌<◌, ◌≤◌, Bool,
 use Rattle.std.specs.Prelude.{◌==◌, ◌&&◌, ◌||◌, count_by, sum_by}
 use Rattle.std.proofs.lemmas.Bool.{cases_Bool, le-ltb, ltb-false, or_from, or_parts}
 use Rattle.std.proofs.lemmas.List.Sums.{count_by-le-length}
-use Rattle.pending.specs.declared.flights.Kind.{Kind}
-use Rattle.pending.specs.declared.flights.Kind.TheVariants.{OriginRead, OriginWrite, OriginFlush, SnapRead, SnapWrite, SnapFlush}
+use Rattle.in_flight.specs.declared.flights.Kind.{Kind}
+use Rattle.in_flight.specs.declared.flights.Kind.TheVariants.{OriginRead, OriginWrite, OriginFlush, SnapRead, SnapWrite, SnapFlush}
 use Rattle.snapshot.specs.Kept.{Kept}
 use Rattle.snapshots.specs.Numbers.{count_in}
 use Rattle.snapshots.specs.Starting.{starts}
 use Rattle.merge.specs.Merging.{Merging}
-use Rattle.merge_beside.specs.Routing.{is_merged_at}
+use Rattle.snapshots.specs.Routing.{is_merged_at}
 use Rattle.volume.specs.Submitting.{are_too_many, starting}
 use Rattle.volume.specs.Volumed.{Volumed}
 

@@ -6,9 +6,9 @@ use Rattle.std.proofs.lemmas.Bool.{false≢true}
 use Rattle.sector.specs.Bytes.{sector_at, with_part}
 use Rattle.sector.specs.declared.pair.Pair.{Pair}
 use Rattle.device.specs.Layers.{Layer, is_loud}
-use Rattle.model.specs.Picture.{place_of}
-use Rattle.pending.specs.Copies.{count_of}
-use Rattle.pending.specs.declared.flights.Flight.{Flight}
+use Rattle.store_bytes.specs.Picture.{place_of}
+use Rattle.in_flight.specs.Copies.{count_of}
+use Rattle.in_flight.specs.declared.flights.Flight.{Flight}
 use Rattle.stop_laws.specs.Firm.{IsFirm}
 use Rattle.stop_laws.specs.Clauses.{Given}
 use Rattle.volume_laws.specs.Books.{SnapBooks}
@@ -27,7 +27,7 @@ use Rattle.merge.specs.InStep.{IsInStep as IsMergingInStep}
 use Rattle.merge.specs.Lists.{copied_count, reading_of}
 use Rattle.merge.specs.Merging.{Merging, flushed_of, books_of as merging_books, due_of as merging_due}
 use Rattle.merge.specs.Steps.{WritesArea}
-use Rattle.merge_beside.specs.Starting.{IsNextSaved, next_for}
+use Rattle.snapshots.specs.MergeStarting.{IsNextSaved, next_for}
 use Rattle.volume.specs.MergeLasting.{MergeLasting, StopsOriginOn}
 use Rattle.volume.specs.Lasting.{IsLasting}
 use Rattle.volume.specs.Volumed.{Volumed}

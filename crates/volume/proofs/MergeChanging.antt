@@ -8,9 +8,9 @@ use Rattle.chunk.specs.Sizes.{is_chunk}
 use Rattle.device.specs.Layers.{Layer, is_loud}
 use Rattle.plain.specs.declared.event.Event.{Event}
 use Rattle.plain.specs.declared.event.Outcome.{Outcome}
-use Rattle.pending.specs.Due.{number_of_flight}
-use Rattle.pending.specs.Kinds.{in_flight}
-use Rattle.pending.specs.declared.flights.Flight.{Flight}
+use Rattle.in_flight.specs.Due.{number_of_flight}
+use Rattle.in_flight.specs.Kinds.{in_flight}
+use Rattle.in_flight.specs.declared.flights.Flight.{Flight}
 use Rattle.volume_laws.specs.Books.{SnapBooks}
 use Rattle.volume_laws.specs.Due.{weight_of, books_of as due_in}
 use Rattle.volume_laws.specs.MergeDue.{left_beside, left_in_merge}
@@ -22,7 +22,7 @@ use Rattle.volume_laws.specs.Whole.{Holds}
 use Rattle.volume_laws.proofs.MergeSteps.{IsMergeStep}
 use Rattle.snapshot.specs.Kept.{Kept, books_of as snap_books}
 use Rattle.merge.specs.Merging.{Merging, books_of as merging_books, due_of as merging_due}
-use Rattle.merge_beside.specs.Rooms.{merge_books, room_of}
+use Rattle.snapshots.specs.Rooms.{merge_books, room_of}
 use Rattle.volume.specs.Volumed.{Volumed, books_of, plain_of, is_loud_with, is_loud_in_all, dues_of, left_in_all, left_by, merge_due}
 use Rattle.volume.specs.Whole.{AreNumbers, IsAttached, IsMerged, GoesOn, IsWhole}
 use Rattle.volume.specs.Causes.{HasCause, IsOneAtMost, counts_of}

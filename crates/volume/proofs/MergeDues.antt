@@ -7,7 +7,7 @@ use Rattle.sector.specs.declared.pair.Pair.{Pair}
 use Rattle.device.specs.Layers.{Layer}
 use Rattle.plain.specs.declared.event.Event.{Event}
 use Rattle.plain.specs.declared.event.Event.TheVariants.{MergeAreaRead, MergeCommit, MergeFlush, MergeRead, MergeRelease}
-use Rattle.pending.specs.declared.flights.Flight.{Flight}
+use Rattle.in_flight.specs.declared.flights.Flight.{Flight}
 use Rattle.volume_laws.specs.Books.{MergeBooks}
 use Rattle.volume_laws.specs.MergeDue.{is_none, is_using, is_readable, can_read, can_read_area, can_flush, can_commit_group, can_release, is_due_with}
 use Rattle.merge.specs.declared.group.Group.{Group}

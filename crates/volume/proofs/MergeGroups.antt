@@ -5,12 +5,12 @@ use Rattle.std.specs.List.{All}
 use Rattle.std.proofs.lemmas.List.{length-map, get_or-map, get_or_default, get_or_append_left, get_or-append-add}
 use Rattle.sector.specs.declared.pair.Pair.{Pair}
 use Rattle.device.specs.Layers.{Layer, is_loud}
-use Rattle.model.specs.Pairs.{IsInside}
+use Rattle.store_bytes.specs.Pairs.{IsInside}
 use Rattle.plain.specs.declared.event.Event.TheVariants.{MergeGroup}
 use Rattle.plain.specs.declared.event.Outcome.TheVariants.{Done}
-use Rattle.pending.specs.Due.{number_of_copy, number_of_mark}
-use Rattle.pending.specs.declared.copies.ChunkCopy.{ChunkCopy}
-use Rattle.pending.specs.declared.flights.Flight.{Flight}
+use Rattle.in_flight.specs.Due.{number_of_copy, number_of_mark}
+use Rattle.in_flight.specs.declared.copies.ChunkCopy.{ChunkCopy}
+use Rattle.in_flight.specs.declared.flights.Flight.{Flight}
 use Rattle.volume_laws.specs.Books.{MergeBooks, SnapBooks}
 use Rattle.volume_laws.specs.Held.{SnapHolds}
 use Rattle.volume_laws.specs.MergeDue.{DueMerge, can_group, last_of, next_pair}
@@ -30,8 +30,8 @@ use Rattle.merge.specs.Due.{can_group_of}
 use Rattle.merge.specs.Lists.{formed, waiting_of, reading_of}
 use Rattle.merge.specs.Merging.{Merging, books_of as merging_books, due_of as merging_due}
 use Rattle.merge.specs.declared.group.Group.{Group}
-use Rattle.merge_beside.specs.Rooms.{room_of}
-use Rattle.merge_beside.specs.Starting.{IsNextSaved, KeepsRoomFor, CanSaveNext, next_for}
+use Rattle.snapshots.specs.Rooms.{room_of}
+use Rattle.snapshots.specs.MergeStarting.{IsNextSaved, KeepsRoomFor, CanSaveNext, next_for}
 use Rattle.volume.specs.Volumed.{Volumed, books_of}
 use Rattle.volume.specs.Whole.{IsAttached, IsWhole}
 use Rattle.volume.specs.Exact.{IsExact}

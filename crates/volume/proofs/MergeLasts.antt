@@ -7,10 +7,10 @@ use Rattle.std.proofs.lemmas.List.{length-append}
 use Rattle.sector.specs.Bytes.{sector_at, with_sectors}
 use Rattle.sector.specs.declared.pair.Pair.{Pair}
 use Rattle.device.specs.Layers.{Layer, is_loud}
-use Rattle.model.specs.Places.{area_place, slot, ChangesOnly}
-use Rattle.model.specs.Pairs.{pairs_of}
-use Rattle.model.specs.Picture.{place_of, IsCopied}
-use Rattle.pending.specs.declared.flights.Flight.{Flight}
+use Rattle.store_bytes.specs.Places.{area_place, slot, ChangesOnly}
+use Rattle.store_bytes.specs.Pairs.{pairs_of}
+use Rattle.store_bytes.specs.Picture.{place_of, IsCopied}
+use Rattle.in_flight.specs.declared.flights.Flight.{Flight}
 use Rattle.stop_laws.specs.Stop.{MayLeave}
 use Rattle.stop_laws.specs.Firm.{AddsNow, IsFirm}
 use Rattle.stop_laws.specs.Clauses.{Given, Gives, StopsMerge}
@@ -25,7 +25,7 @@ use Rattle.volume_laws.specs.Whole.{OriginHolds}
 use Rattle.merge.specs.Due.{is_finished_of, has_group_of}
 use Rattle.merge.specs.Lists.{copied_of}
 use Rattle.merge.specs.Merging.{Merging, flushed_of, books_of as merging_books}
-use Rattle.merge_beside.specs.Rooms.{merge_books}
+use Rattle.snapshots.specs.Rooms.{merge_books}
 use Rattle.volume.specs.Volumed.{Volumed}
 use Rattle.volume.specs.Whole.{IsWhole, GoesOn}
 use Rattle.volume.specs.Stopping.{StopsFinished}

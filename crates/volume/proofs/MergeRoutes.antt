@@ -8,8 +8,8 @@ use Rattle.device.specs.Layers.{Layer, is_loud}
 use Rattle.sector.specs.declared.range.Range.{Range}
 use Rattle.sector.specs.declared.refusal.Refusal.{Refusal}
 use Rattle.sector.specs.declared.refusal.Refusal.TheVariants.{MergingSnapshot}
-use Rattle.pending.specs.Routes.{write_route_of}
-use Rattle.pending.specs.declared.flights.Flight.{Flight}
+use Rattle.in_flight.specs.Routes.{write_route_of}
+use Rattle.in_flight.specs.declared.flights.Flight.{Flight}
 use Rattle.volume_laws.specs.Accepting.{IsNumberedApart}
 use Rattle.volume_laws.specs.Again.{merged_place, new_route}
 use Rattle.volume_laws.specs.Books.{SnapBooks, MergeBooks}
@@ -18,8 +18,8 @@ use Rattle.volume_laws.specs.Waits.{is_grouped}
 use Rattle.event_machine.specs.Again.{is_grouped as is_grouped_held, merged_place as place_held}
 use Rattle.event_machine.specs.MergeSeen.{held_in}
 use Rattle.merge.specs.Merging.{Merging, books_of as merging_books}
-use Rattle.merge_beside.specs.Rooms.{merge_books}
-use Rattle.merge_beside.specs.Routing.{is_grouped_at, place_at, is_merged_at}
+use Rattle.snapshots.specs.Rooms.{merge_books}
+use Rattle.snapshots.specs.Routing.{is_grouped_at, place_at, is_merged_at}
 use Rattle.snapshot.specs.Kept.{books_of as snap_books}
 use Rattle.volume.specs.Volumed.{Volumed}
 use Rattle.volume.specs.Moved.{merge_seen}

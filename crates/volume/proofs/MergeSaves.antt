@@ -9,10 +9,10 @@ use Rattle.sector.specs.declared.pair.Pair.{Pair}
 use Rattle.device.specs.Layers.{Layer, is_loud}
 use Rattle.plain.specs.declared.event.Event.{Event}
 use Rattle.plain.specs.declared.event.Outcome.TheVariants.{Done}
-use Rattle.pending.specs.Copies.{count_of}
-use Rattle.pending.specs.Due.{number_of_flight}
-use Rattle.pending.specs.Kinds.{in_flight}
-use Rattle.pending.specs.declared.flights.Flight.{Flight}
+use Rattle.in_flight.specs.Copies.{count_of}
+use Rattle.in_flight.specs.Due.{number_of_flight}
+use Rattle.in_flight.specs.Kinds.{in_flight}
+use Rattle.in_flight.specs.declared.flights.Flight.{Flight}
 use Rattle.volume_laws.specs.Books.{MergeBooks, SnapBooks}
 use Rattle.volume_laws.specs.Due.{left_in, weight_of, books_of as due_in}
 use Rattle.volume_laws.specs.MergeDue.{last_of, lacking_in, lacking_of, left_beside, left_in_merge, per_copy}
@@ -33,8 +33,8 @@ use Rattle.snapshots.specs.Starting.{spoilt_of}
 use Rattle.merge.specs.Lists.{waiting_of}
 use Rattle.merge.specs.Merging.{Merging, books_of as merging_books, due_of as merging_due}
 use Rattle.merge.specs.declared.group.Group.{Group}
-use Rattle.merge_beside.specs.Rooms.{room_of}
-use Rattle.merge_beside.specs.Starting.{IsNextSaved, AreNextSavedIn, next_for}
+use Rattle.snapshots.specs.Rooms.{room_of}
+use Rattle.snapshots.specs.MergeStarting.{IsNextSaved, AreNextSavedIn, next_for}
 use Rattle.volume.specs.Volumed.{Volumed, books_of, plain_of, is_loud_with, is_loud_in_all, left_in_all, left_by, dues_of, merge_due}
 use Rattle.volume.specs.Whole.{AreNumbers, IsMerged, IsWhole}
 use Rattle.volume.specs.Causes.{HasCause, IsOneAtMost, SavesNext, counts_of, lives_saved}

@@ -8,9 +8,9 @@ use Rattle.std.proofs.lemmas.List.Elements.{All-map}
 use Rattle.sector.specs.Bytes.{sector_at}
 use Rattle.sector.specs.declared.pair.Pair.{Pair}
 use Rattle.device.specs.Layers.{Layer, is_loud}
-use Rattle.model.specs.Pairs.{AreWellFormed}
-use Rattle.model.specs.Places.{area_place, slot}
-use Rattle.pending.specs.declared.flights.Flight.{Flight}
+use Rattle.store_bytes.specs.Pairs.{AreWellFormed}
+use Rattle.store_bytes.specs.Places.{area_place, slot}
+use Rattle.in_flight.specs.declared.flights.Flight.{Flight}
 use Rattle.stop_laws.specs.Firm.{IsFirm}
 use Rattle.loss_laws.proofs.MergeKept.{begin_lasts}
 use Rattle.loss_laws.proofs.Attached.{attach_lasts}
@@ -18,7 +18,7 @@ use Rattle.loss_laws.proofs.Slots.{inside_of}
 use Rattle.store.specs.Headed.{marked_as}
 use Rattle.snapshot.specs.Kept.{Kept}
 use Rattle.snapshot.specs.InStep.{IsInStep}
-use Rattle.merge_beside.specs.Keeping.{unkept, kept_back, kept_for}
+use Rattle.snapshots.specs.Keeping.{unkept, kept_back, kept_for}
 use Rattle.volume.specs.Beginning.{merging_from}
 use Rattle.volume.specs.SnapLasting.{IsReady, lost_of, IsThereOn, SnapLasting}
 use Rattle.volume.specs.MergeLasting.{MergeLasting}

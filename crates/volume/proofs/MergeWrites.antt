@@ -3,18 +3,18 @@ use Rattle.std.proofs.Common.{◌≡◌, ℕ, ◌+◌, Bool, true, false, List, 
 use Rattle.std.specs.Prelude.{if◌then◌else◌, count_by, is_some}
 use Rattle.device.specs.Layers.{Layer, is_loud}
 use Rattle.plain.specs.declared.request.Request.{Request}
-use Rattle.pending.specs.Kinds.{kind_of, room_of}
-use Rattle.pending.specs.Routes.{flush_route_of, read_route_of, write_route_of}
-use Rattle.pending.specs.declared.flights.Flight.{Flight}
-use Rattle.pending.specs.declared.flights.Kind.TheVariants.{OriginRead, OriginWrite, OriginFlush}
+use Rattle.in_flight.specs.Kinds.{kind_of, room_of}
+use Rattle.in_flight.specs.Routes.{flush_route_of, read_route_of, write_route_of}
+use Rattle.in_flight.specs.declared.flights.Flight.{Flight}
+use Rattle.in_flight.specs.declared.flights.Kind.TheVariants.{OriginRead, OriginWrite, OriginFlush}
 use Rattle.plain.specs.Kept.{kept}
-use Rattle.pending.specs.declared.flights.Route.{Route}
+use Rattle.in_flight.specs.declared.flights.Route.{Route}
 use Rattle.volume_laws.specs.Accepting.{IsPrepared, IsTakenIn}
 use Rattle.volume_laws.specs.Published.{is_clear}
 use Rattle.volume_laws.proofs.Preparing.{prepared_none}
 use Rattle.merge.specs.Merging.{Merging}
-use Rattle.merge_beside.specs.Rooms.{merge_books}
-use Rattle.merge_beside.specs.Routing.{is_grouped_at, place_at, is_merged_at}
+use Rattle.snapshots.specs.Rooms.{merge_books}
+use Rattle.snapshots.specs.Routing.{is_grouped_at, place_at, is_merged_at}
 use Rattle.snapshot.specs.Kept.{Kept, books_of as snap_books}
 use Rattle.snapshots.specs.Starting.{own_of, starts, overflows, overflowing}
 use Rattle.volume.specs.Volumed.{Volumed, books_of, piece_with}

@@ -6,7 +6,7 @@ use Rattle.std.proofs.lemmas.Bool.{eqb-true}
 use Rattle.std.proofs.lemmas.List.Quantifiers.{position-Some}
 use Rattle.sector.specs.Bytes.{sectors_at, next_count}
 use Rattle.device.specs.Layers.{Layer, is_loud}
-use Rattle.model.specs.Picture.{place_of}
+use Rattle.store_bytes.specs.Picture.{place_of}
 use Rattle.plain.specs.declared.event.Event.TheVariants.{Issue}
 use Rattle.plain.specs.declared.event.Outcome.TheVariants.{Reply as Replied}
 use Rattle.plain.specs.declared.request.Dev.{Dev}
@@ -16,10 +16,10 @@ use Rattle.plain.specs.declared.request.Op.TheVariants.{Read, Write, Flush}
 use Rattle.plain.specs.declared.request.Reply.{Reply}
 use Rattle.plain.specs.declared.request.Reply.TheVariants.{Data, Written as IsWritten, Refused as IsRefused}
 use Rattle.plain.specs.declared.request.Failure.TheVariants.{Io}
-use Rattle.pending.specs.Kinds.{kind_at, kind_of}
-use Rattle.pending.specs.declared.flights.Flight.{Flight}
-use Rattle.pending.specs.declared.flights.Kind.TheVariants.{OriginFlush, OriginRead, OriginWrite}
-use Rattle.pending.specs.declared.flights.Route.TheVariants.{Origin, Store, Whole}
+use Rattle.in_flight.specs.Kinds.{kind_at, kind_of}
+use Rattle.in_flight.specs.declared.flights.Flight.{Flight}
+use Rattle.in_flight.specs.declared.flights.Kind.TheVariants.{OriginFlush, OriginRead, OriginWrite}
+use Rattle.in_flight.specs.declared.flights.Route.TheVariants.{Origin, Store, Whole}
 use Rattle.volume_laws.specs.Books.{MergeBooks, Books, listed, taken}
 use Rattle.volume_laws.specs.Due.{books_of as due_in}
 use Rattle.volume_laws.specs.MergeDue.{left_beside, left_in_merge}
@@ -37,7 +37,7 @@ use Rattle.volume_laws.proofs.MergeWaiting.{waits_stored}
 use Rattle.merge.specs.Lists.{released_of}
 use Rattle.merge.specs.Merging.{Merging, books_of as merging_books, due_of as merging_due}
 use Rattle.merge.specs.Steps.{WritesPlaceOf}
-use Rattle.merge_beside.specs.Rooms.{merge_books}
+use Rattle.snapshots.specs.Rooms.{merge_books}
 use Rattle.snapshot.specs.Kept.{books_of as snap_books}
 use Rattle.snapshots.proofs.Finds.{position_within}
 use Rattle.volume.specs.Volumed.{Volumed, books_of, dues_of, is_loud_in_all, merge_due, left_by}

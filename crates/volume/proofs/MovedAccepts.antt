@@ -4,21 +4,21 @@ use Rattle.std.specs.Prelude.{◌==◌, ◌||◌, is_some, if◌then◌else◌}
 use Rattle.std.specs.List.{All}
 use Rattle.std.proofs.lemmas.List.{map-append}
 use Rattle.device.specs.Layers.{Layer}
-use Rattle.model.specs.Picture.{place_of}
+use Rattle.store_bytes.specs.Picture.{place_of}
 use Rattle.plain.specs.declared.request.Reply.{Reply}
 use Rattle.plain.specs.declared.request.Reply.TheVariants.{Refused as Declined}
 use Rattle.plain.specs.declared.request.Failure.TheVariants.{Invalid, Overflow}
 use Rattle.plain.specs.declared.request.Overflowing.TheVariants.{Never, Did}
 use Rattle.plain.specs.Plain.{did_overflow}
 use Rattle.plain.specs.declared.request.Request.{Request}
-use Rattle.pending.specs.Kinds.{kind_of}
-use Rattle.pending.specs.Routes.{flush_route_of, read_route_of, write_route_of, refused_of}
+use Rattle.in_flight.specs.Kinds.{kind_of}
+use Rattle.in_flight.specs.Routes.{flush_route_of, read_route_of, write_route_of, refused_of}
 use Rattle.merge.specs.Merging.{Merging}
-use Rattle.pending.specs.declared.flights.Flight.{Flight}
-use Rattle.pending.specs.declared.flights.Kind.{Kind}
-use Rattle.pending.specs.declared.flights.Kind.TheVariants.{OriginRead, OriginWrite, OriginFlush, SnapRead, SnapWrite, SnapFlush}
-use Rattle.pending.specs.declared.flights.Route.{Route}
-use Rattle.pending.specs.declared.flights.Route.TheVariants.{Held as Waits, Store, Whole}
+use Rattle.in_flight.specs.declared.flights.Flight.{Flight}
+use Rattle.in_flight.specs.declared.flights.Kind.{Kind}
+use Rattle.in_flight.specs.declared.flights.Kind.TheVariants.{OriginRead, OriginWrite, OriginFlush, SnapRead, SnapWrite, SnapFlush}
+use Rattle.in_flight.specs.declared.flights.Route.{Route}
+use Rattle.in_flight.specs.declared.flights.Route.TheVariants.{Held as Waits, Store, Whole}
 use Rattle.plain.specs.Kept.{kept}
 use Rattle.volume_laws.specs.Again.{published_place}
 use Rattle.event_machine.specs.Held.{Held, Going, Moving}
@@ -32,7 +32,7 @@ use Rattle.snapshot.specs.Kept.{Kept, books_of as snap_books}
 use Rattle.volume.specs.Volumed.{Volumed}
 use Rattle.snapshots.specs.Starting.{unroomed, lacks, is_full_of, own_of, spoilt_of, AreSavedIn}
 use Rattle.volume.specs.Submitting.{entered_of}
-use Rattle.merge_beside.specs.Routing.{is_grouped_at, place_at, is_merged_at}
+use Rattle.snapshots.specs.Routing.{is_grouped_at, place_at, is_merged_at}
 use Rattle.volume.specs.Moved.{held_of, merge_seen, moving_of}
 use Rattle.volume.proofs.MergeRoutes.{grouped_held, place_held_is, unmerged_route, merged_route_is}
 use Rattle.volume.proofs.MovedLists.{IsFirst, first_is, with_is, if_true, if_false}

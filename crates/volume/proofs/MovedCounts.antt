@@ -5,11 +5,11 @@ use Rattle.std.proofs.lemmas.Bool.{cases_eq, false≢true}
 use Rattle.std.proofs.lemmas.List.{length-append, length-map, length-take-le}
 use Rattle.sector.specs.declared.pair.Pair.{Pair}
 use Rattle.device.specs.Layers.{Layer}
-use Rattle.model.specs.NextPlace.{stepped}
-use Rattle.pending.specs.Copies.{pair_of}
-use Rattle.pending.proofs.Batches.{batch_few}
-use Rattle.pending.specs.declared.copies.ChunkCopy.{ChunkCopy}
-use Rattle.pending.specs.declared.copies.Mark.{Mark}
+use Rattle.store_bytes.specs.NextPlace.{stepped}
+use Rattle.in_flight.specs.Copies.{pair_of}
+use Rattle.in_flight.proofs.Batches.{batch_few}
+use Rattle.in_flight.specs.declared.copies.ChunkCopy.{ChunkCopy}
+use Rattle.in_flight.specs.declared.copies.Mark.{Mark}
 use Rattle.store.specs.Stored.{after_commit}
 use Rattle.store.specs.declared.state.State.{State}
 use Rattle.volume_laws.specs.Steps.{mark_of}

@@ -2,19 +2,19 @@
 use Rattle.std.proofs.Common.{◌≡◌, ℕ, ◌+◌, ◌*◌, ◌%◌, ◌<◌, Bool, true, false, List, [], ◌∷◌, Option, Some, length, get_or, map, refl, sym, ◌∙◌, ap, inl, inr}
 use Rattle.std.specs.Prelude.{◌==◌, ◌&&◌, ◌||◌, not, min, ◌-◌, if◌then◌else◌}
 use Rattle.std.specs.List.{All, list_any, prefix_len}
-use Rattle.pending.proofs.Batches.{prefix_map}
+use Rattle.in_flight.proofs.Batches.{prefix_map}
 use Rattle.std.proofs.lemmas.Bool.{cases_Bool, eqb-true, false≢true}
 use Rattle.std.proofs.lemmas.Nat.{mod-mul-add}
 use Rattle.std.proofs.lemmas.List.Elements.{All-head, All-tail}
 use Rattle.device.specs.Layers.{Layer}
 use Rattle.plain.specs.declared.request.Reply.{Reply}
-use Rattle.pending.specs.Due.{first_by, least, is_copy_at, number_of_copy, number_of_mark, number_of_flight, front_ready, front_unflushed, is_publishable as is_publishable_in, is_issuable as is_issuable_in}
-use Rattle.pending.specs.Routes.{is_reading as is_reading_in}
-use Rattle.pending.specs.declared.copies.ChunkCopy.{ChunkCopy}
-use Rattle.pending.specs.declared.copies.Stage.{Stage}
-use Rattle.pending.specs.declared.copies.Stage.TheVariants.{Waiting, Read}
-use Rattle.pending.specs.declared.copies.Mark.{Mark}
-use Rattle.pending.specs.declared.flights.Flight.{Flight}
+use Rattle.in_flight.specs.Due.{first_by, least, is_copy_at, number_of_copy, number_of_mark, number_of_flight, front_ready, front_unflushed, is_publishable as is_publishable_in, is_issuable as is_issuable_in}
+use Rattle.in_flight.specs.Routes.{is_reading as is_reading_in}
+use Rattle.in_flight.specs.declared.copies.ChunkCopy.{ChunkCopy}
+use Rattle.in_flight.specs.declared.copies.Stage.{Stage}
+use Rattle.in_flight.specs.declared.copies.Stage.TheVariants.{Waiting, Read}
+use Rattle.in_flight.specs.declared.copies.Mark.{Mark}
+use Rattle.in_flight.specs.declared.flights.Flight.{Flight}
 use Rattle.volume_laws.specs.Due.{is_unsafe, DueSnap, least_of, copy_of, publishable_of, can_mark as can_mark_due, can_flush_store as can_flush_store_due, can_commit as can_commit_due, can_zero as can_zero_due, snap_number, due_of}
 use Rattle.event_machine.specs.Held.{Held, number_of}
 use Rattle.event_machine.specs.Due.{filled_of, batch_of, is_ready, fills_area, needs_area, waits_for_area, is_front_ready, is_front_unflushed, can_commit, can_zero, can_mark, can_flush_store, is_at, copy_at, number_of_copying, is_reading, is_publishable, publishable_in, is_issuable, number_of_going, least_in, chosen, due}

@@ -9,8 +9,8 @@ use Rattle.device.specs.Layers.{Layer}
 use Rattle.plain.specs.declared.event.Event.{Event}
 use Rattle.plain.specs.declared.event.Event.TheVariants.{MergeGroup}
 use Rattle.plain.specs.declared.request.Reply.{Reply}
-use Rattle.pending.specs.Copies.{count_of}
-use Rattle.pending.specs.declared.flights.Flight.{Flight}
+use Rattle.in_flight.specs.Copies.{count_of}
+use Rattle.in_flight.specs.declared.flights.Flight.{Flight}
 use Rattle.store.specs.Grouping.{IsGroup, run_at}
 use Rattle.volume_laws.specs.Held.{SnapHolds}
 use Rattle.volume_laws.specs.MergeDue.{can_group, last_of}
@@ -31,7 +31,7 @@ use Rattle.merge.specs.Due.{has_group_of, can_group_of}
 use Rattle.merge.specs.Lists.{formed}
 use Rattle.merge.specs.Merging.{Merging, due_of as merging_due, flushed_of}
 use Rattle.merge.specs.declared.group.Group.{Group}
-use Rattle.merge_beside.specs.Starting.{IsNextSaved, next_for}
+use Rattle.snapshots.specs.MergeStarting.{IsNextSaved, next_for}
 use Rattle.volume.specs.Volumed.{Volumed}
 use Rattle.volume.specs.Whole.{IsWhole}
 use Rattle.volume.specs.Moved.{held_of, moving_of}

@@ -14,10 +14,10 @@ use Rattle.plain.specs.declared.request.Op.TheVariants.{Read as ReadOp, Write as
 use Rattle.plain.specs.declared.request.Reply.{Reply}
 use Rattle.plain.specs.declared.request.Reply.TheVariants.{Data, Written as Done, Flushed as DidFlush, Refused as Declined}
 use Rattle.plain.specs.declared.request.Failure.TheVariants.{Invalid, Io}
-use Rattle.pending.specs.Due.{is_routed}
-use Rattle.pending.specs.declared.flights.Flight.{Flight}
-use Rattle.pending.specs.declared.flights.Route.{Route}
-use Rattle.pending.specs.declared.flights.Route.TheVariants.{Origin, Store, Whole, Refused}
+use Rattle.in_flight.specs.Due.{is_routed}
+use Rattle.in_flight.specs.declared.flights.Flight.{Flight}
+use Rattle.in_flight.specs.declared.flights.Route.{Route}
+use Rattle.in_flight.specs.declared.flights.Route.TheVariants.{Origin, Store, Whole, Refused}
 use Rattle.store.specs.Operations.{IsOneOperation}
 use Rattle.settled.specs.Devices.{Device, answers, flush_reply, met, written_by, read_reply}
 use Rattle.event_machine.specs.Held.{Copying, Held, Going, MergeHeld, Moving, flushed_held, on_device, with_merge, with_store}
@@ -32,7 +32,7 @@ use Rattle.volume.specs.Moved.{device_of, held_of, merge_seen, moving_of}
 use Rattle.volume.proofs.MovedLists.{IsFirst, first_is, if_true, if_false, with_is, without_seen}
 use Rattle.volume.proofs.MovedMarks.{flushed_seen}
 use Rattle.volume.proofs.MovedSnaps.{changed, device_by, met_is}
-use Rattle.pending.specs.Flushed.{flushed_copy, safe_mark}
+use Rattle.in_flight.specs.Flushed.{flushed_copy, safe_mark}
 
 -- whether it is found, and goes somewhere
 issuable_first : (n j : ℕ) (f : Flight) (fs : List Flight) → IsFirst (λ (x : Flight). x.number == n) j f fs → is_routed f.route ≡ true → IsFirst (λ (x : Flight). (x.number == n) && is_routed x.route) j f fs

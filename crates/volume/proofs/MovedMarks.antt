@@ -10,16 +10,16 @@ use Rattle.device.specs.declared.operation.Operation.TheVariants.{Writes, Flushe
 use Rattle.cow_header.specs.HeaderText.{header_bytes}
 use Rattle.plain.specs.declared.event.Event.TheVariants.{FlushStore, Publish, WriteInvalid}
 use Rattle.plain.specs.declared.request.Reply.{Reply}
-use Rattle.pending.specs.Kinds.{kind_of}
-use Rattle.pending.specs.Due.{is_stage}
-use Rattle.pending.specs.Flushed.{flushed_copy, flushed_stage, safe_mark}
-use Rattle.pending.specs.Routes.{again_route_of, refused_of, write_route_of}
-use Rattle.pending.specs.declared.copies.ChunkCopy.{ChunkCopy}
-use Rattle.pending.specs.declared.copies.Stage.{Stage}
-use Rattle.pending.specs.declared.copies.Stage.TheVariants.{Waiting, Read, Written, Flushed}
-use Rattle.pending.specs.declared.copies.Mark.{Mark}
-use Rattle.pending.specs.declared.flights.Flight.{Flight}
-use Rattle.pending.specs.declared.flights.Route.{Route}
+use Rattle.in_flight.specs.Kinds.{kind_of}
+use Rattle.in_flight.specs.Due.{is_stage}
+use Rattle.in_flight.specs.Flushed.{flushed_copy, flushed_stage, safe_mark}
+use Rattle.in_flight.specs.Routes.{again_route_of, refused_of, write_route_of}
+use Rattle.in_flight.specs.declared.copies.ChunkCopy.{ChunkCopy}
+use Rattle.in_flight.specs.declared.copies.Stage.{Stage}
+use Rattle.in_flight.specs.declared.copies.Stage.TheVariants.{Waiting, Read, Written, Flushed}
+use Rattle.in_flight.specs.declared.copies.Mark.{Mark}
+use Rattle.in_flight.specs.declared.flights.Flight.{Flight}
+use Rattle.in_flight.specs.declared.flights.Route.{Route}
 use Rattle.store.specs.Operations.{IsOneOperation}
 use Rattle.volume_laws.specs.Again.{again_of, new_route, placed_of}
 use Rattle.volume_laws.specs.Books.{SnapBooks}
@@ -34,7 +34,7 @@ use Rattle.event_machine.specs.Seen.{copying_of, going_of}
 use Rattle.event_machine.specs.MergeSeen.{MergeSeen, merge_held_of, held_in, books_in}
 use Rattle.event_machine.proofs.Tied.{seen_alike}
 use Rattle.merge.specs.Merging.{Merging}
-use Rattle.merge_beside.specs.Rooms.{merge_books}
+use Rattle.snapshots.specs.Rooms.{merge_books}
 use Rattle.snapshot.specs.Kept.{Kept, books_of as snap_books, unpublished}
 use Rattle.volume.specs.Volumed.{Volumed}
 use Rattle.snapshots.specs.Finding.{is_flushing, is_trying, is_mark_of, has_mark_at}

@@ -10,9 +10,9 @@ use Rattle.device.specs.declared.operation.Operation.TheVariants.{Reads, Writes,
 use Rattle.plain.specs.declared.event.Event.{Event}
 use Rattle.plain.specs.declared.event.Event.TheVariants.{MergeAreaRead, MergeCommit, MergeFlush, MergeRead, MergeRelease}
 use Rattle.plain.specs.declared.request.Reply.{Reply}
-use Rattle.model.specs.Places.{area_place}
-use Rattle.pending.specs.Copies.{count_of}
-use Rattle.pending.specs.declared.flights.Flight.{Flight}
+use Rattle.store_bytes.specs.Places.{area_place}
+use Rattle.in_flight.specs.Copies.{count_of}
+use Rattle.in_flight.specs.declared.flights.Flight.{Flight}
 use Rattle.store.specs.Operations.{IsOneOperation}
 use Rattle.store.specs.Slots.{slot_start}
 use Rattle.store.proofs.Groups.{length-run}
@@ -40,7 +40,7 @@ use Rattle.merge.specs.Due.{has_group_of, commit_at, can_commit_of}
 use Rattle.merge.specs.Lists.{changed, committed_in, copied_at, copied_of, copied_count}
 use Rattle.merge.specs.Merging.{Merging, books_of as merging_books, due_of as merging_due, flushed_of}
 use Rattle.merge.specs.Steps.{ReadsInto}
-use Rattle.merge_beside.specs.Rooms.{merge_books}
+use Rattle.snapshots.specs.Rooms.{merge_books}
 use Rattle.volume.specs.Volumed.{Volumed}
 use Rattle.volume.specs.Moved.{device_of, moving_of}
 use Rattle.volume.proofs.MergeChanging.{merged_to}

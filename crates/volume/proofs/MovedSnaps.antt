@@ -4,8 +4,8 @@ use Rattle.std.specs.Prelude.{if◌then◌else◌}
 use Rattle.device.specs.Layers.{Layer, layers_after}
 use Rattle.device.specs.declared.operation.Operation.{Operation}
 use Rattle.plain.specs.declared.request.Reply.{Reply}
-use Rattle.pending.specs.Routes.{refused_of}
-use Rattle.pending.specs.declared.flights.Flight.{Flight}
+use Rattle.in_flight.specs.Routes.{refused_of}
+use Rattle.in_flight.specs.declared.flights.Flight.{Flight}
 use Rattle.store.specs.Operations.{IsOneOperation}
 use Rattle.settled.specs.Devices.{Device, answers, met, written_by}
 use Rattle.event_machine.specs.Held.{Held, Going, MergeHeld, Moving, spoiled, with_store}

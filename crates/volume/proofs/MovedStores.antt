@@ -10,15 +10,15 @@ use Rattle.sector.specs.declared.pair.Pair.{Pair}
 use Rattle.device.specs.Layers.{Layer}
 use Rattle.device.specs.declared.operation.Operation.{Operation}
 use Rattle.device.specs.declared.operation.Operation.TheVariants.{Writes}
-use Rattle.model.specs.Places.{area_place}
-use Rattle.model.specs.NextPlace.{LacksArea}
-use Rattle.model.specs.Slots.{pair_bytes}
+use Rattle.store_bytes.specs.Places.{area_place}
+use Rattle.store_bytes.specs.NextPlace.{LacksArea}
+use Rattle.store_bytes.specs.Slots.{pair_bytes}
 use Rattle.plain.specs.declared.event.Event.TheVariants.{ZeroNext, WriteArea}
 use Rattle.plain.specs.declared.request.Reply.{Reply}
-use Rattle.pending.specs.Copies.{pair_of}
-use Rattle.pending.specs.Routes.{refused_of}
-use Rattle.pending.specs.declared.copies.ChunkCopy.{ChunkCopy}
-use Rattle.pending.specs.declared.copies.Mark.{Mark}
+use Rattle.in_flight.specs.Copies.{pair_of}
+use Rattle.in_flight.specs.Routes.{refused_of}
+use Rattle.in_flight.specs.declared.copies.ChunkCopy.{ChunkCopy}
+use Rattle.in_flight.specs.declared.copies.Mark.{Mark}
 use Rattle.store.specs.Operations.{IsOneOperation}
 use Rattle.store.specs.Slots.{pairs_bytes, slot_start}
 use Rattle.store.specs.Stored.{after_commit}

@@ -8,11 +8,11 @@ use Rattle.std.proofs.lemmas.Bool.{cases_Bool, cases_lt, false≢true, MatchBool
 use Rattle.std.proofs.lemmas.List.{map-append}
 use Rattle.std.proofs.lemmas.List.Elements.{All-head, All-tail}
 use Rattle.device.specs.Layers.{Layer}
-use Rattle.model.specs.Picture.{place_of}
-use Rattle.model.specs.NextPlace.{stepped as stepped_place}
-use Rattle.pending.specs.Routes.{refused_of}
-use Rattle.pending.specs.declared.copies.ChunkCopy.{ChunkCopy}
-use Rattle.pending.specs.declared.flights.Flight.{Flight}
+use Rattle.store_bytes.specs.Picture.{place_of}
+use Rattle.store_bytes.specs.NextPlace.{stepped as stepped_place}
+use Rattle.in_flight.specs.Routes.{refused_of}
+use Rattle.in_flight.specs.declared.copies.ChunkCopy.{ChunkCopy}
+use Rattle.in_flight.specs.declared.flights.Flight.{Flight}
 use Rattle.event_machine.specs.Held.{Copying, Held, Going, spoiled}
 use Rattle.event_machine.specs.Again.{refused}
 use Rattle.event_machine.specs.Seen.{copying_of, going_of}

@@ -9,8 +9,8 @@ use Rattle.device.specs.declared.operation.Operation.{Operation}
 use Rattle.device.specs.declared.operation.Operation.TheVariants.{Writes}
 use Rattle.plain.specs.declared.event.Event.TheVariants.{MergeWrite}
 use Rattle.plain.specs.declared.request.Reply.{Reply}
-use Rattle.pending.specs.Copies.{count_of}
-use Rattle.pending.specs.declared.flights.Flight.{Flight}
+use Rattle.in_flight.specs.Copies.{count_of}
+use Rattle.in_flight.specs.declared.flights.Flight.{Flight}
 use Rattle.store.specs.Operations.{IsOneOperation}
 use Rattle.volume_laws.specs.Again.{again_of}
 use Rattle.volume_laws.specs.MergeDue.{can_write, is_writable, last_of}
@@ -29,8 +29,8 @@ use Rattle.merge.specs.Merging.{Merging, books_of as merging_books, due_of as me
 use Rattle.merge.specs.declared.group.Group.{Group}
 use Rattle.merge.specs.declared.group.Progress.{Progress}
 use Rattle.merge.specs.declared.group.Progress.TheVariants.{Open, Full, Flushed, Committed}
-use Rattle.merge_beside.specs.Rooms.{merge_books}
-use Rattle.merge_beside.specs.Starting.{IsNextSaved}
+use Rattle.snapshots.specs.Rooms.{merge_books}
+use Rattle.snapshots.specs.MergeStarting.{IsNextSaved}
 use Rattle.volume.specs.Volumed.{Volumed}
 use Rattle.volume.specs.Moved.{device_of, held_of, moving_of}
 use Rattle.volume.proofs.MergeChanging.{merged_to}

@@ -5,13 +5,13 @@ use Rattle.std.specs.List.{list_any}
 use Rattle.std.proofs.lemmas.Bool.{cases_Bool, true≢false, eqb-true}
 use Rattle.std.proofs.lemmas.List.Folds.{Any-from_list_any}
 use Rattle.device.specs.Layers.{Layer}
-use Rattle.model.specs.Picture.{place_of}
+use Rattle.store_bytes.specs.Picture.{place_of}
 use Rattle.sector.specs.declared.pair.Pair.{Pair}
-use Rattle.pending.specs.declared.copies.Mark.{Mark}
-use Rattle.pending.specs.declared.flights.Flight.{Flight}
-use Rattle.pending.specs.declared.flights.Route.TheVariants.{Held, Whole}
+use Rattle.in_flight.specs.declared.copies.Mark.{Mark}
+use Rattle.in_flight.specs.declared.flights.Flight.{Flight}
+use Rattle.in_flight.specs.declared.flights.Route.TheVariants.{Held, Whole}
 use Rattle.plain.specs.Kept.{kept}
-use Rattle.pending.specs.Routes.{read_route_of}
+use Rattle.in_flight.specs.Routes.{read_route_of}
 use Rattle.volume_laws.specs.Published.{is_published}
 use Rattle.volume_laws.specs.Waits.{IsCopying}
 use Rattle.volume_laws.proofs.Clear.{published_true}
@@ -27,8 +27,8 @@ use Rattle.plain.specs.declared.request.Op.TheVariants.{Read, Write, Flush}
 use Rattle.plain.specs.declared.request.Overflowing.TheVariants.{Never}
 use Rattle.plain.specs.declared.request.Request.{Request}
 use Rattle.plain.specs.Plain.{did_overflow}
-use Rattle.pending.specs.Kinds.{kind_of, kind_at, room_of}
-use Rattle.pending.specs.declared.flights.Kind.TheVariants.{SnapFlush, SnapRead, SnapWrite}
+use Rattle.in_flight.specs.Kinds.{kind_of, kind_at, room_of}
+use Rattle.in_flight.specs.declared.flights.Kind.TheVariants.{SnapFlush, SnapRead, SnapWrite}
 use Rattle.snapshot.specs.Kept.{Kept, books_of as snap_books}
 use Rattle.merge.specs.Merging.{Merging}
 use Rattle.volume.specs.Volumed.{Volumed, books_of, piece_with}

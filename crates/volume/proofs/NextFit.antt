@@ -12,10 +12,10 @@ use Rattle.std.proofs.Math.Seq.{map-set_same}
 use Rattle.sector.specs.declared.pair.Pair.{Pair}
 use Rattle.chunk.specs.Sizes.{is_chunk}
 use Rattle.device.specs.Layers.{Layer}
-use Rattle.pending.specs.Copies.{count_of}
-use Rattle.pending.specs.Routes.{refused_of}
-use Rattle.pending.specs.declared.copies.ChunkCopy.{ChunkCopy}
-use Rattle.pending.specs.declared.flights.Flight.{Flight}
+use Rattle.in_flight.specs.Copies.{count_of}
+use Rattle.in_flight.specs.Routes.{refused_of}
+use Rattle.in_flight.specs.declared.copies.ChunkCopy.{ChunkCopy}
+use Rattle.in_flight.specs.declared.flights.Flight.{Flight}
 use Rattle.volume_laws.specs.Books.{SnapBooks}
 use Rattle.volume_laws.specs.Held.{SnapHolds}
 use Rattle.volume_laws.specs.MergeRooms.{RoomSnap, room_books, CanMerge, StartsMerging as StartsRoom}
@@ -27,8 +27,8 @@ use Rattle.snapshot.specs.Kept.{Kept, books_of as snap_books}
 use Rattle.snapshot.specs.Calls.{StartsMerging, started}
 use Rattle.snapshots.specs.Numbers.{number_of_snap, numbers_in, count_in, merged_count}
 use Rattle.snapshots.specs.Starting.{lacks_chunk, is_full_of, starts_chunk, overflows_chunk, spoilt_of}
-use Rattle.merge_beside.specs.Rooms.{room_of}
-use Rattle.merge_beside.specs.Starting.{IsNextSavedIn, AreNextSavedIn, next_for}
+use Rattle.snapshots.specs.Rooms.{room_of}
+use Rattle.snapshots.specs.MergeStarting.{IsNextSavedIn, AreNextSavedIn, next_for}
 use Rattle.volume.specs.Volumed.{Volumed, books_of}
 use Rattle.volume.specs.Whole.{AreNumbers, SharesNone, IsAttached, IsCounted, starts_left}
 use Rattle.volume.proofs.Changing.{SnapsFit, changed, changes, spoils_one, same_disk, books_is}

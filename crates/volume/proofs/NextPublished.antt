@@ -10,9 +10,9 @@ use Rattle.sector.specs.declared.pair.Pair.{Pair}
 use Rattle.device.specs.Layers.{Layer, is_loud}
 use Rattle.plain.specs.declared.event.Event.TheVariants.{Publish}
 use Rattle.plain.specs.declared.event.Outcome.TheVariants.{Done}
-use Rattle.pending.specs.Due.{number_of_flight}
-use Rattle.pending.specs.Kinds.{in_flight}
-use Rattle.pending.specs.declared.flights.Flight.{Flight}
+use Rattle.in_flight.specs.Due.{number_of_flight}
+use Rattle.in_flight.specs.Kinds.{in_flight}
+use Rattle.in_flight.specs.declared.flights.Flight.{Flight}
 use Rattle.volume_laws.specs.Books.{SnapBooks}
 use Rattle.volume_laws.specs.Due.{books_of as due_in, weight_of}
 use Rattle.volume_laws.specs.MergeDue.{DueMerge, left_beside, left_in_merge, next_pair}
@@ -31,8 +31,8 @@ use Rattle.snapshots.specs.Numbers.{number_of_snap}
 use Rattle.merge.specs.Lists.{next_of_group, reading_of, waiting_of}
 use Rattle.merge.specs.Merging.{Merging, books_of as merging_books, due_of as merging_due}
 use Rattle.merge.specs.declared.group.Group.{Group}
-use Rattle.merge_beside.specs.Rooms.{room_of}
-use Rattle.merge_beside.specs.Starting.{CanSaveNext, IsNextSaved, IsNextSavedBeside}
+use Rattle.snapshots.specs.Rooms.{room_of}
+use Rattle.snapshots.specs.MergeStarting.{CanSaveNext, IsNextSaved, IsNextSavedBeside}
 use Rattle.volume.specs.Volumed.{Volumed, books_of, is_loud_with, is_loud_in_all, left_by, left_in_all, dues_of, merge_due}
 use Rattle.volume.specs.Whole.{AreNumbers, GoesOn, IsMerged, IsWhole}
 use Rattle.volume.specs.Causes.{HasCause, counts_of, counts_with}

@@ -8,9 +8,9 @@ use Rattle.std.proofs.lemmas.List.Elements.{All-head, All-tail}
 use Rattle.std.proofs.lemmas.List.Sums.{sum_by-cons}
 use Rattle.sector.specs.declared.pair.Pair.{Pair}
 use Rattle.device.specs.Layers.{Layer}
-use Rattle.model.specs.Picture.{place_of}
-use Rattle.pending.specs.declared.copies.ChunkCopy.{ChunkCopy}
-use Rattle.pending.specs.declared.flights.Flight.{Flight}
+use Rattle.store_bytes.specs.Picture.{place_of}
+use Rattle.in_flight.specs.declared.copies.ChunkCopy.{ChunkCopy}
+use Rattle.in_flight.specs.declared.flights.Flight.{Flight}
 use Rattle.volume_laws.specs.Due.{DueSnap}
 use Rattle.volume_laws.specs.Touched.{lacks_chunk as lacks_in}
 use Rattle.volume_laws.specs.Steps.{SpoilsSnap, StartsCopy}
@@ -20,8 +20,8 @@ use Rattle.snapshot.specs.Kept.{Kept, books_of as snap_books, due_of_kept}
 use Rattle.snapshot.specs.Calls.{StartsAt, StartsMerging, started}
 use Rattle.snapshots.specs.Numbers.{number_of_snap}
 use Rattle.snapshots.specs.Starting.{lacks_chunk, is_full_of, starts_chunk, overflows_chunk, spoilt_of, IsSavedIn, AreSavedIn}
-use Rattle.merge_beside.specs.Starting.{IsNextSavedIn, AreNextSavedIn}
-use Rattle.merge_beside.proofs.NextStarts.{saved_step, saved_given}
+use Rattle.snapshots.specs.MergeStarting.{IsNextSavedIn, AreNextSavedIn}
+use Rattle.snapshots.proofs.NextStarts.{saved_step, saved_given}
 use Rattle.volume.specs.Moved.{held_of}
 
 -- the numbers of the snapshots that are found full, where a chunk of each is wanted

@@ -7,12 +7,12 @@ use Rattle.std.specs.Option.{is_some}
 use Rattle.std.proofs.lemmas.Bool.{cases_Bool, eq-eqb, false≢true, MatchBool-at_true, MatchBool-at_false}
 use Rattle.std.proofs.lemmas.List.Folds.{list_any-from_Any}
 use Rattle.device.specs.Layers.{Layer}
-use Rattle.model.specs.Picture.{place_of}
-use Rattle.pending.specs.declared.copies.ChunkCopy.{ChunkCopy}
-use Rattle.pending.specs.declared.flights.Flight.{Flight}
+use Rattle.store_bytes.specs.Picture.{place_of}
+use Rattle.in_flight.specs.declared.copies.ChunkCopy.{ChunkCopy}
+use Rattle.in_flight.specs.declared.flights.Flight.{Flight}
 use Rattle.snapshot.specs.Kept.{Kept}
 use Rattle.snapshots.specs.Starting.{lacks_chunk, is_full_of, starts_chunk, overflows_chunk}
-use Rattle.merge_beside.specs.Starting.{IsNextSavedIn, AreNextSavedIn}
+use Rattle.snapshots.specs.MergeStarting.{IsNextSavedIn, AreNextSavedIn}
 
 -- no snapshot but the one at place k lacks its own
 abbrev pub LacksAtMost : {B : Type 0} → (Kept B → ℕ) → ℕ → List (Kept B) → Type 0

@@ -17,12 +17,12 @@ use Rattle.plain.specs.declared.request.Dev.{Dev}
 use Rattle.plain.specs.declared.request.Request.{Request}
 use Rattle.layers.specs.declared.message.Answer.{Answer}
 use Rattle.layers.specs.declared.message.Message.{Message}
-use Rattle.pending.specs.Kinds.{in_flight}
+use Rattle.in_flight.specs.Kinds.{in_flight}
 use Rattle.stop_laws.specs.Clauses.{Gives}
 use Rattle.snapshot.specs.Kept.{Kept}
 use Rattle.snapshots.specs.Numbers.{number_of_snap}
 use Rattle.merge.specs.Merging.{Merging}
-use Rattle.merge_beside.specs.Keeping.{kept_back, kept_for, unkept}
+use Rattle.snapshots.specs.Keeping.{kept_back, kept_for, unkept}
 use Rattle.volume.specs.declared.calls.Call.{Call}
 use Rattle.volume.specs.declared.calls.Call.TheVariants.{BeginMerge}
 use Rattle.volume.specs.AddedUp.{GivesAsked, IsFrom, IsGiven, IsSomeOf, IsOpenIn, IsOpenOrigin, OpensOnly}

@@ -9,11 +9,11 @@ use Rattle.device.specs.Layers.{Layer, is_loud}
 use Rattle.sector.specs.declared.pair.Pair.{Pair}
 use Rattle.plain.specs.declared.event.Event.{Event}
 use Rattle.plain.specs.declared.event.Event.TheVariants.{Issue, CopyRead, CopyWrite, ZeroNext, WriteArea, Publish, WriteInvalid, FlushStore}
-use Rattle.pending.specs.declared.copies.ChunkCopy.{ChunkCopy}
-use Rattle.pending.specs.declared.copies.Mark.{Mark}
-use Rattle.pending.specs.declared.copies.Stage.TheVariants.{Waiting, Read}
-use Rattle.pending.specs.declared.flights.Flight.{Flight}
-use Rattle.pending.specs.Due.{first_by, number_of_flight, is_issuable}
+use Rattle.in_flight.specs.declared.copies.ChunkCopy.{ChunkCopy}
+use Rattle.in_flight.specs.declared.copies.Mark.{Mark}
+use Rattle.in_flight.specs.declared.copies.Stage.TheVariants.{Waiting, Read}
+use Rattle.in_flight.specs.declared.flights.Flight.{Flight}
+use Rattle.in_flight.specs.Due.{first_by, number_of_flight, is_issuable}
 use Rattle.volume_laws.specs.Again.{has_chunk}
 use Rattle.volume_laws.specs.Books.{MergeBooks, group_of}
 use Rattle.volume_laws.specs.Due.{DueSnap, books_of as books_due, snap_number, can_mark, can_flush_store, can_commit, can_zero, copy_of, publishable_of, least_of, event_or, due_of}

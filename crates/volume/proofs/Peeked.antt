@@ -3,8 +3,8 @@ use Rattle.std.proofs.Common.{◌≡◌, ℕ, zero, suc, ◌+◌, ◌*◌, ◌%�
 use Rattle.std.specs.Prelude.{◌==◌, if◌then◌else◌}
 use Rattle.std.proofs.lemmas.List.{get_or-map, length-map}
 use Rattle.device.specs.Layers.{Layer, is_loud}
-use Rattle.model.specs.Pairs.{pairs_of, IsInside}
-use Rattle.model.specs.Picture.{picture, place_of}
+use Rattle.store_bytes.specs.Pairs.{pairs_of, IsInside}
+use Rattle.store_bytes.specs.Picture.{picture, place_of}
 use Rattle.plain.specs.declared.request.Dev.{Dev}
 use Rattle.plain.specs.declared.request.Dev.TheVariants.{Snap}
 use Rattle.plain.specs.Plain.{Entry, Live, Invalid, saved_under}

@@ -6,8 +6,8 @@ use Rattle.device.specs.Layers.{Layer}
 use Rattle.plain.specs.declared.event.Event.TheVariants.{Publish}
 use Rattle.plain.specs.declared.event.Outcome.TheVariants.{Done}
 use Rattle.plain.specs.declared.request.Reply.{Reply}
-use Rattle.pending.specs.declared.copies.Mark.{Mark}
-use Rattle.pending.specs.declared.flights.Flight.{Flight}
+use Rattle.in_flight.specs.declared.copies.Mark.{Mark}
+use Rattle.in_flight.specs.declared.flights.Flight.{Flight}
 use Rattle.volume_laws.specs.Again.{again_of, placed_of}
 use Rattle.volume_laws.specs.Published.{is_clear}
 use Rattle.event_machine.specs.Held.{Held, MergeHeld, Moving}
@@ -19,8 +19,8 @@ use Rattle.snapshot.specs.Kept.{Kept, books_of as snap_books, unpublished}
 use Rattle.snapshots.specs.Finding.{is_mark_of}
 use Rattle.merge.specs.Lists.{next_of_group}
 use Rattle.merge.specs.Merging.{Merging}
-use Rattle.merge_beside.specs.Rooms.{merge_books}
-use Rattle.merge_beside.specs.Starting.{IsNextSavedBeside}
+use Rattle.snapshots.specs.Rooms.{merge_books}
+use Rattle.snapshots.specs.MergeStarting.{IsNextSavedBeside}
 use Rattle.volume.specs.Exact.{IsExact}
 use Rattle.volume.specs.Moved.{merge_seen, moving_of}
 use Rattle.volume.specs.Volumed.{Volumed}

@@ -16,7 +16,7 @@ use Rattle.sector.specs.declared.refusal.Refusal.{Refusal}
 use Rattle.sector.specs.declared.refusal.Refusal.TheVariants.{NotMerging}
 use Rattle.volume_laws.specs.Shape.{SnapShape, shown_entry}
 use Rattle.snapshot.specs.Kept.{Kept}
-use Rattle.merge_beside.specs.Keeping.{unkept}
+use Rattle.snapshots.specs.Keeping.{unkept}
 use Rattle.volume.specs.declared.calls.Call.{Call}
 use Rattle.volume.specs.declared.calls.Call.TheVariants.{Submit, Step, Tick, Message as Tell, BeginMerge, ResumeMerge}
 use Rattle.volume.specs.declared.calls.Returned.{Returned}

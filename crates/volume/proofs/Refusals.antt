@@ -20,11 +20,11 @@ use Rattle.plain.specs.declared.request.Overflowing.TheVariants.{Never, May, Did
 use Rattle.plain.specs.Failures.{refusal_of}
 use Rattle.plain.specs.Kept.{kept_range}
 use Rattle.plain.specs.Plain.{did_overflow}
-use Rattle.pending.specs.Kinds.{kind_of, kind_at}
-use Rattle.pending.specs.Routes.{refused_of}
-use Rattle.pending.specs.declared.flights.Flight.{Flight}
-use Rattle.pending.specs.declared.flights.Kind.{Kind}
-use Rattle.pending.specs.declared.flights.Kind.TheVariants.{OriginRead, OriginWrite, OriginFlush, SnapRead, SnapWrite, SnapFlush}
+use Rattle.in_flight.specs.Kinds.{kind_of, kind_at}
+use Rattle.in_flight.specs.Routes.{refused_of}
+use Rattle.in_flight.specs.declared.flights.Flight.{Flight}
+use Rattle.in_flight.specs.declared.flights.Kind.{Kind}
+use Rattle.in_flight.specs.declared.flights.Kind.TheVariants.{OriginRead, OriginWrite, OriginFlush, SnapRead, SnapWrite, SnapFlush}
 use Rattle.event_machine.specs.Held.{Held, Moving}
 use Rattle.event_machine.specs.Submitting.{submitted}
 use Rattle.snapshot.specs.Kept.{Kept}

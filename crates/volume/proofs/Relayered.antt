@@ -19,10 +19,10 @@ use Rattle.volume_laws.specs.MergeDue.{DueMerge}
 use Rattle.volume_laws.specs.MergeRooms.{RoomSnap, KeepBack}
 use Rattle.volume_laws.specs.MergeWaits.{MergeGoes}
 use Rattle.volume_laws.specs.Whole.{Holds}
-use Rattle.pending.specs.Due.{number_of_flight}
+use Rattle.in_flight.specs.Due.{number_of_flight}
 use Rattle.volume_laws.specs.Waits.{Waits}
 use Rattle.snapshot.specs.Kept.{Kept, books_of as snap_books, due_of_kept}
-use Rattle.merge_beside.specs.Rooms.{merge_books, room_of}
+use Rattle.snapshots.specs.Rooms.{merge_books, room_of}
 use Rattle.volume.specs.Volumed.{Volumed, books_of, dues_of, is_loud_with}
 use Rattle.snapshots.specs.Numbers.{number_of_snap, count_in}
 use Rattle.volume.specs.Whole.{IsWhole, IsAttached, IsCounted, IsMerged, GoesOn, SharesNone, AreNumbers, starts_left}

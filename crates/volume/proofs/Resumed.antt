@@ -10,7 +10,7 @@ use Rattle.volume_laws.specs.Whole.{Holds}
 use Rattle.volume_laws.specs.Waits.{Waits}
 use Rattle.event_machine.specs.Merging.{resumed}
 use Rattle.merge.specs.Merging.{Merging, due_of as merging_due}
-use Rattle.merge_beside.specs.Rooms.{merge_books}
+use Rattle.snapshots.specs.Rooms.{merge_books}
 use Rattle.volume.specs.Volumed.{Volumed, books_of, plain_of, is_loud_in_all}
 use Rattle.volume.specs.Whole.{IsMerged, IsWhole, GoesOn}
 use Rattle.volume.specs.Moved.{moving_of}

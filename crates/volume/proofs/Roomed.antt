@@ -10,7 +10,7 @@ use Rattle.snapshots.proofs.Roomed.{roomed, roomed_length, roomed_at}
 use Rattle.volume_laws.specs.MergeRooms.{KeepBack}
 use Rattle.volume_laws.specs.MergeWaits.{MergeGoes}
 use Rattle.merge.specs.Merging.{Merging, due_of as merging_due}
-use Rattle.merge_beside.specs.Rooms.{room_of}
+use Rattle.snapshots.specs.Rooms.{room_of}
 use Rattle.volume.specs.Volumed.{Volumed, books_of, piece_of, piece_with}
 use Rattle.snapshots.specs.Numbers.{number_of_snap, count_in}
 use Rattle.volume.specs.Whole.{AreNumbers, SharesNone, IsAttached, GoesOn, IsWhole, IsCounted, starts_left}

@@ -12,7 +12,7 @@ use Rattle.volume_laws.specs.Whole.{IsLoud, origin_of, begun_of, plain_of as pla
 use Rattle.volume_laws.proofs.Showing.{entries_shown, plain_shown_is}
 use Rattle.snapshot.specs.Kept.{Kept, books_of as snap_books, due_of_kept}
 use Rattle.merge.specs.Merging.{Merging, books_of as merging_books}
-use Rattle.merge_beside.specs.Rooms.{merge_books}
+use Rattle.snapshots.specs.Rooms.{merge_books}
 use Rattle.volume.specs.Volumed.{Volumed, books_of, shape_of, merge_shape, snap_shape, plain_of, is_loud_in_all, is_loud_with}
 
 pub and_left : (a b : Bool) → (a && b) ≡ true → a ≡ true

@@ -12,13 +12,13 @@ use Rattle.plain.specs.Legal.{IsSubmitted, Overflows, Spoils}
 use Rattle.plain.specs.Plain.{Plain, did_overflow}
 use Rattle.plain.specs.declared.request.Overflowing.TheVariants.{Never, May, Did}
 use Rattle.plain.specs.declared.request.Request.{Request}
-use Rattle.pending.specs.Kinds.{kind_of, room_of}
-use Rattle.pending.specs.Routes.{refused_of}
-use Rattle.pending.specs.declared.copies.ChunkCopy.{ChunkCopy}
-use Rattle.pending.specs.declared.flights.Flight.{Flight}
-use Rattle.pending.specs.declared.flights.Kind.{Kind}
-use Rattle.pending.specs.declared.flights.Kind.TheVariants.{SnapWrite}
-use Rattle.pending.specs.declared.flights.Route.TheVariants.{Held}
+use Rattle.in_flight.specs.Kinds.{kind_of, room_of}
+use Rattle.in_flight.specs.Routes.{refused_of}
+use Rattle.in_flight.specs.declared.copies.ChunkCopy.{ChunkCopy}
+use Rattle.in_flight.specs.declared.flights.Flight.{Flight}
+use Rattle.in_flight.specs.declared.flights.Kind.{Kind}
+use Rattle.in_flight.specs.declared.flights.Kind.TheVariants.{SnapWrite}
+use Rattle.in_flight.specs.declared.flights.Route.TheVariants.{Held}
 use Rattle.volume_laws.specs.Steps.{ChangesSnap, Overflows as OverflowsSnap, SpoilsSnap}
 use Rattle.volume_laws.specs.Waits.{IsCopying}
 use Rattle.volume_laws.specs.Whole.{plain_of as plain_books}
@@ -26,7 +26,7 @@ use Rattle.volume_laws.specs.Accepting.{IsPrepared, IsTakenIn}
 use Rattle.volume_laws.proofs.MergeRoomEvents.{overflow_room}
 use Rattle.volume_laws.proofs.Overflowing.{overflow_event, overflow_waits}
 use Rattle.volume_laws.proofs.Preparing.{prepared_none, prepared_start, prepared_spoil}
-use Rattle.merge_beside.specs.Rooms.{room_of as kept_room}
+use Rattle.snapshots.specs.Rooms.{room_of as kept_room}
 use Rattle.snapshot.specs.Kept.{Kept, books_of as snap_books}
 use Rattle.snapshot.specs.Calls.{StartsAt, started}
 use Rattle.volume.specs.Volumed.{Volumed, books_of, piece_with, plain_of}

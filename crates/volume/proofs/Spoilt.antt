@@ -1,7 +1,7 @@
 -- What became of a snapshot that was spoiled, and the place of a snapshot in its volume.
 use Rattle.std.proofs.Common.{◌≡◌, ℕ, ◌<◌, true, false, List, [], None, length, get_or, sym, ◌∙◌, ap, subst}
 use Rattle.device.specs.Layers.{Layer}
-use Rattle.pending.specs.declared.copies.ChunkCopy.{ChunkCopy}
+use Rattle.in_flight.specs.declared.copies.ChunkCopy.{ChunkCopy}
 use Rattle.snapshot.specs.Kept.{Kept}
 use Rattle.volume.specs.Volumed.{Volumed}
 use Rattle.volume.specs.Whole.{IsAttached, IsWhole, IsCounted}

@@ -3,9 +3,9 @@ use Rattle.std.proofs.Common.{◌≡◌, inl, inr, ℕ, ◌+◌, ◌*◌, ◌<�
 use Rattle.std.specs.Prelude.{◌&&◌, ◌-◌, not}
 use Rattle.std.proofs.lemmas.Bool.{cases_Bool, true≢false, ltb-false}
 use Rattle.device.specs.Layers.{Layer}
-use Rattle.model.specs.NextPlace.{stepped}
-use Rattle.model.specs.Places.{is_area_place}
-use Rattle.pending.specs.declared.copies.ChunkCopy.{ChunkCopy}
+use Rattle.store_bytes.specs.NextPlace.{stepped}
+use Rattle.store_bytes.specs.Places.{is_area_place}
+use Rattle.in_flight.specs.declared.copies.ChunkCopy.{ChunkCopy}
 use Rattle.snapshot.specs.Kept.{Kept}
 use Rattle.snapshot.specs.Calls.{StartsAt}
 use Rattle.snapshots.specs.Starting.{lacks_chunk, is_full_of, starts_chunk}

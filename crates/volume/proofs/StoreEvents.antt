@@ -6,15 +6,15 @@ use Rattle.std.proofs.lemmas.Bool.{cases_Bool, false≢true, eqb-true}
 use Rattle.std.proofs.lemmas.List.{map-append}
 use Rattle.sector.specs.Bytes.{next_count}
 use Rattle.device.specs.Layers.{Layer, is_loud}
-use Rattle.model.specs.NextPlace.{LacksArea}
+use Rattle.store_bytes.specs.NextPlace.{LacksArea}
 use Rattle.plain.specs.declared.event.Event.TheVariants.{FlushStore, ZeroNext, WriteArea}
 use Rattle.plain.specs.declared.event.Outcome.TheVariants.{Done, Fault}
-use Rattle.pending.specs.Due.{number_of_copy, number_of_mark, front_ready, front_unflushed}
-use Rattle.pending.specs.Flushed.{flushed_copy, safe_mark}
-use Rattle.pending.specs.Routes.{refused_of}
-use Rattle.pending.proofs.Batches.{batch_some}
-use Rattle.pending.specs.declared.copies.ChunkCopy.{ChunkCopy}
-use Rattle.pending.specs.declared.copies.Mark.{Mark}
+use Rattle.in_flight.specs.Due.{number_of_copy, number_of_mark, front_ready, front_unflushed}
+use Rattle.in_flight.specs.Flushed.{flushed_copy, safe_mark}
+use Rattle.in_flight.specs.Routes.{refused_of}
+use Rattle.in_flight.proofs.Batches.{batch_some}
+use Rattle.in_flight.specs.declared.copies.ChunkCopy.{ChunkCopy}
+use Rattle.in_flight.specs.declared.copies.Mark.{Mark}
 use Rattle.store.specs.declared.state.State.{State}
 use Rattle.store.specs.Stored.{after_commit}
 use Rattle.volume_laws.specs.Held.{LiveHolds}
@@ -26,7 +26,7 @@ use Rattle.volume_laws.proofs.Waiting.{waits_changed}
 use Rattle.volume_laws.proofs.FlushLeft.{flush_left, flush_spoil_left}
 use Rattle.volume_laws.proofs.Left.{zero_left, commit_left}
 use Rattle.volume_laws.proofs.MergeRoomEvents.{zero_room, commit_room, flush_room}
-use Rattle.merge_beside.specs.Rooms.{room_of}
+use Rattle.snapshots.specs.Rooms.{room_of}
 use Rattle.snapshot.specs.Kept.{Kept, books_of as snap_books, due_of_kept, batch_of, fills_area, needs_area, waits_area, spare_after}
 use Rattle.volume.specs.Volumed.{Volumed, books_of}
 use Rattle.snapshots.specs.Numbers.{numbers_in}

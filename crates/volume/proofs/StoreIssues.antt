@@ -10,7 +10,7 @@ use Rattle.std.proofs.lemmas.List.Quantifiers.{position-Some}
 use Rattle.std.proofs.Math.Seq.{map-set_same}
 use Rattle.sector.specs.Bytes.{sectors_at, next_count}
 use Rattle.device.specs.Layers.{Layer, is_loud}
-use Rattle.model.specs.Picture.{place_of}
+use Rattle.store_bytes.specs.Picture.{place_of}
 use Rattle.plain.specs.declared.event.Event.TheVariants.{Issue}
 use Rattle.plain.specs.declared.event.Outcome.TheVariants.{Reply as Replied}
 use Rattle.plain.specs.declared.request.Dev.{Dev}
@@ -20,10 +20,10 @@ use Rattle.plain.specs.declared.request.Op.TheVariants.{Read, Write, Flush}
 use Rattle.plain.specs.declared.request.Reply.{Reply}
 use Rattle.plain.specs.declared.request.Reply.TheVariants.{Data, Written as IsWritten, Refused as IsRefused}
 use Rattle.plain.specs.declared.request.Failure.TheVariants.{Io, Invalid as IsInvalid}
-use Rattle.pending.specs.Kinds.{kind_at, kind_of}
-use Rattle.pending.specs.declared.flights.Flight.{Flight}
-use Rattle.pending.specs.declared.flights.Kind.TheVariants.{SnapFlush, SnapRead, SnapWrite}
-use Rattle.pending.specs.declared.flights.Route.TheVariants.{Store, Whole, Refused}
+use Rattle.in_flight.specs.Kinds.{kind_at, kind_of}
+use Rattle.in_flight.specs.declared.flights.Flight.{Flight}
+use Rattle.in_flight.specs.declared.flights.Kind.TheVariants.{SnapFlush, SnapRead, SnapWrite}
+use Rattle.in_flight.specs.declared.flights.Route.TheVariants.{Store, Whole, Refused}
 use Rattle.volume_laws.specs.Books.{SnapBooks, Books}
 use Rattle.volume_laws.specs.Published.{chunk_of}
 use Rattle.volume_laws.specs.Held.{SnapHolds, RouteHolds, RefusedHolds}
@@ -39,7 +39,7 @@ use Rattle.volume_laws.proofs.MergeSaved.{KeepsSaved}
 use Rattle.volume_laws.proofs.Issuing.{io_snap_read_event, io_snap_write_event, snap_place_event, refused_flush_event, refused_read_event, refused_write_event}
 use Rattle.volume_laws.proofs.IssuingWrites.{snap_write_event}
 use Rattle.snapshot.specs.Kept.{Kept, books_of as snap_books, due_of_kept}
-use Rattle.merge_beside.specs.Rooms.{room_of}
+use Rattle.snapshots.specs.Rooms.{room_of}
 use Rattle.volume.specs.Flying.{Fits}
 use Rattle.volume.specs.Volumed.{Volumed, books_of, dues_of, merge_due}
 use Rattle.snapshots.specs.Numbers.{numbers_in}

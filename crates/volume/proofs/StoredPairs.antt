@@ -9,7 +9,7 @@ use Rattle.volume_laws.specs.Whole.{OriginHolds}
 use Rattle.volume_laws.proofs.MergeLeft.{some_pairs}
 use Rattle.merge.specs.Due.{has_group_of}
 use Rattle.merge.specs.Merging.{Merging, books_of as merging_books, due_of as merging_due}
-use Rattle.merge_beside.specs.Rooms.{merge_books}
+use Rattle.snapshots.specs.Rooms.{merge_books}
 use Rattle.volume.specs.Asking.{is_finished_in}
 use Rattle.volume.specs.Stored.{pairs_left, pairs_stored, is_finished_on, RemovesPairs}
 use Rattle.volume.specs.Volumed.{Volumed, books_of, is_loud_in_all}

@@ -5,21 +5,21 @@ use Rattle.std.specs.List.{All, list_any}
 use Rattle.std.proofs.lemmas.Bool.{eqb-true, eq-eqb, false≢true}
 use Rattle.std.proofs.lemmas.List.{get_or_default}
 use Rattle.device.specs.Layers.{Layer}
-use Rattle.model.specs.Picture.{place_of}
+use Rattle.store_bytes.specs.Picture.{place_of}
 use Rattle.sector.specs.declared.pair.Pair.{Pair}
 use Rattle.plain.specs.declared.request.Request.{Request}
 use Rattle.plain.specs.Plain.{did_overflow}
-use Rattle.pending.specs.Kinds.{kind_of}
-use Rattle.pending.specs.Routes.{flush_route_of, read_route_of, write_route_of}
-use Rattle.pending.specs.declared.copies.Mark.{Mark}
-use Rattle.pending.specs.declared.flights.Kind.TheVariants.{OriginRead, OriginWrite, OriginFlush, SnapRead, SnapWrite, SnapFlush}
-use Rattle.pending.specs.declared.flights.Route.{Route}
-use Rattle.pending.specs.declared.flights.Route.TheVariants.{Held, Whole}
+use Rattle.in_flight.specs.Kinds.{kind_of}
+use Rattle.in_flight.specs.Routes.{flush_route_of, read_route_of, write_route_of}
+use Rattle.in_flight.specs.declared.copies.Mark.{Mark}
+use Rattle.in_flight.specs.declared.flights.Kind.TheVariants.{OriginRead, OriginWrite, OriginFlush, SnapRead, SnapWrite, SnapFlush}
+use Rattle.in_flight.specs.declared.flights.Route.{Route}
+use Rattle.in_flight.specs.declared.flights.Route.TheVariants.{Held, Whole}
 use Rattle.plain.specs.Kept.{kept}
 use Rattle.volume_laws.specs.Again.{published_place}
 use Rattle.volume_laws.specs.Published.{is_published}
 use Rattle.snapshot.specs.Kept.{Kept}
-use Rattle.merge_beside.specs.Routing.{is_grouped_at, place_at, is_merged_at}
+use Rattle.snapshots.specs.Routing.{is_grouped_at, place_at, is_merged_at}
 use Rattle.volume.specs.Volumed.{Volumed}
 use Rattle.volume.specs.Whole.{IsWhole}
 use Rattle.snapshots.specs.Starting.{lacks}

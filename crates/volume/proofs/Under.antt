@@ -5,7 +5,7 @@ use Rattle.std.specs.List.{All, list_all}
 use Rattle.std.proofs.lemmas.List.Elements.{All-cons, All-head, All-tail}
 use Rattle.chunk.specs.Sizes.{is_chunk}
 use Rattle.device.specs.Layers.{Layer, is_loud}
-use Rattle.model.specs.Pairs.{pairs_of, AreWellFormed}
+use Rattle.store_bytes.specs.Pairs.{pairs_of, AreWellFormed}
 use Rattle.plain.specs.declared.request.Reply.{Reply}
 use Rattle.settled.specs.MergeShown.{IsWell, IsUnderWay, IsMerging}
 use Rattle.settled.specs.Snaps.{Snap}

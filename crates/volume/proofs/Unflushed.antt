@@ -10,9 +10,9 @@ use Rattle.plain.specs.declared.request.Op.{Op}
 use Rattle.plain.specs.declared.request.Op.TheVariants.{Read, Write, Flush}
 use Rattle.plain.specs.declared.request.Request.{Request}
 use Rattle.plain.specs.Kept.{kept, kept_range}
-use Rattle.pending.specs.Kinds.{kind_at, kind_of}
-use Rattle.pending.specs.declared.flights.Kind.{Kind}
-use Rattle.pending.specs.declared.flights.Kind.TheVariants.{OriginRead, OriginWrite, OriginFlush, SnapRead, SnapWrite, SnapFlush}
+use Rattle.in_flight.specs.Kinds.{kind_at, kind_of}
+use Rattle.in_flight.specs.declared.flights.Kind.{Kind}
+use Rattle.in_flight.specs.declared.flights.Kind.TheVariants.{OriginRead, OriginWrite, OriginFlush, SnapRead, SnapWrite, SnapFlush}
 use Rattle.event_machine.specs.Held.{Moving}
 use Rattle.event_machine.specs.Submitting.{submitted}
 use Rattle.volume.specs.Volumed.{Volumed}

@@ -6,20 +6,20 @@ use Rattle.std.proofs.lemmas.Bool.{cases_Bool, MatchBool-at_true, MatchBool-at_f
 use Rattle.std.proofs.lemmas.List.Sums.{sum_by-cons}
 use Rattle.device.specs.Layers.{Layer}
 use Rattle.plain.specs.Plain.{is_in}
-use Rattle.pending.specs.Kinds.{kind_of}
-use Rattle.pending.specs.Routes.{again_route_of, placed_route_of, refused_route_of, refused_of}
-use Rattle.pending.specs.declared.flights.Flight.{Flight}
-use Rattle.pending.specs.declared.flights.Kind.{Kind}
-use Rattle.pending.specs.declared.flights.Kind.TheVariants.{OriginRead, OriginWrite, OriginFlush, SnapRead, SnapWrite, SnapFlush}
-use Rattle.pending.specs.declared.flights.Route.{Route}
-use Rattle.pending.specs.declared.flights.Route.TheVariants.{Held, Origin, Store, Whole, Refused}
+use Rattle.in_flight.specs.Kinds.{kind_of}
+use Rattle.in_flight.specs.Routes.{again_route_of, placed_route_of, refused_route_of, refused_of}
+use Rattle.in_flight.specs.declared.flights.Flight.{Flight}
+use Rattle.in_flight.specs.declared.flights.Kind.{Kind}
+use Rattle.in_flight.specs.declared.flights.Kind.TheVariants.{OriginRead, OriginWrite, OriginFlush, SnapRead, SnapWrite, SnapFlush}
+use Rattle.in_flight.specs.declared.flights.Route.{Route}
+use Rattle.in_flight.specs.declared.flights.Route.TheVariants.{Held, Origin, Store, Whole, Refused}
 use Rattle.volume_laws.specs.Again.{again_of, new_route, placed_of, published_place}
 use Rattle.volume_laws.specs.Books.{SnapBooks, MergeBooks}
 use Rattle.volume_laws.specs.Due.{weight_at, weight_of}
 use Rattle.volume_laws.specs.Published.{chunk_of}
 use Rattle.snapshot.specs.Kept.{Kept}
 use Rattle.snapshots.specs.Starting.{overflows_chunk, starts_chunk}
-use Rattle.merge_beside.specs.Starting.{AreNextSavedIn, IsNextSavedIn}
+use Rattle.snapshots.specs.MergeStarting.{AreNextSavedIn, IsNextSavedIn}
 
 -- a list weighs as much where each request does
 weights_same : (f : Flight → Flight) → ((r : Flight) → weight_of (f r) ≡ weight_of r) → (rs : List Flight) → sum_by weight_of (map f rs) ≡ sum_by weight_of rs

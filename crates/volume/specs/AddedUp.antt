@@ -6,7 +6,7 @@ use Rattle.std.specs.List.{list_any}
 use Rattle.sector.specs.Bytes.{sector_at}
 use Rattle.plain.specs.Plain.{InFlight}
 use Rattle.plain.specs.Unwritten.{writes, is_written}
-use Rattle.pending.specs.Kinds.{in_flight}
+use Rattle.in_flight.specs.Kinds.{in_flight}
 use Rattle.stop_laws.specs.Stop.{MayLeave}
 use Rattle.stop_laws.specs.Again.{IsOpen}
 use Rattle.stop_laws.specs.Clauses.{Gives}

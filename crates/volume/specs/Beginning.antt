@@ -6,7 +6,7 @@ use Rattle.sector.specs.declared.refusal.Refusal.TheVariants.{NoSuchDevice, NotQ
 use Rattle.snapshot.specs.Kept.{Kept}
 use Rattle.snapshots.specs.Finding.{place_of_snap}
 use Rattle.merge.specs.Merging.{Merging}
-use Rattle.merge_beside.specs.Keeping.{unkept, kept_for}
+use Rattle.snapshots.specs.Keeping.{unkept, kept_for}
 use Rattle.volume.specs.Volumed.{Volumed}
 use Rattle.volume.specs.Causes.{lives_of}
 use Rattle.volume.specs.Leaving.{is_quiet_of}

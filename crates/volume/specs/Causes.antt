@@ -5,7 +5,7 @@
 use Rattle.std.specs.Prelude.{◌≡◌, ◌⊎◌, ℕ, suc, ◌+◌, ◌<◌, Bool, true, false, List, [], ◌∷◌, ◌++◌, Option, Some, None, Any, length, map, slice_index, slice_index_or, slice_set, if◌then◌else◌}
 use Rattle.std.specs.List.{remove}
 use Rattle.sector.specs.Bytes.{next_count}
-use Rattle.model.specs.NextPlace.{LacksArea}
+use Rattle.store_bytes.specs.NextPlace.{LacksArea}
 use Rattle.sector.specs.declared.pair.Pair.{Pair}
 use Rattle.plain.specs.declared.event.Event.{Event}
 use Rattle.plain.specs.declared.event.Event.TheVariants.{CopyRead, CopyWrite, FlushStore, MergeAreaRead, MergeCommit, MergeFlush, MergeGroup, MergeRead, MergeWrite, Publish, ZeroNext, WriteArea, WriteInvalid}
@@ -14,17 +14,17 @@ use Rattle.plain.specs.declared.event.Outcome.TheVariants.{Done, Fault, Reply as
 use Rattle.plain.specs.declared.request.Reply.{Reply}
 use Rattle.plain.specs.declared.request.Reply.TheVariants.{Refused}
 use Rattle.plain.specs.declared.request.Failure.TheVariants.{Io}
-use Rattle.pending.specs.declared.copies.Mark.{Mark}
-use Rattle.pending.specs.declared.flights.Flight.{Flight}
-use Rattle.pending.specs.declared.flights.Route.TheVariants.{Origin, Store, Whole}
-use Rattle.pending.specs.Kinds.{kind_of}
-use Rattle.pending.specs.declared.flights.Kind.TheVariants.{OriginRead, OriginWrite, OriginFlush, SnapRead, SnapWrite, SnapFlush}
+use Rattle.in_flight.specs.declared.copies.Mark.{Mark}
+use Rattle.in_flight.specs.declared.flights.Flight.{Flight}
+use Rattle.in_flight.specs.declared.flights.Route.TheVariants.{Origin, Store, Whole}
+use Rattle.in_flight.specs.Kinds.{kind_of}
+use Rattle.in_flight.specs.declared.flights.Kind.TheVariants.{OriginRead, OriginWrite, OriginFlush, SnapRead, SnapWrite, SnapFlush}
 use Rattle.snapshot.specs.Kept.{Kept}
 use Rattle.volume_laws.specs.MergeDue.{last_of}
 use Rattle.merge.specs.Lists.{next_of_group, waiting_of}
 use Rattle.merge.specs.Merging.{Merging}
 use Rattle.snapshots.specs.Starting.{overflows_chunk}
-use Rattle.merge_beside.specs.Starting.{next_for}
+use Rattle.snapshots.specs.MergeStarting.{next_for}
 use Rattle.volume.specs.Volumed.{Volumed}
 
 -- what some devices counted, and then the merging store

@@ -7,7 +7,7 @@ use Rattle.plain.specs.declared.event.Event.TheVariants.{MergeAreaRead, MergeCom
 use Rattle.plain.specs.declared.event.Outcome.{Outcome}
 use Rattle.plain.specs.declared.event.Outcome.TheVariants.{Fault}
 use Rattle.plain.specs.Legal.{IsLegalStep}
-use Rattle.pending.specs.Kinds.{in_flight}
+use Rattle.in_flight.specs.Kinds.{in_flight}
 use Rattle.merge.specs.Merging.{Merging}
 use Rattle.volume.specs.Volumed.{Volumed, plain_of, left_in_all, is_loud_in_all}
 use Rattle.snapshots.specs.Numbers.{number_of_snap}

@@ -4,7 +4,7 @@
 use Rattle.std.specs.Prelude.{◌≡◌, ◌==◌, ◌&&◌, not, ℕ, ◌<◌, Bool, true, false, List, [], length, Option, Some, None}
 use Rattle.sector.specs.declared.pair.Pair.{Pair}
 use Rattle.device.specs.Layers.{Layer}
-use Rattle.model.specs.Pairs.{pairs_of}
+use Rattle.store_bytes.specs.Pairs.{pairs_of}
 use Rattle.plain.specs.declared.event.Event.{Event}
 use Rattle.plain.specs.declared.event.Event.TheVariants.{MergeCommit}
 use Rattle.plain.specs.declared.event.Outcome.{Outcome}

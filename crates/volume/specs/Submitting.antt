@@ -13,13 +13,13 @@ use Rattle.plain.specs.declared.request.Op.TheVariants.{Write}
 use Rattle.plain.specs.Kept.{kept, kept_range}
 use Rattle.plain.specs.declared.request.Overflowing.TheVariants.{Never, May, Did}
 use Rattle.plain.specs.declared.request.Request.{Request}
-use Rattle.pending.specs.Kinds.{in_flight, kind_of}
-use Rattle.pending.specs.Routes.{refused_of}
-use Rattle.pending.specs.declared.flights.Flight.{Flight}
-use Rattle.pending.specs.declared.flights.Kind.{Kind}
-use Rattle.pending.specs.declared.flights.Kind.TheVariants.{OriginRead, OriginWrite, OriginFlush, SnapRead, SnapWrite, SnapFlush}
+use Rattle.in_flight.specs.Kinds.{in_flight, kind_of}
+use Rattle.in_flight.specs.Routes.{refused_of}
+use Rattle.in_flight.specs.declared.flights.Flight.{Flight}
+use Rattle.in_flight.specs.declared.flights.Kind.{Kind}
+use Rattle.in_flight.specs.declared.flights.Kind.TheVariants.{OriginRead, OriginWrite, OriginFlush, SnapRead, SnapWrite, SnapFlush}
 use Rattle.snapshot.specs.Kept.{Kept}
-use Rattle.pending.specs.declared.flights.Route.{Route}
+use Rattle.in_flight.specs.declared.flights.Route.{Route}
 use Rattle.plain.specs.Plain.{did_overflow}
 use Rattle.plain.specs.Legal.{IsSubmitted, Overflows, Spoils}
 use Rattle.volume_laws.specs.Published.{IsPiece}
@@ -27,7 +27,7 @@ use Rattle.snapshots.specs.Finding.{place_of_snap}
 use Rattle.snapshots.specs.Numbers.{count_in}
 use Rattle.snapshots.specs.Starting.{own_of, starts, overflows, overflowing, spoilt_of, unroomed}
 use Rattle.merge.specs.Merging.{Merging}
-use Rattle.merge_beside.specs.Routing.{is_merged_at}
+use Rattle.snapshots.specs.Routing.{is_merged_at}
 use Rattle.volume.specs.Volumed.{Volumed, piece_with, plain_of, is_loud_in_all}
 use Rattle.volume.specs.Causes.{lives_of}
 use Rattle.volume.specs.Exact.{IsSubmittedAs}

@@ -5,15 +5,15 @@ use Rattle.std.specs.List.{list_all}
 use Rattle.device.specs.Layers.{Layer, is_loud}
 use Rattle.plain.specs.Plain.{Plain}
 use Rattle.plain.specs.declared.event.Event.{Event}
-use Rattle.pending.specs.Kinds.{in_flight}
-use Rattle.pending.specs.declared.flights.Flight.{Flight}
+use Rattle.in_flight.specs.Kinds.{in_flight}
+use Rattle.in_flight.specs.declared.flights.Flight.{Flight}
 use Rattle.volume_laws.specs.Books.{Books}
 use Rattle.volume_laws.specs.Due.{DueSnap, books_of as due_books, due_of, is_due, left_of}
 use Rattle.volume_laws.specs.MergeDue.{DueMerge, due_with, is_due_with, left_in_merge, left_beside}
 use Rattle.volume_laws.specs.Shape.{SnapShape, MergeShape, Shape, plain_shown}
 use Rattle.snapshot.specs.Kept.{Kept, books_of as snap_books, due_of_kept}
 use Rattle.merge.specs.Merging.{Merging, due_of as merging_due}
-use Rattle.merge_beside.specs.Rooms.{merge_books}
+use Rattle.snapshots.specs.Rooms.{merge_books}
 
 -- A volume, with its devices. requests, copies, attached: how many numbers of each kind were given.
 pub record Volumed (B : Type 0) : Type 0 where

@@ -3,7 +3,7 @@ use Rattle.std.specs.Prelude.{◌≡◌, ◌≢◌, ℕ, ◌+◌, ◌-◌, ◌*�
 use Rattle.std.specs.List.{All}
 use Rattle.chunk.specs.Sizes.{is_chunk}
 use Rattle.device.specs.Layers.{Layer}
-use Rattle.pending.specs.Due.{number_of_flight}
+use Rattle.in_flight.specs.Due.{number_of_flight}
 use Rattle.volume_laws.specs.Whole.{Holds}
 use Rattle.volume_laws.specs.Waits.{Waits}
 use Rattle.volume_laws.specs.MergeWaits.{MergeGoes}
@@ -11,7 +11,7 @@ use Rattle.volume_laws.specs.MergeRooms.{KeepBack}
 use Rattle.snapshot.specs.Kept.{Kept, books_of as snap_books}
 use Rattle.snapshots.specs.Numbers.{number_of_snap, numbers_in, count_in}
 use Rattle.merge.specs.Merging.{Merging, due_of as merging_due}
-use Rattle.merge_beside.specs.Rooms.{room_of}
+use Rattle.snapshots.specs.Rooms.{room_of}
 use Rattle.volume.specs.Volumed.{Volumed, books_of}
 
 -- numbers that were given one after another, the last of them `most`

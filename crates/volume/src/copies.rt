@@ -1,7 +1,7 @@
 // The events of copies, stores and marks, each a call of its own.
 ghost use Rattle.std.specs.Prelude.{◌≡◌, [], ◌∷◌, false, IfOk, OnErr, is_ok, map, true, OnOk, None};
 ghost use Rattle.plain.specs.declared.event.Event.TheVariants.{CopyRead, CopyWrite, FlushStore, Publish, WriteArea, WriteInvalid, ZeroNext};
-ghost use Rattle.pending.specs.Routes.{refused_of};
+ghost use Rattle.in_flight.specs.Routes.{refused_of};
 ghost use Rattle.volume_laws.specs.Due.{is_due};
 ghost use Rattle.volume_laws.specs.Steps.{SpoilsSnap};
 ghost use Rattle.snapshot.specs.Kept.{books_of};
@@ -13,12 +13,12 @@ ghost use Rattle.volume.specs.MergeLasting.{StopsOriginOn};
 
 use crate::Volume;
 use device::{Block, Io};
-use merge_beside::{route_again, save_next_pair};
-use pending::{Flight, Stage, refuse};
+use in_flight::{Flight, Stage, refuse};
 use plain::{CopyId, NotDue, Outcome, SnapId};
 use snapshot::Snapshot;
 use snapshots::{
-    committing_at, find_copy, find_mark, flushing_at, route_placed, trying_at, zeroing_at,
+    committing_at, find_copy, find_mark, flushing_at, route_again, route_placed, save_next_pair,
+    trying_at, zeroing_at,
 };
 
 /// Spoils a snapshot whose device failed, and refuses its requests.

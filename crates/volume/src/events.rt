@@ -1,7 +1,7 @@
 // One event of a volume.
 ghost use Rattle.std.specs.Prelude.{◌≡◌, ◌+◌, ◌<◌, ◌≤◌, IfOk, IsOk, OnErr, OnOk, Some, is_ok, map, true};
 ghost use Rattle.plain.specs.Legal.{IsLegalStep};
-ghost use Rattle.pending.specs.Kinds.{in_flight};
+ghost use Rattle.in_flight.specs.Kinds.{in_flight};
 ghost use Rattle.volume.specs.Asking.{is_finished_in};
 ghost use Rattle.volume.specs.Volumed.{is_due_of, is_loud_in_all, left_in_all, next_of, plain_of};
 ghost use Rattle.volume.specs.Causes.{HasCause, IsOneAtMost};

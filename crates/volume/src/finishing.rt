@@ -12,9 +12,9 @@ ghost use Rattle.volume.specs.Handing.{OpensTaken};
 
 use crate::Volume;
 use device::Block;
-use merge_beside::let_go_all;
 use sector::Refusal;
 use snapshot::StoreDev;
+use snapshots::let_go_all;
 
 impl<B: Block> Volume<B> {
     /// Takes a merge out that has neither a pair nor a group left, and gives the device of its store back. Where no device

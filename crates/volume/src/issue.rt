@@ -3,15 +3,15 @@ ghost use Rattle.std.specs.Prelude.{◌≡◌, ◌≢◌, ◌==◌, ◌<◌, ℕ
 ghost use Rattle.std.specs.List.{list_any, position};
 ghost use Rattle.plain.specs.declared.event.Event.TheVariants.{Issue};
 ghost use Rattle.plain.specs.declared.request.Dev.TheVariants.{Origin as ToOrigin, Snap};
-ghost use Rattle.pending.specs.declared.flights.Flight.{Flight};
-ghost use Rattle.pending.specs.declared.flights.Route.TheVariants.{Origin, Refused, Store, Whole};
-ghost use Rattle.pending.specs.Due.{is_routed as goes_somewhere};
+ghost use Rattle.in_flight.specs.declared.flights.Flight.{Flight};
+ghost use Rattle.in_flight.specs.declared.flights.Route.TheVariants.{Origin, Refused, Store, Whole};
+ghost use Rattle.in_flight.specs.Due.{is_routed as goes_somewhere};
 ghost use Rattle.volume_laws.specs.Due.{is_due, is_issued};
 ghost use Rattle.snapshot.specs.Kept.{Kept};
 ghost use Rattle.volume.specs.Volumed.{dues_of};
 ghost use Rattle.volume.specs.Stepping.{IsStepped};
 ghost use Rattle.volume.specs.Exact.{IsExact};
-ghost use Rattle.pending.specs.Kinds.{in_flight};
+ghost use Rattle.in_flight.specs.Kinds.{in_flight};
 ghost use Rattle.volume.specs.Closing.{ClosesBy};
 ghost use Rattle.volume.specs.Lasting.{StopsSnaps};
 ghost use Rattle.volume.specs.MergeLasting.{StopsOriginOn};
@@ -19,7 +19,7 @@ ghost use Rattle.volume.specs.Stopping.{given_by};
 
 use crate::Volume;
 use device::{Block, Io};
-use pending::{Flight, Route, flight_at};
+use in_flight::{Flight, Route, flight_at};
 use plain::{Dev, Failure, NotDue, Op, Outcome, Reply, ReqId, Request, SnapId};
 use sector::{Buf, Chunk};
 use snapshot::Snapshot;

@@ -3,11 +3,11 @@ ghost use Rattle.std.specs.Prelude.{◌≡◌, ◌==◌, Some, slice_index_or, m
 ghost use Rattle.std.specs.List.{position};
 ghost use Rattle.plain.specs.declared.event.Event.TheVariants.{Issue};
 ghost use Rattle.plain.specs.declared.request.Dev.TheVariants.{Origin as ToOrigin};
-ghost use Rattle.pending.specs.declared.flights.Flight.{Flight};
-ghost use Rattle.pending.specs.declared.flights.Route.TheVariants.{Store, Whole};
+ghost use Rattle.in_flight.specs.declared.flights.Flight.{Flight};
+ghost use Rattle.in_flight.specs.declared.flights.Route.TheVariants.{Store, Whole};
 ghost use Rattle.volume.specs.Stepping.{IsStepped};
 ghost use Rattle.volume.specs.Exact.{IsExact};
-ghost use Rattle.pending.specs.Kinds.{in_flight};
+ghost use Rattle.in_flight.specs.Kinds.{in_flight};
 ghost use Rattle.volume.specs.Closing.{ClosesBy};
 ghost use Rattle.volume.specs.Lasting.{StopsSnaps};
 ghost use Rattle.volume.specs.MergeLasting.{StopsOriginOn};
@@ -15,7 +15,7 @@ ghost use Rattle.volume.specs.Stopping.{given_by};
 
 use crate::Volume;
 use device::{Block, Io};
-use pending::{Flight, Route};
+use in_flight::{Flight, Route};
 use plain::{Failure, Op, Outcome, Reply, ReqId, Request};
 use sector::{Buf, Chunk};
 

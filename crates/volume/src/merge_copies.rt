@@ -9,10 +9,9 @@ ghost use Rattle.volume.specs.MergeLasting.{StopsOriginOn};
 
 use crate::Volume;
 use device::{Block, Io};
-use merge_beside::{route_again, save_waiting};
-use pending::sectors_of;
+use in_flight::sectors_of;
 use plain::{NotDue, Outcome};
-use snapshots::is_clear_over;
+use snapshots::{is_clear_over, route_again, save_waiting};
 
 impl<B: Block> Volume<B> {
     /// Forms the next group of the merge, and starts in each other snapshot the copy that the group's first chunk waits for.

@@ -10,8 +10,8 @@ ghost use Rattle.volume.specs.MergeLasting.{StopsOriginOn};
 
 use crate::Volume;
 use device::{Block, Io};
-use merge_beside::{is_read_due, is_release_due, route_again};
 use plain::{NotDue, Outcome};
+use snapshots::{is_read_due, is_release_due, route_again};
 
 // Each of them looks first: what the merge's looks say of its books is known from there on.
 impl<B: Block> Volume<B> {

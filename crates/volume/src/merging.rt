@@ -14,10 +14,9 @@ ghost use Rattle.volume.specs.Beginning.{IsMergeBegun, IsNotBegun, IsResumed, be
 use crate::Volume;
 use device::Block;
 use merge::Merge;
-use merge_beside::keep_back_all;
 use plain::SnapId;
 use sector::{Refusal, SECTOR_BYTES};
-use snapshots::snap_at;
+use snapshots::{keep_back_all, snap_at};
 use std::alloc::Global;
 
 impl<B: Block> Volume<B> {

@@ -1,8 +1,8 @@
 // What a volume's devices show, by their own bytes: for tests and audits.
 ghost use Rattle.std.specs.Prelude.{◌≡◌, ℕ, ◌+◌, ◌-◌, ◌*◌, ◌/◌, ◌<◌, ◌≤◌, IfErr, List, None, OnOk, Some, length, true};
 ghost use Rattle.sector.specs.Bytes.{sectors_at};
-ghost use Rattle.model.specs.Pairs.{pairs_of};
-ghost use Rattle.model.specs.Picture.{picture, place_of as place_in};
+ghost use Rattle.store_bytes.specs.Pairs.{pairs_of};
+ghost use Rattle.store_bytes.specs.Picture.{picture, place_of as place_in};
 ghost use Rattle.plain.specs.Serves.{Shows};
 ghost use Rattle.volume.specs.Peeking.{is_loud_merging, is_loud_under};
 ghost use Rattle.volume.specs.Volumed.{plain_of};

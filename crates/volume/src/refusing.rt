@@ -1,18 +1,17 @@
 // Why a request is refused, memory and full stores aside.
 ghost use Rattle.std.specs.Prelude.{◌≡◌};
 ghost use Rattle.plain.specs.Kept.{kept_range};
-ghost use Rattle.pending.specs.Kinds.{kind_of};
+ghost use Rattle.in_flight.specs.Kinds.{kind_of};
 ghost use Rattle.volume.specs.Volumed.{piece_with};
 ghost use Rattle.snapshots.specs.Finding.{place_of_snap};
 ghost use Rattle.volume.specs.Submitting.{are_too_many, dev_refusal, is_merging as is_merging_of, is_piece_of, refusal_at, shut_at, shut_refusal, starting as starting_of, submit_refusal};
 
 use crate::Volume;
 use device::Block;
-use merge_beside::is_merged_at;
-use pending::{Kind, MAX_COPIES, MAX_REQUESTS, request_kind};
+use in_flight::{Kind, MAX_COPIES, MAX_REQUESTS, request_kind};
 use plain::{Dev, Overflowing, Request, SnapId};
 use sector::{Range, Refusal};
-use snapshots::{pending_count, snap_at, starting_count, starting_count_of};
+use snapshots::{is_merged_at, pending_count, snap_at, starting_count, starting_count_of};
 
 impl<B: Block> Volume<B> {
     /// Why a request is refused, memory and full stores aside: there is no such snapshot (`NoSuchDevice`), it is being merged

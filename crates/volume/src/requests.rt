@@ -8,14 +8,14 @@ ghost use Rattle.plain.specs.Kept.{kept_range};
 ghost use Rattle.plain.specs.declared.request.Op.TheVariants.{Write};
 ghost use Rattle.plain.specs.declared.request.Reply.{Reply};
 ghost use Rattle.plain.specs.declared.request.Reply.TheVariants.{Refused};
-ghost use Rattle.pending.specs.Kinds.{kind_of, room_of};
-ghost use Rattle.pending.specs.declared.flights.Flight.{Flight};
-ghost use Rattle.pending.specs.declared.flights.Kind.TheVariants.{OriginFlush, OriginRead, OriginWrite};
+ghost use Rattle.in_flight.specs.Kinds.{kind_of, room_of};
+ghost use Rattle.in_flight.specs.declared.flights.Flight.{Flight};
+ghost use Rattle.in_flight.specs.declared.flights.Kind.TheVariants.{OriginFlush, OriginRead, OriginWrite};
 ghost use Rattle.volume_laws.specs.Accepting.{IsTakenIn};
 ghost use Rattle.event_machine.specs.Submitting.{submitted};
 ghost use Rattle.snapshots.specs.Numbers.{count_in};
 ghost use Rattle.snapshots.specs.Starting.{starts};
-ghost use Rattle.merge_beside.specs.Routing.{is_merged_at as is_merged_in};
+ghost use Rattle.snapshots.specs.Routing.{is_merged_at as is_merged_in};
 ghost use Rattle.volume.specs.Moved.{moving_of};
 ghost use Rattle.volume.specs.Stepping.{KeepsAll, KeepsDevices};
 ghost use Rattle.volume.specs.Stopping.{StopsNow};
@@ -25,11 +25,10 @@ ghost use Rattle.volume.specs.Whole.{IsWhole};
 
 use crate::Volume;
 use device::Block;
-use merge_beside::{is_merged_at, merged_route, place_at};
-use pending::{Flight, Kind, Route, flush_route, read_route, request_kind, write_route};
+use in_flight::{Flight, Kind, Route, flush_route, read_route, request_kind, write_route};
 use plain::{ReqId, Request};
 use sector::Refusal;
-use snapshots::{is_clear, save_in_all, take_rooms};
+use snapshots::{is_clear, is_merged_at, merged_route, place_at, save_in_all, take_rooms};
 use std::alloc::Global;
 
 impl<B: Block> Volume<B> {

@@ -4,8 +4,8 @@ ghost use Rattle.sector.specs.declared.refusal.Refusal.TheVariants.{NoMemory, In
 ghost use Rattle.plain.specs.Plain.{did_overflow};
 ghost use Rattle.plain.specs.declared.request.Overflowing.TheVariants.{Did, May, Never};
 ghost use Rattle.plain.specs.Kept.{kept_range};
-ghost use Rattle.pending.specs.Kinds.{kind_of};
-ghost use Rattle.pending.specs.declared.flights.Kind.TheVariants.{SnapFlush, SnapRead, SnapWrite};
+ghost use Rattle.in_flight.specs.Kinds.{kind_of};
+ghost use Rattle.in_flight.specs.declared.flights.Kind.TheVariants.{SnapFlush, SnapRead, SnapWrite};
 ghost use Rattle.snapshot.specs.Kept.{Kept};
 ghost use Rattle.volume.specs.Volumed.{piece_with};
 ghost use Rattle.snapshots.specs.Numbers.{count_in};
@@ -15,7 +15,7 @@ ghost use Rattle.volume.specs.Submitting.{dev_refusal, shut_at, IsAsked, IsAccep
 
 use crate::Volume;
 use device::Block;
-use pending::{Flight, Route, read_route};
+use in_flight::{Flight, Route, read_route};
 use plain::{Overflowing, ReqId, Request, SnapId};
 use sector::Refusal;
 use snapshot::Snapshot;

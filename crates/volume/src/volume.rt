@@ -16,13 +16,12 @@ ghost use Rattle.volume.specs.Leaving.{has_group_in, is_quiet_of};
 ghost use Rattle.volume.specs.Volumed.{books_of, next_of, piece_of, piece_with};
 
 use device::Block;
+use in_flight::{Flight, MAX_REQUESTS};
 use merge::Merge;
-use merge_beside::merge_due;
-use pending::{Flight, MAX_REQUESTS};
 use plain::Event;
 use sector::Refusal;
 use snapshot::Snapshot;
-use snapshots::first_due;
+use snapshots::{first_due, merge_due};
 use std::alloc::Global;
 use std::marker::Model;
 

@@ -2,15 +2,15 @@
 use Rattle.std.proofs.Common.{◌≡◌, ◌≢◌, ℕ, ◌<◌, Bool, true, false, List, Option, Some, None, length, get_or, refl, sym, ◌∙◌, ap, subst}
 use Rattle.std.specs.List.{All}
 use Rattle.std.specs.Option.{is_some}
-use Rattle.model.specs.Picture.{place_of}
+use Rattle.store_bytes.specs.Picture.{place_of}
 use Rattle.plain.specs.Plain.{did_overflow}
 use Rattle.plain.specs.Kept.{kept}
 use Rattle.plain.specs.Legal.{is_shut}
-use Rattle.pending.specs.Kinds.{kind_of}
-use Rattle.pending.specs.Routes.{read_route_of, write_route_of, flush_route_of}
-use Rattle.pending.specs.declared.flights.Flight.{Flight}
-use Rattle.pending.specs.declared.flights.Kind.TheVariants.{OriginRead, OriginWrite, OriginFlush, SnapRead, SnapWrite, SnapFlush}
-use Rattle.pending.specs.declared.flights.Route.TheVariants.{Held, Store, Whole}
+use Rattle.in_flight.specs.Kinds.{kind_of}
+use Rattle.in_flight.specs.Routes.{read_route_of, write_route_of, flush_route_of}
+use Rattle.in_flight.specs.declared.flights.Flight.{Flight}
+use Rattle.in_flight.specs.declared.flights.Kind.TheVariants.{OriginRead, OriginWrite, OriginFlush, SnapRead, SnapWrite, SnapFlush}
+use Rattle.in_flight.specs.declared.flights.Route.TheVariants.{Held, Store, Whole}
 use Rattle.volume_laws.specs.Books.{SnapBooks, MergeBooks, Books, listed, taken}
 use Rattle.volume_laws.specs.Published.{chunk_of, IsPublished, is_clear}
 use Rattle.volume_laws.specs.Held.{RequestHolds}

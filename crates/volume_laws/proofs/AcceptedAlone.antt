@@ -1,14 +1,14 @@
 -- A request is in flight, once its copies are started, in a volume without a merge.
 use Rattle.std.proofs.Common.{◌≡◌, ◌≢◌, ℕ, ◌<◌, true, false, List, Option, Some, None, length, get_or, sym, ◌∙◌, ap}
 use Rattle.std.specs.List.{All}
-use Rattle.model.specs.Picture.{place_of}
+use Rattle.store_bytes.specs.Picture.{place_of}
 use Rattle.plain.specs.Kept.{kept}
 use Rattle.plain.specs.Plain.{did_overflow}
-use Rattle.pending.specs.Kinds.{kind_of}
-use Rattle.pending.specs.Routes.{read_route_of, write_route_of}
-use Rattle.pending.specs.declared.flights.Flight.{Flight}
-use Rattle.pending.specs.declared.flights.Kind.TheVariants.{OriginRead, OriginWrite, SnapRead, SnapWrite}
-use Rattle.pending.specs.declared.flights.Route.TheVariants.{Held, Store}
+use Rattle.in_flight.specs.Kinds.{kind_of}
+use Rattle.in_flight.specs.Routes.{read_route_of, write_route_of}
+use Rattle.in_flight.specs.declared.flights.Flight.{Flight}
+use Rattle.in_flight.specs.declared.flights.Kind.TheVariants.{OriginRead, OriginWrite, SnapRead, SnapWrite}
+use Rattle.in_flight.specs.declared.flights.Route.TheVariants.{Held, Store}
 use Rattle.volume_laws.specs.Books.{SnapBooks, MergeBooks, Books}
 use Rattle.volume_laws.specs.Published.{chunk_of, IsPublished, is_clear}
 use Rattle.volume_laws.specs.Held.{RequestHolds}

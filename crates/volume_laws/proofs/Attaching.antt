@@ -6,12 +6,12 @@ use Rattle.std.proofs.lemmas.Bool.{false≢true}
 use Rattle.std.proofs.lemmas.List.{map_push, ext_get_or, length-map}
 use Rattle.std.proofs.lemmas.List.Elements.{All-push, All-nil}
 use Rattle.std.proofs.lemmas.List.Quantifiers.{all_pairs_push, all_pairs_remove}
-use Rattle.model.specs.Pairs.{pairs_of}
-use Rattle.model.specs.Picture.{picture, picture_at}
-use Rattle.model.proofs.Pictures.{length-picture, get_or-picture}
+use Rattle.store_bytes.specs.Pairs.{pairs_of}
+use Rattle.store_bytes.specs.Picture.{picture, picture_at}
+use Rattle.store_bytes.proofs.Pictures.{length-picture, get_or-picture}
 use Rattle.plain.specs.Legal.{IsTaken, IsDetached}
-use Rattle.pending.specs.Copies.{pair_of}
-use Rattle.pending.specs.Kinds.{in_flight}
+use Rattle.in_flight.specs.Copies.{pair_of}
+use Rattle.in_flight.specs.Kinds.{in_flight}
 use Rattle.volume_laws.specs.Books.{SnapBooks, Books, number_of}
 use Rattle.volume_laws.specs.Held.{StoreHolds, LiveHolds, SnapHolds, CopyHolds, MarkHolds, RouteHolds, RequestHolds, IsLinked}
 use Rattle.volume_laws.specs.Whole.{Holds, plain_of, entry_of, origin_of, begun_of, UnmergedHolds}

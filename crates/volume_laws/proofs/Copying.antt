@@ -8,14 +8,14 @@ use Rattle.std.proofs.Math.Seq.{map-set_same}
 use Rattle.sector.specs.Bytes.{sectors_at, with_sectors}
 use Rattle.sector.specs.declared.pair.Pair.{Pair}
 use Rattle.sector.proofs.Sectors.{sectors_at-with_same}
-use Rattle.model.specs.Places.{ChangesOnly}
-use Rattle.model.specs.Picture.{picture, IsCopied}
-use Rattle.model.proofs.Pictures.{front_copied}
-use Rattle.model.proofs.Slots.{pairs-outside}
-use Rattle.pending.specs.Copies.{count_of, pair_of}
-use Rattle.pending.specs.declared.copies.ChunkCopy.{ChunkCopy}
-use Rattle.pending.specs.declared.copies.Stage.TheVariants.{Waiting, Read, Written}
-use Rattle.pending.specs.declared.flights.Flight.{Flight}
+use Rattle.store_bytes.specs.Places.{ChangesOnly}
+use Rattle.store_bytes.specs.Picture.{picture, IsCopied}
+use Rattle.store_bytes.proofs.Pictures.{front_copied}
+use Rattle.store_bytes.proofs.Slots.{pairs-outside}
+use Rattle.in_flight.specs.Copies.{count_of, pair_of}
+use Rattle.in_flight.specs.declared.copies.ChunkCopy.{ChunkCopy}
+use Rattle.in_flight.specs.declared.copies.Stage.TheVariants.{Waiting, Read, Written}
+use Rattle.in_flight.specs.declared.flights.Flight.{Flight}
 use Rattle.volume_laws.specs.Books.{SnapBooks}
 use Rattle.volume_laws.specs.Held.{LiveHolds, CopyHolds, MarkHolds, is_stored}
 use Rattle.volume_laws.specs.Steps.{ReadsCopy, WritesCopy}

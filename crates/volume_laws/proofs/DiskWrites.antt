@@ -2,10 +2,10 @@
 use Rattle.std.proofs.Common.{◌≡◌, ◌≢◌, ℕ, ◌+◌, ◌*◌, ◌/◌, ◌<◌, true, List, Option, Some, None, get_or, refl, sym, ◌∙◌, ap, arith}
 use Rattle.std.specs.List.{All}
 use Rattle.std.proofs.lemmas.List.{get_or_default}
-use Rattle.model.specs.Picture.{place_of, byte_of, picture_at, picture}
-use Rattle.model.proofs.Pictures.{same_picture}
-use Rattle.pending.specs.Copies.{count_of}
-use Rattle.pending.specs.declared.flights.Flight.{Flight}
+use Rattle.store_bytes.specs.Picture.{place_of, byte_of, picture_at, picture}
+use Rattle.store_bytes.proofs.Pictures.{same_picture}
+use Rattle.in_flight.specs.Copies.{count_of}
+use Rattle.in_flight.specs.declared.flights.Flight.{Flight}
 use Rattle.volume_laws.specs.Books.{SnapBooks}
 use Rattle.volume_laws.specs.Published.{IsPublished}
 use Rattle.volume_laws.specs.Held.{LiveHolds, CopyHolds}

@@ -17,8 +17,8 @@ use Rattle.plain.specs.declared.request.Overflowing.TheVariants.{Did}
 use Rattle.plain.specs.Plain.{Plain, Entry, Saved, saved_under, with_saved, without_saved, overflow_under, did_overflow, marked_in}
 use Rattle.plain.specs.Legal.{is_shut}
 use Rattle.plain.specs.Serves.{Serves, SameArrays, IsShowing, IsSpoilt}
-use Rattle.pending.specs.Kinds.{kind_at}
-use Rattle.pending.specs.declared.flights.Kind.TheVariants.{OriginRead, OriginWrite, OriginFlush, SnapRead, SnapWrite, SnapFlush}
+use Rattle.in_flight.specs.Kinds.{kind_at}
+use Rattle.in_flight.specs.declared.flights.Kind.TheVariants.{OriginRead, OriginWrite, OriginFlush, SnapRead, SnapWrite, SnapFlush}
 use Rattle.volume_laws.specs.Books.{SnapBooks, number_of}
 use Rattle.volume_laws.specs.Whole.{entry_of}
 use Rattle.volume_laws.proofs.Lists.{AllPairs-tail}

@@ -4,12 +4,12 @@ use Rattle.std.specs.Prelude.{◌&&◌, ◌||◌, not, sum_by}
 use Rattle.std.specs.List.{list_any}
 use Rattle.std.proofs.lemmas.Bool.{false≢true}
 use Rattle.std.proofs.lemmas.List.Sums.{sum_by-cons}
-use Rattle.pending.specs.Flushed.{flushed_stage, flushed_copy, safe_mark}
-use Rattle.pending.specs.Due.{is_stage, front_ready, front_unflushed}
-use Rattle.pending.specs.declared.copies.Stage.{Stage}
-use Rattle.pending.specs.declared.copies.Stage.TheVariants.{Waiting, Read, Written, Flushed}
-use Rattle.pending.specs.declared.copies.ChunkCopy.{ChunkCopy}
-use Rattle.pending.specs.declared.copies.Mark.{Mark}
+use Rattle.in_flight.specs.Flushed.{flushed_stage, flushed_copy, safe_mark}
+use Rattle.in_flight.specs.Due.{is_stage, front_ready, front_unflushed}
+use Rattle.in_flight.specs.declared.copies.Stage.{Stage}
+use Rattle.in_flight.specs.declared.copies.Stage.TheVariants.{Waiting, Read, Written, Flushed}
+use Rattle.in_flight.specs.declared.copies.ChunkCopy.{ChunkCopy}
+use Rattle.in_flight.specs.declared.copies.Mark.{Mark}
 use Rattle.volume_laws.specs.Steps.{FlushesStore, SpoilsSnap}
 use Rattle.volume_laws.specs.Due.{DueSnap, steps_at, steps_of, steps_of_mark, steps_of_area, left_in, is_unsafe, can_flush_store}
 use Rattle.volume_laws.proofs.Left.{area_at, invalid_same, copies_some, spoiled_few, mark_some}

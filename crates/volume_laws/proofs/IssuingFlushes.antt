@@ -8,16 +8,16 @@ use Rattle.std.proofs.lemmas.List.{map-set, length-map, get_or-map, length-set, 
 use Rattle.std.proofs.lemmas.List.Elements.{All-set}
 use Rattle.std.proofs.lemmas.List.Sums.{sum_by-set}
 use Rattle.std.proofs.Math.Seq.{map-set_same}
-use Rattle.model.specs.Picture.{picture}
+use Rattle.store_bytes.specs.Picture.{picture}
 use Rattle.plain.specs.declared.request.Dev.TheVariants.{Snap}
 use Rattle.plain.specs.declared.request.Op.TheVariants.{Flush}
 use Rattle.plain.specs.declared.request.Reply.TheVariants.{Flushed}
 use Rattle.plain.specs.Legal.{IsBegunFlush}
-use Rattle.pending.specs.Kinds.{kind_of, in_flight}
-use Rattle.pending.specs.declared.flights.Flight.{Flight}
-use Rattle.pending.specs.declared.flights.Kind.TheVariants.{OriginFlush, SnapFlush}
-use Rattle.pending.specs.declared.flights.Route.{Route}
-use Rattle.pending.specs.declared.flights.Route.TheVariants.{Origin, Whole, Refused}
+use Rattle.in_flight.specs.Kinds.{kind_of, in_flight}
+use Rattle.in_flight.specs.declared.flights.Flight.{Flight}
+use Rattle.in_flight.specs.declared.flights.Kind.TheVariants.{OriginFlush, SnapFlush}
+use Rattle.in_flight.specs.declared.flights.Route.{Route}
+use Rattle.in_flight.specs.declared.flights.Route.TheVariants.{Origin, Whole, Refused}
 use Rattle.volume_laws.specs.Books.{SnapBooks, MergeBooks, Books, listed, taken}
 use Rattle.volume_laws.specs.Held.{SnapHolds, RouteHolds, RefusedHolds, UntriedHolds, RequestHolds}
 use Rattle.volume_laws.specs.Merging.{MergeRouteHolds}

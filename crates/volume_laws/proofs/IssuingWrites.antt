@@ -7,15 +7,15 @@ use Rattle.std.proofs.lemmas.List.{map-set}
 use Rattle.std.proofs.lemmas.List.Elements.{All-set}
 use Rattle.std.proofs.lemmas.Nat.{div-add-mod'}
 use Rattle.sector.specs.Bytes.{with_sectors}
-use Rattle.model.specs.Picture.{picture}
+use Rattle.store_bytes.specs.Picture.{picture}
 use Rattle.plain.specs.declared.request.Dev.TheVariants.{Origin as AtOrigin, Snap}
 use Rattle.plain.specs.declared.request.Op.TheVariants.{Write}
 use Rattle.plain.specs.declared.request.Reply.TheVariants.{Written as IsWritten}
 use Rattle.plain.specs.Plain.{Entry, Live}
-use Rattle.pending.specs.Kinds.{kind_of}
-use Rattle.pending.specs.declared.flights.Flight.{Flight}
-use Rattle.pending.specs.declared.flights.Kind.TheVariants.{OriginWrite, SnapWrite}
-use Rattle.pending.specs.declared.flights.Route.TheVariants.{Origin, Store, Refused}
+use Rattle.in_flight.specs.Kinds.{kind_of}
+use Rattle.in_flight.specs.declared.flights.Flight.{Flight}
+use Rattle.in_flight.specs.declared.flights.Kind.TheVariants.{OriginWrite, SnapWrite}
+use Rattle.in_flight.specs.declared.flights.Route.TheVariants.{Origin, Store, Refused}
 use Rattle.volume_laws.specs.Books.{SnapBooks, Books}
 use Rattle.volume_laws.specs.Published.{IsPublished, IsSaved, IsSavedOver}
 use Rattle.volume_laws.specs.Held.{SnapHolds, RouteHolds, RefusedHolds, RequestHolds}

@@ -3,7 +3,7 @@ use Rattle.std.proofs.Common.{◌≡◌, ◌≢◌, ◌⊎◌, inl, inr, Bool, t
 use Rattle.std.specs.Prelude.{◌||◌, AllPairs}
 use Rattle.plain.specs.declared.event.Event.{Event}
 use Rattle.plain.specs.declared.event.Event.TheVariants.{MergeGroup, MergeAreaRead, MergeRead, MergeWrite, MergeFlush, MergeCommit, MergeRelease}
-use Rattle.pending.specs.declared.flights.Flight.{Flight}
+use Rattle.in_flight.specs.declared.flights.Flight.{Flight}
 use Rattle.volume_laws.specs.Books.{SnapBooks}
 use Rattle.volume_laws.specs.Due.{DueSnap, books_of, due_of, is_due}
 use Rattle.volume_laws.specs.MergeDue.{DueMerge, can_group, can_read_area, can_read, can_write, can_flush, can_commit_group, can_release, one_of, merge_due, is_merge_due, due_or, due_with, is_due_with}

@@ -5,17 +5,17 @@ use Rattle.std.specs.Prelude.{AllPairs}
 use Rattle.std.proofs.lemmas.List.Elements.{All-head, All-cons, All-nil, All-append}
 use Rattle.sector.specs.Bytes.{sectors_at}
 use Rattle.sector.specs.declared.pair.Pair.{Pair}
-use Rattle.model.specs.Places.{area_place, is_area_place, ChangesOnly}
-use Rattle.model.specs.Pairs.{pairs_of, IsApart, IsInside}
-use Rattle.model.specs.Picture.{place_of, picture_at, picture, IsCopied}
-use Rattle.model.proofs.AreaPlaces.{place_is}
-use Rattle.model.proofs.Pictures.{picture-origin, same_picture, front_copied}
-use Rattle.model.proofs.Views.{place_unnamed, picture-merged}
-use Rattle.pending.specs.Copies.{count_of}
-use Rattle.pending.specs.Kinds.{kind_of}
-use Rattle.pending.specs.declared.flights.Flight.{Flight}
-use Rattle.pending.specs.declared.flights.Kind.TheVariants.{OriginRead, OriginWrite}
-use Rattle.pending.specs.declared.flights.Route.TheVariants.{Store}
+use Rattle.store_bytes.specs.Places.{area_place, is_area_place, ChangesOnly}
+use Rattle.store_bytes.specs.Pairs.{pairs_of, IsApart, IsInside}
+use Rattle.store_bytes.specs.Picture.{place_of, picture_at, picture, IsCopied}
+use Rattle.store_bytes.proofs.AreaPlaces.{place_is}
+use Rattle.store_bytes.proofs.Pictures.{picture-origin, same_picture, front_copied}
+use Rattle.store_bytes.proofs.Views.{place_unnamed, picture-merged}
+use Rattle.in_flight.specs.Copies.{count_of}
+use Rattle.in_flight.specs.Kinds.{kind_of}
+use Rattle.in_flight.specs.declared.flights.Flight.{Flight}
+use Rattle.in_flight.specs.declared.flights.Kind.TheVariants.{OriginRead, OriginWrite}
+use Rattle.in_flight.specs.declared.flights.Route.TheVariants.{Store}
 use Rattle.volume_laws.specs.Books.{SnapBooks, MergeBooks, given, listed, taken}
 use Rattle.volume_laws.specs.Published.{chunk_of}
 use Rattle.volume_laws.specs.Held.{LiveHolds}

@@ -5,14 +5,14 @@ use Rattle.sector.specs.Bytes.{sectors_at, with_sectors}
 use Rattle.sector.specs.declared.pair.Pair.{Pair}
 use Rattle.sector.specs.declared.range.Range.{Range}
 use Rattle.sector.proofs.Sectors.{byte_read}
-use Rattle.model.specs.Places.{is_area_place, ChangesOnly}
-use Rattle.model.specs.Pairs.{pairs_of, IsApart, IsInside}
-use Rattle.model.specs.Picture.{place_of, byte_of, picture_at, picture, IsCopied}
-use Rattle.model.proofs.Pictures.{length-picture, get_or-picture, picture-written}
-use Rattle.model.proofs.Slots.{pairs-outside}
-use Rattle.model.proofs.Views.{picture-more}
-use Rattle.pending.specs.Copies.{count_of}
-use Rattle.pending.specs.declared.flights.Flight.{Flight}
+use Rattle.store_bytes.specs.Places.{is_area_place, ChangesOnly}
+use Rattle.store_bytes.specs.Pairs.{pairs_of, IsApart, IsInside}
+use Rattle.store_bytes.specs.Picture.{place_of, byte_of, picture_at, picture, IsCopied}
+use Rattle.store_bytes.proofs.Pictures.{length-picture, get_or-picture, picture-written}
+use Rattle.store_bytes.proofs.Slots.{pairs-outside}
+use Rattle.store_bytes.proofs.Views.{picture-more}
+use Rattle.in_flight.specs.Copies.{count_of}
+use Rattle.in_flight.specs.declared.flights.Flight.{Flight}
 use Rattle.volume_laws.specs.Books.{MergeBooks, listed, taken}
 use Rattle.volume_laws.specs.Published.{IsPiece}
 use Rattle.volume_laws.specs.Merging.{MergeHolds}

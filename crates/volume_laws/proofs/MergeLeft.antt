@@ -4,8 +4,8 @@ use Rattle.std.specs.Prelude.{sum_by}
 use Rattle.std.proofs.lemmas.List.{nil_from_length}
 use Rattle.std.proofs.lemmas.List.Sums.{sum_by-set, sum_by_push}
 use Rattle.sector.specs.declared.pair.Pair.{Pair}
-use Rattle.pending.specs.declared.copies.ChunkCopy.{ChunkCopy}
-use Rattle.pending.specs.declared.flights.Flight.{Flight}
+use Rattle.in_flight.specs.declared.copies.ChunkCopy.{ChunkCopy}
+use Rattle.in_flight.specs.declared.flights.Flight.{Flight}
 use Rattle.volume_laws.specs.Books.{MergeBooks, group_of}
 use Rattle.volume_laws.specs.Steps.{StartsCopy, SpoilsSnap}
 use Rattle.volume_laws.specs.Due.{DueSnap, steps_at, steps_of, steps_of_mark, left_in, left_of}

@@ -6,12 +6,12 @@ use Rattle.std.proofs.lemmas.Bool.{cases_Bool, false≢true, eqb-true, eqb-false
 use Rattle.std.proofs.lemmas.List.{take-append-drop, take-map}
 use Rattle.std.proofs.lemmas.List.Elements.{All-set}
 use Rattle.sector.specs.declared.pair.Pair.{Pair}
-use Rattle.model.specs.Picture.{place_of}
-use Rattle.pending.specs.Copies.{pair_of}
-use Rattle.pending.specs.Flushed.{flushed_copy, safe_mark}
-use Rattle.pending.specs.declared.copies.ChunkCopy.{ChunkCopy}
-use Rattle.pending.specs.declared.copies.Mark.{Mark}
-use Rattle.pending.specs.declared.flights.Flight.{Flight}
+use Rattle.store_bytes.specs.Picture.{place_of}
+use Rattle.in_flight.specs.Copies.{pair_of}
+use Rattle.in_flight.specs.Flushed.{flushed_copy, safe_mark}
+use Rattle.in_flight.specs.declared.copies.ChunkCopy.{ChunkCopy}
+use Rattle.in_flight.specs.declared.copies.Mark.{Mark}
+use Rattle.in_flight.specs.declared.flights.Flight.{Flight}
 use Rattle.volume_laws.specs.Books.{SnapBooks}
 use Rattle.volume_laws.specs.Held.{LiveHolds}
 use Rattle.volume_laws.specs.Steps.{ReadsCopy, WritesCopy, ZeroesArea, Commits, FlushesStore, WritesMark, Unmarks, StartsCopy, WritesPlace, Overflows, SpoilsSnap, TriesMark, CopyGoesOn, mark_of}

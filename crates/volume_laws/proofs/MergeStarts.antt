@@ -2,8 +2,8 @@
 use Rattle.std.proofs.Common.{◌≡◌, ℕ, ◌+◌, ◌*◌, ◌<◌, true, List, [], ◌∷◌, ◌++◌, length, get_or, sym, ◌∙◌, subst}
 use Rattle.std.proofs.lemmas.Bool.{false≢true}
 use Rattle.sector.specs.declared.pair.Pair.{Pair}
-use Rattle.pending.specs.Copies.{count_of}
-use Rattle.pending.specs.declared.copies.ChunkCopy.{ChunkCopy}
+use Rattle.in_flight.specs.Copies.{count_of}
+use Rattle.in_flight.specs.declared.copies.ChunkCopy.{ChunkCopy}
 use Rattle.volume_laws.specs.Books.{SnapBooks, Books}
 use Rattle.volume_laws.specs.Whole.{Holds}
 use Rattle.volume_laws.specs.Published.{next_over}

@@ -7,11 +7,11 @@ use Rattle.std.proofs.lemmas.Bool.{cases_Bool, eqb-true}
 use Rattle.std.proofs.lemmas.List.Elements.{All-weaker}
 use Rattle.std.proofs.lemmas.List.Folds.{Any-from_list_any}
 use Rattle.sector.specs.declared.pair.Pair.{Pair}
-use Rattle.model.specs.Picture.{place_of}
-use Rattle.pending.specs.Copies.{count_of}
-use Rattle.pending.specs.Routes.{write_route_of}
-use Rattle.pending.specs.declared.flights.Flight.{Flight}
-use Rattle.pending.specs.declared.flights.Route.TheVariants.{Held}
+use Rattle.store_bytes.specs.Picture.{place_of}
+use Rattle.in_flight.specs.Copies.{count_of}
+use Rattle.in_flight.specs.Routes.{write_route_of}
+use Rattle.in_flight.specs.declared.flights.Flight.{Flight}
+use Rattle.in_flight.specs.declared.flights.Route.TheVariants.{Held}
 use Rattle.volume_laws.specs.Books.{SnapBooks, MergeBooks, Books, group_of}
 use Rattle.volume_laws.specs.Published.{chunk_of, IsPublished, is_clear}
 use Rattle.volume_laws.specs.Again.{has_chunk, new_route, Reroutes}

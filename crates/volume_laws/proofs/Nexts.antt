@@ -8,7 +8,7 @@ use Rattle.std.proofs.lemmas.List.Elements.{All-nil, All-cons}
 use Rattle.std.proofs.lemmas.List.FromFn.{length-range_with_len, get_or-range_with_len}
 use Rattle.chunk.specs.Pieces.{Span, touched, chunks_over}
 use Rattle.chunk.proofs.Over.{in_touched, touches}
-use Rattle.pending.specs.Due.{first_by}
+use Rattle.in_flight.specs.Due.{first_by}
 use Rattle.volume_laws.specs.Books.{SnapBooks}
 use Rattle.volume_laws.specs.Published.{IsPublished, is_published, IsSavedOver, unpublished_in, next_over, is_saved_over}
 use Rattle.volume_laws.proofs.Due.{first_none}

@@ -1,10 +1,10 @@
 -- A write finds the full store of a snapshot that may overflow, in a whole volume: it is marked, and all else stays.
 use Rattle.std.proofs.Common.{◌≡◌, ℕ, true, Some, set, map, refl, sym, ◌∙◌, ap, subst}
 use Rattle.std.proofs.lemmas.List.{map-set}
-use Rattle.model.specs.Picture.{picture}
+use Rattle.store_bytes.specs.Picture.{picture}
 use Rattle.plain.specs.declared.request.Overflowing.TheVariants.{Did}
 use Rattle.plain.specs.Legal.{Overflows as PlainOverflows}
-use Rattle.pending.specs.Kinds.{in_flight}
+use Rattle.in_flight.specs.Kinds.{in_flight}
 use Rattle.volume_laws.specs.Books.{SnapBooks, Books}
 use Rattle.volume_laws.specs.Held.{LiveHolds, SnapHolds}
 use Rattle.volume_laws.specs.Whole.{Holds, IsLoud, plain_of, entry_of, origin_of, begun_of}

@@ -4,9 +4,9 @@ use Rattle.std.specs.Prelude.{Any}
 use Rattle.std.proofs.lemmas.Bool.{cases_eq}
 use Rattle.std.proofs.lemmas.List.{get_or-set_same, get_or-set_other, get_or_default, get_or-append-add, append-nil}
 use Rattle.plain.specs.Legal.{Spoils}
-use Rattle.pending.specs.Copies.{count_of}
-use Rattle.pending.specs.Kinds.{in_flight}
-use Rattle.pending.specs.declared.copies.ChunkCopy.{ChunkCopy}
+use Rattle.in_flight.specs.Copies.{count_of}
+use Rattle.in_flight.specs.Kinds.{in_flight}
+use Rattle.in_flight.specs.declared.copies.ChunkCopy.{ChunkCopy}
 use Rattle.volume_laws.specs.Books.{SnapBooks, Books}
 use Rattle.volume_laws.specs.Whole.{Holds, plain_of}
 use Rattle.volume_laws.specs.Waits.{Waits, IsSaving}
@@ -22,7 +22,7 @@ use Rattle.volume_laws.proofs.Keeping.{start_keeps}
 use Rattle.volume_laws.specs.Accepting.{IsPrepared, AreSaving, AreSavingAt}
 use Rattle.volume_laws.specs.Published.{chunk_of, next_over}
 use Rattle.volume_laws.specs.MergeWaits.{IsSavedSoon}
-use Rattle.pending.specs.declared.flights.Flight.{Flight}
+use Rattle.in_flight.specs.declared.flights.Flight.{Flight}
 use Rattle.sector.specs.declared.pair.Pair.{Pair}
 use Rattle.std.specs.List.{All}
 

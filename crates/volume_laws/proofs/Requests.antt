@@ -4,8 +4,8 @@ use Rattle.std.specs.Prelude.{◌==◌}
 use Rattle.std.specs.List.{All, remove, position}
 use Rattle.std.proofs.lemmas.List.Quantifiers.{position-Some}
 use Rattle.plain.specs.Plain.{asked_under, without}
-use Rattle.pending.specs.Kinds.{in_flight}
-use Rattle.pending.specs.declared.flights.Flight.{Flight}
+use Rattle.in_flight.specs.Kinds.{in_flight}
+use Rattle.in_flight.specs.declared.flights.Flight.{Flight}
 use Rattle.volume_laws.specs.Books.{SnapBooks, MergeBooks, Books, listed, taken}
 use Rattle.volume_laws.specs.Held.{LiveHolds, SnapHolds, RouteHolds, RefusedHolds, UntriedHolds}
 use Rattle.volume_laws.specs.Merging.{MergeRouteHolds}

@@ -1,6 +1,6 @@
 -- What callers see is what the books show.
 use Rattle.std.proofs.Common.{◌≡◌, ℕ, List, [], ◌∷◌, map, refl, ◌∙◌, ap}
-use Rattle.pending.specs.Kinds.{in_flight}
+use Rattle.in_flight.specs.Kinds.{in_flight}
 use Rattle.volume_laws.specs.Books.{SnapBooks, Books}
 use Rattle.volume_laws.specs.Whole.{plain_of, entry_of, origin_of, begun_of}
 use Rattle.volume_laws.specs.Shape.{Shape, SnapShape, plain_shown, shown_origin, shown_begun, shown_entry}

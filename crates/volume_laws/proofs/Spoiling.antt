@@ -5,9 +5,9 @@ use Rattle.std.specs.Prelude.{AllPairs}
 use Rattle.std.proofs.lemmas.Bool.{false≢true, cases_eq, cases_order}
 use Rattle.std.proofs.lemmas.List.{map-set, length-map, get_or-map, length-set, get_or-set_same, get_or-set_other, get_or_default}
 use Rattle.plain.specs.Plain.{Entry, is_in, spoiled_entry}
-use Rattle.pending.specs.Kinds.{in_flight}
-use Rattle.pending.specs.Routes.{refused_of}
-use Rattle.model.specs.Picture.{picture}
+use Rattle.in_flight.specs.Kinds.{in_flight}
+use Rattle.in_flight.specs.Routes.{refused_of}
+use Rattle.store_bytes.specs.Picture.{picture}
 use Rattle.volume_laws.specs.Books.{SnapBooks, Books, number_of}
 use Rattle.volume_laws.specs.Held.{SnapHolds, UntriedHolds}
 use Rattle.volume_laws.specs.Whole.{Holds, plain_of, entry_of, origin_of, begun_of}

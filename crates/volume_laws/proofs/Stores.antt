@@ -7,15 +7,15 @@ use Rattle.std.proofs.lemmas.Nat.{mod_below}
 use Rattle.std.proofs.lemmas.List.{get_or_append_left, get_or-append-add, get_or-map, length-map}
 use Rattle.std.proofs.lemmas.List.Elements.{All-weaker}
 use Rattle.sector.specs.declared.pair.Pair.{Pair}
-use Rattle.model.specs.Places.{area_place, ChangesOnly}
-use Rattle.model.specs.Pairs.{pairs_of, IsApart, IsInside}
-use Rattle.model.specs.Picture.{place_of, picture_at, picture, IsCopied}
-use Rattle.model.proofs.Pictures.{same_picture}
-use Rattle.model.proofs.Views.{byte_same, picture-only, place_unnamed}
-use Rattle.pending.specs.Copies.{pair_of}
-use Rattle.pending.specs.declared.copies.ChunkCopy.{ChunkCopy}
-use Rattle.pending.specs.declared.copies.Mark.{Mark}
-use Rattle.pending.specs.declared.flights.Flight.{Flight}
+use Rattle.store_bytes.specs.Places.{area_place, ChangesOnly}
+use Rattle.store_bytes.specs.Pairs.{pairs_of, IsApart, IsInside}
+use Rattle.store_bytes.specs.Picture.{place_of, picture_at, picture, IsCopied}
+use Rattle.store_bytes.proofs.Pictures.{same_picture}
+use Rattle.store_bytes.proofs.Views.{byte_same, picture-only, place_unnamed}
+use Rattle.in_flight.specs.Copies.{pair_of}
+use Rattle.in_flight.specs.declared.copies.ChunkCopy.{ChunkCopy}
+use Rattle.in_flight.specs.declared.copies.Mark.{Mark}
+use Rattle.in_flight.specs.declared.flights.Flight.{Flight}
 use Rattle.volume_laws.specs.Books.{SnapBooks, given}
 use Rattle.volume_laws.specs.Held.{LiveHolds, CopyHolds, MarkHolds}
 use Rattle.volume_laws.proofs.Lists.{All-front, AllPairs-front}

@@ -6,8 +6,8 @@ use Rattle.std.proofs.lemmas.List.Elements.{All-push}
 use Rattle.plain.specs.Plain.{Entry, spoiled_entry}
 use Rattle.plain.specs.Kept.{kept}
 use Rattle.plain.specs.Legal.{is_shut}
-use Rattle.pending.specs.Kinds.{in_flight}
-use Rattle.pending.specs.declared.flights.Flight.{Flight}
+use Rattle.in_flight.specs.Kinds.{in_flight}
+use Rattle.in_flight.specs.declared.flights.Flight.{Flight}
 use Rattle.volume_laws.specs.Books.{SnapBooks, MergeBooks, Books, listed, taken}
 use Rattle.volume_laws.specs.Held.{SnapHolds, RouteHolds, RefusedHolds, UntriedHolds, RequestHolds}
 use Rattle.volume_laws.specs.Merging.{MergeRouteHolds}

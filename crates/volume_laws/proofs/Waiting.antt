@@ -6,7 +6,7 @@ use Rattle.std.proofs.lemmas.Bool.{cases_eq}
 use Rattle.std.proofs.lemmas.List.{get_or-set_same, get_or-set_other, length-set, get_or_default}
 use Rattle.std.proofs.lemmas.List.Elements.{All-set, All-weaker, All-push, All-nil}
 use Rattle.std.proofs.lemmas.List.Quantifiers.{all_pairs_push, all_pairs_remove}
-use Rattle.pending.specs.declared.flights.Flight.{Flight}
+use Rattle.in_flight.specs.declared.flights.Flight.{Flight}
 use Rattle.volume_laws.specs.Books.{SnapBooks, MergeBooks, Books}
 use Rattle.volume_laws.specs.Published.{chunk_of, is_saved, is_clear}
 use Rattle.volume_laws.specs.Steps.{ChangesSnap, Accepts}

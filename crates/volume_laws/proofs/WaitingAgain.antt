@@ -6,16 +6,16 @@ use Rattle.std.proofs.lemmas.Bool.{cases_Bool, cases_eq, false≢true, eqb-true,
 use Rattle.std.proofs.lemmas.List.{get_or-set_same, get_or-set_other, length-set, get_or_default, get_or-map, length-map}
 use Rattle.std.proofs.lemmas.List.Elements.{All-set, All-weaker, All-map}
 use Rattle.std.proofs.lemmas.List.Folds.{Any-from_list_any}
-use Rattle.model.specs.Picture.{place_of}
+use Rattle.store_bytes.specs.Picture.{place_of}
 use Rattle.plain.specs.Plain.{is_in}
-use Rattle.pending.specs.Kinds.{kind_of}
-use Rattle.pending.specs.Routes.{again_route_of, write_route_of, placed_route_of, refused_of, refused_route_of}
-use Rattle.pending.specs.declared.copies.Mark.{Mark}
-use Rattle.pending.specs.declared.flights.Flight.{Flight}
-use Rattle.pending.specs.declared.flights.Kind.{Kind}
-use Rattle.pending.specs.declared.flights.Kind.TheVariants.{OriginRead, OriginWrite, OriginFlush, SnapRead, SnapWrite, SnapFlush}
-use Rattle.pending.specs.declared.flights.Route.{Route}
-use Rattle.pending.specs.declared.flights.Route.TheVariants.{Held, Origin, Store, Whole, Refused}
+use Rattle.in_flight.specs.Kinds.{kind_of}
+use Rattle.in_flight.specs.Routes.{again_route_of, write_route_of, placed_route_of, refused_of, refused_route_of}
+use Rattle.in_flight.specs.declared.copies.Mark.{Mark}
+use Rattle.in_flight.specs.declared.flights.Flight.{Flight}
+use Rattle.in_flight.specs.declared.flights.Kind.{Kind}
+use Rattle.in_flight.specs.declared.flights.Kind.TheVariants.{OriginRead, OriginWrite, OriginFlush, SnapRead, SnapWrite, SnapFlush}
+use Rattle.in_flight.specs.declared.flights.Route.{Route}
+use Rattle.in_flight.specs.declared.flights.Route.TheVariants.{Held, Origin, Store, Whole, Refused}
 use Rattle.volume_laws.specs.Books.{SnapBooks, MergeBooks, Books, group_of}
 use Rattle.volume_laws.specs.Published.{chunk_of, IsPublished, is_saved, is_clear}
 use Rattle.volume_laws.specs.Steps.{ChangesSnap, Unmarks, TriesMark, SpoilsOne}

@@ -8,18 +8,18 @@ use Rattle.std.proofs.lemmas.List.{length-map}
 use Rattle.std.proofs.lemmas.Nat.{div-add-mod'}
 use Rattle.sector.specs.Bytes.{sectors_at, with_sectors}
 use Rattle.sector.specs.declared.pair.Pair.{Pair}
-use Rattle.model.specs.Places.{area_place, ChangesOnly}
-use Rattle.model.specs.Pairs.{pairs_of}
-use Rattle.model.specs.Picture.{picture}
+use Rattle.store_bytes.specs.Places.{area_place, ChangesOnly}
+use Rattle.store_bytes.specs.Pairs.{pairs_of}
+use Rattle.store_bytes.specs.Picture.{picture}
 use Rattle.plain.specs.declared.request.Dev.TheVariants.{Origin as AtOrigin}
 use Rattle.plain.specs.declared.request.Op.TheVariants.{Read, Write}
 use Rattle.plain.specs.declared.request.Reply.TheVariants.{Data, Written as IsWritten}
 use Rattle.plain.specs.Legal.{IsBegun, IsFinished}
-use Rattle.pending.specs.Copies.{count_of}
-use Rattle.pending.specs.Kinds.{kind_of, in_flight}
-use Rattle.pending.specs.declared.flights.Flight.{Flight}
-use Rattle.pending.specs.declared.flights.Kind.TheVariants.{OriginRead, OriginWrite}
-use Rattle.pending.specs.declared.flights.Route.TheVariants.{Origin, Store}
+use Rattle.in_flight.specs.Copies.{count_of}
+use Rattle.in_flight.specs.Kinds.{kind_of, in_flight}
+use Rattle.in_flight.specs.declared.flights.Flight.{Flight}
+use Rattle.in_flight.specs.declared.flights.Kind.TheVariants.{OriginRead, OriginWrite}
+use Rattle.in_flight.specs.declared.flights.Route.TheVariants.{Origin, Store}
 use Rattle.volume_laws.specs.Books.{SnapBooks, MergeBooks, Books, listed, taken, number_of}
 use Rattle.volume_laws.specs.Published.{chunk_of, IsSavedOver}
 use Rattle.volume_laws.specs.Held.{SnapHolds, RouteHolds, RequestHolds}

@@ -2,16 +2,16 @@
 use Rattle.std.proofs.Common.{◌≡◌, ◌≢◌, ℕ, Bool, true, false, List, Option, None, Some}
 use Rattle.std.specs.Prelude.{◌==◌, if◌then◌else◌}
 use Rattle.plain.specs.Plain.{is_in}
-use Rattle.pending.specs.Routes.{write_route_of, again_route_of, placed_route_of, refused_route_of}
-use Rattle.pending.specs.declared.flights.Flight.{Flight}
-use Rattle.pending.specs.declared.flights.Kind.{Kind}
-use Rattle.pending.specs.declared.flights.Kind.TheVariants.{OriginRead, OriginWrite, OriginFlush, SnapRead, SnapWrite, SnapFlush}
-use Rattle.pending.specs.declared.flights.Route.{Route}
-use Rattle.pending.specs.declared.flights.Route.TheVariants.{Held, Origin, Store, Whole, Refused}
+use Rattle.in_flight.specs.Routes.{write_route_of, again_route_of, placed_route_of, refused_route_of}
+use Rattle.in_flight.specs.declared.flights.Flight.{Flight}
+use Rattle.in_flight.specs.declared.flights.Kind.{Kind}
+use Rattle.in_flight.specs.declared.flights.Kind.TheVariants.{OriginRead, OriginWrite, OriginFlush, SnapRead, SnapWrite, SnapFlush}
+use Rattle.in_flight.specs.declared.flights.Route.{Route}
+use Rattle.in_flight.specs.declared.flights.Route.TheVariants.{Held, Origin, Store, Whole, Refused}
 use Rattle.volume_laws.specs.Again.{has_chunk, new_route}
 use Rattle.volume_laws.specs.Books.{MergeBooks, group_of}
 use Rattle.volume_laws.specs.Published.{chunk_of}
-use Rattle.model.specs.Picture.{place_of}
+use Rattle.store_bytes.specs.Picture.{place_of}
 
 write_whole : (grouped : Bool) (place : Option ℕ) (clear : Bool) → write_route_of grouped place clear ≢ Whole
 write_whole true place clear e = cc

@@ -4,9 +4,9 @@ use Rattle.std.specs.Prelude.{◌≡◌, ◌≢◌, ℕ, ◌<◌, true, List, Op
 use Rattle.std.specs.List.{All}
 use Rattle.plain.specs.declared.request.Request.{Request}
 use Rattle.plain.specs.Legal.{Spoils, IsSubmitted}
-use Rattle.pending.specs.Kinds.{kind_of, in_flight}
-use Rattle.pending.specs.declared.flights.Flight.{Flight}
-use Rattle.pending.specs.declared.flights.Kind.TheVariants.{SnapRead, SnapWrite, SnapFlush}
+use Rattle.in_flight.specs.Kinds.{kind_of, in_flight}
+use Rattle.in_flight.specs.declared.flights.Flight.{Flight}
+use Rattle.in_flight.specs.declared.flights.Kind.TheVariants.{SnapRead, SnapWrite, SnapFlush}
 use Rattle.volume_laws.specs.Books.{SnapBooks, MergeBooks, Books}
 use Rattle.volume_laws.specs.Published.{IsPiece}
 use Rattle.volume_laws.specs.Whole.{Holds, IsLoud, plain_of}

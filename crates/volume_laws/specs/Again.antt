@@ -2,12 +2,12 @@
 use Rattle.std.specs.Prelude.{◌≡◌, ◌==◌, ℕ, ◌<◌, Bool, false, List, length, Option, Some, None, map, if◌then◌else◌, slice_index_or}
 use Rattle.std.specs.List.{list_any}
 use Rattle.sector.specs.declared.pair.Pair.{Pair}
-use Rattle.model.specs.Picture.{place_of}
-use Rattle.pending.specs.Kinds.{kind_of}
-use Rattle.pending.specs.Routes.{write_route_of, again_route_of, placed_route_of}
-use Rattle.pending.specs.declared.flights.Flight.{Flight}
-use Rattle.pending.specs.declared.flights.Route.{Route}
-use Rattle.pending.specs.declared.copies.Mark.{Mark}
+use Rattle.store_bytes.specs.Picture.{place_of}
+use Rattle.in_flight.specs.Kinds.{kind_of}
+use Rattle.in_flight.specs.Routes.{write_route_of, again_route_of, placed_route_of}
+use Rattle.in_flight.specs.declared.flights.Flight.{Flight}
+use Rattle.in_flight.specs.declared.flights.Route.{Route}
+use Rattle.in_flight.specs.declared.copies.Mark.{Mark}
 use Rattle.volume_laws.specs.Books.{SnapBooks, MergeBooks, Books, group_of}
 use Rattle.volume_laws.specs.Published.{chunk_of, is_published}
 

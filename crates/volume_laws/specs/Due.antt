@@ -6,17 +6,17 @@ use Rattle.std.specs.Prelude.{◌==◌, ◌&&◌, ◌||◌, not, ℕ, ◌+◌, B
 use Rattle.std.specs.List.{list_any}
 use Rattle.plain.specs.declared.event.Event.{Event}
 use Rattle.plain.specs.declared.event.Event.TheVariants.{Issue, CopyRead, CopyWrite, ZeroNext, WriteArea, Publish, WriteInvalid, FlushStore, MergeGroup, MergeAreaRead, MergeRead, MergeWrite, MergeFlush, MergeCommit, MergeRelease}
-use Rattle.pending.specs.declared.copies.Stage.{Stage}
-use Rattle.pending.specs.declared.copies.Stage.TheVariants.{Waiting, Read, Written, Flushed}
-use Rattle.pending.specs.declared.copies.ChunkCopy.{ChunkCopy}
-use Rattle.pending.specs.declared.copies.Mark.{Mark}
-use Rattle.pending.specs.Kinds.{kind_of}
-use Rattle.pending.specs.declared.flights.Flight.{Flight}
-use Rattle.pending.specs.declared.flights.Kind.{Kind}
-use Rattle.pending.specs.declared.flights.Kind.TheVariants.{OriginRead, OriginWrite, OriginFlush, SnapRead, SnapWrite, SnapFlush}
-use Rattle.pending.specs.declared.flights.Route.{Route}
-use Rattle.pending.specs.declared.flights.Route.TheVariants.{Held, Origin, Store, Whole, Refused}
-use Rattle.pending.specs.Due.{first_by, least, is_copy_at, number_of_copy, number_of_mark, number_of_flight, front_ready, front_unflushed, is_publishable, is_issuable}
+use Rattle.in_flight.specs.declared.copies.Stage.{Stage}
+use Rattle.in_flight.specs.declared.copies.Stage.TheVariants.{Waiting, Read, Written, Flushed}
+use Rattle.in_flight.specs.declared.copies.ChunkCopy.{ChunkCopy}
+use Rattle.in_flight.specs.declared.copies.Mark.{Mark}
+use Rattle.in_flight.specs.Kinds.{kind_of}
+use Rattle.in_flight.specs.declared.flights.Flight.{Flight}
+use Rattle.in_flight.specs.declared.flights.Kind.{Kind}
+use Rattle.in_flight.specs.declared.flights.Kind.TheVariants.{OriginRead, OriginWrite, OriginFlush, SnapRead, SnapWrite, SnapFlush}
+use Rattle.in_flight.specs.declared.flights.Route.{Route}
+use Rattle.in_flight.specs.declared.flights.Route.TheVariants.{Held, Origin, Store, Whole, Refused}
+use Rattle.in_flight.specs.Due.{first_by, least, is_copy_at, number_of_copy, number_of_mark, number_of_flight, front_ready, front_unflushed, is_publishable, is_issuable}
 use Rattle.volume_laws.specs.Books.{SnapBooks}
 
 -- A snapshot. needs: the pairs that are committed next fill their area, and the next area is not zeroed yet. waits: they fill

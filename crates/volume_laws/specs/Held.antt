@@ -3,18 +3,18 @@ use Rattle.std.specs.Prelude.{◌≡◌, ◌≢◌, ℕ, ◌+◌, ◌*◌, ◌/�
 use Rattle.std.specs.List.{All}
 use Rattle.sector.specs.Bytes.{sectors_at}
 use Rattle.sector.specs.declared.pair.Pair.{Pair}
-use Rattle.model.specs.Pairs.{pairs_of, IsApart, IsInside}
-use Rattle.model.specs.Picture.{place_of, picture_at, IsCopied}
+use Rattle.store_bytes.specs.Pairs.{pairs_of, IsApart, IsInside}
+use Rattle.store_bytes.specs.Picture.{place_of, picture_at, IsCopied}
 use Rattle.plain.specs.declared.request.Op.TheVariants.{Write, Flush}
-use Rattle.pending.specs.Copies.{count_of, pair_of}
-use Rattle.pending.specs.Kinds.{kind_of, room_of}
-use Rattle.pending.specs.declared.copies.ChunkCopy.{ChunkCopy}
-use Rattle.pending.specs.declared.copies.Mark.{Mark}
-use Rattle.pending.specs.declared.copies.Stage.{Stage}
-use Rattle.pending.specs.declared.copies.Stage.TheVariants.{Waiting, Read, Written, Flushed}
-use Rattle.pending.specs.declared.flights.Flight.{Flight}
-use Rattle.pending.specs.declared.flights.Kind.TheVariants.{OriginWrite, SnapRead, SnapWrite, SnapFlush}
-use Rattle.pending.specs.declared.flights.Route.TheVariants.{Origin, Store, Whole, Refused}
+use Rattle.in_flight.specs.Copies.{count_of, pair_of}
+use Rattle.in_flight.specs.Kinds.{kind_of, room_of}
+use Rattle.in_flight.specs.declared.copies.ChunkCopy.{ChunkCopy}
+use Rattle.in_flight.specs.declared.copies.Mark.{Mark}
+use Rattle.in_flight.specs.declared.copies.Stage.{Stage}
+use Rattle.in_flight.specs.declared.copies.Stage.TheVariants.{Waiting, Read, Written, Flushed}
+use Rattle.in_flight.specs.declared.flights.Flight.{Flight}
+use Rattle.in_flight.specs.declared.flights.Kind.TheVariants.{OriginWrite, SnapRead, SnapWrite, SnapFlush}
+use Rattle.in_flight.specs.declared.flights.Route.TheVariants.{Origin, Store, Whole, Refused}
 use Rattle.volume_laws.specs.Books.{SnapBooks, given}
 use Rattle.volume_laws.specs.Published.{chunk_of, IsPiece, IsPublished, IsUnpublished}
 

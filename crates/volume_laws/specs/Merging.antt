@@ -3,13 +3,13 @@ use Rattle.std.specs.Prelude.{◌≡◌, ◌≢◌, ◌⊎◌, ℕ, ◌*◌, tru
 use Rattle.std.specs.List.{All}
 use Rattle.sector.specs.Bytes.{sectors_at}
 use Rattle.sector.specs.declared.pair.Pair.{Pair}
-use Rattle.model.specs.Pairs.{pairs_of}
-use Rattle.model.specs.Picture.{place_of, IsCopied}
-use Rattle.pending.specs.Copies.{count_of}
-use Rattle.pending.specs.Kinds.{kind_of}
-use Rattle.pending.specs.declared.flights.Flight.{Flight}
-use Rattle.pending.specs.declared.flights.Kind.TheVariants.{OriginRead, OriginWrite, OriginFlush, SnapRead, SnapWrite, SnapFlush}
-use Rattle.pending.specs.declared.flights.Route.TheVariants.{Origin, Store, Whole}
+use Rattle.store_bytes.specs.Pairs.{pairs_of}
+use Rattle.store_bytes.specs.Picture.{place_of, IsCopied}
+use Rattle.in_flight.specs.Copies.{count_of}
+use Rattle.in_flight.specs.Kinds.{kind_of}
+use Rattle.in_flight.specs.declared.flights.Flight.{Flight}
+use Rattle.in_flight.specs.declared.flights.Kind.TheVariants.{OriginRead, OriginWrite, OriginFlush, SnapRead, SnapWrite, SnapFlush}
+use Rattle.in_flight.specs.declared.flights.Route.TheVariants.{Origin, Store, Whole}
 use Rattle.volume_laws.specs.Books.{MergeBooks, listed, taken}
 use Rattle.volume_laws.specs.Published.{chunk_of, IsPiece}
 use Rattle.volume_laws.specs.Held.{StoreHolds}

@@ -6,11 +6,11 @@ use Rattle.std.specs.List.{All, list_any, list_all}
 use Rattle.std.specs.Option.{is_some, unwrap_or}
 use Rattle.sector.specs.declared.pair.Pair.{Pair}
 use Rattle.sector.specs.declared.range.Range.{Range}
-use Rattle.model.specs.Picture.{place_of}
+use Rattle.store_bytes.specs.Picture.{place_of}
 use Rattle.chunk.specs.Pieces.{chunks_over}
-use Rattle.pending.specs.Due.{first_by}
-use Rattle.pending.specs.declared.copies.Mark.{Mark}
-use Rattle.pending.specs.declared.flights.Flight.{Flight}
+use Rattle.in_flight.specs.Due.{first_by}
+use Rattle.in_flight.specs.declared.copies.Mark.{Mark}
+use Rattle.in_flight.specs.declared.flights.Flight.{Flight}
 use Rattle.volume_laws.specs.Books.{SnapBooks}
 
 -- the chunk of a request, in chunks of so many sectors

@@ -3,19 +3,19 @@
 use Rattle.std.specs.Prelude.{◌≡◌, ◌≢◌, ◌==◌, ◌⊎◌, ℕ, ◌+◌, ◌*◌, ◌/◌, ◌%◌, ◌<◌, ◌≤◌, true, false, List, [], ◌∷◌, ◌++◌, Option, Some, None, length, map, take, drop, slice_index, slice_index_or, slice_set}
 use Rattle.std.specs.List.{All, remove, position}
 use Rattle.sector.specs.Bytes.{sectors_at, with_sectors}
-use Rattle.model.specs.Places.{area_place, ChangesOnly}
-use Rattle.model.specs.Pairs.{pairs_of}
-use Rattle.pending.specs.Copies.{count_of}
-use Rattle.pending.specs.Flushed.{flushed_copy, safe_mark}
-use Rattle.pending.specs.Routes.{refused_of}
+use Rattle.store_bytes.specs.Places.{area_place, ChangesOnly}
+use Rattle.store_bytes.specs.Pairs.{pairs_of}
+use Rattle.in_flight.specs.Copies.{count_of}
+use Rattle.in_flight.specs.Flushed.{flushed_copy, safe_mark}
+use Rattle.in_flight.specs.Routes.{refused_of}
 use Rattle.plain.specs.declared.request.Op.TheVariants.{Write}
 use Rattle.plain.specs.declared.request.Overflowing.TheVariants.{May, Did}
 use Rattle.plain.specs.Plain.{did_overflow}
-use Rattle.pending.specs.declared.copies.ChunkCopy.{ChunkCopy}
-use Rattle.pending.specs.declared.copies.Mark.{Mark}
-use Rattle.pending.specs.declared.copies.Stage.TheVariants.{Waiting, Read, Written, Flushed}
-use Rattle.pending.specs.declared.flights.Flight.{Flight}
-use Rattle.pending.specs.declared.flights.Route.TheVariants.{Origin}
+use Rattle.in_flight.specs.declared.copies.ChunkCopy.{ChunkCopy}
+use Rattle.in_flight.specs.declared.copies.Mark.{Mark}
+use Rattle.in_flight.specs.declared.copies.Stage.TheVariants.{Waiting, Read, Written, Flushed}
+use Rattle.in_flight.specs.declared.flights.Flight.{Flight}
+use Rattle.in_flight.specs.declared.flights.Route.TheVariants.{Origin}
 use Rattle.volume_laws.specs.Books.{SnapBooks, MergeBooks, Books, listed, taken, number_of}
 use Rattle.volume_laws.specs.Held.{StoreHolds, RouteHolds, RefusedHolds, UntriedHolds}
 use Rattle.volume_laws.specs.Merging.{MergeRouteHolds}

@@ -1,11 +1,11 @@
 -- Why a request waits, and when a volume is quiet: a volume where no event is due is.
 use Rattle.std.specs.Prelude.{◌≡◌, ◌≢◌, ◌⊎◌, ℕ, Bool, true, false, List, [], Option, Some, None, Any, AllPairs}
 use Rattle.std.specs.List.{All}
-use Rattle.model.specs.Picture.{place_of}
-use Rattle.pending.specs.Kinds.{kind_of}
-use Rattle.pending.specs.declared.flights.Flight.{Flight}
-use Rattle.pending.specs.declared.flights.Kind.TheVariants.{OriginRead, OriginWrite, OriginFlush, SnapRead, SnapWrite, SnapFlush}
-use Rattle.pending.specs.declared.flights.Route.TheVariants.{Held, Refused}
+use Rattle.store_bytes.specs.Picture.{place_of}
+use Rattle.in_flight.specs.Kinds.{kind_of}
+use Rattle.in_flight.specs.declared.flights.Flight.{Flight}
+use Rattle.in_flight.specs.declared.flights.Kind.TheVariants.{OriginRead, OriginWrite, OriginFlush, SnapRead, SnapWrite, SnapFlush}
+use Rattle.in_flight.specs.declared.flights.Route.TheVariants.{Held, Refused}
 use Rattle.volume_laws.specs.Books.{SnapBooks, MergeBooks, Books, group_of}
 use Rattle.volume_laws.specs.Published.{chunk_of, is_clear}
 use Rattle.volume_laws.specs.Again.{has_chunk}

@@ -1,12 +1,12 @@
 -- A whole volume: what holds of it, and the plain machine that its devices' bytes stand for.
 use Rattle.std.specs.Prelude.{◌≡◌, ◌≢◌, ℕ, ◌*◌, true, List, Option, Some, None, length, map, AllPairs, if◌then◌else◌}
 use Rattle.std.specs.List.{All}
-use Rattle.model.specs.Picture.{picture}
+use Rattle.store_bytes.specs.Picture.{picture}
 use Rattle.plain.specs.Plain.{Plain, Entry, Live, Invalid}
-use Rattle.pending.specs.Kinds.{kind_of, in_flight}
-use Rattle.pending.specs.declared.flights.Flight.{Flight}
-use Rattle.pending.specs.declared.flights.Kind.TheVariants.{OriginRead, OriginWrite, OriginFlush}
-use Rattle.pending.specs.declared.flights.Route.TheVariants.{Origin, Store}
+use Rattle.in_flight.specs.Kinds.{kind_of, in_flight}
+use Rattle.in_flight.specs.declared.flights.Flight.{Flight}
+use Rattle.in_flight.specs.declared.flights.Kind.TheVariants.{OriginRead, OriginWrite, OriginFlush}
+use Rattle.in_flight.specs.declared.flights.Route.TheVariants.{Origin, Store}
 use Rattle.volume_laws.specs.Books.{SnapBooks, MergeBooks, Books, number_of}
 use Rattle.volume_laws.specs.Held.{SnapHolds, RequestHolds}
 use Rattle.volume_laws.specs.Merging.{MergeHolds}

@@ -1,7 +1,7 @@
 use Rattle.std.proofs.Common.{◌≡◌, ℕ, ◌+◌, ◌-◌, ◌*◌, ◌<◌, ◌≤◌, ◌∙◌, List, length, Option, Some, None, arith, refl, sym, ap, subst}
 use Rattle.std.specs.Prelude.{min}
-use Rattle.cow_shown.specs.Runs.{IsRun}
-use Rattle.cow_shown.specs.Shown.{shown}
+use Rattle.cow_image.specs.Runs.{IsRun}
+use Rattle.cow_image.specs.Shown.{shown}
 use Rattle.cow_diff.specs.Differences.{AreDifferences}
 use Rattle.cow_diff.proofs.Adding.{more_same}
 use Rattle.cow_diff.proofs.Reading.{same_run, end_at, low_at, no_place, run_less}

@@ -1,6 +1,6 @@
 use Rattle.std.proofs.Common.{◌≡◌, ℕ, ◌+◌, ◌-◌, ◌*◌, ◌<◌, ◌≤◌, ◌∙◌, List, length, take, drop, Some, arith, refl, sym, ap, subst, length-append, length-drop}
 use Rattle.std.proofs.lemmas.List.{length-take-le}
-use Rattle.cow_shown.specs.Shown.{shown}
+use Rattle.cow_image.specs.Shown.{shown}
 use Rattle.cow_diff.specs.Differences.{AreDifferences}
 use Rattle.cow_diff.proofs.Reading.{shown_at}
 use Rattle.cow_diff.proofs.differing.compare_run.Goals as goal

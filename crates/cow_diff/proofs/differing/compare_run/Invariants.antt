@@ -1,5 +1,5 @@
 use Rattle.std.proofs.Common.{◌≡◌, ℕ, ◌-◌, ◌*◌, ◌≤◌, List, length, Some}
-use Rattle.cow_shown.specs.Shown.{shown}
+use Rattle.cow_image.specs.Shown.{shown}
 use Rattle.cow_diff.specs.Differences.{AreDifferences}
 use Rattle.cow_diff.proofs.differing.compare_run.Given as goal
 

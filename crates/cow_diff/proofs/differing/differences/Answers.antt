@@ -1,7 +1,7 @@
 use Rattle.std.proofs.Common.{◌≡◌, ℕ, ◌*◌, List, sym, subst, ap, ◌∙◌}
-use Rattle.model.specs.Picture.{picture}
-use Rattle.cow_shown.specs.Shown.{shown}
-use Rattle.cow_shown.proofs.Exports.{picture_is}
+use Rattle.store_bytes.specs.Picture.{picture}
+use Rattle.cow_image.specs.Shown.{shown}
+use Rattle.cow_image.proofs.Exports.{picture_is}
 use Rattle.sector.specs.declared.pair.Pair.{Pair}
 use Rattle.cow_diff.specs.Differences.{AreDifferences}
 use Rattle.cow_diff.proofs.Adding.{none_yet}

@@ -1,7 +1,7 @@
 use Rattle.std.proofs.Common.{◌≡◌, List, ℕ, ◌*◌, subst}
 use Rattle.std.specs.Io.KnownBytes.{Appends}
 use Rattle.sector.specs.declared.pair.Pair.{Pair}
-use Rattle.cow_shown.specs.Shown.{shown, IsFrontOf}
+use Rattle.cow_image.specs.Shown.{shown, IsFrontOf}
 use Rattle.cow_kept.specs.Kept.{sifted}
 use Rattle.cow_kept.proofs.Orders.{kept_differ, shown_moved}
 use Rattle.cow_kept.proofs.saving.export_kept.Goals as goal

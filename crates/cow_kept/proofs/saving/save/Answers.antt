@@ -1,7 +1,7 @@
 use Rattle.std.proofs.Common.{List, sym, subst}
 use Rattle.sector.specs.declared.pair.Pair.{Pair}
-use Rattle.cow_map.specs.Sorted.{old_of}
-use Rattle.cow_map.proofs.Sorts.{Differ, twice_not_apart}
+use Rattle.cow_image.specs.Sorted.{old_of}
+use Rattle.cow_image.proofs.Sorts.{Differ, twice_not_apart}
 use Rattle.cow_kept.proofs.Orders.{kept_differ}
 use Rattle.cow_kept.proofs.saving.save.Goals as goal
 

@@ -1,8 +1,8 @@
 use Rattle.std.proofs.Common.{◌≡◌, ℕ, take}
 use Rattle.std.specs.HashSet as bag
 use Rattle.std.specs.Bool.{nat_eq}
-use Rattle.cow_map.specs.Judged.{stands_in}
-use Rattle.cow_map.specs.Sorted.{old_of, new_of}
+use Rattle.cow_image.specs.Judged.{stands_in}
+use Rattle.cow_image.specs.Sorted.{old_of, new_of}
 use Rattle.cow_kept.specs.Kept.{sifted}
 use Rattle.cow_kept.proofs.sifting.sift.Given as goal
 

@@ -1,6 +1,6 @@
 use Rattle.std.proofs.Common.{◌≡◌, ◌∙◌, ap, sym}
-use Rattle.cow_map.specs.Judged.{stands_in}
-use Rattle.cow_map.specs.Sorted.{old_of, new_of}
+use Rattle.cow_image.specs.Judged.{stands_in}
+use Rattle.cow_image.specs.Sorted.{old_of, new_of}
 use Rattle.cow_kept.proofs.Ends.{on_ok_two}
 use Rattle.cow_kept.proofs.Sifts.{stands_push}
 use Rattle.cow_kept.proofs.sifting.take_slot.Goals as goal

@@ -1,6 +1,6 @@
 use Rattle.std.proofs.Common.{◌≡◌, ◌∙◌, ◌+◌, ◌*◌, ◌≤◌, ap, sym, arith, ℕ}
-use Rattle.model.specs.Places.{area_place, slot}
-use Rattle.cow_map.proofs.Loads.{area_far}
+use Rattle.store_bytes.specs.Places.{area_place, slot}
+use Rattle.cow_image.proofs.Loads.{area_far}
 use Rattle.cow_kept.specs.Used.{used_below}
 use Rattle.cow_kept.proofs.UsedSlots.{inside_more, used_area}
 use Rattle.cow_kept.proofs.using.read_used.Goals as goal

@@ -1,6 +1,6 @@
 use Rattle.std.proofs.Common.{◌≡◌, ℕ, ◌+◌, ◌*◌, ◌<◌}
 use Rattle.sector.specs.declared.pair.Pair.{Pair}
-use Rattle.model.specs.Slots.{pair_in}
+use Rattle.store_bytes.specs.Slots.{pair_in}
 use Rattle.cow_kept.specs.Used.{used_below}
 use Rattle.cow_kept.proofs.using.take_used.Given as goal
 

@@ -1,7 +1,7 @@
 use Rattle.std.proofs.Common.{◌≡◌, ℕ, ◌+◌, ◌*◌, List, length, arith, refl}
 use Rattle.std.proofs.lemmas.Result.{on_ok_weaker}
-use Rattle.cow_map.specs.declared.map.CowMap.{CowMap}
-use Rattle.cow_map.specs.Maps.{IsMapOf}
+use Rattle.cow_image.specs.declared.map.CowMap.{CowMap}
+use Rattle.cow_image.specs.Maps.{IsMapOf}
 use Rattle.cow_merge.specs.Holding.{Begin, IsBegin, Settles, Rolls}
 use Rattle.cow_merge.proofs.Steps.{stops_all, passes_none}
 use Rattle.cow_merge.proofs.Merged.{rolls_first, merged}

@@ -1,5 +1,5 @@
 use Rattle.std.proofs.Common.{ℕ, ◌+◌, ◌*◌, ◌<◌, List, length, refl, subst}
-use Rattle.cow_shown.proofs.Exports.{fresh_is}
+use Rattle.cow_image.proofs.Exports.{fresh_is}
 use Rattle.cow_nbd.specs.Shows.{IsServedBy, FailsFresh}
 use Rattle.cow_nbd.proofs.Arrays.{served_fresh}
 use Rattle.cow_nbd.proofs.serving.serve_fresh.Goals as goal

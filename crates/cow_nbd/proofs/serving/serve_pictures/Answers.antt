@@ -1,5 +1,5 @@
 use Rattle.std.proofs.Common.{◌*◌, refl}
-use Rattle.cow_shown.specs.Shown.{shown}
+use Rattle.cow_image.specs.Shown.{shown}
 use Rattle.cow_nbd.specs.Shows.{arrays}
 use Rattle.cow_nbd.proofs.Arrays.{known_both}
 use Rattle.cow_nbd.proofs.serving.serve_pictures.Goals as goal

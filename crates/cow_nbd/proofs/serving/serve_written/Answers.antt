@@ -1,5 +1,5 @@
 use Rattle.std.proofs.Common.{ℕ, ◌*◌, List, subst}
-use Rattle.cow_shown.proofs.Exports.{picture_is}
+use Rattle.cow_image.proofs.Exports.{picture_is}
 use Rattle.cow_nbd.specs.Shows.{IsServedBy, FailsAt}
 use Rattle.cow_nbd.proofs.serving.serve_written.Goals as goal
 

@@ -1,6 +1,6 @@
 use Rattle.std.proofs.Common.{◌≡◌, ℕ, List, sym, subst}
-use Rattle.cow_map.specs.declared.found.Told.{Told}
-use Rattle.cow_map.specs.Maps.{IsToldOf, IsMapOf}
+use Rattle.cow_image.specs.declared.found.Told.{Told}
+use Rattle.cow_image.specs.Maps.{IsToldOf, IsMapOf}
 use Rattle.cow_nbd.specs.Shows.{IsServedBy}
 use Rattle.lochknife.specs.Arrays.{array_of, FailsTold}
 use Rattle.lochknife.proofs.serving.serve_told.Goals as goal

@@ -2,7 +2,7 @@ use Rattle.std.proofs.Common.{◌≡◌, sym, ap, subst, arith}
 use Rattle.std.specs.Prelude.{Option, Some, None, IfSome, IfNone}
 use Rattle.layers.specs.Stack.{below_of}
 use Rattle.settled.specs.Devices.{Device}
-use Rattle.named.specs.Stacks.{device_of}
+use Rattle.command_rules.specs.Stacks.{device_of}
 use Rattle.named_stack.proofs.Below.{below_at}
 use Rattle.named_stack.proofs.lines.+layer_at.Goals as goal
 

@@ -2,8 +2,8 @@ use Rattle.std.proofs.Common.{◌≡◌, ℕ, ap, sym, ◌∙◌, refl, subst, a
 use Rattle.std.specs.Prelude.{Ok, Err}
 use Rattle.layers.specs.declared.stack.Stack.{Stack}
 use Rattle.settled.specs.Devices.{sectors_of}
-use Rattle.named.specs.Raw.{fits}
-use Rattle.named.specs.Stacks.{device_of}
+use Rattle.command_rules.specs.Raw.{fits}
+use Rattle.command_rules.specs.Stacks.{device_of}
 use Rattle.layers.specs.Stack.{stack_size}
 use Rattle.named_stack.proofs.StackSizes.{size_of}
 use Rattle.named_volume.specs.Held.{settled_in}

@@ -1,7 +1,7 @@
 use Rattle.std.proofs.Common.{sym, ap, ◌∙◌}
 use Rattle.layers.specs.declared.stack.Stack.{Stack}
 use Rattle.settled.specs.Snaps.{Snap}
-use Rattle.resting.specs.Rested.{Attached}
+use Rattle.volume_commands.specs.Rested.{Attached}
 use Rattle.named_volume.proofs.Places.{at_place}
 use Rattle.named_volume.proofs.stored.number_at.Goals as goal
 

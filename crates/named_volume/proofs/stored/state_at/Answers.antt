@@ -3,9 +3,9 @@ use Rattle.layers.specs.declared.stack.Stack.{Stack}
 use Rattle.layers.specs.Stack.{stack_contents, stack_size}
 use Rattle.plain.specs.Plain.{did_overflow}
 use Rattle.snapshot.specs.Kept.{Kept}
-use Rattle.resting.specs.Rested.{Attached}
-use Rattle.resting.specs.Using.{IsInUse, IsUsed}
-use Rattle.named.specs.Status.{state_of}
+use Rattle.volume_commands.specs.Rested.{Attached}
+use Rattle.volume_commands.specs.Using.{IsInUse, IsUsed}
+use Rattle.command_rules.specs.Status.{state_of}
 use Rattle.named_volume.specs.Status.{state_kept}
 use Rattle.named_volume.proofs.Places.{at_place}
 use Rattle.named_volume.proofs.Statuses.{attached_there, invalid_kept, kept_there, overflow_kept, used_kept}

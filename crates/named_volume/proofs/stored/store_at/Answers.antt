@@ -1,8 +1,8 @@
 use Rattle.std.proofs.Common.{sym, ap, ◌∙◌}
 use Rattle.layers.specs.declared.stack.Stack.{Stack}
 use Rattle.settled.specs.Snaps.{Snap}
-use Rattle.resting.specs.Rested.{Attached}
-use Rattle.named.specs.Stacks.{device_of}
+use Rattle.volume_commands.specs.Rested.{Attached}
+use Rattle.command_rules.specs.Stacks.{device_of}
 use Rattle.named_volume.proofs.Places.{at_place}
 use Rattle.named_volume.proofs.stored.store_at.Goals as goal
 

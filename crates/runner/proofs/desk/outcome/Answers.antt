@@ -1,6 +1,6 @@
 use Rattle.std.proofs.Common.{refl}
 use Rattle.std.specs.Prelude.{Ok, Err}
-use Rattle.device_list.specs.Tables.{table_of}
+use Rattle.named_volume.specs.Tables.{table_of}
 use Rattle.runner.proofs.DeskLemmas.{may_ok, may_err}
 use Rattle.runner.proofs.desk.outcome.Goals as goal
 

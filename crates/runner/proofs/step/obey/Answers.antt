@@ -2,18 +2,18 @@ use Rattle.std.proofs.Common.{◌≡◌, true, Some, refl, sym, subst}
 use Rattle.std.specs.Prelude.{IfSome}
 use Rattle.reply.specs.declared.Reply.TheVariants.{Data, Done}
 use Rattle.command.specs.declared.grammar.Command.{Command}
-use Rattle.device_list.specs.Tables.{table_of}
-use Rattle.devices.specs.Ruled.{volume_for}
-use Rattle.named.specs.Naming.{AreNamed}
-use Rattle.named.specs.Sound.{is_sound}
-use Rattle.named.specs.State.{Table}
-use Rattle.named.proofs.NamedRules.{ticked_named}
-use Rattle.named.proofs.SoundRules.{ticked_sound}
-use Rattle.named.specs.Changes.{ServesIf}
-use Rattle.named.specs.Creating.{create}
-use Rattle.named.specs.Journal.{enters_journal}
-use Rattle.named.specs.Events.{is_merge_event, origin_by}
-use Rattle.named.specs.Starting.{flush_asked, read_asked, write_asked}
+use Rattle.named_volume.specs.Tables.{table_of}
+use Rattle.named_devices.specs.Ruled.{volume_for}
+use Rattle.command_rules.specs.Naming.{AreNamed}
+use Rattle.command_rules.specs.Sound.{is_sound}
+use Rattle.command_rules.specs.State.{Table}
+use Rattle.command_rules.proofs.NamedRules.{ticked_named}
+use Rattle.command_rules.proofs.SoundRules.{ticked_sound}
+use Rattle.command_rules.specs.Changes.{ServesIf}
+use Rattle.command_rules.specs.Creating.{create}
+use Rattle.command_rules.specs.Journal.{enters_journal}
+use Rattle.command_rules.specs.Events.{is_merge_event, origin_by}
+use Rattle.command_rules.specs.Starting.{flush_asked, read_asked, write_asked}
 use Rattle.runner.specs.Asking.{IsFirst, first_refusal}
 use Rattle.runner.specs.Output.{IsPartDone, told}
 use Rattle.runner.specs.Ruled.{is_ruled}

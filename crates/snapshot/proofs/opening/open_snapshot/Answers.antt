@@ -4,13 +4,13 @@ use Rattle.std.proofs.lemmas.List.{append-nil}
 use Rattle.sector.specs.Bytes.{sector_at}
 use Rattle.sector.specs.declared.pair.Pair.{Pair}
 use Rattle.cow_header.specs.HeaderText.{found_in}
-use Rattle.model.specs.NextPlace.{IsNextPlace}
+use Rattle.store_bytes.specs.NextPlace.{IsNextPlace}
 use Rattle.exception_arena.specs.Pending.{pairs}
 use Rattle.device.specs.Layers.{is_loud}
-use Rattle.model.specs.Pairs.{pairs_of}
-use Rattle.model.specs.Places.{slot}
+use Rattle.store_bytes.specs.Pairs.{pairs_of}
+use Rattle.store_bytes.specs.Places.{slot}
 use Rattle.loss_laws.proofs.Slots.{rest_of}
-use Rattle.model.specs.Picture.{picture}
+use Rattle.store_bytes.specs.Picture.{picture}
 use Rattle.store.specs.declared.state.Left.TheVariants.{Nothing}
 use Rattle.store.specs.declared.state.State.{State}
 use Rattle.store.specs.Held.{committed, pending}

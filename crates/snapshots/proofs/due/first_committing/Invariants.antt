@@ -1,6 +1,6 @@
 -- The snapshots so far do not pass.
 use Rattle.std.proofs.Common.{◌≡◌, map, drop}
-use Rattle.pending.specs.Due.{first_by}
+use Rattle.in_flight.specs.Due.{first_by}
 use Rattle.volume_laws.specs.Due.{snap_number, can_commit}
 use Rattle.snapshot.specs.Kept.{due_of_kept}
 use Rattle.snapshots.proofs.due.first_committing.Given as goal

@@ -1,6 +1,6 @@
 -- One snapshot more.
 use Rattle.std.proofs.Common.{◌∙◌, sym, ap, map, drop, ◌+◌}
-use Rattle.pending.specs.Due.{first_by, is_copy_at, least, number_of_copy}
+use Rattle.in_flight.specs.Due.{first_by, is_copy_at, least, number_of_copy}
 use Rattle.volume_laws.specs.Due.{least_of, copy_of}
 use Rattle.snapshot.specs.Kept.{due_of_kept}
 use Rattle.snapshots.proofs.Firsts.{least_more}

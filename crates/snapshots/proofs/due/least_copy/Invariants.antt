@@ -1,6 +1,6 @@
 -- The least of the snapshots so far.
 use Rattle.std.proofs.Common.{◌≡◌, map, drop}
-use Rattle.pending.specs.Due.{least}
+use Rattle.in_flight.specs.Due.{least}
 use Rattle.volume_laws.specs.Due.{least_of, copy_of}
 use Rattle.snapshot.specs.Kept.{due_of_kept}
 use Rattle.snapshots.proofs.due.least_copy.Given as goal

@@ -1,7 +1,7 @@
 -- One snapshot more.
 use Rattle.std.proofs.Common.{◌∙◌, sym, ap, map, drop, ◌+◌}
 use Rattle.chunk.proofs.Limits.{is_chunk-some}
-use Rattle.pending.specs.Due.{first_by, is_publishable, least, number_of_mark}
+use Rattle.in_flight.specs.Due.{first_by, is_publishable, least, number_of_mark}
 use Rattle.volume_laws.specs.Due.{least_of, publishable_of}
 use Rattle.snapshot.specs.Kept.{due_of_kept}
 use Rattle.snapshots.proofs.Firsts.{least_more}

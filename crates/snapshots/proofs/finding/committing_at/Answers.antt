@@ -1,7 +1,7 @@
 -- One snapshot more does not pass.
 use Rattle.std.proofs.Common.{◌∙◌, ◌≡◌, ap, sym, false}
 use Rattle.std.specs.Prelude.{◌==◌, ◌&&◌, not}
-use Rattle.pending.specs.Due.{front_ready}
+use Rattle.in_flight.specs.Due.{front_ready}
 use Rattle.snapshot.specs.Kept.{waits_area}
 use Rattle.snapshots.specs.Finding.{is_committing}
 use Rattle.snapshots.proofs.Finds.{any_fails, number_fails, second_fails}

@@ -1,8 +1,8 @@
 -- One snapshot more has none.
 use Rattle.std.proofs.Common.{sym, ◌∙◌, ap, nat_eq}
 use Rattle.std.specs.Prelude.{◌&&◌}
-use Rattle.pending.specs.Due.{is_publishable}
-use Rattle.pending.specs.declared.copies.Mark.{Mark}
+use Rattle.in_flight.specs.Due.{is_publishable}
+use Rattle.in_flight.specs.declared.copies.Mark.{Mark}
 use Rattle.std.specs.List.{position}
 use Rattle.snapshots.specs.Finding.{has_mark_at, is_mark_of}
 use Rattle.snapshots.proofs.Finds.{position_none, any_fails}

@@ -1,7 +1,7 @@
 -- The chunks before the present one are published.
 use Rattle.std.proofs.Common.{◌≡◌}
 use Rattle.std.specs.Prelude.{not}
-use Rattle.pending.specs.Due.{first_by}
+use Rattle.in_flight.specs.Due.{first_by}
 use Rattle.chunk.specs.Pieces.{chunks_over}
 use Rattle.volume_laws.specs.Published.{is_published}
 use Rattle.snapshots.proofs.Unpublished.{first_until}

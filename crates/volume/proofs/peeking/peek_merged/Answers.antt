@@ -1,7 +1,7 @@
 -- One piece after the other has its place in the buffer.
 use Rattle.std.proofs.Common.{◌≡◌, ◌*◌, length, arith}
 use Rattle.chunk.specs.Pieces.{span_of}
-use Rattle.model.proofs.Pictures.{length-picture}
+use Rattle.store_bytes.proofs.Pictures.{length-picture}
 use Rattle.chunk.proofs.Runs.{first_piece, stands_first, stands_next, stands_last}
 use Rattle.settled.proofs.PictureSectors.{read_next, read_all}
 use Rattle.volume.proofs.peeking.peek_merged.Goals as goal

@@ -1,8 +1,8 @@
 -- A piece of a chunk with a copy is the store's, every other the origin's.
 use Rattle.std.proofs.Common.{◌≡◌, ◌+◌, ◌*◌, ◌/◌, ◌%◌, ◌<◌, Some, None, ap, ◌∙◌, sym, arith}
 use Rattle.sector.specs.Bytes.{sectors_at}
-use Rattle.model.specs.Pairs.{pairs_of}
-use Rattle.model.specs.Picture.{place_of}
+use Rattle.store_bytes.specs.Pairs.{pairs_of}
+use Rattle.store_bytes.specs.Picture.{place_of}
 use Rattle.settled.proofs.PictureSectors.{shown_plain, shown_copied, listed_place, one_of}
 use Rattle.volume.proofs.Peeked.{place_low, place_high}
 use Rattle.volume.proofs.peeking.peek_piece.Goals as goal

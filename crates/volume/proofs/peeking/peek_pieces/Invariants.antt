@@ -1,7 +1,7 @@
 -- The bytes so far are those of the picture, where the store's bytes say the pairs.
 use Rattle.std.proofs.Common.{◌≡◌, ◌+◌, ◌*◌, ◌<◌, get_or, ℕ}
-use Rattle.model.specs.Pairs.{pairs_of}
-use Rattle.model.specs.Picture.{picture}
+use Rattle.store_bytes.specs.Pairs.{pairs_of}
+use Rattle.store_bytes.specs.Picture.{picture}
 use Rattle.chunk.proofs.Runs.{StandsAt}
 use Rattle.volume.proofs.peeking.peek_pieces.Given as goal
 

@@ -1,4 +1,4 @@
-use Rattle.model.proofs.NextPlaces.{next-loaded}
+use Rattle.store_bytes.proofs.NextPlaces.{next-loaded}
 use Rattle.chunk_alloc.proofs.alloc.Alloc.after_load.Goals as goal
 
 pub returns-clause-least : goal.returns-clause-least

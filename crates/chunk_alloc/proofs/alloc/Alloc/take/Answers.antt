@@ -1,5 +1,5 @@
 use Rattle.std.proofs.Common.{arith, ◌+◌, ◌*◌, ◌≤◌}
-use Rattle.model.proofs.NextPlaces.{place_small, stepped_near, next-taken}
+use Rattle.store_bytes.proofs.NextPlaces.{place_small, stepped_near, next-taken}
 use Rattle.chunk_alloc.proofs.alloc.Alloc.take.Goals as goal
 
 pub invariant_of-self-clause-near : goal.invariant_of-self-clause-near

@@ -11,7 +11,7 @@ use Rattle.snapshot.specs.Opening.{shown_array}
 use Rattle.volume.specs.Volumed.{Volumed, is_loud_in_all}
 use Rattle.journal.specs.Books.{AuditShape}
 use Rattle.journal.proofs.Mays.{kept_same}
-use Rattle.pending.specs.Kinds.{in_flight}
+use Rattle.in_flight.specs.Kinds.{in_flight}
 use Rattle.journal.specs.declared.entry.Entry.TheVariants.{Attached}
 use Rattle.journal.proofs.Bounds.{entry_bounds, long_kept}
 use Rattle.journal.proofs.Fresh.{fresh_taken}

@@ -2,7 +2,7 @@ use Rattle.std.proofs.Common.{true, sym, ap, ◌∙◌, arith, length, map}
 use Rattle.std.proofs.lemmas.Bool.{ltb-false}
 use Rattle.journal.proofs.Mays.{kept_same}
 use Rattle.volume.proofs.Ran.{unbegun_same}
-use Rattle.pending.specs.Kinds.{in_flight}
+use Rattle.in_flight.specs.Kinds.{in_flight}
 use Rattle.plain.specs.Plain.{Plain}
 use Rattle.volume.specs.Volumed.{Volumed}
 use Rattle.journal.specs.declared.entry.Entry.TheVariants.{Begun}

@@ -1,7 +1,7 @@
 use Rattle.std.proofs.Common.{sym, ap, ◌∙◌, arith, map}
 use Rattle.std.proofs.lemmas.Bool.{ltb-false}
 use Rattle.journal.proofs.Mays.{kept_same}
-use Rattle.pending.specs.Kinds.{in_flight}
+use Rattle.in_flight.specs.Kinds.{in_flight}
 use Rattle.volume.specs.Volumed.{Volumed}
 use Rattle.journal.specs.declared.entry.Entry.TheVariants.{Detached}
 use Rattle.journal.proofs.Bounds.{entry_bounds, long_kept}

@@ -1,7 +1,7 @@
 use Rattle.std.proofs.Common.{◌≡◌, ◌+◌, ◌≤◌, ◌∙◌, ap, arith, map, refl, rules, sym}
 use Rattle.std.specs.Prelude.{replicate}
 use Rattle.volume.specs.Volumed.{plain_of}
-use Rattle.pending.specs.Kinds.{in_flight}
+use Rattle.in_flight.specs.Kinds.{in_flight}
 use Rattle.journal.specs.Noted.{kept_count}
 use Rattle.journal.specs.Seats.{seated}
 use Rattle.journal.proofs.Beginning.{lives_shown, mays_shown}

@@ -1,7 +1,7 @@
 use Rattle.std.proofs.Common.{length, refl, sym, ap, ◌∙◌, arith, map}
 use Rattle.std.proofs.lemmas.Bool.{MatchBool-at_false, MatchBool-at_true, ltb-false}
 use Rattle.plain.specs.Kept.{kept}
-use Rattle.pending.specs.Kinds.{room_of}
+use Rattle.in_flight.specs.Kinds.{room_of}
 use Rattle.volume.specs.Volumed.{plain_of}
 use Rattle.journal.specs.Books.{AuditShape}
 use Rattle.journal.proofs.Mays.{kept_same}

@@ -3,7 +3,7 @@ use Rattle.std.specs.Prelude.{Some}
 use Rattle.sector.specs.Bytes.{sectors_at, with_part}
 use Rattle.sector.specs.declared.pair.Pair.{Pair}
 use Rattle.sector.proofs.Sectors.{written_back}
-use Rattle.pending.specs.Copies.{count_of}
+use Rattle.in_flight.specs.Copies.{count_of}
 use Rattle.store.specs.Held.{committed}
 use Rattle.merge.specs.Due.{next_read_of}
 use Rattle.merge.specs.Lists.{changed, taken_in}

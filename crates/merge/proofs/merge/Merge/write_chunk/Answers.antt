@@ -2,7 +2,7 @@ use Rattle.std.proofs.Common.{◌≡◌, ℕ, ◌*◌, arith, refl, ap, ◌∙�
 use Rattle.std.specs.Prelude.{Some}
 use Rattle.sector.specs.Bytes.{with_sectors}
 use Rattle.sector.specs.declared.pair.Pair.{Pair}
-use Rattle.pending.specs.Copies.{count_of}
+use Rattle.in_flight.specs.Copies.{count_of}
 use Rattle.store.specs.Held.{committed}
 use Rattle.merge.specs.Due.{full_of}
 use Rattle.merge.specs.Lists.{changed, written_in}

@@ -1,5 +1,5 @@
 use Rattle.std.proofs.Common.{ap}
-use Rattle.named.specs.State.{Stacked}
+use Rattle.command_rules.specs.State.{Stacked}
 use Rattle.named_stack.proofs.StackSizes.{has_sectors, is_whole, is_small}
 use Rattle.named_stack.proofs.stack.NamedStack.sectors.Goals as goal
 

@@ -1,4 +1,4 @@
-use Rattle.named.specs.Stacks.{device_of}
+use Rattle.command_rules.specs.Stacks.{device_of}
 use Rattle.named_stack.proofs.Below.{uncovered_is}
 use Rattle.named_stack.proofs.stack.NamedStack.uncover.Goals as goal
 

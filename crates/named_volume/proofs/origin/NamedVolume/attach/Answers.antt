@@ -1,11 +1,11 @@
 use Rattle.std.proofs.Common.{◌≡◌, ◌∙◌, ◌++◌, ◌∷◌, [], ap, refl, sym, subst, true, false, inl, inr}
 use Rattle.std.specs.Prelude.{◌&&◌, Option, is_some}
 use Rattle.device.specs.Layers.{is_loud}
-use Rattle.named.specs.Stacks.{device_of}
-use Rattle.named.specs.State.{Stacked, Volume}
+use Rattle.command_rules.specs.Stacks.{device_of}
+use Rattle.command_rules.specs.State.{Stacked, Volume}
 use Rattle.layers.specs.Stack.{stack_contents, stack_size}
 use Rattle.layers.specs.declared.stack.Stack.{Stack}
-use Rattle.served.specs.Refusals.{is_starved}
+use Rattle.settled.specs.Refusals.{is_starved}
 use Rattle.merge.specs.Merging.{Merging}
 use Rattle.volume.specs.Leaving.{is_quiet_of}
 use Rattle.named_volume.specs.Held.{flying_in, merged_inside, merging_with, settled_in}

@@ -4,7 +4,7 @@ use Rattle.std.specs.List.{remove}
 use Rattle.std.proofs.lemmas.List.Edits.{length-remove}
 use Rattle.std.proofs.lemmas.Option.{slice_get_read}
 use Rattle.layers.specs.declared.stack.Stack.{Stack}
-use Rattle.served.specs.Refusals.{is_starved}
+use Rattle.settled.specs.Refusals.{is_starved}
 use Rattle.merge.specs.Merging.{Merging}
 use Rattle.named_volume.specs.Held.{merging_with}
 use Rattle.named_volume.proofs.Begins.{begun_once, begun_is, none_of, not_begun, alike_state, alike_merging, alike_flying}

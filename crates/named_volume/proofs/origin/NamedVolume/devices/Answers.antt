@@ -2,8 +2,8 @@
 use Rattle.std.proofs.Common.{length, sym, ap, ◌∙◌, arith}
 use Rattle.std.proofs.lemmas.Bool.{cond-true, cond-false}
 use Rattle.std.specs.Prelude.{is_some}
-use Rattle.named.specs.State.{Volume}
-use Rattle.named.specs.Stopping.{stores_left}
+use Rattle.command_rules.specs.State.{Volume}
+use Rattle.command_rules.specs.Stopping.{stores_left}
 use Rattle.named_volume.proofs.Stops.{left_count}
 use Rattle.named_volume.proofs.origin.NamedVolume.devices.Goals as goal
 use Rattle.named_volume.proofs.origin.NamedVolume.devices.Goals.{in-None, in-Some}

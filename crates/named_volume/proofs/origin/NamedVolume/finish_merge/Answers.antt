@@ -1,7 +1,7 @@
 use Rattle.std.proofs.Common.{◌≡◌, Some, refl, sym, ap, ◌∙◌, inl, inr}
 use Rattle.std.specs.Prelude.{Option}
 use Rattle.volume.specs.Leaving.{is_quiet_of}
-use Rattle.named.specs.State.{Names, Stacked, names_in}
+use Rattle.command_rules.specs.State.{Names, Stacked, names_in}
 use Rattle.named_volume.specs.Held.{merging_with}
 use Rattle.named_volume.proofs.Events.{behind}
 use Rattle.named_volume.proofs.Finishes.{finished_is, same_state, unfinished_is, unfinished_served}

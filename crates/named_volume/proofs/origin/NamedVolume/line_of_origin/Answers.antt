@@ -1,6 +1,6 @@
 use Rattle.std.proofs.Common.{◌≡◌, Some, sym, ap, ◌∙◌}
 use Rattle.std.specs.Prelude.{Option, is_some}
-use Rattle.named.specs.State.{Names}
+use Rattle.command_rules.specs.State.{Names}
 use Rattle.named_volume.specs.Held.{merging_with}
 use Rattle.named_volume.proofs.Merges.{names_stand}
 use Rattle.named_volume.proofs.origin.NamedVolume.line_of_origin.Goals as goal

@@ -1,8 +1,8 @@
 use Rattle.std.proofs.Common.{◌≡◌, sym, ap, ◌∙◌, refl, arith}
 use Rattle.layers.specs.declared.stack.Stack.{Stack}
 use Rattle.settled.specs.Devices.{sectors_of}
-use Rattle.named.specs.Stacks.{device_of}
-use Rattle.named.specs.Status.{merge_state}
+use Rattle.command_rules.specs.Stacks.{device_of}
+use Rattle.command_rules.specs.Status.{merge_state}
 use Rattle.named_volume.proofs.Events.{behind}
 use Rattle.named_volume.proofs.Merges.{merge_is, no_names, some_names}
 use Rattle.named_volume.specs.Status.{state_kept}

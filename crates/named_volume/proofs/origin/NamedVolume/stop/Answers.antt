@@ -2,7 +2,7 @@
 use Rattle.std.proofs.Common.{◌∷◌, sym, ap, ◌∙◌}
 use Rattle.volume.specs.Asking.{merging_number}
 use Rattle.volume.specs.Stopped.{devices_of}
-use Rattle.named.specs.State.{Volume}
+use Rattle.command_rules.specs.State.{Volume}
 use Rattle.named_volume.specs.Stopping.{earlier_than, freed_by, names_with}
 use Rattle.named_volume.proofs.Stops.{stopped_is, stopped_count, stopped_loud}
 use Rattle.named_volume.proofs.origin.NamedVolume.stop.Goals as goal

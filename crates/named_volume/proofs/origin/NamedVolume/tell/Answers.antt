@@ -1,7 +1,7 @@
 use Rattle.std.proofs.Common.{refl, sym, ◌∙◌, subst}
 use Rattle.settled.specs.Merges.{Merged}
-use Rattle.named.specs.Changes.{Steps}
-use Rattle.named.specs.Messages.{told_role}
+use Rattle.command_rules.specs.Changes.{Steps}
+use Rattle.command_rules.specs.Messages.{told_role}
 use Rattle.named_volume.specs.Held.{merged_inside}
 use Rattle.named_volume.proofs.Holds.{stays_held}
 use Rattle.named_volume.proofs.Merges.{goes_on, inside_is, still_begun}

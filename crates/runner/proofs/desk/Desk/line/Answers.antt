@@ -2,7 +2,7 @@
 use Rattle.std.proofs.Common.{rules, ◌≡◌, ◌<◌, ◌^◌, List, [], length, arith, sym, ◌∙◌}
 use Rattle.std.specs.Prelude.{OnOk, IfSome}
 use Rattle.std.specs.Io.KnownBytes.{Appends}
-use Rattle.device_list.specs.Tables.{table_of}
+use Rattle.named_volume.specs.Tables.{table_of}
 use Rattle.reply.specs.declared.Reply.{Reply}
 use Rattle.runner.specs.Asking.{line_first}
 use Rattle.runner.specs.Ended.{line_replies}

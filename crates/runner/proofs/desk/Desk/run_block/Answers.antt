@@ -2,7 +2,7 @@
 use Rattle.std.proofs.Common.{rules, ◌∷◌, ◌++◌, List, [], ap, sym, ◌∙◌}
 use Rattle.std.specs.Prelude.{OnOk}
 use Rattle.std.specs.Io.KnownBytes.{Appends}
-use Rattle.device_list.specs.Tables.{table_of}
+use Rattle.named_volume.specs.Tables.{table_of}
 use Rattle.reply.specs.declared.Reply.{Reply}
 use Rattle.reply.specs.declared.Reply.TheVariants.{Done}
 use Rattle.runner.specs.Counts.{with_reply}

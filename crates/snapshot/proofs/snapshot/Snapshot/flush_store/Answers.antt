@@ -1,7 +1,7 @@
 -- What was written counts as written, and what was committed may be published.
 use Rattle.std.proofs.Common.{◌≡◌, ◌∙◌, ap, arith, length, map, sym, true}
 use Rattle.std.proofs.lemmas.List.{length-map}
-use Rattle.pending.specs.Flushed.{flushed_copy, safe_mark}
+use Rattle.in_flight.specs.Flushed.{flushed_copy, safe_mark}
 use Rattle.store.specs.Held.{committed, pairs_pending, reserved}
 use Rattle.store.specs.declared.state.State.{State}
 use Rattle.snapshot.proofs.Copies.{copies_flushed, like_firm, like_same}

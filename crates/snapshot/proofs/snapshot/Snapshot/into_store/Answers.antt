@@ -2,7 +2,7 @@
 use Rattle.std.proofs.Common.{◌≡◌, ◌∙◌, [], ap, sym, map, length}
 use Rattle.std.proofs.lemmas.List.{length-map}
 use Rattle.exception_arena.specs.Pending as arena
-use Rattle.pending.specs.Copies.{pair_of}
+use Rattle.in_flight.specs.Copies.{pair_of}
 use Rattle.store.specs.Held.{pending, pairs_pending}
 use Rattle.snapshot.proofs.snapshot.Snapshot.into_store.Goals as goal
 

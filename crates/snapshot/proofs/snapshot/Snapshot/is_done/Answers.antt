@@ -3,7 +3,7 @@ use Rattle.std.proofs.Common.{◌≡◌, ◌*◌, ◌≤◌, ◌∙◌, ap, arit
 use Rattle.std.proofs.lemmas.Bool.{eqb-true, true≢false}
 use Rattle.std.proofs.lemmas.List.{nil_from_length}
 use Rattle.device.specs.Layers.{is_loud}
-use Rattle.pending.specs.Copies.{pair_of}
+use Rattle.in_flight.specs.Copies.{pair_of}
 use Rattle.store.specs.Loading.{is_begun}
 use Rattle.store.specs.Held.{committed, pairs_pending}
 use Rattle.snapshot.proofs.Rests.{in_order, next_here, none_ahead, none_firm, none_marked}

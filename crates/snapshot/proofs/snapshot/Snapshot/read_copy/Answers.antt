@@ -1,6 +1,6 @@
 use Rattle.std.proofs.Common.{◌≡◌, ◌*◌, ◌<◌, length, arith, refl, ap, ◌∙◌, length-set}
 use Rattle.sector.specs.Bytes.{sectors_at}
-use Rattle.pending.specs.Copies.{count_of}
+use Rattle.in_flight.specs.Copies.{count_of}
 use Rattle.store.specs.Held.{committed, pairs_pending}
 use Rattle.snapshot.proofs.Copies.{copy_inside, copy_set}
 use Rattle.snapshot.proofs.Events.{reads_at}

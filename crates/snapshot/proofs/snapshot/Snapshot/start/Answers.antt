@@ -1,8 +1,8 @@
 use Rattle.std.proofs.Common.{◌≡◌, ◌==◌, ◌+◌, ◌*◌, [], ◌∷◌, ◌++◌, length, arith, refl, ap, ◌∙◌, sym, true, length-append}
 use Rattle.std.specs.List.{list_any}
-use Rattle.pending.specs.Copies.{count_of}
-use Rattle.pending.specs.declared.copies.ChunkCopy.{ChunkCopy}
-use Rattle.pending.specs.declared.copies.Stage.TheVariants.{Waiting}
+use Rattle.in_flight.specs.Copies.{count_of}
+use Rattle.in_flight.specs.declared.copies.ChunkCopy.{ChunkCopy}
+use Rattle.in_flight.specs.declared.copies.Stage.TheVariants.{Waiting}
 use Rattle.store.specs.Held.{committed, pending, pairs_pending}
 use Rattle.snapshot.specs.Calls.{started}
 use Rattle.snapshot.proofs.Copies.{copies_push, not_begun, state_same, like_same}

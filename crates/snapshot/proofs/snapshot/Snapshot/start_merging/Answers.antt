@@ -2,9 +2,9 @@ use Rattle.std.proofs.Common.{◌≡◌, ◌==◌, ◌+◌, ◌*◌, ◌≤◌, 
 use Rattle.std.specs.List.{list_any, All}
 use Rattle.std.specs.Option.{is_some}
 use Rattle.std.specs.Prelude.{vec_capacity}
-use Rattle.pending.specs.Copies.{count_of}
-use Rattle.pending.specs.declared.copies.ChunkCopy.{ChunkCopy}
-use Rattle.pending.specs.declared.copies.Stage.TheVariants.{Waiting}
+use Rattle.in_flight.specs.Copies.{count_of}
+use Rattle.in_flight.specs.declared.copies.ChunkCopy.{ChunkCopy}
+use Rattle.in_flight.specs.declared.copies.Stage.TheVariants.{Waiting}
 use Rattle.store.specs.Held.{committed, pending, pairs_pending, reserved}
 use Rattle.volume_laws.proofs.Lists.{All-from_list_any}
 use Rattle.snapshot.specs.Calls.{started}

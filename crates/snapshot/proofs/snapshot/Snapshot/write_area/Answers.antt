@@ -3,7 +3,7 @@ use Rattle.std.proofs.lemmas.Bool.{cases_lt}
 use Rattle.std.specs.List.{All}
 use Rattle.std.proofs.lemmas.List.{take-map}
 use Rattle.sector.specs.Bytes.{with_part}
-use Rattle.pending.specs.declared.copies.Stage.TheVariants.{Flushed}
+use Rattle.in_flight.specs.declared.copies.Stage.TheVariants.{Flushed}
 use Rattle.exception_arena.specs.Pending.{pair_of}
 use Rattle.store.specs.Held.{committed, pending, pairs_pending}
 use Rattle.store.specs.Slots.{pairs_bytes, slot_start}

@@ -1,8 +1,8 @@
 use Rattle.std.proofs.Common.{◌≡◌, ◌+◌, ◌*◌, ◌<◌, length, get_or, arith, refl, ap, ◌∙◌, sym, length-set}
 use Rattle.std.proofs.lemmas.List.{get_or_default}
 use Rattle.sector.specs.Bytes.{with_sectors}
-use Rattle.pending.specs.declared.copies.ChunkCopy.{ChunkCopy}
-use Rattle.pending.specs.declared.copies.Stage.TheVariants.{Written}
+use Rattle.in_flight.specs.declared.copies.ChunkCopy.{ChunkCopy}
+use Rattle.in_flight.specs.declared.copies.Stage.TheVariants.{Written}
 use Rattle.store.specs.Held.{committed, pairs_pending, reserved}
 use Rattle.snapshot.proofs.Copies.{copy_inside, copy_set, state_same, like_same}
 use Rattle.snapshot.proofs.Events.{writes_at}

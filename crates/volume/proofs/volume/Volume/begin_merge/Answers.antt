@@ -6,7 +6,7 @@ use Rattle.store.specs.Held.{committed}
 use Rattle.store.specs.declared.state.State.{State}
 use Rattle.snapshot.specs.Kept.{Kept}
 use Rattle.snapshots.specs.Finding.{place_of_snap}
-use Rattle.merge_beside.specs.Keeping.{unkept, kept_for}
+use Rattle.snapshots.specs.Keeping.{unkept, kept_for}
 use Rattle.volume.specs.Beginning.{begin_refusal}
 use Rattle.volume.specs.Volumed.{Volumed}
 use Rattle.volume.proofs.Beginnings.{twice_unkept, made_from, alone, calm, within, live_now, number_now, idle_now, unmarked_now, chunk_now, whole_after, plain_after, exact_after, loud_after, is_begun, all_unkept, there}

@@ -1,8 +1,8 @@
 -- A copy is read from the origin disk, or its snapshot is spoiled.
 use Rattle.std.proofs.Common.{◌≡◌, ◌<◌, true, false, Some, refl, sym, ◌∙◌, ap, length, arith, slice_set, map, ◌∷◌, []}
 use Rattle.std.specs.List.{position}
-use Rattle.pending.specs.declared.copies.Stage.TheVariants.{Waiting}
-use Rattle.pending.specs.Routes.{refused_of}
+use Rattle.in_flight.specs.declared.copies.Stage.TheVariants.{Waiting}
+use Rattle.in_flight.specs.Routes.{refused_of}
 use Rattle.snapshots.specs.Finding.{is_copy_of, has_copy_at}
 use Rattle.volume.proofs.Changing.{SameDisk, same_disk}
 use Rattle.snapshots.proofs.Finds.{position_within}

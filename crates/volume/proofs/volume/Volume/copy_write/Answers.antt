@@ -3,8 +3,8 @@ use Rattle.std.proofs.Common.{◌≡◌, ◌<◌, true, false, Some, refl, sym, 
 use Rattle.std.specs.List.{position}
 use Rattle.std.proofs.lemmas.List.{get_or_default}
 use Rattle.device.specs.Layers.{is_loud}
-use Rattle.pending.specs.declared.copies.Stage.TheVariants.{Read}
-use Rattle.pending.specs.Routes.{refused_of}
+use Rattle.in_flight.specs.declared.copies.Stage.TheVariants.{Read}
+use Rattle.in_flight.specs.Routes.{refused_of}
 use Rattle.snapshots.specs.Finding.{is_copy_of, has_copy_at}
 use Rattle.volume.proofs.Changing.{same_disk}
 use Rattle.snapshots.proofs.Finds.{position_within}

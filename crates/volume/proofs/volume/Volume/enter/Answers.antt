@@ -3,7 +3,7 @@ use Rattle.std.proofs.Common.{◌≡◌, ◌≢◌, ◌+◌, ◌<◌, ℕ, List,
 use Rattle.std.specs.List.{All}
 use Rattle.plain.specs.Legal.{IsSubmitted}
 use Rattle.plain.specs.declared.request.Request.{Request}
-use Rattle.pending.specs.declared.flights.Flight.{Flight}
+use Rattle.in_flight.specs.declared.flights.Flight.{Flight}
 use Rattle.volume_laws.specs.Accepting.{IsTakenIn}
 use Rattle.volume.specs.Volumed.{Volumed, books_of, plain_of}
 use Rattle.volume.specs.Whole.{IsWhole}

@@ -2,8 +2,8 @@
 use Rattle.std.proofs.Common.{◌≡◌, ◌∙◌, sym, ap, Some, get_or, nat_eq, arith, refl, subst, ◌<◌}
 use Rattle.std.specs.List.{position}
 use Rattle.plain.specs.declared.request.Dev.TheVariants.{Origin as AtOrigin}
-use Rattle.pending.specs.declared.flights.Flight.{Flight}
-use Rattle.pending.specs.declared.flights.Route.TheVariants.{Whole}
+use Rattle.in_flight.specs.declared.flights.Flight.{Flight}
+use Rattle.in_flight.specs.declared.flights.Route.TheVariants.{Whole}
 use Rattle.volume.specs.Volumed.{Volumed}
 use Rattle.snapshots.proofs.Finds.{position_within}
 use Rattle.volume.proofs.FlushIssues.{merging_flush, merging_flush_io, whole_begun}
@@ -11,7 +11,7 @@ use Rattle.volume.proofs.Refusals.{element}
 use Rattle.volume.proofs.ExactIssues.{merging_flush_exact, merging_flush_io_exact}
 use Rattle.volume.proofs.Lefts.{all_same}
 use Rattle.volume.specs.Stopping.{given_by}
-use Rattle.pending.specs.Kinds.{in_flight}
+use Rattle.in_flight.specs.Kinds.{in_flight}
 use Rattle.std.specs.Prelude.{map}
 use Rattle.plain.specs.declared.event.Event.TheVariants.{Issue}
 use Rattle.volume.proofs.MergeBoth.{met_both}

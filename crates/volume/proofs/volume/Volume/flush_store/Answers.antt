@@ -2,7 +2,7 @@
 use Rattle.std.proofs.Common.{◌≡◌, ◌<◌, true, false, refl, sym, ◌∙◌, ap, subst, length, arith, map, slice_set, ◌∷◌, []}
 use Rattle.std.specs.List.{All}
 use Rattle.device.specs.Layers.{is_loud}
-use Rattle.pending.specs.Routes.{refused_of}
+use Rattle.in_flight.specs.Routes.{refused_of}
 use Rattle.volume_laws.specs.Published.{is_clear}
 use Rattle.volume_laws.specs.Again.{again_of}
 use Rattle.snapshot.specs.Kept.{Kept, books_of}
@@ -18,7 +18,7 @@ use Rattle.volume.proofs.LastBoth.{met_both, beside_both}
 use Rattle.std.specs.Prelude.{None}
 use Rattle.std.proofs.lemmas.Bool.{false≢true}
 use Rattle.volume.proofs.volume.Volume.flush_store.Goals as goal
-use Rattle.merge_beside.specs.Rooms.{merge_books}
+use Rattle.snapshots.specs.Rooms.{merge_books}
 
 pub invariant_of-self : goal.invariant_of-self
 invariant_of-self g c = record {

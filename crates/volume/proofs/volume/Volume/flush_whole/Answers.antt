@@ -3,8 +3,8 @@ use Rattle.std.proofs.Common.{◌≡◌, ◌<◌, ◌∙◌, sym, ap, Some, get_
 use Rattle.std.specs.List.{position, list_any}
 use Rattle.std.proofs.lemmas.Bool.{false≢true}
 use Rattle.plain.specs.declared.request.Dev.TheVariants.{Snap}
-use Rattle.pending.specs.declared.flights.Flight.{Flight}
-use Rattle.pending.specs.declared.flights.Route.TheVariants.{Whole}
+use Rattle.in_flight.specs.declared.flights.Flight.{Flight}
+use Rattle.in_flight.specs.declared.flights.Route.TheVariants.{Whole}
 use Rattle.snapshot.specs.Kept.{Kept}
 use Rattle.volume.specs.Volumed.{Volumed}
 use Rattle.snapshots.proofs.Finds.{position_within}
@@ -15,7 +15,7 @@ use Rattle.volume.proofs.LastMoves.{device_moves, flush_moves}
 use Rattle.volume.proofs.LastBoth.{met_both, beside_both}
 use Rattle.stop_laws.proofs.Firm.{adds_none}
 use Rattle.plain.specs.declared.event.Event.TheVariants.{Issue}
-use Rattle.pending.specs.Kinds.{in_flight}
+use Rattle.in_flight.specs.Kinds.{in_flight}
 use Rattle.volume.specs.Stopping.{given_by}
 use Rattle.std.proofs.Common.{map}
 use Rattle.std.proofs.Common.{List}

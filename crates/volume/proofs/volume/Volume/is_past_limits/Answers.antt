@@ -1,6 +1,6 @@
 -- One copy in every snapshot passes no limit.
 use Rattle.std.proofs.Common.{◌≡◌, length, vec_len, sym, ap, ◌∙◌, arith}
-use Rattle.pending.specs.Kinds.{kind_of}
+use Rattle.in_flight.specs.Kinds.{kind_of}
 use Rattle.volume.specs.Submitting.{are_too_many}
 use Rattle.volume.specs.Volumed.{Volumed}
 use Rattle.volume.proofs.Limits.{passes_none}

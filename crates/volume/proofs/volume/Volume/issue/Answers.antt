@@ -1,8 +1,8 @@
 -- A request is issued by its route.
 use Rattle.std.proofs.Common.{◌∙◌, sym, ap, get_or, nat_eq}
 use Rattle.std.specs.List.{position}
-use Rattle.pending.specs.Due.{is_routed}
-use Rattle.pending.specs.declared.flights.Flight.{Flight}
+use Rattle.in_flight.specs.Due.{is_routed}
+use Rattle.in_flight.specs.declared.flights.Flight.{Flight}
 use Rattle.volume_laws.specs.Due.{is_issued}
 use Rattle.volume.specs.Volumed.{Volumed}
 use Rattle.volume.proofs.volume.Volume.issue.Goals as goal

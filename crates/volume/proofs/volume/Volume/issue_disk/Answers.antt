@@ -4,9 +4,9 @@ use Rattle.std.specs.List.{position}
 use Rattle.std.proofs.lemmas.List.{with_items_is}
 use Rattle.sector.specs.Bytes.{with_sectors}
 use Rattle.plain.specs.declared.request.Op.{Op}
-use Rattle.pending.specs.Kinds.{room_at}
-use Rattle.pending.specs.declared.flights.Flight.{Flight}
-use Rattle.pending.specs.declared.flights.Route.TheVariants.{Origin}
+use Rattle.in_flight.specs.Kinds.{room_at}
+use Rattle.in_flight.specs.declared.flights.Flight.{Flight}
+use Rattle.in_flight.specs.declared.flights.Route.TheVariants.{Origin}
 use Rattle.volume.specs.Volumed.{Volumed}
 use Rattle.snapshots.proofs.Finds.{position_within}
 use Rattle.volume.proofs.IssueEvents.{request_at}
@@ -19,7 +19,7 @@ use Rattle.volume.proofs.LastMoves.{met_moves}
 use Rattle.volume.proofs.LastBoth.{met_both, beside_both}
 use Rattle.stop_laws.proofs.Firm.{adds_none}
 use Rattle.plain.specs.declared.event.Event.TheVariants.{Issue}
-use Rattle.pending.specs.Kinds.{in_flight}
+use Rattle.in_flight.specs.Kinds.{in_flight}
 use Rattle.volume.specs.Stopping.{given_by}
 use Rattle.volume.proofs.LastBoth.{disk_both}
 use Rattle.sector.specs.Bytes.{sector_at}

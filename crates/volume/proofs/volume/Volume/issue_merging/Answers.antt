@@ -8,9 +8,9 @@ use Rattle.device.specs.Layers.{is_loud}
 use Rattle.plain.specs.declared.request.Dev.TheVariants.{Origin as AtOrigin}
 use Rattle.plain.specs.declared.request.Op.{Op}
 use Rattle.plain.specs.declared.request.Reply.TheVariants.{Data}
-use Rattle.pending.specs.Kinds.{room_at, in_flight}
-use Rattle.pending.specs.declared.flights.Flight.{Flight}
-use Rattle.pending.specs.declared.flights.Route.TheVariants.{Store}
+use Rattle.in_flight.specs.Kinds.{room_at, in_flight}
+use Rattle.in_flight.specs.declared.flights.Flight.{Flight}
+use Rattle.in_flight.specs.declared.flights.Route.TheVariants.{Store}
 use Rattle.store.specs.Operations.{IsOneOperation}
 use Rattle.merge.specs.Merging.{books_of}
 use Rattle.merge.specs.Steps.{WritesPlaceOf}

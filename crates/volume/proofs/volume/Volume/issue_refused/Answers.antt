@@ -1,8 +1,8 @@
 -- A request of a spoiled snapshot is answered.
 use Rattle.std.proofs.Common.{◌≡◌, arith, ◌∙◌, ap, Some, get_or, nat_eq}
 use Rattle.std.specs.List.{position}
-use Rattle.pending.specs.declared.flights.Flight.{Flight}
-use Rattle.pending.specs.declared.flights.Route.TheVariants.{Refused}
+use Rattle.in_flight.specs.declared.flights.Flight.{Flight}
+use Rattle.in_flight.specs.declared.flights.Route.TheVariants.{Refused}
 use Rattle.volume.specs.Volumed.{Volumed}
 use Rattle.snapshots.proofs.Finds.{position_within}
 use Rattle.volume.proofs.StoreIssues.{refused_good}
@@ -11,7 +11,7 @@ use Rattle.volume.proofs.LastMoves.{none_moves}
 use Rattle.volume.proofs.LastBoth.{met_both, beside_both}
 use Rattle.stop_laws.proofs.Firm.{adds_none}
 use Rattle.plain.specs.declared.event.Event.TheVariants.{Issue}
-use Rattle.pending.specs.Kinds.{in_flight}
+use Rattle.in_flight.specs.Kinds.{in_flight}
 use Rattle.volume.specs.Stopping.{given_by}
 use Rattle.std.proofs.Common.{refl}
 use Rattle.std.proofs.Common.{map}

@@ -7,9 +7,9 @@ use Rattle.std.proofs.lemmas.List.{with_items_is}
 use Rattle.sector.specs.Bytes.{sectors_at}
 use Rattle.plain.specs.declared.request.Op.{Op}
 use Rattle.plain.specs.declared.request.Dev.TheVariants.{Snap}
-use Rattle.pending.specs.Kinds.{room_at}
-use Rattle.pending.specs.declared.flights.Flight.{Flight}
-use Rattle.pending.specs.declared.flights.Route.TheVariants.{Store}
+use Rattle.in_flight.specs.Kinds.{room_at}
+use Rattle.in_flight.specs.declared.flights.Flight.{Flight}
+use Rattle.in_flight.specs.declared.flights.Route.TheVariants.{Store}
 use Rattle.volume_laws.specs.Steps.{WritesPlace}
 use Rattle.snapshot.specs.Kept.{Kept, books_of}
 use Rattle.volume.specs.Volumed.{Volumed}
@@ -25,7 +25,7 @@ use Rattle.volume.proofs.LastMoves.{device_moves}
 use Rattle.volume.proofs.LastBoth.{met_both, beside_both}
 use Rattle.stop_laws.proofs.Firm.{adds_none}
 use Rattle.plain.specs.declared.event.Event.TheVariants.{Issue}
-use Rattle.pending.specs.Kinds.{in_flight}
+use Rattle.in_flight.specs.Kinds.{in_flight}
 use Rattle.volume.specs.Stopping.{given_by}
 use Rattle.volume.proofs.LastBoth.{own_both}
 use Rattle.std.proofs.Common.{map}

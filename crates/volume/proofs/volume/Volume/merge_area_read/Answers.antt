@@ -8,7 +8,7 @@ use Rattle.volume_laws.specs.MergeDue.{can_read_area}
 use Rattle.volume_laws.specs.Published.{is_clear}
 use Rattle.snapshot.specs.Kept.{Kept, books_of}
 use Rattle.merge.specs.Merging.{Merging, due_of as merging_due}
-use Rattle.merge_beside.specs.Rooms.{merge_books}
+use Rattle.snapshots.specs.Rooms.{merge_books}
 use Rattle.volume.specs.Volumed.{Volumed}
 use Rattle.volume.proofs.Chunks.{chunks_all}
 use Rattle.volume.proofs.MergeDues.{area_due, area_free}

@@ -8,7 +8,7 @@ use Rattle.volume_laws.specs.MergeDue.{can_read}
 use Rattle.volume_laws.specs.Published.{is_clear}
 use Rattle.snapshot.specs.Kept.{Kept, books_of}
 use Rattle.merge.specs.Merging.{Merging, books_of as merging_books}
-use Rattle.merge_beside.specs.Rooms.{merge_books}
+use Rattle.snapshots.specs.Rooms.{merge_books}
 use Rattle.merge.specs.Due.{next_read_of, can_release_of}
 use Rattle.volume.specs.Volumed.{Volumed}
 use Rattle.volume.proofs.Chunks.{chunks_all}

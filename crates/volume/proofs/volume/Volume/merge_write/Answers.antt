@@ -3,7 +3,7 @@ use Rattle.std.proofs.Common.{◌≡◌, ◌<◌, ◌*◌, ℕ, length, map, ref
 use Rattle.std.specs.List.{All}
 use Rattle.device.specs.Layers.{is_loud}
 use Rattle.plain.specs.declared.event.Event.TheVariants.{MergeWrite}
-use Rattle.pending.specs.Copies.{count_of}
+use Rattle.in_flight.specs.Copies.{count_of}
 use Rattle.volume_laws.specs.Again.{again_of}
 use Rattle.volume_laws.specs.MergeDue.{can_write}
 use Rattle.volume_laws.specs.Published.{is_clear}
@@ -13,7 +13,7 @@ use Rattle.merge.specs.Lists.{changed, written_in}
 use Rattle.merge.specs.Looks.{option_pairs}
 use Rattle.merge.specs.Merging.{books_of as merging_books}
 use Rattle.merge.proofs.Looks.{full_is}
-use Rattle.merge_beside.specs.Rooms.{merge_books}
+use Rattle.snapshots.specs.Rooms.{merge_books}
 use Rattle.volume.specs.Volumed.{Volumed}
 use Rattle.volume.proofs.Chunks.{chunks_all}
 use Rattle.volume.proofs.MergeChanging.{DiskStays}

@@ -20,7 +20,7 @@ use Rattle.volume.proofs.LastNext.{left_marks, next_beside}
 use Rattle.std.specs.Prelude.{None}
 use Rattle.std.proofs.Common.{List}
 use Rattle.volume.proofs.volume.Volume.publish.Goals as goal
-use Rattle.merge_beside.specs.Rooms.{merge_books}
+use Rattle.snapshots.specs.Rooms.{merge_books}
 
 pub find_mark-requires : goal.find_mark-requires
 find_mark-requires g c =

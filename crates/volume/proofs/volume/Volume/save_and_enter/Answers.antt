@@ -3,12 +3,12 @@ use Rattle.std.proofs.Common.{◌≡◌, ◌+◌, ◌<◌, ◌≤◌, ◌++◌, 
 use Rattle.std.specs.Prelude.{None, sum_by, count_by}
 use Rattle.std.specs.List.{All}
 use Rattle.plain.specs.declared.request.Request.{Request}
-use Rattle.pending.specs.Kinds.{kind_of, room_of}
-use Rattle.pending.specs.Routes.{write_route_of}
-use Rattle.pending.specs.declared.flights.Flight.{Flight}
+use Rattle.in_flight.specs.Kinds.{kind_of, room_of}
+use Rattle.in_flight.specs.Routes.{write_route_of}
+use Rattle.in_flight.specs.declared.flights.Flight.{Flight}
 use Rattle.volume_laws.specs.Published.{is_clear}
 use Rattle.snapshot.specs.Kept.{Kept, books_of as snap_books}
-use Rattle.merge_beside.specs.Routing.{is_merged_at}
+use Rattle.snapshots.specs.Routing.{is_merged_at}
 use Rattle.volume.specs.Volumed.{Volumed, piece_with}
 use Rattle.snapshots.specs.Numbers.{count_in}
 use Rattle.snapshots.specs.Starting.{unroomed, starts, AreSavedIn, HaveRooms, own_of}

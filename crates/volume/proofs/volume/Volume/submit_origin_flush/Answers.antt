@@ -3,9 +3,9 @@ use Rattle.std.specs.Prelude.{is_some}
 use Rattle.std.proofs.Common.{refl, sym, ◌∙◌, ap, subst}
 use Rattle.plain.specs.declared.request.Request.{Request}
 use Rattle.plain.specs.Kept.{kept}
-use Rattle.pending.specs.Kinds.{kind_of, room_of}
-use Rattle.pending.specs.Routes.{flush_route_of}
-use Rattle.pending.specs.declared.flights.Kind.TheVariants.{OriginFlush}
+use Rattle.in_flight.specs.Kinds.{kind_of, room_of}
+use Rattle.in_flight.specs.Routes.{flush_route_of}
+use Rattle.in_flight.specs.declared.flights.Kind.TheVariants.{OriginFlush}
 use Rattle.volume.specs.Volumed.{Volumed, piece_with}
 use Rattle.volume.specs.Whole.{IsWhole}
 use Rattle.volume.specs.Submitting.{IsAsked}

@@ -1,9 +1,9 @@
 -- The snapshot that is found is live, and the read goes where its chunk is.
 use Rattle.std.proofs.Common.{◌/◌, ℕ, refl, sym, ◌∙◌, ap, subst, arith}
-use Rattle.model.specs.Picture.{place_of}
-use Rattle.pending.specs.declared.flights.Kind.TheVariants.{SnapRead}
-use Rattle.pending.specs.Kinds.{kind_of, room_of}
-use Rattle.pending.specs.Routes.{read_route_of}
+use Rattle.store_bytes.specs.Picture.{place_of}
+use Rattle.in_flight.specs.declared.flights.Kind.TheVariants.{SnapRead}
+use Rattle.in_flight.specs.Kinds.{kind_of, room_of}
+use Rattle.in_flight.specs.Routes.{read_route_of}
 use Rattle.plain.specs.declared.request.Request.{Request}
 use Rattle.snapshot.specs.Kept.{Kept}
 use Rattle.volume.specs.Volumed.{Volumed, piece_with}

@@ -1,15 +1,15 @@
 -- The snapshot that is found is live, and the write goes where its chunk is, or waits for its copy.
 use Rattle.std.proofs.Common.{◌≡◌, ◌/◌, ℕ, List, slice_index_or, refl, sym, ◌∙◌, ap, subst, arith}
-use Rattle.model.specs.Picture.{place_of}
-use Rattle.pending.specs.declared.flights.Kind.TheVariants.{SnapWrite}
-use Rattle.pending.specs.Kinds.{kind_of, room_of}
-use Rattle.pending.specs.Routes.{read_route_of}
+use Rattle.store_bytes.specs.Picture.{place_of}
+use Rattle.in_flight.specs.declared.flights.Kind.TheVariants.{SnapWrite}
+use Rattle.in_flight.specs.Kinds.{kind_of, room_of}
+use Rattle.in_flight.specs.Routes.{read_route_of}
 use Rattle.plain.specs.declared.request.Request.{Request}
 use Rattle.plain.specs.Plain.{did_overflow}
 use Rattle.volume_laws.specs.Published.{is_published}
 use Rattle.snapshot.specs.Kept.{Kept}
 use Rattle.volume.specs.Volumed.{Volumed, piece_with}
-use Rattle.pending.specs.declared.flights.Route.TheVariants.{Held}
+use Rattle.in_flight.specs.declared.flights.Route.TheVariants.{Held}
 use Rattle.volume.specs.Whole.{IsWhole}
 use Rattle.snapshots.specs.Finding.{place_of_snap}
 use Rattle.snapshots.specs.Starting.{lacks}

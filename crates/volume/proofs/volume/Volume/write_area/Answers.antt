@@ -1,8 +1,8 @@
 -- The first copies are committed, or their snapshot is spoiled.
 use Rattle.std.proofs.Common.{◌≡◌, ◌-◌, ◌*◌, ◌<◌, inl, inr, true, false, refl, sym, ◌∙◌, ap, subst, length, arith, map, take, ◌∷◌, []}
 use Rattle.device.specs.Layers.{is_loud}
-use Rattle.pending.specs.Routes.{refused_of}
-use Rattle.pending.proofs.Batches.{batch_few, batch_ready}
+use Rattle.in_flight.specs.Routes.{refused_of}
+use Rattle.in_flight.proofs.Batches.{batch_few, batch_ready}
 use Rattle.snapshot.specs.Kept.{Kept}
 use Rattle.snapshots.specs.Finding.{is_committing}
 use Rattle.volume.proofs.DueEvents.{due_by, snap_found, snap_due}

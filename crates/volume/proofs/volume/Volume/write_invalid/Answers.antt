@@ -15,7 +15,7 @@ use Rattle.volume.proofs.LastMoves.{mark_moves, fails_moves}
 use Rattle.volume.proofs.LastBoth.{met_both, beside_both}
 use Rattle.std.specs.Prelude.{None}
 use Rattle.volume.proofs.volume.Volume.write_invalid.Goals as goal
-use Rattle.merge_beside.specs.Rooms.{merge_books}
+use Rattle.snapshots.specs.Rooms.{merge_books}
 
 pub write_invalid-requires-clause-untried : goal.write_invalid-requires-clause-untried
 write_invalid-requires-clause-untried g c =

@@ -1,7 +1,7 @@
 -- The next area is zeroed, or its snapshot is spoiled.
 use Rattle.std.proofs.Common.{◌≡◌, ◌<◌, true, false, refl, sym, ◌∙◌, ap, length, arith, map, ◌∷◌, []}
 use Rattle.device.specs.Layers.{is_loud}
-use Rattle.pending.specs.Routes.{refused_of}
+use Rattle.in_flight.specs.Routes.{refused_of}
 use Rattle.snapshot.specs.Kept.{Kept}
 use Rattle.snapshots.specs.Finding.{is_zeroing}
 use Rattle.volume.proofs.DueEvents.{due_by, snap_found, snap_due}

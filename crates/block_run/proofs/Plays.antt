@@ -1,0 +1,173 @@
+-- The entries that seats made at a volume lead from what it showed to what it shows.
+use Rattle.std.proofs.Common.{◌≡◌, inl, inr, ℕ, Bool, true, false, List, [], ◌∷◌, ◌++◌, map, sym, ap, ◌∙◌, subst, refl}
+use Rattle.std.specs.Prelude.{◌==◌, if◌then◌else◌}
+use Rattle.std.proofs.lemmas.List.{append_assoc, append_cancel_left}
+use Rattle.layers.specs.declared.stack.Stack.{Stack}
+use Rattle.journal.specs.declared.entry.Answered.{Answered}
+use Rattle.journal.specs.declared.entry.Entry.{Entry}
+use Rattle.journal.specs.declared.entry.Entry.TheVariants.{Answered as IsAnswered, Spoiled, Overflowed, Attached, Detached, Begun, Finished}
+use Rattle.journal.specs.Books.{AuditShape}
+use Rattle.journal.specs.Entries.{entries_by}
+use Rattle.plain.specs.Plain.{saved_under, overflow_under}
+use Rattle.journal.specs.Inside.{AllInside}
+use Rattle.journal.specs.Replay.{AllLawful, Saves, replay}
+use Rattle.journal.proofs.Own.{inside_rest, lawful_rest, meets_own}
+use Rattle.journal.proofs.Replaying.{entries_by_spoils, replay_then}
+use Rattle.command_rules.specs.State.{Volume}
+use Rattle.named_volume.specs.Flights.{IsBehind}
+use Rattle.named_volume.specs.Parting.{Parts}
+use Rattle.locked_volume.specs.Keeping.{Begins}
+use Rattle.layers.specs.Stack.{stack_layers, stack_size}
+use Rattle.plain.specs.declared.request.Dev.{Dev}
+use Rattle.plain.specs.declared.request.Dev.TheVariants.{Origin, Snap}
+use Rattle.plain.specs.declared.request.Request.{Request}
+use Rattle.sector.specs.declared.refusal.Refusal.{Refusal}
+use Rattle.snapshots.specs.Numbers.{number_of_snap}
+use Rattle.volume.specs.Stepping.{merged_of}
+use Rattle.volume.specs.Volumed.{is_loud_in_all}
+use Rattle.locked_volume.specs.Denying.{IsClosed, IsDenied, IsLost, IsOpen, IsShut, WasDenied, Wish, Serve, Begin}
+use Rattle.locked_volume.specs.Fixed.{Fixed, fixed_of}
+use Rattle.block_run.specs.Played.{IsPlayedIn, Story, shown_by}
+use Rattle.block_run.specs.Running.{IsRun}
+use Rattle.block_run.specs.Taking.{IsBack, IsMade, IsRested, IsTrue}
+use Rattle.block_run.proofs.Backs.{stood}
+
+in_front : (b : Bool) (a : Answered) (xs ys : List Answered) → (if b then (a ∷ (xs ++ ys)) else (xs ++ ys)) ≡ (if b then (a ∷ xs) else xs) ++ ys
+in_front true a xs ys = refl
+in_front false a xs ys = refl
+
+entries_by-append : (n : ℕ) (es fs : List Entry) → entries_by n (es ++ fs) ≡ entries_by n es ++ entries_by n fs
+entries_by-append n [] fs = refl
+entries_by-append n (Spoiled m ∷ es) fs = entries_by-append n es fs
+entries_by-append n (Overflowed m ∷ es) fs = entries_by-append n es fs
+entries_by-append n (Attached m x o f ∷ es) fs = entries_by-append n es fs
+entries_by-append n (Detached m ∷ es) fs = entries_by-append n es fs
+entries_by-append n (Begun m ∷ es) fs = entries_by-append n es fs
+entries_by-append n (Finished ∷ es) fs = entries_by-append n es fs
+entries_by-append n (IsAnswered a ∷ es) fs = ap (λ x. if a.seat == n then (a ∷ x) else x) (entries_by-append n es fs) ∙ in_front (a.seat == n) a (entries_by n es) (entries_by n fs)
+
+-- the entries of the seats, and the spoils after them
+goes_on : (before : AuditShape Stack) (p : Parts) (audit rested : AuditShape Stack) (old : Volume) → (back : IsBack before p audit old) → (done : IsRested audit rested) → rested.entries ≡ before.entries ++ (back.left.more ++ map Spoiled done.spoils.which)
+goes_on before p audit rested old back done =
+    done.spoils.entries ∙ ap (λ (l : List Entry). l ++ map Spoiled done.spoils.which) back.left.grows ∙ append_assoc before.entries back.left.more (map Spoiled done.spoils.which)
+
+-- how the volume stood
+abbrev stood_of : AuditShape Stack → Fixed
+stood_of a = record {
+  attached = a.volume.attached;
+  sectors = stack_size a.volume.origin;
+  numbers = map number_of_snap a.volume.snaps;
+  chunks = map (λ s. s.state.chunk) a.volume.snaps;
+  merged = merged_of a.volume.merge;
+  sound = is_loud_in_all stack_layers a.volume;
+  loud = a.loud;
+  base = shown_by a.volume;
+  folded = [];
+}
+
+-- What is denied by one list of entries is denied by another that shows the same.
+module _ (g : Fixed) (base s t : Saves) (same : g.loud ≡ true → t ≡ s) where
+  still_lost : (number : ℕ) → IsLost g s number → IsLost (record g { base = base; folded = [] }) t number
+  still_lost number h = (h.0, h.1, λ loud. ap (λ (x : Saves). saved_under number x.saved) (same loud) ∙ h.2 loud)
+
+  still_closed : (dev : Dev) (refusal : Refusal) → IsClosed g s dev refusal → IsClosed (record g { base = base; folded = [] }) t dev refusal
+  still_closed Origin refusal h = absurd h
+  still_closed (Snap number) refusal (inl merging) = inl merging
+  still_closed (Snap number) refusal (inr (inl missing)) = inr (inl missing)
+  still_closed (Snap number) refusal (inr (inr lost)) = inr (inr (lost.0, still_lost number lost.1))
+
+  still_open : (dev : Dev) → IsOpen g s dev → IsOpen (record g { base = base; folded = [] }) t dev
+  still_open Origin h = tt
+  still_open (Snap number) h = (h.0, h.1, λ loud lost. h.2 loud (ap (λ (x : Saves). saved_under number x.saved) (sym (same loud)) ∙ lost))
+
+  still_shut : (request : Request) → IsShut g s request → IsShut (record g { base = base; folded = [] }) t request
+  still_shut request h = (h.0, h.1, h.2, h.3, h.4, h.5, λ loud. ap (λ (x : Saves). overflow_under h.0 x.saved) (same loud) ∙ h.6 loud)
+
+  still_denied : (wish : Wish) (refusal : Refusal) → IsDenied g s wish refusal → IsDenied (record g { base = base; folded = [] }) t wish refusal
+  still_denied (Serve request) refusal (inl closed) = inl (still_closed request.dev refusal closed)
+  still_denied (Serve request) refusal (inr (inl shut)) = inr (inl (shut.0, still_shut request shut.1))
+  still_denied (Serve request) refusal (inr (inr (inl out))) = inr (inr (inl (out.0, still_open request.dev out.1, out.2)))
+  still_denied (Serve request) refusal (inr (inr (inr (inl many)))) = inr (inr (inr (inl (many.0, still_open request.dev many.1, many.2))))
+  still_denied (Serve request) refusal (inr (inr (inr (inr full)))) = inr (inr (inr (inr full)))
+  still_denied (Begin number) refusal (inl begun) = inl begun
+  still_denied (Begin number) refusal (inr (inl missing)) = inr (inl missing)
+  still_denied (Begin number) refusal (inr (inr (inl lost))) = inr (inr (inl (lost.0, still_lost number lost.1)))
+  still_denied (Begin number) refusal (inr (inr (inr full))) = inr (inr (inr full))
+
+denied_so : (before : AuditShape Stack) → IsTrue before → (seen : List Entry) (wish : Wish) (refusal : Refusal) → WasDenied before.entries (fixed_of stack_size stack_layers before) seen wish refusal
+    → WasDenied [] (stood_of before) seen wish refusal
+denied_so before truth seen wish refusal (inl starved) = inl starved
+denied_so before truth seen wish refusal (inr (g, stays, agrees, denied)) =
+    let same : g.loud ≡ true → replay (shown_by before.volume) seen ≡ replay g.base (before.entries ++ seen) =
+    λ loud. ap (λ (x : Saves). replay x seen) (sym (truth.gives (sym stays.loud ∙ loud))) ∙ sym (replay_then before.base before.entries seen) ∙ ap (λ (x : Saves). replay x (before.entries ++ seen)) (sym stays.base) in
+    inr (
+      record g { base = shown_by before.volume; folded = [] },
+      record { attached = stays.attached; sectors = stays.sectors; snaps = stays.snaps; sound = stays.sound; loud = stays.loud; base = refl; folded = refl; piece = stays.piece },
+      (λ loud. ap (λ (x : Saves). x.begun) (same loud) ∙ agrees loud),
+      still_denied g (shown_by before.volume) (replay g.base (before.entries ++ seen)) (replay (shown_by before.volume) seen) same wish refusal denied,
+    )
+
+-- what is said of them
+plays : (before : AuditShape Stack) (p : Parts) (audit rested : AuditShape Stack) (old new : Volume) → (back : IsBack before p audit old) → (done : IsRested audit rested) → IsTrue rested → IsBehind rested.volume new
+    → IsPlayedIn (record { stood = stood_of before; entries = back.left.more ++ map Spoiled done.spoils.which }) old new
+plays before p audit rested old new back done truth is sound =
+    let entries = back.left.more ++ map Spoiled done.spoils.which in
+    let was_loud : before.loud ≡ true = back.out.loud (ap (λ (o : Volume). o.sound) (sym back.out.named) ∙ sound) in
+    let loud : rested.loud ≡ true = done.base.loud ∙ back.left.stays.loud ∙ was_loud in
+    let base : rested.base ≡ before.base = done.base.base ∙ back.left.stays.base in
+    let all : rested.entries ≡ before.entries ++ entries = goes_on before p audit rested old back done in
+    let shown : replay before.base before.entries ≡ shown_by before.volume = back.out.truth.gives was_loud in
+    let lawful : AllLawful before.base (before.entries ++ entries) = subst (λ (s : Saves). AllLawful s (before.entries ++ entries)) base (subst (λ (l : List Entry). AllLawful rested.base l) all (truth.lawful loud)) in
+    let inside : AllInside before.base (before.entries ++ entries) = subst (λ (s : Saves). AllInside s (before.entries ++ entries)) base (subst (λ (l : List Entry). AllInside rested.base l) all (truth.inside loud)) in
+    let rest : AllLawful (shown_by before.volume) entries = subst (λ (s : Saves). AllLawful s entries) shown (lawful_rest before.base before.entries entries lawful) in
+    record {
+      before = before.volume;
+      after = rested.volume;
+      was = stood before p audit old back;
+      is = is;
+      did = record {
+        stood = λ i. record {
+          attached = before.volume.attached;
+          sectors = stack_size before.volume.origin;
+          numbers = map number_of_snap before.volume.snaps;
+          chunks = map (λ s. s.state.chunk) before.volume.snaps;
+          merged = merged_of before.volume.merge;
+          sound = is_loud_in_all stack_layers before.volume;
+          loud = was_loud i;
+          base = shown_by before.volume;
+          folded = [];
+        };
+        lawful = rest;
+        own = meets_own (shown_by before.volume) entries rest (subst (λ (s : Saves). AllInside s entries) shown (inside_rest before.base before.entries entries inside));
+        gives = ap (λ (s : Saves). replay s entries) (sym shown) ∙ sym (replay_then before.base before.entries entries) ∙ ap (λ (l : List Entry). replay before.base l) (sym all) ∙ ap (λ (s : Saves). replay s rested.entries) (sym base) ∙ truth.gives loud;
+      };
+    }
+
+-- each seat's are those that it added
+adds : (before : AuditShape Stack) (p : Parts) (audit rested : AuditShape Stack) (old : Volume) → (back : IsBack before p audit old) → (done : IsRested audit rested) → (seat : ℕ)
+    → entries_by seat audit.entries ≡ entries_by seat before.entries ++ entries_by seat (back.left.more ++ map Spoiled done.spoils.which)
+adds before p audit rested old back done seat =
+    ap (entries_by seat) back.left.grows ∙ entries_by-append seat before.entries back.left.more
+    ∙ ap (λ (l : List Answered). entries_by seat before.entries ++ l) (sym (entries_by_spoils seat back.left.more done.spoils.which))
+
+-- what was seen of the audit are the first of them
+first_of : (before : AuditShape Stack) (p : Parts) (audit rested : AuditShape Stack) (old : Volume) → (back : IsBack before p audit old) → (done : IsRested audit rested) → (seen : List Entry)
+    → Begins (before.entries ++ seen) audit.entries → Begins seen (back.left.more ++ map Spoiled done.spoils.which)
+first_of before p audit rested old back done seen h =
+    let spoils = map Spoiled done.spoils.which in
+    let more : back.left.more ≡ seen ++ h.0 = append_cancel_left before.entries back.left.more (seen ++ h.0) (sym back.left.grows ∙ h.1 ∙ append_assoc before.entries seen h.0) in
+    (h.0 ++ spoils, ap (λ (l : List Entry). l ++ spoils) more ∙ append_assoc seen h.0 spoils)
+
+pub is_made : (before : AuditShape Stack) (p : Parts) (audit rested : AuditShape Stack) (old new : Volume) → IsBack before p audit old → IsRested audit rested → IsTrue rested → IsBehind rested.volume new → IsRun old new
+    → (story : Story) × IsMade before audit story old new
+is_made before p audit rested old new back done truth is run = (
+  record { stood = stood_of before; entries = back.left.more ++ map Spoiled done.spoils.which },
+  record {
+    run = run;
+    played = plays before p audit rested old new back done truth is;
+    added = adds before p audit rested old back done;
+    first = first_of before p audit rested old back done;
+    denied = denied_so before back.out.truth;
+    piece = refl;
+  },
+)

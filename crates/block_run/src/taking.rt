@@ -1,0 +1,138 @@
+// Volumes that are taken out of the table while their seats run, and put back.
+ghost use Rattle.std.specs.Prelude.{◌≡◌, ◌+◌, ◌<◌, ◌≤◌, Bool, List, [], true, drop, length, vec_len, vec_capacity};
+ghost use Rattle.layers.specs.declared.stack.Stack.{Stack as StackShape};
+ghost use Rattle.journal.specs.Books.{AuditShape};
+ghost use Rattle.volume.specs.Leaving.{is_quiet_of};
+ghost use Rattle.command_rules.specs.State.{Volume};
+ghost use Rattle.block_run.specs.Played.{Story};
+ghost use Rattle.block_run.specs.Taking.{AreSlots, IsBack, IsBackAt, IsMade, IsPutAt, IsRested, IsSlot};
+
+use journal::Audit;
+use layers::Stack;
+use named_volume::{NamedParts, NamedVolume};
+use std::sync::Wait;
+use volume::is_of_merge;
+use volume_commands::Resting;
+
+/// What a place of the table has while a block is run.
+#[derive(Drop)]
+pub enum Slot {
+    /// Its volume.
+    Stays(NamedVolume),
+    /// The names of a volume that is taken out: what they name is in its audit.
+    Out(NamedParts),
+}
+
+/// Takes a quiet volume out, and puts its audit after the others. Where memory is refused for its audit, it stays.
+fn take_out(volume: NamedVolume, audits: &mut Vec<Audit<Stack>>) -> Slot
+    requires quiet { volume.quiet ≡ true }
+    requires room { vec_len audits.old < vec_capacity audits.old }
+    ensures slot { IsSlot true result audits.new.items audits.old.items volume }
+    ensures few { vec_len audits.new ≤ vec_len audits.old + 1 }
+    ensures room { vec_capacity audits.new ≡ vec_capacity audits.old }
+{
+    let (parts, resting) = volume.into_parts();
+    match resting.into_audit() {
+        Ok(audit) => {
+            // A look: what its entries say.
+            let _ = audit.entries();
+            audits.push_reserved(audit);
+            Slot::Out(parts)
+        }
+        Err((_, resting)) => Slot::Stays(NamedVolume::of_parts(parts, resting)),
+    }
+}
+
+/// Takes a volume out if it is used, and is quiet.
+fn take(volume: NamedVolume, is_used: bool, audits: &mut Vec<Audit<Stack>>) -> Slot
+    requires room { vec_len audits.old < vec_capacity audits.old }
+    ensures slot { IsSlot is_used result audits.new.items audits.old.items volume }
+    ensures few { vec_len audits.new ≤ vec_len audits.old + 1 }
+    ensures room { vec_capacity audits.new ≡ vec_capacity audits.old }
+{
+    if is_used && volume.is_quiet() {
+        take_out(volume, audits)
+    } else {
+        Slot::Stays(volume)
+    }
+}
+
+/// Takes the volumes out that are used, the last of the table first, and puts what each place has into `slots`.
+pub fn take_all(
+    volumes: &mut Vec<NamedVolume>,
+    used: &[bool],
+    slots: &mut Vec<Slot>,
+    audits: &mut Vec<Audit<Stack>>,
+)
+    requires many { length used.now ≡ vec_len volumes.old }
+    requires none { (slots.old.items ≡ []) × (audits.old.items ≡ []) }
+    requires slot_room { vec_len volumes.old ≤ vec_capacity slots.old }
+    requires audit_room { vec_len volumes.old ≤ vec_capacity audits.old }
+    ensures slots { AreSlots used.now slots.new.items audits.new.items volumes.old.items }
+    ensures empty { volumes.new.items ≡ [] }
+    ensures few { vec_len slots.new ≡ vec_len volumes.old }
+    ensures room { vec_capacity volumes.new ≡ vec_capacity volumes.old }
+{
+    while let Some(volume) = volumes.pop() {
+        let is_used = used[volumes.len()];
+        slots.push_reserved(take(volume, is_used, audits));
+    }
+}
+
+/// Does the events that are due in an audit's volume, until none is but one of a merge. No request is in flight.
+fn drain(audit: &mut Audit<Stack>)
+    requires none { audit.old.held ≡ [] }
+    ensures { IsRested audit.old audit.new }
+{
+    while let Some(event) = audit.volume().due() {
+        if is_of_merge(event) {
+            break;
+        }
+        // It is due, and is no request's, since none is in flight.
+        if audit.apply(1, event).is_err() {
+            break;
+        }
+    }
+}
+
+/// Does what is left to do in an audit's volume, but for a merge. No request is in flight, so that memory is asked for nothing,
+/// and no group of a merge is formed, so that it is quiet then.
+fn rest<R: Wait>(rt: &R, audit: &mut Audit<Stack>)
+    requires none { audit.old.held ≡ [] }
+    ensures quiet { is_quiet_of audit.new.volume ≡ true }
+    ensures rested { IsRested audit.old audit.new }
+{
+    drain(audit);
+    if !audit.volume().is_quiet() {
+        for _ in rt.forever() {}
+    }
+}
+
+/// The volume of an audit under its names again.
+fn name<R: Wait>(rt: &R, parts: NamedParts, audit: Audit<Stack>) -> NamedVolume
+    requires { (before : AuditShape StackShape) × (old : Volume) × IsBack before parts audit old }
+    ensures { (before : AuditShape StackShape) (old : Volume) → IsBack before parts audit old → (story : Story) × IsMade before audit story old result }
+{
+    let mut audit = audit;
+    rest(rt, &mut audit);
+    // A look: what its entries say.
+    let _ = audit.entries();
+    NamedVolume::of_parts(parts, Resting::of_audit(audit))
+}
+
+/// What a place of the table has, put back into it: a volume that is taken out is that of the last audit.
+pub fn put_back<R: Wait>(rt: &R, slot: Slot, audits: &mut Vec<Audit<Stack>>) -> NamedVolume
+    requires { (used : Bool) × (befores : List (AuditShape StackShape)) × (first : List (AuditShape StackShape)) × (others : List (AuditShape StackShape)) × (old : Volume) × IsBackAt used slot befores audits.old.items first others old }
+    ensures put { (used : Bool) (befores first others : List (AuditShape StackShape)) (old : Volume) → IsBackAt used slot befores audits.old.items first others old → IsPutAt slot befores audits.old.items first others old result }
+    ensures others { (used : Bool) (befores first others : List (AuditShape StackShape)) (old : Volume) → IsBackAt used slot befores audits.old.items first others old → audits.new.items ≡ others }
+{
+    match slot {
+        Slot::Stays(volume) => volume,
+        Slot::Out(parts) => {
+            let Some(audit) = audits.pop() else {
+                unreachable!()
+            };
+            name(rt, parts, audit)
+        }
+    }
+}

@@ -1,0 +1,11 @@
+pub mod Lists
+pub mod Loads
+pub mod Sorts
+pub mod Places
+pub mod Tells
+pub mod SlotFaults
+pub mod Shown
+pub mod Exports
+pub mod Rows
+pub mod Ranges
+pub mod Fails

@@ -1,0 +1,12 @@
+use Rattle.std.proofs.Common.{◌-◌, ◌<◌, length}
+use Rattle.cow_image.specs.Runs.{IsRow}
+use Rattle.cow_image.proofs.running.row_at.Given as goal
+
+abbrev pub invariant-loop-count : goal.invariant-loop-count
+invariant-loop-count l = record {
+  some : 0 < l.count;
+  row : IsRow l.pairs l.low l.count;
+}
+
+abbrev pub decreases-loop-count : goal.decreases-loop-count
+decreases-loop-count l = l.most - l.count

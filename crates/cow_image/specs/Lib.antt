@@ -1,0 +1,9 @@
+pub mod Loaded
+pub mod Judged
+pub mod Sorted
+pub mod Listed
+pub mod Maps
+pub mod Usage
+pub mod Shown
+pub mod Runs
+pub mod Fails

@@ -1,0 +1,170 @@
+// A snapshot's array is written out.
+ghost use Rattle.std.specs.Prelude.{◌≡◌, ℕ, ◌*◌, ◌<◌, ◌≤◌, List, length, OnErr, OnOk, Some};
+ghost use Rattle.std.specs.Io.KnownBytes.{Appends};
+ghost use Rattle.store_bytes.specs.Picture.{picture};
+ghost use Rattle.cow_image.specs.Maps.{IsMapOf};
+ghost use Rattle.cow_image.specs.Sorted.{IsRisingBy, old_of};
+ghost use Rattle.cow_image.specs.Shown.{shown, IsFrontOf};
+
+use crate::{CowMap, show_chunk};
+use image::{Image, MemImage, Sink};
+use sector::{Chunk, Pair};
+use std::alloc::Global;
+use std::io;
+
+/// Why an export came to no end.
+#[derive(Debug, Drop)]
+pub enum Stopped {
+    /// A read of the origin or of the store failed.
+    Unreadable(io::Error),
+    /// A write failed.
+    Unwritable(io::Error),
+    /// Memory for a chunk is refused.
+    NoMemory,
+}
+
+/// Writes what a snapshot shows, for an origin of so many sectors: its array, from the front to the end.
+pub fn export<O: Image, C: Image, S: Sink>(
+    alloc: Global,
+    origin: &mut O,
+    cow: &mut C,
+    map: &CowMap,
+    size: u64,
+    sink: &mut S,
+) -> Result<(), Stopped>
+    requires { size ≤ 68_719_476_736 }
+    ensures all { OnOk result ((o : List ℕ) → (b : List ℕ) → O.bytes origin.old ≡ Some o → C.bytes cow.old ≡ Some b → length o ≡ 512 * size → IsMapOf size b map.now → Appends (S.contents sink.old) (S.contents sink.new) (picture map.now.chunk o b)) }
+    ensures part { OnErr result ((o : List ℕ) → (b : List ℕ) → O.bytes origin.old ≡ Some o → C.bytes cow.old ≡ Some b → length o ≡ 512 * size → IsMapOf size b map.now → (front : List ℕ) × IsFrontOf front (picture map.now.chunk o b) × Appends (S.contents sink.old) (S.contents sink.new) front) }
+{
+    let bytes = 512 * map.chunk as usize;
+    let Ok(mut room) = vec![in alloc; 0u8; bytes] else {
+        return Err(Stopped::NoMemory);
+    };
+    let pairs = map.pairs.as_slice();
+    let end = 512 * size;
+    let room = room.as_mut_slice();
+    match write_all(origin, cow, map.chunk, pairs, end, room, sink) {
+        Ok(()) => Ok(()),
+        Err(stopped) => Err(stopped),
+    }
+}
+
+/// Writes what a snapshot shows by these pairs, for an origin of so many sectors, from the front to the end.
+pub fn export_pairs<O: Image, C: Image, S: Sink>(
+    alloc: Global,
+    origin: &mut O,
+    cow: &mut C,
+    chunk: u32,
+    pairs: &[Pair],
+    size: u64,
+    sink: &mut S,
+) -> Result<(), Stopped>
+    requires some { 0 < chunk }
+    requires allowed { chunk ≤ 1024 }
+    requires rising { IsRisingBy old_of pairs.now }
+    requires small { size ≤ 68_719_476_736 }
+    ensures all { OnOk result ((o : List ℕ) → (b : List ℕ) → O.bytes origin.old ≡ Some o → C.bytes cow.old ≡ Some b → Appends (S.contents sink.old) (S.contents sink.new) (shown chunk o b pairs.now 0 (512 * size))) }
+    ensures part { OnErr result ((o : List ℕ) → (b : List ℕ) → O.bytes origin.old ≡ Some o → C.bytes cow.old ≡ Some b → (front : List ℕ) × IsFrontOf front (shown chunk o b pairs.now 0 (512 * size)) × Appends (S.contents sink.old) (S.contents sink.new) front) }
+{
+    let bytes = 512 * chunk as usize;
+    let Ok(mut room) = vec![in alloc; 0u8; bytes] else {
+        return Err(Stopped::NoMemory);
+    };
+    let end = 512 * size;
+    let room = room.as_mut_slice();
+    match write_all(origin, cow, chunk, pairs, end, room, sink) {
+        Ok(()) => Ok(()),
+        Err(stopped) => Err(stopped),
+    }
+}
+
+/// The chunk size with which the origin of a fresh store is copied.
+const FRESH_CHUNK: u32 = 128;
+
+/// Writes what the snapshot of a fresh store shows: its origin, which has so many sectors, from the front to the end.
+pub fn export_fresh<O: Image, S: Sink>(
+    alloc: Global,
+    origin: &mut O,
+    size: u64,
+    sink: &mut S,
+) -> Result<(), Stopped>
+    requires { size ≤ 68_719_476_736 }
+    ensures all { OnOk result ((o : List ℕ) → O.bytes origin.old ≡ Some o → length o ≡ 512 * size → Appends (S.contents sink.old) (S.contents sink.new) o) }
+    ensures part { OnErr result ((o : List ℕ) → O.bytes origin.old ≡ Some o → length o ≡ 512 * size → (front : List ℕ) × IsFrontOf front o × Appends (S.contents sink.old) (S.contents sink.new) front) }
+{
+    let bytes = 512 * FRESH_CHUNK as usize;
+    let Ok(mut room) = vec![in alloc; 0u8; bytes] else {
+        return Err(Stopped::NoMemory);
+    };
+    let mut none = MemImage {
+        bytes: Vec::new(alloc),
+    };
+    let pairs: Vec<Pair> = Vec::new(alloc);
+    let pairs = pairs.as_slice();
+    let room = room.as_mut_slice();
+    let end = 512 * size;
+    match write_all(origin, &mut none, FRESH_CHUNK, pairs, end, room, sink) {
+        Ok(()) => Ok(()),
+        Err(stopped) => Err(stopped),
+    }
+}
+
+/// Writes so many bytes of what a snapshot shows by these pairs, through room for a chunk.
+fn write_all<O: Image, C: Image, S: Sink>(
+    origin: &mut O,
+    cow: &mut C,
+    chunk: u32,
+    pairs: &[Pair],
+    end: u64,
+    room: &mut [u8],
+    sink: &mut S,
+) -> Result<(), Stopped>
+    requires some { 0 < chunk }
+    requires allowed { chunk ≤ 1024 }
+    requires rising { IsRisingBy old_of pairs.now }
+    requires small { end ≤ 35_184_372_088_832 }
+    requires room { length room.old ≡ 512 * chunk }
+    ensures all { OnOk result ((o : List ℕ) → (b : List ℕ) → O.bytes origin.old ≡ Some o → C.bytes cow.old ≡ Some b → Appends (S.contents sink.old) (S.contents sink.new) (shown chunk o b pairs.now 0 end)) }
+    ensures part { OnErr result ((o : List ℕ) → (b : List ℕ) → O.bytes origin.old ≡ Some o → C.bytes cow.old ≡ Some b → (front : List ℕ) × IsFrontOf front (shown chunk o b pairs.now 0 end) × Appends (S.contents sink.old) (S.contents sink.new) front) }
+{
+    let mut done = 0;
+    let mut number = 0;
+    while done < end {
+        let len = (end - done).min(room.len() as u64);
+        let out = &mut room[..len as usize];
+        if let Err(stopped) = put_chunk(origin, cow, chunk, pairs, number, out, sink) {
+            return Err(stopped);
+        }
+        done += len;
+        number += 1;
+    }
+    Ok(())
+}
+
+/// Writes what a snapshot shows in a chunk of its origin, or in as much of its front as there is room for.
+fn put_chunk<O: Image, C: Image, S: Sink>(
+    origin: &mut O,
+    cow: &mut C,
+    chunk: u32,
+    pairs: &[Pair],
+    number: Chunk,
+    room: &mut [u8],
+    sink: &mut S,
+) -> Result<(), Stopped>
+    requires some { 0 < chunk }
+    requires allowed { chunk ≤ 1024 }
+    requires rising { IsRisingBy old_of pairs.now }
+    requires part { length room.old ≤ 512 * chunk }
+    ensures all { OnOk result ((o : List ℕ) → (b : List ℕ) → O.bytes origin.old ≡ Some o → C.bytes cow.old ≡ Some b → Appends (S.contents sink.old) (S.contents sink.new) (shown chunk o b pairs.now (512 * (chunk * number)) (length room.old))) }
+    ensures part { OnErr result ((o : List ℕ) → (b : List ℕ) → O.bytes origin.old ≡ Some o → C.bytes cow.old ≡ Some b → (front : List ℕ) × IsFrontOf front (shown chunk o b pairs.now (512 * (chunk * number)) (length room.old)) × Appends (S.contents sink.old) (S.contents sink.new) front) }
+    ensures origin { O.bytes origin.new ≡ O.bytes origin.old }
+    ensures cow { C.bytes cow.new ≡ C.bytes cow.old }
+{
+    if let Err(error) = show_chunk(origin, cow, chunk, pairs, number, room) {
+        return Err(Stopped::Unreadable(error));
+    }
+    match sink.put(room) {
+        Ok(()) => Ok(()),
+        Err(error) => Err(Stopped::Unwritable(error)),
+    }
+}

@@ -1,6 +1,0 @@
-use Rattle.std.proofs.Common.{◌≡◌, ◌+◌, ◌≤◌, take}
-use Rattle.cow_map.specs.Usage.{past_new as past_of}
-use Rattle.cow_map.proofs.map.past_new.Given as goal
-
-abbrev pub invariant-loop-pair : goal.invariant-loop-pair
-invariant-loop-pair l = (l.past ≡ past_of (take l.pair-index l.pairs)) × (l.past ≤ l.size + 2)

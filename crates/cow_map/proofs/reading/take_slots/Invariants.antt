@@ -1,5 +1,0 @@
-use Rattle.cow_map.specs.Loaded.{IsLoaded}
-use Rattle.cow_map.proofs.reading.take_slots.Given as goal
-
-abbrev pub invariant-loop-slot : goal.invariant-loop-slot
-invariant-loop-slot l = IsLoaded l.initial.pairs.items l.pairs.items l.area.bytes.items l.slot l.slot

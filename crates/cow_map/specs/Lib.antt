@@ -1,6 +1,0 @@
-pub mod Loaded
-pub mod Judged
-pub mod Sorted
-pub mod Listed
-pub mod Maps
-pub mod Usage

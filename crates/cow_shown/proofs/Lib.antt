@@ -1,5 +1,0 @@
-pub mod Shown
-pub mod Exports
-pub mod Rows
-pub mod Ranges
-pub mod Fails

@@ -1,3 +1,0 @@
-mod Held
-pub mod Moves
-pub mod Begins

@@ -1,4 +1,0 @@
-pub mod NotFull
-pub mod Flown
-pub mod Fewer
-pub mod Going

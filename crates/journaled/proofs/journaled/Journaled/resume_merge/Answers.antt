@@ -1,6 +1,0 @@
--- The merge alone changed.
-use Rattle.journaled.proofs.Fewer.{unseen_have}
-use Rattle.journaled.proofs.journaled.Journaled.resume_merge.Goals as goal
-
-pub invariant_of-self : goal.invariant_of-self
-invariant_of-self g c = unseen_have c.self.inside.volume c.resume_merge.new.self g.B.Block.contents g.B.Block.layers c.self.inside.places c.resume_merge.ensures.plain c.self.invariant

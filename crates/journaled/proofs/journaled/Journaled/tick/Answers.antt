@@ -1,9 +1,0 @@
--- Layers alone changed.
-use Rattle.journaled.proofs.Fewer.{unseen_have}
-use Rattle.journaled.proofs.journaled.Journaled.tick.Goals as goal
-
-pub invariant_of-self : goal.invariant_of-self
-invariant_of-self g c = unseen_have c.self.inside.volume c.tick.new.self g.B.Block.contents g.B.Block.layers c.self.inside.places c.tick.ensures.plain c.self.invariant
-
-pub returns-clause-moving : goal.returns-clause-moving
-returns-clause-moving g c = rw (← c.self.view_is) c.tick.ensures.moving

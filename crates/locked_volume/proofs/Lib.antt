@@ -1,0 +1,10 @@
+mod Fresh
+mod Staying
+mod Matched
+mod Passes
+mod Shown
+mod Posting
+mod Denied
+mod Held
+pub mod Moves
+pub mod Begins

@@ -1,0 +1,42 @@
+// What ties the values under locks to what stands beside them.
+use std::marker::Brand;
+
+/// Names of a rig: how many volumes it has, and of each by its place the history, the boards, the entries that its journal had when
+/// the rig was made, and what the rig leaves as it was; and the queue of tickets. Each call of a program picks them.
+pub trait Room {
+    ghost use Rattle.std.specs.Prelude.{ℕ, List};
+    ghost use Rattle.journal.specs.declared.entry.Entry.{Entry};
+    ghost use Rattle.atomic_table.specs.Seated.{TableId};
+    ghost use Rattle.usage_board.specs.Passes.{BoardId};
+    ghost use Rattle.copy_queue.specs.Passes.{Queue};
+    ghost use Rattle.locked_volume.specs.Fixed.{Fixed};
+
+    ghost volumes: { ℕ };
+
+    ghost history: { ℕ → TableId };
+
+    ghost boards: { ℕ → List BoardId };
+
+    ghost start: { ℕ → List Entry };
+
+    ghost queue: { Queue };
+
+    ghost fixed: { ℕ → Fixed };
+}
+
+impl Room for Brand {
+    ghost use Rattle.std.specs.Prelude.{[]};
+    ghost use Rattle.locked_volume.specs.Names.{no_queue, no_table, nothing_fixed};
+
+    ghost volumes = { 0 };
+
+    ghost history = { λ k. no_table };
+
+    ghost boards = { λ k. [] };
+
+    ghost start = { λ k. [] };
+
+    ghost queue = { no_queue };
+
+    ghost fixed = { λ k. nothing_fixed };
+}

@@ -1,3 +1,0 @@
-pub mod Using
-pub mod Unkept
-pub mod NextStarts

@@ -1,4 +1,0 @@
-pub mod Keeping
-pub mod Rooms
-pub mod Routing
-pub mod Starting

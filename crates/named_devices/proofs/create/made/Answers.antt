@@ -1,0 +1,25 @@
+use Rattle.command_rules.specs.Naming.{AreNamed}
+use Rattle.command_rules.proofs.Keeping.{changes_keep}
+use Rattle.command_rules.proofs.NamedRules.{broken_named, laid_named, origin_made_named}
+use Rattle.named_volume.specs.Tables.{table_of}
+use Rattle.named_devices.proofs.create.made.Goals as goal
+
+pub returns-in-Origin-clause-named : goal.returns-in-Origin-clause-named
+returns-in-Origin-clause-named c = λ none room named.
+    changes_keep AreNamed c.make_origin.result (table_of c.args.held.now) (table_of c.make_origin.new.held) _
+    c.make_origin.ensures named (origin_made_named c.args.name c.args.sectors c.in-Origin.device (table_of c.args.held.now) none room named)
+
+pub returns-in-Flakey-clause-named : goal.returns-in-Flakey-clause-named
+returns-in-Flakey-clause-named c = λ none room named.
+    changes_keep AreNamed c.lay_flakey.result (table_of c.args.held.now) (table_of c.lay_flakey.new.held) _
+    c.lay_flakey.ensures named (laid_named c.args.name _ _ _ c.in-Flakey.device (table_of c.args.held.now) none room named)
+
+pub returns-in-Dust-clause-named : goal.returns-in-Dust-clause-named
+returns-in-Dust-clause-named c = λ none room named.
+    changes_keep AreNamed c.lay_dust.result (table_of c.args.held.now) (table_of c.lay_dust.new.held) _
+    c.lay_dust.ensures named (laid_named c.args.name _ _ _ c.in-Dust.device (table_of c.args.held.now) none room named)
+
+pub returns-in-Error-clause-named : goal.returns-in-Error-clause-named
+returns-in-Error-clause-named c = λ none room named.
+    changes_keep AreNamed c.lay_error.result (table_of c.args.held.now) (table_of c.lay_error.new.held) _
+    c.lay_error.ensures named (broken_named c.args.name c.args.sectors (table_of c.args.held.now) none room named)

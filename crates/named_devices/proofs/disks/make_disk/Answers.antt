@@ -1,0 +1,14 @@
+use Rattle.std.proofs.Common.{rules}
+use Rattle.std.specs.Prelude.{Ok}
+use Rattle.command_rules.specs.Disks.{make}
+use Rattle.command_rules.specs.Naming.{AreNamed}
+use Rattle.command_rules.proofs.Keeping.{changes_keep}
+use Rattle.command_rules.proofs.NamedRules.{make_named}
+use Rattle.named_volume.specs.Tables.{table_of}
+use Rattle.named_devices.proofs.disks.make_disk.Goals as goal
+
+pub returns-clause-named : goal.returns-clause-named
+unfolding make
+returns-clause-named c = λ named.
+    changes_keep AreNamed (Ok tt) (table_of c.args.held.now) _ (make c.args.name c.args.sectors (table_of c.args.held.now))
+    (search rules) named (make_named c.args.name c.args.sectors (table_of c.args.held.now) named)

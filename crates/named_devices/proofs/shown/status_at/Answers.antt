@@ -1,0 +1,20 @@
+use Rattle.named_volume.specs.Tables.{table_of}
+use Rattle.named_devices.proofs.Denied.{held_in}
+use Rattle.named_devices.proofs.InVolume.{among_in, shown_in}
+use Rattle.named_devices.proofs.Ruled.{sound_here}
+use Rattle.named_devices.proofs.shown.status_at.Goals as goal
+
+pub returns-clause-done : goal.returns-clause-done
+returns-clause-done c = λ sound.
+    shown_in c.status.result c.args.v c.args.role (table_of c.args.held.now) c.index.result.now
+    c.requires.0 c.index.ensures (c.status.ensures.done
+    (sound_here (table_of c.args.held.now) c.args.v c.index.result.now sound c.requires.0 c.index.ensures).0
+    (sound_here (table_of c.args.held.now) c.args.v c.index.result.now sound c.requires.0 c.index.ensures).1)
+
+pub returns-clause-among : goal.returns-clause-among
+returns-clause-among c =
+    among_in c.status.result c.args.role c.args.v (table_of c.args.held.now) c.index.result.now c.requires.0 c.index.ensures c.status.ensures.among
+
+pub returns-clause-held : goal.returns-clause-held
+returns-clause-held c =
+    held_in c.status.result c.args.role c.args.v (table_of c.args.held.now) c.index.result.now c.requires.0 c.index.ensures c.status.ensures.held

@@ -1,0 +1,6 @@
+-- The devices as contracts see them.
+use Rattle.command_rules.specs.State.{Table}
+use Rattle.named_volume.specs.declared.held.Held.{Held}
+
+abbrev pub table_of : Held → Table
+table_of held = record { stacks = held.stacks.items; volumes = held.volumes.items }

@@ -1,0 +1,29 @@
+// All devices.
+ghost use Rattle.std.specs.Prelude.{◌≡◌, [], IfOk};
+ghost use Rattle.named_volume.specs.Tables.{table_of};
+
+use crate::NamedVolume;
+use named_stack::NamedStack;
+use std::alloc::{AllocError, Global};
+
+/// The most devices that there may be.
+pub const MOST_DEVICES: usize = 64;
+
+/// All devices: the stacks that nothing uses, and the volumes with those that they use.
+#[derive(Drop)]
+pub struct Held {
+    pub stacks: Vec<NamedStack>,
+    pub volumes: Vec<NamedVolume>,
+}
+
+impl Held {
+    /// No devices, and room for all that there may be; a volume has at least two.
+    pub fn new(alloc: Global) -> Result<Held, AllocError>
+        ensures { IfOk result (λ held. table_of held ≡ record { stacks = []; volumes = [] }) }
+    {
+        Ok(Held {
+            stacks: Vec::with_capacity(alloc, MOST_DEVICES)?,
+            volumes: Vec::with_capacity(alloc, MOST_DEVICES / 2)?,
+        })
+    }
+}

@@ -1,7 +1,0 @@
--- The requests before the present one are refused, the others are as they were.
-use Rattle.std.proofs.Common.{◌≡◌, ◌++◌, ◌∷◌, [], map, take, drop}
-use Rattle.pending.specs.Routes.{refused_of}
-use Rattle.pending.proofs.routes.refuse.Given as goal
-
-abbrev pub invariant-loop-f : goal.invariant-loop-f
-invariant-loop-f l = l.flights ≡ map (refused_of (l.snap ∷ [])) (take l.f-index l.fn.flights) ++ drop l.f-index l.fn.flights

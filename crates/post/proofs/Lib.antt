@@ -1,7 +1,0 @@
-mod Fresh
-mod Staying
-mod Matched
-mod Passes
-mod Shown
-mod Posting
-mod Denied

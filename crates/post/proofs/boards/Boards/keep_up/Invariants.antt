@@ -1,8 +1,0 @@
--- The usages of the first places are published last.
-use Rattle.post.specs.Boards.{IsKeptUp}
-use Rattle.post.specs.Usages.{usage_at}
-use Rattle.post.proofs.Passes.{AreDone}
-use Rattle.post.proofs.boards.Boards.keep_up.Given as goal
-
-abbrev pub invariant-loop-place : goal.invariant-loop-place
-invariant-loop-place g l = AreDone (λ k. IsKeptUp (usage_at k l.volume)) l.self l.fn.publishers l.publishers-inside.passes.items l.place

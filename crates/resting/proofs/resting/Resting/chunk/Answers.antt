@@ -1,8 +1,0 @@
--- The chunk of the snapshot that is lent.
-use Rattle.std.proofs.Common.{sym, ◌∙◌, ap}
-use Rattle.resting.specs.Rested.{Attached}
-use Rattle.resting.proofs.Lends.{seen_at}
-use Rattle.resting.proofs.resting.Resting.chunk.Goals as goal
-
-pub returns : goal.returns
-returns g c = λ d. c.chunk.ensures.is ∙ ap (λ (x : Attached g.row.B.Denot). x.chunk) (sym (seen_at c.self.inside.volume c.args.self.now c.self.view_is c.args.k c.snap.result.now c.requires c.snap.ensures.value d))

@@ -1,8 +1,0 @@
--- The snapshot that is lent is live or not.
-use Rattle.std.proofs.Common.{sym, ◌∙◌, ap}
-use Rattle.resting.specs.Rested.{Attached}
-use Rattle.resting.proofs.Lends.{seen_at}
-use Rattle.resting.proofs.resting.Resting.is_live.Goals as goal
-
-pub returns : goal.returns
-returns g c = λ d. c.is_live.ensures ∙ ap (λ (x : Attached g.row.B.Denot). x.live) (sym (seen_at c.self.inside.volume c.args.self.now c.self.view_is c.args.k c.snap.result.now c.requires c.snap.ensures.value d))

@@ -1,3 +1,0 @@
-pub mod Beside
-pub mod Moments
-pub mod Refusals

@@ -1,0 +1,106 @@
+-- A request that was not accepted.
+use Rattle.std.proofs.Common.{◌≡◌, ◌≢◌, inl, inr, ℕ, zero, suc, get_or, set, Bool, ◌+◌, ◌≤◌, true, false, List, [], ◌∷◌, length, map, Option, Some, None, refl, sym, ◌∙◌, ap, subst, arith}
+use Rattle.std.specs.Prelude.{◌&&◌, ◌⊎◌, not, IfSome}
+use Rattle.std.specs.List.{list_all}
+use Rattle.sector.specs.declared.refusal.Refusal.{Refusal}
+use Rattle.sector.specs.declared.refusal.Refusal.TheVariants.{Invalid, Overflow}
+use Rattle.settled.specs.Refusals.{IsStarved, is_starved}
+use Rattle.settled.proofs.Starved.{memory_starved}
+use Rattle.device.specs.Layers.{Layer}
+use Rattle.plain.specs.declared.request.Overflowing.TheVariants.{Did}
+use Rattle.plain.specs.declared.request.Request.{Request}
+use Rattle.snapshot.specs.Kept.{Kept}
+use Rattle.volume.specs.Volumed.{Volumed}
+use Rattle.volume.specs.Leaving.{has_group_in, is_done_of, is_quiet_of}
+use Rattle.snapshots.specs.Finding.{place_of_snap}
+use Rattle.snapshots.specs.Starting.{unroomed}
+use Rattle.volume.specs.Asking.{merging_number}
+use Rattle.volume.specs.Submitting.{SameButRoom, IsOverflown, IsRefusedAs}
+use Rattle.volume_commands.specs.Serving.{CanServe}
+use Rattle.volume_commands.proofs.Limits.{only_its_snap}
+
+same_room : {B : Type 0} (v : Volumed B) → SameButRoom v v
+same_room v = record { roomed = refl; becomes = refl }
+
+all_unroomed : {B : Type 0} (test : Kept B → Bool) (xs : List (Kept B)) → ((s : Kept B) → test (unroomed s) ≡ test s) → list_all test (map unroomed xs) ≡ list_all test xs
+all_unroomed test [] same = refl
+all_unroomed test (x ∷ xs) same = ap (λ b. b && list_all test (map unroomed xs)) (same x) ∙ ap (λ b. test x && b) (all_unroomed test xs same)
+
+all_roomed : {B : Type 0} (test : Kept B → Bool) (xs ys : List (Kept B)) → map unroomed xs ≡ map unroomed ys → ((s : Kept B) → test (unroomed s) ≡ test s) → list_all test xs ≡ list_all test ys
+all_roomed test xs ys e same = sym (all_unroomed test xs same) ∙ ap (list_all test) e ∙ all_unroomed test ys same
+
+-- where nothing but room was made, the volume is as quiet
+pub room_quiet : {B : Type 0} (old new : Volumed B) → SameButRoom old new → is_quiet_of new ≡ is_quiet_of old
+room_quiet {B} old new same =
+    ap (λ (v : Volumed B). is_quiet_of v) same.becomes ∙ ap (λ b. Rattle.std.specs.Prelude.◌==◌ (length old.flights) 0 && (not (has_group_in old.merge) && b)) (all_roomed is_done_of new.snaps old.snaps same.roomed (λ s. refl))
+
+-- where a snapshot is marked for its full store, the volume is as quiet
+all_marked : {B : Type 0} (test : Kept B → Bool) (xs : List (Kept B)) (k : ℕ) (x y : Kept B) → x ≡ get_or xs k x → test y ≡ test x → list_all test (set xs k y) ≡ list_all test xs
+all_marked test [] k x y is same = refl
+all_marked test (z ∷ zs) zero x y is same = ap (λ b. b && list_all test zs) (same ∙ ap test is)
+all_marked test (z ∷ zs) (suc k) x y is same = ap (λ b. test z && b) (all_marked test zs k x y is same)
+
+marked_quiet : {B : Type 0} (contents : B → List ℕ) (layers : B → List Layer) (number first : ℕ) (old new : Volumed B) → IsOverflown contents layers number first old new → is_quiet_of new ≡ is_quiet_of old
+marked_quiet {B} contents layers number first old new o =
+    let did : Kept B = record o.snap { overflow = Did } in
+    let done : list_all is_done_of new.snaps ≡ list_all is_done_of old.snaps =
+    all_roomed is_done_of new.snaps (set old.snaps o.place did) o.marked (λ s. refl) ∙ all_marked is_done_of old.snaps o.place o.snap did o.is refl in
+    ap (λ (v : Volumed B). is_quiet_of v) o.becomes ∙ ap (λ b. Rattle.std.specs.Prelude.◌==◌ (length old.flights) 0 && (not (has_group_in old.merge) && b)) done
+
+-- what a look at the snapshot that is being merged says
+pub apart_by : {B : Type 0} (v : Volumed B) (seen : Option ℕ) → seen ≡ merging_number v.merge → IfSome seen (λ number. place_of_snap number v.snaps ≡ None) → (number : ℕ) → merging_number v.merge ≡ Some number → place_of_snap number v.snaps ≡ None
+apart_by v None is apart number e = absurd (let none : None ≡ Some number = is ∙ e in cc)
+apart_by v (Some n) is apart number e = (let some : Some n ≡ Some number = is ∙ e in let same : n ≡ number = cc in ap (λ k. place_of_snap k v.snaps) (sym same) ∙ apart)
+
+-- a request was refused: for want of room, or as the volume says
+abbrev pub IsUnsent : {B : Type 0} → (B → List ℕ) → (B → List Layer) → (B → ℕ) → Request → Refusal → Volumed B → Volumed B → Type 0
+IsUnsent contents layers size request refusal old new = IsStarved refusal old new ⊎ IsRefusedAs contents layers size request refusal old new
+
+module _ {B : Type 0} (contents : B → List ℕ) (layers : B → List Layer) (size : B → ℕ) (request : Request) (refusal : Refusal) (old new : Volumed B) (refused : IsUnsent contents layers size request refusal old new) where
+  -- one that its snapshot refuses is not starved
+  pub invalid_refused : refusal ≡ Invalid → IsRefusedAs contents layers size request refusal old new
+  invalid_refused invalid = elim refused [
+    | inl starved ↦ absurd (let both : false ≡ true = sym (ap is_starved invalid) ∙ starved.0 in cc)
+    | inr other ↦ other
+  ]
+
+  -- refused for another reason than its snapshot: there is no room
+  pub starved_only : CanServe size request.dev request.op request.range old → ((number : ℕ) → merging_number old.merge ≡ Some number → place_of_snap number old.snaps ≡ None) → is_quiet_of old ≡ true → length old.snaps ≤ 8 → refusal ≢ Invalid → refusal ≢ Overflow → (is_starved refusal ≡ true) × SameButRoom old new
+  starved_only can apart quiet few alive free = elim refused [
+    | inl starved ↦ (starved.0, subst (SameButRoom old) (sym starved.1) (same_room old))
+    | inr plain ↦ elim plain [
+      | inl first ↦ absurd (elim (only_its_snap size request old can apart quiet few refusal first.0) [ inl lost ↦ alive lost | inr shut ↦ free shut ])
+      | inr later ↦ elim later [
+        | inl lacks ↦ (memory_starved refusal lacks.1, lacks.2)
+        | inr full ↦ absurd (elim full [ inl lost ↦ alive lost.1 | inr shut ↦ free shut.1 ])
+      ]
+    ]
+  ]
+
+  pub refused_requests : new.requests ≤ old.requests + 1
+  refused_requests = elim refused [
+    | inl starved ↦ (let same : new.requests ≡ old.requests = ap (λ (v : Volumed B). v.requests) starved.1 in omega (arith, same))
+    | inr plain ↦ elim plain [
+      | inl first ↦ (let same : new.requests ≡ old.requests = ap (λ (v : Volumed B). v.requests) first.1 in omega (arith, same))
+      | inr later ↦ elim later [
+        | inl lacks ↦ (let same : new.requests ≡ old.requests = ap (λ (v : Volumed B). v.requests) lacks.2.becomes in omega (arith, same))
+        | inr full ↦ elim full [
+          | inl lost ↦ (let same : new.requests ≡ old.requests = ap (λ (v : Volumed B). v.requests) lost.2.2.becomes in omega (arith, same))
+          | inr shut ↦ (let same : new.requests ≡ old.requests = ap (λ (v : Volumed B). v.requests) shut.2.2.becomes in omega (arith, same))
+        ]
+      ]
+    ]
+  ]
+
+  -- it is as quiet as before, where its snapshot is not spoiled
+  pub refused_quiet : refusal ≢ Invalid → is_quiet_of new ≡ is_quiet_of old
+  refused_quiet other = elim refused [
+    | inl starved ↦ ap (λ (v : Volumed B). is_quiet_of v) starved.1
+    | inr plain ↦ elim plain [
+      | inl first ↦ ap (λ (v : Volumed B). is_quiet_of v) first.1
+      | inr later ↦ elim later [
+        | inl lacks ↦ room_quiet old new lacks.2
+        | inr full ↦ elim full [ inl lost ↦ absurd (other lost.1) | inr shut ↦ marked_quiet contents layers shut.2.0 request.range.first old new shut.2.2 ]
+      ]
+    ]
+  ]

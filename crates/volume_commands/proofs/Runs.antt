@@ -1,0 +1,66 @@
+-- Events that are done one after another until a volume is quiet: none of them is one of a merge.
+use Rattle.std.proofs.Common.{◌≡◌, ℕ, inl, inr, true, false, List, [], Option, Some, None, refl, sym, ◌∙◌, ap}
+use Rattle.std.proofs.lemmas.Bool.{cases_Bool, true≢false}
+use Rattle.device.specs.Layers.{Layer}
+use Rattle.plain.specs.declared.event.Event.{Event}
+use Rattle.plain.specs.declared.event.Outcome.{Outcome}
+use Rattle.plain.specs.declared.request.Reply.{Reply}
+use Rattle.volume_laws.specs.MergeDue.{has_group}
+use Rattle.event_machine.specs.Held.{Moving}
+use Rattle.event_machine.specs.MergeDue.{due_all}
+use Rattle.event_machine.specs.Seen.{replied_by}
+use Rattle.event_machine.specs.Stepping.{stepped}
+use Rattle.merge.specs.Due.{has_group_of}
+use Rattle.merge.specs.Merging.{Merging, books_of as merging_books}
+use Rattle.volume.specs.EventKinds.{is_of_merge}
+use Rattle.volume.specs.Exact.{IsExact}
+use Rattle.volume.specs.Leaving.{has_group_in, is_quiet_of}
+use Rattle.volume.specs.Moved.{moving_of}
+use Rattle.volume.specs.Reaching.{IsRun}
+use Rattle.volume.specs.Stepping.{KeepsAll}
+use Rattle.volume.specs.Volumed.{Volumed, is_loud_in_all}
+use Rattle.volume.proofs.Reaches.{reaches_none, reaches_more}
+use Rattle.volume_commands.proofs.Freed.{grouped, step_keeps, beside_steps, beside_due, freed, free_seen}
+use Rattle.volume_commands.proofs.Settled.{keeps_none, keeps_more}
+
+-- so far
+pub record RunsBeside {B : Type 0} (contents : B → List ℕ) (layers : B → List Layer) (size : B → ℕ) (before after : Option Reply) (old new : Volumed B) : Type 0 where
+  pub run : IsRun contents layers before after old new
+  pub kept : KeepsAll size old new
+  pub requests : new.requests ≡ old.requests
+  pub free : is_loud_in_all layers old ≡ true → grouped (moving_of contents layers None new).merge ≡ []
+
+module _ {B : Type 0} (contents : B → List ℕ) (layers : B → List Layer) (size : B → ℕ) where
+  pub beside_none : (replied : Option Reply) (v : Volumed B) → has_group_in v.merge ≡ false → RunsBeside contents layers size replied replied v v
+  beside_none replied v free = record {
+    run = record { reaches = λ loud. reaches_none (moving_of contents layers replied v); loud = refl };
+    kept = keeps_none size v;
+    requests = refl;
+    free = λ loud. freed contents layers v.merge free;
+  }
+
+  module _ (before after : Option Reply) (v w u : Volumed B) (event : Event) (outcome : Outcome) (r : RunsBeside contents layers size before after v w) (busy : is_quiet_of w ≡ false)
+      (first : (replied : Option Reply) → due_all (moving_of contents layers replied w) ≡ Some event)
+      (calm : is_of_merge event ≡ true → has_group_in w.merge ≡ false → is_quiet_of w ≡ true)
+      (seen : is_of_merge event ≡ true → (m : Merging B) → w.merge ≡ Some m → has_group_of m.group ≡ has_group (merging_books contents true m)) where
+    -- where no device drops writes, the event is none of the merge
+    beside : is_loud_in_all layers v ≡ true → is_of_merge event ≡ false
+    beside loud = elim (cases_Bool (is_of_merge event)) [
+      | inl merges ↦ absurd (true≢false (sym (calm merges (free_seen contents layers w.merge (r.free loud) (seen merges))) ∙ busy))
+      | inr other ↦ other
+    ]
+
+    -- one event more
+    pub beside_more : IsExact contents layers event outcome w u → is_loud_in_all layers u ≡ is_loud_in_all layers w → KeepsAll size w u → u.requests ≡ w.requests → RunsBeside contents layers size before (replied_by outcome after) v u
+    beside_more e loud kept requests = record {
+      run = record {
+        reaches = λ all. reaches_more (moving_of contents layers before v) (moving_of contents layers after w) (moving_of contents layers (replied_by outcome after) u) event (r.run.reaches all)
+            (beside_due event (moving_of contents layers after w) (first after) (beside all)) (sym (beside_steps event (moving_of contents layers after w) (r.free all) (beside all)) ∙ e.step (r.run.loud ∙ all) after);
+        loud = loud ∙ r.run.loud;
+      };
+      kept = keeps_more size v w u r.kept kept;
+      requests = requests ∙ r.requests;
+      free = λ all.
+          let step : stepped event (moving_of contents layers None w) ≡ moving_of contents layers (replied_by outcome None) u = sym (beside_steps event (moving_of contents layers None w) (r.free all) (beside all)) ∙ e.step (r.run.loud ∙ all) None in
+          ap (λ (x : Moving). grouped x.merge) (sym step) ∙ step_keeps [] event (moving_of contents layers None w) (r.free all);
+    }

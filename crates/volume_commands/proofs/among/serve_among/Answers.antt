@@ -1,0 +1,47 @@
+-- The request was served, or refused.
+use Rattle.std.proofs.Common.{inl, inr, subst, List}
+use Rattle.plain.specs.declared.request.Replied.{Replied}
+use Rattle.volume_commands.specs.Rested.{rested_of}
+use Rattle.volume_commands.specs.Draining.{IsAnsweredAmong}
+use Rattle.volume_commands.proofs.Seen.{devices_kept, devices_more}
+use Rattle.volume_commands.proofs.Refusing.{invalid_refused, refused_requests}
+use Rattle.volume_commands.proofs.Amongs.{turned_plain, turned_invalid}
+use Rattle.volume_commands.proofs.among.serve_among.Goals as goal
+
+pub returns-in-Ok-submitted-clause-served : goal.returns-in-Ok-submitted-clause-served
+returns-in-Ok-submitted-clause-served g c = record {
+  number = c.in-Ok-submitted.number;
+  mid = c.submit-submitted.new.self;
+  accepted = c.in-Ok-submitted.ensures.ok;
+  answered = subst (λ (rs : List Replied). IsAnsweredAmong g.B.Block.contents g.B.Block.layers c.in-Ok-submitted.number c.drain_for.result c.submit-submitted.new.self c.drain_for.new.volume rs c.drain_for.new.ended.items)
+      c.reserve.ensures.items c.drain_for.ensures.answered;
+  idle = c.drain_for.ensures.idle;
+}
+
+pub returns-in-Ok-submitted-clause-kept : goal.returns-in-Ok-submitted-clause-kept
+returns-in-Ok-submitted-clause-kept g c =
+    devices_more g.B.Block.size g.B.Block.layers (rested_of c.args.volume.now) (rested_of c.submit-submitted.new.self) (rested_of c.drain_for.new.volume)
+    (devices_kept g.B.Block.size g.B.Block.layers c.args.volume.now c.submit-submitted.new.self c.in-Ok-submitted.ensures.kept c.in-Ok-submitted.ensures.ok.loud) c.drain_for.ensures.kept
+
+pub returns-in-Invalid-clause-refused : goal.returns-in-Invalid-clause-refused
+returns-in-Invalid-clause-refused g c =
+    inr (turned_invalid g.B.Block.contents g.B.Block.layers g.B.Block.size c.args.request c.in-Err.refusal c.is_live-live.result c.args.volume.now c.submit-submitted.new.self c.follow.new.volume
+    c.args.ended.now.items c.reserve.new.self.items c.follow.new.ended.items c.is_live-live.ensures c.reserve.ensures.items
+    (invalid_refused g.B.Block.contents g.B.Block.layers g.B.Block.size c.args.request c.in-Err.refusal c.args.volume.now c.submit-submitted.new.self c.in-Err.ensures.refused c.in-Invalid.is) c.in-Invalid.is c.follow.ensures.drained c.follow.ensures.dead c.follow.ensures.idle)
+
+pub returns-in-Invalid-clause-kept : goal.returns-in-Invalid-clause-kept
+returns-in-Invalid-clause-kept g c =
+    devices_more g.B.Block.size g.B.Block.layers (rested_of c.args.volume.now) (rested_of c.submit-submitted.new.self) (rested_of c.follow.new.volume)
+    (devices_kept g.B.Block.size g.B.Block.layers c.args.volume.now c.submit-submitted.new.self c.in-Err.ensures.kept c.in-Err.ensures.loud) c.follow.ensures.kept
+
+pub returns-in_default-refusal : goal.returns-in_default-refusal
+returns-in_default-refusal g c = record {
+  served = tt;
+  refused = elim c.in-Err.ensures.refused [
+    | inl starved ↦ inl (starved.0, starved.1, c.reserve.ensures.items)
+    | inr refused ↦ inr (turned_plain g.B.Block.contents g.B.Block.layers g.B.Block.size c.args.request c.in-Err.refusal c.args.volume.now c.submit-submitted.new.self c.args.ended.now.items c.reserve.new.self.items
+        c.in_default-refusal.not-Invalid refused c.reserve.ensures.items)
+  ];
+  kept = devices_kept g.B.Block.size g.B.Block.layers c.args.volume.now c.submit-submitted.new.self c.in-Err.ensures.kept c.in-Err.ensures.loud;
+  requests = refused_requests g.B.Block.contents g.B.Block.layers g.B.Block.size c.args.request c.in-Err.refusal c.args.volume.now c.submit-submitted.new.self c.in-Err.ensures.refused;
+}

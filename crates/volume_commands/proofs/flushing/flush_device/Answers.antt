@@ -1,0 +1,64 @@
+-- The flush was done, or refused.
+use Rattle.std.proofs.Common.{inl, inr, ◌∙◌, ap}
+use Rattle.plain.specs.declared.request.Reply.TheVariants.{Data, Written, Flushed, Refused}
+use Rattle.volume_commands.specs.Rested.{rested_of, merged_of}
+use Rattle.volume_commands.proofs.Going.{chunks_by}
+use Rattle.volume_commands.proofs.WriteRuns.{answer}
+use Rattle.volume_commands.proofs.Flushes.{flush_can, flush_did, flush_good, plain_flush, plain_flush_refused}
+use Rattle.volume_commands.proofs.flushing.flush_device.Goals as goal
+
+pub serve-requires-clause-can : goal.serve-requires-clause-can
+serve-requires-clause-can g c =
+    let chunk = chunks_by c.args.volume.now c.piece.result c.piece.ensures.piece c.piece.ensures.within c.piece.ensures.allowed in
+    flush_can g.B.Block.size c.args.dev c.request_of.result c.args.volume.now c.request_of.ensures c.requires.there c.requires.some c.requires.requests chunk.1 chunk.0
+
+pub returns-in-Ok-Refused-clause-refused : goal.returns-in-Ok-Refused-clause-refused
+returns-in-Ok-Refused-clause-refused g c =
+    let new = merged_of g.B.Block.contents g.B.Block.layers (rested_of c.serve.new.volume) in
+    inr (inl (
+      c.requires.there,
+      (
+        c.in-Ok-Refused.failure,
+        c.refusal_for.ensures,
+        flush_did g.B.Block.contents g.B.Block.layers c.args.dev c.args.volume.now c.serve.new.volume c.request_of.result (Refused c.in-Ok-Refused.failure) c.request_of.ensures
+            (λ settled. c.in-Ok-Refused.ensures.answer settled ∙ ap (answer new) c.in-Ok-Refused.field-0-is),
+      ),
+    ))
+
+pub returns-in-Ok-Refused-clause-loses : goal.returns-in-Ok-Refused-clause-loses
+returns-in-Ok-Refused-clause-loses g c =
+    plain_flush_refused g.B.Block.contents g.B.Block.layers c.args.dev c.args.volume.now c.serve.new.volume c.refusal_for.result (returns-in-Ok-Refused-clause-refused g c)
+
+pub returns-in-Ok-Written-clause-done : goal.returns-in-Ok-Written-clause-done
+returns-in-Ok-Written-clause-done g c =
+    let new = merged_of g.B.Block.contents g.B.Block.layers (rested_of c.serve.new.volume) in
+    flush_good g.B.Block.contents g.B.Block.layers c.args.dev c.args.volume.now c.serve.new.volume Written tt
+    (flush_did g.B.Block.contents g.B.Block.layers c.args.dev c.args.volume.now c.serve.new.volume c.request_of.result Written c.request_of.ensures
+    (λ settled. c.in-Ok-Written.ensures.answer settled ∙ ap (answer new) c.in-Ok-Written.field-0-is))
+
+pub returns-in-Ok-Written-clause-shows : goal.returns-in-Ok-Written-clause-shows
+returns-in-Ok-Written-clause-shows g c = plain_flush g.B.Block.contents g.B.Block.layers c.args.dev c.args.volume.now c.serve.new.volume (returns-in-Ok-Written-clause-done g c)
+
+pub returns-in-Ok-Flushed-clause-done : goal.returns-in-Ok-Flushed-clause-done
+returns-in-Ok-Flushed-clause-done g c =
+    let new = merged_of g.B.Block.contents g.B.Block.layers (rested_of c.serve.new.volume) in
+    flush_did g.B.Block.contents g.B.Block.layers c.args.dev c.args.volume.now c.serve.new.volume c.request_of.result Flushed c.request_of.ensures
+    (λ settled. c.in-Ok-Flushed.ensures.answer settled ∙ ap (answer new) c.in-Ok-Flushed.field-0-is)
+
+pub returns-in-Ok-Flushed-clause-shows : goal.returns-in-Ok-Flushed-clause-shows
+returns-in-Ok-Flushed-clause-shows g c = plain_flush g.B.Block.contents g.B.Block.layers c.args.dev c.args.volume.now c.serve.new.volume (returns-in-Ok-Flushed-clause-done g c)
+
+pub returns-in-Ok-Data-clause-done : goal.returns-in-Ok-Data-clause-done
+returns-in-Ok-Data-clause-done g c =
+    let new = merged_of g.B.Block.contents g.B.Block.layers (rested_of c.serve.new.volume) in
+    flush_good g.B.Block.contents g.B.Block.layers c.args.dev c.args.volume.now c.serve.new.volume c.in-Ok-Data.field-0 (rw c.in-Ok-Data.field-0-is tt)
+    (flush_did g.B.Block.contents g.B.Block.layers c.args.dev c.args.volume.now c.serve.new.volume c.request_of.result c.in-Ok-Data.field-0 c.request_of.ensures c.in-Ok-Data.ensures.answer)
+
+pub returns-in-Ok-Data-clause-shows : goal.returns-in-Ok-Data-clause-shows
+returns-in-Ok-Data-clause-shows g c = plain_flush g.B.Block.contents g.B.Block.layers c.args.dev c.args.volume.now c.serve.new.volume (returns-in-Ok-Data-clause-done g c)
+
+pub returns-clause-refused : goal.returns-clause-refused
+returns-clause-refused g c = inr (inr (c.requires.there, c.in-Err.ensures.starved.0, c.in-Err.ensures.starved.1))
+
+pub returns-clause-loses : goal.returns-clause-loses
+returns-clause-loses g c = plain_flush_refused g.B.Block.contents g.B.Block.layers c.args.dev c.args.volume.now c.serve.new.volume c.in-Err.refusal (returns-clause-refused g c)

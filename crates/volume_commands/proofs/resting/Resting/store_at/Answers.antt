@@ -1,0 +1,8 @@
+-- The store of the snapshot that is lent.
+use Rattle.std.proofs.Common.{sym, ◌∙◌, ap}
+use Rattle.volume_commands.specs.Rested.{Attached}
+use Rattle.volume_commands.proofs.Lends.{seen_at}
+use Rattle.volume_commands.proofs.resting.Resting.store_at.Goals as goal
+
+pub returns : goal.returns
+returns g c = λ d. c.device.ensures ∙ ap (λ (x : Attached g.row.B.Denot). x.store) (sym (seen_at c.self.inside.volume c.args.self.now c.self.view_is c.args.k c.snap.result.now c.requires c.snap.ensures.value d))

@@ -1,0 +1,84 @@
+// One request of a command, among requests in flight: it is submitted, and then all that is due is done.
+ghost use Rattle.std.specs.Prelude.{◌≡◌, ◌⊎◌, ◌+◌, ◌*◌, ◌≤◌, ℕ, List, length, vec_capacity, vec_len, IfOk, IfErr, true, false, None};
+ghost use Rattle.sector.specs.declared.refusal.Refusal.TheVariants.{Invalid, NoMemory};
+ghost use Rattle.plain.specs.declared.request.Op.TheVariants.{Write};
+ghost use Rattle.volume_commands.specs.Rested.{rested_of};
+ghost use Rattle.volume_commands.specs.Kept.{KeepsDevices};
+ghost use Rattle.volume_commands.specs.Draining.{IsDrainedApart, is_idle_of};
+ghost use Rattle.volume_commands.specs.Among.{is_live_dev, IsServedAmong, IsRefusedAmong};
+
+use crate::draining::{drain_apart, drain_for};
+use crate::serving::look;
+use crate::{Journaled, Replied};
+use in_flight::MAX_REQUESTS;
+use layers::Layered;
+use plain::{Dev, Reply, Request};
+use sector::Refusal;
+
+/// Whether a request's device is a snapshot that is live.
+fn is_live<B: Layered>(volume: &Journaled<B>, dev: Dev) -> bool
+    ensures { result ≡ is_live_dev dev (rested_of volume.now) }
+{
+    match dev {
+        Dev::Origin => false,
+        Dev::Snap(number) => {
+            if volume.merging() == Some(number) {
+                return false;
+            }
+            match volume.usage(number) {
+                Ok(Some(_)) => true,
+                Ok(None) => false,
+                Err(_) => false,
+            }
+        }
+    }
+}
+
+/// What follows a request that is answered `Invalid` at once: where its snapshot was live it is spoiled by that, and all that
+/// is due then is done, but for events of a merge. There is room in `ended` for a reply to each request in flight.
+fn follow<B: Layered>(volume: &mut Journaled<B>, live: bool, ended: &mut Vec<Replied>)
+    requires room { vec_len ended.old + length volume.old.flights ≤ vec_capacity ended.old }
+    ensures drained { IsDrainedApart B.contents B.layers volume.old volume.new ended.old.items ended.new.items }
+    ensures dead { live ≡ false → (volume.new ≡ volume.old) × (ended.new.items ≡ ended.old.items) }
+    ensures idle { live ≡ true → is_idle_of B.contents B.layers volume.new ≡ true }
+    ensures kept { KeepsDevices B.layers B.size (rested_of volume.old) (rested_of volume.new) }
+    ensures requests { volume.new.requests ≡ volume.old.requests }
+{
+    if live {
+        drain_apart(volume, ended);
+    }
+}
+
+/// Submits the request of a piece, and does all that is due then, of a merge only until its reply. Tells that; those to other
+/// requests are put at the end of `ended`, which has room for one of each request that can be in flight. What is refused is
+/// followed by nothing, but for a write that spoiled its snapshot.
+pub(crate) fn serve_among<B: Layered>(
+    volume: &mut Journaled<B>,
+    request: Request,
+    ended: &mut Vec<Replied>,
+) -> Result<Reply, Refusal>
+    requires bytes { (bytes : List ℕ) → request.op ≡ Write bytes → length bytes ≡ 512 * request.range.count }
+    ensures served { IfOk result (λ reply. IsServedAmong B.contents B.layers request reply volume.old volume.new ended.old.items ended.new.items) }
+    ensures refused { IfErr result (λ refusal. IsRefusedAmong B.contents B.layers B.size request refusal volume.old volume.new ended.old.items ended.new.items) }
+    ensures kept { KeepsDevices B.layers B.size (rested_of volume.old) (rested_of volume.new) }
+    ensures requests { volume.new.requests ≤ volume.old.requests + 1 }
+{
+    let Ok(()) = ended.reserve(MAX_REQUESTS) else {
+        return Err(Refusal::NoMemory);
+    };
+    let live = is_live(volume, request.dev);
+    look(volume);
+    let submitted = volume.submit(request);
+    // No more requests are in flight than there is room for.
+    let _ = volume.flying();
+    match submitted {
+        Ok(number) => Ok(drain_for(volume, number, ended)),
+        Err(refusal) => match refusal {
+            Refusal::Invalid => {
+                follow(volume, live, ended);
+                Err(Refusal::Invalid)
+            }
+            _ => Err(refusal),
+        },
+    }
+}

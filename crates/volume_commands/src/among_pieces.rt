@@ -1,0 +1,216 @@
+// A command of a volume with requests in flight, cut into pieces: each is served before the next, and the first that is not
+// done ends it.
+ghost use Rattle.std.specs.Prelude.{◌≡◌, ◌⊎◌, ℕ, ◌+◌, ◌*◌, ◌≤◌, ◌<◌, ◌++◌, [], take, length, vec_capacity, vec_len, IfOk, IfErr, OnOk, true, false, None};
+ghost use Rattle.plain.specs.declared.request.Reply.{Reply as AnyReply};
+ghost use Rattle.plain.specs.declared.request.Op.TheVariants.{Read, Write};
+ghost use Rattle.chunk.specs.Pieces.{span_of, pieces_of};
+ghost use Rattle.settled.specs.Commands.{bytes_in};
+ghost use Rattle.volume.specs.Volumed.{piece_with};
+ghost use Rattle.volume_commands.specs.Rested.{has_dev, rested_of};
+ghost use Rattle.volume_commands.specs.Flying.{IsWhole};
+ghost use Rattle.volume_commands.specs.Kept.{KeepsDevices};
+ghost use Rattle.volume_commands.specs.Among.{AreReadAmong, AreWrittenAmong, IsPieceFailed, IsPieceServed, IsReadRefusedAmong, IsReadStopped, IsWriteRefusedAmong, IsWriteStopped, pieces_among};
+
+use crate::among::serve_among;
+use crate::serving::is_there;
+use crate::{Journaled, Replied, Resting, refusal_for};
+use chunk::Geometry;
+use layers::Layered;
+use plain::{Dev, Op, Reply, Request};
+use sector::{Buf, Range, Refusal, SECTOR_BYTES};
+use std::alloc::Global;
+
+/// Writes one piece.
+fn write_piece_among<B: Layered>(
+    volume: &mut Journaled<B>,
+    alloc: Global,
+    dev: Dev,
+    piece: Range,
+    bytes: &[u8],
+    ended: &mut Vec<Replied>,
+) -> Result<(), Refusal>
+    requires room { length bytes.now ≡ 512 * piece.count }
+    ensures written { OnOk result ((reply : AnyReply) × IsPieceServed B.contents B.layers dev (Write bytes.now) (span_of piece) reply volume.old volume.new ended.old.items ended.new.items) }
+    ensures failed { IfErr result (λ refusal. IsPieceFailed B.contents B.layers B.size dev (Write bytes.now) (span_of piece) refusal volume.old volume.new ended.old.items ended.new.items) }
+    ensures kept { KeepsDevices B.layers B.size (rested_of volume.old) (rested_of volume.new) }
+    ensures requests { volume.new.requests ≤ volume.old.requests + 1 }
+{
+    let Ok(bytes) = Buf::from_slice(alloc, bytes) else {
+        return Err(Refusal::NoMemory);
+    };
+    let request = Request {
+        dev,
+        op: Op::Write(bytes),
+        range: piece,
+    };
+    match serve_among(volume, request, ended) {
+        Ok(Reply::Refused(failure)) => Err(refusal_for(failure)),
+        Ok(Reply::Written) => Ok(()),
+        Ok(Reply::Flushed) => Ok(()),
+        Ok(Reply::Data(_)) => Ok(()),
+        Err(refusal) => Err(refusal),
+    }
+}
+
+/// Reads one piece to the end of `out`, which has room for it.
+fn read_piece_among<B: Layered>(
+    volume: &mut Journaled<B>,
+    dev: Dev,
+    piece: Range,
+    out: &mut Vec<u8>,
+    ended: &mut Vec<Replied>,
+) -> Result<(), Refusal>
+    requires room { vec_len out.old + 512 * piece.count ≤ vec_capacity out.old }
+    ensures read { OnOk result ((reply : AnyReply) × IsPieceServed B.contents B.layers dev Read (span_of piece) reply volume.old volume.new ended.old.items ended.new.items × (out.new.items ≡ out.old.items ++ take (512 * piece.count) (bytes_in reply))) }
+    ensures failed { IfErr result (λ refusal. IsPieceFailed B.contents B.layers B.size dev Read (span_of piece) refusal volume.old volume.new ended.old.items ended.new.items) }
+    ensures len { vec_len out.new ≤ vec_len out.old + 512 * piece.count }
+    ensures capacity { vec_capacity out.old ≤ vec_capacity out.new }
+    ensures kept { KeepsDevices B.layers B.size (rested_of volume.old) (rested_of volume.new) }
+    ensures requests { volume.new.requests ≤ volume.old.requests + 1 }
+{
+    let request = Request {
+        dev,
+        op: Op::Read,
+        range: piece,
+    };
+    match serve_among(volume, request, ended) {
+        Ok(Reply::Refused(failure)) => Err(refusal_for(failure)),
+        Ok(Reply::Written) => Ok(()),
+        Ok(Reply::Flushed) => Ok(()),
+        Ok(Reply::Data(bytes)) => {
+            // No more than the piece has.
+            let count = bytes.len().min(piece.count as usize * SECTOR_BYTES);
+            match out.extend_from_slice(&bytes.as_slice()[..count]) {
+                Ok(()) => Ok(()),
+                Err(_) => unreachable!(),
+            }
+        }
+        Err(refusal) => Err(refusal),
+    }
+}
+
+/// Writes a range, piece after piece.
+fn write_pieces_among<B: Layered>(
+    volume: &mut Journaled<B>,
+    alloc: Global,
+    dev: Dev,
+    range: Range,
+    bytes: &[u8],
+    ended: &mut Vec<Replied>,
+) -> Result<(), Refusal>
+    requires room { length bytes.now ≡ 512 * range.count }
+    ensures written { OnOk result (AreWrittenAmong B.contents B.layers dev (pieces_of (piece_with volume.old.merge volume.old.snaps) (span_of range)) bytes.now volume.old volume.new ended.old.items ended.new.items) }
+    ensures stopped { IfErr result (λ refusal. IsWriteStopped B.contents B.layers B.size dev (pieces_of (piece_with volume.old.merge volume.old.snaps) (span_of range)) bytes.now refusal volume.old volume.new ended.old.items ended.new.items) }
+    ensures kept { KeepsDevices B.layers B.size (rested_of volume.old) (rested_of volume.new) }
+    ensures requests { volume.new.requests ≤ volume.old.requests + range.count }
+{
+    let geometry = Geometry {
+        chunk: volume.piece(),
+        sectors: range.size,
+    };
+    let mut from = 0;
+    for piece in geometry.pieces(range) {
+        let to = from + piece.count as usize * SECTOR_BYTES;
+        match write_piece_among(volume, alloc, dev, piece, &bytes[from..to], ended) {
+            Ok(()) => {}
+            Err(refusal) => return Err(refusal),
+        }
+        from = to;
+    }
+    Ok(())
+}
+
+/// Reads a range, piece after piece, to the end of `out`, which is empty and has room for it.
+fn read_pieces_among<B: Layered>(
+    volume: &mut Journaled<B>,
+    dev: Dev,
+    range: Range,
+    out: &mut Vec<u8>,
+    ended: &mut Vec<Replied>,
+) -> Result<(), Refusal>
+    requires empty { out.old.items ≡ [] }
+    requires none { vec_len out.old ≡ 0 }
+    requires room { 512 * range.count ≤ vec_capacity out.old }
+    ensures read { OnOk result (AreReadAmong B.contents B.layers dev (pieces_of (piece_with volume.old.merge volume.old.snaps) (span_of range)) out.new.items volume.old volume.new ended.old.items ended.new.items) }
+    ensures stopped { IfErr result (λ refusal. IsReadStopped B.contents B.layers B.size dev (pieces_of (piece_with volume.old.merge volume.old.snaps) (span_of range)) refusal volume.old volume.new ended.old.items ended.new.items) }
+    ensures kept { KeepsDevices B.layers B.size (rested_of volume.old) (rested_of volume.new) }
+    ensures requests { volume.new.requests ≤ volume.old.requests + range.count }
+{
+    let geometry = Geometry {
+        chunk: volume.piece(),
+        sectors: range.size,
+    };
+    for piece in geometry.pieces(range) {
+        match read_piece_among(volume, dev, piece, out, ended) {
+            Ok(()) => {}
+            Err(refusal) => return Err(refusal),
+        }
+    }
+    Ok(())
+}
+
+impl<B: Layered> Resting<B> {
+    /// Reads sectors of the origin or of a snapshot, while requests may be in flight. The range is cut into pieces of the
+    /// least chunk of the snapshots: the request of each is submitted, and all that is due is done, before the next. The replies to
+    /// other requests are put at the end of `ended`.
+    ///
+    /// Refused: there is no such snapshot (`NoSuchDevice`), and then nothing changed; a piece's request is refused, as
+    /// `start` says, or answered `Invalid` or `Io`, after the pieces before it were read; or memory is refused (`NoMemory`).
+    pub fn read_among(
+        &mut self,
+        alloc: Global,
+        dev: Dev,
+        range: Range,
+        ended: &mut Vec<Replied>,
+    ) -> Result<Buf, Refusal>
+        requires some { 0 < range.count }
+        requires inside { range.first + range.count ≤ B.size self.old.origin }
+        requires requests { self.old.requests + range.count < 9_223_372_036_854_775_808 }
+        ensures read { IfOk result (λ bytes. AreReadAmong B.contents B.layers dev (pieces_among (span_of range) self.old) bytes self.old.events self.new.events ended.old.items ended.new.items) }
+        ensures refused { IfErr result (λ refusal. IsReadRefusedAmong B.contents B.layers B.size dev (pieces_among (span_of range) self.old) refusal self.old self.new ended.old.items ended.new.items) }
+        ensures there { OnOk result (has_dev dev self.old ≡ true) }
+        ensures whole { IsWhole self.old × IsWhole self.new }
+        ensures kept { KeepsDevices B.layers B.size self.old self.new }
+        ensures requests { self.new.requests ≤ self.old.requests + range.count }
+    {
+        if !is_there(&self.volume, dev) {
+            return Err(Refusal::NoSuchDevice);
+        }
+        let Ok(mut out) = Vec::with_capacity(alloc, range.count as usize * SECTOR_BYTES) else {
+            return Err(Refusal::NoMemory);
+        };
+        match read_pieces_among(&mut self.volume, dev, range, &mut out, ended) {
+            Ok(()) => Ok(Buf::from_vec(out)),
+            Err(refusal) => Err(refusal),
+        }
+    }
+
+    /// Writes sectors of the origin or of a snapshot, while requests may be in flight, piece after piece likewise.
+    ///
+    /// Refused: there is no such snapshot (`NoSuchDevice`), and then nothing changed; a piece's request is refused, as
+    /// `start` says, or answered `Invalid` or `Io`, and the pieces before it stand; or memory is refused (`NoMemory`).
+    pub fn write_among(
+        &mut self,
+        alloc: Global,
+        dev: Dev,
+        range: Range,
+        bytes: &[u8],
+        ended: &mut Vec<Replied>,
+    ) -> Result<(), Refusal>
+        requires some { 0 < range.count }
+        requires inside { range.first + range.count ≤ B.size self.old.origin }
+        requires room { length bytes.now ≡ 512 * range.count }
+        requires requests { self.old.requests + range.count < 9_223_372_036_854_775_808 }
+        ensures written { OnOk result (AreWrittenAmong B.contents B.layers dev (pieces_among (span_of range) self.old) bytes.now self.old.events self.new.events ended.old.items ended.new.items) }
+        ensures refused { IfErr result (λ refusal. IsWriteRefusedAmong B.contents B.layers B.size dev (pieces_among (span_of range) self.old) bytes.now refusal self.old self.new ended.old.items ended.new.items) }
+        ensures there { OnOk result (has_dev dev self.old ≡ true) }
+        ensures whole { IsWhole self.old × IsWhole self.new }
+        ensures kept { KeepsDevices B.layers B.size self.old self.new }
+        ensures requests { self.new.requests ≤ self.old.requests + range.count }
+    {
+        if !is_there(&self.volume, dev) {
+            return Err(Refusal::NoSuchDevice);
+        }
+        write_pieces_among(&mut self.volume, alloc, dev, range, bytes, ended)
+    }
+}

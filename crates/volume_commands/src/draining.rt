@@ -1,0 +1,140 @@
+// All that is due is done while requests of several commands are in flight.
+ghost use Rattle.std.specs.Prelude.{◌≡◌, ◌+◌, ◌≤◌, length, vec_capacity, vec_len, is_ok, IfErr, OnOk, true, None};
+ghost use Rattle.sector.specs.declared.refusal.Refusal.TheVariants.{NoMemory};
+ghost use Rattle.volume.specs.Leaving.{is_quiet_of};
+ghost use Rattle.settled.specs.Merges.{merged};
+ghost use Rattle.volume_commands.specs.Rested.{rested_of, merged_of, IsSettled};
+ghost use Rattle.volume_commands.specs.Flying.{IsWhole};
+ghost use Rattle.volume_commands.specs.Kept.{KeepsDevices};
+ghost use Rattle.volume_commands.specs.Showing.{arrays_in, IsGoneOn};
+ghost use Rattle.volume_commands.specs.Draining.{IsDrained, IsDrainedApart, IsAnsweredAmong, is_idle_of};
+
+use crate::{Journaled, Replied, Resting};
+use layers::Layered;
+use plain::{Failure, NotDue, Outcome, Reply, ReqId};
+use sector::Refusal;
+use volume::is_of_merge;
+
+/// Takes room for so many replies more. For none, no memory is asked for.
+pub(crate) fn make_room(ended: &mut Vec<Replied>, replies: usize) -> Result<(), Refusal>
+    ensures ok { OnOk result (vec_len ended.new + replies ≤ vec_capacity ended.new) }
+    ensures none { replies ≡ 0 → is_ok result ≡ true }
+    ensures items { ended.new.items ≡ ended.old.items }
+    ensures err { IfErr result (λ refusal. refusal ≡ NoMemory) }
+{
+    if replies == 0 {
+        return Ok(());
+    }
+    match ended.reserve(replies) {
+        Ok(()) => Ok(()),
+        Err(_) => Err(Refusal::NoMemory),
+    }
+}
+
+/// Does the events that are due, each time the one that is due first, until none is. Each reply is put at the end of `ended`,
+/// where room for one of each request in flight is taken first: where that is refused, nothing is done.
+fn drain<B: Layered>(volume: &mut Journaled<B>, ended: &mut Vec<Replied>) -> Result<(), Refusal>
+    ensures drained { OnOk result (IsDrained B.contents B.layers volume.old volume.new ended.old.items ended.new.items) }
+    ensures quiet { OnOk result (is_quiet_of volume.new ≡ true) }
+    ensures merged { OnOk result (IsSettled B.layers (rested_of volume.old) → merged (merged_of B.contents B.layers (rested_of volume.old)) ≡ merged_of B.contents B.layers (rested_of volume.new)) }
+    ensures shows { IsSettled B.layers (rested_of volume.old) → IsGoneOn (arrays_in B.contents B.layers (rested_of volume.old)) (arrays_in B.contents B.layers (rested_of volume.new)) }
+    ensures idle { is_quiet_of volume.old ≡ true → is_ok result ≡ true }
+    ensures still { is_quiet_of volume.old ≡ true → ended.new.items ≡ ended.old.items }
+    ensures alone { is_quiet_of volume.old ≡ true → volume.old.merge ≡ None → volume.new ≡ volume.old }
+    ensures err { IfErr result (λ refusal. (refusal ≡ NoMemory) × (volume.new ≡ volume.old) × (ended.new.items ≡ ended.old.items)) }
+    ensures kept { KeepsDevices B.layers B.size (rested_of volume.old) (rested_of volume.new) }
+    ensures requests { volume.new.requests ≡ volume.old.requests }
+{
+    let _ = volume.is_quiet();
+    make_room(ended, volume.flying())?;
+    while let Some(event) = volume.due() {
+        match volume.step(event) {
+            Ok(Outcome::Reply(number, reply)) => ended.push_reserved(Replied { number, reply }),
+            Ok(Outcome::Done) => {}
+            Ok(Outcome::Fault) => {}
+            Err(NotDue) => unreachable!(),
+        }
+    }
+    Ok(())
+}
+
+/// Does the events that are due likewise, until none is but one of a merge. There is room in `ended` for a reply to each
+/// request in flight.
+pub(crate) fn drain_apart<B: Layered>(volume: &mut Journaled<B>, ended: &mut Vec<Replied>)
+    requires room { vec_len ended.old + length volume.old.flights ≤ vec_capacity ended.old }
+    ensures drained { IsDrainedApart B.contents B.layers volume.old volume.new ended.old.items ended.new.items }
+    ensures idle { is_idle_of B.contents B.layers volume.new ≡ true }
+    ensures kept { KeepsDevices B.layers B.size (rested_of volume.old) (rested_of volume.new) }
+    ensures requests { volume.new.requests ≡ volume.old.requests }
+{
+    while let Some(event) = volume.due() {
+        if is_of_merge(event) {
+            break;
+        }
+        match volume.step(event) {
+            Ok(Outcome::Reply(number, reply)) => ended.push_reserved(Replied { number, reply }),
+            Ok(Outcome::Done) => {}
+            Ok(Outcome::Fault) => {}
+            Err(NotDue) => unreachable!(),
+        }
+    }
+}
+
+/// Does the events that are due likewise, those of a merge only until the reply to one request, and tells that reply; those
+/// to others are put at the end of `ended`, which has room for one of each request in flight.
+pub(crate) fn drain_for<B: Layered>(
+    volume: &mut Journaled<B>,
+    own: ReqId,
+    ended: &mut Vec<Replied>,
+) -> Reply
+    requires room { vec_len ended.old + length volume.old.flights ≤ vec_capacity ended.old }
+    ensures answered { IsAnsweredAmong B.contents B.layers own result volume.old volume.new ended.old.items ended.new.items }
+    ensures idle { is_idle_of B.contents B.layers volume.new ≡ true }
+    ensures kept { KeepsDevices B.layers B.size (rested_of volume.old) (rested_of volume.new) }
+    ensures requests { volume.new.requests ≡ volume.old.requests }
+{
+    let mut answer = Reply::Refused(Failure::Invalid);
+    let mut told = false;
+    while let Some(event) = volume.due() {
+        if told && is_of_merge(event) {
+            break;
+        }
+        match volume.step(event) {
+            Ok(Outcome::Reply(number, reply)) if number == own => {
+                answer = reply;
+                told = true;
+            }
+            Ok(Outcome::Reply(other, reply)) => ended.push_reserved(Replied {
+                number: other,
+                reply,
+            }),
+            Ok(Outcome::Done) => {}
+            Ok(Outcome::Fault) => {}
+            Err(NotDue) => unreachable!(),
+        }
+    }
+    answer
+}
+
+impl<B: Layered> Resting<B> {
+    /// Does the events that are due, those of a merge among them, each time the one that is due first, until none is. Each
+    /// reply is put at the end of `ended`. Room for one of each request in flight is taken once, before the first event:
+    /// where that is refused (`NoMemory`), nothing is done. Where the volume is quiet no memory is asked for. A settled volume is
+    /// left as the settled machine's whole merge leaves it, and as it was where no merge is begun: whatever fails, its origin
+    /// shows what it showed, and so does each snapshot that is not spoiled.
+    pub fn settle(&mut self, ended: &mut Vec<Replied>) -> Result<(), Refusal>
+        ensures drained { OnOk result (IsDrained B.contents B.layers self.old.events self.new.events ended.old.items ended.new.items) }
+        ensures quiet { OnOk result (is_quiet_of self.new.events ≡ true) }
+        ensures merged { OnOk result (IsSettled B.layers self.old → merged (merged_of B.contents B.layers self.old) ≡ merged_of B.contents B.layers self.new) }
+        ensures shows { IsSettled B.layers self.old → IsGoneOn (arrays_in B.contents B.layers self.old) (arrays_in B.contents B.layers self.new) }
+        ensures idle { is_quiet_of self.old.events ≡ true → is_ok result ≡ true }
+        ensures still { is_quiet_of self.old.events ≡ true → ended.new.items ≡ ended.old.items }
+        ensures alone { is_quiet_of self.old.events ≡ true → self.old.events.merge ≡ None → self.new ≡ self.old }
+        ensures err { IfErr result (λ refusal. (refusal ≡ NoMemory) × (self.new ≡ self.old) × (ended.new.items ≡ ended.old.items)) }
+        ensures whole { IsWhole self.old × IsWhole self.new }
+        ensures kept { KeepsDevices B.layers B.size self.old self.new }
+        ensures requests { self.new.requests ≡ self.old.requests }
+    {
+        drain(&mut self.volume, ended)
+    }
+}

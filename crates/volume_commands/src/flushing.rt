@@ -1,0 +1,131 @@
+// A flush of a device: one request, whether a merge is begun or not.
+ghost use Rattle.std.specs.Prelude.{◌≡◌, ◌⊎◌, ◌+◌, ◌<◌, ◌≤◌, ℕ, IfErr, OnOk, true};
+ghost use Rattle.plain.specs.declared.request.Op.TheVariants.{Flush};
+ghost use Rattle.plain.specs.declared.request.Reply.TheVariants.{Flushed};
+ghost use Rattle.volume.specs.Leaving.{is_quiet_of};
+ghost use Rattle.settled.specs.Beside.{flushed_beside};
+ghost use Rattle.volume_commands.specs.Rested.{has_dev, rested_of, IsSettled};
+ghost use Rattle.volume_commands.specs.Kept.{KeepsDevices};
+ghost use Rattle.volume_commands.specs.Between.{IsBetween};
+ghost use Rattle.volume_commands.specs.Flying.{IsWhole};
+ghost use Rattle.volume_commands.specs.Commands.{IsDoneBy, IsFlushRefused};
+ghost use Rattle.volume_commands.specs.Showing.{arrays_in, IsPlainFlush, IsPlainReadRefused};
+ghost use Rattle.volume_commands.specs.Among.{IsFlushedAmong, IsFlushRefusedAmong, IsPieceFailed, IsRequestOf, flush_piece};
+
+use crate::among::serve_among;
+use crate::serving::{is_there, look, serve};
+use crate::{Journaled, Replied, Resting, refusal_for};
+use layers::Layered;
+use plain::{Dev, Op, Reply, Request};
+use sector::{Range, Refusal};
+
+/// The request of a flush. Its sectors are not looked at: a volume takes it where its origin has one.
+fn request_of(dev: Dev) -> Request
+    ensures { IsRequestOf dev Flush flush_piece result }
+{
+    Request {
+        dev,
+        op: Op::Flush,
+        range: Range {
+            first: 0,
+            count: 1,
+            size: 1,
+        },
+    }
+}
+
+/// Flushes a device of a volume of events that is at rest.
+fn flush_device<B: Layered>(volume: &mut Journaled<B>, dev: Dev) -> Result<(), Refusal>
+    requires between { IsBetween volume.old }
+    requires there { has_dev dev (rested_of volume.old) ≡ true }
+    requires some { 0 < B.size volume.old.origin }
+    requires requests { volume.old.requests < 9_223_372_036_854_775_808 }
+    ensures between { IsBetween volume.new }
+    ensures settled { IsSettled B.layers (rested_of volume.old) → IsSettled B.layers (rested_of volume.new) }
+    ensures done { OnOk result (IsDoneBy B.contents B.layers (flushed_beside dev) Flushed (rested_of volume.old) (rested_of volume.new)) }
+    ensures refused { IfErr result (λ refusal. IsFlushRefused B.contents B.layers dev refusal (rested_of volume.old) (rested_of volume.new)) }
+    ensures shows { OnOk result (IsSettled B.layers (rested_of volume.old) → IsPlainFlush dev (arrays_in B.contents B.layers (rested_of volume.old)) (arrays_in B.contents B.layers (rested_of volume.new))) }
+    ensures loses { IfErr result (λ refusal. IsSettled B.layers (rested_of volume.old) → IsPlainReadRefused dev refusal (arrays_in B.contents B.layers (rested_of volume.old)) (arrays_in B.contents B.layers (rested_of volume.new))) }
+    ensures kept { KeepsDevices B.layers B.size (rested_of volume.old) (rested_of volume.new) }
+    ensures requests { volume.new.requests ≤ volume.old.requests + 1 }
+{
+    // A look: the chunks of all snapshots are as large as a piece, or larger.
+    let _ = volume.piece();
+    match serve(volume, request_of(dev)) {
+        Ok(Reply::Refused(failure)) => Err(refusal_for(failure)),
+        Ok(Reply::Written) => Ok(()),
+        Ok(Reply::Flushed) => Ok(()),
+        Ok(Reply::Data(_)) => Ok(()),
+        Err(refusal) => Err(refusal),
+    }
+}
+
+/// Flushes a device of a volume of events with requests in flight.
+fn flush_device_among<B: Layered>(
+    volume: &mut Journaled<B>,
+    dev: Dev,
+    ended: &mut Vec<Replied>,
+) -> Result<(), Refusal>
+    ensures flushed { OnOk result (IsFlushedAmong B.contents B.layers dev volume.old volume.new ended.old.items ended.new.items) }
+    ensures failed { IfErr result (λ refusal. IsPieceFailed B.contents B.layers B.size dev Flush flush_piece refusal volume.old volume.new ended.old.items ended.new.items) }
+    ensures kept { KeepsDevices B.layers B.size (rested_of volume.old) (rested_of volume.new) }
+    ensures requests { volume.new.requests ≤ volume.old.requests + 1 }
+{
+    match serve_among(volume, request_of(dev), ended) {
+        Ok(Reply::Refused(failure)) => Err(refusal_for(failure)),
+        Ok(Reply::Written) => Ok(()),
+        Ok(Reply::Flushed) => Ok(()),
+        Ok(Reply::Data(_)) => Ok(()),
+        Err(refusal) => Err(refusal),
+    }
+}
+
+impl<B: Layered> Resting<B> {
+    /// Flushes the origin or a snapshot of a quiet volume: what was written to it before lasts. A snapshot's store is flushed; of the
+    /// origin the store of the snapshot that is being merged, if one is, and then the origin disk. Where the volume is settled, it
+    /// is the settled machine's flush, and nothing changes that the origin or a snapshot shows.
+    ///
+    /// Refused: there is no such snapshot (`NoSuchDevice`), and then nothing changed; the snapshot is spoiled (`Invalid`), or a
+    /// device failed (`Io`); or memory is refused (`NoMemory`).
+    pub fn flush(&mut self, dev: Dev) -> Result<(), Refusal>
+        requires quiet { is_quiet_of self.old.events ≡ true }
+        requires inside { 0 < B.size self.old.origin }
+        requires requests { self.old.requests + 1 < 9_223_372_036_854_775_808 }
+        ensures quiet { is_quiet_of self.new.events ≡ true }
+        ensures settled { IsSettled B.layers self.old → IsSettled B.layers self.new }
+        ensures done { OnOk result (IsDoneBy B.contents B.layers (flushed_beside dev) Flushed self.old self.new) }
+        ensures there { OnOk result (has_dev dev self.old ≡ true) }
+        ensures refused { IfErr result (λ refusal. IsFlushRefused B.contents B.layers dev refusal self.old self.new) }
+        ensures shows { OnOk result (IsSettled B.layers self.old → IsPlainFlush dev (arrays_in B.contents B.layers self.old) (arrays_in B.contents B.layers self.new)) }
+        ensures loses { IfErr result (λ refusal. IsSettled B.layers self.old → IsPlainReadRefused dev refusal (arrays_in B.contents B.layers self.old) (arrays_in B.contents B.layers self.new)) }
+        ensures kept { KeepsDevices B.layers B.size self.old self.new }
+        ensures requests { self.new.requests ≤ self.old.requests + 1 }
+    {
+        look(&self.volume);
+        if !is_there(&self.volume, dev) {
+            return Err(Refusal::NoSuchDevice);
+        }
+        flush_device(&mut self.volume, dev)
+    }
+
+    /// Flushes the origin or a snapshot, while requests may be in flight: all that is due then is done, of a merge only until the
+    /// flush is answered. The replies to other requests are put at the end of `ended`.
+    ///
+    /// Refused: there is no such snapshot (`NoSuchDevice`), and then nothing changed; the request is refused, as `start` says,
+    /// or answered `Invalid` or `Io`; or memory is refused (`NoMemory`).
+    pub fn flush_among(&mut self, dev: Dev, ended: &mut Vec<Replied>) -> Result<(), Refusal>
+        requires inside { 0 < B.size self.old.origin }
+        requires requests { self.old.requests + 1 < 9_223_372_036_854_775_808 }
+        ensures flushed { OnOk result (IsFlushedAmong B.contents B.layers dev self.old.events self.new.events ended.old.items ended.new.items) }
+        ensures refused { IfErr result (λ refusal. IsFlushRefusedAmong B.contents B.layers B.size dev refusal self.old self.new ended.old.items ended.new.items) }
+        ensures there { OnOk result (has_dev dev self.old ≡ true) }
+        ensures whole { IsWhole self.old × IsWhole self.new }
+        ensures kept { KeepsDevices B.layers B.size self.old self.new }
+        ensures requests { self.new.requests ≤ self.old.requests + 1 }
+    {
+        if !is_there(&self.volume, dev) {
+            return Err(Refusal::NoSuchDevice);
+        }
+        flush_device_among(&mut self.volume, dev, ended)
+    }
+}

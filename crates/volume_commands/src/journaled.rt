@@ -1,0 +1,146 @@
+// A volume, and how many places of its journal are taken.
+ghost use Rattle.std.specs.Prelude.{◌≡◌, ◌&&◌, ◌≤◌, [], IfErr, IfOk, None};
+ghost use Rattle.plain.specs.Plain.{may_overflow};
+ghost use Rattle.sector.specs.declared.refusal.Refusal.TheVariants.{NoMemory};
+ghost use Rattle.volume.specs.Causes.{lives_of};
+ghost use Rattle.volume.specs.Volumed.{is_loud_in_all};
+ghost use Rattle.journal.specs.Noted.{live_count, may_count, mays_of};
+
+use journal::{Audit, is_may};
+use layers::Layered;
+use sector::Refusal;
+use snapshot::Snapshot;
+use std::alloc::Global;
+use std::marker::Model;
+use volume::Volume;
+
+/// A volume, and how many places of its journal are taken since the last checkpoint: one by each entry that would stand in it,
+/// by each request in flight, and by each live snapshot. One more is taken by each live snapshot whose store may still overflow,
+/// which is counted where it is asked for: it turns into the entry of that mark, and is given back where the snapshot is lost, is
+/// taken away, or begins to be merged. An event turns places into entries, and takes none. Contracts see the volume.
+#[derive(Drop)]
+pub struct Journaled<B: Layered> {
+    pub(crate) volume: Volume<B>,
+    /// Those that are taken, but for those of marks to come.
+    pub(crate) places: usize,
+    pub(crate) alloc: Global,
+}
+
+impl<B: Layered> Model for Journaled<B> {
+    ghost use Rattle.volume.specs.Volumed.{Volumed};
+
+    ghost Value = { Volumed B };
+
+    ghost use Rattle.volume_commands.specs.Places.{HasPlaces};
+
+    ghost view = { λ j. j.volume };
+
+    ghost invariant = { λ j. HasPlaces j.volume j.places };
+}
+
+/// How many snapshots of a volume are live.
+pub(crate) fn count_live<B: Layered>(volume: &Volume<B>) -> usize
+    ensures count { result ≡ live_count (lives_of volume.now) }
+    ensures few { result ≤ 8 }
+{
+    let mut count = 0;
+    for k in 0..volume.len() {
+        if volume.snap(k).is_live() {
+            count += 1;
+        }
+    }
+    count
+}
+
+/// Whether a snapshot is live, and its store may still overflow.
+fn may_be_marked<B: Layered>(snap: &Snapshot<B>) -> bool
+    ensures { result ≡ (snap.now.live && may_overflow snap.now.overflow) }
+{
+    snap.is_live() && is_may(snap.overflow())
+}
+
+/// How many live snapshots of a volume may still overflow.
+pub(crate) fn count_may<B: Layered>(volume: &Volume<B>) -> usize
+    ensures count { result ≡ may_count (lives_of volume.now) (mays_of volume.now) }
+    ensures few { result ≤ 8 }
+{
+    let mut count = 0;
+    for k in 0..volume.len() {
+        if may_be_marked(volume.snap(k)) {
+            count += 1;
+        }
+    }
+    count
+}
+
+impl<B: Layered + Drop> Journaled<B> {
+    /// A volume over an origin disk, without snapshots and requests, and no place of its journal is taken. Where memory is
+    /// refused, the disk is given back.
+    pub fn new(alloc: Global, origin: B) -> Result<Journaled<B>, (Refusal, B)>
+        ensures ok { IfOk result (λ v. v ≡ record { origin = origin; snaps = []; merge = None; flights = []; requests = 0; copies = 0; attached = 0 }) }
+        ensures err { IfErr result (λ e. e ≡ record { 0 = NoMemory; 1 = origin }) }
+    {
+        let volume = Volume::new(alloc, origin)?;
+        Ok(Journaled {
+            volume,
+            places: 0,
+            alloc,
+        })
+    }
+}
+
+impl<B: Layered> Journaled<B> {
+    /// The volume of an audit with no request in flight. The places that are taken of its journal stay so.
+    pub fn of_audit(audit: Audit<B>) -> Journaled<B>
+        requires none { audit.held ≡ [] }
+        ensures { result ≡ audit.volume }
+    {
+        // A look: then none is in flight in the volume.
+        audit.look_at_requests();
+        let (volume, places, alloc) = audit.into_counted();
+        // Each live snapshot has its places, whatever the audit saw of it last.
+        let live = count_live(&volume);
+        let may = count_may(&volume);
+        Journaled {
+            volume,
+            places: places.max(live + may) - may,
+            alloc,
+        }
+    }
+
+    /// An audit of the volume, which begins with what it shows now and in which as many places are taken. `NoMemory` where
+    /// memory is refused for that, and the volume is given back.
+    pub fn into_audit(self) -> Result<Audit<B>, (Refusal, Journaled<B>)>
+        requires quiet { self.flights ≡ [] }
+        ensures volume { IfOk result (λ audit. audit.volume ≡ self) }
+        ensures idle { IfOk result (λ audit. audit.held ≡ []) }
+        ensures begins { IfOk result (λ audit. audit.entries ≡ []) }
+        ensures loud { IfOk result (λ audit. audit.loud ≡ is_loud_in_all B.layers self) }
+        ensures err { IfErr result (λ e. (e.0 ≡ NoMemory) × (e.1 ≡ self)) }
+    {
+        let Journaled {
+            volume,
+            places,
+            alloc,
+        } = self;
+        let live = count_live(&volume);
+        match Audit::going_on(alloc, volume, places - live) {
+            Ok(audit) => Ok(audit),
+            Err((refusal, volume)) => Err((
+                refusal,
+                Journaled {
+                    volume,
+                    places,
+                    alloc,
+                },
+            )),
+        }
+    }
+
+    /// Cuts the journal, so that it takes as many entries again. Callers see no change.
+    pub fn checkpoint(&mut self)
+        ensures { self.new ≡ self.old }
+    {
+        self.places = self.volume.flying() + count_live(&self.volume);
+    }
+}

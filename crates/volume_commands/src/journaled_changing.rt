@@ -1,0 +1,166 @@
+// What changes a volume between requests.
+ghost use Rattle.std.specs.Prelude.{◌≡◌, ◌≢◌, ◌⊎◌, ◌&&◌, ◌+◌, [], ◌∷◌, IfErr, IfOk, MatchResult, None, OnErr, OnOk, Option, Some, false, true};
+ghost use Rattle.sector.specs.declared.refusal.Refusal.TheVariants.{JournalFull, NotMerging};
+ghost use Rattle.device.specs.Layers.{is_loud};
+ghost use Rattle.layers.specs.Ticks.{layers_ticked};
+ghost use Rattle.plain.specs.Plain.{overflow_of};
+ghost use Rattle.plain.specs.declared.request.Reply.{Reply};
+ghost use Rattle.store.specs.Reading.{AreRead};
+ghost use Rattle.settled.specs.Attaching.{attached as attached_by, refused_attach};
+ghost use Rattle.settled.specs.Refusals.{is_starved};
+ghost use Rattle.event_machine.specs.Merging.{begun, finished, resumed};
+ghost use Rattle.snapshot.specs.Opening.{shown_array};
+ghost use Rattle.volume.specs.Attached.{IsAttachedAs, IsGained, IsRefusedOver, store_of, volume_in};
+ghost use Rattle.volume.specs.Beginning.{IsMergeBegun, IsNotBegun, IsResumed, begin_refusal};
+ghost use Rattle.volume.specs.Fresh.{is_fresh};
+ghost use Rattle.volume.specs.Finishing.{IsTakenOut, finish_refusal};
+ghost use Rattle.volume.specs.Layering.{IsTicked, moving_relayered};
+ghost use Rattle.volume.specs.Leaving.{IsWithout, detach_refusal, is_quiet_of};
+ghost use Rattle.volume.specs.Moved.{moving_of};
+ghost use Rattle.volume.specs.Taking.{IsNotTaken, attach_refusal};
+ghost use Rattle.volume.specs.Telling.{IsNotTold, IsTold, dev_relayered, layers_told};
+ghost use Rattle.volume.specs.Volumed.{books_of, is_loud_in_all, plain_of};
+ghost use Rattle.journal.specs.declared.entry.Entry.TheVariants.{Attached, Begun, Detached, Finished};
+ghost use Rattle.volume_commands.specs.GoingOn.{GoesOn};
+
+use crate::Journaled;
+use crate::journaled::{count_live, count_may};
+use journal::{MAX_ENTRIES, places_needed};
+use layers::{Answer, Layered, Message};
+use plain::{Dev, SnapId};
+use sector::Refusal;
+use snapshot::StoreDev;
+
+impl<B: Layered> Journaled<B> {
+    /// Takes a snapshot over a store, by a table line with this chunk size, and tells its number. Where `overflow` says so, a
+    /// write that finds the store full is refused, and spoils nothing. It takes two places of the journal: one for its entry, and
+    /// one that is kept free while it is live; and one more while it may overflow. Refused first of all where the journal is
+    /// full (`JournalFull`), and the store is given back as it was; then as the volume refuses it, which after `Io` may have
+    /// flushed the origin.
+    pub fn attach(
+        &mut self,
+        store: StoreDev<B>,
+        chunk: u32,
+        overflow: bool,
+    ) -> Result<SnapId, (Refusal, StoreDev<B>)>
+        ensures number { IfOk result (λ number. number ≡ self.old.attached + 1) }
+        ensures admitted { OnOk result (attach_refusal store.stale chunk self.old ≡ None) }
+        ensures gained { IfOk result (λ number. IsGained B.contents B.layers B.size number overflow store self.old self.new) }
+        ensures exact { IfOk result (λ number. is_loud_in_all B.layers self.old ≡ true → is_loud (B.layers store.device) ≡ true → IsAttachedAs B.contents B.layers number chunk overflow store self.old self.new) }
+        ensures refused { IfErr result (λ e. ((is_starved e.0 ≡ true) × (e.1 ≡ store)) ⊎ IsNotTaken store.stale chunk (B.size self.old.origin) (B.size store.device) (B.contents store.device) self.old e.0) }
+        ensures unread { IfErr result (λ e. attach_refusal store.stale chunk self.old ≡ Some e.0 → e.1 ≡ store) }
+        ensures back { IfErr result (λ e. is_starved e.0 ≡ false → self.old.merge ≡ None → is_quiet_of self.old ≡ true → is_loud_in_all B.layers self.old ≡ true → is_loud (B.layers store.device) ≡ true → attached_by (self.old.attached + 1) chunk (overflow_of overflow) (store_of B.contents B.layers store) (volume_in B.contents B.layers self.old) ≡ refused_attach e.0 (store_of B.contents B.layers e.1) (volume_in B.contents B.layers self.new)) }
+        ensures starved { IfErr result (λ e. is_starved e.0 ≡ true → (B.contents e.1.device ≡ B.contents store.device) × AreRead (B.layers store.device) (B.layers e.1.device)) }
+        ensures size { IfErr result (λ e. B.size e.1.device ≡ B.size store.device) }
+        ensures loud { MatchResult result (λ _. is_loud_in_all B.layers self.new ≡ (is_loud_in_all B.layers self.old && is_loud (B.layers store.device))) (λ e. is_loud (B.layers e.1.device) ≡ is_loud (B.layers store.device)) }
+        ensures goes_on { IfOk result (λ number. is_loud_in_all B.layers self.old ≡ true → is_loud (B.layers store.device) ≡ true → GoesOn (plain_of B.contents B.layers self.old) (Attached number (shown_array (B.contents self.old.origin) (B.contents store.device)) (overflow_of overflow) (is_fresh (B.contents store.device)) ∷ []) (plain_of B.contents B.layers self.new)) }
+        ensures same { IfErr result (λ e. IsRefusedOver B.contents B.layers B.size e.0 self.old self.new) }
+        ensures stale { IfErr result (λ e. e.1.stale ≡ store.stale) }
+    {
+        if self.places + count_may(&self.volume) + places_needed(overflow) > MAX_ENTRIES {
+            return Err((Refusal::JournalFull, store));
+        }
+        match self.volume.attach(self.alloc, store, chunk, overflow) {
+            Ok(number) => {
+                self.places += 2;
+                Ok(number)
+            }
+            Err(refused) => Err(refused),
+        }
+    }
+
+    /// Takes a snapshot away, and gives the device of its store back. Refused first of all where the journal is full
+    /// (`JournalFull`), and then as the volume refuses it; nothing changed.
+    pub fn detach(&mut self, number: SnapId) -> Result<StoreDev<B>, Refusal>
+        ensures ok { IfOk result (λ store. detach_refusal number self.old ≡ None) }
+        ensures taken { IfOk result (λ store. IsWithout number self.old self.new store) }
+        ensures loud { IfOk result (λ store. is_loud_in_all B.layers self.old ≡ (is_loud_in_all B.layers self.new && is_loud (B.layers store.device))) }
+        ensures goes_on { OnOk result (is_loud_in_all B.layers self.old ≡ true → GoesOn (plain_of B.contents B.layers self.old) (Detached number ∷ []) (plain_of B.contents B.layers self.new)) }
+        ensures err { IfErr result (λ refusal. ((detach_refusal number self.old ≡ Some refusal) ⊎ (refusal ≡ JournalFull)) × (self.new ≡ self.old)) }
+    {
+        if self.places + count_may(&self.volume) + 1 > MAX_ENTRIES {
+            return Err(Refusal::JournalFull);
+        }
+        let live = count_live(&self.volume);
+        match self.volume.detach(number) {
+            Ok(store) => {
+                // Its entry has the place that was kept free, if it was live.
+                self.places = self.places + 1 - (live - count_live(&self.volume));
+                Ok(store)
+            }
+            Err(refusal) => Err(refusal),
+        }
+    }
+
+    /// Begins to merge a live snapshot. Refused first of all where the journal is full (`JournalFull`), and nothing changed;
+    /// then as the volume refuses it.
+    pub fn begin_merge(&mut self, number: SnapId) -> Result<(), Refusal>
+        ensures admitted { OnOk result (begin_refusal number self.old ≡ None) }
+        ensures begun { OnOk result (IsMergeBegun number self.old self.new) }
+        ensures exact { OnOk result ((replied : Option Reply) → begun number (moving_of B.contents B.layers replied self.old) ≡ moving_of B.contents B.layers replied self.new) }
+        ensures loud { is_loud_in_all B.layers self.new ≡ is_loud_in_all B.layers self.old }
+        ensures goes_on { OnOk result (is_loud_in_all B.layers self.old ≡ true → GoesOn (plain_of B.contents B.layers self.old) (Begun number ∷ []) (plain_of B.contents B.layers self.new)) }
+        ensures refused { IfErr result (λ refusal. ((refusal ≡ JournalFull) × (self.new ≡ self.old)) ⊎ IsNotBegun number refusal self.old self.new) }
+        ensures starved { OnErr result ((replied : Option Reply) → moving_of B.contents B.layers replied self.new ≡ moving_of B.contents B.layers replied self.old) }
+    {
+        if self.places + count_may(&self.volume) + 1 > MAX_ENTRIES {
+            return Err(Refusal::JournalFull);
+        }
+        // Its entry has the place that was kept free, for it was live.
+        self.volume.begin_merge(self.alloc, number)
+    }
+
+    /// Lets a merge that failed go on. `NotMerging` where none is begun.
+    pub fn resume_merge(&mut self) -> Result<(), Refusal>
+        ensures resumed { OnOk result (IsResumed self.old self.new) }
+        ensures exact { OnOk result ((replied : Option Reply) → resumed (moving_of B.contents B.layers replied self.old) ≡ moving_of B.contents B.layers replied self.new) }
+        ensures loud { is_loud_in_all B.layers self.new ≡ is_loud_in_all B.layers self.old }
+        ensures err { IfErr result (λ refusal. (refusal ≡ NotMerging) × (self.old.merge ≡ None) × (self.new ≡ self.old)) }
+    {
+        self.volume.resume_merge()
+    }
+
+    /// Takes a merge out that came to its end, and gives the device of its store back. Refused first of all where the journal is
+    /// full (`JournalFull`), and then as the volume refuses it; nothing changed.
+    pub fn finish_merge(&mut self) -> Result<StoreDev<B>, Refusal>
+        ensures ok { IfOk result (λ store. finish_refusal self.old ≡ None) }
+        ensures taken { IfOk result (λ store. IsTakenOut self.old self.new store) }
+        ensures exact { IfOk result (λ store. (replied : Option Reply) → finished (moving_of B.contents B.layers replied self.old) ≡ moving_of B.contents B.layers replied self.new) }
+        ensures loud { IfOk result (λ store. is_loud_in_all B.layers self.old ≡ (is_loud_in_all B.layers self.new && is_loud (B.layers store.device))) }
+        ensures goes_on { OnOk result (is_loud_in_all B.layers self.old ≡ true → GoesOn (plain_of B.contents B.layers self.old) (Finished ∷ []) (plain_of B.contents B.layers self.new)) }
+        ensures err { IfErr result (λ refusal. ((finish_refusal self.old ≡ Some refusal) ⊎ (refusal ≡ JournalFull)) × (self.new ≡ self.old)) }
+    {
+        if self.places + count_may(&self.volume) + 1 > MAX_ENTRIES {
+            return Err(Refusal::JournalFull);
+        }
+        match self.volume.finish_merge() {
+            Ok(store) => {
+                self.places += 1;
+                Ok(store)
+            }
+            Err(refusal) => Err(refusal),
+        }
+    }
+
+    /// Lets so many seconds pass for the layers of every device.
+    pub fn tick(&mut self, seconds: u32)
+        ensures ticked { IsTicked (record { contents = B.contents; durable = B.durable; size = B.size; faults = B.fault_count; done = B.done_count }) B.layers seconds self.old self.new }
+        ensures moving { (replied : Option Reply) → moving_of B.contents B.layers replied self.new ≡ moving_relayered (layers_ticked seconds) (moving_of B.contents B.layers replied self.old) }
+        ensures loud { is_loud_in_all B.layers self.new ≡ is_loud_in_all B.layers self.old }
+    {
+        self.volume.tick(seconds)
+    }
+
+    /// Tells a layer of one of the devices a message.
+    pub fn message(&mut self, dev: Dev, depth: usize, message: &Message) -> Result<Answer, Refusal>
+        ensures ok { IfOk result (λ answer. IsTold (record { contents = B.contents; durable = B.durable; size = B.size; faults = B.fault_count; done = B.done_count }) B.layers dev depth message.now answer self.old self.new) }
+        ensures err { IfErr result (λ refusal. IsNotTold (record { contents = B.contents; durable = B.durable; size = B.size; faults = B.fault_count; done = B.done_count }) B.layers dev depth message.now refusal self.old self.new) }
+        ensures moving { OnOk result ((replied : Option Reply) → moving_of B.contents B.layers replied self.new ≡ dev_relayered dev (layers_told depth message.now) (moving_of B.contents B.layers replied self.old)) }
+        ensures still { OnErr result ((replied : Option Reply) → moving_of B.contents B.layers replied self.new ≡ moving_of B.contents B.layers replied self.old) }
+        ensures books { books_of B.contents B.layers B.size self.new ≡ books_of B.contents B.layers B.size self.old }
+        ensures plain { plain_of B.contents B.layers self.new ≡ plain_of B.contents B.layers self.old }
+        ensures loud { is_loud_in_all B.layers self.new ≡ is_loud_in_all B.layers self.old }
+    {
+        self.volume.message(dev, depth, message)
+    }
+}

@@ -1,0 +1,61 @@
+// A volume by whole commands is made of an audit, and may be taken apart again.
+ghost use Rattle.std.specs.Prelude.{◌≡◌, [], IfErr, IfOk, IsOk};
+ghost use Rattle.sector.specs.declared.refusal.Refusal.TheVariants.{NoMemory};
+ghost use Rattle.volume.specs.Volumed.{is_loud_in_all};
+ghost use Rattle.volume_commands.specs.Flying.{IsWhole};
+ghost use Rattle.volume_commands.specs.Rested.{rested_of};
+
+use crate::{Journaled, Resting};
+use journal::Audit;
+use layers::Layered;
+use plain::ReqId;
+use sector::Refusal;
+
+impl<B: Layered> Resting<B> {
+    /// An audit of its volume of events, in which nothing is in flight: it begins with what the volume shows now. `NoMemory` where
+    /// memory is refused for that, and the volume is given back.
+    pub fn into_audit(self) -> Result<Audit<B>, (Refusal, Resting<B>)>
+        requires quiet { self.events.flights ≡ [] }
+        ensures volume { IfOk result (λ audit. audit.volume ≡ self.events) }
+        ensures idle { IfOk result (λ audit. audit.held ≡ []) }
+        ensures begins { IfOk result (λ audit. audit.entries ≡ []) }
+        ensures loud { IfOk result (λ audit. audit.loud ≡ is_loud_in_all B.layers self.events) }
+        ensures whole { IsWhole self }
+        ensures err { IfErr result (λ e. (e.0 ≡ NoMemory) × (e.1 ≡ self)) }
+    {
+        let Resting { volume } = self;
+        match volume.into_audit() {
+            Ok(audit) => Ok(audit),
+            Err((refusal, volume)) => Err((refusal, Resting { volume })),
+        }
+    }
+
+    /// The volume of an audit with no request in flight, by whole commands from here on. The places that are taken of its journal
+    /// stay so.
+    pub fn of_audit(audit: Audit<B>) -> Resting<B>
+        requires none { audit.held ≡ [] }
+        ensures { result ≡ rested_of audit.volume }
+    {
+        Resting {
+            volume: Journaled::of_audit(audit),
+        }
+    }
+
+    /// Cuts the journal, so that it takes as many entries again. It takes no memory, so that it is never refused. Callers see no
+    /// change of the volume.
+    pub fn checkpoint(&mut self) -> Result<(), Refusal>
+        ensures same { self.new ≡ self.old }
+        ensures ok { IsOk result }
+        ensures err { IfErr result (λ refusal. refusal ≡ NoMemory) }
+    {
+        self.volume.checkpoint();
+        Ok(())
+    }
+
+    /// The number of the last request, and so how many requests there were.
+    pub fn last_request(&self) -> ReqId
+        ensures { result ≡ self.now.requests }
+    {
+        self.volume.last_request()
+    }
+}

@@ -1,0 +1,173 @@
+// A command, cut into pieces: each is served before the next, and the first that is not done ends it.
+ghost use Rattle.std.specs.Prelude.{◌≡◌, ◌⊎◌, ℕ, ◌+◌, ◌*◌, ◌≤◌, ◌<◌, length, vec_capacity, vec_len, Option, None, Some, IfOk, IfErr, OnOk, OnErr, true};
+ghost use Rattle.plain.specs.declared.request.Reply.TheVariants.{Data, Refused, Written};
+ghost use Rattle.plain.specs.declared.request.Op.TheVariants.{Read, Write};
+ghost use Rattle.chunk.specs.Pieces.{span_of};
+ghost use Rattle.volume.specs.Volumed.{piece_with};
+ghost use Rattle.settled.specs.Beside.{written_beside, read_beside};
+ghost use Rattle.volume_commands.specs.Serving.{part_written, part_read};
+ghost use Rattle.volume_commands.specs.Rested.{rested_of, IsSettled};
+ghost use Rattle.volume_commands.specs.Kept.{KeepsDevices};
+ghost use Rattle.volume_commands.specs.Between.{IsBetween};
+ghost use Rattle.volume_commands.specs.Commands.{IsDoneBy, IsWriteRefused, IsReadRefused};
+ghost use Rattle.volume_commands.specs.Showing.{arrays_in, pieces_for, IsPlainRead, IsPlainReadRefused, IsPlainWrite, IsPlainWriteRefused};
+ghost use Rattle.volume_commands.specs.Serving.{CanAsk, CanServe, IsPieceDone, IsPieceRead, IsPieceRefused};
+
+use crate::Journaled;
+use crate::serving::serve;
+use chunk::Geometry;
+use layers::Layered;
+use plain::{Dev, Op, Reply, Request, refusal_for};
+use sector::{Buf, Range, Refusal, SECTOR_BYTES};
+use std::alloc::Global;
+
+/// Writes one piece. At `NoMemory` nothing changed.
+fn write_piece<B: Layered>(
+    volume: &mut Journaled<B>,
+    alloc: Global,
+    dev: Dev,
+    piece: Range,
+    bytes: &[u8],
+) -> Result<(), Refusal>
+    requires between { IsBetween volume.old }
+    requires can { CanServe B.size dev (Write bytes.now) piece volume.old }
+    ensures between { IsBetween volume.new }
+    ensures settled { IsSettled B.layers (rested_of volume.old) → IsSettled B.layers (rested_of volume.new) }
+    ensures done { OnOk result (IsPieceDone B.contents B.layers (part_written dev (span_of piece) bytes.now) (rested_of volume.old) (rested_of volume.new)) }
+    ensures refused { IfErr result (λ refusal. IsPieceRefused B.contents B.layers (part_written dev (span_of piece) bytes.now) refusal (rested_of volume.old) (rested_of volume.new)) }
+    ensures kept { KeepsDevices B.layers B.size (rested_of volume.old) (rested_of volume.new) }
+    ensures piece { piece_with volume.new.merge volume.new.snaps ≡ piece_with volume.old.merge volume.old.snaps }
+    ensures requests { volume.new.requests ≤ volume.old.requests + 1 }
+{
+    let Ok(bytes) = Buf::from_slice(alloc, bytes) else {
+        return Err(Refusal::NoMemory);
+    };
+    let request = Request {
+        dev,
+        op: Op::Write(bytes),
+        range: piece,
+    };
+    match serve(volume, request) {
+        Ok(Reply::Refused(failure)) => Err(refusal_for(failure)),
+        Ok(Reply::Written) => Ok(()),
+        Ok(Reply::Flushed) => Ok(()),
+        Ok(Reply::Data(_)) => Ok(()),
+        Err(refusal) => Err(refusal),
+    }
+}
+
+/// Reads one piece to the end of `out`, which has room for it. At `NoMemory` nothing changed.
+fn read_piece<B: Layered>(
+    volume: &mut Journaled<B>,
+    dev: Dev,
+    piece: Range,
+    out: &mut Vec<u8>,
+) -> Result<(), Refusal>
+    requires between { IsBetween volume.old }
+    requires can { CanServe B.size dev Read piece volume.old }
+    requires room { vec_len out.old + 512 * piece.count ≤ vec_capacity out.old }
+    ensures between { IsBetween volume.new }
+    ensures settled { IsSettled B.layers (rested_of volume.old) → IsSettled B.layers (rested_of volume.new) }
+    ensures done { OnOk result (IsPieceRead B.contents B.layers (part_read dev (span_of piece)) out.old.items out.new.items (rested_of volume.old) (rested_of volume.new)) }
+    ensures refused { IfErr result (λ refusal. IsPieceRefused B.contents B.layers (part_read dev (span_of piece)) refusal (rested_of volume.old) (rested_of volume.new)) }
+    ensures out_err { OnErr result (out.new.items ≡ out.old.items) }
+    ensures len { vec_len out.new ≤ vec_len out.old + 512 * piece.count }
+    ensures capacity { vec_capacity out.old ≤ vec_capacity out.new }
+    ensures kept { KeepsDevices B.layers B.size (rested_of volume.old) (rested_of volume.new) }
+    ensures piece { piece_with volume.new.merge volume.new.snaps ≡ piece_with volume.old.merge volume.old.snaps }
+    ensures requests { volume.new.requests ≤ volume.old.requests + 1 }
+{
+    let request = Request {
+        dev,
+        op: Op::Read,
+        range: piece,
+    };
+    match serve(volume, request) {
+        Ok(Reply::Refused(failure)) => Err(refusal_for(failure)),
+        Ok(Reply::Written) => Ok(()),
+        Ok(Reply::Flushed) => Ok(()),
+        Ok(Reply::Data(bytes)) => {
+            // No more than the piece has.
+            let count = bytes.len().min(piece.count as usize * SECTOR_BYTES);
+            match out.extend_from_slice(&bytes.as_slice()[..count]) {
+                Ok(()) => Ok(()),
+                Err(_) => unreachable!(),
+            }
+        }
+        Err(refusal) => Err(refusal),
+    }
+}
+
+/// Writes a range, piece after piece. A piece that is not done ends it, and those before it stand.
+pub(crate) fn write_pieces<B: Layered>(
+    volume: &mut Journaled<B>,
+    alloc: Global,
+    dev: Dev,
+    range: Range,
+    bytes: &[u8],
+) -> Result<(), Refusal>
+    requires between { IsBetween volume.old }
+    requires can { CanAsk B.size dev range volume.old }
+    requires room { length bytes.now ≡ 512 * range.count }
+    ensures between { IsBetween volume.new }
+    ensures settled { IsSettled B.layers (rested_of volume.old) → IsSettled B.layers (rested_of volume.new) }
+    ensures done { OnOk result (IsDoneBy B.contents B.layers (written_beside dev (span_of range) bytes.now) Written (rested_of volume.old) (rested_of volume.new)) }
+    ensures refused { IfErr result (λ refusal. IsWriteRefused B.contents B.layers dev (span_of range) bytes.now refusal (rested_of volume.old) (rested_of volume.new)) }
+    ensures shows { OnOk result (IsSettled B.layers (rested_of volume.old) → IsPlainWrite dev (span_of range) bytes.now (arrays_in B.contents B.layers (rested_of volume.old)) (arrays_in B.contents B.layers (rested_of volume.new))) }
+    ensures loses { IfErr result (λ refusal. IsSettled B.layers (rested_of volume.old) → IsPlainWriteRefused dev (span_of range) (pieces_for B.contents B.layers (span_of range) (rested_of volume.old)) bytes.now refusal (arrays_in B.contents B.layers (rested_of volume.old)) (arrays_in B.contents B.layers (rested_of volume.new))) }
+    ensures kept { KeepsDevices B.layers B.size (rested_of volume.old) (rested_of volume.new) }
+    ensures requests { volume.new.requests ≤ volume.old.requests + range.count }
+{
+    // A quiet volume, no device of which drops writes, is at rest.
+    let _ = volume.is_quiet();
+    let geometry = Geometry {
+        chunk: volume.piece(),
+        sectors: range.size,
+    };
+    let mut from = 0;
+    for piece in geometry.pieces(range) {
+        let to = from + piece.count as usize * SECTOR_BYTES;
+        match write_piece(volume, alloc, dev, piece, &bytes[from..to]) {
+            Ok(()) => {}
+            Err(refusal) => return Err(refusal),
+        }
+        from = to;
+    }
+    Ok(())
+}
+
+/// Reads a range, piece after piece. A piece that is not done ends it, and those before it were read.
+pub(crate) fn read_pieces<B: Layered>(
+    volume: &mut Journaled<B>,
+    alloc: Global,
+    dev: Dev,
+    range: Range,
+) -> Result<Buf, Refusal>
+    requires between { IsBetween volume.old }
+    requires can { CanAsk B.size dev range volume.old }
+    ensures between { IsBetween volume.new }
+    ensures settled { IsSettled B.layers (rested_of volume.old) → IsSettled B.layers (rested_of volume.new) }
+    ensures done { IfOk result (λ bytes. IsDoneBy B.contents B.layers (read_beside dev (span_of range)) (Data bytes) (rested_of volume.old) (rested_of volume.new)) }
+    ensures refused { IfErr result (λ refusal. IsReadRefused B.contents B.layers dev (span_of range) refusal (rested_of volume.old) (rested_of volume.new)) }
+    ensures shows { IfOk result (λ bytes. IsSettled B.layers (rested_of volume.old) → IsPlainRead dev (span_of range) bytes (arrays_in B.contents B.layers (rested_of volume.old)) (arrays_in B.contents B.layers (rested_of volume.new))) }
+    ensures loses { IfErr result (λ refusal. IsSettled B.layers (rested_of volume.old) → IsPlainReadRefused dev refusal (arrays_in B.contents B.layers (rested_of volume.old)) (arrays_in B.contents B.layers (rested_of volume.new))) }
+    ensures kept { KeepsDevices B.layers B.size (rested_of volume.old) (rested_of volume.new) }
+    ensures requests { volume.new.requests ≤ volume.old.requests + range.count }
+{
+    // A quiet volume, no device of which drops writes, is at rest.
+    let _ = volume.is_quiet();
+    let Ok(mut out) = Vec::with_capacity(alloc, range.count as usize * SECTOR_BYTES) else {
+        return Err(Refusal::NoMemory);
+    };
+    let geometry = Geometry {
+        chunk: volume.piece(),
+        sectors: range.size,
+    };
+    for piece in geometry.pieces(range) {
+        match read_piece(volume, dev, piece, &mut out) {
+            Ok(()) => {}
+            Err(refusal) => return Err(refusal),
+        }
+    }
+    Ok(Buf::from_vec(out))
+}

@@ -1,0 +1,121 @@
+// One piece of a command: it is submitted, and the events that are due are done until none is.
+ghost use Rattle.std.specs.Prelude.{◌≡◌, ℕ, ◌+◌, ◌≤◌, length, Option, None, Some, IfOk, IfErr, true, false};
+ghost use Rattle.plain.specs.declared.request.Reply.{Reply};
+ghost use Rattle.plain.specs.declared.request.Reply.TheVariants.{Refused};
+ghost use Rattle.settled.specs.Refusals.{is_starved};
+ghost use Rattle.event_machine.specs.Due.{due};
+ghost use Rattle.event_machine.specs.Submitting.{submitted};
+ghost use Rattle.volume.specs.Volumed.{is_loud_in_all, piece_with};
+ghost use Rattle.volume.specs.Moved.{moving_of};
+ghost use Rattle.volume.specs.Reaching.{IsRun};
+ghost use Rattle.volume.specs.Leaving.{has_group_in, is_quiet_of};
+ghost use Rattle.volume.specs.Submitting.{SameButRoom};
+ghost use Rattle.volume_commands.specs.Rested.{rested_of, merged_of, IsSettled, has_dev};
+ghost use Rattle.volume_commands.specs.Kept.{KeepsDevices};
+ghost use Rattle.volume_commands.specs.Between.{IsBetween};
+ghost use Rattle.volume_commands.specs.Commands.{IsDoneBy};
+ghost use Rattle.volume_commands.specs.Serving.{CanServe, part_done};
+ghost use Rattle.volume.specs.Stepping.{KeepsAll};
+
+use crate::Journaled;
+use layers::Layered;
+use plain::{Dev, Failure, NotDue, Outcome, Reply, Request};
+use sector::Refusal;
+
+/// Does the events that are due, each time the one that is due first, until the volume is quiet: none is then due but one of a
+/// merge. Tells the last reply, and the one that was given before where there is none.
+fn settle<B: Layered>(volume: &mut Journaled<B>, mut reply: Reply) -> Reply
+    requires free { has_group_in volume.old.merge ≡ false }
+    ensures run { IsRun B.contents B.layers (Some reply) (Some result) volume.old volume.new }
+    ensures none { (replied : Option Reply) → due (moving_of B.contents B.layers replied volume.new) ≡ None }
+    ensures quiet { is_quiet_of volume.new ≡ true }
+    ensures kept { KeepsAll B.size volume.old volume.new }
+    ensures requests { volume.new.requests ≡ volume.old.requests }
+{
+    while !volume.is_quiet() {
+        let Some(event) = volume.due() else {
+            unreachable!()
+        };
+        match volume.step(event) {
+            Ok(Outcome::Reply(_, given)) => reply = given,
+            Ok(Outcome::Done) => {}
+            Ok(Outcome::Fault) => {}
+            Err(NotDue) => unreachable!(),
+        }
+    }
+    reply
+}
+
+/// Submits the request of a piece, and tells what it is answered where no event answers it. One that its snapshot refuses is
+/// answered `Invalid` or `Overflow` at once, and may have spoiled or marked that snapshot; any other will be answered. Where
+/// memory is refused nothing changed.
+fn enter<B: Layered>(volume: &mut Journaled<B>, request: Request) -> Result<Failure, Refusal>
+    requires quiet { is_quiet_of volume.old ≡ true }
+    requires few { length volume.old.snaps ≤ 8 }
+    requires can { CanServe B.size request.dev request.op request.range volume.old }
+    ensures ok { IfOk result (λ failure. (number : ℕ) × (submitted number request (moving_of B.contents B.layers (Some (Refused failure)) volume.old) ≡ moving_of B.contents B.layers (Some (Refused failure)) volume.new)) }
+    ensures starved { IfErr result (λ refusal. (is_starved refusal ≡ true) × SameButRoom volume.old volume.new × (moving_of B.contents B.layers None volume.new ≡ moving_of B.contents B.layers None volume.old)) }
+    ensures free { has_group_in volume.new.merge ≡ false }
+    ensures loud { is_loud_in_all B.layers volume.new ≡ is_loud_in_all B.layers volume.old }
+    ensures kept { KeepsAll B.size volume.old volume.new }
+    ensures requests { volume.new.requests ≤ volume.old.requests + 1 }
+{
+    // Of the snapshots that a request may go to, none is the one that is being merged.
+    let _ = volume.merging();
+    match volume.submit(request) {
+        Ok(_) => Ok(Failure::Invalid),
+        Err(refusal) => match refusal {
+            Refusal::Invalid => Ok(Failure::Invalid),
+            Refusal::Overflow => Ok(Failure::Overflow),
+            _ => Err(refusal),
+        },
+    }
+}
+
+/// Submits the request of a piece, and does all that is due then. Tells its reply; where memory is refused nothing changed.
+pub(crate) fn serve<B: Layered>(
+    volume: &mut Journaled<B>,
+    request: Request,
+) -> Result<Reply, Refusal>
+    requires between { IsBetween volume.old }
+    requires can { CanServe B.size request.dev request.op request.range volume.old }
+    ensures between { IsBetween volume.new }
+    ensures settled { IsSettled B.layers (rested_of volume.old) → IsSettled B.layers (rested_of volume.new) }
+    ensures answer { IfOk result (λ reply. IsDoneBy B.contents B.layers (part_done request) reply (rested_of volume.old) (rested_of volume.new)) }
+    ensures starved { IfErr result (λ refusal. (is_starved refusal ≡ true) × (merged_of B.contents B.layers (rested_of volume.new) ≡ merged_of B.contents B.layers (rested_of volume.old))) }
+    ensures kept { KeepsDevices B.layers B.size (rested_of volume.old) (rested_of volume.new) }
+    ensures piece { piece_with volume.new.merge volume.new.snaps ≡ piece_with volume.old.merge volume.old.snaps }
+    ensures requests { volume.new.requests ≤ volume.old.requests + 1 }
+{
+    // A quiet volume, no device of which drops writes, is at rest.
+    let _ = volume.is_quiet();
+    match enter(volume, request) {
+        Ok(failure) => Ok(settle(volume, Reply::Refused(failure))),
+        Err(refusal) => Err(refusal),
+    }
+}
+
+/// A look at how many snapshots there are: eight at most.
+pub(crate) fn look<B: Layered>(volume: &Journaled<B>)
+    ensures { length volume.now.snaps ≤ 8 }
+{
+    let _ = volume.len();
+}
+
+/// Whether a request's device is there.
+pub(crate) fn is_there<B: Layered>(volume: &Journaled<B>, dev: Dev) -> bool
+    ensures { result ≡ has_dev dev (rested_of volume.now) }
+{
+    match dev {
+        Dev::Origin => true,
+        Dev::Snap(number) => {
+            if volume.merging() == Some(number) {
+                return false;
+            }
+            match volume.store(number) {
+                Ok(_) => true,
+                Err(_) => false,
+            }
+        }
+    }
+}

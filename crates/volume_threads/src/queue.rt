@@ -1,0 +1,24 @@
+// The tickets of a rig.
+ghost use Rattle.std.specs.Prelude.{◌≡◌};
+
+use copy_queue::{Count, Pass, Tickets};
+use locked_volume::Room;
+use std::marker::PhantomData;
+use std::sync::Mutex;
+
+/// The queue of tickets of all volumes, and how many were counted.
+#[derive(Drop)]
+pub struct Queue<J: Room> {
+    pub(crate) tickets: Tickets,
+    pub(crate) count: Mutex<Count>,
+    pub(crate) room: PhantomData<J>,
+    ghost is_room: { tickets ≡ J.queue },
+}
+
+/// A thread's pass to the queue. It takes no bytes.
+#[derive(Drop)]
+pub struct QueuePass<J: Room> {
+    pub(crate) pass: Pass,
+    pub(crate) room: PhantomData<J>,
+    ghost of_room: { pass.queue ≡ J.queue },
+}

@@ -1,0 +1,60 @@
+// Workers: they do the copies that have tickets.
+ghost use Rattle.std.specs.Prelude.{◌≡◌, ⊤};
+
+use crate::place::Place;
+use crate::queue::QueuePass;
+use crate::rig::Rig;
+use crate::seat::Seat;
+use crate::turns::copy;
+use copy_queue::{Copies, Gate, Pass, PendingCopy, Tickets};
+use layers::Layered;
+use locked_volume::Room;
+use plain::Event;
+use std::sync::Wait;
+
+/// A worker of a rig, which one thread has at a time.
+#[derive(Drop)]
+pub struct Worker<J: Room> {
+    pub(crate) pass: QueuePass<J>,
+}
+
+// Does copies of the volumes at these places.
+#[derive(Drop)]
+struct Copying<'a, B: Layered, J: Room> {
+    places: &'a [Place<B, J>],
+}
+
+impl<'a, B: Layered, J: Room> Copies for Copying<'a, B, J> {
+    ghost does = { λ before copy after. ⊤ };
+
+    // A copy that is gone, since its snapshot was spoiled, is not due.
+    fn copy<R: Wait>(&mut self, rt: &R, _tickets: &Tickets, _pass: &mut Pass, copied: PendingCopy) {
+        if let Some(place) = self.places.get(copied.volume) {
+            copy(rt, place, Event::CopyRead(copied.copy));
+            copy(rt, place, Event::CopyWrite(copied.copy));
+        }
+    }
+}
+
+impl<B: Layered, G: Gate + Drop, J: Room> Rig<B, G, J> {
+    /// Takes tickets and does their copies, each after `before` of the gate, until a ticket says stop.
+    pub fn work<R: Wait>(&self, rt: &R, worker: &mut Worker<J>) {
+        let mut copies = Copying {
+            places: self.places.as_slice(),
+        };
+        let _ = copy_queue::work(
+            rt,
+            &self.queue.tickets,
+            &mut worker.pass.pass,
+            &self.gate,
+            &mut copies,
+        );
+    }
+
+    /// Tells each worker to stop.
+    pub fn end<R: Wait>(&self, rt: &R, seat: &mut Seat<J>)
+        ensures { seat.new ≡ seat.old }
+    {
+        self.queue.stop(rt, &mut seat.pass, self.workers);
+    }
+}
