@@ -1,10 +1,12 @@
-//! The command program where a file of commands can't show it: readers and writers that fail, what is said of that, and the counts
-//! of a summary.
+//! The command program where a file of commands can't show it: readers and writers that fail, what is said of that, the counts
+//! of a summary, and a text that is cut at any byte.
 //!
 //! It stands on `runner` alone and has tests only. Whole texts of commands with the answers that are wanted for them are
 //! the files of `rows`.
 #![tactic(auto)]
 
+#[cfg(test)]
+mod cut;
 #[cfg(test)]
 mod ended;
 #[cfg(test)]
