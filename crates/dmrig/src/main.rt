@@ -11,7 +11,7 @@ ghost use Rattle.dmrig.specs.Ended.{ended};
 
 mod words;
 
-use crate::words::{Asked, asked};
+use crate::words::{Asked, words_ask};
 use runner::{RunError, Summary, exit_status, run, run_numbered};
 use std::io::{BufReader, BufWriter, Read, Write};
 use std::process::ExitCode;
@@ -113,7 +113,7 @@ fn main(rt: HostRuntime) -> ExitCode {
     let Some(words) = given(&rt) else {
         return ExitCode::from(2);
     };
-    match asked(rt.alloc(), &words) {
+    match words_ask(rt.alloc(), &words) {
         Ok(asked) => ExitCode::from(done(&rt, asked)),
         Err(error) => match error.print(&rt) {
             Ok(()) => ExitCode::from(error.exit_code() as u8),

@@ -22,7 +22,7 @@ const NOTES: &str = "\
 
 /// What the words ask for, the first of which is the program's own name. An error says what is wrong with them and with which,
 /// or is the help or the version.
-pub fn asked<'a>(alloc: Global, words: &'a [String]) -> Result<Asked<'a>, Error>
+pub fn words_ask<'a>(alloc: Global, words: &'a [String]) -> Result<Asked<'a>, Error>
     ensures some { IfOk result (λ asked. 1 ≤ asked.workers) }
     ensures few { IfOk result (λ asked. asked.workers ≤ 4) }
 {
@@ -102,7 +102,7 @@ mod tests {
             (["--", "--numbers"].as_slice(), Some("--numbers"), 1, false),
         ] {
             let line = line_of(rt.alloc(), words)?;
-            match asked(rt.alloc(), &line) {
+            match words_ask(rt.alloc(), &line) {
                 Ok(asked) => {
                     assert_eq!(rt; asked.file, file);
                     assert_eq!(rt; (asked.workers, asked.numbers), (workers, numbers));
@@ -122,7 +122,7 @@ mod tests {
             (["-x"].as_slice(), "'-x'"),
         ] {
             let line = line_of(rt.alloc(), words)?;
-            match asked(rt.alloc(), &line) {
+            match words_ask(rt.alloc(), &line) {
                 Ok(_) => assert!(rt; false, "{named} is taken"),
                 Err(error) => {
                     assert_eq!(rt; error.exit_code(), 2);
@@ -143,7 +143,7 @@ mod tests {
             ("-V", ErrorKind::DisplayVersion, "dmrig 1\n"),
         ] {
             let line = line_of(rt.alloc(), [word].as_slice())?;
-            match asked(rt.alloc(), &line) {
+            match words_ask(rt.alloc(), &line) {
                 Ok(_) => assert!(rt; false, "{word} is taken for a file"),
                 Err(error) => {
                     assert!(rt; error.kind() == kind && !error.use_stderr());
