@@ -9,7 +9,10 @@ pub mod LeftLemmas
 pub mod ShownLemmas
 pub mod DeskLemmas
 pub mod KeptLemmas
+pub mod PartLemmas
+pub mod NumberLemmas
 pub mod RunLemmas
+pub mod NumberedLemmas
 pub mod WellLemmas
 pub mod Orders
 pub mod BlockLemmas

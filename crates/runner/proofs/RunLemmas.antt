@@ -2,7 +2,7 @@
 use Rattle.std.proofs.Common.{◌≡◌, ℕ, suc, ◌+◌, length, true, false, List, [], ◌∷◌, ◌++◌, Option, Some, None, refl, sym, ap, ◌∙◌, arith, inl, inr, subst, append_assoc}
 use Rattle.std.specs.Prelude.{◌&&◌, Bool, not, IfSome, IfErr, Result, Ok, Err}
 use Rattle.std.specs.List.{count_by}
-use Rattle.std.specs.Io.KnownBytes.{Appends}
+use Rattle.std.specs.Io.KnownBytes.{Appends, Keeps}
 use Rattle.std.proofs.lemmas.List.{append-nil}
 use Rattle.std.proofs.lemmas.Grind.{flat_map-append}
 use Rattle.words.proofs.Bools.{and-split}
@@ -14,7 +14,8 @@ use Rattle.reply.specs.declared.Reply.{Reply}
 use Rattle.reply.specs.Texts.{text_of}
 use Rattle.runner.specs.declared.error.RunError.{RunError}
 use Rattle.runner.specs.declared.summary.Summary.{Summary}
-use Rattle.runner.specs.Exit.{IsWriters}
+use Rattle.runner.specs.declared.error.RunError.TheVariants.{Memory, Read, Write, Endless}
+use Rattle.runner.specs.Exit.{IsEarly, IsStreams, IsWriters}
 use Rattle.command_rules.specs.Sound.{is_sound}
 use Rattle.command_rules.specs.State.{Table}
 use Rattle.runner.specs.Runs.{AreDone, IsNext, IsTextBegun, IsTextDone, begun}
@@ -37,7 +38,7 @@ abbrev pub Follows : Option (List ℕ) → Option (List ℕ) → Option (List �
 Follows text left before now sitting = (replies : List Reply)
     × Appends before now (printed replies) × (sitting.desk.summary ≡ summary_of replies) × IsOn text left sitting replies
 
-nothing_written : (before : Option (List ℕ)) → Appends before before []
+pub nothing_written : (before : Option (List ℕ)) → Appends before before []
 nothing_written None = tt
 nothing_written (Some xs) = sym (append-nil xs)
 
@@ -51,7 +52,7 @@ starts text before sitting is =
     subst P (sym is) ([], nothing_written before, refl, none_on text)
 
 -- with nothing read ahead, all is left
-none_ahead : (ahead : List ℕ) (text : Option (List ℕ)) → ahead ≡ [] → left ahead text ≡ text
+pub none_ahead : (ahead : List ℕ) (text : Option (List ℕ)) → ahead ≡ [] → left ahead text ≡ text
 none_ahead ahead None none = refl
 none_ahead ahead (Some xs) none = ap (λ bytes. Some (bytes ++ xs)) none
 
@@ -121,7 +122,7 @@ has_outcomes table (line ∷ lines) =
     (outcome_of line table, replies_from (outcome_of line table).table lines, inl refl, refl, has_outcomes (outcome_of line table).table lines)
 
 -- a line that opens no block
-alone_parts : (par sound : Bool) → (not par && sound) ≡ true → (par ≡ false) × (sound ≡ true)
+pub alone_parts : (par sound : Bool) → (not par && sound) ≡ true → (par ≡ false) × (sound ≡ true)
 alone_parts false sound alone = (refl, alone)
 alone_parts true sound alone = absurd (let none : ⊥ = cc in none)
 
@@ -147,7 +148,7 @@ first_may old new (line ∷ first) left replies sound closed lines (next, done, 
     )
 
 -- where no block is open, none is run at the end
-nothing_ended : (block : Option Lines) (table : Table) (done : Outcome) → block ≡ None → IsEndedBy block table done → done.replies ≡ []
+pub nothing_ended : (block : Option Lines) (table : Table) (done : Outcome) → block ≡ None → IsEndedBy block table done → done.replies ≡ []
 nothing_ended None table done none ended = ap (λ (o : Outcome). o.replies) ended
 nothing_ended (Some block) table done none ended = absurd (let no : ⊥ = cc in no)
 
@@ -280,3 +281,20 @@ line_taken (Some text) None left' kept n taken read = absurd taken
 line_taken (Some text) (Some left) None kept n taken read = absurd read
 line_taken (Some text) (Some left) (Some left') kept n taken read =
     let cut : length (lines_of left) ≡ suc (length (lines_of left')) = ap length read.1 in omega arith
+
+-- what was printed so far is written out: the writer holds the same
+pub appends_kept : (before now then : Option (List ℕ)) (bytes : List ℕ) → Appends before now bytes → Keeps now then → Appends before then bytes
+appends_kept None now then bytes was same = tt
+appends_kept (Some xs) None then bytes was same = absurd was
+appends_kept (Some xs) (Some ys) None bytes was same = absurd same
+appends_kept (Some xs) (Some ys) (Some zs) bytes was same = same ∙ was
+
+pub written_out : (text left before now then : Option (List ℕ)) (sitting : Sitting) → Follows text left before now sitting → Keeps now then → Follows text left before then sitting
+written_out text left before now then sitting (replies, was, counts, on) same = (replies, appends_kept before now then (printed replies) was same, counts, on)
+
+-- a stream's own error is a cause
+pub streams_early : (text left before now : Option (List ℕ)) (e : RunError) → IsStreams e → IsEarly text left before now e
+streams_early text left before now Memory streams = absurd streams
+streams_early text left before now (Read error) streams = streams
+streams_early text left before now (Write error) streams = tt
+streams_early text left before now Endless streams = absurd streams

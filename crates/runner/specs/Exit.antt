@@ -27,6 +27,13 @@ IsMemory (Read error) = ⊥
 IsMemory (Write error) = ⊥
 IsMemory Endless = ⊥
 
+-- the reader or the writer failed; a reader's error is no interruption
+abbrev pub IsStreams : RunError → Type 0
+IsStreams Memory = ⊥
+IsStreams (Read error) = error_kind error ≢ Interrupted
+IsStreams (Write error) = ⊤
+IsStreams Endless = ⊥
+
 -- Why a run ended early, by what the reader had and has left and what the writer held and holds. Where memory was refused
 -- nothing was read or printed. The reader's error is no interruption. No run is too long but one of more lines than 2^64 - 2.
 abbrev pub IsEarly : Option (List ℕ) → Option (List ℕ) → Option (List ℕ) → Option (List ℕ) → RunError → Type 0

@@ -15,4 +15,5 @@ pub mod Shown
 pub mod Changed
 pub mod Sessions
 pub mod Runs
+pub mod Numbered
 pub mod Undoing

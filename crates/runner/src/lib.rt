@@ -27,6 +27,9 @@ mod ended;
 mod error;
 mod events;
 mod looking;
+mod numbered;
+mod numbering;
+mod reading;
 mod session;
 mod step;
 mod summary;
@@ -35,6 +38,7 @@ mod undoing;
 
 pub use desk::Desk;
 pub use error::{RunError, exit_status};
+pub use numbered::run_numbered;
 pub use session::Session;
 pub use summary::Summary;
 pub use text::run;

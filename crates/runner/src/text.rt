@@ -10,10 +10,11 @@ ghost use Rattle.runner.specs.Runs.{IsTextBegun, IsTextDone};
 ghost use Rattle.runner.specs.Sound.{is_sound_text};
 
 use crate::error::RunError;
+use crate::reading::next_line;
 use crate::session::Session;
 use crate::summary::Summary;
 use command::LINE_LIMIT;
-use lines::{LineBuffer, read_line};
+use lines::LineBuffer;
 use std::alloc::Global;
 use std::io::{Read, Write};
 use std::sync::Wait;
@@ -21,6 +22,9 @@ use std::thread::Threads;
 
 /// Does the lines of a text to its end, prints what each answers and nothing else, and counts what was printed. The end of the
 /// text ends a block that is still open. `workers` is the number of copy workers that a block has, 1 to 4.
+///
+/// Each time before the reader is asked for more, the writer is flushed (`next_line`), so that a program, or a person, that waits for an
+/// answer before it writes its next line is answered. What was printed last is flushed by the caller.
 pub fn run<T: Threads + Wait + Sync, R: Read, W: Write>(
     rt: &T,
     alloc: Global,
@@ -62,7 +66,7 @@ pub fn run<T: Threads + Wait + Sync, R: Read, W: Write>(
     let mut buffer = LineBuffer::new(alloc, LINE_LIMIT).map_err(|_| RunError::Memory)?;
     let mut session = Session::new(alloc, workers)?;
     for _lines in 0..u64::MAX {
-        if !read_line(reader, &mut buffer, LINE_LIMIT).map_err(RunError::Read)? {
+        if !next_line(reader, writer, &mut buffer)? {
             session.end(rt, writer)?;
             return Ok(session.summary());
         }

@@ -1,5 +1,5 @@
-//! The command program where a file of commands can't show it: readers and writers that fail, what is said of that, the counts
-//! of a summary, and a text that is cut at any byte.
+//! The command program where a file of commands can't show it: readers and writers that fail, what is said of that, what was written
+//! out by the time that more is read, the numbers of lines, the counts of a summary, and a text that is cut at any byte.
 //!
 //! It stands on `runner` alone and has tests only. Whole texts of commands with the answers that are wanted for them are
 //! the files of `rows`.
@@ -11,3 +11,5 @@ mod cut;
 mod ended;
 #[cfg(test)]
 mod failing;
+#[cfg(test)]
+mod talking;

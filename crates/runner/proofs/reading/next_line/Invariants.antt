@@ -1,0 +1,14 @@
+use Rattle.std.proofs.Common.{◌≤◌, ◌+◌, length, vec_capacity}
+use Rattle.std.specs.Io.KnownBytes.{Keeps}
+use Rattle.lines.specs.Lines.{left}
+use Rattle.lines.proofs.LineLemmas.{WithinLine}
+use Rattle.runner.proofs.PartLemmas.{has_bytes}
+use Rattle.runner.proofs.reading.next_line.Given as goal
+
+abbrev pub invariant-loop : goal.invariant-loop
+invariant-loop g l = record {
+  within : WithinLine (65536 + 1) (left l.fn.buffer.ahead (g.R.Read.remaining l.fn.reader)) (left l.buffer.ahead (g.R.Read.remaining l.reader)) (has_bytes l.buffer.line.items) l.buffer.line.items;
+  short : length l.buffer.line.items ≤ 65536 + 1;
+  room : vec_capacity l.fn.buffer.line ≤ vec_capacity l.buffer.line;
+  kept : Keeps (g.W.Write.contents l.fn.writer) (g.W.Write.contents l.writer);
+}

@@ -1,0 +1,43 @@
+// The next line of a text, asked for once what was printed is written out.
+ghost use Rattle.std.specs.Prelude.{◌<◌, ◌≤◌, IfErr, IfOk, vec_capacity};
+ghost use Rattle.std.specs.Io.KnownBytes.{Keeps};
+ghost use Rattle.lines.specs.Lines.{left, ReadsLine};
+ghost use Rattle.runner.specs.Exit.{IsStreams};
+
+use crate::error::RunError;
+use command::LINE_LIMIT;
+use lines::LineBuffer;
+use std::io;
+use std::io::{ErrorKind, Read, Write};
+
+/// Reads the next line into the buffer, without its end, and says whether there was one. Of a line of more than 65,536 bytes
+/// the buffer holds more than 65,536.
+///
+/// Each time before it asks the reader for bytes, it flushes the writer: whoever writes the text has every answer to the lines
+/// so far before the next is waited for. A line that was read ahead is taken without either. What the writer holds stays the
+/// same. The one error is a stream's own: `RunError::Write`, or `RunError::Read`, which is no interruption; then part of a line
+/// may have been taken.
+#[tactic(auto, using(lines::proofs::LineLemmas::within_start, lines::proofs::LineLemmas::within_kept, lines::proofs::LineLemmas::end_of_text, lines::proofs::LineLemmas::end_of_line, lines::proofs::Known::keeps_same, lines::proofs::Known::keeps_more))]
+pub fn next_line<R: Read, W: Write>(
+    reader: &mut R,
+    writer: &mut W,
+    buffer: &mut LineBuffer,
+) -> Result<bool, RunError>
+    requires { 65536 < vec_capacity buffer.old.line }
+    ensures line { IfOk result (λ more. ReadsLine 65536 (left buffer.old.ahead (R.remaining reader.old)) (left buffer.new.ahead (R.remaining reader.new)) more buffer.new.line.items) }
+    ensures kept { Keeps (W.contents writer.old) (W.contents writer.new) }
+    ensures room { vec_capacity buffer.old.line ≤ vec_capacity buffer.new.line }
+    ensures error { IfErr result IsStreams }
+{
+    buffer.line.clear();
+    for _ in 0..u64::MAX {
+        if buffer.ahead.take_line(&mut buffer.line, LINE_LIMIT) {
+            return Ok(true);
+        }
+        writer.flush().map_err(RunError::Write)?;
+        if !buffer.ahead.fill(reader).map_err(RunError::Read)? {
+            return Ok(0 < buffer.line.len());
+        }
+    }
+    Err(RunError::Read(io::Error::from(ErrorKind::InvalidData)))
+}
