@@ -8,3 +8,4 @@ pub mod Unpublished
 pub mod Using
 pub mod Unkept
 pub mod NextStarts
+pub mod Sought

@@ -1,5 +1,5 @@
 -- The copies for a merge are started in one snapshot after another.
-use Rattle.std.proofs.Common.{◌≡◌, inl, inr, ℕ, suc, ◌+◌, ◌*◌, ◌/◌, ◌<◌, ◌≤◌, Bool, List, [], ◌∷◌, ◌++◌, length, get_or, set, take, drop, true, false, refl, sym, ◌∙◌, ap, subst, arith, nat_eq}
+use Rattle.std.proofs.Common.{◌≡◌, inl, inr, ℕ, zero, suc, ◌+◌, ◌*◌, ◌/◌, ◌<◌, ◌≤◌, Bool, List, [], ◌∷◌, ◌++◌, length, get_or, set, take, drop, true, false, refl, sym, ◌∙◌, ap, subst, arith, nat_eq}
 use Rattle.std.specs.Prelude.{Option, Some, None}
 use Rattle.std.specs.List.{All, list_any}
 use Rattle.std.specs.Global.{Vec}
@@ -21,7 +21,7 @@ use Rattle.in_flight.specs.declared.flights.Flight.{Flight}
 use Rattle.snapshot.specs.Kept.{Kept}
 use Rattle.snapshot.specs.Calls.{StartsMerging, started}
 use Rattle.snapshots.specs.Starting.{lacks_chunk, starts_chunk, overflows_chunk, is_full_of, next_chunk_of}
-use Rattle.snapshots.specs.MergeStarting.{KeepsRoomFor, IsNextSavedIn, AreNextSavedIn}
+use Rattle.snapshots.specs.MergeStarting.{KeepsRoomFor, IsNextSavedIn, AreNextSavedIn, LacksAtMost}
 
 module _ {B : Type 0} (contents : B → List ℕ) (layers : B → List Layer) where
   -- no number is taken back
@@ -41,13 +41,18 @@ module _ {B : Type 0} (contents : B → List ℕ) (layers : B → List Layer) wh
       let begins : starts_chunk c s ≡ true = rw (lacking, room) refl in
       rw begins (buffer, at, refl, refl)
 
+  -- nothing is done where nothing is lacking
+  pub saved_has : (c : ℕ) (s : Kept B) (n : ℕ) (fs : List Flight) → lacks_chunk c s ≡ false → IsNextSavedIn contents layers c s s n n fs fs
+  saved_has c s n fs has =
+      let begins : starts_chunk c s ≡ false = rw has refl in
+      let over : overflows_chunk c s ≡ false = rw has refl in
+      rw (begins, over) (refl, refl, refl)
+
   -- no copy is started while one of the merge's is under way
   pub saved_busy : (c : ℕ) (s : Kept B) (n copies : ℕ) (fs : List Flight) → KeepsRoomFor c copies s → is_some s.merging ≡ true → IsNextSavedIn contents layers c s s n n fs fs
   saved_busy c s n copies fs room busy = elim (cases_Bool (lacks_chunk c s)) [
     | inl lacking ↦ absurd (false≢true (sym (ap is_some (room.idle lacking)) ∙ busy))
-    | inr has ↦ (let begins : starts_chunk c s ≡ false = rw has refl in
-        let over : overflows_chunk c s ≡ false = rw has refl in
-        rw (begins, over) (refl, refl, refl))
+    | inr has ↦ saved_has c s n fs has
   ]
 
   -- at most one number is given
@@ -97,6 +102,19 @@ module _ {B : Type 0} (contents : B → List ℕ) (layers : B → List Layer) wh
           few = omega (arith, h.few, step);
           more = omega (arith, h.more, saved_given (at s) s t m m' gs hs one);
         }
+
+    -- where all but the one at a place lack nothing
+    still : (ss : List (Kept B)) (n : ℕ) (fs : List Flight) → All (λ s. lacks_chunk (at s) s ≡ false) ss → AreNextSavedIn contents layers at ss ss n n fs fs
+    still [] n fs has = (refl, refl)
+    still (s ∷ ss) n fs has = (n, fs, saved_has (at s) s n fs (has 0 s (omega arith)), still ss n fs (λ j d lt. has (suc j) d (omega (arith, lt))))
+
+    pub saved_only : (place : ℕ) (ss : List (Kept B)) (s t : Kept B) (n m : ℕ) (fs gs : List Flight) → place < length ss → s ≡ get_or ss place s → LacksAtMost at place ss → IsNextSavedIn contents layers (at s) s t n m fs gs
+        → AreNextSavedIn contents layers at ss (set ss place t) n m fs gs
+    saved_only place [] s t n m fs gs within is others one = absurd (omega (arith, within))
+    saved_only zero (x ∷ ss) s t n m fs gs within is others one =
+        (m, gs, subst (λ (y : Kept B). IsNextSavedIn contents layers (at y) y t n m fs gs) is one, still ss m gs (λ j d lt. others (suc j) d (omega (arith, lt)) (omega arith)))
+    saved_only (suc place) (x ∷ ss) s t n m fs gs within is others one =
+        (n, fs, saved_has (at x) x n fs (others 0 x (omega arith) (omega arith)), saved_only place ss s t n m fs gs (omega (arith, within)) is (λ j d lt ne. others (suc j) d (omega (arith, lt)) (omega (arith, ne))) one)
 
 -- no copy has a number that was not given
 pub not_given : (n : ℕ) (ps : List ChunkCopy) → All (λ p. p.number ≤ n) ps → list_any (λ p. nat_eq p.number (n + 1)) ps ≡ false

@@ -2,7 +2,7 @@
 -- the first is started that it has not published. That a full store makes its snapshot invalid is the kernel's, of its
 -- admin-guide page on snapshots; that they are copied one after the other, and that the room is kept back, is this project's
 -- own.
-use Rattle.std.specs.Prelude.{◌≡◌, ℕ, ◌+◌, ◌*◌, ◌<◌, ◌≤◌, true, List, [], ◌∷◌, map, Option, Some, None, MatchBool}
+use Rattle.std.specs.Prelude.{◌≡◌, ◌≢◌, ◌⊎◌, ℕ, ◌+◌, ◌*◌, ◌<◌, ◌≤◌, true, false, List, [], ◌∷◌, ◌++◌, length, map, slice_index_or, Option, Some, None, Any, MatchBool}
 use Rattle.std.specs.List.{All}
 use Rattle.std.specs.Global.{Vec}
 use Rattle.sector.specs.declared.pair.Pair.{Pair}
@@ -12,7 +12,7 @@ use Rattle.in_flight.specs.Routes.{refused_of}
 use Rattle.in_flight.specs.declared.flights.Flight.{Flight}
 use Rattle.snapshot.specs.Kept.{Kept}
 use Rattle.snapshot.specs.Calls.{StartsMerging, started}
-use Rattle.snapshots.specs.Starting.{lacks_chunk, starts_chunk, overflows_chunk, next_chunk_of, spoilt_of}
+use Rattle.snapshots.specs.Starting.{lacks_chunk, starts_chunk, overflows_chunk, next_chunk_of, own_of, spoilt_of}
 use Rattle.merge.specs.Lists.{next_of_group}
 use Rattle.merge.specs.Merging.{Merging}
 
@@ -59,3 +59,30 @@ pub record CanSaveNext {B : Type 0} (chunk sectors copies : ℕ) (snaps : List (
   pub begins : chunk * q.old < sectors
   pub origin : All (λ s. s.state.origin ≡ sectors) snaps
   pub room : All (λ s. KeepsRoomFor (next_for chunk sectors q s) copies s) snaps
+
+-- no snapshot but the one at this place lacks its own chunk. at: the chunk of each.
+abbrev pub LacksAtMost : {B : Type 0} → (Kept B → ℕ) → ℕ → List (Kept B) → Type 0
+LacksAtMost {B = B} at place snaps = (j : ℕ) (d : Kept B) → j < length snaps → j ≢ place → lacks_chunk (at (slice_index_or snaps j d)) (slice_index_or snaps j d) ≡ false
+
+-- What a merge waits for in a snapshot that lacks it, of the chunks that so many sectors touch from this one on, is not before
+-- a chunk that was published; and that is one of those.
+abbrev pub LacksBehind : {B : Type 0} → ℕ → ℕ → ℕ → Kept B → Type 0
+LacksBehind published first count s = lacks_chunk (next_chunk_of first count s) s ≡ true → (own_of first s ≤ published) × (published ≤ next_chunk_of first count s)
+
+-- A chunk was published in the snapshot at this place, the last of all that were: in no other is a copy to be started for the
+-- merge that copies the chunk of a pair, and in that one behind the chunk.
+pub record GoesOnBehind {B : Type 0} (place published chunk sectors : ℕ) (snaps : List (Kept B)) (q : Pair) : Type 0 where
+  pub within : place < length snaps
+  pub others : LacksAtMost (next_for chunk sectors q) place snaps
+  pub behind : (d : Kept B) → LacksBehind published (chunk * q.old) (count_of chunk sectors q.old) (slice_index_or snaps place d)
+
+-- the chunks of which a copy is not published
+abbrev pub pending_of : {B : Type 0} → Kept B → List ℕ
+pending_of s = map (λ p. p.pair.old) s.copies ++ map (λ m. m.chunk) s.marks
+
+-- the least of these chunks from one on, if it is less than another, or else that
+pub record IsLeastFrom (low most : ℕ) (chunks : List ℕ) (least : ℕ) : Type 0 where
+  pub from : low ≤ least
+  pub to : least ≤ most
+  pub all : All (λ c. low ≤ c → least ≤ c) chunks
+  pub one : (least ≡ most) ⊎ Any (λ c. c ≡ least) chunks

@@ -2,8 +2,8 @@
 //! a write needs, each snapshot of its own chunk, and how they are started; which a merge waits for first; where held
 //! requests may go; which event is due first; and where an event that names a snapshot, a copy or a mark finds it. Beside a
 //! merge: where origin requests go while one is begun (`routing_in_merge`), which event of it is due (`due_in_merge`), and what
-//! each other snapshot keeps back for it and starts for it (`keeping`, `saving_next`). Nothing here knows a volume, its origin
-//! disk or its numbers.
+//! each other snapshot keeps back for it and starts for it (`keeping`, `saving_next`; where that is sought: `seeking`). Nothing
+//! here knows a volume, its origin disk or its numbers.
 //!
 //! It stands on `snapshot` (one snapshot, with its store), on `merge` (the one that is being merged) and on `in_flight` (copies,
 //! marks and requests in flight, as lists), and speaks in the words of `volume_laws`, whose laws take what is promised here.
@@ -19,6 +19,7 @@ mod keeping;
 mod routing;
 mod routing_in_merge;
 mod saving_next;
+mod seeking;
 mod starting;
 
 pub use due::first_due;

@@ -1,10 +1,11 @@
 // Whether an origin write may go to the disk, or a merge's; which chunk that it waits for comes first; and held writes of a
 // snapshot are routed again, after a publication.
-ghost use Rattle.std.specs.Prelude.{◌≡◌, ℕ, ◌+◌, ◌^◌, ◌<◌, false, map, Option};
+ghost use Rattle.std.specs.Prelude.{◌≡◌, ℕ, ◌+◌, ◌/◌, ◌^◌, ◌<◌, ◌≤◌, true, false, map, Option};
 ghost use Rattle.std.specs.List.{All, list_all, list_any};
+ghost use Rattle.chunk.specs.Pieces.{chunks_over};
 ghost use Rattle.in_flight.specs.Routes.{placed_route_of};
 ghost use Rattle.volume_laws.specs.Again.{placed_of, published_place as place_if_published};
-ghost use Rattle.volume_laws.specs.Published.{is_clear as is_clear_in, is_clear_over as is_clear_in_all, is_saved as is_saved_in, is_saved_over as is_saved_in_all, next_over, unpublished_in};
+ghost use Rattle.volume_laws.specs.Published.{is_published, is_clear as is_clear_in, is_clear_over as is_clear_in_all, is_saved as is_saved_in, is_saved_over as is_saved_in_all, next_over, unpublished_in};
 ghost use Rattle.snapshot.specs.Kept.{books_of};
 
 use crate::starting::own_chunk;
@@ -57,9 +58,17 @@ pub fn is_clear<B: Block>(snaps: &[Snapshot<B>], first: u64) -> bool
     !is_any_untried(snaps) && are_saved(snaps, first)
 }
 
-/// The first chunk that a snapshot has not published, of those that so many sectors of the origin touch from this one on.
-fn first_unpublished<B: Block>(snap: &Snapshot<B>, first: u64, count: u32) -> Option<Chunk>
-    requires { first + count < 2 ^ 64 }
+/// The first chunk that a snapshot has not published, of those that so many sectors of the origin touch from this one on. It is
+/// sought from a chunk on, before which it has published each of them.
+fn first_unpublished_from<B: Block>(
+    snap: &Snapshot<B>,
+    first: u64,
+    count: u32,
+    from: Chunk,
+) -> Option<Chunk>
+    requires fits { first + count < 2 ^ 64 }
+    requires begins { first / snap.now.state.chunk ≤ from }
+    requires before { All (λ c. c < from → is_published snap.now.pairs snap.now.marks c ≡ true) (chunks_over snap.now.state.chunk first count) }
     ensures { result ≡ unpublished_in first count (books_of B.contents B.layers snap.now) }
 {
     if count == 0 {
@@ -67,7 +76,7 @@ fn first_unpublished<B: Block>(snap: &Snapshot<B>, first: u64, count: u32) -> Op
     }
     let sectors = snap.chunk() as u64;
     let last = (first + (count - 1) as u64) / sectors;
-    for chunk in first / sectors..last + 1 {
+    for chunk in from..last + 1 {
         if !snap.is_published(chunk) {
             return Some(chunk);
         }
@@ -75,15 +84,38 @@ fn first_unpublished<B: Block>(snap: &Snapshot<B>, first: u64, count: u32) -> Op
     None
 }
 
+/// The same, sought among all that they touch.
+fn first_unpublished<B: Block>(snap: &Snapshot<B>, first: u64, count: u32) -> Option<Chunk>
+    requires { first + count < 2 ^ 64 }
+    ensures { result ≡ unpublished_in first count (books_of B.contents B.layers snap.now) }
+{
+    first_unpublished_from(snap, first, count, own_chunk(snap, first))
+}
+
 /// That chunk: a merge waits for its copy next. Where the snapshot has published each, the first of all.
+pub(crate) fn next_chunk_from<B: Block>(
+    snap: &Snapshot<B>,
+    first: u64,
+    count: u32,
+    from: Chunk,
+) -> Chunk
+    requires fits { first + count < 2 ^ 64 }
+    requires begins { first / snap.now.state.chunk ≤ from }
+    requires before { All (λ c. c < from → is_published snap.now.pairs snap.now.marks c ≡ true) (chunks_over snap.now.state.chunk first count) }
+    ensures { result ≡ next_over first count (books_of B.contents B.layers snap.now) }
+{
+    match first_unpublished_from(snap, first, count, from) {
+        Some(chunk) => chunk,
+        None => own_chunk(snap, first),
+    }
+}
+
+/// The same, sought among all that they touch.
 pub fn next_chunk<B: Block>(snap: &Snapshot<B>, first: u64, count: u32) -> Chunk
     requires { first + count < 2 ^ 64 }
     ensures { result ≡ next_over first count (books_of B.contents B.layers snap.now) }
 {
-    match first_unpublished(snap, first, count) {
-        Some(chunk) => chunk,
-        None => own_chunk(snap, first),
-    }
+    next_chunk_from(snap, first, count, own_chunk(snap, first))
 }
 
 /// Whether a snapshot has published each chunk that so many sectors of the origin touch from this one on, if it is live.

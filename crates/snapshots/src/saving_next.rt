@@ -1,6 +1,6 @@
 // The copies of the chunks that a merged chunk touches are started, the first in each snapshot that it has not published. They
 // take no memory: each snapshot keeps room back for its copy.
-ghost use Rattle.std.specs.Prelude.{◌≡◌, ◌+◌, ◌*◌, ◌^◌, ◌<◌, ◌≤◌, Some, length};
+ghost use Rattle.std.specs.Prelude.{◌≡◌, ◌+◌, ◌*◌, ◌^◌, ◌<◌, ◌≤◌, Some, length, slice_index_or};
 ghost use Rattle.std.specs.List.{All};
 ghost use Rattle.sector.specs.declared.pair.Pair.{Pair};
 ghost use Rattle.in_flight.specs.Copies.{count_of as count_in};
@@ -8,9 +8,12 @@ ghost use Rattle.volume_laws.specs.MergeDue.{last_of};
 ghost use Rattle.snapshots.specs.Starting.{next_chunk_of};
 ghost use Rattle.merge.specs.Lists.{next_of_group, waiting_of};
 ghost use Rattle.merge.specs.Merging.{Merging};
-ghost use Rattle.snapshots.specs.MergeStarting.{AreNextSavedIn, CanSaveNext, IsNextSaved, IsNextSavedBeside, IsNextSavedIn, KeepsRoomFor};
+ghost use Rattle.snapshot.specs.Kept.{Kept};
+ghost use Rattle.snapshots.specs.MergeStarting.{AreNextSavedIn, CanSaveNext, GoesOnBehind, IsNextSaved, IsNextSavedBeside, IsNextSavedIn, KeepsRoomFor, LacksAtMost, LacksBehind};
 
-use crate::{is_lacking_chunk, next_chunk};
+use crate::routing::next_chunk_from;
+use crate::seeking::sought_from;
+use crate::{is_lacking_chunk, next_chunk, own_chunk};
 use device::Block;
 use in_flight::{Flight, refuse, sectors_of};
 use merge::Merge;
@@ -151,19 +154,113 @@ fn save_last<B: Block>(
     save_pair(merge, merge.next(), snaps, flights, copies)
 }
 
+/// What `save_next_in` does, once a chunk of the snapshot is published: no chunk before that is lacking, so none is asked for
+/// again.
+fn save_behind<B: Block>(
+    snap: &mut Snapshot<B>,
+    flights: &mut [Flight],
+    copies: u64,
+    first: u64,
+    count: u32,
+    published: Chunk,
+) -> u64
+    requires some { 0 < count }
+    requires begins { first + count ≤ snap.old.state.origin }
+    requires room { KeepsRoomFor (next_chunk_of first count snap.old) copies snap.old }
+    requires few { copies + 1 < 2 ^ 64 }
+    requires behind { LacksBehind published first count snap.old }
+    ensures saved { IsNextSavedIn B.contents B.layers (next_chunk_of first count snap.old) snap.old snap.new copies result flights.old flights.new }
+{
+    if !snap.is_live() || snap.merging().is_some() {
+        return copies;
+    }
+    // Looks: a chunk has a sector at least, and the origin's are counted in 64 bits.
+    let _ = snap.chunk();
+    let _ = snap.sectors();
+    let low = own_chunk(snap, first);
+    if published < low {
+        return copies;
+    }
+    let from = sought_from(snap, low, published);
+    let chunk = next_chunk_from(snap, first, count, from);
+    save_chunk(snap, flights, copies, chunk)
+}
+
+/// The same in the snapshot at this place, where no other lacks what the merge waits for in it.
+fn save_at<B: Block>(
+    snaps: &mut [Snapshot<B>],
+    flights: &mut [Flight],
+    copies: u64,
+    first: u64,
+    count: u32,
+    place: usize,
+    published: Chunk,
+) -> u64
+    requires some { 0 < count }
+    requires within { place < length snaps.old }
+    requires begins { All (λ s. first + count ≤ s.state.origin) snaps.old }
+    requires room { All (λ s. KeepsRoomFor (next_chunk_of first count s) copies s) snaps.old }
+    requires few { copies + 1 < 2 ^ 64 }
+    requires others { LacksAtMost (next_chunk_of first count) place snaps.old }
+    requires behind { (d : Kept B) → LacksBehind published first count (slice_index_or snaps.old place d) }
+    ensures saved { AreNextSavedIn B.contents B.layers (next_chunk_of first count) snaps.old snaps.new copies result flights.old flights.new }
+{
+    save_behind(&mut snaps[place], flights, copies, first, count, published)
+}
+
+/// The same for the chunk of a pair, if there is one.
+fn save_pair_at<B: Block>(
+    merge: &Merge<B>,
+    pair: Option<Pair>,
+    snaps: &mut [Snapshot<B>],
+    flights: &mut [Flight],
+    copies: u64,
+    place: usize,
+    published: Chunk,
+) -> u64
+    requires room { (q : Pair) → pair ≡ Some q → CanSaveNext merge.now.state.chunk merge.now.state.origin copies snaps.old q }
+    requires few { (q : Pair) → pair ≡ Some q → copies + length snaps.old < 2 ^ 64 }
+    requires behind { (q : Pair) → pair ≡ Some q → GoesOnBehind place published merge.now.state.chunk merge.now.state.origin snaps.old q }
+    ensures saved { IsNextSaved B.contents B.layers merge.now.state.chunk merge.now.state.origin pair snaps.old snaps.new copies result flights.old flights.new }
+{
+    match pair {
+        Some(pair) => save_at(
+            snaps,
+            flights,
+            copies,
+            first_of(merge, pair),
+            count_of(merge, pair),
+            place,
+            published,
+        ),
+        None => copies,
+    }
+}
+
 /// The same for the pair that is copied next, beside a merge that is begun, if one is.
 fn save_beside<B: Block>(
     merge: &Option<Merge<B>>,
     snaps: &mut [Snapshot<B>],
     flights: &mut [Flight],
     copies: u64,
+    place: usize,
+    published: Chunk,
 ) -> u64
     requires room { (m : Merging B) → merge.now ≡ Some m → (q : Pair) → next_of_group m.group ≡ Some q → CanSaveNext m.state.chunk m.state.origin copies snaps.old q }
     requires few { (m : Merging B) → merge.now ≡ Some m → (q : Pair) → next_of_group m.group ≡ Some q → copies + length snaps.old < 2 ^ 64 }
+    requires behind { (m : Merging B) → merge.now ≡ Some m → (q : Pair) → next_of_group m.group ≡ Some q → GoesOnBehind place published m.state.chunk m.state.origin snaps.old q }
     ensures saved { IsNextSavedBeside B.contents B.layers merge.now snaps.old snaps.new copies result flights.old flights.new }
 {
     match merge {
-        Some(merge) => save_pair(merge, merge.next_pair(), snaps, flights, copies),
+        Some(merge) => save_pair_at(
+            merge,
+            merge.next_pair(),
+            snaps,
+            flights,
+            copies,
+            place,
+            published,
+        ),
         None => copies,
     }
 }
@@ -184,17 +281,22 @@ pub fn save_waiting<B: Block>(
     save_last(merge, snaps, flights, copies)
 }
 
-/// The same for the pair that is copied next: the one whose chunk is in the merge's buffer, or else the last that waits. Where
-/// no merge is begun, or no pair is left to be copied, nothing is done.
+/// The same for the pair that is copied next: the one whose chunk is in the merge's buffer, or else the last that waits. It is
+/// called once a chunk is published in the snapshot at this place, where no other lacks what the merge waits for in it; so that
+/// one alone is looked at, and what it waits for is sought from the chunk on. Where no merge is begun, or no pair is left to be
+/// copied, nothing is done.
 pub fn save_next_pair<B: Block>(
     merge: &Option<Merge<B>>,
     snaps: &mut Vec<Snapshot<B>>,
     flights: &mut Vec<Flight>,
     copies: u64,
+    place: usize,
+    published: Chunk,
 ) -> u64
     requires room { (m : Merging B) → merge.now ≡ Some m → (q : Pair) → next_of_group m.group ≡ Some q → CanSaveNext m.state.chunk m.state.origin copies snaps.old.items q }
     requires few { (m : Merging B) → merge.now ≡ Some m → (q : Pair) → next_of_group m.group ≡ Some q → copies + length snaps.old.items < 2 ^ 64 }
+    requires behind { (m : Merging B) → merge.now ≡ Some m → (q : Pair) → next_of_group m.group ≡ Some q → GoesOnBehind place published m.state.chunk m.state.origin snaps.old.items q }
     ensures saved { IsNextSavedBeside B.contents B.layers merge.now snaps.old.items snaps.new.items copies result flights.old.items flights.new.items }
 {
-    save_beside(merge, snaps, flights, copies)
+    save_beside(merge, snaps, flights, copies, place, published)
 }

@@ -23,14 +23,14 @@ use Rattle.snapshots.specs.Finding.{is_mark_of}
 use Rattle.snapshots.specs.Starting.{lacks_chunk, is_full_of}
 use Rattle.merge.specs.Lists.{first_or, next_of_group, reading_of, waiting_of}
 use Rattle.merge.specs.Merging.{Merging}
-use Rattle.snapshots.specs.MergeStarting.{IsNextSaved, IsNextSavedBeside, next_for}
+use Rattle.snapshots.specs.MergeStarting.{IsNextSaved, IsNextSavedBeside, LacksAtMost, next_for}
 use Rattle.volume.specs.Volumed.{Volumed}
 use Rattle.volume.specs.Whole.{IsWhole}
 use Rattle.volume.specs.Causes.{HasDone, counts_of, counts_with, is_lost, lives_of, lives_saved, unmarked}
 use Rattle.volume.proofs.MergeDue.{merged}
 use Rattle.volume.proofs.Shown.{and_left}
 use Rattle.volume.proofs.NextSaved.{next_lives, next_same}
-use Rattle.volume.proofs.OneNext.{LacksAtMost, has_not, one_given, one_lost}
+use Rattle.volume.proofs.OneNext.{has_not, one_given, one_lost}
 
 -- the pair that is copied next is the first of those that are
 next_head : (reading : List Pair) (last : Option Pair) (q : Pair) → first_or reading last ≡ Some q → (rest : List Pair) × (next_pairs reading last ≡ q ∷ rest)

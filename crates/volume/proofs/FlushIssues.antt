@@ -1,6 +1,6 @@
 -- A flush is issued at the whole store of its snapshot; or, one of the origin beside a merge, at the merging store, and goes on
 -- to the origin disk then.
-use Rattle.std.proofs.Common.{◌≡◌, ◌≢◌, ◌⊎◌, inl, inr, ℕ, suc, ◌+◌, ◌<◌, ◌≤◌, Bool, true, List, Option, None, Some, length, get_or, set, map, refl, sym, ◌∙◌, ap, subst, arith, nat_eq}
+use Rattle.std.proofs.Common.{◌≡◌, ◌≢◌, inl, inr, ℕ, suc, ◌+◌, ◌<◌, ◌≤◌, Bool, true, List, None, Some, length, get_or, set, map, refl, sym, ◌∙◌, ap, subst, arith, nat_eq}
 use Rattle.std.specs.Prelude.{◌&&◌, sum_by}
 use Rattle.std.specs.List.{remove, position}
 use Rattle.std.proofs.lemmas.Bool.{cases_Bool, eqb-true}
@@ -11,7 +11,6 @@ use Rattle.std.proofs.Math.Seq.{map-set_same}
 use Rattle.sector.specs.Bytes.{next_count}
 use Rattle.device.specs.Layers.{Layer, is_loud}
 use Rattle.plain.specs.Legal.{IsBegunFlush}
-use Rattle.plain.specs.Plain.{Plain}
 use Rattle.plain.specs.declared.event.Event.TheVariants.{Issue}
 use Rattle.plain.specs.declared.event.Outcome.TheVariants.{Done, Reply as Replied}
 use Rattle.plain.specs.declared.request.Dev.TheVariants.{Origin as AtOrigin, Snap}
@@ -27,14 +26,13 @@ use Rattle.in_flight.specs.declared.flights.Kind.TheVariants.{OriginFlush, SnapF
 use Rattle.in_flight.specs.declared.flights.Route.TheVariants.{Origin, Whole, Refused}
 use Rattle.volume_laws.specs.Books.{MergeBooks, SnapBooks, Books}
 use Rattle.volume_laws.specs.Due.{left_in, weight_of}
-use Rattle.volume_laws.specs.Held.{RefusedHolds, RequestHolds, SnapHolds}
+use Rattle.volume_laws.specs.Held.{RefusedHolds, SnapHolds}
 use Rattle.volume_laws.specs.MergeDue.{left_beside, left_in_merge}
 use Rattle.volume_laws.specs.Due.{books_of as due_in}
-use Rattle.volume_laws.specs.MergeSteps.{WritesStore}
 use Rattle.volume_laws.specs.Outcomes.{IsReply}
 use Rattle.volume_laws.specs.Steps.{FlushesStore, OnlyTakesOut, RoutesOn, TakesOut}
 use Rattle.volume_laws.specs.Waits.{Waits}
-use Rattle.volume_laws.specs.Whole.{OriginHolds, UnmergedHolds, plain_of as plain_books}
+use Rattle.volume_laws.specs.Whole.{OriginHolds, UnmergedHolds}
 use Rattle.volume_laws.proofs.FlushLeft.{flush_no_more}
 use Rattle.volume_laws.proofs.Issuing.{io_flush_event, io_snap_flush_event}
 use Rattle.volume_laws.proofs.IssuingFlushes.{routed_on_begun, routed_on_event, routed_on_waits, routed_on_weight, snap_flush_event}
@@ -43,7 +41,6 @@ use Rattle.volume_laws.proofs.MergeLeft.{stored_left}
 use Rattle.volume_laws.proofs.MergeRoomEvents.{flush_room}
 use Rattle.volume_laws.proofs.MergeRooms.{KeepsRoom}
 use Rattle.volume_laws.proofs.MergeSaved.{KeepsSaved, goes_stored}
-use Rattle.volume_laws.proofs.MergeWaiting.{waits_stored}
 use Rattle.volume_laws.proofs.Requests.{asked_first}
 use Rattle.volume_laws.proofs.Same.{same_books}
 use Rattle.volume_laws.proofs.Waiting.{KeepsWaiting, waits_out, waits_changed}
@@ -56,7 +53,7 @@ use Rattle.snapshots.proofs.Finds.{position_within}
 use Rattle.volume.specs.Flying.{Fits}
 use Rattle.volume.specs.Volumed.{Volumed, books_of, dues_of, is_loud_in_all, left_by, merge_due, plain_of}
 use Rattle.volume.specs.Whole.{AreNumbers, IsCounted, IsMerged, IsWhole}
-use Rattle.volume.specs.Causes.{FailsAlone, GoesTo, HasReplied, IsFaultless, merging_device}
+use Rattle.volume.specs.Causes.{HasReplied, merging_device}
 use Rattle.volume.specs.Stepping.{KeepsAll, has_failed}
 use Rattle.volume.proofs.Changing.{SnapsFit, StaysAttached, beside_changed, books_is, books_within, changed, changes, few_same, goes_changed, loud_changed, same_disk, snaps_changed}
 use Rattle.volume.proofs.Counting.{counts_same, counts_store, kept_changed, lives_same, store_within as snap_within}

@@ -1,7 +1,6 @@
 -- An event of one snapshot leaves its volume whole, and does what a step promises.
 use Rattle.std.proofs.Common.{◌≡◌, inr, ℕ, ◌<◌, Bool, true, false, List, [], ◌∷◌, ◌++◌, length, get_or, set, map, refl, sym, ◌∙◌, ap, arith}
 use Rattle.std.specs.Prelude.{sum_by}
-use Rattle.std.proofs.lemmas.List.{length-map}
 use Rattle.std.proofs.Math.Seq.{map-set_same}
 use Rattle.device.specs.Layers.{Layer, is_loud}
 use Rattle.plain.specs.Plain.{InFlight, Plain, spoiled}

@@ -1,14 +1,13 @@
 -- What a call does to all snapshots of a volume: what lasts of them afterwards, and what a stop leaves of their stores.
-use Rattle.std.proofs.Common.{◌≡◌, ◌⊎◌, inl, inr, ℕ, ◌*◌, ◌<◌, true, List, Option, length, get_or, set, map, refl, sym, ◌∙◌, ap, subst, arith}
+use Rattle.std.proofs.Common.{◌≡◌, ◌⊎◌, inl, inr, ℕ, ◌*◌, ◌<◌, List, Option, length, get_or, refl, sym, ◌∙◌, ap, subst, arith}
 use Rattle.std.specs.List.{All}
 use Rattle.std.proofs.lemmas.Bool.{cases_eq}
 use Rattle.std.proofs.lemmas.List.{length-map, get_or-map, get_or_default, get_or-set_other, length-set}
 use Rattle.std.proofs.lemmas.Grind.{get_or-set_at}
 use Rattle.sector.specs.Bytes.{sector_at}
-use Rattle.device.specs.Layers.{Layer, is_loud}
+use Rattle.device.specs.Layers.{Layer}
 use Rattle.in_flight.specs.declared.flights.Flight.{Flight}
 use Rattle.stop_laws.specs.Clauses.{Given}
-use Rattle.volume_laws.specs.Held.{SnapHolds}
 use Rattle.volume_laws.proofs.WholeOne.{snap_holds}
 use Rattle.snapshot.specs.Kept.{Kept, books_of as snap_books}
 use Rattle.volume.specs.Volumed.{Volumed, books_of}

@@ -1,8 +1,8 @@
 -- The events of copies, stores and marks over one snapshot, and requests at its store: what lasts of it, and what a stop leaves.
-use Rattle.std.proofs.Common.{◌≡◌, ◌≢◌, ◌⊎◌, inl, inr, ℕ, zero, suc, ◌+◌, ◌-◌, ◌*◌, ◌/◌, ◌%◌, ◌<◌, ◌≤◌, Bool, true, false, List, [], ◌∷◌, ◌++◌, Option, None, Some, length, take, drop, get_or, set, map, replicate, refl, sym, ◌∙◌, ap, subst, arith, rules, length-append, length-take, length-drop, Ok, Err, if◌then◌else◌}
-use Rattle.std.specs.Prelude.{◌==◌, not}
+use Rattle.std.proofs.Common.{◌≡◌, ◌≢◌, ◌⊎◌, inl, inr, ℕ, zero, suc, ◌+◌, ◌-◌, ◌*◌, ◌/◌, ◌<◌, ◌≤◌, Bool, true, false, List, [], ◌∷◌, ◌++◌, Option, None, Some, length, take, drop, get_or, set, map, replicate, refl, sym, ◌∙◌, ap, subst, arith, length-append, length-take, length-drop}
+use Rattle.std.specs.Prelude.{not}
 use Rattle.std.specs.List.{All}
-use Rattle.std.proofs.lemmas.Bool.{cases_Bool, cases_eq, cases_lt, true≢false, false≢true, cond-true, cond-false, eq-eqb, ne_eqb}
+use Rattle.std.proofs.lemmas.Bool.{cases_eq, false≢true, cond-true, cond-false, eq-eqb, ne_eqb}
 use Rattle.std.proofs.lemmas.List.{places, length-map, length-set, length-replicate, get_or-map, get_or-take, get_or-drop, get_or_default, get_or-set_other}
 use Rattle.std.proofs.lemmas.Grind.{get_or-set_at}
 use Rattle.sector.specs.Bytes.{sector_at, with_part, with_sectors}
@@ -10,12 +10,10 @@ use Rattle.sector.specs.Number.{number_at, number_bytes}
 use Rattle.sector.proofs.Numbers.{same_number, length-number_bytes}
 use Rattle.sector.proofs.Sectors.{sectors_at-with_same, byte_read}
 use Rattle.sector.specs.declared.pair.Pair.{Pair}
-use Rattle.sector.specs.declared.refusal.Refusal.TheVariants.{Invalid}
-use Rattle.cow_header.specs.HeaderText.{found_in}
 use Rattle.device.specs.Layers.{Layer, is_loud}
 use Rattle.store_bytes.specs.Pairs.{pairs_of, AreWellFormed, IsInside}
 use Rattle.store_bytes.specs.Picture.{place_of, IsCopied}
-use Rattle.store_bytes.specs.Places.{area_place, is_area_place, chunk_at, slot, ChangesOnly}
+use Rattle.store_bytes.specs.Places.{area_place, chunk_at, slot, ChangesOnly}
 use Rattle.store_bytes.proofs.AreaPlaces.{area_of}
 use Rattle.store_bytes.proofs.Slots.{pairs-outside, slot-at}
 use Rattle.store_bytes.specs.Slots.{pair_in, pair_bytes}
@@ -30,10 +28,10 @@ use Rattle.stop_laws.specs.Stop.{MayLeave}
 use Rattle.stop_laws.proofs.May.{slot_there}
 use Rattle.stop_laws.specs.May.{sector_of}
 use Rattle.stop_laws.specs.Clauses.{Given, Gives}
-use Rattle.loss_laws.specs.Kept.{Kept as Lost, last_slot, last_of, IsThere, SnapLasts, SnapRefused}
+use Rattle.loss_laws.specs.Kept.{Kept as Lost, last_slot, last_of, SnapLasts, SnapRefused}
 use Rattle.loss_laws.specs.Calm.{IsCalmSnap, StopsSnapLost}
 use Rattle.loss_laws.specs.Lost.{GivesPlace, NoneGiven}
-use Rattle.loss_laws.proofs.CalmCalls.{calm_same, calm_copy_write, calm_zero, calm_mark, calm_disk_write, calm_own_write, head_free}
+use Rattle.loss_laws.proofs.CalmCalls.{calm_same, calm_copy_write, calm_zero, calm_mark, calm_disk_write, calm_own_write}
 use Rattle.loss_laws.proofs.Clauses.{place_given, snap_gives}
 use Rattle.loss_laws.proofs.Committed.{commit_stops, commit_lasts, commit_fills}
 use Rattle.loss_laws.proofs.Flushed.{flush_lasts}
@@ -41,16 +39,16 @@ use Rattle.loss_laws.proofs.Kept.{calm_stops, mark_flushed}
 use Rattle.loss_laws.proofs.Parts.{place_first}
 use Rattle.loss_laws.proofs.Places.{place_good}
 use Rattle.loss_laws.proofs.Slots.{ahead_of}
-use Rattle.volume_laws.specs.Held.{SnapHolds, LiveHolds, CopyHolds, is_stored}
+use Rattle.volume_laws.specs.Held.{LiveHolds, is_stored}
 use Rattle.volume_laws.specs.Steps.{ZeroesArea, Commits, mark_of}
 use Rattle.store.specs.Headed.{marked_as}
 use Rattle.store.specs.Slots.{pairs_bytes, slot_start}
 use Rattle.store.specs.Stored.{after_commit}
 use Rattle.snapshot.specs.Kept.{Kept, books_of as snap_books, spare_after}
-use Rattle.snapshot.specs.Calls.{GoesTo, ReadsAt, WritesAt, StaysAt}
+use Rattle.snapshot.specs.Calls.{WritesAt}
 use Rattle.snapshot.specs.InStep.{IsInStep}
 use Rattle.volume.specs.SnapLasting.{IsReady, lost_of, IsThereOn, SnapLastsOn, SnapLasting}
-use Rattle.volume.proofs.LastOne.{IsKeptSnap, IsSameDevice, IsCalled, IsLeft, Stays, Spoils, Goes, none_ready, refused_store, begun_is, called, same_device, leaves, alive, sized, copy_inside, copy_place, copy_apart, some_sectors, calm_goes, law_goes, left_lost, left_goes}
+use Rattle.volume.proofs.LastOne.{IsKeptSnap, IsSameDevice, IsCalled, IsLeft, Stays, Spoils, Goes, refused_store, begun_is, called, same_device, leaves, alive, sized, copy_inside, copy_place, copy_apart, some_sectors, calm_goes, law_goes, left_lost}
 
 -- a copy that is not flushed takes another's place
 pub ready_set : (copies : List ChunkCopy) (j : ℕ) (p : ChunkCopy) (q : Pair) → p.stage ≢ Flushed → IsReady (set copies j p) q → IsReady copies q

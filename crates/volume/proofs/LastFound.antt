@@ -1,5 +1,5 @@
 -- What a search of an event says of the snapshot that it found.
-use Rattle.std.proofs.Common.{◌≡◌, ℕ, Bool, true, false, refl, sym, ◌∙◌, ap}
+use Rattle.std.proofs.Common.{◌≡◌, ℕ, Bool, true, false, refl, sym}
 use Rattle.std.specs.Prelude.{◌&&◌, ◌==◌, not}
 use Rattle.std.proofs.lemmas.Bool.{true≢false}
 use Rattle.in_flight.specs.Due.{front_ready}

@@ -1,13 +1,11 @@
 -- What each call of a volume does to its snapshots: what lasts of them afterwards, and what a stop leaves of their stores.
 use Rattle.std.proofs.Common.{◌≡◌, ◌≢◌, ◌⊎◌, inl, inr, ℕ, ◌+◌, ◌-◌, ◌*◌, ◌/◌, ◌%◌, ◌<◌, ◌≤◌, Bool, true, false, List, ◌++◌, Option, None, Some, length, take, drop, get_or, set, map, replicate, refl, sym, ◌∙◌, ap, subst, arith}
 use Rattle.std.specs.Prelude.{Any, not}
-use Rattle.std.specs.List.{All, list_any}
+use Rattle.std.specs.List.{All}
 use Rattle.std.proofs.lemmas.Bool.{cases_Bool, cases_lt, true≢false, false≢true}
-use Rattle.std.proofs.lemmas.List.{get_or_default, length-map, get_or-map}
 use Rattle.std.proofs.lemmas.Nat.{div-add-mod'}
 use Rattle.sector.specs.Bytes.{sector_at, with_part, with_sectors}
 use Rattle.sector.specs.declared.pair.Pair.{Pair}
-use Rattle.sector.specs.declared.range.Range.{Range}
 use Rattle.sector.proofs.Sectors.{sectors_apart}
 use Rattle.device.specs.Layers.{Layer, is_loud}
 use Rattle.store_bytes.specs.Picture.{place_of}
@@ -23,22 +21,21 @@ use Rattle.in_flight.specs.declared.flights.Route.TheVariants.{Origin, Store}
 use Rattle.stop_laws.specs.Clauses.{Given}
 use Rattle.stop_laws.specs.Firm.{IsFirm}
 use Rattle.loss_laws.proofs.Premises.{published_sure}
-use Rattle.volume_laws.specs.Books.{SnapBooks}
-use Rattle.volume_laws.specs.Held.{SnapHolds, LiveHolds, SpoiltHolds, RouteHolds, UntriedHolds, IsLinked}
-use Rattle.volume_laws.specs.Published.{IsPublished, IsSavedOver, chunk_of}
+use Rattle.volume_laws.specs.Held.{RouteHolds, UntriedHolds, IsLinked}
+use Rattle.volume_laws.specs.Published.{IsPublished, IsSavedOver}
 use Rattle.volume_laws.specs.Steps.{WritesDisk, ZeroesArea, Commits, mark_of}
 use Rattle.volume_laws.proofs.Bytes.{sector_in}
 use Rattle.store.specs.Slots.{pairs_bytes, slot_start}
 use Rattle.store.specs.Stored.{after_commit}
 use Rattle.snapshot.specs.Kept.{Kept, books_of as snap_books, spare_after}
-use Rattle.snapshot.specs.Calls.{ReadsAt, WritesAt, StaysAt}
+use Rattle.snapshot.specs.Calls.{WritesAt}
 use Rattle.snapshot.specs.InStep.{IsInStep}
 use Rattle.snapshots.specs.Starting.{spoilt_of}
 use Rattle.volume.specs.SnapLasting.{IsReady, SnapLasting}
 use Rattle.volume.specs.Volumed.{Volumed}
 use Rattle.volume.specs.Whole.{IsWhole, IsCounted}
 use Rattle.volume.proofs.Changing.{changed}
-use Rattle.volume.proofs.LastOne.{IsKeptSnap, IsSameDevice, IsCalled, IsLeft, Stays, Spoils, Goes, called, same_device, left_goes}
+use Rattle.volume.proofs.LastOne.{IsKeptSnap, IsSameDevice, IsCalled, IsLeft, Stays, Spoils, Goes, same_device, left_goes}
 use Rattle.volume.proofs.LastEvents.{ready_set, copy_write_goes, zero_next_goes, commit_goes, flush_goes, own_write_goes, mark_goes, tries_goes, flushed_refuses, disk_goes}
 use Rattle.volume.proofs.LastAll.{GoesAll, kept_at, lasting_at, all_go, one_goes}
 use Rattle.volume.proofs.Lefts.{LeftBy, AllLeft, left_spoilt, all_same}

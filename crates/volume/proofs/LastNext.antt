@@ -1,6 +1,6 @@
 -- Snapshots after the copies are started that a merge waits for, after a mark is taken away, or after a copy is started for a
 -- request: what losses speak of is left.
-use Rattle.std.proofs.Common.{◌≡◌, ◌⊎◌, inl, inr, ℕ, List, Option, None, Some, refl, sym, subst}
+use Rattle.std.proofs.Common.{◌≡◌, inl, inr, ℕ, List, Option, None, Some, refl, sym, subst}
 use Rattle.sector.specs.declared.pair.Pair.{Pair}
 use Rattle.sector.specs.declared.refusal.Refusal.{Refusal}
 use Rattle.plain.specs.declared.request.Overflowing.{Overflowing}
@@ -13,8 +13,6 @@ use Rattle.merge.specs.Merging.{Merging}
 use Rattle.snapshots.specs.MergeStarting.{IsNextSaved, IsNextSavedBeside, next_for}
 use Rattle.snapshot.specs.Kept.{Kept}
 use Rattle.snapshots.specs.Starting.{own_of}
-use Rattle.volume.specs.SnapLasting.{IsReady}
-use Rattle.volume.proofs.LastOne.{IsLeft, Stays, Spoils}
 use Rattle.volume.proofs.Lefts.{LeftBy, AllLeft, left_saved, all_same, all_next}
 use Rattle.volume.proofs.SnapWrites.{IsRefusedFull}
 

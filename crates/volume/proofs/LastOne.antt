@@ -1,9 +1,7 @@
 -- What a call does to one snapshot: what lasts of it afterwards, and what a stop before, within or after it leaves of its store.
-use Rattle.std.proofs.Common.{◌≡◌, ◌≢◌, ◌⊎◌, inl, inr, ℕ, suc, ◌+◌, ◌*◌, ◌/◌, ◌%◌, ◌<◌, ◌≤◌, Bool, true, false, List, [], ◌∷◌, ◌++◌, Option, None, Some, length, take, drop, get_or, map, refl, sym, ◌∙◌, ap, subst, arith}
-use Rattle.std.specs.Prelude.{AllPairs, ◌==◌}
-use Rattle.std.specs.List.{All}
-use Rattle.std.proofs.lemmas.Bool.{cases_Bool, cases_lt, true≢false, false≢true}
-use Rattle.std.proofs.lemmas.List.{length-map, length-append, get_or-map, get_or_default, get_or-append-add}
+use Rattle.std.proofs.Common.{◌≡◌, ◌≢◌, ◌⊎◌, inl, inr, ℕ, ◌+◌, ◌*◌, ◌/◌, ◌<◌, Bool, true, false, List, [], ◌++◌, Option, None, Some, length, get_or, refl, sym, ◌∙◌, ap, subst, arith}
+use Rattle.std.proofs.lemmas.Bool.{cases_Bool, cases_lt, false≢true}
+use Rattle.std.proofs.lemmas.List.{length-map, length-append, get_or-map, get_or-append-add}
 use Rattle.std.proofs.Math.ListN.{get_or-append}
 use Rattle.sector.specs.Bytes.{sector_at}
 use Rattle.sector.specs.declared.pair.Pair.{Pair}
@@ -14,19 +12,17 @@ use Rattle.store_bytes.specs.Places.{area_place}
 use Rattle.store_bytes.proofs.Views.{place_none}
 use Rattle.in_flight.specs.Copies.{pair_of}
 use Rattle.in_flight.specs.declared.copies.ChunkCopy.{ChunkCopy}
-use Rattle.in_flight.specs.declared.copies.Stage.TheVariants.{Flushed}
 use Rattle.in_flight.specs.declared.flights.Flight.{Flight}
-use Rattle.stop_laws.specs.Stop.{MayLeave, Within}
-use Rattle.stop_laws.specs.Firm.{AddsNow, IsFirm}
-use Rattle.stop_laws.specs.Clauses.{Held, Given, Gives, StopsSnap}
-use Rattle.loss_laws.specs.Kept.{Kept as Lost, IsThere, SnapLasts, SnapRefused}
+use Rattle.stop_laws.specs.Stop.{MayLeave}
+use Rattle.stop_laws.specs.Firm.{AddsNow}
+use Rattle.stop_laws.specs.Clauses.{Given, Gives, StopsSnap}
+use Rattle.loss_laws.specs.Kept.{Kept as Lost, SnapLasts, SnapRefused}
 use Rattle.loss_laws.specs.Calm.{IsCalmSnap, StopsSnapLost}
-use Rattle.loss_laws.specs.Clauses.{kept_of}
-use Rattle.loss_laws.proofs.Kept.{calm_stops, calm_lasts, has_first, refused_lasts, refused_stops, mark_flushed}
+use Rattle.loss_laws.proofs.Kept.{calm_stops, calm_lasts, refused_lasts}
 use Rattle.loss_laws.proofs.CalmCalls.{calm_same}
 use Rattle.loss_laws.proofs.Clauses.{snap_clause}
 use Rattle.loss_laws.proofs.Places.{place_all}
-use Rattle.volume_laws.specs.Held.{SnapHolds, LiveHolds, StoreHolds, SpoiltHolds}
+use Rattle.volume_laws.specs.Held.{SnapHolds, LiveHolds}
 use Rattle.snapshot.specs.Kept.{Kept, books_of as snap_books}
 use Rattle.volume.specs.SnapLasting.{IsReady, lost_of, IsThereOn, SnapLastsOn, SnapLasting}
 use Rattle.volume.specs.Stopping.{stopping_of}

@@ -1,23 +1,22 @@
 -- What lasts of a volume while time passes, or a layer is told something: layers alone change.
-use Rattle.std.proofs.Common.{◌≡◌, ◌≢◌, ◌⊎◌, inl, inr, ℕ, ◌+◌, ◌*◌, ◌<◌, ◌≤◌, true, List, Option, None, Some, length, get_or, set, refl, sym, ◌∙◌, ap, subst, arith}
-use Rattle.std.specs.List.{All}
+use Rattle.std.proofs.Common.{◌≡◌, inl, inr, ℕ, ◌+◌, ◌*◌, ◌<◌, true, List, Option, None, Some, length, get_or, set, refl, sym, ◌∙◌, ap, subst, arith}
 use Rattle.std.proofs.lemmas.Bool.{cases_eq}
 use Rattle.std.proofs.lemmas.List.{get_or_default, get_or-set_same, get_or-set_other}
 use Rattle.sector.specs.Bytes.{sector_at}
-use Rattle.device.specs.Layers.{Layer, is_loud}
+use Rattle.device.specs.Layers.{Layer}
 use Rattle.stop_laws.specs.Firm.{AddsNow}
 use Rattle.snapshot.specs.Kept.{Kept}
 use Rattle.merge.specs.Lists.{copied_of}
 use Rattle.merge.specs.Merging.{Merging, flushed_of}
 use Rattle.volume.specs.Adding.{AddsMerge}
 use Rattle.volume.specs.Layering.{Measures}
-use Rattle.volume.specs.SnapLasting.{SnapLasting, IsReady}
+use Rattle.volume.specs.SnapLasting.{IsReady}
 use Rattle.volume.specs.MergeLasting.{MergeLasting}
 use Rattle.volume.specs.Lasting.{IsLasting}
 use Rattle.volume.specs.Volumed.{Volumed}
 use Rattle.volume.specs.Whole.{IsWhole}
 use Rattle.volume.proofs.Relayered.{IsAlike, IsSnapAlike, IsMergeAlike, IsVolumeAlike, AreLaterBelow}
-use Rattle.volume.proofs.LastOne.{IsSameDevice, IsLeft, Stays, Spoils}
+use Rattle.volume.proofs.LastOne.{IsSameDevice, IsLeft}
 use Rattle.volume.proofs.LastAll.{GoesAll, all_left}
 use Rattle.volume.proofs.MergeLasts.{kept_merge, still_goes}
 

@@ -1,7 +1,7 @@
 -- Snapshots that a call does not write: copies are started, marks taken away, or one is spoiled.
-use Rattle.std.proofs.Common.{◌≡◌, ◌≢◌, ◌⊎◌, inl, inr, ℕ, zero, suc, ◌+◌, ◌*◌, ◌<◌, Bool, true, false, List, [], ◌∷◌, ◌++◌, Option, None, Some, length, get_or, set, map, refl, sym, ◌∙◌, ap, subst, arith, length-append}
-use Rattle.std.specs.Prelude.{◌&&◌, MatchBool}
-use Rattle.std.proofs.lemmas.Bool.{cases_Bool, cases_eq, cases_lt, true≢false, false≢true, MatchBool-at_true, MatchBool-at_false}
+use Rattle.std.proofs.Common.{◌≡◌, ◌≢◌, ◌⊎◌, inl, inr, ℕ, zero, suc, ◌<◌, Bool, true, false, List, [], ◌∷◌, ◌++◌, length, get_or, set, map, refl, sym, ◌∙◌, ap, subst, arith, length-append}
+use Rattle.std.specs.Prelude.{◌&&◌}
+use Rattle.std.proofs.lemmas.Bool.{cases_Bool, cases_eq, cases_lt, false≢true, MatchBool-at_true, MatchBool-at_false}
 use Rattle.std.proofs.lemmas.List.{length-map, length-set, get_or-map, get_or_default, get_or-set_other}
 use Rattle.std.proofs.lemmas.Grind.{get_or-set_at}
 use Rattle.std.proofs.Math.ListN.{get_or-append}
@@ -12,7 +12,7 @@ use Rattle.in_flight.specs.declared.copies.ChunkCopy.{ChunkCopy}
 use Rattle.in_flight.specs.declared.copies.Stage.TheVariants.{Waiting, Flushed}
 use Rattle.in_flight.specs.declared.flights.Flight.{Flight}
 use Rattle.snapshot.specs.Kept.{Kept}
-use Rattle.snapshot.specs.Calls.{StartsAt, StartsMerging, started}
+use Rattle.snapshot.specs.Calls.{StartsAt, StartsMerging}
 use Rattle.snapshots.specs.Starting.{starts_chunk, overflows_chunk, lacks_chunk, spoilt_of, unroomed, IsSavedIn, AreSavedIn}
 use Rattle.snapshots.specs.MergeStarting.{IsNextSavedIn, AreNextSavedIn}
 use Rattle.volume.specs.SnapLasting.{IsReady}

@@ -124,3 +124,4 @@ pub mod OpenedCalls
 pub mod AskedFor
 pub mod AddedUp
 pub mod Limits
+pub mod Behind

@@ -1,6 +1,6 @@
 -- A request that would pass no limit where it starts a copy in every snapshot passes none.
-use Rattle.std.proofs.Common.{◌≡◌, ℕ, ◌+◌, ◌<◌, ◌≤◌, Bool, false, List, length, Option, nat_le, nat_lt, inl, inr, arith}
-use Rattle.std.specs.Prelude.{◌==◌, ◌&&◌, ◌||◌, count_by, sum_by}
+use Rattle.std.proofs.Common.{◌≡◌, ℕ, ◌+◌, ◌≤◌, false, List, length, Option, nat_le, nat_lt, inl, inr, arith}
+use Rattle.std.specs.Prelude.{◌==◌, ◌&&◌, ◌||◌, sum_by}
 use Rattle.std.proofs.lemmas.Bool.{cases_Bool, le-ltb, ltb-false, or_from, or_parts}
 use Rattle.std.proofs.lemmas.List.Sums.{count_by-le-length}
 use Rattle.in_flight.specs.declared.flights.Kind.{Kind}

@@ -12,13 +12,9 @@ use Rattle.in_flight.specs.declared.copies.ChunkCopy.{ChunkCopy}
 use Rattle.in_flight.specs.declared.flights.Flight.{Flight}
 use Rattle.snapshot.specs.Kept.{Kept}
 use Rattle.snapshots.specs.Starting.{lacks_chunk, is_full_of, starts_chunk, overflows_chunk}
-use Rattle.snapshots.specs.MergeStarting.{IsNextSavedIn, AreNextSavedIn}
+use Rattle.snapshots.specs.MergeStarting.{IsNextSavedIn, AreNextSavedIn, LacksAtMost}
 
--- no snapshot but the one at place k lacks its own
-abbrev pub LacksAtMost : {B : Type 0} → (Kept B → ℕ) → ℕ → List (Kept B) → Type 0
-LacksAtMost {B = B} at k ss = (j : ℕ) (d : Kept B) → j < length ss → j ≢ k → lacks_chunk (at (get_or ss j d)) (get_or ss j d) ≡ false
-
--- none does
+-- no snapshot lacks its own
 abbrev pub LackNone : {B : Type 0} → (Kept B → ℕ) → List (Kept B) → Type 0
 LackNone at ss = All (λ s. lacks_chunk (at s) s ≡ false) ss
 

@@ -5,7 +5,6 @@ use Rattle.sector.specs.Bytes.{next_count}
 use Rattle.device.specs.Layers.{Layer, is_loud}
 use Rattle.plain.specs.declared.event.Event.TheVariants.{FlushStore, WriteInvalid}
 use Rattle.plain.specs.declared.event.Outcome.TheVariants.{Done, Fault}
-use Rattle.in_flight.specs.Due.{number_of_copy, number_of_mark}
 use Rattle.in_flight.specs.declared.flights.Flight.{Flight}
 use Rattle.volume_laws.specs.Published.{is_clear}
 use Rattle.volume_laws.specs.Again.{again_of}
@@ -27,7 +26,7 @@ use Rattle.volume.proofs.Counting.{counts_same, counts_store, lives_same, store_
 use Rattle.volume.proofs.Good.{IsGood, silent_good}
 use Rattle.volume.proofs.StartsLeft.{left_same}
 use Rattle.volume.proofs.AgainEvents.{tried_good, trying_number, trying_untried, trying_unmarked}
-use Rattle.volume.proofs.StoreEvents.{flush_marked, flushing_number}
+use Rattle.volume.proofs.StoreEvents.{flushing_number}
 use Rattle.volume.proofs.MovedCounts.{counted_marked, counted_tried}
 
 module _ {B : Type 0} (contents : B → List ℕ) (layers : B → List Layer) (size faults done : B → ℕ) (v : Volumed B) (h : IsWhole contents layers size v) (number : ℕ)

@@ -1,6 +1,6 @@
 -- A request as it is kept: a read and a write as they were asked, and a flush with the first sector. What a volume says of a
 -- request is the same of it as it was asked, and as it is kept.
-use Rattle.std.proofs.Common.{◌≡◌, ◌⊎◌, inl, inr, ℕ, ◌*◌, List, length, refl, sym, ap, subst}
+use Rattle.std.proofs.Common.{◌≡◌, inl, inr, ℕ, ◌*◌, List, length, refl, sym, ap, subst}
 use Rattle.device.specs.Layers.{Layer}
 use Rattle.sector.specs.declared.range.Range.{Range}
 use Rattle.sector.specs.declared.refusal.Refusal.{Refusal}

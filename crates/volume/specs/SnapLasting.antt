@@ -1,6 +1,6 @@
 -- What lasts of a snapshot whose store drops no writes, over an origin disk, while not all of it is flushed. holds: what a device
 -- may hold in a sector after a stop. This project's own; the bytes are those of dm-snap-persistent.c.
-use Rattle.std.specs.Prelude.{◌≡◌, ℕ, ◌<◌, Bool, true, false, List, length, slice_index_or}
+use Rattle.std.specs.Prelude.{◌≡◌, ℕ, ◌<◌, true, false, List, length, slice_index_or}
 use Rattle.sector.specs.declared.pair.Pair.{Pair}
 use Rattle.device.specs.Layers.{Layer, is_loud}
 use Rattle.store_bytes.specs.Pairs.{pairs_of, AreWellFormed}

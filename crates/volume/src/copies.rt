@@ -1,5 +1,5 @@
 // The events of copies, stores and marks, each a call of its own.
-ghost use Rattle.std.specs.Prelude.{◌≡◌, [], ◌∷◌, false, IfOk, OnErr, is_ok, map, true, OnOk, None};
+ghost use Rattle.std.specs.Prelude.{◌≡◌, [], ◌∷◌, ◌<◌, false, IfOk, OnErr, is_ok, length, map, slice_index_or, true, OnOk, None};
 ghost use Rattle.plain.specs.declared.event.Event.TheVariants.{CopyRead, CopyWrite, FlushStore, Publish, WriteArea, WriteInvalid, ZeroNext};
 ghost use Rattle.in_flight.specs.Routes.{refused_of};
 ghost use Rattle.volume_laws.specs.Due.{is_due};
@@ -13,8 +13,9 @@ ghost use Rattle.volume.specs.MergeLasting.{StopsOriginOn};
 
 use crate::Volume;
 use device::{Block, Io};
-use in_flight::{Flight, Stage, refuse};
+use in_flight::{Flight, Mark, Stage, refuse};
 use plain::{CopyId, NotDue, Outcome, SnapId};
+use sector::Chunk;
 use snapshot::Snapshot;
 use snapshots::{
     committing_at, find_copy, find_mark, flushing_at, route_again, route_placed, save_next_pair,
@@ -30,6 +31,14 @@ fn spoil<B: Block>(snap: &mut Snapshot<B>, flights: &mut Vec<Flight>)
 {
     snap.spoil();
     refuse(flights, snap.number());
+}
+
+/// The chunk of the mark at this place.
+fn chunk_at(marks: &[Mark], index: usize) -> Chunk
+    requires { index < length marks.now }
+    ensures { (m : Mark) → result ≡ (slice_index_or marks.now index m).chunk }
+{
+    marks[index].chunk
 }
 
 impl<B: Block> Volume<B> {
@@ -151,6 +160,7 @@ impl<B: Block> Volume<B> {
         match find_mark(&self.snaps, &self.flights, number) {
             Some((place, index)) => {
                 let snap = &mut self.snaps[place];
+                let chunk = chunk_at(snap.marks(), index);
                 snap.publish(index);
                 route_placed(snap, &mut self.flights);
                 route_again(&self.snaps, &self.merge, &mut self.flights);
@@ -159,6 +169,8 @@ impl<B: Block> Volume<B> {
                     &mut self.snaps,
                     &mut self.flights,
                     self.copies,
+                    place,
+                    chunk,
                 );
                 Ok(Outcome::Done)
             }

@@ -1,27 +1,13 @@
--- The chunks that the sectors touch are looked at in order.
-use Rattle.std.proofs.Common.{◌∙◌, ◌<◌, ◌+◌, ◌-◌, ◌/◌, sym, ap, subst, arith}
-use Rattle.std.specs.Prelude.{not}
-use Rattle.chunk.proofs.Limits.{is_chunk-some}
+-- It is sought from the first that is touched.
+use Rattle.std.proofs.Common.{◌≡◌, ◌<◌, true, sym, subst}
+use Rattle.std.specs.List.{All}
+use Rattle.chunk.specs.Pieces.{chunks_over}
 use Rattle.volume_laws.specs.Published.{is_published}
-use Rattle.snapshots.proofs.Unpublished.{first_until, until_here, until_next, until_whole}
+use Rattle.snapshots.proofs.Sought.{none_earlier}
 use Rattle.snapshots.proofs.routing.first_unpublished.Goals as goal
 
-pub loop-chunk-init : goal.loop-chunk-init
-loop-chunk-init g c =
+pub first_unpublished_from-requires-clause-before : goal.first_unpublished_from-requires-clause-before
+first_unpublished_from-requires-clause-before g c =
     let s = c.args.snap.now in
-    let is = c.chunk-sectors.ensures.is in
-    let some : 0 < s.state.chunk = subst (λ n. 0 < n) is (is_chunk-some c.chunk-sectors.result c.chunk-sectors.ensures.allowed) in
-    until_whole (λ n. not (is_published s.pairs s.marks n)) s.state.chunk c.args.first c.args.count some (omega (arith, c.if-count-eq0.false))
-    ∙ ap (λ n. first_until (λ m. not (is_published s.pairs s.marks m)) ((c.args.first + (c.args.count - 1)) / n) (c.args.first / n)) (sym is)
-
-pub returns-then-not-is_published : goal.returns-then-not-is_published
-returns-then-not-is_published g c =
-    let s = c.args.snap.now in
-    sym (c.loop-chunk.invariant ∙ until_here (λ n. not (is_published s.pairs s.marks n)) ((c.args.first + (c.args.count - 1)) / c.chunk-sectors.result) c.loop-chunk.chunk c.loop-chunk-test.true
-    (ap not (sym c.is_published.ensures ∙ c.if-not-is_published.true)))
-
-pub loop-chunk-preserved : goal.loop-chunk-preserved
-loop-chunk-preserved g c =
-    let s = c.args.snap.now in
-    c.loop-chunk.invariant ∙ until_next (λ n. not (is_published s.pairs s.marks n)) ((c.args.first + (c.args.count - 1)) / c.chunk-sectors.result) c.loop-chunk.chunk c.loop-chunk-test.true
-    (ap not (sym c.is_published.ensures ∙ c.if-not-is_published.false))
+    subst (λ n. All (λ x. x < n → is_published s.pairs s.marks x ≡ true) (chunks_over s.state.chunk c.args.first c.args.count)) (sym c.own_chunk.ensures)
+    (none_earlier (λ x. is_published s.pairs s.marks x ≡ true) s.state.chunk c.args.first c.args.count)

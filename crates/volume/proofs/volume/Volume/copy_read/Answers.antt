@@ -12,7 +12,7 @@ use Rattle.snapshot.specs.Kept.{Kept}
 use Rattle.volume.proofs.Spoilt.{spoilt_copies, attached_at}
 use Rattle.volume.proofs.Exactly.{read_exact, read_fault_exact}
 use Rattle.volume.proofs.LastMoves.{read_moves, spoils_copies}
-use Rattle.volume.proofs.LastBoth.{met_both, beside_both}
+use Rattle.volume.proofs.LastBoth.{met_both}
 use Rattle.volume.proofs.LastEvents.{read_late}
 use Rattle.std.specs.Prelude.{None}
 use Rattle.volume.proofs.volume.Volume.copy_read.Goals as goal

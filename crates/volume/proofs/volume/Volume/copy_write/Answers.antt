@@ -14,7 +14,7 @@ use Rattle.snapshot.specs.Kept.{Kept}
 use Rattle.volume.proofs.Spoilt.{spoilt_device}
 use Rattle.volume.proofs.Exactly.{write_exact, write_fault_exact}
 use Rattle.volume.proofs.LastMoves.{write_moves, spoils_device}
-use Rattle.volume.proofs.LastBoth.{met_both, beside_both}
+use Rattle.volume.proofs.LastBoth.{beside_both}
 use Rattle.std.specs.Prelude.{None}
 use Rattle.volume.proofs.volume.Volume.copy_write.Goals as goal
 

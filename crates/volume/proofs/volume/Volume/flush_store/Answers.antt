@@ -14,7 +14,7 @@ use Rattle.volume.proofs.StoreEvents.{flush_good, flush_fault, flush_marked, liv
 use Rattle.volume.proofs.Tried.{tried_done, tried_fault}
 use Rattle.volume.proofs.Exactly.{flush_exact, flush_fault_exact, tried_exact, tried_fault_exact}
 use Rattle.volume.proofs.LastMoves.{flush_moves, spoils_device, tries_moves}
-use Rattle.volume.proofs.LastBoth.{met_both, beside_both}
+use Rattle.volume.proofs.LastBoth.{beside_both}
 use Rattle.std.specs.Prelude.{None}
 use Rattle.std.proofs.lemmas.Bool.{false≢true}
 use Rattle.volume.proofs.volume.Volume.flush_store.Goals as goal

@@ -12,13 +12,11 @@ use Rattle.volume.proofs.FlushIssues.{whole_alive, whole_done, whole_io}
 use Rattle.volume.proofs.StoreIssues.{is_snap, held_any}
 use Rattle.volume.proofs.ExactIssues.{whole_exact, whole_io_exact}
 use Rattle.volume.proofs.LastMoves.{device_moves, flush_moves}
-use Rattle.volume.proofs.LastBoth.{met_both, beside_both}
-use Rattle.stop_laws.proofs.Firm.{adds_none}
+use Rattle.volume.proofs.LastBoth.{beside_both}
 use Rattle.plain.specs.declared.event.Event.TheVariants.{Issue}
 use Rattle.in_flight.specs.Kinds.{in_flight}
 use Rattle.volume.specs.Stopping.{given_by}
 use Rattle.std.proofs.Common.{map}
-use Rattle.std.proofs.Common.{List}
 use Rattle.volume.proofs.LastCloses.{snap_closes}
 use Rattle.volume.proofs.volume.Volume.flush_whole.Goals as goal
 

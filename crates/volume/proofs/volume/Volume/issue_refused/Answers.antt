@@ -8,14 +8,12 @@ use Rattle.snapshots.proofs.Finds.{position_within}
 use Rattle.volume.proofs.StoreIssues.{refused_good}
 use Rattle.volume.proofs.ExactIssues.{refused_exact}
 use Rattle.volume.proofs.LastMoves.{none_moves}
-use Rattle.volume.proofs.LastBoth.{met_both, beside_both}
-use Rattle.stop_laws.proofs.Firm.{adds_none}
+use Rattle.volume.proofs.LastBoth.{beside_both}
 use Rattle.plain.specs.declared.event.Event.TheVariants.{Issue}
 use Rattle.in_flight.specs.Kinds.{in_flight}
 use Rattle.volume.specs.Stopping.{given_by}
 use Rattle.std.proofs.Common.{refl}
 use Rattle.std.proofs.Common.{map}
-use Rattle.std.proofs.Common.{List}
 use Rattle.volume.proofs.volume.Volume.issue_refused.Goals as goal
 
 pub remove-requires : goal.remove-requires

@@ -22,8 +22,7 @@ use Rattle.plain.specs.declared.request.Reply.TheVariants.{Data}
 use Rattle.store.specs.Operations.{IsOneOperation}
 use Rattle.volume.proofs.ExactIssues.{store_read_exact, store_write_exact}
 use Rattle.volume.proofs.LastMoves.{device_moves}
-use Rattle.volume.proofs.LastBoth.{met_both, beside_both}
-use Rattle.stop_laws.proofs.Firm.{adds_none}
+use Rattle.volume.proofs.LastBoth.{beside_both}
 use Rattle.plain.specs.declared.event.Event.TheVariants.{Issue}
 use Rattle.in_flight.specs.Kinds.{in_flight}
 use Rattle.volume.specs.Stopping.{given_by}

@@ -3,28 +3,43 @@ use Rattle.std.proofs.Common.{◌≡◌, ◌<◌, true, false, Some, refl, sym, 
 use Rattle.std.specs.List.{All, position, list_any}
 use Rattle.volume_laws.specs.Published.{is_clear}
 use Rattle.volume_laws.specs.Again.{again_of, placed_of}
+use Rattle.in_flight.specs.declared.copies.Mark.{Mark}
 use Rattle.snapshot.specs.Kept.{Kept, books_of}
 use Rattle.volume.specs.Volumed.{Volumed}
 use Rattle.snapshots.specs.Finding.{is_mark_of, has_mark_at}
+use Rattle.snapshots.specs.MergeStarting.{GoesOnBehind}
 use Rattle.snapshots.proofs.Finds.{position_within}
 use Rattle.volume.proofs.DueEvents.{due_by, mark_found, mark_due, mark_is}
+use Rattle.volume.proofs.Behind.{goes_behind}
 use Rattle.volume.proofs.Chunks.{chunks_all, chunks_set}
 use Rattle.volume.proofs.AgainEvents.{IsUnmarked, unmarked, mark_safe}
 use Rattle.volume.proofs.Filled.{mark_number, published_cause, published_copies}
 use Rattle.volume.proofs.NextPublished.{published_good, unmarked_can_save}
 use Rattle.volume.proofs.PublishMoved.{published_exact}
 use Rattle.volume.proofs.LastMoves.{list_moves}
-use Rattle.volume.proofs.LastBoth.{met_both, beside_both}
+use Rattle.volume.proofs.LastBoth.{beside_both}
 use Rattle.volume.proofs.Lefts.{all_then, one_left}
 use Rattle.volume.proofs.LastNext.{left_marks, next_beside}
 use Rattle.std.specs.Prelude.{None}
-use Rattle.std.proofs.Common.{List}
+use Rattle.std.proofs.Common.{List, get_or}
 use Rattle.volume.proofs.volume.Volume.publish.Goals as goal
 use Rattle.snapshots.specs.Rooms.{merge_books}
 
 pub find_mark-requires : goal.find_mark-requires
 find_mark-requires g c =
     subst (All (λ (x : Kept _). 0 < x.state.chunk)) (sym c.deref.ensures.value) (chunks_all g.B.Block.contents g.B.Block.layers g.B.Block.size _ c.self.invariant.whole)
+
+pub chunk_at-chunk-requires : goal.chunk_at-chunk-requires
+chunk_at-chunk-requires g c =
+    let v = c.self.inside in
+    let s = c.index_mut-snap.result.now in
+    let k = c.in-Some.place in
+    let j = c.in-Some.index in
+    let within : k < length v.snaps.items = omega (arith, c.in-Some.ensures.found.0, ap length c.deref.ensures.value) in
+    let is = c.index_mut-snap.ensures.value in
+    let found : position (is_mark_of s v.flights.items c.args.number) s.marks ≡ Some j = mark_found c.args.number k j v.snaps.items c.deref.result.now v.flights.items c.deref-2.result.now s c.deref.ensures.value c.deref-2.ensures.value is (c.in-Some.ensures.found.1 s) in
+    let inside = position_within (is_mark_of s v.flights.items c.args.number) s.marks j found in
+    omega (arith, inside, ap length c.marks.ensures)
 
 pub publish-requires : goal.publish-requires
 publish-requires g c =
@@ -79,6 +94,25 @@ save_next_pair-self-inside-requires-clause-room g c =
     let gone = subst (IsUnmarked g.B.Block.contents g.B.Block.layers g.B.Block.size v k s c.publish.new.self) (sym flights)
     (unmarked g.B.Block.contents g.B.Block.layers g.B.Block.size g.B.Block.fault_count g.B.Block.done_count v c.self.invariant.whole c.args.number k s c.publish.new.self within is j m.0 found fields (c.publish.ensures.publishes m.0 m.1 (mark_safe s v.flights c.args.number j found m.0 m.1))) in
     λ merge was q next. unmarked_can_save g.B.Block.contents g.B.Block.layers g.B.Block.size v c.self.invariant.whole k s c.publish.new.self within is c.route_again.new.flights.items gone merge was q next
+
+pub save_next_pair-self-inside-requires-clause-behind : goal.save_next_pair-self-inside-requires-clause-behind
+save_next_pair-self-inside-requires-clause-behind g c =
+    let v : Volumed g.row.B.Denot = record { origin = c.self.inside.origin; snaps = c.self.inside.snaps.items; merge = c.self.inside.merge; flights = c.self.inside.flights.items; requests = c.self.inside.requests; copies = c.self.inside.copies; attached = c.self.inside.attached } in
+    let s = c.index_mut-snap.result.now in
+    let k = c.in-Some.place in
+    let j = c.in-Some.index in
+    let within : k < length v.snaps = omega (arith, c.in-Some.ensures.found.0, ap length c.deref.ensures.value) in
+    let is = c.index_mut-snap.ensures.value in
+    let found : position (is_mark_of s v.flights c.args.number) s.marks ≡ Some j = mark_found c.args.number k j v.snaps c.deref.result.now v.flights c.deref-2.result.now s c.deref.ensures.value c.deref-2.ensures.value is (c.in-Some.ensures.found.1 s) in
+    let m = mark_is c.args.number j v.flights s found in
+    let fields = c.publish.ensures.fields m.0 m.1 in
+    let flights : c.route_again.new.flights.items ≡ map (again_of (merge_books g.B.Block.contents g.B.Block.layers true v.merge) (is_clear (map (books_of g.B.Block.contents g.B.Block.layers) (slice_set v.snaps k c.publish.new.self)))) (map (placed_of (books_of g.B.Block.contents g.B.Block.layers c.publish.new.self)) v.flights) =
+    c.route_again.ensures ∙ ap (λ xs. map (again_of (merge_books g.B.Block.contents g.B.Block.layers true v.merge) (is_clear (map (books_of g.B.Block.contents g.B.Block.layers) xs))) c.route_placed.new.flights.items) c.deref-in-Some.ensures.value
+    ∙ ap (map (again_of (merge_books g.B.Block.contents g.B.Block.layers true v.merge) (is_clear (map (books_of g.B.Block.contents g.B.Block.layers) (slice_set v.snaps k c.publish.new.self))))) c.route_placed.ensures in
+    let gone = subst (IsUnmarked g.B.Block.contents g.B.Block.layers g.B.Block.size v k s c.publish.new.self) (sym flights)
+    (unmarked g.B.Block.contents g.B.Block.layers g.B.Block.size g.B.Block.fault_count g.B.Block.done_count v c.self.invariant.whole c.args.number k s c.publish.new.self within is j m.0 found fields (c.publish.ensures.publishes m.0 m.1 (mark_safe s v.flights c.args.number j found m.0 m.1))) in
+    λ merge was q next. subst (λ n. GoesOnBehind k n merge.state.chunk merge.state.origin (slice_set v.snaps k c.publish.new.self) q) (ap (λ (x : Mark). x.chunk) (m.1 ∙ ap (λ (ms : List Mark). get_or ms j m.0) (sym c.marks.ensures)) ∙ sym (c.chunk_at-chunk.ensures m.0))
+    (goes_behind g.B.Block.contents g.B.Block.layers g.B.Block.size v c.self.invariant.whole k s c.publish.new.self within is c.route_again.new.flights.items gone merge was q next j m.0 (position_within (is_mark_of s v.flights c.args.number) s.marks j found) m.1 fields)
 
 pub invariant_of-self : goal.invariant_of-self
 invariant_of-self g c = record {

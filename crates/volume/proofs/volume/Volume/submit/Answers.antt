@@ -1,7 +1,6 @@
 -- A request is taken as it is kept.
-use Rattle.std.proofs.Common.{◌≡◌, refl, sym, ◌∙◌, ap, subst}
+use Rattle.std.proofs.Common.{sym, ◌∙◌, ap, subst}
 use Rattle.plain.specs.declared.request.Request.{Request}
-use Rattle.plain.specs.Kept.{kept}
 use Rattle.event_machine.specs.Submitting.{submitted}
 use Rattle.volume.specs.Moved.{moving_of}
 use Rattle.volume.specs.Submitting.{IsAcceptedAs, IsRefusedAs, submit_refusal}

@@ -1,11 +1,9 @@
 -- The snapshot that is found is live, and the flush goes to its whole store.
-use Rattle.std.proofs.Common.{ℕ, refl, sym, ◌∙◌, ap, subst, get_or}
+use Rattle.std.proofs.Common.{refl, sym, ◌∙◌, ap, subst}
 use Rattle.in_flight.specs.declared.flights.Kind.TheVariants.{SnapFlush}
 use Rattle.in_flight.specs.declared.flights.Route.TheVariants.{Whole}
 use Rattle.in_flight.specs.Kinds.{kind_of, room_of}
-use Rattle.plain.specs.declared.request.Request.{Request}
 use Rattle.plain.specs.Kept.{kept}
-use Rattle.snapshot.specs.Kept.{Kept}
 use Rattle.volume.specs.Volumed.{Volumed, piece_with}
 use Rattle.volume.specs.Whole.{IsWhole}
 use Rattle.snapshots.specs.Finding.{place_of_snap}

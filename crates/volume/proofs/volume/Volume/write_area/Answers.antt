@@ -1,17 +1,16 @@
 -- The first copies are committed, or their snapshot is spoiled.
-use Rattle.std.proofs.Common.{◌≡◌, ◌-◌, ◌*◌, ◌<◌, inl, inr, true, false, refl, sym, ◌∙◌, ap, subst, length, arith, map, take, ◌∷◌, []}
+use Rattle.std.proofs.Common.{◌≡◌, ◌-◌, ◌*◌, ◌<◌, true, false, refl, sym, ◌∙◌, ap, length, arith, map, ◌∷◌, []}
 use Rattle.device.specs.Layers.{is_loud}
 use Rattle.in_flight.specs.Routes.{refused_of}
 use Rattle.in_flight.proofs.Batches.{batch_few, batch_ready}
 use Rattle.snapshot.specs.Kept.{Kept}
 use Rattle.snapshots.specs.Finding.{is_committing}
 use Rattle.volume.proofs.DueEvents.{due_by, snap_found, snap_due}
-use Rattle.volume.specs.Volumed.{Volumed}
 use Rattle.volume.proofs.Spoilt.{spoilt_device}
-use Rattle.volume.proofs.StoreEvents.{commit_good, commit_fault, first_some, front_live, committing_front, committing_next}
+use Rattle.volume.proofs.StoreEvents.{commit_good, commit_fault, front_live, committing_front, committing_next}
 use Rattle.volume.proofs.Exactly.{area_exact, area_fault_exact}
 use Rattle.volume.proofs.LastMoves.{commit_moves, spoils_device}
-use Rattle.volume.proofs.LastBoth.{met_both, beside_both}
+use Rattle.volume.proofs.LastBoth.{beside_both}
 use Rattle.std.specs.Prelude.{None}
 use Rattle.volume.proofs.volume.Volume.write_area.Goals as goal
 

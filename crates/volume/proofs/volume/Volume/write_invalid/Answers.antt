@@ -1,5 +1,5 @@
 -- A spoiled snapshot's mark is written, or its write failed.
-use Rattle.std.proofs.Common.{◌≡◌, ◌<◌, inl, inr, true, false, refl, sym, ◌∙◌, ap, subst, length, arith, map, slice_set}
+use Rattle.std.proofs.Common.{◌≡◌, ◌<◌, true, false, refl, sym, ◌∙◌, ap, subst, length, arith, map, slice_set}
 use Rattle.std.specs.List.{All}
 use Rattle.volume_laws.specs.Published.{is_clear}
 use Rattle.volume_laws.specs.Again.{again_of}
@@ -10,9 +10,8 @@ use Rattle.volume.proofs.DueEvents.{due_by, snap_found, snap_due}
 use Rattle.volume.proofs.Chunks.{chunks_set}
 use Rattle.volume.proofs.Tried.{marked_done, marked_fault}
 use Rattle.volume.proofs.Exactly.{marked_exact, marked_fault_exact}
-use Rattle.volume.specs.Volumed.{Volumed}
 use Rattle.volume.proofs.LastMoves.{mark_moves, fails_moves}
-use Rattle.volume.proofs.LastBoth.{met_both, beside_both}
+use Rattle.volume.proofs.LastBoth.{beside_both}
 use Rattle.std.specs.Prelude.{None}
 use Rattle.volume.proofs.volume.Volume.write_invalid.Goals as goal
 use Rattle.snapshots.specs.Rooms.{merge_books}

@@ -9,7 +9,7 @@ use Rattle.volume.proofs.Spoilt.{spoilt_device}
 use Rattle.volume.proofs.StoreEvents.{zero_good, zero_fault, zero_lacks, front_live, zeroing_front, zeroing_due, first_some}
 use Rattle.volume.proofs.Exactly.{zero_exact, zero_fault_exact, zero_lacks_exact}
 use Rattle.volume.proofs.LastMoves.{zero_moves, spoils_device}
-use Rattle.volume.proofs.LastBoth.{met_both, beside_both}
+use Rattle.volume.proofs.LastBoth.{beside_both}
 use Rattle.volume.proofs.LastOne.{same_device}
 use Rattle.volume.proofs.LastFound.{zeroing_loose}
 use Rattle.std.specs.Prelude.{None}

@@ -5,7 +5,7 @@ use Rattle.in_flight.specs.Due.{first_by}
 use Rattle.chunk.specs.Pieces.{chunks_over}
 use Rattle.volume_laws.specs.Published.{is_published}
 use Rattle.snapshots.proofs.Unpublished.{first_until}
-use Rattle.snapshots.proofs.routing.first_unpublished.Given as goal
+use Rattle.snapshots.proofs.routing.first_unpublished_from.Given as goal
 
 abbrev pub invariant-loop-chunk : goal.invariant-loop-chunk
 invariant-loop-chunk g l =
