@@ -62,7 +62,9 @@ impl<B: Layered, J: Room> Post<B, J> {
     }
 
     /// The number of the copy that was started last.
-    pub fn last_copy(&self) -> CopyId {
+    pub fn last_copy(&self) -> CopyId
+        ensures { result ≡ self.now.audit.volume.copies }
+    {
         self.audit.volume().last_copy()
     }
 

@@ -219,11 +219,4 @@ impl NamedVolume {
             },
         }
     }
-
-    /// Whether one of its devices has a name.
-    pub fn has(&self, name: &Name) -> bool
-        ensures { result ≡ is_some (role_of name.now self.now) }
-    {
-        self.role(name).is_some()
-    }
 }

@@ -27,13 +27,13 @@ use Rattle.volume.specs.Volumed.{Volumed}
 abbrev pub AreFewer : List Bool → List Bool → Type 0
 AreFewer after before = (k : ℕ) → get_or after k false ≡ true → get_or before k false ≡ true
 
-same_fewer : (after before : List Bool) → after ≡ before → AreFewer after before
+pub same_fewer : (after before : List Bool) → after ≡ before → AreFewer after before
 same_fewer after before same k e = ap (λ (l : List Bool). get_or l k false) (sym same) ∙ e
 
-then_fewer : (bs cs ds : List Bool) → bs ≡ cs → AreFewer cs ds → AreFewer bs ds
+pub then_fewer : (bs cs ds : List Bool) → bs ≡ cs → AreFewer cs ds → AreFewer bs ds
 then_fewer bs cs ds same less k e = less k (same_fewer bs cs same k e)
 
-set_fewer : (bs : List Bool) (k : ℕ) → AreFewer (set bs k false) bs
+pub set_fewer : (bs : List Bool) (k : ℕ) → AreFewer (set bs k false) bs
 set_fewer [] k j e = e
 set_fewer (b ∷ bs) zero zero e = absurd (false≢true e)
 set_fewer (b ∷ bs) zero (suc j) e = e
@@ -62,19 +62,19 @@ unroomed_lives : {B : Type 0} (snaps : List (Kept B)) → map (λ s. s.live) (ma
 unroomed_lives [] = refl
 unroomed_lives (s ∷ snaps) = ap (λ bs. s.live ∷ bs) (unroomed_lives snaps)
 
-roomed_lives : {B : Type 0} (xs ys : List (Kept B)) → map unroomed xs ≡ map unroomed ys → map (λ s. s.live) xs ≡ map (λ s. s.live) ys
+pub roomed_lives : {B : Type 0} (xs ys : List (Kept B)) → map unroomed xs ≡ map unroomed ys → map (λ s. s.live) xs ≡ map (λ s. s.live) ys
 roomed_lives xs ys same = sym (unroomed_lives xs) ∙ ap (map (λ s. s.live)) same ∙ unroomed_lives ys
 
-set_own : {B : Type 0} (snaps : List (Kept B)) (k : ℕ) (s : Kept B) → s ≡ get_or snaps k s → set (map (λ x. x.live) snaps) k s.live ≡ map (λ x. x.live) snaps
+pub set_own : {B : Type 0} (snaps : List (Kept B)) (k : ℕ) (s : Kept B) → s ≡ get_or snaps k s → set (map (λ x. x.live) snaps) k s.live ≡ map (λ x. x.live) snaps
 set_own [] k s is = refl
 set_own (x ∷ snaps) zero s is = ap (λ (y : Kept _). y.live ∷ map (λ z. z.live) snaps) is
 set_own (x ∷ snaps) (suc k) s is = ap (λ bs. x.live ∷ bs) (set_own snaps k s is)
 
 module _ {B : Type 0} (v w : Volumed B) where
-  same_lives : lives_of w ≡ lives_of v → AreFewer (lives_of w) (lives_of v)
+  pub same_lives : lives_of w ≡ lives_of v → AreFewer (lives_of w) (lives_of v)
   same_lives same = same_fewer (lives_of w) (lives_of v) same
 
-  set_lives : (place : ℕ) → lives_of w ≡ set (lives_of v) place false → AreFewer (lives_of w) (lives_of v)
+  pub set_lives : (place : ℕ) → lives_of w ≡ set (lives_of v) place false → AreFewer (lives_of w) (lives_of v)
   set_lives place is = then_fewer (lives_of w) (set (lives_of v) place false) (lives_of v) is (set_fewer (lives_of v) place)
 
   saved_lives : (chunk sectors : ℕ) (pair : Option Pair) → lives_of w ≡ lives_saved chunk sectors pair v.snaps → AreFewer (lives_of w) (lives_of v)

@@ -1,42 +1,34 @@
 -- What a call of a volume does to the requests in flight and to the live snapshots, so that there is a place for each.
-use Rattle.std.proofs.Common.{◌≡◌, inl, inr, ℕ, zero, suc, ◌+◌, ◌<◌, ◌≤◌, Bool, true, false, List, [], ◌∷◌, ◌++◌, length, get_or, set, map, max, take, Option, Some, None, refl, sym, ◌∙◌, ap, arith}
+use Rattle.std.proofs.Common.{◌≡◌, inl, inr, ℕ, zero, suc, ◌+◌, ◌<◌, ◌≤◌, Bool, true, false, List, [], ◌∷◌, ◌++◌, length, get_or, set, map, max, take, refl, sym, ◌∙◌, ap, arith}
 use Rattle.std.specs.Prelude.{◌-◌, ◌*◌, ◌&&◌, ◌==◌, Err, IfErr, Ok, OnOk, Result, not, if◌then◌else◌}
 use Rattle.std.specs.List.{remove}
 use Rattle.std.proofs.lemmas.Bool.{false≢true}
 use Rattle.std.proofs.lemmas.List.{length-map, map-append, map-set}
 use Rattle.device.specs.Layers.{Layer}
-use Rattle.sector.specs.declared.pair.Pair.{Pair}
 use Rattle.sector.specs.declared.refusal.Refusal.{Refusal}
 use Rattle.plain.specs.declared.event.Event.{Event}
-use Rattle.plain.specs.declared.event.Event.TheVariants.{Issue, CopyRead, CopyWrite, ZeroNext, WriteArea, Publish, WriteInvalid, FlushStore, MergeGroup, MergeAreaRead, MergeRead, MergeWrite, MergeFlush, MergeCommit, MergeRelease}
 use Rattle.plain.specs.declared.event.Outcome.{Outcome}
-use Rattle.plain.specs.declared.event.Outcome.TheVariants.{Done, Fault, Reply as Replied}
-use Rattle.plain.specs.declared.request.Failure.TheVariants.{Invalid as IsInvalid, Io, Overflow}
 use Rattle.plain.specs.declared.request.Overflowing.TheVariants.{Did}
-use Rattle.plain.specs.declared.request.Reply.{Reply}
-use Rattle.plain.specs.declared.request.Reply.TheVariants.{Data, Written, Flushed, Refused}
 use Rattle.plain.specs.declared.request.Request.{Request}
 use Rattle.plain.specs.Kept.{kept}
 use Rattle.plain.specs.Plain.{Plain, InFlight, may_overflow}
-use Rattle.in_flight.specs.Kinds.{in_flight, kind_of}
+use Rattle.in_flight.specs.Kinds.{in_flight}
 use Rattle.in_flight.specs.declared.flights.Flight.{Flight}
-use Rattle.in_flight.specs.declared.flights.Kind.{Kind}
-use Rattle.in_flight.specs.declared.flights.Kind.TheVariants.{OriginRead, OriginWrite, OriginFlush, SnapRead, SnapWrite, SnapFlush}
 use Rattle.in_flight.specs.Routes.{refused_of}
 use Rattle.snapshot.specs.Kept.{Kept}
 use Rattle.snapshot.specs.declared.opening.StoreDev.{StoreDev}
-use Rattle.snapshots.specs.Starting.{overflows, spoilt_of, unroomed}
-use Rattle.merge.specs.Merging.{Merging}
+use Rattle.snapshots.specs.Starting.{spoilt_of, unroomed}
 use Rattle.snapshots.specs.Keeping.{kept_for, kept_back, unkept}
 use Rattle.volume_laws.proofs.Lists.{map-remove}
 use Rattle.volume.specs.Attached.{IsGained}
 use Rattle.volume.specs.Beginning.{IsMergeBegun, IsNotBegun, SameButKept}
-use Rattle.volume.specs.Causes.{HasCause, HasDone, HasFailed, HasReplied, is_lost, lives_of, lives_saved}
+use Rattle.volume.specs.Causes.{HasCause, lives_of}
 use Rattle.volume.specs.Finishing.{IsTakenOut}
 use Rattle.volume.specs.Flying.{IsFlown}
 use Rattle.volume.specs.Leaving.{IsWithout}
-use Rattle.volume.specs.Submitting.{IsAcceptedAs, IsFoundFull, IsOverflown, IsRefusedAs, SameButRoom, lives_after}
+use Rattle.volume.specs.Submitting.{IsAcceptedAs, IsFoundFull, IsOverflown, IsRefusedAs, SameButRoom}
 use Rattle.volume.specs.Volumed.{Volumed, plain_of}
+use Rattle.volume.proofs.FewerLives.{accepted_lives, caused_lives, roomed_lives, same_fewer, same_lives, set_fewer, set_lives, set_own, then_fewer}
 use Rattle.journal.specs.Journaled.{places_for}
 use Rattle.journal.specs.Noted.{is_live, is_open, live_count, may_count, mays_of}
 use Rattle.journal.specs.Seats.{Seated, flight_in}
@@ -55,19 +47,6 @@ live_fewer (true ∷ bs) (false ∷ bs') less = let rest = live_fewer bs bs' (λ
 live_fewer (false ∷ bs) (true ∷ bs') less = absurd (false≢true (less 0 refl))
 live_fewer (false ∷ bs) (false ∷ bs') less = live_fewer bs bs' (λ k e. less (suc k) e)
 
-same_fewer : (bs bs' : List Bool) → bs' ≡ bs → IsFewer bs' bs
-same_fewer bs bs' same k e = ap (λ (l : List Bool). get_or l k false) (sym same) ∙ e
-
-then_fewer : (bs cs ds : List Bool) → bs ≡ cs → IsFewer cs ds → IsFewer bs ds
-then_fewer bs cs ds same less k e = less k (same_fewer cs bs same k e)
-
-set_fewer : (bs : List Bool) (k : ℕ) → IsFewer (set bs k false) bs
-set_fewer [] k j e = e
-set_fewer (b ∷ bs) zero zero e = absurd (false≢true e)
-set_fewer (b ∷ bs) zero (suc j) e = e
-set_fewer (b ∷ bs) (suc k) zero e = e
-set_fewer (b ∷ bs) (suc k) (suc j) e = set_fewer bs k j e
-
 removed_fewer : (bs : List Bool) (k : ℕ) → live_count (remove bs k) ≤ live_count bs
 removed_fewer [] zero = omega arith
 removed_fewer [] (suc k) = omega arith
@@ -81,24 +60,6 @@ one_more [] true = omega arith
 one_more [] false = omega arith
 one_more (true ∷ bs) b = omega (arith, one_more bs b)
 one_more (false ∷ bs) b = one_more bs b
-
-either_fewer : (b : Bool) (xs ys zs : List Bool) → IsFewer xs zs → IsFewer ys zs → IsFewer (if b then xs else ys) zs
-either_fewer true xs ys zs x y = x
-either_fewer false xs ys zs x y = y
-
--- of snapshots
-lost_first : (a b : Bool) → (if a then false else b) ≡ true → b ≡ true
-lost_first true b e = absurd (false≢true e)
-lost_first false b e = e
-
-lost_fewer : {B : Type 0} (lost : Kept B → Bool) (snaps : List (Kept B)) → IsFewer (map (λ s. if lost s then false else s.live) snaps) (map (λ s. s.live) snaps)
-lost_fewer lost [] k e = e
-lost_fewer lost (s ∷ snaps) zero e = lost_first (lost s) s.live e
-lost_fewer lost (s ∷ snaps) (suc k) e = lost_fewer lost snaps k e
-
-saved_fewer : {B : Type 0} (chunk sectors : ℕ) (pair : Option Pair) (snaps : List (Kept B)) → IsFewer (lives_saved chunk sectors pair snaps) (map (λ s. s.live) snaps)
-saved_fewer chunk sectors None snaps k e = e
-saved_fewer chunk sectors (Some q) snaps k e = lost_fewer (is_lost chunk sectors q) snaps k e
 
 -- A change that nobody sees of a snapshot keeps what is live, and what may overflow.
 record IsAlike {B : Type 0} (f : Kept B → Kept B) : Type 0 where
@@ -130,20 +91,12 @@ kept_alike number count chunk = record { live = λ s. either_live (s.live && not
     either_overflow true count s = refl
     either_overflow false count s = refl
 
-roomed_lives : {B : Type 0} (xs ys : List (Kept B)) → map unroomed xs ≡ map unroomed ys → map (λ s. s.live) xs ≡ map (λ s. s.live) ys
-roomed_lives xs ys same = sym (alike_lives unroomed unroomed_alike xs) ∙ ap (map (λ s. s.live)) same ∙ alike_lives unroomed unroomed_alike ys
-
 roomed_mays : {B : Type 0} (xs ys : List (Kept B)) → map unroomed xs ≡ map unroomed ys → map (λ s. may_overflow s.overflow) xs ≡ map (λ s. may_overflow s.overflow) ys
 roomed_mays xs ys same = sym (alike_mays unroomed unroomed_alike xs) ∙ ap (map (λ s. may_overflow s.overflow)) same ∙ alike_mays unroomed unroomed_alike ys
 
 overflow_mays : {B : Type 0} (snaps : List (Kept B)) → map (λ s. may_overflow s.overflow) snaps ≡ map may_overflow (map (λ s. s.overflow) snaps)
 overflow_mays [] = refl
 overflow_mays (s ∷ snaps) = ap (λ bs. may_overflow s.overflow ∷ bs) (overflow_mays snaps)
-
-set_own : {B : Type 0} (snaps : List (Kept B)) (k : ℕ) (s : Kept B) → s ≡ get_or snaps k s → set (map (λ x. x.live) snaps) k s.live ≡ map (λ x. x.live) snaps
-set_own [] k s is = refl
-set_own (x ∷ snaps) zero s is = ap (λ (y : Kept _). y.live ∷ map (λ z. z.live) snaps) is
-set_own (x ∷ snaps) (suc k) s is = ap (λ bs. x.live ∷ bs) (set_own snaps k s is)
 
 -- of volumes: what keeps a place for each
 module _ {B : Type 0} (v w : Volumed B) where
@@ -159,92 +112,23 @@ module _ {B : Type 0} (v w : Volumed B) where
   are_fewer lives mays = record { live = live_fewer (lives_of v) (lives_of w) lives; marks = may_fewer (lives_of v) (lives_of w) (mays_of v) (mays_of w) lives mays }
 
   same_mays : map (λ s. s.overflow) w.snaps ≡ map (λ s. s.overflow) v.snaps → IsFewer (mays_of w) (mays_of v)
-  same_mays same = same_fewer (mays_of v) (mays_of w) (overflow_mays w.snaps ∙ ap (map may_overflow) same ∙ sym (overflow_mays v.snaps))
-
-  same_lives : lives_of w ≡ lives_of v → IsFewer (lives_of w) (lives_of v)
-  same_lives same = same_fewer (lives_of v) (lives_of w) same
-
-  set_lives : (place : ℕ) → lives_of w ≡ set (lives_of v) place false → IsFewer (lives_of w) (lives_of v)
-  set_lives place is = then_fewer (lives_of w) (set (lives_of v) place false) (lives_of v) is (set_fewer (lives_of v) place)
+  same_mays same = same_fewer (mays_of w) (mays_of v) (overflow_mays w.snaps ∙ ap (map may_overflow) same ∙ sym (overflow_mays v.snaps))
 
   set_mays : (place : ℕ) → mays_of w ≡ set (mays_of v) place false → IsFewer (mays_of w) (mays_of v)
   set_mays place is = then_fewer (mays_of w) (set (mays_of v) place false) (mays_of v) is (set_fewer (mays_of v) place)
 
-  saved_lives : (chunk sectors : ℕ) (pair : Option Pair) → lives_of w ≡ lives_saved chunk sectors pair v.snaps → IsFewer (lives_of w) (lives_of v)
-  saved_lives chunk sectors pair is = then_fewer (lives_of w) (lives_saved chunk sectors pair v.snaps) (lives_of v) is (saved_fewer chunk sectors pair v.snaps)
-
   module _ (faults : B → ℕ) where
-    done_lives : (event : Event) → HasDone faults event v w → IsFewer (lives_of w) (lives_of v)
-    done_lives (ZeroNext number) (inl is) = same_lives is.lives
-    done_lives (ZeroNext number) (inr is) = set_lives is.place is.lives
-    done_lives MergeGroup is = saved_lives _ _ _ is.lives
-    done_lives MergeWrite is = saved_lives _ _ _ is.lives
-    done_lives (Issue number) is = same_lives is.lives
-    done_lives (CopyRead number) is = same_lives is.lives
-    done_lives (CopyWrite number) is = same_lives is.lives
-    done_lives (WriteArea number) is = same_lives is.lives
-    done_lives (Publish number) (inl is) = same_lives is.lives
-    done_lives (Publish number) (inr is) = set_lives is.place is.lives
-    done_lives (WriteInvalid number) is = same_lives is.lives
-    done_lives (FlushStore number) is = same_lives is.lives
-    done_lives MergeAreaRead is = same_lives is.lives
-    done_lives MergeRead is = same_lives is.lives
-    done_lives MergeFlush is = same_lives is.lives
-    done_lives MergeCommit is = same_lives is.lives
-    done_lives MergeRelease is = same_lives is.lives
-
-    failed_lives : (event : Event) → HasFailed faults event v w → IsFewer (lives_of w) (lives_of v)
-    failed_lives (CopyRead number) is = set_lives is.place is.spoils.lives
-    failed_lives (CopyWrite number) is = set_lives is.place is.spoils.lives
-    failed_lives (ZeroNext number) is = set_lives is.place is.spoils.lives
-    failed_lives (WriteArea number) is = set_lives is.place is.spoils.lives
-    failed_lives (WriteInvalid number) is = same_lives is.fails.lives
-    failed_lives (FlushStore number) (inl is) = set_lives is.place is.spoils.lives
-    failed_lives (FlushStore number) (inr is) = same_lives is.fails.lives
-    failed_lives MergeAreaRead is = same_lives is.fails.lives
-    failed_lives MergeRead is = same_lives is.fails.lives
-    failed_lives MergeWrite is = same_lives is.fails.lives
-    failed_lives MergeFlush is = same_lives is.fails.lives
-    failed_lives MergeCommit is = same_lives is.fails.lives
-    failed_lives (Issue number) is = absurd is
-    failed_lives (Publish number) is = absurd is
-    failed_lives MergeGroup is = absurd is
-    failed_lives MergeRelease is = absurd is
-
-    replied_lives : (number : ℕ) (reply : Reply) → HasReplied faults number reply v w → IsFewer (lives_of w) (lives_of v)
-    replied_lives number (Refused Io) is = same_lives is.2.lives
-    replied_lives number (Refused IsInvalid) is = same_lives is.lives
-    replied_lives number (Refused Overflow) is = same_lives is.lives
-    replied_lives number (Data bytes) is = same_lives is.lives
-    replied_lives number Written is = same_lives is.lives
-    replied_lives number Flushed is = same_lives is.lives
-
-    caused_lives : (event : Event) (outcome : Outcome) → HasCause faults event outcome v w → IsFewer (lives_of w) (lives_of v)
-    caused_lives event Done is = done_lives event is
-    caused_lives event Fault is = failed_lives event is
-    caused_lives event (Replied number reply) is = replied_lives number reply is
-
     -- an event
     pub stepped_have : (event : Event) (outcome : Outcome) (places : ℕ) → IsFlown event outcome (map in_flight v.flights) (map in_flight w.flights) → HasCause faults event outcome v w → map (λ s. s.overflow) w.snaps ≡ map (λ s. s.overflow) v.snaps → HasPlaces v places → HasPlaces w places
     stepped_have event outcome places flown cause overflows h =
         let less = fewer_fly event outcome (map in_flight v.flights) (map in_flight w.flights) flown in
-        fewer_have places places (omega (arith, less, length-map v.flights in_flight, length-map w.flights in_flight)) (are_fewer (caused_lives event outcome cause) (same_mays overflows)) (omega arith) h.few h
-
-  accepted_lives : (kind : Kind) (first : ℕ) (merge : Option (Merging B)) (snaps : List (Kept B)) → IsFewer (lives_after kind first merge snaps) (map (λ s. s.live) snaps)
-  accepted_lives OriginRead first merge snaps k e = e
-  accepted_lives OriginWrite first merge snaps k e =
-      either_fewer _ (map (λ s. s.live) snaps) (map (λ s. if overflows first s then false else s.live) snaps) (map (λ s. s.live) snaps) (λ j d. d) (lost_fewer (overflows first) snaps) k e
-  accepted_lives OriginFlush first merge snaps k e = e
-  accepted_lives (SnapRead number) first merge snaps k e = e
-  accepted_lives (SnapWrite number) first merge snaps k e = e
-  accepted_lives (SnapFlush number) first merge snaps k e = e
+        fewer_have places places (omega (arith, less, length-map v.flights in_flight, length-map w.flights in_flight)) (are_fewer (caused_lives v w faults event outcome cause) (same_mays overflows)) (omega arith) h.few h
 
   module _ (contents : B → List ℕ) (layers : B → List Layer) where
     -- a request that is accepted, in one place more
     pub accepted_have : (request : Request) (number places : ℕ) → IsAcceptedAs contents layers request number v w → places + kept_for_marks v + 1 ≤ 65_536 → HasPlaces v places → HasPlaces w (places + 1)
     accepted_have request number places is few h =
-        let lives = then_fewer (lives_of w) (lives_after (kind_of request) request.range.first v.merge v.snaps) (lives_of v) is.lives (accepted_lives (kind_of request) request.range.first v.merge v.snaps) in
-        let less = are_fewer lives (same_mays is.overflows) in
+        let less = are_fewer (accepted_lives v w contents layers request number is) (same_mays is.overflows) in
         let flown = ap (λ (rs : List InFlight). length rs) is.flown in
         let one : length (map in_flight v.flights ++ record { number = number; request = kept request } ∷ []) ≡ length (map in_flight v.flights) + 1 = length_more (map in_flight v.flights) _ in
         record { enough = omega (arith, less.live, flown, one, length-map v.flights in_flight, length-map w.flights in_flight, h.enough); few = omega (arith, less.marks, few) }
@@ -255,16 +139,16 @@ module _ {B : Type 0} (v w : Volumed B) where
 
     -- and one that is refused: a mark's entry has the place that was kept free for it
     refused_fewer : (size : B → ℕ) (request : Request) (refusal : Refusal) → IsRefusedAs contents layers size request refusal v w → (length w.flights ≡ length v.flights) × HasFewer
-    refused_fewer size request refusal (inl is) = (ap (λ (x : Volumed B). length x.flights) is.1, are_fewer (same_lives (ap lives_of is.1)) (same_fewer (mays_of v) (mays_of w) (ap mays_of is.1)))
+    refused_fewer size request refusal (inl is) = (ap (λ (x : Volumed B). length x.flights) is.1, are_fewer (same_lives v w (ap lives_of is.1)) (same_fewer (mays_of w) (mays_of v) (ap mays_of is.1)))
     refused_fewer size request refusal (inr (inl is)) =
         let room : SameButRoom v w = is.2 in
-        (ap (λ (x : Volumed B). length x.flights) room.becomes, are_fewer (same_lives (roomed_lives w.snaps v.snaps room.roomed)) (same_fewer (mays_of v) (mays_of w) (roomed_mays w.snaps v.snaps room.roomed)))
+        (ap (λ (x : Volumed B). length x.flights) room.becomes, are_fewer (same_lives v w (roomed_lives w.snaps v.snaps room.roomed)) (same_fewer (mays_of w) (mays_of v) (roomed_mays w.snaps v.snaps room.roomed)))
     refused_fewer size request refusal (inr (inr (inl is))) =
         let number : ℕ = is.2.0 in
         let full : IsFoundFull contents layers number _ v w = is.2.2 in
         let after : List (Kept B) = set v.snaps full.place (spoilt_of full.snap) in (
           ap (λ (x : Volumed B). length x.flights) full.becomes ∙ length-map v.flights (refused_of (number ∷ [])),
-          are_fewer (set_lives full.place (roomed_lives w.snaps after full.spoilt ∙ map-set (λ (s : Kept B). s.live) v.snaps full.place (spoilt_of full.snap)))
+          are_fewer (set_lives v w full.place (roomed_lives w.snaps after full.spoilt ∙ map-set (λ (s : Kept B). s.live) v.snaps full.place (spoilt_of full.snap)))
               (set_mays full.place (roomed_mays w.snaps after full.spoilt ∙ map-set (λ (s : Kept B). may_overflow s.overflow) v.snaps full.place (spoilt_of full.snap) ∙ ap (set (mays_of v) full.place) (ap may_overflow full.strict))),
         )
     refused_fewer size request refusal (inr (inr (inr is))) =
@@ -274,7 +158,7 @@ module _ {B : Type 0} (v w : Volumed B) where
         let after : List (Kept B) = set v.snaps full.place snap in
         let alive : lives_of w ≡ lives_of v = roomed_lives w.snaps after full.marked ∙ map-set (λ (s : Kept B). s.live) v.snaps full.place snap ∙ set_own v.snaps full.place full.snap full.is in (
           ap (λ (x : Volumed B). length x.flights) full.becomes,
-          are_fewer (same_lives alive) (set_mays full.place (roomed_mays w.snaps after full.marked ∙ map-set (λ (s : Kept B). may_overflow s.overflow) v.snaps full.place snap)),
+          are_fewer (same_lives v w alive) (set_mays full.place (roomed_mays w.snaps after full.marked ∙ map-set (λ (s : Kept B). may_overflow s.overflow) v.snaps full.place snap)),
         )
 
     pub refused_have : (size : B → ℕ) (request : Request) (refusal : Refusal) (places may : ℕ) → IsRefusedAs contents layers size request refusal v w → may ≡ kept_for_marks v → HasPlaces v places → HasPlaces w (places + (may - kept_for_marks w))
@@ -291,7 +175,7 @@ module _ {B : Type 0} (v w : Volumed B) where
         let lives = lives_shown contents (contents w.origin) w.snaps ∙ ap (λ (p : Plain). map is_live p.saved) same ∙ sym (lives_shown contents (contents v.origin) v.snaps) in
         let mays = mays_shown contents (contents w.origin) w.snaps ∙ ap (λ (p : Plain). map is_open p.saved) same ∙ sym (mays_shown contents (contents v.origin) v.snaps) in
         let e = ap (λ (p : Plain). length p.requests) same in
-        fewer_have places places (omega (arith, e, length-map v.flights in_flight, length-map w.flights in_flight)) (are_fewer (same_lives lives) (same_fewer (mays_of v) (mays_of w) mays)) (omega arith) h.few h
+        fewer_have places places (omega (arith, e, length-map v.flights in_flight, length-map w.flights in_flight)) (are_fewer (same_lives v w lives) (same_fewer (mays_of w) (mays_of v) mays)) (omega arith) h.few h
 
   -- a snapshot that is taken, in two places more, and one for its mark where it may overflow
   pub gained_have : (contents : B → List ℕ) (layers : B → List Layer) (size : B → ℕ) (number : ℕ) (wanted : Bool) (store : StoreDev B) (places more : ℕ) → IsGained contents layers size number wanted store v w → more ≡ places_for wanted → places + kept_for_marks v + more ≤ 65_536 → HasPlaces v places → HasPlaces w (places + 2)
@@ -340,14 +224,14 @@ module _ {B : Type 0} (v w : Volumed B) where
 
   unbegun_have : (number : ℕ) (refusal : Refusal) (places : ℕ) → IsNotBegun number refusal v w → HasPlaces v places → HasPlaces w places
   unbegun_have number refusal places (inl is) h =
-      fewer_have places places (let e = ap (λ (x : Volumed B). length x.flights) is.1 in omega (arith, e)) (are_fewer (same_lives (ap lives_of is.1)) (same_fewer (mays_of v) (mays_of w) (ap mays_of is.1))) (omega arith) h.few h
+      fewer_have places places (let e = ap (λ (x : Volumed B). length x.flights) is.1 in omega (arith, e)) (are_fewer (same_lives v w (ap lives_of is.1)) (same_fewer (mays_of w) (mays_of v) (ap mays_of is.1))) (omega arith) h.few h
   unbegun_have number refusal places (inr is) h =
       let kept : SameButKept v w = is.2 in
       let e = ap (λ (x : Volumed B). length x.flights) kept.becomes in
       fewer_have places places (omega (arith, e)) (elim kept.kept [
-        | inl same ↦ are_fewer (same_lives (ap (map (λ (s : Kept B). s.live)) same)) (same_fewer (mays_of v) (mays_of w) (ap (map (λ (s : Kept B). may_overflow s.overflow)) same))
-        | inr unkept_are ↦ are_fewer (same_lives (ap (map (λ (s : Kept B). s.live)) unkept_are ∙ alike_lives unkept unkept_alike v.snaps))
-            (same_fewer (mays_of v) (mays_of w) (ap (map (λ (s : Kept B). may_overflow s.overflow)) unkept_are ∙ alike_mays unkept unkept_alike v.snaps))
+        | inl same ↦ are_fewer (same_lives v w (ap (map (λ (s : Kept B). s.live)) same)) (same_fewer (mays_of w) (mays_of v) (ap (map (λ (s : Kept B). may_overflow s.overflow)) same))
+        | inr unkept_are ↦ are_fewer (same_lives v w (ap (map (λ (s : Kept B). s.live)) unkept_are ∙ alike_lives unkept unkept_alike v.snaps))
+            (same_fewer (mays_of w) (mays_of v) (ap (map (λ (s : Kept B). may_overflow s.overflow)) unkept_are ∙ alike_mays unkept unkept_alike v.snaps))
       ]) (omega arith) h.few h
 
   pub begun_or_have : {A : Type 0} (number places : ℕ) (r : Result A Refusal) → OnOk r (IsMergeBegun number v w) → IfErr r (λ refusal. IsNotBegun number refusal v w) → HasPlaces v places → HasPlaces w places
@@ -357,7 +241,7 @@ module _ {B : Type 0} (v w : Volumed B) where
   pub finished_have : (store : StoreDev B) (places : ℕ) → IsTakenOut v w store → places + kept_for_marks v + 1 ≤ 65_536 → HasPlaces v places → HasPlaces w (places + 1)
   finished_have store places is few h =
       let e = ap (λ (x : Volumed B). length x.flights) is.becomes in
-      let less = are_fewer (same_lives (ap lives_of is.becomes ∙ alike_lives unkept unkept_alike v.snaps)) (same_fewer (mays_of v) (mays_of w) (ap mays_of is.becomes ∙ alike_mays unkept unkept_alike v.snaps)) in
+      let less = are_fewer (same_lives v w (ap lives_of is.becomes ∙ alike_lives unkept unkept_alike v.snaps)) (same_fewer (mays_of w) (mays_of v) (ap mays_of is.becomes ∙ alike_mays unkept unkept_alike v.snaps)) in
       fewer_have places (places + 1) (omega (arith, e)) less (omega arith) (omega (arith, few)) h
 
 -- a new volume
