@@ -9,9 +9,9 @@
 ghost use Rattle.std.specs.Prelude.{◌≡◌, ◌≤◌};
 ghost use Rattle.dmrig.specs.Ended.{ended};
 
-mod words;
+mod asking;
 
-use crate::words::{Asked, words_ask};
+use crate::asking::{Asked, words_ask};
 use runner::{RunError, Summary, exit_status, run, run_numbered};
 use std::io::{BufReader, BufWriter, Read, Write};
 use std::process::ExitCode;
