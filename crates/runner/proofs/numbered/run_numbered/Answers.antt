@@ -1,11 +1,13 @@
 use Rattle.std.proofs.Common.{rules, ◌≡◌, ◌+◌, ◌++◌, ◌∙◌, ap, [], refl, true, false}
+use Rattle.std.specs.Prelude.{IfErr}
 use Rattle.std.specs.Io.KnownBytes.{Appends}
 use Rattle.lines.specs.Lines.{left, ReadsLine}
+use Rattle.runner.specs.Exit.{IsWriters}
 use Rattle.runner.specs.Numbered.{numbered}
 use Rattle.runner.specs.Output.{printed}
 use Rattle.runner.specs.Runs.{begun}
 use Rattle.runner.proofs.NumberedLemmas.{BegunEach, ends_begun_each, ends_each, ends_exactly, ends_lines, goes_on_each, starts_each, written_each}
-use Rattle.runner.proofs.RunLemmas.{ahead_taken, at_error, line_taken}
+use Rattle.runner.proofs.RunLemmas.{ahead_taken, at_error, at_writers, line_taken}
 use Rattle.runner.proofs.numbered.run_numbered.Goals as goal
 
 pub loop-lines-init : goal.loop-lines-init
@@ -63,3 +65,23 @@ returns-in_err-next_line-clause-begun g c =
 pub returns-clause-begun : goal.returns-clause-begun
 returns-clause-begun g c = λ other.
     ends_begun_each (g.R.Read.remaining c.args.reader.now) (left c.loop-lines.buffer.ahead (g.R.Read.remaining c.loop-lines.reader)) (g.W.Write.contents c.args.writer.now) (g.W.Write.contents c.loop-lines.writer) c.loop-lines.session c.loop-lines.lines c.loop-lines.invariant.follows
+
+pub returns-in_err-line-clause-begun : goal.returns-in_err-line-clause-begun
+returns-in_err-line-clause-begun g c =
+    let writers : IfErr c.from_residual-in_err-line.result IsWriters = search rules in
+    at_writers c.from_residual-in_err-line.result _ writers
+
+pub returns-in_err-print_numbered-2-clause-begun : goal.returns-in_err-print_numbered-2-clause-begun
+returns-in_err-print_numbered-2-clause-begun g c =
+    let writers : IfErr c.from_residual-in_err-print_numbered-2.result IsWriters = search rules in
+    at_writers c.from_residual-in_err-print_numbered-2.result _ writers
+
+pub returns-in_err-end-clause-begun : goal.returns-in_err-end-clause-begun
+returns-in_err-end-clause-begun g c =
+    let writers : IfErr c.from_residual-in_err-end.result IsWriters = search rules in
+    at_writers c.from_residual-in_err-end.result _ writers
+
+pub returns-in_err-print_numbered-clause-begun : goal.returns-in_err-print_numbered-clause-begun
+returns-in_err-print_numbered-clause-begun g c =
+    let writers : IfErr c.from_residual-in_err-print_numbered.result IsWriters = search rules in
+    at_writers c.from_residual-in_err-print_numbered.result _ writers
