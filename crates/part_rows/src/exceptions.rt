@@ -1,8 +1,8 @@
 // Tests of the trait's calls at each form.
-ghost use Rattle.std.specs.Prelude.{◌≡◌, ℕ, ◌^◌, ◌<◌, []};
+ghost use Rattle.std.specs.Prelude.{◌≡◌, ◌^◌, ◌<◌, []};
 
 use exception_arena::{Arena, Exceptions, PlainExceptions, abandon_all, finish_first, remove_last};
-use sector::{Chunk, Pair, Refusal};
+use sector::Refusal;
 use std::test::Fail;
 
 // Pairs of chunks 5, 6 and 7 begin; the last but one is dropped, and the others are committed.
@@ -18,17 +18,23 @@ fn commit_two<E: Exceptions>(exceptions: &mut E) -> Result<(), Refusal>
     Ok(())
 }
 
+// Whether the pairs of chunks 5 and 7 are committed alone.
+fn has_two<E: Exceptions>(exceptions: &E) -> bool {
+    (exceptions.len(), exceptions.pending_len()) == (2, 0)
+        && exceptions.get(5) == Some(2)
+        && exceptions.get(6).is_none()
+        && exceptions.get(7) == Some(4)
+        && exceptions.get(2).is_none()
+}
+
 #[test]
 fn commits_what_is_not_dropped(rt: HostRuntime) -> Result<(), Fail> {
     let mut plain = PlainExceptions::new(rt.alloc());
-    let mut arena = Arena::new(rt.alloc());
     commit_two(&mut plain)?;
+    assert!(rt; has_two(&plain));
+    let mut arena = Arena::new(rt.alloc());
     commit_two(&mut arena)?;
-    assert_eq!(rt; (plain.len(), plain.pending_len()), (2, 0));
-    assert_eq!(rt; (arena.len(), arena.pending_len()), (2, 0));
-    for (old, new) in [(5, Some(2)), (6, None), (7, Some(4)), (2, None)] {
-        assert_eq!(rt; (plain.get(old), arena.get(old)), (new, new), "chunk {old}");
-    }
+    assert!(rt; has_two(&arena));
     Ok(())
 }
 
@@ -48,59 +54,41 @@ fn commit_backwards<E: Exceptions>(exceptions: &mut E) -> Result<(), Refusal>
     Ok(())
 }
 
+// Whether the pair of chunk 6 is committed alone.
+fn has_one<E: Exceptions>(exceptions: &E) -> bool {
+    (exceptions.len(), exceptions.pending_len()) == (1, 0)
+        && exceptions.get(5).is_none()
+        && exceptions.get(6) == Some(3)
+}
+
 #[test]
 fn takes_the_last_one_away(rt: HostRuntime) -> Result<(), Fail> {
     let mut plain = PlainExceptions::new(rt.alloc());
-    let mut arena = Arena::new(rt.alloc());
     commit_backwards(&mut plain)?;
+    assert!(rt; has_one(&plain));
+    let mut arena = Arena::new(rt.alloc());
     commit_backwards(&mut arena)?;
-    assert_eq!(rt; (plain.len(), plain.pending_len()), (1, 0));
-    assert_eq!(rt; (arena.len(), arena.pending_len()), (1, 0));
-    assert_eq!(rt; (plain.get(5), plain.get(6)), (None, Some(3)));
-    assert_eq!(rt; (arena.get(5), arena.get(6)), (None, Some(3)));
+    assert!(rt; has_one(&arena));
     Ok(())
 }
 
-// What a caller sees after a call: the copy of a chunk, how many pairs are committed and pending, and one of each.
-#[derive(Clone, Copy, PartialEq, Eq)]
-struct Seen {
-    copy: Option<Chunk>,
-    counts: (usize, usize),
-    committed: Option<Pair>,
-    pending: Option<Pair>,
-}
-
-// The committed and the pending pair at a place, counted round.
-fn look<E: Exceptions>(exceptions: &E, chunk: Chunk, place: usize) -> Seen {
-    let (committed, pending) = (exceptions.len(), exceptions.pending_len());
-    Seen {
-        copy: exceptions.get(chunk),
-        counts: (committed, pending),
-        committed: if committed == 0 {
-            None
-        } else {
-            Some(exceptions.committed_at(place % committed))
-        },
-        pending: if pending == 0 {
-            None
-        } else {
-            Some(exceptions.pending_at(place % pending).pair)
-        },
+// Commits the first pending pair, where there is one.
+fn commit_first<E: Exceptions>(exceptions: &mut E) {
+    if exceptions.pending_len() > 0 {
+        finish_first(exceptions, 1);
     }
 }
 
-// Commits a pending pair, or drops it.
-fn end_one<E: Exceptions>(exceptions: &mut E, place: usize, drops: bool) {
-    let pending = exceptions.pending_len();
-    if pending == 0 {
-        return;
+// Pairs whose chunks rise by one, so many, from chunk 200 of the origin and 1000 of the store on.
+fn commit_in_order<E: Exceptions>(exceptions: &mut E, count: u64) -> Result<(), Refusal>
+    requires { count < 2 ^ 32 }
+{
+    for i in 0..count {
+        exceptions.reserve(1)?;
+        exceptions.begin(200 + i, 1_000 + i);
+        commit_first(exceptions);
     }
-    let begun = exceptions.pending_at(place % pending);
-    if drops {
-        exceptions.abandon(begun.id);
-    } else {
-        exceptions.finish(begun.id);
-    }
+    Ok(())
 }
 
 // Takes the last committed pair away.
@@ -113,96 +101,25 @@ fn remove_one<E: Exceptions>(exceptions: &mut E) {
     exceptions.remove(last.old);
 }
 
-// The pair that begins after another one, by the digits of a number: mostly the next one, so that runs form, and now and
-// then one elsewhere. Chunks of the origin come again and again.
-fn next_pair(before: Pair, number: u64) -> Pair {
-    if (number / 1024).is_multiple_of(16) {
-        Pair {
-            old: number / 16 % 700,
-            new: number,
-        }
-    } else {
-        Pair {
-            old: before.old.wrapping_add(1) % 700,
-            new: before.new.wrapping_add(1),
-        }
-    }
-}
-
-// One call, by the digits of a number, and what is seen after it: a pair is there to begin, and mostly the first pending
-// one ends.
-fn call<E: Exceptions>(exceptions: &mut E, number: u64, pair: Pair) -> Result<Seen, Refusal> {
-    let chunk = number / 16 % 700;
-    let place = (number / 16384) as usize;
-    let ended = if place.is_multiple_of(8) { place } else { 0 };
-    match number % 16 {
-        0..=4 => {
-            exceptions.reserve(1)?;
-            exceptions.begin(pair.old, pair.new);
-        }
-        5..=9 => end_one(exceptions, ended, false),
-        10 => end_one(exceptions, ended, true),
-        11 => remove_one(exceptions),
-        12 => exceptions.reserve(place % 50)?,
-        _ => {}
-    }
-    Ok(look(exceptions, chunk, place))
-}
-
-#[test]
-fn the_forms_answer_alike(rt: HostRuntime) -> Result<(), Fail> {
-    let mut plain = PlainExceptions::new(rt.alloc());
-    let mut arena = Arena::new(rt.alloc());
-    let mut state: u64 = 1;
-    let mut pair = Pair { old: 0, new: 2 };
-    for step in 0..10_000 {
-        state = state
-            .wrapping_mul(6_364_136_223_846_793_005)
-            .wrapping_add(1_442_695_040_888_963_407);
-        let number = state / 65_536;
-        assert!(rt;
-            call(&mut arena, number, pair)? == call(&mut plain, number, pair)?,
-            "step {step}"
-        );
-        if number % 16 < 5 {
-            pair = next_pair(pair, number);
-        }
-    }
-    assert!(rt; arena.len() > 1_000);
-    Ok(())
-}
-
-// Pairs whose chunks rise by one, so many, from chunk 200 of the origin and 1000 of the store on.
-fn commit_in_order<E: Exceptions>(exceptions: &mut E, count: u64) -> Result<(), Refusal>
-    requires { count < 2 ^ 32 }
-{
-    for i in 0..count {
-        exceptions.reserve(1)?;
-        exceptions.begin(200 + i, 1_000 + i);
-        end_one(exceptions, 0, false);
-    }
-    Ok(())
+// Whether the runs of an arena are found by their first and last pairs, and none beside them.
+fn has_runs(arena: &Arena) -> bool {
+    arena.len() == 600
+        && arena.get(199).is_none()
+        && arena.get(200) == Some(1_000)
+        && arena.get(255) == Some(1_055)
+        && arena.get(256) == Some(1_056)
+        && arena.get(799) == Some(1_599)
+        && arena.get(800).is_none()
 }
 
 #[test]
 fn pairs_in_a_row_are_found_and_taken_away(rt: HostRuntime) -> Result<(), Fail> {
     let mut arena = Arena::new(rt.alloc());
     commit_in_order(&mut arena, 600)?;
-    assert_eq!(rt; arena.len(), 600);
-    for (old, new) in [
-        (199, None),
-        (200, Some(1_000)),
-        (255, Some(1_055)),
-        (256, Some(1_056)),
-        (799, Some(1_599)),
-        (800, None),
-    ] {
-        assert_eq!(rt; arena.get(old), new, "chunk {old}");
-    }
+    assert!(rt; has_runs(&arena));
     for _i in 0..545 {
         remove_one(&mut arena);
     }
-    assert_eq!(rt; arena.len(), 55);
-    assert_eq!(rt; (arena.get(254), arena.get(255)), (Some(1_054), None));
+    assert!(rt; arena.len() == 55 && arena.get(254) == Some(1_054) && arena.get(255).is_none());
     Ok(())
 }

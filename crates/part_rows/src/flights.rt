@@ -1,66 +1,67 @@
 // Worked values: the short last chunk of a small origin, and the ways of two requests for one chunk.
+ghost use Rattle.std.specs.Prelude.{◌≡◌, IfOk, length};
+
 use in_flight::*;
 use plain::{Dev, Op, Request};
 use sector::{Buf, Pair, Range};
+use std::alloc::Global;
 use std::test::Fail;
 
 // An origin of 130 sectors in chunks of 4: its last chunk has 2.
 #[test]
 fn the_last_chunk_is_short(rt: HostRuntime) -> Result<(), Fail> {
-    for (chunk, want) in [(0, 4), (31, 4), (32, 2), (33, 0)] {
-        assert_eq!(rt; sectors_of(4, 130, chunk), want, "chunk {chunk}");
-    }
+    assert!(rt; sectors_of(4, 130, 0) == 4 && sectors_of(4, 130, 31) == 4);
+    assert!(rt; sectors_of(4, 130, 32) == 2 && sectors_of(4, 130, 33) == 0);
     let copy = ChunkCopy::new(rt.alloc(), 1, Pair { old: 32, new: 2 }, 2)?;
-    assert_eq!(rt; copy.buffer.len(), 1024);
+    assert!(rt; copy.buffer.len() == 1024);
     Ok(())
 }
 
-// A read of snapshot 1, routed to the origin disk, and an origin write, held for the snapshot's copy 1: both of chunk 7.
-#[test]
-fn a_read_of_the_origin_disk_delays_the_publication(rt: HostRuntime) -> Result<(), Fail> {
+// A read of snapshot 1 and a write of the origin, both of sector 7, in flight under 2 and 3.
+fn read_and_write(alloc: Global, first: Route, second: Route) -> Result<Vec<Flight>, Fail>
+    ensures { IfOk result (λ flights. length flights.items ≡ 2) }
+{
+    let range = Range::new(7, 1, 128)?;
+    let mut flights = Vec::with_capacity(alloc, 2)?;
     let read = Request {
         dev: Dev::Snap(1),
         op: Op::Read,
-        range: Range::new(7, 1, 128)?,
+        range,
     };
+    flights.push(Flight::new(alloc, 2, read, first)?)?;
     let write = Request {
         dev: Dev::Origin,
-        op: Op::Write(Buf::zeroed(rt.alloc(), 512)?),
-        range: Range::new(7, 1, 128)?,
+        op: Op::Write(Buf::zeroed(alloc, 512)?),
+        range,
     };
-    assert!(rt;
-        (request_kind(&read), request_kind(&write)) == (Kind::SnapRead(1), Kind::OriginWrite)
-    );
-    let mut flights = Vec::new(rt.alloc());
-    flights.push(Flight::new(rt.alloc(), 2, read, read_route(None))?)?;
-    flights.push(Flight::new(rt.alloc(), 3, write, write_route(false, None, false))?)?;
-    assert_eq!(rt; (flights[0].room.len(), flights[1].room.len()), (512, 0));
-    assert!(rt; (flights[0].route, flights[1].route) == (Route::Origin, Route::Held));
-    assert_eq!(rt;
-        (flight_at(&flights, 3), flight_at(&flights, 1)),
-        (Some(1), None)
-    );
+    flights.push(Flight::new(alloc, 3, write, second)?)?;
+    Ok(flights)
+}
 
-    let mark = Mark {
+// The read is routed to the origin disk, and the write held for the snapshot's copy 1: both of chunk 7.
+#[test]
+fn a_read_of_the_origin_disk_delays_the_publication(rt: HostRuntime) -> Result<(), Fail> {
+    let held = write_route(false, None, false);
+    let mut flights = read_and_write(rt.alloc(), read_route(None), held)?;
+    assert!(rt; request_kind(&flights[0].request) == Kind::SnapRead(1));
+    assert!(rt; request_kind(&flights[1].request) == Kind::OriginWrite);
+    assert!(rt; (flights[0].room.len(), flights[1].room.len()) == (512, 0));
+    assert!(rt; (flights[0].route, flights[1].route) == (Route::Origin, Route::Held));
+    assert!(rt; flight_at(&flights, 3) == Some(1) && flight_at(&flights, 1).is_none());
+    let marks = [Mark {
         number: 1,
         chunk: 7,
         safe: true,
-    };
-    let marks = [mark];
+    }];
     assert!(rt; is_marked(&marks, 7) && !is_marked(&marks, 6));
-    assert_eq!(rt; first_publishable(&marks, &flights, 1, 1), None);
-    assert_eq!(rt; publishable_at(&marks, &flights, 1, 1, 1), None);
-    assert_eq!(rt; first_routed(&flights), Some(2));
-
+    assert!(rt; first_publishable(&marks, &flights, 1, 1).is_none());
+    assert!(rt; publishable_at(&marks, &flights, 1, 1, 1).is_none());
+    assert!(rt; first_routed(&flights) == Some(2));
     let _ = flights.remove(0);
-    assert_eq!(rt; first_publishable(&marks, &flights, 1, 1), Some(1));
-    assert_eq!(rt; publishable_at(&marks, &flights, 1, 1, 1), Some(0));
-    assert_eq!(rt; first_routed(&flights), None);
-    flights[0].route = again_route(
-        Kind::OriginWrite,
-        flights[0].route,
-        write_route(false, None, true),
-    );
+    assert!(rt; first_publishable(&marks, &flights, 1, 1) == Some(1));
+    assert!(rt; publishable_at(&marks, &flights, 1, 1, 1) == Some(0));
+    assert!(rt; first_routed(&flights).is_none());
+    flights[0].route = again_route(Kind::OriginWrite, held, write_route(false, None, true));
     refuse(&mut flights, 1);
     assert!(rt; flights[0].route == Route::Origin);
     Ok(())
@@ -68,7 +69,7 @@ fn a_read_of_the_origin_disk_delays_the_publication(rt: HostRuntime) -> Result<(
 
 // A committed pair is published once its store was flushed behind it.
 #[test]
-fn a_flush_lets_a_pair_be_published(rt: HostRuntime) -> Result<(), Fail> {
+fn a_flush_lets_a_pair_be_published(rt: HostRuntime) {
     let mut marks = [
         Mark {
             number: 4,
@@ -83,81 +84,71 @@ fn a_flush_lets_a_pair_be_published(rt: HostRuntime) -> Result<(), Fail> {
     ];
     let flights: Vec<Flight> = Vec::new(rt.alloc());
     assert!(rt; has_unsafe(&marks));
-    assert_eq!(rt; first_publishable(&marks, &flights, 1, 1), Some(5));
-    assert_eq!(rt; publishable_at(&marks, &flights, 1, 1, 4), None);
+    assert!(rt; first_publishable(&marks, &flights, 1, 1) == Some(5));
+    assert!(rt; publishable_at(&marks, &flights, 1, 1, 4).is_none());
     flush_marks(&mut marks);
-    assert!(rt; !has_unsafe(&marks));
-    assert_eq!(rt; first_publishable(&marks, &flights, 1, 1), Some(4));
-    Ok(())
+    assert!(rt; !has_unsafe(&marks) && first_publishable(&marks, &flights, 1, 1) == Some(4));
 }
 
-// A copy goes through its stages; a snapshot's held write goes to its place, or is refused at a spoil.
+// A copy goes through its stages.
 #[test]
-fn a_copy_frees_the_write_that_waits_for_it(rt: HostRuntime) -> Result<(), Fail> {
-    let mut copies = Vec::new(rt.alloc());
-    copies.push(ChunkCopy::new(rt.alloc(), 1, Pair { old: 9, new: 2 }, 1)?)?;
+fn a_copy_goes_through_its_stages(rt: HostRuntime) -> Result<(), Fail> {
+    let copy = ChunkCopy::new(rt.alloc(), 1, Pair { old: 9, new: 2 }, 1)?;
+    let mut copies = [copy];
     assert!(rt; has_copy(&copies, 9) && !has_copy(&copies, 2));
-    assert_eq!(rt;
-        (
-            first_copy(&copies, Stage::Waiting),
-            first_copy(&copies, Stage::Read)
-        ),
-        (Some(1), None)
-    );
+    assert!(rt; first_copy(&copies, Stage::Waiting) == Some(1));
+    assert!(rt; first_copy(&copies, Stage::Read).is_none());
     assert!(rt; !front_ready(&copies) && !front_unflushed(&copies));
     copies[0].stage = Stage::Written;
-    assert!(rt; !front_ready(&copies) && front_unflushed(&copies));
-    assert_eq!(rt; batch(&copies, 32), 0);
-    assert_eq!(rt;
-        (
-            copy_at(&copies, Stage::Written, 1),
-            copy_at(&copies, Stage::Waiting, 1)
-        ),
-        (Some(0), None)
-    );
-    assert_eq!(rt;
-        least(first_copy(&copies, Stage::Written), Some(7)),
-        Some(1)
-    );
+    assert!(rt; !front_ready(&copies) && front_unflushed(&copies) && batch(&copies, 32) == 0);
+    assert!(rt; copy_at(&copies, Stage::Written, 1) == Some(0));
+    assert!(rt; copy_at(&copies, Stage::Waiting, 1).is_none());
+    assert!(rt; least(first_copy(&copies, Stage::Written), Some(7)) == Some(1));
     flush_copies(&mut copies);
     assert!(rt; front_ready(&copies) && !front_unflushed(&copies));
-    assert_eq!(rt; (batch(&copies, 0), batch(&copies, 32)), (0, 1));
+    assert!(rt; (batch(&copies, 0), batch(&copies, 32)) == (0, 1));
     assert!(rt; flushed_stage(Stage::Read) == Stage::Read);
-    let held = Route::Held;
-    assert!(rt; placed_route(1, Kind::SnapWrite(1), held, Some(2)) == Route::Store(2));
-    assert!(rt; placed_route(2, Kind::SnapWrite(1), held, Some(2)) == Route::Held);
-    assert!(rt; refused_route(1, Kind::SnapWrite(1), held) == Route::Refused);
-    assert!(rt; refused_route(1, Kind::SnapRead(2), Route::Origin) == Route::Origin);
     Ok(())
 }
 
-// A flush goes to a whole store, or to the origin disk; it is never held, and has no sectors of its own.
+// A snapshot's held write goes to its place, or is refused at a spoil.
+#[test]
+fn a_copy_frees_the_write_that_waits_for_it(rt: HostRuntime) {
+    let (held, write) = (Route::Held, Kind::SnapWrite(1));
+    assert!(rt; placed_route(1, write, held, Some(2)) == Route::Store(2));
+    assert!(rt; placed_route(2, write, held, Some(2)) == Route::Held);
+    assert!(rt; refused_route(1, write, held) == Route::Refused);
+    assert!(rt; refused_route(1, Kind::SnapRead(2), Route::Origin) == Route::Origin);
+}
+
+// What is kept of a request with this operation.
+fn kept(dev: Dev, op: Op) -> Result<Request, Fail> {
+    let range = Range::new(7, 9, 128)?;
+    Ok(Request { dev, op, range }.kept())
+}
+
+// A flush has no sectors of its own.
 #[test]
 fn a_flush_is_kept_with_the_first_sector(rt: HostRuntime) -> Result<(), Fail> {
-    let flush = Request {
-        dev: Dev::Snap(1),
-        op: Op::Flush,
-        range: Range::new(7, 9, 128)?,
-    }
-    .kept();
+    let read = kept(Dev::Origin, Op::Read)?.range;
+    assert!(rt; (read.first, read.count, read.size) == (7, 9, 128));
+    let flush = kept(Dev::Snap(1), Op::Flush)?;
     assert!(rt; (flush.range.first, flush.range.count, flush.range.size) == (0, 1, 1));
-    let read = Request {
-        dev: Dev::Origin,
-        op: Op::Read,
-        range: Range::new(7, 9, 128)?,
-    }
-    .kept();
-    assert!(rt; (read.range.first, read.range.count, read.range.size) == (7, 9, 128));
     assert!(rt; request_kind(&flush) == Kind::SnapFlush(1));
     let flight = Flight::new(rt.alloc(), 2, flush, Route::Whole)?;
-    assert_eq!(rt; flight.room.len(), 0);
-    assert!(rt; (flush_route(true), flush_route(false)) == (Route::Whole, Route::Origin));
-    assert!(rt; is_routed(Route::Whole) && !reads_origin(1, Kind::SnapFlush(1), Route::Whole));
-    let whole = Route::Whole;
-    assert!(rt; again_route(Kind::OriginFlush, whole, Route::Origin) == whole);
-    assert!(rt; placed_route(1, Kind::SnapFlush(1), whole, Some(2)) == whole);
-    assert!(rt; refused_route(1, Kind::SnapFlush(1), whole) == Route::Refused);
-    assert!(rt; refused_route(2, Kind::SnapFlush(1), whole) == whole);
-    assert!(rt; refused_route(1, Kind::OriginFlush, whole) == whole);
+    assert!(rt; flight.room.is_empty());
     Ok(())
+}
+
+// It goes to a whole store, or to the origin disk, and is never held.
+#[test]
+fn a_flush_keeps_its_way(rt: HostRuntime) {
+    let (whole, flush) = (Route::Whole, Kind::SnapFlush(1));
+    assert!(rt; flush_route(true) == whole && flush_route(false) == Route::Origin);
+    assert!(rt; is_routed(whole) && !reads_origin(1, flush, whole));
+    assert!(rt; again_route(Kind::OriginFlush, whole, Route::Origin) == whole);
+    assert!(rt; placed_route(1, flush, whole, Some(2)) == whole);
+    assert!(rt; refused_route(1, flush, whole) == Route::Refused);
+    assert!(rt; refused_route(2, flush, whole) == whole);
+    assert!(rt; refused_route(1, Kind::OriginFlush, whole) == whole);
 }

@@ -1,5 +1,4 @@
-//! The parts below a store, a volume and its threads, each by calls: the kernel's bytes and numbers, worked values, and
-//! slow plain twins.
+//! The parts below a store, a volume and its threads, each by calls: the kernel's bytes and numbers, and worked values.
 //!
 //! It stands on those crates and has tests only. Each call that takes memory is run here once with memory enough.
 #![tactic(auto)]
@@ -10,6 +9,8 @@ mod area_places;
 mod areas;
 #[cfg(test)]
 mod boards;
+#[cfg(test)]
+mod bytes;
 #[cfg(test)]
 mod chunks;
 #[cfg(test)]

@@ -9,7 +9,6 @@ fn reads_and_writes_the_kernel_s_header_numbers(rt: HostRuntime) {
     put_u32(&mut bytes, 0, 0x7041_6e53);
     put_u32(&mut bytes, 4, 1);
     put_u64(&mut bytes, 8, 0x0000_0008_0000_0001);
-    assert_eq!(rt; bytes.as_slice(), kernel.as_slice());
-    assert_eq!(rt; u32_at(&kernel, 12), 8);
-    assert_eq!(rt; u64_at(&kernel, 4), 0x0000_0001_0000_0001);
+    assert!(rt; bytes == kernel);
+    assert!(rt; u32_at(&kernel, 12) == 8 && u64_at(&kernel, 4) == 0x0000_0001_0000_0001);
 }

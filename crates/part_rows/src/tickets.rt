@@ -79,24 +79,44 @@ fn numbered(copy: u64, count: u64) -> Ticket {
     })
 }
 
+// Whether these are the numbers from 1 to another, in their order.
+fn counts_to(counts: &[u64], last: u64) -> bool {
+    let mut next = 0u64;
+    for count in counts {
+        if *count <= next || last <= next || *count - 1 != next {
+            return false;
+        }
+        next = *count;
+    }
+    next == last
+}
+
+// The numbers of two lists in their order.
+fn sorted(mut all: Vec<u64>, other: &[u64]) -> Result<Vec<u64>, AllocError> {
+    for count in other {
+        all.push(*count)?;
+    }
+    all.sort()?;
+    Ok(all)
+}
+
 #[test]
 fn a_worker_ends_at_the_word_to_stop(rt: HostRuntime) -> Result<(), Fail> {
     let (tickets, mut pass) = Tickets::new(rt.alloc())?;
     let gate = gate(rt.alloc())?;
     let mut done = none_done(rt.alloc(), &gate)?;
-    assert!(rt; tickets.put(&rt, &mut pass, numbered(5, 1)) == Ok(()));
-    assert!(rt; tickets.put(&rt, &mut pass, numbered(3, 2)) == Ok(()));
-    assert!(rt; tickets.put(&rt, &mut pass, Ticket::Stop) == Ok(()));
-    assert!(rt; tickets.put(&rt, &mut pass, numbered(7, 3)) == Ok(()));
+    let first = tickets.put(&rt, &mut pass, numbered(5, 1));
+    let second = tickets.put(&rt, &mut pass, numbered(3, 2));
+    let stop = tickets.put(&rt, &mut pass, Ticket::Stop);
+    let third = tickets.put(&rt, &mut pass, numbered(7, 3));
+    assert!(rt; first.is_ok() && second.is_ok() && stop.is_ok() && third.is_ok());
     let ended = work(&rt, &tickets, &mut pass, &gate, &mut done);
-    assert!(rt; ended == Ended::Stopped);
-    assert_eq!(rt; done.counts.as_slice(), [1, 2].as_slice());
-    assert_eq!(rt; done.gated, 2);
-    assert!(rt; tickets.put(&rt, &mut pass, Ticket::Stop) == Ok(()));
+    assert!(rt; ended == Ended::Stopped && done.gated == 2 && counts_to(&done.counts, 2));
+    let stop = tickets.put(&rt, &mut pass, Ticket::Stop);
     let ended = work(&rt, &tickets, &mut pass, &gate, &mut done);
-    assert!(rt; ended == Ended::Stopped);
-    assert_eq!(rt; done.counts.as_slice(), [1, 2, 3].as_slice());
-    assert!(rt; tickets.take(&rt, &mut pass) == Some(numbered(8, 100)));
+    assert!(rt; stop.is_ok() && ended == Ended::Stopped && counts_to(&done.counts, 3));
+    let last = tickets.take(&rt, &mut pass);
+    assert!(rt; last == Some(numbered(8, 100)));
     tickets.settle(&mut pass);
     Ok(())
 }
@@ -193,19 +213,9 @@ fn two_workers_do_what_is_put_once_each(rt: HostRuntime) -> Result<(), Fail> {
     tickets.absorb(&mut pass, other);
     tickets.absorb(&mut pass, putter);
     tickets.settle(&mut pass);
-    assert_eq!(rt; put, 1002);
-    assert!(rt; (first_ended, second_ended) == (Ended::Stopped, Ended::Stopped));
-    assert_eq!(rt; gate.sum.load(Ordering::SeqCst), 500500);
-    let mut all = first.counts;
-    for count in second.counts.as_slice() {
-        all.push(*count)?;
-    }
-    all.sort()?;
-    let mut next = 0u64;
-    for count in all.as_slice() {
-        next = next.saturating_add(1);
-        assert_eq!(rt; *count, next);
-    }
-    assert_eq!(rt; next, 1000);
+    assert!(rt; put == 1002 && gate.sum.load(Ordering::SeqCst) == 500500);
+    assert!(rt; first_ended == Ended::Stopped && second_ended == Ended::Stopped);
+    let all = sorted(first.counts, &second.counts)?;
+    assert!(rt; counts_to(&all, 1000));
     Ok(())
 }
