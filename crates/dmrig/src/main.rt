@@ -116,8 +116,8 @@ fn main(rt: HostRuntime) -> ExitCode {
     match words_ask(rt.alloc(), &words) {
         Ok(asked) => ExitCode::from(done(&rt, asked)),
         Err(error) => match error.print(&rt) {
-            Ok(()) => ExitCode::from(error.exit_code() as u8),
-            Err(_) => ExitCode::from(2),
+            Ok(()) if !error.use_stderr() => ExitCode::SUCCESS,
+            _ => ExitCode::from(2),
         },
     }
 }
