@@ -15,10 +15,10 @@ use std::test::Fail;
 use volume::Volume;
 
 /// The sectors of the origin and of the store.
-const SECTORS: u64 = 16;
+pub const SECTORS: u64 = 16;
 
 /// A volume whose origin is of zeros.
-fn volume_of(alloc: Global) -> Result<Volume<MemDisk>, Refusal> {
+pub fn volume_of(alloc: Global) -> Result<Volume<MemDisk>, Refusal> {
     match Volume::new(alloc, MemDisk::new(alloc, SECTORS)?) {
         Ok(volume) => Ok(volume),
         Err((refusal, _)) => Err(refusal),
@@ -26,7 +26,7 @@ fn volume_of(alloc: Global) -> Result<Volume<MemDisk>, Refusal> {
 }
 
 /// Does one thing, and tells what came of it.
-fn do_one(
+pub fn do_one(
     alloc: Global,
     volume: &mut Volume<MemDisk>,
     deed: Deed<MemDisk>,
@@ -44,7 +44,7 @@ fn do_one(
 }
 
 /// A write of one sector of the origin, filled with a byte.
-fn write(
+pub fn write(
     alloc: Global,
     volume: &mut Volume<MemDisk>,
     sector: u64,
@@ -109,7 +109,7 @@ fn run(alloc: Global, volume: &mut Volume<MemDisk>) -> Result<(), Refusal> {
 }
 
 /// Whether each byte of a sector of the origin's disk is this.
-fn is_filled(volume: &Volume<MemDisk>, sector: u64, byte: u8) -> Result<bool, Refusal> {
+pub fn is_filled(volume: &Volume<MemDisk>, sector: u64, byte: u8) -> Result<bool, Refusal> {
     let range = Range::new(sector, 1, volume.origin().sectors())?;
     let mut out = [0u8; SECTOR_BYTES];
     volume.origin().peek(range, &mut out);
