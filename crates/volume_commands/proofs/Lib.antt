@@ -17,6 +17,7 @@ pub mod ReadRuns
 pub mod Going
 pub mod Writing
 pub mod Reading
+pub mod Alone
 pub mod Leaves
 pub mod Takes
 pub mod Closes

@@ -1,8 +1,8 @@
 // A command, cut into pieces: each is served before the next, and the first that is not done ends it.
-ghost use Rattle.std.specs.Prelude.{◌≡◌, ◌⊎◌, ℕ, ◌+◌, ◌*◌, ◌≤◌, ◌<◌, length, vec_capacity, vec_len, Option, None, Some, IfOk, IfErr, OnOk, OnErr, true};
+ghost use Rattle.std.specs.Prelude.{◌≡◌, ◌⊎◌, ℕ, ◌+◌, ◌*◌, ◌≤◌, ◌<◌, ◌∷◌, [], length, vec_capacity, vec_len, Option, None, Some, IfOk, IfErr, OnOk, OnErr, true};
 ghost use Rattle.plain.specs.declared.request.Reply.TheVariants.{Data, Refused, Written};
 ghost use Rattle.plain.specs.declared.request.Op.TheVariants.{Read, Write};
-ghost use Rattle.chunk.specs.Pieces.{span_of};
+ghost use Rattle.chunk.specs.Pieces.{pieces_of, span_of};
 ghost use Rattle.volume.specs.Volumed.{piece_with};
 ghost use Rattle.settled.specs.Beside.{written_beside, read_beside};
 ghost use Rattle.volume_commands.specs.Serving.{part_written, part_read};
@@ -98,6 +98,46 @@ fn read_piece<B: Layered>(
     }
 }
 
+/// Whether a range lies in one chunk.
+#[tactic(auto, using(crate::proofs::Alone::one_piece))]
+fn is_one_piece(chunk: u32, range: &Range) -> bool
+    requires chunk { 0 < chunk }
+    requires some { 0 < range.now.count }
+    ensures { result ≡ true → pieces_of chunk (span_of range.now) ≡ span_of range.now ∷ [] }
+{
+    range.first % u64::from(chunk) + u64::from(range.count) <= u64::from(chunk)
+}
+
+/// Reads one piece, and hands its bytes on as they came. At `NoMemory` nothing changed.
+fn read_alone<B: Layered>(
+    volume: &mut Journaled<B>,
+    alloc: Global,
+    dev: Dev,
+    piece: Range,
+) -> Result<Buf, Refusal>
+    requires between { IsBetween volume.old }
+    requires can { CanServe B.size dev Read piece volume.old }
+    ensures between { IsBetween volume.new }
+    ensures settled { IsSettled B.layers (rested_of volume.old) → IsSettled B.layers (rested_of volume.new) }
+    ensures done { IfOk result (λ bytes. IsPieceRead B.contents B.layers (part_read dev (span_of piece)) [] bytes (rested_of volume.old) (rested_of volume.new)) }
+    ensures refused { IfErr result (λ refusal. IsPieceRefused B.contents B.layers (part_read dev (span_of piece)) refusal (rested_of volume.old) (rested_of volume.new)) }
+    ensures kept { KeepsDevices B.layers B.size (rested_of volume.old) (rested_of volume.new) }
+    ensures requests { volume.new.requests ≤ volume.old.requests + 1 }
+{
+    let request = Request {
+        dev,
+        op: Op::Read,
+        range: piece,
+    };
+    match serve(volume, request) {
+        Ok(Reply::Refused(failure)) => Err(refusal_for(failure)),
+        Ok(Reply::Written) => Ok(Buf::from_vec(Vec::new(alloc))),
+        Ok(Reply::Flushed) => Ok(Buf::from_vec(Vec::new(alloc))),
+        Ok(Reply::Data(bytes)) => Ok(bytes),
+        Err(refusal) => Err(refusal),
+    }
+}
+
 /// Writes a range, piece after piece. A piece that is not done ends it, and those before it stand.
 pub(crate) fn write_pieces<B: Layered>(
     volume: &mut Journaled<B>,
@@ -156,12 +196,15 @@ pub(crate) fn read_pieces<B: Layered>(
 {
     // A quiet volume, no device of which drops writes, is at rest.
     let _ = volume.is_quiet();
-    let Ok(mut out) = Vec::with_capacity(alloc, range.count as usize * SECTOR_BYTES) else {
-        return Err(Refusal::NoMemory);
-    };
     let geometry = Geometry {
         chunk: volume.piece(),
         sectors: range.size,
+    };
+    if is_one_piece(geometry.chunk, &range) {
+        return read_alone(volume, alloc, dev, range);
+    }
+    let Ok(mut out) = Vec::with_capacity(alloc, range.count as usize * SECTOR_BYTES) else {
+        return Err(Refusal::NoMemory);
     };
     for piece in geometry.pieces(range) {
         match read_piece(volume, dev, piece, &mut out) {

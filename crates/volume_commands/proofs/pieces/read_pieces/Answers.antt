@@ -1,12 +1,18 @@
 -- One piece more is read, and where the read ends.
-use Rattle.std.proofs.Common.{None, ◌+◌, ◌*◌, refl, sym, ◌∙◌, ap, subst, arith}
+use Rattle.std.proofs.Common.{◌≡◌, None, ℕ, ◌+◌, ◌*◌, List, [], ◌∷◌, refl, sym, ◌∙◌, ap, subst, arith}
+use Rattle.sector.specs.declared.refusal.Refusal.{Refusal}
 use Rattle.chunk.specs.Pieces.{span_of, pieces_of}
 use Rattle.chunk.proofs.Limits.{is_chunk-some, is_chunk-small}
 use Rattle.plain.specs.declared.request.Op.TheVariants.{Read}
 use Rattle.plain.specs.declared.request.Reply.TheVariants.{Data}
 use Rattle.chunk.proofs.Runs.{StandsAt, first_piece, stands_first, stands_next, stands_last}
+use Rattle.settled.specs.Beside.{read_beside}
 use Rattle.volume.specs.Volumed.{piece_with}
 use Rattle.volume_commands.specs.Rested.{rested_of, merged_of, IsSettled}
+use Rattle.volume_commands.specs.Commands.{IsDoneBy, IsReadRefused}
+use Rattle.volume_commands.specs.Serving.{IsPieceRead, IsPieceRefused, part_read}
+use Rattle.volume_commands.specs.Showing.{IsPlainRead, IsPlainReadRefused, arrays_in}
+use Rattle.volume_commands.proofs.Alone.{alone_can, alone_read, alone_refused, err_so, ok_so}
 use Rattle.volume_commands.proofs.Between.{loud_in_all}
 use Rattle.volume_commands.proofs.Going.{chunks_by, goes_none, goes_can, goes_more, goes_within, chunk_least}
 use Rattle.volume_commands.proofs.WriteRuns.{answer}
@@ -145,3 +151,45 @@ returns-in-Err-clause-loses g c = λ settled.
 
 pub returns-in_default-clause-loses : goal.returns-in_default-clause-loses
 returns-in_default-clause-loses g c = λ settled. (tt, refl)
+
+pub read_alone-requires-clause-can : goal.read_alone-requires-clause-can
+read_alone-requires-clause-can g c =
+    let one = subst (λ n. pieces_of n (span_of c.args.range) ≡ span_of c.args.range ∷ []) c.piece.ensures.piece (c.is_one_piece.ensures c.if-is_one_piece.true) in
+    let chunk = chunks_by c.args.volume.now c.piece.result c.piece.ensures.piece c.piece.ensures.within c.piece.ensures.allowed in
+    alone_can g.B.Block.contents g.B.Block.layers g.B.Block.size c.args.dev c.args.range c.args.volume.now one c.requires.can c.requires.between (is_chunk-some _ chunk.1) chunk.0 chunk.1
+
+pub returns-then-is_one_piece-clause-done : goal.returns-then-is_one_piece-clause-done
+returns-then-is_one_piece-clause-done g c =
+    let one = subst (λ n. pieces_of n (span_of c.args.range) ≡ span_of c.args.range ∷ []) c.piece.ensures.piece (c.is_one_piece.ensures c.if-is_one_piece.true) in
+    let P : List ℕ → Type 0 = λ bytes. IsPieceRead g.B.Block.contents g.B.Block.layers (part_read c.args.dev (span_of c.args.range)) [] bytes (rested_of c.args.volume.now) (rested_of c.read_alone.new.volume) in
+    let Q : List ℕ → Type 0 = λ bytes. IsDoneBy g.B.Block.contents g.B.Block.layers (read_beside c.args.dev (span_of c.args.range)) (Data bytes) (rested_of c.args.volume.now) (rested_of c.read_alone.new.volume) in
+    ok_so P Q c.read_alone.result (alone_read g.B.Block.contents g.B.Block.layers g.B.Block.size c.args.dev c.args.range c.args.volume.now one c.read_alone.new.volume) c.read_alone.ensures.done
+
+pub returns-then-is_one_piece-clause-refused : goal.returns-then-is_one_piece-clause-refused
+returns-then-is_one_piece-clause-refused g c =
+    let one = subst (λ n. pieces_of n (span_of c.args.range) ≡ span_of c.args.range ∷ []) c.piece.ensures.piece (c.is_one_piece.ensures c.if-is_one_piece.true) in
+    let P : Refusal → Type 0 = λ e. IsPieceRefused g.B.Block.contents g.B.Block.layers (part_read c.args.dev (span_of c.args.range)) e (rested_of c.args.volume.now) (rested_of c.read_alone.new.volume) in
+    let Q : Refusal → Type 0 = λ e. IsReadRefused g.B.Block.contents g.B.Block.layers c.args.dev (span_of c.args.range) e (rested_of c.args.volume.now) (rested_of c.read_alone.new.volume) in
+    err_so P Q c.read_alone.result (alone_refused g.B.Block.contents g.B.Block.layers g.B.Block.size c.args.dev c.args.range c.args.volume.now one c.read_alone.new.volume c.requires.can) c.read_alone.ensures.refused
+
+pub returns-then-is_one_piece-clause-shows : goal.returns-then-is_one_piece-clause-shows
+returns-then-is_one_piece-clause-shows g c =
+    let chunk = chunks_by c.args.volume.now c.piece.result c.piece.ensures.piece c.piece.ensures.within c.piece.ensures.allowed in
+    let quiet = c.is_quiet.ensures.value ∙ c.requires.between.quiet in
+    let P : List ℕ → Type 0 = λ bytes. IsDoneBy g.B.Block.contents g.B.Block.layers (read_beside c.args.dev (span_of c.args.range)) (Data bytes) (rested_of c.args.volume.now) (rested_of c.read_alone.new.volume) in
+    let Q : List ℕ → Type 0 = λ bytes. IsSettled g.B.Block.layers (rested_of c.args.volume.now) → IsPlainRead c.args.dev (span_of c.args.range) bytes (arrays_in g.B.Block.contents g.B.Block.layers (rested_of c.args.volume.now)) (arrays_in g.B.Block.contents g.B.Block.layers (rested_of c.read_alone.new.volume)) in
+    ok_so P Q c.read_alone.result
+    (λ bytes done settled. plain_read g.B.Block.contents g.B.Block.layers g.B.Block.size c.args.dev c.args.range c.args.volume.now c.read_alone.new.volume chunk.1 c.requires.can.some c.requires.can.inside chunk.0
+    (chunk_least g.B.Block.contents g.B.Block.layers c.args.volume.now) (c.is_quiet.ensures.between quiet (loud_in_all g.B.Block.contents g.B.Block.layers g.B.Block.size c.args.volume.now settled) None) (c.is_quiet.ensures.under quiet (loud_in_all g.B.Block.contents g.B.Block.layers g.B.Block.size c.args.volume.now settled) None) bytes done settled)
+    (returns-then-is_one_piece-clause-done g c)
+
+pub returns-then-is_one_piece-clause-loses : goal.returns-then-is_one_piece-clause-loses
+returns-then-is_one_piece-clause-loses g c =
+    let chunk = chunks_by c.args.volume.now c.piece.result c.piece.ensures.piece c.piece.ensures.within c.piece.ensures.allowed in
+    let quiet = c.is_quiet.ensures.value ∙ c.requires.between.quiet in
+    let P : Refusal → Type 0 = λ e. IsReadRefused g.B.Block.contents g.B.Block.layers c.args.dev (span_of c.args.range) e (rested_of c.args.volume.now) (rested_of c.read_alone.new.volume) in
+    let Q : Refusal → Type 0 = λ e. IsSettled g.B.Block.layers (rested_of c.args.volume.now) → IsPlainReadRefused c.args.dev e (arrays_in g.B.Block.contents g.B.Block.layers (rested_of c.args.volume.now)) (arrays_in g.B.Block.contents g.B.Block.layers (rested_of c.read_alone.new.volume)) in
+    err_so P Q c.read_alone.result
+    (λ e why settled. plain_read_refused g.B.Block.contents g.B.Block.layers g.B.Block.size c.args.dev c.args.range c.args.volume.now c.read_alone.new.volume chunk.1 c.requires.can.some c.requires.can.inside chunk.0
+    (chunk_least g.B.Block.contents g.B.Block.layers c.args.volume.now) (c.is_quiet.ensures.between quiet (loud_in_all g.B.Block.contents g.B.Block.layers g.B.Block.size c.args.volume.now settled) None) (c.is_quiet.ensures.under quiet (loud_in_all g.B.Block.contents g.B.Block.layers g.B.Block.size c.args.volume.now settled) None) e why settled)
+    (returns-then-is_one_piece-clause-refused g c)
