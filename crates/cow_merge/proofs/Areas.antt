@@ -10,9 +10,11 @@ use Rattle.store_bytes.specs.Slots.{pair_in}
 use Rattle.store_bytes.specs.Places.{area_place, chunk_at, slot}
 use Rattle.store_bytes.proofs.Slots.{slot-at, IsListed-of}
 use Rattle.cow_merge.specs.Merges.{IsInArea}
-use Rattle.cow_merge.specs.Holding.{Begin, pairs, array, IsBegin, OriginMay, StoreMay, Leaves, Rolls, IsBack, AreBack, Copies, IsZero, Clears}
+use Rattle.cow_merge.specs.Holding.{Begin, pairs, array, IsBegin, OriginMay, StoreMay, Leaves, Rolls, IsSafe, IsBack, AreBack, Copies, IsZero, IsGone, Clears}
 use Rattle.cow_merge.proofs.Sectors.{by_sectors, zero_byte, area_from}
 use Rattle.cow_merge.proofs.Copies.{sector_of_part}
+use Rattle.cow_merge.proofs.Shows.{slot_cases}
+use Rattle.cow_merge.proofs.Steps.{rolls_kept}
 
 -- an area up to that of the first empty slot lies inside the store
 pub area_room : (b : Begin) (index : ℕ) → IsBegin b → index ≤ length (pairs b) / (32 * b.chunk) → b.chunk * (area_place b.chunk index + 1) ≤ b.size
@@ -42,22 +44,31 @@ pub area_slot : (b : Begin) (from index j : ℕ) (known : Type 0) (bytes : ℕ �
 area_slot b from index j known bytes may area rolls lt is less =
     ap (λ x. pair_in x j) (is ∙ area_same b from index known bytes may rolls lt) ∙ sym (slot-at b.chunk b.store index j less)
 
--- the slots in use are pairs of the list
-pub slot_pair : (b : Begin) (from index count j : ℕ) (known : Type 0) (bytes : ℕ → List ℕ) (may : ℕ → ℕ → List ℕ → Type 0) (area : List ℕ) → Rolls b from known bytes may → index < from → area ≡ chunk_at b.chunk (bytes 1) (area_place b.chunk index) → count ≤ 32 * b.chunk → ((k : ℕ) → k < count → (pair_in area k).new ≢ 0) → j < count
+-- the slots in use, of an area up to that of the first empty slot, are pairs of the list
+pub slot_pair : (b : Begin) (from index count j : ℕ) (known : Type 0) (bytes : ℕ → List ℕ) (may : ℕ → ℕ → List ℕ → Type 0) (area : List ℕ) → Rolls b from known bytes may → index ≤ length (pairs b) / (32 * b.chunk) → area ≡ chunk_at b.chunk (bytes 1) (area_place b.chunk index) → count ≤ 32 * b.chunk → ((k : ℕ) → k < count → (pair_in area k).new ≢ 0) → j < count
     → (index * (32 * b.chunk) + j < length (pairs b)) × ((d : Pair) → get_or (pairs b) (index * (32 * b.chunk) + j) d ≡ pair_in area j)
-slot_pair b from index count j known bytes may area rolls lt is few used less =
+slot_pair b from index count j known bytes may area rolls le is few used less =
     let some = rolls.leaves.begin.some in
     let l = IsListed-of b.chunk b.store (pairs b) some refl in
-    let reach = rolls.reach in
-    let low : index * (32 * b.chunk) ≤ length (pairs b) / (32 * b.chunk) * (32 * b.chunk) = mul-le-mul_right (32 * b.chunk) (omega arith) in
+    let low : index * (32 * b.chunk) ≤ length (pairs b) / (32 * b.chunk) * (32 * b.chunk) = mul-le-mul_right (32 * b.chunk) le in
     let low' = div-mul-le_self (length (pairs b)) (32 * b.chunk) in
+    let slot_is : (k : ℕ) → k < 32 * b.chunk → pair_in area k ≡ slot b.chunk (bytes 1) (index * (32 * b.chunk) + k) = λ k lt. ap (λ x. pair_in x k) is ∙ sym (slot-at b.chunk (bytes 1) index k lt) in
     let inside : index * (32 * b.chunk) + j < length (pairs b) = elim (cases_lt (index * (32 * b.chunk) + j) (length (pairs b))) [
       | inl under ↦ under
       | inr past ↦ absurd (used (length (pairs b) - index * (32 * b.chunk)) (omega arith)
-          (ap (λ (p : Pair). p.new) (area_slot b from index (length (pairs b) - index * (32 * b.chunk)) known bytes may area rolls lt is (omega arith))
-          ∙ ap (λ k. (slot b.chunk b.store k).new) (omega arith) ∙ l.ends))
-    ] in
-    (inside, λ d. sym (area_slot b from index j known bytes may area rolls lt is (omega arith) ∙ l.each (index * (32 * b.chunk) + j) d inside))
+          (ap (λ (p : Pair). p.new) (slot_is (length (pairs b) - index * (32 * b.chunk)) (omega arith))
+          ∙ ap (λ k. (slot b.chunk (bytes 1) k).new) (omega arith)
+          ∙ elim (slot_cases b from bytes rolls.leaves.begin rolls.leaves.origin rolls.leaves.store rolls.origin_now rolls.store_now (length (pairs b)) (omega arith)) [
+            | inl same ↦ ap (λ (p : Pair). p.new) same ∙ l.ends
+            | inr (none, high) ↦ none
+          ]))
+    ] in (
+      inside,
+      λ d. elim (slot_cases b from bytes rolls.leaves.begin rolls.leaves.origin rolls.leaves.store rolls.origin_now rolls.store_now (index * (32 * b.chunk) + j) (omega arith)) [
+        | inl same ↦ sym (slot_is j (omega arith) ∙ same ∙ l.each (index * (32 * b.chunk) + j) d inside)
+        | inr (none, high) ↦ absurd (used j less (ap (λ (p : Pair). p.new) (slot_is j (omega arith)) ∙ none))
+      ],
+    )
 
 -- no pair of the list is behind them in the area
 pub slot_last : (b : Begin) (from index count k : ℕ) (known : Type 0) (bytes : ℕ → List ℕ) (may : ℕ → ℕ → List ℕ → Type 0) (area : List ℕ) → Rolls b from known bytes may → index < from → area ≡ chunk_at b.chunk (bytes 1) (area_place b.chunk index) → count ≤ 32 * b.chunk → (count < 32 * b.chunk → (pair_in area count).new ≡ 0) → k < length (pairs b) → k < (index + 1) * (32 * b.chunk) → k < index * (32 * b.chunk) + count
@@ -73,31 +84,39 @@ slot_last b from index count k known bytes may area rolls lt is few empty inside
 ]
 
 -- one run of copies after the other
-pub copies_both : (b : Begin) (from : ℕ) (known known' : Type 0) (bytes bytes1 bytes2 : ℕ → List ℕ) (may may' : ℕ → ℕ → List ℕ → Type 0) → Copies b from known bytes bytes1 may → Copies b from known' bytes1 bytes2 may' → Copies b from known' bytes bytes2 may'
-copies_both b from known known' bytes bytes1 bytes2 may may' x y = record {
+pub copies_both : (b : Begin) (from : ℕ) (known known' : Type 0) (bytes bytes1 bytes2 : ℕ → List ℕ) (may may1 may2 : ℕ → ℕ → List ℕ → Type 0) (lasts lasts1 lasts2 : ℕ → ℕ → Type 0) → Copies b from known bytes bytes1 may may1 lasts lasts1 → Copies b from known' bytes1 bytes2 may1 may2 lasts1 lasts2 → Copies b from known' bytes bytes2 may may2 lasts lasts2
+copies_both b from known known' bytes bytes1 bytes2 may may1 may2 lasts lasts1 lasts2 x y = record {
   rolls = y.rolls;
-  store = y.store ∙ x.store;
+  store = λ s v h. x.store s v (y.store s v h);
   keeps = λ s lt was. y.keeps s lt (x.keeps s lt was);
 }
 
-pub copies_none : (b : Begin) (from : ℕ) (known : Type 0) (bytes : ℕ → List ℕ) (may : ℕ → ℕ → List ℕ → Type 0) → Rolls b from known bytes may → Copies b from known bytes bytes may
-copies_none b from known bytes may rolls = record { rolls = rolls; store = refl; keeps = λ s lt was. was }
+pub copies_none : (b : Begin) (from : ℕ) (known : Type 0) (bytes : ℕ → List ℕ) (may : ℕ → ℕ → List ℕ → Type 0) (lasts : ℕ → ℕ → Type 0) → Rolls b from known bytes may → Copies b from known bytes bytes may may lasts lasts
+copies_none b from known bytes may lasts rolls = record { rolls = rolls; store = λ s v h. h; keeps = λ s lt was. was }
+
+-- a call that leaves the bytes, and what lasts
+pub copies_same : (b : Begin) (from : ℕ) (known known' : Type 0) (bytes bytes' : ℕ → List ℕ) (may may' : ℕ → ℕ → List ℕ → Type 0) (lasts lasts' : ℕ → ℕ → Type 0) → Rolls b from known bytes may → (known → known') → ((f : ℕ) → bytes' f ≡ bytes f) → ((f s : ℕ) (v : List ℕ) → may' f s v → may f s v) → ((f s : ℕ) → lasts f s → lasts' f s) → Copies b from known' bytes bytes' may may' lasts lasts'
+copies_same b from known known' bytes bytes' may may' lasts lasts' rolls knows same stop still = record {
+  rolls = rolls_kept b from known known' bytes bytes' may may' rolls knows same stop;
+  store = stop 1;
+  keeps = λ s lt was. (ap (λ x. sector_at x s) (same 0) ∙ was.0, still 0 s was.1);
+}
 
 -- what is back stays so, and one more pair's is
-pub back_kept : (b : Begin) (origin origin' : List ℕ) (low high : ℕ) → AreBack b origin low high → ((s : ℕ) → s < b.sectors → sector_at origin s ≡ sector_at (array b) s → sector_at origin' s ≡ sector_at (array b) s) → AreBack b origin' low high
-back_kept b origin origin' low high are keeps k d lo hi inside s lt at = keeps s lt (are k d lo hi inside s lt at)
+pub back_kept : (b : Begin) (from : ℕ) (origin origin' : List ℕ) (lasts lasts' : ℕ → ℕ → Type 0) (low high : ℕ) → AreBack b from origin lasts low high → ((s : ℕ) → s < b.sectors → IsSafe b origin lasts s → IsSafe b origin' lasts' s) → AreBack b from origin' lasts' low high
+back_kept b from origin origin' lasts lasts' low high are keeps k d lo hi under inside s lt at = keeps s lt (are k d lo hi under inside s lt at)
 
-pub back_more : (b : Begin) (origin origin' : List ℕ) (low high : ℕ) (pair : Pair) → AreBack b origin low high → ((s : ℕ) → s < b.sectors → sector_at origin s ≡ sector_at (array b) s → sector_at origin' s ≡ sector_at (array b) s) → ((d : Pair) → get_or (pairs b) high d ≡ pair) → IsBack b origin' pair.old → AreBack b origin' low (high + 1)
-back_more b origin origin' low high pair are keeps is back k d lo hi inside s lt at = elim (cases_eq k high) [
+pub back_more : (b : Begin) (from : ℕ) (origin origin' : List ℕ) (lasts lasts' : ℕ → ℕ → Type 0) (low high : ℕ) (pair : Pair) → AreBack b from origin lasts low high → ((s : ℕ) → s < b.sectors → IsSafe b origin lasts s → IsSafe b origin' lasts' s) → ((d : Pair) → get_or (pairs b) high d ≡ pair) → IsBack b origin' lasts' pair.old → AreBack b from origin' lasts' low (high + 1)
+back_more b from origin origin' lasts lasts' low high pair are keeps is back k d lo hi under inside s lt at = elim (cases_eq k high) [
   | inl e ↦ back s lt (at ∙ ap (λ x. (get_or (pairs b) x d).old) e ∙ ap (λ (p : Pair). p.old) (is d))
-  | inr ne ↦ keeps s lt (are k d lo (omega arith) inside s lt at)
+  | inr ne ↦ keeps s lt (are k d lo (omega arith) under inside s lt at)
 ]
 
 -- of two runs of slots
-pub back_joined : (b : Begin) (origin : List ℕ) (low mid high : ℕ) → AreBack b origin low mid → AreBack b origin mid high → AreBack b origin low high
-back_joined b origin low mid high x y k d lo hi inside = elim (cases_lt k mid) [
-  | inl lt ↦ x k d lo lt inside
-  | inr ge ↦ y k d ge hi inside
+pub back_joined : (b : Begin) (from : ℕ) (origin : List ℕ) (lasts : ℕ → ℕ → Type 0) (low mid high : ℕ) → AreBack b from origin lasts low mid → AreBack b from origin lasts mid high → AreBack b from origin lasts low high
+back_joined b from origin lasts low mid high x y k d lo hi under inside = elim (cases_lt k mid) [
+  | inl lt ↦ x k d lo lt under inside
+  | inr ge ↦ y k d ge hi under inside
 ]
 
 -- a sector of zeros
@@ -136,9 +155,10 @@ after_clear b from index bytes bytes' zeros s le are len fits wrote =
           inr (ap (λ x. sector_at x s) wrote ∙ is ∙ ap (λ x. sector_at x (s - b.chunk * area_place b.chunk index)) are ∙ zero_sector b.chunk (s - b.chunk * area_place b.chunk index) inside, record { area = index; sector = s - b.chunk * area_place b.chunk index; low = le; inside = inside; is = omega arith }))
     ]
 
-pub clears_written : (b : Begin) (from index : ℕ) (known known' : Type 0) (bytes bytes' : ℕ → List ℕ) (may may' : ℕ → ℕ → List ℕ → Type 0) (zeros : List ℕ) → Rolls b from known bytes may → (known → known') → from ≤ index → zeros ≡ replicate (512 * b.chunk) 0 → b.chunk * (area_place b.chunk index + 1) ≤ b.size → bytes' 1 ≡ with_sectors (bytes 1) (b.chunk * area_place b.chunk index) zeros → bytes' 0 ≡ bytes 0
-    → Leaves b from bytes' may' → Clears b from known' bytes bytes' may'
-clears_written b from index known known' bytes bytes' may may' zeros rolls knows le are fits wrote beside leaves =
+pub clears_written : (b : Begin) (from index : ℕ) (known known' : Type 0) (bytes bytes' : ℕ → List ℕ) (may may' : ℕ → ℕ → List ℕ → Type 0) (lasts lasts' : ℕ → ℕ → Type 0) (zeros : List ℕ) → Rolls b from known bytes may → (known → known') → from ≤ index → zeros ≡ replicate (512 * b.chunk) 0 → b.chunk * (area_place b.chunk index + 1) ≤ b.size → bytes' 1 ≡ with_sectors (bytes 1) (b.chunk * area_place b.chunk index) zeros → bytes' 0 ≡ bytes 0
+    → Leaves b from bytes' may' → ((f s : ℕ) (v : List ℕ) → may' f s v → may f s v ⊎ ((f ≡ 1) × (b.chunk * area_place b.chunk index ≤ s) × (512 * (s - b.chunk * area_place b.chunk index) < length zeros) × (v ≡ sector_at zeros (s - b.chunk * area_place b.chunk index)))) → ((f s : ℕ) → lasts f s → lasts' f s)
+    → ((s : ℕ) → b.chunk * area_place b.chunk index ≤ s → 512 * (s - b.chunk * area_place b.chunk index) < length zeros → lasts' 1 s) → Clears b from known' bytes bytes' may may' lasts lasts'
+clears_written b from index known known' bytes bytes' may may' lasts lasts' zeros rolls knows le are fits wrote beside leaves stop still fresh =
     let ls = rolls.leaves.store in
     record {
       rolls = record {
@@ -151,24 +171,44 @@ clears_written b from index known known' bytes bytes' may may' zeros rolls knows
           | inr is ↦ inr is
         ];
       };
+      stop = λ s v h. elim (stop 1 s v h) [
+        | inl was ↦ inl was
+        | inr (one, low, high, is) ↦ (let len : length zeros ≡ 512 * b.chunk = ap length are ∙ length-replicate (512 * b.chunk) 0 in
+            inr (is ∙ ap (λ x. sector_at x (s - b.chunk * area_place b.chunk index)) are ∙ zero_sector b.chunk (s - b.chunk * area_place b.chunk index) (omega arith)))
+      ];
       keeps = λ area was t lt. elim (after_clear b from index (bytes 1) (bytes' 1) zeros (b.chunk * area_place b.chunk area + t) le are ls fits wrote) [
-        | inl same ↦ same ∙ was t lt
-        | inr (is, there) ↦ is
+        | inl same ↦ (same ∙ (was t lt).0, still 1 (b.chunk * area_place b.chunk area + t) (was t lt).1)
+        | inr (is, there) ↦ (is, still 1 (b.chunk * area_place b.chunk area + t) (was t lt).1)
       ];
     }
 
 -- its sectors are zeros
-pub zero_written : (b : Begin) (index : ℕ) (bytes bytes' zeros : List ℕ) → zeros ≡ replicate (512 * b.chunk) 0 → length bytes ≡ 512 * b.size → b.chunk * (area_place b.chunk index + 1) ≤ b.size → bytes' ≡ with_sectors bytes (b.chunk * area_place b.chunk index) zeros → IsZero b.chunk bytes' index
-zero_written b index bytes bytes' zeros are len fits wrote t lt =
+pub zero_written : (b : Begin) (index : ℕ) (bytes bytes' zeros : List ℕ) (lasts : ℕ → ℕ → Type 0) → zeros ≡ replicate (512 * b.chunk) 0 → length bytes ≡ 512 * b.size → b.chunk * (area_place b.chunk index + 1) ≤ b.size → bytes' ≡ with_sectors bytes (b.chunk * area_place b.chunk index) zeros → ((s : ℕ) → b.chunk * area_place b.chunk index ≤ s → 512 * (s - b.chunk * area_place b.chunk index) < length zeros → lasts 1 s) → IsZero b.chunk bytes' lasts index
+zero_written b index bytes bytes' zeros lasts are len fits wrote fresh t lt =
     let n : length zeros ≡ 512 * b.chunk = ap length are ∙ length-replicate (512 * b.chunk) 0 in
+    let up : b.chunk * (area_place b.chunk index + 1) ≡ b.chunk * area_place b.chunk index + b.chunk = grind arith in (
+      ap (λ x. sector_at x (b.chunk * area_place b.chunk index + t)) wrote
+          ∙ sectors_at-with_inside bytes (b.chunk * area_place b.chunk index) b.chunk zeros (b.chunk * area_place b.chunk index + t) 1 (omega arith) n (omega arith) (omega arith)
+          ∙ ap (sector_at zeros) (omega arith) ∙ ap (λ x. sector_at x t) are ∙ zero_sector b.chunk t lt,
+      fresh (b.chunk * area_place b.chunk index + t) (omega arith) (omega arith),
+    )
+
+-- a file that is synced leaves the zeros that are there
+pub zero_gone : (b : Begin) (index : ℕ) (bytes : ℕ → List ℕ) (may : ℕ → ℕ → List ℕ → Type 0) (lasts : ℕ → ℕ → Type 0) → IsZero b.chunk (bytes 1) lasts index → length (bytes 1) ≡ 512 * b.size → b.chunk * (area_place b.chunk index + 1) ≤ b.size → ((s : ℕ) (v : List ℕ) → 512 * s < length (bytes 1) → lasts 1 s → may 1 s v → v ≡ sector_at (bytes 1) s) → IsGone b.chunk may index
+zero_gone b index bytes may lasts zero len fits synced t v lt h =
     let up : b.chunk * (area_place b.chunk index + 1) ≡ b.chunk * area_place b.chunk index + b.chunk = grind arith in
-    ap (λ x. sector_at x (b.chunk * area_place b.chunk index + t)) wrote
-    ∙ sectors_at-with_inside bytes (b.chunk * area_place b.chunk index) b.chunk zeros (b.chunk * area_place b.chunk index + t) 1 (omega arith) n (omega arith) (omega arith)
-    ∙ ap (sector_at zeros) (omega arith) ∙ ap (λ x. sector_at x t) are ∙ zero_sector b.chunk t lt
+    synced (b.chunk * area_place b.chunk index + t) v (omega arith) (zero t lt).1 h ∙ (zero t lt).0
 
 -- one clearing after the other
-pub clears_both : (b : Begin) (from : ℕ) (known known' : Type 0) (bytes bytes1 bytes2 : ℕ → List ℕ) (may may' : ℕ → ℕ → List ℕ → Type 0) → Clears b from known bytes bytes1 may → Clears b from known' bytes1 bytes2 may' → Clears b from known' bytes bytes2 may'
-clears_both b from known known' bytes bytes1 bytes2 may may' x y = record { rolls = y.rolls; keeps = λ area was. y.keeps area (x.keeps area was) }
+pub clears_both : (b : Begin) (from : ℕ) (known known' : Type 0) (bytes bytes1 bytes2 : ℕ → List ℕ) (may may1 may2 : ℕ → ℕ → List ℕ → Type 0) (lasts lasts1 lasts2 : ℕ → ℕ → Type 0) → Clears b from known bytes bytes1 may may1 lasts lasts1 → Clears b from known' bytes1 bytes2 may1 may2 lasts1 lasts2 → Clears b from known' bytes bytes2 may may2 lasts lasts2
+clears_both b from known known' bytes bytes1 bytes2 may may1 may2 lasts lasts1 lasts2 x y = record {
+  rolls = y.rolls;
+  stop = λ s v h. elim (y.stop s v h) [
+    | inl was ↦ x.stop s v was
+    | inr zeros ↦ inr zeros
+  ];
+  keeps = λ area was. y.keeps area (x.keeps area was);
+}
 
-pub clears_none : (b : Begin) (from : ℕ) (known : Type 0) (bytes : ℕ → List ℕ) (may : ℕ → ℕ → List ℕ → Type 0) → Rolls b from known bytes may → Clears b from known bytes bytes may
-clears_none b from known bytes may rolls = record { rolls = rolls; keeps = λ area was. was }
+pub clears_none : (b : Begin) (from : ℕ) (known : Type 0) (bytes : ℕ → List ℕ) (may : ℕ → ℕ → List ℕ → Type 0) (lasts : ℕ → ℕ → Type 0) → Rolls b from known bytes may → Clears b from known bytes bytes may may lasts lasts
+clears_none b from known bytes may lasts rolls = record { rolls = rolls; stop = λ s v h. inl h; keeps = λ area was. was }

@@ -9,7 +9,7 @@ use Rattle.store_bytes.specs.Picture.{place_of}
 use Rattle.store_bytes.specs.Places.{is_area_place}
 use Rattle.cow_image.proofs.Places.{place_first}
 use Rattle.stop_laws.proofs.Open.{sector_copied}
-use Rattle.cow_merge.specs.Holding.{Begin, pairs, array, IsBegin, OriginMay, StoreMay, Leaves, Rolls, IsPairOf, IsBack, Copies}
+use Rattle.cow_merge.specs.Holding.{Begin, pairs, array, IsBegin, OriginMay, StoreMay, Leaves, Rolls, IsPairOf, IsSafe, IsBack, Copies}
 use Rattle.cow_merge.proofs.Sectors.{not_in_area}
 
 -- a sector of a run of sectors
@@ -78,9 +78,9 @@ leaves_written b from first count bytes bytes' may may' part leaves arrays len s
   ];
 }
 
-pub copies_written : (b : Begin) (from first count : ℕ) (known known' : Type 0) (bytes bytes' : ℕ → List ℕ) (may may' : ℕ → ℕ → List ℕ → Type 0) (part : List ℕ) → Rolls b from known bytes may → (known → known') → ((t : ℕ) → t < count → sector_at part t ≡ sector_at (array b) (first + t)) → length part ≡ 512 * count → first + count ≤ b.sectors → bytes' 0 ≡ with_sectors (bytes 0) first part → bytes' 1 ≡ bytes 1
-    → Leaves b from bytes' may' → Copies b from known' bytes bytes' may'
-copies_written b from first count known known' bytes bytes' may may' part rolls knows arrays len fits wrote beside leaves =
+pub copies_written : (b : Begin) (from first count : ℕ) (known known' : Type 0) (bytes bytes' : ℕ → List ℕ) (may may' : ℕ → ℕ → List ℕ → Type 0) (lasts lasts' : ℕ → ℕ → Type 0) (part : List ℕ) → Rolls b from known bytes may → (known → known') → ((t : ℕ) → t < count → sector_at part t ≡ sector_at (array b) (first + t)) → length part ≡ 512 * count → first + count ≤ b.sectors → bytes' 0 ≡ with_sectors (bytes 0) first part → bytes' 1 ≡ bytes 1
+    → Leaves b from bytes' may' → ((f s : ℕ) (v : List ℕ) → may' f s v → may f s v ⊎ ((f ≡ 0) × (first ≤ s) × (512 * (s - first) < length part) × (v ≡ sector_at part (s - first)))) → ((f s : ℕ) → lasts f s → lasts' f s) → Copies b from known' bytes bytes' may may' lasts lasts'
+copies_written b from first count known known' bytes bytes' may may' lasts lasts' part rolls knows arrays len fits wrote beside leaves stop still =
     let lo = rolls.leaves.origin in
     let after : (s : ℕ) → (sector_at (bytes' 0) s ≡ sector_at (bytes 0) s) ⊎ (sector_at (bytes' 0) s ≡ sector_at (array b) s) = λ s. elim (sector_after_write (bytes 0) first count part s (omega arith) len) [
       | inl same ↦ inl (ap (λ x. sector_at x s) wrote ∙ same)
@@ -97,23 +97,31 @@ copies_written b from first count known known' bytes bytes' may may' part rolls 
         ];
         store_now = λ s lt. subst (λ (x : List ℕ). StoreMay b from s (sector_at x s)) (sym beside) (rolls.store_now s lt);
       };
-      store = beside;
-      keeps = λ s lt was. elim (after s) [
-        | inl same ↦ same ∙ was
-        | inr is ↦ is
+      store = λ s v h. elim (stop 1 s v h) [
+        | inl was ↦ was
+        | inr (one, low, high, is) ↦ absurd (omega arith)
       ];
+      keeps = λ s lt was. (
+        elim (after s) [
+          | inl same ↦ same ∙ was.0
+          | inr is ↦ is
+        ],
+        still 0 s was.1,
+      );
     }
 
 -- they are the array's
-pub back_written : (b : Begin) (first count : ℕ) (bytes bytes' part : List ℕ) (c : ℕ) → 0 < b.chunk → ((t : ℕ) → t < count → sector_at part t ≡ sector_at (array b) (first + t)) → length part ≡ 512 * count → first ≡ b.chunk * c → count ≡ min b.chunk (b.sectors - b.chunk * c) → length bytes ≡ 512 * b.sectors → first + count ≤ b.sectors → bytes' ≡ with_sectors bytes first part → IsBack b bytes' c
-back_written b first count bytes bytes' part c some arrays len at size lo fits wrote s lt here =
+pub back_written : (b : Begin) (first count : ℕ) (bytes bytes' part : List ℕ) (lasts : ℕ → ℕ → Type 0) (c : ℕ) → 0 < b.chunk → ((t : ℕ) → t < count → sector_at part t ≡ sector_at (array b) (first + t)) → length part ≡ 512 * count → first ≡ b.chunk * c → count ≡ min b.chunk (b.sectors - b.chunk * c) → length bytes ≡ 512 * b.sectors → first + count ≤ b.sectors → bytes' ≡ with_sectors bytes first part → ((s : ℕ) → first ≤ s → 512 * (s - first) < length part → lasts 0 s) → IsBack b bytes' lasts c
+back_written b first count bytes bytes' part lasts c some arrays len at size lo fits wrote fresh s lt here =
     let e : s ≡ s / b.chunk * b.chunk + s % b.chunk = sym (div-add-mod' s b.chunk) in
     let below : s % b.chunk < b.chunk = mod_below s b.chunk some in
     let e' : s / b.chunk * b.chunk ≡ b.chunk * c = ap (λ x. x * b.chunk) here ∙ grind arith in
-    let is : s ≡ first + (s - first) = omega arith in
-    ap (λ x. sector_at x s) wrote ∙ ap (sector_at (with_sectors bytes first part)) is
-    ∙ sectors_at-with_inside bytes first count part (first + (s - first)) 1 (omega arith) len (omega arith) (omega arith)
-    ∙ ap (sector_at part) (omega arith) ∙ arrays (s - first) (omega arith) ∙ ap (sector_at (array b)) (sym is)
+    let is : s ≡ first + (s - first) = omega arith in (
+      ap (λ x. sector_at x s) wrote ∙ ap (sector_at (with_sectors bytes first part)) is
+          ∙ sectors_at-with_inside bytes first count part (first + (s - first)) 1 (omega arith) len (omega arith) (omega arith)
+          ∙ ap (sector_at part) (omega arith) ∙ arrays (s - first) (omega arith) ∙ ap (sector_at (array b)) (sym is),
+      fresh s (omega arith) (omega arith),
+    )
 
 -- what was read
 pub read_part : (bytes out room : List ℕ) (chunk new count from : ℕ) → from ≡ 512 * (chunk * new) → length room ≡ 512 * chunk → count ≤ chunk → out ≡ take (length (take (512 * count) room)) (drop from bytes) → out ≡ sectors_at bytes (chunk * new) count

@@ -2,7 +2,8 @@
 use Rattle.std.proofs.Common.{◌≡◌, inl, inr, ℕ, ◌+◌, ◌*◌, ◌/◌, ◌%◌, ◌<◌, ◌≤◌, List, [], length, take, get_or, replicate, arith, refl, ap, ◌∙◌, sym, subst, Some, None}
 use Rattle.std.specs.Prelude.{Option}
 use Rattle.std.proofs.lemmas.Bool.{cases_lt}
-use Rattle.std.proofs.lemmas.Nat.{mod_below, div-add-mod'}
+use Rattle.std.proofs.lemmas.Nat.{mod_below, div-add-mod', le-div}
+use Rattle.std.proofs.Math.Nat.{div-mul-le_self}
 use Rattle.std.proofs.lemmas.List.{take_all, get_or-take, get_or_default, length-take-le}
 use Rattle.sector.specs.Bytes.{sector_at}
 use Rattle.sector.specs.declared.pair.Pair.{Pair}
@@ -17,10 +18,10 @@ use Rattle.stop_laws.specs.May.{sector_of, number_of}
 use Rattle.stop_laws.proofs.May.{slot_there}
 use Rattle.stop_laws.proofs.Open.{sector_plain}
 use Rattle.file_set.specs.Stops.{AreLeft}
-use Rattle.cow_merge.specs.Merges.{IsMerged}
+use Rattle.cow_merge.specs.Merges.{IsMerging, IsMerged}
 use Rattle.cow_merge.specs.Holding.{Begin, pairs, array, IsBegin, OriginMay, StoreMay, Rolls, AreBack, Settles, Ends}
 use Rattle.cow_merge.proofs.Sectors.{by_sectors, zero_pair}
-use Rattle.cow_merge.proofs.Shows.{still_shows}
+use Rattle.cow_merge.proofs.Shows.{listed, still_shows}
 use Rattle.cow_merge.proofs.Areas.{area_room}
 
 -- a sector that reads give, once the pairs of more areas are back
@@ -63,13 +64,13 @@ store_less b from end s v le (inl same) = inl same
 store_less b from end s v le (inr (zeros, there)) = inr (zeros, (let low = there.low in record { area = there.area; sector = there.sector; low = omega arith; inside = there.inside; is = there.is }))
 
 -- the copies of a batch are synced
-pub rolls_synced : (b : Begin) (from end : ℕ) (known known' : Type 0) (bytes bytes' : ℕ → List ℕ) (may may' : ℕ → ℕ → List ℕ → Type 0) → Rolls b end known bytes may → from ≤ end → AreBack b (bytes 0) (from * (32 * b.chunk)) (end * (32 * b.chunk)) → (known → known') → ((f : ℕ) → bytes' f ≡ bytes f)
-    → ((s : ℕ) (v : List ℕ) → 512 * s < length (bytes 0) → may' 0 s v → v ≡ sector_at (bytes 0) s) → ((f s : ℕ) (v : List ℕ) → may' f s v → may f s v) → Rolls b from known' bytes' may'
-rolls_synced b from end known known' bytes bytes' may may' rolls le back knows same synced stop =
+pub rolls_synced : (b : Begin) (from end : ℕ) (known known' : Type 0) (bytes bytes' : ℕ → List ℕ) (may may' : ℕ → ℕ → List ℕ → Type 0) (lasts : ℕ → ℕ → Type 0) → Rolls b end known bytes may → from ≤ end → AreBack b end (bytes 0) lasts (from * (32 * b.chunk)) (end * (32 * b.chunk)) → (known → known') → ((f : ℕ) → bytes' f ≡ bytes f)
+    → ((s : ℕ) (v : List ℕ) → 512 * s < length (bytes 0) → lasts 0 s → may' 0 s v → v ≡ sector_at (bytes 0) s) → ((f s : ℕ) (v : List ℕ) → may' f s v → may f s v) → Rolls b from known' bytes' may'
+rolls_synced b from end known known' bytes bytes' may may' lasts rolls le back knows same synced stop =
     let begin = rolls.leaves.begin in
     let reach' = rolls.reach in
     let lo = rolls.leaves.origin in
-    let now : (s : ℕ) → s < b.sectors → OriginMay b from s (sector_at (bytes 0) s) = λ s lt. sector_by b from end s (sector_at (bytes 0) s) (place_of (take (from * (32 * b.chunk)) (pairs b)) (s / b.chunk)) begin le (rolls.origin_now s lt) (λ k d low high inside at. back k d low high inside s lt at) refl in
+    let now : (s : ℕ) → s < b.sectors → OriginMay b from s (sector_at (bytes 0) s) = λ s lt. sector_by b from end s (sector_at (bytes 0) s) (place_of (take (from * (32 * b.chunk)) (pairs b)) (s / b.chunk)) begin le (rolls.origin_now s lt) (λ k d low high inside at. (back k d low high high inside s lt at).0) refl in
     record {
       is_known = knows rolls.is_known;
       reach = omega arith;
@@ -77,7 +78,9 @@ rolls_synced b from end known known' bytes bytes' may may' rolls le back knows s
         begin = begin;
         origin = ap length (same 0) ∙ rolls.leaves.origin;
         store = ap length (same 1) ∙ rolls.leaves.store;
-        origin_may = λ s v lt h. subst (OriginMay b from s) (sym (synced s v (omega arith) h)) (now s lt);
+        origin_may = λ s v lt h. sector_by b from end s v (place_of (take (from * (32 * b.chunk)) (pairs b)) (s / b.chunk)) begin le (rolls.leaves.origin_may s v lt (stop 0 s v h)) (λ k d low high inside at.
+            let is = back k d low high high inside s lt at in
+            synced s v (omega arith) is.1 h ∙ is.0) refl;
         store_may = λ s v lt h. store_less b from end s v le (rolls.leaves.store_may s v lt (stop 1 s v h));
       };
       origin_now = λ s lt. subst (λ (x : List ℕ). OriginMay b from s (sector_at x s)) (sym (same 0)) (now s lt);
@@ -85,7 +88,7 @@ rolls_synced b from end known known' bytes bytes' may may' rolls le back knows s
     }
 
 -- a sector of the origin at the beginning
-origin_first : (b : Begin) (last s : ℕ) (r : Option ℕ) → IsBegin b → last ≡ length (pairs b) / (32 * b.chunk) → s < b.sectors → place_of (take ((last + 1) * (32 * b.chunk)) (pairs b)) (s / b.chunk) ≡ r → OriginMay b (last + 1) s (sector_at b.origin s)
+pub origin_first : (b : Begin) (last s : ℕ) (r : Option ℕ) → IsBegin b → last ≡ length (pairs b) / (32 * b.chunk) → s < b.sectors → place_of (take ((last + 1) * (32 * b.chunk)) (pairs b)) (s / b.chunk) ≡ r → OriginMay b (last + 1) s (sector_at b.origin s)
 origin_first b last s (Some n) is at lt e = inr (refl, λ none. (let h : Some n ≡ None = sym e ∙ none in cc))
 origin_first b last s None is at lt e =
     let some = is.some in
@@ -95,27 +98,47 @@ origin_first b last s None is at lt e =
     let all : take ((last + 1) * (32 * b.chunk)) (pairs b) ≡ pairs b = take_all ((last + 1) * (32 * b.chunk)) (pairs b) (omega arith) in
     inl (sym (sector_plain b.chunk b.sectors s b.origin b.store (pairs b) is.some is.origin lt refl (sym (ap (λ z. place_of z (s / b.chunk)) all) ∙ e)))
 
--- the beginning: all is synced
-pub rolls_first : (b : Begin) (last : ℕ) (known : Type 0) (bytes bytes' : ℕ → List ℕ) (may' : ℕ → ℕ → List ℕ → Type 0) → IsBegin b → last ≡ length (pairs b) / (32 * b.chunk) → Settles known bytes bytes' may' → bytes 0 ≡ b.origin → bytes 1 ≡ b.store → Rolls b (last + 1) known bytes' may'
-rolls_first b last known bytes bytes' may' is at settles eo es =
-    let origin : bytes' 0 ≡ b.origin = settles.origin ∙ eo in
-    let store : bytes' 1 ≡ b.store = settles.store ∙ es in
-    let lo : length (bytes' 0) ≡ 512 * b.sectors = ap length origin ∙ is.origin in
-    let ls : length (bytes' 1) ≡ 512 * b.size = ap length store ∙ is.store in
-    let now : (s : ℕ) → s < b.sectors → OriginMay b (last + 1) s (sector_at (bytes' 0) s) = λ s lt. subst (λ (x : List ℕ). OriginMay b (last + 1) s (sector_at x s)) (sym origin) (origin_first b last s (place_of (take ((last + 1) * (32 * b.chunk)) (pairs b)) (s / b.chunk)) is at lt refl) in
+-- a merge begins, or goes on: all is synced
+pub rolls_first : (b : Begin) (from : ℕ) (known : Type 0) (bytes bytes' : ℕ → List ℕ) (may may' : ℕ → ℕ → List ℕ → Type 0) (lasts : ℕ → ℕ → Type 0) → 0 < b.chunk → IsMerging b.chunk b.sectors b.size from b.origin b.store bytes may lasts → Settles known bytes bytes' may may' lasts → Rolls b from known bytes' may'
+rolls_first b from known bytes bytes' may may' lasts some is settles =
+    let lo = is.origin_long in
+    let ls = is.store_long in
     record {
       is_known = settles.is_known;
-      reach = omega arith;
+      reach = is.reach;
       leaves = record {
-        begin = is;
-        origin = lo;
-        store = ls;
-        origin_may = λ s v lt h. subst (OriginMay b (last + 1) s) (sym (settles.origin_synced s v (omega arith) h)) (now s lt);
-        store_may = λ s v lt h. inl (settles.store_synced s v (omega arith) h ∙ ap (λ x. sector_at x s) store);
+        begin = record { some = some; origin = is.origin_whole; store = is.store_whole; header = is.loads.header; formed = is.loads.formed };
+        origin = ap length settles.origin ∙ lo;
+        store = ap length settles.store ∙ ls;
+        origin_may = λ s v lt h. elim (is.origin_may s v lt (settles.stop 0 s v h)) [
+          | inl lasting ↦ subst (OriginMay b from s) (sym (settles.origin_synced s v (omega arith) lasting h)) (is.origin_now s lt)
+          | inr found ↦ found
+        ];
+        store_may = λ s v lt h. elim (is.store_may s v lt (settles.stop 1 s v h)) [
+          | inl lasting ↦ subst (StoreMay b from s) (sym (settles.store_synced s v (omega arith) lasting h)) (is.store_now s lt)
+          | inr found ↦ found
+        ];
       };
-      origin_now = now;
-      store_now = λ s lt. inl (ap (λ x. sector_at x s) store);
+      origin_now = λ s lt. subst (λ (x : List ℕ). OriginMay b from s (sector_at x s)) (sym settles.origin) (is.origin_now s lt);
+      store_now = λ s lt. subst (λ (x : List ℕ). StoreMay b from s (sector_at x s)) (sym settles.store) (is.store_now s lt);
     }
+
+-- where the list that reads give ends, from the first of the areas on that may be zeroed
+pub ends_at : (b : Begin) (from current : ℕ) (bytes : ℕ → List ℕ) → 0 < b.chunk → length (bytes 0) ≡ 512 * b.sectors → length (bytes 1) ≡ 512 * b.size → IsBegin b → from ≤ length (pairs b) / (32 * b.chunk) + 1
+    → ((s : ℕ) → s < b.sectors → OriginMay b from s (sector_at (bytes 0) s)) → ((s : ℕ) → s < b.size → StoreMay b from s (sector_at (bytes 1) s)) → current ≡ length (pairs_of b.chunk (bytes 1)) / (32 * b.chunk) → (from ≤ current + 1) × (current ≤ length (pairs b) / (32 * b.chunk))
+ends_at b from current bytes some lo ls is reach os ss at =
+    let (m, low, high, list) = listed b from bytes is lo ls os ss in
+    let count : length (pairs_of b.chunk (bytes 1)) ≡ m = ap length list ∙ length-take-le m (pairs b) high in
+    let at' : current ≡ m / (32 * b.chunk) = at ∙ ap (λ x. x / (32 * b.chunk)) count in
+    let below = div-mul-le_self m (32 * b.chunk) in
+    let up : m / (32 * b.chunk) ≤ length (pairs b) / (32 * b.chunk) = le-div (m / (32 * b.chunk)) (length (pairs b)) (32 * b.chunk) (omega arith) (omega arith) in (
+      elim (cases_lt (length (pairs b)) (from * (32 * b.chunk))) [
+        | inl all ↦ (let same : m ≡ length (pairs b) = omega arith in
+            let same' = ap (λ x. x / (32 * b.chunk)) same in omega arith)
+        | inr some' ↦ (let h : from ≤ m / (32 * b.chunk) = le-div from m (32 * b.chunk) (omega arith) (omega arith) in omega arith)
+      ],
+      omega arith,
+    )
 
 -- no pair is named among none
 none_named : (b : Begin) (c : ℕ) → place_of (take (0 * (32 * b.chunk)) (pairs b)) c ≡ None
@@ -134,7 +157,7 @@ no_pairs chunk store pos zeros =
     })
 
 -- the end
-pub merged : (b : Begin) (last : ℕ) (known : Type 0) (bytes left : ℕ → List ℕ) (may : ℕ → ℕ → List ℕ → Type 0) → last ≡ length (pairs b) / (32 * b.chunk) → Ends b last known bytes may → AreLeft bytes may left → IsMerged b.chunk b.size last b.origin b.store left
+pub merged : (b : Begin) (last : ℕ) (known : Type 0) (bytes left : ℕ → List ℕ) (may : ℕ → ℕ → List ℕ → Type 0) → last ≤ length (pairs b) / (32 * b.chunk) → Ends b last known bytes may → AreLeft bytes may left → IsMerged b.chunk b.size last b.origin b.store left
 merged b last known bytes left may at ends are =
     let leaves = ends.rolls.leaves in
     let begin = leaves.begin in
@@ -144,7 +167,7 @@ merged b last known bytes left may at ends are =
     let zeros : (area s : ℕ) → area ≤ last → s < b.chunk → sector_at (left 1) (b.chunk * area_place b.chunk area + s) ≡ replicate 512 0 = λ area s le lt.
     let fits = area_room b area begin (omega arith) in
     let up : b.chunk * (area_place b.chunk area + 1) ≡ b.chunk * area_place b.chunk area + b.chunk = grind arith in
-    ends.store_synced (b.chunk * area_place b.chunk area + s) (sector_at (left 1) (b.chunk * area_place b.chunk area + s)) (omega arith) (are.each 1 (b.chunk * area_place b.chunk area + s) (omega arith)) ∙ ends.zero area le s lt in
+    ends.gone area le s (sector_at (left 1) (b.chunk * area_place b.chunk area + s)) lt (are.each 1 (b.chunk * area_place b.chunk area + s) (omega arith)) in
     record {
       array = by_sectors b.sectors (left 0) (array b) (are.whole 0 ∙ lo) (length-picture b.chunk b.origin b.store ∙ begin.origin) (λ s lt. elim (leaves.origin_may s (sector_at (left 0) s) lt (are.each 0 s (omega arith))) [
         | inl same ↦ same

@@ -28,7 +28,7 @@ use Rattle.cow_merge.proofs.Sectors.{by_sectors, zero_pair, place_first, place_n
 module _ (b : Begin) (from : ℕ) (left : ℕ → List ℕ) (is : IsBegin b) (lo : length (left 0) ≡ 512 * b.sectors) (ls : length (left 1) ≡ 512 * b.size)
     (os : (s : ℕ) → s < b.sectors → OriginMay b from s (sector_at (left 0) s)) (ss : (s : ℕ) → s < b.size → StoreMay b from s (sector_at (left 1) s)) where
   -- a slot is as it was, or empty
-  slot_cases : (i : ℕ) → i ≤ length (pairs b) → (slot b.chunk (left 1) i ≡ slot b.chunk b.store i) ⊎ (((slot b.chunk (left 1) i).new ≡ 0) × (from * (32 * b.chunk) ≤ i))
+  pub slot_cases : (i : ℕ) → i ≤ length (pairs b) → (slot b.chunk (left 1) i ≡ slot b.chunk b.store i) ⊎ (((slot b.chunk (left 1) i).new ≡ 0) × (from * (32 * b.chunk) ≤ i))
   slot_cases i le =
       let some = is.some in
       elim (ss (sector_of b.chunk i) (slot_inside b.chunk b.size (length (pairs b)) i is.some le is.formed.room)) [
@@ -65,7 +65,8 @@ module _ (b : Begin) (from : ℕ) (left : ℕ → List ℕ) (is : IsBegin b) (lo
         valid = λ k d lt e. l.valid k lt (ap (λ (p : Pair). p.new) (l.each k d lt) ∙ e);
       }
 
-  listed : (m : ℕ) × (min (from * (32 * b.chunk)) (length (pairs b)) ≤ m) × (m ≤ length (pairs b)) × (pairs_of b.chunk (left 1) ≡ take m (pairs b))
+  -- the list is a front of the first one
+  pub listed : (m : ℕ) × (min (from * (32 * b.chunk)) (length (pairs b)) ≤ m) × (m ≤ length (pairs b)) × (pairs_of b.chunk (left 1) ≡ take m (pairs b))
   listed = pairs_between b.chunk (left 1) _ (pairs b) is.some between
 
   -- a sector of the array, by the place of its chunk's copy

@@ -17,9 +17,9 @@ fn clear_area<F: FileSet>(
 ) -> Result<(), Stopped>
     requires zeros { zeros.now ≡ replicate (512 * sizes.chunk) 0 }
     requires low { index < sizes.store }
-    ensures passes { (o c : List ℕ) (from : ℕ) → from ≤ index → Rolls (begun sizes o c) from (F.is_known files.old) (F.bytes files.old) (F.may_hold files.old) → Passes (begun sizes o c) (F.moment files.old) (F.moment files.new) (F.left_since files.old) (F.left_since files.new) }
-    ensures clears { OnOk result ((o c : List ℕ) (from : ℕ) → from ≤ index → Rolls (begun sizes o c) from (F.is_known files.old) (F.bytes files.old) (F.may_hold files.old) → Clears (begun sizes o c) from (F.is_known files.new) (F.bytes files.old) (F.bytes files.new) (F.may_hold files.new)) }
-    ensures zero { OnOk result ((o c : List ℕ) (from : ℕ) → from ≤ index → Rolls (begun sizes o c) from (F.is_known files.old) (F.bytes files.old) (F.may_hold files.old) → IsZero sizes.chunk (F.bytes files.new 1) index) }
+    ensures passes { (o c : List ℕ) (from : ℕ) → from ≤ index → Rolls (begun sizes o c) from (F.is_known files.old) (F.bytes files.old) (F.may_hold files.old) → Passes (begun sizes o c) (F.moment files.old) (F.moment files.new) (F.left_since files.old) (F.left_since files.new) (F.is_known files.new) (F.bytes files.new) (F.may_hold files.new) }
+    ensures clears { OnOk result ((o c : List ℕ) (from : ℕ) → from ≤ index → Rolls (begun sizes o c) from (F.is_known files.old) (F.bytes files.old) (F.may_hold files.old) → Clears (begun sizes o c) from (F.is_known files.new) (F.bytes files.old) (F.bytes files.new) (F.may_hold files.old) (F.may_hold files.new) (F.will_last files.old) (F.will_last files.new)) }
+    ensures zero { OnOk result ((o c : List ℕ) (from : ℕ) → from ≤ index → Rolls (begun sizes o c) from (F.is_known files.old) (F.bytes files.old) (F.may_hold files.old) → IsZero sizes.chunk (F.bytes files.new 1) (F.will_last files.new) index) }
     ensures cause { HasCause ((o : List ℕ) × (c : List ℕ) × (from : ℕ) × (from ≤ index) × (index ≤ length (pairs (begun sizes o c)) / (32 * sizes.chunk)) × Rolls (begun sizes o c) from (F.is_known files.old) (F.bytes files.old) (F.may_hold files.old) × (F.lacks_memory files.new → ⊥)) (F.fault_count files.old) (F.fault_count files.new) result }
 {
     let chunk = sizes.chunk as u64;
@@ -41,10 +41,10 @@ pub fn clear_areas<F: FileSet>(
 ) -> Result<(), Stopped>
     requires zeros { zeros.now ≡ replicate (512 * sizes.chunk) 0 }
     requires low { end ≤ sizes.store }
-    ensures passes { (o c : List ℕ) → Rolls (begun sizes o c) from (F.is_known files.old) (F.bytes files.old) (F.may_hold files.old) → Passes (begun sizes o c) (F.moment files.old) (F.moment files.new) (F.left_since files.old) (F.left_since files.new) }
-    ensures clears { OnOk result ((o c : List ℕ) → Rolls (begun sizes o c) from (F.is_known files.old) (F.bytes files.old) (F.may_hold files.old) → Clears (begun sizes o c) from (F.is_known files.new) (F.bytes files.old) (F.bytes files.new) (F.may_hold files.new)) }
-    ensures zero { OnOk result ((o c : List ℕ) → Rolls (begun sizes o c) from (F.is_known files.old) (F.bytes files.old) (F.may_hold files.old) → (area : ℕ) → from ≤ area → area < end → IsZero sizes.chunk (F.bytes files.new 1) area) }
-    ensures cause { HasCause ((o : List ℕ) × (c : List ℕ) × (end ≤ length (pairs (begun sizes o c)) / (32 * sizes.chunk) + 1) × Rolls (begun sizes o c) from (F.is_known files.old) (F.bytes files.old) (F.may_hold files.old) × (F.lacks_memory files.new → ⊥)) (F.fault_count files.old) (F.fault_count files.new) result }
+    ensures passes { (o c : List ℕ) (first : ℕ) → first ≤ from → Rolls (begun sizes o c) first (F.is_known files.old) (F.bytes files.old) (F.may_hold files.old) → Passes (begun sizes o c) (F.moment files.old) (F.moment files.new) (F.left_since files.old) (F.left_since files.new) (F.is_known files.new) (F.bytes files.new) (F.may_hold files.new) }
+    ensures clears { OnOk result ((o c : List ℕ) (first : ℕ) → first ≤ from → Rolls (begun sizes o c) first (F.is_known files.old) (F.bytes files.old) (F.may_hold files.old) → Clears (begun sizes o c) first (F.is_known files.new) (F.bytes files.old) (F.bytes files.new) (F.may_hold files.old) (F.may_hold files.new) (F.will_last files.old) (F.will_last files.new)) }
+    ensures zero { OnOk result ((o c : List ℕ) (first : ℕ) → first ≤ from → Rolls (begun sizes o c) first (F.is_known files.old) (F.bytes files.old) (F.may_hold files.old) → (area : ℕ) → from ≤ area → area < end → IsZero sizes.chunk (F.bytes files.new 1) (F.will_last files.new) area) }
+    ensures cause { HasCause ((o : List ℕ) × (c : List ℕ) × (first : ℕ) × (first ≤ from) × (end ≤ length (pairs (begun sizes o c)) / (32 * sizes.chunk) + 1) × Rolls (begun sizes o c) first (F.is_known files.old) (F.bytes files.old) (F.may_hold files.old) × (F.lacks_memory files.new → ⊥)) (F.fault_count files.old) (F.fault_count files.new) result }
 {
     let mut index = end;
     while from < index {

@@ -1,10 +1,10 @@
 // A store's copies are taken back into its origin.
-ghost use Rattle.std.specs.Prelude.{◌≡◌, ◌≢◌, ◌⊎◌, ℕ, ◌+◌, ◌*◌, ◌-◌, ◌/◌, ◌<◌, ◌≤◌, List, length, replicate, IfErr, IfOk, IsErr, OnOk, Err};
+ghost use Rattle.std.specs.Prelude.{◌≡◌, ◌≢◌, ◌⊎◌, ℕ, ◌+◌, ◌*◌, ◌-◌, ◌/◌, ◌<◌, ◌≤◌, List, length, min, replicate, IfErr, IfOk, IsErr, OnOk, Err};
 ghost use Rattle.cow_image.specs.Maps.{IsMapOf};
 ghost use Rattle.file_set.specs.Stops.{AreLeft, HasCause};
 ghost use Rattle.cow_merge.specs.Begun.{begun};
-ghost use Rattle.cow_merge.specs.Holding.{Rolls, Passes, Copies, Clears, IsZero, IsSynced, Settles, Stays, Ends, Begin, pairs};
-ghost use Rattle.cow_merge.specs.Merges.{StillShows, IsMerged};
+ghost use Rattle.cow_merge.specs.Holding.{Rolls, Passes, IsGone, Settles, Stays, Ends, Begin, pairs};
+ghost use Rattle.cow_merge.specs.Merges.{IsMerging, StillShows, IsMerged};
 
 use crate::clearing::clear_areas;
 use crate::copying::{ORIGIN, STORE, copy_areas};
@@ -29,10 +29,10 @@ fn copy_batch<F: FileSet>(
     requires low { end ≤ sizes.store }
     requires order { from ≤ end }
     ensures chunk { area.new.chunk ≡ sizes.chunk }
-    ensures passes { (o c : List ℕ) → Rolls (begun sizes o c) end (F.is_known files.old) (F.bytes files.old) (F.may_hold files.old) → Passes (begun sizes o c) (F.moment files.old) (F.moment files.new) (F.left_since files.old) (F.left_since files.new) }
-    ensures rolls { OnOk result ((o c : List ℕ) → Rolls (begun sizes o c) end (F.is_known files.old) (F.bytes files.old) (F.may_hold files.old) → Rolls (begun sizes o c) from (F.is_known files.new) (F.bytes files.new) (F.may_hold files.new)) }
-    ensures store { OnOk result ((o c : List ℕ) → Rolls (begun sizes o c) end (F.is_known files.old) (F.bytes files.old) (F.may_hold files.old) → F.bytes files.new 1 ≡ F.bytes files.old 1) }
-    ensures cause { HasCause ((o : List ℕ) × (c : List ℕ) × Rolls (begun sizes o c) end (F.is_known files.old) (F.bytes files.old) (F.may_hold files.old) × (F.lacks_memory files.new → ⊥)) (F.fault_count files.old) (F.fault_count files.new) result }
+    ensures passes { (o c : List ℕ) (first : ℕ) → first ≤ end → end ≤ length (pairs (begun sizes o c)) / (32 * sizes.chunk) + 1 → Rolls (begun sizes o c) first (F.is_known files.old) (F.bytes files.old) (F.may_hold files.old) → Passes (begun sizes o c) (F.moment files.old) (F.moment files.new) (F.left_since files.old) (F.left_since files.new) (F.is_known files.new) (F.bytes files.new) (F.may_hold files.new) }
+    ensures rolls { OnOk result ((o c : List ℕ) (first : ℕ) → first ≤ end → end ≤ length (pairs (begun sizes o c)) / (32 * sizes.chunk) + 1 → Rolls (begun sizes o c) first (F.is_known files.old) (F.bytes files.old) (F.may_hold files.old) → Rolls (begun sizes o c) (min first from) (F.is_known files.new) (F.bytes files.new) (F.may_hold files.new)) }
+    ensures store { OnOk result ((o c : List ℕ) (first : ℕ) → first ≤ end → end ≤ length (pairs (begun sizes o c)) / (32 * sizes.chunk) + 1 → Rolls (begun sizes o c) first (F.is_known files.old) (F.bytes files.old) (F.may_hold files.old) → (s : ℕ) (v : List ℕ) → F.may_hold files.new 1 s v → F.may_hold files.old 1 s v) }
+    ensures cause { HasCause ((o : List ℕ) × (c : List ℕ) × (first : ℕ) × (end ≤ length (pairs (begun sizes o c)) / (32 * sizes.chunk) + 1) × Rolls (begun sizes o c) first (F.is_known files.old) (F.bytes files.old) (F.may_hold files.old) × (F.lacks_memory files.new → ⊥)) (F.fault_count files.old) (F.fault_count files.new) result }
 {
     copy_areas(files, sizes, area, room, from, end)?;
     files.sync(ORIGIN)?;
@@ -49,11 +49,11 @@ fn clear_batch<F: FileSet>(
 ) -> Result<(), Stopped>
     requires zeros { zeros.now ≡ replicate (512 * sizes.chunk) 0 }
     requires low { end ≤ sizes.store }
-    ensures passes { (o c : List ℕ) → Rolls (begun sizes o c) from (F.is_known files.old) (F.bytes files.old) (F.may_hold files.old) → Passes (begun sizes o c) (F.moment files.old) (F.moment files.new) (F.left_since files.old) (F.left_since files.new) }
-    ensures clears { OnOk result ((o c : List ℕ) → Rolls (begun sizes o c) from (F.is_known files.old) (F.bytes files.old) (F.may_hold files.old) → Clears (begun sizes o c) from (F.is_known files.new) (F.bytes files.old) (F.bytes files.new) (F.may_hold files.new)) }
-    ensures zero { OnOk result ((o c : List ℕ) → Rolls (begun sizes o c) from (F.is_known files.old) (F.bytes files.old) (F.may_hold files.old) → (area : ℕ) → from ≤ area → area < end → IsZero sizes.chunk (F.bytes files.new 1) area) }
-    ensures synced { OnOk result ((o c : List ℕ) → Rolls (begun sizes o c) from (F.is_known files.old) (F.bytes files.old) (F.may_hold files.old) → IsSynced (F.bytes files.new) (F.may_hold files.new) 1) }
-    ensures cause { HasCause ((o : List ℕ) × (c : List ℕ) × (end ≤ length (pairs (begun sizes o c)) / (32 * sizes.chunk) + 1) × Rolls (begun sizes o c) from (F.is_known files.old) (F.bytes files.old) (F.may_hold files.old) × (F.lacks_memory files.new → ⊥)) (F.fault_count files.old) (F.fault_count files.new) result }
+    ensures passes { (o c : List ℕ) (first : ℕ) → first ≤ from → Rolls (begun sizes o c) first (F.is_known files.old) (F.bytes files.old) (F.may_hold files.old) → Passes (begun sizes o c) (F.moment files.old) (F.moment files.new) (F.left_since files.old) (F.left_since files.new) (F.is_known files.new) (F.bytes files.new) (F.may_hold files.new) }
+    ensures rolls { OnOk result ((o c : List ℕ) (first : ℕ) → first ≤ from → Rolls (begun sizes o c) first (F.is_known files.old) (F.bytes files.old) (F.may_hold files.old) → Rolls (begun sizes o c) first (F.is_known files.new) (F.bytes files.new) (F.may_hold files.new)) }
+    ensures gone { OnOk result ((o c : List ℕ) (first : ℕ) → first ≤ from → end ≤ length (pairs (begun sizes o c)) / (32 * sizes.chunk) + 1 → Rolls (begun sizes o c) first (F.is_known files.old) (F.bytes files.old) (F.may_hold files.old) → (area : ℕ) → from ≤ area → area < end → IsGone sizes.chunk (F.may_hold files.new) area) }
+    ensures keeps { OnOk result ((o c : List ℕ) (first : ℕ) → first ≤ from → Rolls (begun sizes o c) first (F.is_known files.old) (F.bytes files.old) (F.may_hold files.old) → (area : ℕ) → IsGone sizes.chunk (F.may_hold files.old) area → IsGone sizes.chunk (F.may_hold files.new) area) }
+    ensures cause { HasCause ((o : List ℕ) × (c : List ℕ) × (first : ℕ) × (first ≤ from) × (end ≤ length (pairs (begun sizes o c)) / (32 * sizes.chunk) + 1) × Rolls (begun sizes o c) first (F.is_known files.old) (F.bytes files.old) (F.may_hold files.old) × (F.lacks_memory files.new → ⊥)) (F.fault_count files.old) (F.fault_count files.new) result }
 {
     clear_areas(files, sizes, zeros, from, end)?;
     files.sync(STORE)?;
@@ -75,9 +75,9 @@ fn merge_areas<F: FileSet>(
     requires zeros { zeros.now ≡ replicate (512 * sizes.chunk) 0 }
     requires low { last < sizes.store }
     requires step { 0 < step }
-    ensures passes { (o c : List ℕ) → Rolls (begun sizes o c) (last + 1) (F.is_known files.old) (F.bytes files.old) (F.may_hold files.old) → Passes (begun sizes o c) (F.moment files.old) (F.moment files.new) (F.left_since files.old) (F.left_since files.new) }
-    ensures ends { OnOk result ((o c : List ℕ) → Rolls (begun sizes o c) (last + 1) (F.is_known files.old) (F.bytes files.old) (F.may_hold files.old) → Ends (begun sizes o c) last (F.is_known files.new) (F.bytes files.new) (F.may_hold files.new)) }
-    ensures cause { HasCause ((o : List ℕ) × (c : List ℕ) × Rolls (begun sizes o c) (last + 1) (F.is_known files.old) (F.bytes files.old) (F.may_hold files.old) × (F.lacks_memory files.new → ⊥)) (F.fault_count files.old) (F.fault_count files.new) result }
+    ensures passes { (o c : List ℕ) (first : ℕ) → first ≤ last + 1 → last ≤ length (pairs (begun sizes o c)) / (32 * sizes.chunk) → Rolls (begun sizes o c) first (F.is_known files.old) (F.bytes files.old) (F.may_hold files.old) → Passes (begun sizes o c) (F.moment files.old) (F.moment files.new) (F.left_since files.old) (F.left_since files.new) (F.is_known files.new) (F.bytes files.new) (F.may_hold files.new) }
+    ensures ends { OnOk result ((o c : List ℕ) (first : ℕ) → first ≤ last + 1 → last ≤ length (pairs (begun sizes o c)) / (32 * sizes.chunk) → Rolls (begun sizes o c) first (F.is_known files.old) (F.bytes files.old) (F.may_hold files.old) → Ends (begun sizes o c) last (F.is_known files.new) (F.bytes files.new) (F.may_hold files.new)) }
+    ensures cause { HasCause ((o : List ℕ) × (c : List ℕ) × (first : ℕ) × (first ≤ last + 1) × (last ≤ length (pairs (begun sizes o c)) / (32 * sizes.chunk)) × Rolls (begun sizes o c) first (F.is_known files.old) (F.bytes files.old) (F.may_hold files.old) × (F.lacks_memory files.new → ⊥)) (F.fault_count files.old) (F.fault_count files.new) result }
 {
     let mut end = last + 1;
     while 0 < end {
@@ -134,9 +134,12 @@ pub fn merge<F: FileSet>(
     room: Room,
 ) -> Result<(), Stopped>
     requires { room.area.chunk ≡ map.now.chunk }
-    ensures stops { F.is_known files.old → length (F.bytes files.old 0) ≡ 512 * origin → IsMapOf origin (F.bytes files.old 1) map.now → (left : ℕ → List ℕ) → F.left_since files.new (F.moment files.old) left → AreLeft (F.bytes files.old) (F.may_hold files.old) left ⊎ StillShows map.now.chunk origin map.now.size (F.bytes files.old 0) (F.bytes files.old 1) left }
-    ensures done { OnOk result (F.is_known files.old → length (F.bytes files.old 0) ≡ 512 * origin → IsMapOf origin (F.bytes files.old 1) map.now → F.is_known files.new × ((left : ℕ → List ℕ) → AreLeft (F.bytes files.new) (F.may_hold files.new) left → IsMerged map.now.chunk map.now.size map.now.current (F.bytes files.old 0) (F.bytes files.old 1) left)) }
-    ensures cause { HasCause (F.is_known files.old × (length (F.bytes files.old 0) ≡ 512 * origin) × IsMapOf origin (F.bytes files.old 1) map.now × (F.lacks_memory files.new → ⊥)) (F.fault_count files.old) (F.fault_count files.new) result }
+    ensures stops { F.is_known files.old → length (F.bytes files.old 0) ≡ 512 * origin → IsMapOf origin (F.bytes files.old 1) map.now → ((f s : ℕ) → F.will_last files.old f s) → (left : ℕ → List ℕ) → F.left_since files.new (F.moment files.old) left → AreLeft (F.bytes files.old) (F.may_hold files.old) left ⊎ StillShows map.now.chunk origin map.now.size (F.bytes files.old 0) (F.bytes files.old 1) left }
+    ensures done { OnOk result (F.is_known files.old → length (F.bytes files.old 0) ≡ 512 * origin → IsMapOf origin (F.bytes files.old 1) map.now → ((f s : ℕ) → F.will_last files.old f s) → F.is_known files.new × ((left : ℕ → List ℕ) → AreLeft (F.bytes files.new) (F.may_hold files.new) left → IsMerged map.now.chunk map.now.size map.now.current (F.bytes files.old 0) (F.bytes files.old 1) left)) }
+    ensures stops_again { (o c : List ℕ) (from : ℕ) → F.is_known files.old → IsMapOf origin (F.bytes files.old 1) map.now → IsMerging map.now.chunk origin map.now.size from o c (F.bytes files.old) (F.may_hold files.old) (F.will_last files.old) → (left : ℕ → List ℕ) → F.left_since files.new (F.moment files.old) left → AreLeft (F.bytes files.old) (F.may_hold files.old) left ⊎ StillShows map.now.chunk origin map.now.size o c left }
+    ensures done_again { OnOk result ((o c : List ℕ) (from : ℕ) → F.is_known files.old → IsMapOf origin (F.bytes files.old 1) map.now → IsMerging map.now.chunk origin map.now.size from o c (F.bytes files.old) (F.may_hold files.old) (F.will_last files.old) → F.is_known files.new × ((left : ℕ → List ℕ) → AreLeft (F.bytes files.new) (F.may_hold files.new) left → IsMerged map.now.chunk map.now.size map.now.current o c left)) }
+    ensures goes_on { (o c : List ℕ) (from : ℕ) → F.is_known files.old → IsMapOf origin (F.bytes files.old 1) map.now → IsMerging map.now.chunk origin map.now.size from o c (F.bytes files.old) (F.may_hold files.old) (F.will_last files.old) → ((f s : ℕ) (v : List ℕ) → F.may_hold files.new f s v → F.may_hold files.old f s v) ⊎ ((area : ℕ) × F.is_known files.new × IsMerging map.now.chunk origin map.now.size area o c (F.bytes files.new) (F.may_hold files.new) (F.will_last files.new)) }
+    ensures cause { HasCause ((o : List ℕ) × (c : List ℕ) × (from : ℕ) × F.is_known files.old × IsMapOf origin (F.bytes files.old 1) map.now × IsMerging map.now.chunk origin map.now.size from o c (F.bytes files.old) (F.may_hold files.old) (F.will_last files.old) × (F.lacks_memory files.new → ⊥)) (F.fault_count files.old) (F.fault_count files.new) result }
 {
     let sizes = Sizes {
         chunk: map.chunk,

@@ -7,7 +7,7 @@ use crate::images::{
 use crate::torn::{Torn, TornFile, TornFiles};
 use cow_image::{CowMap, Told, export, read_store};
 use cow_merge::{Room, Stopped, merge};
-use file_set::{MemFile, MemFiles, Two};
+use file_set::{FilePair, MemFile, MemFiles};
 use image::{MemImage, MemSink};
 use std::alloc::Global;
 use std::process::Abort;
@@ -107,7 +107,16 @@ fn merge_to_the_end(
     shown: &[u8],
 ) -> Result<(), Fail> {
     let mut files = files_of(rt.alloc(), origin, store, 0, Torn::Old)?;
-    assert!(rt; merged(rt, &mut files)?.is_ok());
+    merge_again(rt, &mut files, shown)
+}
+
+// Merges files as they are, to the end.
+fn merge_again(
+    rt: &(impl Abort + AllocGlobal),
+    files: &mut TornFiles,
+    shown: &[u8],
+) -> Result<(), Fail> {
+    assert!(rt; merged(rt, files)?.is_ok());
     assert!(rt; files.origin.synced.as_slice() == shown);
     let map = map_of(rt, files.store.synced.as_slice(), shown.len())?;
     assert_eq!(rt; map.pairs.len(), 0);
@@ -134,6 +143,39 @@ fn stop_at(
     let again = shown_by(rt, origin.as_slice(), store.as_slice())?;
     assert!(rt; again.as_slice() == shown, "stop {left} {torn:?}");
     merge_to_the_end(rt, origin, store, shown)?;
+    Ok(true)
+}
+
+// A merge of which an operation fails, and then one over the same files, of which another fails or none: whether there
+// were such operations. What is read between is what was written, also where a sync failed and lost it.
+fn fail_at(
+    rt: &(impl Abort + AllocGlobal),
+    case: &Case,
+    first: u64,
+    second: u64,
+) -> Result<bool, Fail> {
+    let alloc = rt.alloc();
+    let origin = case.origin.to_vec(alloc)?;
+    let store = case.store.to_vec(alloc)?;
+    let shown = case.shown.as_slice();
+    let mut files = files_of(alloc, origin, store, first, Torn::Old)?;
+    if merged(rt, &mut files)?.is_ok() {
+        return Ok(false);
+    }
+    files.left = second;
+    if second == 0 {
+        merge_again(rt, &mut files, shown)?;
+        return Ok(true);
+    }
+    if merged(rt, &mut files)?.is_ok() {
+        return Ok(false);
+    }
+    let (origin, store) = files.stopped(alloc)?;
+    let again = shown_by(rt, origin.as_slice(), store.as_slice())?;
+    assert!(rt;
+        again.as_slice() == shown,
+        "failed at {first} and at {second}"
+    );
     Ok(true)
 }
 
@@ -172,7 +214,7 @@ fn files_in_memory_are_merged(rt: HostRuntime) -> Result<(), Fail> {
     let sectors = origin.len() as u64 / 512;
     let first = MemFile::new(rt.alloc(), origin)?;
     let second = MemFile::new(rt.alloc(), store)?;
-    let mut files = MemFiles::new(rt.alloc(), Two { first, second });
+    let mut files = MemFiles::new(rt.alloc(), FilePair { first, second });
     assert!(rt; merge(&mut files, &map, sectors, room).is_ok());
     assert!(rt; files.files.first.synced.as_slice() == shown.as_slice());
     let map = map_of(&rt, files.files.second.synced.as_slice(), shown.len())?;
@@ -207,5 +249,20 @@ fn two_areas_are_stopped_anywhere(rt: HostRuntime) -> Result<(), Fail> {
         }
     }
     assert_eq!(rt; stops, 352);
+    Ok(())
+}
+
+#[test]
+fn a_merge_goes_on_where_an_operation_failed(rt: HostRuntime) -> Result<(), Fail> {
+    let case = kernel(rt.alloc())?;
+    let mut fails: u64 = 0;
+    for first in 1..17 {
+        for second in 0..17 {
+            if fail_at(&rt, &case, first, second)? {
+                fails = fails.saturating_add(1);
+            }
+        }
+    }
+    assert_eq!(rt; fails, 262);
     Ok(())
 }

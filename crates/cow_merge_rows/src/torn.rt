@@ -19,25 +19,28 @@ pub enum Torn {
     Last,
 }
 
-/// A file: as reads give it, and as it was when it was synced last.
+/// A file: as reads give it, as it is on the disk, and which sectors a sync will write there. Where a sync fails, none of them
+/// are written any more, until they are written anew.
 #[derive(Drop)]
 pub struct TornFile {
     pub now: Vec<u8>,
     pub synced: Vec<u8>,
+    dirty: Vec<bool>,
 }
 
 impl TornFile {
     /// A file of these bytes, all of them synced.
     pub fn of(alloc: Global, now: Vec<u8>) -> Result<TornFile, AllocError> {
         let synced = now.to_vec(alloc)?;
-        Ok(TornFile { now, synced })
+        let dirty = vec![in alloc; false; now.len().div_ceil(512)]?;
+        Ok(TornFile { now, synced, dirty })
     }
 
     // What is left of it where it is stopped now.
     fn left(&self, alloc: Global, torn: Torn) -> Result<Vec<u8>, AllocError> {
         let mut left = Vec::new(alloc);
-        let old = self.synced.chunks(512);
-        for (number, (old, new)) in old.zip(self.now.chunks(512)).enumerate() {
+        let sectors = self.synced.chunks(512).zip(self.now.chunks(512));
+        for (number, ((old, new), dirty)) in sectors.zip(self.dirty.iter()).enumerate() {
             let odd = number % 2 == 1;
             let is_new = match torn {
                 Torn::Old => false,
@@ -45,7 +48,7 @@ impl TornFile {
                 Torn::First => !odd,
                 Torn::Last => odd,
             };
-            left.extend_from_slice(if is_new { new } else { old })?;
+            left.extend_from_slice(if *dirty && is_new { new } else { old })?;
         }
         Ok(left)
     }
@@ -57,7 +60,24 @@ impl TornFile {
             return false;
         }
         self.now[at..at + part.len()].copy_from_slice(part);
+        let end = (at + part.len()).div_ceil(512);
+        for (number, dirty) in self.dirty.iter_mut().enumerate() {
+            if at / 512 <= number && number < end {
+                *dirty = true;
+            }
+        }
         true
+    }
+
+    // Syncs it, or loses what was written.
+    fn sync(&mut self, lost: bool) {
+        let sectors = self.synced.chunks_mut(512).zip(self.now.chunks(512));
+        for ((old, new), dirty) in sectors.zip(self.dirty.iter_mut()) {
+            if *dirty && !lost && old.len() == new.len() {
+                old.copy_from_slice(new);
+            }
+            *dirty = false;
+        }
     }
 }
 
@@ -119,6 +139,8 @@ impl FileSet for TornFiles {
 
     ghost left_since = { λ _ _ left. AreLeft (λ _. []) (λ _ _ _. Unit {0}) left };
 
+    ghost will_last = { λ _ _ _. Unit {0} };
+
     ghost fault_count = { λ _. 0 };
 
     ghost lacks_memory = { λ _. ⊥ };
@@ -169,13 +191,8 @@ impl FileSet for TornFiles {
 
     fn sync(&mut self, file: usize) -> io::Result<()> {
         let fails = self.fails();
-        let old = fails && self.torn == Torn::Old;
-        let file = self.file(file);
-        if !old && file.synced.len() == file.now.len() {
-            file.synced
-                .as_mut_slice()
-                .copy_from_slice(file.now.as_slice());
-        }
+        let lost = fails && self.torn == Torn::Old;
+        self.file(file).sync(lost);
         if fails {
             return Err(io::ErrorKind::Other.into());
         }

@@ -90,6 +90,8 @@ impl FileSet for DiskFiles {
 
     ghost left_since = { λ _ _ left. AreLeft (λ _. []) (λ _ _ _. Unit {0}) left };
 
+    ghost will_last = { λ _ _ _. Unit {0} };
+
     ghost fault_count = { λ _. 0 };
 
     ghost lacks_memory = { λ _. ⊥ };

@@ -22,6 +22,11 @@ pub trait FileSet {
     /// What a stop at that moment or since might have left of all files.
     ghost left_since: { Self → ℕ → (ℕ → List ℕ) → Type 0 };
 
+    /// Whether a sync that succeeds makes last what reads give of a sector of a file. So it does once the sector is written,
+    /// until a sync of the file fails: then what was written may be lost, and count as synced (fsync(2) tells an error
+    /// once), until the sector is written again.
+    ghost will_last: { Self → ℕ → ℕ → Type 0 };
+
     /// How often a read, a write or a sync has failed.
     ghost fault_count: { Self → ℕ };
 
@@ -34,6 +39,7 @@ pub trait FileSet {
         ensures known { is_known self.old → is_known self.new }
         ensures bytes { (f : ℕ) → bytes self.new f ≡ bytes self.old f }
         ensures stop { (f s : ℕ) (v : List ℕ) → may_hold self.new f s v → may_hold self.old f s v }
+        ensures lasts { (f s : ℕ) → will_last self.old f s → will_last self.new f s }
         ensures time { Elapses (moment self.old) (moment self.new) (left_since self.old) (left_since self.new) (bytes self.new) (may_hold self.new) }
         ensures cause { HasCause (is_known self.old × (lacks_memory self.new → ⊥)) (fault_count self.old) (fault_count self.new) result };
 
@@ -43,6 +49,7 @@ pub trait FileSet {
         ensures known { is_known self.old → is_known self.new }
         ensures bytes { (f : ℕ) → bytes self.new f ≡ bytes self.old f }
         ensures stop { (f s : ℕ) (v : List ℕ) → may_hold self.new f s v → may_hold self.old f s v }
+        ensures lasts { (f s : ℕ) → will_last self.old f s → will_last self.new f s }
         ensures time { Elapses (moment self.old) (moment self.new) (left_since self.old) (left_since self.new) (bytes self.new) (may_hold self.new) }
         ensures cause { HasCause (is_known self.old × (at + length out.old ≤ length (bytes self.old file)) × (lacks_memory self.new → ⊥)) (fault_count self.old) (fault_count self.new) result };
 
@@ -55,17 +62,21 @@ pub trait FileSet {
         ensures len { (f : ℕ) → length (bytes self.new f) ≡ length (bytes self.old f) }
         ensures known { is_known self.old → is_known self.new }
         ensures stop { (f s : ℕ) (v : List ℕ) → may_hold self.new f s v → may_hold self.old f s v ⊎ ((f ≡ file) × (sector ≤ s) × (512 * (s - sector) < length part.now) × (v ≡ sector_at part.now (s - sector))) }
+        ensures lasts { (f s : ℕ) → will_last self.old f s → will_last self.new f s }
+        ensures fresh { OnOk result ((s : ℕ) → sector ≤ s → 512 * (s - sector) < length part.now → will_last self.new file s) }
         ensures time { Elapses (moment self.old) (moment self.new) (left_since self.old) (left_since self.new) (bytes self.new) (may_hold self.new) }
         ensures cause { HasCause (is_known self.old × (512 * sector + length part.now ≤ length (bytes self.old file)) × (lacks_memory self.new → ⊥)) (fault_count self.old) (fault_count self.new) result };
 
-    /// Makes all that was written to a file last through a stop. Where it fails it may be lost as before, and what reads
-    /// give is not known.
+    /// Makes all that was written to a file last through a stop, but for what was lost where an earlier sync failed. Where
+    /// this one fails, what was written may be lost for good, and what reads give is not known.
     fn sync(&mut self, file: usize) -> io::Result<()>
-        ensures synced { OnOk result (is_known self.old → (s : ℕ) (v : List ℕ) → 512 * s < length (bytes self.old file) → may_hold self.new file s v → v ≡ sector_at (bytes self.old file) s) }
+        ensures synced { OnOk result (is_known self.old → (s : ℕ) (v : List ℕ) → 512 * s < length (bytes self.old file) → will_last self.old file s → may_hold self.new file s v → v ≡ sector_at (bytes self.old file) s) }
         ensures bytes { OnOk result ((f : ℕ) → bytes self.new f ≡ bytes self.old f) }
         ensures len { (f : ℕ) → length (bytes self.new f) ≡ length (bytes self.old f) }
         ensures known { is_known self.old → is_known self.new }
         ensures stop { (f s : ℕ) (v : List ℕ) → may_hold self.new f s v → may_hold self.old f s v }
+        ensures lasts { OnOk result ((f s : ℕ) → will_last self.old f s → will_last self.new f s) }
+        ensures others { (f s : ℕ) → f ≢ file → will_last self.old f s → will_last self.new f s }
         ensures time { Elapses (moment self.old) (moment self.new) (left_since self.old) (left_since self.new) (bytes self.new) (may_hold self.new) }
         ensures cause { HasCause (is_known self.old × (lacks_memory self.new → ⊥)) (fault_count self.old) (fault_count self.new) result };
 

@@ -11,4 +11,4 @@ mod mem_files;
 pub use disk_files::{Asked, DiskFiles, Failed};
 pub use file_set::FileSet;
 pub use mem_file::MemFile;
-pub use mem_files::{MemFiles, Two};
+pub use mem_files::{FilePair, MemFiles};

@@ -12,12 +12,12 @@ use std::io;
 
 /// Two files, under the numbers 0 and 1.
 #[derive(Drop)]
-pub struct Two {
+pub struct FilePair {
     pub first: MemFile,
     pub second: MemFile,
 }
 
-impl Two {
+impl FilePair {
     // The bytes of a file; none where no file has its number.
     fn bytes(&self, file: usize) -> &[u8]
         ensures { result.now ≡ bytes_in self.now file }
@@ -30,12 +30,12 @@ impl Two {
     }
 
     // Both once more.
-    fn copied(&self, alloc: Global) -> Result<Two, AllocError>
+    fn copied(&self, alloc: Global) -> Result<FilePair, AllocError>
         ensures { IfOk result (λ two. AreAlike two self.now) }
     {
         let first = self.first.copied(alloc)?;
         let second = self.second.copied(alloc)?;
-        Ok(Two { first, second })
+        Ok(FilePair { first, second })
     }
 
     // Writes whole sectors of a file.
@@ -71,15 +71,15 @@ impl Two {
 #[derive(Drop)]
 pub struct MemFiles {
     alloc: Global,
-    pub files: Two,
-    past: Vec<Two>,
+    pub files: FilePair,
+    past: Vec<FilePair>,
     /// Whether memory was refused.
     lacks: bool,
 }
 
 impl MemFiles {
     /// These files.
-    pub fn new(alloc: Global, files: Two) -> MemFiles
+    pub fn new(alloc: Global, files: FilePair) -> MemFiles
         ensures { result.files ≡ files }
     {
         MemFiles {
@@ -92,7 +92,7 @@ impl MemFiles {
 }
 
 // Adds what there is to what was.
-fn keep(alloc: Global, files: &Two, past: &mut Vec<Two>) -> Result<(), AllocError>
+fn keep(alloc: Global, files: &FilePair, past: &mut Vec<FilePair>) -> Result<(), AllocError>
     ensures kept { OnOk result ((two : _) × AreAlike two files.now × (past.new.items ≡ past.old.items ++ two ∷ [])) }
     ensures err { OnErr result (past.new.items ≡ past.old.items) }
 {
@@ -120,6 +120,8 @@ impl FileSet for MemFiles {
     ghost moment = { λ m. length m.past.items };
 
     ghost left_since = { λ m t left. AreLeftIn m.files left ⊎ HadLeft (drop t m.past.items) left };
+
+    ghost will_last = { λ _ _ _. ⊤ };
 
     ghost fault_count = { λ _. 0 };
 

@@ -1,6 +1,6 @@
-use Rattle.std.proofs.Common.{◌≡◌, List, ℕ, ◌*◌, ◌≤◌, length}
+use Rattle.std.proofs.Common.{◌≡◌, List, ℕ, ◌+◌, ◌*◌, ◌/◌, ◌≤◌, length}
 use Rattle.cow_merge.specs.Begun.{begun}
-use Rattle.cow_merge.specs.Holding.{Rolls, Passes, Copies, AreBack}
+use Rattle.cow_merge.specs.Holding.{Rolls, Passes, Copies, AreBack, pairs}
 use Rattle.cow_merge.proofs.copying.copy_areas.Given as goal
 
 abbrev pub invariant-loop-index : goal.invariant-loop-index
@@ -8,11 +8,12 @@ invariant-loop-index g l =
     let known = g.F.FileSet.is_known in
     let bytes = g.F.FileSet.bytes in
     let may = g.F.FileSet.may_hold in
+    let lasts = g.F.FileSet.will_last in
     record {
       chunk : l.area.chunk ≡ l.sizes.chunk;
       room : length l.room ≡ 512 * l.sizes.chunk;
       faults : g.F.FileSet.fault_count l.fn.files ≤ g.F.FileSet.fault_count l.files;
-      passes : (o c : List ℕ) → Rolls (begun l.sizes o c) l.end (known l.fn.files) (bytes l.fn.files) (may l.fn.files) → Passes (begun l.sizes o c) (g.F.FileSet.moment l.fn.files) (g.F.FileSet.moment l.files) (g.F.FileSet.left_since l.fn.files) (g.F.FileSet.left_since l.files);
-      copies : (o c : List ℕ) → Rolls (begun l.sizes o c) l.end (known l.fn.files) (bytes l.fn.files) (may l.fn.files) → Copies (begun l.sizes o c) l.end (known l.files) (bytes l.fn.files) (bytes l.files) (may l.files);
-      back : (o c : List ℕ) → Rolls (begun l.sizes o c) l.end (known l.fn.files) (bytes l.fn.files) (may l.fn.files) → AreBack (begun l.sizes o c) (bytes l.files 0) (l.from * (32 * l.sizes.chunk)) (l.index * (32 * l.sizes.chunk));
+      passes : (o c : List ℕ) (first : ℕ) → l.end ≤ length (pairs (begun l.sizes o c)) / (32 * l.sizes.chunk) + 1 → Rolls (begun l.sizes o c) first (known l.fn.files) (bytes l.fn.files) (may l.fn.files) → Passes (begun l.sizes o c) (g.F.FileSet.moment l.fn.files) (g.F.FileSet.moment l.files) (g.F.FileSet.left_since l.fn.files) (g.F.FileSet.left_since l.files) (known l.files) (bytes l.files) (may l.files);
+      copies : (o c : List ℕ) (first : ℕ) → l.end ≤ length (pairs (begun l.sizes o c)) / (32 * l.sizes.chunk) + 1 → Rolls (begun l.sizes o c) first (known l.fn.files) (bytes l.fn.files) (may l.fn.files) → Copies (begun l.sizes o c) first (known l.files) (bytes l.fn.files) (bytes l.files) (may l.fn.files) (may l.files) (lasts l.fn.files) (lasts l.files);
+      back : (o c : List ℕ) (first : ℕ) → l.end ≤ length (pairs (begun l.sizes o c)) / (32 * l.sizes.chunk) + 1 → Rolls (begun l.sizes o c) first (known l.fn.files) (bytes l.fn.files) (may l.fn.files) → AreBack (begun l.sizes o c) first (bytes l.files 0) (lasts l.files) (l.from * (32 * l.sizes.chunk)) (l.index * (32 * l.sizes.chunk));
     }

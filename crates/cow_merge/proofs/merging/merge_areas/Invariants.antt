@@ -1,6 +1,6 @@
-use Rattle.std.proofs.Common.{◌≡◌, List, ℕ, ◌+◌, ◌*◌, ◌≤◌, length}
+use Rattle.std.proofs.Common.{◌≡◌, List, ℕ, ◌+◌, ◌*◌, ◌/◌, ◌≤◌, length, min}
 use Rattle.cow_merge.specs.Begun.{begun}
-use Rattle.cow_merge.specs.Holding.{Rolls, Passes, IsZero, IsSynced}
+use Rattle.cow_merge.specs.Holding.{Rolls, Passes, IsGone, pairs}
 use Rattle.cow_merge.proofs.merging.merge_areas.Given as goal
 
 abbrev pub invariant-loop-end : goal.invariant-loop-end
@@ -13,10 +13,9 @@ invariant-loop-end g l =
       room : length l.room ≡ 512 * l.sizes.chunk;
       high : l.end ≤ l.last + 1;
       faults : g.F.FileSet.fault_count l.fn.files ≤ g.F.FileSet.fault_count l.files;
-      passes : (o c : List ℕ) → Rolls (begun l.sizes o c) (l.last + 1) (known l.fn.files) (bytes l.fn.files) (may l.fn.files) → Passes (begun l.sizes o c) (g.F.FileSet.moment l.fn.files) (g.F.FileSet.moment l.files) (g.F.FileSet.left_since l.fn.files) (g.F.FileSet.left_since l.files);
-      rolls : (o c : List ℕ) → Rolls (begun l.sizes o c) (l.last + 1) (known l.fn.files) (bytes l.fn.files) (may l.fn.files) → Rolls (begun l.sizes o c) l.end (known l.files) (bytes l.files) (may l.files);
-      zero : (o c : List ℕ) → Rolls (begun l.sizes o c) (l.last + 1) (known l.fn.files) (bytes l.fn.files) (may l.fn.files) → (area : ℕ) → l.end ≤ area → area ≤ l.last → IsZero l.sizes.chunk (bytes l.files 1) area;
-      synced : (o c : List ℕ) → Rolls (begun l.sizes o c) (l.last + 1) (known l.fn.files) (bytes l.fn.files) (may l.fn.files) → l.end ≤ l.last → IsSynced (bytes l.files) (may l.files) 1;
+      passes : (o c : List ℕ) (first : ℕ) → first ≤ l.last + 1 → l.last ≤ length (pairs (begun l.sizes o c)) / (32 * l.sizes.chunk) → Rolls (begun l.sizes o c) first (known l.fn.files) (bytes l.fn.files) (may l.fn.files) → Passes (begun l.sizes o c) (g.F.FileSet.moment l.fn.files) (g.F.FileSet.moment l.files) (g.F.FileSet.left_since l.fn.files) (g.F.FileSet.left_since l.files) (known l.files) (bytes l.files) (may l.files);
+      rolls : (o c : List ℕ) (first : ℕ) → first ≤ l.last + 1 → l.last ≤ length (pairs (begun l.sizes o c)) / (32 * l.sizes.chunk) → Rolls (begun l.sizes o c) first (known l.fn.files) (bytes l.fn.files) (may l.fn.files) → Rolls (begun l.sizes o c) (min first l.end) (known l.files) (bytes l.files) (may l.files);
+      gone : (o c : List ℕ) (first : ℕ) → first ≤ l.last + 1 → l.last ≤ length (pairs (begun l.sizes o c)) / (32 * l.sizes.chunk) → Rolls (begun l.sizes o c) first (known l.fn.files) (bytes l.fn.files) (may l.fn.files) → (area : ℕ) → l.end ≤ area → area ≤ l.last → IsGone l.sizes.chunk (may l.files) area;
     }
 
 abbrev pub decreases-loop-end : goal.decreases-loop-end
