@@ -10,7 +10,7 @@ use Rattle.store_bytes.specs.Slots.{pair_in}
 use Rattle.store_bytes.specs.Places.{area_place, chunk_at, slot}
 use Rattle.store_bytes.proofs.Slots.{slot-at, IsListed-of}
 use Rattle.cow_merge.specs.Merges.{IsInArea}
-use Rattle.cow_merge.specs.Holding.{Begin, pairs, array, IsBegin, OriginMay, StoreMay, Leaves, Rolls, IsSafe, IsBack, AreBack, Copies, IsZero, IsGone, Clears}
+use Rattle.cow_merge.specs.Holding.{Begin, pairs, IsBegin, OriginMay, StoreMay, Leaves, Rolls, IsSafe, IsBack, AreBack, Copies, IsZero, IsGone, Clears}
 use Rattle.cow_merge.proofs.Sectors.{by_sectors, zero_byte, area_from}
 use Rattle.cow_merge.proofs.Copies.{sector_of_part}
 use Rattle.cow_merge.proofs.Shows.{slot_cases}

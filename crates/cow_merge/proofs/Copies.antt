@@ -9,7 +9,7 @@ use Rattle.store_bytes.specs.Picture.{place_of}
 use Rattle.store_bytes.specs.Places.{is_area_place}
 use Rattle.cow_image.proofs.Places.{place_first}
 use Rattle.stop_laws.proofs.Open.{sector_copied}
-use Rattle.cow_merge.specs.Holding.{Begin, pairs, array, IsBegin, OriginMay, StoreMay, Leaves, Rolls, IsPairOf, IsSafe, IsBack, Copies}
+use Rattle.cow_merge.specs.Holding.{Begin, pairs, array, IsBegin, OriginMay, StoreMay, Leaves, Rolls, IsPairOf, IsBack, Copies}
 use Rattle.cow_merge.proofs.Sectors.{not_in_area}
 
 -- a sector of a run of sectors

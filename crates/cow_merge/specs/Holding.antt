@@ -1,10 +1,10 @@
 -- What holds of an origin and its store at each moment of a merge.
-use Rattle.std.specs.Prelude.{◌≡◌, ◌≢◌, ◌⊎◌, ℕ, ◌+◌, ◌*◌, ◌/◌, ◌<◌, ◌≤◌, List, length, replicate, take, slice_index_or, Ok, None}
+use Rattle.std.specs.Prelude.{◌≡◌, ◌⊎◌, ℕ, ◌+◌, ◌*◌, ◌/◌, ◌<◌, ◌≤◌, List, length, replicate, slice_index_or, Ok}
 use Rattle.sector.specs.Bytes.{sector_at}
 use Rattle.sector.specs.declared.pair.Pair.{Pair}
 use Rattle.store_bytes.specs.Places.{area_place}
 use Rattle.store_bytes.specs.Pairs.{pairs_of, AreWellFormed}
-use Rattle.store_bytes.specs.Picture.{place_of, picture}
+use Rattle.store_bytes.specs.Picture.{picture}
 use Rattle.cow_header.specs.HeaderText.{found_in}
 use Rattle.cow_header.specs.declared.found.Found.TheVariants.{Header}
 use Rattle.file_set.specs.Stops.{AreLeft}
