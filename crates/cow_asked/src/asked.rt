@@ -3,6 +3,7 @@
 use crate::Wrong;
 use crate::splitting::{Words, split};
 use std::alloc::Global;
+use words::is_a_name;
 
 /// How an answer is written.
 #[derive(Clone, Copy, PartialEq, Eq)]
@@ -76,6 +77,15 @@ pub enum Asked<'a> {
         origin: &'a str,
         cow: &'a str,
     },
+    /// The lines of commands that give a disk of `dmrig` an image's bytes.
+    Words {
+        disk: &'a str,
+        image: &'a str,
+    },
+    /// The bytes that the answers on standard input tell, as a file.
+    Image {
+        out: &'a str,
+    },
 }
 
 /// What the words of a command line say, the first of which is the program's own name.
@@ -103,6 +113,8 @@ pub fn words_ask<'a>(alloc: Global, words: &'a [String]) -> Result<Asked<'a>, Wr
         "rollback" => export(&words),
         "merge" => merge(&words),
         "nbd" => serve(&words),
+        "words" => spell(&words),
+        "image" => hear(&words),
         _ => Err(Wrong::Command(command)),
     }
 }
@@ -210,4 +222,20 @@ fn serve<'a>(words: &Words<'a>) -> Result<Asked<'a>, Wrong<'a>> {
     let cow = words.name(2, "COW")?;
     words.are_so_many(3)?;
     Ok(Asked::Serve { origin, cow })
+}
+
+fn spell<'a>(words: &Words<'a>) -> Result<Asked<'a>, Wrong<'a>> {
+    let disk = words.name(1, "NAME")?;
+    let image = words.name(2, "IMAGE")?;
+    words.are_so_many(3)?;
+    if !is_a_name(disk.as_bytes()) {
+        return Err(Wrong::Disk(disk));
+    }
+    Ok(Asked::Words { disk, image })
+}
+
+fn hear<'a>(words: &Words<'a>) -> Result<Asked<'a>, Wrong<'a>> {
+    let out = words.name(1, "OUT")?;
+    words.are_so_many(2)?;
+    Ok(Asked::Image { out })
 }

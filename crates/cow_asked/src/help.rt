@@ -15,6 +15,8 @@ usage: lochknife show COW [--json]
        lochknife rollback ORIGIN COW OUT [--json]
        lochknife merge ORIGIN COW [--dry-run] [--json]
        lochknife nbd ORIGIN COW
+       lochknife words NAME IMAGE
+       lochknife image OUT
        lochknife --help | --version
 
   show      the header's numbers, how many pairs, where they end, the numbers of the status line
@@ -25,6 +27,8 @@ usage: lochknife show COW [--json]
   rollback  the same file: what the origin holds after the whole merge
   merge     takes the copies back into ORIGIN itself, and its pairs away from COW; stopped at any moment, run it again
   nbd       serves the snapshot, for reading, to a client on standard input and output
+  words     the lines of commands that make a disk NAME of dmrig with the bytes of any image
+  image     the bytes that dmrig's answers to save tell, from standard input, into a new file OUT
 
 COW is an image of a snapshot's store, ORIGIN one of its origin: files or block devices. OUT must not be there; as - it
 is standard output. Options stand anywhere; after -- there are names only.

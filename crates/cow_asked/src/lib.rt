@@ -1,4 +1,4 @@
-//! What the words of `lochknife`'s command line ask for. It stands on `chunk`, for the sizes that a chunk may have. Options are
+//! What the words of `lochknife`'s command line ask for. It stands on `words`, for the names that a disk may have. Options are
 //! taken in any place, a word `--` says that only names follow, and what is wrong is named.
 #![tactic(auto)]
 

@@ -15,6 +15,8 @@ pub enum Wrong<'a> {
     Alone(&'static str),
     /// This is no chunk size.
     Chunk(&'a str),
+    /// No disk of `dmrig` has this name.
+    Disk(&'a str),
     /// This name is one too many.
     Name(&'a str),
     /// Memory is refused.
@@ -31,6 +33,10 @@ impl fmt::Display for Wrong<'_> {
             Wrong::Chunk(word) => write!(
                 f,
                 "{word} is no chunk size: a power of two from 1 to 1024 sectors"
+            ),
+            Wrong::Disk(word) => write!(
+                f,
+                "{word} is no name of a disk: 1 to 16 of a to z, 0 to 9 and _, a letter first"
             ),
             Wrong::Name(word) => write!(f, "{word} is one name too many"),
             Wrong::NoMemory => write!(f, "no memory"),

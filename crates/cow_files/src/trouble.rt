@@ -46,6 +46,12 @@ pub enum Why {
     NoFile,
     /// It was opened in the place of a standard stream.
     NoStream,
+    /// It has so many sectors, and no disk of `dmrig` has.
+    NoDisk(u64),
+    /// This line of it, counted from 1, is no answer of `dmrig` to `save`, `load` or `disk`, or has no end.
+    NoAnswer(u64),
+    /// No line of it tells a byte.
+    NoData,
 }
 
 /// Says with which file something went wrong.
@@ -133,6 +139,14 @@ impl fmt::Display for Why {
             Why::Unmerged(Asked::Sync, error) => write!(f, "cannot sync: {error}: {AGAIN}"),
             Why::NoFile => write!(f, "no file: only files are merged"),
             Why::NoStream => write!(f, "standard input, output or error is closed"),
+            Why::NoDisk(sectors) => {
+                write!(f, "{sectors} sectors: a disk of dmrig has 1 to 16777216")
+            }
+            Why::NoAnswer(number) => write!(
+                f,
+                "line {number} is no `ok` with data or alone, or has no end: nothing is written"
+            ),
+            Why::NoData => write!(f, "no line has data: nothing is written"),
             Why::PartialExists => write!(
                 f,
                 "the file of this name and .partial is there already: remove it if no export runs"

@@ -61,6 +61,11 @@ fn words_are_asked_in_any_place(rt: HostRuntime) -> Result<(), Fail> {
         dry: true,
         form,
     };
+    let spelled = Asked::Words {
+        disk: "disk",
+        image: "-",
+    };
+    let heard = Asked::Image { out: "--json" };
     for (line, wanted) in [
         ("--help", Ok(Asked::Help)),
         ("show -h", Ok(Asked::Help)),
@@ -80,6 +85,13 @@ fn words_are_asked_in_any_place(rt: HostRuntime) -> Result<(), Fail> {
             Ok(salvage),
         ),
         ("--chunk=8 --salvage export o c - --behind", Ok(spoken)),
+        ("words disk -", Ok(spelled)),
+        ("image -- --json", Ok(heard)),
+        ("words 9 c", Err(Wrong::Disk("9"))),
+        ("words disk", Err(Wrong::Missing("IMAGE"))),
+        ("words disk c d", Err(Wrong::Name("d"))),
+        ("image", Err(Wrong::Missing("OUT"))),
+        ("image - --json", Err(Wrong::Option("--json"))),
         ("nbd o c --json", Err(Wrong::Option("--json"))),
         ("shew c", Err(Wrong::Command("shew"))),
         ("show", Err(Wrong::Missing("COW"))),

@@ -1,7 +1,7 @@
 //! The program `lochknife`: what the image of a snapshot's store holds, and the array that it shows with the image of its
 //! origin.
 //!
-//! It stands on `cow_asked`, `cow_answers`, `cow_image`, `cow_kept`, `cow_merge` and `cow_nbd`, which say what is asked for, read, written
+//! It stands on `cow_asked`, `cow_answers`, `cow_image`, `cow_kept`, `cow_merge`, `cow_nbd` and `seam`, which say what is asked for, read, written
 //! and printed, and on `cow_files`, and has only the commands' order and the exit status (0 for a store that is good, 1 for one
 //! that is refused, 2 where something could not be read or written).
 #![tactic(auto)]
@@ -14,6 +14,7 @@ mod differing;
 mod merging;
 mod rolling;
 mod salvaging;
+mod seaming;
 mod serving;
 
 use crate::commands::{check, map, raw_map, show};
@@ -21,6 +22,7 @@ use crate::differing::diff;
 use crate::merging::{Words, merge};
 use crate::rolling::export;
 use crate::salvaging::{Salvage, salvage_array};
+use crate::seaming::{hear, spell};
 use crate::serving::serve;
 use cow_asked::{Asked, HELP, VERSION, words_ask};
 use cow_files::{Trouble, printed};
@@ -74,6 +76,8 @@ fn done<'a>(rt: &'a HostRuntime, asked: Asked<'a>) -> Result<bool, Trouble<'a>> 
             },
         ),
         Asked::Serve { origin, cow } => serve(rt, origin, cow),
+        Asked::Words { disk, image } => spell(rt, disk, image),
+        Asked::Image { out } => hear(rt, out),
     }
 }
 
@@ -95,7 +99,7 @@ fn status_of(done: &Result<bool, Trouble<'_>>) -> u8
 }
 
 /// The words of the command line. `None`, once that is told, where they could not be had.
-fn words(rt: &HostRuntime) -> Option<Vec<String>> {
+fn line(rt: &HostRuntime) -> Option<Vec<String>> {
     match std::env::args(rt) {
         Ok(args) => match args.collect(rt.alloc()) {
             Ok(words) => Some(words),
@@ -118,7 +122,7 @@ fn words(rt: &HostRuntime) -> Option<Vec<String>> {
 }
 
 fn main(rt: HostRuntime) -> ExitCode {
-    let Some(words) = words(&rt) else {
+    let Some(words) = line(&rt) else {
         return ExitCode::from(2);
     };
     let asked = match words_ask(rt.alloc(), &words) {

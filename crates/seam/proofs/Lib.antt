@@ -1,0 +1,3 @@
+pub mod DataRuns
+pub mod Ends
+pub mod Fronts
