@@ -20,6 +20,19 @@ const NOTES: &str = "\
     Each answer is written out before more input is waited for, so that a program, or a person, can talk with dmrig line by line.\n\
     Exit status: 0; 1 where an answer began with err; 2 where words, file or output were wrong.";
 
+/// The number of workers that a word says; 1 where there is none.
+fn workers_of(word: Option<&str>) -> u32
+    ensures some { 1 ≤ result }
+    ensures few { result ≤ 4 }
+{
+    match word {
+        Some("2") => 2,
+        Some("3") => 3,
+        Some("4") => 4,
+        _ => 1,
+    }
+}
+
 /// What the words ask for, the first of which is the program's own name. An error says what is wrong with them and with which,
 /// or is the help or the version.
 pub fn words_ask<'a>(alloc: Global, words: &'a [String]) -> Result<Asked<'a>, Error>
@@ -45,15 +58,9 @@ pub fn words_ask<'a>(alloc: Global, words: &'a [String]) -> Result<Asked<'a>, Er
         .arg(workers)?
         .arg(numbers)?;
     let matches = command.try_get_matches_from(words)?;
-    let workers = match matches.get_str("WORKERS") {
-        Some("2") => 2,
-        Some("3") => 3,
-        Some("4") => 4,
-        _ => 1,
-    };
     Ok(Asked {
         file: matches.get_str("FILE"),
-        workers,
+        workers: workers_of(matches.get_str("WORKERS")),
         numbers: matches.get_flag("numbers"),
     })
 }
