@@ -5,7 +5,7 @@ use Rattle.std.specs.Prelude.{◌==◌}
 use Rattle.std.specs.List.{AllZip}
 use Rattle.std.proofs.lemmas.Bool.{eqb-true}
 use Rattle.std.proofs.lemmas.List.{append-nil, append_assoc}
-use Rattle.block_lines.specs.declared.seat_line.SeatLine.{SeatLine}
+use Rattle.command.specs.declared.seat_line.SeatLine.{SeatLine}
 use Rattle.block_threads.specs.declared.task.Task.{Task}
 use Rattle.block_threads.specs.Tasks.{tasks_at}
 use Rattle.block_run.specs.Answering.{lines_by}

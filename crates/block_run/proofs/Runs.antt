@@ -10,7 +10,7 @@ use Rattle.command_rules.specs.State.{Stacked, Table, Volume, names_in}
 use Rattle.command_rules.proofs.Keeping.{names_there}
 use Rattle.command_rules.proofs.NamedFrames.{no_more_named, same_volume_names}
 use Rattle.named_volume.specs.Names.{IsNamedBegun, KeepsNames}
-use Rattle.block_lines.specs.declared.seat_line.SeatLine.{SeatLine}
+use Rattle.command.specs.declared.seat_line.SeatLine.{SeatLine}
 use Rattle.block_run.specs.Running.{AreRun, IsRun, IsRunIf, IsTableRun, is_used, used_in}
 
 -- Nothing was run.

@@ -9,7 +9,7 @@ use Rattle.std.proofs.lemmas.List.Elements.{All-append, All-map, All-nil, All-pu
 use Rattle.std.proofs.lemmas.List.Sums.{count_by-le-length, length-filter, sum_by-cons}
 use Rattle.std.proofs.lemmas.Slice.Zip.{AllZip-long}
 use native.Mathlib.Nat.{ℕ_set}
-use Rattle.block_lines.specs.declared.seat_line.SeatLine.{SeatLine}
+use Rattle.command.specs.declared.seat_line.SeatLine.{SeatLine}
 use Rattle.block_run.specs.Played.{Story}
 use Rattle.command_rules.specs.State.{Table}
 use Rattle.reply.specs.declared.Reply.{Reply}

@@ -2,8 +2,8 @@
 use Rattle.std.specs.Prelude.{◌≡◌, ◌+◌, ◌<◌, ◌==◌, ℕ, Bool, List, [], ◌∷◌, ◌++◌, map, Option, Some, None}
 use Rattle.std.specs.List.{AllZip, filter, flat_map, range_with_len}
 use Rattle.sector.specs.declared.refusal.Refusal.TheVariants.{NoMemory}
-use Rattle.block_lines.specs.Blocks.{Lines}
-use Rattle.block_lines.specs.declared.seat_line.SeatLine.{SeatLine}
+use Rattle.command.specs.Blocks.{Lines}
+use Rattle.command.specs.declared.seat_line.SeatLine.{SeatLine}
 use Rattle.command_rules.specs.State.{Table}
 use Rattle.reply.specs.declared.Reply.{Reply}
 use Rattle.reply.specs.declared.Reply.TheVariants.{Seat, Gate}

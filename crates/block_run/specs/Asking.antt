@@ -6,8 +6,8 @@ use Rattle.sector.specs.declared.refusal.Refusal.TheVariants.{MergeInProgress, N
 use Rattle.words.specs.Given.{◌>>=◌}
 use Rattle.chunk.specs.Pieces.{span_of}
 use Rattle.settled.specs.Devices.{sectors_of}
-use Rattle.block_lines.specs.declared.seat_line.Work.{Work}
-use Rattle.block_lines.specs.declared.seat_line.Work.TheVariants as works
+use Rattle.command.specs.declared.seat_line.Work.{Work}
+use Rattle.command.specs.declared.seat_line.Work.TheVariants as works
 use Rattle.command_rules.specs.State.{Table, Volume}
 use Rattle.command_rules.specs.Places.{found, place_of, volume_at}
 use Rattle.command_rules.specs.Messages.{snap_at}

@@ -1,13 +1,13 @@
 -- What the lines of a block find under their names, and which refusal of a block comes first. The order is this project's own.
 use Rattle.std.specs.Prelude.{ℕ, Bool, true, false, List, map, Option, Some, None, Result, Ok, Err, if◌then◌else◌}
 use Rattle.sector.specs.declared.refusal.Refusal.{Refusal}
-use Rattle.block_lines.specs.Blocks.{Lines}
-use Rattle.block_lines.specs.Founds.{first_refusal}
-use Rattle.block_lines.specs.declared.found.Found.{Found}
-use Rattle.block_lines.specs.declared.found.Found.TheVariants.{Missing, Other, Busy, Quiet}
-use Rattle.block_lines.specs.declared.seat_line.SeatLine.{SeatLine}
-use Rattle.block_lines.specs.declared.seat_line.Work.{Work}
-use Rattle.block_lines.specs.declared.seat_line.Work.TheVariants.{Read, Write, Merge, OutsideRead, OutsideWrite}
+use Rattle.command.specs.Blocks.{Lines}
+use Rattle.command.specs.Founds.{first_refusal}
+use Rattle.command.specs.declared.found.Found.{Found}
+use Rattle.command.specs.declared.found.Found.TheVariants.{Missing, Other, Busy, Quiet}
+use Rattle.command.specs.declared.seat_line.SeatLine.{SeatLine}
+use Rattle.command.specs.declared.seat_line.Work.{Work}
+use Rattle.command.specs.declared.seat_line.Work.TheVariants.{Read, Write, Merge, OutsideRead, OutsideWrite}
 use Rattle.command_rules.specs.State.{Volume, Table}
 use Rattle.command_rules.specs.Places.{found, place_of, volume_at}
 use Rattle.command_rules.specs.declared.place.Place.{Place}

@@ -3,8 +3,8 @@ use Rattle.std.specs.Prelude.{◌≡◌, ◌≢◌, ◌⊎◌, ◌==◌, ℕ, Bo
 use Rattle.std.specs.List.{count_by, flat_map, list_any, range_with_len}
 use Rattle.sector.specs.declared.refusal.Refusal.{Refusal}
 use Rattle.sector.specs.declared.refusal.Refusal.TheVariants.{NoMemory}
-use Rattle.block_lines.specs.Blocks.{Lines}
-use Rattle.block_lines.specs.declared.seat_line.SeatLine.{SeatLine}
+use Rattle.command.specs.Blocks.{Lines}
+use Rattle.command.specs.declared.seat_line.SeatLine.{SeatLine}
 use Rattle.command_rules.specs.State.{Table, Volume}
 use Rattle.command_rules.specs.Places.{place_of}
 use Rattle.command_rules.specs.declared.place.Place.{Place}

@@ -3,7 +3,7 @@ ghost use Rattle.std.specs.Prelude.{◌≡◌, IfOk, map};
 ghost use Rattle.named_volume.specs.Tables.{table_of};
 ghost use Rattle.block_run.specs.Looking.{found_in, name_in, serves};
 
-use block_lines::{Found, SeatLine, Work};
+use command::{Found, SeatLine, Work};
 use command_rules::{Place, Role};
 use named_volume::{Held, find_device};
 use std::alloc::{AllocError, Global};

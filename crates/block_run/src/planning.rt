@@ -2,8 +2,8 @@
 ghost use Rattle.std.specs.Prelude.{◌≡◌, ◌≢◌, ◌+◌, ◌-◌, ◌<◌, ◌||◌, ◌++◌, ◌∷◌, ℕ, [], false, Err, IfErr, IfOk, Ok, OnOk, length, slice_index_or, vec_capacity, vec_len};
 ghost use Rattle.sector.specs.declared.refusal.Refusal.TheVariants.{NoMemory};
 ghost use Rattle.chunk.specs.Pieces.{span_of};
-ghost use Rattle.block_lines.specs.Blocks.{AreSeats};
-ghost use Rattle.block_lines.specs.Lines.{IsSeat};
+ghost use Rattle.command.specs.Blocks.{AreSeats};
+ghost use Rattle.command.specs.Lines.{IsSeat};
 ghost use Rattle.named_volume.specs.Tables.{table_of};
 ghost use Rattle.command_rules.specs.Places.{IsRoleIn, place_of};
 ghost use Rattle.command_rules.specs.Sectors.{dev_of};
@@ -14,11 +14,10 @@ ghost use Rattle.block_run.specs.Looking.{name_in};
 ghost use Rattle.block_run.specs.Running.{is_in, used_in};
 
 use crate::looking::name_in;
-use block_lines::{SeatLine, Work};
+use command::{SeatLine, Work};
 use block_threads::{Job, SEATS, Task};
 use command_rules::{Place, Role};
-use named_stack::{range_in, whole_sectors};
-use named_volume::{Held, NamedVolume, find_device};
+use named_volume::{find_device, range_in, whole_sectors, Held, NamedVolume};
 use plain::Dev;
 use reply::Reply;
 use sector::{Buf, Range, Refusal};

@@ -19,7 +19,7 @@ ghost use Rattle.block_run.specs.Taking.{IsLeft};
 use crate::looking::all_found;
 use crate::planning::{Plan, planned};
 use crate::taking::{put_back, take_all};
-use block_lines::{Block, refusal_among};
+use command::{Block, refusal_among};
 use block_threads::{Hold, Task, run_seats};
 use journal::Audit;
 use layers::Stack;

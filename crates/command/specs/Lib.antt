@@ -4,3 +4,7 @@ pub mod Messages
 pub mod Events
 pub mod Grammar
 pub mod Line
+pub mod Opening
+pub mod Lines
+pub mod Blocks
+pub mod Founds

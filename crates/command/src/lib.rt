@@ -7,12 +7,22 @@
 //! caller's.
 #![tactic(auto)]
 
+mod block;
 mod data_words;
 mod events;
+mod found;
 mod grammar;
 mod line;
 mod messages;
+mod opening;
+mod said;
+mod seat_line;
 
+pub use block::Block;
 pub use events::Event;
+pub use found::{Found, refusal_among};
 pub use grammar::Command;
 pub use line::{LINE_LIMIT, said};
+pub use opening::{Opening, is_par, opening_by};
+pub use said::{Said, said_by};
+pub use seat_line::{SeatLine, Work};

@@ -7,9 +7,9 @@ use Rattle.sector.specs.declared.refusal.Refusal.TheVariants.{BadTable}
 use Rattle.words.specs.Given.{◌>>=◌}
 use Rattle.store_bytes.specs.Pairs.{pairs_of}
 use Rattle.plain.specs.Plain.{did_overflow}
-use Rattle.status.specs.declared.State.{State}
-use Rattle.status.specs.declared.State.TheVariants.{Invalid, Failed, Overflow, Used}
-use Rattle.status.specs.Lines.{origin_text, snapshot_text, merge_text}
+use Rattle.table.specs.declared.status.State.{State}
+use Rattle.table.specs.declared.status.State.TheVariants.{Invalid, Failed, Overflow, Used}
+use Rattle.table.specs.Lines.{origin_text, snapshot_text, merge_text}
 use Rattle.settled.specs.Saves.{next_of}
 use Rattle.settled.specs.Devices.{Device, sectors_of}
 use Rattle.settled.specs.Snaps.{Snap}

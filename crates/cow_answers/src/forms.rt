@@ -7,7 +7,7 @@ use crate::looking::Seen;
 use crate::note_objects::{push_behind_object, salvaged_json};
 use crate::notes::{Behind, Notes, push_behind_of, salvaged_lines};
 use crate::objects::{check_json, map_json, raw_json};
-use cow_asked::Form;
+use crate::Form;
 use cow_image::{Fault, Listed};
 use cow_kept::{Saved, Span};
 use cow_words::Numbers;

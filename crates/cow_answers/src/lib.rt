@@ -4,14 +4,21 @@
 #![tactic(auto)]
 
 mod answers;
+mod asked;
 mod forms;
+mod help;
 mod looking;
 mod merges;
 mod note_objects;
 mod notes;
 mod objects;
+mod splitting;
+mod wrong;
 
+pub use asked::{Asked, Form, words_ask};
 pub use forms::{checked, mapped, push_behind, raw, salvaged, shown};
+pub use help::{HELP, VERSION};
 pub use looking::{Seen, all_faults, chunk_listed, chunk_of, is_good, look, numbers_of};
 pub use merges::{push_bytes, push_left, push_runs};
 pub use notes::{Behind, Notes, is_whole, notes_of};
+pub use wrong::Wrong;

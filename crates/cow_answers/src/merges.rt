@@ -2,7 +2,7 @@
 ghost use Rattle.std.specs.Prelude.{◌≡◌, ◌++◌, OnOk};
 ghost use Rattle.cow_answers.specs.Merges.{bytes_by, runs_by, left_by};
 
-use cow_asked::Form;
+use crate::Form;
 use cow_image::CowMap;
 use cow_words::{
     push_left as push_left_lines, push_left_json, push_line, push_number_json,

@@ -1,7 +1,7 @@
 // Why nothing is told of a store, or nothing is written.
 
 use cow_image::{Failure, Stopped};
-use file_set::Asked;
+use image::Asked;
 use std::alloc::AllocError;
 use std::{fmt, io};
 

@@ -4,7 +4,7 @@ use Rattle.std.proofs.lemmas.Bool.{leb-true, cases_Bool, true≢false}
 use Rattle.std.specs.Int.{is_power_of_two}
 use Rattle.sector.specs.Number.{number_at, number_bytes}
 use Rattle.sector.proofs.Numbers.{length-number_bytes}
-use Rattle.numbers.proofs.Endian.{number_written}
+use Rattle.sector.proofs.Endian.{number_written}
 use Rattle.chunk.specs.Sizes.{is_chunk}
 use Rattle.cow_header.specs.HeaderText.{found_in, found_by, header_bytes, magic_number}
 use Rattle.cow_header.specs.declared.found.Found.TheVariants.{Header}

@@ -6,7 +6,7 @@ ghost use Rattle.cow_header.specs.declared.found.Found.TheVariants.{Header};
 ghost use Rattle.sector.specs.declared.refusal.Refusal.TheVariants.{Invalid};
 
 use crate::{MAGIC, VERSION};
-use numbers::put_u32;
+use sector::put_u32;
 
 /// Writes a header over a chunk: the four numbers, and zeros after them. An invalid one has the mark 0, and is refused
 /// when it is read again; a valid one has the mark 1.

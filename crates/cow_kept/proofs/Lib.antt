@@ -3,3 +3,5 @@ pub mod UsedSlots
 pub mod BlankBytes
 pub mod Sifts
 pub mod Orders
+pub mod Adding
+pub mod Reading

@@ -2,3 +2,4 @@ pub mod Used
 pub mod Kept
 pub mod Spans
 pub mod Blanks
+pub mod Differences

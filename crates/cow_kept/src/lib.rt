@@ -5,7 +5,10 @@
 #![tactic(auto)]
 
 mod blanked;
+mod comparing;
+mod differing;
 mod front;
+mod joining;
 mod saving;
 mod sifting;
 mod span;
@@ -14,6 +17,7 @@ mod trying;
 mod using;
 
 pub use blanked::Blanked;
+pub use differing::{Undone, differences};
 pub use front::front_of;
 pub use saving::{Saved, export_kept, save};
 pub use sifting::{Sifted, sift};

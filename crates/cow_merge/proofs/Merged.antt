@@ -17,7 +17,7 @@ use Rattle.cow_image.proofs.Places.{place_first}
 use Rattle.stop_laws.specs.May.{sector_of, number_of}
 use Rattle.stop_laws.proofs.May.{slot_there}
 use Rattle.stop_laws.proofs.Open.{sector_plain}
-use Rattle.file_set.specs.Stops.{AreLeft}
+use Rattle.image.specs.Stops.{AreLeft}
 use Rattle.cow_merge.specs.Merges.{IsMerging, IsMerged}
 use Rattle.cow_merge.specs.Holding.{Begin, pairs, array, IsBegin, OriginMay, StoreMay, Rolls, AreBack, Settles, Ends}
 use Rattle.cow_merge.proofs.Sectors.{by_sectors, zero_pair}

@@ -20,7 +20,7 @@ use Rattle.stop_laws.proofs.Between.{IsBetween, pairs_between}
 use Rattle.stop_laws.proofs.Loads.{formed_first}
 use Rattle.stop_laws.proofs.May.{slot_there}
 use Rattle.stop_laws.proofs.Open.{sector_plain, sector_copied}
-use Rattle.file_set.specs.Stops.{AreLeft}
+use Rattle.image.specs.Stops.{AreLeft}
 use Rattle.cow_merge.specs.Merges.{IsInArea, StillShows}
 use Rattle.cow_merge.specs.Holding.{Begin, pairs, array, IsBegin, OriginMay, StoreMay, Leaves}
 use Rattle.cow_merge.proofs.Sectors.{by_sectors, zero_pair, place_first, place_none_less, place_inside, area_from, not_in_area, head_not_in_area, slot_inside}

@@ -1,7 +1,7 @@
 -- How a run of calls goes on.
 use Rattle.std.proofs.Common.{◌≡◌, ◌⊎◌, inl, inr, ℕ, ◌+◌, ◌*◌, ◌/◌, ◌≤◌, List, length, arith, ap, ◌∙◌, sym, subst}
 use Rattle.sector.specs.Bytes.{sector_at}
-use Rattle.file_set.specs.Stops.{AreLeft, Elapses}
+use Rattle.image.specs.Stops.{AreLeft, Elapses}
 use Rattle.cow_merge.specs.Merges.{StillShows}
 use Rattle.cow_merge.specs.Holding.{Begin, pairs, OriginMay, StoreMay, Leaves, Rolls, Passes, Stays}
 use Rattle.cow_merge.proofs.Shows.{still_shows}

@@ -7,7 +7,7 @@ use Rattle.store_bytes.specs.Pairs.{pairs_of, AreWellFormed}
 use Rattle.store_bytes.specs.Picture.{picture}
 use Rattle.cow_header.specs.HeaderText.{found_in}
 use Rattle.cow_header.specs.declared.found.Found.TheVariants.{Header}
-use Rattle.file_set.specs.Stops.{AreLeft}
+use Rattle.image.specs.Stops.{AreLeft}
 use Rattle.cow_merge.specs.Merges.{IsOriginOf, IsStoreOf, StillShows}
 
 -- an origin and a store, as a merge begins

@@ -1,12 +1,12 @@
 // Areas of the store are zeroed.
 ghost use Rattle.std.specs.Prelude.{◌≡◌, ℕ, ◌+◌, ◌*◌, ◌-◌, ◌/◌, ◌<◌, ◌≤◌, List, length, replicate, OnOk};
-ghost use Rattle.file_set.specs.Stops.{HasCause};
+ghost use Rattle.image.specs.Stops.{HasCause};
 ghost use Rattle.cow_merge.specs.Begun.{begun};
 ghost use Rattle.cow_merge.specs.Holding.{Rolls, Passes, Clears, IsZero, Begin, pairs};
 
 use crate::copying::STORE;
 use crate::{Sizes, Stopped};
-use file_set::FileSet;
+use image::FileSet;
 
 /// Zeroes an area.
 fn clear_area<F: FileSet>(

@@ -2,12 +2,12 @@
 ghost use Rattle.std.specs.Prelude.{◌≡◌, ◌⊎◌, ℕ, ◌+◌, ◌*◌, ◌-◌, ◌%◌, ◌/◌, ◌<◌, ◌≤◌, List, length, min, MatchOption, OnOk};
 ghost use Rattle.sector.specs.Bytes.{sector_at, with_sectors};
 ghost use Rattle.store_bytes.specs.Places.{area_place, chunk_at};
-ghost use Rattle.file_set.specs.Stops.{Elapses, HasCause};
+ghost use Rattle.image.specs.Stops.{Elapses, HasCause};
 ghost use Rattle.cow_merge.specs.Begun.{begun};
 ghost use Rattle.cow_merge.specs.Holding.{Rolls, Passes, Copies, IsPairOf, IsBack, AreBack, Begin, pairs};
 
 use crate::{Sizes, Stopped};
-use file_set::FileSet;
+use image::FileSet;
 use metadata_area::Area;
 use sector::Pair;
 use std::io;

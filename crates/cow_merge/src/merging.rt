@@ -1,7 +1,7 @@
 // A store's copies are taken back into its origin.
 ghost use Rattle.std.specs.Prelude.{◌≡◌, ◌≢◌, ◌⊎◌, ℕ, ◌+◌, ◌*◌, ◌-◌, ◌/◌, ◌<◌, ◌≤◌, List, length, min, replicate, IfErr, IfOk, IsErr, OnOk, Err};
 ghost use Rattle.cow_image.specs.Maps.{IsMapOf};
-ghost use Rattle.file_set.specs.Stops.{AreLeft, HasCause};
+ghost use Rattle.image.specs.Stops.{AreLeft, HasCause};
 ghost use Rattle.cow_merge.specs.Begun.{begun};
 ghost use Rattle.cow_merge.specs.Holding.{Rolls, Passes, IsGone, Settles, Stays, Ends, Begin, pairs};
 ghost use Rattle.cow_merge.specs.Merges.{IsMerging, StillShows, IsMerged};
@@ -11,7 +11,7 @@ use crate::copying::{ORIGIN, STORE, copy_areas};
 use crate::settling::settle;
 use crate::{Sizes, Stopped};
 use cow_image::CowMap;
-use file_set::FileSet;
+use image::FileSet;
 use metadata_area::Area;
 use std::alloc::{AllocError, Global};
 

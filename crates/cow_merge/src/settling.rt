@@ -1,11 +1,11 @@
 // Two files are synced.
-ghost use Rattle.file_set.specs.Stops.{HasCause};
+ghost use Rattle.image.specs.Stops.{HasCause};
 ghost use Rattle.std.specs.Prelude.{ℕ, List, OnOk};
 ghost use Rattle.cow_merge.specs.Holding.{Settles, Stays};
 
 use crate::Stopped;
 use crate::copying::{ORIGIN, STORE};
-use file_set::FileSet;
+use image::FileSet;
 
 /// Makes all that was written to both files last, the store first.
 pub fn settle<F: FileSet>(files: &mut F) -> Result<(), Stopped>

@@ -22,4 +22,10 @@ mod images;
 #[cfg(test)]
 mod loads;
 #[cfg(test)]
+mod merge_images;
+#[cfg(test)]
+mod merges;
+#[cfg(test)]
 mod shows;
+#[cfg(test)]
+mod torn;

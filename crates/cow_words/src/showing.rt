@@ -6,7 +6,7 @@ ghost use Rattle.cow_words.specs.Shows.{line_text, numbers_text, slots_by, told_
 use crate::reasons::{push_reason, refused_as};
 use crate::text::{push_line, push_number};
 use cow_image::{CowMap, Told};
-use numbers::u32_at;
+use sector::u32_at;
 use std::alloc::AllocError;
 
 /// The four numbers of a store's header, whatever they are.

@@ -4,18 +4,26 @@
 //! to no contract.
 #![tactic(auto)]
 
+mod disk_files;
 mod failing;
 mod file_image;
+mod file_set;
 mod file_sink;
 mod image;
+mod mem_file;
+mod mem_files;
 mod mem_image;
 mod mem_sink;
 mod sink;
 
+pub use disk_files::{Asked, DiskFiles, Failed};
 pub use failing::FailingImage;
 pub use file_image::FileImage;
+pub use file_set::FileSet;
 pub use file_sink::FileSink;
 pub use image::Image;
+pub use mem_file::MemFile;
+pub use mem_files::{FilePair, MemFiles};
 pub use mem_image::MemImage;
 pub use mem_sink::MemSink;
 pub use sink::Sink;

@@ -1,19 +1,17 @@
 // In which bytes a snapshot and its origin differ.
 ghost use Rattle.std.specs.Prelude.{◌≡◌, ℕ, ◌*◌, ◌≤◌, List, length, true, IfOk, Some};
 ghost use Rattle.cow_image.specs.Maps.{IsToldOf};
-ghost use Rattle.cow_diff.specs.Differences.{AreDifferences};
+ghost use Rattle.cow_kept.specs.Differences.{AreDifferences};
 ghost use Rattle.cow_answers.specs.Answers.{is_good as is_good_by};
 ghost use Rattle.lochknife.specs.Differing.{differing_by};
 ghost use Rattle.lochknife.specs.Arrays.{array_of};
 
 use crate::commands::seen_in;
 use crate::rolling::why_stopped;
-use cow_answers::{Seen, is_good, shown};
-use cow_asked::Form;
-use cow_diff::{Undone, differences};
+use cow_answers::{is_good, shown, Form, Seen};
+use cow_kept::{differences, Span, Undone};
 use cow_files::{Input, Trouble, held, printed, size_of};
 use cow_image::{Stopped, Told};
-use cow_kept::Span;
 use cow_words::{push_spans, push_spans_json};
 use image::Image;
 use std::alloc::{AllocError, Global};

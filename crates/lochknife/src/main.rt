@@ -1,7 +1,7 @@
 //! The program `lochknife`: what the image of a snapshot's store holds, and the array that it shows with the image of its
 //! origin.
 //!
-//! It stands on `cow_asked`, `cow_answers`, `cow_image`, `cow_kept`, `cow_merge`, `cow_nbd` and `seam`, which say what is asked for, read, written
+//! It stands on `cow_asked`, `cow_answers`, `cow_image`, `cow_kept`, `cow_merge`, `cow_nbd` and `command_images`, which say what is asked for, read, written
 //! and printed, and on `cow_files`, and has only the commands' order and the exit status (0 for a store that is good, 1 for one
 //! that is refused, 2 where something could not be read or written).
 #![tactic(auto)]
@@ -24,7 +24,7 @@ use crate::rolling::export;
 use crate::salvaging::{Salvage, salvage_array};
 use crate::seaming::{hear, spell};
 use crate::serving::serve;
-use cow_asked::{Asked, HELP, VERSION, words_ask};
+use cow_answers::{Asked, HELP, VERSION, words_ask};
 use cow_files::{Trouble, printed};
 use std::io;
 use std::process::ExitCode;

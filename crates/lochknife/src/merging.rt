@@ -1,13 +1,12 @@
 // A snapshot's copies are taken back into its origin, in place.
 ghost use Rattle.std.specs.Prelude.{[]};
-ghost use Rattle.file_set.specs.Stops.{AreLeft};
+ghost use Rattle.image.specs.Stops.{AreLeft};
 
-use cow_answers::{is_good, look, push_bytes, push_left, push_runs, shown};
-use cow_asked::Form;
+use cow_answers::{is_good, look, push_bytes, push_left, push_runs, shown, Form};
 use cow_files::{Input, Teller, Trouble, Why, about, folder_synced, held, of_input, printed};
 use cow_image::{CowMap, Told, read_store, sectors_of};
 use cow_merge::{ORIGIN, Room, Stopped};
-use file_set::{DiskFiles, FileSet};
+use image::{DiskFiles, FileSet};
 use std::fs::{File, TryLockError};
 use std::os::fd::AsRawFd;
 use std::{fs, io};

@@ -2,7 +2,7 @@
 
 use cow_files::{Input, OUTPUT, Trouble, Watched, Why, about, begun, ended, is_free, size_of};
 use image::Sink;
-use seam::{MOST_SECTORS, Stopped, Untold, put_words, read_told};
+use command_images::{MOST_SECTORS, Stopped, Untold, put_words, read_told};
 use words::Name;
 
 /// Prints the lines of commands that make a disk of `dmrig` with the bytes of an image.

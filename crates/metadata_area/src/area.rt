@@ -3,8 +3,7 @@ ghost use Rattle.std.specs.Prelude.{◌≡◌, ◌≢◌, ℕ, ◌+◌, ◌*◌,
 ghost use Rattle.store_bytes.specs.Slots.{pair_in, with_pair};
 ghost use Rattle.sector.specs.declared.refusal.Refusal.TheVariants.{NoMemory};
 
-use numbers::{put_u64, u64_at};
-use sector::{Pair, Refusal, SECTOR_BYTES};
+use sector::{put_u64, u64_at, Pair, Refusal, SECTOR_BYTES};
 use std::alloc::Global;
 
 /// The pairs of a sector of an area.

@@ -2,8 +2,7 @@
 ghost use Rattle.std.specs.Prelude.{◌≡◌, ◌<◌, ◌≤◌, length, vec_len, vec_capacity};
 ghost use Rattle.std.specs.List.{insert};
 
-use named_stack::NamedStack;
-use named_volume::NamedVolume;
+use named_volume::{NamedStack, NamedVolume};
 
 /// A stack goes back to the place from which it was taken.
 pub fn put_stack_back(stacks: &mut Vec<NamedStack>, i: usize, stack: NamedStack)

@@ -23,8 +23,7 @@ ghost use Rattle.volume.specs.EventKinds.{is_of_merge};
 
 use command::Event;
 use command_rules::{Place, Role};
-use named_stack::{some_sectors, whole_sectors};
-use named_volume::{Held, find_device};
+use named_volume::{find_device, some_sectors, whole_sectors, Held};
 use plain::{NotDue, Op, Outcome, Replied, ReqId, SnapId};
 use sector::{Buf, Refusal};
 use std::alloc::Global;

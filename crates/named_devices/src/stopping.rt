@@ -10,8 +10,7 @@ ghost use Rattle.named_volume.specs.Tables.{table_of};
 ghost use Rattle.named_devices.specs.Stopping.{stopped_at};
 
 use crate::flights::origin_at;
-use named_stack::NamedStack;
-use named_volume::{Held, StoppedVolume, find_device};
+use named_volume::{find_device, Held, NamedStack, StoppedVolume};
 use sector::Refusal;
 use words::Name;
 

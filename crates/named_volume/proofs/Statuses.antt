@@ -10,9 +10,9 @@ use Rattle.layers.specs.declared.stack.Stack.{Stack}
 use Rattle.layers.specs.Stack.{stack_contents, stack_layers, stack_size}
 use Rattle.chunk_alloc.specs.declared.usage.Usage.{Usage}
 use Rattle.plain.specs.Plain.{did_overflow}
-use Rattle.status.specs.declared.State.{State}
-use Rattle.status.specs.declared.State.TheVariants.{Invalid, Overflow, Used}
-use Rattle.status.specs.Lines.{snapshot_text}
+use Rattle.table.specs.declared.status.State.{State}
+use Rattle.table.specs.declared.status.State.TheVariants.{Invalid, Overflow, Used}
+use Rattle.table.specs.Lines.{snapshot_text}
 use Rattle.settled.specs.Devices.{sectors_of as size_of}
 use Rattle.settled.specs.Snaps.{Snap}
 use Rattle.event_machine.specs.Held.{Held, Moving}
@@ -27,7 +27,7 @@ use Rattle.command_rules.specs.Stacks.{device_of}
 use Rattle.command_rules.specs.State.{Volume}
 use Rattle.command_rules.specs.Messages.{snap_at}
 use Rattle.command_rules.specs.Status.{status_in}
-use Rattle.named_stack.proofs.StackSizes.{size_of as size_of_stack}
+use Rattle.named_volume.proofs.StackSizes.{size_of as size_of_stack}
 use Rattle.named_volume.specs.Held.{flying_in, settled_in}
 use Rattle.named_volume.specs.Status.{held_at, kept_held, state_kept, status_flying}
 use Rattle.named_volume.proofs.Places.{at_place, here, stack_snap}

@@ -7,9 +7,9 @@ use Rattle.layers.specs.declared.stack.Stack.{Stack}
 use Rattle.layers.specs.Stack.{stack_contents, stack_size}
 use Rattle.chunk_alloc.specs.declared.usage.Usage.{Usage}
 use Rattle.plain.specs.Plain.{did_overflow}
-use Rattle.status.specs.declared.State.{State}
-use Rattle.status.specs.declared.State.TheVariants.{Invalid, Failed, Overflow, Used}
-use Rattle.status.specs.Lines.{merge_text, origin_text, snapshot_text}
+use Rattle.table.specs.declared.status.State.{State}
+use Rattle.table.specs.declared.status.State.TheVariants.{Invalid, Failed, Overflow, Used}
+use Rattle.table.specs.Lines.{merge_text, origin_text, snapshot_text}
 use Rattle.settled.specs.Devices.{sectors_of as size_of}
 use Rattle.settled.specs.Snaps.{Snap}
 use Rattle.volume_commands.specs.Rested.{Attached, Rested}
@@ -23,7 +23,7 @@ use Rattle.command_rules.specs.Stacks.{device_of}
 use Rattle.command_rules.specs.State.{Volume, Merging as Named}
 use Rattle.command_rules.specs.Messages.{snap_at}
 use Rattle.command_rules.specs.Status.{merge_state, state_of, state_at, status_in}
-use Rattle.named_stack.proofs.StackSizes.{size_of as size_of_stack}
+use Rattle.named_volume.proofs.StackSizes.{size_of as size_of_stack}
 use Rattle.named_volume.specs.Held.{merged_inside, settled_in}
 use Rattle.named_volume.proofs.Merges.{machine_merge, merge_by}
 use Rattle.named_volume.proofs.Places.{at_place, stack_snap}

@@ -6,9 +6,9 @@ use Rattle.layers.specs.Stack.{stack_contents, stack_layers}
 use Rattle.sector.specs.declared.refusal.Refusal.{Refusal}
 use Rattle.sector.specs.declared.refusal.Refusal.TheVariants.{NoSuchDevice}
 use Rattle.words.specs.Given.{Gives, ◌>>=◌}
-use Rattle.status.specs.declared.State.{State}
-use Rattle.status.specs.declared.State.TheVariants.{Invalid, Overflow, Used}
-use Rattle.status.specs.Lines.{snapshot_text}
+use Rattle.table.specs.declared.status.State.{State}
+use Rattle.table.specs.declared.status.State.TheVariants.{Invalid, Overflow, Used}
+use Rattle.table.specs.Lines.{snapshot_text}
 use Rattle.plain.specs.Plain.{did_overflow}
 use Rattle.settled.specs.Devices.{Device, sectors_of}
 use Rattle.event_machine.specs.Held.{Held, Moving}

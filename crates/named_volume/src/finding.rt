@@ -5,10 +5,9 @@ ghost use Rattle.command_rules.specs.Places.{place_of, place_free, place_among, 
 ghost use Rattle.command_rules.specs.declared.place.Place.TheVariants.{Free, In};
 ghost use Rattle.command_rules.specs.Disks.{device_count, devices_in, devices_of};
 
-use crate::NamedVolume;
+use crate::{NamedStack, NamedVolume};
 use crate::held::{Held, MOST_DEVICES};
 use command_rules::Place;
-use named_stack::NamedStack;
 use sector::Refusal;
 use words::Name;
 

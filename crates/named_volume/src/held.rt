@@ -2,8 +2,7 @@
 ghost use Rattle.std.specs.Prelude.{◌≡◌, [], IfOk};
 ghost use Rattle.named_volume.specs.Tables.{table_of};
 
-use crate::NamedVolume;
-use named_stack::NamedStack;
+use crate::{NamedStack, NamedVolume};
 use std::alloc::{AllocError, Global};
 
 /// The most devices that there may be.

@@ -8,10 +8,13 @@
 #![tactic(auto)]
 
 mod attaching;
+mod bottom;
 mod checkpointing;
+mod device_names;
 mod finding;
 mod flights;
 mod held;
+mod lines;
 mod merging;
 mod names;
 mod order;
@@ -19,13 +22,22 @@ mod origin;
 mod parting;
 mod reporting;
 mod sectors;
+mod sizes;
+mod stack;
 mod stack_names;
 mod stopping;
 mod stored;
 mod telling;
+mod told;
 
+pub use bottom::disk_in;
+pub use device_names::{depth_in, one_name};
 pub use finding::{find, find_device, is_full};
 pub use held::{Held, MOST_DEVICES};
+pub use lines::{line_in, sectors_of};
 pub use origin::NamedVolume;
 pub use parting::NamedParts;
+pub use sizes::{range_in, some_sectors, whole_sectors};
+pub use stack::NamedStack;
 pub use stopping::StoppedVolume;
+pub use told::tell_stack;

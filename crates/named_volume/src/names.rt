@@ -10,7 +10,7 @@ ghost use Rattle.command_rules.specs.Stacks.{device_of};
 
 use device::MemDisk;
 use layers::Stack;
-use named_stack::{depth_in, disk_in, line_in};
+use crate::{depth_in, disk_in, line_in};
 use sector::Refusal;
 use std::marker::Model;
 use table::Line;

@@ -8,10 +8,10 @@ ghost use Rattle.command_rules.specs.Places.{role_of, role_among, role_merging, 
 ghost use Rattle.command_rules.specs.Disks.{devices_in, devices_merging, devices_under};
 ghost use Rattle.command_rules.specs.Origins.{origin_on, stack_under};
 
-use crate::names::SnapNames;
+use crate::device_names::SnapNames;
 use command_rules::Role;
 use layers::Stack;
-use named_stack::{NamedStack, depth_in, sectors_of};
+use crate::{NamedStack, depth_in, sectors_of};
 use sector::Refusal;
 use std::alloc::Global;
 use std::marker::Model;

@@ -11,18 +11,17 @@ ghost use Rattle.command_rules.specs.Raw.{raw_in_merging, raw_under};
 ghost use Rattle.command_rules.specs.Status.{status_in};
 ghost use Rattle.named_volume.specs.Status.{IsStatusOf, status_flying};
 
-use crate::names::SnapNames;
+use crate::device_names::SnapNames;
 use crate::origin::NamedVolume;
 use crate::stored::{
     chunk_at, look, merging_chunk, merging_state, merging_store, state_at, store_at,
 };
 use command_rules::Role;
 use device::MemDisk;
-use named_stack::{disk_in, line_in, sectors_of};
+use crate::{disk_in, line_in, sectors_of};
 use sector::Refusal;
-use status::{State, merge_line, origin_line, snapshot_line};
+use table::{merge_line, origin_line, snapshot_line, Line, State, Target};
 use std::alloc::Global;
-use table::{Line, Target};
 use words::Text;
 
 impl NamedVolume {

@@ -15,7 +15,7 @@ ghost use Rattle.named_volume.specs.Names.{KeepsNames};
 use crate::origin::NamedVolume;
 use command_rules::Role;
 use layers::Stack;
-use named_stack::{range_in, sectors_of};
+use crate::{range_in, sectors_of};
 use plain::Dev;
 use sector::{Buf, Range, Refusal};
 use std::alloc::Global;

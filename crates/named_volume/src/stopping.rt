@@ -9,7 +9,7 @@ ghost use Rattle.volume.specs.Asking.{merging_number};
 use crate::origin::NamedVolume;
 use crate::stack_names::StackNames;
 use layers::Stack;
-use named_stack::NamedStack;
+use crate::NamedStack;
 use std::marker::Model;
 use volume::Stopped;
 use volume_commands::Resting;

@@ -3,7 +3,7 @@ ghost use Rattle.std.specs.Prelude.{◌≡◌, ◌<◌, true, length, get_or, If
 ghost use Rattle.layers.specs.Stack.{stack_layers};
 ghost use Rattle.settled.specs.Merges.{Merge};
 ghost use Rattle.settled.specs.Snaps.{Snap};
-ghost use Rattle.status.specs.declared.State.TheVariants.{Used};
+ghost use Rattle.table.specs.declared.status.State.TheVariants.{Used};
 ghost use Rattle.volume.specs.Leaving.{is_quiet_of};
 ghost use Rattle.volume_commands.specs.Flying.{IsWhole};
 ghost use Rattle.volume_commands.specs.Rested.{is_loud_in};
@@ -14,9 +14,9 @@ ghost use Rattle.named_volume.specs.Status.{IsStateAt};
 
 use chunk_alloc::Usage;
 use layers::Stack;
-use named_stack::sectors_of;
+use crate::sectors_of;
 use plain::{Overflowing, SnapId};
-use status::State;
+use table::State;
 use volume_commands::Resting;
 
 /// A look at whether the volume is quiet: one that is, and of which no device drops writes, is settled.

@@ -1,6 +1,6 @@
 -- What may fail later might before.
 use Rattle.std.proofs.Common.{◌≡◌, ℕ, ◌++◌, List, [], ◌∷◌, Option, None, Some}
-use Rattle.nbd_messages.specs.declared.request.Request.{Request}
+use Rattle.nbd_server.specs.declared.request.Request.{Request}
 use Rattle.nbd_server.specs.declared.served.Export.{Export}
 use Rattle.nbd_server.specs.declared.served.Fault.{Fault}
 use Rattle.nbd_server.specs.declared.session.Session.{Session}

@@ -6,3 +6,5 @@ pub mod Queries
 pub mod Blanks
 pub mod Errors
 pub mod Calm
+pub mod Lengths
+pub mod Fronts

@@ -12,7 +12,7 @@ use Rattle.nbd_server.specs.Talk.{Talk, Turn, HaveMemory, NoneFails, NoneIsWhole
 use Rattle.nbd_server.proofs.Wholes.{one_message}
 
 -- no fault without a cause
-no_fault_at : (may_fail : ℕ → ℕ → ℕ → Type 0) (export : ℕ) (fault : Option Fault) (request : Rattle.nbd_messages.specs.declared.request.Request.Request) → NoneFails may_fail → Rattle.nbd_server.specs.Replied.HasCause may_fail export fault request → (fault ≡ Some NoMemory → ⊥) → fault ≡ None
+no_fault_at : (may_fail : ℕ → ℕ → ℕ → Type 0) (export : ℕ) (fault : Option Fault) (request : Rattle.nbd_server.specs.declared.request.Request.Request) → NoneFails may_fail → Rattle.nbd_server.specs.Replied.HasCause may_fail export fault request → (fault ≡ Some NoMemory → ⊥) → fault ≡ None
 no_fault_at may_fail export None request never cause memory = refl
 no_fault_at may_fail export (Some Io) request never cause memory = let (at, n, from, to, fails) = cause refl in absurd (never export at n fails)
 no_fault_at may_fail export (Some NoMemory) request never cause memory = absurd (memory refl)

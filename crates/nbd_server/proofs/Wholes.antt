@@ -3,10 +3,10 @@ use Rattle.std.proofs.Common.{◌≡◌, ℕ, ◌+◌, ◌<◌, ◌≤◌, List,
 use Rattle.std.proofs.Math.Seq.{take-append_seam}
 use Rattle.std.specs.Io.KnownBytes.{Consumes}
 use Rattle.std.proofs.KnownBytes.{Consumes-trans}
-use Rattle.nbd_messages.specs.Requests.{request_in, asked_in}
-use Rattle.nbd_messages.specs.declared.asked.Asked.{Asked}
-use Rattle.nbd_messages.specs.declared.request.Request.{Request}
-use Rattle.nbd_messages.proofs.Fronts.{asked_front, request_front}
+use Rattle.nbd_server.specs.Requests.{request_in, asked_in}
+use Rattle.nbd_server.specs.declared.asked.Asked.{Asked}
+use Rattle.nbd_server.specs.declared.request.Request.{Request}
+use Rattle.nbd_server.proofs.Fronts.{asked_front, request_front}
 use Rattle.nbd_server.specs.declared.served.Export.{Export}
 use Rattle.nbd_server.specs.declared.served.Fault.{Fault}
 use Rattle.nbd_server.specs.declared.session.Place.{Place}

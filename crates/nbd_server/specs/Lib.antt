@@ -4,3 +4,6 @@ pub mod Replied
 pub mod Haggled
 pub mod Talk
 pub mod Turns
+pub mod Layout
+pub mod Requests
+pub mod Replies

@@ -5,9 +5,9 @@ use Rattle.nbd_server.specs.declared.served.Export.{Export}
 use Rattle.nbd_server.specs.declared.served.Fault.{Fault}
 use Rattle.nbd_server.specs.declared.session.Stage.TheVariants.{Opening}
 use Rattle.nbd_server.specs.declared.session.Session.{Session}
-use Rattle.nbd_messages.specs.Requests.{asked_in, request_in}
-use Rattle.nbd_messages.specs.declared.asked.Asked.{Asked}
-use Rattle.nbd_messages.specs.declared.request.Request.{Request}
+use Rattle.nbd_server.specs.Requests.{asked_in, request_in}
+use Rattle.nbd_server.specs.declared.asked.Asked.{Asked}
+use Rattle.nbd_server.specs.declared.request.Request.{Request}
 use Rattle.nbd_server.specs.declared.session.Place.{Place}
 use Rattle.nbd_server.specs.Haggled.{IsReaction, haggled_any}
 use Rattle.nbd_server.specs.Replied.{reply_to, HasCause}

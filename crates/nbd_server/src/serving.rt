@@ -1,14 +1,13 @@
 // A client is served.
 ghost use Rattle.std.specs.Prelude.{◌≡◌, ℕ, List, ◌++◌, OnOk, Some};
 ghost use Rattle.std.specs.Io.KnownBytes.{Appends};
-ghost use Rattle.nbd_messages.specs.Replies.{greeting};
+ghost use Rattle.nbd_server.specs.Replies.{greeting};
 ghost use Rattle.nbd_server.specs.Talk.{AreArrays, Talk, Turn, beginning};
 
 use crate::session::{Session, Stage};
 use crate::stopped::Stopped;
 use crate::turning::turn;
-use crate::{Export, Served};
-use nbd_messages::push_greeting;
+use crate::{push_greeting, Export, Served};
 use std::alloc::Global;
 use std::io::{ErrorKind, Read, Write};
 

@@ -13,10 +13,7 @@ use crate::hearing::{fill, skip};
 use crate::replying::reply;
 use crate::session::{Place, Session, Stage};
 use crate::stopped::Stopped;
-use crate::{Export, Served};
-use nbd_messages::{
-    ASKED_BYTES, Asked, Command, REQUEST_BYTES, Request, asked_in, request_in, u32_at,
-};
+use crate::{asked_in, request_in, u32_at, Asked, Command, Export, Request, Served, ASKED_BYTES, REQUEST_BYTES};
 use std::io::Read;
 
 /// The longest data of an option that are looked at.

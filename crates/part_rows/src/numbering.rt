@@ -1,5 +1,5 @@
 // Little-endian numbers, by the bytes of the kernel.
-use numbers::{put_u32, put_u64, u32_at, u64_at};
+use sector::{put_u32, put_u64, u32_at, u64_at};
 
 #[test]
 fn reads_and_writes_the_kernel_s_header_numbers(rt: HostRuntime) {

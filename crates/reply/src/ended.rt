@@ -31,7 +31,7 @@ pub struct Ended {
 }
 
 /// Prints how a request ended, a space before each word.
-#[tactic(auto, using(lines::proofs::Written::appends_more))]
+#[tactic(auto, using(words::proofs::Written::appends_more))]
 fn write_ending<W: Write>(writer: &mut W, ending: &Ending) -> io::Result<()>
     ensures { OnOk result (Appends (W.contents writer.old) (W.contents writer.new) (ending_words ending.now)) }
 {
@@ -50,7 +50,7 @@ impl Ended {
     /// Prints the line of a request that ended, its end included, straight into the writer: `reply NUMBER TEXT`. It stands
     /// before the line of the command in which the request ended. The one error is the writer's own; then part of the
     /// line may stand in it.
-    #[tactic(auto, using(lines::proofs::Written::appends_more))]
+    #[tactic(auto, using(words::proofs::Written::appends_more))]
     pub fn write_to<W: Write>(&self, writer: &mut W) -> io::Result<()>
         ensures { OnOk result (Appends (W.contents writer.old) (W.contents writer.new) (ended_text self.now)) }
     {

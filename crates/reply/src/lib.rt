@@ -53,7 +53,7 @@ pub enum Reply {
 }
 
 /// Prints a refusal, without the end of its line.
-#[tactic(auto, using(lines::proofs::Written::appends_more))]
+#[tactic(auto, using(words::proofs::Written::appends_more))]
 fn write_refusal<W: Write>(writer: &mut W, refusal: Refusal) -> io::Result<()>
     ensures { OnOk result (Appends (W.contents writer.old) (W.contents writer.new) (refusal_text refusal)) }
 {
@@ -67,7 +67,7 @@ fn write_refusal<W: Write>(writer: &mut W, refusal: Refusal) -> io::Result<()>
 impl Reply {
     /// Prints the line of a reply, its end included, straight into the writer. The one error is the writer's
     /// own; then part of the line may stand in it.
-    #[tactic(auto, using(lines::proofs::Written::appends_more))]
+    #[tactic(auto, using(words::proofs::Written::appends_more))]
     pub fn write_to<W: Write>(&self, writer: &mut W) -> io::Result<()>
         ensures { OnOk result (Appends (W.contents writer.old) (W.contents writer.new) (text_of self.now)) }
     {

@@ -88,7 +88,7 @@ fn run_len(bytes: &[u8]) -> usize
 }
 
 /// Prints data as longest runs, a space before each.
-#[tactic(auto, using(lines::proofs::Written::starts, lines::proofs::Written::writes_on, lines::proofs::Written::ends, crate::proofs::RunLemmas::words_cut))]
+#[tactic(auto, using(words::proofs::Written::starts, words::proofs::Written::writes_on, words::proofs::Written::ends, crate::proofs::RunLemmas::words_cut))]
 pub fn write_data<W: Write>(writer: &mut W, bytes: &[u8]) -> io::Result<()>
     ensures { OnOk result (Appends (W.contents writer.old) (W.contents writer.new) (data_words bytes.now)) }
 {

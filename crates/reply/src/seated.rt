@@ -30,7 +30,7 @@ pub struct Seated {
 }
 
 /// Prints an answer, a space before it.
-#[tactic(auto, using(lines::proofs::Written::appends_more))]
+#[tactic(auto, using(words::proofs::Written::appends_more))]
 fn write_answer<W: Write>(writer: &mut W, answer: &Answered) -> io::Result<()>
     ensures { OnOk result (Appends (W.contents writer.old) (W.contents writer.new) (answer_words answer.now)) }
 {
@@ -50,7 +50,7 @@ fn write_answer<W: Write>(writer: &mut W, answer: &Answered) -> io::Result<()>
 impl Seated {
     /// Prints the line of a seat's answer, its end included, straight into the writer: `SEAT ok`, `SEAT ok DATA` or
     /// `SEAT err NUMBER NAME`. The one error is the writer's own; then part of the line may stand in it.
-    #[tactic(auto, using(lines::proofs::Written::appends_more))]
+    #[tactic(auto, using(words::proofs::Written::appends_more))]
     pub fn write_to<W: Write>(&self, writer: &mut W) -> io::Result<()>
         ensures { OnOk result (Appends (W.contents writer.old) (W.contents writer.new) (seated_text self.now)) }
     {

@@ -13,7 +13,7 @@ use Rattle.reply.specs.declared.Reply.TheVariants.{Done, Refused}
 use Rattle.reply.specs.Texts.{text_of}
 use Rattle.runner.specs.declared.summary.Summary.{Summary}
 use Rattle.runner.specs.Counts.{with_reply}
-use Rattle.block_lines.specs.Blocks.{Lines}
+use Rattle.command.specs.Blocks.{Lines}
 use Rattle.block_run.specs.Looking.{block_refusal}
 use Rattle.runner.specs.Output.{Outcome, Standing, counted, followed, printed}
 use Rattle.runner.specs.Sessions.{IsBlockBy, IsBlockDone, refuses}

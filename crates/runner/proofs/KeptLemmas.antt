@@ -5,13 +5,13 @@ use Rattle.std.proofs.lemmas.Bool.{cases_lt}
 use borrow.Author.Tests.{tests}
 use Rattle.sector.specs.declared.refusal.Refusal.{Refusal}
 use Rattle.sector.specs.declared.refusal.Refusal.TheVariants.{BadTable}
-use Rattle.lines.specs.Lines.{IsKept}
+use Rattle.words.specs.Lines.{IsKept}
 use Rattle.command.proofs.Kept.{said_kept}
 use Rattle.command.specs.Line.{said_of}
 use Rattle.command.specs.declared.grammar.Command.{Command}
-use Rattle.block_lines.specs.Blocks.{Lines, ends_block, with_line, with_said}
-use Rattle.block_lines.specs.Lines.{ends_with, said_in}
-use Rattle.block_lines.specs.Opening.{has_par, is_par}
+use Rattle.command.specs.Blocks.{Lines, ends_block, with_line, with_said}
+use Rattle.command.specs.Lines.{ends_with, said_in}
+use Rattle.command.specs.Opening.{has_par, is_par}
 use Rattle.plain.specs.declared.request.Replied.{Replied}
 use Rattle.reply.specs.declared.Reply.{Reply}
 use Rattle.command_rules.specs.State.{Table}

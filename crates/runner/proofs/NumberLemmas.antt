@@ -5,9 +5,9 @@ use Rattle.std.specs.List.{after_first, before_first, flat_map, list_any, positi
 use Rattle.std.specs.Io.KnownBytes.{Appends}
 use Rattle.std.proofs.Math.Seq.{take-length}
 use Rattle.std.proofs.lemmas.List.{append-nil}
-use Rattle.lines.specs.Lines.{begin_with, is_end, lines_of}
-use Rattle.lines.proofs.Parts.{after_some, any_none, any_some, before_some}
-use Rattle.lines.proofs.Written.{WritesOn, ends, starts, writes_on}
+use Rattle.words.specs.Lines.{begin_with, is_end, lines_of}
+use Rattle.words.proofs.LineParts.{after_some, any_none, any_some, before_some}
+use Rattle.words.proofs.Written.{WritesOn, ends, starts, writes_on}
 use Rattle.runner.specs.Numbered.{numbered, numbered_line}
 use Rattle.runner.proofs.PartLemmas.{any_here, any_more, before_more}
 

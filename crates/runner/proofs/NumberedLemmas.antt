@@ -5,10 +5,10 @@ use Rattle.std.specs.List.{count_by}
 use Rattle.std.specs.Io.KnownBytes.{Appends, Keeps}
 use Rattle.std.proofs.lemmas.List.{append-nil}
 use Rattle.std.proofs.lemmas.Grind.{flat_map-append}
-use Rattle.lines.proofs.Written.{appends_more}
-use Rattle.lines.specs.Lines.{left, lines_of, ReadsLine}
+use Rattle.words.proofs.Written.{appends_more}
+use Rattle.words.specs.Lines.{left, lines_of, ReadsLine}
 use Rattle.words.proofs.Bools.{and-split}
-use Rattle.block_lines.specs.Opening.{is_par}
+use Rattle.command.specs.Opening.{is_par}
 use Rattle.command_rules.specs.Sound.{is_sound}
 use Rattle.command_rules.specs.State.{Table}
 use Rattle.reply.specs.declared.Reply.{Reply}

@@ -4,8 +4,8 @@ use Rattle.std.proofs.lemmas.Bool.{lt-ltb}
 use Rattle.std.proofs.lemmas.List.{append-nil, length-take, length-append}
 use Rattle.std.proofs.lemmas.Grind.{common_steps}
 use Rattle.std.specs.List.{after_first, before_first, list_any, position_or_len}
-use Rattle.lines.specs.Lines.{is_end, left}
-use Rattle.lines.proofs.LineLemmas.{WithinLine, part_of_line}
+use Rattle.words.specs.Lines.{is_end, left}
+use Rattle.words.proofs.LineLemmas.{WithinLine, part_of_line}
 
 -- whether a line has begun: it has a byte
 abbrev pub has_bytes : List ℕ → Bool

@@ -6,10 +6,10 @@ use Rattle.std.specs.Io.KnownBytes.{Appends, Keeps}
 use Rattle.std.proofs.lemmas.List.{append-nil}
 use Rattle.std.proofs.lemmas.Grind.{flat_map-append}
 use Rattle.words.proofs.Bools.{and-split}
-use Rattle.lines.proofs.Written.{appends_more}
-use Rattle.lines.specs.Lines.{left, lines_of, ReadsLine}
-use Rattle.block_lines.specs.Blocks.{Lines}
-use Rattle.block_lines.specs.Opening.{is_par}
+use Rattle.words.proofs.Written.{appends_more}
+use Rattle.words.specs.Lines.{left, lines_of, ReadsLine}
+use Rattle.command.specs.Blocks.{Lines}
+use Rattle.command.specs.Opening.{is_par}
 use Rattle.reply.specs.declared.Reply.{Reply}
 use Rattle.reply.specs.Texts.{text_of}
 use Rattle.runner.specs.declared.error.RunError.{RunError}

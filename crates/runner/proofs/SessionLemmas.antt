@@ -4,9 +4,9 @@ use Rattle.std.specs.Prelude.{Result, Ok, Err}
 use Rattle.std.specs.Io.KnownBytes.{Appends}
 use Rattle.sector.specs.declared.refusal.Refusal.{Refusal}
 use Rattle.sector.specs.declared.refusal.Refusal.TheVariants.{NoMemory}
-use Rattle.block_lines.specs.Blocks.{Lines, ends_block, opened, with_line}
-use Rattle.block_lines.specs.Opening.{opening_of}
-use Rattle.block_lines.specs.declared.opening.Opening.{Opening}
+use Rattle.command.specs.Blocks.{Lines, ends_block, opened, with_line}
+use Rattle.command.specs.Opening.{opening_of}
+use Rattle.command.specs.declared.opening.Opening.{Opening}
 use Rattle.command_rules.specs.State.{Table}
 use Rattle.reply.specs.declared.Reply.{Reply}
 use Rattle.reply.specs.declared.Reply.TheVariants.{Refused}

@@ -3,7 +3,7 @@ use Rattle.std.specs.Prelude.{◌==◌, ◌≢◌, ◌≤◌, ◌^◌, ◌-◌, 
 use Rattle.std.specs.IoError.{error_kind}
 use Rattle.std.specs.Io.KnownBytes.{Keeps}
 use Rattle.std.specs.declared.io.ErrorKind.TheVariants.{Interrupted}
-use Rattle.lines.specs.Lines.{lines_of}
+use Rattle.words.specs.Lines.{lines_of}
 use Rattle.runner.specs.declared.error.RunError.{RunError}
 use Rattle.runner.specs.declared.error.RunError.TheVariants.{Memory, Read, Write, Endless}
 use Rattle.runner.specs.declared.summary.Summary.{Summary}

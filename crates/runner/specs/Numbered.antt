@@ -1,7 +1,7 @@
 -- What is printed with the number of each line of commands before its answers. It is this project's own.
 use Rattle.std.specs.Prelude.{◌≡◌, ℕ, ◌+◌, List, [], ◌∷◌, ◌++◌, codes, decimal}
 use Rattle.std.specs.List.{flat_map}
-use Rattle.lines.specs.Lines.{lines_of}
+use Rattle.words.specs.Lines.{lines_of}
 use Rattle.reply.specs.declared.Reply.{Reply}
 use Rattle.command_rules.specs.State.{Table}
 use Rattle.runner.specs.Output.{Outcome, empty, outcome_of, printed}

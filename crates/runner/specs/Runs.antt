@@ -1,6 +1,6 @@
 -- A run of any text, line by line, where a block of lines may be open. This project's own.
 use Rattle.std.specs.Prelude.{◌≡◌, ℕ, true, List, [], ◌∷◌, ◌++◌, None}
-use Rattle.lines.specs.Lines.{lines_of}
+use Rattle.words.specs.Lines.{lines_of}
 use Rattle.command_rules.specs.Sound.{is_sound}
 use Rattle.reply.specs.declared.Reply.{Reply}
 use Rattle.runner.specs.Counts.{summary_of}

@@ -3,9 +3,9 @@ use Rattle.std.specs.Prelude.{◌≡◌, ◌⊎◌, ℕ, true, false, List, [], 
 use Rattle.std.specs.List.{All}
 use Rattle.sector.specs.declared.refusal.Refusal.{Refusal}
 use Rattle.sector.specs.declared.refusal.Refusal.TheVariants.{NoMemory}
-use Rattle.block_lines.specs.Blocks.{Lines, ends_block, opened, with_line}
-use Rattle.block_lines.specs.Opening.{is_par, opening_of}
-use Rattle.block_lines.specs.declared.opening.Opening.{Opening}
+use Rattle.command.specs.Blocks.{Lines, ends_block, opened, with_line}
+use Rattle.command.specs.Opening.{is_par, opening_of}
+use Rattle.command.specs.declared.opening.Opening.{Opening}
 use Rattle.command_rules.specs.State.{Table}
 use Rattle.block_run.specs.Answering.{AreAnswered}
 use Rattle.block_run.specs.Looking.{block_refusal}

@@ -4,8 +4,8 @@
 use Rattle.std.specs.Prelude.{ℕ, Bool, true, false, ◌&&◌, not, List, Option, Some, None, Result, Ok, Err}
 use Rattle.std.specs.List.{list_all}
 use Rattle.sector.specs.declared.refusal.Refusal.{Refusal}
-use Rattle.lines.specs.Lines.{lines_of}
-use Rattle.block_lines.specs.Opening.{is_par}
+use Rattle.words.specs.Lines.{lines_of}
+use Rattle.command.specs.Opening.{is_par}
 use Rattle.command.specs.Line.{said_of}
 use Rattle.command.specs.declared.grammar.Command.{Command}
 use Rattle.command.specs.declared.grammar.Command.TheVariants as commands

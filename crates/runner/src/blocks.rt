@@ -10,7 +10,7 @@ ghost use Rattle.runner.specs.Sessions.{IsBlockDone, refuses};
 
 use crate::desk::Desk;
 use crate::error::RunError;
-use block_lines::Block;
+use command::Block;
 use block_run::run_block;
 use reply::Reply;
 use sector::Refusal;

@@ -14,7 +14,7 @@ use crate::reading::next_line;
 use crate::session::Session;
 use crate::summary::Summary;
 use command::LINE_LIMIT;
-use lines::LineBuffer;
+use words::LineBuffer;
 use std::alloc::Global;
 use std::io::{Read, Write};
 use std::sync::Wait;

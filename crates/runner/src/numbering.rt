@@ -1,7 +1,7 @@
 // The number of a line of commands, before each line that it answers.
 ghost use Rattle.std.specs.Prelude.{◌≡◌, ◌<◌, [], ◌∷◌, length, position, IfErr, IfSome, OnOk};
 ghost use Rattle.std.specs.Io.KnownBytes.{Appends};
-ghost use Rattle.lines.specs.Lines.{is_end, lines_of};
+ghost use Rattle.words.specs.Lines.{is_end, lines_of};
 ghost use Rattle.runner.specs.Exit.{IsWriters};
 ghost use Rattle.runner.specs.Numbered.{numbered, numbered_line};
 
@@ -32,7 +32,7 @@ fn first_line(text: &[u8]) -> (&[u8], &[u8])
 }
 
 /// Prints a line, its number before it. The one error is the writer's own.
-#[tactic(auto, using(lines::proofs::Written::appends_more))]
+#[tactic(auto, using(words::proofs::Written::appends_more))]
 fn print_line<W: Write>(writer: &mut W, number: u64, line: &[u8]) -> io::Result<()>
     ensures { OnOk result (Appends (W.contents writer.old) (W.contents writer.new) (numbered_line number line.now)) }
 {

@@ -1,12 +1,12 @@
 // The next line of a text, asked for once what was printed is written out.
 ghost use Rattle.std.specs.Prelude.{◌<◌, ◌≤◌, IfErr, IfOk, vec_capacity};
 ghost use Rattle.std.specs.Io.KnownBytes.{Keeps};
-ghost use Rattle.lines.specs.Lines.{left, ReadsLine};
+ghost use Rattle.words.specs.Lines.{left, ReadsLine};
 ghost use Rattle.runner.specs.Exit.{IsStreams};
 
 use crate::error::RunError;
 use command::LINE_LIMIT;
-use lines::LineBuffer;
+use words::LineBuffer;
 use std::io;
 use std::io::{ErrorKind, Read, Write};
 
@@ -17,7 +17,7 @@ use std::io::{ErrorKind, Read, Write};
 /// so far before the next is waited for. A line that was read ahead is taken without either. What the writer holds stays the
 /// same. The one error is a stream's own: `RunError::Write`, or `RunError::Read`, which is no interruption; then part of a line
 /// may have been taken.
-#[tactic(auto, using(lines::proofs::LineLemmas::within_start, lines::proofs::LineLemmas::within_kept, lines::proofs::LineLemmas::end_of_text, lines::proofs::LineLemmas::end_of_line, lines::proofs::Known::keeps_same, lines::proofs::Known::keeps_more))]
+#[tactic(auto, using(words::proofs::LineLemmas::within_start, words::proofs::LineLemmas::within_kept, words::proofs::LineLemmas::end_of_text, words::proofs::LineLemmas::end_of_line, words::proofs::Known::keeps_same, words::proofs::Known::keeps_more))]
 pub fn next_line<R: Read, W: Write>(
     reader: &mut R,
     writer: &mut W,

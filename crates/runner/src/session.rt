@@ -8,13 +8,12 @@ ghost use Rattle.runner.specs.Output.{Outcome, followed, printed};
 ghost use Rattle.runner.specs.Runs.{begun};
 ghost use Rattle.runner.specs.Sessions.{IsEndedBy, IsOpenedBy, IsSessionDone};
 ghost use Rattle.runner.specs.Sound.{is_sound_line};
-ghost use Rattle.block_lines.specs.Opening.{opening_of};
+ghost use Rattle.command.specs.Opening.{opening_of};
 
 use crate::desk::Desk;
 use crate::error::RunError;
 use crate::summary::Summary;
-use block_lines::{Block, is_par, opening_by};
-use command::LINE_LIMIT;
+use command::{is_par, opening_by, Block, LINE_LIMIT};
 use std::alloc::Global;
 use std::io::Write;
 use std::marker::Model;

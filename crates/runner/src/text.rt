@@ -1,7 +1,7 @@
 // A whole text of lines.
 ghost use Rattle.std.specs.Prelude.{◌≡◌, ◌≤◌, ◌++◌, true, List, IfOk, IfErr, IfSome};
 ghost use Rattle.std.specs.Io.KnownBytes.{Appends};
-ghost use Rattle.lines.specs.Lines.{lines_of};
+ghost use Rattle.words.specs.Lines.{lines_of};
 ghost use Rattle.reply.specs.declared.Reply.{Reply};
 ghost use Rattle.runner.specs.Counts.{summary_of};
 ghost use Rattle.runner.specs.Exit.{IsEarly, IsWriters};
@@ -14,7 +14,7 @@ use crate::reading::next_line;
 use crate::session::Session;
 use crate::summary::Summary;
 use command::LINE_LIMIT;
-use lines::LineBuffer;
+use words::LineBuffer;
 use std::alloc::Global;
 use std::io::{Read, Write};
 use std::sync::Wait;

@@ -7,7 +7,7 @@ use Rattle.byteorder.specs.Numbers.{little_number-reads_back}
 use Rattle.sector.specs.Number.{number_at, number_bytes}
 use Rattle.sector.specs.declared.pair.Pair.{Pair}
 use Rattle.sector.proofs.Numbers.{length-number_bytes, same_number, moved_number}
-use Rattle.numbers.proofs.Endian.{number_read}
+use Rattle.sector.proofs.Endian.{number_read}
 use Rattle.store_bytes.specs.Slots.{pair_in, pair_bytes, with_pair}
 use Rattle.settled.proofs.Parts.{part_inside, part_outside}
 

@@ -18,6 +18,10 @@ mod disks;
 #[cfg(test)]
 mod faults;
 #[cfg(test)]
+mod listed;
+#[cfg(test)]
+mod lives;
+#[cfg(test)]
 mod machine;
 #[cfg(test)]
 mod scenario;

@@ -1,3 +1,4 @@
 pub mod Grammar
 pub mod Printed
 pub mod Lawful
+pub mod Lines

@@ -7,7 +7,9 @@
 mod lines;
 mod printing;
 mod reading;
+mod status;
 
 pub use lines::{Features, Line, Target};
 pub use printing::print;
 pub use reading::{parse, parse_words};
+pub use status::{State, merge_line, origin_line, snapshot_line};

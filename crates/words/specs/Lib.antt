@@ -4,3 +4,4 @@ pub mod Words
 pub mod Word
 pub mod Numbers
 pub mod Names
+pub mod Lines

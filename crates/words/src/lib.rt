@@ -3,13 +3,17 @@
 //! exactly what its definition in `specs/` says; splitting a line into all its words alone takes memory, cutting off the first does not.
 #![tactic(auto)]
 
+mod ahead;
 mod line;
+mod lines;
 mod names;
 mod numbers;
 mod texts;
 mod word;
 
+pub use ahead::Ahead;
 pub use line::words_in;
+pub use lines::{LineBuffer, read_line};
 pub use names::{Name, is_a_name};
 pub use numbers::{number, numeral};
 pub use texts::Text;

@@ -2,8 +2,8 @@
 use Rattle.std.proofs.Common.{◌≡◌, ◌∷◌, [], suc, length, ap, subst, arith}
 use Rattle.std.specs.Vec.Iter.{into_iter_items}
 use Rattle.std.proofs.lemmas.List.{nil_from_length}
-use Rattle.block_lines.specs.Blocks.{AreSeats}
-use Rattle.block_lines.specs.declared.seat_line.SeatLine.{SeatLine}
+use Rattle.command.specs.Blocks.{AreSeats}
+use Rattle.command.specs.declared.seat_line.SeatLine.{SeatLine}
 use Rattle.named_volume.specs.Tables.{table_of}
 use Rattle.block_threads.specs.declared.task.Task.{Task}
 use Rattle.block_threads.specs.Tasks.{tasks_at}

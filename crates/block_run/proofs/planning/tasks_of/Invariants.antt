@@ -1,7 +1,7 @@
 -- The tasks of the first lines are there.
 use Rattle.std.proofs.Common.{◌≡◌, length}
 use Rattle.std.specs.Vec.Iter.{into_iter_items, into_iter_len}
-use Rattle.block_lines.specs.Blocks.{AreSeats}
+use Rattle.command.specs.Blocks.{AreSeats}
 use Rattle.named_volume.specs.Tables.{table_of}
 use Rattle.block_threads.specs.Tasks.{tasks_at}
 use Rattle.block_run.specs.Asking.{IsTask}

@@ -2,7 +2,7 @@
 use Rattle.std.proofs.Common.{◌≡◌, ◌++◌, Bool, List, Option, ℕ, map, ap, subst, ◌∙◌, arith}
 use Rattle.std.proofs.lemmas.List.Elements.{All-same}
 use Rattle.std.proofs.lemmas.Result.{IfOk-weaker}
-use Rattle.block_lines.specs.declared.seat_line.SeatLine.{SeatLine}
+use Rattle.command.specs.declared.seat_line.SeatLine.{SeatLine}
 use Rattle.named_volume.specs.Tables.{table_of}
 use Rattle.block_threads.specs.Tasks.{tasks_at}
 use Rattle.block_run.specs.Answering.{AreAsked, AreReplied}

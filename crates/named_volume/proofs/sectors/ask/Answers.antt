@@ -5,7 +5,7 @@ use Rattle.settled.specs.Devices.{sectors_of}
 use Rattle.command_rules.specs.Raw.{fits}
 use Rattle.command_rules.specs.Stacks.{device_of}
 use Rattle.layers.specs.Stack.{stack_size}
-use Rattle.named_stack.proofs.StackSizes.{size_of}
+use Rattle.named_volume.proofs.StackSizes.{size_of}
 use Rattle.named_volume.specs.Held.{settled_in}
 use Rattle.named_volume.proofs.Asks.{no_serve, no_dev, no_range, no_more, asks, fits_known}
 use Rattle.named_volume.proofs.sectors.ask.Goals as goal

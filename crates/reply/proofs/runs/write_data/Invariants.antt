@@ -1,5 +1,5 @@
 use Rattle.std.proofs.Common.{length}
-use Rattle.lines.proofs.Written.{WritesOn}
+use Rattle.words.proofs.Written.{WritesOn}
 use Rattle.reply.specs.Runs.{data_words}
 use Rattle.reply.proofs.runs.write_data.Given as goal
 

@@ -1,7 +1,7 @@
 use Rattle.std.proofs.Common.{rules, ◌≡◌, ◌+◌, ◌++◌, ◌∙◌, ap, [], refl, true, false}
 use Rattle.std.specs.Prelude.{IfErr}
 use Rattle.std.specs.Io.KnownBytes.{Appends}
-use Rattle.lines.specs.Lines.{left, ReadsLine}
+use Rattle.words.specs.Lines.{left, ReadsLine}
 use Rattle.runner.specs.Exit.{IsWriters}
 use Rattle.runner.specs.Numbered.{numbered}
 use Rattle.runner.specs.Output.{printed}

@@ -1,5 +1,5 @@
 use Rattle.std.proofs.Common.{◌<◌, vec_capacity}
-use Rattle.lines.specs.Lines.{left}
+use Rattle.words.specs.Lines.{left}
 use Rattle.runner.proofs.NumberedLemmas.{FollowsEach}
 use Rattle.runner.proofs.RunLemmas.{HasTaken}
 use Rattle.runner.proofs.numbered.run_numbered.Given as goal

@@ -1,6 +1,6 @@
 use Rattle.std.proofs.Common.{rules}
 use Rattle.runner.specs.Numbered.{numbered}
-use Rattle.lines.proofs.Written.{ends}
+use Rattle.words.proofs.Written.{ends}
 use Rattle.runner.proofs.NumberLemmas.{line_printed, none_printed}
 use Rattle.runner.proofs.numbering.print_lines.Goals as goal
 

@@ -1,5 +1,5 @@
 use Rattle.std.proofs.Common.{ℕ, length}
-use Rattle.lines.proofs.Written.{WritesOn}
+use Rattle.words.proofs.Written.{WritesOn}
 use Rattle.runner.specs.Numbered.{numbered}
 use Rattle.runner.proofs.numbering.print_lines.Given as goal
 

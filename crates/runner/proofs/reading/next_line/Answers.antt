@@ -1,8 +1,8 @@
 use Rattle.std.proofs.Common.{rules, ◌≡◌, ◌≤◌, ◌+◌, length, false}
 use Rattle.std.specs.List.{list_any}
 use Rattle.std.specs.Io.KnownBytes.{IsAtEnd, Keeps}
-use Rattle.lines.specs.Lines.{is_end, left}
-use Rattle.lines.proofs.LineLemmas.{WithinLine, end_of_text, short_part, within_kept}
+use Rattle.words.specs.Lines.{is_end, left}
+use Rattle.words.proofs.LineLemmas.{WithinLine, end_of_text, short_part, within_kept}
 use Rattle.runner.proofs.PartLemmas.{has_bytes, part_taken}
 use Rattle.runner.proofs.reading.next_line.Goals as goal
 

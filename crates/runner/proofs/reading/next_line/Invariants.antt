@@ -1,7 +1,7 @@
 use Rattle.std.proofs.Common.{◌≤◌, ◌+◌, length, vec_capacity}
 use Rattle.std.specs.Io.KnownBytes.{Keeps}
-use Rattle.lines.specs.Lines.{left}
-use Rattle.lines.proofs.LineLemmas.{WithinLine}
+use Rattle.words.specs.Lines.{left}
+use Rattle.words.proofs.LineLemmas.{WithinLine}
 use Rattle.runner.proofs.PartLemmas.{has_bytes}
 use Rattle.runner.proofs.reading.next_line.Given as goal
 

@@ -1,6 +1,6 @@
 use Rattle.std.proofs.Common.{◌≡◌, [], refl, rules, true, false}
 use Rattle.std.specs.Prelude.{IfErr}
-use Rattle.lines.specs.Lines.{left, ReadsLine}
+use Rattle.words.specs.Lines.{left, ReadsLine}
 use Rattle.runner.specs.Exit.{IsWriters}
 use Rattle.runner.specs.Runs.{begun}
 use Rattle.runner.proofs.RunLemmas.{starts_ahead, ahead_taken, goes_on, ends, ends_any, ends_exact, ends_counted, Early, Begun, ends_early, ends_begun, never_began, none_begun, at_error, at_writers, line_taken, written_out}

@@ -1,5 +1,5 @@
 use Rattle.std.proofs.Common.{◌<◌, vec_capacity}
-use Rattle.lines.specs.Lines.{left}
+use Rattle.words.specs.Lines.{left}
 use Rattle.runner.proofs.RunLemmas.{Follows, HasTaken}
 use Rattle.runner.proofs.text.run.Given as goal
 

@@ -1,6 +1,6 @@
 -- An open block takes a line.
 use Rattle.std.proofs.Common.{rules, ◌≡◌, false, Some, ap, sym, ◌∙◌}
-use Rattle.block_lines.specs.Blocks.{ends_block}
+use Rattle.command.specs.Blocks.{ends_block}
 use Rattle.runner.specs.Sessions.{Sitting}
 use Rattle.runner.proofs.SessionLemmas.{block_taken}
 use Rattle.runner.proofs.session.Session.line.Goals as goal

@@ -1,4 +1,0 @@
-pub mod Opening
-pub mod Lines
-pub mod Blocks
-pub mod Founds

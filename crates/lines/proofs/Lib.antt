@@ -1,4 +1,0 @@
-pub mod Known
-pub mod LineLemmas
-pub mod Parts
-pub mod Written

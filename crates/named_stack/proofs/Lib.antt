@@ -1,4 +1,0 @@
-pub mod Below
-pub mod DiskBelow
-pub mod StackSizes
-pub mod Losing

@@ -1,3 +1,0 @@
-pub mod Layout
-pub mod Requests
-pub mod Replies

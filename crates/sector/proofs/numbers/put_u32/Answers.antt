@@ -1,0 +1,18 @@
+use Rattle.std.proofs.Common.{arith, ◌≡◌, inl, inr, length}
+use Rattle.std.proofs.lemmas.List.{places}
+use Rattle.byteorder.specs.Endian.{little_bytes}
+use Rattle.byteorder.specs.Numbers.{length-bytes_low_first}
+use Rattle.sector.specs.Number.{number_bytes}
+use Rattle.sector.proofs.Endian.{past_put, put_is}
+use Rattle.sector.proofs.numbers.put_u32.Goals as goal
+
+pub returns-clause-rest : goal.returns-clause-rest
+returns-clause-rest c i (inl lo) =
+    let len : length (little_bytes 4 c.args.number) ≡ 4 = length-bytes_low_first 0 4 c.args.number in
+    rw c.write_u32.ensures (grind (arith, places))
+returns-clause-rest c i (inr hi) =
+    rw c.write_u32.ensures (past_put c.args.bytes.now (little_bytes 4 c.args.number) c.args.at 4 i (length-bytes_low_first 0 4 c.args.number) c.requires hi)
+
+pub returns-clause-all : goal.returns-clause-all
+unfolding number_bytes
+returns-clause-all c = rw c.write_u32.ensures (put_is c.args.bytes.now (little_bytes 4 c.args.number) c.args.at 4 (length-bytes_low_first 0 4 c.args.number) c.requires)
