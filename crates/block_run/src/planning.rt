@@ -14,10 +14,10 @@ ghost use Rattle.block_run.specs.Looking.{name_in};
 ghost use Rattle.block_run.specs.Running.{is_in, used_in};
 
 use crate::looking::name_in;
-use command::{SeatLine, Work};
 use block_threads::{Job, SEATS, Task};
+use command::{SeatLine, Work};
 use command_rules::{Place, Role};
-use named_volume::{find_device, range_in, whole_sectors, Held, NamedVolume};
+use named_volume::{Held, NamedVolume, find_device, range_in, whole_sectors};
 use plain::Dev;
 use reply::Reply;
 use sector::{Buf, Range, Refusal};

@@ -1,7 +1,7 @@
 // An image's words, and what answers tell of it.
 
-use image::{MemImage, MemSink};
 use command_images::{put_words, read_told};
+use image::{MemImage, MemSink};
 use std::alloc::Global;
 use std::io;
 use words::Name;

@@ -2,12 +2,12 @@
 ghost use Rattle.std.specs.Prelude.{◌≡◌, ◌*◌, ◌<◌, ◌≤◌, ◌++◌, IfOk, OnOk};
 ghost use Rattle.cow_answers.specs.Forms.{shown_by, map_by, raw_by, check_by, behind_by, salvaged_by};
 
+use crate::Form;
 use crate::answers::{check_lines, map_lines, raw_lines, shown_line, shown_lines};
 use crate::looking::Seen;
 use crate::note_objects::{push_behind_object, salvaged_json};
 use crate::notes::{Behind, Notes, push_behind_of, salvaged_lines};
 use crate::objects::{check_json, map_json, raw_json};
-use crate::Form;
 use cow_image::{Fault, Listed};
 use cow_kept::{Saved, Span};
 use cow_words::Numbers;

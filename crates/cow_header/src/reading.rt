@@ -5,7 +5,7 @@ ghost use Rattle.cow_header.specs.declared.found.Found.TheVariants.{Fresh, Heade
 
 use crate::{Found, MAGIC, VERSION};
 use chunk::is_chunk_size;
-use sector::{u32_at, Refusal};
+use sector::{Refusal, u32_at};
 
 /// What the first sector of a store says. The refusals, in this order: `BadHeader` for a magic number that is neither
 /// 0 nor `SnAp`, `BadVersion` for a version other than 1, `BadChunk` for a chunk size that is not allowed, and

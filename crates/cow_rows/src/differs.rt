@@ -1,8 +1,8 @@
 // Where a kernel's snapshot and its origin differ.
 
 use crate::merge_images::{WRITTEN_ORIGIN, WRITTEN_STORE, image_of};
-use cow_kept::differences;
 use cow_image::{Told, read_store};
+use cow_kept::differences;
 use std::process::Abort;
 use std::test::Fail;
 

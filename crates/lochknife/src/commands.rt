@@ -1,7 +1,10 @@
 // The commands that look at a store.
 ghost use Rattle.std.specs.Prelude.{◌<◌, ◌≤◌};
 
-use cow_answers::{all_faults, checked, chunk_listed, chunk_of, is_good, look, mapped, notes_of, push_behind, raw, shown, Behind, Form, Seen};
+use cow_answers::{
+    Behind, Form, Seen, all_faults, checked, chunk_listed, chunk_of, is_good, look, mapped,
+    notes_of, push_behind, raw, shown,
+};
 use cow_files::{Input, Trouble, held, of_input, printed, size_of};
 use cow_image::{Reason, Told, read_slots, sectors_of};
 use cow_kept::read_used;

@@ -8,10 +8,10 @@ ghost use Rattle.lochknife.specs.Arrays.{array_of};
 
 use crate::commands::seen_in;
 use crate::rolling::why_stopped;
-use cow_answers::{is_good, shown, Form, Seen};
-use cow_kept::{differences, Span, Undone};
+use cow_answers::{Form, Seen, is_good, shown};
 use cow_files::{Input, Trouble, held, printed, size_of};
 use cow_image::{Stopped, Told};
+use cow_kept::{Span, Undone, differences};
 use cow_words::{push_spans, push_spans_json};
 use image::Image;
 use std::alloc::{AllocError, Global};

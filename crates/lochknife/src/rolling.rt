@@ -3,7 +3,7 @@ ghost use Rattle.std.specs.Prelude.{◌≤◌};
 
 use crate::array::put_array;
 use crate::commands::seen_in;
-use cow_answers::{is_good, shown, Form, Seen};
+use cow_answers::{Form, Seen, is_good, shown};
 use cow_files::{
     Input, Trouble, Watched, Why, about, begun, ended, held, is_free, of_input, size_of,
     told_beside,

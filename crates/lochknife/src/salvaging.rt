@@ -2,7 +2,7 @@
 ghost use Rattle.std.specs.Prelude.{◌<◌, ◌≤◌, IfSome};
 
 use crate::rolling::{put_seen, roll, why_stopped};
-use cow_answers::{chunk_listed, is_good, is_whole, look, notes_of, salvaged, Form, Seen};
+use cow_answers::{Form, Seen, chunk_listed, is_good, is_whole, look, notes_of, salvaged};
 use cow_files::{
     Input, Trouble, Watched, about, begun, ended, held, is_free, of_input, size_of, told_beside,
 };

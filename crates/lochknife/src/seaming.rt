@@ -1,8 +1,8 @@
 // An image goes into a text of commands, and comes back from answers.
 
+use command_images::{MOST_SECTORS, Stopped, Untold, put_words, read_told};
 use cow_files::{Input, OUTPUT, Trouble, Watched, Why, about, begun, ended, is_free, size_of};
 use image::Sink;
-use command_images::{MOST_SECTORS, Stopped, Untold, put_words, read_told};
 use words::Name;
 
 /// Prints the lines of commands that make a disk of `dmrig` with the bytes of an image.

@@ -3,7 +3,7 @@ ghost use Rattle.std.specs.Prelude.{◌≡◌, ◌≢◌, ℕ, ◌+◌, ◌*◌,
 ghost use Rattle.store_bytes.specs.Slots.{pair_in, with_pair};
 ghost use Rattle.sector.specs.declared.refusal.Refusal.TheVariants.{NoMemory};
 
-use sector::{put_u64, u64_at, Pair, Refusal, SECTOR_BYTES};
+use sector::{Pair, Refusal, SECTOR_BYTES, put_u64, u64_at};
 use std::alloc::Global;
 
 /// The pairs of a sector of an area.

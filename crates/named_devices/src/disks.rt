@@ -7,7 +7,7 @@ ghost use Rattle.command_rules.specs.Naming.{AreNamed};
 ghost use Rattle.command_rules.specs.Sound.{is_sound};
 
 use device::{MAX_SECTORS, MemDisk};
-use named_volume::{find, is_full, Held, NamedStack};
+use named_volume::{Held, NamedStack, find, is_full};
 use sector::Refusal;
 use std::alloc::Global;
 use words::Name;

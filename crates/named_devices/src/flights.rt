@@ -23,7 +23,7 @@ ghost use Rattle.volume.specs.EventKinds.{is_of_merge};
 
 use command::Event;
 use command_rules::{Place, Role};
-use named_volume::{find_device, some_sectors, whole_sectors, Held};
+use named_volume::{Held, find_device, some_sectors, whole_sectors};
 use plain::{NotDue, Op, Outcome, Replied, ReqId, SnapId};
 use sector::{Buf, Refusal};
 use std::alloc::Global;

@@ -9,7 +9,7 @@ ghost use Rattle.command_rules.specs.Layers.{broken, features_of, laid, taken, t
 use command_rules::{Place, Role};
 use device::MAX_SECTORS;
 use layers::{Features, Flakey};
-use named_volume::{find_device, Held, NamedStack};
+use named_volume::{Held, NamedStack, find_device};
 use sector::Refusal;
 use std::alloc::Global;
 use words::Name;

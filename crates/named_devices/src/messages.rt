@@ -10,7 +10,7 @@ ghost use Rattle.command_rules.specs.declared.place.Place.TheVariants.{Free, In}
 
 use command_rules::{Place, Role};
 use layers::{Answer, Message};
-use named_volume::{find_device, Held, NamedStack, NamedVolume};
+use named_volume::{Held, NamedStack, NamedVolume, find_device};
 use sector::Refusal;
 use words::Name;
 

@@ -12,7 +12,7 @@ ghost use Rattle.command_rules.specs.declared.place.Place.TheVariants.{Free};
 
 use command_rules::{Place, Role};
 use device::{Block, MemDisk};
-use named_volume::{find_device, range_in, some_sectors, whole_sectors, Held, NamedVolume};
+use named_volume::{Held, NamedVolume, find_device, range_in, some_sectors, whole_sectors};
 use sector::{Buf, Refusal, SECTOR_BYTES};
 use std::alloc::Global;
 use words::Name;

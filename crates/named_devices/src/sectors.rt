@@ -15,7 +15,7 @@ ghost use Rattle.named_devices.specs.Flights.{IsDoneFor, IsFlushedAmong, IsReadA
 ghost use Rattle.named_devices.specs.Ruled.{is_quiet_in, is_sound_in, volume_for};
 
 use command_rules::{Place, Role};
-use named_volume::{find_device, some_sectors, whole_sectors, Held};
+use named_volume::{Held, find_device, some_sectors, whole_sectors};
 use plain::Replied;
 use sector::{Buf, Refusal};
 use std::alloc::Global;

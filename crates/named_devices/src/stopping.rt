@@ -10,7 +10,7 @@ ghost use Rattle.named_volume.specs.Tables.{table_of};
 ghost use Rattle.named_devices.specs.Stopping.{stopped_at};
 
 use crate::flights::origin_at;
-use named_volume::{find_device, Held, NamedStack, StoppedVolume};
+use named_volume::{Held, NamedStack, StoppedVolume, find_device};
 use sector::Refusal;
 use words::Name;
 

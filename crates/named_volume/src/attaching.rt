@@ -7,10 +7,10 @@ ghost use Rattle.command_rules.specs.Snapshots.{meet, parted};
 ghost use Rattle.named_volume.specs.Names.{IsNamedMore};
 ghost use Rattle.named_volume.specs.Taking.{IsNotMet};
 
+use crate::NamedStack;
 use crate::device_names::SnapNames;
 use crate::origin::NamedVolume;
 use crate::stored::look;
-use crate::NamedStack;
 use sector::Refusal;
 use snapshot::StoreDev;
 use std::alloc::Global;

@@ -5,8 +5,8 @@ ghost use Rattle.command_rules.specs.Places.{place_of, place_free, place_among, 
 ghost use Rattle.command_rules.specs.declared.place.Place.TheVariants.{Free, In};
 ghost use Rattle.command_rules.specs.Disks.{device_count, devices_in, devices_of};
 
-use crate::{NamedStack, NamedVolume};
 use crate::held::{Held, MOST_DEVICES};
+use crate::{NamedStack, NamedVolume};
 use command_rules::Place;
 use sector::Refusal;
 use words::Name;

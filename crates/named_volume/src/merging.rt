@@ -8,10 +8,10 @@ ghost use Rattle.command_rules.specs.Merging.{begun, finished, resumed};
 ghost use Rattle.named_volume.specs.Flights.{IsUnfinished};
 ghost use Rattle.named_volume.specs.Names.{IsNamedBegun, IsNamedLess};
 
+use crate::NamedStack;
 use crate::device_names::SnapNames;
 use crate::origin::NamedVolume;
 use crate::stored::look;
-use crate::NamedStack;
 use sector::Refusal;
 use std::alloc::Global;
 

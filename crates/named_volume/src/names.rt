@@ -8,9 +8,9 @@ ghost use Rattle.command_rules.specs.Lines.{line_in};
 ghost use Rattle.command_rules.specs.Raw.{raw_in};
 ghost use Rattle.command_rules.specs.Stacks.{device_of};
 
+use crate::{depth_in, disk_in, line_in};
 use device::MemDisk;
 use layers::Stack;
-use crate::{depth_in, disk_in, line_in};
 use sector::Refusal;
 use std::marker::Model;
 use table::Line;

@@ -9,9 +9,9 @@ ghost use Rattle.command_rules.specs.Disks.{devices_in, devices_merging, devices
 ghost use Rattle.command_rules.specs.Origins.{origin_on, stack_under};
 
 use crate::device_names::SnapNames;
+use crate::{NamedStack, depth_in, sectors_of};
 use command_rules::Role;
 use layers::Stack;
-use crate::{NamedStack, depth_in, sectors_of};
 use sector::Refusal;
 use std::alloc::Global;
 use std::marker::Model;

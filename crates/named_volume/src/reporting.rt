@@ -16,12 +16,12 @@ use crate::origin::NamedVolume;
 use crate::stored::{
     chunk_at, look, merging_chunk, merging_state, merging_store, state_at, store_at,
 };
+use crate::{disk_in, line_in, sectors_of};
 use command_rules::Role;
 use device::MemDisk;
-use crate::{disk_in, line_in, sectors_of};
 use sector::Refusal;
-use table::{merge_line, origin_line, snapshot_line, Line, State, Target};
 use std::alloc::Global;
+use table::{Line, State, Target, merge_line, origin_line, snapshot_line};
 use words::Text;
 
 impl NamedVolume {

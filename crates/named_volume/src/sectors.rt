@@ -13,9 +13,9 @@ ghost use Rattle.named_volume.specs.Held.{settled_in};
 ghost use Rattle.named_volume.specs.Names.{KeepsNames};
 
 use crate::origin::NamedVolume;
+use crate::{range_in, sectors_of};
 use command_rules::Role;
 use layers::Stack;
-use crate::{range_in, sectors_of};
 use plain::Dev;
 use sector::{Buf, Range, Refusal};
 use std::alloc::Global;

@@ -19,8 +19,8 @@ ghost use Rattle.layers.specs.Layer.{dust_layer, flakey_layer};
 ghost use Rattle.command_rules.specs.Places.{depth_in, is_among};
 
 use crate::bottom::disk_in;
-use crate::lines::line_in;
 use crate::device_names::{depth_in, one_name};
+use crate::lines::line_in;
 use crate::sizes::range_in;
 use crate::told::tell_stack;
 use device::{Block, MemDisk};

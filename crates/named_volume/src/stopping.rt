@@ -6,10 +6,10 @@ ghost use Rattle.command_rules.specs.Stopping.{stopped};
 ghost use Rattle.named_volume.specs.Stopping.{earlier_than};
 ghost use Rattle.volume.specs.Asking.{merging_number};
 
+use crate::NamedStack;
 use crate::origin::NamedVolume;
 use crate::stack_names::StackNames;
 use layers::Stack;
-use crate::NamedStack;
 use std::marker::Model;
 use volume::Stopped;
 use volume_commands::Resting;

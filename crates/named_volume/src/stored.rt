@@ -12,9 +12,9 @@ ghost use Rattle.command_rules.specs.Status.{merge_state, state_of};
 ghost use Rattle.named_volume.specs.Held.{merged_inside, settled_in, IsSettledIn};
 ghost use Rattle.named_volume.specs.Status.{IsStateAt};
 
+use crate::sectors_of;
 use chunk_alloc::Usage;
 use layers::Stack;
-use crate::sectors_of;
 use plain::{Overflowing, SnapId};
 use table::State;
 use volume_commands::Resting;

@@ -7,7 +7,7 @@ ghost use Rattle.nbd_server.specs.Talk.{AreArrays, Talk, Turn, beginning};
 use crate::session::{Session, Stage};
 use crate::stopped::Stopped;
 use crate::turning::turn;
-use crate::{push_greeting, Export, Served};
+use crate::{Export, Served, push_greeting};
 use std::alloc::Global;
 use std::io::{ErrorKind, Read, Write};
 

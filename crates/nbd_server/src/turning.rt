@@ -13,7 +13,10 @@ use crate::hearing::{fill, skip};
 use crate::replying::reply;
 use crate::session::{Place, Session, Stage};
 use crate::stopped::Stopped;
-use crate::{asked_in, request_in, u32_at, Asked, Command, Export, Request, Served, ASKED_BYTES, REQUEST_BYTES};
+use crate::{
+    ASKED_BYTES, Asked, Command, Export, REQUEST_BYTES, Request, Served, asked_in, request_in,
+    u32_at,
+};
 use std::io::Read;
 
 /// The longest data of an option that are looked at.

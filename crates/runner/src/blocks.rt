@@ -10,8 +10,8 @@ ghost use Rattle.runner.specs.Sessions.{IsBlockDone, refuses};
 
 use crate::desk::Desk;
 use crate::error::RunError;
-use command::Block;
 use block_run::run_block;
+use command::Block;
 use reply::Reply;
 use sector::Refusal;
 use std::io;

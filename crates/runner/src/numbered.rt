@@ -14,11 +14,11 @@ use crate::reading::next_line;
 use crate::session::Session;
 use crate::summary::Summary;
 use command::LINE_LIMIT;
-use words::LineBuffer;
 use std::alloc::Global;
 use std::io::{Read, Write};
 use std::sync::Wait;
 use std::thread::Threads;
+use words::LineBuffer;
 
 /// Does what `run` does, and prints before each line that a line of the text answers that line's number, counted from 1, and a space.
 /// Comments and empty lines count. A block's answers have the number of the line that ends it; where the text's end does, that

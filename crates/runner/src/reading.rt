@@ -6,9 +6,9 @@ ghost use Rattle.runner.specs.Exit.{IsStreams};
 
 use crate::error::RunError;
 use command::LINE_LIMIT;
-use words::LineBuffer;
 use std::io;
 use std::io::{ErrorKind, Read, Write};
+use words::LineBuffer;
 
 /// Reads the next line into the buffer, without its end, and says whether there was one. Of a line of more than 65,536 bytes
 /// the buffer holds more than 65,536.

@@ -13,7 +13,7 @@ ghost use Rattle.command.specs.Opening.{opening_of};
 use crate::desk::Desk;
 use crate::error::RunError;
 use crate::summary::Summary;
-use command::{is_par, opening_by, Block, LINE_LIMIT};
+use command::{Block, LINE_LIMIT, is_par, opening_by};
 use std::alloc::Global;
 use std::io::Write;
 use std::marker::Model;

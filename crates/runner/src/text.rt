@@ -14,11 +14,11 @@ use crate::reading::next_line;
 use crate::session::Session;
 use crate::summary::Summary;
 use command::LINE_LIMIT;
-use words::LineBuffer;
 use std::alloc::Global;
 use std::io::{Read, Write};
 use std::sync::Wait;
 use std::thread::Threads;
+use words::LineBuffer;
 
 /// Does the lines of a text to its end, prints what each answers and nothing else, and counts what was printed. The end of the
 /// text ends a block that is still open. `workers` is the number of copy workers that a block has, 1 to 4.

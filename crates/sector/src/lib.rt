@@ -3,13 +3,13 @@
 #![tactic(auto)]
 
 mod buf;
-mod numbers;
+mod little_endian;
 mod pair;
 mod range;
 mod refusal;
 
 pub use buf::Buf;
-pub use numbers::{put_u32, put_u64, u32_at, u64_at};
+pub use little_endian::{put_u32, put_u64, u32_at, u64_at};
 pub use pair::{Chunk, Pair, Sector};
 pub use range::Range;
 pub use refusal::Refusal;

@@ -4,7 +4,7 @@ use Rattle.byteorder.specs.Endian.{little_bytes}
 use Rattle.byteorder.specs.Numbers.{length-bytes_low_first}
 use Rattle.sector.specs.Number.{number_bytes}
 use Rattle.sector.proofs.Endian.{past_put, put_is}
-use Rattle.sector.proofs.numbers.put_u32.Goals as goal
+use Rattle.sector.proofs.little_endian.put_u32.Goals as goal
 
 pub returns-clause-rest : goal.returns-clause-rest
 returns-clause-rest c i (inl lo) =
