@@ -1,10 +1,10 @@
-//! Command lines: what a line of the command file says.
+//! Command lines: what a line of the command file says, and the lines of a block, which are to run at once.
 //!
 //! It stands on `words` for the forms of words, names and numbers, on `table` for table lines, on `layers` for messages,
 //! and on `sector` for data and refusals. It promises that a line is read exactly as the grammar in `specs/` says
 //! (`said_of`, and below it one definition for each command), with the first refusal in the stated order. Nothing but
 //! want of memory can change an answer. It knows no device: whether a name is there, and what the command does, is the
-//! caller's.
+//! caller's. A block is what its lines say, one after the other (`with_line`), with the first of its refusals (`first_refusal`).
 #![tactic(auto)]
 
 mod block;

@@ -1,5 +1,6 @@
 //! The units of every layer: sectors, chunks, runs of sectors, whole sectors of bytes, pairs of chunks,
-//! and why a call is refused. It stands on nothing, and promises that a `Range` lies inside its size.
+//! the little-endian numbers of a store's bytes, and why a call is refused. It stands on `byteorder` alone, and promises that a
+//! `Range` lies inside its size, and that a number is the one in the bytes from its offset on.
 #![tactic(auto)]
 
 mod buf;

@@ -1,6 +1,5 @@
-// The little-endian numbers of a store's bytes, read and written at an offset. It stands on `byteorder`, and
-// says each number by `number_at`: so many bytes from an offset on, the lowest first.
-
+// The little-endian numbers of a store's bytes, read and written at an offset: `number_at` says each, so many bytes from an
+// offset on, the lowest first.
 ghost use Rattle.std.specs.Prelude.{◌≡◌, ◌⊎◌, ℕ, ◌+◌, ◌<◌, ◌≤◌, length, slice_index};
 ghost use Rattle.sector.specs.Bytes.{with_part};
 ghost use Rattle.sector.specs.Number.{number_at, number_bytes};

@@ -1,8 +1,5 @@
-// Status lines of origins, snapshots and merges, as the kernel's admin-guide page on snapshots has them.
-//
-// It stands on `words` for texts. It promises that each line is the one of its definition in `specs/`, byte by byte.
-// What the numbers of a line are is the caller's; only want of memory keeps a line from being made.
-
+// Status lines of origins, snapshots and merges, as the kernel's admin-guide page on snapshots has them. What the numbers of a
+// line are is the caller's; only want of memory keeps a line from being made.
 ghost use Rattle.std.specs.Prelude.{◌≡◌, ◌++◌, OnOk, IfOk, decimal};
 ghost use Rattle.table.specs.Lines.{origin_text, snapshot_text, merge_text, stated_text, state_text};
 

@@ -1,10 +1,5 @@
-// Lines of a text, read one at a time into a buffer of a fixed size.
-//
-// It stands on std's readers alone. It promises that each call takes exactly one line from what is left, which is what was read
-// ahead and what the reader still has, and that no line, however long, takes memory beyond the buffer. The lemmas on what a
-// writer holds after one write and another (`proofs/Written.antt`) stand here too, since every crate above that prints uses
-// them.
-
+// Lines of a text, read one at a time into a buffer of a fixed size: each call takes exactly one line from what is left, which
+// is what was read ahead and what the reader still has.
 ghost use Rattle.std.specs.Prelude.{◌≡◌, ◌≢◌, ◌+◌, ◌<◌, ◌≤◌, [], ◌++◌, length, take, IfErr, IfOk, MatchBool, vec_capacity, vec_len};
 ghost use Rattle.std.specs.IoError.{error_kind};
 ghost use Rattle.std.specs.declared.io.ErrorKind.TheVariants.{Interrupted};
