@@ -7,7 +7,7 @@ ghost use Rattle.command.specs.Line.{is_silent};
 ghost use Rattle.command.specs.Lines.{IsSeat, IsSeatSaid, ends_with, is_end, line_of, outside_by, outside_of, said_in, seat_of, work_of};
 
 use crate::seat_line::{SeatLine, Work};
-use command::{Command, LINE_LIMIT};
+use crate::{Command, LINE_LIMIT};
 use sector::Refusal;
 use std::alloc::Global;
 use words::{Name, after_word, first_word, numeral};
@@ -78,7 +78,7 @@ fn outside(rest: &[u8]) -> Result<Work, Refusal>
 fn work(alloc: Global, rest: &[u8]) -> Result<Work, Refusal>
     ensures { Gives result (work_of rest.now) }
 {
-    match command::said(alloc, rest, LINE_LIMIT) {
+    match crate::said(alloc, rest, LINE_LIMIT) {
         Ok(Some(Command::Read { name, first, count })) => Ok(Work::Read { name, first, count }),
         Ok(Some(Command::Write { name, first, bytes })) => Ok(Work::Write { name, first, bytes }),
         Ok(Some(Command::Merge { name })) => Ok(Work::Merge { name }),

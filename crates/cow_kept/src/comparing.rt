@@ -2,8 +2,8 @@
 ghost use Rattle.std.specs.Prelude.{◌≡◌, ℕ, ◌+◌, ◌*◌, ◌≤◌, List, length, OnOk, take, drop};
 ghost use Rattle.cow_kept.specs.Differences.{AreDifferences};
 
+use crate::Span;
 use crate::joining::add_sector;
-use cow_kept::Span;
 use std::alloc::AllocError;
 
 /// Compares so many sectors of two arrays from one on, by the bytes that were read of both, and adds those that differ.

@@ -6,9 +6,9 @@ ghost use Rattle.cow_image.specs.Sorted.{IsRisingBy, old_of};
 ghost use Rattle.cow_image.specs.Shown.{shown};
 ghost use Rattle.cow_kept.specs.Differences.{AreDifferences};
 
+use crate::Span;
 use crate::comparing::compare;
 use cow_image::{CowMap, run_at, show_range};
-use cow_kept::Span;
 use image::Image;
 use sector::Pair;
 use std::alloc::Global;

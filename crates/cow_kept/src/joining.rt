@@ -4,7 +4,7 @@ ghost use Rattle.sector.specs.Bytes.{sector_at};
 ghost use Rattle.cow_kept.specs.declared.span.Span.{Span};
 ghost use Rattle.cow_kept.specs.Differences.{AreDifferences};
 
-use cow_kept::Span;
+use crate::Span;
 use std::alloc::AllocError;
 
 /// Adds a sector in which two arrays differ, behind those that are told: to the last span, where it follows that.

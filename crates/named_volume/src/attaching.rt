@@ -8,7 +8,7 @@ ghost use Rattle.named_volume.specs.Names.{IsNamedMore};
 ghost use Rattle.named_volume.specs.Taking.{IsNotMet};
 
 use crate::NamedStack;
-use crate::device_names::SnapNames;
+use crate::names::SnapNames;
 use crate::origin::NamedVolume;
 use crate::stored::look;
 use sector::Refusal;

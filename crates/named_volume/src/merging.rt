@@ -9,7 +9,7 @@ ghost use Rattle.named_volume.specs.Flights.{IsUnfinished};
 ghost use Rattle.named_volume.specs.Names.{IsNamedBegun, IsNamedLess};
 
 use crate::NamedStack;
-use crate::device_names::SnapNames;
+use crate::names::SnapNames;
 use crate::origin::NamedVolume;
 use crate::stored::look;
 use sector::Refusal;

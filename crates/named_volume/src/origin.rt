@@ -8,7 +8,7 @@ ghost use Rattle.command_rules.specs.Places.{role_of, role_among, role_merging, 
 ghost use Rattle.command_rules.specs.Disks.{devices_in, devices_merging, devices_under};
 ghost use Rattle.command_rules.specs.Origins.{origin_on, stack_under};
 
-use crate::device_names::SnapNames;
+use crate::names::SnapNames;
 use crate::{NamedStack, depth_in, sectors_of};
 use command_rules::Role;
 use layers::Stack;

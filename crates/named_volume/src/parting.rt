@@ -7,7 +7,7 @@ ghost use Rattle.command_rules.specs.Naming.{merging_sum, names_sum, volume_sum}
 ghost use Rattle.volume.specs.Leaving.{is_quiet_of};
 ghost use Rattle.named_volume.specs.Parting.{HasAll, HasBegun, IsParted, named_with, parts_sum, place_begun, with_begun, with_requests};
 
-use crate::device_names::SnapNames;
+use crate::names::SnapNames;
 use crate::origin::NamedVolume;
 use crate::stopping::earlier;
 use layers::Stack;

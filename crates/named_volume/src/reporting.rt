@@ -11,7 +11,7 @@ ghost use Rattle.command_rules.specs.Raw.{raw_in_merging, raw_under};
 ghost use Rattle.command_rules.specs.Status.{status_in};
 ghost use Rattle.named_volume.specs.Status.{IsStatusOf, status_flying};
 
-use crate::device_names::SnapNames;
+use crate::names::SnapNames;
 use crate::origin::NamedVolume;
 use crate::stored::{
     chunk_at, look, merging_chunk, merging_state, merging_store, state_at, store_at,

@@ -2,7 +2,7 @@
 ghost use Rattle.std.specs.Prelude.{◌≡◌, [], ◌∷◌, IfNone, IfSome};
 ghost use Rattle.named_volume.specs.Stopping.{names_with};
 
-use crate::device_names::SnapNames;
+use crate::names::SnapNames;
 use std::marker::Model;
 use words::Name;
 
