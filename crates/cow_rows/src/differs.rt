@@ -1,6 +1,6 @@
 // Where a kernel's snapshot and its origin differ.
 
-use crate::merge_images::{WRITTEN_ORIGIN, WRITTEN_STORE, image_of};
+use crate::images::{WRITTEN_ORIGIN, WRITTEN_STORE, image_of};
 use cow_image::{Told, read_store};
 use cow_kept::differences;
 use std::process::Abort;

@@ -1,6 +1,6 @@
 // What a snapshot shows is written out.
 
-use crate::merge_images::{WRITTEN_ORIGIN, WRITTEN_SHOWN, WRITTEN_STORE, bytes_of, image_of};
+use crate::images::{WRITTEN_ORIGIN, WRITTEN_SHOWN, WRITTEN_STORE, bytes_of, image_of};
 use cow_image::{CowMap, Stopped, Told, export, export_fresh, read_store};
 use image::{FailingImage, MemSink};
 use std::alloc::Global;

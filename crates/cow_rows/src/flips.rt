@@ -1,6 +1,6 @@
 // A store with one bit flipped, beside a slow plain judge.
 
-use crate::merge_images::{WRITTEN_STORE, image_of};
+use crate::images::{WRITTEN_STORE, image_of};
 use cow_image::{Told, read_store};
 use std::alloc::Global;
 use std::test::Fail;

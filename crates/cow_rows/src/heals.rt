@@ -1,7 +1,7 @@
 // What is kept of damaged stores, and what is written of them.
 ghost use Rattle.std.specs.Prelude.{None};
 
-use crate::merge_images::{WRITTEN_ORIGIN, WRITTEN_SHOWN, WRITTEN_STORE, bytes_of, image_of};
+use crate::images::{WRITTEN_ORIGIN, WRITTEN_SHOWN, WRITTEN_STORE, bytes_of, image_of};
 use cow_image::Fault;
 use cow_kept::{Blanked, Span, export_kept, front_of, read_used, sift, unreadable};
 use image::{Image, MemImage, MemSink};

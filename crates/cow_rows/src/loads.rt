@@ -1,6 +1,6 @@
 // A store with one bit flipped, beside a load of the same bytes from a disk.
 
-use crate::merge_images::{WRITTEN_STORE, image_of};
+use crate::images::{WRITTEN_STORE, image_of};
 use cow_image::{Reason, Told, read_store};
 use device::MemDisk;
 use sector::{Range, Refusal};

@@ -1,6 +1,6 @@
 // What is printed of a store.
 
-use crate::merge_images::{FIRST_STORE, image_of};
+use crate::images::{FIRST_STORE, image_of};
 use cow_image::{Failure, Fault, Listed, Reason, Told, faults, read_slots, read_store, sectors_of};
 use cow_words::{
     Numbers, push_behind_json, push_faults, push_faults_json, push_json, push_listed_json,

@@ -21,7 +21,7 @@ fn start_at(line: &[u8]) -> Option<usize>
 }
 
 /// What stands after the spaces at its beginning.
-#[tactic(auto, using(crate::proofs::LineParts::start_some, crate::proofs::LineParts::start_none))]
+#[tactic(auto, using(crate::proofs::Parts::start_some, crate::proofs::Parts::start_none))]
 fn unspaced(line: &[u8]) -> &[u8]
     ensures { result.now ≡ unspaced line.now }
 {
@@ -32,7 +32,7 @@ fn unspaced(line: &[u8]) -> &[u8]
 }
 
 /// The bytes up to the first space, or all.
-#[tactic(auto, using(crate::proofs::LineParts::word_some, crate::proofs::LineParts::word_none))]
+#[tactic(auto, using(crate::proofs::Parts::word_some, crate::proofs::Parts::word_none))]
 fn before_space(line: &[u8]) -> &[u8]
     ensures { result.now ≡ before_first is_space line.now }
 {
@@ -43,7 +43,7 @@ fn before_space(line: &[u8]) -> &[u8]
 }
 
 /// The bytes after the first space.
-#[tactic(auto, using(crate::proofs::LineParts::after_some, crate::proofs::LineParts::after_none))]
+#[tactic(auto, using(crate::proofs::Parts::after_some, crate::proofs::Parts::after_none))]
 fn after_space(line: &[u8]) -> &[u8]
     ensures { result.now ≡ after_first is_space line.now }
 {
@@ -68,7 +68,7 @@ pub fn after_word(line: &[u8]) -> &[u8]
 }
 
 // `first_word` and `after_word` at once.
-#[tactic(auto, using(crate::proofs::LineParts::word_some, crate::proofs::LineParts::word_none, crate::proofs::LineParts::after_some, crate::proofs::LineParts::after_none))]
+#[tactic(auto, using(crate::proofs::Parts::word_some, crate::proofs::Parts::word_none, crate::proofs::Parts::after_some, crate::proofs::Parts::after_none))]
 fn cut_word(line: &[u8]) -> (&[u8], &[u8])
     ensures word { result.0.now ≡ first_word line.now }
     ensures rest { result.1.now ≡ after_word line.now }
