@@ -3,8 +3,8 @@ use Rattle.std.specs.Prelude.{ℕ, Bool, List, [], ◌∷◌, ◌++◌, All, Opt
 use Rattle.sector.specs.declared.refusal.Refusal.{Refusal}
 use Rattle.sector.specs.declared.refusal.Refusal.TheVariants.{NoMemory}
 use Rattle.command.specs.declared.opening.Opening.{Opening}
-use Rattle.command.specs.declared.said.Said.{Said}
-use Rattle.command.specs.declared.said.Said.TheVariants.{Nothing, End, Line}
+use Rattle.command.specs.declared.block_line.Said.{Said}
+use Rattle.command.specs.declared.block_line.Said.TheVariants.{Nothing, End, Line}
 use Rattle.command.specs.declared.seat_line.SeatLine.{SeatLine}
 use Rattle.command.specs.Lines.{IsSeat, ends_with, said_in}
 

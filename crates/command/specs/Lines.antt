@@ -12,8 +12,8 @@ use Rattle.words.specs.Numbers.{numeral_of}
 use Rattle.command.specs.Line.{is_silent, said_of}
 use Rattle.command.specs.declared.grammar.Command.{Command}
 use Rattle.command.specs.declared.grammar.Command.TheVariants as commands
-use Rattle.command.specs.declared.said.Said.{Said}
-use Rattle.command.specs.declared.said.Said.TheVariants.{Nothing, End, Line}
+use Rattle.command.specs.declared.block_line.Said.{Said}
+use Rattle.command.specs.declared.block_line.Said.TheVariants.{Nothing, End, Line}
 use Rattle.command.specs.declared.seat_line.SeatLine.{SeatLine}
 use Rattle.command.specs.declared.seat_line.Work.{Work}
 use Rattle.command.specs.declared.seat_line.Work.TheVariants.{Read, Write, Merge, OutsideRead, OutsideWrite}

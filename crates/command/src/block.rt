@@ -3,10 +3,9 @@ ghost use Rattle.std.specs.Prelude.{◌≡◌, ◌≢◌, true, [], Some, None};
 ghost use Rattle.sector.specs.declared.refusal.Refusal.TheVariants.{NoMemory};
 ghost use Rattle.command.specs.Blocks.{AreSeats, ends_block, opened, with_line, worse};
 
-use crate::LINE_LIMIT;
 use crate::opening::Opening;
-use crate::said::{Said, said_by};
 use crate::seat_line::SeatLine;
+use crate::{LINE_LIMIT, Said, said_by};
 use sector::Refusal;
 use std::alloc::Global;
 use std::marker::Model;

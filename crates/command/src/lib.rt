@@ -8,6 +8,7 @@
 #![tactic(auto)]
 
 mod block;
+mod block_line;
 mod data_words;
 mod events;
 mod found;
@@ -15,14 +16,13 @@ mod grammar;
 mod line;
 mod messages;
 mod opening;
-mod said;
 mod seat_line;
 
 pub use block::Block;
+pub use block_line::{Said, said_by};
 pub use events::Event;
 pub use found::{Found, refusal_among};
 pub use grammar::Command;
 pub use line::{LINE_LIMIT, said};
 pub use opening::{Opening, is_par, opening_by};
-pub use said::{Said, said_by};
 pub use seat_line::{SeatLine, Work};
