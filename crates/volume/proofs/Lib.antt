@@ -121,6 +121,7 @@ pub mod FewerLives
 pub mod OpensNothing
 pub mod Opened
 pub mod OpenedCalls
+pub mod Stepped
 pub mod AskedFor
 pub mod AddedUp
 pub mod Limits

@@ -28,4 +28,5 @@ pub mod SnapLasting
 pub mod Handing
 pub mod Adding
 pub mod Closing
+pub mod DoesStep
 pub mod AddedUp
