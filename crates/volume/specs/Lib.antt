@@ -29,4 +29,5 @@ pub mod Handing
 pub mod Adding
 pub mod Closing
 pub mod DoesStep
+pub mod DoesSubmit
 pub mod AddedUp

@@ -1,18 +1,11 @@
 // Requests and events.
-ghost use Rattle.std.specs.Prelude.{◌≡◌, ◌≢◌, ◌⊎◌, ◌*◌, ◌+◌, IfErr, IfOk, IsOk, List, None, Option, Some, is_ok, length, true, ℕ};
-ghost use Rattle.sector.specs.declared.refusal.Refusal.TheVariants.{Invalid, Overflow};
-ghost use Rattle.plain.specs.Failures.{refusal_of};
-ghost use Rattle.plain.specs.declared.request.Failure.{Failure};
-ghost use Rattle.plain.specs.declared.request.Failure.TheVariants.{Io};
+ghost use Rattle.std.specs.Prelude.{◌≡◌, ◌⊎◌, ◌*◌, ◌+◌, IfErr, IfOk, IsOk, List, Some, is_ok, length, true, ℕ};
 ghost use Rattle.plain.specs.declared.request.Op.TheVariants.{Write};
-ghost use Rattle.plain.specs.declared.request.Reply.{Reply};
 ghost use Rattle.plain.specs.declared.request.Reply.TheVariants.{Refused};
 ghost use Rattle.settled.specs.Refusals.{IsStarved};
-ghost use Rattle.event_machine.specs.Submitting.{submitted};
 ghost use Rattle.volume.specs.DoesStep.{DoesStep};
-ghost use Rattle.volume.specs.Moved.{moving_of};
-ghost use Rattle.volume.specs.Stepping.{KeepsAll, KeepsDevices};
-ghost use Rattle.volume.specs.Submitting.{IsAcceptedAs, IsRefusedAs, submit_refusal};
+ghost use Rattle.volume.specs.DoesSubmit.{DoesSubmit};
+ghost use Rattle.volume.specs.Submitting.{IsRefusedAs};
 ghost use Rattle.volume.specs.Volumed.{is_due_of, is_loud_in_all, next_of, plain_of};
 ghost use Rattle.journal.specs.declared.entry.Entry.{Entry};
 ghost use Rattle.volume_commands.specs.GoingOn.{ComesTo, GoesOn, IsSubmitNoted};
@@ -30,14 +23,8 @@ impl<B: Layered> Journaled<B> {
     /// its entry has the one that was kept free for it.
     pub fn submit(&mut self, request: Request) -> Result<ReqId, Refusal>
         requires bytes { (bytes : List ℕ) → request.op ≡ Write bytes → length bytes ≡ 512 * request.range.count }
-        ensures ok { IfOk result (λ number. IsAcceptedAs B.contents B.layers request number self.old self.new) }
-        ensures kept { KeepsAll B.size self.old self.new }
-        ensures untouched { KeepsDevices self.old self.new }
-        ensures admitted { IfOk result (λ _. submit_refusal B.size request self.old ≡ None) }
-        ensures exact { IfOk result (λ number. (replied : Option Reply) → submitted number request (moving_of B.contents B.layers replied self.old) ≡ moving_of B.contents B.layers replied self.new) }
+        ensures does { DoesSubmit B.contents B.layers B.size request result self.old self.new }
         ensures refused { IfErr result (λ refusal. IsStarved refusal self.old self.new ⊎ IsRefusedAs B.contents B.layers B.size request refusal self.old self.new) }
-        ensures declined { IfErr result (λ refusal. (failure : Failure) → refusal ≡ refusal_of failure → failure ≢ Io → (number : ℕ) (replied : Option Reply) → submitted number request (moving_of B.contents B.layers replied self.old) ≡ moving_of B.contents B.layers (Some (Refused failure)) self.new) }
-        ensures starved { IfErr result (λ refusal. refusal ≢ Invalid → refusal ≢ Overflow → (replied : Option Reply) → moving_of B.contents B.layers replied self.new ≡ moving_of B.contents B.layers replied self.old) }
         ensures loud { is_loud_in_all B.layers self.new ≡ is_loud_in_all B.layers self.old }
         ensures goes_on { is_loud_in_all B.layers self.old ≡ true → (entries : List Entry) × IsSubmitNoted request result entries × GoesOn (plain_of B.contents B.layers self.old) entries (plain_of B.contents B.layers self.new) }
     {

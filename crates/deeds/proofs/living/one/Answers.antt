@@ -16,7 +16,7 @@ pub returns-in-Submit-clause-done : goal.returns-in-Submit-clause-done
 returns-in-Submit-clause-done g c =
     let m : Measures g.row.B.Denot = record { contents = g.B.Block.contents; durable = g.B.Block.durable; size = g.B.Block.size; faults = g.B.Block.fault_count; done = g.B.Block.done_count } in
     subst (λ (d : Deed g.row.B.Denot). IsDone m g.B.Block.layers d (Submitted c.submit.result) c.args.volume.now c.submit.new.self) (sym c.in-Submit.is)
-    (submit_done m g.B.Block.layers c.in-Submit.request c.submit.result c.args.volume.now c.submit.new.self c.submit.ensures.ok c.submit.ensures.refused c.submit.ensures.admitted)
+    (submit_done m g.B.Block.layers c.in-Submit.request c.submit.result c.args.volume.now c.submit.new.self c.submit.ensures.does.ok c.submit.ensures.refused c.submit.ensures.does.admitted)
 
 pub returns-in-Attach-clause-done : goal.returns-in-Attach-clause-done
 returns-in-Attach-clause-done g c =
@@ -33,7 +33,7 @@ returns-in-BeginMerge-clause-done g c =
 pub returns-in-Submit-clause-opens : goal.returns-in-Submit-clause-opens
 returns-in-Submit-clause-opens g c = λ loud brought.
     let m : Measures g.row.B.Denot = record { contents = g.B.Block.contents; durable = g.B.Block.durable; size = g.B.Block.size; faults = g.B.Block.fault_count; done = g.B.Block.done_count } in
-    rw c.in-Submit.is (by_calls g.B.Block.may_hold m g.B.Block.layers (Submit c.in-Submit.request) (Submitted c.submit.result) c.args.volume.now c.submit.new.self (opens_submitted g.B.Block.may_hold g.B.Block.contents g.B.Block.layers g.B.Block.size [] c.in-Submit.request c.submit.result c.args.volume.now c.submit.new.self c.submit.ensures.ok c.submit.ensures.refused c.submit.ensures.untouched))
+    rw c.in-Submit.is (by_calls g.B.Block.may_hold m g.B.Block.layers (Submit c.in-Submit.request) (Submitted c.submit.result) c.args.volume.now c.submit.new.self (opens_submitted g.B.Block.may_hold g.B.Block.contents g.B.Block.layers g.B.Block.size [] c.in-Submit.request c.submit.result c.args.volume.now c.submit.new.self c.submit.ensures.does.ok c.submit.ensures.refused c.submit.ensures.does.untouched))
 
 pub returns-in-Step-clause-done : goal.returns-in-Step-clause-done
 returns-in-Step-clause-done g c =
