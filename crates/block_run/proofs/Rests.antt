@@ -12,7 +12,7 @@ use Rattle.journal.specs.declared.entry.Entry.{Entry}
 use Rattle.journal.specs.declared.entry.Entry.TheVariants.{Spoiled}
 use Rattle.journal.specs.declared.entry.Receipt.{Receipt}
 use Rattle.journal.specs.Books.{AuditShape}
-use Rattle.journal.specs.Journaled.{IsNoted, IsSilent, KeepsBase}
+use Rattle.journal.specs.Journaled.{IsNoted, IsSilent, KeepsBase, outcome_in}
 use Rattle.volume_commands.specs.Rested.{rested_of}
 use Rattle.volume_commands.proofs.Seen.{devices_kept, devices_more, devices_none}
 use Rattle.block_run.specs.Taking.{IsRested}
@@ -53,6 +53,6 @@ more_rested first old new outcome receipt so noted base kept loud =
     }
 
 -- or none, where it was not due
-pub still_rested : {E : Type 0} (first old new : AuditShape Stack) (r : Result (Outcome × Option Receipt) E) → IsRested first old → IfOk r (λ x. IsNoted 1 x.0 x.1 old new) → KeepsBase old new → OnOk r (KeepsAll stack_size old.volume new.volume) → is_loud_in_all stack_layers new.volume ≡ is_loud_in_all stack_layers old.volume → OnErr r (new ≡ old) → IsRested first new
+pub still_rested : {E : Type 0} (first old new : AuditShape Stack) (r : Result (Outcome × Option Receipt) E) → IsRested first old → IfOk r (λ x. IsNoted 1 x.0 x.1 old new) → KeepsBase old new → OnOk (outcome_in r) (KeepsAll stack_size old.volume new.volume) → is_loud_in_all stack_layers new.volume ≡ is_loud_in_all stack_layers old.volume → OnErr r (new ≡ old) → IsRested first new
 still_rested first old new (Ok x) so noted base kept loud same = more_rested first old new x.0 x.1 so noted base kept loud
 still_rested first old new (Err e) so noted base kept loud same = subst (IsRested first) (sym same) so

@@ -1,6 +1,6 @@
 -- Each deed does what it promises, by the volume's own contracts; and deeds one after another.
 use Rattle.std.proofs.Common.{◌≡◌, ◌≢◌, inl, inr, ℕ, Bool, true, false, List, [], ◌∷◌, ◌++◌, map, length, None, refl, sym, ◌∙◌, ap, subst, if◌then◌else◌}
-use Rattle.std.specs.Prelude.{◌==◌, ◌&&◌, IfErr, IfOk, MatchResult, OnOk, Result, Ok, Err}
+use Rattle.std.specs.Prelude.{◌==◌, ◌&&◌, IfErr, IfOk, MatchResult, OnOk, Result, Ok, Err, is_ok}
 use Rattle.std.specs.List.{All}
 use Rattle.std.specs.Option.{is_some}
 use Rattle.std.proofs.lemmas.Bool.{cases_Bool, ne_eqb}
@@ -10,6 +10,9 @@ use Rattle.sector.specs.declared.refusal.Refusal.{Refusal}
 use Rattle.device.specs.Layers.{Layer, is_loud}
 use Rattle.plain.specs.Plain.{Plain, overflow_of, saved_under}
 use Rattle.plain.specs.Legal.{IsBegun, IsTaken}
+use Rattle.plain.specs.declared.event.Event.{Event}
+use Rattle.plain.specs.declared.event.NotDue.{NotDue}
+use Rattle.plain.specs.declared.event.Outcome.{Outcome}
 use Rattle.plain.specs.declared.request.Request.{Request}
 use Rattle.snapshot.specs.declared.opening.StoreDev.{StoreDev}
 use Rattle.snapshot.specs.Kept.{Kept}
@@ -18,11 +21,12 @@ use Rattle.volume_laws.specs.Shape.{shown_entry, shown_origin}
 use Rattle.volume.specs.Attached.{IsGained, IsRefusedOver}
 use Rattle.volume.specs.Fresh.{is_fresh}
 use Rattle.volume.specs.Beginning.{IsMergeBegun, IsNotBegun, begin_refusal}
+use Rattle.volume.specs.DoesStep.{DoesStep}
 use Rattle.volume.specs.Layering.{Measures}
 use Rattle.volume.specs.Leaving.{is_quiet_of}
 use Rattle.volume.specs.Submitting.{IsAcceptedAs, IsRefusedAs, submit_refusal}
 use Rattle.volume.specs.Taking.{IsNotTaken, attach_refusal}
-use Rattle.volume.specs.Volumed.{Volumed, is_loud_in_all, merge_shape, plain_of, snap_shape}
+use Rattle.volume.specs.Volumed.{Volumed, is_due_of, is_loud_in_all, merge_shape, plain_of, snap_shape}
 use Rattle.volume.proofs.Attaches.{none_begun, taking_none}
 use Rattle.volume.proofs.Fresh.{fresh_shown}
 use Rattle.volume.proofs.Declines.{refused_declined, refused_loud}
@@ -61,6 +65,19 @@ module _ {B : Type 0} (m : Measures B) (layers : B → List Layer) where
     loud = λ l brought. refused_loud m.contents layers m.size v w request refusal r ∙ l;
     seen = λ l brought. record { sees = refused_declined m.contents layers m.size v w request refusal r l; reason = tt; disk = tt };
     answered = (a, r);
+  }
+
+  pub step_done : (holds : B → ℕ → List ℕ → Type 0) (event : Event) (result : Result Outcome NotDue) (v w : Volumed B)
+      → DoesStep holds m.contents layers m.size m.faults m.done event result v w → is_ok result ≡ is_due_of m.contents layers v event → IsDone m layers (Step event) (Stepped result) v w
+  step_done holds event (Ok outcome) v w does due = record {
+    loud = λ l brought. does.loud ∙ l;
+    seen = λ l brought. record { sees = does.legal l; reason = (does.cause, does.one); disk = tt };
+    answered = due;
+  }
+  step_done holds event (Err early) v w does due = record {
+    loud = λ l brought. does.loud ∙ l;
+    seen = λ l brought. record { sees = ap plain does.same; reason = tt; disk = tt };
+    answered = due;
   }
 
   pub begin_done : (number : ℕ) (result : Result _ Refusal) (v w : Volumed B) → OnOk result (is_loud_in_all layers v ≡ true → IsBegun (plain_of m.contents layers v) number (plain_of m.contents layers w)) → IfErr result (λ refusal. IsNotBegun number refusal v w)

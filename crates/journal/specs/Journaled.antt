@@ -1,5 +1,5 @@
 -- What a call notes in the journal. This project's own.
-use Rattle.std.specs.Prelude.{◌≡◌, ◌≢◌, ◌⊎◌, nat_lt, ℕ, ◌+◌, ◌<◌, Bool, true, false, List, [], ◌∷◌, ◌++◌, length, map, Option, Some, None, slice_index_or}
+use Rattle.std.specs.Prelude.{◌≡◌, ◌≢◌, ◌⊎◌, nat_lt, ℕ, ◌+◌, ◌<◌, Bool, true, false, List, [], ◌∷◌, ◌++◌, length, map, Option, Some, None, Result, Ok, Err, slice_index_or}
 use Rattle.plain.specs.declared.event.Outcome.{Outcome}
 use Rattle.plain.specs.declared.event.Outcome.TheVariants.{Reply as Replied}
 use Rattle.plain.specs.Kept.{kept}
@@ -29,6 +29,11 @@ places_of a = a.taken + length a.entries + length a.held + kept_count a.lives a.
 -- whether so many more may be too many
 abbrev pub is_full_by : {B : Type 0} → ℕ → AuditShape B → Bool
 is_full_by more a = nat_lt 65_536 (places_of a + more)
+
+-- what came of an event, without its receipt
+abbrev pub outcome_in : {E : Type 0} → Result (Outcome × Option Receipt) E → Result Outcome E
+outcome_in (Ok r) = Ok r.0
+outcome_in (Err e) = Err e
 
 -- nothing changes what the journal began with
 pub record KeepsBase {B : Type 0} (old new : AuditShape B) : Type 0 where

@@ -1,16 +1,9 @@
 // The events of a volume, each with what it comes to in the journal.
-ghost use Rattle.std.specs.Prelude.{◌≡◌, ◌≢◌, ◌&&◌, ◌+◌, ◌<◌, ◌≤◌, ℕ, IfOk, IsOk, OnErr, None, OnOk, Some, is_ok, map, true};
-ghost use Rattle.in_flight.specs.Kinds.{in_flight};
-ghost use Rattle.plain.specs.Legal.{IsLegalStep};
+ghost use Rattle.std.specs.Prelude.{◌≡◌, ◌≢◌, ◌&&◌, ℕ, IfOk, IsOk, OnErr, None, Some, is_ok, true};
 ghost use Rattle.plain.specs.declared.event.Event.TheVariants.{Issue};
-ghost use Rattle.volume.specs.Asking.{is_finished_in};
-ghost use Rattle.volume.specs.Causes.{HasCause, IsOneAtMost};
-ghost use Rattle.volume.specs.Exact.{IsExact};
-ghost use Rattle.volume.specs.Flying.{IsFlown};
-ghost use Rattle.volume.specs.Stepping.{KeepsAll, failed_by, has_failed, starts_by};
-ghost use Rattle.volume.specs.Stored.{RemovesPairs, is_finished_on};
-ghost use Rattle.volume.specs.Volumed.{is_due_of, is_loud_in_all, left_in_all, next_of, plain_of};
-ghost use Rattle.journal.specs.Journaled.{IsNoted, KeepsBase};
+ghost use Rattle.volume.specs.DoesStep.{DoesStep};
+ghost use Rattle.volume.specs.Volumed.{is_due_of, next_of};
+ghost use Rattle.journal.specs.Journaled.{IsNoted, KeepsBase, outcome_in};
 ghost use Rattle.journal.specs.Seats.{IsUnanswered, may_do};
 
 use crate::Audit;
@@ -30,18 +23,7 @@ impl<B: Layered> Audit<B> {
         ensures base { KeepsBase self.old self.new }
         ensures due { is_ok result ≡ (may_do seat event self.old.held && is_due_of B.contents B.layers self.old.volume event) }
         ensures first { next_of B.contents B.layers self.old.volume ≡ Some event → may_do seat event self.old.held ≡ true → IsOk result }
-        ensures legal { IfOk result (λ r. is_loud_in_all B.layers self.old.volume ≡ true → IsLegalStep (plain_of B.contents B.layers self.old.volume) event r.0 (plain_of B.contents B.layers self.new.volume)) }
-        ensures exact { IfOk result (λ r. IsExact B.contents B.layers event r.0 self.old.volume self.new.volume) }
-        ensures lower { OnOk result (left_in_all B.contents B.layers self.new.volume < left_in_all B.contents B.layers self.old.volume) }
-        ensures loud { is_loud_in_all B.layers self.new.volume ≡ is_loud_in_all B.layers self.old.volume }
-        ensures cause { IfOk result (λ r. HasCause B.fault_count event r.0 self.old.volume self.new.volume) }
-        ensures flown { IfOk result (λ r. IsFlown event r.0 (map in_flight self.old.volume.flights) (map in_flight self.new.volume.flights)) }
-        ensures one { OnOk result (IsOneAtMost B.done_count self.old.volume self.new.volume) }
-        ensures kept { OnOk result (KeepsAll B.size self.old.volume self.new.volume) }
-        ensures failed { IfOk result (λ r. has_failed self.new.volume.merge ≡ failed_by event r.0 (has_failed self.old.volume.merge)) }
-        ensures counts { OnOk result ((self.new.volume.requests ≡ self.old.volume.requests) × (self.new.volume.copies ≤ self.old.volume.copies + starts_by event) × (self.old.volume.copies ≤ self.new.volume.copies)) }
-        ensures removes { IfOk result (λ r. RemovesPairs B.contents B.layers event r.0 self.old.volume self.new.volume) }
-        ensures finished { OnOk result (is_loud_in_all B.layers self.new.volume ≡ true → is_finished_in self.new.volume.merge ≡ is_finished_on B.contents self.new.volume.merge) }
+        ensures does { DoesStep B.may_hold B.contents B.layers B.size B.fault_count B.done_count event (outcome_in result) self.old.volume self.new.volume }
         ensures err { OnErr result (self.new ≡ self.old) }
     {
         match event {
@@ -60,18 +42,7 @@ impl<B: Layered> Audit<B> {
         ensures base { KeepsBase self.old self.new }
         ensures due { is_ok result ≡ is_due_of B.contents B.layers self.old.volume event }
         ensures first { next_of B.contents B.layers self.old.volume ≡ Some event → IsOk result }
-        ensures legal { IfOk result (λ outcome. is_loud_in_all B.layers self.old.volume ≡ true → IsLegalStep (plain_of B.contents B.layers self.old.volume) event outcome (plain_of B.contents B.layers self.new.volume)) }
-        ensures exact { IfOk result (λ outcome. IsExact B.contents B.layers event outcome self.old.volume self.new.volume) }
-        ensures lower { OnOk result (left_in_all B.contents B.layers self.new.volume < left_in_all B.contents B.layers self.old.volume) }
-        ensures loud { is_loud_in_all B.layers self.new.volume ≡ is_loud_in_all B.layers self.old.volume }
-        ensures cause { IfOk result (λ outcome. HasCause B.fault_count event outcome self.old.volume self.new.volume) }
-        ensures flown { IfOk result (λ outcome. IsFlown event outcome (map in_flight self.old.volume.flights) (map in_flight self.new.volume.flights)) }
-        ensures one { OnOk result (IsOneAtMost B.done_count self.old.volume self.new.volume) }
-        ensures kept { OnOk result (KeepsAll B.size self.old.volume self.new.volume) }
-        ensures failed { IfOk result (λ outcome. has_failed self.new.volume.merge ≡ failed_by event outcome (has_failed self.old.volume.merge)) }
-        ensures counts { OnOk result ((self.new.volume.requests ≡ self.old.volume.requests) × (self.new.volume.copies ≤ self.old.volume.copies + starts_by event) × (self.old.volume.copies ≤ self.new.volume.copies)) }
-        ensures removes { IfOk result (λ outcome. RemovesPairs B.contents B.layers event outcome self.old.volume self.new.volume) }
-        ensures finished { OnOk result (is_loud_in_all B.layers self.new.volume ≡ true → is_finished_in self.new.volume.merge ≡ is_finished_on B.contents self.new.volume.merge) }
+        ensures does { DoesStep B.may_hold B.contents B.layers B.size B.fault_count B.done_count event result self.old.volume self.new.volume }
         ensures err { OnErr result (self.new ≡ self.old) }
     {
         match self.volume.step(event) {
@@ -90,18 +61,7 @@ impl<B: Layered> Audit<B> {
         ensures base { KeepsBase self.old self.new }
         ensures due { is_ok result ≡ (may_do seat (Issue number) self.old.held && is_due_of B.contents B.layers self.old.volume (Issue number)) }
         ensures first { next_of B.contents B.layers self.old.volume ≡ Some (Issue number) → may_do seat (Issue number) self.old.held ≡ true → IsOk result }
-        ensures legal { IfOk result (λ r. is_loud_in_all B.layers self.old.volume ≡ true → IsLegalStep (plain_of B.contents B.layers self.old.volume) (Issue number) r.0 (plain_of B.contents B.layers self.new.volume)) }
-        ensures exact { IfOk result (λ r. IsExact B.contents B.layers (Issue number) r.0 self.old.volume self.new.volume) }
-        ensures lower { OnOk result (left_in_all B.contents B.layers self.new.volume < left_in_all B.contents B.layers self.old.volume) }
-        ensures loud { is_loud_in_all B.layers self.new.volume ≡ is_loud_in_all B.layers self.old.volume }
-        ensures cause { IfOk result (λ r. HasCause B.fault_count (Issue number) r.0 self.old.volume self.new.volume) }
-        ensures flown { IfOk result (λ r. IsFlown (Issue number) r.0 (map in_flight self.old.volume.flights) (map in_flight self.new.volume.flights)) }
-        ensures one { OnOk result (IsOneAtMost B.done_count self.old.volume self.new.volume) }
-        ensures kept { OnOk result (KeepsAll B.size self.old.volume self.new.volume) }
-        ensures failed { IfOk result (λ r. has_failed self.new.volume.merge ≡ failed_by (Issue number) r.0 (has_failed self.old.volume.merge)) }
-        ensures counts { OnOk result ((self.new.volume.requests ≡ self.old.volume.requests) × (self.new.volume.copies ≤ self.old.volume.copies + starts_by (Issue number)) × (self.old.volume.copies ≤ self.new.volume.copies)) }
-        ensures removes { IfOk result (λ r. RemovesPairs B.contents B.layers (Issue number) r.0 self.old.volume self.new.volume) }
-        ensures finished { OnOk result (is_loud_in_all B.layers self.new.volume ≡ true → is_finished_in self.new.volume.merge ≡ is_finished_on B.contents self.new.volume.merge) }
+        ensures does { DoesStep B.may_hold B.contents B.layers B.size B.fault_count B.done_count (Issue number) (outcome_in result) self.old.volume self.new.volume }
         ensures err { OnErr result (self.new ≡ self.old) }
     {
         let Some(place) = place_of(self.held.as_slice(), number) else {

@@ -1,16 +1,9 @@
 // Requests of seats.
-ghost use Rattle.std.specs.Prelude.{◌≡◌, ◌≢◌, ◌⊎◌, ◌*◌, ◌<◌, ℕ, IfErr, IfOk, List, MatchBool, None, Option, Some, false, length};
-ghost use Rattle.plain.specs.Failures.{refusal_of};
-ghost use Rattle.plain.specs.declared.request.Failure.{Failure};
-ghost use Rattle.plain.specs.declared.request.Failure.TheVariants.{Io};
+ghost use Rattle.std.specs.Prelude.{◌≡◌, ◌≢◌, ◌⊎◌, ◌*◌, ◌<◌, ℕ, IfErr, IfOk, List, MatchBool, false, length};
 ghost use Rattle.plain.specs.declared.request.Op.TheVariants.{Write};
-ghost use Rattle.plain.specs.declared.request.Reply.{Reply};
-ghost use Rattle.plain.specs.declared.request.Reply.TheVariants.{Refused};
-ghost use Rattle.sector.specs.declared.refusal.Refusal.TheVariants.{Invalid, Overflow};
-ghost use Rattle.event_machine.specs.Submitting.{submitted};
-ghost use Rattle.volume.specs.Moved.{moving_of};
-ghost use Rattle.volume.specs.Stepping.{KeepsAll, KeepsDevices};
-ghost use Rattle.volume.specs.Submitting.{IsAcceptedAs, IsRefusedAs, submit_refusal};
+ghost use Rattle.sector.specs.declared.refusal.Refusal.TheVariants.{Overflow};
+ghost use Rattle.volume.specs.DoesSubmit.{DoesSubmit};
+ghost use Rattle.volume.specs.Submitting.{IsRefusedAs};
 ghost use Rattle.volume.specs.Volumed.{is_loud_in_all};
 ghost use Rattle.journal.specs.Journaled.{IsBarred, IsHeld, IsRefusalNoted, KeepsBase, is_full_by};
 
@@ -39,14 +32,8 @@ impl<B: Layered> Audit<B> {
         ensures held { IfOk result (λ number. IsHeld seat number request self.old self.new) }
         ensures base { KeepsBase self.old self.new }
         ensures room { IfOk result (λ _. is_full_by 1 self.old ≡ false) }
-        ensures ok { IfOk result (λ number. IsAcceptedAs B.contents B.layers request number self.old.volume self.new.volume) }
-        ensures kept { KeepsAll B.size self.old.volume self.new.volume }
-        ensures untouched { KeepsDevices self.old.volume self.new.volume }
-        ensures admitted { IfOk result (λ _. submit_refusal B.size request self.old.volume ≡ None) }
-        ensures exact { IfOk result (λ number. (replied : Option Reply) → submitted number request (moving_of B.contents B.layers replied self.old.volume) ≡ moving_of B.contents B.layers replied self.new.volume) }
+        ensures does { DoesSubmit B.contents B.layers B.size request result self.old.volume self.new.volume }
         ensures refused { IfErr result (λ refusal. IsBarred 1 refusal self.old self.new ⊎ ((is_full_by 1 self.old ≡ false) × IsRefusedAs B.contents B.layers B.size request refusal self.old.volume self.new.volume)) }
-        ensures declined { IfErr result (λ refusal. (failure : Failure) → refusal ≡ refusal_of failure → failure ≢ Io → (number : ℕ) (replied : Option Reply) → submitted number request (moving_of B.contents B.layers replied self.old.volume) ≡ moving_of B.contents B.layers (Some (Refused failure)) self.new.volume) }
-        ensures starved { IfErr result (λ refusal. refusal ≢ Invalid → refusal ≢ Overflow → (replied : Option Reply) → moving_of B.contents B.layers replied self.new.volume ≡ moving_of B.contents B.layers replied self.old.volume) }
         ensures loud { is_loud_in_all B.layers self.new.volume ≡ is_loud_in_all B.layers self.old.volume }
         ensures noted { IfErr result (λ refusal. IsRefusalNoted request refusal self.old self.new) }
     {

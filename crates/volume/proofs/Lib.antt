@@ -121,6 +121,8 @@ pub mod FewerLives
 pub mod OpensNothing
 pub mod Opened
 pub mod OpenedCalls
+pub mod Stepped
+pub mod Submits
 pub mod AskedFor
 pub mod AddedUp
 pub mod Limits

@@ -30,6 +30,7 @@ use Rattle.volume.specs.Adding.{LeavesNoMore, MergeLeavesNoMore, OpensNothing}
 use Rattle.volume.specs.Beginning.{IsMergeBegun, IsNotBegun, IsResumed, begin_refusal, merging_from}
 use Rattle.sector.specs.Bytes.{sector_at}
 use Rattle.volume.specs.Causes.{HasCause, IsAt, lives_of}
+use Rattle.volume.specs.DoesStep.{DoesStep}
 use Rattle.volume.specs.Layering.{Measures}
 use Rattle.volume.specs.Stepping.{KeepsAll, KeepsDevices}
 use Rattle.volume.specs.Stopping.{StopsVolume, given_by}
@@ -274,10 +275,10 @@ module _ {B : Type 0} (holds : B → ℕ → List ℕ → Type 0) (contents : B 
       (same_snaps v w (ap (λ (y : Volumed B). y.snaps) resumed.becomes))
 
   -- an event that was due, or was not
-  pub opens_stepped : (calls : List Call) (event : Event) (result : Result Outcome NotDue) (faults : B → ℕ) (v w : Volumed B) → ((d : B) → length (contents d) ≡ 512 * size d) → ((d : B) (s : ℕ) → s < size d → holds d s (sector_at (contents d) s)) → is_loud_in_all layers v ≡ true
-      → OnOk result (KeepsAll size v w) → IfOk result (λ outcome. HasCause faults event outcome v w) → IfOk result (λ outcome. is_loud_in_all layers v ≡ true → StopsVolume holds size (given_by event (map in_flight v.flights)) v w) → OnErr result (w ≡ v) → OpensOnly holds size calls v w
-  opens_stepped calls event (Ok outcome) faults v w whole here loud kept cause stops same = opens_event event outcome faults v w kept cause (stops loud) whole here calls
-  opens_stepped calls event (Err early) faults v w whole here loud kept cause stops same = opens_same calls v w same
+  pub opens_stepped : (calls : List Call) (event : Event) (result : Result Outcome NotDue) (faults done : B → ℕ) (v w : Volumed B) → ((d : B) → length (contents d) ≡ 512 * size d) → ((d : B) (s : ℕ) → s < size d → holds d s (sector_at (contents d) s)) → is_loud_in_all layers v ≡ true
+      → DoesStep holds contents layers size faults done event result v w → OpensOnly holds size calls v w
+  opens_stepped calls event (Ok outcome) faults done v w whole here loud does = opens_event event outcome faults v w does.kept does.cause (does.stops loud) whole here calls
+  opens_stepped calls event (Err early) faults done v w whole here loud does = opens_same calls v w does.same
 
 -- a message
 pub opens_told : {B : Type 0} (holds : B → ℕ → List ℕ → Type 0) (m : Measures B) (layers : B → List Layer) (calls : List Call) (dev : Dev) (depth : ℕ) (message : Message) (result : Result Answer Refusal) (v w : Volumed B)

@@ -28,4 +28,6 @@ pub mod SnapLasting
 pub mod Handing
 pub mod Adding
 pub mod Closing
+pub mod DoesStep
+pub mod DoesSubmit
 pub mod AddedUp

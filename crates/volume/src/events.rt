@@ -1,14 +1,12 @@
 // One event of a volume.
-ghost use Rattle.std.specs.Prelude.{◌≡◌, ◌+◌, ◌<◌, ◌≤◌, IfOk, IsOk, OnErr, OnOk, Some, is_ok, map, true};
-ghost use Rattle.plain.specs.Legal.{IsLegalStep};
+ghost use Rattle.std.specs.Prelude.{◌≡◌, IfOk, IsOk, OnErr, OnOk, Some, is_ok, map, true};
 ghost use Rattle.in_flight.specs.Kinds.{in_flight};
 ghost use Rattle.volume.specs.Asking.{is_finished_in};
-ghost use Rattle.volume.specs.Volumed.{is_due_of, is_loud_in_all, left_in_all, next_of, plain_of};
-ghost use Rattle.volume.specs.Causes.{HasCause, IsOneAtMost};
-ghost use Rattle.volume.specs.Flying.{IsFlown};
-ghost use Rattle.volume.specs.Stepping.{IsStepped, KeepsAll, failed_by, has_failed, starts_by};
-ghost use Rattle.volume.specs.Stopping.{StopsVolume, given_by};
+ghost use Rattle.volume.specs.Volumed.{is_due_of, is_loud_in_all, next_of};
+ghost use Rattle.volume.specs.Stepping.{IsStepped};
+ghost use Rattle.volume.specs.Stopping.{given_by};
 ghost use Rattle.volume.specs.Stored.{RemovesPairs, is_finished_on};
+ghost use Rattle.volume.specs.DoesStep.{DoesStep};
 ghost use Rattle.volume.specs.Exact.{IsExact};
 ghost use Rattle.volume.specs.Whole.{IsWhole};
 ghost use Rattle.volume.specs.Closing.{ClosesBy};
@@ -63,24 +61,9 @@ impl<B: Block> Volume<B> {
     /// An Issue that answers a flush closes, in the sectors that every such content takes from the flushed device, all values
     /// but the present one. Where an event is not due, nothing changes at all.
     pub fn step(&mut self, event: Event) -> Result<Outcome, NotDue>
-        ensures legal { IfOk result (λ outcome. is_loud_in_all B.layers self.old ≡ true → IsLegalStep (plain_of B.contents B.layers self.old) event outcome (plain_of B.contents B.layers self.new)) }
-        ensures exact { IfOk result (λ outcome. IsExact B.contents B.layers event outcome self.old self.new) }
         ensures due { is_ok result ≡ is_due_of B.contents B.layers self.old event }
         ensures first { next_of B.contents B.layers self.old ≡ Some event → IsOk result }
-        ensures lower { OnOk result (left_in_all B.contents B.layers self.new < left_in_all B.contents B.layers self.old) }
-        ensures loud { is_loud_in_all B.layers self.new ≡ is_loud_in_all B.layers self.old }
-        ensures cause { IfOk result (λ outcome. HasCause B.fault_count event outcome self.old self.new) }
-        ensures flown { IfOk result (λ outcome. IsFlown event outcome (map in_flight self.old.flights) (map in_flight self.new.flights)) }
-        ensures one { OnOk result (IsOneAtMost B.done_count self.old self.new) }
-        ensures kept { OnOk result (KeepsAll B.size self.old self.new) }
-        ensures failed { IfOk result (λ outcome. has_failed self.new.merge ≡ failed_by event outcome (has_failed self.old.merge)) }
-        ensures counts { OnOk result ((self.new.requests ≡ self.old.requests) × (self.new.copies ≤ self.old.copies + starts_by event) × (self.old.copies ≤ self.new.copies)) }
-        ensures overflows { OnOk result (map (λ s. s.overflow) self.new.snaps ≡ map (λ s. s.overflow) self.old.snaps) }
-        ensures removes { IfOk result (λ outcome. RemovesPairs B.contents B.layers event outcome self.old self.new) }
-        ensures finished { OnOk result (is_loud_in_all B.layers self.new ≡ true → is_finished_in self.new.merge ≡ is_finished_on B.contents self.new.merge) }
-        ensures closes { IfOk result (λ outcome. ClosesBy B.may_hold B.contents B.layers B.size event outcome (map in_flight self.old.flights) self.new) }
-        ensures stops { IfOk result (λ outcome. is_loud_in_all B.layers self.old ≡ true → StopsVolume B.may_hold B.size (given_by event (map in_flight self.old.flights)) self.old self.new) }
-        ensures same { OnErr result (self.new ≡ self.old) }
+        ensures does { DoesStep B.may_hold B.contents B.layers B.size B.fault_count B.done_count event result self.old self.new }
     {
         // Looks: what the type keeps, and what the stores say, is known from here on.
         let _ = &self.flights;

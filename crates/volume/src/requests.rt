@@ -17,6 +17,7 @@ ghost use Rattle.snapshots.specs.Numbers.{count_in};
 ghost use Rattle.snapshots.specs.Starting.{starts};
 ghost use Rattle.snapshots.specs.Routing.{is_merged_at as is_merged_in};
 ghost use Rattle.volume.specs.Moved.{moving_of};
+ghost use Rattle.volume.specs.DoesSubmit.{DoesSubmit};
 ghost use Rattle.volume.specs.Stepping.{KeepsAll, KeepsDevices};
 ghost use Rattle.volume.specs.Stopping.{StopsNow};
 ghost use Rattle.volume.specs.Submitting.{IsAcceptedAs, IsAsked, IsEntered, IsRefusedAs, SameButRoom, entered_of, starting, submit_refusal};
@@ -50,15 +51,9 @@ impl<B: Block> Volume<B> {
     /// shows stays, and so do its requests in flight.
     pub fn submit(&mut self, alloc: Global, request: Request) -> Result<ReqId, Refusal>
         requires bytes { (bytes : List ℕ) → request.op ≡ Write bytes → length bytes ≡ 512 * request.range.count }
-        ensures ok { IfOk result (λ number. IsAcceptedAs B.contents B.layers request number self.old self.new) }
-        ensures kept { KeepsAll B.size self.old self.new }
-        ensures untouched { KeepsDevices self.old self.new }
+        ensures does { DoesSubmit B.contents B.layers B.size request result self.old self.new }
         ensures stops { StopsNow B.may_hold B.layers B.size self.old }
-        ensures admitted { IfOk result (λ _. submit_refusal B.size request self.old ≡ None) }
-        ensures exact { IfOk result (λ number. (replied : Option Reply) → submitted number request (moving_of B.contents B.layers replied self.old) ≡ moving_of B.contents B.layers replied self.new) }
         ensures refused { IfErr result (λ refusal. IsRefusedAs B.contents B.layers B.size request refusal self.old self.new) }
-        ensures declined { IfErr result (λ refusal. (failure : Failure) → refusal ≡ refusal_of failure → failure ≢ IsIo → (number : ℕ) (replied : Option Reply) → submitted number request (moving_of B.contents B.layers replied self.old) ≡ moving_of B.contents B.layers (Some (Refused failure)) self.new) }
-        ensures starved { IfErr result (λ refusal. refusal ≢ Invalid → refusal ≢ Overflow → (replied : Option Reply) → moving_of B.contents B.layers replied self.new ≡ moving_of B.contents B.layers replied self.old) }
     {
         self.submit_kept(alloc, request.kept())
     }

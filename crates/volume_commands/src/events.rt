@@ -1,25 +1,12 @@
 // Requests and events.
-ghost use Rattle.std.specs.Prelude.{◌≡◌, ◌≢◌, ◌⊎◌, ◌*◌, ◌+◌, ◌<◌, ◌≤◌, IfErr, IfOk, IsOk, List, None, OnErr, OnOk, Option, Some, is_ok, length, map, true, ℕ};
-ghost use Rattle.sector.specs.declared.refusal.Refusal.TheVariants.{Invalid, Overflow};
-ghost use Rattle.plain.specs.Failures.{refusal_of};
-ghost use Rattle.plain.specs.declared.request.Failure.{Failure};
-ghost use Rattle.plain.specs.declared.request.Failure.TheVariants.{Io};
+ghost use Rattle.std.specs.Prelude.{◌≡◌, ◌⊎◌, ◌*◌, ◌+◌, IfErr, IfOk, IsOk, List, Some, is_ok, length, true, ℕ};
 ghost use Rattle.plain.specs.declared.request.Op.TheVariants.{Write};
-ghost use Rattle.plain.specs.declared.request.Reply.{Reply};
 ghost use Rattle.plain.specs.declared.request.Reply.TheVariants.{Refused};
-ghost use Rattle.plain.specs.Legal.{IsLegalStep};
-ghost use Rattle.in_flight.specs.Kinds.{in_flight};
 ghost use Rattle.settled.specs.Refusals.{IsStarved};
-ghost use Rattle.event_machine.specs.Submitting.{submitted};
-ghost use Rattle.volume.specs.Asking.{is_finished_in};
-ghost use Rattle.volume.specs.Causes.{HasCause, IsOneAtMost};
-ghost use Rattle.volume.specs.Exact.{IsExact};
-ghost use Rattle.volume.specs.Flying.{IsFlown};
-ghost use Rattle.volume.specs.Moved.{moving_of};
-ghost use Rattle.volume.specs.Stepping.{KeepsAll, KeepsDevices, failed_by, has_failed, starts_by};
-ghost use Rattle.volume.specs.Stored.{RemovesPairs, is_finished_on};
-ghost use Rattle.volume.specs.Submitting.{IsAcceptedAs, IsRefusedAs, submit_refusal};
-ghost use Rattle.volume.specs.Volumed.{is_due_of, is_loud_in_all, left_in_all, next_of, plain_of};
+ghost use Rattle.volume.specs.DoesStep.{DoesStep};
+ghost use Rattle.volume.specs.DoesSubmit.{DoesSubmit};
+ghost use Rattle.volume.specs.Submitting.{IsRefusedAs};
+ghost use Rattle.volume.specs.Volumed.{is_due_of, is_loud_in_all, next_of, plain_of};
 ghost use Rattle.journal.specs.declared.entry.Entry.{Entry};
 ghost use Rattle.volume_commands.specs.GoingOn.{ComesTo, GoesOn, IsSubmitNoted};
 
@@ -36,14 +23,8 @@ impl<B: Layered> Journaled<B> {
     /// its entry has the one that was kept free for it.
     pub fn submit(&mut self, request: Request) -> Result<ReqId, Refusal>
         requires bytes { (bytes : List ℕ) → request.op ≡ Write bytes → length bytes ≡ 512 * request.range.count }
-        ensures ok { IfOk result (λ number. IsAcceptedAs B.contents B.layers request number self.old self.new) }
-        ensures kept { KeepsAll B.size self.old self.new }
-        ensures untouched { KeepsDevices self.old self.new }
-        ensures admitted { IfOk result (λ _. submit_refusal B.size request self.old ≡ None) }
-        ensures exact { IfOk result (λ number. (replied : Option Reply) → submitted number request (moving_of B.contents B.layers replied self.old) ≡ moving_of B.contents B.layers replied self.new) }
+        ensures does { DoesSubmit B.contents B.layers B.size request result self.old self.new }
         ensures refused { IfErr result (λ refusal. IsStarved refusal self.old self.new ⊎ IsRefusedAs B.contents B.layers B.size request refusal self.old self.new) }
-        ensures declined { IfErr result (λ refusal. (failure : Failure) → refusal ≡ refusal_of failure → failure ≢ Io → (number : ℕ) (replied : Option Reply) → submitted number request (moving_of B.contents B.layers replied self.old) ≡ moving_of B.contents B.layers (Some (Refused failure)) self.new) }
-        ensures starved { IfErr result (λ refusal. refusal ≢ Invalid → refusal ≢ Overflow → (replied : Option Reply) → moving_of B.contents B.layers replied self.new ≡ moving_of B.contents B.layers replied self.old) }
         ensures loud { is_loud_in_all B.layers self.new ≡ is_loud_in_all B.layers self.old }
         ensures goes_on { is_loud_in_all B.layers self.old ≡ true → (entries : List Entry) × IsSubmitNoted request result entries × GoesOn (plain_of B.contents B.layers self.old) entries (plain_of B.contents B.layers self.new) }
     {
@@ -67,22 +48,10 @@ impl<B: Layered> Journaled<B> {
     /// Does one event, where it is due. Where it is not, nothing changes. It takes no place of the journal: a reply's entry has
     /// that of its request, and a spoiled snapshot's entry that of the snapshot.
     pub fn step(&mut self, event: Event) -> Result<Outcome, NotDue>
-        ensures legal { IfOk result (λ outcome. is_loud_in_all B.layers self.old ≡ true → IsLegalStep (plain_of B.contents B.layers self.old) event outcome (plain_of B.contents B.layers self.new)) }
-        ensures exact { IfOk result (λ outcome. IsExact B.contents B.layers event outcome self.old self.new) }
         ensures due { is_ok result ≡ is_due_of B.contents B.layers self.old event }
         ensures first { next_of B.contents B.layers self.old ≡ Some event → IsOk result }
-        ensures lower { OnOk result (left_in_all B.contents B.layers self.new < left_in_all B.contents B.layers self.old) }
-        ensures loud { is_loud_in_all B.layers self.new ≡ is_loud_in_all B.layers self.old }
-        ensures cause { IfOk result (λ outcome. HasCause B.fault_count event outcome self.old self.new) }
-        ensures flown { IfOk result (λ outcome. IsFlown event outcome (map in_flight self.old.flights) (map in_flight self.new.flights)) }
-        ensures one { OnOk result (IsOneAtMost B.done_count self.old self.new) }
-        ensures kept { OnOk result (KeepsAll B.size self.old self.new) }
-        ensures failed { IfOk result (λ outcome. has_failed self.new.merge ≡ failed_by event outcome (has_failed self.old.merge)) }
-        ensures counts { OnOk result ((self.new.requests ≡ self.old.requests) × (self.new.copies ≤ self.old.copies + starts_by event) × (self.old.copies ≤ self.new.copies)) }
-        ensures removes { IfOk result (λ outcome. RemovesPairs B.contents B.layers event outcome self.old self.new) }
-        ensures finished { OnOk result (is_loud_in_all B.layers self.new ≡ true → is_finished_in self.new.merge ≡ is_finished_on B.contents self.new.merge) }
+        ensures does { DoesStep B.may_hold B.contents B.layers B.size B.fault_count B.done_count event result self.old self.new }
         ensures goes_on { IfOk result (λ outcome. is_loud_in_all B.layers self.old ≡ true → (entries : List Entry) × ComesTo (plain_of B.contents B.layers self.old) outcome entries × GoesOn (plain_of B.contents B.layers self.old) entries (plain_of B.contents B.layers self.new)) }
-        ensures same { OnErr result (self.new ≡ self.old) }
     {
         match self.volume.step(event) {
             Ok(outcome) => Ok(outcome),

@@ -9,14 +9,14 @@ use Rattle.volume.proofs.Relayered.{ticked_alike}
 use Rattle.deeds.specs.Lasted.{OpensByDeed}
 use Rattle.deeds.specs.Lived.{IsDone, IsLoudDeed}
 use Rattle.deeds.proofs.Lasts.{attached_opens, begin_opens, by_calls, detached_opens, finished_opens}
-use Rattle.deeds.proofs.Lives.{attach_done, begin_done, submit_done}
+use Rattle.deeds.proofs.Lives.{attach_done, begin_done, step_done, submit_done}
 use Rattle.deeds.proofs.living.one.Goals as goal
 
 pub returns-in-Submit-clause-done : goal.returns-in-Submit-clause-done
 returns-in-Submit-clause-done g c =
     let m : Measures g.row.B.Denot = record { contents = g.B.Block.contents; durable = g.B.Block.durable; size = g.B.Block.size; faults = g.B.Block.fault_count; done = g.B.Block.done_count } in
     subst (λ (d : Deed g.row.B.Denot). IsDone m g.B.Block.layers d (Submitted c.submit.result) c.args.volume.now c.submit.new.self) (sym c.in-Submit.is)
-    (submit_done m g.B.Block.layers c.in-Submit.request c.submit.result c.args.volume.now c.submit.new.self c.submit.ensures.ok c.submit.ensures.refused c.submit.ensures.admitted)
+    (submit_done m g.B.Block.layers c.in-Submit.request c.submit.result c.args.volume.now c.submit.new.self c.submit.ensures.does.ok c.submit.ensures.refused c.submit.ensures.does.admitted)
 
 pub returns-in-Attach-clause-done : goal.returns-in-Attach-clause-done
 returns-in-Attach-clause-done g c =
@@ -33,12 +33,18 @@ returns-in-BeginMerge-clause-done g c =
 pub returns-in-Submit-clause-opens : goal.returns-in-Submit-clause-opens
 returns-in-Submit-clause-opens g c = λ loud brought.
     let m : Measures g.row.B.Denot = record { contents = g.B.Block.contents; durable = g.B.Block.durable; size = g.B.Block.size; faults = g.B.Block.fault_count; done = g.B.Block.done_count } in
-    rw c.in-Submit.is (by_calls g.B.Block.may_hold m g.B.Block.layers (Submit c.in-Submit.request) (Submitted c.submit.result) c.args.volume.now c.submit.new.self (opens_submitted g.B.Block.may_hold g.B.Block.contents g.B.Block.layers g.B.Block.size [] c.in-Submit.request c.submit.result c.args.volume.now c.submit.new.self c.submit.ensures.ok c.submit.ensures.refused c.submit.ensures.untouched))
+    rw c.in-Submit.is (by_calls g.B.Block.may_hold m g.B.Block.layers (Submit c.in-Submit.request) (Submitted c.submit.result) c.args.volume.now c.submit.new.self (opens_submitted g.B.Block.may_hold g.B.Block.contents g.B.Block.layers g.B.Block.size [] c.in-Submit.request c.submit.result c.args.volume.now c.submit.new.self c.submit.ensures.does.ok c.submit.ensures.refused c.submit.ensures.does.untouched))
+
+pub returns-in-Step-clause-done : goal.returns-in-Step-clause-done
+returns-in-Step-clause-done g c =
+    let m : Measures g.row.B.Denot = record { contents = g.B.Block.contents; durable = g.B.Block.durable; size = g.B.Block.size; faults = g.B.Block.fault_count; done = g.B.Block.done_count } in
+    subst (λ (d : Deed g.row.B.Denot). IsDone m g.B.Block.layers d (Stepped c.step.result) c.args.volume.now c.step.new.self) (sym c.in-Step.is)
+    (step_done m g.B.Block.layers g.B.Block.may_hold c.in-Step.event c.step.result c.args.volume.now c.step.new.self c.step.ensures.does c.step.ensures.due)
 
 pub returns-in-Step-clause-opens : goal.returns-in-Step-clause-opens
 returns-in-Step-clause-opens g c = λ loud brought.
     let m : Measures g.row.B.Denot = record { contents = g.B.Block.contents; durable = g.B.Block.durable; size = g.B.Block.size; faults = g.B.Block.fault_count; done = g.B.Block.done_count } in
-    rw c.in-Step.is (by_calls g.B.Block.may_hold m g.B.Block.layers (Step c.in-Step.event) (Stepped c.step.result) c.args.volume.now c.step.new.self (opens_stepped g.B.Block.may_hold g.B.Block.contents g.B.Block.layers g.B.Block.size [] c.in-Step.event c.step.result g.B.Block.fault_count c.args.volume.now c.step.new.self g.met.B.Block.whole g.met.B.Block.holds_now loud c.step.ensures.kept c.step.ensures.cause c.step.ensures.stops c.step.ensures.same))
+    rw c.in-Step.is (by_calls g.B.Block.may_hold m g.B.Block.layers (Step c.in-Step.event) (Stepped c.step.result) c.args.volume.now c.step.new.self (opens_stepped g.B.Block.may_hold g.B.Block.contents g.B.Block.layers g.B.Block.size [] c.in-Step.event c.step.result g.B.Block.fault_count g.B.Block.done_count c.args.volume.now c.step.new.self g.met.B.Block.whole g.met.B.Block.holds_now loud c.step.ensures.does))
 
 pub returns-in-Tick-clause-opens : goal.returns-in-Tick-clause-opens
 returns-in-Tick-clause-opens g c = λ loud brought.

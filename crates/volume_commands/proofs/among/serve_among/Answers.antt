@@ -12,7 +12,7 @@ pub returns-in-Ok-submitted-clause-served : goal.returns-in-Ok-submitted-clause-
 returns-in-Ok-submitted-clause-served g c = record {
   number = c.in-Ok-submitted.number;
   mid = c.submit-submitted.new.self;
-  accepted = c.in-Ok-submitted.ensures.ok;
+  accepted = c.in-Ok-submitted.ensures.does.ok;
   answered = subst (λ (rs : List Replied). IsAnsweredAmong g.B.Block.contents g.B.Block.layers c.in-Ok-submitted.number c.drain_for.result c.submit-submitted.new.self c.drain_for.new.volume rs c.drain_for.new.ended.items)
       c.reserve.ensures.items c.drain_for.ensures.answered;
   idle = c.drain_for.ensures.idle;
@@ -21,7 +21,7 @@ returns-in-Ok-submitted-clause-served g c = record {
 pub returns-in-Ok-submitted-clause-kept : goal.returns-in-Ok-submitted-clause-kept
 returns-in-Ok-submitted-clause-kept g c =
     devices_more g.B.Block.size g.B.Block.layers (rested_of c.args.volume.now) (rested_of c.submit-submitted.new.self) (rested_of c.drain_for.new.volume)
-    (devices_kept g.B.Block.size g.B.Block.layers c.args.volume.now c.submit-submitted.new.self c.in-Ok-submitted.ensures.kept c.in-Ok-submitted.ensures.ok.loud) c.drain_for.ensures.kept
+    (devices_kept g.B.Block.size g.B.Block.layers c.args.volume.now c.submit-submitted.new.self c.in-Ok-submitted.ensures.does.kept c.in-Ok-submitted.ensures.does.ok.loud) c.drain_for.ensures.kept
 
 pub returns-in-Invalid-clause-refused : goal.returns-in-Invalid-clause-refused
 returns-in-Invalid-clause-refused g c =
@@ -32,7 +32,7 @@ returns-in-Invalid-clause-refused g c =
 pub returns-in-Invalid-clause-kept : goal.returns-in-Invalid-clause-kept
 returns-in-Invalid-clause-kept g c =
     devices_more g.B.Block.size g.B.Block.layers (rested_of c.args.volume.now) (rested_of c.submit-submitted.new.self) (rested_of c.follow.new.volume)
-    (devices_kept g.B.Block.size g.B.Block.layers c.args.volume.now c.submit-submitted.new.self c.in-Err.ensures.kept c.in-Err.ensures.loud) c.follow.ensures.kept
+    (devices_kept g.B.Block.size g.B.Block.layers c.args.volume.now c.submit-submitted.new.self c.in-Err.ensures.does.kept c.in-Err.ensures.loud) c.follow.ensures.kept
 
 pub returns-in_default-refusal : goal.returns-in_default-refusal
 returns-in_default-refusal g c = record {
@@ -42,6 +42,6 @@ returns-in_default-refusal g c = record {
     | inr refused ↦ inr (turned_plain g.B.Block.contents g.B.Block.layers g.B.Block.size c.args.request c.in-Err.refusal c.args.volume.now c.submit-submitted.new.self c.args.ended.now.items c.reserve.new.self.items
         c.in_default-refusal.not-Invalid refused c.reserve.ensures.items)
   ];
-  kept = devices_kept g.B.Block.size g.B.Block.layers c.args.volume.now c.submit-submitted.new.self c.in-Err.ensures.kept c.in-Err.ensures.loud;
+  kept = devices_kept g.B.Block.size g.B.Block.layers c.args.volume.now c.submit-submitted.new.self c.in-Err.ensures.does.kept c.in-Err.ensures.loud;
   requests = refused_requests g.B.Block.contents g.B.Block.layers g.B.Block.size c.args.request c.in-Err.refusal c.args.volume.now c.submit-submitted.new.self c.in-Err.ensures.refused;
 }

@@ -8,43 +8,43 @@ use Rattle.volume_commands.proofs.Refusing.{apart_by, starved_only, refused_requ
 use Rattle.volume_commands.proofs.serving.enter.Goals as goal
 
 pub returns-in-Ok-clause-ok : goal.returns-in-Ok-clause-ok
-returns-in-Ok-clause-ok g c = (c.in-Ok.field-0, c.in-Ok.ensures.exact (Some (Refused Invalid)))
+returns-in-Ok-clause-ok g c = (c.in-Ok.field-0, c.in-Ok.ensures.does.exact (Some (Refused Invalid)))
 
 pub returns-in-Ok-clause-free : goal.returns-in-Ok-clause-free
-returns-in-Ok-clause-free g c = ap has_group_in c.in-Ok.ensures.untouched.merge ∙ quiet_free c.args.volume.now c.requires.quiet
+returns-in-Ok-clause-free g c = ap has_group_in c.in-Ok.ensures.does.untouched.merge ∙ quiet_free c.args.volume.now c.requires.quiet
 
 pub returns-in-Ok-clause-kept : goal.returns-in-Ok-clause-kept
-returns-in-Ok-clause-kept g c = c.in-Ok.ensures.kept
+returns-in-Ok-clause-kept g c = c.in-Ok.ensures.does.kept
 
 pub returns-in-Ok-clause-requests : goal.returns-in-Ok-clause-requests
-returns-in-Ok-clause-requests g c = let a = c.in-Ok.ensures.ok in omega (arith, a.given, a.next)
+returns-in-Ok-clause-requests g c = let a = c.in-Ok.ensures.does.ok in omega (arith, a.given, a.next)
 
 pub returns-in-Invalid-clause-ok : goal.returns-in-Invalid-clause-ok
-returns-in-Invalid-clause-ok g c = (0, c.in-Err.ensures.declined Invalid c.in-Invalid.is (λ e. cc) 0 (Some (Refused Invalid)))
+returns-in-Invalid-clause-ok g c = (0, c.in-Err.ensures.does.declined Invalid c.in-Invalid.is (λ e. cc) 0 (Some (Refused Invalid)))
 
 pub returns-in-Invalid-clause-free : goal.returns-in-Invalid-clause-free
-returns-in-Invalid-clause-free g c = ap has_group_in c.in-Err.ensures.untouched.merge ∙ quiet_free c.args.volume.now c.requires.quiet
+returns-in-Invalid-clause-free g c = ap has_group_in c.in-Err.ensures.does.untouched.merge ∙ quiet_free c.args.volume.now c.requires.quiet
 
 pub returns-in-Invalid-clause-loud : goal.returns-in-Invalid-clause-loud
 returns-in-Invalid-clause-loud g c = c.in-Err.ensures.loud
 
 pub returns-in-Invalid-clause-kept : goal.returns-in-Invalid-clause-kept
-returns-in-Invalid-clause-kept g c = c.in-Err.ensures.kept
+returns-in-Invalid-clause-kept g c = c.in-Err.ensures.does.kept
 
 pub returns-in-Invalid-clause-requests : goal.returns-in-Invalid-clause-requests
 returns-in-Invalid-clause-requests g c = refused_requests g.B.Block.contents g.B.Block.layers g.B.Block.size c.args.request c.in-Err.refusal c.args.volume.now c.submit.new.self c.in-Err.ensures.refused
 
 pub returns-in-Overflow-clause-ok : goal.returns-in-Overflow-clause-ok
-returns-in-Overflow-clause-ok g c = (0, c.in-Err.ensures.declined Overflow c.in-Overflow.is (λ e. cc) 0 (Some (Refused Overflow)))
+returns-in-Overflow-clause-ok g c = (0, c.in-Err.ensures.does.declined Overflow c.in-Overflow.is (λ e. cc) 0 (Some (Refused Overflow)))
 
 pub returns-in-Overflow-clause-free : goal.returns-in-Overflow-clause-free
-returns-in-Overflow-clause-free g c = ap has_group_in c.in-Err.ensures.untouched.merge ∙ quiet_free c.args.volume.now c.requires.quiet
+returns-in-Overflow-clause-free g c = ap has_group_in c.in-Err.ensures.does.untouched.merge ∙ quiet_free c.args.volume.now c.requires.quiet
 
 pub returns-in-Overflow-clause-loud : goal.returns-in-Overflow-clause-loud
 returns-in-Overflow-clause-loud g c = c.in-Err.ensures.loud
 
 pub returns-in-Overflow-clause-kept : goal.returns-in-Overflow-clause-kept
-returns-in-Overflow-clause-kept g c = c.in-Err.ensures.kept
+returns-in-Overflow-clause-kept g c = c.in-Err.ensures.does.kept
 
 pub returns-in-Overflow-clause-requests : goal.returns-in-Overflow-clause-requests
 returns-in-Overflow-clause-requests g c = refused_requests g.B.Block.contents g.B.Block.layers g.B.Block.size c.args.request c.in-Err.refusal c.args.volume.now c.submit.new.self c.in-Err.ensures.refused
@@ -53,16 +53,16 @@ pub returns-in_default-clause-starved : goal.returns-in_default-clause-starved
 returns-in_default-clause-starved g c =
     let apart = apart_by c.args.volume.now c.merging.result c.merging.ensures.value c.merging.ensures.apart in
     let only = starved_only g.B.Block.contents g.B.Block.layers g.B.Block.size c.args.request c.in-Err.refusal c.args.volume.now c.submit.new.self c.in-Err.ensures.refused c.requires.can apart c.requires.quiet c.requires.few c.in_default.not-Invalid c.in_default.not-Overflow in
-    (only.0, only.1, c.in-Err.ensures.starved c.in_default.not-Invalid c.in_default.not-Overflow None)
+    (only.0, only.1, c.in-Err.ensures.does.starved c.in_default.not-Invalid c.in_default.not-Overflow None)
 
 pub returns-in_default-clause-free : goal.returns-in_default-clause-free
-returns-in_default-clause-free g c = ap has_group_in c.in-Err.ensures.untouched.merge ∙ quiet_free c.args.volume.now c.requires.quiet
+returns-in_default-clause-free g c = ap has_group_in c.in-Err.ensures.does.untouched.merge ∙ quiet_free c.args.volume.now c.requires.quiet
 
 pub returns-in_default-clause-loud : goal.returns-in_default-clause-loud
 returns-in_default-clause-loud g c = c.in-Err.ensures.loud
 
 pub returns-in_default-clause-kept : goal.returns-in_default-clause-kept
-returns-in_default-clause-kept g c = c.in-Err.ensures.kept
+returns-in_default-clause-kept g c = c.in-Err.ensures.does.kept
 
 pub returns-in_default-clause-requests : goal.returns-in_default-clause-requests
 returns-in_default-clause-requests g c = refused_requests g.B.Block.contents g.B.Block.layers g.B.Block.size c.args.request c.in-Err.refusal c.args.volume.now c.submit.new.self c.in-Err.ensures.refused

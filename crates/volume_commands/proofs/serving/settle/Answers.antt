@@ -16,24 +16,24 @@ unreachable-requires g c =
 
 pub loop-volume-preserved-in-Ok-Reply : goal.loop-volume-preserved-in-Ok-Reply
 loop-volume-preserved-in-Ok-Reply g c =
-    let exact = c.in-Ok-Reply.ensures.exact in
+    let exact = c.in-Ok-Reply.ensures.does.exact in
     let is : IsExact g.B.Block.contents g.B.Block.layers c.in-Some.event _ c.loop-volume.volume c.step.new.self = rw c.in-Ok-Reply.field-0-is at exact in
     beside_more g.B.Block.contents g.B.Block.layers g.B.Block.size (Some c.args.reply) (Some c.loop-volume.reply) c.args.volume.now c.loop-volume.volume c.step.new.self c.in-Some.event _ c.loop-volume.invariant
-    (sym c.is_quiet.ensures.value ∙ c.loop-volume-test.true) c.in-Some.ensures.machine c.in-Some.ensures.calm c.in-Some.ensures.seen is c.in-Ok-Reply.ensures.loud c.in-Ok-Reply.ensures.kept c.in-Ok-Reply.ensures.counts.0
+    (sym c.is_quiet.ensures.value ∙ c.loop-volume-test.true) c.in-Some.ensures.machine c.in-Some.ensures.calm c.in-Some.ensures.seen is c.in-Ok-Reply.ensures.does.loud c.in-Ok-Reply.ensures.does.kept c.in-Ok-Reply.ensures.does.counts.0
 
 pub loop-volume-preserved-in-Ok-Done : goal.loop-volume-preserved-in-Ok-Done
 loop-volume-preserved-in-Ok-Done g c =
-    let exact = c.in-Ok-Done.ensures.exact in
+    let exact = c.in-Ok-Done.ensures.does.exact in
     let is : IsExact g.B.Block.contents g.B.Block.layers c.in-Some.event _ c.loop-volume.volume c.step.new.self = rw c.in-Ok-Done.field-0-is at exact in
     beside_more g.B.Block.contents g.B.Block.layers g.B.Block.size (Some c.args.reply) (Some c.loop-volume.reply) c.args.volume.now c.loop-volume.volume c.step.new.self c.in-Some.event _ c.loop-volume.invariant
-    (sym c.is_quiet.ensures.value ∙ c.loop-volume-test.true) c.in-Some.ensures.machine c.in-Some.ensures.calm c.in-Some.ensures.seen is c.in-Ok-Done.ensures.loud c.in-Ok-Done.ensures.kept c.in-Ok-Done.ensures.counts.0
+    (sym c.is_quiet.ensures.value ∙ c.loop-volume-test.true) c.in-Some.ensures.machine c.in-Some.ensures.calm c.in-Some.ensures.seen is c.in-Ok-Done.ensures.does.loud c.in-Ok-Done.ensures.does.kept c.in-Ok-Done.ensures.does.counts.0
 
 pub loop-volume-preserved : goal.loop-volume-preserved
 loop-volume-preserved g c =
-    let exact = c.in-Ok-Fault.ensures.exact in
+    let exact = c.in-Ok-Fault.ensures.does.exact in
     let is : IsExact g.B.Block.contents g.B.Block.layers c.in-Some.event _ c.loop-volume.volume c.step.new.self = rw c.in-Ok-Fault.field-0-is at exact in
     beside_more g.B.Block.contents g.B.Block.layers g.B.Block.size (Some c.args.reply) (Some c.loop-volume.reply) c.args.volume.now c.loop-volume.volume c.step.new.self c.in-Some.event _ c.loop-volume.invariant
-    (sym c.is_quiet.ensures.value ∙ c.loop-volume-test.true) c.in-Some.ensures.machine c.in-Some.ensures.calm c.in-Some.ensures.seen is c.in-Ok-Fault.ensures.loud c.in-Ok-Fault.ensures.kept c.in-Ok-Fault.ensures.counts.0
+    (sym c.is_quiet.ensures.value ∙ c.loop-volume-test.true) c.in-Some.ensures.machine c.in-Some.ensures.calm c.in-Some.ensures.seen is c.in-Ok-Fault.ensures.does.loud c.in-Ok-Fault.ensures.does.kept c.in-Ok-Fault.ensures.does.counts.0
 
 pub returns-clause-none : goal.returns-clause-none
 returns-clause-none g c = c.is_quiet.ensures.calm c.loop-volume-test.false

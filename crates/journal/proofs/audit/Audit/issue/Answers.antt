@@ -34,13 +34,13 @@ returns-then-index-seat-clause-first g c = λ next mine.
 pub copy_into-for_entry-requires : goal.copy_into-for_entry-requires
 copy_into-for_entry-requires g c =
     let first = first_of c.args.number c.self.inside.held.items c.in-Some.place c.remove-held.result c.remove-held.ensures.value (rw c.as_slice.ensures.value at c.in-Some.ensures.some) in
-    let flown = rw c.in-Ok-Reply.field-0-is at c.in-Ok-Reply.ensures.flown in
+    let flown = rw c.in-Ok-Reply.field-0-is at c.in-Ok-Reply.ensures.does.flown in
     (fits_held _ _ c.args.number c.in-Some.place c.remove-held.result c.in-Ok-Reply.reply _ c.self.invariant.audit.counted first (taken_here c.args.number c.in-Ok-Reply.which c.in-Ok-Reply.reply _ _ flown)).0
 
 pub copy_into-for_receipt-requires : goal.copy_into-for_receipt-requires
 copy_into-for_receipt-requires g c =
     let first = first_of c.args.number c.self.inside.held.items c.in-Some.place c.remove-held.result c.remove-held.ensures.value (rw c.as_slice.ensures.value at c.in-Some.ensures.some) in
-    let flown = rw c.in-Ok-Reply.field-0-is at c.in-Ok-Reply.ensures.flown in
+    let flown = rw c.in-Ok-Reply.field-0-is at c.in-Ok-Reply.ensures.does.flown in
     (fits_held _ _ c.args.number c.in-Some.place c.remove-held.result c.in-Ok-Reply.reply _ c.self.invariant.audit.counted first (taken_here c.args.number c.in-Ok-Reply.which c.in-Ok-Reply.reply _ _ flown)).1
 
 pub count_one-count-requires-clause-few : goal.count_one-count-requires-clause-few
@@ -49,7 +49,7 @@ count_one-count-requires-clause-few g c =
     let same = c.remove-held.ensures.value ∙ get_or_default c.self.inside.held.items c.in-Some.place c.remove-held.result c.index.result.now first.within ∙ sym c.index.ensures in
     let theirs : c.index.result.now.seat ≡ c.args.seat = search rules in
     let fit = held_at c.self.inside.held.items c.args.number c.in-Some.place c.remove-held.result c.self.invariant.audit.counted.fits first in
-    count_low _ 0 _ _ _ (plain_of g.B.Block.contents g.B.Block.layers c.self.inside.volume) _ 0 c.self.invariant.audit c.self.invariant.bounded c.args.number c.in-Some.place c.remove-held.result first c.args.seat (omega (arith, fit.seat, ap (λ (y : Held). y.seat) same ∙ theirs)) (omega (arith, c.last_request.ensures, c.last_request.type_inv, c.in-Ok-Reply.ensures.counts.0))
+    count_low _ 0 _ _ _ (plain_of g.B.Block.contents g.B.Block.layers c.self.inside.volume) _ 0 c.self.invariant.audit c.self.invariant.bounded c.args.number c.in-Some.place c.remove-held.result first c.args.seat (omega (arith, fit.seat, ap (λ (y : Held). y.seat) same ∙ theirs)) (omega (arith, c.last_request.ensures, c.last_request.type_inv, c.in-Ok-Reply.ensures.does.counts.0))
 
 pub invariant_of-self : goal.invariant_of-self
 invariant_of-self g c =
@@ -59,12 +59,12 @@ invariant_of-self g c =
     let theirs : c.index.result.now.seat ≡ c.args.seat = search rules in
     let fit = held_at c.self.inside.held.items c.args.number c.in-Some.place x c.self.invariant.audit.counted.fits first in
     let seat = ap (λ (y : Held). y.seat) same ∙ theirs in
-    let flown = rw c.in-Ok-Reply.field-0-is at c.in-Ok-Reply.ensures.flown in
-    let kept = issued_keeps _ _ c.self.inside.loud (plain_of g.B.Block.contents g.B.Block.layers c.self.inside.volume) (plain_of g.B.Block.contents g.B.Block.layers c.step.new.self) _ _ c.self.invariant.audit c.in-Ok-Reply.ensures.loud
-    (saved_same g.B.Block.contents g.B.Block.layers c.self.inside.volume c.step.new.self c.in-Ok-Reply.ensures.kept.numbers) c.push_reserved.ensures.capacity c.args.number c.in-Some.place x first c.args.seat (ap (λ (y : Held). y.seat) same ∙ theirs)
-    c.in-Ok-Reply.reply c.in-Ok-Reply.which (rw c.in-Ok-Reply.field-0-is at c.in-Ok-Reply.ensures.flown) (λ loud. rw c.in-Ok-Reply.field-0-is at (c.in-Ok-Reply.ensures.legal loud)) in
-    let bounds = issued_bounds _ _ _ c.self.inside.loud (plain_of g.B.Block.contents g.B.Block.layers c.self.inside.volume) (plain_of g.B.Block.contents g.B.Block.layers c.step.new.self) _ _ c.self.invariant.audit c.self.invariant.bounded c.args.number c.in-Some.place x first c.in-Ok-Reply.ensures.counts.0
-    (long_kept g.B.Block.contents g.B.Block.layers g.B.Block.size g.met.B.Block.whole c.self.inside.volume c.step.new.self (size_kept g.B.Block.size c.self.inside.volume c.step.new.self c.in-Ok-Reply.ensures.kept.sizes)) c.args.seat (omega (arith, fit.seat, seat)) c.in-Ok-Reply.reply (taken_here c.args.number c.in-Ok-Reply.which c.in-Ok-Reply.reply _ _ flown)
+    let flown = rw c.in-Ok-Reply.field-0-is at c.in-Ok-Reply.ensures.does.flown in
+    let kept = issued_keeps _ _ c.self.inside.loud (plain_of g.B.Block.contents g.B.Block.layers c.self.inside.volume) (plain_of g.B.Block.contents g.B.Block.layers c.step.new.self) _ _ c.self.invariant.audit c.in-Ok-Reply.ensures.does.loud
+    (saved_same g.B.Block.contents g.B.Block.layers c.self.inside.volume c.step.new.self c.in-Ok-Reply.ensures.does.kept.numbers) c.push_reserved.ensures.capacity c.args.number c.in-Some.place x first c.args.seat (ap (λ (y : Held). y.seat) same ∙ theirs)
+    c.in-Ok-Reply.reply c.in-Ok-Reply.which (rw c.in-Ok-Reply.field-0-is at c.in-Ok-Reply.ensures.does.flown) (λ loud. rw c.in-Ok-Reply.field-0-is at (c.in-Ok-Reply.ensures.does.legal loud)) in
+    let bounds = issued_bounds _ _ _ c.self.inside.loud (plain_of g.B.Block.contents g.B.Block.layers c.self.inside.volume) (plain_of g.B.Block.contents g.B.Block.layers c.step.new.self) _ _ c.self.invariant.audit c.self.invariant.bounded c.args.number c.in-Some.place x first c.in-Ok-Reply.ensures.does.counts.0
+    (long_kept g.B.Block.contents g.B.Block.layers g.B.Block.size g.met.B.Block.whole c.self.inside.volume c.step.new.self (size_kept g.B.Block.size c.self.inside.volume c.step.new.self c.in-Ok-Reply.ensures.does.kept.sizes)) c.args.seat (omega (arith, fit.seat, seat)) c.in-Ok-Reply.reply (taken_here c.args.number c.in-Ok-Reply.which c.in-Ok-Reply.reply _ _ flown)
     (λ dev array shows. shows_long g.B.Block.contents g.B.Block.layers c.self.inside.volume dev array shows ∙ sym (plain_long g.B.Block.contents g.B.Block.layers c.self.inside.volume)) in
     rw (c.push_reserved.ensures.items, c.remove-held.ensures.items, c.count_one-count.ensures.counts, c.copy_into-for_entry.ensures) (record { audit = kept; bounded = bounds })
 
@@ -80,7 +80,7 @@ returns-in-Ok-Reply-clause-noted g c =
     let counted = c.count_one-count.ensures.result ∙ ap (λ k. k + 1) (c.self.invariant.audit.counted.counts c.args.seat (omega (arith, fit.seat, mine)) ∙ ap (count_of c.args.seat) c.self.view_is) in
     rw c.copy_into-for_receipt.ensures
     (receipt_has _ _ c.self.inside.held.items c.args.number c.in-Ok-Reply.which c.in-Some.place c.args.seat c.count_one-count.result x c.in-Ok-Reply.reply
-    (number_same c.args.number c.in-Ok-Reply.which c.in-Ok-Reply.reply _ _ (rw c.in-Ok-Reply.field-0-is at c.in-Ok-Reply.ensures.flown)) first mine fit.same
+    (number_same c.args.number c.in-Ok-Reply.which c.in-Ok-Reply.reply _ _ (rw c.in-Ok-Reply.field-0-is at c.in-Ok-Reply.ensures.does.flown)) first mine fit.same
     (ap (λ (a : AuditShape _). a.held) c.self.view_is) (ap (map seated) c.remove-held.ensures.items) counted
     (rw (c.push_reserved.ensures.items, c.copy_into-for_entry.ensures) (ap (λ es. es ++ Answered (answer_of x c.args.seat c.in-Ok-Reply.reply) ∷ []) entries)))
 
@@ -93,19 +93,13 @@ returns-in-Ok-Reply-clause-due g c =
     by_second _ _ _ (mine_own c.args.seat c.args.number c.self.inside.held.items _ c.in-Some.place x (ap (λ (a : AuditShape _). a.held) c.self.view_is) first (ap (λ (y : Held). y.seat) same ∙ theirs))
     (rw (← c.self.view_is) c.in-Ok-Reply.ensures.due)
 
-pub returns-in-Ok-Reply-clause-legal : goal.returns-in-Ok-Reply-clause-legal
-returns-in-Ok-Reply-clause-legal g c = rw (← c.self.view_is) (λ loud. rw c.in-Ok-Reply.field-0-is at (c.in-Ok-Reply.ensures.legal loud))
-
-pub returns-in-Ok-Reply-clause-flown : goal.returns-in-Ok-Reply-clause-flown
-returns-in-Ok-Reply-clause-flown g c = rw (← c.self.view_is) (rw c.in-Ok-Reply.field-0-is at c.in-Ok-Reply.ensures.flown)
-
 pub invariant_of-self-in-Ok-Done : goal.invariant_of-self-in-Ok-Done
 invariant_of-self-in-Ok-Done g c =
-    let flown = rw c.in-Ok-Done.field-0-is at c.in-Ok-Done.ensures.flown in record {
-      audit = going_keeps _ _ c.self.inside.loud (plain_of g.B.Block.contents g.B.Block.layers c.self.inside.volume) (plain_of g.B.Block.contents g.B.Block.layers c.step.new.self) _ c.self.invariant.audit c.in-Ok-Done.ensures.loud
-          (saved_same g.B.Block.contents g.B.Block.layers c.self.inside.volume c.step.new.self c.in-Ok-Done.ensures.kept.numbers) flown.same (λ loud. (rw c.in-Ok-Done.field-0-is at (c.in-Ok-Done.ensures.legal loud)).0);
-      bounded = quiet_bounds _ _ c.self.inside.loud c.self.inside.loud (plain_of g.B.Block.contents g.B.Block.layers c.self.inside.volume) (plain_of g.B.Block.contents g.B.Block.layers c.step.new.self) _ c.self.invariant.bounded c.in-Ok-Done.ensures.counts.0 (λ on. on)
-          (long_kept g.B.Block.contents g.B.Block.layers g.B.Block.size g.met.B.Block.whole c.self.inside.volume c.step.new.self (size_kept g.B.Block.size c.self.inside.volume c.step.new.self c.in-Ok-Done.ensures.kept.sizes)) flown.same;
+    let flown = rw c.in-Ok-Done.field-0-is at c.in-Ok-Done.ensures.does.flown in record {
+      audit = going_keeps _ _ c.self.inside.loud (plain_of g.B.Block.contents g.B.Block.layers c.self.inside.volume) (plain_of g.B.Block.contents g.B.Block.layers c.step.new.self) _ c.self.invariant.audit c.in-Ok-Done.ensures.does.loud
+          (saved_same g.B.Block.contents g.B.Block.layers c.self.inside.volume c.step.new.self c.in-Ok-Done.ensures.does.kept.numbers) flown.same (λ loud. (rw c.in-Ok-Done.field-0-is at (c.in-Ok-Done.ensures.does.legal loud)).0);
+      bounded = quiet_bounds _ _ c.self.inside.loud c.self.inside.loud (plain_of g.B.Block.contents g.B.Block.layers c.self.inside.volume) (plain_of g.B.Block.contents g.B.Block.layers c.step.new.self) _ c.self.invariant.bounded c.in-Ok-Done.ensures.does.counts.0 (λ on. on)
+          (long_kept g.B.Block.contents g.B.Block.layers g.B.Block.size g.met.B.Block.whole c.self.inside.volume c.step.new.self (size_kept g.B.Block.size c.self.inside.volume c.step.new.self c.in-Ok-Done.ensures.does.kept.sizes)) flown.same;
     }
 
 pub returns-in-Ok-Done-clause-noted : goal.returns-in-Ok-Done-clause-noted
@@ -118,7 +112,7 @@ pub returns-in-Ok-Done-clause-unanswered : goal.returns-in-Ok-Done-clause-unansw
 returns-in-Ok-Done-clause-unanswered g c =
     let x = c.index.result.now in
     let first = first_of c.args.number c.self.inside.held.items c.in-Some.place x c.index.ensures (rw c.as_slice.ensures.value at c.in-Some.ensures.some) in
-    going_is (plain_of g.B.Block.contents g.B.Block.layers c.self.inside.volume) _ c.args.number c.in-Some.place x _ _ c.self.invariant.audit.counted first (rw c.in-Ok-Done.field-0-is at c.in-Ok-Done.ensures.flown) (ap (λ (a : AuditShape _). a.held) c.self.view_is)
+    going_is (plain_of g.B.Block.contents g.B.Block.layers c.self.inside.volume) _ c.args.number c.in-Some.place x _ _ c.self.invariant.audit.counted first (rw c.in-Ok-Done.field-0-is at c.in-Ok-Done.ensures.does.flown) (ap (λ (a : AuditShape _). a.held) c.self.view_is)
 
 pub returns-in-Ok-Done-clause-due : goal.returns-in-Ok-Done-clause-due
 returns-in-Ok-Done-clause-due g c =
@@ -128,8 +122,11 @@ returns-in-Ok-Done-clause-due g c =
     by_second _ _ _ (mine_own c.args.seat c.args.number c.self.inside.held.items _ c.in-Some.place x (ap (λ (a : AuditShape _). a.held) c.self.view_is) first theirs)
     (rw (← c.self.view_is) c.in-Ok-Done.ensures.due)
 
-pub returns-in-Ok-Done-clause-legal : goal.returns-in-Ok-Done-clause-legal
-returns-in-Ok-Done-clause-legal g c = rw (← c.self.view_is) (λ loud. rw c.in-Ok-Done.field-0-is at (c.in-Ok-Done.ensures.legal loud))
+pub returns-in-Ok-Reply-clause-does : goal.returns-in-Ok-Reply-clause-does
+returns-in-Ok-Reply-clause-does g c = rw (← c.self.view_is) (rw c.in-Ok-Reply.field-0-is at c.in-Ok-Reply.ensures.does)
 
-pub returns-in-Ok-Done-clause-flown : goal.returns-in-Ok-Done-clause-flown
-returns-in-Ok-Done-clause-flown g c = rw (← c.self.view_is) (rw c.in-Ok-Done.field-0-is at c.in-Ok-Done.ensures.flown)
+pub returns-in-Ok-Done-clause-does : goal.returns-in-Ok-Done-clause-does
+returns-in-Ok-Done-clause-does g c = rw (← c.self.view_is) (rw c.in-Ok-Done.field-0-is at c.in-Ok-Done.ensures.does)
+
+pub returns-in-Err-clause-does : goal.returns-in-Err-clause-does
+returns-in-Err-clause-does g c = rw (← c.self.view_is) c.in-Err.ensures.does

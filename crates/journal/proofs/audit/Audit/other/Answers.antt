@@ -8,18 +8,24 @@ use Rattle.journal.proofs.audit.Audit.other.Goals as goal
 
 pub note_spoils-requires-clause-lives : goal.note_spoils-requires-clause-lives
 note_spoils-requires-clause-lives g c =
-    c.self.invariant.audit.counted.lives ∙ saved_count g.B.Block.contents g.B.Block.layers c.self.inside.volume ∙ sym (snaps_same c.self.inside.volume c.step.new.self c.in-Ok.ensures.kept.numbers)
+    c.self.invariant.audit.counted.lives ∙ saved_count g.B.Block.contents g.B.Block.layers c.self.inside.volume ∙ sym (snaps_same c.self.inside.volume c.step.new.self c.in-Ok.ensures.does.kept.numbers)
 
 pub invariant_of-self : goal.invariant_of-self
 invariant_of-self g c =
-    let flown = flown_other c.args.event c.in-Ok.outcome _ _ c.requires c.in-Ok.ensures.flown in record {
-      audit = spoilt_keeps _ _ _ (plain_of g.B.Block.contents g.B.Block.layers c.self.inside.volume) (plain_of g.B.Block.contents g.B.Block.layers c.step.new.self) _ _ _ _ c.self.invariant.audit c.in-Ok.ensures.loud
-          flown (saved_same g.B.Block.contents g.B.Block.layers c.self.inside.volume c.step.new.self c.in-Ok.ensures.kept.numbers)
-          (λ loud. spoils_of _ c.args.event c.in-Ok.outcome _ c.requires (c.in-Ok.ensures.legal loud)) (noted_all g.B.Block.contents g.B.Block.layers c.step.new.self _ _ _ _ c.note_spoils.ensures.noted) c.note_spoils.ensures.capacity;
-      bounded = spoilt_bounds _ _ c.self.inside.loud _ _ _ _ c.self.invariant.bounded c.in-Ok.ensures.counts.0 (λ on. on) (long_kept g.B.Block.contents g.B.Block.layers g.B.Block.size g.met.B.Block.whole c.self.inside.volume c.step.new.self (size_kept g.B.Block.size c.self.inside.volume c.step.new.self c.in-Ok.ensures.kept.sizes)) flown c.note_spoils.ensures.noted.which _ _ _ c.note_spoils.ensures.noted.entries_are;
+    let flown = flown_other c.args.event c.in-Ok.outcome _ _ c.requires c.in-Ok.ensures.does.flown in record {
+      audit = spoilt_keeps _ _ _ (plain_of g.B.Block.contents g.B.Block.layers c.self.inside.volume) (plain_of g.B.Block.contents g.B.Block.layers c.step.new.self) _ _ _ _ c.self.invariant.audit c.in-Ok.ensures.does.loud
+          flown (saved_same g.B.Block.contents g.B.Block.layers c.self.inside.volume c.step.new.self c.in-Ok.ensures.does.kept.numbers)
+          (λ loud. spoils_of _ c.args.event c.in-Ok.outcome _ c.requires (c.in-Ok.ensures.does.legal loud)) (noted_all g.B.Block.contents g.B.Block.layers c.step.new.self _ _ _ _ c.note_spoils.ensures.noted) c.note_spoils.ensures.capacity;
+      bounded = spoilt_bounds _ _ c.self.inside.loud _ _ _ _ c.self.invariant.bounded c.in-Ok.ensures.does.counts.0 (λ on. on) (long_kept g.B.Block.contents g.B.Block.layers g.B.Block.size g.met.B.Block.whole c.self.inside.volume c.step.new.self (size_kept g.B.Block.size c.self.inside.volume c.step.new.self c.in-Ok.ensures.does.kept.sizes)) flown c.note_spoils.ensures.noted.which _ _ _ c.note_spoils.ensures.noted.entries_are;
     }
 
 pub returns-in-Ok-clause-noted : goal.returns-in-Ok-clause-noted
 returns-in-Ok-clause-noted g c =
-    silent_noted _ _ 0 c.args.event c.in-Ok.outcome _ _ c.requires c.in-Ok.ensures.flown
+    silent_noted _ _ 0 c.args.event c.in-Ok.outcome _ _ c.requires c.in-Ok.ensures.does.flown
     (record { held = ap (λ (a : AuditShape _). a.held) c.self.view_is; spoils = only_spoils _ _ _ _ _ _ _ _ c.note_spoils.ensures.noted (ap (λ (a : AuditShape _). a.entries) c.self.view_is) refl })
+
+pub returns-in-Ok-clause-does : goal.returns-in-Ok-clause-does
+returns-in-Ok-clause-does g c = rw (← c.self.view_is) c.in-Ok.ensures.does
+
+pub returns-in-Err-clause-does : goal.returns-in-Err-clause-does
+returns-in-Err-clause-does g c = rw (← c.self.view_is) c.in-Err.ensures.does

@@ -42,7 +42,7 @@ invariant_of-self-in-Some g c =
       answered_holds g.B.Block.size g.B.Block.layers (g.J.Room.history v) (g.J.Room.start v) (g.J.Room.fixed v) a b c.self.inside.keeper c.answer-me.new.keeper c.args.me.me.0 c.args.seat c.in-Reply.which c.in-Reply.reply r
           c.last_of-entry.result.now c.self.invariant.0 (c.answer-me.ensures.keeper.0.0 ∙ named) c.answer-me.ensures.keeper.0.1 c.answer-me.ensures.keeper.1
           (c.last_of-entry.ensures a.entries (Answered (answered_of r)) (c.entries.ensures.value ∙ done.added)) done
-          (stays_same g.B.Block.size g.B.Block.layers (g.J.Room.fixed v) a b c.self.invariant.0.stays c.in-Ok.ensures.kept c.in-Ok.ensures.loud c.in-Ok.ensures.base),
+          (stays_same g.B.Block.size g.B.Block.layers (g.J.Room.fixed v) a b c.self.invariant.0.stays c.in-Ok.ensures.does.kept c.in-Ok.ensures.does.loud c.in-Ok.ensures.base),
       shown_as c.args.beside.now.boards (g.J.Room.boards v) b.volume b.volume c.keep_up.new.publishers (c.requires.beside.boards_are ∙ sym (ap (λ p. g.J.Room.boards p.volume) c.self.view_is)) refl c.keep_up.ensures.shown,
     )
 

@@ -24,7 +24,7 @@ returns-in-Err-clause-denied g c =
     let b = c.submit.new.self in
     let start = g.J.Room.start c.self.inside.volume in
     let fresh = noted_new c.args.request a b c.in-Err.ensures.noted.noted in
-    let stays = stays_same g.B.Block.size g.B.Block.layers (g.J.Room.fixed c.self.inside.volume) a b c.self.invariant.0.stays c.submit.ensures.kept c.submit.ensures.loud c.submit.ensures.base in
+    let stays = stays_same g.B.Block.size g.B.Block.layers (g.J.Room.fixed c.self.inside.volume) a b c.self.invariant.0.stays c.submit.ensures.does.kept c.submit.ensures.loud c.submit.ensures.base in
     let holds = noted_holds g.B.Block.size g.B.Block.layers (g.J.Room.history c.self.inside.volume) start (g.J.Room.fixed c.self.inside.volume) a b c.self.inside.keeper c.note-in-Err.new.keeper c.entries-in-Err.result.now c.entries-from.result.now fresh.more
     c.self.invariant.0
     (subst (λ t. IsKeeper t c.note-in-Err.new.keeper) (c.requires.beside.history_is ∙ sym (ap (λ p. g.J.Room.history p.volume) c.self.view_is)) c.note-in-Err.ensures.keeper)
@@ -33,4 +33,4 @@ returns-in-Err-clause-denied g c =
     subst (λ p. WasDenied (g.J.Room.start p.volume) (g.J.Room.fixed p.volume) seen (Serve c.args.request) c.in-Err.refusal) c.self.view_is
     (denied g.B.Block.contents g.B.Block.size g.B.Block.layers start (g.J.Room.fixed c.self.inside.volume) seen a b c.args.request c.in-Err.refusal
     (record { entries = holds.knows ∙ ap (λ v. start ++ v.seen) (sym c.look-me.ensures.seat.1); stays = stays; truth = c.entries-in-Err.ensures.replay })
-    c.submit.ensures.kept c.in-Err.ensures.refused)
+    c.submit.ensures.does.kept c.in-Err.ensures.refused)

@@ -4,15 +4,27 @@ use Rattle.volume.specs.declared.calls.Call.TheVariants.{Submit, Step, Tick, Mes
 use Rattle.volume.specs.Layering.{Measures}
 use Rattle.volume.proofs.OpenedCalls.{opens_alike, opens_begin, opens_resume, opens_stepped, opens_submitted, opens_told}
 use Rattle.volume.proofs.Relayered.{ticked_alike}
+use Rattle.volume.proofs.Stepped.{step_returned}
+use Rattle.volume.proofs.Submits.{submit_returned}
 use Rattle.volume.proofs.volume.Volume.call.Goals as goal
+
+pub returns-in-Submit-clause-returned : goal.returns-in-Submit-clause-returned
+returns-in-Submit-clause-returned g c =
+    let m : Measures g.row.B.Denot = record { contents = g.B.Block.contents; durable = g.B.Block.durable; size = g.B.Block.size; faults = g.B.Block.fault_count; done = g.B.Block.done_count } in
+    rw c.in-Submit.is (submit_returned m g.B.Block.layers c.in-Submit.request c.submit.result c.args.self.now c.submit.new.self c.submit.ensures.does c.submit.ensures.refused)
 
 pub returns-in-Submit-clause-opens : goal.returns-in-Submit-clause-opens
 returns-in-Submit-clause-opens g c = λ loud.
-    rw c.in-Submit.is (opens_submitted g.B.Block.may_hold g.B.Block.contents g.B.Block.layers g.B.Block.size (Submit c.in-Submit.request ∷ []) c.in-Submit.request c.submit.result c.args.self.now c.submit.new.self c.submit.ensures.ok c.submit.ensures.refused c.submit.ensures.untouched)
+    rw c.in-Submit.is (opens_submitted g.B.Block.may_hold g.B.Block.contents g.B.Block.layers g.B.Block.size (Submit c.in-Submit.request ∷ []) c.in-Submit.request c.submit.result c.args.self.now c.submit.new.self c.submit.ensures.does.ok c.submit.ensures.refused c.submit.ensures.does.untouched)
+
+pub returns-in-Step-clause-returned : goal.returns-in-Step-clause-returned
+returns-in-Step-clause-returned g c =
+    let m : Measures g.row.B.Denot = record { contents = g.B.Block.contents; durable = g.B.Block.durable; size = g.B.Block.size; faults = g.B.Block.fault_count; done = g.B.Block.done_count } in
+    rw c.in-Step.is (step_returned g.B.Block.may_hold m g.B.Block.layers c.in-Step.event c.step.result c.args.self.now c.step.new.self c.step.ensures.does c.step.ensures.due)
 
 pub returns-in-Step-clause-opens : goal.returns-in-Step-clause-opens
 returns-in-Step-clause-opens g c = λ loud.
-    rw c.in-Step.is (opens_stepped g.B.Block.may_hold g.B.Block.contents g.B.Block.layers g.B.Block.size (Step c.in-Step.event ∷ []) c.in-Step.event c.step.result g.B.Block.fault_count c.args.self.now c.step.new.self g.met.B.Block.whole g.met.B.Block.holds_now loud c.step.ensures.kept c.step.ensures.cause c.step.ensures.stops c.step.ensures.same)
+    rw c.in-Step.is (opens_stepped g.B.Block.may_hold g.B.Block.contents g.B.Block.layers g.B.Block.size (Step c.in-Step.event ∷ []) c.in-Step.event c.step.result g.B.Block.fault_count g.B.Block.done_count c.args.self.now c.step.new.self g.met.B.Block.whole g.met.B.Block.holds_now loud c.step.ensures.does)
 
 pub returns-in-Tick-clause-opens : goal.returns-in-Tick-clause-opens
 returns-in-Tick-clause-opens g c = λ loud.

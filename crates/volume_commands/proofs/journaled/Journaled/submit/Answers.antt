@@ -5,23 +5,20 @@ use Rattle.volume_commands.proofs.Fewer.{accepted_have, refused_fewer_marks, ref
 use Rattle.volume_commands.proofs.JournalGoing.{accepted_goes_on, refused_goes_on}
 use Rattle.volume_commands.proofs.journaled.Journaled.submit.Goals as goal
 
-pub returns-in-Err-clause-starved : goal.returns-in-Err-clause-starved
-returns-in-Err-clause-starved g c = λ other apart replied. rw (← c.self.view_is) (c.in-Err.ensures.starved other apart replied)
-
 pub returns-in-Err-clause-loud : goal.returns-in-Err-clause-loud
 returns-in-Err-clause-loud g c =
     rw (← c.self.view_is) (refused_loud g.B.Block.contents g.B.Block.layers g.B.Block.size c.self.inside.volume c.submit.new.self c.args.request c.in-Err.refusal c.in-Err.ensures.refused)
 
 pub returns-in-Ok-clause-goes_on : goal.returns-in-Ok-clause-goes_on
 returns-in-Ok-clause-goes_on g c =
-    rw (← c.self.view_is) (accepted_goes_on g.B.Block.contents g.B.Block.layers c.self.inside.volume c.submit.new.self c.args.request c.in-Ok.number c.in-Ok.ensures.ok)
+    rw (← c.self.view_is) (accepted_goes_on g.B.Block.contents g.B.Block.layers c.self.inside.volume c.submit.new.self c.args.request c.in-Ok.number c.in-Ok.ensures.does.ok)
 
 pub returns-in-Err-clause-goes_on : goal.returns-in-Err-clause-goes_on
 returns-in-Err-clause-goes_on g c =
     rw (← c.self.view_is) (refused_goes_on g.B.Block.contents g.B.Block.layers c.self.inside.volume c.submit.new.self g.B.Block.size c.args.request c.in-Err.refusal c.in-Err.ensures.refused)
 
 pub invariant_of-self : goal.invariant_of-self
-invariant_of-self g c = accepted_have c.self.inside.volume c.submit.new.self g.B.Block.contents g.B.Block.layers c.args.request c.in-Ok.number c.self.inside.places c.in-Ok.ensures.ok (omega (arith, c.if-self-may-gt-MAX_ENTRIES.false, c.count_may-may.ensures.count)) c.self.invariant
+invariant_of-self g c = accepted_have c.self.inside.volume c.submit.new.self g.B.Block.contents g.B.Block.layers c.args.request c.in-Ok.number c.self.inside.places c.in-Ok.ensures.does.ok (omega (arith, c.if-self-may-gt-MAX_ENTRIES.false, c.count_may-may.ensures.count)) c.self.invariant
 
 pub invariant_of-self-in-Err : goal.invariant_of-self-in-Err
 invariant_of-self-in-Err g c = rw c.count_may.ensures.count (refused_have c.self.inside.volume c.submit.new.self g.B.Block.contents g.B.Block.layers g.B.Block.size c.args.request c.in-Err.refusal c.self.inside.places c.count_may-may.result c.in-Err.ensures.refused c.count_may-may.ensures.count c.self.invariant)
@@ -31,5 +28,8 @@ overflow_sub-self g c =
     let fewer = refused_fewer_marks c.self.inside.volume c.submit.new.self g.B.Block.contents g.B.Block.layers g.B.Block.size c.args.request c.in-Err.refusal c.in-Err.ensures.refused in
     omega (arith, fewer, c.count_may.ensures.count, c.count_may-may.ensures.count)
 
-pub returns-in-Err-clause-declined : goal.returns-in-Err-clause-declined
-returns-in-Err-clause-declined g c = λ failure is apart number replied. rw (← c.self.view_is) (c.in-Err.ensures.declined failure is apart number replied)
+pub returns-in-Ok-clause-does : goal.returns-in-Ok-clause-does
+returns-in-Ok-clause-does g c = rw (← c.self.view_is) c.in-Ok.ensures.does
+
+pub returns-in-Err-clause-does : goal.returns-in-Err-clause-does
+returns-in-Err-clause-does g c = rw (← c.self.view_is) c.in-Err.ensures.does

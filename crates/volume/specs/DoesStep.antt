@@ -1,0 +1,40 @@
+-- To be believed: a volume's steps are said in these words.
+-- What a call of `step` does to a volume, as one record: a layer that passes an event on says the same record of the volume below it.
+use Rattle.std.specs.Prelude.{◌≡◌, ℕ, ◌+◌, ◌<◌, ◌≤◌, true, List, IfOk, OnErr, OnOk, Result, map}
+use Rattle.device.specs.Layers.{Layer}
+use Rattle.plain.specs.declared.event.Event.{Event}
+use Rattle.plain.specs.declared.event.NotDue.{NotDue}
+use Rattle.plain.specs.declared.event.Outcome.{Outcome}
+use Rattle.plain.specs.Legal.{IsLegalStep}
+use Rattle.in_flight.specs.Kinds.{in_flight}
+use Rattle.volume.specs.Asking.{is_finished_in}
+use Rattle.volume.specs.Causes.{HasCause, IsOneAtMost}
+use Rattle.volume.specs.Closing.{ClosesBy}
+use Rattle.volume.specs.Exact.{IsExact}
+use Rattle.volume.specs.Flying.{IsFlown}
+use Rattle.volume.specs.Stepping.{KeepsAll, failed_by, has_failed, starts_by}
+use Rattle.volume.specs.Stopping.{StopsVolume, given_by}
+use Rattle.volume.specs.Stored.{RemovesPairs, is_finished_on}
+use Rattle.volume.specs.Volumed.{Volumed, is_loud_in_all, left_in_all, plain_of}
+
+-- An event that was due, whatever the devices do: a whole number falls, the cause is counted, a request leaves only where it is
+-- answered, at most one operation of a device is done, and no snapshot is marked for a full store. Where no device drops writes,
+-- it is a legal step of the plain machine, and the event machine's own; and so are what a stop within it may leave, and what an
+-- answered flush closes. One that was not due changes nothing.
+pub record DoesStep {B : Type 0} (holds : B → ℕ → List ℕ → Type 0) (contents : B → List ℕ) (layers : B → List Layer) (size faults done : B → ℕ) (event : Event) (result : Result Outcome NotDue) (old new : Volumed B) : Type 0 where
+  pub legal : IfOk result (λ outcome. is_loud_in_all layers old ≡ true → IsLegalStep (plain_of contents layers old) event outcome (plain_of contents layers new))
+  pub exact : IfOk result (λ outcome. IsExact contents layers event outcome old new)
+  pub lower : OnOk result (left_in_all contents layers new < left_in_all contents layers old)
+  pub loud : is_loud_in_all layers new ≡ is_loud_in_all layers old
+  pub cause : IfOk result (λ outcome. HasCause faults event outcome old new)
+  pub flown : IfOk result (λ outcome. IsFlown event outcome (map in_flight old.flights) (map in_flight new.flights))
+  pub one : OnOk result (IsOneAtMost done old new)
+  pub kept : OnOk result (KeepsAll size old new)
+  pub failed : IfOk result (λ outcome. has_failed new.merge ≡ failed_by event outcome (has_failed old.merge))
+  pub counts : OnOk result ((new.requests ≡ old.requests) × (new.copies ≤ old.copies + starts_by event) × (old.copies ≤ new.copies))
+  pub overflows : OnOk result (map (λ s. s.overflow) new.snaps ≡ map (λ s. s.overflow) old.snaps)
+  pub removes : IfOk result (λ outcome. RemovesPairs contents layers event outcome old new)
+  pub finished : OnOk result (is_loud_in_all layers new ≡ true → is_finished_in new.merge ≡ is_finished_on contents new.merge)
+  pub closes : IfOk result (λ outcome. ClosesBy holds contents layers size event outcome (map in_flight old.flights) new)
+  pub stops : IfOk result (λ outcome. is_loud_in_all layers old ≡ true → StopsVolume holds size (given_by event (map in_flight old.flights)) old new)
+  pub same : OnErr result (new ≡ old)
