@@ -74,7 +74,8 @@ fn add_merge(events: &mut Vec<Event>) -> Result<(), AllocError>
     events.push(Event::MergeWrite)?;
     events.push(Event::MergeRead)?;
     events.push(Event::MergeAreaRead)?;
-    events.push(Event::MergeGroup)
+    events.push(Event::MergeGroup)?;
+    Ok(())
 }
 
 impl<B: Layered> Journaled<B> {
