@@ -13,6 +13,8 @@ pub struct Asked<'a> {
     pub workers: u32,
     /// Whether the number of its line stands before each answer.
     pub numbers: bool,
+    /// Whether it is told behind each line what is in flight, and which events are due.
+    pub trace: bool,
 }
 
 /// What stands behind the options in the help.
@@ -50,18 +52,26 @@ pub fn words_ask<'a>(alloc: Global, words: &'a [String]) -> Result<Asked<'a>, Er
         .long("numbers")
         .help("Put the number of its input line before each answer")
         .action(ArgAction::SetTrue);
+    let trace = Arg::new(alloc, "trace")
+        .long("trace")
+        .help(
+            "Tell behind each line, on standard error, what is in flight and which events are due",
+        )
+        .action(ArgAction::SetTrue);
     let command = Command::new(alloc, "dmrig")
         .version("1")
         .about("Does lines of commands on devices in memory, and prints what each answers.")
         .after_help(NOTES)
         .arg(file)?
         .arg(workers)?
-        .arg(numbers)?;
+        .arg(numbers)?
+        .arg(trace)?;
     let matches = command.try_get_matches_from(words)?;
     Ok(Asked {
         file: matches.get_str("FILE"),
         workers: workers_of(matches.get_str("WORKERS")),
         numbers: matches.get_flag("numbers"),
+        trace: matches.get_flag("trace"),
     })
 }
 

@@ -1,4 +1,4 @@
-//! The command program `dmrig [--numbers] [FILE [WORKERS]]`: it does the command lines of a file, or of standard input, and
+//! The command program `dmrig [--numbers] [--trace] [FILE [WORKERS]]`: it does the command lines of a file, or of standard input, and
 //! prints their answers. Each answer is written out before more input is waited for.
 //!
 //! It stands on `runner`, which says what is printed, and has only what concerns the process: the words of the command
@@ -12,31 +12,48 @@ ghost use Rattle.dmrig.specs.Ended.{ended};
 mod asking;
 
 use crate::asking::{Asked, words_ask};
-use runner::{RunError, Summary, exit_status, run, run_numbered};
+use runner::{RunError, Summary, exit_status, run, run_numbered, run_numbered_traced, run_traced};
 use std::io::{BufReader, BufWriter, Read, Write};
 use std::process::ExitCode;
-use std::rt::Files;
+use std::rt::{Files, Stderr};
 use std::sync::Wait;
 use std::thread::Threads;
 use std::{fs, io};
 
-/// Runs the lines of a reader into standard output. An error is the writer's own.
+/// Runs the lines of a reader into a writer, and tells a tracer what is in flight, if that is asked for.
+fn ran<R: Read, W: Write, X: Write>(
+    rt: &(impl AllocGlobal + Threads + Wait + Sync),
+    reader: &mut R,
+    writer: &mut W,
+    tracer: &mut X,
+    asked: Asked<'_>,
+) -> Result<Summary, RunError>
+    requires some { 1 ≤ asked.workers }
+    requires few { asked.workers ≤ 4 }
+{
+    let workers = asked.workers;
+    match (asked.numbers, asked.trace) {
+        (false, false) => run(rt, rt.alloc(), reader, writer, workers),
+        (true, false) => run_numbered(rt, rt.alloc(), reader, writer, workers),
+        (false, true) => run_traced(rt, rt.alloc(), reader, writer, tracer, workers),
+        (true, true) => run_numbered_traced(rt, rt.alloc(), reader, writer, tracer, workers),
+    }
+}
+
+/// Runs the lines of a reader into standard output, and its trace into standard error. An error is the writer's own.
 fn printed<R: Read + Drop>(
     rt: &(impl Print + AllocGlobal + Threads + Wait + Sync),
     reader: R,
-    workers: u32,
-    numbers: bool,
+    errors: &Stderr,
+    asked: Asked<'_>,
 ) -> io::Result<Result<Summary, RunError>>
-    requires some { 1 ≤ workers }
-    requires few { workers ≤ 4 }
+    requires some { 1 ≤ asked.workers }
+    requires few { asked.workers ≤ 4 }
 {
     let mut reader = BufReader::new(rt.alloc(), reader)?;
     let mut writer = BufWriter::new(rt.alloc(), io::writer(rt))?;
-    let ran = if numbers {
-        run_numbered(rt, rt.alloc(), &mut reader, &mut writer, workers)
-    } else {
-        run(rt, rt.alloc(), &mut reader, &mut writer, workers)
-    };
+    let mut tracer = BufWriter::new(rt.alloc(), errors)?;
+    let ran = ran(rt, &mut reader, &mut writer, &mut tracer, asked);
     writer.flush()?;
     Ok(ran)
 }
@@ -64,20 +81,16 @@ fn finished(rt: &impl Eprint, name: &str, ran: io::Result<Result<Summary, RunErr
 /// Does what is asked for, and gives the exit status.
 fn done(
     rt: &(impl Files + Input + Print + Eprint + AllocGlobal + Threads + Wait + Sync),
+    errors: &Stderr,
     asked: Asked<'_>,
 ) -> u8
     requires some { 1 ≤ asked.workers }
     requires few { asked.workers ≤ 4 }
 {
-    let Asked {
-        file,
-        workers,
-        numbers,
-    } = asked;
-    match file {
-        None | Some("-") => finished(rt, "-", printed(rt, rt.reader(), workers, numbers)),
+    match asked.file {
+        None | Some("-") => finished(rt, "-", printed(rt, rt.reader(), errors, asked)),
         Some(name) => match fs::open(rt, name) {
-            Ok(file) => finished(rt, name, printed(rt, file, workers, numbers)),
+            Ok(file) => finished(rt, name, printed(rt, file, errors, asked)),
             Err(_) => {
                 let _ = eprintln!(rt; "dmrig: cannot read {name}");
                 2
@@ -114,7 +127,7 @@ fn main(rt: HostRuntime) -> ExitCode {
         return ExitCode::from(2);
     };
     match words_ask(rt.alloc(), &words) {
-        Ok(asked) => ExitCode::from(done(&rt, asked)),
+        Ok(asked) => ExitCode::from(done(&rt, &rt.stderr(), asked)),
         Err(error) => match error.print(&rt) {
             Ok(()) if !error.use_stderr() => ExitCode::SUCCESS,
             _ => ExitCode::from(2),

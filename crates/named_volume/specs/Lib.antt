@@ -6,3 +6,4 @@ pub mod Parting
 pub mod Status
 pub mod Taking
 pub mod Tables
+pub mod Trace

@@ -28,6 +28,7 @@ mod stopping;
 mod stored;
 mod telling;
 mod told;
+mod trace;
 
 pub use bottom::disk_in;
 pub use device_names::{depth_in, one_name};

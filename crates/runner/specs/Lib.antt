@@ -17,3 +17,4 @@ pub mod Sessions
 pub mod Runs
 pub mod Numbered
 pub mod Undoing
+pub mod Traced

@@ -34,6 +34,8 @@ mod session;
 mod step;
 mod summary;
 mod text;
+mod traced;
+mod tracing;
 mod undoing;
 
 pub use desk::Desk;
@@ -42,4 +44,5 @@ pub use numbered::run_numbered;
 pub use session::Session;
 pub use summary::Summary;
 pub use text::run;
+pub use traced::{run_numbered_traced, run_traced};
 pub use undoing::look_at_undoing;

@@ -1,5 +1,5 @@
 // A desk at which a block of lines may be open.
-ghost use Rattle.std.specs.Prelude.{◌≡◌, ◌≤◌, None, true, MatchResult, IfErr, OnOk};
+ghost use Rattle.std.specs.Prelude.{◌≡◌, ◌≤◌, None, true, MatchResult, IfErr, IfOk, OnOk};
 ghost use Rattle.std.specs.Io.KnownBytes.{Appends};
 ghost use Rattle.command_rules.specs.Naming.{AreNamed};
 ghost use Rattle.command_rules.specs.Sound.{is_sound};
@@ -8,13 +8,15 @@ ghost use Rattle.runner.specs.Output.{Outcome, followed, printed};
 ghost use Rattle.runner.specs.Runs.{begun};
 ghost use Rattle.runner.specs.Sessions.{IsEndedBy, IsOpenedBy, IsSessionDone};
 ghost use Rattle.runner.specs.Sound.{is_sound_line};
+ghost use Rattle.runner.specs.Traced.{AreTraced};
 ghost use Rattle.command.specs.Opening.{opening_of};
 
 use crate::desk::Desk;
 use crate::error::RunError;
 use crate::summary::Summary;
+use crate::tracing::traced;
 use command::{Block, LINE_LIMIT, is_par, opening_by};
-use std::alloc::Global;
+use std::alloc::{AllocError, Global};
 use std::io::Write;
 use std::marker::Model;
 use std::sync::Wait;
@@ -61,6 +63,14 @@ impl Session {
         ensures { result ≡ self.now.desk.summary }
     {
         self.desk.summary()
+    }
+
+    /// The lines of a trace of its volumes, one for each in which something is in flight or due. An error says that the allocator
+    /// refused room.
+    pub fn traced(&self) -> Result<Vec<u8>, AllocError>
+        ensures { IfOk result (λ page. AreTraced page.items self.now.desk.table.volumes) }
+    {
+        traced(self.alloc, &self.desk.held.volumes)
     }
 
     /// Opens a block by a line that begins with the word `par`, or answers why it opens none.

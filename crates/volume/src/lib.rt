@@ -41,6 +41,7 @@ mod status;
 mod stopping;
 mod stores;
 mod time;
+mod trace;
 mod volume;
 
 pub use calls::{Call, Returned};

@@ -49,3 +49,4 @@ pub mod NotFull
 pub mod Flown
 pub mod Fewer
 pub mod JournalGoing
+pub mod DueTold

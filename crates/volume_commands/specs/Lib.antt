@@ -16,3 +16,4 @@ pub mod Merging
 pub mod Ordered
 pub mod Places
 pub mod GoingOn
+pub mod Trace

@@ -39,6 +39,7 @@ mod resting;
 mod serving;
 mod stopping;
 mod telling;
+mod trace;
 
 pub use journaled::Journaled;
 pub use plain::{Replied, refusal_for};
