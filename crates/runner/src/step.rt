@@ -133,7 +133,7 @@ fn obey(
         Command::Message { name, message } => tell_device(alloc, held, &name, &message),
         Tick { seconds } => did(Ok(tick(held, seconds))),
         Read { name, first, count } => given(read_device(alloc, held, &name, first, count, ended)),
-        Write { name, first, bytes } => did(write_device(alloc, held, &name, first, &bytes, ended)),
+        Write { name, first, bytes } => did(write_device(alloc, held, &name, first, bytes, ended)),
         Flush { name } => did(flush_device(held, &name, ended)),
         StartRead { name, first, count } => number(start_read(alloc, held, &name, first, count)),
         StartWrite { name, first, bytes } => number(start_write(alloc, held, &name, first, bytes)),
