@@ -12,8 +12,10 @@ ghost use Rattle.named_volume.specs.Names.{KeepsNames};
 ghost use Rattle.named_volume.specs.Tables.{table_of};
 ghost use Rattle.named_devices.specs.Devices.{KeepsOthers};
 ghost use Rattle.named_devices.specs.Flights.{IsDoneFor, IsFlushedAmong, IsReadAmong, IsWrittenAmong};
+ghost use Rattle.named_devices.specs.Order.{IsInOrderFor};
 ghost use Rattle.named_devices.specs.Ruled.{is_quiet_in, is_sound_in, volume_for};
 
+use crate::order::find_in_order;
 use command_rules::{Place, Role};
 use named_volume::{Held, find_device, some_sectors, whole_sectors};
 use plain::Replied;
@@ -128,11 +130,13 @@ pub fn write_device(
     ensures among { IfOk (write_asked name.now first bytes (table_of held.old)) (λ asks. IsDoneFor name.now (IsWrittenAmong bytes result ended.old.items ended.new.items asks) (table_of held.old) (table_of held.new)) }
     ensures denied { is_quiet_in (volume_for name.now (table_of held.old)) ≡ true → IfErr result (λ e. IfOk (write_asked name.now first bytes (table_of held.old)) (λ _. IsDenied e)) }
     ensures one { KeepsOthers name.now (table_of held.old) (table_of held.new) }
+    ensures ordered { IsInOrderFor name.now (table_of held.old) }
     ensures sound { is_sound (table_of held.old) ≡ true → is_sound (table_of held.new) ≡ true }
     ensures named { AreNamed (table_of held.old) → AreNamed (table_of held.new) }
 {
+    let place = find_in_order(held, name);
     let count = whole_sectors(bytes.as_slice())?;
-    match find_device(held, name)? {
+    match place? {
         Place::Free(_, _) => Err(Refusal::BadTable),
         Place::In(v, role) => write_at(alloc, held, v, role, first, count, bytes, ended),
     }
