@@ -1,6 +1,8 @@
 -- In what order the snapshots of a volume stand, and its stores. This project's own.
 use Rattle.std.specs.Prelude.{◌≡◌, ◌<◌, ℕ, true, List, length, map, AllPairs, Option, Some, None, Result, Ok, Err}
 use Rattle.sector.specs.declared.refusal.Refusal.{Refusal}
+use Rattle.table.specs.declared.lines.Target.{Target}
+use Rattle.table.specs.declared.lines.Target.TheVariants as targets
 use Rattle.command_rules.specs.declared.place.Place.{Place}
 use Rattle.command_rules.specs.declared.place.Place.TheVariants.{Free, In}
 use Rattle.volume_commands.specs.Ordered.{IsOrdered}
@@ -28,3 +30,17 @@ IsInOrderAt table (Some (In v role)) = IsInOrderIn (volume_at v table)
 -- and the device of a name
 abbrev pub IsInOrderFor : List ℕ → Table → Type 0
 IsInOrderFor name table = IsInOrderAt table (place_of name table)
+
+-- if there is a name
+abbrev pub IsLookedAt : Table → Option (List ℕ) → Type 0
+IsLookedAt table None = Unit {0}
+IsLookedAt table (Some name) = IsInOrderFor name table
+
+-- the name on whose volume a target's snapshot is made
+abbrev pub changed_under : Target → Option (List ℕ)
+changed_under (targets.Snapshot device store chunk overflow) = Some device
+changed_under (targets.Origin device) = None
+changed_under (targets.Merge device store chunk overflow) = None
+changed_under (targets.Flakey device offset up down features) = None
+changed_under (targets.Dust device block) = None
+changed_under targets.Error = None

@@ -11,10 +11,12 @@ ghost use Rattle.command_rules.specs.Sound.{drops_writes, is_sound};
 ghost use Rattle.named_devices.specs.Busy.{IsBusyTarget};
 ghost use Rattle.named_volume.specs.Tables.{table_of};
 ghost use Rattle.named_devices.specs.Meeting.{IsCreated, IsMadeBy};
+ghost use Rattle.named_devices.specs.Order.{changed_under, IsLookedAt};
 ghost use Rattle.named_devices.specs.Ruled.{is_sound_target};
 
 use crate::attaching::make_snapshot;
 use crate::lay::{features_of, lay_dust, lay_error, lay_flakey};
+use crate::order::look_under;
 use crate::origins::make_origin;
 use layers::Flakey;
 use named_volume::{Held, find, is_full};
@@ -79,9 +81,11 @@ pub fn create_device(alloc: Global, held: &mut Held, name: Name, line: Line) -> 
     ensures done { is_sound_target line.sectors line.target (table_of held.old) ≡ true → ServesIf (enters_journal line.target) result (table_of held.new) (λ t. t ≡ table_of held.old) (create name line (table_of held.old)) }
     ensures busy { is_merge line.target ≡ false → place_of name (table_of held.old) ≡ None → nat_le 64 (device_count (table_of held.old)) ≡ false → IsBusyTarget result (table_of held.old) (table_of held.new) line.sectors line.target }
     ensures made { IsCreated name line result (table_of held.old) (table_of held.new) }
+    ensures ordered { IsLookedAt (table_of held.old) (changed_under line.target) }
     ensures sound { is_sound (table_of held.old) ≡ true → drops_writes line.target ≡ false → is_sound (table_of held.new) ≡ true }
     ensures named { AreNamed (table_of held.old) → AreNamed (table_of held.new) }
 {
+    look_under(held, &line.target);
     if is_merge(&line.target) {
         return Err(Refusal::BadTable);
     }

@@ -18,10 +18,12 @@ ghost use Rattle.named_volume.specs.Tables.{table_of};
 ghost use Rattle.named_devices.specs.Devices.{Flies, KeepsOthers};
 ghost use Rattle.named_devices.specs.Flights.{IsDoneFor, IsNotDueIn, IsNotStartedAs, IsStartedAs, event_of, is_about_merging, number_about};
 ghost use Rattle.named_devices.specs.Merging.{settled_at};
+ghost use Rattle.named_devices.specs.Order.{IsInOrderFor};
 ghost use Rattle.named_devices.specs.Ruled.{is_alone_in, is_quiet_in, is_sound_in, rests_at, volume_for};
 ghost use Rattle.volume.specs.EventKinds.{is_of_merge};
 
 use command::Event;
+use crate::order::find_in_order;
 use command_rules::{Place, Role};
 use named_volume::{Held, find_device, some_sectors, whole_sectors};
 use plain::{NotDue, Op, Outcome, Replied, ReqId, SnapId};
@@ -280,10 +282,11 @@ pub fn settle_device(held: &mut Held, name: &Name, ended: &mut Vec<Replied>) -> 
     ensures refused { IfErr result (λ e. IfOk (origin_by name.now (table_of held.old)) (λ _. e ≡ NoMemory)) }
     ensures rested { OnOk result (rested name.now (table_of held.old) (table_of held.new) ≡ Ok tt) }
     ensures one { KeepsOthers name.now (table_of held.old) (table_of held.new) }
+    ensures ordered { IsInOrderFor name.now (table_of held.old) }
     ensures sound { is_sound (table_of held.old) ≡ true → is_sound (table_of held.new) ≡ true }
     ensures named { AreNamed (table_of held.old) → AreNamed (table_of held.new) }
 {
-    let place = find_device(held, name)?;
+    let place = find_in_order(held, name)?;
     let v = origin_at(place)?;
     settle_at(held, v, ended)
 }

@@ -36,7 +36,6 @@ pub use flights::{settle_device, start_read, start_write, step_device};
 pub use lines::line_text;
 pub use merging::{finish_device, merge_device, resume_device};
 pub use messages::{tell, tick};
-pub use order::look_at_snapshots;
 pub use plain::Replied;
 pub use raw::{load_disk, save_disk};
 pub use remove::remove_device;

@@ -13,9 +13,11 @@ ghost use Rattle.command_rules.specs.declared.place.Role.TheVariants.{Snapshot};
 ghost use Rattle.named_volume.specs.Tables.{table_of};
 ghost use Rattle.named_devices.specs.Flights.{IsDoneFor};
 ghost use Rattle.named_devices.specs.Merging.{IsBegunIn, IsFinishedIn, IsUnfinishedIn, finished_at, resumed_at};
+ghost use Rattle.named_devices.specs.Order.{IsInOrderFor};
 ghost use Rattle.named_devices.specs.Ruled.{is_sound_in, volume_for};
 
 use crate::flights::origin_at;
+use crate::order::find_in_order;
 use command_rules::{Place, Role};
 use named_volume::{Held, find_device};
 use sector::Refusal;
@@ -59,10 +61,11 @@ pub fn merge_device(alloc: Global, held: &mut Held, name: &Name) -> Result<(), R
     ensures done { is_sound_in (volume_for name.now (table_of held.old)) ≡ true → Enters result (table_of held.old) (table_of held.new) (merge_begun name.now (table_of held.old)) }
     ensures refused { IfErr result (λ e. (table_of held.new ≡ table_of held.old) × (is_starved e ≡ false → merge_begun name.now (table_of held.old) ≡ Err e)) }
     ensures begun { OnOk result (IsDoneFor name.now IsBegunIn (table_of held.old) (table_of held.new)) }
+    ensures ordered { IsInOrderFor name.now (table_of held.old) }
     ensures sound { is_sound (table_of held.old) ≡ true → is_sound (table_of held.new) ≡ true }
     ensures named { AreNamed (table_of held.old) → AreNamed (table_of held.new) }
 {
-    let place = find_device(held, name)?;
+    let place = find_in_order(held, name)?;
     let (v, k) = to_merge(held, place)?;
     begin_at(alloc, held, v, k)
 }

@@ -1,11 +1,14 @@
 // In what order the snapshots of a volume stand, and its stores, by a name.
-ghost use Rattle.std.specs.Prelude.{◌<◌, length};
-ghost use Rattle.command_rules.specs.Places.{volume_at};
+ghost use Rattle.std.specs.Prelude.{◌≡◌, ◌<◌, length, IfOk};
+ghost use Rattle.std.specs.Option.{option_copied};
+ghost use Rattle.command_rules.specs.Places.{found, place_of, volume_at, IsPlaceIn};
 ghost use Rattle.named_volume.specs.Tables.{table_of};
-ghost use Rattle.named_devices.specs.Order.{IsInOrderFor, IsInOrderIn};
+ghost use Rattle.named_devices.specs.Order.{changed_under, IsInOrderFor, IsInOrderIn, IsLookedAt};
 
 use command_rules::Place;
 use named_volume::{Held, find};
+use sector::Refusal;
+use table::Target;
 use words::Name;
 
 /// A look at the volume at a place.
@@ -16,15 +19,43 @@ fn look_in(held: &Held, v: usize)
     held.volumes[v].look_at_snapshots();
 }
 
-/// A look at the volume that has the device of a name, if one has. Whatever is in flight, each of its snapshots has its name,
-/// and a number above those before it. Where no device of it drops writes and nothing is left to do, the stores of those that
-/// are live, and that of a merge, are in order.
-pub fn look_at_snapshots(held: &Held, name: &Name)
-    ensures { IsInOrderFor name.now (table_of held.now) }
+/// Where a name stands, with a look at the volume that has its device, if one has. Whatever is in flight, each of its snapshots
+/// has its name, and a number above those before it. Where no device of it drops writes and nothing is left to do, the stores of
+/// those that are live, and that of a merge, are in order. `NoSuchDevice` for a name that no device has.
+pub(crate) fn find_in_order(held: &Held, name: &Name) -> Result<Place, Refusal>
+    ensures place { result ≡ found (place_of name.now (table_of held.now)) }
+    ensures within { IfOk result (λ place. IsPlaceIn place (table_of held.now)) }
+    ensures ordered { IsInOrderFor name.now (table_of held.now) }
 {
     match find(held, name) {
+        None => Err(Refusal::NoSuchDevice),
+        Some(Place::Free(i, depth)) => Ok(Place::Free(i, depth)),
+        Some(Place::In(v, role)) => {
+            look_in(held, v);
+            Ok(Place::In(v, role))
+        }
+    }
+}
+
+/// The name on whose volume a target's snapshot is made, if it is one.
+fn changed_under(target: &Target) -> Option<&Name>
+    ensures { option_copied result ≡ changed_under target.now }
+{
+    match target {
+        Target::Snapshot { device, .. } => Some(device),
+        Target::Origin { .. } | Target::Merge { .. } => None,
+        Target::Flakey { .. } | Target::Dust { .. } | Target::Error => None,
+    }
+}
+
+/// A look at the volume on which a target's snapshot is made, if it is one.
+pub(crate) fn look_under(held: &Held, target: &Target)
+    ensures { IsLookedAt (table_of held.now) (changed_under target.now) }
+{
+    match changed_under(target) {
         None => {}
-        Some(Place::Free(_, _)) => {}
-        Some(Place::In(v, _)) => look_in(held, v),
+        Some(name) => {
+            let _ = find_in_order(held, name);
+        }
     }
 }

@@ -7,11 +7,13 @@ ghost use Rattle.command_rules.specs.Removing.{lowered, take_away};
 ghost use Rattle.command_rules.specs.Sound.{is_sound};
 ghost use Rattle.command_rules.specs.declared.place.Place.TheVariants.{Free};
 ghost use Rattle.named_volume.specs.Tables.{table_of};
+ghost use Rattle.named_devices.specs.Order.{IsInOrderFor};
 
 use crate::attaching::detach;
+use crate::order::find_in_order;
 use crate::origins::close;
 use command_rules::{Place, Role};
-use named_volume::{Held, find_device};
+use named_volume::Held;
 use sector::Refusal;
 use words::Name;
 
@@ -35,10 +37,11 @@ fn take_top(held: &mut Held, i: usize)
 #[tactic(auto, unfolding(command_rules::specs::Removing::take_away), using(command_rules::proofs::Starving::changes_enter))]
 pub fn remove_device(held: &mut Held, name: &Name) -> Result<(), Refusal>
     ensures done { Enters result (table_of held.old) (table_of held.new) (take_away name.now (table_of held.old)) }
+    ensures ordered { IsInOrderFor name.now (table_of held.old) }
     ensures sound { is_sound (table_of held.old) ≡ true → is_sound (table_of held.new) ≡ true }
     ensures named { AreNamed (table_of held.old) → AreNamed (table_of held.new) }
 {
-    match find_device(held, name)? {
+    match find_in_order(held, name)? {
         Place::Free(i, 0) => {
             take_top(held, i);
             Ok(())

@@ -12,8 +12,10 @@ ghost use Rattle.named_volume.specs.Names.{KeepsNames};
 ghost use Rattle.named_volume.specs.Tables.{table_of};
 ghost use Rattle.named_devices.specs.Devices.{KeepsOthers};
 ghost use Rattle.named_devices.specs.Flights.{IsDoneFor, IsFlushedAmong, IsReadAmong, IsWrittenAmong};
+ghost use Rattle.named_devices.specs.Order.{IsInOrderFor};
 ghost use Rattle.named_devices.specs.Ruled.{is_quiet_in, is_sound_in, volume_for};
 
+use crate::order::find_in_order;
 use command_rules::{Place, Role};
 use named_volume::{Held, find_device, some_sectors, whole_sectors};
 use plain::Replied;
@@ -87,18 +89,18 @@ fn write_at(
     role: Role,
     first: u32,
     count: u32,
-    bytes: &[u8],
+    bytes: Buf,
     ended: &mut Vec<Replied>,
 ) -> Result<(), Refusal>
     requires place { IsPlaceIn (In v role) (table_of held.old) }
     requires some { 0 < count }
     requires few { count ≤ 2048 }
-    requires room { length bytes.now ≡ 512 * count }
-    ensures done { is_sound_in (volume_at v (table_of held.old)) ≡ true → Serves result (table_of held.new) (λ t. (t ≡ table_of held.old) ⊎ IsInVolume (IsPartWritten role first count bytes.now) v (table_of held.old) t (volume_at v (table_of held.old))) (in_volume v (table_of held.old) (written_in role first count bytes.now) (volume_at v (table_of held.old))) }
+    requires room { length bytes ≡ 512 * count }
+    ensures done { is_sound_in (volume_at v (table_of held.old)) ≡ true → Serves result (table_of held.new) (λ t. (t ≡ table_of held.old) ⊎ IsInVolume (IsPartWritten role first count bytes) v (table_of held.old) t (volume_at v (table_of held.old))) (in_volume v (table_of held.old) (written_in role first count bytes) (volume_at v (table_of held.old))) }
     ensures told { is_quiet_in (volume_at v (table_of held.old)) ≡ true → ended.new.items ≡ ended.old.items }
     ensures asks { IfErr (asked_at (In v role) first count (table_of held.old)) (λ e. result ≡ Err e) }
     ensures stays { IfErr (asked_at (In v role) first count (table_of held.old)) (λ _. (table_of held.new ≡ table_of held.old) × (ended.new.items ≡ ended.old.items)) }
-    ensures among { IfOk (asked_at (In v role) first count (table_of held.old)) (λ asks. IsInVolume (IsWrittenAmong bytes.now result ended.old.items ended.new.items asks) v (table_of held.old) (table_of held.new) (volume_at v (table_of held.old))) }
+    ensures among { IfOk (asked_at (In v role) first count (table_of held.old)) (λ asks. IsInVolume (IsWrittenAmong bytes result ended.old.items ended.new.items asks) v (table_of held.old) (table_of held.new) (volume_at v (table_of held.old))) }
     ensures denied { is_quiet_in (volume_at v (table_of held.old)) ≡ true → IfErr result (λ e. IfOk (asked_at (In v role) first count (table_of held.old)) (λ _. IsDenied e)) }
     ensures one { IsInVolume KeepsNames v (table_of held.old) (table_of held.new) (volume_at v (table_of held.old)) }
     ensures sound { is_sound (table_of held.old) ≡ true → is_sound (table_of held.new) ≡ true }
@@ -118,22 +120,23 @@ pub fn write_device(
     held: &mut Held,
     name: &Name,
     first: u32,
-    bytes: &Buf,
+    bytes: Buf,
     ended: &mut Vec<Replied>,
 ) -> Result<(), Refusal>
-    ensures done { is_sound_in (volume_for name.now (table_of held.old)) ≡ true → Serves result (table_of held.new) (λ t. (t ≡ table_of held.old) ⊎ IsWriteStarved name.now first bytes.now (table_of held.old) t) (write name.now first bytes.now (table_of held.old)) }
+    ensures done { is_sound_in (volume_for name.now (table_of held.old)) ≡ true → Serves result (table_of held.new) (λ t. (t ≡ table_of held.old) ⊎ IsWriteStarved name.now first bytes (table_of held.old) t) (write name.now first bytes (table_of held.old)) }
     ensures told { is_quiet_in (volume_for name.now (table_of held.old)) ≡ true → ended.new.items ≡ ended.old.items }
-    ensures asks { IfErr (write_asked name.now first bytes.now (table_of held.old)) (λ e. result ≡ Err e) }
-    ensures stays { IfErr (write_asked name.now first bytes.now (table_of held.old)) (λ _. (table_of held.new ≡ table_of held.old) × (ended.new.items ≡ ended.old.items)) }
-    ensures among { IfOk (write_asked name.now first bytes.now (table_of held.old)) (λ asks. IsDoneFor name.now (IsWrittenAmong bytes.now result ended.old.items ended.new.items asks) (table_of held.old) (table_of held.new)) }
-    ensures denied { is_quiet_in (volume_for name.now (table_of held.old)) ≡ true → IfErr result (λ e. IfOk (write_asked name.now first bytes.now (table_of held.old)) (λ _. IsDenied e)) }
+    ensures asks { IfErr (write_asked name.now first bytes (table_of held.old)) (λ e. result ≡ Err e) }
+    ensures stays { IfErr (write_asked name.now first bytes (table_of held.old)) (λ _. (table_of held.new ≡ table_of held.old) × (ended.new.items ≡ ended.old.items)) }
+    ensures among { IfOk (write_asked name.now first bytes (table_of held.old)) (λ asks. IsDoneFor name.now (IsWrittenAmong bytes result ended.old.items ended.new.items asks) (table_of held.old) (table_of held.new)) }
+    ensures denied { is_quiet_in (volume_for name.now (table_of held.old)) ≡ true → IfErr result (λ e. IfOk (write_asked name.now first bytes (table_of held.old)) (λ _. IsDenied e)) }
     ensures one { KeepsOthers name.now (table_of held.old) (table_of held.new) }
+    ensures ordered { IsInOrderFor name.now (table_of held.old) }
     ensures sound { is_sound (table_of held.old) ≡ true → is_sound (table_of held.new) ≡ true }
     ensures named { AreNamed (table_of held.old) → AreNamed (table_of held.new) }
 {
-    let bytes = bytes.as_slice();
-    let count = whole_sectors(bytes)?;
-    match find_device(held, name)? {
+    let place = find_in_order(held, name);
+    let count = whole_sectors(bytes.as_slice())?;
+    match place? {
         Place::Free(_, _) => Err(Refusal::BadTable),
         Place::In(v, role) => write_at(alloc, held, v, role, first, count, bytes, ended),
     }

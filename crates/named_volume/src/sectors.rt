@@ -148,15 +148,15 @@ impl NamedVolume {
         role: Role,
         first: u32,
         count: u32,
-        bytes: &[u8],
+        bytes: Buf,
         ended: &mut Vec<Replied>,
     ) -> Result<(), Refusal>
         requires role { IsRoleIn role self.old }
         requires some { 0 < count }
         requires few { count ≤ 2048 }
-        requires room { length bytes.now ≡ 512 * count }
-        ensures done { self.old.sound ≡ true → self.old.quiet ≡ true → Serves result self.new (λ v. (v ≡ self.old) ⊎ IsPartWritten role first count bytes.now self.old v) (written_in role first count bytes.now self.old) }
-        ensures among { self.old.quiet ≡ false → IfOk (asked_of role first count self.old) (IsWriteServed bytes.now result ended.old.items ended.new.items self.old self.new) }
+        requires room { length bytes ≡ 512 * count }
+        ensures done { self.old.sound ≡ true → self.old.quiet ≡ true → Serves result self.new (λ v. (v ≡ self.old) ⊎ IsPartWritten role first count bytes self.old v) (written_in role first count bytes self.old) }
+        ensures among { self.old.quiet ≡ false → IfOk (asked_of role first count self.old) (IsWriteServed bytes result ended.old.items ended.new.items self.old self.new) }
         ensures counts { IfOk (asked_of role first count self.old) (λ _. self.new.asked ≡ self.old.asked + count) }
         ensures told { self.old.quiet ≡ true → ended.new.items ≡ ended.old.items }
         ensures asks { IfErr (asked_of role first count self.old) (λ e. result ≡ Err e) }

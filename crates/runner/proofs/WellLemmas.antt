@@ -10,7 +10,8 @@ use Rattle.command.specs.declared.grammar.Command.TheVariants as commands
 use Rattle.command_rules.specs.State.{Table}
 use Rattle.command_arrays.specs.Well.{IsNumberedTarget, IsWellOf}
 use Rattle.runner.proofs.Orders.{numbered_for, well_for}
-use Rattle.runner.specs.Changed.{changed_by, changed_under, IsLookedAt}
+use Rattle.named_devices.specs.Order.{changed_under, IsLookedAt}
+use Rattle.runner.specs.Changed.{changed_by}
 use Rattle.runner.specs.Ruled.{is_ruled, is_ruled_line}
 use Rattle.runner.proofs.RuledLemmas.{ruled_as}
 use Rattle.runner.proofs.ShownLemmas.{IsWellSaid}

@@ -1,20 +1,8 @@
--- Whose volume a command changes, of those that change what a volume shows; and that it is in order.
+-- Whose volume a command changes, of those that change what a volume shows.
 use Rattle.std.specs.Prelude.{ℕ, List, Option, Some, None}
-use Rattle.table.specs.declared.lines.Target.{Target}
-use Rattle.table.specs.declared.lines.Target.TheVariants as targets
 use Rattle.command.specs.declared.grammar.Command.{Command}
 use Rattle.command.specs.declared.grammar.Command.TheVariants as commands
-use Rattle.command_rules.specs.State.{Table}
-use Rattle.named_devices.specs.Order.{IsInOrderFor}
-
--- the name on whose volume a target's snapshot is made
-abbrev pub changed_under : Target → Option (List ℕ)
-changed_under (targets.Snapshot device store chunk overflow) = Some device
-changed_under (targets.Origin device) = None
-changed_under (targets.Merge device store chunk overflow) = None
-changed_under (targets.Flakey device offset up down features) = None
-changed_under (targets.Dust device block) = None
-changed_under targets.Error = None
+use Rattle.named_devices.specs.Order.{changed_under}
 
 -- the name whose volume a command changes
 abbrev pub changed_by : Command → Option (List ℕ)
@@ -40,8 +28,3 @@ changed_by (commands.Stop volume) = None
 changed_by (commands.StopLosing volume) = None
 changed_by (commands.Status device) = None
 changed_by (commands.Table device) = None
-
--- the volume that has the device of a name is in order, if there is a name
-abbrev pub IsLookedAt : Table → Option (List ℕ) → Type 0
-IsLookedAt table None = Unit {0}
-IsLookedAt table (Some name) = IsInOrderFor name table

@@ -26,7 +26,6 @@ mod desk;
 mod ended;
 mod error;
 mod events;
-mod looking;
 mod numbered;
 mod numbering;
 mod reading;

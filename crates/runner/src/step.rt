@@ -9,7 +9,9 @@ ghost use Rattle.command_rules.specs.Messages.{tell};
 ghost use Rattle.command_rules.specs.Naming.{AreNamed};
 ghost use Rattle.command_rules.specs.Sound.{is_sound};
 ghost use Rattle.named_volume.specs.Tables.{table_of};
+ghost use Rattle.named_devices.specs.Order.{IsLookedAt};
 ghost use Rattle.runner.specs.Asking.{IsFirst, first_refusal, line_first};
+ghost use Rattle.runner.specs.Changed.{changed_by};
 ghost use Rattle.runner.specs.Lawful.{is_lawful};
 ghost use Rattle.runner.specs.Left.{IsLeft, IsLineLeft};
 ghost use Rattle.runner.specs.Output.{IsPartDone, IsStarved, told};
@@ -21,7 +23,6 @@ ghost use Rattle.runner.specs.Steps.{reworded, told_as, step, answer_of};
 ghost use Rattle.runner.specs.Wants.{enters, enters_line};
 
 use crate::events::step_volume;
-use crate::looking::look;
 use command::Command::{
     Checkpoint, Create, Disk, Finish, Flush, Load, Merge, Read, Remove, Resume, Save, Settle,
     StartRead, StartWrite, Status, Step, Stop, StopLosing, Table, Tick, Write,
@@ -105,7 +106,8 @@ fn tell_device(
     }
 }
 
-/// Does a command. Requests that end in it go to the end of `ended`.
+/// Does a command. The volume that it changes was in order, if it changes what one shows. Requests that end in it go to the end
+/// of `ended`.
 #[tactic(auto, unfolding(crate::specs::Steps::step))]
 fn obey(
     alloc: Global,
@@ -120,6 +122,7 @@ fn obey(
     ensures alone { starts command ≡ true → ended.new.items ≡ ended.old.items }
     ensures still { IfSome (first_refusal command (table_of held.old)) (λ _. (table_of held.new ≡ table_of held.old) × (ended.new.items ≡ ended.old.items)) }
     ensures told { is_ruled command (table_of held.old) ≡ true → ended.new.items ≡ ended.old.items }
+    ensures ordered { IsLookedAt (table_of held.old) (changed_by command) }
     ensures left { IsLeft command result (table_of held.old) (table_of held.new) ended.old.items ended.new.items }
     ensures sound { is_sound (table_of held.old) ≡ true → is_sound_command command ≡ true → is_sound (table_of held.new) ≡ true }
     ensures named { AreNamed (table_of held.old) → AreNamed (table_of held.new) }
@@ -133,7 +136,7 @@ fn obey(
         Command::Message { name, message } => tell_device(alloc, held, &name, &message),
         Tick { seconds } => did(Ok(tick(held, seconds))),
         Read { name, first, count } => given(read_device(alloc, held, &name, first, count, ended)),
-        Write { name, first, bytes } => did(write_device(alloc, held, &name, first, &bytes, ended)),
+        Write { name, first, bytes } => did(write_device(alloc, held, &name, first, bytes, ended)),
         Flush { name } => did(flush_device(held, &name, ended)),
         StartRead { name, first, count } => number(start_read(alloc, held, &name, first, count)),
         StartWrite { name, first, bytes } => number(start_write(alloc, held, &name, first, bytes)),
@@ -172,7 +175,6 @@ pub fn answer(
     match said(alloc, line, LINE_LIMIT) {
         Ok(None) => Ok(None),
         Ok(Some(command)) => {
-            look(held, &command);
             match obey(alloc, held, command, ended) {
                 Ok(reply) => Ok(Some(reply)),
                 Err(refusal) => Err(refusal),

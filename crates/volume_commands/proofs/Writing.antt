@@ -1,5 +1,5 @@
 -- A write between two of its pieces, and where it ends.
-use Rattle.std.proofs.Common.{◌≡◌, inl, inr, ℕ, ◌+◌, ◌-◌, ◌*◌, ◌<◌, ◌≤◌, true, List, [], ◌∷◌, Option, Some, None, refl, length, take, drop, sym, ◌∙◌, ap, subst, arith, length-take, length-drop}
+use Rattle.std.proofs.Common.{◌≡◌, inl, inr, ℕ, ◌+◌, ◌-◌, ◌*◌, ◌<◌, ◌≤◌, true, List, [], ◌∷◌, Option, Some, None, refl, length, take, drop, sym, ◌∙◌, ap, subst, arith, length-take, length-drop, drop-drop}
 use Rattle.sector.specs.declared.range.Range.{Range}
 use Rattle.sector.specs.declared.refusal.Refusal.{Refusal}
 use Rattle.device.specs.Layers.{Layer}
@@ -22,6 +22,20 @@ part_is from count bytes = ap (λ n. take n (drop from bytes)) (omega arith)
 
 pub part_fits : (from count total : ℕ) (bytes : List ℕ) → length bytes ≡ 512 * total → from + count * 512 ≤ 512 * total → length (take (from + count * 512 - from) (drop from bytes)) ≡ 512 * count
 part_fits from count total bytes len le = simp (length-take, length-drop) (omega (arith, len, le))
+
+-- where what is left of the bytes is what is behind those that were written: a part that is not empty lies in it, and is the
+-- same, and so it stays behind the part
+pub left_inside : (from to : ℕ) (left bytes : List ℕ) → drop from left ≡ drop from bytes → from < to → to ≤ length bytes → to ≤ length left
+left_inside from to left bytes same less within =
+    let len : length left - from ≡ length bytes - from = sym (length-drop from left) ∙ ap length same ∙ length-drop from bytes in
+    omega (arith, len, less, within)
+
+pub left_part : (from to : ℕ) (left bytes : List ℕ) → drop from left ≡ drop from bytes → take (to - from) (drop from left) ≡ take (to - from) (drop from bytes)
+left_part from to left bytes same = ap (λ (rest : List ℕ). take (to - from) rest) same
+
+pub left_behind : (from more : ℕ) (left bytes after : List ℕ) → drop from left ≡ drop from bytes → drop (from + more) after ≡ drop (from + more) left → drop (from + more) after ≡ drop (from + more) bytes
+left_behind from more left bytes after same stays =
+    stays ∙ sym (drop-drop more from left) ∙ ap (λ (rest : List ℕ). drop more rest) same ∙ drop-drop more from bytes
 
 -- a write, and its first pieces, by all their parts
 whole_by : (dev : Dev) (span : Span) (bytes : List ℕ) (o : Option Merge) (v : Volume)

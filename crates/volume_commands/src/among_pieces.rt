@@ -1,6 +1,6 @@
 // A command of a volume with requests in flight, cut into pieces: each is served before the next, and the first that is not
 // done ends it.
-ghost use Rattle.std.specs.Prelude.{◌≡◌, ◌⊎◌, ℕ, ◌+◌, ◌*◌, ◌≤◌, ◌<◌, ◌++◌, [], take, length, vec_capacity, vec_len, IfOk, IfErr, OnOk, true, false, None};
+ghost use Rattle.std.specs.Prelude.{◌≡◌, ◌⊎◌, ℕ, ◌+◌, ◌-◌, ◌*◌, ◌≤◌, ◌<◌, ◌++◌, [], take, drop, length, vec_capacity, vec_len, IfOk, IfErr, OnOk, true, false, None};
 ghost use Rattle.plain.specs.declared.request.Reply.{Reply as AnyReply};
 ghost use Rattle.plain.specs.declared.request.Op.TheVariants.{Read, Write};
 ghost use Rattle.chunk.specs.Pieces.{span_of, pieces_of};
@@ -12,6 +12,7 @@ ghost use Rattle.volume_commands.specs.Kept.{KeepsDevices};
 ghost use Rattle.volume_commands.specs.Among.{AreReadAmong, AreWrittenAmong, IsPieceFailed, IsPieceServed, IsReadRefusedAmong, IsReadStopped, IsWriteRefusedAmong, IsWriteStopped, pieces_among};
 
 use crate::among::serve_among;
+use crate::pieces::part_of;
 use crate::serving::is_there;
 use crate::{Journaled, Replied, Resting, refusal_for};
 use chunk::Geometry;
@@ -20,27 +21,32 @@ use plain::{Dev, Op, Reply, Request};
 use sector::{Buf, Range, Refusal, SECTOR_BYTES};
 use std::alloc::Global;
 
-/// Writes one piece.
+/// Writes one piece: the bytes from `from` up to `to`.
 fn write_piece_among<B: Layered>(
     volume: &mut Journaled<B>,
     alloc: Global,
     dev: Dev,
     piece: Range,
-    bytes: &[u8],
+    bytes: &mut Buf,
+    from: usize,
+    to: usize,
     ended: &mut Vec<Replied>,
 ) -> Result<(), Refusal>
-    requires room { length bytes.now ≡ 512 * piece.count }
-    ensures written { OnOk result ((reply : AnyReply) × IsPieceServed B.contents B.layers dev (Write bytes.now) (span_of piece) reply volume.old volume.new ended.old.items ended.new.items) }
-    ensures failed { IfErr result (λ refusal. IsPieceFailed B.contents B.layers B.size dev (Write bytes.now) (span_of piece) refusal volume.old volume.new ended.old.items ended.new.items) }
+    requires order { from ≤ to }
+    requires inside { to ≤ length bytes.old }
+    requires room { length (take (to - from) (drop from bytes.old)) ≡ 512 * piece.count }
+    ensures written { OnOk result ((reply : AnyReply) × IsPieceServed B.contents B.layers dev (Write (take (to - from) (drop from bytes.old))) (span_of piece) reply volume.old volume.new ended.old.items ended.new.items) }
+    ensures failed { IfErr result (λ refusal. IsPieceFailed B.contents B.layers B.size dev (Write (take (to - from) (drop from bytes.old))) (span_of piece) refusal volume.old volume.new ended.old.items ended.new.items) }
+    ensures left { drop to bytes.new ≡ drop to bytes.old }
     ensures kept { KeepsDevices B.layers B.size (rested_of volume.old) (rested_of volume.new) }
     ensures requests { volume.new.requests ≤ volume.old.requests + 1 }
 {
-    let Ok(bytes) = Buf::from_slice(alloc, bytes) else {
+    let Ok(part) = part_of(alloc, bytes, from, to) else {
         return Err(Refusal::NoMemory);
     };
     let request = Request {
         dev,
-        op: Op::Write(bytes),
+        op: Op::Write(part),
         range: piece,
     };
     match serve_among(volume, request, ended) {
@@ -95,12 +101,12 @@ fn write_pieces_among<B: Layered>(
     alloc: Global,
     dev: Dev,
     range: Range,
-    bytes: &[u8],
+    mut bytes: Buf,
     ended: &mut Vec<Replied>,
 ) -> Result<(), Refusal>
-    requires room { length bytes.now ≡ 512 * range.count }
-    ensures written { OnOk result (AreWrittenAmong B.contents B.layers dev (pieces_of (piece_with volume.old.merge volume.old.snaps) (span_of range)) bytes.now volume.old volume.new ended.old.items ended.new.items) }
-    ensures stopped { IfErr result (λ refusal. IsWriteStopped B.contents B.layers B.size dev (pieces_of (piece_with volume.old.merge volume.old.snaps) (span_of range)) bytes.now refusal volume.old volume.new ended.old.items ended.new.items) }
+    requires room { length bytes ≡ 512 * range.count }
+    ensures written { OnOk result (AreWrittenAmong B.contents B.layers dev (pieces_of (piece_with volume.old.merge volume.old.snaps) (span_of range)) bytes volume.old volume.new ended.old.items ended.new.items) }
+    ensures stopped { IfErr result (λ refusal. IsWriteStopped B.contents B.layers B.size dev (pieces_of (piece_with volume.old.merge volume.old.snaps) (span_of range)) bytes refusal volume.old volume.new ended.old.items ended.new.items) }
     ensures kept { KeepsDevices B.layers B.size (rested_of volume.old) (rested_of volume.new) }
     ensures requests { volume.new.requests ≤ volume.old.requests + range.count }
 {
@@ -111,7 +117,7 @@ fn write_pieces_among<B: Layered>(
     let mut from = 0;
     for piece in geometry.pieces(range) {
         let to = from + piece.count as usize * SECTOR_BYTES;
-        match write_piece_among(volume, alloc, dev, piece, &bytes[from..to], ended) {
+        match write_piece_among(volume, alloc, dev, piece, &mut bytes, from, to, ended) {
             Ok(()) => {}
             Err(refusal) => return Err(refusal),
         }
@@ -194,15 +200,15 @@ impl<B: Layered> Resting<B> {
         alloc: Global,
         dev: Dev,
         range: Range,
-        bytes: &[u8],
+        bytes: Buf,
         ended: &mut Vec<Replied>,
     ) -> Result<(), Refusal>
         requires some { 0 < range.count }
         requires inside { range.first + range.count ≤ B.size self.old.origin }
-        requires room { length bytes.now ≡ 512 * range.count }
+        requires room { length bytes ≡ 512 * range.count }
         requires requests { self.old.requests + range.count < 9_223_372_036_854_775_808 }
-        ensures written { OnOk result (AreWrittenAmong B.contents B.layers dev (pieces_among (span_of range) self.old) bytes.now self.old.events self.new.events ended.old.items ended.new.items) }
-        ensures refused { IfErr result (λ refusal. IsWriteRefusedAmong B.contents B.layers B.size dev (pieces_among (span_of range) self.old) bytes.now refusal self.old self.new ended.old.items ended.new.items) }
+        ensures written { OnOk result (AreWrittenAmong B.contents B.layers dev (pieces_among (span_of range) self.old) bytes self.old.events self.new.events ended.old.items ended.new.items) }
+        ensures refused { IfErr result (λ refusal. IsWriteRefusedAmong B.contents B.layers B.size dev (pieces_among (span_of range) self.old) bytes refusal self.old self.new ended.old.items ended.new.items) }
         ensures there { OnOk result (has_dev dev self.old ≡ true) }
         ensures whole { IsWhole self.old × IsWhole self.new }
         ensures kept { KeepsDevices B.layers B.size self.old self.new }

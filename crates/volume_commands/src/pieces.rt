@@ -1,5 +1,5 @@
 // A command, cut into pieces: each is served before the next, and the first that is not done ends it.
-ghost use Rattle.std.specs.Prelude.{◌≡◌, ◌⊎◌, ℕ, ◌+◌, ◌*◌, ◌≤◌, ◌<◌, ◌∷◌, [], length, vec_capacity, vec_len, Option, None, Some, IfOk, IfErr, OnOk, OnErr, true};
+ghost use Rattle.std.specs.Prelude.{◌≡◌, ◌⊎◌, ℕ, ◌+◌, ◌-◌, ◌*◌, ◌≤◌, ◌<◌, ◌∷◌, [], take, drop, length, vec_capacity, vec_len, Option, None, Some, IfOk, IfErr, OnOk, OnErr, true};
 ghost use Rattle.plain.specs.declared.request.Reply.TheVariants.{Data, Refused, Written};
 ghost use Rattle.plain.specs.declared.request.Op.TheVariants.{Read, Write};
 ghost use Rattle.chunk.specs.Pieces.{pieces_of, span_of};
@@ -19,32 +19,57 @@ use chunk::Geometry;
 use layers::Layered;
 use plain::{Dev, Op, Reply, Request, refusal_for};
 use sector::{Buf, Range, Refusal, SECTOR_BYTES};
-use std::alloc::Global;
+use std::alloc::{AllocError, Global};
+use std::mem;
 
-/// Writes one piece. At `NoMemory` nothing changed.
+/// The bytes from `from` up to `to`. Where that is all of them, they are handed over and none is left; else the part is
+/// copied, and all stay. What is behind the part is as it was.
+pub(crate) fn part_of(
+    alloc: Global,
+    bytes: &mut Buf,
+    from: usize,
+    to: usize,
+) -> Result<Buf, AllocError>
+    requires order { from ≤ to }
+    requires inside { to ≤ length bytes.old }
+    ensures part { IfOk result (λ part. part ≡ take (to - from) (drop from bytes.old)) }
+    ensures left { drop to bytes.new ≡ drop to bytes.old }
+{
+    if to - from == bytes.len() {
+        return Ok(mem::replace(bytes, Buf::from_vec(Vec::new(alloc))));
+    }
+    Buf::from_slice(alloc, &bytes.as_slice()[from..to])
+}
+
+/// Writes one piece: the bytes from `from` up to `to`. At `NoMemory` nothing of the volume changed.
 fn write_piece<B: Layered>(
     volume: &mut Journaled<B>,
     alloc: Global,
     dev: Dev,
     piece: Range,
-    bytes: &[u8],
+    bytes: &mut Buf,
+    from: usize,
+    to: usize,
 ) -> Result<(), Refusal>
     requires between { IsBetween volume.old }
-    requires can { CanServe B.size dev (Write bytes.now) piece volume.old }
+    requires order { from ≤ to }
+    requires inside { to ≤ length bytes.old }
+    requires can { CanServe B.size dev (Write (take (to - from) (drop from bytes.old))) piece volume.old }
     ensures between { IsBetween volume.new }
     ensures settled { IsSettled B.layers (rested_of volume.old) → IsSettled B.layers (rested_of volume.new) }
-    ensures done { OnOk result (IsPieceDone B.contents B.layers (part_written dev (span_of piece) bytes.now) (rested_of volume.old) (rested_of volume.new)) }
-    ensures refused { IfErr result (λ refusal. IsPieceRefused B.contents B.layers (part_written dev (span_of piece) bytes.now) refusal (rested_of volume.old) (rested_of volume.new)) }
+    ensures done { OnOk result (IsPieceDone B.contents B.layers (part_written dev (span_of piece) (take (to - from) (drop from bytes.old))) (rested_of volume.old) (rested_of volume.new)) }
+    ensures refused { IfErr result (λ refusal. IsPieceRefused B.contents B.layers (part_written dev (span_of piece) (take (to - from) (drop from bytes.old))) refusal (rested_of volume.old) (rested_of volume.new)) }
+    ensures left { drop to bytes.new ≡ drop to bytes.old }
     ensures kept { KeepsDevices B.layers B.size (rested_of volume.old) (rested_of volume.new) }
     ensures piece { piece_with volume.new.merge volume.new.snaps ≡ piece_with volume.old.merge volume.old.snaps }
     ensures requests { volume.new.requests ≤ volume.old.requests + 1 }
 {
-    let Ok(bytes) = Buf::from_slice(alloc, bytes) else {
+    let Ok(part) = part_of(alloc, bytes, from, to) else {
         return Err(Refusal::NoMemory);
     };
     let request = Request {
         dev,
-        op: Op::Write(bytes),
+        op: Op::Write(part),
         range: piece,
     };
     match serve(volume, request) {
@@ -144,17 +169,17 @@ pub(crate) fn write_pieces<B: Layered>(
     alloc: Global,
     dev: Dev,
     range: Range,
-    bytes: &[u8],
+    mut bytes: Buf,
 ) -> Result<(), Refusal>
     requires between { IsBetween volume.old }
     requires can { CanAsk B.size dev range volume.old }
-    requires room { length bytes.now ≡ 512 * range.count }
+    requires room { length bytes ≡ 512 * range.count }
     ensures between { IsBetween volume.new }
     ensures settled { IsSettled B.layers (rested_of volume.old) → IsSettled B.layers (rested_of volume.new) }
-    ensures done { OnOk result (IsDoneBy B.contents B.layers (written_beside dev (span_of range) bytes.now) Written (rested_of volume.old) (rested_of volume.new)) }
-    ensures refused { IfErr result (λ refusal. IsWriteRefused B.contents B.layers dev (span_of range) bytes.now refusal (rested_of volume.old) (rested_of volume.new)) }
-    ensures shows { OnOk result (IsSettled B.layers (rested_of volume.old) → IsPlainWrite dev (span_of range) bytes.now (arrays_in B.contents B.layers (rested_of volume.old)) (arrays_in B.contents B.layers (rested_of volume.new))) }
-    ensures loses { IfErr result (λ refusal. IsSettled B.layers (rested_of volume.old) → IsPlainWriteRefused dev (span_of range) (pieces_for B.contents B.layers (span_of range) (rested_of volume.old)) bytes.now refusal (arrays_in B.contents B.layers (rested_of volume.old)) (arrays_in B.contents B.layers (rested_of volume.new))) }
+    ensures done { OnOk result (IsDoneBy B.contents B.layers (written_beside dev (span_of range) bytes) Written (rested_of volume.old) (rested_of volume.new)) }
+    ensures refused { IfErr result (λ refusal. IsWriteRefused B.contents B.layers dev (span_of range) bytes refusal (rested_of volume.old) (rested_of volume.new)) }
+    ensures shows { OnOk result (IsSettled B.layers (rested_of volume.old) → IsPlainWrite dev (span_of range) bytes (arrays_in B.contents B.layers (rested_of volume.old)) (arrays_in B.contents B.layers (rested_of volume.new))) }
+    ensures loses { IfErr result (λ refusal. IsSettled B.layers (rested_of volume.old) → IsPlainWriteRefused dev (span_of range) (pieces_for B.contents B.layers (span_of range) (rested_of volume.old)) bytes refusal (arrays_in B.contents B.layers (rested_of volume.old)) (arrays_in B.contents B.layers (rested_of volume.new))) }
     ensures kept { KeepsDevices B.layers B.size (rested_of volume.old) (rested_of volume.new) }
     ensures requests { volume.new.requests ≤ volume.old.requests + range.count }
 {
@@ -167,7 +192,7 @@ pub(crate) fn write_pieces<B: Layered>(
     let mut from = 0;
     for piece in geometry.pieces(range) {
         let to = from + piece.count as usize * SECTOR_BYTES;
-        match write_piece(volume, alloc, dev, piece, &bytes[from..to]) {
+        match write_piece(volume, alloc, dev, piece, &mut bytes, from, to) {
             Ok(()) => {}
             Err(refusal) => return Err(refusal),
         }

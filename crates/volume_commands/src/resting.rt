@@ -109,20 +109,20 @@ impl<B: Layered> Resting<B> {
         alloc: Global,
         dev: Dev,
         range: Range,
-        bytes: &[u8],
+        bytes: Buf,
     ) -> Result<(), Refusal>
         requires quiet { is_quiet_of self.old.events ≡ true }
         requires some { 0 < range.count }
         requires inside { range.first + range.count ≤ B.size self.old.origin }
-        requires room { length bytes.now ≡ 512 * range.count }
+        requires room { length bytes ≡ 512 * range.count }
         requires requests { self.old.requests + range.count < 9_223_372_036_854_775_808 }
         ensures quiet { is_quiet_of self.new.events ≡ true }
         ensures settled { IsSettled B.layers self.old → IsSettled B.layers self.new }
-        ensures done { OnOk result (IsDoneBy B.contents B.layers (written_beside dev (span_of range) bytes.now) Written self.old self.new) }
+        ensures done { OnOk result (IsDoneBy B.contents B.layers (written_beside dev (span_of range) bytes) Written self.old self.new) }
         ensures there { OnOk result (has_dev dev self.old ≡ true) }
-        ensures refused { IfErr result (λ refusal. IsWriteRefused B.contents B.layers dev (span_of range) bytes.now refusal self.old self.new) }
-        ensures shows { OnOk result (IsSettled B.layers self.old → IsPlainWrite dev (span_of range) bytes.now (arrays_in B.contents B.layers self.old) (arrays_in B.contents B.layers self.new)) }
-        ensures loses { IfErr result (λ refusal. IsSettled B.layers self.old → IsPlainWriteRefused dev (span_of range) (pieces_for B.contents B.layers (span_of range) self.old) bytes.now refusal (arrays_in B.contents B.layers self.old) (arrays_in B.contents B.layers self.new)) }
+        ensures refused { IfErr result (λ refusal. IsWriteRefused B.contents B.layers dev (span_of range) bytes refusal self.old self.new) }
+        ensures shows { OnOk result (IsSettled B.layers self.old → IsPlainWrite dev (span_of range) bytes (arrays_in B.contents B.layers self.old) (arrays_in B.contents B.layers self.new)) }
+        ensures loses { IfErr result (λ refusal. IsSettled B.layers self.old → IsPlainWriteRefused dev (span_of range) (pieces_for B.contents B.layers (span_of range) self.old) bytes refusal (arrays_in B.contents B.layers self.old) (arrays_in B.contents B.layers self.new)) }
         ensures kept { KeepsDevices B.layers B.size self.old self.new }
         ensures requests { self.new.requests ≤ self.old.requests + range.count }
     {

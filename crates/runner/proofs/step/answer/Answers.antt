@@ -118,7 +118,7 @@ returns-in-Ok-clause-shows c = λ ruled.
     let old = table_of c.args.held.now in
     let new = table_of c.obey.new.held in
     line_shown c.args.line.now old (record { replies = c.in-Ok.reply ∷ []; table = new })
-    (line_well c.args.line.now c.in-Ok-Some.command old (said c.in-Ok-Some.ensures c.in-Ok-Some.field-0-is) c.look.ensures ruled)
+    (line_well c.args.line.now c.in-Ok-Some.command old (said c.in-Ok-Some.ensures c.in-Ok-Some.field-0-is) c.in-Ok.ensures.ordered ruled)
     (may_ok c.args.line.now old new (Some c.in-Ok.reply) (returns-in-Ok-clause-done c ruled))
 
 pub returns-in-Err-obey-clause-shows : goal.returns-in-Err-obey-clause-shows
@@ -126,7 +126,7 @@ returns-in-Err-obey-clause-shows c = λ ruled.
     let old = table_of c.args.held.now in
     let new = table_of c.obey.new.held in
     line_shown c.args.line.now old (record { replies = Refused c.in-Err-obey.refusal ∷ []; table = new })
-    (line_well c.args.line.now c.in-Ok-Some.command old (said c.in-Ok-Some.ensures c.in-Ok-Some.field-0-is) c.look.ensures ruled)
+    (line_well c.args.line.now c.in-Ok-Some.command old (said c.in-Ok-Some.ensures c.in-Ok-Some.field-0-is) c.in-Err-obey.ensures.ordered ruled)
     (may_err c.args.line.now old new c.in-Err-obey.refusal (returns-in-Err-obey-clause-done c ruled))
 
 pub returns-in-Err-clause-shows : goal.returns-in-Err-clause-shows

@@ -1,15 +1,16 @@
 -- One piece more is written, and where the write ends.
-use Rattle.std.proofs.Common.{None, ◌+◌, ◌-◌, ◌*◌, take, drop, refl, ◌∙◌, ap, subst, arith}
+use Rattle.std.proofs.Common.{None, ℕ, List, ◌+◌, ◌-◌, ◌*◌, take, drop, refl, ◌∙◌, ap, subst, sym, arith}
 use Rattle.chunk.specs.Pieces.{span_of, pieces_of}
 use Rattle.chunk.proofs.Limits.{is_chunk-some, is_chunk-small}
 use Rattle.plain.specs.declared.request.Op.TheVariants.{Write}
 use Rattle.chunk.proofs.Runs.{StandsAt, first_piece, stands_first, stands_next, stands_last}
 use Rattle.volume.specs.Volumed.{piece_with}
+use Rattle.volume_commands.specs.Serving.{CanServe}
 use Rattle.volume_commands.specs.Rested.{rested_of, merged_of}
 use Rattle.volume_commands.proofs.Between.{loud_in_all}
 use Rattle.volume_commands.proofs.Going.{chunks_by, goes_none, goes_can, goes_more, goes_within, chunk_least}
 use Rattle.volume_commands.proofs.WriteRuns.{writes_none}
-use Rattle.volume_commands.proofs.Writing.{part_is, part_fits, wrote_more, wrote_refused, wrote_all}
+use Rattle.volume_commands.proofs.Writing.{left_behind, left_inside, left_part, part_is, part_fits, wrote_more, wrote_refused, wrote_all}
 use Rattle.volume_commands.proofs.BesideWrites.{plain_write, plain_write_lost}
 use Rattle.volume_commands.proofs.pieces.write_pieces.Goals as goal
 
@@ -24,8 +25,9 @@ loop-piece-init g c = record {
   finite = tt;
   stands = subst (λ n. StandsAt n c.args.range.first (c.args.range.first + c.args.range.count) 0 c.into_iter-piece-iterator.result) c.piece.ensures.piece
       (stands_first c.piece.result (span_of c.args.range) _ _ c.pieces-piece-items.ensures.cut c.into_iter-piece-iterator.ensures.into_iter_gives);
+  same = refl;
   so = goes_none g.B.Block.contents g.B.Block.layers g.B.Block.size c.args.volume.now c.requires.between;
-  did = writes_none c.args.dev _ (pieces_of (piece_with c.args.volume.now.merge c.args.volume.now.snaps) (span_of c.args.range)) c.into_iter-piece-iterator.result c.args.bytes.now (merged_of g.B.Block.contents g.B.Block.layers (rested_of c.args.volume.now))
+  did = writes_none c.args.dev _ (pieces_of (piece_with c.args.volume.now.merge c.args.volume.now.snaps) (span_of c.args.range)) c.into_iter-piece-iterator.result c.args.bytes (merged_of g.B.Block.contents g.B.Block.layers (rested_of c.args.volume.now))
       (c.into_iter-piece-iterator.ensures.into_iter_gives ∙ c.pieces-piece-items.ensures.pieces ∙ ap (λ n. pieces_of n (span_of c.args.range)) c.piece.ensures.piece);
 }
 
@@ -36,12 +38,13 @@ overflow_add-to g c =
     let room = c.requires.room in
     omega arith
 
-pub slice_bounds-write_piece-end : goal.slice_bounds-write_piece-end
-slice_bounds-write_piece-end g c =
+pub write_piece-requires-clause-inside : goal.write_piece-requires-clause-inside
+write_piece-requires-clause-inside g c =
     let is = first_piece _ _ _ _ _ _ _ c.loop-piece.invariant.stands c.in-Some.ensures.steps in
     let bytes = is.bytes in
+    let some = is.some in
     let room = c.requires.room in
-    omega arith
+    left_inside c.loop-piece.from (c.loop-piece.from + c.in-Some.piece.count * 512) c.loop-piece.bytes c.args.bytes c.loop-piece.invariant.same (omega arith) (omega arith)
 
 pub write_piece-requires-clause-between : goal.write_piece-requires-clause-between
 write_piece-requires-clause-between g c = c.loop-piece.invariant.so.between
@@ -51,15 +54,17 @@ write_piece-requires-clause-can g c =
     let is = first_piece _ _ _ _ _ _ _ c.loop-piece.invariant.stands c.in-Some.ensures.steps in
     let bytes = is.bytes in
     let chunk = chunks_by c.args.volume.now c.piece.result c.piece.ensures.piece c.piece.ensures.within c.piece.ensures.allowed in
-    goes_can g.B.Block.contents g.B.Block.layers g.B.Block.size c.args.dev (Write (take (c.loop-piece.from + c.in-Some.piece.count * 512 - c.loop-piece.from) (drop c.loop-piece.from c.args.bytes.now))) c.args.range c.in-Some.piece c.loop-piece.from
+    subst (λ (part : List ℕ). CanServe g.B.Block.size c.args.dev (Write part) c.in-Some.piece c.loop-piece.volume)
+    (sym (left_part c.loop-piece.from (c.loop-piece.from + c.in-Some.piece.count * 512) c.loop-piece.bytes c.args.bytes c.loop-piece.invariant.same))
+    (goes_can g.B.Block.contents g.B.Block.layers g.B.Block.size c.args.dev (Write (take (c.loop-piece.from + c.in-Some.piece.count * 512 - c.loop-piece.from) (drop c.loop-piece.from c.args.bytes))) c.args.range c.in-Some.piece c.loop-piece.from
     c.args.volume.now c.loop-piece.volume c.requires.can c.loop-piece.invariant.so chunk.1 chunk.0 is
-    (part_fits c.loop-piece.from c.in-Some.piece.count c.args.range.count c.args.bytes.now c.requires.room (omega arith))
+    (part_fits c.loop-piece.from c.in-Some.piece.count c.args.range.count c.args.bytes c.requires.room (omega arith)))
 
 pub returns-in-Err-clause-refused : goal.returns-in-Err-clause-refused
 returns-in-Err-clause-refused g c =
-    wrote_refused g.B.Block.contents g.B.Block.layers g.B.Block.size c.args.dev c.args.range (piece_with c.args.volume.now.merge c.args.volume.now.snaps) c.args.bytes.now c.loop-piece.from c.loop-piece.piece-iterator c.next.new.self c.in-Some.piece
+    wrote_refused g.B.Block.contents g.B.Block.layers g.B.Block.size c.args.dev c.args.range (piece_with c.args.volume.now.merge c.args.volume.now.snaps) c.args.bytes c.loop-piece.from c.loop-piece.piece-iterator c.next.new.self c.in-Some.piece
     c.args.volume.now c.loop-piece.volume c.write_piece.new.volume c.loop-piece.invariant.did c.in-Some.ensures.steps c.loop-piece.invariant.so.settled
-    (take (c.loop-piece.from + c.in-Some.piece.count * 512 - c.loop-piece.from) (drop c.loop-piece.from c.args.bytes.now)) c.in-Err.refusal (part_is c.loop-piece.from c.in-Some.piece.count c.args.bytes.now)
+    (take (c.loop-piece.from + c.in-Some.piece.count * 512 - c.loop-piece.from) (drop c.loop-piece.from c.loop-piece.bytes)) c.in-Err.refusal (left_part c.loop-piece.from (c.loop-piece.from + c.in-Some.piece.count * 512) c.loop-piece.bytes c.args.bytes c.loop-piece.invariant.same ∙ part_is c.loop-piece.from c.in-Some.piece.count c.args.bytes)
     c.requires.can.there (chunk_least g.B.Block.contents g.B.Block.layers c.args.volume.now) c.in-Err.ensures.refused
 
 pub returns-in-Err-clause-settled : goal.returns-in-Err-clause-settled
@@ -86,11 +91,12 @@ loop-piece-preserved g c =
       can = tt;
       finite = tt;
       stands = stands_next _ _ _ _ _ _ _ c.loop-piece.invariant.stands c.in-Some.ensures.steps;
+      same = left_behind c.loop-piece.from (c.in-Some.piece.count * 512) c.loop-piece.bytes c.args.bytes c.write_piece.new.bytes c.loop-piece.invariant.same c.write_piece.ensures.left;
       so = goes_more g.B.Block.contents g.B.Block.layers g.B.Block.size c.loop-piece.from c.in-Some.piece.count c.args.volume.now c.loop-piece.volume c.write_piece.new.volume c.loop-piece.invariant.so
           c.in-Ok.ensures.between c.in-Ok.ensures.kept c.in-Ok.ensures.settled c.in-Ok.ensures.piece c.in-Ok.ensures.requests is.some;
-      did = wrote_more g.B.Block.contents g.B.Block.layers g.B.Block.size c.args.dev c.args.range (piece_with c.args.volume.now.merge c.args.volume.now.snaps) c.args.bytes.now c.loop-piece.from c.loop-piece.piece-iterator c.next.new.self c.in-Some.piece
+      did = wrote_more g.B.Block.contents g.B.Block.layers g.B.Block.size c.args.dev c.args.range (piece_with c.args.volume.now.merge c.args.volume.now.snaps) c.args.bytes c.loop-piece.from c.loop-piece.piece-iterator c.next.new.self c.in-Some.piece
           c.args.volume.now c.loop-piece.volume c.write_piece.new.volume c.loop-piece.invariant.did c.in-Some.ensures.steps c.loop-piece.invariant.so.settled
-          (take (c.loop-piece.from + c.in-Some.piece.count * 512 - c.loop-piece.from) (drop c.loop-piece.from c.args.bytes.now)) (part_is c.loop-piece.from c.in-Some.piece.count c.args.bytes.now) c.in-Ok.ensures.done;
+          (take (c.loop-piece.from + c.in-Some.piece.count * 512 - c.loop-piece.from) (drop c.loop-piece.from c.loop-piece.bytes)) (left_part c.loop-piece.from (c.loop-piece.from + c.in-Some.piece.count * 512) c.loop-piece.bytes c.args.bytes c.loop-piece.invariant.same ∙ part_is c.loop-piece.from c.in-Some.piece.count c.args.bytes) c.in-Ok.ensures.done;
     }
 
 pub returns-clause-between : goal.returns-clause-between
@@ -98,7 +104,7 @@ returns-clause-between g c = c.loop-piece.invariant.so.between
 
 pub returns-clause-done : goal.returns-clause-done
 returns-clause-done g c =
-    wrote_all g.B.Block.contents g.B.Block.layers g.B.Block.size c.args.dev c.args.range (piece_with c.args.volume.now.merge c.args.volume.now.snaps) c.args.bytes.now c.loop-piece.from c.loop-piece.piece-iterator c.loop-piece.piece-iterator c.args.range
+    wrote_all g.B.Block.contents g.B.Block.layers g.B.Block.size c.args.dev c.args.range (piece_with c.args.volume.now.merge c.args.volume.now.snaps) c.args.bytes c.loop-piece.from c.loop-piece.piece-iterator c.loop-piece.piece-iterator c.args.range
     c.args.volume.now c.loop-piece.volume c.loop-piece.volume c.loop-piece.invariant.did c.in-None.ensures.steps.0 (chunk_least g.B.Block.contents g.B.Block.layers c.args.volume.now)
 
 pub returns-clause-settled : goal.returns-clause-settled
@@ -118,7 +124,7 @@ returns-clause-shows g c = λ settled.
     let loud = loud_in_all g.B.Block.contents g.B.Block.layers g.B.Block.size c.args.volume.now settled in
     let quiet = c.is_quiet.ensures.value ∙ c.requires.between.quiet in
     let size = piece_with c.args.volume.now.merge c.args.volume.now.snaps in
-    plain_write g.B.Block.contents g.B.Block.layers g.B.Block.size c.args.dev c.args.range size c.args.bytes.now c.args.volume.now c.loop-piece.volume chunk.1 c.requires.can.some c.requires.can.inside c.requires.room chunk.0
+    plain_write g.B.Block.contents g.B.Block.layers g.B.Block.size c.args.dev c.args.range size c.args.bytes c.args.volume.now c.loop-piece.volume chunk.1 c.requires.can.some c.requires.can.inside c.requires.room chunk.0
     (chunk_least g.B.Block.contents g.B.Block.layers c.args.volume.now) refl (c.is_quiet.ensures.between quiet loud None) (c.is_quiet.ensures.under quiet loud None) (returns-clause-done g c) settled
 
 pub returns-in-Err-clause-loses : goal.returns-in-Err-clause-loses
@@ -127,5 +133,5 @@ returns-in-Err-clause-loses g c = λ settled.
     let loud = loud_in_all g.B.Block.contents g.B.Block.layers g.B.Block.size c.args.volume.now settled in
     let quiet = c.is_quiet.ensures.value ∙ c.requires.between.quiet in
     let size = piece_with c.args.volume.now.merge c.args.volume.now.snaps in
-    plain_write_lost g.B.Block.contents g.B.Block.layers g.B.Block.size c.args.dev c.args.range size c.args.bytes.now c.args.volume.now c.write_piece.new.volume chunk.1 c.requires.can.some c.requires.can.inside c.requires.room chunk.0
+    plain_write_lost g.B.Block.contents g.B.Block.layers g.B.Block.size c.args.dev c.args.range size c.args.bytes c.args.volume.now c.write_piece.new.volume chunk.1 c.requires.can.some c.requires.can.inside c.requires.room chunk.0
     (chunk_least g.B.Block.contents g.B.Block.layers c.args.volume.now) refl (c.is_quiet.ensures.between quiet loud None) (c.is_quiet.ensures.under quiet loud None) c.in-Err.refusal (returns-in-Err-clause-refused g c) settled
