@@ -1,14 +1,14 @@
 // A snapshot's array is written out.
-ghost use Rattle.std.specs.Prelude.{◌≡◌, ℕ, ◌*◌, ◌<◌, ◌≤◌, List, length, OnErr, OnOk, Some};
+ghost use Rattle.std.specs.Prelude.{◌≡◌, ℕ, ◌+◌, ◌*◌, ◌<◌, ◌≤◌, List, length, OnErr, OnOk, Some};
 ghost use Rattle.std.specs.Io.KnownBytes.{Appends};
 ghost use Rattle.store_bytes.specs.Picture.{picture};
 ghost use Rattle.cow_image.specs.Maps.{IsMapOf};
 ghost use Rattle.cow_image.specs.Sorted.{IsRisingBy, old_of};
 ghost use Rattle.cow_image.specs.Shown.{shown, IsFrontOf};
 
-use crate::{CowMap, show_chunk};
+use crate::{CowMap, show_range};
 use image::{Image, MemImage, Sink};
-use sector::{Chunk, Pair};
+use sector::Pair;
 use std::alloc::Global;
 use std::io;
 
@@ -19,9 +19,13 @@ pub enum Stopped {
     Unreadable(io::Error),
     /// A write failed.
     Unwritable(io::Error),
-    /// Memory for a chunk is refused.
+    /// Memory for a piece is refused.
     NoMemory,
 }
+
+/// How many bytes are read and written at once: unsaved chunks in a row, or copies in a row, by one read, all of it by one
+/// write.
+const PIECE: usize = 1_048_576;
 
 /// Writes what a snapshot shows, for an origin of so many sectors: its array, from the front to the end.
 pub fn export<O: Image, C: Image, S: Sink>(
@@ -36,8 +40,7 @@ pub fn export<O: Image, C: Image, S: Sink>(
     ensures all { OnOk result ((o : List ℕ) → (b : List ℕ) → O.bytes origin.old ≡ Some o → C.bytes cow.old ≡ Some b → length o ≡ 512 * size → IsMapOf size b map.now → Appends (S.contents sink.old) (S.contents sink.new) (picture map.now.chunk o b)) }
     ensures part { OnErr result ((o : List ℕ) → (b : List ℕ) → O.bytes origin.old ≡ Some o → C.bytes cow.old ≡ Some b → length o ≡ 512 * size → IsMapOf size b map.now → (front : List ℕ) × IsFrontOf front (picture map.now.chunk o b) × Appends (S.contents sink.old) (S.contents sink.new) front) }
 {
-    let bytes = 512 * map.chunk as usize;
-    let Ok(mut room) = vec![in alloc; 0u8; bytes] else {
+    let Ok(mut room) = vec![in alloc; 0u8; PIECE] else {
         return Err(Stopped::NoMemory);
     };
     let pairs = map.pairs.as_slice();
@@ -66,8 +69,7 @@ pub fn export_pairs<O: Image, C: Image, S: Sink>(
     ensures all { OnOk result ((o : List ℕ) → (b : List ℕ) → O.bytes origin.old ≡ Some o → C.bytes cow.old ≡ Some b → Appends (S.contents sink.old) (S.contents sink.new) (shown chunk o b pairs.now 0 (512 * size))) }
     ensures part { OnErr result ((o : List ℕ) → (b : List ℕ) → O.bytes origin.old ≡ Some o → C.bytes cow.old ≡ Some b → (front : List ℕ) × IsFrontOf front (shown chunk o b pairs.now 0 (512 * size)) × Appends (S.contents sink.old) (S.contents sink.new) front) }
 {
-    let bytes = 512 * chunk as usize;
-    let Ok(mut room) = vec![in alloc; 0u8; bytes] else {
+    let Ok(mut room) = vec![in alloc; 0u8; PIECE] else {
         return Err(Stopped::NoMemory);
     };
     let end = 512 * size;
@@ -78,7 +80,7 @@ pub fn export_pairs<O: Image, C: Image, S: Sink>(
     }
 }
 
-/// The chunk size with which the origin of a fresh store is copied.
+/// The chunk size with which the origin of a fresh store is copied: without pairs any is the same.
 const FRESH_CHUNK: u32 = 128;
 
 /// Writes what the snapshot of a fresh store shows: its origin, which has so many sectors, from the front to the end.
@@ -92,8 +94,7 @@ pub fn export_fresh<O: Image, S: Sink>(
     ensures all { OnOk result ((o : List ℕ) → O.bytes origin.old ≡ Some o → length o ≡ 512 * size → Appends (S.contents sink.old) (S.contents sink.new) o) }
     ensures part { OnErr result ((o : List ℕ) → O.bytes origin.old ≡ Some o → length o ≡ 512 * size → (front : List ℕ) × IsFrontOf front o × Appends (S.contents sink.old) (S.contents sink.new) front) }
 {
-    let bytes = 512 * FRESH_CHUNK as usize;
-    let Ok(mut room) = vec![in alloc; 0u8; bytes] else {
+    let Ok(mut room) = vec![in alloc; 0u8; PIECE] else {
         return Err(Stopped::NoMemory);
     };
     let mut none = MemImage {
@@ -109,7 +110,7 @@ pub fn export_fresh<O: Image, S: Sink>(
     }
 }
 
-/// Writes so many bytes of what a snapshot shows by these pairs, through room for a chunk.
+/// Writes so many bytes of what a snapshot shows by these pairs, through room for a piece of it.
 fn write_all<O: Image, C: Image, S: Sink>(
     origin: &mut O,
     cow: &mut C,
@@ -123,44 +124,42 @@ fn write_all<O: Image, C: Image, S: Sink>(
     requires allowed { chunk ≤ 1024 }
     requires rising { IsRisingBy old_of pairs.now }
     requires small { end ≤ 35_184_372_088_832 }
-    requires room { length room.old ≡ 512 * chunk }
+    requires room { 0 < length room.old }
     ensures all { OnOk result ((o : List ℕ) → (b : List ℕ) → O.bytes origin.old ≡ Some o → C.bytes cow.old ≡ Some b → Appends (S.contents sink.old) (S.contents sink.new) (shown chunk o b pairs.now 0 end)) }
     ensures part { OnErr result ((o : List ℕ) → (b : List ℕ) → O.bytes origin.old ≡ Some o → C.bytes cow.old ≡ Some b → (front : List ℕ) × IsFrontOf front (shown chunk o b pairs.now 0 end) × Appends (S.contents sink.old) (S.contents sink.new) front) }
 {
     let mut done = 0;
-    let mut number = 0;
     while done < end {
         let len = (end - done).min(room.len() as u64);
         let out = &mut room[..len as usize];
-        if let Err(stopped) = put_chunk(origin, cow, chunk, pairs, number, out, sink) {
+        if let Err(stopped) = put_piece(origin, cow, chunk, pairs, done, out, sink) {
             return Err(stopped);
         }
         done += len;
-        number += 1;
     }
     Ok(())
 }
 
-/// Writes what a snapshot shows in a chunk of its origin, or in as much of its front as there is room for.
-fn put_chunk<O: Image, C: Image, S: Sink>(
+/// Writes as much of what a snapshot shows, from a byte on, as there is room for.
+fn put_piece<O: Image, C: Image, S: Sink>(
     origin: &mut O,
     cow: &mut C,
     chunk: u32,
     pairs: &[Pair],
-    number: Chunk,
+    at: u64,
     room: &mut [u8],
     sink: &mut S,
 ) -> Result<(), Stopped>
     requires some { 0 < chunk }
     requires allowed { chunk ≤ 1024 }
     requires rising { IsRisingBy old_of pairs.now }
-    requires part { length room.old ≤ 512 * chunk }
-    ensures all { OnOk result ((o : List ℕ) → (b : List ℕ) → O.bytes origin.old ≡ Some o → C.bytes cow.old ≡ Some b → Appends (S.contents sink.old) (S.contents sink.new) (shown chunk o b pairs.now (512 * (chunk * number)) (length room.old))) }
-    ensures part { OnErr result ((o : List ℕ) → (b : List ℕ) → O.bytes origin.old ≡ Some o → C.bytes cow.old ≡ Some b → (front : List ℕ) × IsFrontOf front (shown chunk o b pairs.now (512 * (chunk * number)) (length room.old)) × Appends (S.contents sink.old) (S.contents sink.new) front) }
+    requires near { at + length room.old ≤ 35_184_372_088_832 }
+    ensures all { OnOk result ((o : List ℕ) → (b : List ℕ) → O.bytes origin.old ≡ Some o → C.bytes cow.old ≡ Some b → Appends (S.contents sink.old) (S.contents sink.new) (shown chunk o b pairs.now at (length room.old))) }
+    ensures part { OnErr result ((o : List ℕ) → (b : List ℕ) → O.bytes origin.old ≡ Some o → C.bytes cow.old ≡ Some b → (front : List ℕ) × IsFrontOf front (shown chunk o b pairs.now at (length room.old)) × Appends (S.contents sink.old) (S.contents sink.new) front) }
     ensures origin { O.bytes origin.new ≡ O.bytes origin.old }
     ensures cow { C.bytes cow.new ≡ C.bytes cow.old }
 {
-    if let Err(error) = show_chunk(origin, cow, chunk, pairs, number, room) {
+    if let Err(error) = show_range(origin, cow, chunk, pairs, at, room) {
         return Err(Stopped::Unreadable(error));
     }
     match sink.put(room) {

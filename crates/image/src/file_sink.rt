@@ -2,11 +2,12 @@
 ghost use Rattle.std.specs.Prelude.{None};
 
 use crate::Sink;
+use crate::holes::{data_begins, data_ends};
 use std::fs::File;
 use std::io;
 use std::os::unix::fs::FileExt;
 
-/// A new file that is written from its front to its end. Runs of zeros are left as holes.
+/// A new file that is written from its front to its end. Blocks of zeros are left as holes.
 #[derive(Drop)]
 pub struct FileSink {
     file: File,
@@ -33,8 +34,15 @@ impl Sink for FileSink {
         let Some(end) = self.at.checked_add(bytes.len() as u64) else {
             return Err(io::ErrorKind::FileTooLarge.into());
         };
-        if bytes.iter().any(|byte| *byte != 0) {
-            self.file.write_all_at(bytes, self.at)?;
+        let mut done = 0;
+        while done < bytes.len() {
+            let from = data_begins(self.at, bytes, done);
+            let to = data_ends(self.at, bytes, from);
+            if from < to {
+                self.file
+                    .write_all_at(&bytes[from..to], self.at + from as u64)?;
+            }
+            done = to;
         }
         self.at = end;
         Ok(())

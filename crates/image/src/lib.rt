@@ -1,7 +1,9 @@
-//! Images of devices: bytes that are read at an offset, from a file, from memory, or from one that fails once; and sinks,
-//! to which bytes are written one after the other. It stands on `std` alone. It promises that a read gives the bytes at
-//! its offset, and that a write adds its bytes or a front of them, wherever the bytes are known; what a file holds is known
-//! to no contract.
+//! Images of devices: bytes that are read at an offset, from a file, from memory, or from one that fails once; sinks, to which
+//! bytes are written one after the other; and sets of two files with volatile caches, which are read, written by whole sectors
+//! and synced, on the disk or in memory. It stands on `sector`, in whose terms sectors are said.
+//!
+//! It promises that a read gives the bytes at its offset, that a write adds its bytes or a front of them, and of a set of files
+//! what a stop at any moment may leave of each sector, wherever the bytes are known: what a file holds is known to no contract.
 #![tactic(auto)]
 
 mod disk_files;
@@ -9,6 +11,7 @@ mod failing;
 mod file_image;
 mod file_set;
 mod file_sink;
+mod holes;
 mod image;
 mod mem_file;
 mod mem_files;

@@ -1,4 +1,4 @@
-use Rattle.std.proofs.Common.{◌≡◌, List, ℕ, ◌*◌, ◌-◌, ◌<◌, ◌≤◌, length, Some}
+use Rattle.std.proofs.Common.{◌≡◌, List, ℕ, ◌-◌, ◌≤◌, length, Some}
 use Rattle.std.specs.Io.KnownBytes.{Appends}
 use Rattle.cow_image.specs.Shown.{shown}
 use Rattle.cow_image.proofs.exporting.write_all.Given as goal
@@ -7,10 +7,8 @@ abbrev pub invariant-loop-done : goal.invariant-loop-done
 invariant-loop-done g l = record {
   origin : g.O.Image.bytes l.origin ≡ g.O.Image.bytes l.fn.origin;
   cow : g.C.Image.bytes l.cow ≡ g.C.Image.bytes l.fn.cow;
-  room : length l.room ≡ 512 * l.chunk;
+  room : length l.room ≡ length l.fn.room;
   inside : l.done ≤ l.end;
-  count : l.number ≤ l.done;
-  at : l.done < l.end → l.done ≡ 512 * (l.chunk * l.number);
   written : (o b : List ℕ) → g.O.Image.bytes l.fn.origin ≡ Some o → g.C.Image.bytes l.fn.cow ≡ Some b → Appends (g.S.Sink.contents l.fn.sink) (g.S.Sink.contents l.sink) (shown l.chunk o b l.pairs 0 l.done);
 }
 
