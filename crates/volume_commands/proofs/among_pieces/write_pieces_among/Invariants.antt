@@ -12,5 +12,5 @@ invariant-loop-piece g l = record {
   finite : (goal.iterator-loop-piece g).is_finite l.piece-iterator;
   stands : StandsAt (piece_with l.fn.volume.merge l.fn.volume.snaps) l.fn.range.first (l.fn.range.first + l.fn.range.count) l.from l.piece-iterator;
   so : GoesAmong g.B.Block.layers g.B.Block.size l.from l.fn.volume l.volume;
-  did : WritesAmong g.B.Block.contents g.B.Block.layers g.B.Block.size l.fn.dev (pieces_of (piece_with l.fn.volume.merge l.fn.volume.snaps) (span_of l.fn.range)) l.piece-iterator l.from l.fn.bytes l.fn.volume l.volume l.fn.ended.items l.ended.items;
+  did : WritesAmong g.B.Block.contents g.B.Block.layers g.B.Block.fault_count g.B.Block.size l.fn.dev (pieces_of (piece_with l.fn.volume.merge l.fn.volume.snaps) (span_of l.fn.range)) l.piece-iterator l.from l.fn.bytes l.fn.volume l.volume l.fn.ended.items l.ended.items;
 }
