@@ -65,40 +65,40 @@ module _ (before after : Rested Stack) (old new : Volume) (was : IsBehind before
 
   module _ (whole_before : IsWhole before) (whole_after : IsWhole after) (earlier later : List Replied) where
     -- what was read among requests in flight
-    pub read_served : (r : Result (List ℕ) Refusal) → IfOk r (λ bytes. AreReadAmong stack_contents stack_layers dev (pieces_among (span_of range) before) bytes before.events after.events earlier later)
-        → IfErr r (λ e. IsReadRefusedAmong stack_contents stack_layers stack_size dev (pieces_among (span_of range) before) e before after earlier later)
+    pub read_served : (r : Result (List ℕ) Refusal) → IfOk r (λ bytes. AreReadAmong stack_contents stack_layers stack_faults dev (pieces_among (span_of range) before) bytes before.events after.events earlier later)
+        → IfErr r (λ e. IsReadRefusedAmong stack_contents stack_layers stack_faults stack_size dev (pieces_among (span_of range) before) e before after earlier later)
         → IfOk asked (IsReadServed r earlier later old new)
     read_served (Ok bytes) did why =
         let P : Result Asked Refusal → Type 0 = λ x. IfOk x (IsReadServed (Ok bytes) earlier later old new) in
         subst P (sym asks) (record { before = before.events; after = after.events; was = was; is = is; did = did })
     read_served (Err e) did why =
         let P : Result Asked Refusal → Type 0 = λ x. IfOk x (IsReadServed (Err e) earlier later old new) in
-        let F : Rested Stack → Type 0 = λ x. IsReadRefusedAmong stack_contents stack_layers stack_size dev (pieces_among (span_of range) before) e x after earlier later in
-        let G : Rested Stack → Type 0 = λ y. IsReadRefusedAmong stack_contents stack_layers stack_size dev (pieces_among (span_of range) before) e (rested_of before.events) y earlier later in
+        let F : Rested Stack → Type 0 = λ x. IsReadRefusedAmong stack_contents stack_layers stack_faults stack_size dev (pieces_among (span_of range) before) e x after earlier later in
+        let G : Rested Stack → Type 0 = λ y. IsReadRefusedAmong stack_contents stack_layers stack_faults stack_size dev (pieces_among (span_of range) before) e (rested_of before.events) y earlier later in
         subst P (sym asks) (record { before = before.events; after = after.events; was = was; is = is; did = subst G whole_after (subst F whole_before why) })
 
     -- and what was written
-    pub write_served : (bytes : List ℕ) (r : Result (Unit {0}) Refusal) → OnOk r (AreWrittenAmong stack_contents stack_layers dev (pieces_among (span_of range) before) bytes before.events after.events earlier later)
-        → IfErr r (λ e. IsWriteRefusedAmong stack_contents stack_layers stack_size dev (pieces_among (span_of range) before) bytes e before after earlier later)
+    pub write_served : (bytes : List ℕ) (r : Result (Unit {0}) Refusal) → OnOk r (AreWrittenAmong stack_contents stack_layers stack_faults dev (pieces_among (span_of range) before) bytes before.events after.events earlier later)
+        → IfErr r (λ e. IsWriteRefusedAmong stack_contents stack_layers stack_faults stack_size dev (pieces_among (span_of range) before) bytes e before after earlier later)
         → IfOk asked (IsWriteServed bytes r earlier later old new)
     write_served bytes (Ok unit) did why =
         let P : Result Asked Refusal → Type 0 = λ x. IfOk x (IsWriteServed bytes (Ok unit) earlier later old new) in
         subst P (sym asks) (record { before = before.events; after = after.events; was = was; is = is; did = did })
     write_served bytes (Err e) did why =
         let P : Result Asked Refusal → Type 0 = λ x. IfOk x (IsWriteServed bytes (Err e) earlier later old new) in
-        let F : Rested Stack → Type 0 = λ x. IsWriteRefusedAmong stack_contents stack_layers stack_size dev (pieces_among (span_of range) before) bytes e x after earlier later in
-        let G : Rested Stack → Type 0 = λ y. IsWriteRefusedAmong stack_contents stack_layers stack_size dev (pieces_among (span_of range) before) bytes e (rested_of before.events) y earlier later in
+        let F : Rested Stack → Type 0 = λ x. IsWriteRefusedAmong stack_contents stack_layers stack_faults stack_size dev (pieces_among (span_of range) before) bytes e x after earlier later in
+        let G : Rested Stack → Type 0 = λ y. IsWriteRefusedAmong stack_contents stack_layers stack_faults stack_size dev (pieces_among (span_of range) before) bytes e (rested_of before.events) y earlier later in
         subst P (sym asks) (record { before = before.events; after = after.events; was = was; is = is; did = subst G whole_after (subst F whole_before why) })
 
     -- and what was flushed
-    pub flush_served : (r : Result (Unit {0}) Refusal) → OnOk r (IsFlushedAmong stack_contents stack_layers dev before.events after.events earlier later)
-        → IfErr r (λ e. IsFlushRefusedAmong stack_contents stack_layers stack_size dev e before after earlier later)
+    pub flush_served : (r : Result (Unit {0}) Refusal) → OnOk r (IsFlushedAmong stack_contents stack_layers stack_faults dev before.events after.events earlier later)
+        → IfErr r (λ e. IsFlushRefusedAmong stack_contents stack_layers stack_faults stack_size dev e before after earlier later)
         → IfOk asked (IsFlushServed r earlier later old new)
     flush_served (Ok unit) did why =
         let P : Result Asked Refusal → Type 0 = λ x. IfOk x (IsFlushServed (Ok unit) earlier later old new) in
         subst P (sym asks) (record { before = before.events; after = after.events; was = was; is = is; did = did })
     flush_served (Err e) did why =
         let P : Result Asked Refusal → Type 0 = λ x. IfOk x (IsFlushServed (Err e) earlier later old new) in
-        let F : Rested Stack → Type 0 = λ x. IsFlushRefusedAmong stack_contents stack_layers stack_size dev e x after earlier later in
-        let G : Rested Stack → Type 0 = λ y. IsFlushRefusedAmong stack_contents stack_layers stack_size dev e (rested_of before.events) y earlier later in
+        let F : Rested Stack → Type 0 = λ x. IsFlushRefusedAmong stack_contents stack_layers stack_faults stack_size dev e x after earlier later in
+        let G : Rested Stack → Type 0 = λ y. IsFlushRefusedAmong stack_contents stack_layers stack_faults stack_size dev e (rested_of before.events) y earlier later in
         subst P (sym asks) (record { before = before.events; after = after.events; was = was; is = is; did = subst G whole_after (subst F whole_before why) })

@@ -2,6 +2,7 @@
 use Rattle.std.proofs.Common.{◌≡◌, ◌≤◌, inl, inr, ℕ, Bool, List, length, Option, None, Some, refl, sym, ap, subst, ◌∙◌}
 use Rattle.std.specs.Prelude.{◌&&◌, is_some}
 use Rattle.std.specs.List.{list_all}
+use Rattle.std.proofs.lemmas.List.{length-map}
 use Rattle.device.specs.Layers.{is_loud}
 use Rattle.sector.specs.declared.refusal.Refusal.{Refusal}
 use Rattle.settled.specs.Devices.{Device}
@@ -13,7 +14,7 @@ use Rattle.layers.specs.Beneath.{stack_flushes}
 use Rattle.volume.specs.Attached.{IsTriedOrigin}
 use Rattle.volume.specs.Leaving.{is_quiet_of}
 use Rattle.volume.specs.Volumed.{is_loud_with}
-use Rattle.volume_commands.specs.Rested.{Rested, is_loud_in}
+use Rattle.volume_commands.specs.Rested.{Rested, attached_of, is_loud_in, rested_of, snap_of}
 use Rattle.volume_commands.specs.Taking.{IsRefusedAt}
 use Rattle.command_rules.specs.Stacks.{device_of}
 use Rattle.command_rules.specs.State.{Names, Volume}
@@ -69,3 +70,9 @@ module _ (e : Refusal) (v w : Rested Stack) (is : IsRefusedAt stack_contents sta
       let given = ap (λ (x : Rested Stack). x.attached) is.becomes in
       let quiet = ap (λ (x : Rested Stack). is_quiet_of x.events) is.becomes in
       (λ i. record volume { merging = refused_merging merging i; state = refused_settled i; given = given i; quiet = quiet i; flying = refused_flying i })
+
+-- the settled machine's volume has as many snapshots as the volume of events behind it
+pub as_many : (v : Rested Stack) → v ≡ rested_of v.events → length v.events.snaps ≡ length (settled_in v).snaps
+as_many v whole =
+    let held = ap (λ (x : Rested Stack). length x.snaps) whole ∙ length-map v.events.snaps attached_of in
+    sym (length-map v.snaps (snap_of stack_contents stack_layers) ∙ held)

@@ -71,27 +71,27 @@ pub record IsNotDue (event : Event) (volume : Volume) : Type 0 where
 
 -- all that was due was done, up to where memory was refused
 abbrev pub IsSettledBy : List Replied → List Replied → Volume → Volume → Type 0
-IsSettledBy earlier later old new = InEvents (λ before after. IsDrained stack_contents stack_layers before after earlier later) old new
+IsSettledBy earlier later old new = InEvents (λ before after. IsDrained stack_contents stack_layers stack_faults before after earlier later) old new
 
 -- what was asked for was read or written, piece after piece, or a piece was refused
 abbrev pub IsReadServed : Result (List ℕ) Refusal → List Replied → List Replied → Volume → Volume → Asked → Type 0
 IsReadServed result earlier later old new asks =
     InEvents (λ before after. MatchResult result
-    (λ bytes. AreReadAmong stack_contents stack_layers asks.dev (pieces_of (piece_with before.merge before.snaps) asks.span) bytes before after earlier later)
-    (λ refusal. IsReadRefusedAmong stack_contents stack_layers stack_size asks.dev (pieces_of (piece_with before.merge before.snaps) asks.span) refusal (rested_of before) (rested_of after) earlier later)) old new
+    (λ bytes. AreReadAmong stack_contents stack_layers stack_faults asks.dev (pieces_of (piece_with before.merge before.snaps) asks.span) bytes before after earlier later)
+    (λ refusal. IsReadRefusedAmong stack_contents stack_layers stack_faults stack_size asks.dev (pieces_of (piece_with before.merge before.snaps) asks.span) refusal (rested_of before) (rested_of after) earlier later)) old new
 
 abbrev pub IsWriteServed : List ℕ → Result (Unit {0}) Refusal → List Replied → List Replied → Volume → Volume → Asked → Type 0
 IsWriteServed bytes result earlier later old new asks =
     InEvents (λ before after. MatchResult result
-    (λ done. AreWrittenAmong stack_contents stack_layers asks.dev (pieces_of (piece_with before.merge before.snaps) asks.span) bytes before after earlier later)
-    (λ refusal. IsWriteRefusedAmong stack_contents stack_layers stack_size asks.dev (pieces_of (piece_with before.merge before.snaps) asks.span) bytes refusal (rested_of before) (rested_of after) earlier later)) old new
+    (λ done. AreWrittenAmong stack_contents stack_layers stack_faults asks.dev (pieces_of (piece_with before.merge before.snaps) asks.span) bytes before after earlier later)
+    (λ refusal. IsWriteRefusedAmong stack_contents stack_layers stack_faults stack_size asks.dev (pieces_of (piece_with before.merge before.snaps) asks.span) bytes refusal (rested_of before) (rested_of after) earlier later)) old new
 
 -- the device that was asked for was flushed, or its request was refused or failed
 abbrev pub IsFlushServed : Result (Unit {0}) Refusal → List Replied → List Replied → Volume → Volume → Asked → Type 0
 IsFlushServed result earlier later old new asks =
     InEvents (λ before after. MatchResult result
-    (λ done. IsFlushedAmong stack_contents stack_layers asks.dev before after earlier later)
-    (λ refusal. IsFlushRefusedAmong stack_contents stack_layers stack_size asks.dev refusal (rested_of before) (rested_of after) earlier later)) old new
+    (λ done. IsFlushedAmong stack_contents stack_layers stack_faults asks.dev before after earlier later)
+    (λ refusal. IsFlushRefusedAmong stack_contents stack_layers stack_faults stack_size asks.dev refusal (rested_of before) (rested_of after) earlier later)) old new
 
 -- Why a volume in which nothing is in flight refuses what may be asked of it, whichever device drops writes: memory or the room of
 -- its journal ran out, or the request of a piece failed.

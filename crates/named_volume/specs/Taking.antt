@@ -1,6 +1,6 @@
 -- Why a stack is not taken as the store of a snapshot, whatever is in flight and whichever device drops writes. The reasons and
 -- their order are those of the volume of events behind (`volume/specs/Taking`), and of the store's load (`store/specs/Opening`).
-use Rattle.std.specs.Prelude.{◌≡◌, ◌⊎◌, ℕ, Bool, true, is_some}
+use Rattle.std.specs.Prelude.{◌≡◌, ◌⊎◌, ℕ, Bool, true, is_some, length}
 use Rattle.sector.specs.declared.refusal.Refusal.{Refusal}
 use Rattle.layers.specs.declared.stack.Stack.{Stack}
 use Rattle.layers.specs.Stack.{stack_contents, stack_size}
@@ -19,6 +19,9 @@ pub record IsTurnedDown (chunk : ℕ) (stacked : Stacked) (refusal : Refusal) (v
   pub store : Stack
   pub quiet : is_quiet_of events ≡ volume.quiet
   pub merge : is_some events.merge ≡ is_some volume.merging
+  -- what the limits count: the snapshots that there are, and the numbers that were given
+  pub snaps : length events.snaps ≡ length volume.state.snaps
+  pub given : events.attached ≡ volume.given
   pub origin_is : device_of origin ≡ volume.state.origin
   pub store_is : device_of store ≡ stacked.device
   pub cause : IsNotTaken stacked.stale chunk (stack_size origin) (stack_size store) (stack_contents store) events refusal

@@ -15,6 +15,7 @@ use Rattle.plain.specs.Legal.{IsLegalStep}
 use Rattle.event_machine.specs.MergeDue.{due_all}
 use Rattle.volume.specs.Volumed.{Volumed, is_loud_in_all, next_of, plain_of}
 use Rattle.volume.specs.EventKinds.{is_of_merge}
+use Rattle.volume.specs.Causes.{HasCause}
 use Rattle.volume.specs.Exact.{IsExact}
 use Rattle.volume.specs.Flying.{IsFlown}
 use Rattle.volume.specs.Moved.{moving_of}
@@ -111,14 +112,14 @@ told_more : (number : ℕ) (told : Bool) (done : List (Event × Outcome)) (event
 told_more number told [] event outcome = refl
 told_more number told (x ∷ done) event outcome = told_more number (told || tells number x.1) done event outcome
 
-module _ {B : Type 0} (contents : B → List ℕ) (layers : B → List Layer) (size : B → ℕ) where
-  chain_more : (done : List (Event × Outcome)) (old mid new : Volumed B) (event : Event) (outcome : Outcome) → IsChain contents layers done old mid → IsDoneFirst contents layers event outcome mid new → IsChain contents layers (done ++ (event, outcome) ∷ []) old new
-  chain_more [] old mid new event outcome same next = (new, subst (λ (v : Volumed B). IsDoneFirst contents layers event outcome v new) same next, refl)
+module _ {B : Type 0} (contents : B → List ℕ) (layers : B → List Layer) (faults size : B → ℕ) where
+  chain_more : (done : List (Event × Outcome)) (old mid new : Volumed B) (event : Event) (outcome : Outcome) → IsChain contents layers faults done old mid → IsDoneFirst contents layers faults event outcome mid new → IsChain contents layers faults (done ++ (event, outcome) ∷ []) old new
+  chain_more [] old mid new event outcome same next = (new, subst (λ (v : Volumed B). IsDoneFirst contents layers faults event outcome v new) same next, refl)
   chain_more (x ∷ done) old mid new event outcome chain next = (chain.0, chain.1, chain_more done chain.0 mid new event outcome chain.2 next)
 
   -- the event that was due first was done
   pub record IsStep (event : Event) (outcome : Outcome) (v w : Volumed B) : Type 0 where
-    pub done : IsDoneFirst contents layers event outcome v w
+    pub done : IsDoneFirst contents layers faults event outcome v w
     pub due : (replied : Option Reply) → due_all (moving_of contents layers replied v) ≡ Some event
     pub kept : KeepsAll size v w
     pub loud : is_loud_in_all layers w ≡ is_loud_in_all layers v
@@ -127,9 +128,9 @@ module _ {B : Type 0} (contents : B → List ℕ) (layers : B → List Layer) (s
 
   pub step_is : (event : Event) (outcome told : Outcome) (v w : Volumed B) → Some event ≡ next_of contents layers v → ((replied : Option Reply) → due_all (moving_of contents layers replied v) ≡ Some event) → outcome ≡ told
       → IsExact contents layers event outcome v w → (is_loud_in_all layers v ≡ true → IsLegalStep (plain_of contents layers v) event outcome (plain_of contents layers w))
-      → KeepsAll size v w → is_loud_in_all layers w ≡ is_loud_in_all layers v → w.requests ≡ v.requests → IsFlown event outcome (map in_flight v.flights) (map in_flight w.flights) → IsStep event told v w
-  step_is event outcome told v w first due is exact legal kept loud requests flown =
-      subst (λ (o : Outcome). IsStep event o v w) is (record { done = record { first = sym first; exact = exact; legal = legal }; due = due; kept = kept; loud = loud; requests = requests; flown = flown })
+      → KeepsAll size v w → is_loud_in_all layers w ≡ is_loud_in_all layers v → w.requests ≡ v.requests → IsFlown event outcome (map in_flight v.flights) (map in_flight w.flights) → HasCause faults event outcome v w → IsStep event told v w
+  step_is event outcome told v w first due is exact legal kept loud requests flown cause =
+      subst (λ (o : Outcome). IsStep event o v w) is (record { done = record { first = sym first; exact = exact; legal = legal; flown = flown; cause = cause }; due = due; kept = kept; loud = loud; requests = requests; flown = flown })
 
   -- what events leave as it is
   pub record KeepsCounts (old new : Volumed B) : Type 0 where
@@ -143,29 +144,29 @@ module _ {B : Type 0} (contents : B → List ℕ) (layers : B → List Layer) (s
   counts_more : (u v w : Volumed B) (event : Event) (outcome : Outcome) → KeepsCounts u v → IsStep event outcome v w → KeepsCounts u w
   counts_more u v w event outcome h step = record { kept = keeps_more size u v w h.kept step.kept; loud = step.loud ∙ h.loud; requests = step.requests ∙ h.requests }
 
-  pub drained_none : (v : Volumed B) (replies : List Replied) → IsDrained contents layers v v replies replies
+  pub drained_none : (v : Volumed B) (replies : List Replied) → IsDrained contents layers faults v v replies replies
   drained_none v replies = record { done = []; chain = refl; told = sym (append-nil replies) }
 
-  drained_more : (u v w : Volumed B) (event : Event) (outcome : Outcome) (before now after : List Replied) → IsDrained contents layers u v before now → IsDoneFirst contents layers event outcome v w → after ≡ now ++ reply_in outcome
-      → IsDrained contents layers u w before after
+  drained_more : (u v w : Volumed B) (event : Event) (outcome : Outcome) (before now after : List Replied) → IsDrained contents layers faults u v before now → IsDoneFirst contents layers faults event outcome v w → after ≡ now ++ reply_in outcome
+      → IsDrained contents layers faults u w before after
   drained_more u v w event outcome before now after so next more = record {
     done = so.done ++ (event, outcome) ∷ [];
     chain = chain_more so.done u v w event outcome so.chain next;
     told = more ∙ ap (λ (rs : List Replied). rs ++ reply_in outcome) so.told ∙ append_assoc before (replied_in so.done) (reply_in outcome) ∙ ap (λ (rs : List Replied). before ++ rs) (sym (replied_more so.done event outcome));
   }
 
-  pub apart_none : (v : Volumed B) (replies : List Replied) → IsDrainedApart contents layers v v replies replies
+  pub apart_none : (v : Volumed B) (replies : List Replied) → IsDrainedApart contents layers faults v v replies replies
   apart_none v replies = record { done = []; chain = refl; told = sym (append-nil replies); apart = refl }
 
   -- Between two events of a drain: what was done so far, and that there is room for the replies to come.
   pub record DrainsSo (len cap : ℕ) (old v : Volumed B) (before now : List Replied) : Type 0 where
-    pub so : IsDrained contents layers old v before now
+    pub so : IsDrained contents layers faults old v before now
     pub counts : KeepsCounts old v
     pub room : len + length v.flights ≤ cap
 
   pub drains_start : (len cap : ℕ) (v : Volumed B) (before now : List Replied) → now ≡ before → len + length v.flights ≤ cap → DrainsSo len cap v v before now
   drains_start len cap v before now same room = record {
-    so = subst (λ (rs : List Replied). IsDrained contents layers v v before rs) (sym same) (drained_none v before);
+    so = subst (λ (rs : List Replied). IsDrained contents layers faults v v before rs) (sym same) (drained_none v before);
     counts = counts_none v;
     room = room;
   }
@@ -180,7 +181,7 @@ module _ {B : Type 0} (contents : B → List ℕ) (layers : B → List Layer) (s
 
   -- the same of a drain of no event of a merge
   pub record DrainsApart (len cap : ℕ) (old v : Volumed B) (before now : List Replied) : Type 0 where
-    pub so : IsDrainedApart contents layers old v before now
+    pub so : IsDrainedApart contents layers faults old v before now
     pub counts : KeepsCounts old v
     pub room : len + length v.flights ≤ cap
 
@@ -200,7 +201,7 @@ module _ {B : Type 0} (contents : B → List ℕ) (layers : B → List Layer) (s
 
   -- and of one that ends with the reply to a request; told says whether that was given
   pub record DrainsFor (number : ℕ) (reply : Reply) (told : Bool) (len cap : ℕ) (old v : Volumed B) (before now : List Replied) : Type 0 where
-    pub so : IsAnsweredAmong contents layers number reply old v before now
+    pub so : IsAnsweredAmong contents layers faults number reply old v before now
     pub told_is : told ≡ told_after number false so.done
     pub counts : KeepsCounts old v
     pub room : len + length v.flights ≤ cap

@@ -43,9 +43,9 @@ module _ {X : Type 0} where
   head_or : (y x : X) (xs : List X) → Contains (y ∷ xs) x → (y ≡ x) ⊎ Contains xs x
   head_or y x xs h = elim (Contains-append_cases (y ∷ []) xs x h) [
     | inl first ↦ (elim (Contains-push_cases [] y x first) [
-        | inl none ↦ none_in x ((y ≡ x) ⊎ Contains xs x) none
-        | inr same ↦ inl same
-      ])
+      | inl none ↦ none_in x ((y ≡ x) ⊎ Contains xs x) none
+      | inr same ↦ inl same
+    ])
     | inr rest ↦ inr rest
   ]
 

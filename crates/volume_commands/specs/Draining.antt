@@ -1,10 +1,12 @@
 -- Requests that end while others are in flight: events are done one after another, each the one that is due first. What one
 -- event does is said where events are (`volume`). This project's own.
-use Rattle.std.specs.Prelude.{◌≡◌, ◌==◌, ◌&&◌, ◌||◌, not, ℕ, Bool, true, false, List, [], ◌∷◌, ◌++◌, Option, Some, None, if◌then◌else◌}
+use Rattle.std.specs.Prelude.{◌≡◌, ◌==◌, ◌&&◌, ◌||◌, not, ℕ, Bool, true, false, List, [], ◌∷◌, ◌++◌, map, Option, Some, None, if◌then◌else◌}
 use Rattle.device.specs.Layers.{Layer}
 use Rattle.plain.specs.declared.event.Event.{Event}
 use Rattle.plain.specs.declared.event.Outcome.{Outcome}
 use Rattle.plain.specs.declared.event.Outcome.TheVariants.{Reply as Replies, Done, Fault}
+use Rattle.in_flight.specs.Kinds.{in_flight}
+use Rattle.volume.specs.Causes.{HasCause}
 use Rattle.volume.specs.EventKinds.{is_of_merge}
 use Rattle.plain.specs.declared.request.Reply.{Reply}
 use Rattle.plain.specs.declared.request.Reply.TheVariants.{Refused}
@@ -13,18 +15,22 @@ use Rattle.plain.specs.Legal.{IsLegalStep}
 use Rattle.plain.specs.Replies.{reply_in}
 use Rattle.volume.specs.Volumed.{Volumed, is_loud_in_all, next_of, plain_of}
 use Rattle.volume.specs.Exact.{IsExact}
+use Rattle.volume.specs.Flying.{IsFlown}
 use Rattle.plain.specs.declared.request.Replied.{Replied}
 
--- the event that was due first was done, with this outcome
-pub record IsDoneFirst {B : Type 0} (contents : B → List ℕ) (layers : B → List Layer) (event : Event) (outcome : Outcome) (old new : Volumed B) : Type 0 where
+-- The event that was due first was done, with this outcome: whichever device drops writes, it replies to a request in flight or to
+-- none, and each reply and each fault has its cause.
+pub record IsDoneFirst {B : Type 0} (contents : B → List ℕ) (layers : B → List Layer) (faults : B → ℕ) (event : Event) (outcome : Outcome) (old new : Volumed B) : Type 0 where
   pub first : next_of contents layers old ≡ Some event
   pub exact : IsExact contents layers event outcome old new
   pub legal : is_loud_in_all layers old ≡ true → IsLegalStep (plain_of contents layers old) event outcome (plain_of contents layers new)
+  pub flown : IsFlown event outcome (map in_flight old.flights) (map in_flight new.flights)
+  pub cause : HasCause faults event outcome old new
 
 -- these events were done, in this order
-abbrev pub IsChain : {B : Type 0} → (B → List ℕ) → (B → List Layer) → List (Event × Outcome) → Volumed B → Volumed B → Type 0
-IsChain contents layers [] old new = new ≡ old
-IsChain contents layers (x ∷ xs) old new = (mid : Volumed _) × IsDoneFirst contents layers x.0 x.1 old mid × IsChain contents layers xs mid new
+abbrev pub IsChain : {B : Type 0} → (B → List ℕ) → (B → List Layer) → (B → ℕ) → List (Event × Outcome) → Volumed B → Volumed B → Type 0
+IsChain contents layers faults [] old new = new ≡ old
+IsChain contents layers faults (x ∷ xs) old new = (mid : Volumed _) × IsDoneFirst contents layers faults x.0 x.1 old mid × IsChain contents layers faults xs mid new
 
 -- the replies that they gave, in this order
 abbrev pub replied_in : List (Event × Outcome) → List Replied
@@ -32,9 +38,9 @@ replied_in [] = []
 replied_in (x ∷ done) = reply_in x.1 ++ replied_in done
 
 -- Events were done from one volume to another, and their replies come after those that were there.
-pub record IsDrained {B : Type 0} (contents : B → List ℕ) (layers : B → List Layer) (old new : Volumed B) (before after : List Replied) : Type 0 where
+pub record IsDrained {B : Type 0} (contents : B → List ℕ) (layers : B → List Layer) (faults : B → ℕ) (old new : Volumed B) (before after : List Replied) : Type 0 where
   pub done : List (Event × Outcome)
-  pub chain : IsChain contents layers done old new
+  pub chain : IsChain contents layers faults done old new
   pub told : after ≡ before ++ replied_in done
 
 -- the replies to other requests than this one
@@ -72,17 +78,17 @@ are_apart [] = true
 are_apart (x ∷ done) = not (is_of_merge x.0) && are_apart done
 
 -- Events were done likewise, none of a merge.
-pub record IsDrainedApart {B : Type 0} (contents : B → List ℕ) (layers : B → List Layer) (old new : Volumed B) (before after : List Replied) : Type 0 where
+pub record IsDrainedApart {B : Type 0} (contents : B → List ℕ) (layers : B → List Layer) (faults : B → ℕ) (old new : Volumed B) (before after : List Replied) : Type 0 where
   pub done : List (Event × Outcome)
-  pub chain : IsChain contents layers done old new
+  pub chain : IsChain contents layers faults done old new
   pub told : after ≡ before ++ replied_in done
   pub apart : are_apart done ≡ true
 
 -- Events were done likewise, those of a merge only until the reply to this request; that reply is given apart, and is Invalid
 -- where none came.
-pub record IsAnsweredAmong {B : Type 0} (contents : B → List ℕ) (layers : B → List Layer) (number : ℕ) (reply : Reply) (old new : Volumed B) (before after : List Replied) : Type 0 where
+pub record IsAnsweredAmong {B : Type 0} (contents : B → List ℕ) (layers : B → List Layer) (faults : B → ℕ) (number : ℕ) (reply : Reply) (old new : Volumed B) (before after : List Replied) : Type 0 where
   pub done : List (Event × Outcome)
-  pub chain : IsChain contents layers done old new
+  pub chain : IsChain contents layers faults done old new
   pub told : after ≡ before ++ others number (replied_in done)
   pub reply_is : reply ≡ reply_to number (Refused Invalid) (replied_in done)
   pub lazy : is_lazy number false done ≡ true

@@ -35,8 +35,8 @@ fn write_piece_among<B: Layered>(
     requires order { from ≤ to }
     requires inside { to ≤ length bytes.old }
     requires room { length (take (to - from) (drop from bytes.old)) ≡ 512 * piece.count }
-    ensures written { OnOk result ((reply : AnyReply) × IsPieceServed B.contents B.layers dev (Write (take (to - from) (drop from bytes.old))) (span_of piece) reply volume.old volume.new ended.old.items ended.new.items) }
-    ensures failed { IfErr result (λ refusal. IsPieceFailed B.contents B.layers B.size dev (Write (take (to - from) (drop from bytes.old))) (span_of piece) refusal volume.old volume.new ended.old.items ended.new.items) }
+    ensures written { OnOk result ((reply : AnyReply) × IsPieceServed B.contents B.layers B.fault_count dev (Write (take (to - from) (drop from bytes.old))) (span_of piece) reply volume.old volume.new ended.old.items ended.new.items) }
+    ensures failed { IfErr result (λ refusal. IsPieceFailed B.contents B.layers B.fault_count B.size dev (Write (take (to - from) (drop from bytes.old))) (span_of piece) refusal volume.old volume.new ended.old.items ended.new.items) }
     ensures left { drop to bytes.new ≡ drop to bytes.old }
     ensures kept { KeepsDevices B.layers B.size (rested_of volume.old) (rested_of volume.new) }
     ensures requests { volume.new.requests ≤ volume.old.requests + 1 }
@@ -67,8 +67,8 @@ fn read_piece_among<B: Layered>(
     ended: &mut Vec<Replied>,
 ) -> Result<(), Refusal>
     requires room { vec_len out.old + 512 * piece.count ≤ vec_capacity out.old }
-    ensures read { OnOk result ((reply : AnyReply) × IsPieceServed B.contents B.layers dev Read (span_of piece) reply volume.old volume.new ended.old.items ended.new.items × (out.new.items ≡ out.old.items ++ take (512 * piece.count) (bytes_in reply))) }
-    ensures failed { IfErr result (λ refusal. IsPieceFailed B.contents B.layers B.size dev Read (span_of piece) refusal volume.old volume.new ended.old.items ended.new.items) }
+    ensures read { OnOk result ((reply : AnyReply) × IsPieceServed B.contents B.layers B.fault_count dev Read (span_of piece) reply volume.old volume.new ended.old.items ended.new.items × (out.new.items ≡ out.old.items ++ take (512 * piece.count) (bytes_in reply))) }
+    ensures failed { IfErr result (λ refusal. IsPieceFailed B.contents B.layers B.fault_count B.size dev Read (span_of piece) refusal volume.old volume.new ended.old.items ended.new.items) }
     ensures len { vec_len out.new ≤ vec_len out.old + 512 * piece.count }
     ensures capacity { vec_capacity out.old ≤ vec_capacity out.new }
     ensures kept { KeepsDevices B.layers B.size (rested_of volume.old) (rested_of volume.new) }
@@ -105,8 +105,8 @@ fn write_pieces_among<B: Layered>(
     ended: &mut Vec<Replied>,
 ) -> Result<(), Refusal>
     requires room { length bytes ≡ 512 * range.count }
-    ensures written { OnOk result (AreWrittenAmong B.contents B.layers dev (pieces_of (piece_with volume.old.merge volume.old.snaps) (span_of range)) bytes volume.old volume.new ended.old.items ended.new.items) }
-    ensures stopped { IfErr result (λ refusal. IsWriteStopped B.contents B.layers B.size dev (pieces_of (piece_with volume.old.merge volume.old.snaps) (span_of range)) bytes refusal volume.old volume.new ended.old.items ended.new.items) }
+    ensures written { OnOk result (AreWrittenAmong B.contents B.layers B.fault_count dev (pieces_of (piece_with volume.old.merge volume.old.snaps) (span_of range)) bytes volume.old volume.new ended.old.items ended.new.items) }
+    ensures stopped { IfErr result (λ refusal. IsWriteStopped B.contents B.layers B.fault_count B.size dev (pieces_of (piece_with volume.old.merge volume.old.snaps) (span_of range)) bytes refusal volume.old volume.new ended.old.items ended.new.items) }
     ensures kept { KeepsDevices B.layers B.size (rested_of volume.old) (rested_of volume.new) }
     ensures requests { volume.new.requests ≤ volume.old.requests + range.count }
 {
@@ -137,8 +137,8 @@ fn read_pieces_among<B: Layered>(
     requires empty { out.old.items ≡ [] }
     requires none { vec_len out.old ≡ 0 }
     requires room { 512 * range.count ≤ vec_capacity out.old }
-    ensures read { OnOk result (AreReadAmong B.contents B.layers dev (pieces_of (piece_with volume.old.merge volume.old.snaps) (span_of range)) out.new.items volume.old volume.new ended.old.items ended.new.items) }
-    ensures stopped { IfErr result (λ refusal. IsReadStopped B.contents B.layers B.size dev (pieces_of (piece_with volume.old.merge volume.old.snaps) (span_of range)) refusal volume.old volume.new ended.old.items ended.new.items) }
+    ensures read { OnOk result (AreReadAmong B.contents B.layers B.fault_count dev (pieces_of (piece_with volume.old.merge volume.old.snaps) (span_of range)) out.new.items volume.old volume.new ended.old.items ended.new.items) }
+    ensures stopped { IfErr result (λ refusal. IsReadStopped B.contents B.layers B.fault_count B.size dev (pieces_of (piece_with volume.old.merge volume.old.snaps) (span_of range)) refusal volume.old volume.new ended.old.items ended.new.items) }
     ensures kept { KeepsDevices B.layers B.size (rested_of volume.old) (rested_of volume.new) }
     ensures requests { volume.new.requests ≤ volume.old.requests + range.count }
 {
@@ -172,8 +172,8 @@ impl<B: Layered> Resting<B> {
         requires some { 0 < range.count }
         requires inside { range.first + range.count ≤ B.size self.old.origin }
         requires requests { self.old.requests + range.count < 9_223_372_036_854_775_808 }
-        ensures read { IfOk result (λ bytes. AreReadAmong B.contents B.layers dev (pieces_among (span_of range) self.old) bytes self.old.events self.new.events ended.old.items ended.new.items) }
-        ensures refused { IfErr result (λ refusal. IsReadRefusedAmong B.contents B.layers B.size dev (pieces_among (span_of range) self.old) refusal self.old self.new ended.old.items ended.new.items) }
+        ensures read { IfOk result (λ bytes. AreReadAmong B.contents B.layers B.fault_count dev (pieces_among (span_of range) self.old) bytes self.old.events self.new.events ended.old.items ended.new.items) }
+        ensures refused { IfErr result (λ refusal. IsReadRefusedAmong B.contents B.layers B.fault_count B.size dev (pieces_among (span_of range) self.old) refusal self.old self.new ended.old.items ended.new.items) }
         ensures there { OnOk result (has_dev dev self.old ≡ true) }
         ensures whole { IsWhole self.old × IsWhole self.new }
         ensures kept { KeepsDevices B.layers B.size self.old self.new }
@@ -207,8 +207,8 @@ impl<B: Layered> Resting<B> {
         requires inside { range.first + range.count ≤ B.size self.old.origin }
         requires room { length bytes ≡ 512 * range.count }
         requires requests { self.old.requests + range.count < 9_223_372_036_854_775_808 }
-        ensures written { OnOk result (AreWrittenAmong B.contents B.layers dev (pieces_among (span_of range) self.old) bytes self.old.events self.new.events ended.old.items ended.new.items) }
-        ensures refused { IfErr result (λ refusal. IsWriteRefusedAmong B.contents B.layers B.size dev (pieces_among (span_of range) self.old) bytes refusal self.old self.new ended.old.items ended.new.items) }
+        ensures written { OnOk result (AreWrittenAmong B.contents B.layers B.fault_count dev (pieces_among (span_of range) self.old) bytes self.old.events self.new.events ended.old.items ended.new.items) }
+        ensures refused { IfErr result (λ refusal. IsWriteRefusedAmong B.contents B.layers B.fault_count B.size dev (pieces_among (span_of range) self.old) bytes refusal self.old self.new ended.old.items ended.new.items) }
         ensures there { OnOk result (has_dev dev self.old ≡ true) }
         ensures whole { IsWhole self.old × IsWhole self.new }
         ensures kept { KeepsDevices B.layers B.size self.old self.new }

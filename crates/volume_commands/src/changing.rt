@@ -7,6 +7,7 @@ ghost use Rattle.plain.specs.declared.request.Dev.TheVariants.{Snap};
 ghost use Rattle.settled.specs.Attaching.{attached, refused_attach};
 ghost use Rattle.settled.specs.Refusals.{is_starved};
 ghost use Rattle.volume_commands.specs.Rested.{Attached, rested_of, settled_of, IsSettled, has_dev, snap_at};
+ghost use Rattle.volume_commands.specs.Flying.{IsWhole};
 ghost use Rattle.volume_commands.specs.Leaving.{IsDetachedAs};
 ghost use Rattle.volume_commands.specs.Taking.{IsRefusedAt, IsTakenAs};
 ghost use Rattle.store.specs.Reading.{AreRead};
@@ -92,6 +93,7 @@ impl<B: Layered> Resting<B> {
         ensures size { IfErr result (λ e. B.size e.1.device ≡ B.size store.device) }
         ensures loud { IfErr result (λ e. is_loud (B.layers e.1.device) ≡ is_loud (B.layers store.device)) }
         ensures quiet { OnOk result ((is_quiet_of self.old.events ≡ true) × (is_quiet_of self.new.events ≡ true)) }
+        ensures whole { IsWhole self.old × IsWhole self.new }
     {
         take(&mut self.volume, store, chunk, overflow)
     }

@@ -34,7 +34,7 @@ pub(crate) fn make_room(ended: &mut Vec<Replied>, replies: usize) -> Result<(), 
 /// Does the events that are due, each time the one that is due first, until none is. Each reply is put at the end of `ended`,
 /// where room for one of each request in flight is taken first: where that is refused, nothing is done.
 fn drain<B: Layered>(volume: &mut Journaled<B>, ended: &mut Vec<Replied>) -> Result<(), Refusal>
-    ensures drained { OnOk result (IsDrained B.contents B.layers volume.old volume.new ended.old.items ended.new.items) }
+    ensures drained { OnOk result (IsDrained B.contents B.layers B.fault_count volume.old volume.new ended.old.items ended.new.items) }
     ensures quiet { OnOk result (is_quiet_of volume.new ≡ true) }
     ensures merged { OnOk result (IsSettled B.layers (rested_of volume.old) → merged (merged_of B.contents B.layers (rested_of volume.old)) ≡ merged_of B.contents B.layers (rested_of volume.new)) }
     ensures shows { IsSettled B.layers (rested_of volume.old) → IsGoneOn (arrays_in B.contents B.layers (rested_of volume.old)) (arrays_in B.contents B.layers (rested_of volume.new)) }
@@ -62,7 +62,7 @@ fn drain<B: Layered>(volume: &mut Journaled<B>, ended: &mut Vec<Replied>) -> Res
 /// request in flight.
 pub(crate) fn drain_apart<B: Layered>(volume: &mut Journaled<B>, ended: &mut Vec<Replied>)
     requires room { vec_len ended.old + length volume.old.flights ≤ vec_capacity ended.old }
-    ensures drained { IsDrainedApart B.contents B.layers volume.old volume.new ended.old.items ended.new.items }
+    ensures drained { IsDrainedApart B.contents B.layers B.fault_count volume.old volume.new ended.old.items ended.new.items }
     ensures idle { is_idle_of B.contents B.layers volume.new ≡ true }
     ensures kept { KeepsDevices B.layers B.size (rested_of volume.old) (rested_of volume.new) }
     ensures requests { volume.new.requests ≡ volume.old.requests }
@@ -88,7 +88,7 @@ pub(crate) fn drain_for<B: Layered>(
     ended: &mut Vec<Replied>,
 ) -> Reply
     requires room { vec_len ended.old + length volume.old.flights ≤ vec_capacity ended.old }
-    ensures answered { IsAnsweredAmong B.contents B.layers own result volume.old volume.new ended.old.items ended.new.items }
+    ensures answered { IsAnsweredAmong B.contents B.layers B.fault_count own result volume.old volume.new ended.old.items ended.new.items }
     ensures idle { is_idle_of B.contents B.layers volume.new ≡ true }
     ensures kept { KeepsDevices B.layers B.size (rested_of volume.old) (rested_of volume.new) }
     ensures requests { volume.new.requests ≡ volume.old.requests }
@@ -123,7 +123,7 @@ impl<B: Layered> Resting<B> {
     /// left as the settled machine's whole merge leaves it, and as it was where no merge is begun: whatever fails, its origin
     /// shows what it showed, and so does each snapshot that is not spoiled.
     pub fn settle(&mut self, ended: &mut Vec<Replied>) -> Result<(), Refusal>
-        ensures drained { OnOk result (IsDrained B.contents B.layers self.old.events self.new.events ended.old.items ended.new.items) }
+        ensures drained { OnOk result (IsDrained B.contents B.layers B.fault_count self.old.events self.new.events ended.old.items ended.new.items) }
         ensures quiet { OnOk result (is_quiet_of self.new.events ≡ true) }
         ensures merged { OnOk result (IsSettled B.layers self.old → merged (merged_of B.contents B.layers self.old) ≡ merged_of B.contents B.layers self.new) }
         ensures shows { IsSettled B.layers self.old → IsGoneOn (arrays_in B.contents B.layers self.old) (arrays_in B.contents B.layers self.new) }

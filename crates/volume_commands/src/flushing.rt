@@ -66,8 +66,8 @@ fn flush_device_among<B: Layered>(
     dev: Dev,
     ended: &mut Vec<Replied>,
 ) -> Result<(), Refusal>
-    ensures flushed { OnOk result (IsFlushedAmong B.contents B.layers dev volume.old volume.new ended.old.items ended.new.items) }
-    ensures failed { IfErr result (λ refusal. IsPieceFailed B.contents B.layers B.size dev Flush flush_piece refusal volume.old volume.new ended.old.items ended.new.items) }
+    ensures flushed { OnOk result (IsFlushedAmong B.contents B.layers B.fault_count dev volume.old volume.new ended.old.items ended.new.items) }
+    ensures failed { IfErr result (λ refusal. IsPieceFailed B.contents B.layers B.fault_count B.size dev Flush flush_piece refusal volume.old volume.new ended.old.items ended.new.items) }
     ensures kept { KeepsDevices B.layers B.size (rested_of volume.old) (rested_of volume.new) }
     ensures requests { volume.new.requests ≤ volume.old.requests + 1 }
 {
@@ -116,8 +116,8 @@ impl<B: Layered> Resting<B> {
     pub fn flush_among(&mut self, dev: Dev, ended: &mut Vec<Replied>) -> Result<(), Refusal>
         requires inside { 0 < B.size self.old.origin }
         requires requests { self.old.requests + 1 < 9_223_372_036_854_775_808 }
-        ensures flushed { OnOk result (IsFlushedAmong B.contents B.layers dev self.old.events self.new.events ended.old.items ended.new.items) }
-        ensures refused { IfErr result (λ refusal. IsFlushRefusedAmong B.contents B.layers B.size dev refusal self.old self.new ended.old.items ended.new.items) }
+        ensures flushed { OnOk result (IsFlushedAmong B.contents B.layers B.fault_count dev self.old.events self.new.events ended.old.items ended.new.items) }
+        ensures refused { IfErr result (λ refusal. IsFlushRefusedAmong B.contents B.layers B.fault_count B.size dev refusal self.old self.new ended.old.items ended.new.items) }
         ensures there { OnOk result (has_dev dev self.old ≡ true) }
         ensures whole { IsWhole self.old × IsWhole self.new }
         ensures kept { KeepsDevices B.layers B.size self.old self.new }

@@ -8,11 +8,12 @@ use Rattle.layers.specs.declared.stack.Stack.{Stack}
 use Rattle.settled.specs.Refusals.{is_starved}
 use Rattle.merge.specs.Merging.{Merging}
 use Rattle.volume.specs.Leaving.{is_quiet_of}
+use Rattle.volume_commands.specs.Rested.{Rested}
 use Rattle.named_volume.specs.Held.{flying_in, merged_inside, merging_with, settled_in}
 use Rattle.named_volume.proofs.Merges.{begun_too, merge_by, merging_as_before}
 use Rattle.named_volume.proofs.Meets.{met, unmet, busy_back, read_same}
 use Rattle.named_volume.proofs.Parts.{no_both}
-use Rattle.named_volume.proofs.Refused.{refused_seen}
+use Rattle.named_volume.proofs.Refused.{as_many, refused_seen}
 use Rattle.named_volume.proofs.origin.NamedVolume.attach.Goals.{then-self, else-self}
 use Rattle.named_volume.proofs.origin.NamedVolume.attach.Goals as goal
 
@@ -66,6 +67,8 @@ returns-in-Err-attach-clause-refused c =
         store = c.into_parts-names.result.1;
         quiet = refl;
         merge = sym (begun_too _ c.self.inside.volume c.self.invariant.begun ∙ c.self.invariant.begun);
+        snaps = as_many c.self.inside.volume c.attach.ensures.whole.0;
+        given = sym (ap (λ (x : Rested Stack). x.attached) c.attach.ensures.whole.0);
         origin_is = refl;
         store_is = refl;
         cause = why;
