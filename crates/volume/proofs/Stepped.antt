@@ -32,8 +32,9 @@ not_stepped holds contents layers size faults done event early old new same = re
 
 pub step_returned : {B : Type 0} (holds : B → ℕ → List ℕ → Type 0) (m : Measures B) (layers : B → List Layer) (event : Event) (result : Result Outcome NotDue) (old new : Volumed B)
     → DoesStep holds m.contents layers m.size m.faults m.done event result old new → is_ok result ≡ is_due_of m.contents layers old event → IsStepReturned m layers event result old new
-step_returned holds m layers event (Ok outcome) old new does due =
-    ((record {
+step_returned holds m layers event (Ok outcome) old new does due = (
+  (
+    record {
       legal = does.legal;
       lower = does.lower;
       loud = does.loud;
@@ -46,5 +47,9 @@ step_returned holds m layers event (Ok outcome) old new does due =
       copies = does.counts.1;
       given = does.counts.2;
       overflows = does.overflows;
-    }, does.exact), due)
+    },
+    does.exact,
+  ),
+  due,
+)
 step_returned holds m layers event (Err early) old new does due = (does.same, due)
