@@ -22,6 +22,7 @@ use Rattle.volume.specs.Attached.{IsGained, IsRefusedOver}
 use Rattle.volume.specs.Fresh.{is_fresh}
 use Rattle.volume.specs.Beginning.{IsMergeBegun, IsNotBegun, begin_refusal}
 use Rattle.volume.specs.DoesStep.{DoesStep}
+use Rattle.volume.specs.DoesTick.{DoesTick}
 use Rattle.volume.specs.Layering.{Measures}
 use Rattle.volume.specs.Leaving.{is_quiet_of}
 use Rattle.volume.specs.Submitting.{IsAcceptedAs, IsRefusedAs, submit_refusal}
@@ -78,6 +79,13 @@ module _ {B : Type 0} (m : Measures B) (layers : B → List Layer) where
     loud = λ l brought. does.loud ∙ l;
     seen = λ l brought. record { sees = ap plain does.same; reason = tt; disk = tt };
     answered = due;
+  }
+
+  pub tick_done : (holds : B → ℕ → List ℕ → Type 0) (seconds : ℕ) (v w : Volumed B) → DoesTick holds m layers seconds v w → IsDone m layers (Tick seconds) Ticked v w
+  tick_done holds seconds v w does = record {
+    loud = λ l brought. does.loud ∙ l;
+    seen = λ l brought. record { sees = does.plain; reason = tt; disk = tt };
+    answered = does.ticked;
   }
 
   pub begin_done : (number : ℕ) (result : Result _ Refusal) (v w : Volumed B) → OnOk result (is_loud_in_all layers v ≡ true → IsBegun (plain_of m.contents layers v) number (plain_of m.contents layers w)) → IfErr result (λ refusal. IsNotBegun number refusal v w)

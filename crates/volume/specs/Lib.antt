@@ -30,4 +30,5 @@ pub mod Adding
 pub mod Closing
 pub mod DoesStep
 pub mod DoesSubmit
+pub mod DoesTick
 pub mod AddedUp
