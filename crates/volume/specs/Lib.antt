@@ -31,4 +31,5 @@ pub mod Closing
 pub mod DoesStep
 pub mod DoesSubmit
 pub mod DoesTick
+pub mod DoesMessage
 pub mod AddedUp
