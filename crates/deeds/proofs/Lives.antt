@@ -10,9 +10,12 @@ use Rattle.sector.specs.declared.refusal.Refusal.{Refusal}
 use Rattle.device.specs.Layers.{Layer, is_loud}
 use Rattle.plain.specs.Plain.{Plain, overflow_of, saved_under}
 use Rattle.plain.specs.Legal.{IsBegun, IsTaken}
+use Rattle.layers.specs.declared.message.Answer.{Answer}
+use Rattle.layers.specs.declared.message.Message.{Message}
 use Rattle.plain.specs.declared.event.Event.{Event}
 use Rattle.plain.specs.declared.event.NotDue.{NotDue}
 use Rattle.plain.specs.declared.event.Outcome.{Outcome}
+use Rattle.plain.specs.declared.request.Dev.{Dev}
 use Rattle.plain.specs.declared.request.Request.{Request}
 use Rattle.snapshot.specs.declared.opening.StoreDev.{StoreDev}
 use Rattle.snapshot.specs.Kept.{Kept}
@@ -21,7 +24,9 @@ use Rattle.volume_laws.specs.Shape.{shown_entry, shown_origin}
 use Rattle.volume.specs.Attached.{IsGained, IsRefusedOver}
 use Rattle.volume.specs.Fresh.{is_fresh}
 use Rattle.volume.specs.Beginning.{IsMergeBegun, IsNotBegun, begin_refusal}
+use Rattle.volume.specs.DoesMessage.{DoesMessage}
 use Rattle.volume.specs.DoesStep.{DoesStep}
+use Rattle.volume.specs.DoesTick.{DoesTick}
 use Rattle.volume.specs.Layering.{Measures}
 use Rattle.volume.specs.Leaving.{is_quiet_of}
 use Rattle.volume.specs.Submitting.{IsAcceptedAs, IsRefusedAs, submit_refusal}
@@ -78,6 +83,20 @@ module _ {B : Type 0} (m : Measures B) (layers : B → List Layer) where
     loud = λ l brought. does.loud ∙ l;
     seen = λ l brought. record { sees = ap plain does.same; reason = tt; disk = tt };
     answered = due;
+  }
+
+  pub tick_done : (holds : B → ℕ → List ℕ → Type 0) (seconds : ℕ) (v w : Volumed B) → DoesTick holds m layers seconds v w → IsDone m layers (Tick seconds) Ticked v w
+  tick_done holds seconds v w does = record {
+    loud = λ l brought. does.loud ∙ l;
+    seen = λ l brought. record { sees = does.plain; reason = tt; disk = tt };
+    answered = does.ticked;
+  }
+
+  pub tell_done : (holds : B → ℕ → List ℕ → Type 0) (dev : Dev) (depth : ℕ) (message : Message) (result : Result Answer Refusal) (v w : Volumed B) → DoesMessage holds m layers dev depth message result v w → IsDone m layers (Tell dev depth message) (Told result) v w
+  tell_done holds dev depth message result v w does = record {
+    loud = λ l brought. does.loud ∙ l;
+    seen = λ l brought. record { sees = does.plain; reason = tt; disk = tt };
+    answered = (does.ok, does.err);
   }
 
   pub begin_done : (number : ℕ) (result : Result _ Refusal) (v w : Volumed B) → OnOk result (is_loud_in_all layers v ≡ true → IsBegun (plain_of m.contents layers v) number (plain_of m.contents layers w)) → IfErr result (λ refusal. IsNotBegun number refusal v w)

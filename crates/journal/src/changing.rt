@@ -1,17 +1,16 @@
 // What changes a volume between requests, and what it comes to in the journal.
-ghost use Rattle.std.specs.Prelude.{◌≡◌, ◌&&◌, ◌++◌, ◌∷◌, [], IfErr, IfOk, None, OnErr, OnOk, Option, Some, false, true};
+ghost use Rattle.std.specs.Prelude.{◌≡◌, ◌&&◌, ◌++◌, ◌∷◌, [], IfErr, IfOk, None, OnOk, Option, false, true};
 ghost use Rattle.device.specs.Layers.{is_loud};
-ghost use Rattle.layers.specs.Ticks.{layers_ticked};
 ghost use Rattle.plain.specs.Legal.{IsFinished};
 ghost use Rattle.plain.specs.declared.request.Reply.{Reply};
 ghost use Rattle.sector.specs.declared.refusal.Refusal.TheVariants.{NotMerging};
 ghost use Rattle.event_machine.specs.Merging.{finished, resumed};
+ghost use Rattle.volume.specs.DoesMessage.{DoesMessage};
+ghost use Rattle.volume.specs.DoesTick.{DoesTick};
 ghost use Rattle.volume.specs.Beginning.{IsResumed};
 ghost use Rattle.volume.specs.Finishing.{IsTakenOut, finish_refusal};
-ghost use Rattle.volume.specs.Layering.{IsTicked, moving_relayered};
 ghost use Rattle.volume.specs.Moved.{moving_of};
-ghost use Rattle.volume.specs.Telling.{IsNotTold, IsTold, dev_relayered, layers_told};
-ghost use Rattle.volume.specs.Volumed.{books_of, is_loud_in_all, plain_of};
+ghost use Rattle.volume.specs.Volumed.{is_loud_in_all, plain_of};
 ghost use Rattle.journal.specs.declared.entry.Entry.TheVariants.{Finished};
 ghost use Rattle.journal.specs.Journaled.{IsUnchanged, KeepsJournal, is_full_by};
 
@@ -27,11 +26,7 @@ impl<B: Layered> Audit<B> {
     /// Lets so many seconds pass for the layers of every device.
     pub fn tick(&mut self, seconds: u32)
         ensures same { KeepsJournal self.old self.new }
-        ensures ticked { IsTicked (record { contents = B.contents; durable = B.durable; size = B.size; faults = B.fault_count; done = B.done_count }) B.layers seconds self.old.volume self.new.volume }
-        ensures moving { (replied : Option Reply) → moving_of B.contents B.layers replied self.new.volume ≡ moving_relayered (layers_ticked seconds) (moving_of B.contents B.layers replied self.old.volume) }
-        ensures books { books_of B.contents B.layers B.size self.new.volume ≡ books_of B.contents B.layers B.size self.old.volume }
-        ensures plain { plain_of B.contents B.layers self.new.volume ≡ plain_of B.contents B.layers self.old.volume }
-        ensures loud { is_loud_in_all B.layers self.new.volume ≡ is_loud_in_all B.layers self.old.volume }
+        ensures does { DoesTick B.may_hold (record { contents = B.contents; durable = B.durable; size = B.size; faults = B.fault_count; done = B.done_count }) B.layers seconds self.old.volume self.new.volume }
     {
         self.volume.tick(seconds)
     }
@@ -39,13 +34,7 @@ impl<B: Layered> Audit<B> {
     /// Tells a layer of one of the devices a message.
     pub fn message(&mut self, dev: Dev, depth: usize, message: &Message) -> Result<Answer, Refusal>
         ensures same { KeepsJournal self.old self.new }
-        ensures ok { IfOk result (λ answer. IsTold (record { contents = B.contents; durable = B.durable; size = B.size; faults = B.fault_count; done = B.done_count }) B.layers dev depth message.now answer self.old.volume self.new.volume) }
-        ensures err { IfErr result (λ refusal. IsNotTold (record { contents = B.contents; durable = B.durable; size = B.size; faults = B.fault_count; done = B.done_count }) B.layers dev depth message.now refusal self.old.volume self.new.volume) }
-        ensures moving { OnOk result ((replied : Option Reply) → moving_of B.contents B.layers replied self.new.volume ≡ dev_relayered dev (layers_told depth message.now) (moving_of B.contents B.layers replied self.old.volume)) }
-        ensures still { OnErr result ((replied : Option Reply) → moving_of B.contents B.layers replied self.new.volume ≡ moving_of B.contents B.layers replied self.old.volume) }
-        ensures books { books_of B.contents B.layers B.size self.new.volume ≡ books_of B.contents B.layers B.size self.old.volume }
-        ensures plain { plain_of B.contents B.layers self.new.volume ≡ plain_of B.contents B.layers self.old.volume }
-        ensures loud { is_loud_in_all B.layers self.new.volume ≡ is_loud_in_all B.layers self.old.volume }
+        ensures does { DoesMessage B.may_hold (record { contents = B.contents; durable = B.durable; size = B.size; faults = B.fault_count; done = B.done_count }) B.layers dev depth message.now result self.old.volume self.new.volume }
     {
         self.volume.message(dev, depth, message)
     }

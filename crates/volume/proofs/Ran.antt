@@ -1,7 +1,7 @@
 -- Calls one after another: what callers see of them, and that no call changes which devices drop writes.
 use Rattle.std.proofs.Common.{◌≡◌, ◌⊎◌, inl, inr, ℕ, true, List, [], ◌∷◌, ◌++◌, map, refl, sym, ◌∙◌, ap, subst}
 use Rattle.std.proofs.lemmas.List.{map-id}
-use Rattle.std.specs.Prelude.{None, Result, Ok, Err, MatchResult}
+use Rattle.std.specs.Prelude.{None, Result, IfErr, IfOk, Ok, Err, MatchResult}
 use Rattle.device.specs.Layers.{Layer}
 use Rattle.layers.specs.declared.message.Answer.{Answer}
 use Rattle.layers.specs.declared.message.Message.{Message}
@@ -25,6 +25,7 @@ use Rattle.volume.specs.Volumed.{Volumed, plain_of, is_loud_in_all, snap_shape}
 use Rattle.volume.specs.Beginning.{IsNotBegun, SameButKept}
 use Rattle.volume.specs.Layering.{Measures}
 use Rattle.volume.specs.Running.{IsSubmitReturned, IsStepReturned, IsMessageReturned, IsBegunAs, IsBeginRefused, IsResumedAs, IsReturned, AreReturned, MayBegin, MayCall}
+use Rattle.volume.specs.Telling.{IsNotTold, IsTold}
 use Rattle.volume.proofs.Beginnings.{twice_unkept}
 use Rattle.volume.proofs.Declines.{refused_declined, refused_loud}
 use Rattle.volume.proofs.Relayered.{IsVolumeAlike, map_twice, ticked_alike}
@@ -69,6 +70,10 @@ module _ {B : Type 0} (m : Measures B) (layers : B → List Layer) where
   step_legal : (event : Event) (result : Result Outcome NotDue) (v w : Volumed B) → is_loud_in_all layers v ≡ true → IsStepReturned m layers event result v w → MayStep event (plain v) (plain w)
   step_legal event (Ok outcome) v w loud e = inl (outcome, e.0.0.legal loud)
   step_legal event (Err early) v w loud e = inr (ap plain e.0)
+
+  pub message_returned : (dev : Dev) (depth : ℕ) (message : Message) (result : Result Answer Refusal) (v w : Volumed B) → IfOk result (λ answer. IsTold m layers dev depth message answer v w) → IfErr result (λ refusal. IsNotTold m layers dev depth message refusal v w) → IsMessageReturned m layers dev depth message result v w
+  message_returned dev depth message (Ok answer) v w told untold = told
+  message_returned dev depth message (Err refusal) v w told untold = untold
 
   message_alike : (dev : Dev) (depth : ℕ) (message : Message) (result : Result Answer Refusal) (v w : Volumed B) → IsMessageReturned m layers dev depth message result v w → IsVolumeAlike m.contents layers m.size v w
   message_alike dev depth message (Ok answer) v w e = told_alike m layers dev depth message v w answer e

@@ -30,4 +30,6 @@ pub mod Adding
 pub mod Closing
 pub mod DoesStep
 pub mod DoesSubmit
+pub mod DoesTick
+pub mod DoesMessage
 pub mod AddedUp

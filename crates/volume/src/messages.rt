@@ -1,11 +1,9 @@
 // Messages to the layers of a volume's devices.
-ghost use Rattle.std.specs.Prelude.{◌≡◌, IfOk, IfErr, OnOk, OnErr, Option};
+ghost use Rattle.std.specs.Prelude.{IfOk, IfErr, Option};
 ghost use Rattle.layers.specs.Messages.{answer_of};
 ghost use Rattle.plain.specs.declared.request.Dev.TheVariants.{Origin, Snap};
-ghost use Rattle.plain.specs.declared.request.Reply.{Reply};
-ghost use Rattle.volume.specs.Volumed.{books_of, is_loud_in_all, plain_of};
-ghost use Rattle.volume.specs.Moved.{moving_of};
-ghost use Rattle.volume.specs.Telling.{IsMergeNotTold, IsMergeTold, IsNotTold, IsTold, dev_relayered, layers_told};
+ghost use Rattle.volume.specs.DoesMessage.{DoesMessage};
+ghost use Rattle.volume.specs.Telling.{IsMergeNotTold, IsMergeTold, IsNotTold, IsTold};
 ghost use Rattle.volume.specs.Adding.{AddsMerge, OpensNothing};
 
 use crate::Volume;
@@ -70,14 +68,7 @@ impl<B: Layered> Volume<B> {
     /// no copy and no byte changes, and no operation is counted; what is refused changes no layer either. A stop leaves nothing
     /// then but what it might have left before.
     pub fn message(&mut self, dev: Dev, depth: usize, message: &Message) -> Result<Answer, Refusal>
-        ensures ok { IfOk result (λ answer. IsTold (record { contents = B.contents; durable = B.durable; size = B.size; faults = B.fault_count; done = B.done_count }) B.layers dev depth message.now answer self.old self.new) }
-        ensures err { IfErr result (λ refusal. IsNotTold (record { contents = B.contents; durable = B.durable; size = B.size; faults = B.fault_count; done = B.done_count }) B.layers dev depth message.now refusal self.old self.new) }
-        ensures moving { OnOk result ((replied : Option Reply) → moving_of B.contents B.layers replied self.new ≡ dev_relayered dev (layers_told depth message.now) (moving_of B.contents B.layers replied self.old)) }
-        ensures still { OnErr result ((replied : Option Reply) → moving_of B.contents B.layers replied self.new ≡ moving_of B.contents B.layers replied self.old) }
-        ensures books { books_of B.contents B.layers B.size self.new ≡ books_of B.contents B.layers B.size self.old }
-        ensures plain { plain_of B.contents B.layers self.new ≡ plain_of B.contents B.layers self.old }
-        ensures loud { is_loud_in_all B.layers self.new ≡ is_loud_in_all B.layers self.old }
-        ensures opens { OpensNothing B.may_hold B.size self.old self.new }
+        ensures does { DoesMessage B.may_hold (record { contents = B.contents; durable = B.durable; size = B.size; faults = B.fault_count; done = B.done_count }) B.layers dev depth message.now result self.old self.new }
     {
         match dev {
             Dev::Origin => self.tell_origin(depth, message),

@@ -1,13 +1,10 @@
 // The layers of a volume's devices, which know of time.
 ghost use Rattle.std.specs.Prelude.{◌≡◌, ℕ, ◌<◌, length, slice_index_or, Option};
-ghost use Rattle.layers.specs.Ticks.{layers_ticked};
-ghost use Rattle.plain.specs.declared.request.Reply.{Reply};
 ghost use Rattle.snapshot.specs.Kept.{Kept};
-ghost use Rattle.volume.specs.Volumed.{books_of, is_loud_in_all, plain_of};
-ghost use Rattle.volume.specs.Moved.{moving_of};
-ghost use Rattle.volume.specs.Layering.{IsMergeLater, IsSnapLater, IsTicked, moving_relayered};
+ghost use Rattle.volume.specs.DoesTick.{DoesTick};
+ghost use Rattle.volume.specs.Layering.{IsMergeLater, IsSnapLater};
 ghost use Rattle.stop_laws.specs.Firm.{AddsNow};
-ghost use Rattle.volume.specs.Adding.{AddsMerge, OpensNothing};
+ghost use Rattle.volume.specs.Adding.{AddsMerge};
 
 use crate::Volume;
 use layers::Layered;
@@ -41,12 +38,7 @@ impl<B: Layered> Volume<B> {
     /// is counted. A stop leaves nothing then but what it might have left before.
     #[tactic(auto, using(crate::proofs::Relayered::ticked_moving, crate::proofs::Relayered::whole_alike))]
     pub fn tick(&mut self, seconds: u32)
-        ensures ticked { IsTicked (record { contents = B.contents; durable = B.durable; size = B.size; faults = B.fault_count; done = B.done_count }) B.layers seconds self.old self.new }
-        ensures moving { (replied : Option Reply) → moving_of B.contents B.layers replied self.new ≡ moving_relayered (layers_ticked seconds) (moving_of B.contents B.layers replied self.old) }
-        ensures books { books_of B.contents B.layers B.size self.new ≡ books_of B.contents B.layers B.size self.old }
-        ensures plain { plain_of B.contents B.layers self.new ≡ plain_of B.contents B.layers self.old }
-        ensures loud { is_loud_in_all B.layers self.new ≡ is_loud_in_all B.layers self.old }
-        ensures opens { OpensNothing B.may_hold B.size self.old self.new }
+        ensures does { DoesTick B.may_hold (record { contents = B.contents; durable = B.durable; size = B.size; faults = B.fault_count; done = B.done_count }) B.layers seconds self.old self.new }
     {
         self.origin.tick(seconds);
         tick_all(self.snaps.as_mut_slice(), seconds);

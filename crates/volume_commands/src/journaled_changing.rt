@@ -1,8 +1,7 @@
 // What changes a volume between requests.
-ghost use Rattle.std.specs.Prelude.{◌≡◌, ◌≢◌, ◌⊎◌, ◌&&◌, ◌+◌, [], ◌∷◌, IfErr, IfOk, MatchResult, None, OnErr, OnOk, Option, Some, false, true};
+ghost use Rattle.std.specs.Prelude.{◌≡◌, ◌⊎◌, ◌&&◌, ◌+◌, [], ◌∷◌, IfErr, IfOk, MatchResult, None, OnErr, OnOk, Option, Some, false, true};
 ghost use Rattle.sector.specs.declared.refusal.Refusal.TheVariants.{JournalFull, NotMerging};
 ghost use Rattle.device.specs.Layers.{is_loud};
-ghost use Rattle.layers.specs.Ticks.{layers_ticked};
 ghost use Rattle.plain.specs.Plain.{overflow_of};
 ghost use Rattle.plain.specs.declared.request.Reply.{Reply};
 ghost use Rattle.store.specs.Reading.{AreRead};
@@ -10,16 +9,16 @@ ghost use Rattle.settled.specs.Attaching.{attached as attached_by, refused_attac
 ghost use Rattle.settled.specs.Refusals.{is_starved};
 ghost use Rattle.event_machine.specs.Merging.{begun, finished, resumed};
 ghost use Rattle.snapshot.specs.Opening.{shown_array};
+ghost use Rattle.volume.specs.DoesMessage.{DoesMessage};
+ghost use Rattle.volume.specs.DoesTick.{DoesTick};
 ghost use Rattle.volume.specs.Attached.{IsAttachedAs, IsGained, IsRefusedOver, store_of, volume_in};
 ghost use Rattle.volume.specs.Beginning.{IsMergeBegun, IsNotBegun, IsResumed, begin_refusal};
 ghost use Rattle.volume.specs.Fresh.{is_fresh};
 ghost use Rattle.volume.specs.Finishing.{IsTakenOut, finish_refusal};
-ghost use Rattle.volume.specs.Layering.{IsTicked, moving_relayered};
 ghost use Rattle.volume.specs.Leaving.{IsWithout, detach_refusal, is_quiet_of};
 ghost use Rattle.volume.specs.Moved.{moving_of};
 ghost use Rattle.volume.specs.Taking.{IsNotTaken, attach_refusal};
-ghost use Rattle.volume.specs.Telling.{IsNotTold, IsTold, dev_relayered, layers_told};
-ghost use Rattle.volume.specs.Volumed.{books_of, is_loud_in_all, plain_of};
+ghost use Rattle.volume.specs.Volumed.{is_loud_in_all, plain_of};
 ghost use Rattle.journal.specs.declared.entry.Entry.TheVariants.{Attached, Begun, Detached, Finished};
 ghost use Rattle.volume_commands.specs.GoingOn.{GoesOn};
 
@@ -144,22 +143,14 @@ impl<B: Layered> Journaled<B> {
 
     /// Lets so many seconds pass for the layers of every device.
     pub fn tick(&mut self, seconds: u32)
-        ensures ticked { IsTicked (record { contents = B.contents; durable = B.durable; size = B.size; faults = B.fault_count; done = B.done_count }) B.layers seconds self.old self.new }
-        ensures moving { (replied : Option Reply) → moving_of B.contents B.layers replied self.new ≡ moving_relayered (layers_ticked seconds) (moving_of B.contents B.layers replied self.old) }
-        ensures loud { is_loud_in_all B.layers self.new ≡ is_loud_in_all B.layers self.old }
+        ensures does { DoesTick B.may_hold (record { contents = B.contents; durable = B.durable; size = B.size; faults = B.fault_count; done = B.done_count }) B.layers seconds self.old self.new }
     {
         self.volume.tick(seconds)
     }
 
     /// Tells a layer of one of the devices a message.
     pub fn message(&mut self, dev: Dev, depth: usize, message: &Message) -> Result<Answer, Refusal>
-        ensures ok { IfOk result (λ answer. IsTold (record { contents = B.contents; durable = B.durable; size = B.size; faults = B.fault_count; done = B.done_count }) B.layers dev depth message.now answer self.old self.new) }
-        ensures err { IfErr result (λ refusal. IsNotTold (record { contents = B.contents; durable = B.durable; size = B.size; faults = B.fault_count; done = B.done_count }) B.layers dev depth message.now refusal self.old self.new) }
-        ensures moving { OnOk result ((replied : Option Reply) → moving_of B.contents B.layers replied self.new ≡ dev_relayered dev (layers_told depth message.now) (moving_of B.contents B.layers replied self.old)) }
-        ensures still { OnErr result ((replied : Option Reply) → moving_of B.contents B.layers replied self.new ≡ moving_of B.contents B.layers replied self.old) }
-        ensures books { books_of B.contents B.layers B.size self.new ≡ books_of B.contents B.layers B.size self.old }
-        ensures plain { plain_of B.contents B.layers self.new ≡ plain_of B.contents B.layers self.old }
-        ensures loud { is_loud_in_all B.layers self.new ≡ is_loud_in_all B.layers self.old }
+        ensures does { DoesMessage B.may_hold (record { contents = B.contents; durable = B.durable; size = B.size; faults = B.fault_count; done = B.done_count }) B.layers dev depth message.now result self.old self.new }
     {
         self.volume.message(dev, depth, message)
     }

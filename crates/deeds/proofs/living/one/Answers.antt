@@ -9,7 +9,7 @@ use Rattle.volume.proofs.Relayered.{ticked_alike}
 use Rattle.deeds.specs.Lasted.{OpensByDeed}
 use Rattle.deeds.specs.Lived.{IsDone, IsLoudDeed}
 use Rattle.deeds.proofs.Lasts.{attached_opens, begin_opens, by_calls, detached_opens, finished_opens}
-use Rattle.deeds.proofs.Lives.{attach_done, begin_done, step_done, submit_done}
+use Rattle.deeds.proofs.Lives.{attach_done, begin_done, step_done, submit_done, tell_done, tick_done}
 use Rattle.deeds.proofs.living.one.Goals as goal
 
 pub returns-in-Submit-clause-done : goal.returns-in-Submit-clause-done
@@ -46,15 +46,27 @@ returns-in-Step-clause-opens g c = λ loud brought.
     let m : Measures g.row.B.Denot = record { contents = g.B.Block.contents; durable = g.B.Block.durable; size = g.B.Block.size; faults = g.B.Block.fault_count; done = g.B.Block.done_count } in
     rw c.in-Step.is (by_calls g.B.Block.may_hold m g.B.Block.layers (Step c.in-Step.event) (Stepped c.step.result) c.args.volume.now c.step.new.self (opens_stepped g.B.Block.may_hold g.B.Block.contents g.B.Block.layers g.B.Block.size [] c.in-Step.event c.step.result g.B.Block.fault_count g.B.Block.done_count c.args.volume.now c.step.new.self g.met.B.Block.whole g.met.B.Block.holds_now loud c.step.ensures.does))
 
+pub returns-in-Tick-clause-done : goal.returns-in-Tick-clause-done
+returns-in-Tick-clause-done g c =
+    let m : Measures g.row.B.Denot = record { contents = g.B.Block.contents; durable = g.B.Block.durable; size = g.B.Block.size; faults = g.B.Block.fault_count; done = g.B.Block.done_count } in
+    subst (λ (d : Deed g.row.B.Denot). IsDone m g.B.Block.layers d Ticked c.args.volume.now c.tick.new.self) (sym c.in-Tick.is)
+    (tick_done m g.B.Block.layers g.B.Block.may_hold c.in-Tick.seconds c.args.volume.now c.tick.new.self c.tick.ensures.does)
+
 pub returns-in-Tick-clause-opens : goal.returns-in-Tick-clause-opens
 returns-in-Tick-clause-opens g c = λ loud brought.
     let m : Measures g.row.B.Denot = record { contents = g.B.Block.contents; durable = g.B.Block.durable; size = g.B.Block.size; faults = g.B.Block.fault_count; done = g.B.Block.done_count } in
-    rw c.in-Tick.is (by_calls g.B.Block.may_hold m g.B.Block.layers (Tick c.in-Tick.seconds) Ticked c.args.volume.now c.tick.new.self (opens_alike g.B.Block.may_hold g.B.Block.contents g.B.Block.layers g.B.Block.size c.args.volume.now c.tick.new.self (ticked_alike m g.B.Block.layers c.in-Tick.seconds c.args.volume.now c.tick.new.self c.tick.ensures.ticked) c.tick.ensures.opens []))
+    rw c.in-Tick.is (by_calls g.B.Block.may_hold m g.B.Block.layers (Tick c.in-Tick.seconds) Ticked c.args.volume.now c.tick.new.self (opens_alike g.B.Block.may_hold g.B.Block.contents g.B.Block.layers g.B.Block.size c.args.volume.now c.tick.new.self (ticked_alike m g.B.Block.layers c.in-Tick.seconds c.args.volume.now c.tick.new.self c.tick.ensures.does.ticked) c.tick.ensures.does.opens []))
+
+pub returns-in-Tell-clause-done : goal.returns-in-Tell-clause-done
+returns-in-Tell-clause-done g c =
+    let m : Measures g.row.B.Denot = record { contents = g.B.Block.contents; durable = g.B.Block.durable; size = g.B.Block.size; faults = g.B.Block.fault_count; done = g.B.Block.done_count } in
+    subst (λ (d : Deed g.row.B.Denot). IsDone m g.B.Block.layers d (Told c.message.result) c.args.volume.now c.message.new.self) (sym c.in-Tell.is)
+    (tell_done m g.B.Block.layers g.B.Block.may_hold c.in-Tell.dev c.in-Tell.depth c.in-Tell.message c.message.result c.args.volume.now c.message.new.self c.message.ensures.does)
 
 pub returns-in-Tell-clause-opens : goal.returns-in-Tell-clause-opens
 returns-in-Tell-clause-opens g c = λ loud brought.
     let m : Measures g.row.B.Denot = record { contents = g.B.Block.contents; durable = g.B.Block.durable; size = g.B.Block.size; faults = g.B.Block.fault_count; done = g.B.Block.done_count } in
-    rw c.in-Tell.is (by_calls g.B.Block.may_hold m g.B.Block.layers (Tell c.in-Tell.dev c.in-Tell.depth c.in-Tell.message) (Told c.message.result) c.args.volume.now c.message.new.self (opens_told g.B.Block.may_hold m g.B.Block.layers [] c.in-Tell.dev c.in-Tell.depth c.in-Tell.message c.message.result c.args.volume.now c.message.new.self c.message.ensures.ok c.message.ensures.err c.message.ensures.opens))
+    rw c.in-Tell.is (by_calls g.B.Block.may_hold m g.B.Block.layers (Tell c.in-Tell.dev c.in-Tell.depth c.in-Tell.message) (Told c.message.result) c.args.volume.now c.message.new.self (opens_told g.B.Block.may_hold m g.B.Block.layers [] c.in-Tell.dev c.in-Tell.depth c.in-Tell.message c.message.result c.args.volume.now c.message.new.self c.message.ensures.does.ok c.message.ensures.does.err c.message.ensures.does.opens))
 
 pub returns-in-Attach-clause-opens : goal.returns-in-Attach-clause-opens
 returns-in-Attach-clause-opens g c = λ loud brought.

@@ -17,61 +17,61 @@ use Rattle.volume_commands.proofs.telling.tell_origin.Goals as goal
 pub returns-in-Ok-clause-ok : goal.returns-in-Ok-clause-ok
 returns-in-Ok-clause-ok g c =
     let m : Measures g.row.B.Denot = record { contents = g.B.Block.contents; durable = g.B.Block.durable; size = g.B.Block.size; faults = g.B.Block.fault_count; done = g.B.Block.done_count } in
-    origin_told m g.B.Block.layers c.args.depth c.args.message.now c.args.volume.now c.message.new.self c.in-Ok.answer c.in-Ok.ensures.ok
+    origin_told m g.B.Block.layers c.args.depth c.args.message.now c.args.volume.now c.message.new.self c.in-Ok.answer c.in-Ok.ensures.does.ok
 
 pub returns-in-Err-clause-err : goal.returns-in-Err-clause-err
 returns-in-Err-clause-err g c =
     let m : Measures g.row.B.Denot = record { contents = g.B.Block.contents; durable = g.B.Block.durable; size = g.B.Block.size; faults = g.B.Block.fault_count; done = g.B.Block.done_count } in
-    origin_untold m g.B.Block.layers c.args.depth c.args.message.now c.args.volume.now c.message.new.self c.in-Err.refusal c.in-Err.ensures.err
+    origin_untold m g.B.Block.layers c.args.depth c.args.message.now c.args.volume.now c.message.new.self c.in-Err.refusal c.in-Err.ensures.does.err
 
 pub returns-in-Ok-clause-quiet : goal.returns-in-Ok-clause-quiet
 returns-in-Ok-clause-quiet g c =
     let m : Measures g.row.B.Denot = record { contents = g.B.Block.contents; durable = g.B.Block.durable; size = g.B.Block.size; faults = g.B.Block.fault_count; done = g.B.Block.done_count } in
-    quiet_alike g.B.Block.contents g.B.Block.layers g.B.Block.size c.args.volume.now c.message.new.self (told_alike m g.B.Block.layers Origin c.args.depth c.args.message.now c.args.volume.now c.message.new.self c.in-Ok.answer c.in-Ok.ensures.ok)
+    quiet_alike g.B.Block.contents g.B.Block.layers g.B.Block.size c.args.volume.now c.message.new.self (told_alike m g.B.Block.layers Origin c.args.depth c.args.message.now c.args.volume.now c.message.new.self c.in-Ok.answer c.in-Ok.ensures.does.ok)
 
 pub returns-in-Ok-clause-settled : goal.returns-in-Ok-clause-settled
 returns-in-Ok-clause-settled g c =
     let m : Measures g.row.B.Denot = record { contents = g.B.Block.contents; durable = g.B.Block.durable; size = g.B.Block.size; faults = g.B.Block.fault_count; done = g.B.Block.done_count } in
-    alike_settles g.B.Block.contents g.B.Block.layers g.B.Block.size c.args.volume.now c.message.new.self (told_alike m g.B.Block.layers Origin c.args.depth c.args.message.now c.args.volume.now c.message.new.self c.in-Ok.answer c.in-Ok.ensures.ok)
+    alike_settles g.B.Block.contents g.B.Block.layers g.B.Block.size c.args.volume.now c.message.new.self (told_alike m g.B.Block.layers Origin c.args.depth c.args.message.now c.args.volume.now c.message.new.self c.in-Ok.answer c.in-Ok.ensures.does.ok)
 
 pub returns-in-Ok-clause-kept : goal.returns-in-Ok-clause-kept
 returns-in-Ok-clause-kept g c =
     let m : Measures g.row.B.Denot = record { contents = g.B.Block.contents; durable = g.B.Block.durable; size = g.B.Block.size; faults = g.B.Block.fault_count; done = g.B.Block.done_count } in
-    alike_kept g.B.Block.contents g.B.Block.layers g.B.Block.size c.args.volume.now c.message.new.self (told_alike m g.B.Block.layers Origin c.args.depth c.args.message.now c.args.volume.now c.message.new.self c.in-Ok.answer c.in-Ok.ensures.ok)
+    alike_kept g.B.Block.contents g.B.Block.layers g.B.Block.size c.args.volume.now c.message.new.self (told_alike m g.B.Block.layers Origin c.args.depth c.args.message.now c.args.volume.now c.message.new.self c.in-Ok.answer c.in-Ok.ensures.does.ok)
 
 pub returns-in-Ok-clause-requests : goal.returns-in-Ok-clause-requests
 returns-in-Ok-clause-requests g c =
     let m : Measures g.row.B.Denot = record { contents = g.B.Block.contents; durable = g.B.Block.durable; size = g.B.Block.size; faults = g.B.Block.fault_count; done = g.B.Block.done_count } in
-    alike_requests g.B.Block.contents g.B.Block.layers g.B.Block.size c.args.volume.now c.message.new.self (told_alike m g.B.Block.layers Origin c.args.depth c.args.message.now c.args.volume.now c.message.new.self c.in-Ok.answer c.in-Ok.ensures.ok)
+    alike_requests g.B.Block.contents g.B.Block.layers g.B.Block.size c.args.volume.now c.message.new.self (told_alike m g.B.Block.layers Origin c.args.depth c.args.message.now c.args.volume.now c.message.new.self c.in-Ok.answer c.in-Ok.ensures.does.ok)
 
 pub returns-in-Err-clause-quiet : goal.returns-in-Err-clause-quiet
 returns-in-Err-clause-quiet g c =
     let m : Measures g.row.B.Denot = record { contents = g.B.Block.contents; durable = g.B.Block.durable; size = g.B.Block.size; faults = g.B.Block.fault_count; done = g.B.Block.done_count } in
-    quiet_alike g.B.Block.contents g.B.Block.layers g.B.Block.size c.args.volume.now c.message.new.self (untold_alike m g.B.Block.layers Origin c.args.depth c.args.message.now c.args.volume.now c.message.new.self c.in-Err.refusal c.in-Err.ensures.err)
+    quiet_alike g.B.Block.contents g.B.Block.layers g.B.Block.size c.args.volume.now c.message.new.self (untold_alike m g.B.Block.layers Origin c.args.depth c.args.message.now c.args.volume.now c.message.new.self c.in-Err.refusal c.in-Err.ensures.does.err)
 
 pub returns-in-Err-clause-settled : goal.returns-in-Err-clause-settled
 returns-in-Err-clause-settled g c =
     let m : Measures g.row.B.Denot = record { contents = g.B.Block.contents; durable = g.B.Block.durable; size = g.B.Block.size; faults = g.B.Block.fault_count; done = g.B.Block.done_count } in
-    alike_settles g.B.Block.contents g.B.Block.layers g.B.Block.size c.args.volume.now c.message.new.self (untold_alike m g.B.Block.layers Origin c.args.depth c.args.message.now c.args.volume.now c.message.new.self c.in-Err.refusal c.in-Err.ensures.err)
+    alike_settles g.B.Block.contents g.B.Block.layers g.B.Block.size c.args.volume.now c.message.new.self (untold_alike m g.B.Block.layers Origin c.args.depth c.args.message.now c.args.volume.now c.message.new.self c.in-Err.refusal c.in-Err.ensures.does.err)
 
 pub returns-in-Err-clause-kept : goal.returns-in-Err-clause-kept
 returns-in-Err-clause-kept g c =
     let m : Measures g.row.B.Denot = record { contents = g.B.Block.contents; durable = g.B.Block.durable; size = g.B.Block.size; faults = g.B.Block.fault_count; done = g.B.Block.done_count } in
-    alike_kept g.B.Block.contents g.B.Block.layers g.B.Block.size c.args.volume.now c.message.new.self (untold_alike m g.B.Block.layers Origin c.args.depth c.args.message.now c.args.volume.now c.message.new.self c.in-Err.refusal c.in-Err.ensures.err)
+    alike_kept g.B.Block.contents g.B.Block.layers g.B.Block.size c.args.volume.now c.message.new.self (untold_alike m g.B.Block.layers Origin c.args.depth c.args.message.now c.args.volume.now c.message.new.self c.in-Err.refusal c.in-Err.ensures.does.err)
 
 pub returns-in-Err-clause-requests : goal.returns-in-Err-clause-requests
 returns-in-Err-clause-requests g c =
     let m : Measures g.row.B.Denot = record { contents = g.B.Block.contents; durable = g.B.Block.durable; size = g.B.Block.size; faults = g.B.Block.fault_count; done = g.B.Block.done_count } in
-    alike_requests g.B.Block.contents g.B.Block.layers g.B.Block.size c.args.volume.now c.message.new.self (untold_alike m g.B.Block.layers Origin c.args.depth c.args.message.now c.args.volume.now c.message.new.self c.in-Err.refusal c.in-Err.ensures.err)
+    alike_requests g.B.Block.contents g.B.Block.layers g.B.Block.size c.args.volume.now c.message.new.self (untold_alike m g.B.Block.layers Origin c.args.depth c.args.message.now c.args.volume.now c.message.new.self c.in-Err.refusal c.in-Err.ensures.does.err)
 
 pub returns-in-Ok-clause-flying : goal.returns-in-Ok-clause-flying
-returns-in-Ok-clause-flying g c = dev_stays Origin (layers_told c.args.depth c.args.message.now) (moving_of g.B.Block.contents g.B.Block.layers None c.args.volume.now) (moving_of g.B.Block.contents g.B.Block.layers None c.message.new.self) (c.in-Ok.ensures.moving None)
+returns-in-Ok-clause-flying g c = dev_stays Origin (layers_told c.args.depth c.args.message.now) (moving_of g.B.Block.contents g.B.Block.layers None c.args.volume.now) (moving_of g.B.Block.contents g.B.Block.layers None c.message.new.self) (c.in-Ok.ensures.does.moving None)
 
 pub returns-in-Err-clause-flying : goal.returns-in-Err-clause-flying
-returns-in-Err-clause-flying g c = ap without_devices (c.in-Err.ensures.still None)
+returns-in-Err-clause-flying g c = ap without_devices (c.in-Err.ensures.does.still None)
 
 pub returns-in-Ok-clause-merging : goal.returns-in-Ok-clause-merging
-returns-in-Ok-clause-merging g c = ap (λ (m : Moving). merge_in m.merge) (c.in-Ok.ensures.moving None)
+returns-in-Ok-clause-merging g c = ap (λ (m : Moving). merge_in m.merge) (c.in-Ok.ensures.does.moving None)
 
 pub returns-in-Err-clause-merging : goal.returns-in-Err-clause-merging
-returns-in-Err-clause-merging g c = ap (λ (m : Moving). merge_in m.merge) (c.in-Err.ensures.still None)
+returns-in-Err-clause-merging g c = ap (λ (m : Moving). merge_in m.merge) (c.in-Err.ensures.does.still None)

@@ -6,9 +6,9 @@ use Rattle.journal.proofs.audit.Audit.message.Goals as goal
 
 pub invariant_of-self : goal.invariant_of-self
 invariant_of-self g c = record {
-  audit = quiet_keeps _ _ c.self.inside.loud _ _ _ c.self.invariant.audit c.message.ensures.loud c.message.ensures.plain;
-  bounded = quiet_bounds _ _ c.self.inside.loud _ _ _ _ c.self.invariant.bounded (told_given (record { contents = g.B.Block.contents; durable = g.B.Block.durable; size = g.B.Block.size; faults = g.B.Block.fault_count; done = g.B.Block.done_count }) g.B.Block.layers c.args.dev c.args.depth c.args.message.now c.message.result _ _ c.message.ensures.ok c.message.ensures.err) (λ on. on) (ap (λ (x : Plain). length x.origin) c.message.ensures.plain) (ap (λ (x : Plain). x.requests) c.message.ensures.plain);
+  audit = quiet_keeps _ _ c.self.inside.loud _ _ _ c.self.invariant.audit c.message.ensures.does.loud c.message.ensures.does.plain;
+  bounded = quiet_bounds _ _ c.self.inside.loud _ _ _ _ c.self.invariant.bounded (told_given (record { contents = g.B.Block.contents; durable = g.B.Block.durable; size = g.B.Block.size; faults = g.B.Block.fault_count; done = g.B.Block.done_count }) g.B.Block.layers c.args.dev c.args.depth c.args.message.now c.message.result _ _ c.message.ensures.does.ok c.message.ensures.does.err) (λ on. on) (ap (λ (x : Plain). length x.origin) c.message.ensures.does.plain) (ap (λ (x : Plain). x.requests) c.message.ensures.does.plain);
 }
 
-pub returns-clause-still : goal.returns-clause-still
-returns-clause-still g c = rw (← c.self.view_is) c.message.ensures.still
+pub returns-clause-does : goal.returns-clause-does
+returns-clause-does g c = rw (← c.self.view_is) c.message.ensures.does

@@ -54,103 +54,8 @@ invariant_of-self g c = record {
       rw (there) (alike_lasts g.B.Block.may_hold g.B.Block.contents g.B.Block.layers g.B.Block.size g.met.B.Block.whole g.met.B.Block.holds_now v c.self.invariant.whole c.self.invariant.lasting w (ticked_alike m g.B.Block.layers c.args.seconds v w ticked) (record { origin = adds_none _ _ _ c.tick.ensures.stop; snaps = added; merge = c.tick_merge.ensures.adds }));
 }
 
-pub returns-clause-ticked : goal.returns-clause-ticked
-returns-clause-ticked g c =
-    let m : Measures g.row.B.Denot = record { contents = g.B.Block.contents; durable = g.B.Block.durable; size = g.B.Block.size; faults = g.B.Block.fault_count; done = g.B.Block.done_count } in
-    let v : Volumed g.row.B.Denot = record { origin = c.self.inside.origin; snaps = c.self.inside.snaps.items; merge = c.self.inside.merge; flights = c.self.inside.flights.items; requests = c.self.inside.requests; copies = c.self.inside.copies; attached = c.self.inside.attached } in
-    let w : Volumed g.row.B.Denot = record v { origin = c.tick.new.self; snaps = c.tick_all.new.snaps; merge = c.tick_merge.new.merge } in
-    let len : length c.tick_all.new.snaps ≡ c.self.inside.snaps.len = c.tick_all.ensures.count ∙ c.as_mut_slice.ensures.len in
-    let whole_len : length c.tick_all.new.snaps ≡ length c.self.inside.snaps.items = c.tick_all.ensures.count ∙ ap length c.as_mut_slice.ensures.value in
-    let there = back c.self.inside.snaps.len c.tick_all.new.snaps c.self.inside.snaps.items len in
-    let each : (k : ℕ) (d : Kept g.row.B.Denot) → k < length c.self.inside.snaps.items → IsSnapLater m g.B.Block.layers c.args.seconds (get_or c.self.inside.snaps.items k d) (get_or c.tick_all.new.snaps k d) =
-    subst (λ (xs : List (Kept g.row.B.Denot)). (k : ℕ) (d : Kept g.row.B.Denot) → k < length xs → IsSnapLater m g.B.Block.layers c.args.seconds (get_or xs k d) (get_or c.tick_all.new.snaps k d)) c.as_mut_slice.ensures.value c.tick_all.ensures.each in
-    let ticked : IsTicked m g.B.Block.layers c.args.seconds v w = record {
-      origin = record { moved = c.tick.ensures.layers; rest = record { contents_are = c.tick.ensures.contents; durable_are = c.tick.ensures.durable; size_is = c.tick.ensures.size; faults_are = c.tick.ensures.faults; done_are = c.tick.ensures.done } };
-      count = whole_len;
-      snaps = each;
-      merge = c.tick_merge.ensures.later;
-      becomes = refl;
-    } in
-    rw (← c.self.view_is, there) ticked
-
-pub returns-clause-moving : goal.returns-clause-moving
-returns-clause-moving g c =
-    let m : Measures g.row.B.Denot = record { contents = g.B.Block.contents; durable = g.B.Block.durable; size = g.B.Block.size; faults = g.B.Block.fault_count; done = g.B.Block.done_count } in
-    let v : Volumed g.row.B.Denot = record { origin = c.self.inside.origin; snaps = c.self.inside.snaps.items; merge = c.self.inside.merge; flights = c.self.inside.flights.items; requests = c.self.inside.requests; copies = c.self.inside.copies; attached = c.self.inside.attached } in
-    let w : Volumed g.row.B.Denot = record v { origin = c.tick.new.self; snaps = c.tick_all.new.snaps; merge = c.tick_merge.new.merge } in
-    let len : length c.tick_all.new.snaps ≡ c.self.inside.snaps.len = c.tick_all.ensures.count ∙ c.as_mut_slice.ensures.len in
-    let whole_len : length c.tick_all.new.snaps ≡ length c.self.inside.snaps.items = c.tick_all.ensures.count ∙ ap length c.as_mut_slice.ensures.value in
-    let there = back c.self.inside.snaps.len c.tick_all.new.snaps c.self.inside.snaps.items len in
-    let each : (k : ℕ) (d : Kept g.row.B.Denot) → k < length c.self.inside.snaps.items → IsSnapLater m g.B.Block.layers c.args.seconds (get_or c.self.inside.snaps.items k d) (get_or c.tick_all.new.snaps k d) =
-    subst (λ (xs : List (Kept g.row.B.Denot)). (k : ℕ) (d : Kept g.row.B.Denot) → k < length xs → IsSnapLater m g.B.Block.layers c.args.seconds (get_or xs k d) (get_or c.tick_all.new.snaps k d)) c.as_mut_slice.ensures.value c.tick_all.ensures.each in
-    let ticked : IsTicked m g.B.Block.layers c.args.seconds v w = record {
-      origin = record { moved = c.tick.ensures.layers; rest = record { contents_are = c.tick.ensures.contents; durable_are = c.tick.ensures.durable; size_is = c.tick.ensures.size; faults_are = c.tick.ensures.faults; done_are = c.tick.ensures.done } };
-      count = whole_len;
-      snaps = each;
-      merge = c.tick_merge.ensures.later;
-      becomes = refl;
-    } in
-    rw (← c.self.view_is, there) (λ (replied : Option Reply). ticked_moving m g.B.Block.layers c.args.seconds replied v w ticked)
-
-pub returns-clause-books : goal.returns-clause-books
-returns-clause-books g c =
-    let m : Measures g.row.B.Denot = record { contents = g.B.Block.contents; durable = g.B.Block.durable; size = g.B.Block.size; faults = g.B.Block.fault_count; done = g.B.Block.done_count } in
-    let v : Volumed g.row.B.Denot = record { origin = c.self.inside.origin; snaps = c.self.inside.snaps.items; merge = c.self.inside.merge; flights = c.self.inside.flights.items; requests = c.self.inside.requests; copies = c.self.inside.copies; attached = c.self.inside.attached } in
-    let w : Volumed g.row.B.Denot = record v { origin = c.tick.new.self; snaps = c.tick_all.new.snaps; merge = c.tick_merge.new.merge } in
-    let len : length c.tick_all.new.snaps ≡ c.self.inside.snaps.len = c.tick_all.ensures.count ∙ c.as_mut_slice.ensures.len in
-    let whole_len : length c.tick_all.new.snaps ≡ length c.self.inside.snaps.items = c.tick_all.ensures.count ∙ ap length c.as_mut_slice.ensures.value in
-    let there = back c.self.inside.snaps.len c.tick_all.new.snaps c.self.inside.snaps.items len in
-    let each : (k : ℕ) (d : Kept g.row.B.Denot) → k < length c.self.inside.snaps.items → IsSnapLater m g.B.Block.layers c.args.seconds (get_or c.self.inside.snaps.items k d) (get_or c.tick_all.new.snaps k d) =
-    subst (λ (xs : List (Kept g.row.B.Denot)). (k : ℕ) (d : Kept g.row.B.Denot) → k < length xs → IsSnapLater m g.B.Block.layers c.args.seconds (get_or xs k d) (get_or c.tick_all.new.snaps k d)) c.as_mut_slice.ensures.value c.tick_all.ensures.each in
-    let ticked : IsTicked m g.B.Block.layers c.args.seconds v w = record {
-      origin = record { moved = c.tick.ensures.layers; rest = record { contents_are = c.tick.ensures.contents; durable_are = c.tick.ensures.durable; size_is = c.tick.ensures.size; faults_are = c.tick.ensures.faults; done_are = c.tick.ensures.done } };
-      count = whole_len;
-      snaps = each;
-      merge = c.tick_merge.ensures.later;
-      becomes = refl;
-    } in
-    rw (← c.self.view_is, there) (books_of_alike g.B.Block.contents g.B.Block.layers g.B.Block.size v w (ticked_alike m g.B.Block.layers c.args.seconds v w ticked))
-
-pub returns-clause-plain : goal.returns-clause-plain
-returns-clause-plain g c =
-    let m : Measures g.row.B.Denot = record { contents = g.B.Block.contents; durable = g.B.Block.durable; size = g.B.Block.size; faults = g.B.Block.fault_count; done = g.B.Block.done_count } in
-    let v : Volumed g.row.B.Denot = record { origin = c.self.inside.origin; snaps = c.self.inside.snaps.items; merge = c.self.inside.merge; flights = c.self.inside.flights.items; requests = c.self.inside.requests; copies = c.self.inside.copies; attached = c.self.inside.attached } in
-    let w : Volumed g.row.B.Denot = record v { origin = c.tick.new.self; snaps = c.tick_all.new.snaps; merge = c.tick_merge.new.merge } in
-    let len : length c.tick_all.new.snaps ≡ c.self.inside.snaps.len = c.tick_all.ensures.count ∙ c.as_mut_slice.ensures.len in
-    let whole_len : length c.tick_all.new.snaps ≡ length c.self.inside.snaps.items = c.tick_all.ensures.count ∙ ap length c.as_mut_slice.ensures.value in
-    let there = back c.self.inside.snaps.len c.tick_all.new.snaps c.self.inside.snaps.items len in
-    let each : (k : ℕ) (d : Kept g.row.B.Denot) → k < length c.self.inside.snaps.items → IsSnapLater m g.B.Block.layers c.args.seconds (get_or c.self.inside.snaps.items k d) (get_or c.tick_all.new.snaps k d) =
-    subst (λ (xs : List (Kept g.row.B.Denot)). (k : ℕ) (d : Kept g.row.B.Denot) → k < length xs → IsSnapLater m g.B.Block.layers c.args.seconds (get_or xs k d) (get_or c.tick_all.new.snaps k d)) c.as_mut_slice.ensures.value c.tick_all.ensures.each in
-    let ticked : IsTicked m g.B.Block.layers c.args.seconds v w = record {
-      origin = record { moved = c.tick.ensures.layers; rest = record { contents_are = c.tick.ensures.contents; durable_are = c.tick.ensures.durable; size_is = c.tick.ensures.size; faults_are = c.tick.ensures.faults; done_are = c.tick.ensures.done } };
-      count = whole_len;
-      snaps = each;
-      merge = c.tick_merge.ensures.later;
-      becomes = refl;
-    } in
-    rw (← c.self.view_is, there) (plain_alike g.B.Block.contents g.B.Block.layers g.B.Block.size v w (ticked_alike m g.B.Block.layers c.args.seconds v w ticked))
-
-pub returns-clause-loud : goal.returns-clause-loud
-returns-clause-loud g c =
-    let m : Measures g.row.B.Denot = record { contents = g.B.Block.contents; durable = g.B.Block.durable; size = g.B.Block.size; faults = g.B.Block.fault_count; done = g.B.Block.done_count } in
-    let v : Volumed g.row.B.Denot = record { origin = c.self.inside.origin; snaps = c.self.inside.snaps.items; merge = c.self.inside.merge; flights = c.self.inside.flights.items; requests = c.self.inside.requests; copies = c.self.inside.copies; attached = c.self.inside.attached } in
-    let w : Volumed g.row.B.Denot = record v { origin = c.tick.new.self; snaps = c.tick_all.new.snaps; merge = c.tick_merge.new.merge } in
-    let len : length c.tick_all.new.snaps ≡ c.self.inside.snaps.len = c.tick_all.ensures.count ∙ c.as_mut_slice.ensures.len in
-    let whole_len : length c.tick_all.new.snaps ≡ length c.self.inside.snaps.items = c.tick_all.ensures.count ∙ ap length c.as_mut_slice.ensures.value in
-    let there = back c.self.inside.snaps.len c.tick_all.new.snaps c.self.inside.snaps.items len in
-    let each : (k : ℕ) (d : Kept g.row.B.Denot) → k < length c.self.inside.snaps.items → IsSnapLater m g.B.Block.layers c.args.seconds (get_or c.self.inside.snaps.items k d) (get_or c.tick_all.new.snaps k d) =
-    subst (λ (xs : List (Kept g.row.B.Denot)). (k : ℕ) (d : Kept g.row.B.Denot) → k < length xs → IsSnapLater m g.B.Block.layers c.args.seconds (get_or xs k d) (get_or c.tick_all.new.snaps k d)) c.as_mut_slice.ensures.value c.tick_all.ensures.each in
-    let ticked : IsTicked m g.B.Block.layers c.args.seconds v w = record {
-      origin = record { moved = c.tick.ensures.layers; rest = record { contents_are = c.tick.ensures.contents; durable_are = c.tick.ensures.durable; size_is = c.tick.ensures.size; faults_are = c.tick.ensures.faults; done_are = c.tick.ensures.done } };
-      count = whole_len;
-      snaps = each;
-      merge = c.tick_merge.ensures.later;
-      becomes = refl;
-    } in
-    rw (← c.self.view_is, there) (loud_alike g.B.Block.contents g.B.Block.layers g.B.Block.size v w (ticked_alike m g.B.Block.layers c.args.seconds v w ticked))
-
-pub returns-clause-opens : goal.returns-clause-opens
-returns-clause-opens g c =
+pub returns : goal.returns
+returns g c =
     let m : Measures g.row.B.Denot = record { contents = g.B.Block.contents; durable = g.B.Block.durable; size = g.B.Block.size; faults = g.B.Block.fault_count; done = g.B.Block.done_count } in
     let v : Volumed g.row.B.Denot = record { origin = c.self.inside.origin; snaps = c.self.inside.snaps.items; merge = c.self.inside.merge; flights = c.self.inside.flights.items; requests = c.self.inside.requests; copies = c.self.inside.copies; attached = c.self.inside.attached } in
     let w : Volumed g.row.B.Denot = record v { origin = c.tick.new.self; snaps = c.tick_all.new.snaps; merge = c.tick_merge.new.merge } in
@@ -168,4 +73,13 @@ returns-clause-opens g c =
     } in
     let added : (k : ℕ) (d : Kept g.row.B.Denot) → k < length c.self.inside.snaps.items → AddsNow (g.B.Block.may_hold (get_or c.self.inside.snaps.items k d).device) (g.B.Block.may_hold (get_or c.tick_all.new.snaps k d).device) (g.B.Block.contents (get_or c.tick_all.new.snaps k d).device) =
     subst (λ (xs : List (Kept g.row.B.Denot)). (k : ℕ) (d : Kept g.row.B.Denot) → k < length xs → AddsNow (g.B.Block.may_hold (get_or xs k d).device) (g.B.Block.may_hold (get_or c.tick_all.new.snaps k d).device) (g.B.Block.contents (get_or c.tick_all.new.snaps k d).device)) c.as_mut_slice.ensures.value c.tick_all.ensures.adds in
-    rw (← c.self.view_is, there) (alike_opens g.B.Block.may_hold g.B.Block.contents g.B.Block.layers g.B.Block.size g.met.B.Block.whole g.met.B.Block.holds_now v w (ticked_alike m g.B.Block.layers c.args.seconds v w ticked) (record { origin = adds_none _ _ _ c.tick.ensures.stop; snaps = added; merge = c.tick_merge.ensures.adds }))
+    rw (← c.self.view_is, there) (record {
+      does = record {
+        ticked = ticked;
+        moving = (λ (replied : Option Reply). ticked_moving m g.B.Block.layers c.args.seconds replied v w ticked);
+        books = (books_of_alike g.B.Block.contents g.B.Block.layers g.B.Block.size v w (ticked_alike m g.B.Block.layers c.args.seconds v w ticked));
+        plain = (plain_alike g.B.Block.contents g.B.Block.layers g.B.Block.size v w (ticked_alike m g.B.Block.layers c.args.seconds v w ticked));
+        loud = (loud_alike g.B.Block.contents g.B.Block.layers g.B.Block.size v w (ticked_alike m g.B.Block.layers c.args.seconds v w ticked));
+        opens = (alike_opens g.B.Block.may_hold g.B.Block.contents g.B.Block.layers g.B.Block.size g.met.B.Block.whole g.met.B.Block.holds_now v w (ticked_alike m g.B.Block.layers c.args.seconds v w ticked) (record { origin = adds_none _ _ _ c.tick.ensures.stop; snaps = added; merge = c.tick_merge.ensures.adds }));
+      };
+    })

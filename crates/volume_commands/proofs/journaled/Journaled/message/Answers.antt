@@ -3,7 +3,7 @@ use Rattle.volume_commands.proofs.Fewer.{unseen_have}
 use Rattle.volume_commands.proofs.journaled.Journaled.message.Goals as goal
 
 pub invariant_of-self : goal.invariant_of-self
-invariant_of-self g c = unseen_have c.self.inside.volume c.message.new.self g.B.Block.contents g.B.Block.layers c.self.inside.places c.message.ensures.plain c.self.invariant
+invariant_of-self g c = unseen_have c.self.inside.volume c.message.new.self g.B.Block.contents g.B.Block.layers c.self.inside.places c.message.ensures.does.plain c.self.invariant
 
-pub returns-clause-still : goal.returns-clause-still
-returns-clause-still g c = rw (← c.self.view_is) c.message.ensures.still
+pub returns : goal.returns
+returns g c = rw (← c.self.view_is) (record { does = c.message.ensures.does })

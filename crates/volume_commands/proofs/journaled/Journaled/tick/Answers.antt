@@ -3,7 +3,7 @@ use Rattle.volume_commands.proofs.Fewer.{unseen_have}
 use Rattle.volume_commands.proofs.journaled.Journaled.tick.Goals as goal
 
 pub invariant_of-self : goal.invariant_of-self
-invariant_of-self g c = unseen_have c.self.inside.volume c.tick.new.self g.B.Block.contents g.B.Block.layers c.self.inside.places c.tick.ensures.plain c.self.invariant
+invariant_of-self g c = unseen_have c.self.inside.volume c.tick.new.self g.B.Block.contents g.B.Block.layers c.self.inside.places c.tick.ensures.does.plain c.self.invariant
 
-pub returns-clause-moving : goal.returns-clause-moving
-returns-clause-moving g c = rw (← c.self.view_is) c.tick.ensures.moving
+pub returns : goal.returns
+returns g c = rw (← c.self.view_is) (record { does = c.tick.ensures.does })
