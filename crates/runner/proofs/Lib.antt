@@ -18,3 +18,4 @@ pub mod Orders
 pub mod BlockLemmas
 pub mod SessionLemmas
 pub mod UndoingLemmas
+pub mod TracedLemmas

@@ -1,12 +1,12 @@
 // A whole text of lines, and behind each a trace of what is in flight, to a writer of its own.
-ghost use Rattle.std.specs.Prelude.{◌≡◌, ◌≤◌, true, List, IfOk, IfErr, IfSome};
+ghost use Rattle.std.specs.Prelude.{◌≡◌, ◌≤◌, ◌++◌, true, List, IfOk, IfErr, IfSome};
 ghost use Rattle.std.specs.Io.KnownBytes.{Appends};
 ghost use Rattle.words.specs.Lines.{lines_of};
 ghost use Rattle.reply.specs.declared.Reply.{Reply};
 ghost use Rattle.runner.specs.Counts.{summary_of};
 ghost use Rattle.runner.specs.Exit.{IsEarly, IsWriters};
 ghost use Rattle.runner.specs.Numbered.{IsTextAnswered, IsTextAnsweredTo, all_of, numbered_from, numbered_output_of};
-ghost use Rattle.runner.specs.Output.{output_of, printed, MayAnswer, empty};
+ghost use Rattle.runner.specs.Output.{output_of, replies_of, printed, MayAnswer, empty};
 ghost use Rattle.runner.specs.Runs.{IsTextBegun, IsTextDone};
 ghost use Rattle.runner.specs.Sound.{is_sound_text};
 
@@ -38,12 +38,18 @@ pub fn run_traced<T: Threads + Wait + Sync, R: Read, W: Write, X: Write>(
     // What `run` promises of what is printed.
     ensures exact { IfOk result (λ summary. IfSome (R.remaining reader.old) (λ text. is_sound_text text ≡ true
         → summary.no_memory ≡ 0 → summary.journal_full ≡ 0 → Appends (W.contents writer.old) (W.contents writer.new) (output_of text))) }
+    ensures counts { IfOk result (λ summary. IfSome (R.remaining reader.old) (λ text. is_sound_text text ≡ true
+        → summary.no_memory ≡ 0 → summary.journal_full ≡ 0 → summary ≡ summary_of (replies_of text))) }
     ensures any { IfOk result (λ summary. (replies : List Reply)
         × Appends (W.contents writer.old) (W.contents writer.new) (printed replies) × (summary ≡ summary_of replies)
         × IfSome (R.remaining reader.old) (λ text. is_sound_text text ≡ true → MayAnswer empty (lines_of text) replies)) }
     ensures lines { IfOk result (λ summary. (replies : List Reply)
         × Appends (W.contents writer.old) (W.contents writer.new) (printed replies) × (summary ≡ summary_of replies)
         × IfSome (R.remaining reader.old) (λ text. IsTextDone text replies)) }
+    ensures early { IfErr result (λ e. (IsWriters e → ⊥) → (replies : List Reply)
+        × Appends (W.contents writer.old) (W.contents writer.new) (printed replies)
+        × IfSome (R.remaining reader.old) (λ text. is_sound_text text ≡ true
+        → (rest : List Reply) × MayAnswer empty (lines_of text) (replies ++ rest))) }
     ensures begun { IfErr result (λ e. (IsWriters e → ⊥) → (replies : List Reply)
         × Appends (W.contents writer.old) (W.contents writer.new) (printed replies)
         × IfSome (R.remaining reader.old) (λ text. IsTextBegun text replies)) }

@@ -127,3 +127,4 @@ pub mod AskedFor
 pub mod AddedUp
 pub mod Limits
 pub mod Behind
+pub mod DueLooks

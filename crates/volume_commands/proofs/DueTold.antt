@@ -1,7 +1,9 @@
 -- An event that is due is one of those that there are, so that the list of those that are due has all of them.
 use Rattle.std.proofs.Common.{◌≡◌, ℕ, zero, suc, ◌<◌, ◌⊎◌, Bool, true, false, List, [], ◌∷◌, ◌++◌, Option, Some, None, length, get_or, map, cond, refl, sym, ◌∙◌, ap, subst, inl, inr, arith, nat_eq, if◌then◌else◌}
-use Rattle.std.specs.Prelude.{◌||◌, ◌&&◌, ◌==◌, All, Contains, filter}
+use Rattle.std.specs.Prelude.{◌||◌, ◌&&◌, ◌==◌, All, Contains, filter, IfOk, Result, Ok, Err}
+use Rattle.std.specs.Global.{Vec}
 use Rattle.std.specs.List.{flat_map, list_any}
+use Rattle.std.specs.declared.alloc.AllocError.{AllocError}
 use Rattle.std.proofs.lemmas.Bool.{cases_Bool, eqb-true, false≢true}
 use Rattle.std.proofs.lemmas.List.Elements.{All-contains, Contains-append_cases, Contains-append_left, Contains-append_right, Contains-push_cases}
 use Rattle.std.proofs.lemmas.List.Filters.{filter-append, filter_passes}
@@ -185,3 +187,8 @@ module _ {B : Type 0} (contents : B → List ℕ) (layers : B → List Layer) wh
     due = λ event at. All-contains (λ e. is_due_of contents layers v e ≡ true) (due_among contents layers v) event (filter_passes (is_due_of contents layers v) (candidates_of v)) at;
     all = λ event due. stays (is_due_of contents layers v) event (candidates_of v) due (among v event due);
   }
+
+  -- a list of them has all
+  pub told_all : (v : Volumed B) (r : Result (Vec Event) AllocError) → IfOk r (λ events. events.items ≡ due_among contents layers v) → IfOk r (λ events. IsAllDue contents layers v events.items)
+  told_all v (Ok events) is = subst (IsAllDue contents layers v) (sym is) (all_due v)
+  told_all v (Err e) is = tt

@@ -1,5 +1,5 @@
 // What is in flight in a volume, and every event that is due: looks, for a trace.
-ghost use Rattle.std.specs.Prelude.{◌≡◌, ◌++◌, ◌≤◌, OnOk, IfOk, length};
+ghost use Rattle.std.specs.Prelude.{◌≡◌, ◌++◌, ◌≤◌, OnOk, IfOk, filter, length};
 ghost use Rattle.std.specs.List.{flat_map};
 ghost use Rattle.volume.specs.Volumed.{is_due_of};
 ghost use Rattle.volume_commands.specs.Trace.{IsAllDue, candidates_of, due_among, events_of_copies, events_of_flights, events_of_marks, events_of_merge, events_of_snap};
@@ -112,19 +112,27 @@ impl<B: Layered> Journaled<B> {
         Ok(events)
     }
 
+    /// Those of some events that are due.
+    fn due_of(&self, alloc: Global, events: &[Event]) -> Result<Vec<Event>, AllocError>
+        ensures { IfOk result (λ due. due.items ≡ filter (is_due_of B.contents B.layers self.now) events.now) }
+    {
+        let mut due = Vec::new(alloc);
+        for event in events {
+            if self.is_due(*event) {
+                due.push(*event)?;
+            }
+        }
+        Ok(due)
+    }
+
     /// The events that are due, all of them: those of each snapshot, in order of attaching, then of the requests, in the order in
     /// which they were accepted, and at last of the merge.
     pub fn due_events(&self, alloc: Global) -> Result<Vec<Event>, AllocError>
         ensures are { IfOk result (λ events. events.items ≡ due_among B.contents B.layers self.now) }
         ensures all { IfOk result (λ events. IsAllDue B.contents B.layers self.now events.items) }
     {
-        let mut due = Vec::new(alloc);
-        for event in &self.candidates(alloc)? {
-            if self.is_due(*event) {
-                due.push(*event)?;
-            }
-        }
-        Ok(due)
+        let events = self.candidates(alloc)?;
+        self.due_of(alloc, &events)
     }
 }
 

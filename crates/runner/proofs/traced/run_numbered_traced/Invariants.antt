@@ -1,0 +1,12 @@
+use Rattle.std.proofs.Common.{◌<◌, vec_capacity}
+use Rattle.words.specs.Lines.{left}
+use Rattle.runner.proofs.NumberedLemmas.{FollowsEach}
+use Rattle.runner.proofs.RunLemmas.{HasTaken}
+use Rattle.runner.proofs.traced.run_numbered_traced.Given as goal
+
+abbrev pub invariant-loop-lines : goal.invariant-loop-lines
+invariant-loop-lines g l = record {
+  room : 65536 < vec_capacity l.buffer.line;
+  follows : FollowsEach (g.R.Read.remaining l.fn.reader) (left l.buffer.ahead (g.R.Read.remaining l.reader)) (g.W.Write.contents l.fn.writer) (g.W.Write.contents l.writer) l.session l.lines;
+  taken : HasTaken (g.R.Read.remaining l.fn.reader) (left l.buffer.ahead (g.R.Read.remaining l.reader)) l.lines;
+}

@@ -1,0 +1,6 @@
+use Rattle.std.proofs.Common.{take}
+use Rattle.runner.specs.Traced.{AreTraced}
+use Rattle.runner.proofs.tracing.traced.Given as goal
+
+abbrev pub invariant-loop-volume : goal.invariant-loop-volume
+invariant-loop-volume l = AreTraced l.page.items (take l.volume-index l.volumes)
