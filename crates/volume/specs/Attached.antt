@@ -14,6 +14,7 @@ use Rattle.event_machine.specs.Rest.{IsAtRest}
 use Rattle.settled.specs.Attaching.{Store, attached}
 use Rattle.snapshot.specs.declared.opening.StoreDev.{StoreDev}
 use Rattle.snapshot.specs.Kept.{Kept}
+use Rattle.store.specs.Opening.{faults_after}
 use Rattle.volume.specs.Volumed.{Volumed, plain_of, is_loud_in_all}
 use Rattle.volume.specs.Moved.{device_of, moving_of}
 
@@ -31,6 +32,11 @@ pub record IsTriedOrigin {B : Type 0} (contents : B → List ℕ) (layers : B �
   pub size_is : size new ≡ size old
   pub loud_is : is_loud (layers new) ≡ is_loud (layers old)
   pub layers_are : (layers new ≡ layers old) ⊎ (layers new ≡ layers_after (layers old) Flushes)
+
+-- How many faults the devices counted where a store was refused: the store's or the origin's one more where that is for a fault, from
+-- so many before to so many after, and as many as before else.
+abbrev pub IsCountedFor : Refusal → (ℕ × ℕ) → (ℕ × ℕ) → Type 0
+IsCountedFor refusal store origin = (store.1 ≡ faults_after refusal store.0) ⊎ ((store.1 ≡ store.0) × (origin.1 ≡ faults_after refusal origin.0))
 
 -- A volume that refused a store: where no operation failed it is as it was, and else but for the flush of its origin's
 -- device. It shows what it showed, and one at rest stays at rest.

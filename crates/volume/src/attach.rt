@@ -1,5 +1,5 @@
 // A snapshot is taken.
-ghost use Rattle.std.specs.Prelude.{◌≡◌, ◌≢◌, ◌⊎◌, ◌&&◌, MatchResult, ℕ, ◌+◌, ◌*◌, List, [], ◌∷◌, ◌++◌, length, Option, Some, None, IfOk, IfErr, OnOk, Ok, Err, true, false, IsTrue, slice_index_or};
+ghost use Rattle.std.specs.Prelude.{◌≡◌, ◌≢◌, ◌⊎◌, ◌&&◌, MatchResult, ℕ, ◌+◌, ◌*◌, List, [], ◌∷◌, ◌++◌, length, Option, Some, None, IfOk, IfErr, IfSome, OnOk, Ok, Err, true, false, IsTrue, slice_index_or};
 ghost use Rattle.sector.specs.declared.refusal.Refusal.TheVariants.{Io as IoRefusal, NoMemory};
 ghost use Rattle.sector.specs.Bytes.{sector_at};
 ghost use Rattle.cow_header.specs.HeaderText.{found_in};
@@ -13,10 +13,11 @@ ghost use Rattle.snapshot.specs.StopsOpening.{Leaves, MayOpen};
 ghost use Rattle.stop_laws.specs.Firm.{IsFirm};
 ghost use Rattle.volume.specs.Volumed.{Volumed, plain_of, is_loud_in_all};
 ghost use Rattle.volume.specs.Taking.{attach_refusal, IsNotTaken};
-ghost use Rattle.volume.specs.Attached.{store_of, volume_in, IsAttachedAs, IsGained, IsRefusedOver};
+ghost use Rattle.volume.specs.Attached.{store_of, volume_in, IsAttachedAs, IsCountedFor, IsGained, IsRefusedOver};
 ghost use Rattle.volume.specs.Leaving.{is_quiet_of};
 ghost use Rattle.volume.specs.Stopping.{StopsAround};
 ghost use Rattle.settled.specs.Attaching.{attached as attached_by, refused_attach};
+ghost use Rattle.store.specs.Opening.{faults_after};
 ghost use Rattle.store.specs.Reading.{AreRead};
 
 use crate::{MAX_SNAPSHOTS, Volume};
@@ -30,7 +31,8 @@ use std::alloc::Global;
 impl<B: Block> Volume<B> {
     /// Why no snapshot is taken, before the store is looked at.
     fn attach_refused(&self, stale: bool, chunk: u32) -> Option<Refusal>
-        ensures { result ≡ attach_refusal stale chunk self.now }
+        ensures value { result ≡ attach_refusal stale chunk self.now }
+        ensures faultless { IfSome result (λ refusal. (faults : ℕ) → faults_after refusal faults ≡ faults) }
     {
         if stale {
             return Some(Refusal::Stale);
@@ -90,6 +92,7 @@ impl<B: Block> Volume<B> {
         ensures firm { IfOk result (λ _. is_loud (B.layers store.device) ≡ true → (s : Kept B) → s ≡ slice_index_or self.new.snaps (length self.old.snaps) s → IsFirm (B.may_hold s.device) (B.contents s.device) (B.size s.device)) }
         ensures same { IfErr result (λ e. IsRefusedOver B.contents B.layers B.size e.0 self.old self.new) }
         ensures stale { IfErr result (λ e. e.1.stale ≡ store.stale) }
+        ensures faults { IfErr result (λ e. IsCountedFor e.0 (B.fault_count store.device, B.fault_count e.1.device) (B.fault_count self.old.origin, B.fault_count self.new.origin)) }
     {
         self.look_at_stores();
         match self.attach_refused(store.stale, chunk) {

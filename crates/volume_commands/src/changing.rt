@@ -11,7 +11,7 @@ ghost use Rattle.volume_commands.specs.Flying.{IsWhole};
 ghost use Rattle.volume_commands.specs.Leaving.{IsDetachedAs};
 ghost use Rattle.volume_commands.specs.Taking.{IsRefusedAt, IsTakenAs};
 ghost use Rattle.store.specs.Reading.{AreRead};
-ghost use Rattle.volume.specs.Attached.{store_of};
+ghost use Rattle.volume.specs.Attached.{store_of, IsCountedFor};
 ghost use Rattle.volume.specs.Taking.{attach_refusal, IsNotTaken};
 ghost use Rattle.merge.specs.Merging.{Merging};
 ghost use Rattle.volume.specs.Leaving.{is_quiet_of};
@@ -43,6 +43,7 @@ fn take<B: Layered>(
     ensures starved { IfErr result (λ e. is_starved e.0 ≡ true → (B.contents e.1.device ≡ B.contents store.device) × AreRead (B.layers store.device) (B.layers e.1.device)) }
     ensures same { IfErr result (λ e. IsRefusedAt B.contents B.layers B.size e.0 (rested_of volume.old) (rested_of volume.new)) }
     ensures stale { IfErr result (λ e. e.1.stale ≡ store.stale) }
+    ensures faults { IfErr result (λ e. IsCountedFor e.0 (B.fault_count store.device, B.fault_count e.1.device) (B.fault_count volume.old.origin, B.fault_count volume.new.origin)) }
     ensures size { IfErr result (λ e. B.size e.1.device ≡ B.size store.device) }
     ensures loud { IfErr result (λ e. is_loud (B.layers e.1.device) ≡ is_loud (B.layers store.device)) }
 {
@@ -90,6 +91,7 @@ impl<B: Layered> Resting<B> {
         ensures starved { IfErr result (λ e. is_starved e.0 ≡ true → (B.contents e.1.device ≡ B.contents store.device) × AreRead (B.layers store.device) (B.layers e.1.device)) }
         ensures same { IfErr result (λ e. IsRefusedAt B.contents B.layers B.size e.0 self.old self.new) }
         ensures stale { IfErr result (λ e. e.1.stale ≡ store.stale) }
+        ensures faults { IfErr result (λ e. IsCountedFor e.0 (B.fault_count store.device, B.fault_count e.1.device) (B.fault_count self.old.origin, B.fault_count self.new.origin)) }
         ensures size { IfErr result (λ e. B.size e.1.device ≡ B.size store.device) }
         ensures loud { IfErr result (λ e. is_loud (B.layers e.1.device) ≡ is_loud (B.layers store.device)) }
         ensures quiet { OnOk result ((is_quiet_of self.old.events ≡ true) × (is_quiet_of self.new.events ≡ true)) }

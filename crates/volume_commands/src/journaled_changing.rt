@@ -11,7 +11,7 @@ ghost use Rattle.event_machine.specs.Merging.{begun, finished, resumed};
 ghost use Rattle.snapshot.specs.Opening.{shown_array};
 ghost use Rattle.volume.specs.DoesMessage.{DoesMessage};
 ghost use Rattle.volume.specs.DoesTick.{DoesTick};
-ghost use Rattle.volume.specs.Attached.{IsAttachedAs, IsGained, IsRefusedOver, store_of, volume_in};
+ghost use Rattle.volume.specs.Attached.{IsAttachedAs, IsCountedFor, IsGained, IsRefusedOver, store_of, volume_in};
 ghost use Rattle.volume.specs.Beginning.{IsMergeBegun, IsNotBegun, IsResumed, begin_refusal};
 ghost use Rattle.volume.specs.Fresh.{is_fresh};
 ghost use Rattle.volume.specs.Finishing.{IsTakenOut, finish_refusal};
@@ -55,6 +55,7 @@ impl<B: Layered> Journaled<B> {
         ensures goes_on { IfOk result (λ number. is_loud_in_all B.layers self.old ≡ true → is_loud (B.layers store.device) ≡ true → GoesOn (plain_of B.contents B.layers self.old) (Attached number (shown_array (B.contents self.old.origin) (B.contents store.device)) (overflow_of overflow) (is_fresh (B.contents store.device)) ∷ []) (plain_of B.contents B.layers self.new)) }
         ensures same { IfErr result (λ e. IsRefusedOver B.contents B.layers B.size e.0 self.old self.new) }
         ensures stale { IfErr result (λ e. e.1.stale ≡ store.stale) }
+        ensures faults { IfErr result (λ e. IsCountedFor e.0 (B.fault_count store.device, B.fault_count e.1.device) (B.fault_count self.old.origin, B.fault_count self.new.origin)) }
     {
         if self.places + count_may(&self.volume) + places_needed(overflow) > MAX_ENTRIES {
             return Err((Refusal::JournalFull, store));

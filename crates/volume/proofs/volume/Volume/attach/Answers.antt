@@ -48,7 +48,7 @@ invariant_of-self-in-Ok-open_snapshot g c = record {
       let t : IsTriedOrigin g.B.Block.contents g.B.Block.layers g.B.Block.size v.origin d = tried_flushed g.B.Block.contents g.B.Block.layers g.B.Block.size g.B.Block.fault_count g.B.Block.done_count true v.origin d c.in-Ok-open_snapshot.ensures.origin in
       let s : Kept g.row.B.Denot = c.in-Ok-open_snapshot.snap in
       let now = c.args.self.now in
-      let admitted = taking_none c.args.store.stale (is_some c.args.self.now.merge) (is_quiet_of c.args.self.now) (length c.args.self.now.snaps) c.args.self.now.attached c.args.chunk (sym c.in-None.ensures) in
+      let admitted = taking_none c.args.store.stale (is_some c.args.self.now.merge) (is_quiet_of c.args.self.now) (length c.args.self.now.snaps) c.args.self.now.attached c.args.chunk (sym c.in-None.ensures.value) in
       let none : v.flights ≡ [] = ap (λ (x : Volumed g.row.B.Denot). x.flights) c.self.view_is ∙ quiet_flights c.args.self.now admitted.0 in
       let alone : v.merge ≡ None = none_begun v.merge (ap (λ (x : Volumed g.row.B.Denot). is_some x.merge) c.self.view_is ∙ admitted.2) in
       let same : length v.snaps ≡ length c.args.self.now.snaps = ap (λ (x : Volumed g.row.B.Denot). length x.snaps) c.self.view_is in
@@ -92,7 +92,7 @@ returns-in-Ok-open_snapshot-clause-taken g c = λ _ loud.
     let d = c.open_snapshot.new.origin in
     let t : IsTriedOrigin g.B.Block.contents g.B.Block.layers g.B.Block.size v.origin d = tried_flushed g.B.Block.contents g.B.Block.layers g.B.Block.size g.B.Block.fault_count g.B.Block.done_count true v.origin d c.in-Ok-open_snapshot.ensures.origin in
     let s : Kept g.row.B.Denot = c.in-Ok-open_snapshot.snap in
-    let admitted = taking_none c.args.store.stale (is_some c.args.self.now.merge) (is_quiet_of c.args.self.now) (length c.args.self.now.snaps) c.args.self.now.attached c.args.chunk (sym c.in-None.ensures) in
+    let admitted = taking_none c.args.store.stale (is_some c.args.self.now.merge) (is_quiet_of c.args.self.now) (length c.args.self.now.snaps) c.args.self.now.attached c.args.chunk (sym c.in-None.ensures.value) in
     let none : v.flights ≡ [] = ap (λ (x : Volumed g.row.B.Denot). x.flights) c.self.view_is ∙ quiet_flights c.args.self.now admitted.0 in
     let alone : v.merge ≡ None = none_begun v.merge (ap (λ (x : Volumed g.row.B.Denot). is_some x.merge) c.self.view_is ∙ admitted.2) in
     let number : s.number ≡ v.attached + 1 = ap (λ (x : Kept g.row.B.Denot). x.number) c.in-Ok-open_snapshot.ensures.opened.fields in
@@ -109,7 +109,7 @@ returns-in-Err-open_snapshot-clause-refused g c =
     let bytes = g.B.Block.contents c.args.store.device in
     let sectors : g.B.Block.size c.self.inside.origin ≡ g.B.Block.size c.args.self.now.origin = ap (λ (x : Volumed g.row.B.Denot). g.B.Block.size x.origin) c.self.view_is in
     inr (
-      sym c.in-None.ensures,
+      sym c.in-None.ensures.value,
       inr
           (subst (λ (n : ℕ). IsRefused c.args.chunk n (g.B.Block.size c.args.store.device) (g.B.Block.contents c.args.store.device) c.in-Err-open_snapshot.refused.0) sectors c.in-Err-open_snapshot.ensures.refused),
     )
@@ -147,7 +147,7 @@ returns-in-Ok-open_snapshot-clause-exact g c = λ _ loud.
     let s : Kept g.row.B.Denot = c.in-Ok-open_snapshot.snap in
     let e = c.in-Ok-open_snapshot.ensures in
     let o = c.in-Ok-open_snapshot.ensures.opened in
-    let none : attach_refusal c.args.store.stale c.args.chunk v ≡ None = ap (attach_refusal c.args.store.stale c.args.chunk) c.self.view_is ∙ sym c.in-None.ensures in
+    let none : attach_refusal c.args.store.stale c.args.chunk v ≡ None = ap (attach_refusal c.args.store.stale c.args.chunk) c.self.view_is ∙ sym c.in-None.ensures.value in
     let few : c.self.inside.attached ≤ 4294967295 = omega (arith, c.self.ranges) in
     let goes = admitted c.args.store.stale (is_some v.merge) (is_quiet_of v) (length v.snaps) v.attached c.args.chunk (overflow_of c.args.overflow) (store_of g.B.Block.contents g.B.Block.layers c.args.store) (volume_in g.B.Block.contents g.B.Block.layers v) few refl (count_in g.B.Block.contents g.B.Block.layers v) none in
     let opens = e.exact loud in
@@ -165,7 +165,7 @@ pub returns-in-Err-open_snapshot-clause-back : goal.returns-in-Err-open_snapshot
 returns-in-Err-open_snapshot-clause-back g c = λ some _ quiet _ loud.
     let v : Volumed g.row.B.Denot = record { origin = c.self.inside.origin; snaps = c.self.inside.snaps.items; merge = c.self.inside.merge; flights = c.self.inside.flights.items; requests = c.self.inside.requests; copies = c.self.inside.copies; attached = c.self.inside.attached } in
     let e = c.in-Err-open_snapshot.ensures in
-    let none : attach_refusal c.args.store.stale c.args.chunk v ≡ None = ap (attach_refusal c.args.store.stale c.args.chunk) c.self.view_is ∙ sym c.in-None.ensures in
+    let none : attach_refusal c.args.store.stale c.args.chunk v ≡ None = ap (attach_refusal c.args.store.stale c.args.chunk) c.self.view_is ∙ sym c.in-None.ensures.value in
     let few : c.self.inside.attached ≤ 4294967295 = omega (arith, c.self.ranges) in
     let goes = admitted c.args.store.stale (is_some v.merge) (is_quiet_of v) (length v.snaps) v.attached c.args.chunk (overflow_of c.args.overflow) (store_of g.B.Block.contents g.B.Block.layers c.args.store) (volume_in g.B.Block.contents g.B.Block.layers v) few refl (count_in g.B.Block.contents g.B.Block.layers v) none in
     let opens = e.given_back some loud in
@@ -175,7 +175,7 @@ pub returns-in-Some-clause-back : goal.returns-in-Some-clause-back
 returns-in-Some-clause-back g c = λ _ alone quiet _ _.
     let v : Volumed g.row.B.Denot = record { origin = c.self.inside.origin; snaps = c.self.inside.snaps.items; merge = c.self.inside.merge; flights = c.self.inside.flights.items; requests = c.self.inside.requests; copies = c.self.inside.copies; attached = c.self.inside.attached } in
     let few : c.self.inside.attached ≤ 4294967295 = omega (arith, c.self.ranges) in
-    let why : attach_refusal c.args.store.stale c.args.chunk v ≡ Some c.in-Some.refusal = ap (attach_refusal c.args.store.stale c.args.chunk) c.self.view_is ∙ sym c.in-Some.ensures in
+    let why : attach_refusal c.args.store.stale c.args.chunk v ≡ Some c.in-Some.refusal = ap (attach_refusal c.args.store.stale c.args.chunk) c.self.view_is ∙ sym c.in-Some.ensures.value in
     let begun : is_some v.merge ≡ false = ap (λ (x : Volumed g.row.B.Denot). is_some x.merge) c.self.view_is ∙ ap is_some alone in
     let calm : is_quiet_of v ≡ true = ap is_quiet_of c.self.view_is ∙ quiet in
     rw (← c.self.view_is) (refused_before c.args.store.stale (is_some v.merge) (is_quiet_of v) (length v.snaps) v.attached c.args.chunk (overflow_of c.args.overflow) (store_of g.B.Block.contents g.B.Block.layers c.args.store) (volume_in g.B.Block.contents g.B.Block.layers v) c.in-Some.refusal few begun calm refl (count_in g.B.Block.contents g.B.Block.layers v) why)
@@ -184,7 +184,7 @@ pub overflow_add-number : goal.overflow_add-number
 overflow_add-number g c =
     let v : Volumed g.row.B.Denot = record { origin = c.self.inside.origin; snaps = c.self.inside.snaps.items; merge = c.self.inside.merge; flights = c.self.inside.flights.items; requests = c.self.inside.requests; copies = c.self.inside.copies; attached = c.self.inside.attached } in
     let few : c.self.inside.attached ≤ 4294967295 = omega (arith, c.self.ranges) in
-    let none : attach_refusal c.args.store.stale c.args.chunk v ≡ None = ap (attach_refusal c.args.store.stale c.args.chunk) c.self.view_is ∙ sym c.in-None.ensures in
+    let none : attach_refusal c.args.store.stale c.args.chunk v ≡ None = ap (attach_refusal c.args.store.stale c.args.chunk) c.self.view_is ∙ sym c.in-None.ensures.value in
     let left = number_left c.args.store.stale (is_some v.merge) (is_quiet_of v) (length v.snaps) v.attached c.args.chunk few none in
     omega (arith, left)
 
@@ -273,3 +273,6 @@ returns-in-Err-open_snapshot-clause-leaves_back g c =
     let v : Volumed g.row.B.Denot = record { origin = c.self.inside.origin; snaps = c.self.inside.snaps.items; merge = c.self.inside.merge; flights = c.self.inside.flights.items; requests = c.self.inside.requests; copies = c.self.inside.copies; attached = c.self.inside.attached } in
     let sectors : g.B.Block.size v.origin ≡ g.B.Block.size c.args.self.now.origin = ap (λ (x : Volumed g.row.B.Denot). g.B.Block.size x.origin) c.self.view_is in
     λ loud. subst (λ n. Leaves (g.B.Block.may_hold c.args.store.device) (g.B.Block.may_hold c.in-Err-open_snapshot.refused.1.device) (g.B.Block.size c.args.store.device) (MayOpen c.args.chunk n (g.B.Block.size c.args.store.device) (g.B.Block.contents c.args.store.device) (found_in (sector_at (g.B.Block.contents c.args.store.device) 0)))) sectors (c.in-Err-open_snapshot.ensures.leaves loud)
+
+pub returns-in-Some-clause-faults : goal.returns-in-Some-clause-faults
+returns-in-Some-clause-faults g c = inl (sym (c.in-Some.ensures.faultless (g.B.Block.fault_count c.args.store.device)))
