@@ -22,8 +22,8 @@ ghost use Rattle.named_devices.specs.Order.{IsInOrderFor};
 ghost use Rattle.named_devices.specs.Ruled.{is_alone_in, is_quiet_in, is_sound_in, rests_at, volume_for};
 ghost use Rattle.volume.specs.EventKinds.{is_of_merge};
 
-use command::Event;
 use crate::order::find_in_order;
+use command::Event;
 use command_rules::{Place, Role};
 use named_volume::{Held, find_device, some_sectors, whole_sectors};
 use plain::{NotDue, Op, Outcome, Replied, ReqId, SnapId};
