@@ -14,7 +14,9 @@ use Rattle.command_rules.specs.Creating.{create}
 use Rattle.command_rules.specs.Journal.{enters_journal}
 use Rattle.command_rules.specs.Events.{is_merge_event, origin_by}
 use Rattle.command_rules.specs.Starting.{flush_asked, read_asked, write_asked}
+use Rattle.named_devices.specs.Order.{IsLookedAt}
 use Rattle.runner.specs.Asking.{IsFirst, first_refusal}
+use Rattle.runner.specs.Changed.{changed_by}
 use Rattle.runner.specs.Output.{IsPartDone, told}
 use Rattle.runner.specs.Ruled.{is_ruled}
 use Rattle.runner.specs.Sound.{is_sound_command}
@@ -219,3 +221,28 @@ pub returns-in-Create-clause-left : goal.returns-in-Create-clause-left
 returns-in-Create-clause-left c =
     let P : Command → Type 0 = λ command. IsLeft command c.did-in-Create.result (table_of c.args.held.now) (table_of c.create_device.new.held) c.args.ended.now.items c.args.ended.now.items in
     subst P (sym c.in-Create.is) (record { did = c.create_device.result; answer_is = c.did-in-Create.ensures; made = c.create_device.ensures.made; alone = refl })
+
+pub returns-in-Create-clause-ordered : goal.returns-in-Create-clause-ordered
+returns-in-Create-clause-ordered c =
+    let P : Command → Type 0 = λ command. IsLookedAt (table_of c.args.held.now) (changed_by command) in
+    subst P (sym c.in-Create.is) c.create_device.ensures.ordered
+
+pub returns-in-Remove-clause-ordered : goal.returns-in-Remove-clause-ordered
+returns-in-Remove-clause-ordered c =
+    let P : Command → Type 0 = λ command. IsLookedAt (table_of c.args.held.now) (changed_by command) in
+    subst P (sym c.in-Remove.is) c.remove_device.ensures.ordered
+
+pub returns-in-Write-clause-ordered : goal.returns-in-Write-clause-ordered
+returns-in-Write-clause-ordered c =
+    let P : Command → Type 0 = λ command. IsLookedAt (table_of c.args.held.now) (changed_by command) in
+    subst P (sym c.in-Write.is) c.write_device.ensures.ordered
+
+pub returns-in-Settle-clause-ordered : goal.returns-in-Settle-clause-ordered
+returns-in-Settle-clause-ordered c =
+    let P : Command → Type 0 = λ command. IsLookedAt (table_of c.args.held.now) (changed_by command) in
+    subst P (sym c.in-Settle.is) c.settle_device.ensures.ordered
+
+pub returns-in-Merge-clause-ordered : goal.returns-in-Merge-clause-ordered
+returns-in-Merge-clause-ordered c =
+    let P : Command → Type 0 = λ command. IsLookedAt (table_of c.args.held.now) (changed_by command) in
+    subst P (sym c.in-Merge.is) c.merge_device.ensures.ordered
