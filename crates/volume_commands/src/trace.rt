@@ -2,6 +2,7 @@
 ghost use Rattle.std.specs.Prelude.{◌≡◌, ◌++◌, ◌≤◌, OnOk, IfOk, filter, length};
 ghost use Rattle.std.specs.List.{flat_map};
 ghost use Rattle.volume.specs.Volumed.{is_due_of};
+ghost use Rattle.volume_commands.specs.Flying.{IsWhole};
 ghost use Rattle.volume_commands.specs.Trace.{IsAllDue, candidates_of, due_among, events_of_copies, events_of_flights, events_of_marks, events_of_merge, events_of_snap};
 
 use crate::{Journaled, Resting};
@@ -145,9 +146,10 @@ impl<B: Layered> Resting<B> {
         self.volume.flights()
     }
 
-    /// The snapshots, in order of attaching, without the one that is being merged.
+    /// The snapshots, in order of attaching, without the one that is being merged. All that commands see is what these events show.
     pub fn snaps(&self) -> &[Snapshot<B>]
-        ensures { result.now ≡ self.now.events.snaps }
+        ensures is { result.now ≡ self.now.events.snaps }
+        ensures whole { IsWhole self.now }
     {
         self.volume.snaps()
     }
