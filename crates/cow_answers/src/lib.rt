@@ -1,6 +1,8 @@
-//! What `lochknife` answers of a store: what is seen of its image, and what is printed of that, in lines or as JSON, an object
-//! for each item on a line of its own. It stands on `cow_image` and `cow_kept`, which read, and on `cow_words`, which puts into words,
-//! and promises that each answer is the one of its definition in `specs/`.
+//! What `lochknife` is asked and answers of a store: what the words of its command line ask for; what is seen of a store's image,
+//! and what is printed of that, in lines or as JSON, an object for each item on a line of its own. It stands on `cow_image` and
+//! `cow_kept`, which read, on `cow_words`, which puts into words, and on `words` for the names of disks.
+//!
+//! It promises that each answer is the one of its definition in `specs/`; what words ask for is tested.
 #![tactic(auto)]
 
 mod answers;

@@ -1,7 +1,9 @@
-//! A server of the Network Block Device protocol for one client, over any reader, any writer, and any arrays that are read.
-//! It stands on `nbd_messages`. It promises that, for every list of bytes that a client sends, all that is written are the
-//! protocol's answers to the messages at its front: `serve`, in the words of `specs/Talk`. A read that fails is answered so,
-//! and the next request is served; no more memory is taken than the longest request asks for.
+//! A server of the Network Block Device protocol for one client, over any reader, any writer, and any arrays that are read; and
+//! the protocol's messages: what bytes are one, and the bytes of each answer. It stands on `byteorder` alone.
+//!
+//! It promises that, for every list of bytes that a client sends, all that is written are the protocol's answers to the messages
+//! at its front: `serve`, in the words of `specs/Talk`. A read that fails is answered so, and the next request is served; no more
+//! memory is taken than the longest request asks for.
 #![tactic(auto)]
 
 mod asked;
