@@ -100,9 +100,9 @@ module _ {B : Type 0} (contents : B → List ℕ) (layers : B → List Layer) (s
     beside_followed (inr more) =
         let next : Event = more.0 in
         let outcome : Outcome = more.1 in
-        let known : following event ≡ Some next = more.2.0 in
-        let e : IsExact contents layers next outcome u x = more.2.1 in
-        let told : Some again ≡ replied_by outcome (Some after) = more.2.2 in
+        let known : following event ≡ Some next = more.2 in
+        let e : IsExact contents layers next outcome u x = more.3 in
+        let told : Some again ≡ replied_by outcome (Some after) = more.4 in
         let step : is_loud_in_all layers v ≡ true → (replied : Option Reply) → stepped next (moving_of contents layers replied u) ≡ moving_of contents layers (replied_by outcome replied) x =
           λ all replied. sym (beside_steps next (moving_of contents layers replied u) (so_far.free all) (follows_apart event next known)) ∙ e.step (so_far.run.loud ∙ all) replied in
         record {
