@@ -40,6 +40,7 @@ pub mod Others
 pub mod Rooms
 pub mod Drained
 pub mod Freed
+pub mod Follows
 pub mod Runs
 pub mod Shown
 pub mod Ordered

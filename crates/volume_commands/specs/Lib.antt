@@ -10,6 +10,7 @@ pub mod Unread
 pub mod Telling
 pub mod Showing
 pub mod Draining
+pub mod Following
 pub mod Among
 pub mod Flying
 pub mod Merging

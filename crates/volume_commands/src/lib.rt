@@ -28,6 +28,7 @@ mod ending;
 mod events;
 mod flights;
 mod flushing;
+mod following;
 mod journaled;
 mod journaled_changing;
 mod layering;

@@ -18,12 +18,14 @@ ghost use Rattle.volume_commands.specs.Serving.{CanServe, part_done};
 ghost use Rattle.volume.specs.Stepping.{KeepsAll};
 
 use crate::Journaled;
+use crate::following::follow;
 use layers::Layered;
 use plain::{Dev, Failure, NotDue, Outcome, Reply, Request};
 use sector::Refusal;
 
 /// Does the events that are due, each time the one that is due first, until the volume is quiet: none is then due but one of a
-/// merge. Tells the last reply, and the one that was given before where there is none.
+/// merge. Tells the last reply, and the one that was given before where there is none. What is known to follow an event is
+/// done without a search for what is due.
 fn settle<B: Layered>(volume: &mut Journaled<B>, mut reply: Reply) -> Reply
     requires free { has_group_in volume.old.merge ≡ false }
     ensures run { IsRun B.contents B.layers (Some reply) (Some result) volume.old volume.new }
@@ -38,7 +40,7 @@ fn settle<B: Layered>(volume: &mut Journaled<B>, mut reply: Reply) -> Reply
         };
         match volume.step(event) {
             Ok(Outcome::Reply(_, given)) => reply = given,
-            Ok(Outcome::Done) => {}
+            Ok(Outcome::Done) => reply = follow(volume, event, reply),
             Ok(Outcome::Fault) => {}
             Err(NotDue) => unreachable!(),
         }
