@@ -25,7 +25,7 @@ use Rattle.chunk.proofs.Limits.{is_chunk-some}
 use Rattle.plain.specs.Legal.{IsTaken}
 use Rattle.sector.specs.declared.refusal.Refusal.TheVariants.{NoMemory}
 use Rattle.volume.specs.Moved.{device_of}
-use Rattle.volume.specs.Attached.{store_of, volume_in, IsTriedOrigin}
+use Rattle.volume.specs.Attached.{IsCountedFor, store_of, volume_in, IsTriedOrigin}
 use Rattle.volume.proofs.AttachedAs.{number_left, refused_before, admitted, count_in, resting, attached_is, back_is, unzeroed_of, unfirm_of, size_opened, loud_taken_as}
 use Rattle.volume.proofs.TriedOrigins.{over, over_whole, over_shown, refused_over, refused_still, tried_flushed, tried_back}
 use Rattle.stop_laws.specs.Firm.{IsFirm}
@@ -276,3 +276,7 @@ returns-in-Err-open_snapshot-clause-leaves_back g c =
 
 pub returns-in-Some-clause-faults : goal.returns-in-Some-clause-faults
 returns-in-Some-clause-faults g c = inl (sym (c.in-Some.ensures.faultless (g.B.Block.fault_count c.args.store.device)))
+
+pub returns-in-Err-open_snapshot-clause-faults : goal.returns-in-Err-open_snapshot-clause-faults
+returns-in-Err-open_snapshot-clause-faults g c =
+    subst (λ (x : Volumed g.row.B.Denot). IsCountedFor c.in-Err-open_snapshot.refused.0 (g.B.Block.fault_count c.args.store.device, g.B.Block.fault_count c.in-Err-open_snapshot.refused.1.device) (g.B.Block.fault_count x.origin, g.B.Block.fault_count c.open_snapshot.new.origin)) c.self.view_is c.in-Err-open_snapshot.ensures.faults
