@@ -1,4 +1,5 @@
 use Rattle.std.proofs.Common.{◌≡◌, ℕ, ◌+◌, ◌*◌, ◌<◌, ◌≤◌, List, [], ◌∙◌, length, take, drop, arith, rules, refl, sym, subst, length-append, length-drop}
+use Rattle.std.proofs.lemmas.List.{length-take-le}
 use Rattle.cow_kept.specs.Unread.{AddUnread, Stand, AreUnread}
 use Rattle.cow_kept.proofs.Tries.{add_then, add_none}
 use Rattle.cow_kept.proofs.trying.try_pieces.Goals as goal
@@ -19,6 +20,7 @@ loop-first-preserved g c =
     let least = c.min-count.ensures in
     let test = c.loop-first-test.true in
     let room = i.room in
+    let long : length (take (512 * c.min-count.result) c.loop-first.room) ≡ 512 * c.min-count.result = length-take-le (512 * c.min-count.result) c.loop-first.room (omega arith) in
     let kept = c.try_piece.auto.out in
     record {
       bytes = c.in_ok-try_piece.ensures.bytes ∙ i.bytes;
