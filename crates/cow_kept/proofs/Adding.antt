@@ -1,14 +1,12 @@
 -- One sector more is told, or none.
-use Rattle.std.proofs.Common.{◌≡◌, ◌⊎◌, inl, inr, ℕ, ◌+◌, ◌*◌, ◌<◌, ◌≤◌, Bool, true, false, List, [], ◌∷◌, ◌++◌, Some, refl, sym, ◌∙◌, ap, subst, arith, take, drop, length}
-use Rattle.std.specs.Prelude.{◌||◌, ◌&&◌, nat_lt, nat_le}
+use Rattle.std.proofs.Common.{◌≡◌, ◌≢◌, ◌⊎◌, inl, inr, ℕ, ◌+◌, ◌*◌, ◌<◌, ◌≤◌, Bool, true, false, List, [], ◌∷◌, ◌++◌, Some, refl, sym, ◌∙◌, ap, subst, arith, take, drop, length}
+use Rattle.std.specs.Prelude.{◌||◌, ◌&&◌, ◌==◌, nat_lt, nat_le}
 use Rattle.std.specs.List.{All}
-use Rattle.std.proofs.lemmas.Bool.{cases_Bool, cases_lt, and_parts, leb-true, ltb-true}
+use Rattle.std.proofs.lemmas.Bool.{cases_Bool, cases_lt, cases_eq, ne_eqb, eq-eqb, and_parts, leb-true, ltb-true}
 use Rattle.std.proofs.lemmas.List.Elements.{All-nil, All-cons, All-head, All-tail, All-push, All-pop, All-weaker}
 use Rattle.std.proofs.lemmas.List.Folds.{list_any-append}
-use Rattle.sector.specs.Bytes.{sector_at}
 use Rattle.cow_kept.specs.declared.span.Span.{Span}
-use Rattle.cow_kept.specs.Spans.{is_in}
-use Rattle.cow_kept.specs.Differences.{AreApart, AreDifferences}
+use Rattle.cow_kept.specs.Spans.{is_in, AreApart, AreJust, AreMarked}
 
 -- whether a sector is in a span
 abbrev within : Span → ℕ → Bool
@@ -107,56 +105,82 @@ not_joined last span n s ends first count lt (inr high) = (let no : ⊥ = omega 
 below_out : (span : Span) (s : ℕ) → s < span.first → within span s ≡ false
 below_out span s lt = grind arith
 
-module _ (a o : List ℕ) where
-  -- sectors that do not differ
-  pub more_same : (n m : ℕ) (spans : List Span) → n ≤ m → AreDifferences a o n spans → ((s : ℕ) → n ≤ s → s < m → sector_at a s ≡ sector_at o s) → AreDifferences a o m spans
-  more_same n m spans le h each = record {
+-- a mark of these spans' sectors and of one more
+marked_here : (old : Bool) (n : ℕ) → (old || (n == n)) ≡ true
+marked_here true n = refl
+marked_here false n = eq-eqb n n refl
+
+marked_parts : (old : Bool) (s n : ℕ) → (old || (s == n)) ≡ true → (old ≡ true) ⊎ (s ≡ n)
+marked_parts true s n is = inl refl
+marked_parts false s n is = elim (cases_eq s n) [ inl e ↦ inr e | inr ne ↦ (let no : true ≡ false = sym is ∙ ne_eqb s n ne in cc) ]
+
+unmarked_parts : (old : Bool) (s n : ℕ) → (old || (s == n)) ≡ false → (old ≡ false) × (s ≢ n)
+unmarked_parts true s n is = (let no : true ≡ false = is in cc)
+unmarked_parts false s n is = (refl, λ e. let no : true ≡ false = sym (eq-eqb s n e) ∙ is in cc)
+
+module _ (Is Not : ℕ → Type 0) where
+  -- sectors that are not told
+  pub more_others : (n m : ℕ) (spans : List Span) → n ≤ m → AreJust Is Not n spans → ((s : ℕ) → n ≤ s → s < m → Not s) → AreJust Is Not m spans
+  more_others n m spans le h each = record {
     apart = h.apart;
     inside = ends_later n m spans le h.inside;
-    differ = h.differ;
-    same = λ s lt none. elim (cases_lt s n) [ inl below ↦ h.same s below none | inr above ↦ each s above lt ];
+    told = h.told;
+    others = λ s lt none. elim (cases_lt s n) [ inl below ↦ h.others s below none | inr above ↦ each s above lt ];
   }
 
-  -- a sector that differs, behind all spans and a sector more
-  pub more_apart : (n : ℕ) (spans : List Span) (span : Span) → AreDifferences a o n spans → All (λ (x : Span). x.first + x.count < n) spans → (sector_at a n ≡ sector_at o n → ⊥) → span.first ≡ n → span.count ≡ 1 → AreDifferences a o (n + 1) (spans ++ span ∷ [])
-  more_apart n spans span h below differs first count = record {
+  -- a sector that is told, behind all spans and a sector more
+  pub more_apart : (n : ℕ) (spans : List Span) (span : Span) → AreJust Is Not n spans → All (λ (x : Span). x.first + x.count < n) spans → Is n → span.first ≡ n → span.count ≡ 1 → AreJust Is Not (n + 1) (spans ++ span ∷ [])
+  more_apart n spans span h below here' first count = record {
     apart = apart_push spans span h.apart (before_at span n spans (sym first) below) (omega arith);
     inside = All-push (λ (x : Span). x.first + x.count ≤ n + 1) spans span (ends_later n (n + 1) spans (omega arith) h.inside) (omega arith);
-    differ = λ s is. elim (in_parts spans span s is) [
-      | inl front ↦ h.differ s front
-      | inr here ↦ subst (λ (k : ℕ). sector_at a k ≡ sector_at o k → ⊥) (sym (one_at span n s first count (within_true span s here))) differs
+    told = λ s is. elim (in_parts spans span s is) [
+      | inl front ↦ h.told s front
+      | inr here ↦ subst Is (sym (one_at span n s first count (within_true span s here))) here'
     ];
-    same = λ s lt none. let (front, out) = out_parts spans span s none in h.same s (not_one span n s first count lt (within_false span s out)) front;
+    others = λ s lt none. let (front, out) = out_parts spans span s none in h.others s (not_one span n s first count lt (within_false span s out)) front;
   }
 
-  -- a sector that differs, behind the last span
-  pub more_joined : (n : ℕ) (spans : List Span) (last span : Span) → AreDifferences a o n (spans ++ last ∷ []) → last.first + last.count ≡ n → (sector_at a n ≡ sector_at o n → ⊥) → span.first ≡ last.first → span.count ≡ last.count + 1 → AreDifferences a o (n + 1) (spans ++ span ∷ [])
-  more_joined n spans last span h ends differs first count =
+  -- a sector that is told, behind the last span
+  pub more_joined : (n : ℕ) (spans : List Span) (last span : Span) → AreJust Is Not n (spans ++ last ∷ []) → last.first + last.count ≡ n → Is n → span.first ≡ last.first → span.count ≡ last.count + 1 → AreJust Is Not (n + 1) (spans ++ span ∷ [])
+  more_joined n spans last span h ends here' first count =
       let (front, below, some) = apart_front spans last h.apart in
       let (inside, _) = All-pop (λ (x : Span). x.first + x.count ≤ n) (spans ++ last ∷ []) spans (Some last) refl h.inside in
       record {
         apart = apart_push spans span front (before_at span last.first spans (sym first) below) (omega arith);
         inside = All-push (λ (x : Span). x.first + x.count ≤ n + 1) spans span (ends_later n (n + 1) spans (omega arith) inside) (omega arith);
-        differ = λ s is. elim (in_parts spans span s is) [
-          | inl one ↦ h.differ s (in_front spans last s one)
+        told = λ s is. elim (in_parts spans span s is) [
+          | inl one ↦ h.told s (in_front spans last s one)
           | inr here ↦ elim (joined_at last span n s ends first count (within_true span s here)) [
-            | inl (low, high) ↦ h.differ s (in_last spans last s (within_is last s low high))
-            | inr now ↦ subst (λ (k : ℕ). sector_at a k ≡ sector_at o k → ⊥) (sym now) differs
+            | inl (low, high) ↦ h.told s (in_last spans last s (within_is last s low high))
+            | inr now ↦ subst Is (sym now) here'
           ]
         ];
-        same = λ s lt none.
+        others = λ s lt none.
             let (out, beside) = out_parts spans span s none in
             let (low, lt') = not_joined last span n s ends first count lt (within_false span s beside) in
-            h.same s lt' (out_all spans last s out (below_out last s low));
+            h.others s lt' (out_all spans last s out (below_out last s low));
       }
 
   -- all spans end before a sector, where the last does not end just there
-  pub all_before : (n : ℕ) (spans : List Span) (last : Span) → AreDifferences a o n (spans ++ last ∷ []) → (last.first + last.count ≡ n → ⊥) → All (λ (x : Span). x.first + x.count < n) (spans ++ last ∷ [])
+  pub all_before : (n : ℕ) (spans : List Span) (last : Span) → AreJust Is Not n (spans ++ last ∷ []) → (last.first + last.count ≡ n → ⊥) → All (λ (x : Span). x.first + x.count < n) (spans ++ last ∷ [])
   all_before n spans last h not =
       let (front, below, some) = apart_front spans last h.apart in
       let (inside, fits) = All-pop (λ (x : Span). x.first + x.count ≤ n) (spans ++ last ∷ []) spans (Some last) refl h.inside in
       All-push (λ (x : Span). x.first + x.count < n) spans last (All-weaker (λ (x : Span). x.first + x.count < last.first) (λ (x : Span). x.first + x.count < n) (λ x lt. omega arith) spans below) (omega arith)
 
   -- before the first sector
-  pub none_yet : AreDifferences a o 0 []
-  none_yet = record { apart = tt; inside = All-nil _; differ = λ s is. cc; same = λ s lt. (let never : ⊥ = omega arith in absurd never) }
+  pub none_yet : AreJust Is Not 0 []
+  none_yet = record { apart = tt; inside = All-nil _; told = λ s is. cc; others = λ s lt. (let never : ⊥ = omega arith in absurd never) }
+
+  -- a sector more, by what is said of all marks
+  pub more_by : (n : ℕ) (spans more : List Span) → AreJust Is Not n spans → ((mark : ℕ → Bool) → AreMarked mark n spans → mark n ≡ true → AreMarked mark (n + 1) more) → Is n → AreJust Is Not (n + 1) more
+  more_by n spans more h adds here' =
+      let mark : ℕ → Bool = λ s. is_in spans s || (s == n) in
+      let before : AreMarked mark n spans = record { apart = h.apart; inside = h.inside; told = λ s is. rw is refl; others = λ s lt none. rw none (ne_eqb s n (λ e. let no : ⊥ = omega arith in no)) } in
+      let now : AreMarked mark (n + 1) more = adds mark before (marked_here (is_in spans n) n) in
+      record {
+        apart = now.apart;
+        inside = now.inside;
+        told = λ s is. elim (marked_parts (is_in spans s) s n (now.told s is)) [ inl old ↦ h.told s old | inr e ↦ subst Is (sym e) here' ];
+        others = λ s lt none. let (out, other) = unmarked_parts (is_in spans s) s n (now.others s lt none) in h.others s (omega arith) out;
+      }

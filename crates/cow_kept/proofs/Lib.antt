@@ -5,3 +5,4 @@ pub mod Sifts
 pub mod Orders
 pub mod Adding
 pub mod Reading
+pub mod Tries

@@ -3,3 +3,4 @@ pub mod Kept
 pub mod Spans
 pub mod Blanks
 pub mod Differences
+pub mod Unread

@@ -1,16 +1,15 @@
 // Sectors are joined to spans.
-ghost use Rattle.std.specs.Prelude.{◌≡◌, ℕ, ◌+◌, ◌<◌, ◌++◌, List, [], ◌∷◌, OnOk};
-ghost use Rattle.sector.specs.Bytes.{sector_at};
+ghost use Rattle.std.specs.Prelude.{◌≡◌, ℕ, ◌+◌, ◌<◌, ◌++◌, [], ◌∷◌, Bool, true, OnOk};
 ghost use Rattle.cow_kept.specs.declared.span.Span.{Span};
-ghost use Rattle.cow_kept.specs.Differences.{AreDifferences};
+ghost use Rattle.cow_kept.specs.Spans.{AreMarked};
 
 use crate::Span;
 use std::alloc::AllocError;
 
-/// Adds a sector in which two arrays differ, behind those that are told: to the last span, where it follows that.
+/// Adds a marked sector behind those that are told: to the last span, where it follows that.
 pub(crate) fn add_sector(spans: &mut Vec<Span>, sector: u64) -> Result<(), AllocError>
     requires small { sector < 68_719_476_736 }
-    ensures added { OnOk result ((a : List ℕ) → (o : List ℕ) → AreDifferences a o sector spans.old.items → (sector_at a sector ≡ sector_at o sector → ⊥) → AreDifferences a o (sector + 1) spans.new.items) }
+    ensures added { OnOk result ((mark : ℕ → Bool) → AreMarked mark sector spans.old.items → mark sector ≡ true → AreMarked mark (sector + 1) spans.new.items) }
 {
     match spans.pop() {
         None => push_sector(spans, sector),

@@ -1,7 +1,9 @@
 // The sectors of an image that can't be read.
-ghost use Rattle.std.specs.Prelude.{◌≡◌, ◌+◌, ◌<◌, ◌≤◌};
+ghost use Rattle.std.specs.Prelude.{◌≡◌, ℕ, ◌+◌, ◌*◌, ◌<◌, ◌≤◌, length, IfOk, OnOk};
+ghost use Rattle.cow_kept.specs.Unread.{AreUnread, AddUnread, Stand};
 
 use crate::Span;
+use crate::joining::add_sector;
 use image::Image;
 use std::alloc::{AllocError, Global};
 
@@ -15,6 +17,7 @@ pub fn unreadable<I: Image>(
     size: u64,
 ) -> Result<Vec<Span>, AllocError>
     requires { size ≤ 68_719_476_736 }
+    ensures each { IfOk result (λ spans. AreUnread (I.may_fail image.old) (I.may_give image.old) size spans.items) }
     ensures bytes { I.bytes image.new ≡ I.bytes image.old }
 {
     let mut spans: Vec<Span> = Vec::new(alloc);
@@ -30,18 +33,43 @@ fn try_pieces<I: Image>(
     room: &mut [u8],
     spans: &mut Vec<Span>,
 ) -> Result<(), AllocError>
-    requires { size ≤ 68_719_476_736 }
+    requires small { size ≤ 68_719_476_736 }
+    requires room { length room.old ≡ 1_048_576 }
+    ensures each { OnOk result (Stand 0 spans.old.items → AddUnread (I.may_fail image.old) (I.may_give image.old) 0 spans.old.items size spans.new.items) }
     ensures bytes { I.bytes image.new ≡ I.bytes image.old }
 {
     let mut first = 0;
     while first < size {
         let count = (size - first).min(PIECE);
-        if count < PIECE || image.read_at(512 * first, room).is_err() {
-            try_sectors(image, first, count, spans)?;
-        }
+        let out = &mut room[..512 * count as usize];
+        try_piece(image, first, count, out, spans)?;
         first += count;
     }
     Ok(())
+}
+
+/// Reads so many sectors at once, and where that fails one by one, and adds those that can't be read.
+fn try_piece<I: Image>(
+    image: &mut I,
+    first: u64,
+    count: u64,
+    out: &mut [u8],
+    spans: &mut Vec<Span>,
+) -> Result<(), AllocError>
+    requires small { first + count ≤ 68_719_476_736 }
+    requires room { length out.old ≡ 512 * count }
+    ensures each { OnOk result (Stand first spans.old.items → AddUnread (I.may_fail image.old) (I.may_give image.old) first spans.old.items (first + count) spans.new.items) }
+    ensures bytes { I.bytes image.new ≡ I.bytes image.old }
+    ensures calm { (k n : ℕ) → I.may_fail image.new k n → I.may_fail image.old k n }
+    ensures steady { (k n : ℕ) → I.may_give image.new k n → I.may_give image.old k n }
+{
+    match image.read_at(512 * first, out) {
+        Ok(()) => Ok(()),
+        Err(_) => {
+            try_sectors(image, first, count, spans)?;
+            Ok(())
+        }
+    }
 }
 
 /// Reads so many sectors one by one, and adds those that can't be read.
@@ -52,37 +80,31 @@ fn try_sectors<I: Image>(
     spans: &mut Vec<Span>,
 ) -> Result<(), AllocError>
     requires { first + count ≤ 68_719_476_736 }
+    ensures each { OnOk result (Stand first spans.old.items → AddUnread (I.may_fail image.old) (I.may_give image.old) first spans.old.items (first + count) spans.new.items) }
     ensures bytes { I.bytes image.new ≡ I.bytes image.old }
+    ensures calm { (k n : ℕ) → I.may_fail image.new k n → I.may_fail image.old k n }
+    ensures steady { (k n : ℕ) → I.may_give image.new k n → I.may_give image.old k n }
 {
-    let mut room = [0u8; 512];
     for sector in first..first + count {
-        if image.read_at(512 * sector, room.as_mut_slice()).is_err() {
-            add_sector(spans, sector)?;
-        }
+        try_sector(image, sector, spans)?;
     }
     Ok(())
 }
 
-/// Adds a sector that comes after all of these spans: to the last one, where it follows that.
-fn add_sector(spans: &mut Vec<Span>, sector: u64) -> Result<(), AllocError>
+/// Reads a sector, and adds it where it can't be read.
+fn try_sector<I: Image>(image: &mut I, sector: u64, spans: &mut Vec<Span>) -> Result<(), AllocError>
     requires { sector < 68_719_476_736 }
+    ensures each { OnOk result (Stand sector spans.old.items → AddUnread (I.may_fail image.old) (I.may_give image.old) sector spans.old.items (sector + 1) spans.new.items) }
+    ensures bytes { I.bytes image.new ≡ I.bytes image.old }
+    ensures calm { (k n : ℕ) → I.may_fail image.new k n → I.may_fail image.old k n }
+    ensures steady { (k n : ℕ) → I.may_give image.new k n → I.may_give image.old k n }
 {
-    let count = spans.len();
-    if 0 < count {
-        let last = spans[count - 1];
-        if last.first + last.count == sector {
-            let first = last.first;
-            let joined = last.count + 1;
-            spans[count - 1] = Span {
-                first,
-                count: joined,
-            };
-            return Ok(());
+    let mut room = [0u8; 512];
+    match image.read_at(512 * sector, room.as_mut_slice()) {
+        Ok(()) => Ok(()),
+        Err(_) => {
+            add_sector(spans, sector)?;
+            Ok(())
         }
     }
-    spans.push(Span {
-        first: sector,
-        count: 1,
-    })?;
-    Ok(())
 }

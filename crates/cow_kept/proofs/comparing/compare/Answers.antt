@@ -1,7 +1,7 @@
 use Rattle.std.proofs.Common.{◌≡◌, ℕ, ◌+◌, ◌-◌, ◌*◌, ◌<◌, ◌≤◌, ◌∙◌, List, arith, refl, sym, subst, add-zero}
 use Rattle.sector.specs.Bytes.{sector_at}
-use Rattle.cow_kept.specs.Differences.{AreDifferences}
-use Rattle.cow_kept.proofs.Adding.{more_same}
+use Rattle.cow_kept.specs.Differences.{AreDifferences, Differs, IsSame}
+use Rattle.cow_kept.proofs.Adding.{more_others, more_by}
 use Rattle.cow_kept.proofs.Reading.{differs_at, same_at}
 use Rattle.cow_kept.proofs.comparing.compare.Goals as goal
 use Rattle.cow_kept.proofs.comparing.compare.Goals.{then-ne+in_ok-add_sector, else-ne}
@@ -20,10 +20,10 @@ loop-i-preserved c = record {
       elim c.if-ne.branch [
         | then-ne+in_ok-add_sector w ↦
             subst (λ (n : ℕ). AreDifferences a o n c.if-ne.spans.items) next
-            (subst (λ (v : _). AreDifferences a o ((first + i) + 1) v.items) (sym w.spans-is) (w.in_ok-add_sector.ensures.added a o before (differs_at a o c.args.ours.now c.args.theirs.now first c.args.count i _ c.ne.result ours theirs c.loop-i-test.true whole c.ne.ensures w.if-ne.true)))
+            (subst (λ (v : _). AreDifferences a o ((first + i) + 1) v.items) (sym w.spans-is) (more_by (Differs a o) (IsSame a o) (first + i) c.loop-i.spans.items _ before w.in_ok-add_sector.ensures.added (differs_at a o c.args.ours.now c.args.theirs.now first c.args.count i _ c.ne.result ours theirs c.loop-i-test.true whole c.ne.ensures w.if-ne.true)))
         | else-ne w ↦
             subst (λ (n : ℕ). AreDifferences a o n c.if-ne.spans.items) next
-            (subst (λ (v : _). AreDifferences a o ((first + i) + 1) v.items) (sym w.spans-is) (more_same a o (first + i) ((first + i) + 1) c.loop-i.spans.items (omega arith) before
+            (subst (λ (v : _). AreDifferences a o ((first + i) + 1) v.items) (sym w.spans-is) (more_others (Differs a o) (IsSame a o) (first + i) ((first + i) + 1) c.loop-i.spans.items (omega arith) before
             (λ s low high. let here : first + i ≡ s = omega arith in subst (λ (n : ℕ). sector_at a n ≡ sector_at o n) here (same_at a o c.args.ours.now c.args.theirs.now first c.args.count i _ c.ne.result ours theirs c.loop-i-test.true whole c.ne.ensures w.if-ne.false))))
       ];
 }

@@ -2,8 +2,8 @@ use Rattle.std.proofs.Common.{◌≡◌, ℕ, ◌+◌, ◌-◌, ◌*◌, ◌<◌
 use Rattle.std.specs.Prelude.{min}
 use Rattle.cow_image.specs.Runs.{IsRun}
 use Rattle.cow_image.specs.Shown.{shown}
-use Rattle.cow_kept.specs.Differences.{AreDifferences}
-use Rattle.cow_kept.proofs.Adding.{more_same}
+use Rattle.cow_kept.specs.Differences.{AreDifferences, Differs, IsSame}
+use Rattle.cow_kept.proofs.Adding.{more_others}
 use Rattle.cow_kept.proofs.Reading.{same_run, end_at, low_at, no_place, run_less}
 use Rattle.cow_kept.proofs.differing.compare_all.Goals as goal
 use Rattle.cow_kept.proofs.differing.compare_all.Goals.{then-is_some+in_ok-compare_run, else-is_some}
@@ -42,7 +42,7 @@ loop-done-preserved g c =
             | else-is_some w ↦
                 let none : c.run_at-run.result.place ≡ None = no_place c.run_at-run.result.place (sym c.is_some.ensures ∙ w.if-is_some.false) in
                 subst (λ (v : _). AreDifferences a o end v.items) (sym w.spans-is)
-                (more_same a o done end c.loop-done.spans.items (omega arith) before (same_run chunk o b c.args.pairs.now number chunks done end c.args.size some (subst (λ (p : Option ℕ). IsRun c.args.pairs.now number p chunks) none run) at within inside whole))
+                (more_others (Differs a o) (IsSame a o) done end c.loop-done.spans.items (omega arith) before (same_run chunk o b c.args.pairs.now number chunks done end c.args.size some (subst (λ (p : Option ℕ). IsRun c.args.pairs.now number p chunks) none run) at within inside whole))
           ];
     }
 
