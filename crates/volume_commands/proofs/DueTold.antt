@@ -5,8 +5,7 @@ use Rattle.std.specs.Global.{Vec}
 use Rattle.std.specs.List.{flat_map, list_any}
 use Rattle.std.specs.declared.alloc.AllocError.{AllocError}
 use Rattle.std.proofs.lemmas.Bool.{cases_Bool, eqb-true, false≢true}
-use Rattle.std.proofs.lemmas.List.Elements.{All-contains, Contains-append_cases, Contains-append_left, Contains-append_right, Contains-push_cases}
-use Rattle.std.proofs.lemmas.List.Filters.{filter-append, filter_passes}
+use Rattle.std.proofs.lemmas.List.Elements.{All-contains, Contains-append_cases, Contains-append_left, Contains-append_right, Contains-push_cases, filter_passes}
 use Rattle.device.specs.Layers.{Layer}
 use Rattle.plain.specs.declared.event.Event.{Event}
 use Rattle.plain.specs.declared.event.Event.TheVariants.{Issue, CopyRead, CopyWrite, ZeroNext, WriteArea, Publish, WriteInvalid, FlushStore, MergeGroup, MergeAreaRead, MergeRead, MergeWrite, MergeFlush, MergeCommit, MergeRelease}
@@ -120,14 +119,14 @@ module _ {B : Type 0} (contents : B → List ℕ) (layers : B → List Layer) wh
 
   behind_marks : (s : Kept B) (event : Event) → Contains (WriteArea s.number ∷ ZeroNext s.number ∷ events_of_copies s.copies) event → Contains (events_of_snap s) event
   behind_marks s event h =
-      later (WriteInvalid s.number) event _ (later (FlushStore s.number) event _ (Contains-append_right (events_of_marks s.marks) (WriteArea s.number ∷ ZeroNext s.number ∷ events_of_copies s.copies) event h))
+      later (WriteInvalid s.number) event (FlushStore s.number ∷ (events_of_marks s.marks ++ WriteArea s.number ∷ ZeroNext s.number ∷ events_of_copies s.copies)) (later (FlushStore s.number) event _ (Contains-append_right (events_of_marks s.marks) (WriteArea s.number ∷ ZeroNext s.number ∷ events_of_copies s.copies) event h))
 
   behind_snap : (s : Kept B) (event : Event) → Contains (events_of_copies s.copies) event → Contains (events_of_snap s) event
   behind_snap s event h = behind_marks s event (later (WriteArea s.number) event _ (later (ZeroNext s.number) event _ h))
 
   among_marks : (s : Kept B) (event : Event) → Contains (events_of_marks s.marks) event → Contains (events_of_snap s) event
   among_marks s event h =
-      later (WriteInvalid s.number) event _ (later (FlushStore s.number) event _ (Contains-append_left (events_of_marks s.marks) (WriteArea s.number ∷ ZeroNext s.number ∷ events_of_copies s.copies) event h))
+      later (WriteInvalid s.number) event (FlushStore s.number ∷ (events_of_marks s.marks ++ WriteArea s.number ∷ ZeroNext s.number ∷ events_of_copies s.copies)) (later (FlushStore s.number) event _ (Contains-append_left (events_of_marks s.marks) (WriteArea s.number ∷ ZeroNext s.number ∷ events_of_copies s.copies) event h))
 
   own_in : (snaps : List (Kept B)) (rs : List Flight) (event : Event) → is_due (map (due_of_kept contents layers) snaps) rs event ≡ true → Contains (flat_map events_of_snap snaps) event ⊎ Contains (events_of_flights rs) event
   own_in snaps rs (WriteInvalid n) due =

@@ -16,7 +16,7 @@ loop-event-init g c = record { so = for_start g.B.Block.contents g.B.Block.layer
 pub loop-event-preserved-then-number-own : goal.loop-event-preserved-then-number-own
 loop-event-preserved-then-number-own g c =
     let step = step_is g.B.Block.contents g.B.Block.layers g.B.Block.fault_count g.B.Block.size c.in-Some.event _ (Answered c.in-Ok-Reply.number c.in-Ok-Reply.reply) c.loop-event.volume c.step.new.self c.in-Some.ensures.event c.in-Some.ensures.machine c.in-Ok-Reply.field-0-is
-    c.in-Ok-Reply.ensures.does.exact c.in-Ok-Reply.ensures.does.legal c.in-Ok-Reply.ensures.does.kept c.in-Ok-Reply.ensures.does.loud c.in-Ok-Reply.ensures.does.counts.0 c.in-Ok-Reply.ensures.does.flown in
+    c.in-Ok-Reply.ensures.does.exact c.in-Ok-Reply.ensures.does.legal c.in-Ok-Reply.ensures.does.kept c.in-Ok-Reply.ensures.does.loud c.in-Ok-Reply.ensures.does.counts.0 c.in-Ok-Reply.ensures.does.flown c.in-Ok-Reply.ensures.does.cause in
     let goes : c.loop-event.told && is_of_merge c.in-Some.event ≡ false = elim c.else-told.branch [
       | else-told-via-then-told+else-is_of_merge w ↦ goes_apart c.loop-event.told (is_of_merge c.in-Some.event) (sym w.is_of_merge.ensures ∙ w.if-is_of_merge.false)
       | else-told-via-else-told w ↦ goes_untold c.loop-event.told (is_of_merge c.in-Some.event) w.if-told.false
@@ -30,7 +30,7 @@ loop-event-preserved-then-number-own g c =
 pub loop-event-preserved-in-Ok-Reply-2 : goal.loop-event-preserved-in-Ok-Reply-2
 loop-event-preserved-in-Ok-Reply-2 g c =
     let step = step_is g.B.Block.contents g.B.Block.layers g.B.Block.fault_count g.B.Block.size c.in-Some.event _ (Answered c.in-Ok-Reply.number c.in-Ok-Reply.reply) c.loop-event.volume c.step.new.self c.in-Some.ensures.event c.in-Some.ensures.machine c.in-Ok-Reply.field-0-is
-    c.in-Ok-Reply.ensures.does.exact c.in-Ok-Reply.ensures.does.legal c.in-Ok-Reply.ensures.does.kept c.in-Ok-Reply.ensures.does.loud c.in-Ok-Reply.ensures.does.counts.0 c.in-Ok-Reply.ensures.does.flown in
+    c.in-Ok-Reply.ensures.does.exact c.in-Ok-Reply.ensures.does.legal c.in-Ok-Reply.ensures.does.kept c.in-Ok-Reply.ensures.does.loud c.in-Ok-Reply.ensures.does.counts.0 c.in-Ok-Reply.ensures.does.flown c.in-Ok-Reply.ensures.does.cause in
     let goes : c.loop-event.told && is_of_merge c.in-Some.event ≡ false = elim c.else-told.branch [
       | else-told-via-then-told+else-is_of_merge w ↦ goes_apart c.loop-event.told (is_of_merge c.in-Some.event) (sym w.is_of_merge.ensures ∙ w.if-is_of_merge.false)
       | else-told-via-else-told w ↦ goes_untold c.loop-event.told (is_of_merge c.in-Some.event) w.if-told.false
@@ -44,7 +44,7 @@ loop-event-preserved-in-Ok-Reply-2 g c =
 pub loop-event-preserved-in-Ok-Done : goal.loop-event-preserved-in-Ok-Done
 loop-event-preserved-in-Ok-Done g c =
     let step = step_is g.B.Block.contents g.B.Block.layers g.B.Block.fault_count g.B.Block.size c.in-Some.event _ Done c.loop-event.volume c.step.new.self c.in-Some.ensures.event c.in-Some.ensures.machine c.in-Ok-Done.field-0-is
-    c.in-Ok-Done.ensures.does.exact c.in-Ok-Done.ensures.does.legal c.in-Ok-Done.ensures.does.kept c.in-Ok-Done.ensures.does.loud c.in-Ok-Done.ensures.does.counts.0 c.in-Ok-Done.ensures.does.flown in
+    c.in-Ok-Done.ensures.does.exact c.in-Ok-Done.ensures.does.legal c.in-Ok-Done.ensures.does.kept c.in-Ok-Done.ensures.does.loud c.in-Ok-Done.ensures.does.counts.0 c.in-Ok-Done.ensures.does.flown c.in-Ok-Done.ensures.does.cause in
     let goes : c.loop-event.told && is_of_merge c.in-Some.event ≡ false = elim c.else-told.branch [
       | else-told-via-then-told+else-is_of_merge w ↦ goes_apart c.loop-event.told (is_of_merge c.in-Some.event) (sym w.is_of_merge.ensures ∙ w.if-is_of_merge.false)
       | else-told-via-else-told w ↦ goes_untold c.loop-event.told (is_of_merge c.in-Some.event) w.if-told.false
@@ -57,7 +57,7 @@ loop-event-preserved-in-Ok-Done g c =
 pub loop-event-preserved : goal.loop-event-preserved
 loop-event-preserved g c =
     let step = step_is g.B.Block.contents g.B.Block.layers g.B.Block.fault_count g.B.Block.size c.in-Some.event _ Fault c.loop-event.volume c.step.new.self c.in-Some.ensures.event c.in-Some.ensures.machine c.in-Ok-Fault.field-0-is
-    c.in-Ok-Fault.ensures.does.exact c.in-Ok-Fault.ensures.does.legal c.in-Ok-Fault.ensures.does.kept c.in-Ok-Fault.ensures.does.loud c.in-Ok-Fault.ensures.does.counts.0 c.in-Ok-Fault.ensures.does.flown in
+    c.in-Ok-Fault.ensures.does.exact c.in-Ok-Fault.ensures.does.legal c.in-Ok-Fault.ensures.does.kept c.in-Ok-Fault.ensures.does.loud c.in-Ok-Fault.ensures.does.counts.0 c.in-Ok-Fault.ensures.does.flown c.in-Ok-Fault.ensures.does.cause in
     let goes : c.loop-event.told && is_of_merge c.in-Some.event ≡ false = elim c.else-told.branch [
       | else-told-via-then-told+else-is_of_merge w ↦ goes_apart c.loop-event.told (is_of_merge c.in-Some.event) (sym w.is_of_merge.ensures ∙ w.if-is_of_merge.false)
       | else-told-via-else-told w ↦ goes_untold c.loop-event.told (is_of_merge c.in-Some.event) w.if-told.false
