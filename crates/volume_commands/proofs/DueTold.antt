@@ -122,7 +122,7 @@ module _ {B : Type 0} (contents : B → List ℕ) (layers : B → List Layer) wh
       later (WriteInvalid s.number) event (FlushStore s.number ∷ (events_of_marks s.marks ++ WriteArea s.number ∷ ZeroNext s.number ∷ events_of_copies s.copies)) (later (FlushStore s.number) event _ (Contains-append_right (events_of_marks s.marks) (WriteArea s.number ∷ ZeroNext s.number ∷ events_of_copies s.copies) event h))
 
   behind_snap : (s : Kept B) (event : Event) → Contains (events_of_copies s.copies) event → Contains (events_of_snap s) event
-  behind_snap s event h = behind_marks s event (later (WriteArea s.number) event _ (later (ZeroNext s.number) event _ h))
+  behind_snap s event h = behind_marks s event (later (WriteArea s.number) event (ZeroNext s.number ∷ events_of_copies s.copies) (later (ZeroNext s.number) event (events_of_copies s.copies) h))
 
   among_marks : (s : Kept B) (event : Event) → Contains (events_of_marks s.marks) event → Contains (events_of_snap s) event
   among_marks s event h =
@@ -130,24 +130,24 @@ module _ {B : Type 0} (contents : B → List ℕ) (layers : B → List Layer) wh
 
   own_in : (snaps : List (Kept B)) (rs : List Flight) (event : Event) → is_due (map (due_of_kept contents layers) snaps) rs event ≡ true → Contains (flat_map events_of_snap snaps) event ⊎ Contains (events_of_flights rs) event
   own_in snaps rs (WriteInvalid n) due =
-      inl (in_snaps (λ s. (s.books.number == n) && can_mark s) (WriteInvalid n) snaps due (λ s at. of_number s WriteInvalid n _ at (here (WriteInvalid s.number) _)))
+      inl (in_snaps (λ s. (s.books.number == n) && can_mark s) (WriteInvalid n) snaps due (λ s at. of_number s WriteInvalid n _ at (here (WriteInvalid s.number) (FlushStore s.number ∷ (events_of_marks s.marks ++ WriteArea s.number ∷ ZeroNext s.number ∷ events_of_copies s.copies)))))
   own_in snaps rs (FlushStore n) due =
-      inl (in_snaps (λ s. (s.books.number == n) && can_flush_store s) (FlushStore n) snaps due (λ s at. of_number s FlushStore n _ at (later (WriteInvalid s.number) (FlushStore s.number) _ (here (FlushStore s.number) _))))
+      inl (in_snaps (λ s. (s.books.number == n) && can_flush_store s) (FlushStore n) snaps due (λ s at. of_number s FlushStore n _ at (later (WriteInvalid s.number) (FlushStore s.number) (FlushStore s.number ∷ (events_of_marks s.marks ++ WriteArea s.number ∷ ZeroNext s.number ∷ events_of_copies s.copies)) (here (FlushStore s.number) (events_of_marks s.marks ++ WriteArea s.number ∷ ZeroNext s.number ∷ events_of_copies s.copies)))))
   own_in snaps rs (WriteArea n) due =
-      inl (in_snaps (λ s. (s.books.number == n) && can_commit s) (WriteArea n) snaps due (λ s at. of_number s WriteArea n _ at (behind_marks s (WriteArea s.number) (here (WriteArea s.number) _))))
+      inl (in_snaps (λ s. (s.books.number == n) && can_commit s) (WriteArea n) snaps due (λ s at. of_number s WriteArea n _ at (behind_marks s (WriteArea s.number) (here (WriteArea s.number) (ZeroNext s.number ∷ events_of_copies s.copies)))))
   own_in snaps rs (ZeroNext n) due =
-      inl (in_snaps (λ s. (s.books.number == n) && can_zero s) (ZeroNext n) snaps due (λ s at. of_number s ZeroNext n _ at (behind_marks s (ZeroNext s.number) (later (WriteArea s.number) (ZeroNext s.number) _ (here (ZeroNext s.number) _)))))
+      inl (in_snaps (λ s. (s.books.number == n) && can_zero s) (ZeroNext n) snaps due (λ s at. of_number s ZeroNext n _ at (behind_marks s (ZeroNext s.number) (later (WriteArea s.number) (ZeroNext s.number) (ZeroNext s.number ∷ events_of_copies s.copies) (here (ZeroNext s.number) (events_of_copies s.copies))))))
   own_in snaps rs (Publish n) due =
       inl (in_snaps (λ s. list_any (λ m. (m.number == n) && is_publishable s.books.number s.books.chunk rs m) s.books.marks) (Publish n) snaps due
       (λ s at. among_marks s (Publish n) (any_map (λ (m : Mark). (m.number == n) && is_publishable s.number s.state.chunk rs m) (λ m. Publish m.number) (Publish n) s.marks at (λ m passes. ap Publish (eqb-true m.number n (first_true (nat_eq m.number n) _ passes))))))
   own_in snaps rs (CopyWrite n) due =
       inl (in_snaps (λ s. list_any (λ c. (c.number == n) && is_copy_at Read c) s.books.copies) (CopyWrite n) snaps due
       (λ s at. behind_snap s (CopyWrite n) (any_flat (λ (c : ChunkCopy). (c.number == n) && is_copy_at Read c) events_of_copy (CopyWrite n) s.copies at
-      (λ c passes. subst (λ k. Contains (events_of_copy c) (CopyWrite k)) (eqb-true c.number n (first_true (nat_eq c.number n) _ passes)) (here (CopyWrite c.number) _)))))
+      (λ c passes. subst (λ k. Contains (events_of_copy c) (CopyWrite k)) (eqb-true c.number n (first_true (nat_eq c.number n) _ passes)) (here (CopyWrite c.number) (CopyRead c.number ∷ []))))))
   own_in snaps rs (CopyRead n) due =
       inl (in_snaps (λ s. list_any (λ c. (c.number == n) && is_copy_at Waiting c) s.books.copies) (CopyRead n) snaps due
       (λ s at. behind_snap s (CopyRead n) (any_flat (λ (c : ChunkCopy). (c.number == n) && is_copy_at Waiting c) events_of_copy (CopyRead n) s.copies at
-      (λ c passes. subst (λ k. Contains (events_of_copy c) (CopyRead k)) (eqb-true c.number n (first_true (nat_eq c.number n) _ passes)) (later (CopyWrite c.number) (CopyRead c.number) _ (here (CopyRead c.number) _))))))
+      (λ c passes. subst (λ k. Contains (events_of_copy c) (CopyRead k)) (eqb-true c.number n (first_true (nat_eq c.number n) _ passes)) (later (CopyWrite c.number) (CopyRead c.number) (CopyRead c.number ∷ []) (here (CopyRead c.number) []))))))
   own_in snaps rs (Issue n) due = inr (issued_in n rs due)
   own_in snaps rs MergeGroup due = absurd (false≢true due)
   own_in snaps rs MergeAreaRead due = absurd (false≢true due)
