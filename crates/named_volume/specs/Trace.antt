@@ -64,8 +64,12 @@ copies_text name copies = flat_map (copy_text name) copies
 abbrev pub snap_text : List ℕ → Kept Stack → List ℕ
 snap_text name s = marks_text name s.marks ++ copies_text name s.copies
 
-abbrev pub snaps_text : List Names → List (Kept Stack) → List ℕ
-snaps_text names snaps = flat_map (λ s. snap_text (name_of names snaps s.number) s) snaps
+-- the copies of a snapshot under its name, and of some of the snapshots that have these names
+unfoldable pub told_text : List Names → List (Kept Stack) → Kept Stack → List ℕ
+told_text names snaps s = snap_text (name_of names snaps s.number) s
+
+abbrev pub copied_text : List Names → List (Kept Stack) → List (Kept Stack) → List ℕ
+copied_text names snaps some = flat_map (told_text names snaps) some
 
 -- a request, by its number, what it does, its device, its sectors, and whether it waits
 abbrev pub route_word : Route → List ℕ
@@ -120,7 +124,7 @@ line_of name (b ∷ items) = name ++ (b ∷ items) ++ codes "\n"
 -- the requests, the copies and the events of a volume of events
 abbrev pub items_of : List ℕ → List Names → Volumed Stack → List Event → List ℕ
 items_of origin names v events =
-    flights_text origin names v.snaps v.flights ++ (snaps_text names v.snaps ++ dues_text names v.snaps events)
+    flights_text origin names v.snaps v.flights ++ (copied_text names v.snaps v.snaps ++ dues_text names v.snaps events)
 
 -- A line says what is in flight in the volume of events behind a volume, and which events are due: all of them, and no other.
 pub record IsTraced (text : List ℕ) (volume : Volume) : Type 0 where

@@ -5,7 +5,7 @@ ghost use Rattle.layers.specs.declared.stack.Stack.{Stack as AnyStack};
 ghost use Rattle.volume.specs.Volumed.{Volumed};
 ghost use Rattle.words.specs.Texts.{texts};
 ghost use Rattle.words.specs.Words.{spaced};
-ghost use Rattle.named_volume.specs.Trace.{IsTraced, copies_text, copy_text, due_text, dues_text, flight_text, flights_text, item_of, line_of, mark_text, marks_text, name_of, named_dev, route_word, snap_text, snaps_text, stage_word};
+ghost use Rattle.named_volume.specs.Trace.{IsTraced, copied_text, copies_text, copy_text, due_text, dues_text, flight_text, flights_text, item_of, line_of, mark_text, marks_text, name_of, named_dev, route_word, snap_text, stage_word, told_text};
 
 use crate::names::SnapNames;
 use crate::origin::NamedVolume;
@@ -55,44 +55,36 @@ fn stage_word(stage: Stage) -> &'static [u8]
     }
 }
 
+/// Adds a copy: its number, its snapshot's name, its chunk, and how far it is.
+fn add_told(
+    out: &mut Vec<u8>,
+    number: u64,
+    name: &[u8],
+    chunk: u64,
+    state: &[u8],
+) -> Result<(), AllocError>
+    ensures { OnOk result (out.new.items ≡ out.old.items ++ item_of (codes "copy" ∷ decimal number ∷ name.now ∷ decimal chunk ∷ state.now ∷ [])) }
+{
+    let mut number_buffer = Buffer::new();
+    let mut chunk_buffer = Buffer::new();
+    let number = number_buffer.format(number).as_bytes();
+    let chunk = chunk_buffer.format(chunk).as_bytes();
+    add_item(out, &[b"copy".as_slice(), number, name, chunk, state])
+}
+
 /// Adds a copy whose pair is not committed.
 fn add_copy(out: &mut Vec<u8>, name: &[u8], copy: &ChunkCopy) -> Result<(), AllocError>
     ensures { OnOk result (out.new.items ≡ out.old.items ++ copy_text name.now copy.now) }
 {
-    let mut number_buffer = Buffer::new();
-    let mut chunk_buffer = Buffer::new();
-    let number = number_buffer.format(copy.number).as_bytes();
-    let chunk = chunk_buffer.format(copy.pair.old).as_bytes();
-    add_item(
-        out,
-        &[
-            b"copy".as_slice(),
-            number,
-            name,
-            chunk,
-            stage_word(copy.stage),
-        ],
-    )
+    let state = stage_word(copy.stage);
+    add_told(out, copy.number, name, copy.pair.old, state)
 }
 
 /// Adds a copy whose pair is committed.
 fn add_mark(out: &mut Vec<u8>, name: &[u8], mark: &Mark) -> Result<(), AllocError>
     ensures { OnOk result (out.new.items ≡ out.old.items ++ mark_text name.now mark.now) }
 {
-    let mut number_buffer = Buffer::new();
-    let mut chunk_buffer = Buffer::new();
-    let number = number_buffer.format(mark.number).as_bytes();
-    let chunk = chunk_buffer.format(mark.chunk).as_bytes();
-    add_item(
-        out,
-        &[
-            b"copy".as_slice(),
-            number,
-            name,
-            chunk,
-            b"committed".as_slice(),
-        ],
-    )
+    add_told(out, mark.number, name, mark.chunk, b"committed")
 }
 
 /// Adds the copies that are committed.
@@ -123,16 +115,31 @@ fn add_snap(out: &mut Vec<u8>, name: &[u8], snap: &Snapshot<Stack>) -> Result<()
     add_copies(out, name, snap.copies())
 }
 
-/// Adds the copies of each snapshot.
+/// Adds the copies of a snapshot, under its name.
+#[tactic(auto, unfolding(crate::specs::Trace::told_text))]
+fn add_named_snap(
+    out: &mut Vec<u8>,
+    names: &[SnapNames],
+    snaps: &[Snapshot<Stack>],
+    snap: &Snapshot<Stack>,
+) -> Result<(), AllocError>
+    ensures { OnOk result (out.new.items ≡ out.old.items ++ told_text names.now snaps.now snap.now) }
+{
+    let name = name_of(names, snaps, snap.number());
+    add_snap(out, name, snap)
+}
+
+/// Adds the copies of some of the snapshots that have these names.
 fn add_snaps(
     out: &mut Vec<u8>,
     names: &[SnapNames],
     snaps: &[Snapshot<Stack>],
+    some: &[Snapshot<Stack>],
 ) -> Result<(), AllocError>
-    ensures { OnOk result (out.new.items ≡ out.old.items ++ snaps_text names.now snaps.now) }
+    ensures { OnOk result (out.new.items ≡ out.old.items ++ copied_text names.now snaps.now some.now) }
 {
-    for snap in snaps {
-        add_snap(out, name_of(names, snaps, snap.number()), snap)?;
+    for snap in some {
+        add_named_snap(out, names, snaps, snap)?;
     }
     Ok(())
 }
@@ -151,8 +158,14 @@ fn route_word(route: Route) -> &'static [u8]
 }
 
 /// The words of a read or a write.
-fn add_moving(out: &mut Vec<u8>, kind: &[u8], dev: &[u8], flight: &Flight) -> Result<(), AllocError>
-    ensures { OnOk result (out.new.items ≡ out.old.items ++ item_of (codes "request" ∷ decimal flight.now.number ∷ kind.now ∷ dev.now ∷ decimal flight.now.request.range.first ∷ decimal flight.now.request.range.count ∷ route_word flight.now.route ∷ [])) }
+fn add_moving<'a>(
+    out: &mut Vec<u8>,
+    kind: &'a [u8],
+    dev: &'a [u8],
+    flight: &Flight,
+    state: &'a [u8],
+) -> Result<(), AllocError>
+    ensures { OnOk result (out.new.items ≡ out.old.items ++ item_of (codes "request" ∷ decimal flight.now.number ∷ kind.now ∷ dev.now ∷ decimal flight.now.request.range.first ∷ decimal flight.now.request.range.count ∷ state.now ∷ [])) }
 {
     let mut number_buffer = Buffer::new();
     let mut first_buffer = Buffer::new();
@@ -160,7 +173,6 @@ fn add_moving(out: &mut Vec<u8>, kind: &[u8], dev: &[u8], flight: &Flight) -> Re
     let number = number_buffer.format(flight.number).as_bytes();
     let first = first_buffer.format(flight.request.range.first).as_bytes();
     let count = count_buffer.format(flight.request.range.count).as_bytes();
-    let state = route_word(flight.route);
     add_item(
         out,
         &[
@@ -179,10 +191,11 @@ fn add_moving(out: &mut Vec<u8>, kind: &[u8], dev: &[u8], flight: &Flight) -> Re
 fn add_flight(out: &mut Vec<u8>, dev: &[u8], flight: &Flight) -> Result<(), AllocError>
     ensures { OnOk result (out.new.items ≡ out.old.items ++ flight_text dev.now flight.now) }
 {
+    let state = route_word(flight.route);
     match &flight.request.op {
-        Op::Read => add_moving(out, b"read", dev, flight),
-        Op::Write(_) => add_moving(out, b"write", dev, flight),
-        Op::Flush => add_moving(out, b"flush", dev, flight),
+        Op::Read => add_moving(out, b"read", dev, flight, state),
+        Op::Write(_) => add_moving(out, b"write", dev, flight, state),
+        Op::Flush => add_moving(out, b"flush", dev, flight, state),
     }
 }
 
@@ -201,6 +214,20 @@ fn named_dev<'a>(
     }
 }
 
+/// Adds a request, under the name of its device.
+fn add_named_flight(
+    out: &mut Vec<u8>,
+    origin: &Name,
+    names: &[SnapNames],
+    snaps: &[Snapshot<Stack>],
+    flight: &Flight,
+) -> Result<(), AllocError>
+    ensures { OnOk result (out.new.items ≡ out.old.items ++ flight_text (named_dev origin.now names.now snaps.now flight.now.request.dev) flight.now) }
+{
+    let dev = named_dev(origin, names, snaps, flight.request.dev);
+    add_flight(out, dev, flight)
+}
+
 /// Adds the requests in flight.
 fn add_flights(
     out: &mut Vec<u8>,
@@ -212,8 +239,7 @@ fn add_flights(
     ensures { OnOk result (out.new.items ≡ out.old.items ++ flights_text origin.now names.now snaps.now flights.now) }
 {
     for flight in flights {
-        let dev = named_dev(origin, names, snaps, flight.request.dev);
-        add_flight(out, dev, flight)?;
+        add_named_flight(out, origin, names, snaps, flight)?;
     }
     Ok(())
 }
@@ -320,7 +346,7 @@ impl NamedVolume {
             snaps,
             self.volume.flights(),
         )?;
-        add_snaps(&mut items, names, snaps)?;
+        add_snaps(&mut items, names, snaps, snaps)?;
         let due = self.volume.due_events(alloc)?;
         add_dues(&mut items, names, snaps, &due)?;
         line_of(alloc, &self.origin, items)
