@@ -12,15 +12,15 @@ use native.Mathlib.Nat.{ℕ_set}
 use Rattle.command.specs.declared.seat_line.SeatLine.{SeatLine}
 use Rattle.block_run.specs.Played.{Story}
 use Rattle.command_rules.specs.State.{Table}
-use Rattle.reply.specs.declared.Reply.{Reply}
-use Rattle.reply.specs.declared.Reply.TheVariants.{Gate}
+use Rattle.command.specs.declared.command_reply.CommandReply.{CommandReply}
+use Rattle.command.specs.declared.command_reply.CommandReply.TheVariants.{Gate}
 use Rattle.volume_threads.specs.Rigs.{SeatShape}
-use Rattle.block_threads.specs.declared.task.Task.{Task}
+use Rattle.volume_threads.specs.declared.task.Task.{Task}
 use Rattle.journal.specs.declared.entry.Entry.{Entry}
 use Rattle.block_run.specs.Played.{denied_in, pieces_in}
 use Rattle.locked_volume.specs.Denying.{Wish}
 use Rattle.sector.specs.declared.refusal.Refusal.{Refusal}
-use Rattle.block_threads.specs.Tasks.{AreDone, IsEnded}
+use Rattle.volume_threads.specs.Tasks.{AreDone, IsEnded}
 use Rattle.block_run.specs.Asking.{IsTask}
 use Rattle.block_run.specs.Answering.{AreAsked, AreEnded, gate_replies, lines_by, replies_of, reply_of}
 use Rattle.block_run.specs.Running.{IsOfBlock, gate_told, seat_in, seats_told}
@@ -35,12 +35,12 @@ told_more {X} f first (suc n) =
     ∙ ap (λ (k : ℕ). flat_map f (range_with_len first k)) (let is : suc (n + 1) ≡ suc n + 1 = omega arith in is)
 
 -- those of the first seats
-abbrev pub first_replies : ℕ → (ℕ → List Task) → List Reply
+abbrev pub first_replies : ℕ → (ℕ → List Task) → List CommandReply
 first_replies n told = flat_map (λ i. map (reply_of (i + 1)) (told i)) (range_with_len 0 n)
 
 pub first_more : (n : ℕ) (told : ℕ → List Task) → first_replies n told ++ map (reply_of (n + 1)) (told n) ≡ first_replies (n + 1) told
 first_more n told =
-    let f : ℕ → List Reply = λ i. map (reply_of (i + 1)) (told i) in
+    let f : ℕ → List CommandReply = λ i. map (reply_of (i + 1)) (told i) in
     ap (λ (k : ℕ). first_replies n told ++ f k) (let is : n ≡ 0 + n = omega arith in is) ∙ told_more f 0 n
 
 -- as many as tasks

@@ -3,8 +3,8 @@ use Rattle.std.specs.Prelude.{ℕ, Bool, true, false, List, map, Option, Some, N
 use Rattle.sector.specs.declared.refusal.Refusal.{Refusal}
 use Rattle.command.specs.Blocks.{Lines}
 use Rattle.command.specs.Founds.{first_refusal}
-use Rattle.command.specs.declared.found.Found.{Found}
-use Rattle.command.specs.declared.found.Found.TheVariants.{Missing, Other, Busy, Quiet}
+use Rattle.command.specs.declared.found.NameFound.{NameFound}
+use Rattle.command.specs.declared.found.NameFound.TheVariants.{Missing, Other, Busy, Quiet}
 use Rattle.command.specs.declared.seat_line.SeatLine.{SeatLine}
 use Rattle.command.specs.declared.seat_line.Work.{Work}
 use Rattle.command.specs.declared.seat_line.Work.TheVariants.{Read, Write, Merge, OutsideRead, OutsideWrite}
@@ -40,21 +40,21 @@ serves work Merging = true
 serves work (MergingStore depth) = false
 
 -- something is left to do in a volume, or nothing
-abbrev pub rest_found : Result Volume Refusal → Found
+abbrev pub rest_found : Result Volume Refusal → NameFound
 rest_found (Err refusal) = Missing
 rest_found (Ok volume) = if volume.quiet then Quiet else Busy
 
-abbrev pub found_at : Table → Work → Result Place Refusal → Found
+abbrev pub found_at : Table → Work → Result Place Refusal → NameFound
 found_at table work (Err refusal) = Missing
 found_at table work (Ok (Free i depth)) = Other
 found_at table work (Ok (In v role)) = if serves work role then rest_found (volume_at v table) else Other
 
 -- what a line finds under its name
-abbrev pub found_in : Table → SeatLine → Found
+abbrev pub found_in : Table → SeatLine → NameFound
 found_in table line = found_at table line.work (found (place_of (name_in line.work) table))
 
 -- why none of its lines is run: for what they say, or else for what they find
-abbrev pub refusal_after : Option Refusal → List Found → Option Refusal
+abbrev pub refusal_after : Option Refusal → List NameFound → Option Refusal
 refusal_after (Some refusal) found = Some refusal
 refusal_after None found = first_refusal found
 

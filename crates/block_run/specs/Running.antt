@@ -10,12 +10,12 @@ use Rattle.command_rules.specs.Places.{place_of}
 use Rattle.command_rules.specs.declared.place.Place.{Place}
 use Rattle.command_rules.specs.declared.place.Place.TheVariants.{Free, In}
 use Rattle.named_volume.specs.Names.{IsNamedBegun, KeepsNames}
-use Rattle.reply.specs.declared.Reply.{Reply}
-use Rattle.reply.specs.declared.Reply.TheVariants.{Done, Data, Said, Number, Fault, Ended, Seat, Gate, Refused}
+use Rattle.command.specs.declared.command_reply.CommandReply.{CommandReply}
+use Rattle.command.specs.declared.command_reply.CommandReply.TheVariants.{Done, Data, Said, Number, Fault, Ended, Seat, Gate, Refused}
 use Rattle.block_run.specs.Looking.{block_refusal, name_in}
 
 -- the line of a seat, or of the gate
-abbrev pub IsOfBlock : Reply → Type 0
+abbrev pub IsOfBlock : CommandReply → Type 0
 IsOfBlock Done = ⊥
 IsOfBlock (Data bytes) = ⊥
 IsOfBlock (Said text) = ⊥
@@ -27,7 +27,7 @@ IsOfBlock (Gate opened) = Unit {0}
 IsOfBlock (Refused refusal) = ⊥
 
 -- which seat's it is; none of the gate's
-abbrev pub seat_in : Reply → Option ℕ
+abbrev pub seat_in : CommandReply → Option ℕ
 seat_in Done = None
 seat_in (Data bytes) = None
 seat_in (Said text) = None

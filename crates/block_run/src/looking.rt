@@ -3,9 +3,9 @@ ghost use Rattle.std.specs.Prelude.{◌≡◌, IfOk, map};
 ghost use Rattle.named_volume.specs.Tables.{table_of};
 ghost use Rattle.block_run.specs.Looking.{found_in, name_in, serves};
 
-use command::{Found, SeatLine, Work};
+use command::{NameFound, SeatLine, Work};
 use command_rules::{Place, Role};
-use named_volume::{Held, find_device};
+use named_volume::{Devices, find_device};
 use std::alloc::{AllocError, Global};
 use words::Name;
 
@@ -34,26 +34,30 @@ fn serves(work: &Work, role: Role) -> bool
 }
 
 /// What a line finds.
-fn found(held: &Held, line: &SeatLine) -> Found
+fn found(held: &Devices, line: &SeatLine) -> NameFound
     ensures { result ≡ found_in (table_of held.now) line.now }
 {
     match find_device(held, name_in(&line.work)) {
-        Err(_) => Found::Missing,
-        Ok(Place::Free(_, _)) => Found::Other,
+        Err(_) => NameFound::Missing,
+        Ok(Place::Free(_, _)) => NameFound::Other,
         Ok(Place::In(v, role)) => {
             if !serves(&line.work, role) {
-                Found::Other
+                NameFound::Other
             } else if held.volumes[v].is_quiet() {
-                Found::Quiet
+                NameFound::Quiet
             } else {
-                Found::Busy
+                NameFound::Busy
             }
         }
     }
 }
 
 /// What each line finds. An error says that the allocator refused memory for the list.
-pub fn all_found(alloc: Global, held: &Held, lines: &[SeatLine]) -> Result<Vec<Found>, AllocError>
+pub fn all_found(
+    alloc: Global,
+    held: &Devices,
+    lines: &[SeatLine],
+) -> Result<Vec<NameFound>, AllocError>
     ensures { IfOk result (λ all. all.items ≡ map (found_in (table_of held.now)) lines.now) }
 {
     lines.iter().map(|line| found(held, line)).collect(alloc)

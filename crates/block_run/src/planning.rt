@@ -7,29 +7,28 @@ ghost use Rattle.command.specs.Lines.{IsSeat};
 ghost use Rattle.named_volume.specs.Tables.{table_of};
 ghost use Rattle.command_rules.specs.Places.{IsRoleIn, place_of};
 ghost use Rattle.command_rules.specs.Sectors.{dev_of};
-ghost use Rattle.block_threads.specs.Tasks.{tasks_at};
+ghost use Rattle.volume_threads.specs.Tasks.{tasks_at};
 ghost use Rattle.block_run.specs.Answering.{AreAsked};
 ghost use Rattle.block_run.specs.Asking.{IsJob, IsMergeAs, IsReadAs, IsTask, IsWriteAs, asked, asks_of, merges_of, place_among, writes_of};
 ghost use Rattle.block_run.specs.Looking.{name_in};
 ghost use Rattle.block_run.specs.Running.{is_in, used_in};
 
 use crate::looking::name_in;
-use block_threads::{Job, SEATS, Task};
-use command::{SeatLine, Work};
+use command::{CommandReply, SeatLine, Work};
 use command_rules::{Place, Role};
-use named_volume::{Held, NamedVolume, find_device, range_in, whole_sectors};
+use named_volume::{Devices, NamedVolume, find_device, range_in, whole_sectors};
 use plain::Dev;
-use reply::Reply;
 use sector::{Buf, Range, Refusal};
 use std::alloc::{AllocError, Global};
+use volume_threads::{Job, SEATS, Task};
 
 /// Which volumes are taken out, by their place in the table; the tasks of each seat; and room for a reply to each line, and for
 /// the gate's.
 #[derive(Drop)]
-pub struct Plan {
+pub struct BlockPlan {
     pub used: Vec<bool>,
     pub tasks: Vec<Vec<Task>>,
-    pub replies: Vec<Reply>,
+    pub replies: Vec<CommandReply>,
 }
 
 /// The place that a volume has among those that are taken out, the last of the table first.
@@ -146,7 +145,7 @@ fn job(volume: &NamedVolume, place: usize, role: Role, work: Work) -> Job
 }
 
 /// Marks the volume of the device that a line names.
-fn mark(held: &Held, line: &SeatLine, used: &mut Vec<bool>)
+fn mark(held: &Devices, line: &SeatLine, used: &mut Vec<bool>)
     requires { vec_len used.old ≡ length (table_of held.now).volumes }
     ensures many { vec_len used.new ≡ vec_len used.old }
     ensures marked { (w : ℕ) → w < vec_len used.old → slice_index_or used.new.items w false ≡ (slice_index_or used.old.items w false || is_in w (place_of (name_in line.now.work) (table_of held.now))) }
@@ -159,7 +158,7 @@ fn mark(held: &Held, line: &SeatLine, used: &mut Vec<bool>)
 }
 
 /// Of each volume, by its place in the table, whether a line names a device of it.
-fn used_in(alloc: Global, held: &Held, lines: &[SeatLine]) -> Result<Vec<bool>, AllocError>
+fn used_in(alloc: Global, held: &Devices, lines: &[SeatLine]) -> Result<Vec<bool>, AllocError>
     ensures { IfOk result (λ used. used.items ≡ used_in lines.now (table_of held.now)) }
 {
     let mut used = vec![in alloc; false; held.volumes.len()]?;
@@ -180,7 +179,7 @@ fn waiting(job: Job) -> Task
 }
 
 /// The task that a line is. The lines of a block that is not refused each name a device of a volume.
-fn task(held: &Held, used: &[bool], work: Work) -> Task
+fn task(held: &Devices, used: &[bool], work: Work) -> Task
     requires { length used.now ≡ length (table_of held.now).volumes }
     ensures { IsTask used.now (table_of held.now) work result }
 {
@@ -221,7 +220,7 @@ fn put_task(tasks: &mut Vec<Vec<Task>>, seat: u8, task: Task) -> Result<(), Allo
 /// The tasks of each seat, in the order of its lines.
 fn tasks_of(
     alloc: Global,
-    held: &Held,
+    held: &Devices,
     used: &[bool],
     lines: Vec<SeatLine>,
 ) -> Result<Vec<Vec<Task>>, AllocError>
@@ -238,7 +237,7 @@ fn tasks_of(
     Ok(tasks)
 }
 
-fn plan_of(alloc: Global, held: &Held, lines: Vec<SeatLine>) -> Result<Plan, AllocError>
+fn plan_of(alloc: Global, held: &Devices, lines: Vec<SeatLine>) -> Result<BlockPlan, AllocError>
     requires seats { AreSeats lines.items }
     ensures used { IfOk result (λ plan. plan.used.items ≡ used_in lines.items (table_of held.now)) }
     ensures eight { IfOk result (λ plan. length plan.tasks.items ≡ 8) }
@@ -249,7 +248,7 @@ fn plan_of(alloc: Global, held: &Held, lines: Vec<SeatLine>) -> Result<Plan, All
     let used = used_in(alloc, held, &lines)?;
     let replies = Vec::with_capacity(alloc, lines.len() + 1)?;
     let tasks = tasks_of(alloc, held, &used, lines)?;
-    Ok(Plan {
+    Ok(BlockPlan {
         used,
         tasks,
         replies,
@@ -257,7 +256,7 @@ fn plan_of(alloc: Global, held: &Held, lines: Vec<SeatLine>) -> Result<Plan, All
 }
 
 /// What the lines of a block ask. The one error is `NoMemory`.
-pub fn planned(alloc: Global, held: &Held, lines: Vec<SeatLine>) -> Result<Plan, Refusal>
+pub fn planned(alloc: Global, held: &Devices, lines: Vec<SeatLine>) -> Result<BlockPlan, Refusal>
     requires seats { AreSeats lines.items }
     ensures used { IfOk result (λ plan. plan.used.items ≡ used_in lines.items (table_of held.now)) }
     ensures eight { IfOk result (λ plan. length plan.tasks.items ≡ 8) }

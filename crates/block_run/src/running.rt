@@ -8,7 +8,7 @@ ghost use Rattle.journal.specs.Books.{AuditShape};
 ghost use Rattle.command_rules.specs.Naming.{AreNamed};
 ghost use Rattle.command_rules.specs.Sound.{is_sound};
 ghost use Rattle.named_volume.specs.Tables.{table_of};
-ghost use Rattle.block_threads.specs.Tasks.{AreTold, tasks_at};
+ghost use Rattle.volume_threads.specs.Tasks.{AreTold, tasks_at};
 ghost use Rattle.block_run.specs.Answering.{AreAnswered, AreEnded, AreReplied, gate_replies, replies_of, reply_of};
 ghost use Rattle.block_run.specs.Looking.{block_refusal};
 ghost use Rattle.block_run.specs.Played.{ArePlayed, Story};
@@ -17,23 +17,22 @@ ghost use Rattle.block_run.specs.Spared.{AreSpared, NoneAdded};
 ghost use Rattle.block_run.specs.Taking.{IsLeft};
 
 use crate::looking::all_found;
-use crate::planning::{Plan, planned};
+use crate::planning::{BlockPlan, planned};
 use crate::taking::{put_back, take_all};
-use block_threads::{Hold, Task, run_seats};
-use command::{Block, refusal_among};
+use command::{CommandReply, LineBlock, SeatAnswer, Seated, refusal_among};
 use journal::Audit;
 use layers::Stack;
-use named_volume::Held;
-use reply::{Answered, Reply, Seated};
+use named_volume::Devices;
 use sector::Refusal;
 use std::alloc::Global;
 use std::mem;
 use std::sync::Wait;
 use std::thread::Threads;
+use volume_threads::{Hold, Task, run_seats};
 
 /// Why a block is refused before anything runs. The one error is `NoMemory`.
 #[tactic(auto, unfolding(crate::specs::Looking::block_refusal))]
-fn refused(alloc: Global, held: &Held, block: &Block) -> Result<(), Refusal>
+fn refused(alloc: Global, held: &Devices, block: &LineBlock) -> Result<(), Refusal>
     ensures ok { IfOk result (λ _. block_refusal block.now (table_of held.now) ≡ None) }
     ensures err { IfErr result (λ e. IsRefusedFor e block.now (table_of held.now)) }
 {
@@ -88,7 +87,7 @@ fn count_used(used: &[bool]) -> usize
 fn at_once<R: Threads + Wait + Sync>(
     rt: &R,
     alloc: Global,
-    held: &mut Held,
+    held: &mut Devices,
     used: &[bool],
     workers: u32,
     hold: &Hold,
@@ -116,18 +115,18 @@ fn at_once<R: Threads + Wait + Sync>(
 }
 
 /// The reply to a line by its task.
-fn reply_to(seat: u8, task: Task) -> Reply
+fn reply_to(seat: u8, task: Task) -> CommandReply
     ensures { result ≡ reply_of seat task }
 {
     let Task { job: _, answer } = task;
-    Reply::Seat(Seated {
+    CommandReply::Seat(Seated {
         seat,
-        answer: answer.unwrap_or(Answered::Refused(Refusal::NoMemory)),
+        answer: answer.unwrap_or(SeatAnswer::Refused(Refusal::NoMemory)),
     })
 }
 
 /// The replies to the lines of a seat, by its tasks.
-fn tell_seat(replies: &mut Vec<Reply>, seat: u8, tasks: Vec<Task>)
+fn tell_seat(replies: &mut Vec<CommandReply>, seat: u8, tasks: Vec<Task>)
     requires room { vec_len replies.old + vec_len tasks ≤ vec_capacity replies.old }
     ensures told { replies.new.items ≡ replies.old.items ++ map (reply_of seat) tasks.items }
     ensures room { vec_capacity replies.new ≡ vec_capacity replies.old }
@@ -138,7 +137,7 @@ fn tell_seat(replies: &mut Vec<Reply>, seat: u8, tasks: Vec<Task>)
 }
 
 /// The replies to all lines, by the tasks of each seat, the first seat's first.
-fn tell_seats(alloc: Global, replies: &mut Vec<Reply>, tasks: Vec<Vec<Task>>)
+fn tell_seats(alloc: Global, replies: &mut Vec<CommandReply>, tasks: Vec<Vec<Task>>)
     requires none { replies.old.items ≡ [] }
     requires eight { length tasks.items ≡ 8 }
     requires room { length (replies_of (tasks_at tasks.items)) < vec_capacity replies.old }
@@ -153,12 +152,12 @@ fn tell_seats(alloc: Global, replies: &mut Vec<Reply>, tasks: Vec<Vec<Task>>)
 }
 
 /// How the gate ended, where a ticket is held.
-fn tell_gate(replies: &mut Vec<Reply>, ticket: Option<u32>, opened: bool)
+fn tell_gate(replies: &mut Vec<CommandReply>, ticket: Option<u32>, opened: bool)
     requires room { vec_len replies.old < vec_capacity replies.old }
     ensures told { replies.new.items ≡ replies.old.items ++ gate_replies ticket opened }
 {
     match ticket {
-        Some(_) => replies.push_reserved(Reply::Gate(opened)),
+        Some(_) => replies.push_reserved(CommandReply::Gate(opened)),
         None => {}
     }
 }
@@ -167,11 +166,11 @@ fn tell_gate(replies: &mut Vec<Reply>, ticket: Option<u32>, opened: bool)
 fn run_plan<R: Threads + Wait + Sync>(
     rt: &R,
     alloc: Global,
-    held: &mut Held,
-    plan: Plan,
+    held: &mut Devices,
+    plan: BlockPlan,
     workers: u32,
     ticket: Option<u32>,
-) -> Result<Vec<Reply>, Refusal>
+) -> Result<Vec<CommandReply>, Refusal>
     requires few { workers ≤ 4 }
     requires many { length plan.used.items ≡ length (table_of held.old).volumes }
     requires eight { length plan.tasks.items ≡ 8 }
@@ -183,7 +182,7 @@ fn run_plan<R: Threads + Wait + Sync>(
     ensures stacks { (table_of held.new).stacks ≡ (table_of held.old).stacks }
     ensures volumes { AreRun plan.used.items (table_of held.old).volumes (table_of held.new).volumes }
 {
-    let Plan {
+    let BlockPlan {
         used,
         mut tasks,
         mut replies,
@@ -205,10 +204,10 @@ fn run_plan<R: Threads + Wait + Sync>(
 pub fn run_block<R: Threads + Wait + Sync>(
     rt: &R,
     alloc: Global,
-    held: &mut Held,
-    block: Block,
+    held: &mut Devices,
+    block: LineBlock,
     workers: u32,
-) -> Result<Vec<Reply>, Refusal>
+) -> Result<Vec<CommandReply>, Refusal>
     requires some { 1 ≤ workers }
     requires few { workers ≤ 4 }
     ensures told { IfOk result (λ replies. All IsOfBlock replies.items) }

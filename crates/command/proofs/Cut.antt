@@ -4,13 +4,13 @@ use Rattle.std.specs.Prelude.{is_some, ◌&&◌}
 use Rattle.std.proofs.lemmas.List.Sums.{sum_by-cons}
 use borrow.Author.Tests.{tests}
 use Rattle.command.specs.DataWords.{run_of, are_runs, total, data_of, count_of, bytes_of}
-use Rattle.command.specs.declared.data_words.Run.{Run}
+use Rattle.command.specs.declared.data_words.DataRun.{DataRun}
 
 -- a run in front of other words
-pub one_run : (words rest : List (List ℕ)) (word : List ℕ) (run : Run) → words ≡ word ∷ rest → run_of word ≡ Some run → are_runs words ≡ are_runs rest
+pub one_run : (words rest : List (List ℕ)) (word : List ℕ) (run : DataRun) → words ≡ word ∷ rest → run_of word ≡ Some run → are_runs words ≡ are_runs rest
 one_run words rest word run cut is = ap are_runs cut ∙ ap (λ o. is_some o && are_runs rest) is
 
-pub one_total : (words rest : List (List ℕ)) (word : List ℕ) (run : Run) → words ≡ word ∷ rest → run_of word ≡ Some run → total words ≡ run.count + total rest
+pub one_total : (words rest : List (List ℕ)) (word : List ℕ) (run : DataRun) → words ≡ word ∷ rest → run_of word ≡ Some run → total words ≡ run.count + total rest
 one_total words rest word run cut is = ap total cut ∙ sum_by-cons count_of word rest ∙ ap (λ n. n + total rest) (let here : count_of word ≡ run.count = rw is refl in here)
 
 pub one_data : (words rest : List (List ℕ)) (word : List ℕ) → words ≡ word ∷ rest → data_of words ≡ bytes_of word ++ data_of rest
@@ -31,7 +31,7 @@ pub none_data : (words : List (List ℕ)) → words ≡ [] → data_of words ≡
 none_data words none = ap data_of none
 
 -- a run says a byte at least
-counts : (word : List ℕ) (run : Run) → run_of word ≡ Some run → 0 < run.count
+counts : (word : List ℕ) (run : DataRun) → run_of word ≡ Some run → 0 < run.count
 counts word run is = grind (arith, tests)
 
 -- runs that say a byte are some, and runs that say none are none

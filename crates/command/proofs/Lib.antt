@@ -3,3 +3,8 @@ pub mod Kept
 pub mod Verbs
 pub mod Par
 pub mod BlockKept
+pub mod RunLemmas
+pub mod RunWord
+pub mod WordsAgain
+pub mod RunsAgain
+pub mod DataAgain

@@ -9,7 +9,7 @@ use Rattle.sector.specs.declared.refusal.Refusal.TheVariants.{BadTable}
 use Rattle.words.specs.Given.{◌>>=◌}
 use Rattle.words.specs.Numbers.{number_of}
 use Rattle.command.specs.Words.{sectors_of}
-use Rattle.command.specs.declared.data_words.Run.{Run}
+use Rattle.command.specs.declared.data_words.DataRun.{DataRun}
 
 -- a lower-case hexadecimal digit
 abbrev pub is_hex : ℕ → Bool
@@ -20,14 +20,14 @@ abbrev pub hex_value : ℕ → ℕ
 hex_value c = if is_ascii_digit c then c - 48 else c - 87
 
 -- a count from 1 to 1048576, a star, and two digits
-abbrev pub run_parts : Option ℕ → ℕ → ℕ → ℕ → Option Run
+abbrev pub run_parts : Option ℕ → ℕ → ℕ → ℕ → Option DataRun
 run_parts None star high low = None
 run_parts (Some n) star high low =
     if nat_lt 0 n && nat_le n 1048576 && (star == 42) && is_hex high && is_hex low
     then Some (record { count = n; byte = 16 * hex_value high + hex_value low }) else None
 
 -- the run that a word says: its last three characters are the star and the digits
-abbrev pub run_of : List ℕ → Option Run
+abbrev pub run_of : List ℕ → Option DataRun
 run_of word = if nat_lt (length word) 4 then None else
     let end = length word in run_parts (number_of (take (end - 3) word)) (slice_index word (end - 3)) (slice_index word (end - 2)) (slice_index word (end - 1))
 
@@ -35,7 +35,7 @@ run_of word = if nat_lt (length word) 4 then None else
 abbrev pub count_of : List ℕ → ℕ
 count_of word = run_count (run_of word)
   where
-    run_count : Option Run → ℕ
+    run_count : Option DataRun → ℕ
     run_count None = 0
     run_count (Some r) = r.count
 
@@ -43,7 +43,7 @@ count_of word = run_count (run_of word)
 abbrev pub bytes_of : List ℕ → List ℕ
 bytes_of word = run_bytes (run_of word)
   where
-    run_bytes : Option Run → List ℕ
+    run_bytes : Option DataRun → List ℕ
     run_bytes None = []
     run_bytes (Some r) = replicate r.count r.byte
 

@@ -7,11 +7,11 @@ use Rattle.sector.specs.declared.refusal.Refusal.TheVariants.{BadTable}
 use Rattle.words.specs.Given.{◌>>=◌}
 use Rattle.words.specs.Numbers.{numeral_of}
 use Rattle.words.specs.Names.{name_of}
-use Rattle.command.specs.declared.events.Event.{Event}
-use Rattle.command.specs.declared.events.Event.TheVariants.{Issue, CopyRead, CopyWrite, Publish, ZeroNext, WriteArea, WriteInvalid, FlushStore, MergeGroup, MergeAreaRead, MergeRead, MergeWrite, MergeFlush, MergeCommit, MergeRelease}
+use Rattle.command.specs.declared.events.EventWords.{EventWords}
+use Rattle.command.specs.declared.events.EventWords.TheVariants.{Issue, CopyRead, CopyWrite, Publish, ZeroNext, WriteArea, WriteInvalid, FlushStore, MergeGroup, MergeAreaRead, MergeRead, MergeWrite, MergeFlush, MergeCommit, MergeRelease}
 
 -- an event by its word, and what it is about: the number of a request or of a copy, or the name of a snapshot
-unfoldable pub event_of : List ℕ → List ℕ → Result Event Refusal
+unfoldable pub event_of : List ℕ → List ℕ → Result EventWords Refusal
 event_of kind subject =
     if bytes_eq kind (codes "issue") then (numeral_of subject >>= λ r. Ok (Issue r)) else
     if bytes_eq kind (codes "copy-read") then (numeral_of subject >>= λ p. Ok (CopyRead p)) else
@@ -24,7 +24,7 @@ event_of kind subject =
     Err BadTable
 
 -- an event of a merge by its word; a volume has one merge at most, so no further word tells which
-unfoldable pub merge_event_of : List ℕ → Result Event Refusal
+unfoldable pub merge_event_of : List ℕ → Result EventWords Refusal
 merge_event_of kind =
     if bytes_eq kind (codes "merge-group") then Ok MergeGroup else
     if bytes_eq kind (codes "merge-area-read") then Ok MergeAreaRead else
@@ -36,7 +36,7 @@ merge_event_of kind =
     Err BadTable
 
 -- the event that some words say; another is BadTable
-abbrev pub event_in : List (List ℕ) → Result Event Refusal
+abbrev pub event_in : List (List ℕ) → Result EventWords Refusal
 event_in (kind ∷ []) = merge_event_of kind
 event_in (kind ∷ subject ∷ []) = event_of kind subject
 event_in words = Err BadTable

@@ -12,13 +12,13 @@ use std::marker::Model;
 
 /// The lines of a block, in order. Contracts see its opening, what the lines say, and its refusal.
 #[derive(Drop)]
-pub struct Block {
+pub struct LineBlock {
     opening: Opening,
     lines: Vec<SeatLine>,
     refusal: Option<Refusal>,
 }
 
-impl Model for Block {
+impl Model for LineBlock {
     ghost use Rattle.command.specs.Blocks.{Lines};
 
     ghost Value = { Lines };
@@ -40,12 +40,12 @@ fn worse(refusal: Option<Refusal>, new: Refusal) -> Option<Refusal>
     }
 }
 
-impl Block {
+impl LineBlock {
     /// A block without lines. It takes no memory.
-    pub fn new(alloc: Global, opening: Opening) -> Block
+    pub fn new(alloc: Global, opening: Opening) -> LineBlock
         ensures { result ≡ opened opening }
     {
-        Block {
+        LineBlock {
             opening,
             lines: Vec::new(alloc),
             refusal: None,

@@ -17,7 +17,7 @@ const MOST_SECTORS: u32 = 2048;
 
 /// Equal bytes.
 #[derive(Clone, Copy)]
-pub struct Run {
+pub struct DataRun {
     pub count: u32,
     pub byte: u8,
 }
@@ -41,7 +41,7 @@ fn hex_number(c: u8) -> u8
 }
 
 /// The run that a word says.
-fn run_in(word: &[u8]) -> Option<Run>
+fn run_in(word: &[u8]) -> Option<DataRun>
     ensures value { result ≡ run_of word.now }
     ensures small { IfSome result (λ run. run.count ≤ 1048576) }
 {
@@ -58,7 +58,7 @@ fn run_in(word: &[u8]) -> Option<Run>
         && is_hex_digit(low)
     {
         let byte = 16 * hex_number(high) + hex_number(low);
-        Some(Run { count, byte })
+        Some(DataRun { count, byte })
     } else {
         None
     }
@@ -81,7 +81,7 @@ fn size_in(text: &[u8]) -> Option<u64>
 }
 
 /// Adds equal bytes at the end.
-fn push_run(out: &mut Vec<u8>, run: Run) -> Result<(), AllocError>
+fn push_run(out: &mut Vec<u8>, run: DataRun) -> Result<(), AllocError>
     requires { vec_len out.old + run.count < 2 ^ 64 }
     ensures { OnOk result (out.new.items ≡ out.old.items ++ replicate run.count run.byte) }
 {

@@ -9,7 +9,7 @@ use words::{Name, next_word, numeral};
 /// An event of a volume. A request and a copy are told by their numbers, a snapshot by its name; a volume has one merge at
 /// most.
 #[derive(Drop)]
-pub enum Event {
+pub enum EventWords {
     /// `issue R`: the request's read, write or flush, and its reply; of a flush of the origin beside a merge the flush of the
     /// merging store first, without a reply.
     Issue(u32),
@@ -45,25 +45,25 @@ pub enum Event {
 
 // An event by its word, and what it is about.
 #[tactic(auto, unfolding(crate::specs::Events::event_of))]
-fn event_of(kind: &[u8], subject: &[u8]) -> Result<Event, Refusal>
+fn event_of(kind: &[u8], subject: &[u8]) -> Result<EventWords, Refusal>
     ensures { result ≡ event_of kind.now subject.now }
 {
     if kind == b"issue".as_slice() {
-        Ok(Event::Issue(numeral(subject)?))
+        Ok(EventWords::Issue(numeral(subject)?))
     } else if kind == b"copy-read".as_slice() {
-        Ok(Event::CopyRead(numeral(subject)?))
+        Ok(EventWords::CopyRead(numeral(subject)?))
     } else if kind == b"copy-write".as_slice() {
-        Ok(Event::CopyWrite(numeral(subject)?))
+        Ok(EventWords::CopyWrite(numeral(subject)?))
     } else if kind == b"publish".as_slice() {
-        Ok(Event::Publish(numeral(subject)?))
+        Ok(EventWords::Publish(numeral(subject)?))
     } else if kind == b"zero-next".as_slice() {
-        Ok(Event::ZeroNext(Name::new(subject)?))
+        Ok(EventWords::ZeroNext(Name::new(subject)?))
     } else if kind == b"write-area".as_slice() {
-        Ok(Event::WriteArea(Name::new(subject)?))
+        Ok(EventWords::WriteArea(Name::new(subject)?))
     } else if kind == b"write-invalid".as_slice() {
-        Ok(Event::WriteInvalid(Name::new(subject)?))
+        Ok(EventWords::WriteInvalid(Name::new(subject)?))
     } else if kind == b"flush-store".as_slice() {
-        Ok(Event::FlushStore(Name::new(subject)?))
+        Ok(EventWords::FlushStore(Name::new(subject)?))
     } else {
         Err(Refusal::BadTable)
     }
@@ -71,30 +71,30 @@ fn event_of(kind: &[u8], subject: &[u8]) -> Result<Event, Refusal>
 
 // An event of a merge by its word.
 #[tactic(auto, unfolding(crate::specs::Events::merge_event_of))]
-fn merge_event_of(kind: &[u8]) -> Result<Event, Refusal>
+fn merge_event_of(kind: &[u8]) -> Result<EventWords, Refusal>
     ensures { result ≡ merge_event_of kind.now }
 {
     if kind == b"merge-group".as_slice() {
-        Ok(Event::MergeGroup)
+        Ok(EventWords::MergeGroup)
     } else if kind == b"merge-area-read".as_slice() {
-        Ok(Event::MergeAreaRead)
+        Ok(EventWords::MergeAreaRead)
     } else if kind == b"merge-read".as_slice() {
-        Ok(Event::MergeRead)
+        Ok(EventWords::MergeRead)
     } else if kind == b"merge-write".as_slice() {
-        Ok(Event::MergeWrite)
+        Ok(EventWords::MergeWrite)
     } else if kind == b"merge-flush".as_slice() {
-        Ok(Event::MergeFlush)
+        Ok(EventWords::MergeFlush)
     } else if kind == b"merge-commit".as_slice() {
-        Ok(Event::MergeCommit)
+        Ok(EventWords::MergeCommit)
     } else if kind == b"merge-release".as_slice() {
-        Ok(Event::MergeRelease)
+        Ok(EventWords::MergeRelease)
     } else {
         Err(Refusal::BadTable)
     }
 }
 
 /// The event that the words of a text say. `BadTable` for words that are none.
-pub fn event_in(text: &[u8]) -> Result<Event, Refusal>
+pub fn event_in(text: &[u8]) -> Result<EventWords, Refusal>
     ensures { result ≡ event_in (words_of text.now) }
 {
     let Some((kind, rest)) = next_word(text) else {

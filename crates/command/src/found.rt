@@ -7,7 +7,7 @@ use sector::Refusal;
 
 /// What is found under the name of a line.
 #[derive(Clone, Copy, PartialEq, Eq)]
-pub enum Found {
+pub enum NameFound {
     /// No device.
     Missing,
     /// A device of another kind than the line asks for.
@@ -18,37 +18,37 @@ pub enum Found {
     Quiet,
 }
 
-fn is_other(found: Found) -> bool
+fn is_other(found: NameFound) -> bool
     ensures { result ≡ is_other found }
 {
-    matches!(found, Found::Other)
+    matches!(found, NameFound::Other)
 }
 
-fn is_missing(found: Found) -> bool
+fn is_missing(found: NameFound) -> bool
     ensures { result ≡ is_missing found }
 {
-    matches!(found, Found::Missing)
+    matches!(found, NameFound::Missing)
 }
 
-fn is_busy(found: Found) -> bool
+fn is_busy(found: NameFound) -> bool
     ensures { result ≡ is_busy found }
 {
-    matches!(found, Found::Busy)
+    matches!(found, NameFound::Busy)
 }
 
-fn is_any_other(found: &[Found]) -> bool
+fn is_any_other(found: &[NameFound]) -> bool
     ensures { result ≡ list_any is_other found.now }
 {
     found.iter().any(|found| is_other(*found))
 }
 
-fn is_any_missing(found: &[Found]) -> bool
+fn is_any_missing(found: &[NameFound]) -> bool
     ensures { result ≡ list_any is_missing found.now }
 {
     found.iter().any(|found| is_missing(*found))
 }
 
-fn is_any_busy(found: &[Found]) -> bool
+fn is_any_busy(found: &[NameFound]) -> bool
     ensures { result ≡ list_any is_busy found.now }
 {
     found.iter().any(|found| is_busy(*found))
@@ -56,7 +56,7 @@ fn is_any_busy(found: &[Found]) -> bool
 
 /// The first refusal of a block of whose lines this is found: `BadTable` for a device of another kind, then `NoSuchDevice`
 /// for a name that no device has, then `NotQuiet` for a volume that has something left to do. In each of these nothing runs.
-pub fn refusal_among(found: &[Found]) -> Option<Refusal>
+pub fn refusal_among(found: &[NameFound]) -> Option<Refusal>
     ensures { result ≡ first_refusal found.now }
 {
     if is_any_other(found) {

@@ -7,7 +7,7 @@ ghost use Rattle.words.specs.Words.{words_of};
 ghost use Rattle.command.specs.Grammar.{place_of, amount_of, span_of, patch_of, alone_of, disk_of, is_merge, made_line_of, create_of, remove_of, load_of, save_of, message_of, tick_of, read_of, write_of, flush_of, start_read_of, start_write_of, start_of, step_of, settle_of, merge_of, resume_of, finish_of, checkpoint_of, stop_of, status_of, table_of, command_of};
 
 use super::data_words::{payload, sectors};
-use super::events::{Event, event_in};
+use super::events::{EventWords, event_in};
 use super::messages::message_in;
 use layers::Message;
 use sector::{Buf, Refusal};
@@ -43,7 +43,7 @@ pub enum Command {
     /// `start DEV write S DATA`: starts a write of an origin or snapshot, inside one piece. 1 to 2048 sectors.
     StartWrite { name: Name, first: u32, bytes: Buf },
     /// `step VOL EVENT`: one event of the volume of an origin.
-    Step { volume: Name, event: Event },
+    Step { volume: Name, event: EventWords },
     /// `settle VOL`: the events that are due in the volume of an origin, until there is none.
     Settle { volume: Name },
     /// `merge SNAP`: begins to merge a snapshot into its origin.

@@ -4,13 +4,13 @@ use Rattle.settled.specs.Snaps.{Snap, Volume}
 use Rattle.settled.specs.MergeShown.{IsWell as IsOrderly}
 use Rattle.settled.proofs.Chunks.{HasChunks}
 use Rattle.settled.proofs.Each.{Each, each_from, all_from}
-use Rattle.event_machine.specs.Held.{Held}
+use Rattle.event_machine.specs.Held.{SnapHeld}
 use Rattle.event_machine.specs.Rest.{IsResting}
 use Rattle.settling.specs.Undone.{IsVolume}
 use Rattle.settling.proofs.Undoes.{at_rest, volume_at_rest}
 use Rattle.volume_commands.proofs.Rests.{IsWell}
 
-snaps_of : (snaps : List Snap) → map (λ (h : Held). h.snap) (map at_rest snaps) ≡ snaps
+snaps_of : (snaps : List Snap) → map (λ (h : SnapHeld). h.snap) (map at_rest snaps) ≡ snaps
 snaps_of [] = refl
 snaps_of (s ∷ snaps) = ap (λ x. s ∷ x) (snaps_of snaps)
 

@@ -2,8 +2,8 @@
 ghost use Rattle.std.specs.Prelude.{◌≡◌, ◌++◌, IfOk, OnOk, codes, decimal};
 ghost use Rattle.command_images.specs.Loads.{disk_line, load_line};
 
+use command::words_of_data;
 use itoa::Buffer;
-use reply::words_of_data;
 use std::alloc::{AllocError, Global};
 use words::Name;
 

@@ -5,8 +5,8 @@ use Rattle.std.specs.Prelude.{ℕ, ◌==◌, Bool, true, false, List, Option, So
 use Rattle.sector.specs.declared.refusal.Refusal.{Refusal}
 use Rattle.sector.specs.declared.refusal.Refusal.TheVariants.{BadTable, NotDue}
 use Rattle.words.specs.Given.{◌>>=◌}
-use Rattle.command.specs.declared.events.Event.{Event}
-use Rattle.command.specs.declared.events.Event.TheVariants.{Issue, CopyRead, CopyWrite, Publish, ZeroNext, WriteArea, WriteInvalid, FlushStore, MergeGroup, MergeAreaRead, MergeRead, MergeWrite, MergeFlush, MergeCommit, MergeRelease}
+use Rattle.command.specs.declared.events.EventWords.{EventWords}
+use Rattle.command.specs.declared.events.EventWords.TheVariants.{Issue, CopyRead, CopyWrite, Publish, ZeroNext, WriteArea, WriteInvalid, FlushStore, MergeGroup, MergeAreaRead, MergeRead, MergeWrite, MergeFlush, MergeCommit, MergeRelease}
 use Rattle.plain.specs.declared.event.Event.{Event as Step}
 use Rattle.plain.specs.declared.event.Event.TheVariants as steps
 use Rattle.settled.specs.Merges.{merged}
@@ -39,7 +39,7 @@ snapshot_at (In v Merging) = Ok v
 snapshot_at (In v (MergingStore depth)) = Err BadTable
 
 -- the snapshot that an event names
-abbrev pub snapshot_named : Event → Option (List ℕ)
+abbrev pub snapshot_named : EventWords → Option (List ℕ)
 snapshot_named (Issue request) = None
 snapshot_named (CopyRead copy) = None
 snapshot_named (CopyWrite copy) = None
@@ -57,7 +57,7 @@ snapshot_named MergeCommit = None
 snapshot_named MergeRelease = None
 
 -- whether it is an event of a merge
-abbrev pub is_merge_event : Event → Bool
+abbrev pub is_merge_event : EventWords → Bool
 is_merge_event (Issue request) = false
 is_merge_event (CopyRead copy) = false
 is_merge_event (CopyWrite copy) = false
@@ -75,7 +75,7 @@ is_merge_event MergeCommit = true
 is_merge_event MergeRelease = true
 
 -- the same event with the number of its snapshot for the name
-abbrev pub numbered : Event → ℕ → Step
+abbrev pub numbered : EventWords → ℕ → Step
 numbered (Issue request) number = steps.Issue request
 numbered (CopyRead copy) number = steps.CopyRead copy
 numbered (CopyWrite copy) number = steps.CopyWrite copy
@@ -110,7 +110,7 @@ event_at place None table = origin_at place
 event_at place (Some snapshot) table = found (place_of snapshot table) >>= λ other. event_about place other
 
 -- which volume an event is asked of: a name that is not there comes before a device of the wrong kind
-unfoldable pub event_asked : List ℕ → Event → Table → Result ℕ Refusal
+unfoldable pub event_asked : List ℕ → EventWords → Table → Result ℕ Refusal
 event_asked name event table = found (place_of name table) >>= λ place. event_at place (snapshot_named event) table
 
 abbrev pub none_due : Result ℕ Refusal → Refusal
@@ -118,7 +118,7 @@ none_due (Ok v) = NotDue
 none_due (Err refusal) = refusal
 
 -- `step VOL EVENT` where nothing is in flight, of an event that is none of a merge: why it is not done
-unfoldable pub step_event : List ℕ → Event → Table → Refusal
+unfoldable pub step_event : List ℕ → EventWords → Table → Refusal
 step_event name event table = none_due (event_asked name event table)
 
 -- a volume whose merge, if one is begun, has gone on up to its end, or to the first operation of it that fails

@@ -8,7 +8,7 @@ use Rattle.sector.specs.declared.refusal.Refusal.TheVariants.{Busy, BadTable}
 use Rattle.device.specs.Layers.{Layer, Flaky, Dusty, Window, Features}
 use Rattle.layers.specs.Windows.{beside}
 use Rattle.words.specs.Given.{◌>>=◌}
-use Rattle.table.specs.declared.lines.Features.{Features as Words}
+use Rattle.table.specs.declared.lines.FlakeyFeatures.{FlakeyFeatures as Words}
 use Rattle.settled.specs.Devices.{Device, sectors_of}
 use Rattle.command_rules.specs.declared.place.Role.{Role}
 use Rattle.command_rules.specs.declared.place.Role.TheVariants.{Origin, Under, Snapshot, Store, Merging, MergingStore}

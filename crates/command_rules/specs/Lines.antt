@@ -6,7 +6,7 @@ use Rattle.sector.specs.declared.refusal.Refusal.{Refusal}
 use Rattle.sector.specs.declared.refusal.Refusal.TheVariants.{BadTable}
 use Rattle.device.specs.Layers.{Layer, Flaky, Dusty, Broken, Features as Kinds}
 use Rattle.words.specs.Given.{◌>>=◌}
-use Rattle.table.specs.declared.lines.Features.{Features}
+use Rattle.table.specs.declared.lines.FlakeyFeatures.{FlakeyFeatures}
 use Rattle.table.specs.declared.lines.Line.{Line}
 use Rattle.table.specs.declared.lines.Target.{Target}
 use Rattle.table.specs.declared.lines.Target.TheVariants as targets
@@ -23,7 +23,7 @@ use Rattle.command_rules.specs.Raw.{names_at}
 use Rattle.command_rules.specs.Messages.{snap_at}
 
 -- the features of a line
-abbrev pub words_of : Kinds → Features
+abbrev pub words_of : Kinds → FlakeyFeatures
 words_of f = record { error_reads = f.error_reads; error_writes = f.error_writes; drop_writes = f.drop_writes }
 
 -- a name that is there

@@ -7,8 +7,8 @@ use Rattle.sector.specs.declared.refusal.Refusal.TheVariants.{BadTable}
 use Rattle.words.specs.Given.{◌>>=◌}
 use Rattle.store_bytes.specs.Pairs.{pairs_of}
 use Rattle.plain.specs.Plain.{did_overflow}
-use Rattle.table.specs.declared.status.State.{State}
-use Rattle.table.specs.declared.status.State.TheVariants.{Invalid, Failed, Overflow, Used}
+use Rattle.table.specs.declared.status.StatusState.{StatusState}
+use Rattle.table.specs.declared.status.StatusState.TheVariants.{Invalid, Failed, Overflow, Used}
 use Rattle.table.specs.Lines.{origin_text, snapshot_text, merge_text}
 use Rattle.settled.specs.Saves.{next_of}
 use Rattle.settled.specs.Devices.{Device, sectors_of}
@@ -23,25 +23,25 @@ use Rattle.command_rules.specs.Places.{place_of, found, volume_at}
 use Rattle.command_rules.specs.Messages.{snap_at}
 
 -- What is used of a store: all up to the next place, and the header and the areas, which hold no copies.
-abbrev pub used_of : ℕ → Device → State
+abbrev pub used_of : ℕ → Device → StatusState
 used_of chunk store =
     Used (chunk * next_of chunk (pairs_of chunk store.bytes)) (sectors_of store) (chunk * (length (pairs_of chunk store.bytes) / (32 * chunk) + 2))
 
 -- what a status line says of a live snapshot
-abbrev pub live_state : Snap → State
+abbrev pub live_state : Snap → StatusState
 live_state snap = if did_overflow snap.overflow then Overflow else used_of snap.chunk snap.store
 
 -- What a status line says of a snapshot. One that is spoiled is Invalid, also where its store overflowed before.
-abbrev pub state_of : Snap → State
+abbrev pub state_of : Snap → StatusState
 state_of snap = if snap.live then live_state snap else Invalid
 
 -- the state of snapshot k
-unfoldable pub state_at : ℕ → Volume → Result State Refusal
+unfoldable pub state_at : ℕ → Volume → Result StatusState Refusal
 state_at k volume = snap_at k volume.state >>= λ snap. Ok (state_of snap)
 
 -- What a status line says of a merge: that it failed, or what is used of its store, all up to the place that it counts up to.
 -- The header and the areas up to the one that pairs are taken from hold no copies.
-abbrev pub merge_state : Merge → State
+abbrev pub merge_state : Merge → StatusState
 merge_state g = if g.failed then Failed else Used (g.next * g.chunk) (sectors_of g.store) ((g.current + 2) * g.chunk)
 
 -- the status line of an origin of so many sectors

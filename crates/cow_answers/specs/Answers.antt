@@ -6,11 +6,11 @@ use Rattle.cow_image.specs.declared.found.Told.{Told}
 use Rattle.cow_image.specs.declared.found.Told.TheVariants.{Fresh, Refused, Written}
 use Rattle.cow_image.specs.declared.reading.Listed.{Listed}
 use Rattle.cow_image.specs.declared.reading.Listed.TheVariants.{Ends, Lacks}
-use Rattle.cow_words.specs.Json.{json_text}
-use Rattle.cow_words.specs.Lines.{runs_text, slots_text, listed_text}
-use Rattle.cow_words.specs.Reasons.{faults_text}
-use Rattle.cow_words.specs.Shows.{show_text, told_text, slots_by}
-use Rattle.cow_words.specs.declared.showing.Numbers.{Numbers}
+use Rattle.cow_answers.specs.Json.{json_text}
+use Rattle.cow_answers.specs.Lines.{runs_text, slots_text, listed_text}
+use Rattle.cow_answers.specs.Reasons.{faults_text}
+use Rattle.cow_answers.specs.Shows.{show_text, told_text, slots_by}
+use Rattle.cow_answers.specs.declared.showing.Numbers.{Numbers}
 use Rattle.cow_answers.specs.declared.looking.Seen.{Seen}
 
 -- whether a store is good

@@ -4,3 +4,10 @@ pub mod Notes
 pub mod Objects
 pub mod Forms
 pub mod Merges
+pub mod Items
+pub mod Json
+pub mod Left
+pub mod Lines
+pub mod Reasons
+pub mod Salvage
+pub mod Shows

@@ -4,10 +4,10 @@ use Rattle.sector.specs.declared.pair.Pair.{Pair}
 use Rattle.cow_image.specs.declared.map.CowMap.{CowMap}
 use Rattle.cow_answers.specs.declared.asked.Form.{Form}
 use Rattle.cow_answers.specs.declared.asked.Form.TheVariants.{Lines, Json}
-use Rattle.cow_words.specs.Items.{number_object, run_objects}
-use Rattle.cow_words.specs.Left.{left_text, left_object}
-use Rattle.cow_words.specs.Lines.{runs_text}
-use Rattle.cow_words.specs.Shows.{line_text}
+use Rattle.cow_answers.specs.Items.{number_object, run_objects}
+use Rattle.cow_answers.specs.Left.{left_text, left_object}
+use Rattle.cow_answers.specs.Lines.{runs_text}
+use Rattle.cow_answers.specs.Shows.{line_text}
 
 -- how many bytes will be written to the origin
 abbrev pub bytes_by : Form → ℕ → List ℕ

@@ -4,8 +4,8 @@ use Rattle.sector.specs.declared.pair.Pair.{Pair}
 use Rattle.cow_image.specs.declared.fault.Fault.{Fault}
 use Rattle.cow_image.specs.declared.reading.Listed.TheVariants.{Lacks}
 use Rattle.cow_kept.specs.declared.span.Span.{Span}
-use Rattle.cow_words.specs.Lines.{runs_text, listed_text}
-use Rattle.cow_words.specs.Salvage.{skipped_text, spans_text, behind_text}
+use Rattle.cow_answers.specs.Lines.{runs_text, listed_text}
+use Rattle.cow_answers.specs.Salvage.{skipped_text, spans_text, behind_text}
 use Rattle.cow_answers.specs.declared.notes.Notes.{Notes}
 use Rattle.cow_answers.specs.declared.notes.Behind.{Behind}
 

@@ -7,10 +7,10 @@ use Rattle.cow_image.specs.declared.found.Told.TheVariants.{Fresh, Refused, Writ
 use Rattle.cow_image.specs.declared.reading.Listed.{Listed}
 use Rattle.cow_image.specs.declared.reading.Listed.TheVariants.{Ends, Lacks}
 use Rattle.cow_kept.specs.declared.span.Span.{Span}
-use Rattle.cow_words.specs.Items.{number_object, run_objects, slot_objects, listed_object, fault_objects, behind_object, unread_objects}
-use Rattle.cow_words.specs.Json.{json_text}
-use Rattle.cow_words.specs.Shows.{slots_by}
-use Rattle.cow_words.specs.declared.showing.Numbers.{Numbers}
+use Rattle.cow_answers.specs.Items.{number_object, run_objects, slot_objects, listed_object, fault_objects, behind_object, unread_objects}
+use Rattle.cow_answers.specs.Json.{json_text}
+use Rattle.cow_answers.specs.Shows.{slots_by}
+use Rattle.cow_answers.specs.declared.showing.Numbers.{Numbers}
 use Rattle.cow_answers.specs.declared.looking.Seen.{Seen}
 use Rattle.cow_answers.specs.declared.notes.Notes.{Notes}
 use Rattle.cow_answers.specs.declared.notes.Behind.{Behind}

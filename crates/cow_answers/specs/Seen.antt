@@ -3,7 +3,7 @@ use Rattle.std.specs.Prelude.{◌≡◌, ℕ, ◌*◌, ◌<◌, List, length, Op
 use Rattle.sector.specs.Bytes.{sector_at}
 use Rattle.sector.specs.Number.{number_at}
 use Rattle.cow_image.specs.Maps.{IsToldOf}
-use Rattle.cow_words.specs.declared.showing.Numbers.{Numbers}
+use Rattle.cow_answers.specs.declared.showing.Numbers.{Numbers}
 use Rattle.cow_answers.specs.declared.looking.Seen.{Seen}
 
 -- the four numbers of a first sector, where there is one

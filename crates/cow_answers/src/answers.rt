@@ -2,12 +2,12 @@
 ghost use Rattle.std.specs.Prelude.{◌≡◌, ◌*◌, ◌<◌, ◌≤◌, ◌++◌, IfOk, OnOk};
 ghost use Rattle.cow_answers.specs.Answers.{shown_text, object_text, map_text, raw_text, refusal_text, check_text, lacks_text};
 
+use crate::json::push_json;
+use crate::listing::{push_listed, push_runs_lines, push_slots};
 use crate::looking::Seen;
+use crate::reasons::push_faults;
+use crate::showing::{Numbers, push_show, push_told, slots_of};
 use cow_image::{Fault, Listed, Told};
-use cow_words::{
-    Numbers, push_faults, push_json, push_listed, push_runs, push_show, push_slots, push_told,
-    slots_of,
-};
 use sector::Pair;
 use std::alloc::{AllocError, Global};
 
@@ -35,7 +35,7 @@ pub(crate) fn map_lines(alloc: Global, seen: &Seen) -> Result<Vec<u8>, AllocErro
 {
     let mut text = Vec::new(alloc);
     match &seen.told {
-        Told::Written(map) => push_runs(&mut text, map.pairs.as_slice())?,
+        Told::Written(map) => push_runs_lines(&mut text, map.pairs.as_slice())?,
         Told::Fresh => push_told(&mut text, slots_of(seen.numbers), &seen.told)?,
         Told::Refused(_) => push_told(&mut text, slots_of(seen.numbers), &seen.told)?,
     }

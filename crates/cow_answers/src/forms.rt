@@ -8,9 +8,9 @@ use crate::looking::Seen;
 use crate::note_objects::{push_behind_object, salvaged_json};
 use crate::notes::{Behind, Notes, push_behind_of, salvaged_lines};
 use crate::objects::{check_json, map_json, raw_json};
+use crate::showing::Numbers;
 use cow_image::{Fault, Listed};
 use cow_kept::{Saved, Span};
-use cow_words::Numbers;
 use sector::Pair;
 use std::alloc::{AllocError, Global};
 

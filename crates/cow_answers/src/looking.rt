@@ -6,10 +6,10 @@ ghost use Rattle.cow_image.specs.declared.reading.Listed.TheVariants.{Ends};
 ghost use Rattle.cow_answers.specs.Seen.{AreNumbersIn, IsSeenOf};
 ghost use Rattle.cow_answers.specs.Answers.{is_good as is_good_by};
 
+use crate::showing::Numbers;
 use cow_image::{
     Failure, Fault, Listed, Reason, Told, faults, read_first, read_slots, read_store, sectors_of,
 };
-use cow_words::Numbers;
 use image::Image;
 use sector::Refusal;
 use std::alloc::Global;

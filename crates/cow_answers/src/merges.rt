@@ -3,11 +3,12 @@ ghost use Rattle.std.specs.Prelude.{◌≡◌, ◌++◌, OnOk};
 ghost use Rattle.cow_answers.specs.Merges.{bytes_by, runs_by, left_by};
 
 use crate::Form;
+use crate::listing::push_runs_lines;
+use crate::listing_json::push_runs_json;
+use crate::members::push_number_json;
+use crate::remaining::{push_left_json, push_left_lines};
+use crate::text::push_line;
 use cow_image::CowMap;
-use cow_words::{
-    push_left as push_left_lines, push_left_json, push_line, push_number_json,
-    push_runs as push_runs_lines, push_runs_json,
-};
 use sector::Pair;
 use std::alloc::AllocError;
 

@@ -2,13 +2,12 @@
 ghost use Rattle.std.specs.Prelude.{◌≡◌, ◌<◌, ◌++◌, IfOk, OnOk};
 ghost use Rattle.cow_answers.specs.Objects.{count_object, kept_objects, unknown_objects, notes_objects, salvaged_objects, lacks_object_of, behind_object_of};
 
+use crate::faults_json::{push_behind_json, push_faults_json, push_unread_json};
+use crate::listing_json::{push_listed_json, push_runs_json};
+use crate::members::push_number_json;
 use crate::notes::{Behind, Notes};
 use cow_image::Listed;
 use cow_kept::{Saved, Span};
-use cow_words::{
-    push_behind_json, push_faults_json, push_listed_json, push_number_json, push_runs_json,
-    push_unread_json,
-};
 use std::alloc::{AllocError, Global};
 
 /// What is printed of a salvage of a store whose areas have so many slots: how many pairs are kept, their runs, the others and

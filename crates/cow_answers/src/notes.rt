@@ -2,9 +2,10 @@
 ghost use Rattle.std.specs.Prelude.{◌≡◌, ◌<◌, ◌++◌, IfOk, OnOk, MatchBool};
 ghost use Rattle.cow_answers.specs.Notes.{salvaged_words, kept_text, unknown_text, notes_text, salvaged_text, lacks_of, behind_of, IsWhole};
 
+use crate::listing::{push_listed, push_runs_lines};
+use crate::salvage::{push_behind_lines, push_skipped, push_spans};
 use cow_image::Listed;
 use cow_kept::{Saved, Span, Used, front_of};
-use cow_words::{push_behind, push_listed, push_runs, push_skipped, push_spans};
 use std::alloc::{AllocError, Global};
 
 /// What is noted of a store's slots.
@@ -66,7 +67,7 @@ fn push_kept(text: &mut Vec<u8>, slots: u64, saved: &Saved) -> Result<(), AllocE
     ensures { OnOk result (text.new.items ≡ text.old.items ++ kept_text slots saved.now.pairs.items saved.now.skipped.items) }
 {
     push_words(text)?;
-    push_runs(text, saved.pairs.as_slice())?;
+    push_runs_lines(text, saved.pairs.as_slice())?;
     push_skipped(text, slots, saved.skipped.as_slice())?;
     Ok(())
 }
@@ -125,7 +126,7 @@ pub(crate) fn push_behind_of(
     ensures { OnOk result (text.new.items ≡ text.old.items ++ behind_of slots behind) }
 {
     match behind {
-        Some(behind) => push_behind(text, slots, behind.count, behind.first),
+        Some(behind) => push_behind_lines(text, slots, behind.count, behind.first),
         None => Ok(()),
     }
 }

@@ -2,12 +2,12 @@
 ghost use Rattle.std.specs.Prelude.{◌≡◌, ◌*◌, ◌<◌, ◌≤◌, ◌++◌, IfOk, OnOk};
 ghost use Rattle.cow_answers.specs.Objects.{map_objects, raw_objects, refusal_object, check_objects, lacks_object};
 
+use crate::faults_json::push_faults_json;
+use crate::json::push_json;
+use crate::listing_json::{push_listed_json, push_runs_json, push_slots_json};
 use crate::looking::Seen;
+use crate::showing::{Numbers, slots_of};
 use cow_image::{Fault, Listed, Told};
-use cow_words::{
-    Numbers, push_faults_json, push_json, push_listed_json, push_runs_json, push_slots_json,
-    slots_of,
-};
 use sector::Pair;
 use std::alloc::{AllocError, Global};
 

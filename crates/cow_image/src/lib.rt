@@ -27,7 +27,7 @@ pub use faulting::faults;
 pub use finding::place_in;
 pub use found::{Reason, Told};
 pub use judging::{begins_before, judge, lies_within};
-pub use map::{CowMap, Usage};
+pub use map::{CowMap, StoreUsage};
 pub use ranging::show_range;
 pub use reading::{Listed, MAX_IMAGE, read_area, read_pairs};
 pub use running::{Run, run_at};

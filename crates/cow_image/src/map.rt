@@ -28,7 +28,7 @@ pub struct CowMap {
 
 /// The numbers of a status line, in sectors.
 #[derive(Clone, Copy, PartialEq, Eq)]
-pub struct Usage {
+pub struct StoreUsage {
     /// The front of the store, up to the next place.
     pub allocated: u64,
     /// The store.
@@ -39,7 +39,7 @@ pub struct Usage {
 
 impl CowMap {
     /// The numbers that a status line says of the store, as the kernel counts them.
-    pub fn usage(&self) -> Usage
+    pub fn usage(&self) -> StoreUsage
         ensures allocated { result.allocated ≡ allocated_by self.now.chunk self.now.pairs.items }
         ensures total { result.total ≡ self.now.size }
         ensures metadata { result.metadata ≡ metadata_by self.now.chunk self.now.current }
@@ -49,7 +49,7 @@ impl CowMap {
         if is_area_place(self.chunk, next) {
             next += 1;
         }
-        Usage {
+        StoreUsage {
             allocated: next * chunk,
             total: self.size,
             metadata: (self.current + 2) * chunk,

@@ -1,12 +1,12 @@
 // What is printed of a store.
 
 use crate::images::{FIRST_STORE, image_of};
-use cow_image::{Failure, Fault, Listed, Reason, Told, faults, read_slots, read_store, sectors_of};
-use cow_words::{
+use cow_answers::{
     Numbers, push_behind_json, push_faults, push_faults_json, push_json, push_listed_json,
-    push_numbers, push_runs, push_runs_json, push_sectors, push_show, push_slots, push_told,
+    push_numbers, push_runs_json, push_runs_lines, push_sectors, push_show, push_slots, push_told,
     push_usage,
 };
+use cow_image::{Failure, Fault, Listed, Reason, Told, faults, read_slots, read_store, sectors_of};
 use image::{FailingImage, Image, MemImage};
 use sector::Refusal;
 use std::alloc::{AllocError, Global};
@@ -19,7 +19,7 @@ fn lines_of(alloc: Global, told: &Told) -> Result<Vec<u8>, AllocError> {
     push_told(&mut text, 256, told)?;
     if let Told::Written(map) = told {
         push_usage(&mut text, map)?;
-        push_runs(&mut text, map.pairs.as_slice())?;
+        push_runs_lines(&mut text, map.pairs.as_slice())?;
     }
     Ok(text)
 }

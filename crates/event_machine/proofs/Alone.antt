@@ -6,7 +6,7 @@ use Rattle.plain.specs.declared.event.Event.{Event}
 use Rattle.plain.specs.declared.event.Event.TheVariants.{Issue, CopyRead, CopyWrite, ZeroNext, WriteArea, Publish, WriteInvalid, FlushStore, MergeGroup, MergeAreaRead, MergeRead, MergeWrite, MergeFlush, MergeCommit, MergeRelease}
 use Rattle.volume_laws.specs.MergeDue.{due_or}
 use Rattle.settled.specs.Devices.{sectors_of}
-use Rattle.event_machine.specs.Held.{Held, MergeHeld, Moving}
+use Rattle.event_machine.specs.Held.{SnapHeld, MergeHeld, Moving}
 use Rattle.event_machine.specs.Due.{due}
 use Rattle.event_machine.specs.MergeDue.{next_of, merge_due, due_all}
 use Rattle.event_machine.specs.Stepping.{for_some, first_that, publish, publishes, stepped}
@@ -30,10 +30,10 @@ pub start_none : (v : Moving) (m : MergeHeld) → v.merge ≡ Some m → next_of
 start_none v m is none = ap (λ o. for_some o (λ (x : MergeHeld). start_next x.merge.chunk (next_of x) v) v) is ∙ ap (λ o. start_next m.merge.chunk o v) none
 
 module _ (n : ℕ) (v : Moving) where
-  abbrev published : Option Held → Moving
+  abbrev published : Option SnapHeld → Moving
   published o = for_some o (λ h. publish (publishes v.requests n) (λ m. m.number == n) h v) v
 
-  published_merge : (o : Option Held) → (published o).merge ≡ v.merge
+  published_merge : (o : Option SnapHeld) → (published o).merge ≡ v.merge
   published_merge None = refl
   published_merge (Some h) = refl
 
@@ -42,14 +42,14 @@ module _ (n : ℕ) (v : Moving) where
   publish_merge = published_merge (first_that (publishes v.requests n) v.snaps)
 
   -- and starts what the merge waits for, where the mark is due
-  pub publish_found : (h : Held) → first_that (publishes v.requests n) v.snaps ≡ Some h → stepped_all (Publish n) v ≡ start_waiting (stepped (Publish n) v)
+  pub publish_found : (h : SnapHeld) → first_that (publishes v.requests n) v.snaps ≡ Some h → stepped_all (Publish n) v ≡ start_waiting (stepped (Publish n) v)
   publish_found h is = ap (λ x. for_some x (λ h. start_waiting (stepped (Publish n) v)) v) is
 
   -- where nothing is started after it, that is all
   pub publish_alone : start_waiting (stepped (Publish n) v) ≡ stepped (Publish n) v → stepped_all (Publish n) v ≡ stepped (Publish n) v
   publish_alone same = at (first_that (publishes v.requests n) v.snaps) refl
     where
-      at : (o : Option Held) → first_that (publishes v.requests n) v.snaps ≡ o → stepped_all (Publish n) v ≡ stepped (Publish n) v
+      at : (o : Option SnapHeld) → first_that (publishes v.requests n) v.snaps ≡ o → stepped_all (Publish n) v ≡ stepped (Publish n) v
       at None is = ap (λ x. for_some x (λ h. start_waiting (stepped (Publish n) v)) v) is ∙ sym (ap published is)
       at (Some h) is = publish_found h is ∙ same
 

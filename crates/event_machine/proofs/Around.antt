@@ -8,64 +8,64 @@ use Rattle.in_flight.specs.declared.copies.Stage.{Stage}
 use Rattle.in_flight.specs.declared.copies.Stage.TheVariants.{Waiting, Read}
 use Rattle.in_flight.specs.Due.{first_by, least}
 use Rattle.settled.specs.Devices.{Device}
-use Rattle.event_machine.specs.Held.{Held, Going, MergeHeld, Moving, number_of}
+use Rattle.event_machine.specs.Held.{SnapHeld, Going, MergeHeld, Moving, number_of}
 use Rattle.event_machine.specs.Due.{can_mark, can_flush_store, can_commit, can_zero, copy_at, publishable_in, is_issuable, number_of_going, least_in, chosen, due, is_front_ready, is_front_unflushed}
 use Rattle.settled.proofs.Each.{Each, each_weaker}
 use Rattle.event_machine.specs.Stepping.{is_copy}
 use Rattle.event_machine.proofs.Lists.{here_by, none_by, nowhere_by, only_least, first_least, nowhere_least, none_least, Above}
 
 -- a volume
-abbrev pub at_with : Option MergeHeld → Device → List Held → List Going → Option Reply → ℕ → Moving
+abbrev pub at_with : Option MergeHeld → Device → List SnapHeld → List Going → Option Reply → ℕ → Moving
 at_with merge origin snaps requests replied started = record { origin = origin; snaps = snaps; merge = merge; requests = requests; replied = replied; started = started }
 
 -- one without a merge; what is due of snapshots and requests is due beside any merge
-abbrev pub at : Device → List Held → List Going → Option Reply → ℕ → Moving
+abbrev pub at : Device → List SnapHeld → List Going → Option Reply → ℕ → Moving
 at origin snaps requests replied started = at_with None origin snaps requests replied started
 
 -- one without a merge is that
 pub at_alone : (v : Moving) → v.merge ≡ None → v ≡ at v.origin v.snaps v.requests v.replied v.started
 at_alone v alone = ap (λ (merge : Option MergeHeld). let w : Moving = record v { merge = merge } in w) alone
 
-pub record IsIdle (h : Held) : Type 0 where
+pub record IsIdle (h : SnapHeld) : Type 0 where
   pub tried : h.untried ≡ false
   pub copies : h.copies ≡ []
   pub marks : h.marks ≡ []
 
-pub record IsLater (h : Held) : Type 0 where
+pub record IsLater (h : SnapHeld) : Type 0 where
   pub tried : h.untried ≡ false
   pub marks : h.marks ≡ []
   pub front : is_front_ready h.copies ≡ false
   pub unflushed : is_front_unflushed h.copies ≡ false
   pub read : copy_at Read h ≡ None
 
-idle_waits : (h : Held) → IsIdle h → copy_at Waiting h ≡ None
+idle_waits : (h : SnapHeld) → IsIdle h → copy_at Waiting h ≡ None
 idle_waits h idle = rw idle.copies refl
 
-pub idle_later : (h : Held) → IsIdle h → IsLater h
+pub idle_later : (h : SnapHeld) → IsIdle h → IsLater h
 idle_later h idle = record { tried = idle.tried; marks = idle.marks; front = rw idle.copies refl; unflushed = rw idle.copies refl; read = rw idle.copies refl }
 
 -- A snapshot before the one that has copy n: it has no copy of that number, and one that waits comes after it.
-pub record IsBefore (n : ℕ) (h : Held) : Type 0 where
+pub record IsBefore (n : ℕ) (h : SnapHeld) : Type 0 where
   pub later : IsLater h
   pub above : Above n (copy_at Waiting h)
   pub apart : (stage : Stage) → list_any (is_copy stage n) h.copies ≡ false
 
-pub idle_before : (n : ℕ) (h : Held) → IsIdle h → IsBefore n h
+pub idle_before : (n : ℕ) (h : SnapHeld) → IsIdle h → IsBefore n h
 idle_before n h idle = record { later = idle_later h idle; above = rw idle.copies tt; apart = λ stage. rw idle.copies refl }
 
-pub later_marks : (h : Held) → IsLater h → can_mark h ≡ false
+pub later_marks : (h : SnapHeld) → IsLater h → can_mark h ≡ false
 later_marks h later = rw later.tried refl
 
-pub later_flushes : (h : Held) → IsLater h → can_flush_store h ≡ false
+pub later_flushes : (h : SnapHeld) → IsLater h → can_flush_store h ≡ false
 later_flushes h later = rw (later.tried, later.unflushed, later.front, later.marks) refl
 
-pub later_commits : (h : Held) → IsLater h → can_commit h ≡ false
+pub later_commits : (h : SnapHeld) → IsLater h → can_commit h ≡ false
 later_commits h later = rw later.front refl
 
-pub later_zeroes : (h : Held) → IsLater h → can_zero h ≡ false
+pub later_zeroes : (h : SnapHeld) → IsLater h → can_zero h ≡ false
 later_zeroes h later = rw later.front refl
 
-later_publishes : (rs : List Going) (h : Held) → IsLater h → publishable_in rs h ≡ None
+later_publishes : (rs : List Going) (h : SnapHeld) → IsLater h → publishable_in rs h ≡ None
 later_publishes rs h later = rw later.marks refl
 
 -- the choice, case by case
@@ -88,11 +88,11 @@ chosen_read : (a b c d e f g i : Option ℕ) (n : ℕ) → a ≡ None → b ≡ 
 chosen_read a b c d e f g i n pa pb pc pd pe pf pg = rw (pa, pb, pc, pd, pe, pf, pg) refl
 
 -- a spoiled snapshot's mark comes first
-pub due_invalid : (origin : Device) (done rest : List Held) (h : Held) (rs : List Going) (a : Option Reply) (k : ℕ) → Each (λ d. d.untried ≡ false) done → h.untried ≡ true → h.marked ≡ false → due (at origin (done ++ h ∷ rest) rs a k) ≡ Some (WriteInvalid h.snap.number)
+pub due_invalid : (origin : Device) (done rest : List SnapHeld) (h : SnapHeld) (rs : List Going) (a : Option Reply) (k : ℕ) → Each (λ d. d.untried ≡ false) done → h.untried ≡ true → h.marked ≡ false → due (at origin (done ++ h ∷ rest) rs a k) ≡ Some (WriteInvalid h.snap.number)
 due_invalid origin done rest h rs a k before is unmarked =
     rw (here_by can_mark number_of done rest h (each_weaker (λ d. d.untried ≡ false) (λ d. can_mark d ≡ false) done (λ d tried. rw tried refl) before) (rw (is, unmarked) refl)) refl
 
-module _ (origin : Device) (done rest : List Held) (h : Held) (rs : List Going) (a : Option Reply) (k : ℕ) (befores : Each IsLater done) (later : Each IsLater rest) where
+module _ (origin : Device) (done rest : List SnapHeld) (h : SnapHeld) (rs : List Going) (a : Option Reply) (k : ℕ) (befores : Each IsLater done) (later : Each IsLater rest) where
   no_mark : can_mark h ≡ false → first_by can_mark number_of (done ++ h ∷ rest) ≡ None
   no_mark is = nowhere_by can_mark number_of done rest h (each_weaker IsLater (λ d. can_mark d ≡ false) done later_marks befores) is (each_weaker IsLater (λ d. can_mark d ≡ false) rest later_marks later)
 
@@ -146,7 +146,7 @@ module _ (origin : Device) (done rest : List Held) (h : Held) (rs : List Going) 
       (first_least (copy_at Waiting) n done rest h above is low)
 
 -- where all snapshots are idle, a request that goes somewhere, or nothing
-module _ (origin : Device) (snaps : List Held) (rs : List Going) (a : Option Reply) (k : ℕ) (idle : Each IsIdle snaps) where
+module _ (origin : Device) (snaps : List SnapHeld) (rs : List Going) (a : Option Reply) (k : ℕ) (idle : Each IsIdle snaps) where
   all_later : Each IsLater snaps
   all_later = each_weaker IsIdle IsLater snaps idle_later idle
 

@@ -2,7 +2,7 @@
 use Rattle.std.proofs.Common.{◌≡◌, ℕ, Bool, true, false, List, [], ◌∷◌, ◌++◌, refl, ap}
 use Rattle.std.specs.Prelude.{◌&&◌, ◌||◌, not}
 use Rattle.std.specs.List.{list_any, list_all}
-use Rattle.event_machine.specs.Held.{Held, is_untried}
+use Rattle.event_machine.specs.Held.{SnapHeld, is_untried}
 use Rattle.event_machine.specs.Again.{is_saved, is_clear}
 use Rattle.settled.proofs.Each.{Each}
 
@@ -31,11 +31,11 @@ module _ {X : Type 0} (f : X → Bool) where
   any_none [] all = refl
   any_none (x ∷ xs) all = rw (all.0, any_none xs all.1) refl
 
-pub unclear_unsaved : (first : ℕ) (done rest : List Held) (h : Held) → is_saved first h ≡ false → is_clear (done ++ h ∷ rest) first ≡ false
+pub unclear_unsaved : (first : ℕ) (done rest : List SnapHeld) (h : SnapHeld) → is_saved first h ≡ false → is_clear (done ++ h ∷ rest) first ≡ false
 unclear_unsaved first done rest h e = ap (λ b. b && not (list_any is_untried (done ++ h ∷ rest))) (all_unless (is_saved first) done rest h e)
 
-pub unclear_untried : (first : ℕ) (done rest : List Held) (h : Held) → is_untried h ≡ true → is_clear (done ++ h ∷ rest) first ≡ false
+pub unclear_untried : (first : ℕ) (done rest : List SnapHeld) (h : SnapHeld) → is_untried h ≡ true → is_clear (done ++ h ∷ rest) first ≡ false
 unclear_untried first done rest h e = and_last (list_all (is_saved first) (done ++ h ∷ rest)) (not (list_any is_untried (done ++ h ∷ rest))) (ap not (any_there is_untried done rest h e))
 
-pub clear_all : (first : ℕ) (snaps : List Held) → Each (λ h. is_saved first h ≡ true) snaps → Each (λ h. is_untried h ≡ false) snaps → is_clear snaps first ≡ true
+pub clear_all : (first : ℕ) (snaps : List SnapHeld) → Each (λ h. is_saved first h ≡ true) snaps → Each (λ h. is_untried h ≡ false) snaps → is_clear snaps first ≡ true
 clear_all first snaps saved tried = rw (all_each (is_saved first) snaps saved, any_none is_untried snaps tried) refl

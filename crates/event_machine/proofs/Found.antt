@@ -7,7 +7,7 @@ use Rattle.plain.specs.declared.request.Failure.TheVariants.{Invalid}
 use Rattle.settled.specs.Devices.{Device}
 use Rattle.settled.specs.Snaps.{Snap}
 use Rattle.settled.specs.Pieces.{Answered, Served, in_snap}
-use Rattle.event_machine.specs.Held.{Held}
+use Rattle.event_machine.specs.Held.{SnapHeld}
 use Rattle.event_machine.specs.Stepping.{first_that}
 use Rattle.settled.proofs.Each.{Each}
 
@@ -41,11 +41,11 @@ module _ (number : ℕ) (serve : Device → Snap → Served) (origin : Device) w
   with_snaps more a = record { volume = record { origin = a.volume.origin; snaps = more ++ a.volume.snaps }; reply = a.reply }
 
   -- the snapshot of a number is served
-  pub served_here : (done rest : List Held) (h : Held) → Each (λ (d : Held). (d.snap.number == number) ≡ false) done → (h.snap.number == number) ≡ true →
-      in_snap number serve origin (map (λ (d : Held). d.snap) (done ++ h ∷ rest)) ≡ record { volume = record { origin = (serve origin h.snap).origin; snaps = map (λ (d : Held). d.snap) done ++ (serve origin h.snap).snap ∷ map (λ (d : Held). d.snap) rest }; reply = (serve origin h.snap).reply }
+  pub served_here : (done rest : List SnapHeld) (h : SnapHeld) → Each (λ (d : SnapHeld). (d.snap.number == number) ≡ false) done → (h.snap.number == number) ≡ true →
+      in_snap number serve origin (map (λ (d : SnapHeld). d.snap) (done ++ h ∷ rest)) ≡ record { volume = record { origin = (serve origin h.snap).origin; snaps = map (λ (d : SnapHeld). d.snap) done ++ (serve origin h.snap).snap ∷ map (λ (d : SnapHeld). d.snap) rest }; reply = (serve origin h.snap).reply }
   served_here [] rest h before pass = cond-true _ _ _ pass
   served_here (d ∷ done) rest h before pass = cond-false _ _ _ before.0 ∙ ap (with_snaps (d.snap ∷ [])) (served_here done rest h before.1 pass)
 
-  pub served_nowhere : (snaps : List Held) → Each (λ (d : Held). (d.snap.number == number) ≡ false) snaps → in_snap number serve origin (map (λ (d : Held). d.snap) snaps) ≡ record { volume = record { origin = origin; snaps = map (λ (d : Held). d.snap) snaps }; reply = Refused Invalid }
+  pub served_nowhere : (snaps : List SnapHeld) → Each (λ (d : SnapHeld). (d.snap.number == number) ≡ false) snaps → in_snap number serve origin (map (λ (d : SnapHeld). d.snap) snaps) ≡ record { volume = record { origin = origin; snaps = map (λ (d : SnapHeld). d.snap) snaps }; reply = Refused Invalid }
   served_nowhere [] none = refl
   served_nowhere (d ∷ snaps) none = cond-false _ _ _ none.0 ∙ ap (with_snaps (d.snap ∷ [])) (served_nowhere snaps none.1)

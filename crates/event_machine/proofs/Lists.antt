@@ -3,7 +3,7 @@ use Rattle.std.proofs.Common.{◌≡◌, ℕ, ◌<◌, Bool, true, false, List, 
 use Rattle.std.specs.Prelude.{◌==◌, ◌&&◌}
 use Rattle.std.proofs.lemmas.Bool.{cond-true, cond-false}
 use Rattle.in_flight.specs.Due.{first_by, least}
-use Rattle.event_machine.specs.Held.{Held}
+use Rattle.event_machine.specs.Held.{SnapHeld}
 use Rattle.event_machine.specs.Due.{least_in}
 use Rattle.event_machine.specs.Stepping.{first_that, with_first}
 use Rattle.settled.proofs.Each.{Each}
@@ -49,28 +49,28 @@ above_least n None above = refl
 above_least n (Some k) above = let same : min k n ≡ n = omega arith in ap Some same
 
 -- the least number
-module _ (f : Held → Option ℕ) where
-  abbrev pub HasNone : Held → Type 0
+module _ (f : SnapHeld → Option ℕ) where
+  abbrev pub HasNone : SnapHeld → Type 0
   HasNone h = f h ≡ None
 
-  pub skip_least : (done xs : List Held) → Each HasNone done → least_in f (done ++ xs) ≡ least_in f xs
+  pub skip_least : (done xs : List SnapHeld) → Each HasNone done → least_in f (done ++ xs) ≡ least_in f xs
   skip_least [] xs all = refl
   skip_least (d ∷ done) xs all = ap (λ o. least o (least_in f (done ++ xs))) all.0 ∙ skip_least done xs all.1
 
-  pub none_least : (xs : List Held) → Each HasNone xs → least_in f xs ≡ None
+  pub none_least : (xs : List SnapHeld) → Each HasNone xs → least_in f xs ≡ None
   none_least [] all = refl
   none_least (x ∷ xs) all = ap (λ o. least o (least_in f xs)) all.0 ∙ none_least xs all.1
 
-  pub here_least : (n : ℕ) (done rest : List Held) (h : Held) → Each HasNone done → f h ≡ Some n → least (Some n) (least_in f rest) ≡ Some n → least_in f (done ++ h ∷ rest) ≡ Some n
+  pub here_least : (n : ℕ) (done rest : List SnapHeld) (h : SnapHeld) → Each HasNone done → f h ≡ Some n → least (Some n) (least_in f rest) ≡ Some n → least_in f (done ++ h ∷ rest) ≡ Some n
   here_least n done rest h all is low = skip_least done (h ∷ rest) all ∙ ap (λ o. least o (least_in f rest)) is ∙ low
 
   -- those before it have none, or a greater one
-  pub first_least : (n : ℕ) (done rest : List Held) (h : Held) → Each (λ d. Above n (f d)) done → f h ≡ Some n → least (Some n) (least_in f rest) ≡ Some n → least_in f (done ++ h ∷ rest) ≡ Some n
+  pub first_least : (n : ℕ) (done rest : List SnapHeld) (h : SnapHeld) → Each (λ d. Above n (f d)) done → f h ≡ Some n → least (Some n) (least_in f rest) ≡ Some n → least_in f (done ++ h ∷ rest) ≡ Some n
   first_least n [] rest h all is low = ap (λ o. least o (least_in f rest)) is ∙ low
   first_least n (d ∷ done) rest h all is low = ap (least (f d)) (first_least n done rest h all.1 is low) ∙ above_least n (f d) all.0
 
-  pub only_least : (n : ℕ) (done rest : List Held) (h : Held) → Each HasNone done → f h ≡ Some n → Each HasNone rest → least_in f (done ++ h ∷ rest) ≡ Some n
+  pub only_least : (n : ℕ) (done rest : List SnapHeld) (h : SnapHeld) → Each HasNone done → f h ≡ Some n → Each HasNone rest → least_in f (done ++ h ∷ rest) ≡ Some n
   only_least n done rest h all is later = here_least n done rest h all is (ap (least (Some n)) (none_least rest later))
 
-  pub nowhere_least : (done rest : List Held) (h : Held) → Each HasNone done → f h ≡ None → Each HasNone rest → least_in f (done ++ h ∷ rest) ≡ None
+  pub nowhere_least : (done rest : List SnapHeld) (h : SnapHeld) → Each HasNone done → f h ≡ None → Each HasNone rest → least_in f (done ++ h ∷ rest) ≡ None
   nowhere_least done rest h all is later = skip_least done (h ∷ rest) all ∙ ap (λ o. least o (least_in f rest)) is ∙ none_least rest later

@@ -10,7 +10,7 @@ use Rattle.settled.specs.Snaps.{Snap, Volume}
 use Rattle.settled.specs.Attaching.{detached}
 use Rattle.settled.specs.Merges.{Merge, Merged, merge_of, pairs_in, snap_named, begun_with, begun as begun_big, resumed_by, resumed as resumed_big, finished_by, finished as finished_big}
 use Rattle.settled.proofs.Each.{Each, each_from, all_from}
-use Rattle.event_machine.specs.Held.{Held, MergeHeld, Moving, group_in, with_merge}
+use Rattle.event_machine.specs.Held.{SnapHeld, MergeHeld, Moving, group_in, with_merge}
 use Rattle.event_machine.specs.Stepping.{for_some, first_that, without_first}
 use Rattle.event_machine.specs.MergeDue.{is_finished}
 use Rattle.event_machine.specs.Merging.{merging_of, begin, begun, resumed, finished}
@@ -20,41 +20,41 @@ use Rattle.event_machine.specs.MergeRest.{merge_in, merged_of, IsMergeResting, I
 use Rattle.event_machine.proofs.Lists.{here_that}
 use Rattle.event_machine.proofs.Found.{split_at, none_that, IsSplit}
 
-abbrev snap_of : Held → Snap
+abbrev snap_of : SnapHeld → Snap
 snap_of h = h.snap
 
 module _ (number : ℕ) where
-  abbrev is_this : Held → Bool
+  abbrev is_this : SnapHeld → Bool
   is_this h = h.snap.number == number
 
-  none_named : (hs : List Held) → Each (λ h. is_this h ≡ false) hs → snap_named number (map snap_of hs) ≡ None
+  none_named : (hs : List SnapHeld) → Each (λ h. is_this h ≡ false) hs → snap_named number (map snap_of hs) ≡ None
   none_named [] none = refl
   none_named (h ∷ hs) none = cond-false _ _ _ none.0 ∙ none_named hs none.1
 
-  here_named : (done rest : List Held) (h : Held) → Each (λ d. is_this d ≡ false) done → is_this h ≡ true → snap_named number (map snap_of (done ++ h ∷ rest)) ≡ Some h.snap
+  here_named : (done rest : List SnapHeld) (h : SnapHeld) → Each (λ d. is_this d ≡ false) done → is_this h ≡ true → snap_named number (map snap_of (done ++ h ∷ rest)) ≡ Some h.snap
   here_named [] rest h before pass = cond-true _ _ _ pass
   here_named (d ∷ done) rest h before pass = cond-false _ _ _ before.0 ∙ here_named done rest h before.1 pass
 
-  taken_out : (hs : List Held) → detached number (map snap_of hs) ≡ map snap_of (without_first is_this hs)
+  taken_out : (hs : List SnapHeld) → detached number (map snap_of hs) ≡ map snap_of (without_first is_this hs)
   taken_out [] = refl
   taken_out (h ∷ hs) = elim (cases_Bool (is_this h)) [
     | inl here ↦ cond-true _ _ _ here ∙ sym (ap (map snap_of) (cond-true _ _ _ here))
     | inr other ↦ cond-false _ _ _ other ∙ ap (λ ss. h.snap ∷ ss) (taken_out hs) ∙ sym (ap (map snap_of) (cond-false _ _ _ other))
   ]
 
-  others_rest : (sectors : ℕ) (hs : List Held) → Each (IsResting sectors) hs → Each (IsResting sectors) (without_first is_this hs)
+  others_rest : (sectors : ℕ) (hs : List SnapHeld) → Each (IsResting sectors) hs → Each (IsResting sectors) (without_first is_this hs)
   others_rest sectors [] all = tt
   others_rest sectors (h ∷ hs) all = elim (cases_Bool (is_this h)) [
     | inl here ↦ subst (Each (IsResting sectors)) (sym (cond-true _ _ _ here)) all.1
     | inr other ↦ subst (Each (IsResting sectors)) (sym (cond-false _ _ _ other)) (all.0, others_rest sectors hs all.1)
   ]
 
-  here_rests : (sectors : ℕ) (done rest : List Held) (h : Held) → Each (IsResting sectors) (done ++ h ∷ rest) → IsResting sectors h
+  here_rests : (sectors : ℕ) (done rest : List SnapHeld) (h : SnapHeld) → Each (IsResting sectors) (done ++ h ∷ rest) → IsResting sectors h
   here_rests sectors [] rest h all = all.0
   here_rests sectors (d ∷ done) rest h all = here_rests sectors done rest h all.1
 
 -- the merge of a snapshot at rest is that of the big step
-merge_same : (sectors : ℕ) (h : Held) → IsKept sectors h → (merging_of h).merge ≡ merge_of h.snap
+merge_same : (sectors : ℕ) (h : SnapHeld) → IsKept sectors h → (merging_of h).merge ≡ merge_of h.snap
 merge_same sectors h kept =
     let made : ℕ → ℕ → Merge = λ (current next : ℕ). record { number = h.snap.number; chunk = h.snap.chunk; failed = false; current = current; next = next; store = h.snap.store } in
     ap (λ ps. made (length ps / (32 * h.snap.chunk)) h.next) (sym kept.pairs)
@@ -95,14 +95,14 @@ module _ (sectors number : ℕ) (v : Moving) (rest : IsBetween sectors v) where
   abbrev Begins : Moving → Merged → Type 0
   Begins w m = (merged_of w ≡ m) × IsBetween sectors w
 
-  abbrev test : Held → Bool
+  abbrev test : SnapHeld → Bool
   test h = h.snap.number == number
 
   module _ (alone : v.merge ≡ None) where
     stays : merged_of v ≡ record { volume = volume_of v; merge = None }
     stays = ap (λ (m : Option MergeHeld). let w : Merged = record { volume = volume_of v; merge = merge_in m } in w) alone
 
-    begins_live : (h : Held) → IsResting sectors h → h.snap.live ≡ true → Begins (begin test h v) (begun_with (Some h.snap) number (volume_of v))
+    begins_live : (h : SnapHeld) → IsResting sectors h → h.snap.live ≡ true → Begins (begin test h v) (begun_with (Some h.snap) number (volume_of v))
     begins_live h here on =
         let w : Moving = record v { snaps = without_first test v.snaps; merge = Some (merging_of h) } in
         let rests : IsBetween sectors w = record {
@@ -117,7 +117,7 @@ module _ (sectors number : ℕ) (v : Moving) (rest : IsBetween sectors v) where
         ∙ ap (made (detached number (map snap_of v.snaps))) (merge_same sectors h (here.live on)) ∙ sym (cond-true _ _ _ on) in
         subst (λ x. Begins x (begun_with (Some h.snap) number (volume_of v))) (sym (cond-true _ _ _ on)) (same, rests)
 
-    begins_dead : (h : Held) → h.snap.live ≡ false → Begins (begin test h v) (begun_with (Some h.snap) number (volume_of v))
+    begins_dead : (h : SnapHeld) → h.snap.live ≡ false → Begins (begin test h v) (begun_with (Some h.snap) number (volume_of v))
     begins_dead h out = subst (λ x. Begins x (begun_with (Some h.snap) number (volume_of v))) (sym (cond-false _ _ _ out)) (stays ∙ sym (cond-false _ _ _ out), rest)
 
     begins_in : (IsSplit test v.snaps) → Begins (for_some (first_that test v.snaps) (λ h. begin test h v) v) (begun_with (snap_named number (map snap_of v.snaps)) number (volume_of v))

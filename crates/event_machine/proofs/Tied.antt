@@ -15,7 +15,7 @@ use Rattle.volume_laws.specs.Due.{DueSnap, snap_number, can_mark as marks_in, ca
 use Rattle.volume_laws.specs.Published.{is_saved as is_saved_in, is_clear as is_clear_in, is_saved_over as is_saved_over_in, is_clear_over as is_clear_over_in}
 use Rattle.volume_laws.specs.Again.{placed_of, again_of}
 use Rattle.settled.specs.Devices.{Device}
-use Rattle.event_machine.specs.Held.{Held, Going, number_of, is_untried}
+use Rattle.event_machine.specs.Held.{SnapHeld, Going, number_of, is_untried}
 use Rattle.event_machine.specs.Due.{is_front_ready, is_front_unflushed, can_mark, can_flush_store, can_commit, can_zero, is_at, number_of_copying, copy_at, is_reading, is_publishable, publishable_in, is_issuable, number_of_going, least_in, chosen, due}
 use Rattle.event_machine.specs.Again.{again, placed, refused, is_saved, is_clear, is_saved_over, is_clear_over}
 use Rattle.event_machine.specs.Seen.{Seen, copying_of, going_of, held_of, due_in, moving_of, NeedsAsSeen}
@@ -76,11 +76,11 @@ publish_same fs s =
     first_by_same test test' number [] same = refl
     first_by_same test test' number (x ∷ xs) same = ap (λ b. if b then Some (number x) else first_by test number xs) (same x) ∙ ap (λ o. if test' x then Some (number x) else o) (first_by_same test test' number xs same)
 
-least_same : (f : Held → Option ℕ) (g : DueSnap → Option ℕ) (snaps : List Seen) → ((s : Seen) → f (held_of s) ≡ g s.due) → least_in f (map held_of snaps) ≡ least_of g (map due_in snaps)
+least_same : (f : SnapHeld → Option ℕ) (g : DueSnap → Option ℕ) (snaps : List Seen) → ((s : Seen) → f (held_of s) ≡ g s.due) → least_in f (map held_of snaps) ≡ least_of g (map due_in snaps)
 least_same f g [] same = refl
 least_same f g (s ∷ snaps) same = ap (λ o. least o (least_in f (map held_of snaps))) (same s) ∙ ap (least (g s.due)) (least_same f g snaps same)
 
-first_same : (test : Held → Bool) (test' : DueSnap → Bool) (snaps : List Seen) → Each (λ s. test (held_of s) ≡ test' s.due) snaps → first_by test number_of (map held_of snaps) ≡ first_by test' snap_number (map due_in snaps)
+first_same : (test : SnapHeld → Bool) (test' : DueSnap → Bool) (snaps : List Seen) → Each (λ s. test (held_of s) ≡ test' s.due) snaps → first_by test number_of (map held_of snaps) ≡ first_by test' snap_number (map due_in snaps)
 first_same test test' [] same = refl
 first_same test test' (s ∷ snaps) same =
     ap (λ b. if b then Some s.due.books.number else first_by test number_of (map held_of snaps)) same.0 ∙ ap (λ o. if test' s.due then Some s.due.books.number else o) (first_same test test' snaps same.1)
@@ -91,7 +91,7 @@ each_map P Q (s ∷ snaps) f all = (f s all.0, each_map P Q snaps f all.1)
 
 pub due_tied : (origin : Device) (snaps : List Seen) (fs : List Flight) (a : Option Reply) (k : ℕ) → Each NeedsAsSeen snaps → due (moving_of origin snaps fs a k) ≡ due_of (map due_in snaps) fs
 due_tied origin snaps fs a k needs =
-    let hs : List Held = map held_of snaps in
+    let hs : List SnapHeld = map held_of snaps in
     let rs : List Going = map going_of fs in
     let ds : List DueSnap = map due_in snaps in
     ap (λ o. chosen o (first_by can_flush_store number_of hs) (least_in (publishable_in rs) hs) (first_by can_commit number_of hs) (first_by can_zero number_of hs) (least_in (copy_at Read) hs) (least_in (copy_at Waiting) hs) (first_by is_issuable number_of_going rs))

@@ -23,7 +23,7 @@ pub record Copying : Type 0 where
 -- mark was written; it counts as tried after the flush of the store that follows. next: the place that is handed out next.
 -- zeroed: the area after the current one is zeroed. firm: and the store was flushed since. marks: of copies that are
 -- committed and not published.
-pub record Held : Type 0 where
+pub record SnapHeld : Type 0 where
   pub snap : Snap
   pub untried : Bool
   pub marked : Bool
@@ -57,16 +57,16 @@ pub record Going : Type 0 where
 -- reply, and how many copies were started.
 pub record Moving : Type 0 where
   pub origin : Device
-  pub snaps : List Held
+  pub snaps : List SnapHeld
   pub merge : Option MergeHeld
   pub requests : List Going
   pub replied : Option Reply
   pub started : ℕ
 
-abbrev pub number_of : Held → ℕ
+abbrev pub number_of : SnapHeld → ℕ
 number_of h = h.snap.number
 
-abbrev pub is_untried : Held → Bool
+abbrev pub is_untried : SnapHeld → Bool
 is_untried h = h.untried
 
 -- a copy, and a snapshot, after a flush of the store: what is written counts as written, what is committed may be published,
@@ -74,15 +74,15 @@ is_untried h = h.untried
 abbrev pub flushed_copying : Copying → Copying
 flushed_copying p = record p { stage = flushed_stage p.stage }
 
-abbrev pub flushed_held : Held → Held
+abbrev pub flushed_held : SnapHeld → SnapHeld
 flushed_held h = record h { firm = h.zeroed; copies = map flushed_copying h.copies; marks = map safe_mark h.marks }
 
 -- the snapshot with another device for its store
-abbrev pub with_store : Held → Device → Held
+abbrev pub with_store : SnapHeld → Device → SnapHeld
 with_store h store = record h { snap = record h.snap { store = store } }
 
 -- the snapshot is spoiled: its copies are dropped
-abbrev pub spoiled : Held → Held
+abbrev pub spoiled : SnapHeld → SnapHeld
 spoiled h = record h { snap = record h.snap { live = false }; untried = true; copies = []; marks = [] }
 
 -- the present group of a merge

@@ -9,7 +9,7 @@ use Rattle.in_flight.specs.Copies.{count_of}
 use Rattle.in_flight.specs.Kinds.{kind_of}
 use Rattle.volume_laws.specs.MergeDue.{is_none, last_of, next_pair, goes_to, writes_to, one_of, due_or}
 use Rattle.settled.specs.Devices.{sectors_of}
-use Rattle.event_machine.specs.Held.{Held, Going, MergeHeld, Moving, group_in}
+use Rattle.event_machine.specs.Held.{SnapHeld, Going, MergeHeld, Moving, group_in}
 use Rattle.event_machine.specs.Again.{is_clear_over}
 use Rattle.event_machine.specs.Due.{due}
 
@@ -49,11 +49,11 @@ next_of m = next_pair m.reading m.waiting
 
 -- MergeWrite: a chunk is in the buffer, each live snapshot has published all chunks that it touches, on an origin of so many
 -- sectors, and no invalid mark is untried
-abbrev pub is_writable : List Held → ℕ → ℕ → List Pair → Bool
+abbrev pub is_writable : List SnapHeld → ℕ → ℕ → List Pair → Bool
 is_writable snaps chunk sectors [] = false
 is_writable snaps chunk sectors (q ∷ pairs) = is_clear_over snaps (chunk * q.old) (count_of chunk sectors q.old)
 
-abbrev pub can_write : ℕ → List Held → MergeHeld → Bool
+abbrev pub can_write : ℕ → List SnapHeld → MergeHeld → Bool
 can_write sectors snaps m = is_writable snaps m.merge.chunk sectors m.reading
 
 -- MergeFlush: all chunks are copied, and the origin was not flushed since. MergeCommit: it was.
@@ -71,7 +71,7 @@ abbrev pub can_release : List Going → MergeHeld → Bool
 can_release rs m = not (is_none m.released) && not (list_any (is_using m.released) rs)
 
 -- the event of a merge that is due first, on an origin of so many sectors
-abbrev pub merge_due : ℕ → List Held → List Going → Option MergeHeld → Option Event
+abbrev pub merge_due : ℕ → List SnapHeld → List Going → Option MergeHeld → Option Event
 merge_due sectors snaps rs None = None
 merge_due sectors snaps rs (Some m) =
     one_of (can_release rs m) MergeRelease

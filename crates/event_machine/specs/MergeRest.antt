@@ -3,7 +3,7 @@ use Rattle.std.specs.Prelude.{◌≡◌, ℕ, ◌*◌, [], length, map, Option, 
 use Rattle.std.specs.List.{All}
 use Rattle.store_bytes.specs.Pairs.{pairs_of}
 use Rattle.settled.specs.Merges.{Merge, Merged, Merging}
-use Rattle.event_machine.specs.Held.{Held, MergeHeld, Moving}
+use Rattle.event_machine.specs.Held.{SnapHeld, MergeHeld, Moving}
 use Rattle.event_machine.specs.MergeStepping.{without_group}
 use Rattle.event_machine.specs.Requests.{volume_of}
 use Rattle.event_machine.specs.Rest.{IsResting}
@@ -18,7 +18,7 @@ abbrev pub merged_of : Moving → Merged
 merged_of v = record { volume = volume_of v; merge = merge_in v.merge }
 
 abbrev pub in_big_steps : MergeHeld → Moving → Merging
-in_big_steps m v = record { volume = record { origin = v.origin; snaps = map (λ (h : Held). h.snap) v.snaps }; merge = m.merge }
+in_big_steps m v = record { volume = record { origin = v.origin; snaps = map (λ (h : SnapHeld). h.snap) v.snaps }; merge = m.merge }
 
 -- A merge of which nothing is under way: its pairs are those of the store's bytes, and no group is formed.
 pub record IsMergeResting (m : MergeHeld) : Type 0 where

@@ -1,12 +1,12 @@
 -- A merge begins, goes on after a fault, and is taken out of its volume: no device is touched. Calls test before it that
 -- nothing is in flight.
 use Rattle.std.specs.Prelude.{◌==◌, ℕ, ◌*◌, ◌/◌, is_some, Bool, false, [], length, Some, None, if◌then◌else◌}
-use Rattle.event_machine.specs.Held.{Held, MergeHeld, Moving, with_merge}
+use Rattle.event_machine.specs.Held.{SnapHeld, MergeHeld, Moving, with_merge}
 use Rattle.event_machine.specs.MergeDue.{is_finished}
 use Rattle.event_machine.specs.Stepping.{for_some, first_that, without_first}
 
 -- The merge of a live snapshot: pairs are taken from the area of the first empty slot on, backwards.
-abbrev pub merging_of : Held → MergeHeld
+abbrev pub merging_of : SnapHeld → MergeHeld
 merging_of h = record {
   merge = record {
     number = h.snap.number;
@@ -26,7 +26,7 @@ merging_of h = record {
 }
 
 -- the snapshot that passes a test is merged, if it is live
-abbrev pub begin : (Held → Bool) → Held → Moving → Moving
+abbrev pub begin : (SnapHeld → Bool) → SnapHeld → Moving → Moving
 begin test h v = if h.snap.live then record v { snaps = without_first test v.snaps; merge = Some (merging_of h) } else v
 
 -- begin: nothing where a merge is begun, or the snapshot is not there

@@ -4,11 +4,11 @@ use Rattle.std.specs.List.{All}
 use Rattle.store_bytes.specs.Pairs.{pairs_of}
 use Rattle.settled.specs.Saves.{next_of}
 use Rattle.settled.specs.Order.{IsInOrder}
-use Rattle.event_machine.specs.Held.{Held, Moving}
+use Rattle.event_machine.specs.Held.{SnapHeld, Moving}
 
 -- A live snapshot of an origin of so many sectors: its store is in order, its pairs and its next place are those of the
 -- store's bytes, no area is zeroed ahead, and no mark was written.
-pub record IsKept (sectors : ℕ) (h : Held) : Type 0 where
+pub record IsKept (sectors : ℕ) (h : SnapHeld) : Type 0 where
   pub order : (size : ℕ) × IsInOrder h.snap.chunk sectors size h.snap.store.bytes
   pub pairs : pairs_of h.snap.chunk h.snap.store.bytes ≡ h.pairs
   pub next : h.next ≡ next_of h.snap.chunk h.pairs
@@ -17,7 +17,7 @@ pub record IsKept (sectors : ℕ) (h : Held) : Type 0 where
   pub unmarked : h.marked ≡ false
 
 -- a snapshot of which nothing is under way
-pub record IsResting (sectors : ℕ) (h : Held) : Type 0 where
+pub record IsResting (sectors : ℕ) (h : SnapHeld) : Type 0 where
   pub tried : h.untried ≡ false
   pub copies : h.copies ≡ []
   pub marks : h.marks ≡ []

@@ -11,7 +11,7 @@ use Rattle.in_flight.specs.declared.flights.Flight.{Flight}
 use Rattle.in_flight.specs.Due.{is_stage, front_ready}
 use Rattle.volume_laws.specs.Due.{DueSnap}
 use Rattle.settled.specs.Devices.{Device}
-use Rattle.event_machine.specs.Held.{Copying, Held, Going, Moving}
+use Rattle.event_machine.specs.Held.{Copying, SnapHeld, Going, Moving}
 use Rattle.event_machine.specs.Due.{needs_area, waits_for_area}
 
 -- a snapshot: its books and what is due of it, its store's layers, whether the store is stale, and its next place
@@ -27,7 +27,7 @@ copying_of p = record { number = p.number; pair = p.pair; stage = p.stage; bytes
 abbrev pub going_of : Flight → Going
 going_of f = record { number = f.number; request = f.request; route = f.route }
 
-abbrev pub held_of : Seen → Held
+abbrev pub held_of : Seen → SnapHeld
 held_of s = record {
   snap = record {
     number = s.due.books.number;

@@ -2,7 +2,7 @@
 use Rattle.std.specs.Prelude.{◌≡◌, ℕ, ◌+◌, zero, suc, Option, Some, None, map}
 use Rattle.plain.specs.declared.event.Event.{Event}
 use Rattle.settled.specs.Pieces.{Answered}
-use Rattle.event_machine.specs.Held.{Held, Moving}
+use Rattle.event_machine.specs.Held.{SnapHeld, Moving}
 use Rattle.event_machine.specs.Due.{due}
 use Rattle.event_machine.specs.Stepping.{for_some, stepped}
 use Rattle.event_machine.specs.MergeDue.{due_all}
@@ -30,5 +30,5 @@ pub record SettlesTo (sectors : ℕ) (v : Moving) (answer : Answered) : Type 0 w
   pub quiet : due last ≡ None
   pub rest : IsAtRest sectors last
   pub origin : last.origin ≡ answer.volume.origin
-  pub snaps : map (λ (h : Held). h.snap) last.snaps ≡ answer.volume.snaps
+  pub snaps : map (λ (h : SnapHeld). h.snap) last.snaps ≡ answer.volume.snaps
   pub reply : last.replied ≡ Some answer.reply

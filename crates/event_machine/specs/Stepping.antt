@@ -26,7 +26,7 @@ use Rattle.in_flight.specs.declared.flights.Route.TheVariants.{Held as Waits, Or
 use Rattle.settled.specs.Saves.{marked, zeroed}
 use Rattle.settled.specs.Devices.{Device, sectors_of, answers, met, written_by, read_reply, flush_reply}
 use Rattle.settled.specs.Saving.{lacks_area}
-use Rattle.event_machine.specs.Held.{Copying, Held, Going, MergeHeld, Moving, with_store, spoiled, flushed_held, on_device, with_merge}
+use Rattle.event_machine.specs.Held.{Copying, SnapHeld, Going, MergeHeld, Moving, with_store, spoiled, flushed_held, on_device, with_merge}
 use Rattle.event_machine.specs.Due.{filled_of, batch_of, can_mark, can_flush_store, can_commit, can_zero, is_at, is_publishable, is_issuable}
 use Rattle.event_machine.specs.Again.{placed, refused, rerouted}
 
@@ -49,21 +49,21 @@ without_first test [] = []
 without_first test (x ∷ xs) = if test x then xs else x ∷ without_first test xs
 
 -- the snapshot that passed the test becomes another
-abbrev pub put : (Held → Bool) → Held → Moving → Moving
+abbrev pub put : (SnapHeld → Bool) → SnapHeld → Moving → Moving
 put test h v = record v { snaps = with_first test h v.snaps }
 
 -- or is spoiled: its requests are refused
-abbrev pub spoil : (Held → Bool) → Held → Moving → Moving
+abbrev pub spoil : (SnapHeld → Bool) → SnapHeld → Moving → Moving
 spoil test h v = record v { snaps = with_first test (spoiled h) v.snaps; requests = map (refused h.snap.number) v.requests }
 
 -- an operation that leaves its store with these bytes; where that fails it is spoiled
-abbrev pub store_write : (Held → Bool) → Held → Operation → List ℕ → (Held → Held) → Moving → Moving
+abbrev pub store_write : (SnapHeld → Bool) → SnapHeld → Operation → List ℕ → (SnapHeld → SnapHeld) → Moving → Moving
 store_write test h op bytes next v =
-    let after : Held = with_store h (written_by h.snap.store op bytes) in
+    let after : SnapHeld = with_store h (written_by h.snap.store op bytes) in
     if answers h.snap.store op then put test (next after) v else spoil test after v
 
 -- a copy's chunk is read from the origin disk
-abbrev pub read_copy : (Held → Bool) → (Copying → Bool) → Held → Copying → Moving → Moving
+abbrev pub read_copy : (SnapHeld → Bool) → (Copying → Bool) → SnapHeld → Copying → Moving → Moving
 read_copy test mine h p v =
     let count : ℕ = count_of h.snap.chunk (sectors_of v.origin) p.pair.old in
     let op : Operation = Reads (h.snap.chunk * p.pair.old) count in
@@ -72,13 +72,13 @@ read_copy test mine h p v =
     if answers v.origin op then put test (record h { copies = with_first mine read h.copies }) w else spoil test h w
 
 -- it is written to its place
-abbrev pub write_copy : (Held → Bool) → (Copying → Bool) → Held → Copying → Moving → Moving
+abbrev pub write_copy : (SnapHeld → Bool) → (Copying → Bool) → SnapHeld → Copying → Moving → Moving
 write_copy test mine h p v =
     store_write test h (Writes (h.snap.chunk * p.pair.new) (count_of h.snap.chunk (sectors_of v.origin) p.pair.old)) (with_sectors h.snap.store.bytes (h.snap.chunk * p.pair.new) p.bytes)
     (λ after. record after { copies = with_first mine (record p { stage = Written }) after.copies }) v
 
 -- the area after the current one is zeroed; a store that lacks it is spoiled
-abbrev pub zero_next : (Held → Bool) → Held → Moving → Moving
+abbrev pub zero_next : (SnapHeld → Bool) → SnapHeld → Moving → Moving
 zero_next test h v =
     let a : ℕ = length h.pairs / (32 * h.snap.chunk) + 1 in
     if lacks_area a h.snap then spoil test h v
@@ -97,7 +97,7 @@ all_paired chunk store k pairs =
     with_part store (512 * (chunk * area_place chunk (k / (32 * chunk))) + 16 * (k % (32 * chunk))) (flat_map pair_bytes pairs)
 
 -- so many of the first copies are committed, by one write of the area
-abbrev pub commit : ℕ → (Held → Bool) → Held → Moving → Moving
+abbrev pub commit : ℕ → (SnapHeld → Bool) → SnapHeld → Moving → Moving
 commit count test h v =
     let k : ℕ = length h.pairs in
     let now : List Copying = take count h.copies in
@@ -106,25 +106,25 @@ commit count test h v =
     (λ after. record after { pairs = after.pairs ++ map pair_of now; copies = drop count after.copies; marks = after.marks ++ map mark_of now; zeroed = after.zeroed && room; firm = after.firm && room }) v
 
 -- a mark is taken away: held writes of the snapshot are routed again, and then those of the origin
-abbrev pub publish : (Held → Bool) → (Mark → Bool) → Held → Moving → Moving
+abbrev pub publish : (SnapHeld → Bool) → (Mark → Bool) → SnapHeld → Moving → Moving
 publish test mine h v =
-    let after : Held = record h { marks = without_first mine h.marks } in
+    let after : SnapHeld = record h { marks = without_first mine h.marks } in
     rerouted (record v { snaps = with_first test after v.snaps; requests = map (placed after) v.requests })
 
 -- A spoiled snapshot's header is marked invalid: the mark is written, and waits for a flush of the store; where the write fails
 -- the mark is tried, and the store is stale.
-abbrev pub mark_invalid : (Held → Bool) → Held → Moving → Moving
+abbrev pub mark_invalid : (SnapHeld → Bool) → SnapHeld → Moving → Moving
 mark_invalid test h v =
     let op : Operation = Writes 0 h.snap.chunk in
-    let after : Held = with_store h (written_by h.snap.store op (marked h.snap.chunk h.snap.store.bytes)) in
+    let after : SnapHeld = with_store h (written_by h.snap.store op (marked h.snap.chunk h.snap.store.bytes)) in
     if answers h.snap.store op then put test (record after { marked = true }) v
     else rerouted (put test (record after { snap = record after.snap { stale = true }; untried = false }) v)
 
 -- A store is flushed. A mark that was written is tried, and the store is stale where the flush failed; a live snapshot whose
 -- store was not flushed is spoiled.
-abbrev pub flush_store : (Held → Bool) → Held → Moving → Moving
+abbrev pub flush_store : (SnapHeld → Bool) → SnapHeld → Moving → Moving
 flush_store test h v =
-    let after : Held = with_store h (met h.snap.store Flushes) in
+    let after : SnapHeld = with_store h (met h.snap.store Flushes) in
     if h.marked then rerouted (put test (record after { snap = record after.snap { stale = not (answers h.snap.store Flushes) }; untried = false }) v)
     else (if answers h.snap.store Flushes then put test (flushed_held after) v else spoil test after v)
 
@@ -144,7 +144,7 @@ on_disk (WriteOp bytes) first count mine v =
 on_disk FlushOp first count mine v = answer mine (flush_reply v.origin) (record v { origin = met v.origin Flushes })
 
 -- of a place of a snapshot's store; no flush goes there
-abbrev pub on_store : Op → ℕ → ℕ → (Going → Bool) → (Held → Bool) → Held → Moving → Moving
+abbrev pub on_store : Op → ℕ → ℕ → (Going → Bool) → (SnapHeld → Bool) → SnapHeld → Moving → Moving
 on_store ReadOp first count mine test h v = answer mine (read_reply h.snap.store first count) (put test (with_store h (met h.snap.store (Reads first count))) v)
 on_store (WriteOp bytes) first count mine test h v =
     answer mine (write_reply h.snap.store first count) (put test (with_store h (written_by h.snap.store (Writes first count) (with_sectors h.snap.store.bytes first bytes))) v)
@@ -165,9 +165,9 @@ on_place (ToSnap n) op place first count mine v =
 
 -- A flush that is asked of a live snapshot is one of its store, and counts as one that an event does; where it fails it is
 -- answered so, and the snapshot stays as it was.
-abbrev pub flush_asked : (Going → Bool) → (Held → Bool) → Held → Moving → Moving
+abbrev pub flush_asked : (Going → Bool) → (SnapHeld → Bool) → SnapHeld → Moving → Moving
 flush_asked mine test h v =
-    let after : Held = with_store h (met h.snap.store Flushes) in
+    let after : SnapHeld = with_store h (met h.snap.store Flushes) in
     if answers h.snap.store Flushes then answer mine Flushed (put test (flushed_held after) v) else answer mine (Declined Io) (put test after v)
 
 -- A flush of the origin beside a merge goes to the merging store first, and then on to the origin's device.
@@ -194,17 +194,17 @@ abbrev pub is_copy : Stage → ℕ → Copying → Bool
 is_copy stage n p = (p.number == n) && is_at stage p
 
 -- an event of a copy
-abbrev pub on_copy : Stage → ℕ → ((Held → Bool) → (Copying → Bool) → Held → Copying → Moving → Moving) → Moving → Moving
+abbrev pub on_copy : Stage → ℕ → ((SnapHeld → Bool) → (Copying → Bool) → SnapHeld → Copying → Moving → Moving) → Moving → Moving
 on_copy stage n f v =
     for_some (first_that (λ h. list_any (is_copy stage n) h.copies) v.snaps)
     (λ h. for_some (first_that (is_copy stage n) h.copies) (λ p. f (λ k. list_any (is_copy stage n) k.copies) (is_copy stage n) h p v) v) v
 
 -- an event of a snapshot
-abbrev pub on_snap : (Held → Bool) → ((Held → Bool) → Held → Moving → Moving) → Moving → Moving
+abbrev pub on_snap : (SnapHeld → Bool) → ((SnapHeld → Bool) → SnapHeld → Moving → Moving) → Moving → Moving
 on_snap test f v = for_some (first_that test v.snaps) (λ h. f test h v) v
 
 -- whether a snapshot has the mark of this number, and it can be published beside these requests
-abbrev pub publishes : List Going → ℕ → Held → Bool
+abbrev pub publishes : List Going → ℕ → SnapHeld → Bool
 publishes rs n h = list_any (λ m. (m.number == n) && is_publishable rs h m) h.marks
 
 -- an event of a snapshot or a request that is due; any other changes nothing

@@ -33,7 +33,7 @@ use Rattle.volume.specs.Submitting.{IsFoundFull, IsOverflown, IsRefusedAs, SameB
 use Rattle.volume.specs.Volumed.{Volumed, piece_with, plain_of}
 use Rattle.journal.specs.declared.entry.Entry.{Entry}
 use Rattle.journal.specs.declared.entry.Entry.TheVariants.{Answered, Spoiled}
-use Rattle.journal.specs.declared.entry.Held.{Held}
+use Rattle.journal.specs.declared.entry.HeldRequest.{HeldRequest}
 use Rattle.journal.specs.Books.{Books, IsAudit, IsBounded}
 use Rattle.journal.specs.Inside.{AllInside, IsAsked, IsInside, LiesInside}
 use Rattle.journal.specs.Replay.{Saves, after, plain_in, replay, saves_of}
@@ -102,7 +102,7 @@ module _ (given given' : ℕ) (told told' : Bool) (p q : Plain) (v : Books) (b :
   spoilt_bounds which lives' es' room' are = record { asked = asked_still; made = λ s lt. omega (arith, same, b.made s lt); inside = spoils_inside which es' are }
 
 -- a request that was submitted
-pub submitted_bounds : (given given' : ℕ) (told : Bool) (p q : Plain) (v : Books) (x : Held) (number : ℕ) (request : Request) (which : List ℕ) (lives' : List Bool) (es' : List Entry) (room' : ℕ) → IsBounded given told p v
+pub submitted_bounds : (given given' : ℕ) (told : Bool) (p q : Plain) (v : Books) (x : HeldRequest) (number : ℕ) (request : Request) (which : List ℕ) (lives' : List Bool) (es' : List Entry) (room' : ℕ) → IsBounded given told p v
     → given' ≡ number → number ≡ given + 1 → length q.origin ≡ length p.origin → q.requests ≡ p.requests ++ record { number = number; request = request } ∷ [] → IsAsked (length p.origin) request → es' ≡ v.entries ++ map Spoiled which
     → IsBounded given' told q (record v { entries = es'; lives = lives'; held = v.held ++ x ∷ []; room = room' })
 submitted_bounds given given' told p q v x number request which lives' es' room' b now next long requests asked are = record {
@@ -173,7 +173,7 @@ lies p dev (Write sent) first count Written whole inside bytes = λ array shows.
 lies p dev (Write sent) first count Flushed whole inside bytes = tt
 lies p dev (Write sent) first count (Refused failure) whole inside bytes = tt
 
-module _ (given given' : ℕ) (loud told : Bool) (p q : Plain) (v : Books) (room' : ℕ) (h : IsAudit loud told p v) (b : IsBounded given told p v) (n k : ℕ) (x : Held) (first : IsFirst n v.held k x) where
+module _ (given given' : ℕ) (loud told : Bool) (p q : Plain) (v : Books) (room' : ℕ) (h : IsAudit loud told p v) (b : IsBounded given told p v) (n k : ℕ) (x : HeldRequest) (first : IsFirst n v.held k x) where
   fewer : length (remove v.held k) + 1 ≡ length v.held
   fewer = length-remove v.held k first.within
 

@@ -28,7 +28,7 @@ use Rattle.volume.specs.Flying.{Fits, IsFlown, IsLeftGoing, IsTakenOut}
 use Rattle.journal.specs.declared.entry.Answered.{Answered as AnsweredEntry}
 use Rattle.journal.specs.declared.entry.Entry.{Entry}
 use Rattle.journal.specs.declared.entry.Entry.TheVariants.{Answered, Spoiled}
-use Rattle.journal.specs.declared.entry.Held.{Held}
+use Rattle.journal.specs.declared.entry.HeldRequest.{HeldRequest}
 use Rattle.journal.specs.Seats.{Seated, seated, seated_under}
 use Rattle.journal.specs.Replay.{Saves, saves_of, plain_in, served, replay, IsLawful, AllLawful}
 use Rattle.journal.specs.Entries.{entries_by}
@@ -146,10 +146,10 @@ spoilt_keeps loud loud' told p q v lives' es' room' h same requests count spoils
 }
 
 -- the request that was answered is the one that is held
-pub first_of : (n : ℕ) (hs : List Held) (k : ℕ) (x : Held) → x ≡ get_or hs k x → (k < length hs) × ((d : Held) → (get_or hs k d).number ≡ n) × ((j : ℕ) (d : Held) → j < k → (get_or hs j d).number ≢ n) → IsFirst n hs k x
-first_of n hs k x is found = record { within = found.0; is = is; number = ap (λ (y : Held). y.number) is ∙ found.1 x; before = found.2 }
+pub first_of : (n : ℕ) (hs : List HeldRequest) (k : ℕ) (x : HeldRequest) → x ≡ get_or hs k x → (k < length hs) × ((d : HeldRequest) → (get_or hs k d).number ≡ n) × ((j : ℕ) (d : HeldRequest) → j < k → (get_or hs j d).number ≢ n) → IsFirst n hs k x
+first_of n hs k x is found = record { within = found.0; is = is; number = ap (λ (y : HeldRequest). y.number) is ∙ found.1 x; before = found.2 }
 
-pub held_at : (hs : List Held) (n k : ℕ) (x : Held) → All HeldFits hs → IsFirst n hs k x → HeldFits x
+pub held_at : (hs : List HeldRequest) (n k : ℕ) (x : HeldRequest) → All HeldFits hs → IsFirst n hs k x → HeldFits x
 held_at hs n k x all first = subst HeldFits (sym first.is) (all k x first.within)
 
 issue_same : (n m : ℕ) → Issue n ≡ Issue m → m ≡ n
@@ -164,7 +164,7 @@ answered_here p q n m reply l = subst (λ (k : ℕ). IsAnswered p k reply q) (is
 pub taken_here : (n m : ℕ) (reply : Reply) (old new : List InFlight) → IsFlown (Issue n) (Replied m reply) old new → IsTakenOut n reply old new
 taken_here n m reply old new f = subst (λ (k : ℕ). IsTakenOut k reply old new) (issue_same n m f.0) f.1
 
-pub same_asked : (p : Plain) (v : Books) (n k : ℕ) (x : Held) (request : Request) → Counted p v → IsFirst n v.held k x → asked_under n p.requests ≡ Some request → request ≡ x.for_entry
+pub same_asked : (p : Plain) (v : Books) (n k : ℕ) (x : HeldRequest) (request : Request) → Counted p v → IsFirst n v.held k x → asked_under n p.requests ≡ Some request → request ≡ x.for_entry
 same_asked p v n k x request h first asked =
     let e : Some request ≡ Some x.for_entry = sym asked ∙ ap (asked_under n) (sym h.held) ∙ asked_first n v.held k x first in
     cc
@@ -178,7 +178,7 @@ room_fits op range Written n f is = tt
 room_fits op range Flushed n f is = tt
 room_fits op range (Refused failure) n f is = tt
 
-pub fits_held : (p : Plain) (v : Books) (n k : ℕ) (x : Held) (reply : Reply) (new : List InFlight) → Counted p v → IsFirst n v.held k x → IsTakenOut n reply p.requests new
+pub fits_held : (p : Plain) (v : Books) (n k : ℕ) (x : HeldRequest) (reply : Reply) (new : List InFlight) → Counted p v → IsFirst n v.held k x → IsTakenOut n reply p.requests new
     → FitsReply (length x.entry_room) reply × FitsReply (length x.receipt_room) reply
 fits_held p v n k x reply new h first t =
     let fit = held_at v.held n k x h.fits first in
@@ -187,7 +187,7 @@ fits_held p v n k x reply new h first t =
       room_fits t.request.op t.request.range reply (length x.receipt_room) t.fits (fit.receipt_room ∙ ap room_of (sym asked)),
     )
 
-left_fits : (hs : List Held) (k : ℕ) → All HeldFits hs → All HeldFits (remove hs k)
+left_fits : (hs : List HeldRequest) (k : ℕ) → All HeldFits hs → All HeldFits (remove hs k)
 left_fits hs k all = All-append HeldFits (take k hs) (drop (suc k) hs) (All-take HeldFits k hs all) (All-drop HeldFits (suc k) hs all)
 
 -- one more for a seat
@@ -201,10 +201,10 @@ counted_one counts es a s folded within was = elim (cases_eq a.seat s) [
 ]
 
 -- the entry of a request that was answered
-abbrev pub answer_of : Held → ℕ → Reply → AnsweredEntry
+abbrev pub answer_of : HeldRequest → ℕ → Reply → AnsweredEntry
 answer_of x seat reply = record { seat = seat; request = x.for_entry; reply = reply }
 
-module _ (loud told : Bool) (p : Plain) (v : Books) (h : IsAudit loud told p v) (n k : ℕ) (x : Held) (first : IsFirst n v.held k x) where
+module _ (loud told : Bool) (p : Plain) (v : Books) (h : IsAudit loud told p v) (n k : ℕ) (x : HeldRequest) (first : IsFirst n v.held k x) where
   pub left : length (remove v.held k) + 1 ≡ length v.held
   left = length-remove v.held k first.within
 
@@ -219,7 +219,7 @@ module _ (loud told : Bool) (p : Plain) (v : Books) (h : IsAudit loud told p v) 
     within = omega (arith, low, h.counted.seats)
 
 module _ (loud loud' told : Bool) (p q : Plain) (v : Books) (room' : ℕ) (h : IsAudit loud told p v) (same : loud' ≡ loud) (count : length q.saved ≡ length p.saved)
-    (room : room' ≡ v.room) (n k : ℕ) (x : Held) (first : IsFirst n v.held k x) (seat : ℕ) (mine : x.seat ≡ seat) where
+    (room : room' ≡ v.room) (n k : ℕ) (x : HeldRequest) (first : IsFirst n v.held k x) (seat : ℕ) (mine : x.seat ≡ seat) where
   inside : seat < length v.counts
   inside = within loud told p v h n k x first seat mine
 
@@ -281,7 +281,7 @@ going_keeps loud loud' told p q v h same count requests still = record {
 }
 
 -- and it is a flush's
-pub going_is : (p : Plain) (v : Books) (n k : ℕ) (x : Held) (new : List InFlight) (held : List Seated) → Counted p v → IsFirst n v.held k x → IsLeftGoing n p.requests new → map seated v.held ≡ held
+pub going_is : (p : Plain) (v : Books) (n k : ℕ) (x : HeldRequest) (new : List InFlight) (held : List Seated) → Counted p v → IsFirst n v.held k x → IsLeftGoing n p.requests new → map seated v.held ≡ held
     → (y : Seated) × (seated_under n held ≡ Some y) × (y.request.op ≡ Flush)
 going_is p v n k x new held h first going are =
     let same : going.request ≡ x.for_entry = same_asked p v n k x going.request h first going.asked in
@@ -309,11 +309,11 @@ submitted_kept which p number request q s = record {
 }
 
 -- a request that was submitted
-one_fits : (x : Held) → HeldFits x → All HeldFits (x ∷ [])
+one_fits : (x : HeldRequest) → HeldFits x → All HeldFits (x ∷ [])
 one_fits x fits zero d lt = fits
 one_fits x fits (suc k) d lt = absurd (omega (arith, lt))
 
-pub submitted_keeps : (loud loud' told : Bool) (p q : Plain) (v : Books) (x : Held) (number : ℕ) (request : Request) (lives' : List Bool) (es' : List Entry) (room' : ℕ) → IsAudit loud told p v
+pub submitted_keeps : (loud loud' told : Bool) (p q : Plain) (v : Books) (x : HeldRequest) (number : ℕ) (request : Request) (lives' : List Bool) (es' : List Entry) (room' : ℕ) → IsAudit loud told p v
     → loud' ≡ loud → length q.saved ≡ length p.saved → q.requests ≡ p.requests ++ record { number = number; request = request } ∷ []
     → (loud ≡ true → (which : List ℕ) × IsSubmitted which p number request q)
     → Noted (length q.saved) q.saved v.lives lives' v.entries es' → room' ≡ v.room

@@ -23,7 +23,7 @@ use Rattle.volume.specs.Submitting.{IsRefusedAs, SameButRoom, IsFoundFull, IsOve
 use Rattle.volume.specs.Flying.{IsFlown}
 use Rattle.journal.specs.declared.entry.Entry.{Entry}
 use Rattle.journal.specs.declared.entry.Entry.TheVariants.{Answered, Spoiled}
-use Rattle.journal.specs.declared.entry.Held.{Held}
+use Rattle.journal.specs.declared.entry.HeldRequest.{HeldRequest}
 use Rattle.journal.specs.Books.{AuditShape, count_of, in_flight as held_in_flight}
 use Rattle.journal.specs.Journaled.{HasReceipt, IsNoted, IsSilent, OnlySpoils}
 use Rattle.journal.specs.Noted.{Noted}
@@ -46,16 +46,16 @@ pub noted_all : {B : Type 0} (contents : B → List ℕ) (layers : B → List La
 noted_all contents layers w lives lives' es es' noted = subst (λ (k : ℕ). Noted k (plain_of contents layers w).saved lives lives' es es') (sym (saved_count contents layers w)) noted
 
 -- whether a request is a seat's
-pub mine_none : (seat n : ℕ) (hs : List Held) (held : List Seated) → map seated hs ≡ held → ((j : ℕ) (d : Held) → j < length hs → (get_or hs j d).number ≢ n) → is_of seat (seated_under n held) ≡ false
+pub mine_none : (seat n : ℕ) (hs : List HeldRequest) (held : List Seated) → map seated hs ≡ held → ((j : ℕ) (d : HeldRequest) → j < length hs → (get_or hs j d).number ≢ n) → is_of seat (seated_under n held) ≡ false
 mine_none seat n hs held same none = ap (λ (l : List Seated). is_of seat (seated_under n l)) (sym same) ∙ ap (is_of seat) (seated_none n hs none)
 
-pub mine_is : (seat n : ℕ) (hs : List Held) (held : List Seated) (k : ℕ) (x : Held) → map seated hs ≡ held → IsFirst n hs k x → is_of seat (seated_under n held) ≡ (x.seat == seat)
+pub mine_is : (seat n : ℕ) (hs : List HeldRequest) (held : List Seated) (k : ℕ) (x : HeldRequest) → map seated hs ≡ held → IsFirst n hs k x → is_of seat (seated_under n held) ≡ (x.seat == seat)
 mine_is seat n hs held k x same first = ap (λ (l : List Seated). is_of seat (seated_under n l)) (sym same) ∙ ap (is_of seat) (seated_first n hs k x first)
 
-pub mine_other : (seat n : ℕ) (hs : List Held) (held : List Seated) (k : ℕ) (x : Held) → map seated hs ≡ held → IsFirst n hs k x → x.seat ≢ seat → is_of seat (seated_under n held) ≡ false
+pub mine_other : (seat n : ℕ) (hs : List HeldRequest) (held : List Seated) (k : ℕ) (x : HeldRequest) → map seated hs ≡ held → IsFirst n hs k x → x.seat ≢ seat → is_of seat (seated_under n held) ≡ false
 mine_other seat n hs held k x same first apart = mine_is seat n hs held k x same first ∙ ne_eqb x.seat seat apart
 
-pub mine_own : (seat n : ℕ) (hs : List Held) (held : List Seated) (k : ℕ) (x : Held) → map seated hs ≡ held → IsFirst n hs k x → x.seat ≡ seat → is_of seat (seated_under n held) ≡ true
+pub mine_own : (seat n : ℕ) (hs : List HeldRequest) (held : List Seated) (k : ℕ) (x : HeldRequest) → map seated hs ≡ held → IsFirst n hs k x → x.seat ≡ seat → is_of seat (seated_under n held) ≡ true
 mine_own seat n hs held k x same first mine = mine_is seat n hs held k x same first ∙ eq-eqb x.seat seat mine
 
 pub not_both : (a b : Bool) → a ≡ false → false ≡ (a && b)
@@ -65,7 +65,7 @@ pub by_second : (a b c : Bool) → a ≡ true → c ≡ b → c ≡ (a && b)
 by_second a b c e f = f ∙ sym (ap (λ x. x && b) e)
 
 -- a reply's receipt
-pub receipt_has : {B : Type 0} (old new : AuditShape B) (hs : List Held) (n m k seat count : ℕ) (x : Held) (reply : Reply) → m ≡ n → IsFirst n hs k x → x.seat ≡ seat → x.for_receipt ≡ x.for_entry
+pub receipt_has : {B : Type 0} (old new : AuditShape B) (hs : List HeldRequest) (n m k seat count : ℕ) (x : HeldRequest) (reply : Reply) → m ≡ n → IsFirst n hs k x → x.seat ≡ seat → x.for_receipt ≡ x.for_entry
     → map seated hs ≡ old.held → new.held ≡ map seated (remove hs k) → count ≡ count_of seat old + 1 → new.entries ≡ old.entries ++ Answered (answer_of x seat reply) ∷ []
     → HasReceipt seat m reply (record { seat = seat; count = count; request = x.for_receipt; reply = reply }) old new
 receipt_has old new hs n m k seat count x reply same first mine copied was now counted added = record {
@@ -99,7 +99,7 @@ noted_any old new seat seat' Done s = s
 noted_any old new seat seat' Fault s = s
 
 -- a request that is in flight now
-pub held_more : (hs : List Held) (held : List Seated) (x : Held) (number seat : ℕ) (request : Request) → map seated hs ≡ held → x.number ≡ number → x.seat ≡ seat → x.for_entry ≡ request
+pub held_more : (hs : List HeldRequest) (held : List Seated) (x : HeldRequest) (number seat : ℕ) (request : Request) → map seated hs ≡ held → x.number ≡ number → x.seat ≡ seat → x.for_entry ≡ request
     → map seated (hs ++ x ∷ []) ≡ held ++ record { number = number; seat = seat; request = request } ∷ []
 held_more hs held x number seat request was numbered by asked =
     map-append seated hs (x ∷ []) ∙ (λ i. was i ++ record { number = numbered i; seat = by i; request = asked i } ∷ [])
@@ -114,6 +114,6 @@ refused_requests contents layers size request refusal w w' (inr (inr (inl full))
 refused_requests contents layers size request refusal w w' (inr (inr (inr full))) = let found : IsOverflown contents layers full.2.0 _ w w' = full.2.2 in ap (λ (y : Volumed _). map in_flight y.flights) found.becomes
 
 -- the requests that seats submitted, whoever they are
-pub flights_in : (hs : List Held) → map flight_in (map seated hs) ≡ map held_in_flight hs
+pub flights_in : (hs : List HeldRequest) → map flight_in (map seated hs) ≡ map held_in_flight hs
 flights_in [] = refl
 flights_in (h ∷ hs) = ap (λ (fs : List InFlight). held_in_flight h ∷ fs) (flights_in hs)

@@ -17,7 +17,7 @@ use Rattle.sector.specs.Bytes.{with_sectors}
 use Rattle.journal.specs.declared.entry.Answered.{Answered as AnsweredEntry}
 use Rattle.journal.specs.declared.entry.Entry.{Entry}
 use Rattle.journal.specs.declared.entry.Entry.TheVariants.{Answered, Spoiled, Overflowed, Attached, Detached, Begun, Finished}
-use Rattle.journal.specs.declared.entry.Held.{Held}
+use Rattle.journal.specs.declared.entry.HeldRequest.{HeldRequest}
 use Rattle.journal.specs.Replay.{Saves, saves_of, plain_in, served, array_in, after, replay, AllLawful}
 use Rattle.journal.specs.Entries.{entries_by}
 use Rattle.journal.specs.Books.{in_flight}
@@ -212,42 +212,42 @@ lawful_is p q dev Flush range (Refused Overflow) s = absurd s
 lawful_is p q dev (Write bytes) range (Refused Overflow) s = absurd s
 
 -- the first request in flight with a number
-pub record IsFirst (n : ℕ) (hs : List Held) (k : ℕ) (x : Held) : Type 0 where
+pub record IsFirst (n : ℕ) (hs : List HeldRequest) (k : ℕ) (x : HeldRequest) : Type 0 where
   pub within : k < length hs
   pub is : x ≡ get_or hs k x
   pub number : x.number ≡ n
-  pub before : (j : ℕ) (d : Held) → j < k → (get_or hs j d).number ≢ n
+  pub before : (j : ℕ) (d : HeldRequest) → j < k → (get_or hs j d).number ≢ n
 
-pub asked_first : (n : ℕ) (hs : List Held) (k : ℕ) (x : Held) → IsFirst n hs k x → asked_under n (map in_flight hs) ≡ Some x.for_entry
+pub asked_first : (n : ℕ) (hs : List HeldRequest) (k : ℕ) (x : HeldRequest) → IsFirst n hs k x → asked_under n (map in_flight hs) ≡ Some x.for_entry
 asked_first n [] k x f = absurd (omega (arith, f.within))
-asked_first n (h ∷ hs) zero x f = ap (λ b. if b then Some h.for_entry else asked_under n (map in_flight hs)) (eq-eqb h.number n (ap (λ (y : Held). y.number) (sym f.is) ∙ f.number)) ∙ ap (λ (y : Held). Some y.for_entry) (sym f.is)
+asked_first n (h ∷ hs) zero x f = ap (λ b. if b then Some h.for_entry else asked_under n (map in_flight hs)) (eq-eqb h.number n (ap (λ (y : HeldRequest). y.number) (sym f.is) ∙ f.number)) ∙ ap (λ (y : HeldRequest). Some y.for_entry) (sym f.is)
 asked_first n (h ∷ hs) (suc k) x f =
     ap (λ b. if b then Some h.for_entry else asked_under n (map in_flight hs)) (ne_eqb h.number n (f.before 0 h (omega arith)))
     ∙ asked_first n hs k x (record { within = omega (arith, f.within); is = f.is; number = f.number; before = λ j d lt. f.before (suc j) d (omega (arith, lt)) })
 
-pub without_first : (n : ℕ) (hs : List Held) (k : ℕ) (x : Held) → IsFirst n hs k x → without n (map in_flight hs) ≡ map in_flight (remove hs k)
+pub without_first : (n : ℕ) (hs : List HeldRequest) (k : ℕ) (x : HeldRequest) → IsFirst n hs k x → without n (map in_flight hs) ≡ map in_flight (remove hs k)
 without_first n [] k x f = absurd (omega (arith, f.within))
-without_first n (h ∷ hs) zero x f = ap (λ b. if b then map in_flight hs else (in_flight h ∷ without n (map in_flight hs))) (eq-eqb h.number n (ap (λ (y : Held). y.number) (sym f.is) ∙ f.number))
+without_first n (h ∷ hs) zero x f = ap (λ b. if b then map in_flight hs else (in_flight h ∷ without n (map in_flight hs))) (eq-eqb h.number n (ap (λ (y : HeldRequest). y.number) (sym f.is) ∙ f.number))
 without_first n (h ∷ hs) (suc k) x f =
     ap (λ b. if b then map in_flight hs else (in_flight h ∷ without n (map in_flight hs))) (ne_eqb h.number n (f.before 0 h (omega arith)))
     ∙ ap (λ y. in_flight h ∷ y) (without_first n hs k x (record { within = omega (arith, f.within); is = f.is; number = f.number; before = λ j d lt. f.before (suc j) d (omega (arith, lt)) }))
 
-pub seated_first : (n : ℕ) (hs : List Held) (k : ℕ) (x : Held) → IsFirst n hs k x → seated_under n (map seated hs) ≡ Some (seated x)
+pub seated_first : (n : ℕ) (hs : List HeldRequest) (k : ℕ) (x : HeldRequest) → IsFirst n hs k x → seated_under n (map seated hs) ≡ Some (seated x)
 seated_first n [] k x f = absurd (omega (arith, f.within))
-seated_first n (h ∷ hs) zero x f = ap (λ b. if b then Some (seated h) else seated_under n (map seated hs)) (eq-eqb h.number n (ap (λ (y : Held). y.number) (sym f.is) ∙ f.number)) ∙ ap (λ (y : Held). Some (seated y)) (sym f.is)
+seated_first n (h ∷ hs) zero x f = ap (λ b. if b then Some (seated h) else seated_under n (map seated hs)) (eq-eqb h.number n (ap (λ (y : HeldRequest). y.number) (sym f.is) ∙ f.number)) ∙ ap (λ (y : HeldRequest). Some (seated y)) (sym f.is)
 seated_first n (h ∷ hs) (suc k) x f =
     ap (λ b. if b then Some (seated h) else seated_under n (map seated hs)) (ne_eqb h.number n (f.before 0 h (omega arith)))
     ∙ seated_first n hs k x (record { within = omega (arith, f.within); is = f.is; number = f.number; before = λ j d lt. f.before (suc j) d (omega (arith, lt)) })
 
-pub unseated_first : (n : ℕ) (hs : List Held) (k : ℕ) (x : Held) → IsFirst n hs k x → without_seated n (map seated hs) ≡ map seated (remove hs k)
+pub unseated_first : (n : ℕ) (hs : List HeldRequest) (k : ℕ) (x : HeldRequest) → IsFirst n hs k x → without_seated n (map seated hs) ≡ map seated (remove hs k)
 unseated_first n [] k x f = absurd (omega (arith, f.within))
-unseated_first n (h ∷ hs) zero x f = ap (λ b. if b then map seated hs else (seated h ∷ without_seated n (map seated hs))) (eq-eqb h.number n (ap (λ (y : Held). y.number) (sym f.is) ∙ f.number))
+unseated_first n (h ∷ hs) zero x f = ap (λ b. if b then map seated hs else (seated h ∷ without_seated n (map seated hs))) (eq-eqb h.number n (ap (λ (y : HeldRequest). y.number) (sym f.is) ∙ f.number))
 unseated_first n (h ∷ hs) (suc k) x f =
     ap (λ b. if b then map seated hs else (seated h ∷ without_seated n (map seated hs))) (ne_eqb h.number n (f.before 0 h (omega arith)))
     ∙ ap (λ y. seated h ∷ y) (unseated_first n hs k x (record { within = omega (arith, f.within); is = f.is; number = f.number; before = λ j d lt. f.before (suc j) d (omega (arith, lt)) }))
 
 -- none has the number
-pub seated_none : (n : ℕ) (hs : List Held) → ((j : ℕ) (d : Held) → j < length hs → (get_or hs j d).number ≢ n) → seated_under n (map seated hs) ≡ None
+pub seated_none : (n : ℕ) (hs : List HeldRequest) → ((j : ℕ) (d : HeldRequest) → j < length hs → (get_or hs j d).number ≢ n) → seated_under n (map seated hs) ≡ None
 seated_none n [] none = refl
 seated_none n (h ∷ hs) none =
     ap (λ b. if b then Some (seated h) else seated_under n (map seated hs)) (ne_eqb h.number n (none 0 h (omega arith)))

@@ -6,7 +6,7 @@ use Rattle.plain.specs.Plain.{Plain, InFlight, Entry as Shown, Saved as State, L
 use Rattle.volume.specs.Volumed.{Volumed}
 use Rattle.journal.specs.declared.entry.Base.{Base}
 use Rattle.journal.specs.declared.entry.Saved.{Saved}
-use Rattle.journal.specs.declared.entry.Held.{Held}
+use Rattle.journal.specs.declared.entry.HeldRequest.{HeldRequest}
 use Rattle.journal.specs.declared.entry.Entry.{Entry}
 use Rattle.journal.specs.Replay.{Saves, saves_of, replay, AllLawful}
 use Rattle.journal.specs.Entries.{entries_by}
@@ -47,18 +47,18 @@ pub record Books : Type 0 where
   pub base : Saves
   pub taken : ℕ
   pub entries : List Entry
-  pub held : List Held
+  pub held : List HeldRequest
   pub lives : List Bool
   pub may : List Bool
   pub counts : List ℕ
   pub folded : List ℕ
   pub room : ℕ
 
-abbrev pub in_flight : Held → InFlight
+abbrev pub in_flight : HeldRequest → InFlight
 in_flight h = record { number = h.number; request = h.for_entry }
 
 -- the copies and the room of a request in flight fit it
-pub record HeldFits (h : Held) : Type 0 where
+pub record HeldFits (h : HeldRequest) : Type 0 where
   pub same : h.for_receipt ≡ h.for_entry
   pub entry_room : length h.entry_room ≡ room_of h.for_entry
   pub receipt_room : length h.receipt_room ≡ room_of h.for_entry

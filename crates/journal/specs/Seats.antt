@@ -7,7 +7,7 @@ use Rattle.plain.specs.declared.event.Outcome.{Outcome}
 use Rattle.plain.specs.declared.event.Outcome.TheVariants.{Done}
 use Rattle.plain.specs.declared.request.Op.TheVariants.{Flush}
 use Rattle.plain.specs.declared.request.Request.{Request}
-use Rattle.journal.specs.declared.entry.Held.{Held}
+use Rattle.journal.specs.declared.entry.HeldRequest.{HeldRequest}
 
 -- a request in flight under its number, with the seat that submitted it
 pub record Seated : Type 0 where
@@ -15,7 +15,7 @@ pub record Seated : Type 0 where
   pub seat : ℕ
   pub request : Request
 
-abbrev pub seated : Held → Seated
+abbrev pub seated : HeldRequest → Seated
 seated h = record { number = h.number; seat = h.seat; request = h.for_entry }
 
 -- as a request in flight, whoever submitted it

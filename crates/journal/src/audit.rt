@@ -14,7 +14,7 @@ ghost use Rattle.journal.specs.Seats.{flight_in};
 ghost use Rattle.journal.specs.Undone.{AllUndone};
 
 use crate::bases::base_of;
-use crate::entry::{Base, Entry, Held, Receipt, Verdict};
+use crate::entry::{Base, Entry, HeldRequest, Receipt, Verdict};
 use crate::looking::{is_loud_now, lives_in, mays_in};
 use crate::verdict::verdict_of;
 use layers::Layered;
@@ -37,7 +37,7 @@ pub struct Audit<B: Layered> {
     /// How many places were taken before it began, since the last checkpoint.
     pub(crate) taken: usize,
     pub(crate) entries: Vec<Entry>,
-    pub(crate) held: Vec<Held>,
+    pub(crate) held: Vec<HeldRequest>,
     /// Which snapshots were live when it looked last, in order of attaching.
     pub(crate) lives: Vec<bool>,
     /// Which of their stores may still overflow.

@@ -69,7 +69,7 @@ pub struct Base {
 
 /// A request in flight: who submitted it, and copies and room for its entry and its receipt.
 #[derive(Drop)]
-pub struct Held {
+pub struct HeldRequest {
     pub number: ReqId,
     pub seat: u8,
     pub for_entry: Request,

@@ -3,10 +3,10 @@ ghost use Rattle.std.specs.Prelude.{◌≡◌, ◌≢◌, ◌+◌, ◌<◌, ◌�
 ghost use Rattle.in_flight.specs.Kinds.{room_of};
 ghost use Rattle.plain.specs.Kept.{kept};
 ghost use Rattle.journal.specs.Noted.{kept_count, live_count, may_count};
-ghost use Rattle.journal.specs.declared.entry.Held.{Held};
+ghost use Rattle.journal.specs.declared.entry.HeldRequest.{HeldRequest};
 
 use crate::audit::MAX_ENTRIES;
-use crate::entry::Held;
+use crate::entry::HeldRequest;
 use crate::verdict::copy;
 use plain::{Op, ReqId, Request};
 use sector::{Buf, SECTOR_BYTES};
@@ -73,7 +73,7 @@ pub(crate) fn is_full(
 }
 
 /// What stands beside a request as it is kept, under no number yet.
-pub(crate) fn hold(alloc: Global, seat: u8, request: &Request) -> Result<Held, AllocError>
+pub(crate) fn hold(alloc: Global, seat: u8, request: &Request) -> Result<HeldRequest, AllocError>
     ensures { IfOk result (λ h. (h.seat ≡ seat) × (h.for_entry ≡ kept request.now) × (h.for_receipt ≡ kept request.now) × (length h.entry_room ≡ room_of request.now) × (length h.receipt_room ≡ room_of request.now)) }
 {
     let room = match &request.op {
@@ -81,7 +81,7 @@ pub(crate) fn hold(alloc: Global, seat: u8, request: &Request) -> Result<Held, A
         Op::Write(_) => 0,
         Op::Flush => 0,
     };
-    Ok(Held {
+    Ok(HeldRequest {
         number: 0,
         seat,
         for_entry: copy(request, alloc)?.kept(),
@@ -92,9 +92,9 @@ pub(crate) fn hold(alloc: Global, seat: u8, request: &Request) -> Result<Held, A
 }
 
 /// The place of the first request with this number.
-pub(crate) fn place_of(held: &[Held], number: ReqId) -> Option<usize>
-    ensures some { IfSome result (λ k. (k < length held.now) × ((d : Held) → (slice_index_or held.now k d).number ≡ number) × ((j : ℕ) (d : Held) → j < k → (slice_index_or held.now j d).number ≢ number)) }
-    ensures none { IfNone result ((j : ℕ) (d : Held) → j < length held.now → (slice_index_or held.now j d).number ≢ number) }
+pub(crate) fn place_of(held: &[HeldRequest], number: ReqId) -> Option<usize>
+    ensures some { IfSome result (λ k. (k < length held.now) × ((d : HeldRequest) → (slice_index_or held.now k d).number ≡ number) × ((j : ℕ) (d : HeldRequest) → j < k → (slice_index_or held.now j d).number ≢ number)) }
+    ensures none { IfNone result ((j : ℕ) (d : HeldRequest) → j < length held.now → (slice_index_or held.now j d).number ≢ number) }
 {
     held.iter().position(|h| h.number == number)
 }

@@ -3,8 +3,8 @@ use Rattle.std.specs.Prelude.{ℕ, List, codes}
 use Rattle.cow_answers.specs.declared.asked.Form.{Form}
 use Rattle.cow_answers.specs.declared.asked.Form.TheVariants.{Lines, Json}
 use Rattle.cow_kept.specs.declared.span.Span.{Span}
-use Rattle.cow_words.specs.Json.{spans_objects}
-use Rattle.cow_words.specs.Salvage.{spans_text}
+use Rattle.cow_answers.specs.Json.{spans_objects}
+use Rattle.cow_answers.specs.Salvage.{spans_text}
 
 abbrev pub differing_by : Form → List Span → List ℕ
 differing_by Lines spans = spans_text (codes "differs") spans

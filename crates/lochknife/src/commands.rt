@@ -1,11 +1,13 @@
 // The commands that look at a store.
 ghost use Rattle.std.specs.Prelude.{◌<◌, ◌≤◌};
 
+use crate::input::{Input, of_input, size_of};
+use crate::printing::printed;
+use crate::trouble::{Trouble, held};
 use cow_answers::{
     Behind, Form, Seen, all_faults, checked, chunk_listed, chunk_of, is_good, look, mapped,
     notes_of, push_behind, raw, shown,
 };
-use cow_files::{Input, Trouble, held, of_input, printed, size_of};
 use cow_image::{Reason, Told, read_slots, sectors_of};
 use cow_kept::read_used;
 

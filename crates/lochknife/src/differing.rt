@@ -7,12 +7,13 @@ ghost use Rattle.lochknife.specs.Differing.{differing_by};
 ghost use Rattle.lochknife.specs.Arrays.{array_of};
 
 use crate::commands::seen_in;
+use crate::input::{Input, size_of};
+use crate::printing::printed;
 use crate::rolling::why_stopped;
-use cow_answers::{Form, Seen, is_good, shown};
-use cow_files::{Input, Trouble, held, printed, size_of};
+use crate::trouble::{Trouble, held};
+use cow_answers::{Form, Seen, is_good, push_spans, push_spans_json, shown};
 use cow_image::{Stopped, Told};
 use cow_kept::{Span, Undone, differences};
-use cow_words::{push_spans, push_spans_json};
 use image::Image;
 use std::alloc::{AllocError, Global};
 

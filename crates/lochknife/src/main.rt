@@ -1,9 +1,10 @@
 //! The program `lochknife`: what the image of a snapshot's store holds, and the array that it shows with the image of its
 //! origin.
 //!
-//! It stands on `cow_asked`, `cow_answers`, `cow_image`, `cow_kept`, `cow_merge`, `cow_nbd` and `command_images`, which say what is asked for, read, written
-//! and printed, and on `cow_files`, and has only the commands' order and the exit status (0 for a store that is good, 1 for one
-//! that is refused, 2 where something could not be read or written).
+//! It stands on `cow_answers`, `cow_image`, `cow_kept`, `cow_merge`, `cow_nbd` and `command_images`, which say what is asked for, read,
+//! written and printed, and has the commands' order, the exit status (0 for a store that is good, 1 for one that is refused, 2 where
+//! something could not be read or written), and the files: inputs, which are only read and locked for that, a new file that is
+//! written whole or not at all, what went wrong with which, and how far a command is. No contract says what a file holds.
 #![tactic(auto)]
 
 ghost use Rattle.std.specs.Prelude.{◌≡◌, MatchResult, MatchBool};
@@ -11,21 +12,30 @@ ghost use Rattle.std.specs.Prelude.{◌≡◌, MatchResult, MatchBool};
 mod array;
 mod commands;
 mod differing;
+mod files;
+mod input;
 mod merging;
+mod printing;
 mod rolling;
 mod salvaging;
 mod seaming;
 mod serving;
+mod target;
+mod teller;
+mod trouble;
+mod watched;
+mod writing;
 
 use crate::commands::{check, map, raw_map, show};
 use crate::differing::diff;
 use crate::merging::{Words, merge};
+use crate::printing::printed;
 use crate::rolling::export;
 use crate::salvaging::{Salvage, salvage_array};
 use crate::seaming::{hear, spell};
 use crate::serving::serve;
+use crate::trouble::Trouble;
 use cow_answers::{Asked, HELP, VERSION, words_ask};
-use cow_files::{Trouble, printed};
 use std::io;
 use std::process::ExitCode;
 

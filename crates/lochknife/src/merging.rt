@@ -2,8 +2,12 @@
 ghost use Rattle.std.specs.Prelude.{[]};
 ghost use Rattle.image.specs.Stops.{AreLeft};
 
+use crate::files::folder_synced;
+use crate::input::{Input, of_input};
+use crate::printing::printed;
+use crate::teller::Teller;
+use crate::trouble::{Trouble, Why, about, held};
 use cow_answers::{Form, is_good, look, push_bytes, push_left, push_runs, shown};
-use cow_files::{Input, Teller, Trouble, Why, about, folder_synced, held, of_input, printed};
 use cow_image::{CowMap, Told, read_store, sectors_of};
 use cow_merge::{ORIGIN, Room, Stopped};
 use image::{DiskFiles, FileSet};

@@ -3,11 +3,13 @@ ghost use Rattle.std.specs.Prelude.{◌≤◌};
 
 use crate::array::put_array;
 use crate::commands::seen_in;
+use crate::files::is_free;
+use crate::input::{Input, of_input, size_of};
+use crate::printing::told_beside;
+use crate::trouble::{Trouble, Why, about, held};
+use crate::watched::Watched;
+use crate::writing::{begun, ended};
 use cow_answers::{Form, Seen, is_good, shown};
-use cow_files::{
-    Input, Trouble, Watched, Why, about, begun, ended, held, is_free, of_input, size_of,
-    told_beside,
-};
 use cow_image::{Failure, MAX_IMAGE, Stopped, Told, read_store};
 
 /// Writes a snapshot's array to a new file, or prints why its store is refused. With no other snapshot of the origin this

@@ -1,11 +1,14 @@
 // What is known of the array of a snapshot whose store is refused, or can't be read everywhere, is written to a new file.
 ghost use Rattle.std.specs.Prelude.{◌<◌, ◌≤◌, IfSome};
 
+use crate::files::is_free;
+use crate::input::{Input, of_input, size_of};
+use crate::printing::told_beside;
 use crate::rolling::{put_seen, roll, why_stopped};
+use crate::trouble::{Trouble, about, held};
+use crate::watched::Watched;
+use crate::writing::{begun, ended};
 use cow_answers::{Form, Seen, chunk_listed, is_good, is_whole, look, notes_of, salvaged};
-use cow_files::{
-    Input, Trouble, Watched, about, begun, ended, held, is_free, of_input, size_of, told_beside,
-};
 use cow_image::{MAX_IMAGE, Told};
 use cow_kept::{Blanked, Saved, Slot, Span, Used, export_kept, front_of, read_used, unreadable};
 

@@ -1,7 +1,12 @@
 // An image goes into a text of commands, and comes back from answers.
 
+use crate::files::is_free;
+use crate::input::{Input, size_of};
+use crate::target::OUTPUT;
+use crate::trouble::{Trouble, Why, about};
+use crate::watched::Watched;
+use crate::writing::{begun, ended};
 use command_images::{MOST_SECTORS, Stopped, Untold, put_words, read_told};
-use cow_files::{Input, OUTPUT, Trouble, Watched, Why, about, begun, ended, is_free, size_of};
 use image::Sink;
 use words::Name;
 

@@ -5,8 +5,9 @@ ghost use Rattle.cow_nbd.specs.Shows.{IsServedBy};
 ghost use Rattle.lochknife.specs.Arrays.{array_of, FailsTold};
 ghost use Rattle.cow_answers.specs.Answers.{is_good};
 
+use crate::input::{Input, of_input, size_of};
+use crate::trouble::{Trouble, Why, held};
 use cow_answers::{Form, look, shown};
-use cow_files::{Input, Trouble, Why, held, of_input, size_of};
 use cow_image::Told;
 use cow_nbd::{serve_fresh, serve_written};
 use image::Image;

@@ -2,9 +2,9 @@
 use Rattle.std.proofs.Common.{◌≡◌, ◌<◌, ◌≤◌, ◌+◌, ℕ, List, [], ◌∷◌, ◌++◌, length, below_more, map, set, get_or, inl, inr, refl, sym, ap, ◌∙◌, subst, arith, length-set}
 use Rattle.std.proofs.lemmas.List.{get_or-map, get_or_default}
 use Rattle.std.proofs.Math.ListN.{get_or-append}
-use Rattle.usage_board.specs.Growth.{EndsIn}
-use Rattle.usage_board.specs.Passes.{BoardId, Seen}
-use Rattle.usage_board.specs.declared.usage.Usage.{Usage}
+use Rattle.between_threads.specs.Growth.{EndsIn}
+use Rattle.between_threads.specs.BoardPasses.{BoardId, Seen}
+use Rattle.between_threads.specs.declared.usage.PlaceUsage.{PlaceUsage}
 use Rattle.volume.specs.Volumed.{Volumed}
 use Rattle.locked_volume.specs.Boards.{AreKeptUp, ArePublishers, AreShown, IsKeptUp, IsPublished, Publishes}
 use Rattle.locked_volume.specs.Usages.{usage_at}
@@ -42,10 +42,10 @@ module _ (does : ℕ → Seen → Seen → Type 0) (boards : List BoardId) (old 
       }
 
 -- the last publication is this usage
-pub published_ends : (usage : Usage) (p q : Seen) → IsPublished usage p q → EndsIn q.seen usage
+pub published_ends : (usage : PlaceUsage) (p q : Seen) → IsPublished usage p q → EndsIn q.seen usage
 published_ends usage p q is = (p.seen, is)
 
-pub kept_ends : (usage : Usage) (p q : Seen) → IsKeptUp usage p q → EndsIn q.seen usage
+pub kept_ends : (usage : PlaceUsage) (p q : Seen) → IsKeptUp usage p q → EndsIn q.seen usage
 kept_ends usage p q (inl (ends, same)) = subst (λ l. EndsIn l usage) (sym same) ends
 kept_ends usage p q (inr (moved, is)) = published_ends usage p q is
 
@@ -54,27 +54,27 @@ pub kept_still : {B : Type 0} (boards : List BoardId) (v w : Volumed B) (ps : Li
 kept_still boards v w ps is h k d low = inl (subst (λ x. EndsIn (get_or ps k d).seen (usage_at k x)) (sym is) (h.last k d low), refl)
 
 -- there is one last publication
-ends_same : (seen : List Usage) (u w : Usage) → EndsIn seen u → EndsIn seen w → u ≡ w
+ends_same : (seen : List PlaceUsage) (u w : PlaceUsage) → EndsIn seen u → EndsIn seen w → u ≡ w
 ends_same seen u w (us, at) (ws, there) = sym (last us u) ∙ ap (last_of u) (sym at ∙ there) ∙ last ws w
   where
-    last_of : Usage → List Usage → Usage
+    last_of : PlaceUsage → List PlaceUsage → PlaceUsage
     last_of d [] = d
     last_of d (x ∷ xs) = last_of x xs
 
-    last : (xs : List Usage) (x : Usage) → last_of u (xs ++ x ∷ []) ≡ x
+    last : (xs : List PlaceUsage) (x : PlaceUsage) → last_of u (xs ++ x ∷ []) ≡ x
     last xs x = go u xs
       where
-        go : (d : Usage) (ys : List Usage) → last_of d (ys ++ x ∷ []) ≡ x
+        go : (d : PlaceUsage) (ys : List PlaceUsage) → last_of d (ys ++ x ∷ []) ≡ x
         go d [] = refl
         go d (y ∷ ys) = go y ys
 
 -- what was read is what was published last
-pub kept_same : (usage found : Usage) (p q : Seen) → q.seen ≡ p.seen → EndsIn q.seen found → found ≡ usage → IsKeptUp usage p q
+pub kept_same : (usage found : PlaceUsage) (p q : Seen) → q.seen ≡ p.seen → EndsIn q.seen found → found ≡ usage → IsKeptUp usage p q
 kept_same usage found p q same ends is = inl (subst (λ l. EndsIn l usage) same (subst (EndsIn q.seen) is ends), same)
 
-pub kept_more : (usage found : Usage) (p mid q : Seen) → mid.seen ≡ p.seen → EndsIn mid.seen found → (found ≡ usage → ⊥) → IsPublished usage mid q → IsKeptUp usage p q
+pub kept_more : (usage found : PlaceUsage) (p mid q : Seen) → mid.seen ≡ p.seen → EndsIn mid.seen found → (found ≡ usage → ⊥) → IsPublished usage mid q → IsKeptUp usage p q
 kept_more usage found p mid q same ends other is =
-    inr ((λ last. other (ends_same p.seen found usage (subst (λ l. EndsIn l found) same ends) last)), is ∙ ap (λ (l : List Usage). l ++ usage ∷ []) same)
+    inr ((λ last. other (ends_same p.seen found usage (subst (λ l. EndsIn l found) same ends) last)), is ∙ ap (λ (l : List PlaceUsage). l ++ usage ∷ []) same)
 
 -- a board that stands at a place, and the pass there
 pub own_board : {P : Type 0} (f : P → BoardId) (items : List P) (boards : List BoardId) (n : ℕ) (x : P) (b : BoardId) → map f items ≡ boards → length items ≡ 8 → n < 8 → x ≡ get_or items n x → b ≡ f x

@@ -1,9 +1,9 @@
 -- The boards of one volume's places, and the passes to them. This project's own.
 use Rattle.std.specs.Prelude.{◌≡◌, ◌⊎◌, ◌<◌, ◌++◌, ◌∷◌, [], ℕ, true, List, length, slice_index_or}
-use Rattle.usage_board.specs.Growth.{EndsIn, StartsWith}
-use Rattle.usage_board.specs.Passes.{BoardId, Seen}
-use Rattle.usage_board.specs.Words.{no_usage}
-use Rattle.usage_board.specs.declared.usage.Usage.{Usage}
+use Rattle.between_threads.specs.Growth.{EndsIn, StartsWith}
+use Rattle.between_threads.specs.BoardPasses.{BoardId, Seen}
+use Rattle.between_threads.specs.Words.{no_usage}
+use Rattle.between_threads.specs.declared.usage.PlaceUsage.{PlaceUsage}
 use Rattle.volume.specs.Volumed.{Volumed}
 use Rattle.locked_volume.specs.Usages.{usage_at}
 
@@ -24,11 +24,11 @@ pub record AreShown {B : Type 0} (boards : List BoardId) (v : Volumed B) (ps : L
   pub last : (k : ℕ) (d : Seen) → k < 8 → EndsIn (slice_index_or ps k d).seen (usage_at k v)
 
 -- one publication more
-abbrev pub IsPublished : Usage → Seen → Seen → Type 0
+abbrev pub IsPublished : PlaceUsage → Seen → Seen → Type 0
 IsPublished usage old new = new.seen ≡ old.seen ++ usage ∷ []
 
 -- none where this was published last, and else one more
-abbrev pub IsKeptUp : Usage → Seen → Seen → Type 0
+abbrev pub IsKeptUp : PlaceUsage → Seen → Seen → Type 0
 IsKeptUp usage old new = (EndsIn old.seen usage × (new.seen ≡ old.seen)) ⊎ ((EndsIn old.seen usage → ⊥) × IsPublished usage old new)
 
 -- the usage of each place was published where another was published last, once, and nothing else
@@ -51,7 +51,7 @@ pub record AreReaders (boards : List BoardId) (ps : List Seen) : Type 0 where
 
 -- A read at a place: what its pass had seen begins what it has seen now, which ends with what was read. The other passes
 -- are as they were.
-pub record HasRead (place : ℕ) (usage : Usage) (old new : List Seen) : Type 0 where
+pub record HasRead (place : ℕ) (usage : PlaceUsage) (old new : List Seen) : Type 0 where
   pub later : (d : Seen) → StartsWith (slice_index_or new place d).seen (slice_index_or old place d).seen
   pub last : (d : Seen) → EndsIn (slice_index_or new place d).seen usage
   pub others : (k : ℕ) (d : Seen) → (k ≡ place → ⊥) → slice_index_or new k d ≡ slice_index_or old k d

@@ -2,9 +2,9 @@
 -- The numbers are those of the kernel's status lines; that a place counts snapshots in order of attaching is this project's own.
 use Rattle.std.specs.Prelude.{◌&&◌, nat_lt, ℕ, ◌-◌, ◌^◌, Bool, List, Option, Some, None, map, min, count_by, slice_index_or, if◌then◌else◌}
 use Rattle.std.specs.List.{insert}
-use Rattle.usage_board.specs.Words.{no_usage}
-use Rattle.usage_board.specs.declared.usage.State.TheVariants.{Good, Invalid, MergeFailed, Overflow}
-use Rattle.usage_board.specs.declared.usage.Usage.{Usage}
+use Rattle.between_threads.specs.Words.{no_usage}
+use Rattle.between_threads.specs.declared.usage.PlaceState.TheVariants.{Good, Invalid, MergeFailed, Overflow}
+use Rattle.between_threads.specs.declared.usage.PlaceUsage.{PlaceUsage}
 use Rattle.chunk_alloc.specs.declared.usage.Usage.{Usage as Sectors}
 use Rattle.merge.specs.Merging.{Merging}
 use Rattle.plain.specs.Plain.{did_overflow}
@@ -19,29 +19,29 @@ abbrev pub fitted : ℕ → ℕ
 fitted n = min n (2 ^ 28 - 1)
 
 -- a store in use
-abbrev pub used : Sectors → Usage
+abbrev pub used : Sectors → PlaceUsage
 used s = record { state = Good; allocated = fitted s.allocated; metadata = fitted s.metadata }
 
-abbrev pub spoiled : Usage
+abbrev pub spoiled : PlaceUsage
 spoiled = record { state = Invalid; allocated = 0; metadata = 0 }
 
-abbrev pub failed : Usage
+abbrev pub failed : PlaceUsage
 failed = record { state = MergeFailed; allocated = 0; metadata = 0 }
 
 -- of a snapshot, which may be spoiled
-abbrev pub used_or_spoiled : Option Sectors → Usage
+abbrev pub used_or_spoiled : Option Sectors → PlaceUsage
 used_or_spoiled None = spoiled
 used_or_spoiled (Some s) = used s
 
 -- one whose store overflowed
-abbrev pub overflown : Usage
+abbrev pub overflown : PlaceUsage
 overflown = record { state = Overflow; allocated = 0; metadata = 0 }
 
-abbrev pub shown_of : {B : Type 0} → Kept B → Usage
+abbrev pub shown_of : {B : Type 0} → Kept B → PlaceUsage
 shown_of s = if s.live && did_overflow s.overflow then overflown else used_or_spoiled (usage_of s)
 
 -- of the one that is being merged
-abbrev pub shown_merge : {B : Type 0} → Merging B → Usage
+abbrev pub shown_merge : {B : Type 0} → Merging B → PlaceUsage
 shown_merge m = if m.failed then failed else used (merging_usage m)
 
 -- whether a snapshot was attached before the one with this number
@@ -49,10 +49,10 @@ abbrev pub is_before : {B : Type 0} → ℕ → Kept B → Bool
 is_before number s = nat_lt s.number number
 
 -- The usages of a volume's snapshots in order of attaching, the one that is being merged in its place among them.
-abbrev pub usages_with : {B : Type 0} → Option (Merging B) → List (Kept B) → List Usage
+abbrev pub usages_with : {B : Type 0} → Option (Merging B) → List (Kept B) → List PlaceUsage
 usages_with None snaps = map shown_of snaps
 usages_with (Some m) snaps = insert (map shown_of snaps) (count_by (is_before m.number) snaps) (shown_merge m)
 
 -- the usage of a place, which is empty past the last snapshot
-abbrev pub usage_at : {B : Type 0} → ℕ → Volumed B → Usage
+abbrev pub usage_at : {B : Type 0} → ℕ → Volumed B → PlaceUsage
 usage_at place v = slice_index_or (usages_with v.merge v.snaps) place no_usage

@@ -1,8 +1,8 @@
 // The boards of a volume's places, and the passes to them.
 
+use between_threads::{Board, BoardPass};
 use crossbeam_utils::CachePadded;
 use std::marker::Model;
-use usage_board::{Board, Pass};
 
 /// A volume has so many places for snapshots, which count from 0 in order of attaching.
 pub const PLACES: usize = 8;
@@ -15,7 +15,7 @@ pub struct Boards {
 
 impl Model for Boards {
     ghost use Rattle.std.specs.Prelude.{List};
-    ghost use Rattle.usage_board.specs.Passes.{BoardId};
+    ghost use Rattle.between_threads.specs.BoardPasses.{BoardId};
 
     ghost Value = { List BoardId };
 
@@ -30,12 +30,12 @@ impl Model for Boards {
 /// The passes that publish on the boards of a volume. They take no bytes.
 #[derive(Drop)]
 pub struct Publishers {
-    pub(crate) passes: Vec<Pass>,
+    pub(crate) passes: Vec<BoardPass>,
 }
 
 impl Model for Publishers {
     ghost use Rattle.std.specs.Prelude.{List};
-    ghost use Rattle.usage_board.specs.Passes.{Seen};
+    ghost use Rattle.between_threads.specs.BoardPasses.{Seen};
 
     ghost Value = { List Seen };
 
@@ -45,12 +45,12 @@ impl Model for Publishers {
 /// The passes of one thread that read the boards of a volume. They take no bytes.
 #[derive(Drop)]
 pub struct Readers {
-    pub(crate) passes: Vec<Pass>,
+    pub(crate) passes: Vec<BoardPass>,
 }
 
 impl Model for Readers {
     ghost use Rattle.std.specs.Prelude.{List};
-    ghost use Rattle.usage_board.specs.Passes.{Seen};
+    ghost use Rattle.between_threads.specs.BoardPasses.{Seen};
 
     ghost Value = { List Seen };
 

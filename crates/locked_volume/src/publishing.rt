@@ -1,20 +1,20 @@
 // Usages are published.
 ghost use Rattle.std.specs.Prelude.{◌≡◌, ◌<◌, ℕ, IfOk, slice_index_or, true};
-ghost use Rattle.usage_board.specs.Passes.{Seen};
-ghost use Rattle.usage_board.specs.Words.{IsNarrow};
+ghost use Rattle.between_threads.specs.BoardPasses.{Seen};
+ghost use Rattle.between_threads.specs.Words.{IsNarrow};
 ghost use Rattle.locked_volume.specs.Boards.{AreKeptUp, ArePublishers, AreReaders, AreShown, AreUnused, IsKeptUp, IsPublished};
 ghost use Rattle.locked_volume.specs.Usages.{usage_at as usage_of_place};
 
 use crate::boards::{Boards, PLACES, Publishers, Readers};
 use crate::usages::usage_at;
+use between_threads::{Board, BoardPass, PlaceUsage};
 use crossbeam_utils::CachePadded;
 use device::Block;
 use std::alloc::{AllocError, Global};
-use usage_board::{Board, Pass, Usage};
 use volume::Volume;
 
 /// Publishes a usage, where another was published last.
-fn keep_up(board: &Board, pass: &mut Pass, usage: Usage)
+fn keep_up(board: &Board, pass: &mut BoardPass, usage: PlaceUsage)
     requires pass { (pass.old.board ≡ board.now) × (pass.old.publishes ≡ true) }
     requires narrow { IsNarrow usage }
     ensures same { (pass.new.board ≡ pass.old.board) × (pass.new.publishes ≡ pass.old.publishes) }

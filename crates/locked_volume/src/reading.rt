@@ -3,12 +3,12 @@ ghost use Rattle.std.specs.Prelude.{◌<◌};
 ghost use Rattle.locked_volume.specs.Boards.{AreReaders, HasRead};
 
 use crate::boards::{Boards, Readers};
-use usage_board::Usage;
+use between_threads::PlaceUsage;
 
 impl Boards {
     /// The usage that was published last at a place. It takes no lock and no memory, and never waits. What its pass had seen of
     /// the board was published before.
-    pub fn read(&self, readers: &mut Readers, place: usize) -> Usage
+    pub fn read(&self, readers: &mut Readers, place: usize) -> PlaceUsage
         requires place { place < 8 }
         requires readers { AreReaders self.now readers.old }
         ensures readers { AreReaders self.now readers.new }

@@ -7,8 +7,8 @@ pub trait Room {
     ghost use Rattle.std.specs.Prelude.{ℕ, List};
     ghost use Rattle.journal.specs.declared.entry.Entry.{Entry};
     ghost use Rattle.atomic_table.specs.Seated.{TableId};
-    ghost use Rattle.usage_board.specs.Passes.{BoardId};
-    ghost use Rattle.copy_queue.specs.Passes.{Queue};
+    ghost use Rattle.between_threads.specs.BoardPasses.{BoardId};
+    ghost use Rattle.between_threads.specs.Passes.{Queue};
     ghost use Rattle.locked_volume.specs.Fixed.{Fixed};
 
     ghost volumes: { ℕ };

@@ -2,7 +2,7 @@
 use Rattle.std.specs.Prelude.{◌≡◌, ◌≢◌, ℕ, Bool, true, false, List, [], Option, Some, None, Result, Ok, Err, slice_index_or}
 use Rattle.sector.specs.declared.refusal.Refusal.{Refusal}
 use Rattle.sector.specs.declared.refusal.Refusal.TheVariants.{Invalid, Overflow}
-use Rattle.command.specs.declared.events.Event.{Event}
+use Rattle.command.specs.declared.events.EventWords.{EventWords}
 use Rattle.plain.specs.declared.event.Event.{Event as Step}
 use Rattle.plain.specs.declared.event.Outcome.{Outcome}
 use Rattle.plain.specs.declared.request.Op.{Op}
@@ -59,7 +59,7 @@ is_about_merging None table = false
 is_about_merging (Some snapshot) table = is_merging_at (found (place_of snapshot table))
 
 -- an event as its volume knows it
-abbrev pub event_of : Event → Table → Step
+abbrev pub event_of : EventWords → Table → Step
 event_of event table = numbered event (number_about (snapshot_named event) table)
 
 -- an event is not due in a volume

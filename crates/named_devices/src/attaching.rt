@@ -18,13 +18,13 @@ use crate::back::put_stack_back;
 use crate::lay::top;
 use crate::origins::same_size;
 use command_rules::{Place, Role};
-use named_volume::{Held, find};
+use named_volume::{Devices, find};
 use sector::Refusal;
 use std::alloc::Global;
 use words::Name;
 
 /// The volume whose origin stands on the device of a name.
-fn volume_over(held: &Held, name: &Name) -> Result<usize, Refusal>
+fn volume_over(held: &Devices, name: &Name) -> Result<usize, Refusal>
     ensures volume { result ≡ over (place_of name.now (table_of held.now)) }
     ensures within { IfOk result (λ v. v < length held.now.volumes.items) }
 {
@@ -37,7 +37,7 @@ fn volume_over(held: &Held, name: &Name) -> Result<usize, Refusal>
 /// A snapshot of a volume takes over a stack that nothing uses as its store.
 fn meet(
     alloc: Global,
-    held: &mut Held,
+    held: &mut Devices,
     name: Name,
     chunk: u32,
     overflow: bool,
@@ -66,7 +66,7 @@ fn meet(
 #[tactic(auto, unfolding(command_rules::specs::Snapshots::snapshot_made, command_rules::specs::Snapshots::named_in))]
 pub fn make_snapshot(
     alloc: Global,
-    held: &mut Held,
+    held: &mut Devices,
     name: Name,
     sectors: u32,
     device: &Name,
@@ -87,7 +87,7 @@ pub fn make_snapshot(
 
 /// A snapshot goes, and nothing uses its store any more. `NoMemory`, `JournalFull` where the journal of its volume has no room,
 /// `NotQuiet` where it has something left to do.
-pub fn detach(held: &mut Held, v: usize, k: usize) -> Result<(), Refusal>
+pub fn detach(held: &mut Devices, v: usize, k: usize) -> Result<(), Refusal>
     requires { IsPlaceIn (In v (Snapshot k)) (table_of held.old) }
     ensures done { Enters result (table_of held.old) (table_of held.new) (left_by v k (table_of held.old)) }
     ensures sound { is_sound (table_of held.old) ≡ true → is_sound (table_of held.new) ≡ true }

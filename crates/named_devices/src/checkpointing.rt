@@ -6,12 +6,12 @@ ghost use Rattle.command_rules.specs.Journal.{checkpointed};
 ghost use Rattle.named_volume.specs.Tables.{table_of};
 
 use crate::flights::origin_at;
-use named_volume::{Held, find_device};
+use named_volume::{Devices, find_device};
 use sector::Refusal;
 use words::Name;
 
 /// The journal of a volume is folded.
-fn checkpoint_at(held: &mut Held, v: usize) -> Result<(), Refusal>
+fn checkpoint_at(held: &mut Devices, v: usize) -> Result<(), Refusal>
     requires { v < length held.old.volumes.items }
     ensures done { Changes result (table_of held.old) (table_of held.new) (Ok (table_of held.old)) }
     ensures same { table_of held.new ≡ table_of held.old }
@@ -23,7 +23,7 @@ fn checkpoint_at(held: &mut Held, v: usize) -> Result<(), Refusal>
 /// changed. In this order: `NoSuchDevice` for a name that no device has, `BadTable` for a device that is no origin, `NoMemory`
 /// where the allocator refuses what is needed. A refusal changes nothing.
 #[tactic(auto, unfolding(command_rules::specs::Events::origin_by, command_rules::specs::Journal::checkpointed))]
-pub fn checkpoint_device(held: &mut Held, name: &Name) -> Result<(), Refusal>
+pub fn checkpoint_device(held: &mut Devices, name: &Name) -> Result<(), Refusal>
     ensures asks { IfErr (origin_by name.now (table_of held.old)) (λ e. result ≡ Err e) }
     ensures done { Changes result (table_of held.old) (table_of held.new) (checkpointed name.now (table_of held.old)) }
     ensures same { table_of held.new ≡ table_of held.old }

@@ -19,7 +19,7 @@ use crate::lay::{features_of, lay_dust, lay_error, lay_flakey};
 use crate::order::look_under;
 use crate::origins::make_origin;
 use layers::Flakey;
-use named_volume::{Held, find, is_full};
+use named_volume::{Devices, find, is_full};
 use sector::Refusal;
 use std::alloc::Global;
 use table::{Line, Target};
@@ -29,7 +29,7 @@ use words::Name;
 #[tactic(auto, unfolding(command_rules::specs::Creating::made))]
 fn made(
     alloc: Global,
-    held: &mut Held,
+    held: &mut Devices,
     name: Name,
     sectors: u32,
     target: Target,
@@ -76,7 +76,12 @@ fn is_merge(target: &Target) -> bool
 /// that a device has, `TooMany` where there are 64 devices, then by the target: `JournalFull` only for a snapshot, where the
 /// journal of its origin's volume has no room.
 #[tactic(auto, unfolding(command_rules::specs::Creating::create, crate::specs::Meeting::IsCreated))]
-pub fn create_device(alloc: Global, held: &mut Held, name: Name, line: Line) -> Result<(), Refusal>
+pub fn create_device(
+    alloc: Global,
+    held: &mut Devices,
+    name: Name,
+    line: Line,
+) -> Result<(), Refusal>
     requires { is_line line ≡ true }
     ensures done { is_sound_target line.sectors line.target (table_of held.old) ≡ true → ServesIf (enters_journal line.target) result (table_of held.new) (λ t. t ≡ table_of held.old) (create name line (table_of held.old)) }
     ensures busy { is_merge line.target ≡ false → place_of name (table_of held.old) ≡ None → nat_le 64 (device_count (table_of held.old)) ≡ false → IsBusyTarget result (table_of held.old) (table_of held.new) line.sectors line.target }

@@ -7,7 +7,7 @@ ghost use Rattle.command_rules.specs.Naming.{AreNamed};
 ghost use Rattle.command_rules.specs.Sound.{is_sound};
 
 use device::{MAX_SECTORS, MemDisk};
-use named_volume::{Held, NamedStack, find, is_full};
+use named_volume::{Devices, NamedStack, find, is_full};
 use sector::Refusal;
 use std::alloc::Global;
 use words::Name;
@@ -15,7 +15,7 @@ use words::Name;
 /// `disk NAME N`: a disk of N zero sectors. In this order: `Busy` for a name that a device has, `OutOfRange` for a number of
 /// sectors outside 1 to 2^24, `TooMany` where there are 64 devices, `NoMemory` where the allocator refuses room.
 #[tactic(auto, unfolding(command_rules::specs::Disks::make))]
-pub fn make_disk(alloc: Global, held: &mut Held, name: Name, sectors: u32) -> Result<(), Refusal>
+pub fn make_disk(alloc: Global, held: &mut Devices, name: Name, sectors: u32) -> Result<(), Refusal>
     ensures done { Changes result (table_of held.old) (table_of held.new) (make name sectors (table_of held.old)) }
     ensures sound { is_sound (table_of held.old) ≡ true → is_sound (table_of held.new) ≡ true }
     ensures named { AreNamed (table_of held.old) → AreNamed (table_of held.new) }

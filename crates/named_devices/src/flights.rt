@@ -23,9 +23,9 @@ ghost use Rattle.named_devices.specs.Ruled.{is_alone_in, is_quiet_in, is_sound_i
 ghost use Rattle.volume.specs.EventKinds.{is_of_merge};
 
 use crate::order::find_in_order;
-use command::Event;
+use command::EventWords;
 use command_rules::{Place, Role};
-use named_volume::{Held, find_device, some_sectors, whole_sectors};
+use named_volume::{Devices, find_device, some_sectors, whole_sectors};
 use plain::{NotDue, Op, Outcome, Replied, ReqId, SnapId};
 use sector::{Buf, Refusal};
 use std::alloc::Global;
@@ -34,7 +34,7 @@ use words::Name;
 /// Starts a request of a device of a volume.
 fn start_at(
     alloc: Global,
-    held: &mut Held,
+    held: &mut Devices,
     v: usize,
     role: Role,
     first: u32,
@@ -63,7 +63,7 @@ fn start_at(
 #[tactic(auto, unfolding(command_rules::specs::Starting::read_asked, command_rules::specs::Starting::asked_by, crate::specs::Devices::Flies, crate::specs::Devices::KeepsOthers))]
 pub fn start_read(
     alloc: Global,
-    held: &mut Held,
+    held: &mut Devices,
     name: &Name,
     first: u32,
     count: u32,
@@ -88,7 +88,7 @@ pub fn start_read(
 #[tactic(auto, unfolding(command_rules::specs::Starting::write_asked, command_rules::specs::Starting::asked_by, crate::specs::Devices::Flies, crate::specs::Devices::KeepsOthers))]
 pub fn start_write(
     alloc: Global,
-    held: &mut Held,
+    held: &mut Devices,
     name: &Name,
     first: u32,
     bytes: Buf,
@@ -134,45 +134,51 @@ fn snapshot_at(place: Place) -> Result<(usize, Option<usize>), Refusal>
 }
 
 /// The name of the snapshot that an event is about, if it is about one.
-fn snapshot_named(event: &Event) -> Option<&Name>
+fn snapshot_named(event: &EventWords) -> Option<&Name>
     ensures { option_copied result ≡ snapshot_named event.now }
 {
     match event {
-        Event::ZeroNext(name) | Event::WriteArea(name) => Some(name),
-        Event::WriteInvalid(name) | Event::FlushStore(name) => Some(name),
-        Event::Issue(_) | Event::CopyRead(_) | Event::CopyWrite(_) | Event::Publish(_) => None,
-        Event::MergeGroup | Event::MergeAreaRead | Event::MergeRead | Event::MergeWrite => None,
-        Event::MergeFlush | Event::MergeCommit | Event::MergeRelease => None,
+        EventWords::ZeroNext(name) | EventWords::WriteArea(name) => Some(name),
+        EventWords::WriteInvalid(name) | EventWords::FlushStore(name) => Some(name),
+        EventWords::Issue(_)
+        | EventWords::CopyRead(_)
+        | EventWords::CopyWrite(_)
+        | EventWords::Publish(_) => None,
+        EventWords::MergeGroup
+        | EventWords::MergeAreaRead
+        | EventWords::MergeRead
+        | EventWords::MergeWrite => None,
+        EventWords::MergeFlush | EventWords::MergeCommit | EventWords::MergeRelease => None,
     }
 }
 
 /// An event as its volume knows it, with the number of the snapshot that it is about, if it is about one.
-fn numbered(event: &Event, number: SnapId) -> plain::Event
+fn numbered(event: &EventWords, number: SnapId) -> plain::Event
     ensures value { result ≡ numbered event.now number }
     ensures merging { is_of_merge result ≡ is_merge_event event.now }
 {
     match event {
-        Event::Issue(request) => plain::Event::Issue(u64::from(*request)),
-        Event::CopyRead(copy) => plain::Event::CopyRead(u64::from(*copy)),
-        Event::CopyWrite(copy) => plain::Event::CopyWrite(u64::from(*copy)),
-        Event::Publish(copy) => plain::Event::Publish(u64::from(*copy)),
-        Event::ZeroNext(_) => plain::Event::ZeroNext(number),
-        Event::WriteArea(_) => plain::Event::WriteArea(number),
-        Event::WriteInvalid(_) => plain::Event::WriteInvalid(number),
-        Event::FlushStore(_) => plain::Event::FlushStore(number),
-        Event::MergeGroup => plain::Event::MergeGroup,
-        Event::MergeAreaRead => plain::Event::MergeAreaRead,
-        Event::MergeRead => plain::Event::MergeRead,
-        Event::MergeWrite => plain::Event::MergeWrite,
-        Event::MergeFlush => plain::Event::MergeFlush,
-        Event::MergeCommit => plain::Event::MergeCommit,
-        Event::MergeRelease => plain::Event::MergeRelease,
+        EventWords::Issue(request) => plain::Event::Issue(u64::from(*request)),
+        EventWords::CopyRead(copy) => plain::Event::CopyRead(u64::from(*copy)),
+        EventWords::CopyWrite(copy) => plain::Event::CopyWrite(u64::from(*copy)),
+        EventWords::Publish(copy) => plain::Event::Publish(u64::from(*copy)),
+        EventWords::ZeroNext(_) => plain::Event::ZeroNext(number),
+        EventWords::WriteArea(_) => plain::Event::WriteArea(number),
+        EventWords::WriteInvalid(_) => plain::Event::WriteInvalid(number),
+        EventWords::FlushStore(_) => plain::Event::FlushStore(number),
+        EventWords::MergeGroup => plain::Event::MergeGroup,
+        EventWords::MergeAreaRead => plain::Event::MergeAreaRead,
+        EventWords::MergeRead => plain::Event::MergeRead,
+        EventWords::MergeWrite => plain::Event::MergeWrite,
+        EventWords::MergeFlush => plain::Event::MergeFlush,
+        EventWords::MergeCommit => plain::Event::MergeCommit,
+        EventWords::MergeRelease => plain::Event::MergeRelease,
     }
 }
 
 /// The volume of the origin at a place, and the number of the snapshot of a name in it. `NotDue` for a snapshot of another
 /// volume, and for one that is being merged.
-fn about(held: &Held, place: Place, snapshot: &Name) -> Result<(usize, SnapId), Refusal>
+fn about(held: &Devices, place: Place, snapshot: &Name) -> Result<(usize, SnapId), Refusal>
     requires { IsPlaceIn place (table_of held.now) }
     ensures value { MatchResult result (λ at. event_at place (Some snapshot.now) (table_of held.now) ≡ Ok at.0) (λ e. none_due (event_at place (Some snapshot.now) (table_of held.now)) ≡ e) }
     ensures within { IfOk result (λ at. at.0 < length held.now.volumes.items) }
@@ -195,7 +201,7 @@ fn about(held: &Held, place: Place, snapshot: &Name) -> Result<(usize, SnapId), 
 
 /// The volume that an event is asked of, and the number of the snapshot that it is about; 0 where it is about none. `NotDue`
 /// as for the snapshot.
-fn asked(held: &Held, place: Place, event: &Event) -> Result<(usize, SnapId), Refusal>
+fn asked(held: &Devices, place: Place, event: &EventWords) -> Result<(usize, SnapId), Refusal>
     requires { IsPlaceIn place (table_of held.now) }
     ensures value { MatchResult result (λ at. event_at place (snapshot_named event.now) (table_of held.now) ≡ Ok at.0) (λ e. none_due (event_at place (snapshot_named event.now) (table_of held.now)) ≡ e) }
     ensures within { IfOk result (λ at. at.0 < length held.now.volumes.items) }
@@ -211,7 +217,7 @@ fn asked(held: &Held, place: Place, event: &Event) -> Result<(usize, SnapId), Re
 }
 
 /// Does an event of a volume.
-fn step_at(held: &mut Held, v: usize, event: plain::Event) -> Result<Outcome, NotDue>
+fn step_at(held: &mut Devices, v: usize, event: plain::Event) -> Result<Outcome, NotDue>
     requires { v < length held.old.volumes.items }
     ensures idle { is_quiet_in (volume_at v (table_of held.old)) ≡ true → is_of_merge event ≡ false → is_ok result ≡ false }
     ensures stepped { IfOk result (λ outcome. IsInVolume (IsStepped event outcome) v (table_of held.old) (table_of held.new) (volume_at v (table_of held.old))) }
@@ -228,7 +234,7 @@ fn step_at(held: &mut Held, v: usize, event: plain::Event) -> Result<Outcome, No
 /// volume's before the snapshot's, `BadTable` where the one is no origin or the other no snapshot, `NotDue` for a snapshot of
 /// another volume, for one that is being merged and for an event that is not due. A refusal changes nothing.
 #[tactic(auto, unfolding(command_rules::specs::Events::event_asked, command_rules::specs::Events::step_event, crate::specs::Devices::KeepsOthers))]
-pub fn step_device(held: &mut Held, name: &Name, event: &Event) -> Result<Outcome, Refusal>
+pub fn step_device(held: &mut Devices, name: &Name, event: &EventWords) -> Result<Outcome, Refusal>
     ensures asks { IfErr (event_asked name.now event.now (table_of held.old)) (λ e. result ≡ Err e) }
     ensures done { is_merge_event event.now ≡ false → is_quiet_in (volume_for name.now (table_of held.old)) ≡ true → Does result (table_of held.new) (λ t. t ≡ table_of held.old) (refused (table_of held.old) (step_event name.now event.now (table_of held.old))) }
     ensures refused { IfErr result (λ e. e ≡ step_event name.now event.now (table_of held.old)) }
@@ -249,7 +255,7 @@ pub fn step_device(held: &mut Held, name: &Name, event: &Event) -> Result<Outcom
 }
 
 /// Does all events of a volume that are left to do, those of its merge too.
-fn settle_at(held: &mut Held, v: usize, ended: &mut Vec<Replied>) -> Result<(), Refusal>
+fn settle_at(held: &mut Devices, v: usize, ended: &mut Vec<Replied>) -> Result<(), Refusal>
     requires { v < length held.old.volumes.items }
     ensures done { is_sound_in (volume_at v (table_of held.old)) ≡ true → Changes result (table_of held.old) (table_of held.new) (settled_at v (table_of held.old)) }
     ensures told { is_quiet_in (volume_at v (table_of held.old)) ≡ true → ended.new.items ≡ ended.old.items }
@@ -270,7 +276,11 @@ fn settle_at(held: &mut Held, v: usize, ended: &mut Vec<Replied>) -> Result<(), 
 /// `NoSuchDevice` for a name that no device has, `BadTable` for a device that is no origin, `NoMemory` where something is in flight
 /// and the allocator refuses room for the replies. A refusal changes nothing.
 #[tactic(auto, unfolding(command_rules::specs::Events::origin_by, command_rules::specs::Events::rested, command_rules::specs::Events::settle, crate::specs::Devices::KeepsOthers))]
-pub fn settle_device(held: &mut Held, name: &Name, ended: &mut Vec<Replied>) -> Result<(), Refusal>
+pub fn settle_device(
+    held: &mut Devices,
+    name: &Name,
+    ended: &mut Vec<Replied>,
+) -> Result<(), Refusal>
     ensures asks { IfErr (origin_by name.now (table_of held.old)) (λ e. result ≡ Err e) }
     ensures stays { IfErr (origin_by name.now (table_of held.old)) (λ _. (table_of held.new ≡ table_of held.old) × (ended.new.items ≡ ended.old.items)) }
     ensures done { is_sound_in (volume_for name.now (table_of held.old)) ≡ true → Changes result (table_of held.old) (table_of held.new) (settle name.now (table_of held.old)) }

@@ -9,7 +9,7 @@ ghost use Rattle.command_rules.specs.Layers.{broken, features_of, laid, taken, t
 use command_rules::{Place, Role};
 use device::MAX_SECTORS;
 use layers::{Features, Flakey};
-use named_volume::{Held, NamedStack, find_device};
+use named_volume::{Devices, NamedStack, find_device};
 use sector::Refusal;
 use std::alloc::Global;
 use words::Name;
@@ -37,7 +37,7 @@ fn unused(place: Place) -> Result<usize, Refusal>
 
 /// The stack that nothing uses and that the device of a name is the top of.
 #[tactic(auto, unfolding(command_rules::specs::Layers::top))]
-pub fn top(held: &Held, name: &Name) -> Result<usize, Refusal>
+pub fn top(held: &Devices, name: &Name) -> Result<usize, Refusal>
     ensures value { result ≡ top name.now (table_of held.now) }
     ensures within { IfOk result (λ i. i < length held.now.stacks.items) }
 {
@@ -49,7 +49,7 @@ pub fn top(held: &Held, name: &Name) -> Result<usize, Refusal>
 #[tactic(auto, unfolding(command_rules::specs::Layers::laid))]
 pub fn lay_flakey(
     alloc: Global,
-    held: &mut Held,
+    held: &mut Devices,
     name: Name,
     below: &Name,
     flakey: Flakey,
@@ -64,7 +64,7 @@ pub fn lay_flakey(
 #[tactic(auto, unfolding(command_rules::specs::Layers::laid))]
 pub fn lay_dust(
     alloc: Global,
-    held: &mut Held,
+    held: &mut Devices,
     name: Name,
     below: &Name,
     sectors: u32,
@@ -78,7 +78,7 @@ pub fn lay_dust(
 }
 
 /// Makes an error layer.
-pub fn lay_error(alloc: Global, held: &mut Held, name: Name, sectors: u32) -> Result<(), Refusal>
+pub fn lay_error(alloc: Global, held: &mut Devices, name: Name, sectors: u32) -> Result<(), Refusal>
     ensures { Changes result (table_of held.old) (table_of held.new) (broken name sectors (table_of held.old)) }
 {
     if !(0 < sectors && sectors <= MAX_SECTORS as u32) {
@@ -90,7 +90,7 @@ pub fn lay_error(alloc: Global, held: &mut Held, name: Name, sectors: u32) -> Re
 }
 
 /// The features of a table line, as a layer has them.
-pub fn features_of(words: table::Features) -> Features
+pub fn features_of(words: table::FlakeyFeatures) -> Features
     ensures { layer_features result ≡ features_of words }
 {
     Features {

@@ -6,7 +6,7 @@ ghost use Rattle.command_rules.specs.Lines.{line_at, line_text};
 ghost use Rattle.command_rules.specs.Places.{IsPlaceIn};
 
 use command_rules::Place;
-use named_volume::{Held, find_device};
+use named_volume::{Devices, find_device};
 use sector::Refusal;
 use std::alloc::Global;
 use table::{Line, print};
@@ -14,7 +14,7 @@ use words::{Name, Text};
 
 /// The line of the device at a place. `BadTable` for a disk.
 #[tactic(auto, unfolding(command_rules::specs::Lines::line_at))]
-fn line_at(held: &Held, place: Place) -> Result<Line, Refusal>
+fn line_at(held: &Devices, place: Place) -> Result<Line, Refusal>
     requires { IsPlaceIn place (table_of held.now) }
     ensures { result ≡ line_at place (table_of held.now) }
 {
@@ -27,7 +27,7 @@ fn line_at(held: &Held, place: Place) -> Result<Line, Refusal>
 /// `table DEV`: the line of a device, as it is printed. In this order: `NoSuchDevice` for a name that no device has,
 /// `BadTable` for a disk, `NoMemory` where the allocator refuses the bytes.
 #[tactic(auto, unfolding(command_rules::specs::Lines::line_text))]
-pub fn line_text(alloc: Global, held: &Held, name: &Name) -> Result<Text, Refusal>
+pub fn line_text(alloc: Global, held: &Devices, name: &Name) -> Result<Text, Refusal>
     ensures { Gives result (line_text name.now (table_of held.now)) }
 {
     let place = find_device(held, name)?;

@@ -19,7 +19,7 @@ ghost use Rattle.named_devices.specs.Ruled.{is_sound_in, volume_for};
 use crate::flights::origin_at;
 use crate::order::find_in_order;
 use command_rules::{Place, Role};
-use named_volume::{Held, find_device};
+use named_volume::{Devices, find_device};
 use sector::Refusal;
 use std::alloc::Global;
 use words::Name;
@@ -27,7 +27,7 @@ use words::Name;
 /// The volume of the snapshot at a place, and the snapshot's place in it. `MergeInProgress` for one that is being merged,
 /// `BadTable` for another device.
 #[tactic(auto, unfolding(command_rules::specs::Merging::begun_at))]
-fn to_merge(held: &Held, place: Place) -> Result<(usize, usize), Refusal>
+fn to_merge(held: &Devices, place: Place) -> Result<(usize, usize), Refusal>
     ensures place { IfOk result (λ at. place ≡ In at.0 (Snapshot at.1)) }
     ensures err { IfErr result (λ e. begun_at place (table_of held.now) ≡ Err e) }
 {
@@ -39,7 +39,7 @@ fn to_merge(held: &Held, place: Place) -> Result<(usize, usize), Refusal>
 }
 
 /// The merge of a snapshot of a volume begins.
-fn begin_at(alloc: Global, held: &mut Held, v: usize, k: usize) -> Result<(), Refusal>
+fn begin_at(alloc: Global, held: &mut Devices, v: usize, k: usize) -> Result<(), Refusal>
     requires { IsPlaceIn (In v (Snapshot k)) (table_of held.old) }
     ensures done { is_sound_in (volume_at v (table_of held.old)) ≡ true → Enters result (table_of held.old) (table_of held.new) (begun_at (In v (Snapshot k)) (table_of held.old)) }
     ensures refused { IfErr result (λ e. (table_of held.new ≡ table_of held.old) × (is_starved e ≡ false → begun_at (In v (Snapshot k)) (table_of held.old) ≡ Err e)) }
@@ -57,7 +57,7 @@ fn begin_at(alloc: Global, held: &mut Held, v: usize, k: usize) -> Result<(), Re
 /// `NotQuiet` where its volume has something left to do, `NoMemory` where the allocator refuses what the merge will need. Where
 /// the journal of its volume has no room, `JournalFull` may stand in place of the last three.
 #[tactic(auto, unfolding(command_rules::specs::Merging::merge_begun))]
-pub fn merge_device(alloc: Global, held: &mut Held, name: &Name) -> Result<(), Refusal>
+pub fn merge_device(alloc: Global, held: &mut Devices, name: &Name) -> Result<(), Refusal>
     ensures done { is_sound_in (volume_for name.now (table_of held.old)) ≡ true → Enters result (table_of held.old) (table_of held.new) (merge_begun name.now (table_of held.old)) }
     ensures refused { IfErr result (λ e. (table_of held.new ≡ table_of held.old) × (is_starved e ≡ false → merge_begun name.now (table_of held.old) ≡ Err e)) }
     ensures begun { OnOk result (IsDoneFor name.now IsBegunIn (table_of held.old) (table_of held.new)) }
@@ -71,7 +71,7 @@ pub fn merge_device(alloc: Global, held: &mut Held, name: &Name) -> Result<(), R
 }
 
 /// The merge of a volume goes on after a fault.
-fn resume_at(held: &mut Held, v: usize) -> Result<(), Refusal>
+fn resume_at(held: &mut Devices, v: usize) -> Result<(), Refusal>
     requires { v < length held.old.volumes.items }
     ensures done { Changes result (table_of held.old) (table_of held.new) (resumed_at v (table_of held.old)) }
     ensures sound { is_sound (table_of held.old) ≡ true → is_sound (table_of held.new) ≡ true }
@@ -84,7 +84,7 @@ fn resume_at(held: &mut Held, v: usize) -> Result<(), Refusal>
 /// left as it is. In this order: `NoSuchDevice` for a name that no device has, `BadTable` for a device that is no origin,
 /// `NotMerging` where no merge is begun.
 #[tactic(auto, unfolding(command_rules::specs::Events::origin_by, command_rules::specs::Merging::merge_resumed))]
-pub fn resume_device(held: &mut Held, name: &Name) -> Result<(), Refusal>
+pub fn resume_device(held: &mut Devices, name: &Name) -> Result<(), Refusal>
     ensures done { Changes result (table_of held.old) (table_of held.new) (merge_resumed name.now (table_of held.old)) }
     ensures sound { is_sound (table_of held.old) ≡ true → is_sound (table_of held.new) ≡ true }
     ensures named { AreNamed (table_of held.old) → AreNamed (table_of held.new) }
@@ -95,7 +95,7 @@ pub fn resume_device(held: &mut Held, name: &Name) -> Result<(), Refusal>
 }
 
 /// The merge of a volume is finished, and nothing uses its store any more.
-fn finish_at(held: &mut Held, v: usize) -> Result<(), Refusal>
+fn finish_at(held: &mut Devices, v: usize) -> Result<(), Refusal>
     requires { v < length held.old.volumes.items }
     ensures done { is_sound_in (volume_at v (table_of held.old)) ≡ true → Enters result (table_of held.old) (table_of held.new) (finished_at v (table_of held.old)) }
     ensures unfinished { IfErr result (λ e. is_starved e ≡ false → IsUnfinishedIn e (volume_at v (table_of held.old))) }
@@ -120,7 +120,7 @@ fn finish_at(held: &mut Held, v: usize) -> Result<(), Refusal>
 /// `NoMemory` where the allocator refuses room for what is left, `JournalFull` where the journal has none; these may come before
 /// those two. A refusal changes nothing.
 #[tactic(auto, unfolding(command_rules::specs::Events::origin_by, command_rules::specs::Merging::merge_finished))]
-pub fn finish_device(held: &mut Held, name: &Name) -> Result<(), Refusal>
+pub fn finish_device(held: &mut Devices, name: &Name) -> Result<(), Refusal>
     ensures asks { IfErr (origin_by name.now (table_of held.old)) (λ e. result ≡ Err e) }
     ensures done { is_sound_in (volume_for name.now (table_of held.old)) ≡ true → Enters result (table_of held.old) (table_of held.new) (merge_finished name.now (table_of held.old)) }
     ensures unfinished { IfErr result (λ e. IfOk (origin_by name.now (table_of held.old)) (λ v. is_starved e ≡ false → IsUnfinishedIn e (volume_at v (table_of held.old)))) }

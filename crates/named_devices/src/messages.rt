@@ -10,12 +10,17 @@ ghost use Rattle.command_rules.specs.declared.place.Place.TheVariants.{Free, In}
 
 use command_rules::{Place, Role};
 use layers::{Answer, Message};
-use named_volume::{Held, NamedStack, NamedVolume, find_device};
+use named_volume::{Devices, NamedStack, NamedVolume, find_device};
 use sector::Refusal;
 use words::Name;
 
 /// Tells a device of a stack that nothing uses.
-fn tell_free(held: &mut Held, i: usize, depth: usize, message: &Message) -> Result<Answer, Refusal>
+fn tell_free(
+    held: &mut Devices,
+    i: usize,
+    depth: usize,
+    message: &Message,
+) -> Result<Answer, Refusal>
     requires { i < length held.old.stacks.items }
     ensures { Steps result (table_of held.old) (table_of held.new) (told_at (Free i depth) message.now (table_of held.old)) }
 {
@@ -23,7 +28,7 @@ fn tell_free(held: &mut Held, i: usize, depth: usize, message: &Message) -> Resu
 }
 
 /// Tells a device of a volume.
-fn tell_in(held: &mut Held, v: usize, role: Role, message: &Message) -> Result<Answer, Refusal>
+fn tell_in(held: &mut Devices, v: usize, role: Role, message: &Message) -> Result<Answer, Refusal>
     requires { IsPlaceIn (In v role) (table_of held.old) }
     ensures { Steps result (table_of held.old) (table_of held.new) (told_at (In v role) message.now (table_of held.old)) }
 {
@@ -34,7 +39,7 @@ fn tell_in(held: &mut Held, v: usize, role: Role, message: &Message) -> Result<A
 /// that no device has, `BadTable` for a device that is no dust layer, `OutOfRange` for a block past its end, `NoMemory`
 /// where a block is added and the allocator refuses room.
 #[tactic(auto, unfolding(command_rules::specs::Messages::tell))]
-pub fn tell(held: &mut Held, name: &Name, message: &Message) -> Result<Answer, Refusal>
+pub fn tell(held: &mut Devices, name: &Name, message: &Message) -> Result<Answer, Refusal>
     ensures done { Steps result (table_of held.old) (table_of held.new) (tell name.now message.now (table_of held.old)) }
     ensures sound { is_sound (table_of held.old) ≡ true → is_sound (table_of held.new) ≡ true }
     ensures named { AreNamed (table_of held.old) → AreNamed (table_of held.new) }
@@ -63,7 +68,7 @@ fn tick_volumes(volumes: &mut [NamedVolume], seconds: u32)
 
 /// `tick N`: so many seconds pass for every flakey layer.
 #[tactic(auto, unfolding(command_rules::specs::Messages::ticked))]
-pub fn tick(held: &mut Held, seconds: u32)
+pub fn tick(held: &mut Devices, seconds: u32)
     ensures { table_of held.new ≡ ticked seconds (table_of held.old) }
 {
     tick_stacks(&mut held.stacks, seconds);

@@ -6,13 +6,13 @@ ghost use Rattle.named_volume.specs.Tables.{table_of};
 ghost use Rattle.named_devices.specs.Order.{changed_under, IsInOrderFor, IsInOrderIn, IsLookedAt};
 
 use command_rules::Place;
-use named_volume::{Held, find};
+use named_volume::{Devices, find};
 use sector::Refusal;
 use table::Target;
 use words::Name;
 
 /// A look at the volume at a place.
-fn look_in(held: &Held, v: usize)
+fn look_in(held: &Devices, v: usize)
     requires { v < length held.now.volumes.items }
     ensures { IsInOrderIn (volume_at v (table_of held.now)) }
 {
@@ -22,7 +22,7 @@ fn look_in(held: &Held, v: usize)
 /// Where a name stands, with a look at the volume that has its device, if one has. Whatever is in flight, each of its snapshots
 /// has its name, and a number above those before it. Where no device of it drops writes and nothing is left to do, the stores of
 /// those that are live, and that of a merge, are in order. `NoSuchDevice` for a name that no device has.
-pub(crate) fn find_in_order(held: &Held, name: &Name) -> Result<Place, Refusal>
+pub(crate) fn find_in_order(held: &Devices, name: &Name) -> Result<Place, Refusal>
     ensures place { result ≡ found (place_of name.now (table_of held.now)) }
     ensures within { IfOk result (λ place. IsPlaceIn place (table_of held.now)) }
     ensures ordered { IsInOrderFor name.now (table_of held.now) }
@@ -49,7 +49,7 @@ fn changed_under(target: &Target) -> Option<&Name>
 }
 
 /// A look at the volume on which a target's snapshot is made, if it is one.
-pub(crate) fn look_under(held: &Held, target: &Target)
+pub(crate) fn look_under(held: &Devices, target: &Target)
     ensures { IsLookedAt (table_of held.now) (changed_under target.now) }
 {
     match changed_under(target) {

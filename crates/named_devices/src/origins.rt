@@ -7,7 +7,7 @@ ghost use Rattle.named_volume.specs.Tables.{table_of};
 
 use crate::back::{put_stack_back, put_volume_back};
 use crate::lay::top;
-use named_volume::{Held, NamedVolume};
+use named_volume::{Devices, NamedVolume};
 use sector::Refusal;
 use std::alloc::Global;
 use words::Name;
@@ -27,7 +27,7 @@ pub fn same_size(line: u32, device: u64) -> Result<(), Refusal>
 #[tactic(auto, unfolding(command_rules::specs::Origins::origin_made))]
 pub fn make_origin(
     alloc: Global,
-    held: &mut Held,
+    held: &mut Devices,
     name: Name,
     sectors: u32,
     device: &Name,
@@ -52,7 +52,7 @@ pub fn make_origin(
 
 /// An origin without snapshots goes, and nothing uses its stack any more. In this order: `Busy` where there is a snapshot or a
 /// merge is begun, `NotQuiet` where something is left to do.
-pub fn close(held: &mut Held, v: usize) -> Result<(), Refusal>
+pub fn close(held: &mut Devices, v: usize) -> Result<(), Refusal>
     requires { v < length held.old.volumes.items }
     ensures done { Changes result (table_of held.old) (table_of held.new) (closed v (table_of held.old)) }
     ensures sound { is_sound (table_of held.old) ≡ true → is_sound (table_of held.new) ≡ true }

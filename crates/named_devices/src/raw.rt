@@ -12,14 +12,14 @@ ghost use Rattle.command_rules.specs.declared.place.Place.TheVariants.{Free};
 
 use command_rules::{Place, Role};
 use device::{Block, MemDisk};
-use named_volume::{Held, NamedVolume, find_device, range_in, some_sectors, whole_sectors};
+use named_volume::{Devices, NamedVolume, find_device, range_in, some_sectors, whole_sectors};
 use sector::{Buf, Refusal, SECTOR_BYTES};
 use std::alloc::Global;
 use words::Name;
 
 /// The disk at a place. `BadTable` for another device.
 #[tactic(auto, unfolding(command_rules::specs::Raw::raw_at))]
-fn disk_at(held: &Held, place: Place) -> Result<&MemDisk, Refusal>
+fn disk_at(held: &Devices, place: Place) -> Result<&MemDisk, Refusal>
     requires { IsPlaceIn place (table_of held.now) }
     ensures { MatchResult result (λ disk. raw_at place (table_of held.now) ≡ Ok (disk_contents disk.now)) (λ e. raw_at place (table_of held.now) ≡ Err e) }
 {
@@ -47,7 +47,7 @@ fn raw_sectors(alloc: Global, disk: &MemDisk, first: u32, count: u32) -> Result<
 #[tactic(auto, unfolding(command_rules::specs::Raw::save))]
 pub fn save_disk(
     alloc: Global,
-    held: &Held,
+    held: &Devices,
     name: &Name,
     first: u32,
     count: u32,
@@ -62,7 +62,7 @@ pub fn save_disk(
 
 /// Writes raw sectors of a disk of a stack that nothing uses.
 fn load_free(
-    held: &mut Held,
+    held: &mut Devices,
     i: usize,
     depth: usize,
     first: u32,
@@ -97,7 +97,7 @@ fn refuse_load(volume: &NamedVolume, role: Role, first: u32, count: u32) -> Refu
 /// not 1 to 2048, `NoSuchDevice` for a name that no device has, `BadTable` for a device that is no disk, `OutOfRange` where
 /// the sectors don't lie inside it, `Busy` where a layer, an origin or a snapshot uses it.
 #[tactic(auto, unfolding(command_rules::specs::Raw::load, command_rules::specs::Raw::loaded_at))]
-pub fn load_disk(held: &mut Held, name: &Name, first: u32, bytes: &Buf) -> Result<(), Refusal>
+pub fn load_disk(held: &mut Devices, name: &Name, first: u32, bytes: &Buf) -> Result<(), Refusal>
     ensures done { Changes result (table_of held.old) (table_of held.new) (load name.now first bytes.now (table_of held.old)) }
     ensures sound { is_sound (table_of held.old) ≡ true → is_sound (table_of held.new) ≡ true }
     ensures named { AreNamed (table_of held.old) → AreNamed (table_of held.new) }

@@ -13,12 +13,12 @@ use crate::attaching::detach;
 use crate::order::find_in_order;
 use crate::origins::close;
 use command_rules::{Place, Role};
-use named_volume::Held;
+use named_volume::Devices;
 use sector::Refusal;
 use words::Name;
 
 /// Takes the top of a stack away that nothing uses. A bare disk and an error layer go whole.
-fn take_top(held: &mut Held, i: usize)
+fn take_top(held: &mut Devices, i: usize)
     requires { IsPlaceIn (Free i 0) (table_of held.old) }
     ensures { lowered i (table_of held.old) ≡ Ok (table_of held.new) }
 {
@@ -35,7 +35,7 @@ fn take_top(held: &mut Held, i: usize)
 /// allocator refuses room for what is left, `JournalFull` for a snapshot where the journal of its volume has none; these two may
 /// come before `NotQuiet`.
 #[tactic(auto, unfolding(command_rules::specs::Removing::take_away), using(command_rules::proofs::Starving::changes_enter))]
-pub fn remove_device(held: &mut Held, name: &Name) -> Result<(), Refusal>
+pub fn remove_device(held: &mut Devices, name: &Name) -> Result<(), Refusal>
     ensures done { Enters result (table_of held.old) (table_of held.new) (take_away name.now (table_of held.old)) }
     ensures ordered { IsInOrderFor name.now (table_of held.old) }
     ensures sound { is_sound (table_of held.old) ≡ true → is_sound (table_of held.new) ≡ true }

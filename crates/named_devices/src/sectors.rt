@@ -17,7 +17,7 @@ ghost use Rattle.named_devices.specs.Ruled.{is_quiet_in, is_sound_in, volume_for
 
 use crate::order::find_in_order;
 use command_rules::{Place, Role};
-use named_volume::{Held, find_device, some_sectors, whole_sectors};
+use named_volume::{Devices, find_device, some_sectors, whole_sectors};
 use plain::Replied;
 use sector::{Buf, Refusal};
 use std::alloc::Global;
@@ -26,7 +26,7 @@ use words::Name;
 /// Reads sectors of a device of a volume.
 fn read_at(
     alloc: Global,
-    held: &mut Held,
+    held: &mut Devices,
     v: usize,
     role: Role,
     first: u32,
@@ -58,7 +58,7 @@ fn read_at(
 #[tactic(auto, unfolding(command_rules::specs::Starting::read_asked, command_rules::specs::Starting::asked_by, command_rules::specs::Sectors::read, command_rules::specs::Sectors::IsReadStarved, crate::specs::Devices::KeepsOthers))]
 pub fn read_device(
     alloc: Global,
-    held: &mut Held,
+    held: &mut Devices,
     name: &Name,
     first: u32,
     count: u32,
@@ -84,7 +84,7 @@ pub fn read_device(
 /// Writes sectors of a device of a volume.
 fn write_at(
     alloc: Global,
-    held: &mut Held,
+    held: &mut Devices,
     v: usize,
     role: Role,
     first: u32,
@@ -117,7 +117,7 @@ fn write_at(
 #[tactic(auto, unfolding(command_rules::specs::Starting::write_asked, command_rules::specs::Starting::asked_by, command_rules::specs::Sectors::write, command_rules::specs::Sectors::IsWriteStarved, crate::specs::Devices::KeepsOthers))]
 pub fn write_device(
     alloc: Global,
-    held: &mut Held,
+    held: &mut Devices,
     name: &Name,
     first: u32,
     bytes: Buf,
@@ -143,7 +143,12 @@ pub fn write_device(
 }
 
 /// Flushes a device of a volume.
-fn flush_at(held: &mut Held, v: usize, role: Role, ended: &mut Vec<Replied>) -> Result<(), Refusal>
+fn flush_at(
+    held: &mut Devices,
+    v: usize,
+    role: Role,
+    ended: &mut Vec<Replied>,
+) -> Result<(), Refusal>
     requires place { IsPlaceIn (In v role) (table_of held.old) }
     ensures done { is_sound_in (volume_at v (table_of held.old)) ≡ true → Serves result (table_of held.new) (λ t. (t ≡ table_of held.old) ⊎ IsInVolume (IsReadAsked 1) v (table_of held.old) t (volume_at v (table_of held.old))) (in_volume v (table_of held.old) (flushed_in role) (volume_at v (table_of held.old))) }
     ensures told { is_quiet_in (volume_at v (table_of held.old)) ≡ true → ended.new.items ≡ ended.old.items }
@@ -164,7 +169,11 @@ fn flush_at(held: &mut Held, v: usize, role: Role, ended: &mut Vec<Replied>) -> 
 /// the volume has taken too many, then `JournalFull` and what its devices answer; `NoMemory` may come before that, where
 /// something is in flight. Requests that are in flight may end in it: their replies go to the end of `ended`.
 #[tactic(auto, unfolding(command_rules::specs::Starting::flush_asked, command_rules::specs::Starting::asked_by, command_rules::specs::Sectors::flush, command_rules::specs::Sectors::IsFlushStarved, crate::specs::Devices::KeepsOthers))]
-pub fn flush_device(held: &mut Held, name: &Name, ended: &mut Vec<Replied>) -> Result<(), Refusal>
+pub fn flush_device(
+    held: &mut Devices,
+    name: &Name,
+    ended: &mut Vec<Replied>,
+) -> Result<(), Refusal>
     ensures done { is_sound_in (volume_for name.now (table_of held.old)) ≡ true → Serves result (table_of held.new) (λ t. (t ≡ table_of held.old) ⊎ IsFlushStarved name.now (table_of held.old) t) (flush name.now (table_of held.old)) }
     ensures told { is_quiet_in (volume_for name.now (table_of held.old)) ≡ true → ended.new.items ≡ ended.old.items }
     ensures asks { IfErr (flush_asked name.now (table_of held.old)) (λ e. result ≡ Err e) }

@@ -9,14 +9,14 @@ ghost use Rattle.named_devices.specs.Ruled.{is_sound_in, volume_for};
 ghost use Rattle.named_devices.specs.Status.{IsStatusAmong, IsStatusHeld, IsStatusHeldIn, IsStatusIn};
 
 use command_rules::{Place, Role};
-use named_volume::{Held, find_device};
+use named_volume::{Devices, find_device};
 use sector::Refusal;
 use std::alloc::Global;
 use words::{Name, Text};
 
 /// The status line of a device of a volume.
 #[tactic(auto, unfolding(command_rules::specs::Status::status_at))]
-fn status_at(alloc: Global, held: &Held, v: usize, role: Role) -> Result<Text, Refusal>
+fn status_at(alloc: Global, held: &Devices, v: usize, role: Role) -> Result<Text, Refusal>
     requires { IsPlaceIn (In v role) (table_of held.now) }
     ensures done { is_sound_in (volume_at v (table_of held.now)) ≡ true → Gives result (status_at (In v role) (table_of held.now)) }
     ensures among { IsStatusIn result role (volume_at v (table_of held.now)) }
@@ -28,7 +28,7 @@ fn status_at(alloc: Global, held: &Held, v: usize, role: Role) -> Result<Text, R
 /// `status DEV`: the status line of an origin or of a snapshot, whatever is in flight. In this order: `NoSuchDevice` for a
 /// name that no device has, `BadTable` for a disk or a layer, `NoMemory` where the allocator refuses the bytes.
 #[tactic(auto, unfolding(command_rules::specs::Status::status_text, command_rules::specs::Status::status_at))]
-pub fn status_text(alloc: Global, held: &Held, name: &Name) -> Result<Text, Refusal>
+pub fn status_text(alloc: Global, held: &Devices, name: &Name) -> Result<Text, Refusal>
     ensures done { is_sound_in (volume_for name.now (table_of held.now)) ≡ true → Gives result (status_text name.now (table_of held.now)) }
     ensures among { IsStatusAmong result name.now (table_of held.now) }
     ensures held { IsStatusHeld result name.now (table_of held.now) }

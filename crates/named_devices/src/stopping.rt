@@ -10,7 +10,7 @@ ghost use Rattle.named_volume.specs.Tables.{table_of};
 ghost use Rattle.named_devices.specs.Stopping.{stopped_at};
 
 use crate::flights::origin_at;
-use named_volume::{Held, NamedStack, StoppedVolume, find_device};
+use named_volume::{Devices, NamedStack, StoppedVolume, find_device};
 use sector::Refusal;
 use words::Name;
 
@@ -30,7 +30,7 @@ fn free_all(stacks: &mut Vec<NamedStack>, stopped: &mut StoppedVolume, count: us
 }
 
 /// The volume at a place is stopped.
-fn stop_at(held: &mut Held, v: usize) -> Result<(), Refusal>
+fn stop_at(held: &mut Devices, v: usize) -> Result<(), Refusal>
     requires { v < length held.old.volumes.items }
     ensures done { Changes result (table_of held.old) (table_of held.new) (stopped_at v (table_of held.old)) }
     ensures sound { is_sound (table_of held.old) ≡ true → is_sound (table_of held.new) ≡ true }
@@ -48,7 +48,7 @@ fn stop_at(held: &mut Held, v: usize) -> Result<(), Refusal>
 /// and the stale marks of these disks are forgotten. In this order: `NoSuchDevice` for a name that no device has, `BadTable` for
 /// a device that is no origin, `NoMemory` where the allocator refuses room for what is left. A refusal changes nothing.
 #[tactic(auto, unfolding(command_rules::specs::Events::origin_by, command_rules::specs::Stopping::volume_stopped))]
-pub fn stop_device(held: &mut Held, name: &Name) -> Result<(), Refusal>
+pub fn stop_device(held: &mut Devices, name: &Name) -> Result<(), Refusal>
     ensures asks { IfErr (origin_by name.now (table_of held.old)) (λ e. result ≡ Err e) }
     ensures done { Changes result (table_of held.old) (table_of held.new) (volume_stopped name.now (table_of held.old)) }
     ensures sound { is_sound (table_of held.old) ≡ true → is_sound (table_of held.new) ≡ true }
@@ -71,7 +71,7 @@ fn lose_from(stacks: &mut [NamedStack], first: usize)
 
 /// `stop VOL lose`: the volume is stopped as by `stop VOL`, with the same refusals, and then its disks lose what was not flushed:
 /// each of their sectors goes back to its value at its disk's last flush. All other disks stay as they are.
-pub fn stop_losing(held: &mut Held, name: &Name) -> Result<(), Refusal>
+pub fn stop_losing(held: &mut Devices, name: &Name) -> Result<(), Refusal>
     ensures asks { IfErr (origin_by name.now (table_of held.old)) (λ e. result ≡ Err e) }
     ensures done { StopsLosing result name.now (table_of held.old) (table_of held.new) }
     ensures stays { OnErr result (table_of held.new ≡ table_of held.old) }

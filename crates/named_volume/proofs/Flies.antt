@@ -13,7 +13,7 @@ use Rattle.in_flight.specs.Kinds.{kind_of}
 use Rattle.in_flight.specs.declared.flights.Kind.{Kind}
 use Rattle.in_flight.specs.declared.flights.Kind.TheVariants.{OriginRead, OriginWrite, OriginFlush, SnapRead, SnapWrite, SnapFlush}
 use Rattle.in_flight.specs.declared.flights.Route.{Route}
-use Rattle.event_machine.specs.Held.{Held, Moving}
+use Rattle.event_machine.specs.Held.{SnapHeld, Moving}
 use Rattle.event_machine.specs.Seen.{going_of}
 use Rattle.event_machine.specs.Stepping.{for_some, first_that, put, spoil}
 use Rattle.event_machine.specs.Submitting.{is_filled, needs_none, accepted, declined, read_snap, write_held, write_placed, write_open, shuts, overflown, write_snap, submitted_as}
@@ -45,22 +45,22 @@ some_or None f y hf hy = hy
 some_or (Some x) f y hf hy = hf x
 
 module _ (number : ℕ) (request : Request) where
-  read_flown : (h : Held) (v : Moving) → IsFlown (read_snap number request h v)
+  read_flown : (h : SnapHeld) (v : Moving) → IsFlown (read_snap number request h v)
   read_flown h v = either h.snap.live _ _ (flown number request _ v) (unflown Invalid v)
 
-  held_flown : (test : Held → Bool) (h : Held) (v : Moving) → IsFlown (write_held number request test h v)
+  held_flown : (test : SnapHeld → Bool) (h : SnapHeld) (v : Moving) → IsFlown (write_held number request test h v)
   held_flown test h v =
       let c : ℕ = request.range.first / h.snap.chunk in
       either (needs_none c h) _ _ (flown number request _ v) (either (is_filled h) _ _ (unflown Invalid (spoil test h v)) (flown number request _ _))
 
-  placed_flown : (test : Held → Bool) (h : Held) (place : Option ℕ) (v : Moving) → IsFlown (write_placed number request test h place v)
+  placed_flown : (test : SnapHeld → Bool) (h : SnapHeld) (place : Option ℕ) (v : Moving) → IsFlown (write_placed number request test h place v)
   placed_flown test h (Some place) v = flown number request _ v
   placed_flown test h None v = held_flown test h v
 
-  open_flown : (test : Held → Bool) (h : Held) (v : Moving) → IsFlown (write_open number request test h v)
+  open_flown : (test : SnapHeld → Bool) (h : SnapHeld) (v : Moving) → IsFlown (write_open number request test h v)
   open_flown test h v = either h.snap.live _ _ (placed_flown test h _ v) (unflown Invalid v)
 
-  write_flown : (test : Held → Bool) (h : Held) (v : Moving) → IsFlown (write_snap number request test h v)
+  write_flown : (test : SnapHeld → Bool) (h : SnapHeld) (v : Moving) → IsFlown (write_snap number request test h v)
   write_flown test h v = either (shuts (request.range.first / h.snap.chunk) h) _ _ (unflown Overflow (put test (overflown h) v)) (open_flown test h v)
 
   as_flown : (kind : Kind) (v : Moving) → IsFlown (submitted_as kind number request v)

@@ -10,12 +10,12 @@ use Rattle.layers.specs.declared.stack.Stack.{Stack}
 use Rattle.layers.specs.Stack.{stack_contents, stack_layers, stack_size}
 use Rattle.chunk_alloc.specs.declared.usage.Usage.{Usage}
 use Rattle.plain.specs.Plain.{did_overflow}
-use Rattle.table.specs.declared.status.State.{State}
-use Rattle.table.specs.declared.status.State.TheVariants.{Invalid, Overflow, Used}
+use Rattle.table.specs.declared.status.StatusState.{StatusState}
+use Rattle.table.specs.declared.status.StatusState.TheVariants.{Invalid, Overflow, Used}
 use Rattle.table.specs.Lines.{snapshot_text}
 use Rattle.settled.specs.Devices.{sectors_of as size_of}
 use Rattle.settled.specs.Snaps.{Snap}
-use Rattle.event_machine.specs.Held.{Held, Moving}
+use Rattle.event_machine.specs.Held.{SnapHeld, Moving}
 use Rattle.snapshot.specs.Kept.{Kept}
 use Rattle.volume.specs.Leaving.{is_quiet_of}
 use Rattle.volume.specs.Moved.{held_of}
@@ -76,7 +76,7 @@ module _ (volume : Rested Stack) (whole : IsWhole volume) (k : ℕ) (within : k 
   -- and what is in memory of it
   held_there : held_at k (flying_of stack_contents stack_layers volume.events) ≡ Ok (kept_held kept)
   held_there =
-      let snaps : List Held = map (held_of stack_contents stack_layers) volume.events.snaps in
+      let snaps : List SnapHeld = map (held_of stack_contents stack_layers) volume.events.snaps in
       let one : length snaps ≡ length volume.events.snaps = length-map volume.events.snaps (held_of stack_contents stack_layers) in
       let two : length (map without_store snaps) ≡ length snaps = length-map snaps without_store in
       let first : get_or snaps k (held_of stack_contents stack_layers kept) ≡ held_of stack_contents stack_layers kept = get_or-map (held_of stack_contents stack_layers) volume.events.snaps k kept (held_of stack_contents stack_layers kept) inside ∙ ap (held_of stack_contents stack_layers) (kept_there.1 kept) in
@@ -85,7 +85,7 @@ module _ (volume : Rested Stack) (whole : IsWhole volume) (k : ℕ) (within : k 
       rw is refl
 
   -- its status line
-  pub held_says : (sectors : ℕ) (state : State) (text : List ℕ) (seen : Volume) (r : Result (List ℕ) AllocError) → seen.state ≡ settled_in volume → state ≡ state_kept kept → r ≡ Ok text → IfOk r (λ t. t ≡ snapshot_text sectors state) → sectors ≡ size_of seen.state.origin
+  pub held_says : (sectors : ℕ) (state : StatusState) (text : List ℕ) (seen : Volume) (r : Result (List ℕ) AllocError) → seen.state ≡ settled_in volume → state ≡ state_kept kept → r ≡ Ok text → IfOk r (λ t. t ≡ snapshot_text sectors state) → sectors ≡ size_of seen.state.origin
       → status_flying (Snapshot k) seen (flying_of stack_contents stack_layers volume.events) ≡ Ok text
   unfolding status_flying
   held_says sectors state text seen r in_state of is says size =
@@ -95,7 +95,7 @@ module _ (volume : Rested Stack) (whole : IsWhole volume) (k : ℕ) (within : k 
       rw there (rw held_there (rw (sym size) (rw (sym of) (rw (IfOk-at_ok (λ (t : List ℕ). t ≡ snapshot_text sectors state) is says) refl))))
 
   -- while something is in flight
-  pub flying_says : (sectors : ℕ) (state : State) (text : List ℕ) (seen : Volume) (moving : Moving) (r : Result (List ℕ) AllocError) → seen.state ≡ settled_in volume → flying_in volume.events ≡ Some moving → state ≡ state_kept kept → r ≡ Ok text → IfOk r (λ t. t ≡ snapshot_text sectors state) → sectors ≡ size_of seen.state.origin
+  pub flying_says : (sectors : ℕ) (state : StatusState) (text : List ℕ) (seen : Volume) (moving : Moving) (r : Result (List ℕ) AllocError) → seen.state ≡ settled_in volume → flying_in volume.events ≡ Some moving → state ≡ state_kept kept → r ≡ Ok text → IfOk r (λ t. t ≡ snapshot_text sectors state) → sectors ≡ size_of seen.state.origin
       → status_flying (Snapshot k) seen moving ≡ Ok text
   flying_says sectors state text seen moving r in_state flies of is says size =
       let mine : flying_of stack_contents stack_layers volume.events ≡ moving = some_flown (is_quiet_of volume.events) (flying_of stack_contents stack_layers volume.events) moving flies in

@@ -7,8 +7,8 @@ use Rattle.layers.specs.declared.stack.Stack.{Stack}
 use Rattle.layers.specs.Stack.{stack_contents, stack_size}
 use Rattle.chunk_alloc.specs.declared.usage.Usage.{Usage}
 use Rattle.plain.specs.Plain.{did_overflow}
-use Rattle.table.specs.declared.status.State.{State}
-use Rattle.table.specs.declared.status.State.TheVariants.{Invalid, Failed, Overflow, Used}
+use Rattle.table.specs.declared.status.StatusState.{StatusState}
+use Rattle.table.specs.declared.status.StatusState.TheVariants.{Invalid, Failed, Overflow, Used}
 use Rattle.table.specs.Lines.{merge_text, origin_text, snapshot_text}
 use Rattle.settled.specs.Devices.{sectors_of as size_of}
 use Rattle.settled.specs.Snaps.{Snap}
@@ -61,7 +61,7 @@ unfolding status_in
 origin_says sectors text volume r alone is says size = rw (sym size) (rw alone (rw (IfOk-at_ok (λ (t : List ℕ). t ≡ origin_text sectors) is says) refl))
 
 -- of one while a merge is begun
-pub merge_says : (sectors : ℕ) (state : State) (text : List ℕ) (volume : Volume) (r : Result (List ℕ) AllocError) (h : Named) → volume.merging ≡ Some h → state ≡ merge_state h.merge → r ≡ Ok text → IfOk r (λ t. t ≡ merge_text sectors state) → sectors ≡ size_of volume.state.origin → status_in Origin volume ≡ Ok text
+pub merge_says : (sectors : ℕ) (state : StatusState) (text : List ℕ) (volume : Volume) (r : Result (List ℕ) AllocError) (h : Named) → volume.merging ≡ Some h → state ≡ merge_state h.merge → r ≡ Ok text → IfOk r (λ t. t ≡ merge_text sectors state) → sectors ≡ size_of volume.state.origin → status_in Origin volume ≡ Ok text
 unfolding status_in
 merge_says sectors state text volume r h begun of is says size = rw (sym size) (rw begun (rw (sym of) (rw (IfOk-at_ok (λ (t : List ℕ). t ≡ merge_text sectors state) is says) refl)))
 
@@ -71,7 +71,7 @@ unfolding status_in
 merging_says sectors text volume r is says size = rw (sym size) (rw (IfOk-at_ok (λ (t : List ℕ). t ≡ snapshot_text sectors Invalid) is says) refl)
 
 -- and of a snapshot
-pub snapshot_says : (k sectors : ℕ) (state : State) (text : List ℕ) (volume : Volume) (before : Rested Stack) (r : Result (List ℕ) AllocError) → volume.state ≡ settled_in before → k < length before.snaps → ((d : Snap) → state ≡ state_of (get_or (settled_in before).snaps k d)) → r ≡ Ok text → IfOk r (λ t. t ≡ snapshot_text sectors state) → sectors ≡ size_of volume.state.origin → status_in (Snapshot k) volume ≡ Ok text
+pub snapshot_says : (k sectors : ℕ) (state : StatusState) (text : List ℕ) (volume : Volume) (before : Rested Stack) (r : Result (List ℕ) AllocError) → volume.state ≡ settled_in before → k < length before.snaps → ((d : Snap) → state ≡ state_of (get_or (settled_in before).snaps k d)) → r ≡ Ok text → IfOk r (λ t. t ≡ snapshot_text sectors state) → sectors ≡ size_of volume.state.origin → status_in (Snapshot k) volume ≡ Ok text
 unfolding status_in state_at
 snapshot_says k sectors state text volume before r in_state lt of is says size =
     let at = at_place before k lt in

@@ -6,12 +6,12 @@ use Rattle.layers.specs.Stack.{stack_contents, stack_layers}
 use Rattle.sector.specs.declared.refusal.Refusal.{Refusal}
 use Rattle.sector.specs.declared.refusal.Refusal.TheVariants.{NoSuchDevice}
 use Rattle.words.specs.Given.{Gives, ◌>>=◌}
-use Rattle.table.specs.declared.status.State.{State}
-use Rattle.table.specs.declared.status.State.TheVariants.{Invalid, Overflow, Used}
+use Rattle.table.specs.declared.status.StatusState.{StatusState}
+use Rattle.table.specs.declared.status.StatusState.TheVariants.{Invalid, Overflow, Used}
 use Rattle.table.specs.Lines.{snapshot_text}
 use Rattle.plain.specs.Plain.{did_overflow}
 use Rattle.settled.specs.Devices.{Device, sectors_of}
-use Rattle.event_machine.specs.Held.{Held, Moving}
+use Rattle.event_machine.specs.Held.{SnapHeld, Moving}
 use Rattle.snapshot.specs.Kept.{Kept}
 use Rattle.volume.specs.Moved.{held_of}
 use Rattle.volume.specs.Volumed.{Volumed}
@@ -26,32 +26,32 @@ use Rattle.command_rules.specs.Status.{status_in}
 use Rattle.named_volume.specs.Flights.{IsBehind}
 
 -- What is used of a store: all up to the next place, and the header and the areas, which hold no copies.
-abbrev pub used_flying : Held → Device → State
+abbrev pub used_flying : SnapHeld → Device → StatusState
 used_flying h store = Used (h.snap.chunk * h.next) (sectors_of store) (h.snap.chunk * (length h.pairs / (32 * h.snap.chunk) + 2))
 
 -- what is said of a live snapshot over its store, and of any
-abbrev pub live_flying : Held → Device → State
+abbrev pub live_flying : SnapHeld → Device → StatusState
 live_flying h store = if did_overflow h.snap.overflow then Overflow else used_flying h store
 
-abbrev pub state_flying : Held → Device → State
+abbrev pub state_flying : SnapHeld → Device → StatusState
 state_flying h store = if h.snap.live then live_flying h store else Invalid
 
 -- the same of one that a volume of events keeps
-abbrev pub kept_held : Kept Stack → Held
+abbrev pub kept_held : Kept Stack → SnapHeld
 kept_held s = without_store (held_of stack_contents stack_layers s)
 
-abbrev pub state_kept : Kept Stack → State
+abbrev pub state_kept : Kept Stack → StatusState
 state_kept s = state_flying (kept_held s) (device_of s.device)
 
 -- a state is that of snapshot k
-abbrev pub IsStateAt : State → ℕ → Rested Stack → Type 0
+abbrev pub IsStateAt : StatusState → ℕ → Rested Stack → Type 0
 IsStateAt state k volume = (d : Kept Stack) → state ≡ state_kept (get_or volume.events.snaps k d)
 
 -- what is in memory of snapshot k
-abbrev pub held_at : ℕ → Moving → Result Held Refusal
+abbrev pub held_at : ℕ → Moving → Result SnapHeld Refusal
 held_at k moving = there (slice_get moving.snaps k)
   where
-    there : Option Held → Result Held Refusal
+    there : Option SnapHeld → Result SnapHeld Refusal
     there None = Err NoSuchDevice
     there (Some h) = Ok h
 

@@ -5,7 +5,7 @@ ghost use Rattle.command_rules.specs.Places.{place_of, place_free, place_among, 
 ghost use Rattle.command_rules.specs.declared.place.Place.TheVariants.{Free, In};
 ghost use Rattle.command_rules.specs.Disks.{device_count, devices_in, devices_of};
 
-use crate::held::{Held, MOST_DEVICES};
+use crate::held::{Devices, MOST_DEVICES};
 use crate::{NamedStack, NamedVolume};
 use command_rules::Place;
 use sector::Refusal;
@@ -20,7 +20,7 @@ fn stack_of(stacks: &[NamedStack], name: &Name) -> Option<usize>
 
 /// Where a name stands among the stacks that nothing uses.
 #[tactic(auto, unfolding(command_rules::specs::Places::place_free))]
-fn place_free(held: &Held, name: &Name) -> Option<Place>
+fn place_free(held: &Devices, name: &Name) -> Option<Place>
     ensures place { result ≡ place_free name.now held.now.stacks.items }
     ensures within { IfSome result (λ place. IsPlaceIn place (table_of held.now)) }
 {
@@ -35,7 +35,7 @@ fn place_free(held: &Held, name: &Name) -> Option<Place>
 
 /// Where a name stands among the volumes. Each is asked once, up to the first that has it.
 #[tactic(auto, using(crate::proofs::Firsts::passed_by))]
-fn place_among(held: &Held, name: &Name) -> Option<Place>
+fn place_among(held: &Devices, name: &Name) -> Option<Place>
     ensures place { result ≡ place_among name.now held.now.volumes.items }
     ensures within { IfSome result (λ place. IsPlaceIn place (table_of held.now)) }
 {
@@ -49,7 +49,7 @@ fn place_among(held: &Held, name: &Name) -> Option<Place>
 
 /// Where a name stands.
 #[tactic(auto, unfolding(command_rules::specs::Places::place_of))]
-pub fn find(held: &Held, name: &Name) -> Option<Place>
+pub fn find(held: &Devices, name: &Name) -> Option<Place>
     ensures place { result ≡ place_of name.now (table_of held.now) }
     ensures within { IfSome result (λ place. IsPlaceIn place (table_of held.now)) }
 {
@@ -60,7 +60,7 @@ pub fn find(held: &Held, name: &Name) -> Option<Place>
 }
 
 /// Where a name stands. `NoSuchDevice` for a name that no device has.
-pub fn find_device(held: &Held, name: &Name) -> Result<Place, Refusal>
+pub fn find_device(held: &Devices, name: &Name) -> Result<Place, Refusal>
     ensures place { result ≡ found (place_of name.now (table_of held.now)) }
     ensures within { IfOk result (λ place. IsPlaceIn place (table_of held.now)) }
 {
@@ -93,7 +93,7 @@ fn left_after_volumes(volumes: &[NamedVolume], most: usize) -> usize
 }
 
 /// Whether there are as many devices as there may be.
-pub fn is_full(held: &Held) -> bool
+pub fn is_full(held: &Devices) -> bool
     ensures { result ≡ nat_le 64 (device_count (table_of held.now)) }
 {
     let left = left_after_stacks(&held.stacks, MOST_DEVICES);

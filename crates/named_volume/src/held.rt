@@ -10,17 +10,17 @@ pub const MOST_DEVICES: usize = 64;
 
 /// All devices: the stacks that nothing uses, and the volumes with those that they use.
 #[derive(Drop)]
-pub struct Held {
+pub struct Devices {
     pub stacks: Vec<NamedStack>,
     pub volumes: Vec<NamedVolume>,
 }
 
-impl Held {
+impl Devices {
     /// No devices, and room for all that there may be; a volume has at least two.
-    pub fn new(alloc: Global) -> Result<Held, AllocError>
+    pub fn new(alloc: Global) -> Result<Devices, AllocError>
         ensures { IfOk result (λ held. table_of held ≡ record { stacks = []; volumes = [] }) }
     {
-        Ok(Held {
+        Ok(Devices {
             stacks: Vec::with_capacity(alloc, MOST_DEVICES)?,
             volumes: Vec::with_capacity(alloc, MOST_DEVICES / 2)?,
         })

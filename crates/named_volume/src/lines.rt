@@ -11,14 +11,14 @@ ghost use Rattle.command_rules.specs.Stacks.{device_of};
 use device::Block;
 use layers::{Flakey, Stack};
 use sector::Refusal;
-use table::{Features, Line, Target};
+use table::{FlakeyFeatures, Line, Target};
 use words::Name;
 
 /// The features of a flakey layer, as a line has them.
-fn words_of(flakey: &Flakey) -> Features
+fn words_of(flakey: &Flakey) -> FlakeyFeatures
     ensures { result ≡ words_of (features_of flakey.now.features) }
 {
-    Features {
+    FlakeyFeatures {
         error_reads: flakey.features.error_reads,
         error_writes: flakey.features.error_writes,
         drop_writes: flakey.features.drop_writes,

@@ -21,7 +21,7 @@ use command_rules::Role;
 use device::MemDisk;
 use sector::Refusal;
 use std::alloc::Global;
-use table::{Line, State, Target, merge_line, origin_line, snapshot_line};
+use table::{Line, StatusState, Target, merge_line, origin_line, snapshot_line};
 use words::Text;
 
 impl NamedVolume {
@@ -198,7 +198,7 @@ impl NamedVolume {
                 None => origin_line(alloc, sectors),
                 Some(state) => merge_line(alloc, sectors, state),
             },
-            Role::Merging => snapshot_line(alloc, sectors, State::Invalid),
+            Role::Merging => snapshot_line(alloc, sectors, StatusState::Invalid),
             Role::Snapshot(k) => snapshot_line(alloc, sectors, state_at(&self.volume, k)),
             Role::Under(_) | Role::Store(_, _) | Role::MergingStore(_) => return Err(
                 Refusal::BadTable,

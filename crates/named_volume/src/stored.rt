@@ -3,7 +3,7 @@ ghost use Rattle.std.specs.Prelude.{◌≡◌, ◌<◌, true, length, get_or, If
 ghost use Rattle.layers.specs.Stack.{stack_layers};
 ghost use Rattle.settled.specs.Merges.{Merge};
 ghost use Rattle.settled.specs.Snaps.{Snap};
-ghost use Rattle.table.specs.declared.status.State.TheVariants.{Used};
+ghost use Rattle.table.specs.declared.status.StatusState.TheVariants.{Used};
 ghost use Rattle.volume.specs.Leaving.{is_quiet_of};
 ghost use Rattle.volume_commands.specs.Flying.{IsWhole};
 ghost use Rattle.volume_commands.specs.Rested.{is_loud_in};
@@ -16,7 +16,7 @@ use crate::sectors_of;
 use chunk_alloc::Usage;
 use layers::Stack;
 use plain::{Overflowing, SnapId};
-use table::State;
+use table::StatusState;
 use volume_commands::Resting;
 
 /// A look at whether the volume is quiet: one that is, and of which no device drops writes, is settled.
@@ -51,10 +51,10 @@ pub(crate) fn number_at(volume: &Resting<Stack>, k: usize) -> SnapId
 }
 
 /// What a status line says of a store in use.
-fn used(usage: Usage) -> State
+fn used(usage: Usage) -> StatusState
     ensures { result ≡ Used usage.allocated usage.total usage.metadata }
 {
-    State::Used {
+    StatusState::Used {
         allocated: usage.allocated,
         total: usage.total,
         metadata: usage.metadata,
@@ -62,18 +62,18 @@ fn used(usage: Usage) -> State
 }
 
 /// What its status line says of it, whatever is in flight.
-pub(crate) fn state_at(volume: &Resting<Stack>, k: usize) -> State
+pub(crate) fn state_at(volume: &Resting<Stack>, k: usize) -> StatusState
     requires { k < length volume.now.snaps }
     ensures settled { IsSettledIn volume.now → (d : Snap) → result ≡ state_of (get_or (settled_in volume.now).snaps k d) }
     ensures held { IsStateAt result k volume.now }
     ensures whole { IsWhole volume.now }
 {
     let usage = match volume.usage(k) {
-        None => return State::Invalid,
+        None => return StatusState::Invalid,
         Some(usage) => usage,
     };
     match volume.overflow(k) {
-        Overflowing::Did => State::Overflow,
+        Overflowing::Did => StatusState::Overflow,
         Overflowing::Never => used(usage),
         Overflowing::May => used(usage),
     }
@@ -96,7 +96,7 @@ pub(crate) fn merging_chunk(volume: &Resting<Stack>) -> Option<u32>
 }
 
 /// What the status line of the origin says of the merge.
-pub(crate) fn merging_state(volume: &Resting<Stack>) -> Option<State>
+pub(crate) fn merging_state(volume: &Resting<Stack>) -> Option<StatusState>
     ensures some { IfSome result (λ state. (g : Merge) × ((merged_inside volume.now).merge ≡ Some g) × (state ≡ merge_state g)) }
     ensures none { IfNone result ((merged_inside volume.now).merge ≡ None) }
 {
@@ -109,9 +109,9 @@ pub(crate) fn merging_state(volume: &Resting<Stack>) -> Option<State>
         Some(store) => store,
     };
     if volume.is_merge_failed() {
-        return Some(State::Failed);
+        return Some(StatusState::Failed);
     }
-    Some(State::Used {
+    Some(StatusState::Used {
         allocated: usage.allocated,
         total: u64::from(sectors_of(store)),
         metadata: usage.metadata,

@@ -1,20 +1,20 @@
 // Boards that one thread publishes and others read.
 ghost use Rattle.std.specs.Prelude.{◌≡◌, ◌<◌, ◌^◌, true};
 
+use between_threads::{Board, BoardPass, PlaceState, PlaceUsage};
 use std::test::Fail;
 use std::thread;
-use usage_board::{Board, Pass, State, Usage};
 
 // Publishes usages of more and more sectors.
-fn publish_all(board: &Board, mut pass: Pass, count: u64) -> Pass
+fn publish_all(board: &Board, mut pass: BoardPass, count: u64) -> BoardPass
     requires { (pass.board ≡ board.now) × (pass.publishes ≡ true) × (count < 2 ^ 28) }
     ensures { (result.board ≡ board.now) × (result.publishes ≡ true) }
 {
     for sectors in 0..count {
         board.publish(
             &mut pass,
-            Usage {
-                state: State::Good,
+            PlaceUsage {
+                state: PlaceState::Good,
                 allocated: sectors,
                 metadata: sectors,
             },
@@ -24,7 +24,7 @@ fn publish_all(board: &Board, mut pass: Pass, count: u64) -> Pass
 }
 
 // Reads so many times, and says whether each usage was whole and none came before the one that was read last.
-fn read_all(board: &Board, mut pass: Pass, count: u64) -> (Pass, bool)
+fn read_all(board: &Board, mut pass: BoardPass, count: u64) -> (BoardPass, bool)
     requires { pass.board ≡ board.now }
     ensures { result.0.board ≡ board.now }
 {
@@ -42,20 +42,20 @@ fn read_all(board: &Board, mut pass: Pass, count: u64) -> (Pass, bool)
 fn packs_a_usage_and_takes_it_apart(rt: HostRuntime) -> Result<(), Fail> {
     let most = (1 << 28) - 1;
     let words = [
-        (State::Good, 0, 0, 0),
-        (State::Good, 48, 16, 0x3_0000_0010),
-        (State::Invalid, 0, 0, 0x100_0000_0000_0000),
-        (State::MergeFailed, 1, 0, 0x200_0000_1000_0000),
-        (State::Overflow, 0, 1, 0x300_0000_0000_0001),
-        (State::Empty, most, most, 0x4FF_FFFF_FFFF_FFFF),
+        (PlaceState::Good, 0, 0, 0),
+        (PlaceState::Good, 48, 16, 0x3_0000_0010),
+        (PlaceState::Invalid, 0, 0, 0x100_0000_0000_0000),
+        (PlaceState::MergeFailed, 1, 0, 0x200_0000_1000_0000),
+        (PlaceState::Overflow, 0, 1, 0x300_0000_0000_0001),
+        (PlaceState::Empty, most, most, 0x4FF_FFFF_FFFF_FFFF),
     ];
     for (state, allocated, metadata, word) in words {
-        let usage = Usage {
+        let usage = PlaceUsage {
             state,
             allocated,
             metadata,
         };
-        assert!(rt; usage.to_word() == word && Usage::from_word(word) == usage);
+        assert!(rt; usage.to_word() == word && PlaceUsage::from_word(word) == usage);
     }
     Ok(())
 }
@@ -64,9 +64,9 @@ fn packs_a_usage_and_takes_it_apart(rt: HostRuntime) -> Result<(), Fail> {
 fn shows_what_was_published_last(rt: HostRuntime) -> Result<(), Fail> {
     let (board, mut publisher) = Board::new(rt.alloc())?;
     let mut reader = board.another(&mut publisher);
-    assert!(rt; board.read(&mut reader).state == State::Empty);
-    let spoiled = Usage {
-        state: State::Invalid,
+    assert!(rt; board.read(&mut reader).state == PlaceState::Empty);
+    let spoiled = PlaceUsage {
+        state: PlaceState::Invalid,
         allocated: 64,
         metadata: 2,
     };

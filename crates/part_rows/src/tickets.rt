@@ -1,8 +1,10 @@
 // Workers that take what others put, in one thread and in several.
 ghost use Rattle.std.specs.Prelude.{◌≡◌, ⊤};
-ghost use Rattle.copy_queue.specs.declared.ticket.PendingCopy.{PendingCopy};
+ghost use Rattle.between_threads.specs.declared.ticket.PendingCopy.{PendingCopy};
 
-use copy_queue::{Copies, Count, Ended, Gate, Pass, PendingCopy, Ticket, Tickets, work};
+use between_threads::{
+    Copies, Count, Gate, PendingCopy, Ticket, TicketPass, Tickets, WorkerEnd, work,
+};
 use std::alloc::{AllocError, Global};
 use std::sync::atomic::{AtomicU64, Ordering};
 use std::sync::{Arc, Wait};
@@ -34,7 +36,13 @@ struct Done {
 impl Copies for Done {
     ghost does = { λ before copy after. ⊤ };
 
-    fn copy<R: Wait>(&mut self, rt: &R, tickets: &Tickets, pass: &mut Pass, copy: PendingCopy) {
+    fn copy<R: Wait>(
+        &mut self,
+        rt: &R,
+        tickets: &Tickets,
+        pass: &mut TicketPass,
+        copy: PendingCopy,
+    ) {
         if self.gate.load(Ordering::SeqCst) == copy.count {
             self.gated = self.gated.saturating_add(1);
         }
@@ -111,10 +119,10 @@ fn a_worker_ends_at_the_word_to_stop(rt: HostRuntime) -> Result<(), Fail> {
     let third = tickets.put(&rt, &mut pass, numbered(7, 3));
     assert!(rt; first.is_ok() && second.is_ok() && stop.is_ok() && third.is_ok());
     let ended = work(&rt, &tickets, &mut pass, &gate, &mut done);
-    assert!(rt; ended == Ended::Stopped && done.gated == 2 && counts_to(&done.counts, 2));
+    assert!(rt; ended == WorkerEnd::Stopped && done.gated == 2 && counts_to(&done.counts, 2));
     let stop = tickets.put(&rt, &mut pass, Ticket::Stop);
     let ended = work(&rt, &tickets, &mut pass, &gate, &mut done);
-    assert!(rt; stop.is_ok() && ended == Ended::Stopped && counts_to(&done.counts, 3));
+    assert!(rt; stop.is_ok() && ended == WorkerEnd::Stopped && counts_to(&done.counts, 3));
     let last = tickets.take(&rt, &mut pass);
     assert!(rt; last == Some(numbered(8, 100)));
     tickets.settle(&mut pass);
@@ -122,7 +130,7 @@ fn a_worker_ends_at_the_word_to_stop(rt: HostRuntime) -> Result<(), Fail> {
 }
 
 // Puts a thousand tickets, counted, and two that say stop; then says how many were put.
-fn put_all<R: Wait>(rt: &R, tickets: &Tickets, mut pass: Pass) -> (Pass, u64)
+fn put_all<R: Wait>(rt: &R, tickets: &Tickets, mut pass: TicketPass) -> (TicketPass, u64)
     requires { pass.queue ≡ tickets.now }
     ensures { (result.0.queue ≡ tickets.now) × (result.0.parts ≡ pass.parts) }
 {
@@ -151,9 +159,9 @@ fn worked<R: Wait>(
     rt: &R,
     tickets: &Tickets,
     gate: &Counts,
-    mut pass: Pass,
+    mut pass: TicketPass,
     mut done: Done,
-) -> (Pass, Done, Ended)
+) -> (TicketPass, Done, WorkerEnd)
     requires { pass.queue ≡ tickets.now }
     ensures { (result.0.queue ≡ tickets.now) × (result.0.parts ≡ pass.parts) }
 {
@@ -166,20 +174,20 @@ fn beside<R: Threads + Wait + Sync>(
     rt: &R,
     tickets: &Tickets,
     gate: &Counts,
-    pass: Pass,
+    pass: TicketPass,
     done: Done,
-    putter: Pass,
-) -> ((Pass, Done, Ended), (Pass, u64))
+    putter: TicketPass,
+) -> ((TicketPass, Done, WorkerEnd), (TicketPass, u64))
     requires { (pass.queue ≡ tickets.now) × (putter.queue ≡ tickets.now) }
     ensures { (result.0.0.queue ≡ pass.queue) × (result.0.0.parts ≡ pass.parts) × (result.1.0.queue ≡ putter.queue) × (result.1.0.parts ≡ putter.parts) }
 {
     join(
         rt,
-        move || -> (Pass, Done, Ended)
+        move || -> (TicketPass, Done, WorkerEnd)
             requires { pass.queue ≡ tickets.now }
             ensures { (result.0.queue ≡ pass.queue) × (result.0.parts ≡ pass.parts) }
         { worked(rt, tickets, gate, pass, done) },
-        move || -> (Pass, u64)
+        move || -> (TicketPass, u64)
             requires { putter.queue ≡ tickets.now }
             ensures { (result.0.queue ≡ putter.queue) × (result.0.parts ≡ putter.parts) }
         { put_all(rt, tickets, putter) },
@@ -200,11 +208,11 @@ fn two_workers_do_what_is_put_once_each(rt: HostRuntime) -> Result<(), Fail> {
     let shared = &gate;
     let ((one, first, first_ended), ((other, second, second_ended), (putter, put))) = join(
         handle,
-        move || -> (Pass, Done, Ended)
+        move || -> (TicketPass, Done, WorkerEnd)
             requires { one.queue ≡ queue.now }
             ensures { (result.0.queue ≡ one.queue) × (result.0.parts ≡ one.parts) }
         { worked(handle, queue, shared, one, first) },
-        move || -> ((Pass, Done, Ended), (Pass, u64))
+        move || -> ((TicketPass, Done, WorkerEnd), (TicketPass, u64))
             requires { (other.queue ≡ queue.now) × (putter.queue ≡ queue.now) }
             ensures { (result.0.0.queue ≡ other.queue) × (result.0.0.parts ≡ other.parts) × (result.1.0.queue ≡ putter.queue) × (result.1.0.parts ≡ putter.parts) }
         { beside(handle, queue, shared, other, second, putter) },
@@ -214,7 +222,7 @@ fn two_workers_do_what_is_put_once_each(rt: HostRuntime) -> Result<(), Fail> {
     tickets.absorb(&mut pass, putter);
     tickets.settle(&mut pass);
     assert!(rt; put == 1002 && gate.sum.load(Ordering::SeqCst) == 500500);
-    assert!(rt; first_ended == Ended::Stopped && second_ended == Ended::Stopped);
+    assert!(rt; first_ended == WorkerEnd::Stopped && second_ended == WorkerEnd::Stopped);
     let all = sorted(first.counts, &second.counts)?;
     assert!(rt; counts_to(&all, 1000));
     Ok(())

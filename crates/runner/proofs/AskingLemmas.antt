@@ -5,8 +5,8 @@ use Rattle.sector.specs.declared.refusal.Refusal.{Refusal}
 use Rattle.sector.specs.declared.refusal.Refusal.TheVariants.{NoSuchDevice, OutOfRange, Busy, NotQuiet, NoMemory, Invalid, MergingSnapshot, Io, TooMany, BadTable, BadChunk, BadHeader, BadVersion, Damaged, StoreTooSmall, Stale, MergeInProgress, NotMerging, NotDue, JournalFull, ChunkMismatch, NotFinished, Overflow}
 use Rattle.command.specs.Line.{said_of}
 use Rattle.command.specs.declared.grammar.Command.{Command}
-use Rattle.reply.specs.declared.Reply.{Reply}
-use Rattle.reply.specs.declared.Reply.TheVariants.{Number, Refused}
+use Rattle.command.specs.declared.command_reply.CommandReply.{CommandReply}
+use Rattle.command.specs.declared.command_reply.CommandReply.TheVariants.{Number, Refused}
 use Rattle.plain.specs.declared.request.Replied.{Replied}
 use Rattle.command_rules.specs.State.{Table}
 use Rattle.runner.specs.Asking.{refusal_in, first_refusal, said_first, line_first, IsFirst}
@@ -51,12 +51,12 @@ same_still None p = tt
 same_still (Some e) p = p
 
 -- a request that is not started
-pub numbered_first : {A : Type 0} (asks : Result A Refusal) (call : Result ℕ Refusal) (reply : Result Reply Refusal) → IfErr asks (λ e. call ≡ Err e) → reply ≡ reworded Number call → IsFirst (refusal_in asks) (told (reworded Some reply))
+pub numbered_first : {A : Type 0} (asks : Result A Refusal) (call : Result ℕ Refusal) (reply : Result CommandReply Refusal) → IfErr asks (λ e. call ≡ Err e) → reply ≡ reworded Number call → IsFirst (refusal_in asks) (told (reworded Some reply))
 numbered_first (Ok x) call reply same is = tt
 numbered_first (Err e) call reply same is = inl (ap (λ r. told (reworded Some r)) (is ∙ ap (reworded Number) same))
 
 -- a line that says nothing
-pub silent_first : (line : List ℕ) (table : Table) (replies : List Reply) → said_of 65536 line ≡ Ok None → IsFirst (line_first line table) replies
+pub silent_first : (line : List ℕ) (table : Table) (replies : List CommandReply) → said_of 65536 line ≡ Ok None → IsFirst (line_first line table) replies
 unfolding line_first
 silent_first line table replies is =
     let P : Result (Option Command) Refusal → Type 0 = λ said. IsFirst (said_first table said) replies in subst P (sym is) tt
@@ -75,7 +75,7 @@ unfolding line_first
 command_first line command table is = sym (ap (said_first table) is)
 
 -- no request ended in such a line
-pub first_lines : (first : Option Refusal) (ended : List Replied) (own : Option Reply) → IsFirst first (answered own) → IfSome first (λ _. ended ≡ []) → IsFirst first (line_replies ended own)
+pub first_lines : (first : Option Refusal) (ended : List Replied) (own : Option CommandReply) → IsFirst first (answered own) → IfSome first (λ _. ended ≡ []) → IsFirst first (line_replies ended own)
 first_lines None ended own asks none = tt
 first_lines (Some e) ended own asks none =
     let P : List Replied → Type 0 = λ es. IsFirst (Some e) (line_replies es own) in subst P (sym none) asks

@@ -8,20 +8,20 @@ use Rattle.sector.specs.declared.refusal.Refusal.TheVariants.{NoMemory}
 use Rattle.command_rules.specs.State.{Table}
 use Rattle.block_run.specs.Answering.{AreAnswered}
 use Rattle.block_run.specs.Running.{IsOfBlock, IsTableRun, all_told, seat_in}
-use Rattle.reply.specs.declared.Reply.{Reply}
-use Rattle.reply.specs.declared.Reply.TheVariants.{Done, Refused}
-use Rattle.reply.specs.Texts.{text_of}
+use Rattle.command.specs.declared.command_reply.CommandReply.{CommandReply}
+use Rattle.command.specs.declared.command_reply.CommandReply.TheVariants.{Done, Refused}
+use Rattle.command.specs.Texts.{text_of}
 use Rattle.runner.specs.declared.summary.Summary.{Summary}
 use Rattle.runner.specs.Counts.{with_reply}
 use Rattle.command.specs.Blocks.{Lines}
 use Rattle.block_run.specs.Looking.{block_refusal}
-use Rattle.runner.specs.Output.{Outcome, Standing, counted, followed, printed}
+use Rattle.runner.specs.Output.{LineOutcome, Standing, counted, followed, printed}
 use Rattle.runner.specs.Sessions.{IsBlockBy, IsBlockDone, refuses}
 use Rattle.runner.proofs.AskingLemmas.{memory_or_not}
 use Rattle.runner.proofs.EndedLemmas.{both_printed, counted_append, one_printed}
 
 -- one reply more is printed
-pub reply_printed : (before mid after : Option (List ℕ)) (replies : List Reply) (reply : Reply) → Appends before mid (printed replies) → Appends mid after (text_of reply) → Appends before after (printed (replies ++ reply ∷ []))
+pub reply_printed : (before mid after : Option (List ℕ)) (replies : List CommandReply) (reply : CommandReply) → Appends before mid (printed replies) → Appends mid after (text_of reply) → Appends before after (printed (replies ++ reply ∷ []))
 reply_printed before mid after replies reply was is = both_printed before mid after replies (reply ∷ []) was (one_printed mid after reply is)
 
 -- a block that is refused
@@ -40,18 +40,18 @@ refused_block block first old new e why stays run = elim (memory_or_not e) [
     told (Some f) stays is = inl (ap (refuses e) stays ∙ ap (λ r. refuses r old) (let same : e ≡ f = cc in same))
 
 -- a block that was run
-pub run_block : (block : Lines) (first : Option Refusal) (old new : Table) (told : List Reply) → first ≡ None → All IsOfBlock told → map seat_in told ≡ all_told block → AreAnswered block old new told → IsTableRun block.lines old new → IsBlockBy block first old (record { replies = told ++ Done ∷ []; table = new })
+pub run_block : (block : Lines) (first : Option Refusal) (old new : Table) (told : List CommandReply) → first ≡ None → All IsOfBlock told → map seat_in told ≡ all_told block → AreAnswered block old new told → IsTableRun block.lines old new → IsBlockBy block first old (record { replies = told ++ Done ∷ []; table = new })
 run_block block first old new told none all seats answers run =
     let P : Option Refusal → Type 0 = λ f. IsBlockBy block f old (record { replies = told ++ Done ∷ []; table = new }) in
     subst P (sym none) (record { told = inl (told, all, seats, answers, refl); table = run })
 
 -- its answers and `ok` are counted
-pub run_counted : (told : List Reply) (s : Summary) → with_reply Done (counted told s) ≡ counted (told ++ Done ∷ []) s
+pub run_counted : (told : List CommandReply) (s : Summary) → with_reply Done (counted told s) ≡ counted (told ++ Done ∷ []) s
 run_counted told s = sym (counted_append told (Done ∷ []) s)
 
 -- what a block that is refused did, as its desk shows it
-pub block_refused : (block : Lines) (old now : Standing) (was new : Table) (summary : Summary) (e : Refusal) (P : List Reply → Type 0) → old ≡ record { table = was; summary = summary } → (e ≢ NoMemory → block_refusal block was ≡ Some e) → IfSome (block_refusal block was) (λ _. new ≡ was) → IsTableRun block.lines was new → now ≡ followed (record { table = new; summary = summary }) (refuses e new) → P (Refused e ∷ [])
-    → (done : Outcome) × IsBlockDone block old.table done × (now ≡ followed old done) × P done.replies
+pub block_refused : (block : Lines) (old now : Standing) (was new : Table) (summary : Summary) (e : Refusal) (P : List CommandReply → Type 0) → old ≡ record { table = was; summary = summary } → (e ≢ NoMemory → block_refusal block was ≡ Some e) → IfSome (block_refusal block was) (λ _. new ≡ was) → IsTableRun block.lines was new → now ≡ followed (record { table = new; summary = summary }) (refuses e new) → P (Refused e ∷ [])
+    → (done : LineOutcome) × IsBlockDone block old.table done × (now ≡ followed old done) × P done.replies
 block_refused block old now was new summary e P view why stays run is last =
     let D : Table → Type 0 = λ t. IsBlockDone block t (refuses e new) in (
       refuses e new,
@@ -61,8 +61,8 @@ block_refused block old now was new summary e P view why stays run is last =
     )
 
 -- and of one that was run
-pub block_ran : (block : Lines) (old : Standing) (was new : Table) (summary now : Summary) (told : List Reply) (P : List Reply → Type 0) → old ≡ record { table = was; summary = summary } → block_refusal block was ≡ None → All IsOfBlock told → map seat_in told ≡ all_told block → AreAnswered block was new told → IsTableRun block.lines was new → now ≡ with_reply Done (counted told summary) → P (told ++ Done ∷ [])
-    → (done : Outcome) × IsBlockDone block old.table done × (record { table = new; summary = now } ≡ followed old done) × P done.replies
+pub block_ran : (block : Lines) (old : Standing) (was new : Table) (summary now : Summary) (told : List CommandReply) (P : List CommandReply → Type 0) → old ≡ record { table = was; summary = summary } → block_refusal block was ≡ None → All IsOfBlock told → map seat_in told ≡ all_told block → AreAnswered block was new told → IsTableRun block.lines was new → now ≡ with_reply Done (counted told summary) → P (told ++ Done ∷ [])
+    → (done : LineOutcome) × IsBlockDone block old.table done × (record { table = new; summary = now } ≡ followed old done) × P done.replies
 block_ran block old was new summary now told P view none all seats answers run counts last =
     let D : Table → Type 0 = λ t. IsBlockDone block t (record { replies = told ++ Done ∷ []; table = new }) in (
       record { replies = told ++ Done ∷ []; table = new },

@@ -3,8 +3,8 @@ use Rattle.std.proofs.Common.{◌≡◌, ℕ, List, [], ◌∷◌, Option, Some,
 use Rattle.std.specs.Prelude.{Bool, Ok, Err, IfSome}
 use Rattle.std.proofs.lemmas.Bool.{cases_Bool}
 use Rattle.sector.specs.declared.refusal.Refusal.{Refusal}
-use Rattle.reply.specs.declared.Reply.{Reply}
-use Rattle.reply.specs.declared.Reply.TheVariants.{Refused}
+use Rattle.command.specs.declared.command_reply.CommandReply.{CommandReply}
+use Rattle.command.specs.declared.command_reply.CommandReply.TheVariants.{Refused}
 use Rattle.plain.specs.declared.request.Replied.{Replied}
 use Rattle.runner.specs.declared.summary.Summary.{Summary}
 use Rattle.settled.specs.Refusals.{is_starved}
@@ -17,7 +17,7 @@ use Rattle.runner.specs.Wants.{enters_line}
 use Rattle.runner.specs.Starts.{AreStartReplies, starts_line}
 use Rattle.runner.specs.Counts.{with_lines}
 use Rattle.runner.specs.Ended.{line_replies}
-use Rattle.runner.specs.Output.{Outcome, Standing, answered, counted, empty, outcome, outcome_of, IsStarved, MayBe, followed}
+use Rattle.runner.specs.Output.{LineOutcome, Standing, answered, counted, empty, outcome, outcome_of, IsStarved, MayBe, followed}
 use Rattle.runner.specs.Done.{IsLineDone, IsToldFor}
 use Rattle.runner.specs.Ruled.{is_ruled_line}
 use Rattle.runner.specs.Shown.{IsLineShown}
@@ -26,7 +26,7 @@ use Rattle.runner.proofs.EndedLemmas.{all_lines_counted}
 use Rattle.runner.proofs.AskingLemmas.{memory_or_not}
 
 -- a line that was done has its outcome
-pub may_ok : (line : List ℕ) (old new : Table) (reply : Option Reply) → ServesIf (enters_line line) (Ok reply) new (IsStarved line old) (answer_of line old) → MayBe line old (record { replies = answered reply; table = new })
+pub may_ok : (line : List ℕ) (old new : Table) (reply : Option CommandReply) → ServesIf (enters_line line) (Ok reply) new (IsStarved line old) (answer_of line old) → MayBe line old (record { replies = answered reply; table = new })
 unfolding outcome_of
 may_ok line old new reply is = inl (sym (ap outcome (by (enters_line line) is)))
   where
@@ -39,7 +39,7 @@ pub may_err : (line : List ℕ) (old new : Table) (e : Refusal) → ServesIf (en
 unfolding outcome_of
 may_err line old new e is = by (enters_line line) refl is
   where
-    done : Outcome
+    done : LineOutcome
     done = record { replies = Refused e ∷ []; table = new }
 
     by : (enters : Bool) → enters_line line ≡ enters → ServesIf enters (Err e) new (IsStarved line old) (answer_of line old) → MayBe line old done
@@ -56,18 +56,18 @@ may_err line old new e is = by (enters_line line) refl is
     ]
 
 -- what a line answers where no request ended in it
-none_ended : (P : List Reply → Type 0) (ended : List Replied) (own : Option Reply) → ended ≡ [] → P (answered own) → P (line_replies ended own)
+none_ended : (P : List CommandReply → Type 0) (ended : List Replied) (own : Option CommandReply) → ended ≡ [] → P (answered own) → P (line_replies ended own)
 none_ended P ended own none is = subst (λ e. P (line_replies e own)) (sym none) is
 
 -- a line that starts a request answers that alone
-pub start_alone : (line : List ℕ) (ended : List Replied) (own : Option Reply) → (starts_line line ≡ true → AreStartReplies (answered own)) → (starts_line line ≡ true → ended ≡ []) → starts_line line ≡ true → AreStartReplies (line_replies ended own)
+pub start_alone : (line : List ℕ) (ended : List Replied) (own : Option CommandReply) → (starts_line line ≡ true → AreStartReplies (answered own)) → (starts_line line ≡ true → ended ≡ []) → starts_line line ≡ true → AreStartReplies (line_replies ended own)
 start_alone line ended own number none does =
     let P : List Replied → Type 0 = λ es. AreStartReplies (line_replies es own) in subst P (sym (none does)) (number does)
 
 -- what a line did, as its desk shows it
-pub line_done : (line : List ℕ) (old : Standing) (was table : Table) (summary now : Summary) (ended : List Replied) (own : Option Reply) (P : List Reply → Type 0) → old ≡ record { table = was; summary = summary } → (is_ruled_line line was ≡ true → MayBe line was (record { replies = answered own; table = table })) → (is_ruled_line line was ≡ true → IsLineShown line was (record { replies = answered own; table = table })) → (is_ruled_line line was ≡ true → ended ≡ [])
+pub line_done : (line : List ℕ) (old : Standing) (was table : Table) (summary now : Summary) (ended : List Replied) (own : Option CommandReply) (P : List CommandReply → Type 0) → old ≡ record { table = was; summary = summary } → (is_ruled_line line was ≡ true → MayBe line was (record { replies = answered own; table = table })) → (is_ruled_line line was ≡ true → IsLineShown line was (record { replies = answered own; table = table })) → (is_ruled_line line was ≡ true → ended ≡ [])
     → IsFirst (line_first line was) (line_replies ended own) → IfSome (line_first line was) (λ _. table ≡ was) → (starts_line line ≡ true → AreStartReplies (line_replies ended own)) → IsToldFor line was (record { replies = line_replies ended own; table = table }) → now ≡ counted (line_replies ended own) summary → P (line_replies ended own)
-    → (done : Outcome) × IsLineDone line old.table done × (record { table = table; summary = now } ≡ followed old done) × P done.replies
+    → (done : LineOutcome) × IsLineDone line old.table done × (record { table = table; summary = now } ≡ followed old done) × P done.replies
 line_done line old was table summary now ended own P view may shown none asks stays number told is last =
     let replies = line_replies ended own in
     let same : was ≡ old.table = sym (ap (λ (s : Standing). s.table) view) in
@@ -87,7 +87,7 @@ line_done line old was table summary now ended own P view may shown none asks st
     )
 
 -- the lines of requests that ended, and a line's own answer, counted
-pub line_counted : (summary lines now : Summary) (count : ℕ) (ended : List Replied) (own : Option Reply) → summary.lines < 2 ^ 64 → count ≡ length ended → lines ≡ with_lines count summary → now ≡ counted (answered own) lines → now ≡ counted (line_replies ended own) summary
+pub line_counted : (summary lines now : Summary) (count : ℕ) (ended : List Replied) (own : Option CommandReply) → summary.lines < 2 ^ 64 → count ≡ length ended → lines ≡ with_lines count summary → now ≡ counted (answered own) lines → now ≡ counted (line_replies ended own) summary
 line_counted summary lines now count ended own small size are is =
     is ∙ ap (counted (answered own)) (are ∙ ap (λ n. with_lines n summary) size) ∙ sym (all_lines_counted ended own summary small)
 

@@ -5,8 +5,8 @@ use Rattle.std.proofs.lemmas.Grind.{flat_map-append}
 use Rattle.std.proofs.lemmas.List.{append-nil, map-append}
 use Rattle.std.proofs.lemmas.List.Concat.{flat_map-cons}
 use Rattle.words.proofs.Written.{appends_more}
-use Rattle.reply.specs.declared.Reply.{Reply}
-use Rattle.reply.specs.Texts.{text_of}
+use Rattle.command.specs.declared.command_reply.CommandReply.{CommandReply}
+use Rattle.command.specs.Texts.{text_of}
 use Rattle.plain.specs.declared.request.Replied.{Replied}
 use Rattle.runner.specs.declared.summary.Summary.{Summary}
 use Rattle.runner.specs.Counts.{capped, with_lines, with_reply}
@@ -14,14 +14,14 @@ use Rattle.runner.specs.Ended.{ended_line, ended_lines, line_replies}
 use Rattle.runner.specs.Output.{answered, counted, printed}
 
 -- one reply is printed
-pub one_printed : (before after : Option (List ℕ)) (reply : Reply) → Appends before after (text_of reply) → Appends before after (printed (reply ∷ []))
+pub one_printed : (before after : Option (List ℕ)) (reply : CommandReply) → Appends before after (text_of reply) → Appends before after (printed (reply ∷ []))
 one_printed before after reply more =
     let text : printed (reply ∷ []) ≡ text_of reply = flat_map-cons text_of reply [] ∙ append-nil (text_of reply) in
     let P : List ℕ → Type 0 = λ bytes. Appends before after bytes in
     subst P (sym text) more
 
 -- more replies are printed after others
-pub both_printed : (before mid after : Option (List ℕ)) (replies more : List Reply) → Appends before mid (printed replies) → Appends mid after (printed more) → Appends before after (printed (replies ++ more))
+pub both_printed : (before mid after : Option (List ℕ)) (replies more : List CommandReply) → Appends before mid (printed replies) → Appends mid after (printed more) → Appends before after (printed (replies ++ more))
 both_printed before mid after replies more was is =
     let P : List ℕ → Type 0 = λ bytes. Appends before after bytes in
     subst P (sym (flat_map-append text_of replies more)) (appends_more before mid after (printed replies) (printed more) was is)
@@ -39,15 +39,15 @@ none_ended (Some xs) = sym (append-nil xs)
 -- one request more that ended
 pub ended_more : (before mid after : Option (List ℕ)) (ended : List Replied) (replied : Replied) → Appends before mid (printed (ended_lines ended)) → Appends mid after (text_of (ended_line replied)) → Appends before after (printed (ended_lines (ended ++ replied ∷ [])))
 ended_more before mid after ended replied was is =
-    let P : List Reply → Type 0 = λ replies. Appends before after (printed replies) in
+    let P : List CommandReply → Type 0 = λ replies. Appends before after (printed replies) in
     subst P (sym (map-append ended_line ended (replied ∷ []))) (both_printed before mid after (ended_lines ended) (ended_line replied ∷ []) was (one_printed mid after (ended_line replied) is))
 
 -- a command without a line of its own
 pub none_own : (before after : Option (List ℕ)) (ended : List Replied) → Appends before after (printed (ended_lines ended)) → Appends before after (printed (line_replies ended None))
-none_own before after ended was = let P : List Reply → Type 0 = λ replies. Appends before after (printed replies) in subst P (sym (append-nil (ended_lines ended))) was
+none_own before after ended was = let P : List CommandReply → Type 0 = λ replies. Appends before after (printed replies) in subst P (sym (append-nil (ended_lines ended))) was
 
 -- a command's own line
-pub own_printed : (before mid after : Option (List ℕ)) (ended : List Replied) (reply : Reply) → Appends before mid (printed (ended_lines ended)) → Appends mid after (text_of reply) → Appends before after (printed (line_replies ended (Some reply)))
+pub own_printed : (before mid after : Option (List ℕ)) (ended : List Replied) (reply : CommandReply) → Appends before mid (printed (ended_lines ended)) → Appends mid after (text_of reply) → Appends before after (printed (line_replies ended (Some reply)))
 own_printed before mid after ended reply was is = both_printed before mid after (ended_lines ended) (reply ∷ []) was (one_printed mid after reply is)
 
 -- each line of a request that ended is counted as a line alone
@@ -60,10 +60,10 @@ ended_counted (replied ∷ ended) s small =
     let sum : capped (capped (s.lines + 1) + length ended) ≡ capped (s.lines + length (replied ∷ ended)) = omega arith in
     ended_counted ended (with_reply (ended_line replied) s) one ∙ ap (λ n. record s { lines = n }) sum
 
-pub counted_append : (replies more : List Reply) (s : Summary) → counted (replies ++ more) s ≡ counted more (counted replies s)
+pub counted_append : (replies more : List CommandReply) (s : Summary) → counted (replies ++ more) s ≡ counted more (counted replies s)
 counted_append [] more s = refl
 counted_append (reply ∷ replies) more s = counted_append replies more (with_reply reply s)
 
 -- all that a line answers is counted
-pub all_lines_counted : (ended : List Replied) (own : Option Reply) (s : Summary) → s.lines < 2 ^ 64 → counted (line_replies ended own) s ≡ counted (answered own) (with_lines (length ended) s)
+pub all_lines_counted : (ended : List Replied) (own : Option CommandReply) (s : Summary) → s.lines < 2 ^ 64 → counted (line_replies ended own) s ≡ counted (answered own) (with_lines (length ended) s)
 all_lines_counted ended own s small = counted_append (ended_lines ended) (answered own) s ∙ ap (counted (answered own)) (ended_counted ended s small)

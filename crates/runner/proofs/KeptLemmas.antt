@@ -13,13 +13,13 @@ use Rattle.command.specs.Blocks.{Lines, ends_block, with_line, with_said}
 use Rattle.command.specs.Lines.{ends_with, said_in}
 use Rattle.command.specs.Opening.{has_par, is_par}
 use Rattle.plain.specs.declared.request.Replied.{Replied}
-use Rattle.reply.specs.declared.Reply.{Reply}
+use Rattle.command.specs.declared.command_reply.CommandReply.{CommandReply}
 use Rattle.command_rules.specs.State.{Table}
 use Rattle.command_arrays.specs.Arrays.{arrays_in}
 use Rattle.runner.specs.Asking.{IsFirst, line_first, said_first}
 use Rattle.runner.specs.Done.{IsLineDone, IsToldFor}
 use Rattle.runner.specs.Left.{IsLeftSaid, IsLineLeft}
-use Rattle.runner.specs.Output.{IsPartSaid, IsStarved, MayBe, Outcome, outcome, outcome_of}
+use Rattle.runner.specs.Output.{IsPartSaid, IsStarved, MayBe, LineOutcome, outcome, outcome_of}
 use Rattle.runner.specs.Ruled.{is_ruled_line, is_ruled_said}
 use Rattle.runner.specs.Runs.{IsNext}
 use Rattle.runner.specs.Sessions.{IsSessionDone, IsTaken, Sitting}
@@ -43,7 +43,7 @@ enters_alike : (line kept : List ℕ) → said_of 65536 kept ≡ said_of 65536 l
 unfolding enters_line
 enters_alike line kept same = ap enters_said same
 
-may_alike : (line kept : List ℕ) (table : Table) (done : Outcome) → said_of 65536 kept ≡ said_of 65536 line → MayBe kept table done → MayBe line table done
+may_alike : (line kept : List ℕ) (table : Table) (done : LineOutcome) → said_of 65536 kept ≡ said_of 65536 line → MayBe kept table done → MayBe line table done
 may_alike line kept table done same (inl is) = inl (is ∙ outcome_alike line kept table same)
 may_alike line kept table done same (inr (inl is)) = inr (inl (is.0, starved_alike line kept table done.table same is.1))
 may_alike line kept table done same (inr (inr is)) = inr (inr (sym (enters_alike line kept same) ∙ is.0, is.1, starved_alike line kept table done.table same is.2))
@@ -52,7 +52,7 @@ ruled_alike : (line kept : List ℕ) (table : Table) → said_of 65536 kept ≡ 
 unfolding is_ruled_line
 ruled_alike line kept table same = ap (is_ruled_said table) same
 
-shown_alike : (line kept : List ℕ) (table : Table) (done : Outcome) → said_of 65536 kept ≡ said_of 65536 line → IsLineShown kept table done → IsLineShown line table done
+shown_alike : (line kept : List ℕ) (table : Table) (done : LineOutcome) → said_of 65536 kept ≡ said_of 65536 line → IsLineShown kept table done → IsLineShown line table done
 unfolding IsLineShown
 shown_alike line kept table done same shown =
     let P : Result (Option Command) Refusal → Type 0 = λ said. IsSaidShown said table (answer_in done.replies) (arrays_in table) (arrays_in done.table) in subst P same shown
@@ -69,13 +69,13 @@ sound_alike : (line kept : List ℕ) → said_of 65536 kept ≡ said_of 65536 li
 unfolding is_sound_line
 sound_alike line kept same = ap is_sound_said same
 
-left_alike : (line kept : List ℕ) (own : Result (Option Reply) Refusal) (old new : Table) (before after : List Replied) → said_of 65536 kept ≡ said_of 65536 line → IsLineLeft kept own old new before after → IsLineLeft line own old new before after
+left_alike : (line kept : List ℕ) (own : Result (Option CommandReply) Refusal) (old new : Table) (before after : List Replied) → said_of 65536 kept ≡ said_of 65536 line → IsLineLeft kept own old new before after → IsLineLeft line own old new before after
 unfolding IsLineLeft
 left_alike line kept own old new before after same (inl starved) = inl starved
 left_alike line kept own old new before after same (inr left) =
     let P : Result (Option Command) Refusal → Type 0 = λ said. IsLeftSaid said own old new before after in inr (subst P same left)
 
-told_alike : (line kept : List ℕ) (table : Table) (done : Outcome) → said_of 65536 kept ≡ said_of 65536 line → IsToldFor kept table done → IsToldFor line table done
+told_alike : (line kept : List ℕ) (table : Table) (done : LineOutcome) → said_of 65536 kept ≡ said_of 65536 line → IsToldFor kept table done → IsToldFor line table done
 told_alike line kept table done same is = record {
   ended = is.ended;
   own = is.own;
@@ -83,7 +83,7 @@ told_alike line kept table done same is = record {
   left = left_alike line kept is.own table done.table [] is.ended same is.left;
 }
 
-line_alike : (line kept : List ℕ) (table : Table) (done : Outcome) → said_of 65536 kept ≡ said_of 65536 line → IsLineDone kept table done → IsLineDone line table done
+line_alike : (line kept : List ℕ) (table : Table) (done : LineOutcome) → said_of 65536 kept ≡ said_of 65536 line → IsLineDone kept table done → IsLineDone line table done
 line_alike line kept table done same is =
     let First : Option Refusal → Type 0 = λ first. IsFirst first done.replies in
     let Stays : Option Refusal → Type 0 = λ first. IfSome first (λ _. done.table ≡ table) in
@@ -122,7 +122,7 @@ long_taken : (line kept : List ℕ) (block : Lines) (now : Option Lines) → 655
 long_taken line kept block now long more (after, is, inl starved) = (after, is, inl starved)
 long_taken line kept block now long more (after, is, inr said) = (after, is, inr (said ∙ long_with line kept block long more))
 
-long_done : (line kept : List ℕ) (old new : Sitting) (done : Outcome) → 65536 < length line → 65536 < length kept → said_of 65536 kept ≡ said_of 65536 line → IsSessionDone kept old new done → IsSessionDone line old new done
+long_done : (line kept : List ℕ) (old new : Sitting) (done : LineOutcome) → 65536 < length line → 65536 < length kept → said_of 65536 kept ≡ said_of 65536 line → IsSessionDone kept old new done → IsSessionDone line old new done
 long_done line kept old new done long more same is = record {
   command = λ none alone. let did = is.command none (long_opens kept more) in (did.0, line_alike line kept old.desk.table done same did.1);
   opens = λ none par. true_false _ (is_par 65536 line) (long_opens line long) par;
@@ -131,7 +131,7 @@ long_done line kept old new done long more same is = record {
 }
 
 -- so what is kept of a line decides what it does
-pub next_kept : (line kept : List ℕ) (old new : Sitting) (done : Outcome) → IsKept 65536 line kept → IsNext kept old new done → IsNext line old new done
+pub next_kept : (line kept : List ℕ) (old new : Sitting) (done : LineOutcome) → IsKept 65536 line kept → IsNext kept old new done → IsNext line old new done
 next_kept line kept old new done keeps is = elim (cases_lt 65536 (length line)) [
   | inl more ↦ (
       let same = said_kept 65536 line kept keeps.0 keeps.1 in

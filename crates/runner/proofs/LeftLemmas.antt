@@ -5,12 +5,12 @@ use Rattle.sector.specs.declared.refusal.Refusal.{Refusal}
 use Rattle.sector.specs.declared.refusal.Refusal.TheVariants.{NoMemory}
 use Rattle.command.specs.Line.{said_of}
 use Rattle.command.specs.declared.grammar.Command.{Command}
-use Rattle.reply.specs.declared.Reply.{Reply}
+use Rattle.command.specs.declared.command_reply.CommandReply.{CommandReply}
 use Rattle.plain.specs.declared.request.Replied.{Replied}
 use Rattle.command_rules.specs.State.{Table}
 use Rattle.runner.specs.Asking.{refusal_in, IsFirst}
 use Rattle.runner.specs.Ended.{ended_lines, line_replies}
-use Rattle.command.specs.declared.events.Event.{Event}
+use Rattle.command.specs.declared.events.EventWords.{EventWords}
 use Rattle.named_devices.specs.Devices.{KeepsOthers}
 use Rattle.runner.specs.Left.{IsLeft, IsLeftSaid, IsLineLeft, IsStepLeft}
 use Rattle.runner.specs.Output.{answered, told}
@@ -19,7 +19,7 @@ use Rattle.runner.specs.Steps.{reworded}
 use Rattle.runner.proofs.AskingLemmas.{memory_or_not}
 
 -- a command that is refused before its volume is asked
-pub worded_asked : {A B : Type 0} (words : B → Reply) (asks : Result A Refusal) (call : Result B Refusal) (reply : Result Reply Refusal) → IfErr asks (λ e. call ≡ Err e) → reply ≡ reworded words call → IsFirst (refusal_in asks) (told (reworded Some reply))
+pub worded_asked : {A B : Type 0} (words : B → CommandReply) (asks : Result A Refusal) (call : Result B Refusal) (reply : Result CommandReply Refusal) → IfErr asks (λ e. call ≡ Err e) → reply ≡ reworded words call → IsFirst (refusal_in asks) (told (reworded Some reply))
 worded_asked words (Ok x) call reply same is = tt
 worded_asked words (Err e) call reply same is = inl (ap (λ r. told (reworded Some r)) (is ∙ ap (reworded words) same))
 
@@ -52,13 +52,13 @@ worded_left line table ended e is = elim (memory_or_not e) [
 ]
 
 -- and one that says a command
-pub command_left : (line : List ℕ) (command : Command) (own : Result Reply Refusal) (old new : Table) (before after : List Replied) → said_of 65536 line ≡ Ok (Some command) → IsLeft command own old new before after → IsLineLeft line (reworded Some own) old new before after
+pub command_left : (line : List ℕ) (command : Command) (own : Result CommandReply Refusal) (old new : Table) (before after : List Replied) → said_of 65536 line ≡ Ok (Some command) → IsLeft command own old new before after → IsLineLeft line (reworded Some own) old new before after
 unfolding IsLineLeft
 command_left line command own old new before after is left =
     let P : Result (Option Command) Refusal → Type 0 = λ said. IsLeftSaid said (reworded Some own) old new before after in inr (subst P (sym is) (own, refl, left))
 
 -- what a line answers is told by its desk, after the lines of the requests that ended
-pub told_for : (line : List ℕ) (old new : Table) (before ended : List Replied) (own : Option Reply) (answer : Result (Option Reply) Refusal) → before ≡ [] → answered own ≡ told answer → IsLineLeft line answer old new before ended → IsToldFor line old (record { replies = line_replies ended own; table = new })
+pub told_for : (line : List ℕ) (old new : Table) (before ended : List Replied) (own : Option CommandReply) (answer : Result (Option CommandReply) Refusal) → before ≡ [] → answered own ≡ told answer → IsLineLeft line answer old new before ended → IsToldFor line old (record { replies = line_replies ended own; table = new })
 told_for line old new before ended own answer none is left =
     let P : List Replied → Type 0 = λ es. IsLineLeft line answer old new es ended in
     record {
@@ -69,7 +69,7 @@ told_for line old new before ended own answer none is left =
     }
 
 -- an event for whose reply there is no memory
-pub step_starved : (volume : List ℕ) (event : Event) (answer : Result Reply Refusal) (table : Table) (before after : List Replied) → answer ≡ Err NoMemory → after ≡ before → IsStepLeft volume event answer table table before after
+pub step_starved : (volume : List ℕ) (event : EventWords) (answer : Result CommandReply Refusal) (table : Table) (before after : List Replied) → answer ≡ Err NoMemory → after ≡ before → IsStepLeft volume event answer table table before after
 unfolding KeepsOthers
 step_starved volume event answer table before after is same = record {
   outcome = Err NoMemory;

@@ -5,7 +5,7 @@ use Rattle.std.specs.Prelude.{Result, Ok, Err, not, ◌&&◌}
 use Rattle.sector.specs.declared.refusal.Refusal.{Refusal}
 use Rattle.words.proofs.Bools.{and-join, and-split}
 use Rattle.command.specs.Line.{said_of}
-use Rattle.command.specs.declared.events.Event.{Event}
+use Rattle.command.specs.declared.events.EventWords.{EventWords}
 use Rattle.command.specs.declared.grammar.Command.{Command}
 use Rattle.command.specs.declared.grammar.Command.TheVariants as commands
 use Rattle.command_rules.specs.Events.{is_merge_event}
@@ -64,5 +64,5 @@ quiet_too (Err e) sound = refl
 quiet_too (Ok volume) sound = (and-split volume.sound volume.quiet sound).1
 
 -- a single event that has its rule is none of a merge
-pub step_ruled : (event : Event) (quiet : Bool) → (not (is_merge_event event) && quiet) ≡ true → (is_merge_event event ≡ false) × (quiet ≡ true)
+pub step_ruled : (event : EventWords) (quiet : Bool) → (not (is_merge_event event) && quiet) ≡ true → (is_merge_event event ≡ false) × (quiet ≡ true)
 step_ruled event quiet ruled = let both = and-split (not (is_merge_event event)) quiet ruled in (not_true (is_merge_event event) both.0, both.1)

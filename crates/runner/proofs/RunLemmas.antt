@@ -10,8 +10,8 @@ use Rattle.words.proofs.Written.{appends_more}
 use Rattle.words.specs.Lines.{left, lines_of, ReadsLine}
 use Rattle.command.specs.Blocks.{Lines}
 use Rattle.command.specs.Opening.{is_par}
-use Rattle.reply.specs.declared.Reply.{Reply}
-use Rattle.reply.specs.Texts.{text_of}
+use Rattle.command.specs.declared.command_reply.CommandReply.{CommandReply}
+use Rattle.command.specs.Texts.{text_of}
 use Rattle.runner.specs.declared.error.RunError.{RunError}
 use Rattle.runner.specs.declared.summary.Summary.{Summary}
 use Rattle.runner.specs.declared.error.RunError.TheVariants.{Memory, Read, Write, Endless}
@@ -22,20 +22,20 @@ use Rattle.runner.specs.Runs.{AreDone, IsNext, IsTextBegun, IsTextDone, begun}
 use Rattle.runner.specs.Sessions.{IsEndedBy, Sitting}
 use Rattle.runner.specs.Sound.{is_alone_line, is_sound_line, are_sound_lines, is_sound_text}
 use Rattle.runner.specs.Counts.{summary_of, refuses_with}
-use Rattle.runner.specs.Output.{Outcome, Standing, outcome_of, replies_from, replies_of, output_of, printed, empty, MayAnswer, counted, followed}
+use Rattle.runner.specs.Output.{LineOutcome, Standing, outcome_of, replies_from, replies_of, output_of, printed, empty, MayAnswer, counted, followed}
 use Rattle.runner.proofs.CountLemmas.{all_counted, count_append, none_counted, none_full}
 use Rattle.runner.proofs.KeptLemmas.{next_kept}
 use Rattle.runner.proofs.RuledLemmas.{line_ruled}
 
 -- the lines so far were done, where the bytes of the text are known
-abbrev pub IsOn : Option (List ℕ) → Option (List ℕ) → Sitting → List Reply → Type 0
+abbrev pub IsOn : Option (List ℕ) → Option (List ℕ) → Sitting → List CommandReply → Type 0
 IsOn None left sitting replies = Unit {0}
 IsOn (Some text) None sitting replies = ⊥
 IsOn (Some text) (Some left) sitting replies = (first : List (List ℕ)) × (lines_of text ≡ first ++ lines_of left) × AreDone begun first replies sitting
 
 -- and their replies were printed and counted
 abbrev pub Follows : Option (List ℕ) → Option (List ℕ) → Option (List ℕ) → Option (List ℕ) → Sitting → Type 0
-Follows text left before now sitting = (replies : List Reply)
+Follows text left before now sitting = (replies : List CommandReply)
     × Appends before now (printed replies) × (sitting.desk.summary ≡ summary_of replies) × IsOn text left sitting replies
 
 pub nothing_written : (before : Option (List ℕ)) → Appends before before []
@@ -62,17 +62,17 @@ starts_ahead text before ahead sitting none is =
     subst P (sym (none_ahead ahead text none)) (starts text before sitting is)
 
 -- one line more
-one_done : (old new : Sitting) (line : List ℕ) (replies : List Reply) (mid : Sitting) (done : Outcome) → replies ≡ [] → mid ≡ old → IsNext line mid new done → AreDone old (line ∷ []) (replies ++ done.replies) new
+one_done : (old new : Sitting) (line : List ℕ) (replies : List CommandReply) (mid : Sitting) (done : LineOutcome) → replies ≡ [] → mid ≡ old → IsNext line mid new done → AreDone old (line ∷ []) (replies ++ done.replies) new
 one_done old new line replies mid done none same is =
     let P : Sitting → Type 0 = λ s. IsNext line s new done in
     (new, done, [], subst P same is, ap (λ rs. rs ++ done.replies) none ∙ sym (append-nil done.replies), (refl, refl))
 
-more_done : (old mid new : Sitting) (first : List (List ℕ)) (line : List ℕ) (replies : List Reply) (done : Outcome) → AreDone old first replies mid → IsNext line mid new done → AreDone old (first ++ line ∷ []) (replies ++ done.replies) new
+more_done : (old mid new : Sitting) (first : List (List ℕ)) (line : List ℕ) (replies : List CommandReply) (done : LineOutcome) → AreDone old first replies mid → IsNext line mid new done → AreDone old (first ++ line ∷ []) (replies ++ done.replies) new
 more_done old mid new [] line replies done (none, same) is = one_done old new line replies mid done none same is
 more_done old mid new (head ∷ first) line replies done (next, did, rest, here, cut, more) is =
     (next, did, rest ++ done.replies, here, ap (λ rs. rs ++ done.replies) cut ∙ append_assoc did.replies rest done.replies, more_done next mid new first line rest done more is)
 
-on_more : (text left left' : Option (List ℕ)) (kept : List ℕ) (old new : Sitting) (done : Outcome) (replies : List Reply) → IsOn text left old replies → ReadsLine 65536 left left' true kept → IsNext kept old new done → IsOn text left' new (replies ++ done.replies)
+on_more : (text left left' : Option (List ℕ)) (kept : List ℕ) (old new : Sitting) (done : LineOutcome) (replies : List CommandReply) → IsOn text left old replies → ReadsLine 65536 left left' true kept → IsNext kept old new done → IsOn text left' new (replies ++ done.replies)
 on_more None left left' kept old new done replies on read is = tt
 on_more (Some text) None left' kept old new done replies on read is = absurd on
 on_more (Some text) (Some left) None kept old new done replies on read is = absurd read
@@ -82,7 +82,7 @@ on_more (Some text) (Some left) (Some left') kept old new done replies (first, c
   more_done begun old new first read.0 replies done did (next_kept read.0 kept old new done read.2 is),
 )
 
-pub goes_on : (text left left' before now now' : Option (List ℕ)) (kept : List ℕ) (old new : Sitting) (done : Outcome) → Follows text left before now old → ReadsLine 65536 left left' true kept → IsNext kept old new done → Appends now now' (printed done.replies) → Follows text left' before now' new
+pub goes_on : (text left left' before now now' : Option (List ℕ)) (kept : List ℕ) (old new : Sitting) (done : LineOutcome) → Follows text left before now old → ReadsLine 65536 left left' true kept → IsNext kept old new done → Appends now now' (printed done.replies) → Follows text left' before now' new
 goes_on text left left' before now now' kept old new done (replies, was, counts, on) read is more =
     let W : List ℕ → Type 0 = λ bytes. Appends before now' bytes in (
       replies ++ done.replies,
@@ -92,7 +92,7 @@ goes_on text left left' before now now' kept old new done (replies, was, counts,
     )
 
 -- the whole text was done
-on_whole : (text left left' : Option (List ℕ)) (kept : List ℕ) (last : Sitting) (done : Outcome) (replies : List Reply) → IsOn text left last replies → ReadsLine 65536 left left' false kept → IsEndedBy last.block last.desk.table done → IfSome text (λ xs. IsTextDone xs (replies ++ done.replies))
+on_whole : (text left left' : Option (List ℕ)) (kept : List ℕ) (last : Sitting) (done : LineOutcome) (replies : List CommandReply) → IsOn text left last replies → ReadsLine 65536 left left' false kept → IsEndedBy last.block last.desk.table done → IfSome text (λ xs. IsTextDone xs (replies ++ done.replies))
 on_whole None left left' kept last done replies on read ended = tt
 on_whole (Some text) None left' kept last done replies on read ended = absurd on
 on_whole (Some text) (Some left) None kept last done replies on read ended = absurd read
@@ -103,10 +103,10 @@ on_whole (Some text) (Some left) (Some left') kept last done replies (first, cut
 
 -- and its replies were printed and counted
 abbrev pub Ended : Option (List ℕ) → Option (List ℕ) → Option (List ℕ) → Summary → Type 0
-Ended text before now summary = (replies : List Reply)
+Ended text before now summary = (replies : List CommandReply)
     × Appends before now (printed replies) × (summary ≡ summary_of replies) × IfSome text (λ xs. IsTextDone xs replies)
 
-pub ends : (text left left' before now now' : Option (List ℕ)) (kept : List ℕ) (old new : Sitting) (done : Outcome) (summary : Summary) → Follows text left before now old → ReadsLine 65536 left left' false kept → IsEndedBy old.block old.desk.table done → new.desk ≡ followed old.desk done → Appends now now' (printed done.replies) → summary ≡ new.desk.summary → Ended text before now' summary
+pub ends : (text left left' before now now' : Option (List ℕ)) (kept : List ℕ) (old new : Sitting) (done : LineOutcome) (summary : Summary) → Follows text left before now old → ReadsLine 65536 left left' false kept → IsEndedBy old.block old.desk.table done → new.desk ≡ followed old.desk done → Appends now now' (printed done.replies) → summary ≡ new.desk.summary → Ended text before now' summary
 ends text left left' before now now' kept old new done summary (replies, was, counts, on) read ended is more same =
     let W : List ℕ → Type 0 = λ bytes. Appends before now' bytes in (
       replies ++ done.replies,
@@ -128,11 +128,11 @@ alone_parts true sound alone = absurd (let none : ⊥ = cc in none)
 
 -- Of lines that open no block and make no device that drops writes, each answers its outcome, or that memory ran out; and so may
 -- those that are left.
-pub first_may : (old new : Sitting) (first left : List (List ℕ)) (replies : List Reply) → is_sound old.desk.table ≡ true → old.block ≡ None → are_sound_lines (first ++ left) ≡ true → AreDone old first replies new
+pub first_may : (old new : Sitting) (first left : List (List ℕ)) (replies : List CommandReply) → is_sound old.desk.table ≡ true → old.block ≡ None → are_sound_lines (first ++ left) ≡ true → AreDone old first replies new
     → MayAnswer old.desk.table (first ++ left) (replies ++ replies_from new.desk.table left) × (new.block ≡ None)
 first_may old new [] left replies sound closed lines (none, same) =
     let R : Table → Type 0 = λ table. MayAnswer old.desk.table left (replies_from table left) in
-    let P : List Reply → Type 0 = λ rs. MayAnswer old.desk.table left (rs ++ replies_from new.desk.table left) in (
+    let P : List CommandReply → Type 0 = λ rs. MayAnswer old.desk.table left (rs ++ replies_from new.desk.table left) in (
       subst P (sym none) (subst R (sym (ap (λ (s : Sitting). s.desk.table) same)) (has_outcomes old.desk.table left)),
       ap (λ (s : Sitting). s.block) same ∙ closed,
     )
@@ -148,12 +148,12 @@ first_may old new (line ∷ first) left replies sound closed lines (next, done, 
     )
 
 -- where no block is open, none is run at the end
-pub nothing_ended : (block : Option Lines) (table : Table) (done : Outcome) → block ≡ None → IsEndedBy block table done → done.replies ≡ []
-nothing_ended None table done none ended = ap (λ (o : Outcome). o.replies) ended
+pub nothing_ended : (block : Option Lines) (table : Table) (done : LineOutcome) → block ≡ None → IsEndedBy block table done → done.replies ≡ []
+nothing_ended None table done none ended = ap (λ (o : LineOutcome). o.replies) ended
 nothing_ended (Some block) table done none ended = absurd (let no : ⊥ = cc in no)
 
 -- all lines of such a text
-text_may : (text : List ℕ) (replies : List Reply) → IsTextDone text replies → is_sound_text text ≡ true → MayAnswer empty (lines_of text) replies
+text_may : (text : List ℕ) (replies : List CommandReply) → IsTextDone text replies → is_sound_text text ≡ true → MayAnswer empty (lines_of text) replies
 unfolding is_sound_text
 text_may text replies (last, told, done, did, ended, cut) sound =
     let lines = lines_of text in
@@ -161,24 +161,24 @@ text_may text replies (last, told, done, did, ended, cut) sound =
     let all = first_may begun last lines [] told refl refl (subst Sound (sym (append-nil lines)) sound) did in
     let none = nothing_ended last.block last.desk.table done all.1 ended in
     let P : List (List ℕ) → Type 0 = λ ls. MayAnswer empty ls (told ++ []) in
-    let Q : List Reply → Type 0 = λ rs. MayAnswer empty lines rs in
+    let Q : List CommandReply → Type 0 = λ rs. MayAnswer empty lines rs in
     subst Q (sym (cut ∙ ap (λ rs. told ++ rs) none)) (subst P (append-nil lines) all.0)
 
 -- what was printed and counted, and that the lines may answer it
-pub ends_any : (text before now : Option (List ℕ)) (summary : Summary) → Ended text before now summary → (replies : List Reply)
+pub ends_any : (text before now : Option (List ℕ)) (summary : Summary) → Ended text before now summary → (replies : List CommandReply)
     × Appends before now (printed replies) × (summary ≡ summary_of replies)
     × IfSome text (λ xs. is_sound_text xs ≡ true → MayAnswer empty (lines_of xs) replies)
 ends_any None before now summary (replies, was, counts, did) = (replies, was, counts, tt)
 ends_any (Some text) before now summary (replies, was, counts, did) = (replies, was, counts, text_may text replies did)
 
 -- where no reply is that memory or room ran out, each line has its outcome
-exactly : (table : Table) (lines : List (List ℕ)) (replies : List Reply) → MayAnswer table lines replies → count_by (refuses_with 5) replies ≡ 0 → count_by (refuses_with 20) replies ≡ 0 → replies ≡ replies_from table lines
+exactly : (table : Table) (lines : List (List ℕ)) (replies : List CommandReply) → MayAnswer table lines replies → count_by (refuses_with 5) replies ≡ 0 → count_by (refuses_with 20) replies ≡ 0 → replies ≡ replies_from table lines
 exactly table [] replies may none room = may
 exactly table (line ∷ lines) replies (done, rest, inl is, cut, more) none room =
     let split = ap (count_by (refuses_with 5)) cut ∙ count_append (refuses_with 5) done.replies rest in
     let full = ap (count_by (refuses_with 20)) cut ∙ count_append (refuses_with 20) done.replies rest in
     let later = exactly done.table lines rest more (omega (arith, split, none)) (omega (arith, full, room)) in
-    cut ∙ ap (λ rs. done.replies ++ rs) later ∙ ap (λ (d : Outcome). d.replies ++ replies_from d.table lines) is
+    cut ∙ ap (λ rs. done.replies ++ rs) later ∙ ap (λ (d : LineOutcome). d.replies ++ replies_from d.table lines) is
 exactly table (line ∷ lines) replies (done, rest, inr (inl is), cut, more) none room =
     let split = ap (count_by (refuses_with 5)) cut ∙ count_append (refuses_with 5) done.replies rest in
     let one : count_by (refuses_with 5) done.replies ≡ 1 = ap (count_by (refuses_with 5)) is.0 in
@@ -194,7 +194,7 @@ ends_exact None before now summary ended = tt
 ends_exact (Some text) before now summary (replies, was, counts, did) = λ sound none room.
     let zero = none_counted replies (sym (ap (λ (s : Summary). s.no_memory) counts) ∙ none) in
     let none_too = none_full replies (sym (ap (λ (s : Summary). s.journal_full) counts) ∙ room) in
-    let W : List Reply → Type 0 = λ rs. Appends before now (printed rs) in
+    let W : List CommandReply → Type 0 = λ rs. Appends before now (printed rs) in
     subst W (exactly empty (lines_of text) replies (text_may text replies did sound) zero none_too) was
 
 pub ends_counted : (text before now : Option (List ℕ)) (summary : Summary) → Ended text before now summary → IfSome text (λ xs. is_sound_text xs ≡ true → summary.no_memory ≡ 0 → summary.journal_full ≡ 0 → summary ≡ summary_of (replies_of xs))
@@ -206,7 +206,7 @@ ends_counted (Some text) before now summary (replies, was, counts, did) = λ sou
     counts ∙ ap summary_of (exactly empty (lines_of text) replies (text_may text replies did sound) zero none_too)
 
 -- what the lines of such a text may answer begins with what its first lines did
-text_begins : (text : List ℕ) (replies : List Reply) → IsTextBegun text replies → is_sound_text text ≡ true → (rest : List Reply) × MayAnswer empty (lines_of text) (replies ++ rest)
+text_begins : (text : List ℕ) (replies : List CommandReply) → IsTextBegun text replies → is_sound_text text ≡ true → (rest : List CommandReply) × MayAnswer empty (lines_of text) (replies ++ rest)
 unfolding is_sound_text
 text_begins text replies (first, left, last, cut, did) sound =
     let Sound : List (List ℕ) → Type 0 = λ ls. are_sound_lines ls ≡ true in
@@ -214,20 +214,20 @@ text_begins text replies (first, left, last, cut, did) sound =
     let P : List (List ℕ) → Type 0 = λ ls. MayAnswer empty ls (replies ++ replies_from last.desk.table left) in
     (replies_from last.desk.table left, subst P (sym cut) some.0)
 
-on_begun : (text left : Option (List ℕ)) (sitting : Sitting) (replies : List Reply) → IsOn text left sitting replies → IfSome text (λ xs. IsTextBegun xs replies)
+on_begun : (text left : Option (List ℕ)) (sitting : Sitting) (replies : List CommandReply) → IsOn text left sitting replies → IfSome text (λ xs. IsTextBegun xs replies)
 on_begun None left sitting replies on = tt
 on_begun (Some text) None sitting replies on = absurd on
 on_begun (Some text) (Some left) sitting replies (first, cut, did) = (first, lines_of left, sitting, cut, did)
 
-begins : (text : Option (List ℕ)) (replies : List Reply) → IfSome text (λ xs. IsTextBegun xs replies) → IfSome text (λ xs. is_sound_text xs ≡ true → (rest : List Reply) × MayAnswer empty (lines_of xs) (replies ++ rest))
+begins : (text : Option (List ℕ)) (replies : List CommandReply) → IfSome text (λ xs. IsTextBegun xs replies) → IfSome text (λ xs. is_sound_text xs ≡ true → (rest : List CommandReply) × MayAnswer empty (lines_of xs) (replies ++ rest))
 begins None replies did = tt
 begins (Some text) replies did = text_begins text replies did
 
 -- whole replies were printed, the first of what the lines may answer
 abbrev pub Early : Option (List ℕ) → Option (List ℕ) → Option (List ℕ) → Type 0
-Early text before now = (replies : List Reply)
+Early text before now = (replies : List CommandReply)
     × Appends before now (printed replies)
-    × IfSome text (λ xs. is_sound_text xs ≡ true → (rest : List Reply) × MayAnswer empty (lines_of xs) (replies ++ rest))
+    × IfSome text (λ xs. is_sound_text xs ≡ true → (rest : List CommandReply) × MayAnswer empty (lines_of xs) (replies ++ rest))
 
 -- what a run printed before it ended early
 pub ends_early : (text left before now : Option (List ℕ)) (sitting : Sitting) → Follows text left before now sitting → Early text before now
@@ -235,7 +235,7 @@ ends_early text left before now sitting (replies, was, counts, on) = (replies, w
 
 -- the same of any text: its first lines were done
 abbrev pub Begun : Option (List ℕ) → Option (List ℕ) → Option (List ℕ) → Type 0
-Begun text before now = (replies : List Reply)
+Begun text before now = (replies : List CommandReply)
     × Appends before now (printed replies) × IfSome text (λ xs. IsTextBegun xs replies)
 
 pub ends_begun : (text left before now : Option (List ℕ)) (sitting : Sitting) → Follows text left before now sitting → Begun text before now

@@ -8,16 +8,16 @@ use Rattle.command.specs.Blocks.{Lines, ends_block, opened, with_line}
 use Rattle.command.specs.Opening.{opening_of}
 use Rattle.command.specs.declared.opening.Opening.{Opening}
 use Rattle.command_rules.specs.State.{Table}
-use Rattle.reply.specs.declared.Reply.{Reply}
-use Rattle.reply.specs.declared.Reply.TheVariants.{Refused}
-use Rattle.runner.specs.Output.{Outcome, Standing, followed, printed}
+use Rattle.command.specs.declared.command_reply.CommandReply.{CommandReply}
+use Rattle.command.specs.declared.command_reply.CommandReply.TheVariants.{Refused}
+use Rattle.runner.specs.Output.{LineOutcome, Standing, followed, printed}
 use Rattle.runner.specs.Sessions.{IsEndedBy, IsOpenedBy, IsSessionDone, IsTaken, Sitting, refuses, silent}
 use Rattle.runner.proofs.AskingLemmas.{memory_or_not}
 use Rattle.runner.proofs.EndedLemmas.{none_replied}
 
 -- a block is opened
 pub opened_by : (line : List ℕ) (old : Sitting) (desk : Standing) (opening : Opening) (block : Lines) (before : Option (List ℕ)) → desk ≡ old.desk → opening_of line ≡ Ok opening → block ≡ opened opening
-    → (done : Outcome) × IsOpenedBy (opening_of line) old.desk.table (Some block) done × (desk ≡ followed old.desk done) × Appends before before (printed done.replies)
+    → (done : LineOutcome) × IsOpenedBy (opening_of line) old.desk.table (Some block) done × (desk ≡ followed old.desk done) × Appends before before (printed done.replies)
 opened_by line old desk opening block before same is made =
     let P : Result Opening Refusal → Type 0 = λ r. IsOpenedBy r old.desk.table (Some block) (silent old.desk.table) in
     (silent old.desk.table, subst P (sym is) (inl (ap (λ b. Some b) made, refl)), same, none_replied before)
@@ -33,8 +33,8 @@ not_opened r table block e none why = elim (memory_or_not e) [
     starved (Ok opening) memory = inr (none, ap (λ f. refuses f table) memory)
     starved (Err f) memory = (none, inr (ap (λ f. refuses f table) memory))
 
-pub refused_by : (line : List ℕ) (old : Sitting) (desk now : Standing) (block : Option Lines) (e : Refusal) (P : List Reply → Type 0) → desk ≡ old.desk → block ≡ None → (e ≢ NoMemory → opening_of line ≡ Err e) → now ≡ followed desk (refuses e desk.table) → P (Refused e ∷ [])
-    → (done : Outcome) × IsOpenedBy (opening_of line) old.desk.table block done × (now ≡ followed old.desk done) × P done.replies
+pub refused_by : (line : List ℕ) (old : Sitting) (desk now : Standing) (block : Option Lines) (e : Refusal) (P : List CommandReply → Type 0) → desk ≡ old.desk → block ≡ None → (e ≢ NoMemory → opening_of line ≡ Err e) → now ≡ followed desk (refuses e desk.table) → P (Refused e ∷ [])
+    → (done : LineOutcome) × IsOpenedBy (opening_of line) old.desk.table block done × (now ≡ followed old.desk done) × P done.replies
 refused_by line old desk now block e P same none why is last = (
   refuses e old.desk.table,
   not_opened (opening_of line) old.desk.table block e none why,
@@ -44,7 +44,7 @@ refused_by line old desk now block e P same none why is last = (
 
 -- no block is open at the end
 pub none_ended : (old : Sitting) (desk : Standing) (before : Option (List ℕ)) → desk ≡ old.desk → old.block ≡ None
-    → (done : Outcome) × IsEndedBy old.block old.desk.table done × (desk ≡ followed old.desk done) × Appends before before (printed done.replies)
+    → (done : LineOutcome) × IsEndedBy old.block old.desk.table done × (desk ≡ followed old.desk done) × Appends before before (printed done.replies)
 none_ended old desk before same none =
     let P : Option Lines → Type 0 = λ b. IsEndedBy b old.desk.table (silent old.desk.table) in
     (silent old.desk.table, subst P (sym none) refl, same, none_replied before)
@@ -73,7 +73,7 @@ other_end P line isnt does = absurd (let none : ⊥ = cc in none)
 
 -- an open block takes a line
 pub block_taken : (line : List ℕ) (old : Sitting) (desk : Standing) (block after : Lines) (before : Option (List ℕ)) → desk ≡ old.desk → old.block ≡ Some block → ends_block line ≡ false → (after.refusal ≢ Some NoMemory → after ≡ with_line line block)
-    → (done : Outcome) × IsSessionDone line old (record { desk = desk; block = Some after }) done × (desk ≡ followed old.desk done) × Appends before before (printed done.replies)
+    → (done : LineOutcome) × IsSessionDone line old (record { desk = desk; block = Some after }) done × (desk ≡ followed old.desk done) × Appends before before (printed done.replies)
 block_taken line old desk block after before same is isnt why = (
   silent old.desk.table,
   record {

@@ -6,8 +6,8 @@ use Rattle.sector.specs.declared.refusal.Refusal.TheVariants.{NoMemory, JournalF
 use Rattle.command.specs.Line.{said_of}
 use Rattle.command.specs.declared.grammar.Command.{Command}
 use Rattle.command.specs.declared.grammar.Command.TheVariants as commands
-use Rattle.reply.specs.declared.Reply.{Reply}
-use Rattle.reply.specs.declared.Reply.TheVariants.{Done, Refused}
+use Rattle.command.specs.declared.command_reply.CommandReply.{CommandReply}
+use Rattle.command.specs.declared.command_reply.CommandReply.TheVariants.{Done, Refused}
 use Rattle.settled.specs.Refusals.{is_starved}
 use Rattle.command_rules.specs.State.{Table}
 use Rattle.command_rules.specs.Changes.{Did}
@@ -18,12 +18,12 @@ use Rattle.command_arrays.proofs.Layers.{ticked_shows}
 use Rattle.command_arrays.proofs.Lines.{settle_line, merge_line, resume_line, finish_line, checkpoint_line, stop_line, write_line, write_starved, read_line, read_starved, flush_line, flush_starved, tell_line, load_line}
 use Rattle.command_arrays.proofs.Devices.{disk_line, remove_line, create_line}
 use Rattle.runner.specs.Steps.{reworded, step, obeyed, answer_of}
-use Rattle.runner.specs.Output.{Outcome, told, outcome, outcome_of, IsPartDone, IsPartSaid, IsStarved, MayBe}
+use Rattle.runner.specs.Output.{LineOutcome, told, outcome, outcome_of, IsPartDone, IsPartSaid, IsStarved, MayBe}
 use Rattle.runner.proofs.AskingLemmas.{memory_or_not}
 use Rattle.runner.specs.Shown.{answer_in, IsSaidShown, IsLineShown}
 
 -- an answer as it is printed
-abbrev printed_as : Result Reply Refusal → Result (Unit {0}) Refusal
+abbrev printed_as : Result CommandReply Refusal → Result (Unit {0}) Refusal
 printed_as answer = answer_in (told (reworded Some answer))
 
 -- what is answered by `ok` alone
@@ -37,7 +37,7 @@ in_both command table old new answered refused (Ok done) = answered
 in_both command table old new answered refused (Err e) = refused e
 
 -- each command's step
-step_shown : (command : Command) (table : Table) → IsWellOf command table → (let done : Did Reply Table = step command table in IsShown command table (printed_as done.answer) (arrays_in table) (arrays_in done.left))
+step_shown : (command : Command) (table : Table) → IsWellOf command table → (let done : Did CommandReply Table = step command table in IsShown command table (printed_as done.answer) (arrays_in table) (arrays_in done.left))
 unfolding step
 step_shown (commands.Disk name sectors) table well = let e = disk_line name sectors table in in_both (commands.Disk name sectors) table _ _ e (λ r. e) _
 step_shown (commands.Create name line) table well = as_done (commands.Create name line) table _ _ _ (create_line name line table well)
@@ -97,7 +97,7 @@ IsWellSaid (Ok (Some command)) table = IsWellOf command table
 IsWellSaid (Err refusal) table = Unit {0}
 
 -- by what the line says
-said_shown : (said : Result (Option Command) Refusal) (table : Table) → IsWellSaid said table → (let done : Outcome = outcome (obeyed table said) in IsSaidShown said table (answer_in done.replies) (arrays_in table) (arrays_in done.table))
+said_shown : (said : Result (Option Command) Refusal) (table : Table) → IsWellSaid said table → (let done : LineOutcome = outcome (obeyed table said) in IsSaidShown said table (answer_in done.replies) (arrays_in table) (arrays_in done.table))
 said_shown (Ok None) table well = refl
 said_shown (Ok (Some command)) table well = step_shown command table well
 said_shown (Err refusal) table well = refl
@@ -108,14 +108,14 @@ said_starved (Ok (Some command)) table new e wanting well part = starved_shown c
 said_starved (Err refusal) table new e wanting well same = ap arrays_in same
 
 -- a line whose volume is well
-pub line_shown : (line : List ℕ) (old : Table) (done : Outcome) → IsWellSaid (said_of 65536 line) old → MayBe line old done → IsLineShown line old done
+pub line_shown : (line : List ℕ) (old : Table) (done : LineOutcome) → IsWellSaid (said_of 65536 line) old → MayBe line old done → IsLineShown line old done
 unfolding IsLineShown IsStarved outcome_of answer_of
 line_shown line old done well (inl is) =
-    subst (λ (o : Outcome). IsSaidShown (said_of 65536 line) old (answer_in o.replies) (arrays_in old) (arrays_in o.table)) (sym is) (said_shown (said_of 65536 line) old well)
+    subst (λ (o : LineOutcome). IsSaidShown (said_of 65536 line) old (answer_in o.replies) (arrays_in old) (arrays_in o.table)) (sym is) (said_shown (said_of 65536 line) old well)
 line_shown line old done well (inr (inl starved)) =
-    subst (λ (rs : List Reply). IsSaidShown (said_of 65536 line) old (answer_in rs) (arrays_in old) (arrays_in done.table)) (sym starved.0) (said_starved (said_of 65536 line) old done.table NoMemory refl well starved.1)
+    subst (λ (rs : List CommandReply). IsSaidShown (said_of 65536 line) old (answer_in rs) (arrays_in old) (arrays_in done.table)) (sym starved.0) (said_starved (said_of 65536 line) old done.table NoMemory refl well starved.1)
 line_shown line old done well (inr (inr full)) =
-    subst (λ (rs : List Reply). IsSaidShown (said_of 65536 line) old (answer_in rs) (arrays_in old) (arrays_in done.table)) (sym full.1) (said_starved (said_of 65536 line) old done.table JournalFull refl well full.2)
+    subst (λ (rs : List CommandReply). IsSaidShown (said_of 65536 line) old (answer_in rs) (arrays_in old) (arrays_in done.table)) (sym full.1) (said_starved (said_of 65536 line) old done.table JournalFull refl well full.2)
 
 -- one that says nothing
 pub silent_shown : (line : List ℕ) (table : Table) → said_of 65536 line ≡ Ok None → IsLineShown line table (record { replies = []; table = table })

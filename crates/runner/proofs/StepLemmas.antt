@@ -9,8 +9,8 @@ use Rattle.layers.specs.declared.message.Answer.TheVariants.{Done}
 use Rattle.command.specs.Line.{said_of}
 use Rattle.command.specs.declared.grammar.Command.{Command}
 use Rattle.command.specs.declared.grammar.Command.TheVariants as commands
-use Rattle.reply.specs.declared.Reply.{Reply}
-use Rattle.reply.specs.Answers.{reply_to}
+use Rattle.command.specs.declared.command_reply.CommandReply.{CommandReply}
+use Rattle.command.specs.Answers.{reply_to}
 use Rattle.command_rules.specs.State.{Table}
 use Rattle.command_rules.specs.Changes.{Did, Does, ServesIf, kept}
 use Rattle.command_rules.specs.Messages.{tell}
@@ -23,9 +23,9 @@ use Rattle.runner.specs.Wants.{enters, enters_said, enters_line}
 use Rattle.runner.proofs.Quiet.{tell_quiet}
 
 -- a message that was answered, and its answer put into words
-pub told_done : (call : Result Reply Refusal) (name : List ℕ) (message : Message) (old new : Table) (answer : Answer) → tell name message old ≡ Ok (answer, new) → MatchResult call (λ reply. reply ≡ reply_to answer) (λ e. (e ≡ NoMemory) × (answer ≢ Done)) → Does call new (λ t. t ≡ old) (told_as reply_to (kept old (tell name message old)))
+pub told_done : (call : Result CommandReply Refusal) (name : List ℕ) (message : Message) (old new : Table) (answer : Answer) → tell name message old ≡ Ok (answer, new) → MatchResult call (λ reply. reply ≡ reply_to answer) (λ e. (e ≡ NoMemory) × (answer ≢ Done)) → Does call new (λ t. t ≡ old) (told_as reply_to (kept old (tell name message old)))
 told_done (Ok reply) name message old new answer is words =
-    ap (λ r. told_as reply_to (kept old r)) is ∙ ap (λ (x : Reply). record { answer = Ok x; left = new }) (sym words)
+    ap (λ r. told_as reply_to (kept old r)) is ∙ ap (λ (x : CommandReply). record { answer = Ok x; left = new }) (sym words)
 told_done (Err e) name message old new answer is words =
     ((λ other. absurd (other words.0)), λ memory. tell_quiet name message old new answer is words.1)
 
@@ -90,7 +90,7 @@ refused_does line table e is = by (enters_line line)
     by false = ((λ other. ap (obeyed table) (is other)), λ memory. none_said (said_of 65536 line) table)
 
 -- a line that says a command
-pub obeyed_does : (line : List ℕ) (command : Command) (old new : Table) (call : Result Reply Refusal) → said_of 65536 line ≡ Ok (Some command) → ServesIf (enters command) call new (IsPartDone command old) (step command old) → ServesIf (enters_line line) (reworded Some call) new (IsStarved line old) (answer_of line old)
+pub obeyed_does : (line : List ℕ) (command : Command) (old new : Table) (call : Result CommandReply Refusal) → said_of 65536 line ≡ Ok (Some command) → ServesIf (enters command) call new (IsPartDone command old) (step command old) → ServesIf (enters_line line) (reworded Some call) new (IsStarved line old) (answer_of line old)
 unfolding answer_of IsStarved enters_line
 obeyed_does line command old new call is does =
     let P : Result (Option Command) Refusal → Type 0 = λ said. ServesIf (enters_said said) (reworded Some call) new (λ t. IsPartSaid said old t) (obeyed old said) in

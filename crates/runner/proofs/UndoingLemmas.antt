@@ -8,7 +8,7 @@ use Rattle.command.specs.declared.grammar.Command.{Command}
 use Rattle.command.specs.declared.grammar.Command.TheVariants as commands
 use Rattle.table.specs.declared.lines.Target.{Target}
 use Rattle.table.specs.declared.lines.Target.TheVariants as targets
-use Rattle.reply.specs.declared.Reply.TheVariants.{Refused}
+use Rattle.command.specs.declared.command_reply.CommandReply.TheVariants.{Refused}
 use Rattle.command_rules.specs.Changes.{changed}
 use Rattle.command_rules.specs.Merging.{merge_finished}
 use Rattle.command_rules.specs.State.{Table}
@@ -17,18 +17,18 @@ use Rattle.command_arrays.specs.Commands.{IsAnswered, IsMade}
 use Rattle.command_arrays.specs.Undoing.{ShowsStill}
 use Rattle.command_arrays.proofs.OnDisk.{finished_on_disk}
 use Rattle.command_arrays.proofs.Undoing.{made_shows, merge_shows, still_shown}
-use Rattle.runner.specs.Output.{Outcome, outcome, outcome_of}
+use Rattle.runner.specs.Output.{LineOutcome, outcome, outcome_of}
 use Rattle.runner.specs.Steps.{answer_of, done_as, obeyed, step, told_as}
 use Rattle.runner.specs.Shown.{IsLineShown, IsSaidShown, answer_in}
 use Rattle.runner.specs.Undoing.{AreSparing, Finishes, IsDoneWell, IsRuledDone, SparesSaid, Undoes}
 
 -- what a line that has its rule does to what is shown
-ruled_shows : (line : List ℕ) (old : Table) (done : Outcome) → IsRuledDone line old done → IsSaidShown (said_of 65536 line) old (answer_in done.replies) (arrays_in old) (arrays_in done.table)
+ruled_shows : (line : List ℕ) (old : Table) (done : LineOutcome) → IsRuledDone line old done → IsSaidShown (said_of 65536 line) old (answer_in done.replies) (arrays_in old) (arrays_in done.table)
 unfolding IsLineShown
 ruled_shows line old done is = is.did.shows is.ruled
 
 -- and its command, where it was not refused
-well_shows : (line : List ℕ) (command : Command) (old : Table) (done : Outcome) → IsDoneWell line command old done → IsAnswered command old (arrays_in old) (arrays_in done.table)
+well_shows : (line : List ℕ) (command : Command) (old : Table) (done : LineOutcome) → IsDoneWell line command old done → IsAnswered command old (arrays_in old) (arrays_in done.table)
 well_shows line command old done is =
     let P : Result (Option Command) Refusal → Type 0 = λ said. IsSaidShown said old (answer_in done.replies) (arrays_in old) (arrays_in done.table) in
     let Q : Result (Unit {0}) Refusal → Type 0 = λ answer. IsSaidShown (Ok (Some command)) old answer (arrays_in old) (arrays_in done.table) in
@@ -45,7 +45,7 @@ module _ (name origin array : List ℕ) where
   lines_spare : (lines : List (List ℕ)) (old new : Table) → AreSparing name old lines new → ShowsStill name origin array (arrays_in old) → ShowsStill name origin array (arrays_in new)
   lines_spare [] old new done all = subst (λ (t : Table). ShowsStill name origin array (arrays_in t)) (sym done) all
   lines_spare (line ∷ lines) old new done all =
-      let next : Outcome = done.0 in
+      let next : LineOutcome = done.0 in
       lines_spare lines next.table new done.3
       (said_spares (said_of 65536 line) old (answer_in next.replies) (arrays_in next.table) done.1 (ruled_shows line old next done.2) all)
 
@@ -59,9 +59,9 @@ undoes name device store before after merged is =
     (origin, begun.1, merge_shows name origin.name origin.array after (arrays_in merged.table) (well_shows is.merge (commands.Merge name) after merged is.merges) still)
 
 -- A merge that is finished.
-module _ (line name : List ℕ) (old : Table) (done : Outcome) (is : IsDoneWell line (commands.Finish name) old done) where
+module _ (line name : List ℕ) (old : Table) (done : LineOutcome) (is : IsDoneWell line (commands.Finish name) old done) where
   -- what it answers and leaves by its rule
-  abbrev left_by : Result Table Refusal → Outcome
+  abbrev left_by : Result Table Refusal → LineOutcome
   left_by r = outcome (told_as Some (done_as (changed old r)))
 
   by_rule : outcome_of line old ≡ left_by (merge_finished name old)
@@ -72,8 +72,8 @@ module _ (line name : List ℕ) (old : Table) (done : Outcome) (is : IsDoneWell 
   refused_not e told = let wrong : (let r : Result (Unit {0}) Refusal = Err e in r) ≡ Ok tt = ap answer_in (sym told) ∙ is.well in absurd (cc)
 
   of_it : (r : Result Table Refusal) → done ≡ left_by r → r ≡ Ok done.table
-  of_it (Ok new) left = ap (λ (t : Table). let x : Result Table Refusal = Ok t in x) (sym (ap (λ (o : Outcome). o.table) left))
-  of_it (Err e) left = absurd (refused_not e (ap (λ (o : Outcome). o.replies) left))
+  of_it (Ok new) left = ap (λ (t : Table). let x : Result Table Refusal = Ok t in x) (sym (ap (λ (o : LineOutcome). o.table) left))
+  of_it (Err e) left = absurd (refused_not e (ap (λ (o : LineOutcome). o.replies) left))
 
   finished_by_it : merge_finished name old ≡ Ok done.table
   finished_by_it = elim (is.did.did.rule is.did.ruled) [

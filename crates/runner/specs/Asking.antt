@@ -5,8 +5,8 @@ use Rattle.sector.specs.declared.refusal.Refusal.TheVariants.{NoMemory}
 use Rattle.command.specs.Line.{said_of}
 use Rattle.command.specs.declared.grammar.Command.{Command}
 use Rattle.command.specs.declared.grammar.Command.TheVariants as commands
-use Rattle.reply.specs.declared.Reply.{Reply}
-use Rattle.reply.specs.declared.Reply.TheVariants.{Refused}
+use Rattle.command.specs.declared.command_reply.CommandReply.{CommandReply}
+use Rattle.command.specs.declared.command_reply.CommandReply.TheVariants.{Refused}
 use Rattle.command_rules.specs.State.{Table}
 use Rattle.command_rules.specs.Starting.{flush_asked, read_asked, write_asked}
 use Rattle.command_rules.specs.Events.{event_asked, origin_by}
@@ -52,6 +52,6 @@ unfoldable pub line_first : List ℕ → Table → Option Refusal
 line_first line table = said_first table (said_of 65536 line)
 
 -- such a line answers that refusal alone, unless memory ran out
-abbrev pub IsFirst : Option Refusal → List Reply → Type 0
+abbrev pub IsFirst : Option Refusal → List CommandReply → Type 0
 IsFirst None replies = Unit {0}
 IsFirst (Some refusal) replies = (replies ≡ Refused refusal ∷ []) ⊎ (replies ≡ Refused NoMemory ∷ [])

@@ -2,12 +2,12 @@
 use Rattle.std.specs.Prelude.{◌==◌, ℕ, ◌+◌, ◌-◌, ◌^◌, min, Bool, true, false, List, length, if◌then◌else◌}
 use Rattle.std.specs.List.{count_by}
 use Rattle.sector.specs.Refusal.{number_of}
-use Rattle.reply.specs.declared.Reply.{Reply}
-use Rattle.reply.specs.declared.Reply.TheVariants.{Done, Data, Said, Number, Fault, Ended, Seat, Gate, Refused}
+use Rattle.command.specs.declared.command_reply.CommandReply.{CommandReply}
+use Rattle.command.specs.declared.command_reply.CommandReply.TheVariants.{Done, Data, Said, Number, Fault, Ended, Seat, Gate, Refused}
 use Rattle.runner.specs.declared.summary.Summary.{Summary}
 
 -- a reply whose line begins with `err`
-abbrev pub is_refused : Reply → Bool
+abbrev pub is_refused : CommandReply → Bool
 is_refused Done = false
 is_refused (Data bytes) = false
 is_refused (Said text) = false
@@ -19,7 +19,7 @@ is_refused (Gate opened) = false
 is_refused (Refused refusal) = true
 
 -- a reply that is the refusal of a number
-abbrev pub refuses_with : ℕ → Reply → Bool
+abbrev pub refuses_with : ℕ → CommandReply → Bool
 refuses_with number Done = false
 refuses_with number (Data bytes) = false
 refuses_with number (Said text) = false
@@ -39,7 +39,7 @@ abbrev pub more : Bool → ℕ → ℕ
 more counts n = if counts then capped (n + 1) else n
 
 -- how many replies were printed, each a line, and how many of each kind; NoMemory is number 5, JournalFull 20
-unfoldable pub summary_of : List Reply → Summary
+unfoldable pub summary_of : List CommandReply → Summary
 summary_of replies = record {
   lines = capped (length replies);
   refused = capped (count_by is_refused replies);
@@ -48,7 +48,7 @@ summary_of replies = record {
 }
 
 -- one reply more
-abbrev pub with_reply : Reply → Summary → Summary
+abbrev pub with_reply : CommandReply → Summary → Summary
 with_reply reply s = record {
   lines = more true s.lines;
   refused = more (is_refused reply) s.refused;

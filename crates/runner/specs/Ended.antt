@@ -2,10 +2,10 @@
 use Rattle.std.specs.Prelude.{List, ◌++◌, map, Option}
 use Rattle.plain.specs.declared.request.Reply.{Reply as Answered}
 use Rattle.plain.specs.declared.request.Reply.TheVariants as answers
-use Rattle.reply.specs.declared.Reply.{Reply}
-use Rattle.reply.specs.declared.Reply.TheVariants.{Ended}
-use Rattle.reply.specs.declared.ended.Ending.{Ending}
-use Rattle.reply.specs.declared.ended.Ending.TheVariants.{Data, Written, Flushed, Refused}
+use Rattle.command.specs.declared.command_reply.CommandReply.{CommandReply}
+use Rattle.command.specs.declared.command_reply.CommandReply.TheVariants.{Ended}
+use Rattle.command.specs.declared.ended.Ending.{Ending}
+use Rattle.command.specs.declared.ended.Ending.TheVariants.{Data, Written, Flushed, Refused}
 use Rattle.plain.specs.declared.request.Replied.{Replied}
 use Rattle.plain.specs.Failures.{refusal_of}
 use Rattle.runner.specs.Output.{answered}
@@ -18,13 +18,13 @@ ending_of answers.Flushed = Flushed
 ending_of (answers.Refused failure) = Refused (refusal_of failure)
 
 -- its line
-abbrev pub ended_line : Replied → Reply
+abbrev pub ended_line : Replied → CommandReply
 ended_line replied = Ended (record { request = replied.number; ending = ending_of replied.reply })
 
 -- the lines of the requests that ended, in the order in which they ended
-abbrev pub ended_lines : List Replied → List Reply
+abbrev pub ended_lines : List Replied → List CommandReply
 ended_lines ended = map ended_line ended
 
 -- all that a line answers: first those, then its command's own line
-abbrev pub line_replies : List Replied → Option Reply → List Reply
+abbrev pub line_replies : List Replied → Option CommandReply → List CommandReply
 line_replies ended own = ended_lines ended ++ answered own

@@ -6,14 +6,14 @@ use Rattle.sector.specs.declared.refusal.Refusal.TheVariants.{NoMemory}
 use Rattle.command.specs.Line.{said_of}
 use Rattle.command.specs.declared.grammar.Command.{Command}
 use Rattle.command.specs.declared.grammar.Command.TheVariants as commands
-use Rattle.command.specs.declared.events.Event.{Event}
+use Rattle.command.specs.declared.events.EventWords.{EventWords}
 use Rattle.plain.specs.declared.event.Outcome.{Outcome}
 use Rattle.plain.specs.declared.event.Outcome.TheVariants as outcomes
 use Rattle.plain.specs.declared.request.Op.{Op}
 use Rattle.plain.specs.declared.request.Op.TheVariants.{Read as ReadOp, Write as WriteOp}
 use Rattle.table.specs.declared.lines.Line.{Line}
-use Rattle.reply.specs.declared.Reply.{Reply}
-use Rattle.reply.specs.declared.Reply.TheVariants.{Data, Done, Fault, Number, Said}
+use Rattle.command.specs.declared.command_reply.CommandReply.{CommandReply}
+use Rattle.command.specs.declared.command_reply.CommandReply.TheVariants.{Data, Done, Fault, Number, Said}
 use Rattle.plain.specs.Replies.{reply_in}
 use Rattle.plain.specs.declared.request.Replied.{Replied}
 use Rattle.settled.specs.Refusals.{is_starved}
@@ -35,7 +35,7 @@ use Rattle.runner.specs.Steps.{reworded}
 
 -- What was read, and what was done for it of what is in flight in the volume; where nothing is, why it was refused, whichever device
 -- drops writes.
-pub record IsReadLeft (device : List ℕ) (first count : ℕ) (answer : Result Reply Refusal) (old new : Table) (before after : List Replied) : Type 0 where
+pub record IsReadLeft (device : List ℕ) (first count : ℕ) (answer : Result CommandReply Refusal) (old new : Table) (before after : List Replied) : Type 0 where
   pub got : Result (List ℕ) Refusal
   pub answer_is : answer ≡ reworded Data got
   pub others : KeepsOthers device old new
@@ -43,7 +43,7 @@ pub record IsReadLeft (device : List ℕ) (first count : ℕ) (answer : Result R
   pub denied : is_quiet_in (volume_for device old) ≡ true → IfErr got (λ e. IfOk (read_asked device first count old) (λ _. IsDenied e))
 
 -- and of a write
-pub record IsWriteLeft (device : List ℕ) (first : ℕ) (bytes : List ℕ) (answer : Result Reply Refusal) (old new : Table) (before after : List Replied) : Type 0 where
+pub record IsWriteLeft (device : List ℕ) (first : ℕ) (bytes : List ℕ) (answer : Result CommandReply Refusal) (old new : Table) (before after : List Replied) : Type 0 where
   pub did : Result (Unit {0}) Refusal
   pub answer_is : answer ≡ reworded (λ _. Done) did
   pub others : KeepsOthers device old new
@@ -51,7 +51,7 @@ pub record IsWriteLeft (device : List ℕ) (first : ℕ) (bytes : List ℕ) (ans
   pub denied : is_quiet_in (volume_for device old) ≡ true → IfErr did (λ e. IfOk (write_asked device first bytes old) (λ _. IsDenied e))
 
 -- and of a flush
-pub record IsFlushLeft (device : List ℕ) (answer : Result Reply Refusal) (old new : Table) (before after : List Replied) : Type 0 where
+pub record IsFlushLeft (device : List ℕ) (answer : Result CommandReply Refusal) (old new : Table) (before after : List Replied) : Type 0 where
   pub did : Result (Unit {0}) Refusal
   pub answer_is : answer ≡ reworded (λ _. Done) did
   pub others : KeepsOthers device old new
@@ -60,7 +60,7 @@ pub record IsFlushLeft (device : List ℕ) (answer : Result Reply Refusal) (old 
 
 -- A request that is started is in flight then, under the number that is told, and alone changes its volume. One that is refused by
 -- its volume is so for its reason.
-pub record IsStartLeft (device : List ℕ) (op : Op) (asked : Result Asked Refusal) (answer : Result Reply Refusal) (old new : Table) (before after : List Replied) : Type 0 where
+pub record IsStartLeft (device : List ℕ) (op : Op) (asked : Result Asked Refusal) (answer : Result CommandReply Refusal) (old new : Table) (before after : List Replied) : Type 0 where
   pub number : Result ℕ Refusal
   pub answer_is : answer ≡ reworded Number number
   pub others : KeepsOthers device old new
@@ -70,14 +70,14 @@ pub record IsStartLeft (device : List ℕ) (op : Op) (asked : Result Asked Refus
   pub alone : after ≡ before
 
 -- an event's own reply: its request's comes before it, and a fault is told
-abbrev pub stepped_reply : Outcome → Reply
+abbrev pub stepped_reply : Outcome → CommandReply
 stepped_reply outcomes.Done = Done
 stepped_reply outcomes.Fault = Fault
 stepped_reply (outcomes.Reply number reply) = Done
 
 -- The event that is named was done, or memory was refused, or it was not due. One about a snapshot that is being merged is never
 -- due.
-pub record IsStepLeft (volume : List ℕ) (event : Event) (answer : Result Reply Refusal) (old new : Table) (before after : List Replied) : Type 0 where
+pub record IsStepLeft (volume : List ℕ) (event : EventWords) (answer : Result CommandReply Refusal) (old new : Table) (before after : List Replied) : Type 0 where
   pub outcome : Result Outcome Refusal
   pub answer_is : answer ≡ reworded stepped_reply outcome
   pub others : KeepsOthers volume old new
@@ -91,7 +91,7 @@ pub record IsStepLeft (volume : List ℕ) (event : Event) (answer : Result Reply
 -- Once a volume was settled nothing is in flight in it: all that was due was done. A settle is refused for want of memory alone where
 -- there is its volume, and then does nothing; one of a volume in which nothing is in flight is not, and changes nothing where no merge
 -- is begun.
-pub record IsSettleLeft (volume : List ℕ) (answer : Result Reply Refusal) (old new : Table) (before after : List Replied) : Type 0 where
+pub record IsSettleLeft (volume : List ℕ) (answer : Result CommandReply Refusal) (old new : Table) (before after : List Replied) : Type 0 where
   pub did : Result (Unit {0}) Refusal
   pub answer_is : answer ≡ reworded (λ _. Done) did
   pub others : KeepsOthers volume old new
@@ -103,7 +103,7 @@ pub record IsSettleLeft (volume : List ℕ) (answer : Result Reply Refusal) (old
   pub alone : is_alone_in (volume_for volume old) ≡ true → new ≡ old
 
 -- A merge that is begun changes its volume alone. One that isn't is refused by its rule, or memory was refused; then all is as it was.
-pub record IsMergeLeft (name : List ℕ) (answer : Result Reply Refusal) (old new : Table) (before after : List Replied) : Type 0 where
+pub record IsMergeLeft (name : List ℕ) (answer : Result CommandReply Refusal) (old new : Table) (before after : List Replied) : Type 0 where
   pub did : Result (Unit {0}) Refusal
   pub answer_is : answer ≡ reworded (λ _. Done) did
   pub begun : OnOk did (IsDoneFor name IsBegunIn old new)
@@ -111,7 +111,7 @@ pub record IsMergeLeft (name : List ℕ) (answer : Result Reply Refusal) (old ne
   pub alone : after ≡ before
 
 -- a merge that is finished gives the stack of its store back, and changes its volume alone
-pub record IsFinishLeft (volume : List ℕ) (answer : Result Reply Refusal) (old new : Table) (before after : List Replied) : Type 0 where
+pub record IsFinishLeft (volume : List ℕ) (answer : Result CommandReply Refusal) (old new : Table) (before after : List Replied) : Type 0 where
   pub did : Result (Unit {0}) Refusal
   pub answer_is : answer ≡ reworded (λ _. Done) did
   pub finished : OnOk did (IfOk (origin_by volume old) (λ v. IsFinishedIn v old new (volume_at v old)))
@@ -121,7 +121,7 @@ pub record IsFinishLeft (volume : List ℕ) (answer : Result Reply Refusal) (old
 
 -- A snapshot is made just where its volume takes it, and all else is as it was; where it is not, there is a reason, and no volume
 -- changed. Every other line has its rule.
-pub record IsCreateLeft (name : List ℕ) (line : Line) (answer : Result Reply Refusal) (old new : Table) (before after : List Replied) : Type 0 where
+pub record IsCreateLeft (name : List ℕ) (line : Line) (answer : Result CommandReply Refusal) (old new : Table) (before after : List Replied) : Type 0 where
   pub did : Result (Unit {0}) Refusal
   pub answer_is : answer ≡ reworded (λ _. Done) did
   pub made : IsCreated name line did old new
@@ -129,7 +129,7 @@ pub record IsCreateLeft (name : List ℕ) (line : Line) (answer : Result Reply R
 
 -- A status line changes nothing, and says what is in memory of a snapshot in any case: what its store's bytes say, where nothing is
 -- in flight and no device drops writes.
-pub record IsStatusLeft (device : List ℕ) (answer : Result Reply Refusal) (old new : Table) (before after : List Replied) : Type 0 where
+pub record IsStatusLeft (device : List ℕ) (answer : Result CommandReply Refusal) (old new : Table) (before after : List Replied) : Type 0 where
   pub text : Result (List ℕ) Refusal
   pub answer_is : answer ≡ reworded Said text
   pub among : IsStatusAmong text device old
@@ -139,14 +139,14 @@ pub record IsStatusLeft (device : List ℕ) (answer : Result Reply Refusal) (old
 
 -- A volume that is stopped with a loss: the stacks that are left of it have their names, layers, sizes and marks as by `stop`, and
 -- some bytes; all else is as after `stop`.
-pub record IsStopLeft (volume : List ℕ) (answer : Result Reply Refusal) (old new : Table) (before after : List Replied) : Type 0 where
+pub record IsStopLeft (volume : List ℕ) (answer : Result CommandReply Refusal) (old new : Table) (before after : List Replied) : Type 0 where
   pub did : Result (Unit {0}) Refusal
   pub answer_is : answer ≡ reworded (λ _. Done) did
   pub lost : StopsLosing did volume old new
   pub alone : after ≡ before
 
 -- what a command leaves, with this answer; one that has its rule in any case is left to that
-abbrev pub IsLeft : Command → Result Reply Refusal → Table → Table → List Replied → List Replied → Type 0
+abbrev pub IsLeft : Command → Result CommandReply Refusal → Table → Table → List Replied → List Replied → Type 0
 IsLeft (commands.Read device first count) answer old new before after = IsReadLeft device first count answer old new before after
 IsLeft (commands.Write device first bytes) answer old new before after = IsWriteLeft device first bytes answer old new before after
 IsLeft (commands.Flush device) answer old new before after = IsFlushLeft device answer old new before after
@@ -171,12 +171,12 @@ IsLeft (commands.Stop volume) answer old new before after = after ≡ before
 IsLeft (commands.StopLosing volume) answer old new before after = IsStopLeft volume answer old new before after
 
 -- the same of what a line says
-abbrev pub IsLeftSaid : Result (Option Command) Refusal → Result (Option Reply) Refusal → Table → Table → List Replied → List Replied → Type 0
+abbrev pub IsLeftSaid : Result (Option Command) Refusal → Result (Option CommandReply) Refusal → Table → Table → List Replied → List Replied → Type 0
 IsLeftSaid (Ok None) answer old new before after = (new ≡ old) × (after ≡ before)
-IsLeftSaid (Ok (Some command)) answer old new before after = (own : Result Reply Refusal) × (answer ≡ reworded Some own) × IsLeft command own old new before after
+IsLeftSaid (Ok (Some command)) answer old new before after = (own : Result CommandReply Refusal) × (answer ≡ reworded Some own) × IsLeft command own old new before after
 IsLeftSaid (Err refusal) answer old new before after = (new ≡ old) × (after ≡ before)
 
 -- and of a line, where memory may run out for its words
-unfoldable pub IsLineLeft : List ℕ → Result (Option Reply) Refusal → Table → Table → List Replied → List Replied → Type 0
+unfoldable pub IsLineLeft : List ℕ → Result (Option CommandReply) Refusal → Table → Table → List Replied → List Replied → Type 0
 IsLineLeft line answer old new before after =
     ((answer ≡ Err NoMemory) × (new ≡ old) × (after ≡ before)) ⊎ IsLeftSaid (said_of 65536 line) answer old new before after

@@ -2,9 +2,9 @@
 use Rattle.std.specs.Prelude.{◌≡◌, ℕ, ◌+◌, List, [], ◌∷◌, ◌++◌, codes, decimal}
 use Rattle.std.specs.List.{flat_map}
 use Rattle.words.specs.Lines.{lines_of}
-use Rattle.reply.specs.declared.Reply.{Reply}
+use Rattle.command.specs.declared.command_reply.CommandReply.{CommandReply}
 use Rattle.command_rules.specs.State.{Table}
-use Rattle.runner.specs.Output.{Outcome, empty, outcome_of, printed}
+use Rattle.runner.specs.Output.{LineOutcome, empty, outcome_of, printed}
 use Rattle.runner.specs.Runs.{IsNext, begun}
 use Rattle.runner.specs.Sessions.{IsEndedBy, Sitting}
 
@@ -17,33 +17,33 @@ unfoldable pub numbered : ℕ → List ℕ → List ℕ
 numbered number text = flat_map (numbered_line number) (lines_of text)
 
 -- what lines print, each line's replies by themselves, the first of them with this number
-abbrev pub numbered_from : ℕ → List (List Reply) → List ℕ
+abbrev pub numbered_from : ℕ → List (List CommandReply) → List ℕ
 numbered_from number [] = []
 numbered_from number (replies ∷ answers) = numbered number (printed replies) ++ numbered_from (number + 1) answers
 
 -- all replies, in their order
-abbrev pub all_of : List (List Reply) → List Reply
+abbrev pub all_of : List (List CommandReply) → List CommandReply
 all_of answers = flat_map (λ replies. replies) answers
 
 -- lines were done, one after the other, and these are the replies of each
-abbrev pub AreDoneEach : Sitting → List (List ℕ) → List (List Reply) → Sitting → Type 0
+abbrev pub AreDoneEach : Sitting → List (List ℕ) → List (List CommandReply) → Sitting → Type 0
 AreDoneEach old [] answers new = (answers ≡ []) × (new ≡ old)
-AreDoneEach old (line ∷ lines) answers new = (next : Sitting) × (done : Outcome) × (rest : List (List Reply))
+AreDoneEach old (line ∷ lines) answers new = (next : Sitting) × (done : LineOutcome) × (rest : List (List CommandReply))
     × IsNext line old next done × (answers ≡ done.replies ∷ rest) × AreDoneEach next lines rest new
 
 -- All lines of a text were done, and a block that was open then was run, the text's end standing for its own: the last of these
 -- replies, behind those of the last line.
-abbrev pub IsTextAnswered : List ℕ → List (List Reply) → Type 0
-IsTextAnswered text answers = (last : Sitting) × (told : List (List Reply)) × (done : Outcome)
+abbrev pub IsTextAnswered : List ℕ → List (List CommandReply) → Type 0
+IsTextAnswered text answers = (last : Sitting) × (told : List (List CommandReply)) × (done : LineOutcome)
     × AreDoneEach begun (lines_of text) told last × IsEndedBy last.block last.desk.table done × (answers ≡ told ++ done.replies ∷ [])
 
 -- the first of its lines were done
-abbrev pub IsTextAnsweredTo : List ℕ → List (List Reply) → Type 0
+abbrev pub IsTextAnsweredTo : List ℕ → List (List CommandReply) → Type 0
 IsTextAnsweredTo text answers = (first : List (List ℕ)) × (left : List (List ℕ)) × (last : Sitting)
     × (lines_of text ≡ first ++ left) × AreDoneEach begun first answers last
 
 -- what each line answers by itself
-abbrev pub answers_from : Table → List (List ℕ) → List (List Reply)
+abbrev pub answers_from : Table → List (List ℕ) → List (List CommandReply)
 answers_from table [] = []
 answers_from table (line ∷ lines) = (outcome_of line table).replies ∷ answers_from (outcome_of line table).table lines
 

@@ -8,9 +8,9 @@ use Rattle.words.specs.Lines.{lines_of}
 use Rattle.command.specs.Line.{said_of}
 use Rattle.command.specs.declared.grammar.Command.{Command}
 use Rattle.command.specs.declared.grammar.Command.TheVariants as commands
-use Rattle.reply.specs.declared.Reply.{Reply}
-use Rattle.reply.specs.declared.Reply.TheVariants.{Refused}
-use Rattle.reply.specs.Texts.{text_of}
+use Rattle.command.specs.declared.command_reply.CommandReply.{CommandReply}
+use Rattle.command.specs.declared.command_reply.CommandReply.TheVariants.{Refused}
+use Rattle.command.specs.Texts.{text_of}
 use Rattle.command_rules.specs.State.{Table}
 use Rattle.command_rules.specs.Changes.{Did}
 use Rattle.command_rules.specs.Sectors.{IsFlushStarved, IsReadStarved, IsWriteStarved}
@@ -20,29 +20,29 @@ use Rattle.runner.specs.Counts.{with_reply}
 use Rattle.runner.specs.Wants.{enters_line}
 
 -- what a line answers, each reply a printed line, and the devices after it
-pub record Outcome : Type 0 where
-  pub replies : List Reply
+pub record LineOutcome : Type 0 where
+  pub replies : List CommandReply
   pub table : Table
 
 -- a line that says nothing answers nothing
-abbrev pub answered : Option Reply → List Reply
+abbrev pub answered : Option CommandReply → List CommandReply
 answered None = []
 answered (Some reply) = reply ∷ []
 
 -- a refusal is answered
-abbrev pub told : Result (Option Reply) Refusal → List Reply
+abbrev pub told : Result (Option CommandReply) Refusal → List CommandReply
 told (Ok reply) = answered reply
 told (Err refusal) = Refused refusal ∷ []
 
 -- a line that is refused may leave other devices all the same: those that failed were met
-abbrev pub outcome : Did (Option Reply) Table → Outcome
+abbrev pub outcome : Did (Option CommandReply) Table → LineOutcome
 outcome done = record { replies = told done.answer; table = done.left }
 
-unfoldable pub outcome_of : List ℕ → Table → Outcome
+unfoldable pub outcome_of : List ℕ → Table → LineOutcome
 outcome_of line table = outcome (answer_of line table)
 
 -- what the lines answer, one after the other
-abbrev pub replies_from : Table → List (List ℕ) → List Reply
+abbrev pub replies_from : Table → List (List ℕ) → List CommandReply
 replies_from table [] = []
 replies_from table (line ∷ lines) = (outcome_of line table).replies ++ replies_from (outcome_of line table).table lines
 
@@ -51,11 +51,11 @@ abbrev pub empty : Table
 empty = record { stacks = []; volumes = [] }
 
 -- what is answered for a text
-unfoldable pub replies_of : List ℕ → List Reply
+unfoldable pub replies_of : List ℕ → List CommandReply
 replies_of text = replies_from empty (lines_of text)
 
 -- the printed lines of replies
-abbrev pub printed : List Reply → List ℕ
+abbrev pub printed : List CommandReply → List ℕ
 printed replies = flat_map text_of replies
 
 -- what is printed for a text
@@ -98,14 +98,14 @@ IsStarved line old new = IsPartSaid (said_of 65536 line) old new
 
 -- A line has its outcome; or memory ran out for it, or the journal that its command takes a place in has no room, and it answers
 -- that alone.
-abbrev pub MayBe : List ℕ → Table → Outcome → Type 0
+abbrev pub MayBe : List ℕ → Table → LineOutcome → Type 0
 MayBe line old done = (done ≡ outcome_of line old) ⊎ ((done.replies ≡ Refused NoMemory ∷ []) × IsStarved line old done.table)
     ⊎ ((enters_line line ≡ true) × (done.replies ≡ Refused JournalFull ∷ []) × IsStarved line old done.table)
 
 -- The lines may answer this, each what it may.
-abbrev pub MayAnswer : Table → List (List ℕ) → List Reply → Type 0
+abbrev pub MayAnswer : Table → List (List ℕ) → List CommandReply → Type 0
 MayAnswer table [] replies = replies ≡ []
-MayAnswer table (line ∷ lines) replies = (done : Outcome) × (rest : List Reply)
+MayAnswer table (line ∷ lines) replies = (done : LineOutcome) × (rest : List CommandReply)
     × MayBe line table done × (replies ≡ done.replies ++ rest) × MayAnswer done.table lines rest
 
 -- the devices, and what was printed so far, counted
@@ -114,10 +114,10 @@ pub record Standing : Type 0 where
   pub summary : Summary
 
 -- more replies are counted, one after the other
-abbrev pub counted : List Reply → Summary → Summary
+abbrev pub counted : List CommandReply → Summary → Summary
 counted [] summary = summary
 counted (reply ∷ replies) summary = counted replies (with_reply reply summary)
 
 -- after a line
-abbrev pub followed : Standing → Outcome → Standing
+abbrev pub followed : Standing → LineOutcome → Standing
 followed standing done = record { table = done.table; summary = counted done.replies standing.summary }

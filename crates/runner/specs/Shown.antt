@@ -4,15 +4,15 @@ use Rattle.std.specs.Prelude.{◌≡◌, ℕ, List, [], ◌∷◌, Option, Some,
 use Rattle.sector.specs.declared.refusal.Refusal.{Refusal}
 use Rattle.command.specs.Line.{said_of}
 use Rattle.command.specs.declared.grammar.Command.{Command}
-use Rattle.reply.specs.declared.Reply.{Reply}
-use Rattle.reply.specs.declared.Reply.TheVariants.{Done, Data, Said, Number, Fault, Ended, Seat, Gate, Refused}
+use Rattle.command.specs.declared.command_reply.CommandReply.{CommandReply}
+use Rattle.command.specs.declared.command_reply.CommandReply.TheVariants.{Done, Data, Said, Number, Fault, Ended, Seat, Gate, Refused}
 use Rattle.command_rules.specs.State.{Table}
 use Rattle.command_arrays.specs.Arrays.{Arrays, arrays_in}
 use Rattle.command_arrays.specs.Commands.{IsShown}
-use Rattle.runner.specs.Output.{Outcome}
+use Rattle.runner.specs.Output.{LineOutcome}
 
 -- whether a reply is a refusal
-abbrev pub refusal_in : Reply → Result (Unit {0}) Refusal
+abbrev pub refusal_in : CommandReply → Result (Unit {0}) Refusal
 refusal_in Done = Ok tt
 refusal_in (Data bytes) = Ok tt
 refusal_in (Said text) = Ok tt
@@ -24,7 +24,7 @@ refusal_in (Gate opened) = Ok tt
 refusal_in (Refused refusal) = Err refusal
 
 -- whether a line was refused, of which these are the replies
-abbrev pub answer_in : List Reply → Result (Unit {0}) Refusal
+abbrev pub answer_in : List CommandReply → Result (Unit {0}) Refusal
 answer_in [] = Ok tt
 answer_in (reply ∷ replies) = refusal_in reply
 
@@ -34,5 +34,5 @@ IsSaidShown (Ok (Some command)) table answer old new = IsShown command table ans
 IsSaidShown (Err refusal) table answer old new = new ≡ old
 
 -- what is shown after the line is what its command leaves of what was shown
-unfoldable pub IsLineShown : List ℕ → Table → Outcome → Type 0
+unfoldable pub IsLineShown : List ℕ → Table → LineOutcome → Type 0
 IsLineShown line old done = IsSaidShown (said_of 65536 line) old (answer_in done.replies) (arrays_in old) (arrays_in done.table)

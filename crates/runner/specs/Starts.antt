@@ -4,8 +4,8 @@ use Rattle.sector.specs.declared.refusal.Refusal.{Refusal}
 use Rattle.command.specs.Line.{said_of}
 use Rattle.command.specs.declared.grammar.Command.{Command}
 use Rattle.command.specs.declared.grammar.Command.TheVariants as commands
-use Rattle.reply.specs.declared.Reply.{Reply}
-use Rattle.reply.specs.declared.Reply.TheVariants.{Done, Data, Said, Number, Fault, Ended, Seat, Gate, Refused}
+use Rattle.command.specs.declared.command_reply.CommandReply.{CommandReply}
+use Rattle.command.specs.declared.command_reply.CommandReply.TheVariants.{Done, Data, Said, Number, Fault, Ended, Seat, Gate, Refused}
 
 -- a command that starts a request
 abbrev pub starts : Command → Bool
@@ -42,7 +42,7 @@ unfoldable pub starts_line : List ℕ → Bool
 starts_line line = starts_said (said_of 65536 line)
 
 -- it answers the request's number, or is refused
-abbrev pub IsStartReply : Reply → Type 0
+abbrev pub IsStartReply : CommandReply → Type 0
 IsStartReply Done = ⊥
 IsStartReply (Data bytes) = ⊥
 IsStartReply (Said text) = ⊥
@@ -54,7 +54,7 @@ IsStartReply (Gate opened) = ⊥
 IsStartReply (Refused refusal) = Unit {0}
 
 -- and that alone
-abbrev pub AreStartReplies : List Reply → Type 0
+abbrev pub AreStartReplies : List CommandReply → Type 0
 AreStartReplies [] = ⊥
 AreStartReplies (reply ∷ []) = IsStartReply reply
 AreStartReplies (reply ∷ more ∷ replies) = ⊥

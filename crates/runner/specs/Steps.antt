@@ -8,9 +8,9 @@ use Rattle.sector.specs.declared.refusal.Refusal.TheVariants.{NotDue}
 use Rattle.command.specs.Line.{said_of}
 use Rattle.command.specs.declared.grammar.Command.{Command}
 use Rattle.command.specs.declared.grammar.Command.TheVariants as commands
-use Rattle.reply.specs.declared.Reply.{Reply}
-use Rattle.reply.specs.declared.Reply.TheVariants.{Done, Data, Said}
-use Rattle.reply.specs.Answers.{reply_to}
+use Rattle.command.specs.declared.command_reply.CommandReply.{CommandReply}
+use Rattle.command.specs.declared.command_reply.CommandReply.TheVariants.{Done, Data, Said}
+use Rattle.command.specs.Answers.{reply_to}
 use Rattle.command_rules.specs.State.{Table}
 use Rattle.command_rules.specs.Changes.{Did, refused, kept, changed}
 use Rattle.command_rules.specs.Disks.{make}
@@ -35,7 +35,7 @@ abbrev pub told_as : {A B T : Type 0} → (A → B) → Did A T → Did B T
 told_as words done = record { answer = reworded words done.answer; left = done.left }
 
 -- what is there to be done is done
-abbrev pub done_as : Did (Unit {0}) Table → Did Reply Table
+abbrev pub done_as : Did (Unit {0}) Table → Did CommandReply Table
 done_as done = told_as (λ _. Done) done
 
 -- a look at the devices changes none
@@ -43,7 +43,7 @@ abbrev pub seen : {A : Type 0} → Table → Result A Refusal → Did A Table
 seen table answer = record { answer = answer; left = table }
 
 -- what a command answers, and the devices after it
-unfoldable pub step : Command → Table → Did Reply Table
+unfoldable pub step : Command → Table → Did CommandReply Table
 step (commands.Disk name sectors) table = done_as (changed table (make name sectors table))
 step (commands.Create name line) table = done_as (create name line table)
 step (commands.Remove name) table = done_as (changed table (take_away name table))
@@ -68,11 +68,11 @@ step (commands.Status device) table = told_as Said (seen table (status_text devi
 step (commands.Table device) table = told_as Said (seen table (line_text device table))
 
 -- a line that says nothing answers nothing
-abbrev pub obeyed : Table → Result (Option Command) Refusal → Did (Option Reply) Table
+abbrev pub obeyed : Table → Result (Option Command) Refusal → Did (Option CommandReply) Table
 obeyed table (Ok None) = record { answer = Ok None; left = table }
 obeyed table (Ok (Some command)) = told_as Some (step command table)
 obeyed table (Err refusal) = refused table refusal
 
 -- what a line answers, and the devices after it; a line has at most 65,536 bytes
-unfoldable pub answer_of : List ℕ → Table → Did (Option Reply) Table
+unfoldable pub answer_of : List ℕ → Table → Did (Option CommandReply) Table
 answer_of line table = obeyed table (said_of 65536 line)

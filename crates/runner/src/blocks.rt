@@ -3,16 +3,15 @@ ghost use Rattle.std.specs.Prelude.{◌≡◌, ◌≤◌, ◌++◌, ◌∷◌, [
 ghost use Rattle.std.specs.Io.KnownBytes.{Appends};
 ghost use Rattle.command_rules.specs.Naming.{AreNamed};
 ghost use Rattle.command_rules.specs.Sound.{is_sound};
-ghost use Rattle.reply.specs.declared.Reply.TheVariants.{Done, Refused};
+ghost use Rattle.command.specs.declared.command_reply.CommandReply.TheVariants.{Done, Refused};
 ghost use Rattle.runner.specs.Exit.{IsWriters};
-ghost use Rattle.runner.specs.Output.{Outcome, followed, printed};
+ghost use Rattle.runner.specs.Output.{LineOutcome, followed, printed};
 ghost use Rattle.runner.specs.Sessions.{IsBlockDone, refuses};
 
 use crate::desk::Desk;
 use crate::error::RunError;
 use block_run::run_block;
-use command::Block;
-use reply::Reply;
+use command::{CommandReply, LineBlock};
 use sector::Refusal;
 use std::io;
 use std::io::Write;
@@ -21,7 +20,7 @@ use std::thread::Threads;
 
 /// Prints the lines of replies. The one error is the writer's own; then part of them may be printed.
 #[tactic(auto, using(crate::proofs::EndedLemmas::none_replied, crate::proofs::BlockLemmas::reply_printed))]
-fn print_replies<W: Write>(writer: &mut W, replies: Vec<Reply>) -> io::Result<()>
+fn print_replies<W: Write>(writer: &mut W, replies: Vec<CommandReply>) -> io::Result<()>
     ensures { OnOk result (Appends (W.contents writer.old) (W.contents writer.new) (printed replies.items)) }
 {
     for reply in replies {
@@ -32,11 +31,11 @@ fn print_replies<W: Write>(writer: &mut W, replies: Vec<Reply>) -> io::Result<()
 
 /// Prints the lines of replies, and `ok` after them. The one error is the writer's own; then part of them may be printed.
 #[tactic(auto, using(crate::proofs::BlockLemmas::reply_printed))]
-fn print_done<W: Write>(writer: &mut W, replies: Vec<Reply>) -> io::Result<()>
+fn print_done<W: Write>(writer: &mut W, replies: Vec<CommandReply>) -> io::Result<()>
     ensures { OnOk result (Appends (W.contents writer.old) (W.contents writer.new) (printed (replies.items ++ Done ∷ []))) }
 {
     print_replies(writer, replies)?;
-    Reply::Done.write_to(writer)
+    CommandReply::Done.write_to(writer)
 }
 
 impl Desk {
@@ -50,7 +49,7 @@ impl Desk {
         ensures printed { OnOk result (Appends (W.contents writer.old) (W.contents writer.new) (printed (Refused refusal ∷ []))) }
         ensures error { IfErr result IsWriters }
     {
-        let own = Reply::Refused(refusal);
+        let own = CommandReply::Refused(refusal);
         self.summary = self.summary.with(&own);
         match own.write_to(writer) {
             Ok(()) => Ok(()),
@@ -64,13 +63,13 @@ impl Desk {
     pub(crate) fn run_block<R: Threads + Wait + Sync, W: Write>(
         &mut self,
         rt: &R,
-        block: Block,
+        block: LineBlock,
         workers: u32,
         writer: &mut W,
     ) -> Result<(), RunError>
         requires some { 1 ≤ workers }
         requires few { workers ≤ 4 }
-        ensures done { (done : Outcome) × IsBlockDone block self.old.table done × (self.new ≡ followed self.old done)
+        ensures done { (done : LineOutcome) × IsBlockDone block self.old.table done × (self.new ≡ followed self.old done)
             × OnOk result (Appends (W.contents writer.old) (W.contents writer.new) (printed done.replies)) }
         ensures sound { is_sound self.old.table ≡ true → is_sound self.new.table ≡ true }
         ensures error { IfErr result IsWriters }
@@ -80,7 +79,7 @@ impl Desk {
             Ok(replies) => replies,
             Err(refusal) => return self.refuse(refusal, writer),
         };
-        self.summary = self.summary.with_all(&replies).with(&Reply::Done);
+        self.summary = self.summary.with_all(&replies).with(&CommandReply::Done);
         match print_done(writer, replies) {
             Ok(()) => Ok(()),
             Err(error) => Err(RunError::Write(error)),

@@ -2,7 +2,7 @@
 ghost use Rattle.std.specs.Prelude.{◌≡◌, [], true, MatchResult, IfErr, IfSome, OnOk, Option, Result};
 ghost use Rattle.std.specs.Io.KnownBytes.{Appends};
 ghost use Rattle.sector.specs.declared.refusal.Refusal.{Refusal as AnyRefusal};
-ghost use Rattle.reply.specs.declared.Reply.{Reply as AnyReply};
+ghost use Rattle.command.specs.declared.command_reply.CommandReply.{CommandReply as AnyReply};
 ghost use Rattle.command_rules.specs.Naming.{AreNamed};
 ghost use Rattle.command_rules.specs.Sound.{is_sound};
 ghost use Rattle.named_volume.specs.Tables.{table_of};
@@ -11,7 +11,7 @@ ghost use Rattle.runner.specs.Counts.{summary_of};
 ghost use Rattle.runner.specs.Exit.{IsMemory, IsWriters};
 ghost use Rattle.runner.specs.Done.{IsLineDone};
 ghost use Rattle.runner.specs.Left.{IsLineLeft};
-ghost use Rattle.runner.specs.Output.{Outcome, MayBe, answered, empty, followed, printed, told};
+ghost use Rattle.runner.specs.Output.{LineOutcome, MayBe, answered, empty, followed, printed, told};
 ghost use Rattle.runner.specs.Ruled.{is_ruled_line};
 ghost use Rattle.runner.specs.Shown.{IsLineShown};
 ghost use Rattle.runner.specs.Sound.{is_sound_line};
@@ -21,9 +21,9 @@ use crate::ended::print_all;
 use crate::error::RunError;
 use crate::step::answer;
 use crate::summary::Summary;
-use named_volume::Held;
+use command::CommandReply;
+use named_volume::Devices;
 use plain::Replied;
-use reply::Reply;
 use std::alloc::Global;
 use std::io::Write;
 use std::marker::Model;
@@ -32,7 +32,7 @@ use std::marker::Model;
 #[derive(Drop)]
 pub struct Desk {
     pub(crate) alloc: Global,
-    pub(crate) held: Held,
+    pub(crate) held: Devices,
     pub(crate) summary: Summary,
 }
 
@@ -51,7 +51,12 @@ impl Model for Desk {
 
 /// Does what a line says, and gives what it prints: its answer, or its refusal. Requests that end in it go to the end of
 /// `ended`.
-fn outcome(alloc: Global, held: &mut Held, line: &[u8], ended: &mut Vec<Replied>) -> Option<Reply>
+fn outcome(
+    alloc: Global,
+    held: &mut Devices,
+    line: &[u8],
+    ended: &mut Vec<Replied>,
+) -> Option<CommandReply>
     ensures done { is_ruled_line line.now (table_of held.old) ≡ true → MayBe line.now (table_of held.old) (record { replies = answered result; table = table_of held.new }) }
     ensures shows { is_ruled_line line.now (table_of held.old) ≡ true → IsLineShown line.now (table_of held.old) (record { replies = answered result; table = table_of held.new }) }
     ensures asks { IsFirst (line_first line.now (table_of held.old)) (answered result) }
@@ -65,7 +70,7 @@ fn outcome(alloc: Global, held: &mut Held, line: &[u8], ended: &mut Vec<Replied>
 {
     match answer(alloc, held, line, ended) {
         Ok(reply) => reply,
-        Err(refusal) => Some(Reply::Refused(refusal)),
+        Err(refusal) => Some(CommandReply::Refused(refusal)),
     }
 }
 
@@ -77,7 +82,7 @@ impl Desk {
     {
         Ok(Desk {
             alloc,
-            held: Held::new(alloc).map_err(|_| RunError::Memory)?,
+            held: Devices::new(alloc).map_err(|_| RunError::Memory)?,
             summary: Summary::of_nothing(),
         })
     }
@@ -97,7 +102,7 @@ impl Desk {
     /// volume shows what the command leaves of what it showed. The one error is `RunError::Write`, the writer's own; then the
     /// line was done all the same, and part of what it prints may be printed.
     pub fn line<W: Write>(&mut self, line: &[u8], writer: &mut W) -> Result<(), RunError>
-        ensures done { (done : Outcome) × IsLineDone line.now self.old.table done × (self.new ≡ followed self.old done)
+        ensures done { (done : LineOutcome) × IsLineDone line.now self.old.table done × (self.new ≡ followed self.old done)
             × OnOk result (Appends (W.contents writer.old) (W.contents writer.new) (printed done.replies)) }
         // No device drops writes, and nothing is in flight, until a line makes one that does, starts a request or steps an event
         // of a merge.

@@ -4,8 +4,8 @@ ghost use Rattle.std.specs.Io.KnownBytes.{Appends};
 ghost use Rattle.runner.specs.Ended.{ended_line, ended_lines, ending_of, line_replies};
 ghost use Rattle.runner.specs.Output.{printed};
 
+use command::{CommandReply, Ended, Ending};
 use plain::{Replied, Reply as Answered, refusal_for};
-use reply::{Ended, Ending, Reply};
 use std::io;
 use std::io::Write;
 
@@ -22,12 +22,12 @@ fn ending_of(reply: Answered) -> Ending
 }
 
 /// The line of a request that ended.
-fn ended_line(replied: Replied) -> Reply
+fn ended_line(replied: Replied) -> CommandReply
     ensures { result ≡ ended_line replied }
 {
     let Replied { number, reply } = replied;
     let ending = ending_of(reply);
-    Reply::Ended(Ended {
+    CommandReply::Ended(Ended {
         request: number,
         ending,
     })
@@ -49,7 +49,7 @@ fn print_ended<W: Write>(writer: &mut W, ended: Vec<Replied>) -> io::Result<()>
 pub fn print_all<W: Write>(
     writer: &mut W,
     ended: Vec<Replied>,
-    own: Option<Reply>,
+    own: Option<CommandReply>,
 ) -> io::Result<()>
     ensures { OnOk result (Appends (W.contents writer.old) (W.contents writer.new) (printed (line_replies ended.items own))) }
 {

@@ -11,11 +11,10 @@ ghost use Rattle.runner.specs.Left.{IsStepLeft};
 ghost use Rattle.runner.specs.Output.{told};
 ghost use Rattle.runner.specs.Steps.{reworded};
 
-use command::Event;
+use command::{CommandReply, EventWords};
 use named_devices::step_device;
-use named_volume::Held;
+use named_volume::Devices;
 use plain::{Outcome, Replied};
-use reply::Reply;
 use sector::Refusal;
 use words::Name;
 
@@ -23,11 +22,11 @@ use words::Name;
 /// An event in which a device failed and no request ended answers `Fault`. The refusals are those of `step_device`, and
 /// `NoMemory`; a refusal leaves all as it was.
 pub fn step_volume(
-    held: &mut Held,
+    held: &mut Devices,
     name: &Name,
-    event: &Event,
+    event: &EventWords,
     ended: &mut Vec<Replied>,
-) -> Result<Reply, Refusal>
+) -> Result<CommandReply, Refusal>
     ensures done { is_merge_event event.now ≡ false → is_quiet_in (volume_for name.now (table_of held.old)) ≡ true → Does result (table_of held.new) (λ t. t ≡ table_of held.old) (refused (table_of held.old) (step_event name.now event.now (table_of held.old))) }
     ensures told { is_merge_event event.now ≡ false → is_quiet_in (volume_for name.now (table_of held.old)) ≡ true → ended.new.items ≡ ended.old.items }
     ensures asks { IsFirst (refusal_in (event_asked name.now event.now (table_of held.old))) (told (reworded Some result)) }
@@ -40,11 +39,11 @@ pub fn step_volume(
 {
     ended.reserve(1).map_err(|_| Refusal::NoMemory)?;
     match step_device(held, name, event)? {
-        Outcome::Done => Ok(Reply::Done),
-        Outcome::Fault => Ok(Reply::Fault),
+        Outcome::Done => Ok(CommandReply::Done),
+        Outcome::Fault => Ok(CommandReply::Fault),
         Outcome::Reply(number, reply) => {
             ended.push_reserved(Replied { number, reply });
-            Ok(Reply::Done)
+            Ok(CommandReply::Done)
         }
     }
 }

@@ -1,7 +1,7 @@
 // A whole text of lines, and the number of each line before its answers.
 ghost use Rattle.std.specs.Prelude.{◌≡◌, ◌≤◌, true, List, IfOk, IfErr, IfSome};
 ghost use Rattle.std.specs.Io.KnownBytes.{Appends};
-ghost use Rattle.reply.specs.declared.Reply.{Reply};
+ghost use Rattle.command.specs.declared.command_reply.CommandReply.{CommandReply};
 ghost use Rattle.runner.specs.Counts.{summary_of};
 ghost use Rattle.runner.specs.Exit.{IsEarly, IsWriters};
 ghost use Rattle.runner.specs.Numbered.{IsTextAnswered, IsTextAnsweredTo, all_of, numbered_from, numbered_output_of};
@@ -38,11 +38,11 @@ pub fn run_numbered<T: Threads + Wait + Sync, R: Read, W: Write>(
         → summary.no_memory ≡ 0 → summary.journal_full ≡ 0 → Appends (W.contents writer.old) (W.contents writer.new) (numbered_output_of text))) }
     // Of every text: these are the replies of each line, and at last of the text's end, in their order; each line of them is
     // printed with that line's number; and they are what `run` may print.
-    ensures lines { IfOk result (λ summary. (answers : List (List Reply))
+    ensures lines { IfOk result (λ summary. (answers : List (List CommandReply))
         × Appends (W.contents writer.old) (W.contents writer.new) (numbered_from 1 answers) × (summary ≡ summary_of (all_of answers))
         × IfSome (R.remaining reader.old) (λ text. IsTextAnswered text answers × IsTextDone text (all_of answers))) }
     // A run that ended early, and not for its writer, printed all that its first lines answered.
-    ensures begun { IfErr result (λ e. (IsWriters e → ⊥) → (answers : List (List Reply))
+    ensures begun { IfErr result (λ e. (IsWriters e → ⊥) → (answers : List (List CommandReply))
         × Appends (W.contents writer.old) (W.contents writer.new) (numbered_from 1 answers)
         × IfSome (R.remaining reader.old) (λ text. IsTextAnsweredTo text answers)) }
     // It ended early for what `run` does.

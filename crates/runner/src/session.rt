@@ -4,7 +4,7 @@ ghost use Rattle.std.specs.Io.KnownBytes.{Appends};
 ghost use Rattle.command_rules.specs.Naming.{AreNamed};
 ghost use Rattle.command_rules.specs.Sound.{is_sound};
 ghost use Rattle.runner.specs.Exit.{IsMemory, IsWriters};
-ghost use Rattle.runner.specs.Output.{Outcome, followed, printed};
+ghost use Rattle.runner.specs.Output.{LineOutcome, followed, printed};
 ghost use Rattle.runner.specs.Runs.{begun};
 ghost use Rattle.runner.specs.Sessions.{IsEndedBy, IsOpenedBy, IsSessionDone};
 ghost use Rattle.runner.specs.Sound.{is_sound_line};
@@ -15,7 +15,7 @@ use crate::desk::Desk;
 use crate::error::RunError;
 use crate::summary::Summary;
 use crate::tracing::traced;
-use command::{Block, LINE_LIMIT, is_par, opening_by};
+use command::{LINE_LIMIT, LineBlock, is_par, opening_by};
 use std::alloc::{AllocError, Global};
 use std::io::Write;
 use std::marker::Model;
@@ -27,7 +27,7 @@ use std::thread::Threads;
 pub struct Session {
     alloc: Global,
     desk: Desk,
-    block: Option<Block>,
+    block: Option<LineBlock>,
     workers: u32,
 }
 
@@ -76,14 +76,14 @@ impl Session {
     /// Opens a block by a line that begins with the word `par`, or answers why it opens none.
     fn open<W: Write>(&mut self, line: &[u8], writer: &mut W) -> Result<(), RunError>
         requires { self.old.block ≡ None }
-        ensures done { (done : Outcome) × IsOpenedBy (opening_of line.now) self.old.desk.table self.new.block done × (self.new.desk ≡ followed self.old.desk done)
+        ensures done { (done : LineOutcome) × IsOpenedBy (opening_of line.now) self.old.desk.table self.new.block done × (self.new.desk ≡ followed self.old.desk done)
             × OnOk result (Appends (W.contents writer.old) (W.contents writer.new) (printed done.replies)) }
         ensures table { self.new.desk.table ≡ self.old.desk.table }
         ensures error { IfErr result IsWriters }
     {
         match opening_by(self.alloc, line) {
             Ok(opening) => {
-                self.block = Some(Block::new(self.alloc, opening));
+                self.block = Some(LineBlock::new(self.alloc, opening));
                 Ok(())
             }
             Err(refusal) => self.desk.refuse(refusal, writer),
@@ -100,7 +100,7 @@ impl Session {
         line: &[u8],
         writer: &mut W,
     ) -> Result<(), RunError>
-        ensures done { (done : Outcome) × IsSessionDone line.now self.old self.new done × (self.new.desk ≡ followed self.old.desk done)
+        ensures done { (done : LineOutcome) × IsSessionDone line.now self.old self.new done × (self.new.desk ≡ followed self.old.desk done)
             × OnOk result (Appends (W.contents writer.old) (W.contents writer.new) (printed done.replies)) }
         ensures sound { is_sound self.old.desk.table ≡ true → is_sound_line line.now ≡ true → is_sound self.new.desk.table ≡ true }
         ensures error { IfErr result IsWriters }
@@ -129,7 +129,7 @@ impl Session {
         rt: &R,
         writer: &mut W,
     ) -> Result<(), RunError>
-        ensures done { (done : Outcome) × IsEndedBy self.old.block self.old.desk.table done × (self.new.desk ≡ followed self.old.desk done)
+        ensures done { (done : LineOutcome) × IsEndedBy self.old.block self.old.desk.table done × (self.new.desk ≡ followed self.old.desk done)
             × OnOk result (Appends (W.contents writer.old) (W.contents writer.new) (printed done.replies)) }
         ensures closed { self.new.block ≡ None }
         ensures error { IfErr result IsWriters }

@@ -2,8 +2,8 @@
 ghost use Rattle.std.specs.Prelude.{◌≡◌, ◌≢◌, true, Some, IfSome, MatchResult};
 ghost use Rattle.sector.specs.declared.refusal.Refusal.TheVariants.{NoMemory};
 ghost use Rattle.layers.specs.declared.message.Answer.TheVariants as answers;
-ghost use Rattle.reply.specs.declared.Reply.TheVariants.{Done, Data, Said, Number};
-ghost use Rattle.reply.specs.Answers.{reply_to};
+ghost use Rattle.command.specs.declared.command_reply.CommandReply.TheVariants.{Done, Data, Said, Number};
+ghost use Rattle.command.specs.Answers.{reply_to};
 ghost use Rattle.command_rules.specs.Changes.{Does, ServesIf, kept};
 ghost use Rattle.command_rules.specs.Messages.{tell};
 ghost use Rattle.command_rules.specs.Naming.{AreNamed};
@@ -27,75 +27,74 @@ use command::Command::{
     Checkpoint, Create, Disk, Finish, Flush, Load, Merge, Read, Remove, Resume, Save, Settle,
     StartRead, StartWrite, Status, Step, Stop, StopLosing, Table, Tick, Write,
 };
-use command::{Command, LINE_LIMIT, said};
+use command::{Command, CommandReply, LINE_LIMIT, said};
 use layers::{Answer, Message};
 use named_devices::{
     checkpoint_device, create_device, finish_device, flush_device, line_text, load_disk, make_disk,
     merge_device, read_device, remove_device, resume_device, save_disk, settle_device, start_read,
     start_write, status_text, stop_device, stop_losing, tell, tick, write_device,
 };
-use named_volume::Held;
+use named_volume::Devices;
 use plain::{Replied, ReqId};
-use reply::Reply;
 use sector::{Buf, Refusal};
 use std::alloc::Global;
 use words::{Name, Text};
 
 /// What was to be done is done.
-fn did(call: Result<(), Refusal>) -> Result<Reply, Refusal>
+fn did(call: Result<(), Refusal>) -> Result<CommandReply, Refusal>
     ensures { result ≡ reworded (λ _. Done) call }
 {
     match call {
-        Ok(()) => Ok(Reply::Done),
+        Ok(()) => Ok(CommandReply::Done),
         Err(refusal) => Err(refusal),
     }
 }
 
 /// Bytes that were asked for.
-fn given(call: Result<Buf, Refusal>) -> Result<Reply, Refusal>
+fn given(call: Result<Buf, Refusal>) -> Result<CommandReply, Refusal>
     ensures { result ≡ reworded Data call }
 {
     match call {
-        Ok(bytes) => Ok(Reply::Data(bytes)),
+        Ok(bytes) => Ok(CommandReply::Data(bytes)),
         Err(refusal) => Err(refusal),
     }
 }
 
 /// A text that was asked for.
-fn text(call: Result<Text, Refusal>) -> Result<Reply, Refusal>
+fn text(call: Result<Text, Refusal>) -> Result<CommandReply, Refusal>
     ensures { result ≡ reworded Said call }
 {
     match call {
-        Ok(text) => Ok(Reply::Said(text)),
+        Ok(text) => Ok(CommandReply::Said(text)),
         Err(refusal) => Err(refusal),
     }
 }
 
 /// The number of a request that was started.
-fn number(call: Result<ReqId, Refusal>) -> Result<Reply, Refusal>
+fn number(call: Result<ReqId, Refusal>) -> Result<CommandReply, Refusal>
     ensures { result ≡ reworded Number call }
 {
     match call {
-        Ok(number) => Ok(Reply::Number(number)),
+        Ok(number) => Ok(CommandReply::Number(number)),
         Err(refusal) => Err(refusal),
     }
 }
 
 /// The reply to a message that was answered. The one error is `NoMemory`, for the words of an answer that has some.
-fn worded(alloc: Global, answer: Answer) -> Result<Reply, Refusal>
+fn worded(alloc: Global, answer: Answer) -> Result<CommandReply, Refusal>
     ensures { MatchResult result (λ reply. reply ≡ reply_to answer) (λ e. (e ≡ NoMemory) × (answer ≢ answers.Done)) }
 {
-    Reply::to_message(alloc, answer).map_err(|_| Refusal::NoMemory)
+    CommandReply::to_message(alloc, answer).map_err(|_| Refusal::NoMemory)
 }
 
 /// `message DEV 0 WORDS`: tells a layer, and puts its answer into words. An answer that has words leaves each layer as it
 /// was, so where there is no memory for them, nothing changed.
 fn tell_device(
     alloc: Global,
-    held: &mut Held,
+    held: &mut Devices,
     name: &Name,
     message: &Message,
-) -> Result<Reply, Refusal>
+) -> Result<CommandReply, Refusal>
     ensures done { Does result (table_of held.new) (λ t. t ≡ table_of held.old) (told_as reply_to (kept (table_of held.old) (tell name.now message.now (table_of held.old)))) }
     ensures sound { is_sound (table_of held.old) ≡ true → is_sound (table_of held.new) ≡ true }
     ensures named { AreNamed (table_of held.old) → AreNamed (table_of held.new) }
@@ -111,10 +110,10 @@ fn tell_device(
 #[tactic(auto, unfolding(crate::specs::Steps::step))]
 fn obey(
     alloc: Global,
-    held: &mut Held,
+    held: &mut Devices,
     command: Command,
     ended: &mut Vec<Replied>,
-) -> Result<Reply, Refusal>
+) -> Result<CommandReply, Refusal>
     requires { is_lawful command ≡ true }
     ensures done { is_ruled command (table_of held.old) ≡ true → ServesIf (enters command) result (table_of held.new) (IsPartDone command (table_of held.old)) (step command (table_of held.old)) }
     ensures asks { IsFirst (first_refusal command (table_of held.old)) (told (reworded Some result)) }
@@ -157,10 +156,10 @@ fn obey(
 /// end of `ended`.
 pub fn answer(
     alloc: Global,
-    held: &mut Held,
+    held: &mut Devices,
     line: &[u8],
     ended: &mut Vec<Replied>,
-) -> Result<Option<Reply>, Refusal>
+) -> Result<Option<CommandReply>, Refusal>
     ensures done { is_ruled_line line.now (table_of held.old) ≡ true → ServesIf (enters_line line.now) result (table_of held.new) (IsStarved line.now (table_of held.old)) (answer_of line.now (table_of held.old)) }
     ensures shows { is_ruled_line line.now (table_of held.old) ≡ true → IsLineShown line.now (table_of held.old) (record { replies = told result; table = table_of held.new }) }
     ensures asks { IsFirst (line_first line.now (table_of held.old)) (told result) }

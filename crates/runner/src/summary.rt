@@ -3,7 +3,7 @@ ghost use Rattle.std.specs.Prelude.{◌≡◌, []};
 ghost use Rattle.runner.specs.Counts.{more, is_refused, refuses_with, summary_of, with_lines, with_reply};
 ghost use Rattle.runner.specs.Output.{answered, counted};
 
-use reply::Reply;
+use command::CommandReply;
 use sector::Refusal;
 
 /// How many lines were printed. Each number stops at 2^64 - 1.
@@ -31,18 +31,18 @@ fn more(counts: bool, number: u64) -> u64
 }
 
 /// Whether a reply is a refusal.
-fn is_refused(reply: &Reply) -> bool
+fn is_refused(reply: &CommandReply) -> bool
     ensures { result ≡ is_refused reply.now }
 {
-    matches!(reply, Reply::Refused(_))
+    matches!(reply, CommandReply::Refused(_))
 }
 
 /// Whether a reply is the refusal of this number.
-fn refuses_with(number: u8, reply: &Reply) -> bool
+fn refuses_with(number: u8, reply: &CommandReply) -> bool
     ensures { result ≡ refuses_with number reply.now }
 {
     match reply {
-        Reply::Refused(refusal) => refusal.number() == number,
+        CommandReply::Refused(refusal) => refusal.number() == number,
         _ => false,
     }
 }
@@ -62,7 +62,7 @@ impl Summary {
     }
 
     /// One more line, that of a reply.
-    pub fn with(self, reply: &Reply) -> Summary
+    pub fn with(self, reply: &CommandReply) -> Summary
         ensures { result ≡ with_reply reply.now self }
     {
         Summary {
@@ -80,7 +80,7 @@ impl Summary {
     }
 
     /// One more line for each reply.
-    pub fn with_all(self, replies: &[Reply]) -> Summary
+    pub fn with_all(self, replies: &[CommandReply]) -> Summary
         ensures { result ≡ counted replies.now self }
     {
         let mut summary = self;
@@ -101,7 +101,7 @@ impl Summary {
     }
 
     /// One more line, if there is one.
-    pub fn with_own(self, own: &Option<Reply>) -> Summary
+    pub fn with_own(self, own: &Option<CommandReply>) -> Summary
         ensures { result ≡ counted (answered own.now) self }
     {
         match own {

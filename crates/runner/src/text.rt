@@ -2,7 +2,7 @@
 ghost use Rattle.std.specs.Prelude.{◌≡◌, ◌≤◌, ◌++◌, true, List, IfOk, IfErr, IfSome};
 ghost use Rattle.std.specs.Io.KnownBytes.{Appends};
 ghost use Rattle.words.specs.Lines.{lines_of};
-ghost use Rattle.reply.specs.declared.Reply.{Reply};
+ghost use Rattle.command.specs.declared.command_reply.CommandReply.{CommandReply};
 ghost use Rattle.runner.specs.Counts.{summary_of};
 ghost use Rattle.runner.specs.Exit.{IsEarly, IsWriters};
 ghost use Rattle.runner.specs.Output.{output_of, replies_of, printed, MayAnswer, empty};
@@ -43,21 +43,21 @@ pub fn run<T: Threads + Wait + Sync, R: Read, W: Write>(
         → summary.no_memory ≡ 0 → summary.journal_full ≡ 0 → summary ≡ summary_of (replies_of text))) }
     // In any case whole replies are printed and counted, and of such a text each line answers its outcome, or that memory
     // or a journal's room ran out; then it changed nothing, or is a read or a write of which some part was done.
-    ensures any { IfOk result (λ summary. (replies : List Reply)
+    ensures any { IfOk result (λ summary. (replies : List CommandReply)
         × Appends (W.contents writer.old) (W.contents writer.new) (printed replies) × (summary ≡ summary_of replies)
         × IfSome (R.remaining reader.old) (λ text. is_sound_text text ≡ true → MayAnswer empty (lines_of text) replies)) }
     // Of every text: each line does what it does by itself where no block is open, is one of the block's where one is, or ends it;
     // and the end of the text ends a block that is still open. These are all replies, in this order.
-    ensures lines { IfOk result (λ summary. (replies : List Reply)
+    ensures lines { IfOk result (λ summary. (replies : List CommandReply)
         × Appends (W.contents writer.old) (W.contents writer.new) (printed replies) × (summary ≡ summary_of replies)
         × IfSome (R.remaining reader.old) (λ text. IsTextDone text replies)) }
     // A run that ended early, and not for its writer, printed whole replies too: the first of what the lines may answer.
-    ensures early { IfErr result (λ e. (IsWriters e → ⊥) → (replies : List Reply)
+    ensures early { IfErr result (λ e. (IsWriters e → ⊥) → (replies : List CommandReply)
         × Appends (W.contents writer.old) (W.contents writer.new) (printed replies)
         × IfSome (R.remaining reader.old) (λ text. is_sound_text text ≡ true
-        → (rest : List Reply) × MayAnswer empty (lines_of text) (replies ++ rest))) }
+        → (rest : List CommandReply) × MayAnswer empty (lines_of text) (replies ++ rest))) }
     // In any case they are all that its first lines answered.
-    ensures begun { IfErr result (λ e. (IsWriters e → ⊥) → (replies : List Reply)
+    ensures begun { IfErr result (λ e. (IsWriters e → ⊥) → (replies : List CommandReply)
         × Appends (W.contents writer.old) (W.contents writer.new) (printed replies)
         × IfSome (R.remaining reader.old) (λ text. IsTextBegun text replies)) }
     // It ended early for want of memory before the first line alone, and for the number of lines where there are so many.

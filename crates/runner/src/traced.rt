@@ -2,7 +2,7 @@
 ghost use Rattle.std.specs.Prelude.{◌≡◌, ◌≤◌, ◌++◌, true, List, IfOk, IfErr, IfSome};
 ghost use Rattle.std.specs.Io.KnownBytes.{Appends};
 ghost use Rattle.words.specs.Lines.{lines_of};
-ghost use Rattle.reply.specs.declared.Reply.{Reply};
+ghost use Rattle.command.specs.declared.command_reply.CommandReply.{CommandReply};
 ghost use Rattle.runner.specs.Counts.{summary_of};
 ghost use Rattle.runner.specs.Exit.{IsEarly, IsWriters};
 ghost use Rattle.runner.specs.Numbered.{IsTextAnswered, IsTextAnsweredTo, all_of, numbered_from, numbered_output_of};
@@ -40,17 +40,17 @@ pub fn run_traced<T: Threads + Wait + Sync, R: Read, W: Write, X: Write>(
         → summary.no_memory ≡ 0 → summary.journal_full ≡ 0 → Appends (W.contents writer.old) (W.contents writer.new) (output_of text))) }
     ensures counts { IfOk result (λ summary. IfSome (R.remaining reader.old) (λ text. is_sound_text text ≡ true
         → summary.no_memory ≡ 0 → summary.journal_full ≡ 0 → summary ≡ summary_of (replies_of text))) }
-    ensures any { IfOk result (λ summary. (replies : List Reply)
+    ensures any { IfOk result (λ summary. (replies : List CommandReply)
         × Appends (W.contents writer.old) (W.contents writer.new) (printed replies) × (summary ≡ summary_of replies)
         × IfSome (R.remaining reader.old) (λ text. is_sound_text text ≡ true → MayAnswer empty (lines_of text) replies)) }
-    ensures lines { IfOk result (λ summary. (replies : List Reply)
+    ensures lines { IfOk result (λ summary. (replies : List CommandReply)
         × Appends (W.contents writer.old) (W.contents writer.new) (printed replies) × (summary ≡ summary_of replies)
         × IfSome (R.remaining reader.old) (λ text. IsTextDone text replies)) }
-    ensures early { IfErr result (λ e. (IsWriters e → ⊥) → (replies : List Reply)
+    ensures early { IfErr result (λ e. (IsWriters e → ⊥) → (replies : List CommandReply)
         × Appends (W.contents writer.old) (W.contents writer.new) (printed replies)
         × IfSome (R.remaining reader.old) (λ text. is_sound_text text ≡ true
-        → (rest : List Reply) × MayAnswer empty (lines_of text) (replies ++ rest))) }
-    ensures begun { IfErr result (λ e. (IsWriters e → ⊥) → (replies : List Reply)
+        → (rest : List CommandReply) × MayAnswer empty (lines_of text) (replies ++ rest))) }
+    ensures begun { IfErr result (λ e. (IsWriters e → ⊥) → (replies : List CommandReply)
         × Appends (W.contents writer.old) (W.contents writer.new) (printed replies)
         × IfSome (R.remaining reader.old) (λ text. IsTextBegun text replies)) }
     ensures cause { IfErr result (IsEarly (R.remaining reader.old) (R.remaining reader.new) (W.contents writer.old) (W.contents writer.new)) }
@@ -83,10 +83,10 @@ pub fn run_numbered_traced<T: Threads + Wait + Sync, R: Read, W: Write, X: Write
     // What `run_numbered` promises of what is printed.
     ensures exact { IfOk result (λ summary. IfSome (R.remaining reader.old) (λ text. is_sound_text text ≡ true
         → summary.no_memory ≡ 0 → summary.journal_full ≡ 0 → Appends (W.contents writer.old) (W.contents writer.new) (numbered_output_of text))) }
-    ensures lines { IfOk result (λ summary. (answers : List (List Reply))
+    ensures lines { IfOk result (λ summary. (answers : List (List CommandReply))
         × Appends (W.contents writer.old) (W.contents writer.new) (numbered_from 1 answers) × (summary ≡ summary_of (all_of answers))
         × IfSome (R.remaining reader.old) (λ text. IsTextAnswered text answers × IsTextDone text (all_of answers))) }
-    ensures begun { IfErr result (λ e. (IsWriters e → ⊥) → (answers : List (List Reply))
+    ensures begun { IfErr result (λ e. (IsWriters e → ⊥) → (answers : List (List CommandReply))
         × Appends (W.contents writer.old) (W.contents writer.new) (numbered_from 1 answers)
         × IfSome (R.remaining reader.old) (λ text. IsTextAnsweredTo text answers)) }
     ensures cause { IfErr result (IsEarly (R.remaining reader.old) (R.remaining reader.new) (W.contents writer.old) (W.contents writer.new)) }

@@ -25,7 +25,7 @@ use Rattle.settled.specs.Merges.{Merging, Replied, beside, place_in, read_at, go
 use Rattle.settled.specs.MergeShown.{IsWell, IsMerging}
 use Rattle.settled.proofs.Chunks.{IsWide, HasChunks, answer_keeps, chunks_keep}
 use Rattle.settled.proofs.Each.{Each, each_from, all_from}
-use Rattle.event_machine.specs.Held.{Held, MergeHeld, Moving}
+use Rattle.event_machine.specs.Held.{SnapHeld, MergeHeld, Moving}
 use Rattle.event_machine.specs.MergeRest.{in_big_steps, IsMergedAtRest}
 use Rattle.event_machine.specs.MergeSettles.{part_of, SettlesToReplied}
 use Rattle.event_machine.specs.Requests.{IsInChunk, IsFit}
@@ -54,7 +54,7 @@ pub record IsLeftBeside (sectors chunk : ℕ) (w : Moving) (reply : Reply) (answ
   pub replied : reply ≡ answer.reply
 
 -- snapshots at rest are in order
-wells : (sectors : ℕ) (snaps : List Held) → Each (IsResting sectors) snaps → Each (IsWell sectors) (map snap_of snaps)
+wells : (sectors : ℕ) (snaps : List SnapHeld) → Each (IsResting sectors) snaps → Each (IsWell sectors) (map snap_of snaps)
 wells sectors [] rest = tt
 wells sectors (h ∷ snaps) rest = (λ live. (rest.0.live live).order, wells sectors snaps rest.1)
 

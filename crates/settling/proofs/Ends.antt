@@ -18,7 +18,7 @@ use Rattle.settled.specs.Saves.{copied, paired, zeroed}
 use Rattle.settled.specs.Devices.{Device, sectors_of, answers, met, written_by}
 use Rattle.settled.specs.Snaps.{Snap}
 use Rattle.settled.specs.Saving.{lacks_area, spoilt, flush_then, write_pair, commit, copy}
-use Rattle.event_machine.specs.Held.{Held, Going, MergeHeld, Moving, with_store, spoiled, flushed_held}
+use Rattle.event_machine.specs.Held.{SnapHeld, Going, MergeHeld, Moving, with_store, spoiled, flushed_held}
 use Rattle.event_machine.specs.Due.{fills_area, can_flush_store, copy_at, is_reading, least_in}
 use Rattle.event_machine.specs.Again.{again, placed, refused}
 use Rattle.settled.proofs.Each.{Each, each_weaker}
@@ -29,12 +29,12 @@ use Rattle.event_machine.proofs.Around.{at_with, IsIdle, IsLater, IsBefore}
 use Rattle.settling.proofs.Stages.{holding, copying, marks_here, flushes_done, flushes_failed, reads_done, reads_failed, writes_done, writes_failed, zeros_lacking, zeros_done, zeros_failed, area_done, area_failed, publishes}
 
 -- the requests in flight once a snapshot's copy came to its end
-abbrev pub requests_after : Option MergeHeld → List Held → Held → List Going → List Going
+abbrev pub requests_after : Option MergeHeld → List SnapHeld → SnapHeld → List Going → List Going
 requests_after g snaps h rs = map (again g snaps) (map (if h.snap.live then placed h else refused h.snap.number) rs)
 
 -- no request reads a chunk from the origin disk for a snapshot
 abbrev pub IsUnread : List Going → Type 0
-IsUnread rs = (h : Held) (c : ℕ) → list_any (is_reading h c) rs ≡ false
+IsUnread rs = (h : SnapHeld) (c : ℕ) → list_any (is_reading h c) rs ≡ false
 
 -- what a publication starts, in a snapshot that is live
 abbrev pub started_if : (Moving → Moving) → Bool → Moving → Moving
@@ -44,11 +44,11 @@ pub unstarted : (live : Bool) (v : Moving) → started_if no_start live v ≡ v
 unstarted true v = refl
 unstarted false v = refl
 
-module _ (starts : Moving → Moving) (g : Option MergeHeld) (done rest : List Held) (rs : List Going) (a : Option Reply) (k : ℕ) where
+module _ (starts : Moving → Moving) (g : Option MergeHeld) (done rest : List SnapHeld) (rs : List Going) (a : Option Reply) (k : ℕ) where
   -- A volume goes on to one where that snapshot is idle, and is this one, and then to what its publication starts. While it is
   -- live it has these pairs and this next place, the area after the current one is not zeroed, and no mark was written.
   pub record Ends (origin : Device) (v : Moving) (ps : List Pair) (nx : ℕ) (target : Snap) : Type 0 where
-    pub held : Held
+    pub held : SnapHeld
     pub snap : held.snap ≡ target
     pub idle : IsIdle held
     pub goes : Goes starts v (started_if starts held.snap.live (at_with g origin (done ++ held ∷ rest) (requests_after g (done ++ held ∷ rest) held rs) a k))
@@ -65,7 +65,7 @@ module _ (starts : Moving → Moving) (g : Option MergeHeld) (done rest : List H
   ends_as origin v ps nx t u same e = record { held = e.held; snap = e.snap ∙ same; idle = e.idle; goes = e.goes; pairs = e.pairs; next = e.next; zeroed = e.zeroed; firm = e.firm; unmarked = e.unmarked }
 
   -- a spoiled snapshot
-  pub ends_spoiled : (origin : Device) (h : Held) (ps : List Pair) (nx : ℕ) → h.marked ≡ false → Each IsLater done → Each IsLater rest → Ends origin (at_with g origin (done ++ spoiled h ∷ rest) (map (refused h.snap.number) rs) a k) ps nx (spoilt h.snap)
+  pub ends_spoiled : (origin : Device) (h : SnapHeld) (ps : List Pair) (nx : ℕ) → h.marked ≡ false → Each IsLater done → Each IsLater rest → Ends origin (at_with g origin (done ++ spoiled h ∷ rest) (map (refused h.snap.number) rs) a k) ps nx (spoilt h.snap)
   ends_spoiled origin h ps nx unmarked before later = record {
     held = tried_of h;
     snap = refl;
@@ -79,7 +79,7 @@ module _ (starts : Moving → Moving) (g : Option MergeHeld) (done rest : List H
   }
 
   -- a snapshot that waits for a flush of its store
-  ends_flush : (origin : Device) (h : Held) (ps : List Pair) (nx : ℕ) (next : Snap → Snap) → h.untried ≡ false → h.marked ≡ false → can_flush_store h ≡ true → Each IsLater done → Each IsLater rest →
+  ends_flush : (origin : Device) (h : SnapHeld) (ps : List Pair) (nx : ℕ) (next : Snap → Snap) → h.untried ≡ false → h.marked ≡ false → can_flush_store h ≡ true → Each IsLater done → Each IsLater rest →
       Ends origin (at_with g origin (done ++ flushed_held (with_store h (met h.snap.store Flushes)) ∷ rest) rs a k) ps nx (next (record h.snap { store = met h.snap.store Flushes })) → Ends origin (at_with g origin (done ++ h ∷ rest) rs a k) ps nx (flush_then next h.snap)
   ends_flush origin h ps nx next tried unmarked waits before later e =
       let now : Snap = record h.snap { store = met h.snap.store Flushes } in
@@ -97,7 +97,7 @@ module _ (starts : Moving → Moving) (g : Option MergeHeld) (done rest : List H
     -- a committed copy that was flushed
     ends_published : (origin : Device) (s : Snap) (z f : Bool) → s.live ≡ true → z ≡ false → f ≡ false → Ends origin (at_with g origin (done ++ holding s (ps ++ q ∷ []) nx z f [] ((record { number = n; chunk = q.old; safe = true }) ∷ []) ∷ rest) rs a k) (ps ++ q ∷ []) nx s
     ends_published origin s z f live unzeroed loose =
-        let now : Held = holding s (ps ++ q ∷ []) nx z f [] [] in
+        let now : SnapHeld = holding s (ps ++ q ∷ []) nx z f [] [] in
         let same : map (again g (done ++ now ∷ rest)) (map (placed now) rs) ≡ requests_after g (done ++ now ∷ rest) now rs = ap (λ f. map (again g (done ++ now ∷ rest)) (map f rs)) (sym (cond-true _ _ _ live)) in
         let ended : starts (at_with g origin (done ++ now ∷ rest) (map (again g (done ++ now ∷ rest)) (map (placed now) rs)) a k) ≡ starts (at_with g origin (done ++ now ∷ rest) (requests_after g (done ++ now ∷ rest) now rs) a k) = ap (λ x. starts (at_with g origin (done ++ now ∷ rest) x a k)) same in
         record {
@@ -138,7 +138,7 @@ module _ (starts : Moving → Moving) (g : Option MergeHeld) (done rest : List H
     ends_zeroed : (origin : Device) (s : Snap) (bytes : List ℕ) → 0 < s.chunk → s.live ≡ true → (((length ps + 1) % (32 * s.chunk)) == 0) ≡ true →
         Ends origin (at_with g origin (done ++ holding s ps nx true false (copying n q Flushed bytes ∷ []) [] ∷ rest) rs a k) (ps ++ q ∷ []) nx (flush_then (write_pair (length ps) q) s)
     ends_zeroed origin s bytes some live fill =
-        let h : Held = holding s ps nx true false (copying n q Flushed bytes ∷ []) [] in
+        let h : SnapHeld = holding s ps nx true false (copying n q Flushed bytes ∷ []) [] in
         let fills : fills_area h ≡ true = one_fills (length ps) (32 * s.chunk) (omega (arith, some)) ∙ fill in
         let waits : can_flush_store h ≡ true = rw fills refl in
         ends_flush origin h (ps ++ q ∷ []) nx (write_pair (length ps) q) refl refl waits befores later

@@ -17,7 +17,7 @@ use Rattle.in_flight.specs.declared.flights.Route.TheVariants.{Origin, Whole}
 use Rattle.settled.specs.Devices.{Device, answers, met, flush_reply}
 use Rattle.settled.specs.Snaps.{Snap}
 use Rattle.settled.specs.Pieces.{Answered, Served, flush_origin, flush_snap, in_snap}
-use Rattle.event_machine.specs.Held.{Held, Going, MergeHeld, Moving, with_store, flushed_copying, flushed_held}
+use Rattle.event_machine.specs.Held.{SnapHeld, Going, MergeHeld, Moving, with_store, flushed_copying, flushed_held}
 use Rattle.event_machine.specs.Stepping.{for_some, put, answer, flush_asked}
 use Rattle.event_machine.specs.Submitting.{submitted, declined, flush_snap as submit_flush}
 use Rattle.event_machine.specs.Rest.{IsResting, IsAtRest}
@@ -55,7 +55,7 @@ origin_flush_settles sectors number range v rest =
     rest.whole all refl)))
 
 -- a flush of a store changes no byte of it, and nothing was waiting for it
-flush_rests : (sectors : ℕ) (h : Held) → IsResting sectors h → IsResting sectors (flushed_held (with_store h (met h.snap.store Flushes)))
+flush_rests : (sectors : ℕ) (h : SnapHeld) → IsResting sectors h → IsResting sectors (flushed_held (with_store h (met h.snap.store Flushes)))
 flush_rests sectors h rest = record {
   tried = rest.tried;
   copies = ap (map flushed_copying) rest.copies;
@@ -65,29 +65,29 @@ flush_rests sectors h rest = record {
 
 -- of a snapshot, beside a merge or without one
 module _ (g : Option MergeHeld) (sectors number n : ℕ) (range : Range) (origin : Device) (a : Option Reply) (k : ℕ) (whole : length origin.bytes ≡ 512 * sectors) where
-  abbrev pub flush_begun : List Held → Moving
+  abbrev pub flush_begun : List SnapHeld → Moving
   flush_begun snaps = submitted number (flush_request (ToSnap n) range) (at_with g origin snaps [] a k)
 
-  abbrev pub FlushServes : List Held → Type 0
+  abbrev pub FlushServes : List SnapHeld → Type 0
   FlushServes snaps = Serves sectors g (flush_begun snaps) (in_snap n flush_snap origin (map snap_of snaps))
 
-  abbrev pub is_this : Held → Bool
+  abbrev pub is_this : SnapHeld → Bool
   is_this h = h.snap.number == n
 
   -- the request in flight
   abbrev pub flying : Going
   flying = record { number = number; request = kept (flush_request (ToSnap n) range); route = Whole }
 
-  abbrev entered : Held → Moving → Moving
+  abbrev entered : SnapHeld → Moving → Moving
   entered h v = submit_flush number (kept (flush_request (ToSnap n) range)) h v
 
-  nowhere : (snaps : List Held) → Each (IsResting sectors) snaps → Each (λ h. is_this h ≡ false) snaps → FlushServes snaps
+  nowhere : (snaps : List SnapHeld) → Each (IsResting sectors) snaps → Each (λ h. is_this h ≡ false) snaps → FlushServes snaps
   nowhere snaps rest none =
       serves_there sectors g (flush_begun snaps) (at_with g origin snaps [] (Some (Refused Invalid)) k) origin snaps (Refused Invalid) k _
       (ap (λ o. for_some o (λ h. entered h (at_with g origin snaps [] a k)) (declined Invalid (at_with g origin snaps [] a k))) (none_that is_this snaps none))
       (goes_none _) whole rest (served_nowhere n flush_snap origin snaps none)
 
-  module _ (done rest : List Held) (h : Held) (all : Each (IsResting sectors) (done ++ h ∷ rest)) (before : Each (λ d. is_this d ≡ false) done) (pass : is_this h ≡ true) where
+  module _ (done rest : List SnapHeld) (h : SnapHeld) (all : Each (IsResting sectors) (done ++ h ∷ rest)) (before : Each (λ d. is_this d ≡ false) done) (pass : is_this h ≡ true) where
     here : IsResting sectors h
     here = each_here (IsResting sectors) done rest h all
 
@@ -106,11 +106,11 @@ module _ (g : Option MergeHeld) (sectors number n : ℕ) (range : Range) (origin
     abbrev in_flight : Moving
     in_flight = at_with g origin (done ++ h ∷ rest) (flying ∷ []) a k
 
-    abbrev met_here : Held
+    abbrev met_here : SnapHeld
     met_here = with_store h (met h.snap.store Flushes)
 
     -- its event leaves this of the snapshot, with this reply
-    flush_met : h.snap.live ≡ true → (now : Held) (reply : Reply) → now.snap ≡ met_here.snap → flush_reply h.snap.store ≡ reply → IsResting sectors now → flush_asked (mine_of flying) is_this h in_flight ≡ answer (mine_of flying) reply (put is_this now in_flight) → FlushServes (done ++ h ∷ rest)
+    flush_met : h.snap.live ≡ true → (now : SnapHeld) (reply : Reply) → now.snap ≡ met_here.snap → flush_reply h.snap.store ≡ reply → IsResting sectors now → flush_asked (mine_of flying) is_this h in_flight ≡ answer (mine_of flying) reply (put is_this now in_flight) → FlushServes (done ++ h ∷ rest)
     flush_met on now reply snap same resting is =
         let made : Snap → Reply → Served = λ (s : Snap) (r : Reply). record { origin = origin; snap = s; reply = r } in
         served_by sectors g n flush_snap origin origin done rest h now reply k _ in_flight before pass all resting whole
@@ -133,7 +133,7 @@ module _ (g : Option MergeHeld) (sectors number n : ℕ) (range : Range) (origin
       | inl on ↦ flush_live on
     ]
 
-  pub snap_flush_serves : (snaps : List Held) → Each (IsResting sectors) snaps → FlushServes snaps
+  pub snap_flush_serves : (snaps : List SnapHeld) → Each (IsResting sectors) snaps → FlushServes snaps
   snap_flush_serves snaps rest = elim (split_at is_this snaps) [
     | inl none ↦ nowhere snaps rest none
     | inr s ↦ subst FlushServes (sym s.is) (flush_here s.done s.rest s.here (subst (Each (IsResting sectors)) s.is rest) s.before s.pass)

@@ -2,7 +2,7 @@
 use Rattle.std.proofs.Common.{◌≡◌, ℕ, zero, suc, ◌+◌, Option, Some, None, refl, ap, ◌∙◌, sym, arith}
 use Rattle.plain.specs.declared.event.Event.{Event}
 use Rattle.plain.specs.declared.event.Event.TheVariants.{Issue, CopyRead, CopyWrite, ZeroNext, WriteArea, Publish, WriteInvalid, FlushStore, MergeGroup, MergeAreaRead, MergeRead, MergeWrite, MergeFlush, MergeCommit, MergeRelease}
-use Rattle.event_machine.specs.Held.{Held, Moving}
+use Rattle.event_machine.specs.Held.{SnapHeld, Moving}
 use Rattle.event_machine.specs.Due.{due}
 use Rattle.event_machine.specs.Stepping.{for_some, first_that, publishes, stepped}
 use Rattle.event_machine.specs.Settles.{settle_by}
@@ -35,7 +35,7 @@ unfollowed MergeRelease v = refl
 
 -- the mark that is published is there
 abbrev pub IsThere : Event → Moving → Type 0
-IsThere (Publish n) v = (h : Held) × (first_that (publishes v.requests n) v.snaps ≡ Some h)
+IsThere (Publish n) v = (h : SnapHeld) × (first_that (publishes v.requests n) v.snaps ≡ Some h)
 IsThere event v = Unit {0}
 
 -- A choice of events that takes what is due of snapshots and requests first, and steps that do with it what the machine does,

@@ -5,7 +5,7 @@ use Rattle.plain.specs.declared.event.Event.TheVariants.{Issue, CopyRead, CopyWr
 use Rattle.plain.specs.declared.request.Reply.{Reply}
 use Rattle.volume_laws.specs.MergeDue.{due_or}
 use Rattle.settled.specs.Devices.{Device, sectors_of}
-use Rattle.event_machine.specs.Held.{Held, MergeHeld, Moving}
+use Rattle.event_machine.specs.Held.{SnapHeld, MergeHeld, Moving}
 use Rattle.event_machine.specs.Due.{chosen}
 use Rattle.event_machine.specs.MergeDue.{merge_due, due_all}
 use Rattle.event_machine.specs.MergeStepping.{start_waiting, stepped_all}
@@ -76,5 +76,5 @@ all_there v w goes quiet = (goes.0, λ m. goes.1 m ∙ stays m)
     stays (suc m) = ap (λ o. for_some o (λ e. settle_all m (stepped_all e w)) w) quiet
 
 -- where the snapshots are idle and no request is in flight, the merge's event is due
-pub merge_first : (origin : Device) (snaps : List Held) (a : Option Reply) (k : ℕ) (h : MergeHeld) (o : Option Event) → Each IsIdle snaps → merge_due (sectors_of origin) snaps [] (Some h) ≡ o → due_all (at_with (Some h) origin snaps [] a k) ≡ o
+pub merge_first : (origin : Device) (snaps : List SnapHeld) (a : Option Reply) (k : ℕ) (h : MergeHeld) (o : Option Event) → Each IsIdle snaps → merge_due (sectors_of origin) snaps [] (Some h) ≡ o → due_all (at_with (Some h) origin snaps [] a k) ≡ o
 merge_first origin snaps a k h o idle is = ap (λ x. due_or x (merge_due (sectors_of origin) snaps [] (Some h))) (due_request origin snaps [] a k idle None refl) ∙ is

@@ -13,7 +13,7 @@ use Rattle.store_bytes.specs.Pairs.{pairs_of, IsInside}
 use Rattle.settled.specs.Devices.{Device, answers, met, written_by}
 use Rattle.settled.specs.Merges.{Merge, Merging, pairs_in, stopped, going, with_store, with_origin, copy_back, copy_all, in_area, group_of, kept_in, flush, without_slots, clear_slots, merge_group}
 use Rattle.settled.specs.MergeShown.{IsMerging}
-use Rattle.event_machine.specs.Held.{Held, Moving}
+use Rattle.event_machine.specs.Held.{SnapHeld, Moving}
 use Rattle.event_machine.specs.Rest.{IsResting}
 use Rattle.event_machine.proofs.Around.{IsIdle}
 use Rattle.settled.proofs.Each.{Each, each_weaker}
@@ -58,10 +58,10 @@ lost_back (q ∷ back) m failed = ap (copied_back back) (cond-true _ _ _ failed)
 
 module _ (sectors : ℕ) (a : Option Reply) (ps : List Pair) where
   -- all chunks of a group are copied
-  abbrev pub now_copied : List Pair → Merging → List Held → ℕ → Moving
+  abbrev pub now_copied : List Pair → Merging → List SnapHeld → ℕ → Moving
   now_copied group m snaps k = merging_at a m (grouped m.merge ps [] [] [] group [] false) snaps k
 
-  pub copies_settle : (front back cs : List Pair) (m : Merging) (snaps : List Held) (k : ℕ) → IsMerging sectors m → m.merge.failed ≡ false → pairs_in m.merge ≡ front ++ turned back cs → map snap_of snaps ≡ m.volume.snaps → Each (IsResting sectors) snaps →
+  pub copies_settle : (front back cs : List Pair) (m : Merging) (snaps : List SnapHeld) (k : ℕ) → IsMerging sectors m → m.merge.failed ≡ false → pairs_in m.merge ≡ front ++ turned back cs → map snap_of snaps ≡ m.volume.snaps → Each (IsResting sectors) snaps →
       Parts sectors a ps (now_waiting sectors a ps (turned back []) cs m snaps k) (now_copied (turned back cs)) (copied_back back m)
   copies_settle front [] cs m snaps k is fine at same rest = inr (fine, record { snaps = snaps; started = k; goes = all_none _; same = same; rest = rest })
   copies_settle front (q ∷ back) cs m snaps k is fine at same rest =
@@ -72,7 +72,7 @@ module _ (sectors : ℕ) (a : Option Reply) (ps : List Pair) where
       let inside : IsInside m.merge.chunk sectors is.merge.size q = pair_inside sectors first cs q m next is here copy in
       let holds : IsMerging sectors next = pair_holds sectors first cs q m next is here copy in
       let pairs : pairs_in next.merge ≡ front ++ turned back (q ∷ cs) = ap (λ n. pairs_of n next.merge.store.bytes) copy.chunk ∙ ap (pairs_of m.merge.chunk) copy.store ∙ at in
-      let to : Merging → List Held → ℕ → Moving = now_copied (turned back (q ∷ cs)) in
+      let to : Merging → List SnapHeld → ℕ → Moving = now_copied (turned back (q ∷ cs)) in
       let begins : now_waiting sectors a ps (turned back [] ++ q ∷ []) cs m snaps k ≡ now_waiting sectors a ps (turned (q ∷ back) []) cs m snaps k = ap (λ xs. now_waiting sectors a ps xs cs m snaps k) (sym (turned_front back [] (q ∷ []))) in
       let steps : copied_back back next ≡ copied_back (q ∷ back) m = ap (copied_back back) (sym (cond-false _ _ _ fine)) in
       subst (λ (v : Moving). Parts sectors a ps v to (copied_back (q ∷ back) m)) begins
@@ -87,7 +87,7 @@ module _ (sectors : ℕ) (a : Option Reply) (ps : List Pair) where
   GroupEnds had less v m =
       ((m.merge.failed ≡ true) × (pairs_in m.merge ≡ had) × Reaches sectors v (merging_at a m (ungrouped m.merge ps)) m) ⊎ ((m.merge.failed ≡ false) × Reaches sectors v (merging_at a m (ungrouped m.merge less)) m)
 
-  module _ (c : Pair) (cs : List Pair) (m : Merging) (fine : m.merge.failed ≡ false) (snaps : List Held) (k : ℕ) (same : map snap_of snaps ≡ m.volume.snaps) (rest : Each (IsResting sectors) snaps) where
+  module _ (c : Pair) (cs : List Pair) (m : Merging) (fine : m.merge.failed ≡ false) (snaps : List SnapHeld) (k : ℕ) (same : map snap_of snaps ≡ m.volume.snaps) (rest : Each (IsResting sectors) snaps) where
     idle : Each IsIdle snaps
     idle = each_weaker (IsResting sectors) IsIdle snaps (resting_idle sectors) rest
 
@@ -100,7 +100,7 @@ module _ (sectors : ℕ) (a : Option Reply) (ps : List Pair) where
     abbrev from : Moving
     from = now_copied (c ∷ cs) m snaps k
 
-    reaches_to : (to : List Held → ℕ → Moving) (after : Merging) → after.volume.snaps ≡ m.volume.snaps → GoesAll from (to snaps k) → Reaches sectors from to after
+    reaches_to : (to : List SnapHeld → ℕ → Moving) (after : Merging) → after.volume.snaps ≡ m.volume.snaps → GoesAll from (to snaps k) → Reaches sectors from to after
     reaches_to to after still goes = record { snaps = snaps; started = k; goes = goes; same = same ∙ sym still; rest = rest }
 
     -- the flush, and the commit
@@ -133,11 +133,11 @@ module _ (sectors : ℕ) (a : Option Reply) (ps : List Pair) where
         ]
 
 -- the merge with no group: what is in memory of it is what its store's bytes say
-abbrev pub free_at : Option Reply → Merging → List Held → ℕ → Moving
+abbrev pub free_at : Option Reply → Merging → List SnapHeld → ℕ → Moving
 free_at a m snaps k = merging_at a m (ungrouped m.merge (pairs_in m.merge)) snaps k
 
 -- one group
-module _ (sectors : ℕ) (a : Option Reply) (m : Merging) (is : IsMerging sectors m) (fine : m.merge.failed ≡ false) (some : 0 < length (in_area m.merge)) (snaps : List Held) (k : ℕ) (same : map snap_of snaps ≡ m.volume.snaps) (rest : Each (IsResting sectors) snaps) where
+module _ (sectors : ℕ) (a : Option Reply) (m : Merging) (is : IsMerging sectors m) (fine : m.merge.failed ≡ false) (some : 0 < length (in_area m.merge)) (snaps : List SnapHeld) (k : ℕ) (same : map snap_of snaps ≡ m.volume.snaps) (rest : Each (IsResting sectors) snaps) where
   abbrev group : List Pair
   group = group_of m.merge
 

@@ -7,7 +7,7 @@ use Rattle.plain.specs.declared.request.Reply.{Reply}
 use Rattle.in_flight.specs.Due.{is_routed}
 use Rattle.settled.specs.Devices.{Device}
 use Rattle.settled.specs.Pieces.{Answered}
-use Rattle.event_machine.specs.Held.{Held, Going, MergeHeld, Moving}
+use Rattle.event_machine.specs.Held.{SnapHeld, Going, MergeHeld, Moving}
 use Rattle.event_machine.specs.Due.{due}
 use Rattle.event_machine.specs.Stepping.{for_some, answer, issue}
 use Rattle.event_machine.specs.Rest.{IsResting}
@@ -21,26 +21,26 @@ use Rattle.settling.proofs.Primed.{resting_idle}
 abbrev pub mine_of : Going → Going → Bool
 mine_of r x = x.number == r.number
 
-pub issued : (g : Option MergeHeld) (origin : Device) (snaps : List Held) (r : Going) (a : Option Reply) (k : ℕ) → Each IsIdle snaps → is_routed r.route ≡ true → Goes no_start (at_with g origin snaps (r ∷ []) a k) (issue r.route (mine_of r) r (at_with g origin snaps (r ∷ []) a k))
+pub issued : (g : Option MergeHeld) (origin : Device) (snaps : List SnapHeld) (r : Going) (a : Option Reply) (k : ℕ) → Each IsIdle snaps → is_routed r.route ≡ true → Goes no_start (at_with g origin snaps (r ∷ []) a k) (issue r.route (mine_of r) r (at_with g origin snaps (r ∷ []) a k))
 issued g origin snaps r a k idle routed =
     let v : Moving = at_with g origin snaps (r ∷ []) a k in
     goes_by v _ (Issue r.number) (due_request origin snaps (r ∷ []) a k idle (Some r.number) (cond-true _ _ _ routed)) tt
     (ap (λ o. for_some o (λ (x : Going). issue x.route (λ (y : Going). y.number == r.number) x v) v) (cond-true _ _ _ (same_number r.number (is_routed r.route) ∙ routed)))
 
-pub answered_here : (g : Option MergeHeld) (origin : Device) (snaps : List Held) (r : Going) (reply : Reply) (a : Option Reply) (k : ℕ) → answer (mine_of r) reply (at_with g origin snaps (r ∷ []) a k) ≡ at_with g origin snaps [] (Some reply) k
+pub answered_here : (g : Option MergeHeld) (origin : Device) (snaps : List SnapHeld) (r : Going) (reply : Reply) (a : Option Reply) (k : ℕ) → answer (mine_of r) reply (at_with g origin snaps (r ∷ []) a k) ≡ at_with g origin snaps [] (Some reply) k
 answered_here g origin snaps r reply a k = ap (λ rs. at_with g origin snaps rs (Some reply) k) (cond-true _ _ _ (eq-eqb r.number r.number refl))
 
 -- A volume beside a merge goes on to one at rest, whose devices, snapshots and reply are those of this answer.
 pub record Serves (sectors : ℕ) (g : Option MergeHeld) (u : Moving) (answered : Answered) : Type 0 where
-  pub snaps : List Held
+  pub snaps : List SnapHeld
   pub started : ℕ
   pub goes : Goes no_start u (at_with g answered.volume.origin snaps [] (Some answered.reply) started)
   pub whole : length answered.volume.origin.bytes ≡ 512 * sectors
   pub rest : Each (IsResting sectors) snaps
-  pub same : map (λ (h : Held). h.snap) snaps ≡ answered.volume.snaps
+  pub same : map (λ (h : SnapHeld). h.snap) snaps ≡ answered.volume.snaps
 
-pub serves_there : (sectors : ℕ) (g : Option MergeHeld) (u v : Moving) (origin : Device) (snaps : List Held) (reply : Reply) (k : ℕ) (answered : Answered) → u ≡ v → Goes no_start v (at_with g origin snaps [] (Some reply) k) → length origin.bytes ≡ 512 * sectors → Each (IsResting sectors) snaps →
-    answered ≡ record { volume = record { origin = origin; snaps = map (λ (h : Held). h.snap) snaps }; reply = reply } → Serves sectors g u answered
+pub serves_there : (sectors : ℕ) (g : Option MergeHeld) (u v : Moving) (origin : Device) (snaps : List SnapHeld) (reply : Reply) (k : ℕ) (answered : Answered) → u ≡ v → Goes no_start v (at_with g origin snaps [] (Some reply) k) → length origin.bytes ≡ 512 * sectors → Each (IsResting sectors) snaps →
+    answered ≡ record { volume = record { origin = origin; snaps = map (λ (h : SnapHeld). h.snap) snaps }; reply = reply } → Serves sectors g u answered
 serves_there sectors g u v origin snaps reply k answered begun goes whole rest is =
     subst (Serves sectors g u) (sym is) (record { snaps = snaps; started = k; goes = subst (λ (x : Moving). Goes no_start x (at_with g origin snaps [] (Some reply) k)) (sym begun) goes; whole = whole; rest = rest; same = refl })
 

@@ -13,7 +13,7 @@ use Rattle.in_flight.specs.Copies.{count_of}
 use Rattle.volume_laws.specs.MergeDue.{is_none, last_of, one_of}
 use Rattle.settled.specs.Devices.{Device, sectors_of, answers, met, written_by}
 use Rattle.settled.specs.Merges.{Merge, last_run, without_slots}
-use Rattle.event_machine.specs.Held.{Held, MergeHeld, Moving}
+use Rattle.event_machine.specs.Held.{SnapHeld, MergeHeld, Moving}
 use Rattle.event_machine.specs.Again.{is_clear_over}
 use Rattle.event_machine.specs.MergeDue.{in_area, is_free, can_group, can_read_area, can_read, is_readable, can_write, is_copied, can_flush, can_commit_group}
 use Rattle.event_machine.specs.MergeStepping.{start_next, without_last, read_chunk}
@@ -55,7 +55,7 @@ before_last (x ∷ y ∷ xs) q = ap (λ ps. x ∷ ps) (before_last (y ∷ xs) q)
 none_eq : (n : ℕ) → 0 < n → (n == 0) ≡ false
 none_eq n some = elim (cases_eq n 0) [ inl zero_is ↦ absurd (omega arith) | inr ne ↦ ne_eqb _ _ ne ]
 
-module _ (origin : Device) (snaps : List Held) (a : Option Reply) (k : ℕ) (idle : Each IsIdle snaps) where
+module _ (origin : Device) (snaps : List SnapHeld) (a : Option Reply) (k : ℕ) (idle : Each IsIdle snaps) where
   abbrev pub with_group : MergeHeld → Moving
   with_group h = at_with (Some h) origin snaps [] a k
 

@@ -15,7 +15,7 @@ use Rattle.settled.specs.Devices.{sectors_of, answers, met}
 use Rattle.settled.specs.Snaps.{Snap, Volume}
 use Rattle.settled.specs.Merges.{Merge, Merged, Merging, merged_of as in_one, pairs_in, with_store, in_area, read_before, merge_step, merge_steps, merge_all, merged}
 use Rattle.settled.specs.MergeShown.{IsMerging}
-use Rattle.event_machine.specs.Held.{Held, Going, MergeHeld, Moving}
+use Rattle.event_machine.specs.Held.{SnapHeld, Going, MergeHeld, Moving}
 use Rattle.event_machine.specs.MergeDue.{due_all, merge_due}
 use Rattle.event_machine.specs.MergeRest.{merge_in, merged_of, in_big_steps, IsMergeResting, IsBetween}
 use Rattle.event_machine.specs.MergeSettles.{SettlesToMerged}
@@ -33,11 +33,11 @@ use Rattle.settling.proofs.GroupsSettle.{free_at, group_settles}
 
 module _ (sectors : ℕ) (a : Option Reply) where
   -- a volume with a merge goes on to one where that is done
-  abbrev pub MergesTo : Merging → List Held → ℕ → Merging → Type 0
+  abbrev pub MergesTo : Merging → List SnapHeld → ℕ → Merging → Type 0
   MergesTo m snaps k after = Reaches sectors (free_at a m snaps k) (free_at a after) after
 
   -- the area before an empty one
-  area_settles : (m : Merging) → m.merge.failed ≡ false → length (in_area m.merge) ≡ 0 → 0 < m.merge.current → (snaps : List Held) (k : ℕ) → map snap_of snaps ≡ m.volume.snaps → Each (IsResting sectors) snaps → MergesTo m snaps k (read_before m)
+  area_settles : (m : Merging) → m.merge.failed ≡ false → length (in_area m.merge) ≡ 0 → 0 < m.merge.current → (snaps : List SnapHeld) (k : ℕ) → map snap_of snaps ≡ m.volume.snaps → Each (IsResting sectors) snaps → MergesTo m snaps k (read_before m)
   area_settles m fine none more snaps k same rest =
       let g : Merge = m.merge in
       let op : Operation = Reads (g.chunk * area_place g.chunk (g.current - 1)) g.chunk in
@@ -51,11 +51,11 @@ module _ (sectors : ℕ) (a : Option Reply) where
             (record { snaps = snaps; started = k; goes = area_lost m.volume.origin snaps a k idle g (pairs_in g) fine none more lost; same = same; rest = rest })
       ]
 
-  stays_there : (m : Merging) (snaps : List Held) (k : ℕ) → map snap_of snaps ≡ m.volume.snaps → Each (IsResting sectors) snaps → MergesTo m snaps k m
+  stays_there : (m : Merging) (snaps : List SnapHeld) (k : ℕ) → map snap_of snaps ≡ m.volume.snaps → Each (IsResting sectors) snaps → MergesTo m snaps k m
   stays_there m snaps k same rest = record { snaps = snaps; started = k; goes = all_none _; same = same; rest = rest }
 
   -- one step
-  step_settles : (m : Merging) → IsMerging sectors m → m.merge.failed ≡ false → (snaps : List Held) (k : ℕ) → map snap_of snaps ≡ m.volume.snaps → Each (IsResting sectors) snaps → MergesTo m snaps k (merge_step m)
+  step_settles : (m : Merging) → IsMerging sectors m → m.merge.failed ≡ false → (snaps : List SnapHeld) (k : ℕ) → map snap_of snaps ≡ m.volume.snaps → Each (IsResting sectors) snaps → MergesTo m snaps k (merge_step m)
   step_settles m is fine snaps k same rest = elim (cases_lt 0 (length (in_area m.merge))) [
     | inl some ↦ subst (MergesTo m snaps k) (sym (cond-true _ _ _ (lt-ltb _ _ some))) (group_settles sectors a m is fine some snaps k same rest)
     | inr none ↦ (let empty : length (in_area m.merge) ≡ 0 = omega arith in
@@ -66,7 +66,7 @@ module _ (sectors : ℕ) (a : Option Reply) where
         ])
   ]
 
-  pub steps_settle : (n : ℕ) (m : Merging) → IsMerging sectors m → (snaps : List Held) (k : ℕ) → map snap_of snaps ≡ m.volume.snaps → Each (IsResting sectors) snaps → MergesTo m snaps k (merge_steps n m)
+  pub steps_settle : (n : ℕ) (m : Merging) → IsMerging sectors m → (snaps : List SnapHeld) (k : ℕ) → map snap_of snaps ≡ m.volume.snaps → Each (IsResting sectors) snaps → MergesTo m snaps k (merge_steps n m)
   steps_settle zero m is snaps k same rest = stays_there m snaps k same rest
   steps_settle (suc n) m is snaps k same rest = elim (cases_Bool m.merge.failed) [
     | inl failed ↦ subst (MergesTo m snaps k) (sym (cond-true _ _ _ failed)) (stays_there m snaps k same rest)
@@ -76,11 +76,11 @@ module _ (sectors : ℕ) (a : Option Reply) where
   ]
 
 -- nothing is due where the merge failed, or where no pair and no area is left
-nothing_due : (sectors : ℕ) (snaps : List Held) (g : Merge) (ps : List Pair) → g.failed ≡ true → merge_due sectors snaps [] (Some (ungrouped g ps)) ≡ None
+nothing_due : (sectors : ℕ) (snaps : List SnapHeld) (g : Merge) (ps : List Pair) → g.failed ≡ true → merge_due sectors snaps [] (Some (ungrouped g ps)) ≡ None
 nothing_due sectors snaps g ps failed =
     ap (λ b. one_of ((not b && true) && ((length (drop (g.current * (32 * g.chunk)) ps) == 0) && nat_lt 0 g.current)) MergeAreaRead (one_of ((not b && true) && nat_lt 0 (length (drop (g.current * (32 * g.chunk)) ps))) MergeGroup None)) failed
 
-nothing_left : (sectors : ℕ) (snaps : List Held) (g : Merge) (ps : List Pair) → length (drop (g.current * (32 * g.chunk)) ps) ≡ 0 → g.current ≡ 0 → merge_due sectors snaps [] (Some (ungrouped g ps)) ≡ None
+nothing_left : (sectors : ℕ) (snaps : List SnapHeld) (g : Merge) (ps : List Pair) → length (drop (g.current * (32 * g.chunk)) ps) ≡ 0 → g.current ≡ 0 → merge_due sectors snaps [] (Some (ungrouped g ps)) ≡ None
 nothing_left sectors snaps g ps none first =
     ap (λ n. one_of ((not g.failed && true) && ((n == 0) && nat_lt 0 g.current)) MergeAreaRead (one_of ((not g.failed && true) && nat_lt 0 n) MergeGroup None)) none
     ∙ ap (λ c. one_of ((not g.failed && true) && ((0 == 0) && nat_lt 0 c)) MergeAreaRead (one_of ((not g.failed && true) && nat_lt 0 0) MergeGroup None)) first
@@ -92,7 +92,7 @@ nothing_left sectors snaps g ps none first =
 
 module _ (sectors : ℕ) (m : Merging) (is : IsMerging sectors m) where
   -- once the whole merge is done nothing more is due
-  ends_quiet : (n : ℕ) (snaps : List Held) → merge_due n snaps [] (Some (ungrouped (merge_all m).merge (pairs_in (merge_all m).merge))) ≡ None
+  ends_quiet : (n : ℕ) (snaps : List SnapHeld) → merge_due n snaps [] (Some (ungrouped (merge_all m).merge (pairs_in (merge_all m).merge))) ≡ None
   ends_quiet n snaps =
       let g : Merge = (merge_all m).merge in
       elim (cases_Bool g.failed) [
@@ -113,7 +113,7 @@ module _ (sectors : ℕ) (m : Merging) (is : IsMerging sectors m) where
       ]
 
   -- from a volume that is at rest
-  pub all_settles : (a : Option Reply) (snaps : List Held) (k : ℕ) → map snap_of snaps ≡ m.volume.snaps → Each (IsResting sectors) snaps → SettlesToMerged sectors (free_at a m snaps k) (in_one (merge_all m))
+  pub all_settles : (a : Option Reply) (snaps : List SnapHeld) (k : ℕ) → map snap_of snaps ≡ m.volume.snaps → Each (IsResting sectors) snaps → SettlesToMerged sectors (free_at a m snaps k) (in_one (merge_all m))
   all_settles a snaps k same rest =
       let after : Merging = merge_all m in
       let done : MergesTo sectors a m snaps k after = steps_settle sectors a (length (pairs_in m.merge) + m.merge.current) m is snaps k same rest in

@@ -14,7 +14,7 @@ use Rattle.in_flight.specs.Routes.{write_route_of}
 use Rattle.in_flight.specs.declared.flights.Route.{Route}
 use Rattle.in_flight.specs.declared.flights.Route.TheVariants.{Held as Waits, Origin}
 use Rattle.settled.specs.Devices.{Device, written_by}
-use Rattle.event_machine.specs.Held.{Held, Going, MergeHeld, Moving, is_untried}
+use Rattle.event_machine.specs.Held.{SnapHeld, Going, MergeHeld, Moving, is_untried}
 use Rattle.event_machine.specs.Again.{again, is_saved, is_clear, is_grouped, merged_place, write_route}
 use Rattle.event_machine.specs.Stepping.{for_some, issue, write_reply}
 use Rattle.event_machine.proofs.Lists.{same_number}
@@ -32,23 +32,23 @@ module _ (g : Option MergeHeld) (sectors number : ℕ) (range : Range) (ungroupe
   abbrev pub going : Route → Going
   going route = record { number = number; request = request; route = route }
 
-  abbrev pub route_for : List Held → Route
+  abbrev pub route_for : List SnapHeld → Route
   route_for snaps = write_route g snaps range.first
 
-  routed_by : (snaps : List Held) → route_for snaps ≡ write_route_of false None (is_clear snaps range.first)
+  routed_by : (snaps : List SnapHeld) → route_for snaps ≡ write_route_of false None (is_clear snaps range.first)
   routed_by snaps = ap (λ b. write_route_of b (merged_place g range.first) (is_clear snaps range.first)) ungrouped ∙ ap (λ o. write_route_of false o (is_clear snaps range.first)) unplaced
 
   -- that write in flight, routed by the snapshots
-  abbrev pub held_write : List Held → List Going
+  abbrev pub held_write : List SnapHeld → List Going
   held_write snaps = going (route_for snaps) ∷ []
 
   unread : (route : Route) → IsUnread (going route ∷ [])
   unread route h c = ap (λ b. b || false) (and_last ((range.first / h.snap.chunk) == c) false refl)
 
-  held_here : (snaps : List Held) → is_clear snaps range.first ≡ false → held_write snaps ≡ going Waits ∷ []
+  held_here : (snaps : List SnapHeld) → is_clear snaps range.first ≡ false → held_write snaps ≡ going Waits ∷ []
   held_here snaps e = ap (λ r. going r ∷ []) (routed_by snaps ∙ ap (write_route_of false None) e)
 
-  routed_again : (snaps : List Held) (h : Held) → requests_after g snaps h (going Waits ∷ []) ≡ held_write snaps
+  routed_again : (snaps : List SnapHeld) (h : SnapHeld) → requests_after g snaps h (going Waits ∷ []) ≡ held_write snaps
   routed_again snaps h = elim (cases_Bool h.snap.live) [
     | inl on ↦ ap (λ (f : Going → Going). map (again g snaps) (map f (going Waits ∷ []))) (cond-true _ _ _ on)
     | inr out ↦ ap (λ (f : Going → Going). map (again g snaps) (map f (going Waits ∷ []))) (cond-false _ _ _ out)
@@ -63,11 +63,11 @@ module _ (g : Option MergeHeld) (sectors number : ℕ) (range : Range) (ungroupe
   }
 
   -- the volume with that write in flight
-  abbrev pub writing : Device → List Held → Moving
+  abbrev pub writing : Device → List SnapHeld → Moving
   writing origin snaps = with_requests g sectors range.first held_write write_routed a k origin snaps
 
   -- the write itself, once each snapshot is idle and has the chunk
-  pub issues : (origin : Device) (snaps : List Held) → Each IsIdle snaps → Each (λ d. is_saved range.first d ≡ true) snaps →
+  pub issues : (origin : Device) (snaps : List SnapHeld) → Each IsIdle snaps → Each (λ d. is_saved range.first d ≡ true) snaps →
       Goes no_start (writing origin snaps) (at_with g (written_by origin (Writes range.first range.count) (with_sectors origin.bytes range.first bytes)) snaps [] (Some (write_reply origin range.first range.count)) k)
   issues origin snaps idle saved =
       let clear : is_clear snaps range.first ≡ true = clear_all range.first snaps saved (each_weaker IsIdle (λ d. is_untried d ≡ false) snaps (λ d i. i.tried) idle) in

@@ -15,7 +15,7 @@ use Rattle.settled.specs.Devices.{answers, met, written_by}
 use Rattle.settled.specs.Snaps.{Snap, Volume}
 use Rattle.settled.specs.Merges.{Merging, stopped, with_store, with_origin, saved_rounds, saved_over, read_then, write_disk, sectors_in, copy_back}
 use Rattle.settled.specs.MergeShown.{IsMerging}
-use Rattle.event_machine.specs.Held.{Held, MergeHeld, Moving}
+use Rattle.event_machine.specs.Held.{SnapHeld, MergeHeld, Moving}
 use Rattle.event_machine.specs.Again.{is_saved_over, is_clear_over}
 use Rattle.event_machine.specs.MergeStepping.{start_next}
 use Rattle.event_machine.specs.Rest.{IsResting}
@@ -30,33 +30,33 @@ use Rattle.settling.proofs.SavesSettle.{snap_of}
 use Rattle.settling.proofs.RoundsSettle.{clear_over, wanted, beside, starts_are, OverEnds, over_settles}
 
 -- the merge over its origin disk, with this group
-abbrev pub merging_at : Option Reply → Merging → MergeHeld → List Held → ℕ → Moving
+abbrev pub merging_at : Option Reply → Merging → MergeHeld → List SnapHeld → ℕ → Moving
 merging_at a m h snaps k = at_with (Some h) m.volume.origin snaps [] a k
 
 -- a volume goes on to one where the snapshots are at rest, and are those of the big step
-pub record Reaches (sectors : ℕ) (v : Moving) (to : List Held → ℕ → Moving) (m : Merging) : Type 0 where
-  pub snaps : List Held
+pub record Reaches (sectors : ℕ) (v : Moving) (to : List SnapHeld → ℕ → Moving) (m : Merging) : Type 0 where
+  pub snaps : List SnapHeld
   pub started : ℕ
   pub goes : GoesAll v (to snaps started)
   pub same : map snap_of snaps ≡ m.volume.snaps
   pub rest : Each (IsResting sectors) snaps
 
-pub reaches_after : (sectors : ℕ) (u v : Moving) (to : List Held → ℕ → Moving) (m : Merging) → GoesAll u v → Reaches sectors v to m → Reaches sectors u to m
+pub reaches_after : (sectors : ℕ) (u v : Moving) (to : List SnapHeld → ℕ → Moving) (m : Merging) → GoesAll u v → Reaches sectors v to m → Reaches sectors u to m
 reaches_after sectors u v to m goes r = record { snaps = r.snaps; started = r.started; goes = all_on _ _ _ goes r.goes; same = r.same; rest = r.rest }
 
 module _ (sectors : ℕ) (a : Option Reply) (ps : List Pair) where
   -- a part of the merge: it failed, and no group is left, or a volume with this group is
-  abbrev pub Parts : Moving → (Merging → List Held → ℕ → Moving) → Merging → Type 0
+  abbrev pub Parts : Moving → (Merging → List SnapHeld → ℕ → Moving) → Merging → Type 0
   Parts v to m = ((m.merge.failed ≡ true) × Reaches sectors v (merging_at a m (ungrouped m.merge ps)) m) ⊎ ((m.merge.failed ≡ false) × Reaches sectors v (to m) m)
 
-  pub parts_after : (u v : Moving) (to : Merging → List Held → ℕ → Moving) (m : Merging) → GoesAll u v → Parts v to m → Parts u to m
+  pub parts_after : (u v : Moving) (to : Merging → List SnapHeld → ℕ → Moving) (m : Merging) → GoesAll u v → Parts v to m → Parts u to m
   parts_after u v to m goes parts = elim parts [
     | inl lost ↦ inl (lost.0, reaches_after sectors u v (merging_at a m (ungrouped m.merge ps)) m goes lost.1)
     | inr done ↦ inr (done.0, reaches_after sectors u v (to m) m goes done.1)
   ]
 
   -- these pairs wait, and the copies of the last one's chunk are started
-  abbrev pub now_waiting : List Pair → List Pair → Merging → List Held → ℕ → Moving
+  abbrev pub now_waiting : List Pair → List Pair → Merging → List SnapHeld → ℕ → Moving
   now_waiting xs cs m snaps k = start_next m.merge.chunk (last_of xs) (merging_at a m (grouped m.merge ps xs [] [] cs [] false) snaps k)
 
   -- all chunks that so many sectors touch are saved in the other snapshots
@@ -64,7 +64,7 @@ module _ (sectors : ℕ) (a : Option Reply) (ps : List Pair) where
     pub reaches : Reaches sectors v (merging_at a m h) m
     pub saved : Each (λ d. is_saved_over first count d ≡ true) reaches.snaps
 
-  module _ (xs cs : List Pair) (q : Pair) (m : Merging) (is : IsMerging sectors m) (snaps : List Held) (k : ℕ) (same : map snap_of snaps ≡ m.volume.snaps) (rest : Each (IsResting sectors) snaps) (begins : m.merge.chunk * q.old < sectors) where
+  module _ (xs cs : List Pair) (q : Pair) (m : Merging) (is : IsMerging sectors m) (snaps : List SnapHeld) (k : ℕ) (same : map snap_of snaps ≡ m.volume.snaps) (rest : Each (IsResting sectors) snaps) (begins : m.merge.chunk * q.old < sectors) where
     abbrev waits : MergeHeld
     waits = grouped m.merge ps (xs ++ q ∷ []) [] [] cs [] false
 
@@ -116,7 +116,7 @@ module _ (sectors : ℕ) (a : Option Reply) (ps : List Pair) where
   abbrev back_of : ℕ → Pair → Merging → Merging
   back_of count q m = read_then (Reads (m.merge.chunk * q.new) count) (write_disk (m.merge.chunk * q.old) count (sectors_at m.merge.store.bytes (m.merge.chunk * q.new) count)) m
 
-  module _ (xs cs : List Pair) (q : Pair) (m : Merging) (fine : m.merge.failed ≡ false) (snaps : List Held) (k : ℕ) (same : map snap_of snaps ≡ m.volume.snaps) (rest : Each (IsResting sectors) snaps) (saved : Each (λ d. is_saved_over (m.merge.chunk * q.old) (sectors_in q m) d ≡ true) snaps) where
+  module _ (xs cs : List Pair) (q : Pair) (m : Merging) (fine : m.merge.failed ≡ false) (snaps : List SnapHeld) (k : ℕ) (same : map snap_of snaps ≡ m.volume.snaps) (rest : Each (IsResting sectors) snaps) (saved : Each (λ d. is_saved_over (m.merge.chunk * q.old) (sectors_in q m) d ≡ true) snaps) where
     idle : Each IsIdle snaps
     idle = each_weaker (IsResting sectors) IsIdle snaps (resting_idle sectors) rest
 
@@ -126,13 +126,13 @@ module _ (sectors : ℕ) (a : Option Reply) (ps : List Pair) where
     abbrev from : Moving
     from = merging_at a m (grouped m.merge ps (xs ++ q ∷ []) [] [] cs [] false) snaps k
 
-    reaches_to : (to : List Held → ℕ → Moving) (after : Merging) → after.volume.snaps ≡ m.volume.snaps → GoesAll from (to snaps k) → Reaches sectors from to after
+    reaches_to : (to : List SnapHeld → ℕ → Moving) (after : Merging) → after.volume.snaps ≡ m.volume.snaps → GoesAll from (to snaps k) → Reaches sectors from to after
     reaches_to to after still goes = record { snaps = snaps; started = k; goes = goes; same = same ∙ sym still; rest = rest }
 
     backs : Parts from (now_waiting xs (q ∷ cs)) (back_of (sectors_in q m) q m)
     backs =
         let n : ℕ = sectors_in q m in
-        let to : Merging → List Held → ℕ → Moving = now_waiting xs (q ∷ cs) in
+        let to : Merging → List SnapHeld → ℕ → Moving = now_waiting xs (q ∷ cs) in
         let bytes : List ℕ = sectors_at m.merge.store.bytes (m.merge.chunk * q.new) n in
         let reads : Operation = Reads (m.merge.chunk * q.new) n in
         let writes : Operation = Writes (m.merge.chunk * q.old) n in
@@ -150,7 +150,7 @@ module _ (sectors : ℕ) (a : Option Reply) (ps : List Pair) where
         ]
 
   -- one pair
-  pub copies_one : (xs cs : List Pair) (q : Pair) (m : Merging) (snaps : List Held) (k : ℕ) → IsMerging sectors m → m.merge.failed ≡ false → map snap_of snaps ≡ m.volume.snaps → Each (IsResting sectors) snaps → m.merge.chunk * q.old < sectors →
+  pub copies_one : (xs cs : List Pair) (q : Pair) (m : Merging) (snaps : List SnapHeld) (k : ℕ) → IsMerging sectors m → m.merge.failed ≡ false → map snap_of snaps ≡ m.volume.snaps → Each (IsResting sectors) snaps → m.merge.chunk * q.old < sectors →
       Parts (now_waiting (xs ++ q ∷ []) cs m snaps k) (now_waiting xs (q ∷ cs)) (copy_back q m)
   copies_one xs cs q m snaps k is fine same rest inside =
       let first : ℕ = m.merge.chunk * q.old in
@@ -159,7 +159,7 @@ module _ (sectors : ℕ) (a : Option Reply) (ps : List Pair) where
       let h : MergeHeld = grouped m.merge ps (xs ++ q ∷ []) [] [] cs [] false in
       let s : AreSaved first (count_of m.merge.chunk sectors q.old) (now_waiting (xs ++ q ∷ []) cs m snaps k) h saved = saves_over xs cs q m is snaps k same rest inside in
       let count : sectors_in q saved ≡ n = ap (λ (b : List ℕ). count_of m.merge.chunk (length b / 512) q.old) (rounds_bytes first n n m.volume) in
-      let to : Merging → List Held → ℕ → Moving = now_waiting xs (q ∷ cs) in
+      let to : Merging → List SnapHeld → ℕ → Moving = now_waiting xs (q ∷ cs) in
       let all_saved : Each (λ d. is_saved_over first (sectors_in q saved) d ≡ true) s.reaches.snaps = subst (λ (x : ℕ). Each (λ d. is_saved_over first x d ≡ true) s.reaches.snaps) (sym (count ∙ count_same xs cs q m is snaps k same rest inside)) s.saved in
       subst (λ (x : ℕ). Parts (now_waiting (xs ++ q ∷ []) cs m snaps k) to (back_of x q saved)) count
       (parts_after _ _ to (back_of (sectors_in q saved) q saved) s.reaches.goes (backs xs cs q saved fine s.reaches.snaps s.reaches.started s.reaches.same s.reaches.rest all_saved))

@@ -29,7 +29,7 @@ use Rattle.settled.specs.Requests.{FitsRange}
 use Rattle.settled.specs.Snaps.{Snap}
 use Rattle.settled.specs.Merges.{Merging, Replied, pairs_in, beside, write_at, read_at, flush_through}
 use Rattle.settled.specs.MergeShown.{IsMerging}
-use Rattle.event_machine.specs.Held.{Held, Going, MergeHeld, Moving, group_in, on_device}
+use Rattle.event_machine.specs.Held.{SnapHeld, Going, MergeHeld, Moving, group_in, on_device}
 use Rattle.event_machine.specs.Again.{is_grouped, merged_place, write_route, is_clear}
 use Rattle.event_machine.specs.Due.{due}
 use Rattle.event_machine.specs.MergeRest.{in_big_steps, IsMergeResting, IsMergedAtRest}
@@ -51,7 +51,7 @@ use Rattle.settling.proofs.WritesSettle.{write_request, origin_write_serves}
 use Rattle.settling.proofs.MergeServes.{over_pairs}
 
 -- a volume goes on to one at rest with a merge
-replied_there : (sectors : ℕ) (u : Moving) (h : MergeHeld) (origin : Device) (snaps : List Held) (reply : Reply) (k : ℕ) (answer : Replied) → Goes no_start u (at_with (Some h) origin snaps [] (Some reply) k) → length origin.bytes ≡ 512 * sectors → Each (IsResting sectors) snaps → IsMergeResting h →
+replied_there : (sectors : ℕ) (u : Moving) (h : MergeHeld) (origin : Device) (snaps : List SnapHeld) (reply : Reply) (k : ℕ) (answer : Replied) → Goes no_start u (at_with (Some h) origin snaps [] (Some reply) k) → length origin.bytes ≡ 512 * sectors → Each (IsResting sectors) snaps → IsMergeResting h →
     record { volume = record { origin = origin; snaps = map snap_of snaps }; merge = h.merge } ≡ answer.state → reply ≡ answer.reply → SettlesToReplied sectors u answer
 replied_there sectors u h origin snaps reply k answer goes whole rest free is same =
     let last : Moving = at_with (Some h) origin snaps [] (Some reply) k in
@@ -75,7 +75,7 @@ served_beside sectors u h answered free s =
     replied_there sectors u h answered.volume.origin s.snaps answered.reply s.started (beside h.merge answered) s.goes s.whole s.rest free
     (ap (λ (ss : List Snap). let m : Merging = record { volume = record { origin = answered.volume.origin; snaps = ss }; merge = h.merge } in m) s.same) refl
 
-module _ (sectors number : ℕ) (h : MergeHeld) (origin : Device) (snaps : List Held) (a : Option Reply) (k : ℕ) (whole : length origin.bytes ≡ 512 * sectors) (resting : Each (IsResting sectors) snaps) (free : IsMergeResting h) where
+module _ (sectors number : ℕ) (h : MergeHeld) (origin : Device) (snaps : List SnapHeld) (a : Option Reply) (k : ℕ) (whole : length origin.bytes ≡ 512 * sectors) (resting : Each (IsResting sectors) snaps) (free : IsMergeResting h) where
   abbrev pub here : Moving
   here = at_with (Some h) origin snaps [] a k
 

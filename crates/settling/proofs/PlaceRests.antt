@@ -17,7 +17,7 @@ use Rattle.settled.proofs.Parts.{part_only}
 use Rattle.settled.proofs.Commits.{tail_kept}
 use Rattle.settled.proofs.Laws.{chunk_fits}
 use Rattle.settled.specs.Devices.{answers, written_by}
-use Rattle.event_machine.specs.Held.{Held, with_store}
+use Rattle.event_machine.specs.Held.{SnapHeld, with_store}
 use Rattle.event_machine.specs.Rest.{IsKept, IsResting}
 
 -- a change of one copy's place
@@ -49,7 +49,7 @@ inside_chunk chunk first count piece =
     let turn : first / chunk * chunk ≡ chunk * (first / chunk) = grind arith in
     omega arith
 
-pub place_rests : (sectors n first count : ℕ) (bytes : List ℕ) (h : Held) → IsResting sectors h → h.snap.live ≡ true → place_of h.pairs (first / h.snap.chunk) ≡ Some n → first + count ≤ h.snap.chunk * (first / h.snap.chunk) + h.snap.chunk → length bytes ≡ 512 * count →
+pub place_rests : (sectors n first count : ℕ) (bytes : List ℕ) (h : SnapHeld) → IsResting sectors h → h.snap.live ≡ true → place_of h.pairs (first / h.snap.chunk) ≡ Some n → first + count ≤ h.snap.chunk * (first / h.snap.chunk) + h.snap.chunk → length bytes ≡ 512 * count →
     IsResting sectors (with_store h (written_by h.snap.store (Writes (h.snap.chunk * n + first % h.snap.chunk) count) (with_sectors h.snap.store.bytes (h.snap.chunk * n + first % h.snap.chunk) bytes)))
 place_rests sectors n first count bytes h rest on some piece len =
     let chunk : ℕ = h.snap.chunk in

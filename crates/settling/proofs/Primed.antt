@@ -10,7 +10,7 @@ use Rattle.device.specs.declared.operation.Operation.TheVariants.{Writes, Flushe
 use Rattle.settled.specs.Devices.{answers, met}
 use Rattle.settled.specs.Saving.{spoilt, header_written}
 use Rattle.store_bytes.specs.Picture.{place_of}
-use Rattle.event_machine.specs.Held.{Copying, Held}
+use Rattle.event_machine.specs.Held.{Copying, SnapHeld}
 use Rattle.event_machine.specs.Due.{can_mark, copy_at, least_in}
 use Rattle.event_machine.specs.Rest.{IsResting}
 use Rattle.event_machine.specs.Submitting.{needs_none, is_filled, with_copy, started_all, refused_by}
@@ -19,25 +19,25 @@ use Rattle.event_machine.proofs.Lists.{Above}
 use Rattle.event_machine.proofs.Around.{IsIdle, IsLater, idle_later, later_marks}
 
 -- whether the mark of a spoiled snapshot is written
-abbrev pub mark_goes : Held → Bool
+abbrev pub mark_goes : SnapHeld → Bool
 mark_goes h = answers h.snap.store (Writes 0 h.snap.chunk)
 
 -- a spoiled snapshot whose mark is written, and waits for a flush of the store; and one whose mark could not be written
-abbrev pub mark_written : Held → Held
+abbrev pub mark_written : SnapHeld → SnapHeld
 mark_written h = record h { snap = record h.snap { live = false; store = header_written h.snap }; untried = true; marked = true; copies = []; marks = [] }
 
-abbrev pub mark_missed : Held → Held
+abbrev pub mark_missed : SnapHeld → SnapHeld
 mark_missed h = record h { snap = record h.snap { live = false; stale = true; store = header_written h.snap }; untried = false; marked = false; copies = []; marks = [] }
 
-abbrev pub marked_of : Held → Held
+abbrev pub marked_of : SnapHeld → SnapHeld
 marked_of h = if mark_goes h then mark_written h else mark_missed h
 
 -- a spoiled snapshot whose mark is tried
-abbrev pub tried_of : Held → Held
+abbrev pub tried_of : SnapHeld → SnapHeld
 tried_of h = record h { snap = spoilt h.snap; untried = false; marked = mark_goes h; copies = []; marks = [] }
 
 -- the one by the other
-abbrev tried_by : Held → Bool → Held
+abbrev tried_by : SnapHeld → Bool → SnapHeld
 tried_by h b = record h {
   snap = record h.snap { live = false; stale = not (b && answers (header_written h.snap) Flushes); store = if b then met (header_written h.snap) Flushes else header_written h.snap };
   untried = false;
@@ -47,37 +47,37 @@ tried_by h b = record h {
 }
 
 -- the mark's flush
-abbrev pub mark_flushed : Held → Held
+abbrev pub mark_flushed : SnapHeld → SnapHeld
 mark_flushed h = record h { snap = record h.snap { stale = not (answers h.snap.store Flushes); store = met h.snap.store Flushes }; untried = false }
 
-pub tried_flushed : (h : Held) → mark_goes h ≡ true → tried_of h ≡ mark_flushed (mark_written h)
+pub tried_flushed : (h : SnapHeld) → mark_goes h ≡ true → tried_of h ≡ mark_flushed (mark_written h)
 tried_flushed h goes = ap (tried_by h) goes
 
-pub tried_missed : (h : Held) → mark_goes h ≡ false → tried_of h ≡ mark_missed h
+pub tried_missed : (h : SnapHeld) → mark_goes h ≡ false → tried_of h ≡ mark_missed h
 tried_missed h fails = ap (tried_by h) fails
 
 -- the copies that are started, once the marks of the stores that were full are written
-abbrev pub marked_all : (Held → ℕ) → ℕ → List Held → List Held
+abbrev pub marked_all : (SnapHeld → ℕ) → ℕ → List SnapHeld → List SnapHeld
 marked_all at m [] = []
 marked_all at m (h ∷ snaps) =
     if needs_none (at h) h then h ∷ marked_all at m snaps
     else (if is_filled h then marked_of h ∷ marked_all at m snaps
     else with_copy (m + 1) (at h) h ∷ marked_all at (m + 1) snaps)
 
-abbrev pub primed : (Held → ℕ) → ℕ → List Held → List Held
+abbrev pub primed : (SnapHeld → ℕ) → ℕ → List SnapHeld → List SnapHeld
 primed at m [] = []
 primed at m (h ∷ snaps) =
     if needs_none (at h) h then h ∷ primed at m snaps
     else (if is_filled h then tried_of h ∷ primed at m snaps
     else with_copy (m + 1) (at h) h ∷ primed at (m + 1) snaps)
 
-pub primed_none : (at : Held → ℕ) (m : ℕ) (h : Held) (snaps : List Held) → needs_none (at h) h ≡ true → primed at m (h ∷ snaps) ≡ h ∷ primed at m snaps
+pub primed_none : (at : SnapHeld → ℕ) (m : ℕ) (h : SnapHeld) (snaps : List SnapHeld) → needs_none (at h) h ≡ true → primed at m (h ∷ snaps) ≡ h ∷ primed at m snaps
 primed_none at m h snaps none = cond-true _ _ _ none
 
-pub primed_full : (at : Held → ℕ) (m : ℕ) (h : Held) (snaps : List Held) → needs_none (at h) h ≡ false → is_filled h ≡ true → primed at m (h ∷ snaps) ≡ tried_of h ∷ primed at m snaps
+pub primed_full : (at : SnapHeld → ℕ) (m : ℕ) (h : SnapHeld) (snaps : List SnapHeld) → needs_none (at h) h ≡ false → is_filled h ≡ true → primed at m (h ∷ snaps) ≡ tried_of h ∷ primed at m snaps
 primed_full at m h snaps some full = cond-false _ _ _ some ∙ cond-true _ _ _ full
 
-pub primed_copy : (at : Held → ℕ) (m : ℕ) (h : Held) (snaps : List Held) → needs_none (at h) h ≡ false → is_filled h ≡ false → primed at m (h ∷ snaps) ≡ with_copy (m + 1) (at h) h ∷ primed at (m + 1) snaps
+pub primed_copy : (at : SnapHeld → ℕ) (m : ℕ) (h : SnapHeld) (snaps : List SnapHeld) → needs_none (at h) h ≡ false → is_filled h ≡ false → primed at m (h ∷ snaps) ≡ with_copy (m + 1) (at h) h ∷ primed at (m + 1) snaps
 primed_copy at m h snaps some room = cond-false _ _ _ some ∙ cond-false _ _ _ room
 
 or_none : (b : Bool) → (b || false) ≡ b
@@ -85,30 +85,30 @@ or_none true = refl
 or_none false = refl
 
 -- while no copy is under way
-pub needs_resting : (c : ℕ) (h : Held) → h.copies ≡ [] → needs_none c h ≡ (not h.snap.live || is_some (place_of h.pairs c))
+pub needs_resting : (c : ℕ) (h : SnapHeld) → h.copies ≡ [] → needs_none c h ≡ (not h.snap.live || is_some (place_of h.pairs c))
 needs_resting c h none = ap (λ (cs : List Copying). not h.snap.live || is_some (place_of h.pairs c) || list_any (λ p. p.pair.old == c) cs) none ∙ or_none (not h.snap.live || is_some (place_of h.pairs c))
 
 -- no request is in flight that could be refused
-pub refused_none : (at : Held → ℕ) (snaps : List Held) → refused_by at snaps [] ≡ []
+pub refused_none : (at : SnapHeld → ℕ) (snaps : List SnapHeld) → refused_by at snaps [] ≡ []
 refused_none at [] = refl
 refused_none at (h ∷ snaps) = elim (cases_Bool (needs_none (at h) h || not (is_filled h))) [
   | inl stays ↦ cond-true _ _ _ stays ∙ refused_none at snaps
   | inr full ↦ cond-false _ _ _ full ∙ refused_none at snaps
 ]
 
-pub started_none : (at : Held → ℕ) (m : ℕ) (h : Held) (snaps : List Held) → needs_none (at h) h ≡ true → started_all at m (h ∷ snaps) ≡ h ∷ started_all at m snaps
+pub started_none : (at : SnapHeld → ℕ) (m : ℕ) (h : SnapHeld) (snaps : List SnapHeld) → needs_none (at h) h ≡ true → started_all at m (h ∷ snaps) ≡ h ∷ started_all at m snaps
 started_none at m h snaps none = cond-true _ _ _ none
 
-pub resting_idle : (sectors : ℕ) (h : Held) → IsResting sectors h → IsIdle h
+pub resting_idle : (sectors : ℕ) (h : SnapHeld) → IsResting sectors h → IsIdle h
 resting_idle sectors h rest = record { tried = rest.tried; copies = rest.copies; marks = rest.marks }
 
-pub tried_later : (h : Held) → IsLater (tried_of h)
+pub tried_later : (h : SnapHeld) → IsLater (tried_of h)
 tried_later h = record { tried = refl; marks = refl; front = refl; unflushed = refl; read = refl }
 
-pub copy_later : (n c : ℕ) (h : Held) → IsIdle h → IsLater (with_copy n c h)
+pub copy_later : (n c : ℕ) (h : SnapHeld) → IsIdle h → IsLater (with_copy n c h)
 copy_later n c h idle = record { tried = idle.tried; marks = idle.marks; front = rw idle.copies refl; unflushed = rw idle.copies refl; read = rw idle.copies refl }
 
-pub primed_later : (at : Held → ℕ) (m : ℕ) (snaps : List Held) → Each IsIdle snaps → Each IsLater (primed at m snaps)
+pub primed_later : (at : SnapHeld → ℕ) (m : ℕ) (snaps : List SnapHeld) → Each IsIdle snaps → Each IsLater (primed at m snaps)
 primed_later at m [] idle = tt
 primed_later at m (h ∷ snaps) idle = elim (cases_Bool (needs_none (at h) h)) [
   | inl none ↦ rw (primed_none at m h snaps none) (idle_later h idle.0, primed_later at m snaps idle.1)
@@ -119,13 +119,13 @@ primed_later at m (h ∷ snaps) idle = elim (cases_Bool (needs_none (at h) h)) [
 ]
 
 -- no mark is left to be written
-pub marked_unmarkable : (h : Held) → can_mark (marked_of h) ≡ false
+pub marked_unmarkable : (h : SnapHeld) → can_mark (marked_of h) ≡ false
 marked_unmarkable h = elim (cases_Bool (mark_goes h)) [
   | inl goes ↦ ap can_mark (cond-true _ _ _ goes)
   | inr fails ↦ ap can_mark (cond-false _ _ _ fails)
 ]
 
-pub marked_all_marks : (at : Held → ℕ) (m : ℕ) (snaps : List Held) → Each IsIdle snaps → Each (λ d. can_mark d ≡ false) (marked_all at m snaps)
+pub marked_all_marks : (at : SnapHeld → ℕ) (m : ℕ) (snaps : List SnapHeld) → Each IsIdle snaps → Each (λ d. can_mark d ≡ false) (marked_all at m snaps)
 marked_all_marks at m [] idle = tt
 marked_all_marks at m (h ∷ snaps) idle = elim (cases_Bool (needs_none (at h) h)) [
   | inl none ↦ subst (Each (λ d. can_mark d ≡ false)) (sym (cond-true _ _ _ none)) (later_marks h (idle_later h idle.0), marked_all_marks at m snaps idle.1)
@@ -152,14 +152,14 @@ least_low n (Some k) x = let same : min n k ≡ n = omega arith in ap Some same
 none_above : (m : ℕ) (o : Option ℕ) → o ≡ None → Above m o
 none_above m o e = rw e tt
 
-idle_none : (h : Held) → IsIdle h → copy_at Waiting h ≡ None
+idle_none : (h : SnapHeld) → IsIdle h → copy_at Waiting h ≡ None
 idle_none h idle = rw idle.copies refl
 
-pub copy_some : (n c : ℕ) (h : Held) → IsIdle h → copy_at Waiting (with_copy n c h) ≡ Some n
+pub copy_some : (n c : ℕ) (h : SnapHeld) → IsIdle h → copy_at Waiting (with_copy n c h) ≡ Some n
 copy_some n c h idle = rw idle.copies refl
 
 -- the copies' numbers come after m
-pub primed_above : (at : Held → ℕ) (m : ℕ) (snaps : List Held) → Each IsIdle snaps → Above m (least_in (copy_at Waiting) (primed at m snaps))
+pub primed_above : (at : SnapHeld → ℕ) (m : ℕ) (snaps : List SnapHeld) → Each IsIdle snaps → Above m (least_in (copy_at Waiting) (primed at m snaps))
 primed_above at m [] idle = tt
 primed_above at m (h ∷ snaps) idle = elim (cases_Bool (needs_none (at h) h)) [
   | inl none ↦ rw (primed_none at m h snaps none)

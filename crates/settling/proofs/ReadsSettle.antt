@@ -20,7 +20,7 @@ use Rattle.in_flight.specs.declared.flights.Route.TheVariants.{Origin, Store}
 use Rattle.settled.proofs.Laws.{option_cases}
 use Rattle.settled.specs.Devices.{Device, met, read_reply}
 use Rattle.settled.specs.Pieces.{Answered, read_origin, read_snap, read_place, in_snap}
-use Rattle.event_machine.specs.Held.{Held, Going, MergeHeld, Moving, with_store}
+use Rattle.event_machine.specs.Held.{SnapHeld, Going, MergeHeld, Moving, with_store}
 use Rattle.event_machine.specs.Again.{merged_place}
 use Rattle.event_machine.specs.Stepping.{for_some, answer, on_store}
 use Rattle.event_machine.specs.Submitting.{submitted, accepted, declined, read_snap as submit_read}
@@ -44,7 +44,7 @@ abbrev pub read_request : Range → Request
 read_request range = record { dev = ToOrigin; op = Read; range = range }
 
 -- beside a merge that has no place of its chunk
-pub origin_read_serves : (g : Option MergeHeld) (sectors number : ℕ) (range : Range) (origin : Device) (snaps : List Held) (a : Option Reply) (k : ℕ) → merged_place g range.first ≡ None → length origin.bytes ≡ 512 * sectors → Each (IsResting sectors) snaps →
+pub origin_read_serves : (g : Option MergeHeld) (sectors number : ℕ) (range : Range) (origin : Device) (snaps : List SnapHeld) (a : Option Reply) (k : ℕ) → merged_place g range.first ≡ None → length origin.bytes ≡ 512 * sectors → Each (IsResting sectors) snaps →
     Serves sectors g (submitted number (read_request range) (at_with g origin snaps [] a k)) (read_origin (span_of range) (record { origin = origin; snaps = map snap_of snaps }))
 origin_read_serves g sectors number range origin snaps a k unplaced whole resting =
     let r : Going = record { number = number; request = read_request range; route = Origin } in
@@ -66,7 +66,7 @@ origin_read_settles sectors number range v rest =
     (serves_settles sectors _ answer (origin_read_serves None sectors number range v.origin v.snaps v.replied v.started refl rest.whole (each_from (IsResting sectors) v.snaps rest.snaps))))
 
 -- an operation that changes no byte of the store
-pub met_rests : (sectors : ℕ) (h : Held) (op : Operation) → IsResting sectors h → IsResting sectors (with_store h (met h.snap.store op))
+pub met_rests : (sectors : ℕ) (h : SnapHeld) (op : Operation) → IsResting sectors h → IsResting sectors (with_store h (met h.snap.store op))
 met_rests sectors h op rest = record {
   tried = rest.tried;
   copies = rest.copies;
@@ -78,22 +78,22 @@ abbrev pub snap_read_request : ℕ → Range → Request
 snap_read_request n range = record { dev = ToSnap n; op = Read; range = range }
 
 module _ (g : Option MergeHeld) (sectors number n : ℕ) (range : Range) (origin : Device) (a : Option Reply) (k : ℕ) (whole : length origin.bytes ≡ 512 * sectors) where
-  abbrev pub read_begun : List Held → Moving
+  abbrev pub read_begun : List SnapHeld → Moving
   read_begun snaps = submitted number (snap_read_request n range) (at_with g origin snaps [] a k)
 
-  abbrev pub ReadServes : List Held → Type 0
+  abbrev pub ReadServes : List SnapHeld → Type 0
   ReadServes snaps = Serves sectors g (read_begun snaps) (in_snap n (read_snap (span_of range)) origin (map snap_of snaps))
 
-  abbrev pub is_this : Held → Bool
+  abbrev pub is_this : SnapHeld → Bool
   is_this h = h.snap.number == n
 
-  nowhere : (snaps : List Held) → Each (IsResting sectors) snaps → Each (λ h. is_this h ≡ false) snaps → ReadServes snaps
+  nowhere : (snaps : List SnapHeld) → Each (IsResting sectors) snaps → Each (λ h. is_this h ≡ false) snaps → ReadServes snaps
   nowhere snaps rest none =
       serves_there sectors g (read_begun snaps) (at_with g origin snaps [] (Some (Refused Invalid)) k) origin snaps (Refused Invalid) k _
       (ap (λ o. for_some o (λ h. submit_read number (snap_read_request n range) h (at_with g origin snaps [] a k)) (declined Invalid (at_with g origin snaps [] a k))) (none_that is_this snaps none))
       (goes_none _) whole rest (served_nowhere n (read_snap (span_of range)) origin snaps none)
 
-  module _ (done rest : List Held) (h : Held) (all : Each (IsResting sectors) (done ++ h ∷ rest)) (before : Each (λ d. is_this d ≡ false) done) (pass : is_this h ≡ true) where
+  module _ (done rest : List SnapHeld) (h : SnapHeld) (all : Each (IsResting sectors) (done ++ h ∷ rest)) (before : Each (λ d. is_this d ≡ false) done) (pass : is_this h ≡ true) where
     here : IsResting sectors h
     here = each_here (IsResting sectors) done rest h all
 
@@ -132,7 +132,7 @@ module _ (g : Option MergeHeld) (sectors number n : ℕ) (range : Range) (origin
     read_store : (place : ℕ) → h.snap.live ≡ true → place_of h.pairs (range.first / h.snap.chunk) ≡ Some place → ReadServes (done ++ h ∷ rest)
     read_store place on some =
         let first : ℕ = h.snap.chunk * place + range.first % h.snap.chunk in
-        let now : Held = with_store h (met h.snap.store (Reads first range.count)) in
+        let now : SnapHeld = with_store h (met h.snap.store (Reads first range.count)) in
         let reply : Reply = read_reply h.snap.store first range.count in
         let r : Going = routed (Store place) in
         let v : Moving = at_with g origin (done ++ h ∷ rest) (r ∷ []) a k in
@@ -149,7 +149,7 @@ module _ (g : Option MergeHeld) (sectors number n : ℕ) (range : Range) (origin
       | inl on ↦ elim (option_cases (place_of h.pairs (range.first / h.snap.chunk))) [ inl none ↦ read_origin_disk on none | inr some ↦ read_store some.0 on some.1 ]
     ]
 
-  pub snap_read_serves : (snaps : List Held) → Each (IsResting sectors) snaps → ReadServes snaps
+  pub snap_read_serves : (snaps : List SnapHeld) → Each (IsResting sectors) snaps → ReadServes snaps
   snap_read_serves snaps rest = elim (split_at is_this snaps) [
     | inl none ↦ nowhere snaps rest none
     | inr s ↦ subst ReadServes (sym s.is) (read_here s.done s.rest s.here (subst (Each (IsResting sectors)) s.is rest) s.before s.pass)

@@ -11,13 +11,13 @@ use Rattle.settled.proofs.Laws.{saving_law}
 use Rattle.settled.specs.Devices.{Device, answers}
 use Rattle.settled.specs.Snaps.{Snap}
 use Rattle.settled.specs.Saving.{spoilt, copy, next_place, is_full, has_chunk}
-use Rattle.event_machine.specs.Held.{Held}
+use Rattle.event_machine.specs.Held.{SnapHeld}
 use Rattle.event_machine.specs.Rest.{IsKept}
 use Rattle.settled.proofs.Saves.{chunk_read, stored_of, save_live}
 use Rattle.settled.proofs.Keeps.{copy_keeps}
 use Rattle.settled.proofs.Nexts.{next_more}
 
-module _ (sectors c : ℕ) (origin : Device) (h held : Held) where
+module _ (sectors c : ℕ) (origin : Device) (h held : SnapHeld) where
   abbrev pub next_pair : Pair
   next_pair = record { old = c; new = next_place h.snap }
 

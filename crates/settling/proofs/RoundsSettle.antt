@@ -25,7 +25,7 @@ use Rattle.settled.proofs.Saves.{saves_nothing, saves_full, saves_copy, chunk_re
 use Rattle.settled.proofs.SavedBytes.{save_at_bytes}
 use Rattle.settled.proofs.Rounds.{first_same, next_inside, next_has, none_next}
 use Rattle.settled.proofs.RoundSaves.{HasSize, HasOver, all_over}
-use Rattle.event_machine.specs.Held.{Held, Going, MergeHeld, Moving, spoiled, is_untried}
+use Rattle.event_machine.specs.Held.{SnapHeld, Going, MergeHeld, Moving, spoiled, is_untried}
 use Rattle.event_machine.specs.Due.{copy_at, least_in}
 use Rattle.event_machine.specs.Again.{unpublished_in, next_over, is_saved_over, is_clear_over}
 use Rattle.event_machine.specs.MergeDue.{next_of}
@@ -43,14 +43,14 @@ use Rattle.settling.proofs.SavesSettle.{snap_of, goes_between, none_routed, trie
 use Rattle.settling.proofs.Waits.{Needs, primed_needs, primed_still, started_still, by_none, by_full, by_copy, by_more, mid_none, mid_full, mid_copy, IsReady, idle_ready, copy_ready}
 
 -- where all chunks are published that these sectors touch, and no mark is untried
-pub clear_over : (first count : ℕ) (snaps : List Held) → Each (λ d. is_saved_over first count d ≡ true) snaps → Each IsIdle snaps → is_clear_over snaps first count ≡ true
+pub clear_over : (first count : ℕ) (snaps : List SnapHeld) → Each (λ d. is_saved_over first count d ≡ true) snaps → Each IsIdle snaps → is_clear_over snaps first count ≡ true
 clear_over first count snaps saved idle = ap (λ b. b && not (list_any is_untried snaps)) (all_each snaps saved) ∙ ap not (any_none snaps idle)
   where
-    all_each : (xs : List Held) → Each (λ d. is_saved_over first count d ≡ true) xs → list_all (is_saved_over first count) xs ≡ true
+    all_each : (xs : List SnapHeld) → Each (λ d. is_saved_over first count d ≡ true) xs → list_all (is_saved_over first count) xs ≡ true
     all_each [] all = refl
     all_each (x ∷ xs) all = ap (λ b. b && list_all (is_saved_over first count) xs) all.0 ∙ all_each xs all.1
 
-    any_none : (xs : List Held) → Each IsIdle xs → list_any is_untried xs ≡ false
+    any_none : (xs : List SnapHeld) → Each IsIdle xs → list_any is_untried xs ≡ false
     any_none [] all = refl
     any_none (x ∷ xs) all = ap (λ b. b || list_any is_untried xs) all.0.tried ∙ any_none xs all.1
 
@@ -60,15 +60,15 @@ module _ (sectors first count : ℕ) where
   and_true true = refl
   and_true false = refl
 
-  pub unpublished_same : (h : Held) → IsResting sectors h → h.snap.live ≡ true → unpublished_in first count h ≡ unsaved_in first count h.snap
+  pub unpublished_same : (h : SnapHeld) → IsResting sectors h → h.snap.live ≡ true → unpublished_in first count h ≡ unsaved_in first count h.snap
   unpublished_same h rest on =
       first_same (λ c. not (is_published h.pairs h.marks c)) (λ c. not (has_chunk c h.snap)) (chunks_over h.snap.chunk first count)
       (λ c. ap not (ap (λ (ms : List Mark). is_published h.pairs ms c) rest.marks ∙ and_true (is_some (place_of h.pairs c)) ∙ ap (λ ps. is_some (place_of ps c)) (sym (rest.live on).pairs)))
 
-  pub wanted_same : (h : Held) → IsResting sectors h → h.snap.live ≡ true → next_over first count h ≡ next_of_snap first count h.snap
+  pub wanted_same : (h : SnapHeld) → IsResting sectors h → h.snap.live ≡ true → next_over first count h ≡ next_of_snap first count h.snap
   wanted_same h rest on = ap (λ o. unwrap_or o (first / h.snap.chunk)) (unpublished_same h rest on)
 
-  pub kept_well : (snaps : List Held) → Each (IsResting sectors) snaps → Each (IsWell sectors) (map snap_of snaps)
+  pub kept_well : (snaps : List SnapHeld) → Each (IsResting sectors) snaps → Each (IsWell sectors) (map snap_of snaps)
   kept_well [] rest = tt
   kept_well (h ∷ snaps) rest = (λ on. (rest.0.live on).order, kept_well snaps rest.1)
 
@@ -80,35 +80,35 @@ module _ (m : MergeHeld) (q : Pair) (next : next_of m ≡ Some q) (sectors : ℕ
   count_in = count_of m.merge.chunk sectors q.old
 
   -- the chunk that is copied next in a snapshot
-  abbrev pub wanted : Held → ℕ
+  abbrev pub wanted : SnapHeld → ℕ
   wanted h = next_over (m.merge.chunk * q.old) (count_of m.merge.chunk sectors q.old) h
 
   abbrev pub wanted_of : Snap → ℕ
   wanted_of s = next_of_snap (m.merge.chunk * q.old) (count_of m.merge.chunk sectors q.old) s
 
   -- the volume with no request in flight
-  abbrev pub beside : Device → List Held → ℕ → Moving
+  abbrev pub beside : Device → List SnapHeld → ℕ → Moving
   beside origin snaps k = at_with (Some m) origin snaps [] a k
 
   size_is : (n : ℕ) → n ≡ 512 * sectors → n / 512 ≡ sectors
   size_is n e = omega arith
 
-  pub starts_are : (origin : Device) (snaps : List Held) (k : ℕ) → length origin.bytes ≡ 512 * sectors → start_waiting (beside origin snaps k) ≡ beside origin (started_all wanted k snaps) (started_by wanted k snaps)
+  pub starts_are : (origin : Device) (snaps : List SnapHeld) (k : ℕ) → length origin.bytes ≡ 512 * sectors → start_waiting (beside origin snaps k) ≡ beside origin (started_all wanted k snaps) (started_by wanted k snaps)
   starts_are origin snaps k whole =
       ap (λ o. start_next m.merge.chunk o (beside origin snaps k)) next
       ∙ ap (λ n. start_copies (next_over (m.merge.chunk * q.old) (count_of m.merge.chunk n q.old)) (beside origin snaps k)) (size_is (length origin.bytes) whole)
       ∙ ap (λ (rs : List Going). at_with (Some m) origin (started_all wanted k snaps) rs a (started_by wanted k snaps)) (refused_none wanted snaps)
 
   -- the snapshots once a round came to its end, and the next is begun
-  pub record RoundEnds (v : Moving) (origin : Device) (done snaps : List Held) (k : ℕ) : Type 0 where
-    pub finals : List Held
+  pub record RoundEnds (v : Moving) (origin : Device) (done snaps : List SnapHeld) (k : ℕ) : Type 0 where
+    pub finals : List SnapHeld
     pub goes : Goes start_waiting v (beside (save_at wanted_of origin (map snap_of snaps)).origin (done ++ primed wanted k finals) (started_by wanted k finals))
     pub same : map snap_of finals ≡ (save_at wanted_of origin (map snap_of snaps)).snaps
     pub rest : Each (IsResting sectors) finals
 
   -- one snapshot, which becomes this one, and stands in the list as that one, and then those after it
-  round_more : (origin : Device) (done snaps : List Held) (h y z : Held) (n n' k k' : ℕ) (x : Saving) → save (wanted_of h.snap) origin h.snap ≡ x → y.snap ≡ x.snap → IsResting sectors y
-      → ((ys : List Held) → primed wanted k (y ∷ ys) ≡ z ∷ primed wanted k' ys) → ((ys : List Held) → started_by wanted k (y ∷ ys) ≡ started_by wanted k' ys)
+  round_more : (origin : Device) (done snaps : List SnapHeld) (h y z : SnapHeld) (n n' k k' : ℕ) (x : Saving) → save (wanted_of h.snap) origin h.snap ≡ x → y.snap ≡ x.snap → IsResting sectors y
+      → ((ys : List SnapHeld) → primed wanted k (y ∷ ys) ≡ z ∷ primed wanted k' ys) → ((ys : List SnapHeld) → started_by wanted k (y ∷ ys) ≡ started_by wanted k' ys)
       → Goes start_waiting (beside origin (done ++ primed wanted n (h ∷ snaps)) k) (beside x.origin (done ++ z ∷ primed wanted n' snaps) k')
       → RoundEnds (beside x.origin ((done ++ z ∷ []) ++ primed wanted n' snaps) k') x.origin (done ++ z ∷ []) snaps k'
       → RoundEnds (beside origin (done ++ primed wanted n (h ∷ snaps)) k) origin done (h ∷ snaps) k
@@ -127,14 +127,14 @@ module _ (m : MergeHeld) (q : Pair) (next : next_of m ≡ Some q) (sectors : ℕ
         rest = (rest, more.rest);
       }
 
-  abbrev stays : (n c : ℕ) (h : Held) → wanted (with_copy n c h) ≡ wanted h
+  abbrev stays : (n c : ℕ) (h : SnapHeld) → wanted (with_copy n c h) ≡ wanted h
   stays n c h = refl
 
-  abbrev IsReadyHere : ℕ → Held → Type 0
+  abbrev IsReadyHere : ℕ → SnapHeld → Type 0
   IsReadyHere last h = IsReady wanted stays last h
 
   -- the big step's chunk is the same
-  nothing_same : (h : Held) → IsResting sectors h → needs_none (wanted h) h ≡ true → (not h.snap.live || has_chunk (wanted_of h.snap) h.snap) ≡ true
+  nothing_same : (h : SnapHeld) → IsResting sectors h → needs_none (wanted h) h ≡ true → (not h.snap.live || has_chunk (wanted_of h.snap) h.snap) ≡ true
   nothing_same h rest none = elim (cases_Bool h.snap.live) [
     | inr out ↦ ap (λ b. not b || has_chunk (wanted_of h.snap) h.snap) out
     | inl on ↦ ap (λ c. not h.snap.live || has_chunk c h.snap) (sym (wanted_same sectors first_in count_in h rest on)) ∙ sym (needs_same sectors (wanted h) h rest) ∙ none
@@ -144,22 +144,22 @@ module _ (m : MergeHeld) (q : Pair) (next : next_of m ≡ Some q) (sectors : ℕ
   or_false true y e = (refl, e)
   or_false false y e = absurd (true≢false e)
 
-  tried_rests : (h : Held) → IsResting sectors (tried_of h)
+  tried_rests : (h : SnapHeld) → IsResting sectors (tried_of h)
   tried_rests h = record { tried = refl; copies = refl; marks = refl; live = λ live. absurd (true≢false (sym live)) }
 
   module _ (some : 0 < count_in) (inside : first_in + count_in ≤ sectors) where
     -- What is left of a snapshot's copy, and what its publication starts in that snapshot: this one stands in the list, under
     -- so many copies.
-    record Again (v : Moving) (origin : Device) (done rest : List Held) (h : Held) (last k : ℕ) : Type 0 where
-      pub stands : Held
+    record Again (v : Moving) (origin : Device) (done rest : List SnapHeld) (h : SnapHeld) (last k : ℕ) : Type 0 where
+      pub stands : SnapHeld
       pub count : ℕ
       pub up : k ≤ count
       pub goes : Goes start_waiting v (beside origin (done ++ stands ∷ rest) count)
-      pub primes : (ys : List Held) → primed wanted k (h ∷ ys) ≡ stands ∷ primed wanted count ys
-      pub counts : (ys : List Held) → started_by wanted k (h ∷ ys) ≡ started_by wanted count ys
+      pub primes : (ys : List SnapHeld) → primed wanted k (h ∷ ys) ≡ stands ∷ primed wanted count ys
+      pub counts : (ys : List SnapHeld) → started_by wanted k (h ∷ ys) ≡ started_by wanted count ys
       pub ready : IsReadyHere last stands
 
-    again_after : (v : Moving) (origin : Device) (done rest : List Held) (h : Held) (last k : ℕ) → length origin.bytes ≡ 512 * sectors → last ≤ k → Each (IsReadyHere last) done → Each (Needs wanted stays) rest → Each IsLater rest → IsResting sectors h
+    again_after : (v : Moving) (origin : Device) (done rest : List SnapHeld) (h : SnapHeld) (last k : ℕ) → length origin.bytes ≡ 512 * sectors → last ≤ k → Each (IsReadyHere last) done → Each (Needs wanted stays) rest → Each IsLater rest → IsResting sectors h
         → Goes start_waiting v (started_if start_waiting h.snap.live (beside origin (done ++ h ∷ rest) k)) → Again v origin done rest h last k
     again_after v origin done rest h last k whole low before behind later resting goes =
         let idle : IsIdle h = resting_idle sectors h resting in
@@ -208,13 +208,13 @@ module _ (m : MergeHeld) (q : Pair) (next : next_of m ≡ Some q) (sectors : ℕ
         ]
 
     -- one snapshot's copy comes to its end
-    record CopyEnds (origin : Device) (done snaps : List Held) (h : Held) (n k last : ℕ) : Type 0 where
-      pub held : Held
+    record CopyEnds (origin : Device) (done snaps : List SnapHeld) (h : SnapHeld) (n k last : ℕ) : Type 0 where
+      pub held : SnapHeld
       pub snap : held.snap ≡ saved_snap sectors (wanted h) origin h h
       pub rest : IsResting sectors held
       pub again : Again (beside origin (done ++ primed wanted n (h ∷ snaps)) k) (met origin (chunk_read (wanted h) origin h.snap)) done (primed wanted (n + 1) snaps) held last k
 
-    copy_ends : (origin : Device) (done snaps : List Held) (h : Held) (n k last : ℕ) → length origin.bytes ≡ 512 * sectors → n + 1 ≤ last → last ≤ k → Each (IsReadyHere last) done → Each IsIdle snaps → IsResting sectors h → h.snap.live ≡ true → needs_none (wanted h) h ≡ false → has_chunk (wanted h) h.snap ≡ false → is_filled h ≡ false → is_full h.snap ≡ false
+    copy_ends : (origin : Device) (done snaps : List SnapHeld) (h : SnapHeld) (n k last : ℕ) → length origin.bytes ≡ 512 * sectors → n + 1 ≤ last → last ≤ k → Each (IsReadyHere last) done → Each IsIdle snaps → IsResting sectors h → h.snap.live ≡ true → needs_none (wanted h) h ≡ false → has_chunk (wanted h) h.snap ≡ false → is_filled h ≡ false → is_full h.snap ≡ false
         → CopyEnds origin done snaps h n k last
     copy_ends origin done snaps h n k last whole below low before idle resting on lacking lacks filled room =
         let c : ℕ = wanted h in
@@ -222,14 +222,14 @@ module _ (m : MergeHeld) (q : Pair) (next : next_of m ≡ Some q) (sectors : ℕ
         let kept : IsKept sectors h = resting.live on in
         let p : Pair = record { old = c; new = next_place s } in
         let nx : ℕ = stepped s.chunk (next_place s + 1) in
-        let rest : List Held = primed wanted (n + 1) snaps in
-        let start : Held = holding s h.pairs nx false false (copying (n + 1) p Waiting [] ∷ []) [] in
+        let rest : List SnapHeld = primed wanted (n + 1) snaps in
+        let start : SnapHeld = holding s h.pairs nx false false (copying (n + 1) p Waiting [] ∷ []) [] in
         let v : Moving = beside origin (done ++ primed wanted n (h ∷ snaps)) k in
         let after : Device = met origin (chunk_read c origin s) in
         let e : Ends start_waiting (Some m) done rest [] a k after (beside origin (done ++ start ∷ rest) k) (h.pairs ++ p ∷ []) nx (saved_snap sectors c origin h h) =
         ends_read start_waiting (Some m) done rest [] a k (n + 1) p h.pairs nx (each_weaker (IsReadyHere last) (IsBefore (n + 1)) done (λ d r. r.before (n + 1) below) before) (primed_later wanted (n + 1) snaps idle) (λ d x. refl) origin s kept.order.1.some on kept.pairs
         (copy_bytes sectors origin s c (next_place s) whole) (least_low (n + 1) (least_in (copy_at Waiting) rest) (primed_above wanted (n + 1) snaps idle)) in
-        let begins : v ≡ beside origin (done ++ start ∷ rest) k = ap (λ xs. beside origin (done ++ xs) k) (primed_copy wanted n h snaps lacking filled ∙ ap (λ (w : Held). w ∷ rest) (as_holding sectors c (n + 1) h resting kept)) in
+        let begins : v ≡ beside origin (done ++ start ∷ rest) k = ap (λ xs. beside origin (done ++ xs) k) (primed_copy wanted n h snaps lacking filled ∙ ap (λ (w : SnapHeld). w ∷ rest) (as_holding sectors c (n + 1) h resting kept)) in
         let fits : s.chunk * c < sectors = subst (λ (x : ℕ). s.chunk * x < sectors) (sym (wanted_same sectors first_in count_in h resting on)) (next_inside sectors first_in count_in s kept.order.1.some some inside) in
         let rests : IsResting sectors e.held = record {
           tried = e.idle.tried;
@@ -245,7 +245,7 @@ module _ (m : MergeHeld) (q : Pair) (next : next_of m ≡ Some q) (sectors : ℕ
         }
 
     -- the copies of one snapshot after the other
-    round_all : (snaps : List Held) (origin : Device) (done : List Held) (n k last : ℕ) → length origin.bytes ≡ 512 * sectors → Each (IsReadyHere last) done → Each (IsResting sectors) snaps → started_by wanted n snaps ≤ last → last ≤ k
+    round_all : (snaps : List SnapHeld) (origin : Device) (done : List SnapHeld) (n k last : ℕ) → length origin.bytes ≡ 512 * sectors → Each (IsReadyHere last) done → Each (IsResting sectors) snaps → started_by wanted n snaps ≤ last → last ≤ k
         → RoundEnds (beside origin (done ++ primed wanted n snaps) k) origin done snaps k
     round_all [] origin done n k last whole before rest few low = record { finals = []; goes = goes_none _; same = refl; rest = tt }
     round_all (h ∷ snaps) origin done n k last whole before rest few low =
@@ -283,7 +283,7 @@ module _ (m : MergeHeld) (q : Pair) (next : next_of m ≡ Some q) (sectors : ℕ
 
     -- The snapshots after so many rounds, and the next is begun.
     record AllEnd (j : ℕ) (v : Moving) (before : Volume) : Type 0 where
-      pub finals : List Held
+      pub finals : List SnapHeld
       pub count : ℕ
       pub goes : Goes start_waiting v (beside (saved_rounds first_in count_in j before).origin (primed wanted count finals) (started_by wanted count finals))
       pub same : map snap_of finals ≡ (saved_rounds first_in count_in j before).snaps
@@ -292,7 +292,7 @@ module _ (m : MergeHeld) (q : Pair) (next : next_of m ≡ Some q) (sectors : ℕ
     abbrev volume_with : Device → List Snap → Volume
     volume_with origin snaps = record { origin = origin; snaps = snaps }
 
-    rounds_all : (j : ℕ) (snaps : List Held) (origin : Device) (n : ℕ) → length origin.bytes ≡ 512 * sectors → Each (IsResting sectors) snaps → AllEnd j (beside origin (primed wanted n snaps) (started_by wanted n snaps)) (volume_with origin (map snap_of snaps))
+    rounds_all : (j : ℕ) (snaps : List SnapHeld) (origin : Device) (n : ℕ) → length origin.bytes ≡ 512 * sectors → Each (IsResting sectors) snaps → AllEnd j (beside origin (primed wanted n snaps) (started_by wanted n snaps)) (volume_with origin (map snap_of snaps))
     rounds_all zero snaps origin n whole rest = record { finals = snaps; count = n; goes = goes_none _; same = refl; rest = rest }
     rounds_all (suc j) snaps origin n whole rest =
         let k : ℕ = started_by wanted n snaps in
@@ -305,7 +305,7 @@ module _ (m : MergeHeld) (q : Pair) (next : next_of m ≡ Some q) (sectors : ℕ
 
     -- the snapshots once they have published all chunks that are touched
     pub record OverEnds (v : Moving) (before : Volume) : Type 0 where
-      pub finals : List Held
+      pub finals : List SnapHeld
       pub count : ℕ
       pub goes : Goes start_waiting v (beside (saved_rounds first_in count_in count_in before).origin finals count)
       pub same : map snap_of finals ≡ (saved_rounds first_in count_in count_in before).snaps
@@ -315,7 +315,7 @@ module _ (m : MergeHeld) (q : Pair) (next : next_of m ≡ Some q) (sectors : ℕ
     abbrev HasAll : Snap → Type 0
     HasAll s = HasOver sectors first_in count_in some inside s
 
-    all_needs : (snaps : List Held) → Each (IsResting sectors) snaps → Each HasAll (map snap_of snaps) → Each (Needs wanted stays) snaps
+    all_needs : (snaps : List SnapHeld) → Each (IsResting sectors) snaps → Each HasAll (map snap_of snaps) → Each (Needs wanted stays) snaps
     all_needs [] rest over = tt
     all_needs (h ∷ snaps) rest over = (needs_same sectors (wanted h) h rest.0 ∙ by_live (cases_Bool h.snap.live), all_needs snaps rest.1 over.1)
       where
@@ -325,7 +325,7 @@ module _ (m : MergeHeld) (q : Pair) (next : next_of m ≡ Some q) (sectors : ℕ
             ap (λ b. not b || has_chunk (wanted h) h.snap) on ∙ ap (λ c. has_chunk c h.snap) (wanted_same sectors first_in count_in h rest.0 on)
             ∙ next_has first_in count_in h.snap some (over.0 on)
 
-    all_saved : (snaps : List Held) → Each (IsResting sectors) snaps → Each HasAll (map snap_of snaps) → Each (λ d. is_saved_over first_in count_in d ≡ true) snaps
+    all_saved : (snaps : List SnapHeld) → Each (IsResting sectors) snaps → Each HasAll (map snap_of snaps) → Each (λ d. is_saved_over first_in count_in d ≡ true) snaps
     all_saved [] rest over = tt
     all_saved (h ∷ snaps) rest over = (by_live (cases_Bool h.snap.live), all_saved snaps rest.1 over.1)
       where
@@ -336,7 +336,7 @@ module _ (m : MergeHeld) (q : Pair) (next : next_of m ≡ Some q) (sectors : ℕ
             ∙ ap (λ o. not (is_some o)) (unpublished_same sectors first_in count_in h rest.0 on ∙ none_next first_in count_in h.snap (over.0 on))
 
     -- from the start of the copies to the end of them all
-    pub over_settles : (origin : Device) (snaps : List Held) (k : ℕ) → length origin.bytes ≡ 512 * sectors → Each (IsResting sectors) snaps → Each (HasSize sectors first_in count_in some inside) (map snap_of snaps)
+    pub over_settles : (origin : Device) (snaps : List SnapHeld) (k : ℕ) → length origin.bytes ≡ 512 * sectors → Each (IsResting sectors) snaps → Each (HasSize sectors first_in count_in some inside) (map snap_of snaps)
         → OverEnds (beside origin (started_all wanted k snaps) (started_by wanted k snaps)) (volume_with origin (map snap_of snaps))
     over_settles origin snaps k whole rest sizes =
         let all : AllEnd count_in (beside origin (primed wanted k snaps) (started_by wanted k snaps)) (volume_with origin (map snap_of snaps)) = rounds_all count_in snaps origin k whole rest in

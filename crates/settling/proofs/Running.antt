@@ -15,7 +15,7 @@ use Rattle.chunk.proofs.PiecePlaces.{join_le, piece_high}
 use Rattle.settled.specs.Snaps.{Snap, Volume}
 use Rattle.settled.specs.Pieces.{Answered}
 use Rattle.settled.specs.Commands.{go_on, bytes_in, write_piece, write_pieces, read_piece, read_pieces, piece_of, written, read}
-use Rattle.event_machine.specs.Held.{Held, Moving}
+use Rattle.event_machine.specs.Held.{SnapHeld, Moving}
 use Rattle.event_machine.specs.Rest.{IsAtRest}
 use Rattle.event_machine.specs.Settles.{SettlesTo}
 use Rattle.event_machine.specs.Requests.{volume_of, IsInChunk, IsFit}
@@ -33,7 +33,7 @@ counts_of (p ∷ pieces) = p.count + counts_of pieces
 -- what a command has left of a volume
 pub record IsLeft (sectors chunk : ℕ) (w : Moving) (reply : Reply) (answer : Answered) : Type 0 where
   pub rest : IsAtRest sectors w
-  pub chunks : Each (HasChunks chunk) (map (λ (h : Held). h.snap) w.snaps)
+  pub chunks : Each (HasChunks chunk) (map (λ (h : SnapHeld). h.snap) w.snaps)
   pub volume : volume_of w ≡ answer.volume
   pub replied : reply ≡ answer.reply
 
@@ -43,13 +43,13 @@ pub record FitsPiece (sectors chunk : ℕ) (piece : Span) : Type 0 where
   pub inside : piece.first + piece.count ≤ sectors
 
 module _ (sectors chunk : ℕ) (allowed : is_chunk chunk ≡ true) where
-  pub fits_all : (range : Range) (snaps : List Held) → IsInOneChunk chunk (span_of range) → Each (HasChunks chunk) (map (λ (h : Held). h.snap) snaps) → Each (IsInChunk range) snaps
+  pub fits_all : (range : Range) (snaps : List SnapHeld) → IsInOneChunk chunk (span_of range) → Each (HasChunks chunk) (map (λ (h : SnapHeld). h.snap) snaps) → Each (IsInChunk range) snaps
   fits_all range [] one all = tt
   fits_all range (h ∷ snaps) one all =
       (wider chunk h.snap.chunk range.first range.count allowed all.0.0 all.0.1 (piece_high chunk range.first range.count (is_chunk-some chunk allowed) one.some one.one), fits_all range snaps one all.1)
 
   -- one piece
-  piece_left : (number : ℕ) (dev : Dev) (op : Op) (piece : Span) (v mid : Moving) (got : Reply) → IsAtRest sectors v → Each (HasChunks chunk) (map (λ (h : Held). h.snap) v.snaps) → FitsPiece sectors chunk piece → FitsRange op piece.count → IsDone number dev op piece v mid got →
+  piece_left : (number : ℕ) (dev : Dev) (op : Op) (piece : Span) (v mid : Moving) (got : Reply) → IsAtRest sectors v → Each (HasChunks chunk) (map (λ (h : SnapHeld). h.snap) v.snaps) → FitsPiece sectors chunk piece → FitsRange op piece.count → IsDone number dev op piece v mid got →
       IsLeft sectors chunk mid got (answered_by dev op piece (volume_of v))
   piece_left number dev op piece v mid got rest chunks fits bytes done =
       let request : Request = done.request in
@@ -88,7 +88,7 @@ module _ (sectors chunk : ℕ) (allowed : is_chunk chunk ≡ true) where
   goes_as Flushed A B E f goes = f goes
   goes_as (Refused failure) A B E f goes = goes
 
-  written_left : (pieces : List Span) (number : ℕ) (dev : Dev) (bytes : List ℕ) (v w : Moving) (reply : Reply) → IsAtRest sectors v → Each (HasChunks chunk) (map (λ (h : Held). h.snap) v.snaps) → Each (FitsPiece sectors chunk) pieces → length bytes ≡ 512 * counts_of pieces →
+  written_left : (pieces : List Span) (number : ℕ) (dev : Dev) (bytes : List ℕ) (v w : Moving) (reply : Reply) → IsAtRest sectors v → Each (HasChunks chunk) (map (λ (h : SnapHeld). h.snap) v.snaps) → Each (FitsPiece sectors chunk) pieces → length bytes ≡ 512 * counts_of pieces →
       IsWritten number dev pieces bytes v w reply → IsLeft sectors chunk w reply (write_pieces dev pieces bytes (volume_of v))
   written_left [] number dev bytes v w reply rest chunks fits len done = record { rest = rw done.0 rest; chunks = rw done.0 chunks; volume = ap volume_of done.0; replied = done.1 }
   written_left (p ∷ pieces) number dev bytes v w reply rest chunks fits len done =
@@ -101,7 +101,7 @@ module _ (sectors chunk : ℕ) (allowed : is_chunk chunk ≡ true) where
       (goes_as got _ _ ((w ≡ mid) × (reply ≡ got))
       (λ more. subst (λ (x : Volume). IsLeft sectors chunk w reply (write_pieces dev pieces (drop (512 * p.count) bytes) x)) left.volume (written_left pieces (number + 1) dev (drop (512 * p.count) bytes) mid w reply left.rest left.chunks fits.1 back more)) done.3)
 
-  read_left : (pieces : List Span) (number : ℕ) (dev : Dev) (before : List ℕ) (v w : Moving) (reply : Reply) → IsAtRest sectors v → Each (HasChunks chunk) (map (λ (h : Held). h.snap) v.snaps) → Each (FitsPiece sectors chunk) pieces →
+  read_left : (pieces : List Span) (number : ℕ) (dev : Dev) (before : List ℕ) (v w : Moving) (reply : Reply) → IsAtRest sectors v → Each (HasChunks chunk) (map (λ (h : SnapHeld). h.snap) v.snaps) → Each (FitsPiece sectors chunk) pieces →
       IsRead number dev pieces before v w reply → IsLeft sectors chunk w reply (read_pieces dev pieces before (volume_of v))
   read_left [] number dev before v w reply rest chunks fits done = record { rest = rw done.0 rest; chunks = rw done.0 chunks; volume = ap volume_of done.0; replied = done.1 }
   read_left (p ∷ pieces) number dev before v w reply rest chunks fits done =
@@ -126,7 +126,7 @@ module _ (sectors chunk : ℕ) (allowed : is_chunk chunk ≡ true) where
   counts_joined a b [] join = omega arith
   counts_joined a b (p ∷ pieces) join = let h = counts_joined (a + p.count) b pieces join.1 in omega arith
 
-  module _ (number : ℕ) (dev : Dev) (span : Span) (v w : Moving) (reply : Reply) (rest : IsAtRest sectors v) (chunks : Each (HasChunks chunk) (map (λ (h : Held). h.snap) v.snaps)) (size : piece_of (map (λ (h : Held). h.snap) v.snaps) ≡ chunk) (cut : AreCutFrom chunk span (pieces_of chunk span)) (inside : span.first + span.count ≤ sectors) where
+  module _ (number : ℕ) (dev : Dev) (span : Span) (v w : Moving) (reply : Reply) (rest : IsAtRest sectors v) (chunks : Each (HasChunks chunk) (map (λ (h : SnapHeld). h.snap) v.snaps)) (size : piece_of (map (λ (h : SnapHeld). h.snap) v.snaps) ≡ chunk) (cut : AreCutFrom chunk span (pieces_of chunk span)) (inside : span.first + span.count ≤ sectors) where
     fits_span : Each (FitsPiece sectors chunk) (pieces_of chunk span)
     fits_span = fits_joined span.first (span.first + span.count) (pieces_of chunk span) cut.join (each_from (IsInOneChunk chunk) (pieces_of chunk span) cut.inside) inside
 

@@ -15,7 +15,7 @@ use Rattle.settled.specs.Devices.{Device, met}
 use Rattle.settled.specs.Snaps.{Snap, Volume}
 use Rattle.settled.specs.Saving.{Saving, spoilt, next_place, is_full, has_chunk, save}
 use Rattle.settled.specs.Pieces.{save_all}
-use Rattle.event_machine.specs.Held.{Held, Going, MergeHeld, Moving, spoiled}
+use Rattle.event_machine.specs.Held.{SnapHeld, Going, MergeHeld, Moving, spoiled}
 use Rattle.event_machine.specs.Due.{can_mark, copy_at, least_in}
 use Rattle.event_machine.specs.Again.{again, is_saved}
 use Rattle.event_machine.specs.Submitting.{needs_none, is_filled, with_copy, started_all, chunk_at}
@@ -33,38 +33,38 @@ use Rattle.settling.proofs.Primed.{mark_goes, mark_written, mark_missed, marked_
 pub goes_between : {starts : Moving → Moving} → (u u' v v' : Moving) → u ≡ u' → v' ≡ v → Goes starts u' v' → Goes starts u v
 goes_between {starts} u u' v v' a b goes = subst (λ (x : Moving). Goes starts x v) (sym a) (subst (Goes starts u') b goes)
 
-abbrev pub snap_of : Held → Snap
+abbrev pub snap_of : SnapHeld → Snap
 snap_of h = h.snap
 
 -- The requests in flight, as the snapshots route them: none reads a chunk from the origin disk for a snapshot. They stay while
 -- a spoiled snapshot's mark is written, and are what they are routed to again once it is tried, and once a snapshot that had
 -- not saved the chunk of this sector came to its end.
-pub record AreRouted (g : Option MergeHeld) (first : ℕ) (requests : List Held → List Going) : Type 0 where
-  pub unread : (snaps : List Held) → IsUnread (requests snaps)
-  pub tried : (done rest : List Held) (h after : Held) → h.untried ≡ true → map (again g (done ++ after ∷ rest)) (requests (done ++ h ∷ rest)) ≡ requests (done ++ after ∷ rest)
-  pub marked : (done rest : List Held) (h after : Held) → h.untried ≡ true → after.untried ≡ true → requests (done ++ h ∷ rest) ≡ requests (done ++ after ∷ rest)
-  pub saved : (done rest : List Held) (h after : Held) → is_saved first h ≡ false → requests_after g (done ++ after ∷ rest) after (requests (done ++ h ∷ rest)) ≡ requests (done ++ after ∷ rest)
+pub record AreRouted (g : Option MergeHeld) (first : ℕ) (requests : List SnapHeld → List Going) : Type 0 where
+  pub unread : (snaps : List SnapHeld) → IsUnread (requests snaps)
+  pub tried : (done rest : List SnapHeld) (h after : SnapHeld) → h.untried ≡ true → map (again g (done ++ after ∷ rest)) (requests (done ++ h ∷ rest)) ≡ requests (done ++ after ∷ rest)
+  pub marked : (done rest : List SnapHeld) (h after : SnapHeld) → h.untried ≡ true → after.untried ≡ true → requests (done ++ h ∷ rest) ≡ requests (done ++ after ∷ rest)
+  pub saved : (done rest : List SnapHeld) (h after : SnapHeld) → is_saved first h ≡ false → requests_after g (done ++ after ∷ rest) after (requests (done ++ h ∷ rest)) ≡ requests (done ++ after ∷ rest)
 
 or_false : (x y : Bool) → (not x || y) ≡ false → (x ≡ true) × (y ≡ false)
 or_false true y e = (refl, e)
 or_false false y e = absurd (true≢false e)
 
-module _ (g : Option MergeHeld) (sectors first : ℕ) (requests : List Held → List Going) (routed : AreRouted g first requests) (a : Option Reply) (k : ℕ) where
+module _ (g : Option MergeHeld) (sectors first : ℕ) (requests : List SnapHeld → List Going) (routed : AreRouted g first requests) (a : Option Reply) (k : ℕ) where
   -- the volume with these requests in flight
-  abbrev pub with_requests : Device → List Held → Moving
+  abbrev pub with_requests : Device → List SnapHeld → Moving
   with_requests origin snaps = at_with g origin snaps (requests snaps) a k
 
   -- a spoiled snapshot's mark is written
-  marks_one : {starts : Moving → Moving} → (origin : Device) (done rest : List Held) (h : Held) → h.marked ≡ false → Each (λ d. can_mark d ≡ false) done → Goes starts (with_requests origin (done ++ spoiled h ∷ rest)) (with_requests origin (done ++ marked_of h ∷ rest))
+  marks_one : {starts : Moving → Moving} → (origin : Device) (done rest : List SnapHeld) (h : SnapHeld) → h.marked ≡ false → Each (λ d. can_mark d ≡ false) done → Goes starts (with_requests origin (done ++ spoiled h ∷ rest)) (with_requests origin (done ++ marked_of h ∷ rest))
   marks_one {starts} origin done rest h unmarked before =
       let u : Moving = with_requests origin (done ++ spoiled h ∷ rest) in
-      let to : Held → Moving = λ (w : Held). with_requests origin (done ++ w ∷ rest) in
+      let to : SnapHeld → Moving = λ (w : SnapHeld). with_requests origin (done ++ w ∷ rest) in
       let rs : List Going = requests (done ++ spoiled h ∷ rest) in
       elim (cases_Bool (mark_goes h)) [
         | inl ok ↦ goes_between _ _ _ _ refl
             (ap (λ xs. at_with g origin (done ++ mark_written h ∷ rest) xs a k) (routed.marked done rest (spoiled h) (mark_written h) refl refl) ∙ ap to (sym (cond-true _ _ _ ok)))
             (marks_done g origin done rest rs a k (spoiled h) before refl unmarked ok)
-        | inr failed ↦ (let put : Bool → Held = λ (b : Bool). record (mark_missed h) { marked = b } in
+        | inr failed ↦ (let put : Bool → SnapHeld = λ (b : Bool). record (mark_missed h) { marked = b } in
             let same : put h.marked ≡ mark_missed h = ap put unmarked in
             goes_between _ _ _ _ refl
             (ap (λ xs. at_with g origin (done ++ put h.marked ∷ rest) xs a k) (routed.tried done rest (spoiled h) (put h.marked) refl) ∙ ap to (same ∙ sym (cond-false _ _ _ failed)))
@@ -72,9 +72,9 @@ module _ (g : Option MergeHeld) (sectors first : ℕ) (requests : List Held → 
       ]
 
   -- and flushed
-  flushes_one : {starts : Moving → Moving} → (origin : Device) (done rest : List Held) (h : Held) → Each IsLater done → Each (λ d. can_mark d ≡ false) rest → Goes starts (with_requests origin (done ++ marked_of h ∷ rest)) (with_requests origin (done ++ tried_of h ∷ rest))
+  flushes_one : {starts : Moving → Moving} → (origin : Device) (done rest : List SnapHeld) (h : SnapHeld) → Each IsLater done → Each (λ d. can_mark d ≡ false) rest → Goes starts (with_requests origin (done ++ marked_of h ∷ rest)) (with_requests origin (done ++ tried_of h ∷ rest))
   flushes_one {starts} origin done rest h before later =
-      let at : Held → Moving = λ (w : Held). with_requests origin (done ++ w ∷ rest) in
+      let at : SnapHeld → Moving = λ (w : SnapHeld). with_requests origin (done ++ w ∷ rest) in
       let rs : List Going = requests (done ++ mark_written h ∷ rest) in
       elim (cases_Bool (mark_goes h)) [
         | inl ok ↦ goes_between _ _ _ _ (ap at (cond-true _ _ _ ok))
@@ -84,31 +84,31 @@ module _ (g : Option MergeHeld) (sectors first : ℕ) (requests : List Held → 
       ]
 
   -- one snapshot more that is done with
-  pub onward : {starts : Moving → Moving} → (origin origin' : Device) (done xs ys : List Held) (x : Held) → Goes starts (with_requests origin ((done ++ x ∷ []) ++ xs)) (with_requests origin' ((done ++ x ∷ []) ++ ys)) → Goes starts (with_requests origin (done ++ x ∷ xs)) (with_requests origin' (done ++ x ∷ ys))
+  pub onward : {starts : Moving → Moving} → (origin origin' : Device) (done xs ys : List SnapHeld) (x : SnapHeld) → Goes starts (with_requests origin ((done ++ x ∷ []) ++ xs)) (with_requests origin' ((done ++ x ∷ []) ++ ys)) → Goes starts (with_requests origin (done ++ x ∷ xs)) (with_requests origin' (done ++ x ∷ ys))
   onward origin origin' done xs ys x goes = goes_between _ _ _ _ (ap (with_requests origin) (sym (append_assoc done (x ∷ []) xs))) (ap (with_requests origin') (append_assoc done (x ∷ []) ys)) goes
 
   -- the marks of the stores that were full are written
-  marks_all : {starts : Moving → Moving} → (at : Held → ℕ) (origin : Device) (done snaps : List Held) (m : ℕ) → Each (λ d. can_mark d ≡ false) done → Each (IsResting sectors) snaps → Goes starts (with_requests origin (done ++ started_all at m snaps)) (with_requests origin (done ++ marked_all at m snaps))
+  marks_all : {starts : Moving → Moving} → (at : SnapHeld → ℕ) (origin : Device) (done snaps : List SnapHeld) (m : ℕ) → Each (λ d. can_mark d ≡ false) done → Each (IsResting sectors) snaps → Goes starts (with_requests origin (done ++ started_all at m snaps)) (with_requests origin (done ++ marked_all at m snaps))
   marks_all at origin done [] m before rest = goes_none _
   marks_all at origin done (h ∷ snaps) m before rest = elim (cases_Bool (needs_none (at h) h)) [
     | inl none ↦ goes_between _ _ _ _ (ap (λ xs. with_requests origin (done ++ xs)) (cond-true _ _ _ none)) (ap (λ xs. with_requests origin (done ++ xs)) (sym (cond-true _ _ _ none)))
         (onward origin origin done (started_all at m snaps) (marked_all at m snaps) h
-        (marks_all at origin (done ++ h ∷ []) snaps m (each_more (λ (d : Held). can_mark d ≡ false) done h before (later_marks h (idle_later h (resting_idle sectors h rest.0)))) rest.1))
+        (marks_all at origin (done ++ h ∷ []) snaps m (each_more (λ (d : SnapHeld). can_mark d ≡ false) done h before (later_marks h (idle_later h (resting_idle sectors h rest.0)))) rest.1))
     | inr some ↦ elim (cases_Bool (is_filled h)) [
       | inl full ↦ (let on : h.snap.live ≡ true = (or_false h.snap.live (has_chunk (at h) h.snap) (sym (needs_same sectors (at h) h rest.0) ∙ some)).0 in
           goes_between _ _ _ _ (ap (λ xs. with_requests origin (done ++ xs)) (cond-false _ _ _ some ∙ cond-true _ _ _ full)) (ap (λ xs. with_requests origin (done ++ xs)) (sym (cond-false _ _ _ some ∙ cond-true _ _ _ full)))
           (goes_on _ _ _ (marks_one origin done (started_all at m snaps) h (rest.0.live on).unmarked before)
           (onward origin origin done (started_all at m snaps) (marked_all at m snaps) (marked_of h)
-          (marks_all at origin (done ++ marked_of h ∷ []) snaps m (each_more (λ (d : Held). can_mark d ≡ false) done (marked_of h) before (marked_unmarkable h)) rest.1))))
-      | inr room ↦ (let w : Held = with_copy (m + 1) (at h) h in
+          (marks_all at origin (done ++ marked_of h ∷ []) snaps m (each_more (λ (d : SnapHeld). can_mark d ≡ false) done (marked_of h) before (marked_unmarkable h)) rest.1))))
+      | inr room ↦ (let w : SnapHeld = with_copy (m + 1) (at h) h in
           goes_between _ _ _ _ (ap (λ xs. with_requests origin (done ++ xs)) (cond-false _ _ _ some ∙ cond-false _ _ _ room)) (ap (λ xs. with_requests origin (done ++ xs)) (sym (cond-false _ _ _ some ∙ cond-false _ _ _ room)))
           (onward origin origin done (started_all at (m + 1) snaps) (marked_all at (m + 1) snaps) w
-          (marks_all at origin (done ++ w ∷ []) snaps (m + 1) (each_more (λ (d : Held). can_mark d ≡ false) done w before (later_marks w (copy_later (m + 1) (at h) h (resting_idle sectors h rest.0)))) rest.1)))
+          (marks_all at origin (done ++ w ∷ []) snaps (m + 1) (each_more (λ (d : SnapHeld). can_mark d ≡ false) done w before (later_marks w (copy_later (m + 1) (at h) h (resting_idle sectors h rest.0)))) rest.1)))
     ]
   ]
 
   -- and then each is flushed
-  flushes_all : {starts : Moving → Moving} → (at : Held → ℕ) (origin : Device) (done snaps : List Held) (m : ℕ) → Each IsLater done → Each IsIdle snaps → Goes starts (with_requests origin (done ++ marked_all at m snaps)) (with_requests origin (done ++ primed at m snaps))
+  flushes_all : {starts : Moving → Moving} → (at : SnapHeld → ℕ) (origin : Device) (done snaps : List SnapHeld) (m : ℕ) → Each IsLater done → Each IsIdle snaps → Goes starts (with_requests origin (done ++ marked_all at m snaps)) (with_requests origin (done ++ primed at m snaps))
   flushes_all at origin done [] m before idle = goes_none _
   flushes_all at origin done (h ∷ snaps) m before idle = elim (cases_Bool (needs_none (at h) h)) [
     | inl none ↦ goes_between _ _ _ _ (ap (λ xs. with_requests origin (done ++ xs)) (cond-true _ _ _ none)) (ap (λ xs. with_requests origin (done ++ xs)) (sym (cond-true _ _ _ none)))
@@ -119,7 +119,7 @@ module _ (g : Option MergeHeld) (sectors first : ℕ) (requests : List Held → 
           (goes_on _ _ _ (flushes_one origin done (marked_all at m snaps) h before (marked_all_marks at m snaps idle.1))
           (onward origin origin done (marked_all at m snaps) (primed at m snaps) (tried_of h)
           (flushes_all at origin (done ++ tried_of h ∷ []) snaps m (each_more IsLater done (tried_of h) before (tried_later h)) idle.1)))
-      | inr room ↦ (let w : Held = with_copy (m + 1) (at h) h in
+      | inr room ↦ (let w : SnapHeld = with_copy (m + 1) (at h) h in
           goes_between _ _ _ _ (ap (λ xs. with_requests origin (done ++ xs)) (cond-false _ _ _ some ∙ cond-false _ _ _ room)) (ap (λ xs. with_requests origin (done ++ xs)) (sym (primed_copy at m h snaps some room)))
           (onward origin origin done (marked_all at (m + 1) snaps) (primed at (m + 1) snaps) w
           (flushes_all at origin (done ++ w ∷ []) snaps (m + 1) (each_more IsLater done w before (copy_later (m + 1) (at h) h idle.0)) idle.1)))
@@ -127,20 +127,20 @@ module _ (g : Option MergeHeld) (sectors first : ℕ) (requests : List Held → 
   ]
 
   -- all marks of the stores that were full are tried
-  pub tries_all : {starts : Moving → Moving} → (at : Held → ℕ) (origin : Device) (snaps : List Held) (m : ℕ) → Each (IsResting sectors) snaps → Goes starts (with_requests origin (started_all at m snaps)) (with_requests origin (primed at m snaps))
+  pub tries_all : {starts : Moving → Moving} → (at : SnapHeld → ℕ) (origin : Device) (snaps : List SnapHeld) (m : ℕ) → Each (IsResting sectors) snaps → Goes starts (with_requests origin (started_all at m snaps)) (with_requests origin (primed at m snaps))
   tries_all at origin snaps m rest =
       goes_on _ _ _ (marks_all at origin [] snaps m tt rest) (flushes_all at origin [] snaps m tt (each_weaker (IsResting sectors) IsIdle snaps (resting_idle sectors) rest))
 
   -- the snapshots once every copy came to its end: those after the first
-  pub record Finals (v : Moving) (origin : Device) (done snaps : List Held) : Type 0 where
-    pub finals : List Held
+  pub record Finals (v : Moving) (origin : Device) (done snaps : List SnapHeld) : Type 0 where
+    pub finals : List SnapHeld
     pub goes : Goes no_start v (with_requests (save_all first origin (map snap_of snaps)).origin (done ++ finals))
     pub same : map snap_of finals ≡ (save_all first origin (map snap_of snaps)).snaps
     pub rest : Each (IsResting sectors) finals
     pub saved : Each (λ d. is_saved first d ≡ true) finals
 
   -- one snapshot, and then those after it
-  finals_more : (origin : Device) (done snaps : List Held) (h y : Held) (m m' : ℕ) (x : Saving) → save (first / h.snap.chunk) origin h.snap ≡ x → y.snap ≡ x.snap → IsResting sectors y → is_saved first y ≡ true →
+  finals_more : (origin : Device) (done snaps : List SnapHeld) (h y : SnapHeld) (m m' : ℕ) (x : Saving) → save (first / h.snap.chunk) origin h.snap ≡ x → y.snap ≡ x.snap → IsResting sectors y → is_saved first y ≡ true →
       Goes no_start (with_requests origin (done ++ primed (chunk_at first) m (h ∷ snaps))) (with_requests x.origin (done ++ y ∷ primed (chunk_at first) m' snaps)) → Finals (with_requests x.origin ((done ++ y ∷ []) ++ primed (chunk_at first) m' snaps)) x.origin (done ++ y ∷ []) snaps → Finals (with_requests origin (done ++ primed (chunk_at first) m (h ∷ snaps))) origin done (h ∷ snaps)
   finals_more origin done snaps h y m m' x is same rest saved goes more =
       let then_all : Saving → Volume = λ (z : Saving). record { origin = (save_all first z.origin (map snap_of snaps)).origin; snaps = z.snap ∷ (save_all first z.origin (map snap_of snaps)).snaps } in
@@ -159,22 +159,22 @@ module _ (g : Option MergeHeld) (sectors first : ℕ) (requests : List Held → 
   is_none (Some n) e = absurd (true≢false e)
 
   -- one snapshot's copy
-  record OneCopy (origin : Device) (done snaps : List Held) (h : Held) (m : ℕ) : Type 0 where
-    pub held : Held
+  record OneCopy (origin : Device) (done snaps : List SnapHeld) (h : SnapHeld) (m : ℕ) : Type 0 where
+    pub held : SnapHeld
     pub snap : held.snap ≡ saved_snap sectors (first / h.snap.chunk) origin h held
     pub goes : Goes no_start (with_requests origin (done ++ primed (chunk_at first) m (h ∷ snaps))) (with_requests (met origin (chunk_read (first / h.snap.chunk) origin h.snap)) (done ++ held ∷ primed (chunk_at first) (m + 1) snaps))
     pub rest : IsResting sectors held
     pub saved : is_saved first held ≡ true
 
-  one_copy : (origin : Device) (done snaps : List Held) (h : Held) (m : ℕ) → length origin.bytes ≡ 512 * sectors → first < sectors → Each IsIdle done → Each IsIdle snaps → IsResting sectors h → h.snap.live ≡ true → needs_none (first / h.snap.chunk) h ≡ false → has_chunk (first / h.snap.chunk) h.snap ≡ false → is_filled h ≡ false → is_full h.snap ≡ false → OneCopy origin done snaps h m
+  one_copy : (origin : Device) (done snaps : List SnapHeld) (h : SnapHeld) (m : ℕ) → length origin.bytes ≡ 512 * sectors → first < sectors → Each IsIdle done → Each IsIdle snaps → IsResting sectors h → h.snap.live ≡ true → needs_none (first / h.snap.chunk) h ≡ false → has_chunk (first / h.snap.chunk) h.snap ≡ false → is_filled h ≡ false → is_full h.snap ≡ false → OneCopy origin done snaps h m
   one_copy origin done snaps h m whole inside before idle resting on some lacks filled room =
       let c : ℕ = first / h.snap.chunk in
       let s : Snap = h.snap in
       let kept : IsKept sectors h = resting.live on in
       let q : Pair = record { old = c; new = next_place s } in
       let nx : ℕ = stepped s.chunk (next_place s + 1) in
-      let rest : List Held = primed (chunk_at first) (m + 1) snaps in
-      let start : Held = holding s h.pairs nx false false (copying (m + 1) q Waiting [] ∷ []) [] in
+      let rest : List SnapHeld = primed (chunk_at first) (m + 1) snaps in
+      let start : SnapHeld = holding s h.pairs nx false false (copying (m + 1) q Waiting [] ∷ []) [] in
       let none : is_some (place_of h.pairs c) ≡ false = ap (λ ps. is_some (place_of ps c)) (sym kept.pairs) ∙ lacks in
       let unsaved : is_saved first start ≡ false = rw (on, none) refl in
       let rs : List Going = requests (done ++ start ∷ rest) in
@@ -187,7 +187,7 @@ module _ (g : Option MergeHeld) (sectors first : ℕ) (requests : List Held → 
         held = e.held;
         snap = e.snap;
         goes = goes_between _ _ _ _
-            (ap (λ xs. with_requests origin (done ++ xs)) (primed_copy (chunk_at first) m h snaps some filled ∙ ap (λ (w : Held). w ∷ rest) (as_holding sectors c (m + 1) h resting kept)))
+            (ap (λ xs. with_requests origin (done ++ xs)) (primed_copy (chunk_at first) m h snaps some filled ∙ ap (λ (w : SnapHeld). w ∷ rest) (as_holding sectors c (m + 1) h resting kept)))
             (unstarted e.held.snap.live _ ∙ ap (λ xs. at_with g (met origin (chunk_read c origin s)) (done ++ e.held ∷ rest) xs a k) (routed.saved done rest start e.held unsaved)) e.goes;
         rest = record {
           tried = e.idle.tried;
@@ -199,7 +199,7 @@ module _ (g : Option MergeHeld) (sectors first : ℕ) (requests : List Held → 
       }
 
   -- the copies of one snapshot after the other
-  copies_all : (snaps : List Held) (origin : Device) (done : List Held) (m : ℕ) → length origin.bytes ≡ 512 * sectors → first < sectors → Each IsIdle done → Each (IsResting sectors) snaps → Finals (with_requests origin (done ++ primed (chunk_at first) m snaps)) origin done snaps
+  copies_all : (snaps : List SnapHeld) (origin : Device) (done : List SnapHeld) (m : ℕ) → length origin.bytes ≡ 512 * sectors → first < sectors → Each IsIdle done → Each (IsResting sectors) snaps → Finals (with_requests origin (done ++ primed (chunk_at first) m snaps)) origin done snaps
   copies_all [] origin done m whole inside before rest = record { finals = []; goes = goes_none _; same = refl; rest = tt; saved = tt }
   copies_all (h ∷ snaps) origin done m whole inside before rest =
       let c : ℕ = first / h.snap.chunk in
@@ -225,7 +225,7 @@ module _ (g : Option MergeHeld) (sectors first : ℕ) (requests : List Held → 
       ]
 
   -- from the start of the copies to the end of them all
-  pub saves_settle : (origin : Device) (snaps : List Held) (m : ℕ) → length origin.bytes ≡ 512 * sectors → first < sectors → Each (IsResting sectors) snaps → Finals (with_requests origin (started_all (chunk_at first) m snaps)) origin [] snaps
+  pub saves_settle : (origin : Device) (snaps : List SnapHeld) (m : ℕ) → length origin.bytes ≡ 512 * sectors → first < sectors → Each (IsResting sectors) snaps → Finals (with_requests origin (started_all (chunk_at first) m snaps)) origin [] snaps
   saves_settle origin snaps m whole inside rest =
       let last = copies_all snaps origin [] m whole inside tt rest in
       record {

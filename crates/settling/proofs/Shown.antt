@@ -17,7 +17,7 @@ use Rattle.settled.specs.Snaps.{Snap, Volume, shown}
 use Rattle.settled.specs.Saving.{save}
 use Rattle.settled.specs.Pieces.{save_all, write_origin}
 use Rattle.settled.specs.Shown.{ShowTheSame}
-use Rattle.event_machine.specs.Held.{Held, Moving}
+use Rattle.event_machine.specs.Held.{SnapHeld, Moving}
 use Rattle.event_machine.specs.Rest.{IsResting, IsAtRest}
 use Rattle.event_machine.specs.Requests.{volume_of}
 use Rattle.settled.proofs.Each.{Each, each_from}
@@ -27,7 +27,7 @@ use Rattle.settled.proofs.LiveSaves.{live_saved}
 
 module _ (sectors : ℕ) (piece : Span) (bytes : List ℕ) (some : 0 < piece.count) (inside : piece.first + piece.count ≤ sectors) (len : length bytes ≡ 512 * piece.count) where
   -- one snapshot, over an origin disk that was written or not
-  shows_same : (origin : Device) (h : Held) (after : List ℕ) → length origin.bytes ≡ 512 * sectors → IsResting sectors h → piece.first + piece.count ≤ h.snap.chunk * (piece.first / h.snap.chunk) + h.snap.chunk → (wrote : Bool) → after ≡ (if wrote then with_sectors origin.bytes piece.first bytes else origin.bytes) →
+  shows_same : (origin : Device) (h : SnapHeld) (after : List ℕ) → length origin.bytes ≡ 512 * sectors → IsResting sectors h → piece.first + piece.count ≤ h.snap.chunk * (piece.first / h.snap.chunk) + h.snap.chunk → (wrote : Bool) → after ≡ (if wrote then with_sectors origin.bytes piece.first bytes else origin.bytes) →
       (save (piece.first / h.snap.chunk) origin h.snap).snap.live ≡ true → shown after (save (piece.first / h.snap.chunk) origin h.snap).snap ≡ shown origin.bytes h.snap
   shows_same origin h after whole rest one wrote is live =
       let s : Snap = h.snap in
@@ -50,7 +50,7 @@ module _ (sectors : ℕ) (piece : Span) (bytes : List ℕ) (some : 0 < piece.cou
       by_answer P x y px py true = px
       by_answer P x y px py false = py
 
-  show_all : (origin : Device) (snaps : List Held) (after : List ℕ) → length origin.bytes ≡ 512 * sectors → Each (IsResting sectors) snaps → Each (λ h. piece.first + piece.count ≤ h.snap.chunk * (piece.first / h.snap.chunk) + h.snap.chunk) snaps → (wrote : Bool) → after ≡ (if wrote then with_sectors origin.bytes piece.first bytes else origin.bytes) →
+  show_all : (origin : Device) (snaps : List SnapHeld) (after : List ℕ) → length origin.bytes ≡ 512 * sectors → Each (IsResting sectors) snaps → Each (λ h. piece.first + piece.count ≤ h.snap.chunk * (piece.first / h.snap.chunk) + h.snap.chunk) snaps → (wrote : Bool) → after ≡ (if wrote then with_sectors origin.bytes piece.first bytes else origin.bytes) →
       ShowTheSame origin.bytes after (map (λ h. h.snap) snaps) (save_all piece.first origin (map (λ h. h.snap) snaps)).snaps
   show_all origin [] after whole rest one wrote is = tt
   show_all origin (h ∷ snaps) after whole rest one wrote is =

@@ -32,7 +32,7 @@ use Rattle.settled.specs.Devices.{Device, met, written_by}
 use Rattle.settled.specs.Snaps.{Snap}
 use Rattle.settled.specs.Saving.{Saving, spoilt, next_place, is_full, has_chunk, save}
 use Rattle.settled.specs.Pieces.{Answered, Served, shuts, write_snap, write_saved, write_place, in_snap}
-use Rattle.event_machine.specs.Held.{Held, Going, MergeHeld, Moving, with_store, spoiled}
+use Rattle.event_machine.specs.Held.{SnapHeld, Going, MergeHeld, Moving, with_store, spoiled}
 use Rattle.event_machine.specs.Due.{copy_at, least_in}
 use Rattle.event_machine.specs.Again.{again}
 use Rattle.event_machine.specs.Stepping.{for_some, answer, on_store, write_reply}
@@ -63,21 +63,21 @@ module _ (g : Option MergeHeld) (sectors number n : ℕ) (range : Range) (bytes 
   abbrev routed : Route → Going
   routed route = record { number = number; request = snap_write_request n range bytes; route = route }
 
-  abbrev is_this : Held → Bool
+  abbrev is_this : SnapHeld → Bool
   is_this h = h.snap.number == n
 
   -- where the write goes in a snapshot's store
-  abbrev place_first : Held → ℕ → ℕ
+  abbrev place_first : SnapHeld → ℕ → ℕ
   place_first h place = h.snap.chunk * place + range.first % h.snap.chunk
 
-  abbrev after_place : Held → ℕ → Held
+  abbrev after_place : SnapHeld → ℕ → SnapHeld
   after_place h place = with_store h (written_by h.snap.store (Writes (place_first h place) range.count) (with_sectors h.snap.store.bytes (place_first h place) bytes))
 
-  abbrev place_reply : Held → ℕ → Reply
+  abbrev place_reply : SnapHeld → ℕ → Reply
   place_reply h place = write_reply h.snap.store (place_first h place) range.count
 
   -- a write that is routed to its chunk's place
-  place_goes : (origin : Device) (done rest : List Held) (h : Held) (place : ℕ) (a : Option Reply) (k : ℕ) → Each IsIdle (done ++ h ∷ rest) → Each (λ d. is_this d ≡ false) done → is_this h ≡ true →
+  place_goes : (origin : Device) (done rest : List SnapHeld) (h : SnapHeld) (place : ℕ) (a : Option Reply) (k : ℕ) → Each IsIdle (done ++ h ∷ rest) → Each (λ d. is_this d ≡ false) done → is_this h ≡ true →
       Goes no_start (at_with g origin (done ++ h ∷ rest) (routed (Store place) ∷ []) a k) (at_with g origin (done ++ after_place h place ∷ rest) [] (Some (place_reply h place)) k)
   place_goes origin done rest h place a k idle before pass =
       let r : Going = routed (Store place) in
@@ -88,7 +88,7 @@ module _ (g : Option MergeHeld) (sectors number n : ℕ) (range : Range) (bytes 
       ∙ answered_here g origin (done ++ after_place h place ∷ rest) r (place_reply h place) a k)
 
   -- a write whose snapshot was spoiled
-  refused_goes : (origin : Device) (snaps : List Held) (a : Option Reply) (k : ℕ) → Each IsIdle snaps → Goes no_start (at_with g origin snaps (routed Refused ∷ []) a k) (at_with g origin snaps [] (Some (Declined Invalid)) k)
+  refused_goes : (origin : Device) (snaps : List SnapHeld) (a : Option Reply) (k : ℕ) → Each IsIdle snaps → Goes no_start (at_with g origin snaps (routed Refused ∷ []) a k) (at_with g origin snaps [] (Some (Declined Invalid)) k)
   refused_goes origin snaps a k idle = goes_to _ _ _ (issued g origin snaps (routed Refused) a k idle refl) (answered_here g origin snaps (routed Refused) (Declined Invalid) a k)
 
   -- what the big step does of a write that the snapshot takes, by what saving the chunk leaves
@@ -98,7 +98,7 @@ module _ (g : Option MergeHeld) (sectors number n : ℕ) (range : Range) (bytes 
   saved_dead : (x : Saving) → x.snap.live ≡ false → write_saved (span_of range) bytes x ≡ record { origin = x.origin; snap = x.snap; reply = Declined Invalid }
   saved_dead x out = cond-false _ _ _ out
 
-  saved_there : (x : Saving) (h : Held) (place : ℕ) → h.snap ≡ x.snap → h.snap.live ≡ true → IsKept sectors h → place_of h.pairs (range.first / h.snap.chunk) ≡ Some place → write_saved (span_of range) bytes x ≡ record { origin = x.origin; snap = (after_place h place).snap; reply = place_reply h place }
+  saved_there : (x : Saving) (h : SnapHeld) (place : ℕ) → h.snap ≡ x.snap → h.snap.live ≡ true → IsKept sectors h → place_of h.pairs (range.first / h.snap.chunk) ≡ Some place → write_saved (span_of range) bytes x ≡ record { origin = x.origin; snap = (after_place h place).snap; reply = place_reply h place }
   saved_there x h place same on kept some =
       let y : Saving = record { origin = x.origin; snap = h.snap } in
       let with_snap : Snap → Saving = λ (s : Snap). record { origin = x.origin; snap = s } in
@@ -106,19 +106,19 @@ module _ (g : Option MergeHeld) (sectors number n : ℕ) (range : Range) (bytes 
       ∙ ap (write_place (span_of range) bytes x.origin h.snap) (ap (λ ps. place_of ps (range.first / h.snap.chunk)) kept.pairs ∙ some)
 
   module _ (origin : Device) (a : Option Reply) (k : ℕ) (whole : length origin.bytes ≡ 512 * sectors) (inside : range.first < sectors) (len : length bytes ≡ 512 * range.count) where
-    abbrev write_begun : List Held → Moving
+    abbrev write_begun : List SnapHeld → Moving
     write_begun snaps = submitted number (snap_write_request n range bytes) (at_with g origin snaps [] a k)
 
-    abbrev WriteServes : List Held → Type 0
+    abbrev WriteServes : List SnapHeld → Type 0
     WriteServes snaps = Serves sectors g (write_begun snaps) (in_snap n (write_snap (span_of range) bytes) origin (map snap_of snaps))
 
-    nowhere : (snaps : List Held) → Each (IsResting sectors) snaps → Each (λ h. is_this h ≡ false) snaps → WriteServes snaps
+    nowhere : (snaps : List SnapHeld) → Each (IsResting sectors) snaps → Each (λ h. is_this h ≡ false) snaps → WriteServes snaps
     nowhere snaps rest none =
         serves_there sectors g (write_begun snaps) (at_with g origin snaps [] (Some (Declined Invalid)) k) origin snaps (Declined Invalid) k _
         (ap (λ o. for_some o (λ h. submit_write number (snap_write_request n range bytes) is_this h (at_with g origin snaps [] a k)) (declined Invalid (at_with g origin snaps [] a k))) (none_that is_this snaps none))
         (goes_none _) whole rest (served_nowhere n (write_snap (span_of range) bytes) origin snaps none)
 
-    module _ (done rest : List Held) (h : Held) (all : Each (IsResting sectors) (done ++ h ∷ rest)) (before : Each (λ d. is_this d ≡ false) done) (pass : is_this h ≡ true) (piece : range.first + range.count ≤ h.snap.chunk * (range.first / h.snap.chunk) + h.snap.chunk) where
+    module _ (done rest : List SnapHeld) (h : SnapHeld) (all : Each (IsResting sectors) (done ++ h ∷ rest)) (before : Each (λ d. is_this d ≡ false) done) (pass : is_this h ≡ true) (piece : range.first + range.count ≤ h.snap.chunk * (range.first / h.snap.chunk) + h.snap.chunk) where
       abbrev c : ℕ
       c = range.first / h.snap.chunk
 
@@ -238,7 +238,7 @@ module _ (g : Option MergeHeld) (sectors number n : ℕ) (range : Range) (bytes 
       copy_ends on none =
           let kept : IsKept sectors h = here.live on in
           let low : least_in (copy_at Waiting) rest ≡ None = none_least (copy_at Waiting) rest (each_weaker IsIdle (λ d. copy_at Waiting d ≡ None) rest (λ d i. rw i.copies refl) idle_rest) in
-          subst (λ (w : Held). Ends no_start g done rest (routed Waits ∷ []) a (k + 1) (met origin (chunk_read c origin h.snap)) (at_with g origin (done ++ w ∷ rest) (routed Waits ∷ []) a (k + 1)) (h.pairs ++ q ∷ []) (stepped h.snap.chunk (next_place h.snap + 1)) (saved_snap sectors c origin h h))
+          subst (λ (w : SnapHeld). Ends no_start g done rest (routed Waits ∷ []) a (k + 1) (met origin (chunk_read c origin h.snap)) (at_with g origin (done ++ w ∷ rest) (routed Waits ∷ []) a (k + 1)) (h.pairs ++ q ∷ []) (stepped h.snap.chunk (next_place h.snap + 1)) (saved_snap sectors c origin h h))
           (sym (as_holding sectors c (k + 1) h here kept))
           (ends_read no_start g done rest (routed Waits ∷ []) a (k + 1) (k + 1) q h.pairs (stepped h.snap.chunk (next_place h.snap + 1)) (each_weaker IsIdle (IsBefore (k + 1)) done (idle_before (k + 1)) idle_done) (each_weaker IsIdle IsLater rest idle_later idle_rest) unread origin h.snap kept.order.1.some on kept.pairs
           (copy_bytes sectors origin h.snap c (next_place h.snap) whole) (ap (least (Some (k + 1))) low))
@@ -273,7 +273,7 @@ module _ (g : Option MergeHeld) (sectors number n : ℕ) (range : Range) (bytes 
         copied_saved : write_snap (span_of range) bytes origin h.snap ≡ write_saved (span_of range) bytes saving
         copied_saved = saved_is origin h.snap saving (takes_same takes) (saves_copy c origin h.snap (lacks on none) has_room)
 
-        abbrev copied_after : List Held
+        abbrev copied_after : List SnapHeld
         copied_after = done ++ e.held ∷ rest
 
         goes_routed : (route : Route) → requests_after g copied_after e.held (routed Waits ∷ []) ≡ routed route ∷ [] → Goes no_start (at_with g origin (done ++ with_copy (k + 1) c h ∷ rest) (routed Waits ∷ []) a (k + 1)) (at_with g (met origin (chunk_read c origin h.snap)) copied_after (routed route ∷ []) a (k + 1))
@@ -340,7 +340,7 @@ module _ (g : Option MergeHeld) (sectors number n : ℕ) (range : Range) (bytes 
         ]
       ]
 
-    pub snap_write_serves : (snaps : List Held) → Each (IsResting sectors) snaps → Each (λ h. range.first + range.count ≤ h.snap.chunk * (range.first / h.snap.chunk) + h.snap.chunk) snaps → WriteServes snaps
+    pub snap_write_serves : (snaps : List SnapHeld) → Each (IsResting sectors) snaps → Each (λ h. range.first + range.count ≤ h.snap.chunk * (range.first / h.snap.chunk) + h.snap.chunk) snaps → WriteServes snaps
     snap_write_serves snaps rest pieces = elim (split_at is_this snaps) [
       | inl none ↦ nowhere snaps rest none
       | inr s ↦ subst WriteServes (sym s.is)
@@ -349,7 +349,7 @@ module _ (g : Option MergeHeld) (sectors number n : ℕ) (range : Range) (bytes 
     ]
 
 -- the range lies inside one chunk of each snapshot
-pub snap_write_settles : (sectors number n : ℕ) (range : Range) (bytes : List ℕ) (v : Moving) → IsAtRest sectors v → range.first < sectors → length bytes ≡ 512 * range.count → All (λ (h : Held). range.first + range.count ≤ h.snap.chunk * (range.first / h.snap.chunk) + h.snap.chunk) v.snaps →
+pub snap_write_settles : (sectors number n : ℕ) (range : Range) (bytes : List ℕ) (v : Moving) → IsAtRest sectors v → range.first < sectors → length bytes ≡ 512 * range.count → All (λ (h : SnapHeld). range.first + range.count ≤ h.snap.chunk * (range.first / h.snap.chunk) + h.snap.chunk) v.snaps →
     SettlesTo sectors (submitted number (snap_write_request n range bytes) v) (in_snap n (write_snap (span_of range) bytes) v.origin (map snap_of v.snaps))
 snap_write_settles sectors number n range bytes v rest inside len pieces =
     let answer : Answered = in_snap n (write_snap (span_of range) bytes) v.origin (map snap_of v.snaps) in
@@ -357,4 +357,4 @@ snap_write_settles sectors number n range bytes v rest inside len pieces =
     subst Settles (sym (at_alone v rest.alone))
     (subst (λ (rs : List Going). Settles (at v.origin v.snaps rs v.replied v.started)) (sym rest.requests)
     (serves_settles sectors _ answer (snap_write_serves None sectors number n range bytes v.origin v.replied v.started rest.whole inside len v.snaps (each_from (IsResting sectors) v.snaps rest.snaps)
-    (each_from (λ (h : Held). range.first + range.count ≤ h.snap.chunk * (range.first / h.snap.chunk) + h.snap.chunk) v.snaps pieces))))
+    (each_from (λ (h : SnapHeld). range.first + range.count ≤ h.snap.chunk * (range.first / h.snap.chunk) + h.snap.chunk) v.snaps pieces))))

@@ -21,7 +21,7 @@ use Rattle.settled.specs.Saves.{paired, zeroed}
 use Rattle.settled.specs.Devices.{Device, sectors_of, answers, met, written_by}
 use Rattle.settled.specs.Snaps.{Snap}
 use Rattle.settled.specs.Saving.{lacks_area, header_written}
-use Rattle.event_machine.specs.Held.{Copying, Held, Going, MergeHeld, Moving, number_of, with_store, spoiled, flushed_held}
+use Rattle.event_machine.specs.Held.{Copying, SnapHeld, Going, MergeHeld, Moving, number_of, with_store, spoiled, flushed_held}
 use Rattle.event_machine.specs.Due.{batch_of, needs_area, waits_for_area, can_mark, can_flush_store, can_commit, can_zero, copy_at, is_reading, is_publishable, least_in, due}
 use Rattle.event_machine.specs.Again.{again, placed, refused, rerouted}
 use Rattle.event_machine.specs.Stepping.{for_some, first_that, with_first, put, spoil, store_write, read_copy, write_copy, zero_next, all_paired, commit, publish, mark_invalid, flush_store, is_copy, on_copy, on_snap}
@@ -34,7 +34,7 @@ use Rattle.event_machine.proofs.Lists.{Above}
 use Rattle.event_machine.proofs.Around.{at_with, IsLater, IsBefore, later_marks, later_flushes, later_commits, later_zeroes, due_flush, due_publish, due_area, due_zeros, due_write, due_read}
 
 -- a live snapshot with these copies and marks
-abbrev pub holding : Snap → List Pair → ℕ → Bool → Bool → List Copying → List Mark → Held
+abbrev pub holding : Snap → List Pair → ℕ → Bool → Bool → List Copying → List Mark → SnapHeld
 holding s pairs next zeroed firm copies marks = record { snap = s; untried = false; marked = false; pairs = pairs; next = next; zeroed = zeroed; firm = firm; copies = copies; marks = marks }
 
 -- a copy
@@ -45,31 +45,31 @@ and_no : (x y : Bool) → y ≡ false → (x && y) ≡ false
 and_no true y e = e
 and_no false y e = refl
 
-module _ (g : Option MergeHeld) (origin : Device) (done rest : List Held) (rs : List Going) (a : Option Reply) (k : ℕ) where
-  module _ (test : Held → Bool) (h : Held) (before : Each (λ d. test d ≡ false) done) (pass : test h ≡ true) where
+module _ (g : Option MergeHeld) (origin : Device) (done rest : List SnapHeld) (rs : List Going) (a : Option Reply) (k : ℕ) where
+  module _ (test : SnapHeld → Bool) (h : SnapHeld) (before : Each (λ d. test d ≡ false) done) (pass : test h ≡ true) where
     -- a snapshot that is changed
-    pub put_here : (w : Held) → put test w (at_with g origin (done ++ h ∷ rest) rs a k) ≡ at_with g origin (done ++ w ∷ rest) rs a k
+    pub put_here : (w : SnapHeld) → put test w (at_with g origin (done ++ h ∷ rest) rs a k) ≡ at_with g origin (done ++ w ∷ rest) rs a k
     put_here w = ap (λ xs. at_with g origin xs rs a k) (here_with test w done rest h before pass)
 
-    pub spoil_here : (w : Held) → spoil test w (at_with g origin (done ++ h ∷ rest) rs a k) ≡ at_with g origin (done ++ spoiled w ∷ rest) (map (refused w.snap.number) rs) a k
+    pub spoil_here : (w : SnapHeld) → spoil test w (at_with g origin (done ++ h ∷ rest) rs a k) ≡ at_with g origin (done ++ spoiled w ∷ rest) (map (refused w.snap.number) rs) a k
     spoil_here w = ap (λ xs. at_with g origin xs (map (refused w.snap.number) rs) a k) (here_with test (spoiled w) done rest h before pass)
 
-    pub write_done : (op : Operation) (bytes : List ℕ) (next : Held → Held) → answers h.snap.store op ≡ true → store_write test h op bytes next (at_with g origin (done ++ h ∷ rest) rs a k) ≡ at_with g origin (done ++ next (with_store h (written_by h.snap.store op bytes)) ∷ rest) rs a k
+    pub write_done : (op : Operation) (bytes : List ℕ) (next : SnapHeld → SnapHeld) → answers h.snap.store op ≡ true → store_write test h op bytes next (at_with g origin (done ++ h ∷ rest) rs a k) ≡ at_with g origin (done ++ next (with_store h (written_by h.snap.store op bytes)) ∷ rest) rs a k
     write_done op bytes next ok = cond-true _ _ _ ok ∙ put_here (next (with_store h (written_by h.snap.store op bytes)))
 
-    pub write_failed : (op : Operation) (bytes : List ℕ) (next : Held → Held) → answers h.snap.store op ≡ false → store_write test h op bytes next (at_with g origin (done ++ h ∷ rest) rs a k) ≡ at_with g origin (done ++ spoiled (with_store h (written_by h.snap.store op bytes)) ∷ rest) (map (refused h.snap.number) rs) a k
+    pub write_failed : (op : Operation) (bytes : List ℕ) (next : SnapHeld → SnapHeld) → answers h.snap.store op ≡ false → store_write test h op bytes next (at_with g origin (done ++ h ∷ rest) rs a k) ≡ at_with g origin (done ++ spoiled (with_store h (written_by h.snap.store op bytes)) ∷ rest) (map (refused h.snap.number) rs) a k
     write_failed op bytes next failed = cond-false _ _ _ failed ∙ spoil_here (with_store h (written_by h.snap.store op bytes))
 
-    pub on_this_snap : (f : (Held → Bool) → Held → Moving → Moving) → on_snap test f (at_with g origin (done ++ h ∷ rest) rs a k) ≡ f test h (at_with g origin (done ++ h ∷ rest) rs a k)
+    pub on_this_snap : (f : (SnapHeld → Bool) → SnapHeld → Moving → Moving) → on_snap test f (at_with g origin (done ++ h ∷ rest) rs a k) ≡ f test h (at_with g origin (done ++ h ∷ rest) rs a k)
     on_this_snap f = ap (λ o. for_some o (λ x. f test x (at_with g origin (done ++ h ∷ rest) rs a k)) (at_with g origin (done ++ h ∷ rest) rs a k)) (here_that test done rest h before pass)
 
   -- the mark of a spoiled snapshot is written, or its write fails
-  module _ (h : Held) (before : Each (λ d. can_mark d ≡ false) done) (untried : h.untried ≡ true) (unmarked : h.marked ≡ false) where
-    abbrev marks_test : Held → Bool
+  module _ (h : SnapHeld) (before : Each (λ d. can_mark d ≡ false) done) (untried : h.untried ≡ true) (unmarked : h.marked ≡ false) where
+    abbrev marks_test : SnapHeld → Bool
     marks_test d = (d.snap.number == h.snap.number) && can_mark d
 
     marks_fails : Each (λ d. marks_test d ≡ false) done
-    marks_fails = each_weaker (λ (d : Held). can_mark d ≡ false) (λ d. marks_test d ≡ false) done (λ d e. and_no (d.snap.number == h.snap.number) (can_mark d) e) before
+    marks_fails = each_weaker (λ (d : SnapHeld). can_mark d ≡ false) (λ d. marks_test d ≡ false) done (λ d e. and_no (d.snap.number == h.snap.number) (can_mark d) e) before
 
     marks_passes : marks_test h ≡ true
     marks_passes = same_number h.snap.number (can_mark h) ∙ rw (untried, unmarked) refl
@@ -82,21 +82,21 @@ module _ (g : Option MergeHeld) (origin : Device) (done rest : List Held) (rs : 
         goes_by _ _ (WriteInvalid h.snap.number) marks_due tt
         (on_this_snap marks_test h marks_fails marks_passes mark_invalid ∙ cond-true _ _ _ ok ∙ put_here marks_test h marks_fails marks_passes (record h { snap = record h.snap { store = header_written h.snap }; marked = true }))
 
-    pub marks_failed : {starts : Moving → Moving} → answers h.snap.store (Writes 0 h.snap.chunk) ≡ false → (let after : Held = record h { snap = record h.snap { store = header_written h.snap; stale = true }; untried = false } in
+    pub marks_failed : {starts : Moving → Moving} → answers h.snap.store (Writes 0 h.snap.chunk) ≡ false → (let after : SnapHeld = record h { snap = record h.snap { store = header_written h.snap; stale = true }; untried = false } in
         Goes starts (at_with g origin (done ++ h ∷ rest) rs a k) (at_with g origin (done ++ after ∷ rest) (map (again g (done ++ after ∷ rest)) rs) a k))
     marks_failed failed =
-        let after : Held = record h { snap = record h.snap { store = header_written h.snap; stale = true }; untried = false } in
+        let after : SnapHeld = record h { snap = record h.snap { store = header_written h.snap; stale = true }; untried = false } in
         goes_by _ _ (WriteInvalid h.snap.number) marks_due tt
         (on_this_snap marks_test h marks_fails marks_passes mark_invalid ∙ cond-false _ _ _ failed ∙ ap (λ xs. at_with g origin xs (map (again g xs) rs) a k) (here_with marks_test after done rest h marks_fails marks_passes))
 
   -- the flush after the mark
-  pub marks_flushed : {starts : Moving → Moving} → (h : Held) → Each IsLater done → Each (λ d. can_mark d ≡ false) rest → h.untried ≡ true → h.marked ≡ true →
+  pub marks_flushed : {starts : Moving → Moving} → (h : SnapHeld) → Each IsLater done → Each (λ d. can_mark d ≡ false) rest → h.untried ≡ true → h.marked ≡ true →
       Goes starts (at_with g origin (done ++ h ∷ rest) rs a k) (at_with g origin (done ++ mark_flushed h ∷ rest) (map (again g (done ++ mark_flushed h ∷ rest)) rs) a k)
   marks_flushed h before later untried marked =
-      let test : Held → Bool = λ d. (d.snap.number == h.snap.number) && can_flush_store d in
+      let test : SnapHeld → Bool = λ d. (d.snap.number == h.snap.number) && can_flush_store d in
       let unflushed : Each (λ d. can_flush_store d ≡ false) done = each_weaker IsLater (λ d. can_flush_store d ≡ false) done later_flushes before in
       let unmarked : Each (λ d. can_mark d ≡ false) done = each_weaker IsLater (λ d. can_mark d ≡ false) done later_marks before in
-      let fails : Each (λ d. test d ≡ false) done = each_weaker (λ (d : Held). can_flush_store d ≡ false) (λ d. test d ≡ false) done (λ d e. and_no (d.snap.number == h.snap.number) (can_flush_store d) e) unflushed in
+      let fails : Each (λ d. test d ≡ false) done = each_weaker (λ (d : SnapHeld). can_flush_store d ≡ false) (λ d. test d ≡ false) done (λ d e. and_no (d.snap.number == h.snap.number) (can_flush_store d) e) unflushed in
       let no_mark : can_mark h ≡ false = rw (untried, marked) refl in
       let waits : can_flush_store h ≡ true = rw (untried, marked) refl in
       let pass : test h ≡ true = same_number h.snap.number (can_flush_store h) ∙ waits in
@@ -104,22 +104,22 @@ module _ (g : Option MergeHeld) (origin : Device) (done rest : List Held) (rs : 
       (on_this_snap test h fails pass flush_store ∙ cond-true _ _ _ marked ∙ ap (λ xs. at_with g origin xs (map (again g xs) rs) a k) (here_with test (mark_flushed h) done rest h fails pass))
 
   -- the mark of a snapshot that is spoiled, from its write to its end
-  pub marks_here : {starts : Moving → Moving} → (h : Held) → h.marked ≡ false → Each IsLater done → Each IsLater rest → Goes starts (at_with g origin (done ++ spoiled h ∷ rest) rs a k) (at_with g origin (done ++ tried_of h ∷ rest) (map (again g (done ++ tried_of h ∷ rest)) rs) a k)
+  pub marks_here : {starts : Moving → Moving} → (h : SnapHeld) → h.marked ≡ false → Each IsLater done → Each IsLater rest → Goes starts (at_with g origin (done ++ spoiled h ∷ rest) rs a k) (at_with g origin (done ++ tried_of h ∷ rest) (map (again g (done ++ tried_of h ∷ rest)) rs) a k)
   marks_here {starts} h unmarked before later =
       let no_mark : Each (λ d. can_mark d ≡ false) done = each_weaker IsLater (λ d. can_mark d ≡ false) done later_marks before in
       let u : Moving = at_with g origin (done ++ spoiled h ∷ rest) rs a k in
-      let to : Held → Moving = λ (w : Held). at_with g origin (done ++ w ∷ rest) (map (again g (done ++ w ∷ rest)) rs) a k in
+      let to : SnapHeld → Moving = λ (w : SnapHeld). at_with g origin (done ++ w ∷ rest) (map (again g (done ++ w ∷ rest)) rs) a k in
       elim (cases_Bool (mark_goes h)) [
-        | inl ok ↦ subst (λ (w : Held). Goes starts u (to w)) (sym (tried_flushed h ok))
+        | inl ok ↦ subst (λ (w : SnapHeld). Goes starts u (to w)) (sym (tried_flushed h ok))
             (goes_on _ _ _ (marks_done (spoiled h) no_mark refl unmarked ok)
             (marks_flushed (mark_written h) before (each_weaker IsLater (λ d. can_mark d ≡ false) rest later_marks later) refl refl))
-        | inr failed ↦ subst (λ (w : Held). Goes starts u (to w)) (ap (λ (b : Bool). let w : Held = record (mark_missed h) { marked = b } in w) unmarked ∙ sym (tried_missed h failed))
+        | inr failed ↦ subst (λ (w : SnapHeld). Goes starts u (to w)) (ap (λ (b : Bool). let w : SnapHeld = record (mark_missed h) { marked = b } in w) unmarked ∙ sym (tried_missed h failed))
             (marks_failed (spoiled h) no_mark refl unmarked failed)
       ]
 
   -- FlushStore of a live snapshot
-  module _ (h : Held) (before : Each IsLater done) (later : Each IsLater rest) (tried : h.untried ≡ false) (unmarked : h.marked ≡ false) (waits : can_flush_store h ≡ true) where
-    abbrev flush_test : Held → Bool
+  module _ (h : SnapHeld) (before : Each IsLater done) (later : Each IsLater rest) (tried : h.untried ≡ false) (unmarked : h.marked ≡ false) (waits : can_flush_store h ≡ true) where
+    abbrev flush_test : SnapHeld → Bool
     flush_test d = (d.snap.number == h.snap.number) && can_flush_store d
 
     flush_fails : Each (λ d. flush_test d ≡ false) done
@@ -148,7 +148,7 @@ is_mine stage n q bytes same = same_number n (is_stage stage stage) ∙ same
 has_mine : (stage : Stage) (n : ℕ) (q : Pair) (bytes : List ℕ) → is_stage stage stage ≡ true → list_any (is_copy stage n) (copying n q stage bytes ∷ []) ≡ true
 has_mine stage n q bytes same = rw (is_mine stage n q bytes same) refl
 
-module _ (g : Option MergeHeld) (done rest : List Held) (a : Option Reply) (k : ℕ) (s : Snap) (ps : List Pair) (nx : ℕ) (z f : Bool) (n : ℕ) (q : Pair) (before : Each (IsBefore n) done) (later : Each IsLater rest) where
+module _ (g : Option MergeHeld) (done rest : List SnapHeld) (a : Option Reply) (k : ℕ) (s : Snap) (ps : List Pair) (nx : ℕ) (z f : Bool) (n : ℕ) (q : Pair) (before : Each (IsBefore n) done) (later : Each IsLater rest) where
   befores : Each IsLater done
   befores = each_weaker (IsBefore n) IsLater done (λ d i. i.later) before
 
@@ -156,17 +156,17 @@ module _ (g : Option MergeHeld) (done rest : List Held) (a : Option Reply) (k : 
   aboves = each_weaker (IsBefore n) (λ d. Above n (copy_at Waiting d)) done (λ d i. i.above) before
 
   -- the snapshot with its copy at a stage
-  abbrev pub with_stage : Stage → List ℕ → Held
+  abbrev pub with_stage : Stage → List ℕ → SnapHeld
   with_stage stage bytes = holding s ps nx z f (copying n q stage bytes ∷ []) []
 
   no_copy : (stage : Stage) → Each (λ d. list_any (is_copy stage n) d.copies ≡ false) done
   no_copy stage = each_weaker (IsBefore n) (λ d. list_any (is_copy stage n) d.copies ≡ false) done (λ d i. i.apart stage) before
 
-  on_this_copy : (stage : Stage) (bytes : List ℕ) → is_stage stage stage ≡ true → (origin : Device) (rs : List Going) (f : (Held → Bool) → (Copying → Bool) → Held → Copying → Moving → Moving) →
+  on_this_copy : (stage : Stage) (bytes : List ℕ) → is_stage stage stage ≡ true → (origin : Device) (rs : List Going) (f : (SnapHeld → Bool) → (Copying → Bool) → SnapHeld → Copying → Moving → Moving) →
       on_copy stage n f (at_with g origin (done ++ with_stage stage bytes ∷ rest) rs a k) ≡ f (λ d. list_any (is_copy stage n) d.copies) (is_copy stage n) (with_stage stage bytes) (copying n q stage bytes) (at_with g origin (done ++ with_stage stage bytes ∷ rest) rs a k)
   on_this_copy stage bytes same origin rs f =
       let v : Moving = at_with g origin (done ++ with_stage stage bytes ∷ rest) rs a k in
-      let test : Held → Bool = λ d. list_any (is_copy stage n) d.copies in
+      let test : SnapHeld → Bool = λ d. list_any (is_copy stage n) d.copies in
       ap (λ o. for_some o (λ h. for_some (first_that (is_copy stage n) h.copies) (λ p. f test (is_copy stage n) h p v) v) v) (here_that test done rest (with_stage stage bytes) (no_copy stage) (has_mine stage n q bytes same))
       ∙ ap (λ o. for_some o (λ p. f test (is_copy stage n) (with_stage stage bytes) p v) v) (cond-true _ _ _ (is_mine stage n q bytes same))
 
@@ -182,7 +182,7 @@ module _ (g : Option MergeHeld) (done rest : List Held) (a : Option Reply) (k : 
   -- CopyRead
   pub reads_done : {starts : Moving → Moving} → (origin : Device) (rs : List Going) → least (Some n) (least_in (copy_at Waiting) rest) ≡ Some n → answers origin (read_op origin) ≡ true → Goes starts (at_with g origin (done ++ with_stage Waiting [] ∷ rest) rs a k) (at_with g (met origin (read_op origin)) (done ++ with_stage Read (bytes_read origin) ∷ rest) rs a k)
   reads_done origin rs low ok =
-      let test : Held → Bool = λ d. list_any (is_copy Waiting n) d.copies in
+      let test : SnapHeld → Bool = λ d. list_any (is_copy Waiting n) d.copies in
       goes_by _ _ (CopyRead n) (due_read origin done rest (with_stage Waiting []) rs a k befores later n aboves waits_later refl low) tt
       (on_this_copy Waiting [] refl origin rs read_copy ∙ cond-true _ _ _ ok
       ∙ ap (λ cs. put test (holding s ps nx z f cs []) (at_with g (met origin (read_op origin)) (done ++ with_stage Waiting [] ∷ rest) rs a k)) (cond-true _ _ _ (is_mine Waiting n q [] refl))
@@ -190,7 +190,7 @@ module _ (g : Option MergeHeld) (done rest : List Held) (a : Option Reply) (k : 
 
   pub reads_failed : {starts : Moving → Moving} → (origin : Device) (rs : List Going) → least (Some n) (least_in (copy_at Waiting) rest) ≡ Some n → answers origin (read_op origin) ≡ false → Goes starts (at_with g origin (done ++ with_stage Waiting [] ∷ rest) rs a k) (at_with g (met origin (read_op origin)) (done ++ spoiled (with_stage Waiting []) ∷ rest) (map (refused s.number) rs) a k)
   reads_failed origin rs low failed =
-      let test : Held → Bool = λ d. list_any (is_copy Waiting n) d.copies in
+      let test : SnapHeld → Bool = λ d. list_any (is_copy Waiting n) d.copies in
       goes_by _ _ (CopyRead n) (due_read origin done rest (with_stage Waiting []) rs a k befores later n aboves waits_later refl low) tt
       (on_this_copy Waiting [] refl origin rs read_copy ∙ cond-false _ _ _ failed
       ∙ spoil_here g (met origin (read_op origin)) done rest rs a k test (with_stage Waiting []) (no_copy Waiting) (has_mine Waiting n q [] refl) (with_stage Waiting []))
@@ -205,7 +205,7 @@ module _ (g : Option MergeHeld) (done rest : List Held) (a : Option Reply) (k : 
   pub writes_done : {starts : Moving → Moving} → (origin : Device) (rs : List Going) (bytes : List ℕ) → answers s.store (write_op origin) ≡ true →
       Goes starts (at_with g origin (done ++ with_stage Read bytes ∷ rest) rs a k) (at_with g origin (done ++ holding (store_after (write_op origin) (with_sectors s.store.bytes (s.chunk * q.new) bytes)) ps nx z f (copying n q Written bytes ∷ []) [] ∷ rest) rs a k)
   writes_done origin rs bytes ok =
-      let test : Held → Bool = λ d. list_any (is_copy Read n) d.copies in
+      let test : SnapHeld → Bool = λ d. list_any (is_copy Read n) d.copies in
       let now : Snap = store_after (write_op origin) (with_sectors s.store.bytes (s.chunk * q.new) bytes) in
       goes_by _ _ (CopyWrite n) (due_write origin done rest (with_stage Read bytes) rs a k befores later n refl refl refl refl refl) tt
       (on_this_copy Read bytes refl origin rs write_copy
@@ -216,7 +216,7 @@ module _ (g : Option MergeHeld) (done rest : List Held) (a : Option Reply) (k : 
   pub writes_failed : {starts : Moving → Moving} → (origin : Device) (rs : List Going) (bytes : List ℕ) → answers s.store (write_op origin) ≡ false →
       Goes starts (at_with g origin (done ++ with_stage Read bytes ∷ rest) rs a k) (at_with g origin (done ++ spoiled (with_store (with_stage Read bytes) (written_by s.store (write_op origin) (with_sectors s.store.bytes (s.chunk * q.new) bytes))) ∷ rest) (map (refused s.number) rs) a k)
   writes_failed origin rs bytes failed =
-      let test : Held → Bool = λ d. list_any (is_copy Read n) d.copies in
+      let test : SnapHeld → Bool = λ d. list_any (is_copy Read n) d.copies in
       goes_by _ _ (CopyWrite n) (due_write origin done rest (with_stage Read bytes) rs a k befores later n refl refl refl refl refl) tt
       (on_this_copy Read bytes refl origin rs write_copy
       ∙ write_failed g origin done rest rs a k test (with_stage Read bytes) (no_copy Read) (has_mine Read n q bytes refl) (write_op origin) (with_sectors s.store.bytes (s.chunk * q.new) bytes)
@@ -260,7 +260,7 @@ module _ (g : Option MergeHeld) (done rest : List Held) (a : Option Reply) (k : 
     zeros_due = due_zeros origin done rest (with_stage Flushed bytes) rs a k befores later refl no_flush refl (ap not waits_now) zero_here
 
     zero_fails : Each (λ d. ((d.snap.number == s.number) && can_zero d) ≡ false) done
-    zero_fails = each_weaker (λ (d : Held). can_zero d ≡ false) (λ d. ((d.snap.number == s.number) && can_zero d) ≡ false) done (λ d e. and_left (d.snap.number == s.number) (can_zero d) e) no_zero
+    zero_fails = each_weaker (λ (d : SnapHeld). can_zero d ≡ false) (λ d. ((d.snap.number == s.number) && can_zero d) ≡ false) done (λ d e. and_left (d.snap.number == s.number) (can_zero d) e) no_zero
 
     zero_passes : ((s.number == s.number) && can_zero (with_stage Flushed bytes)) ≡ true
     zero_passes = same_number s.number _ ∙ zero_here
@@ -269,7 +269,7 @@ module _ (g : Option MergeHeld) (done rest : List Held) (a : Option Reply) (k : 
     abbrev zeroing : ℕ → Moving
     zeroing x =
         let v : Moving = at_with g origin (done ++ with_stage Flushed bytes ∷ rest) rs a k in
-        let test : Held → Bool = λ d. (d.snap.number == s.number) && can_zero d in
+        let test : SnapHeld → Bool = λ d. (d.snap.number == s.number) && can_zero d in
         if lacks_area x s then spoil test (with_stage Flushed bytes) v
         else store_write test (with_stage Flushed bytes) (Writes (s.chunk * area_place s.chunk x) s.chunk) (zeroed s.chunk s.store.bytes x) (λ after. record after { zeroed = true; firm = false }) v
 
@@ -318,13 +318,13 @@ module _ (g : Option MergeHeld) (done rest : List Held) (a : Option Reply) (k : 
     area_due = due_area origin done rest (with_stage Flushed bytes) rs a k befores later refl area_flushed refl commits_here
 
     area_fails : Each (λ d. ((d.snap.number == s.number) && can_commit d) ≡ false) done
-    area_fails = each_weaker (λ (d : Held). can_commit d ≡ false) (λ d. ((d.snap.number == s.number) && can_commit d) ≡ false) done (λ d e. and_left (d.snap.number == s.number) (can_commit d) e) no_commit
+    area_fails = each_weaker (λ (d : SnapHeld). can_commit d ≡ false) (λ d. ((d.snap.number == s.number) && can_commit d) ≡ false) done (λ d e. and_left (d.snap.number == s.number) (can_commit d) e) no_commit
 
     area_passes : ((s.number == s.number) && can_commit (with_stage Flushed bytes)) ≡ true
     area_passes = same_number s.number _ ∙ commits_here
 
     -- the copy with its pair in a slot that is the last of its area, or is not
-    abbrev committed_by : Bool → Held → Held
+    abbrev committed_by : Bool → SnapHeld → SnapHeld
     committed_by last after = record after { pairs = after.pairs ++ q ∷ []; copies = drop 1 after.copies; marks = after.marks ++ mark_here ∷ []; zeroed = after.zeroed && not last; firm = after.firm && not last }
 
     one_paired : all_paired s.chunk s.store.bytes (length ps) (q ∷ []) ≡ paired s.chunk s.store.bytes (length ps) q
@@ -334,13 +334,13 @@ module _ (g : Option MergeHeld) (done rest : List Held) (a : Option Reply) (k : 
         ≡ store_write (λ d. (d.snap.number == s.number) && can_commit d) (with_stage Flushed bytes) area_op (paired s.chunk s.store.bytes (length ps) q) (committed_by fills) (at_with g origin (done ++ with_stage Flushed bytes ∷ rest) rs a k)
     commits =
         let v : Moving = at_with g origin (done ++ with_stage Flushed bytes ∷ rest) rs a k in
-        let test : Held → Bool = λ d. (d.snap.number == s.number) && can_commit d in
+        let test : SnapHeld → Bool = λ d. (d.snap.number == s.number) && can_commit d in
         on_this_snap g origin done rest rs a k test (with_stage Flushed bytes) area_fails area_passes (λ t h. commit (batch_of h) t h)
         ∙ ap (λ c. commit c test (with_stage Flushed bytes) v) (one_batch (length ps) (32 * s.chunk) (omega (arith, some)))
         ∙ ap (λ b. store_write test (with_stage Flushed bytes) area_op b (committed_by (length ps % (32 * s.chunk) + 1 == 32 * s.chunk)) v) one_paired
         ∙ ap (λ b. store_write test (with_stage Flushed bytes) area_op (paired s.chunk s.store.bytes (length ps) q) (committed_by b) v) (one_last (length ps) (32 * s.chunk) (omega (arith, some)))
 
-    abbrev pub committed_here : Held
+    abbrev pub committed_here : SnapHeld
     committed_here = holding (store_after area_op (paired s.chunk s.store.bytes (length ps) q)) (ps ++ q ∷ []) nx (z && not fills) (f && not fills) [] (mark_here ∷ [])
 
     pub area_done : {starts : Moving → Moving} → answers s.store area_op ≡ true → Goes starts (at_with g origin (done ++ with_stage Flushed bytes ∷ rest) rs a k) (at_with g origin (done ++ committed_here ∷ rest) rs a k)
@@ -361,15 +361,15 @@ module _ (g : Option MergeHeld) (done rest : List Held) (a : Option Reply) (k : 
   abbrev pub safe_here : Mark
   safe_here = record { number = n; chunk = q.old; safe = true }
 
-  abbrev pub idle_here : Held
+  abbrev pub idle_here : SnapHeld
   idle_here = holding s ps nx z f [] []
 
-  pub publishes : {starts : Moving → Moving} → (origin : Device) (rs : List Going) → ((h : Held) (c : ℕ) → list_any (is_reading h c) rs ≡ false) →
+  pub publishes : {starts : Moving → Moving} → (origin : Device) (rs : List Going) → ((h : SnapHeld) (c : ℕ) → list_any (is_reading h c) rs ≡ false) →
       Goes starts (at_with g origin (done ++ holding s ps nx z f [] (safe_here ∷ []) ∷ rest) rs a k) (starts (at_with g origin (done ++ idle_here ∷ rest) (map (again g (done ++ idle_here ∷ rest)) (map (placed idle_here) rs)) a k))
   publishes {starts} origin rs unread =
-      let h : Held = holding s ps nx z f [] (safe_here ∷ []) in
+      let h : SnapHeld = holding s ps nx z f [] (safe_here ∷ []) in
       let free : is_publishable rs h safe_here ≡ true = rw (unread h q.old) refl in
-      let test : Held → Bool = λ d. list_any (λ m. (m.number == n) && is_publishable rs d m) d.marks in
+      let test : SnapHeld → Bool = λ d. list_any (λ m. (m.number == n) && is_publishable rs d m) d.marks in
       let fails : Each (λ d. test d ≡ false) done = each_weaker IsLater (λ d. test d ≡ false) done (λ d i. rw i.marks refl) befores in
       let pass : test h ≡ true = rw (same_number n (is_publishable rs h safe_here), free) refl in
       goes_by _ _ (Publish n) (due_publish origin done rest h rs a k befores later n refl refl (cond-true _ _ _ free)) (h, here_that test done rest h fails pass)

@@ -15,7 +15,7 @@ use Rattle.settled.proofs.Saved.{chunk_front}
 use Rattle.settled.specs.Devices.{Device, sectors_of}
 use Rattle.settled.specs.Snaps.{Snap}
 use Rattle.settled.specs.Saving.{next_place, has_chunk}
-use Rattle.event_machine.specs.Held.{Copying, Held}
+use Rattle.event_machine.specs.Held.{Copying, SnapHeld}
 use Rattle.event_machine.specs.Again.{is_saved}
 use Rattle.event_machine.specs.Submitting.{needs_none, with_copy}
 use Rattle.event_machine.specs.Rest.{IsKept, IsResting}
@@ -29,13 +29,13 @@ or_and false false e = e
 
 module _ (sectors : ℕ) where
   -- what the store's bytes say is what is in memory
-  pub needs_same : (c : ℕ) (h : Held) → IsResting sectors h → needs_none c h ≡ (not h.snap.live || has_chunk c h.snap)
+  pub needs_same : (c : ℕ) (h : SnapHeld) → IsResting sectors h → needs_none c h ≡ (not h.snap.live || has_chunk c h.snap)
   needs_same c h rest = needs_resting c h rest.copies ∙ elim (cases_Bool h.snap.live) [
     | inl on ↦ ap (λ ps. not h.snap.live || is_some (place_of ps c)) (sym (rest.live on).pairs)
     | inr out ↦ rw out refl
   ]
 
-  pub next_same : (h : Held) → IsKept sectors h → h.next ≡ next_place h.snap
+  pub next_same : (h : SnapHeld) → IsKept sectors h → h.next ≡ next_place h.snap
   next_same h kept = kept.next ∙ ap (next_of h.snap.chunk) (sym kept.pairs)
 
   size_is : (n m : ℕ) → n ≡ 512 * m → n / 512 ≡ m
@@ -47,9 +47,9 @@ module _ (sectors : ℕ) where
       ap (with_sectors s.store.bytes (s.chunk * n)) (sym (chunk_front s.chunk sectors c (count_of s.chunk (sectors_of origin) c) origin.bytes whole (ap (λ x. count_of s.chunk x c) (size_is (length origin.bytes) sectors whole))))
 
   -- a copy that was started
-  pub as_holding : (c n : ℕ) (h : Held) → IsResting sectors h → IsKept sectors h → with_copy n c h ≡ holding h.snap h.pairs (stepped h.snap.chunk (next_place h.snap + 1)) false false (copying n (record { old = c; new = next_place h.snap }) Waiting [] ∷ []) []
+  pub as_holding : (c n : ℕ) (h : SnapHeld) → IsResting sectors h → IsKept sectors h → with_copy n c h ≡ holding h.snap h.pairs (stepped h.snap.chunk (next_place h.snap + 1)) false false (copying n (record { old = c; new = next_place h.snap }) Waiting [] ∷ []) []
   as_holding c n h rest kept =
-      let mk : Bool → Bool → ℕ → Bool → Bool → List Copying → List Mark → Held = λ (u : Bool) (b : Bool) (x : ℕ) (z : Bool) (f : Bool) (cs : List Copying) (ms : List Mark). record {
+      let mk : Bool → Bool → ℕ → Bool → Bool → List Copying → List Mark → SnapHeld = λ (u : Bool) (b : Bool) (x : ℕ) (z : Bool) (f : Bool) (cs : List Copying) (ms : List Mark). record {
         snap = h.snap;
         untried = u;
         marked = b;
@@ -67,10 +67,10 @@ module _ (sectors : ℕ) where
 
 -- the chunk of this sector was saved, and is saved once its pair is committed
 module _ (sectors first : ℕ) where
-  pub saved_already : (h : Held) → IsResting sectors h → needs_none (first / h.snap.chunk) h ≡ true → is_saved first h ≡ true
+  pub saved_already : (h : SnapHeld) → IsResting sectors h → needs_none (first / h.snap.chunk) h ≡ true → is_saved first h ≡ true
   saved_already h rest none = rw rest.marks (or_and (not h.snap.live) (is_some (place_of h.pairs (first / h.snap.chunk))) (sym (needs_resting (first / h.snap.chunk) h rest.copies) ∙ none))
 
-  pub saved_now : (c : ℕ) (h : Held) (ps : List Pair) (q : Pair) → c ≡ first / h.snap.chunk → place_of ps c ≡ None → q.old ≡ c → h.marks ≡ [] → (h.snap.live ≡ true → h.pairs ≡ ps ++ q ∷ []) → is_saved first h ≡ true
+  pub saved_now : (c : ℕ) (h : SnapHeld) (ps : List Pair) (q : Pair) → c ≡ first / h.snap.chunk → place_of ps c ≡ None → q.old ≡ c → h.marks ≡ [] → (h.snap.live ≡ true → h.pairs ≡ ps ++ q ∷ []) → is_saved first h ≡ true
   saved_now c h ps q at_c none old marks pairs = elim (cases_Bool h.snap.live) [
     | inr out ↦ rw out refl
     | inl on ↦ rw (marks, pairs on, sym at_c, place-pushed ps q c none old) (or_and (not h.snap.live) true (or_true (not h.snap.live)))

@@ -21,7 +21,7 @@ use Rattle.volume_laws.proofs.Attaching.{picture_none}
 use Rattle.settled.specs.Devices.{Device, answers}
 use Rattle.settled.specs.Snaps.{Snap, Volume, shown}
 use Rattle.settled.specs.Pieces.{Answered, save_all, write_origin, write_snap, read_snap, flush_snap}
-use Rattle.event_machine.specs.Held.{Held, Moving}
+use Rattle.event_machine.specs.Held.{SnapHeld, Moving}
 use Rattle.event_machine.specs.Rest.{IsResting, IsAtRest}
 use Rattle.event_machine.specs.Settles.{SettlesTo}
 use Rattle.settled.specs.Requests.{answered_by, FitsRange}
@@ -39,13 +39,13 @@ use Rattle.settled.proofs.Named.{WasShown, all_named, one_named, one_bytes, writ
 use Rattle.settling.proofs.Requests.{request_settles}
 
 -- a snapshot at rest
-abbrev pub at_rest : Snap → Held
+abbrev pub at_rest : Snap → SnapHeld
 at_rest s = record { snap = s; untried = false; marked = false; pairs = pairs_of s.chunk s.store.bytes; next = next_of s.chunk (pairs_of s.chunk s.store.bytes); zeroed = false; firm = false; copies = []; marks = [] }
 
 abbrev pub volume_at_rest : Volume → Moving
 volume_at_rest v = record { origin = v.origin; snaps = map at_rest v.snaps; merge = None; requests = []; replied = None; started = 0 }
 
-snaps_of : (snaps : List Snap) → map (λ (h : Held). h.snap) (map at_rest snaps) ≡ snaps
+snaps_of : (snaps : List Snap) → map (λ (h : SnapHeld). h.snap) (map at_rest snaps) ≡ snaps
 snaps_of [] = refl
 snaps_of (s ∷ snaps) = ap (λ x. s ∷ x) (snaps_of snaps)
 
@@ -56,7 +56,7 @@ each_rests sectors (s ∷ snaps) all = (
   each_rests sectors snaps all.1,
 )
 
-each_well : (sectors : ℕ) (held : List Held) → Each (IsResting sectors) held → Each (IsWell sectors) (map (λ (h : Held). h.snap) held)
+each_well : (sectors : ℕ) (held : List SnapHeld) → Each (IsResting sectors) held → Each (IsWell sectors) (map (λ (h : SnapHeld). h.snap) held)
 each_well sectors [] all = tt
 each_well sectors (h ∷ held) all = (λ on. (all.0.live on).order, each_well sectors held all.1)
 
@@ -76,12 +76,12 @@ answer_well sectors chunk a v is fit =
       alone = refl;
     } in
     let made : List Snap → Answered = λ (ss : List Snap). answered_by a.dev a.op a.piece (record { origin = v.origin; snaps = ss }) in
-    let settles : SettlesTo sectors _ (made (map (λ (h : Held). h.snap) (map at_rest v.snaps))) = request_settles sectors 0 (record { dev = a.dev; op = a.op; range = range }) (volume_at_rest v) rest
+    let settles : SettlesTo sectors _ (made (map (λ (h : SnapHeld). h.snap) (map at_rest v.snaps))) = request_settles sectors 0 (record { dev = a.dev; op = a.op; range = range }) (volume_at_rest v) rest
     (record { some = fit.some; inside = fit.inside; bytes = fit.bytes; chunks = all_from (IsInChunk range) (map at_rest v.snaps) (each_in_chunk range v.snaps (one_wider chunk range.first range.count v.snaps is.allowed fit.one chunks)) }) in
-    let same : made (map (λ (h : Held). h.snap) (map at_rest v.snaps)) ≡ answered_by a.dev a.op a.piece v = ap made (snaps_of v.snaps) in
+    let same : made (map (λ (h : SnapHeld). h.snap) (map at_rest v.snaps)) ≡ answered_by a.dev a.op a.piece v = ap made (snaps_of v.snaps) in
     let after : Volume = (answered_by a.dev a.op a.piece v).volume in
     let origin : settles.last.origin ≡ after.origin = settles.origin ∙ ap (λ (x : Answered). x.volume.origin) same in
-    let snaps : map (λ (h : Held). h.snap) settles.last.snaps ≡ after.snaps = settles.snaps ∙ ap (λ (x : Answered). x.volume.snaps) same in
+    let snaps : map (λ (h : SnapHeld). h.snap) settles.last.snaps ≡ after.snaps = settles.snaps ∙ ap (λ (x : Answered). x.volume.snaps) same in
     record {
       whole = sym (ap (λ (d : Device). length d.bytes) origin) ∙ settles.rest.whole;
       snaps = all_from (IsWell sectors) after.snaps (subst (Each (IsWell sectors)) snaps (each_well sectors settles.last.snaps (each_from (IsResting sectors) settles.last.snaps settles.rest.snaps)));

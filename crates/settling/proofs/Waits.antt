@@ -5,7 +5,7 @@ use Rattle.std.specs.List.{list_any}
 use Rattle.std.proofs.lemmas.Bool.{cases_Bool, cond-true, cond-false, ne_eqb}
 use Rattle.store_bytes.specs.Picture.{place_of}
 use Rattle.in_flight.specs.declared.copies.Stage.TheVariants.{Waiting}
-use Rattle.event_machine.specs.Held.{Copying, Held, spoiled}
+use Rattle.event_machine.specs.Held.{Copying, SnapHeld, spoiled}
 use Rattle.event_machine.specs.Due.{is_at}
 use Rattle.event_machine.specs.Stepping.{is_copy}
 use Rattle.event_machine.specs.Submitting.{needs_none, is_filled, with_copy, started_all, started_by}
@@ -18,19 +18,19 @@ or_last : (x y : Bool) → y ≡ true → (x || y) ≡ true
 or_last true y e = refl
 or_last false y e = e
 
-module _ (wanted : Held → ℕ) (still : (n c : ℕ) (h : Held) → wanted (with_copy n c h) ≡ wanted h) where
+module _ (wanted : SnapHeld → ℕ) (still : (n c : ℕ) (h : SnapHeld) → wanted (with_copy n c h) ≡ wanted h) where
   -- it has the chunk that is wanted, or a copy of it is under way
-  abbrev pub Needs : Held → Type 0
+  abbrev pub Needs : SnapHeld → Type 0
   Needs h = needs_none (wanted h) h ≡ true
 
-  pub copy_needs : (n : ℕ) (h : Held) → h.copies ≡ [] → Needs (with_copy n (wanted h) h)
+  pub copy_needs : (n : ℕ) (h : SnapHeld) → h.copies ≡ [] → Needs (with_copy n (wanted h) h)
   copy_needs n h none =
       let c : ℕ = wanted h in
       ap (λ x. needs_none x (with_copy n c h)) (still n c h)
       ∙ ap (λ (cs : List Copying). not h.snap.live || is_some (place_of h.pairs c) || list_any (λ p. p.pair.old == c) (cs ++ (record { number = n; pair = record { old = c; new = h.next }; stage = Waiting; bytes = [] }) ∷ [])) none
       ∙ or_last (not h.snap.live || is_some (place_of h.pairs c)) ((c == c) || false) (ap (λ b. b || false) (eq-eqb c c refl))
 
-  pub primed_needs : (m : ℕ) (snaps : List Held) → Each IsIdle snaps → Each Needs (primed wanted m snaps)
+  pub primed_needs : (m : ℕ) (snaps : List SnapHeld) → Each IsIdle snaps → Each Needs (primed wanted m snaps)
   primed_needs m [] idle = tt
   primed_needs m (h ∷ snaps) idle = elim (cases_Bool (needs_none (wanted h) h)) [
     | inl none ↦ subst (Each Needs) (sym (primed_none wanted m h snaps none)) (none, primed_needs m snaps idle.1)
@@ -41,16 +41,16 @@ module _ (wanted : Held → ℕ) (still : (n c : ℕ) (h : Held) → wanted (wit
   ]
 
   -- how many are started
-  pub by_none : (k : ℕ) (h : Held) (xs : List Held) → Needs h → started_by wanted k (h ∷ xs) ≡ started_by wanted k xs
+  pub by_none : (k : ℕ) (h : SnapHeld) (xs : List SnapHeld) → Needs h → started_by wanted k (h ∷ xs) ≡ started_by wanted k xs
   by_none k h xs none = cond-true _ _ _ (ap (λ b. b || is_filled h) none)
 
-  pub by_full : (k : ℕ) (h : Held) (xs : List Held) → is_filled h ≡ true → started_by wanted k (h ∷ xs) ≡ started_by wanted k xs
+  pub by_full : (k : ℕ) (h : SnapHeld) (xs : List SnapHeld) → is_filled h ≡ true → started_by wanted k (h ∷ xs) ≡ started_by wanted k xs
   by_full k h xs full = cond-true _ _ _ (or_last (needs_none (wanted h) h) (is_filled h) full)
 
-  pub by_copy : (k : ℕ) (h : Held) (xs : List Held) → needs_none (wanted h) h ≡ false → is_filled h ≡ false → started_by wanted k (h ∷ xs) ≡ started_by wanted (k + 1) xs
+  pub by_copy : (k : ℕ) (h : SnapHeld) (xs : List SnapHeld) → needs_none (wanted h) h ≡ false → is_filled h ≡ false → started_by wanted k (h ∷ xs) ≡ started_by wanted (k + 1) xs
   by_copy k h xs some room = cond-false _ _ _ (ap (λ b. b || is_filled h) some ∙ room)
 
-  pub by_more : (k : ℕ) (snaps : List Held) → k ≤ started_by wanted k snaps
+  pub by_more : (k : ℕ) (snaps : List SnapHeld) → k ≤ started_by wanted k snaps
   by_more k [] = omega arith
   by_more k (h ∷ snaps) = elim (cases_Bool (needs_none (wanted h) h || is_filled h)) [
     | inl none ↦ (let e : started_by wanted k (h ∷ snaps) ≡ started_by wanted k snaps = cond-true _ _ _ none in subst (λ (x : ℕ). k ≤ x) (sym e) (by_more k snaps))
@@ -61,24 +61,24 @@ module _ (wanted : Held → ℕ) (still : (n c : ℕ) (h : Held) → wanted (wit
   ]
 
   -- nothing is started in these
-  pub started_still : (k : ℕ) (snaps : List Held) → Each Needs snaps → (started_all wanted k snaps ≡ snaps) × (started_by wanted k snaps ≡ k)
+  pub started_still : (k : ℕ) (snaps : List SnapHeld) → Each Needs snaps → (started_all wanted k snaps ≡ snaps) × (started_by wanted k snaps ≡ k)
   started_still k [] needs = (refl, refl)
   started_still k (h ∷ snaps) needs =
       let more = started_still k snaps needs.1 in
       (cond-true _ _ _ needs.0 ∙ ap (λ xs. h ∷ xs) more.0, by_none k h snaps needs.0 ∙ more.1)
 
-  pub primed_still : (k : ℕ) (snaps : List Held) → Each Needs snaps → primed wanted k snaps ≡ snaps
+  pub primed_still : (k : ℕ) (snaps : List SnapHeld) → Each Needs snaps → primed wanted k snaps ≡ snaps
   primed_still k [] needs = refl
   primed_still k (h ∷ snaps) needs = primed_none wanted k h snaps needs.0 ∙ ap (λ xs. h ∷ xs) (primed_still k snaps needs.1)
 
   -- one after those
-  started_skip : (k : ℕ) (done xs : List Held) → Each Needs done → (started_all wanted k (done ++ xs) ≡ done ++ started_all wanted k xs) × (started_by wanted k (done ++ xs) ≡ started_by wanted k xs)
+  started_skip : (k : ℕ) (done xs : List SnapHeld) → Each Needs done → (started_all wanted k (done ++ xs) ≡ done ++ started_all wanted k xs) × (started_by wanted k (done ++ xs) ≡ started_by wanted k xs)
   started_skip k [] xs needs = (refl, refl)
   started_skip k (h ∷ done) xs needs =
       let more = started_skip k done xs needs.1 in
       (cond-true _ _ _ needs.0 ∙ ap (λ ys. h ∷ ys) more.0, by_none k h (done ++ xs) needs.0 ∙ more.1)
 
-  module _ (k : ℕ) (done rest : List Held) (h : Held) (before : Each Needs done) (behind : Each Needs rest) where
+  module _ (k : ℕ) (done rest : List SnapHeld) (h : SnapHeld) (before : Each Needs done) (behind : Each Needs rest) where
     pub mid_none : Needs h → (started_all wanted k (done ++ h ∷ rest) ≡ done ++ h ∷ rest) × (started_by wanted k (done ++ h ∷ rest) ≡ k)
     mid_none none =
         let skip = started_skip k done (h ∷ rest) before in
@@ -98,15 +98,15 @@ module _ (wanted : Held → ℕ) (still : (n c : ℕ) (h : Held) → wanted (wit
         (skip.0 ∙ ap (λ xs. done ++ xs) (cond-false _ _ _ some ∙ cond-false _ _ _ room ∙ ap (λ xs. with_copy (k + 1) (wanted h) h ∷ xs) more.0), skip.1 ∙ by_copy k h rest some room ∙ more.1)
 
   -- A snapshot that a round is done with: it needs no copy, or waits for one whose number is above those of the round.
-  pub record IsReady (last : ℕ) (h : Held) : Type 0 where
+  pub record IsReady (last : ℕ) (h : SnapHeld) : Type 0 where
     pub later : IsLater h
     pub needs : Needs h
     pub before : (n : ℕ) → n ≤ last → IsBefore n h
 
-  pub idle_ready : (last : ℕ) (h : Held) → IsIdle h → Needs h → IsReady last h
+  pub idle_ready : (last : ℕ) (h : SnapHeld) → IsIdle h → Needs h → IsReady last h
   idle_ready last h idle needs = record { later = idle_later h idle; needs = needs; before = λ n le. idle_before n h idle }
 
-  pub copy_ready : (last k : ℕ) (h : Held) → last ≤ k → IsIdle h → IsReady last (with_copy (k + 1) (wanted h) h)
+  pub copy_ready : (last k : ℕ) (h : SnapHeld) → last ≤ k → IsIdle h → IsReady last (with_copy (k + 1) (wanted h) h)
   copy_ready last k h le idle =
       let c : ℕ = wanted h in
       record {

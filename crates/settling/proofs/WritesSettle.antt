@@ -14,7 +14,7 @@ use Rattle.plain.specs.declared.request.Reply.{Reply}
 use Rattle.settled.specs.Devices.{Device, answers, written_by}
 use Rattle.settled.specs.Snaps.{Snap, Volume}
 use Rattle.settled.specs.Pieces.{Answered, save_all, write_origin}
-use Rattle.event_machine.specs.Held.{Held, Going, MergeHeld, Moving}
+use Rattle.event_machine.specs.Held.{SnapHeld, Going, MergeHeld, Moving}
 use Rattle.event_machine.specs.Again.{is_grouped, merged_place, write_route}
 use Rattle.event_machine.specs.Stepping.{write_reply}
 use Rattle.event_machine.specs.Submitting.{started_all, started_by, start_copies, chunk_at, accepted, submitted}
@@ -43,18 +43,18 @@ write_request range bytes = record { dev = ToOrigin; op = Write bytes; range = r
 -- beside a merge whose group and pairs do not have its chunk
 module _ (g : Option MergeHeld) (sectors number : ℕ) (range : Range) (ungrouped : is_grouped g range.first ≡ false) (unplaced : merged_place g range.first ≡ None) (bytes : List ℕ) (a : Option Reply) where
   -- it starts copies
-  write_begins : (origin : Device) (snaps : List Held) (k : ℕ) → submitted number (write_request range bytes) (at_with g origin snaps [] a k) ≡ writing g sectors number range ungrouped unplaced bytes a (started_by (chunk_at range.first) k snaps) origin (started_all (chunk_at range.first) k snaps)
+  write_begins : (origin : Device) (snaps : List SnapHeld) (k : ℕ) → submitted number (write_request range bytes) (at_with g origin snaps [] a k) ≡ writing g sectors number range ungrouped unplaced bytes a (started_by (chunk_at range.first) k snaps) origin (started_all (chunk_at range.first) k snaps)
   write_begins origin snaps k =
       let v : Moving = at_with g origin snaps [] a k in
       let starts : Bool → Moving = λ (b : Bool). let w : Moving = if b then v else start_copies (chunk_at range.first) v in accepted number (write_request range bytes) (write_route w.merge w.snaps range.first) w in
       ap (λ b. starts (b || is_some (merged_place g range.first))) ungrouped ∙ ap (λ o. starts (is_some o)) unplaced
       ∙ ap (λ rs. accepted number (write_request range bytes) (write_route g (started_all (chunk_at range.first) k snaps) range.first) (at_with g origin (started_all (chunk_at range.first) k snaps) rs a (started_by (chunk_at range.first) k snaps))) (refused_none (chunk_at range.first) snaps)
 
-  pub origin_write_serves : (origin : Device) (snaps : List Held) (k : ℕ) → length origin.bytes ≡ 512 * sectors → Each (IsResting sectors) snaps → 0 < range.count → range.first + range.count ≤ sectors → length bytes ≡ 512 * range.count →
+  pub origin_write_serves : (origin : Device) (snaps : List SnapHeld) (k : ℕ) → length origin.bytes ≡ 512 * sectors → Each (IsResting sectors) snaps → 0 < range.count → range.first + range.count ≤ sectors → length bytes ≡ 512 * range.count →
       Serves sectors g (submitted number (write_request range bytes) (at_with g origin snaps [] a k)) (write_origin (span_of range) bytes (record { origin = origin; snaps = map snap_of snaps }))
   origin_write_serves origin snaps k whole resting some fits len =
       let k' : ℕ = started_by (chunk_at range.first) k snaps in
-      let held : List Held → List Going = held_write g sectors number range ungrouped unplaced bytes a k' in
+      let held : List SnapHeld → List Going = held_write g sectors number range ungrouped unplaced bytes a k' in
       let routed : AreRouted g range.first held = write_routed g sectors number range ungrouped unplaced bytes a k' in
       let start : Moving = writing g sectors number range ungrouped unplaced bytes a k' origin (started_all (chunk_at range.first) k snaps) in
       let inside : range.first < sectors = omega arith in
@@ -71,7 +71,7 @@ module _ (g : Option MergeHeld) (sectors number : ℕ) (range : Range) (ungroupe
       (written_length all.origin range.first range.count bytes len room ∙ same ∙ whole) saved.rest (ap made (sym saved.same))
 
 pub origin_write_settles : (sectors number : ℕ) (range : Range) (bytes : List ℕ) (v : Moving) → IsAtRest sectors v → 0 < range.count → range.first + range.count ≤ sectors → length bytes ≡ 512 * range.count →
-    SettlesTo sectors (submitted number (write_request range bytes) v) (write_origin (span_of range) bytes (record { origin = v.origin; snaps = map (λ (h : Held). h.snap) v.snaps }))
+    SettlesTo sectors (submitted number (write_request range bytes) v) (write_origin (span_of range) bytes (record { origin = v.origin; snaps = map (λ (h : SnapHeld). h.snap) v.snaps }))
 origin_write_settles sectors number range bytes v rest some fits len =
     let answer : Answered = write_origin (span_of range) bytes (record { origin = v.origin; snaps = map snap_of v.snaps }) in
     let Settles : Moving → Type 0 = λ (w : Moving). SettlesTo sectors (submitted number (write_request range bytes) w) answer in

@@ -12,7 +12,7 @@ use Rattle.words.proofs.Bools.{and-split, and-join}
 use Rattle.words.proofs.Decimals.{numeral_of-decimal, is_word-decimal}
 use Rattle.words.proofs.Joined.{words_of-spaced}
 use Rattle.words.proofs.Spelled.{name_of-name, is_word-name}
-use Rattle.table.specs.declared.lines.Features.{Features}
+use Rattle.table.specs.declared.lines.FlakeyFeatures.{FlakeyFeatures}
 use Rattle.table.specs.declared.lines.Line.{Line}
 use Rattle.table.specs.declared.lines.Target.{Target}
 use Rattle.table.specs.declared.lines.Target.TheVariants.{Origin, Snapshot, Merge, Flakey, Dust, Error}
@@ -39,7 +39,7 @@ seconds_again : (n : ℕ) → n < 2 ^ 31 → seconds_of (decimal n) ≡ Ok n
 seconds_again n small = rw (numeral_of-decimal n (omega arith)) (rw (ltb-below n (2 ^ 31) small) refl)
 
 -- features after their count
-features_again : (reads writes drops : Bool) → not (writes && drops) ≡ true → (let f : Features = record { error_reads = reads; error_writes = writes; drop_writes = drops } in features_in (counted (feature_words f))) ≡ Ok (record { error_reads = reads; error_writes = writes; drop_writes = drops })
+features_again : (reads writes drops : Bool) → not (writes && drops) ≡ true → (let f : FlakeyFeatures = record { error_reads = reads; error_writes = writes; drop_writes = drops } in features_in (counted (feature_words f))) ≡ Ok (record { error_reads = reads; error_writes = writes; drop_writes = drops })
 features_again false false false h = refl
 features_again false false true h = rw (numeral_of-decimal 1 (omega arith)) refl
 features_again false true false h = rw (numeral_of-decimal 1 (omega arith)) refl
@@ -50,7 +50,7 @@ features_again true true false h = rw (numeral_of-decimal 2 (omega arith)) refl
 features_again true true true h = absurd (let none : ⊥ = cc in none)
 
 -- their words
-features_spelled : (reads writes drops : Bool) → (let f : Features = record { error_reads = reads; error_writes = writes; drop_writes = drops } in list_all is_word (counted (feature_words f))) ≡ true
+features_spelled : (reads writes drops : Bool) → (let f : FlakeyFeatures = record { error_reads = reads; error_writes = writes; drop_writes = drops } in list_all is_word (counted (feature_words f))) ≡ true
 features_spelled false false false = refl
 features_spelled false false true = rw (is_word-decimal 1 (omega arith)) refl
 features_spelled false true false = rw (is_word-decimal 1 (omega arith)) refl
@@ -61,7 +61,7 @@ features_spelled true true false = rw (is_word-decimal 2 (omega arith)) refl
 features_spelled true true true = rw (is_word-decimal 3 (omega arith)) refl
 
 -- the parts of a flakey line
-pub record IsFlakey (device : List ℕ) (offset up down : ℕ) (f : Features) : Type 0 where
+pub record IsFlakey (device : List ℕ) (offset up down : ℕ) (f : FlakeyFeatures) : Type 0 where
   pub name : is_name device ≡ true
   pub offset_fits : offset < 2 ^ 32
   pub up_fits : up < 2 ^ 31
@@ -69,7 +69,7 @@ pub record IsFlakey (device : List ℕ) (offset up down : ℕ) (f : Features) : 
   pub some : 0 < up + down
   pub agree : not (f.error_writes && f.drop_writes) ≡ true
 
-flakey_parts : (device : List ℕ) (offset up down : ℕ) (f : Features) → is_target (Flakey device offset up down f) ≡ true → IsFlakey device offset up down f
+flakey_parts : (device : List ℕ) (offset up down : ℕ) (f : FlakeyFeatures) → is_target (Flakey device offset up down f) ≡ true → IsFlakey device offset up down f
 flakey_parts device offset up down f h =
     let a = and-split (is_name device && nat_lt offset (2 ^ 32) && nat_lt up (2 ^ 31) && nat_lt down (2 ^ 31) && nat_lt 0 (up + down)) (not (f.error_writes && f.drop_writes)) h in
     let b = and-split (is_name device && nat_lt offset (2 ^ 32) && nat_lt up (2 ^ 31) && nat_lt down (2 ^ 31)) (nat_lt 0 (up + down)) a.0 in
@@ -85,7 +85,7 @@ flakey_parts device offset up down f h =
       agree = a.1;
     }
 
-flakey_again : (device : List ℕ) (offset up down : ℕ) (f : Features) → IsFlakey device offset up down f → flakey_in (device ∷ decimal offset ∷ decimal up ∷ decimal down ∷ counted (feature_words f)) ≡ Ok (Flakey device offset up down f)
+flakey_again : (device : List ℕ) (offset up down : ℕ) (f : FlakeyFeatures) → IsFlakey device offset up down f → flakey_in (device ∷ decimal offset ∷ decimal up ∷ decimal down ∷ counted (feature_words f)) ≡ Ok (Flakey device offset up down f)
 flakey_again device offset up down f is =
     let some : nat_lt 0 (up + down) ≡ true = ltb-below 0 (up + down) is.some in
     rw (name_of-name device is.name, numeral_of-decimal offset is.offset_fits, seconds_again up is.up_fits, seconds_again down is.down_fits, features_again f.error_reads f.error_writes f.drop_writes is.agree, some) refl

@@ -11,7 +11,7 @@ use Rattle.words.specs.Given.{◌>>=◌}
 use Rattle.words.specs.Words.{words_of}
 use Rattle.words.specs.Numbers.{numeral_of}
 use Rattle.words.specs.Names.{name_of}
-use Rattle.table.specs.declared.lines.Features.{Features}
+use Rattle.table.specs.declared.lines.FlakeyFeatures.{FlakeyFeatures}
 use Rattle.table.specs.declared.lines.Line.{Line}
 use Rattle.table.specs.declared.lines.Target.{Target}
 use Rattle.table.specs.declared.lines.Target.TheVariants.{Origin, Snapshot, Merge, Flakey, Dust, Error}
@@ -29,7 +29,7 @@ are_features words =
     (reads + writes + drops == length words) && nat_le reads 1 && nat_le (writes + drops) 1
 
 -- the features that stand among some words
-abbrev pub features_among : List (List ℕ) → Features
+abbrev pub features_among : List (List ℕ) → FlakeyFeatures
 features_among words = record {
   error_reads = times (codes "error_reads") words == 1;
   error_writes = times (codes "error_writes") words == 1;
@@ -37,7 +37,7 @@ features_among words = record {
 }
 
 -- the count of the features and then the features, or nothing
-abbrev pub features_in : List (List ℕ) → Result Features Refusal
+abbrev pub features_in : List (List ℕ) → Result FlakeyFeatures Refusal
 features_in [] = Ok (record { error_reads = false; error_writes = false; drop_writes = false })
 features_in (count ∷ words) = do
   count ← numeral_of count

@@ -5,7 +5,7 @@ use Rattle.std.specs.Prelude.{◌≡◌, ℕ, ◌+◌, ◌<◌, ◌≤◌, Bool,
 use Rattle.std.specs.Global.{Vec}
 use Rattle.std.specs.declared.alloc.AllocError.{AllocError}
 use Rattle.words.specs.Words.{spaced}
-use Rattle.table.specs.declared.lines.Features.{Features}
+use Rattle.table.specs.declared.lines.FlakeyFeatures.{FlakeyFeatures}
 use Rattle.table.specs.declared.lines.Line.{Line}
 use Rattle.table.specs.declared.lines.Target.{Target}
 use Rattle.table.specs.declared.lines.Target.TheVariants.{Origin, Snapshot, Merge, Flakey, Dust, Error}
@@ -15,7 +15,7 @@ abbrev pub word_if : Bool → List ℕ → List (List ℕ)
 word_if wanted word = if wanted then word ∷ [] else []
 
 -- the features in their order
-abbrev pub feature_words : Features → List (List ℕ)
+abbrev pub feature_words : FlakeyFeatures → List (List ℕ)
 feature_words f = word_if f.error_reads (codes "error_reads") ++ word_if f.error_writes (codes "error_writes") ++ word_if f.drop_writes (codes "drop_writes")
 
 -- their count before them, where there are any

@@ -10,7 +10,7 @@ mod printing;
 mod reading;
 mod status;
 
-pub use lines::{Features, Line, Target};
+pub use lines::{FlakeyFeatures, Line, Target};
 pub use printing::print;
 pub use reading::{parse, parse_words};
-pub use status::{State, merge_line, origin_line, snapshot_line};
+pub use status::{StatusState, merge_line, origin_line, snapshot_line};

@@ -38,7 +38,7 @@ pub enum Target {
         offset: u32,
         up: u32,
         down: u32,
-        features: Features,
+        features: FlakeyFeatures,
     },
     /// `dust`: `device` with bad blocks of `block` bytes.
     Dust {
@@ -51,7 +51,7 @@ pub enum Target {
 
 /// What an unreliable flakey device does. With no feature it fails all.
 #[derive(Clone, Copy, PartialEq, Eq)]
-pub struct Features {
+pub struct FlakeyFeatures {
     /// Fails reads.
     pub error_reads: bool,
     /// Fails writes.

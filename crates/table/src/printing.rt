@@ -7,7 +7,7 @@ ghost use Rattle.words.specs.Texts.{texts};
 ghost use Rattle.words.specs.Words.{spaced};
 ghost use Rattle.table.specs.Printed.{word_if, feature_words, counted, overflow_word, target_words, text_of, Adds};
 
-use crate::{Features, Line, Target};
+use crate::{FlakeyFeatures, Line, Target};
 use itoa::Buffer;
 use sector::Refusal;
 use std::alloc::AllocError;
@@ -83,7 +83,7 @@ fn add_word_if(out: &mut Vec<u8>, wanted: bool, word: &[u8]) -> Result<(), Alloc
 }
 
 // How many features there are.
-fn feature_count(features: Features) -> u32
+fn feature_count(features: FlakeyFeatures) -> u32
     ensures { result ≡ length (feature_words features) }
 {
     u32::from(features.error_reads)
@@ -92,7 +92,7 @@ fn feature_count(features: Features) -> u32
 }
 
 // Adds the count of the features and the features, where there are any.
-fn add_features(out: &mut Vec<u8>, features: Features) -> Result<(), AllocError>
+fn add_features(out: &mut Vec<u8>, features: FlakeyFeatures) -> Result<(), AllocError>
     ensures { Adds result out.old out.new (spaced (counted (feature_words features))) }
 {
     let count = feature_count(features);

@@ -8,7 +8,7 @@ ghost use Rattle.chunk.specs.Sizes.{is_chunk};
 ghost use Rattle.table.specs.Lawful.{is_target, is_line};
 ghost use Rattle.table.specs.Grammar.{times, is_block, seconds_of, features_in, origin_in, are_none, overflow_of, store_in, snapshot_in, merge_in, flakey_in, dust_in, error_in, target_in, line_in, line_of};
 
-use crate::{Features, Line, Target};
+use crate::{FlakeyFeatures, Line, Target};
 use chunk::is_chunk_size;
 use sector::Refusal;
 use std::alloc::Global;
@@ -22,12 +22,12 @@ fn times(name: &[u8], words: &[&[u8]]) -> usize
 }
 
 // The features of a flakey line: how many, and then so many different ones.
-fn features(words: &[&[u8]]) -> Result<Features, Refusal>
+fn features(words: &[&[u8]]) -> Result<FlakeyFeatures, Refusal>
     ensures reads { result ≡ features_in (texts words.now) }
     ensures lawful { IfOk result (λ f. not (f.error_writes && f.drop_writes) ≡ true) }
 {
     let Some((count, words)) = words.split_first() else {
-        return Ok(Features {
+        return Ok(FlakeyFeatures {
             error_reads: false,
             error_writes: false,
             drop_writes: false,
@@ -42,7 +42,7 @@ fn features(words: &[&[u8]]) -> Result<Features, Refusal>
         && reads <= 1
         && writes + drops <= 1
     {
-        Ok(Features {
+        Ok(FlakeyFeatures {
             error_reads: reads == 1,
             error_writes: writes == 1,
             drop_writes: drops == 1,

@@ -9,7 +9,7 @@ use words::Text;
 
 /// What a status line says of a snapshot, or of one that is being merged into its origin.
 #[derive(Clone, Copy, PartialEq, Eq)]
-pub enum State {
+pub enum StatusState {
     /// The snapshot is spoiled.
     Invalid,
     /// A device failed in the merge, which stands still.
@@ -36,14 +36,14 @@ fn push_number(text: &mut Vec<u8>, number: u64) -> Result<(), AllocError>
 }
 
 /// Adds what a status line says of a snapshot, or of one that is being merged.
-fn push_state(text: &mut Vec<u8>, state: State) -> Result<(), AllocError>
+fn push_state(text: &mut Vec<u8>, state: StatusState) -> Result<(), AllocError>
     ensures { OnOk result (text.new.items ≡ text.old.items ++ state_text state) }
 {
     match state {
-        State::Invalid => text.extend_from_slice(b"Invalid"),
-        State::Failed => text.extend_from_slice(b"Merge failed"),
-        State::Overflow => text.extend_from_slice(b"Overflow"),
-        State::Used {
+        StatusState::Invalid => text.extend_from_slice(b"Invalid"),
+        StatusState::Failed => text.extend_from_slice(b"Merge failed"),
+        StatusState::Overflow => text.extend_from_slice(b"Overflow"),
+        StatusState::Used {
             allocated,
             total,
             metadata,
@@ -69,7 +69,12 @@ pub fn origin_line(alloc: Global, sectors: u64) -> Result<Text, AllocError>
 }
 
 /// The line of a device of so many sectors whose target, with a space on either side, has a state.
-fn stated_line(alloc: Global, sectors: u64, target: &[u8], state: State) -> Result<Text, AllocError>
+fn stated_line(
+    alloc: Global,
+    sectors: u64,
+    target: &[u8],
+    state: StatusState,
+) -> Result<Text, AllocError>
     ensures { IfOk result (λ text. text ≡ stated_text sectors target.now state) }
 {
     let mut text = Vec::with_capacity(alloc, LINE_ROOM)?;
@@ -81,14 +86,14 @@ fn stated_line(alloc: Global, sectors: u64, target: &[u8], state: State) -> Resu
 }
 
 /// The status line of a snapshot of so many sectors, without a line end.
-pub fn snapshot_line(alloc: Global, sectors: u64, state: State) -> Result<Text, AllocError>
+pub fn snapshot_line(alloc: Global, sectors: u64, state: StatusState) -> Result<Text, AllocError>
     ensures { IfOk result (λ text. text ≡ snapshot_text sectors state) }
 {
     stated_line(alloc, sectors, b" snapshot ", state)
 }
 
 /// The status line of an origin of so many sectors that a snapshot is merged into, without a line end.
-pub fn merge_line(alloc: Global, sectors: u64, state: State) -> Result<Text, AllocError>
+pub fn merge_line(alloc: Global, sectors: u64, state: StatusState) -> Result<Text, AllocError>
     ensures { IfOk result (λ text. text ≡ merge_text sectors state) }
 {
     stated_line(alloc, sectors, b" snapshot-merge ", state)

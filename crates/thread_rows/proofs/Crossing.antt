@@ -16,7 +16,7 @@ use Rattle.atomic_table.proofs.ruled.Mark.TheSendSync as Mark
 use Rattle.atomic_table.proofs.perch.Perch.TheSendSync as Perch
 use Rattle.atomic_table.proofs.badge.Badge.TheSendSync as Badge
 use Rattle.atomic_table.proofs.send_lease.SendLease.TheSendSync as Lease
-use Rattle.copy_queue.specs.contracts.queue.Tickets as Tickets
+use Rattle.between_threads.specs.contracts.queue.Tickets as Tickets
 use Rattle.device.specs.declared.block.Block as Block
 use Rattle.journal.specs.contracts.audit.Audit as Audit
 use Rattle.locked_volume.specs.declared.room.Room as Room

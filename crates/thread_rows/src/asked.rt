@@ -1,14 +1,13 @@
 // What is asked of a rig, and in the same words of a volume beside it.
 ghost use Rattle.std.specs.Prelude.{◌≡◌, ◌*◌, ◌<◌, length, IfOk};
 
-use copy_queue::Gate;
+use between_threads::{Gate, PlaceState, PlaceUsage};
 use device::Block;
 use layers::Layered;
 use plain::{Dev, Op, Overflowing, Request, SnapId};
 use sector::{Buf, Range, Refusal, SECTOR_BYTES};
 use std::alloc::Global;
 use std::sync::Wait;
-use usage_board::{State, Usage};
 use volume::Volume;
 use volume_threads::{Rig, Room, Seat};
 
@@ -131,30 +130,30 @@ fn has_overflowed<B: Block>(volume: &Volume<B>, number: SnapId) -> bool {
 }
 
 /// What the status of a snapshot says.
-pub fn status_of<B: Block>(volume: &Volume<B>, snap: SnapId) -> Usage {
+pub fn status_of<B: Block>(volume: &Volume<B>, snap: SnapId) -> PlaceUsage {
     if volume.merging() == Some(snap) && volume.is_merge_failed() {
-        return Usage {
-            state: State::MergeFailed,
+        return PlaceUsage {
+            state: PlaceState::MergeFailed,
             allocated: 0,
             metadata: 0,
         };
     }
     match volume.usage(snap) {
-        Ok(Some(_)) if has_overflowed(volume, snap) => Usage {
-            state: State::Overflow,
+        Ok(Some(_)) if has_overflowed(volume, snap) => PlaceUsage {
+            state: PlaceState::Overflow,
             allocated: 0,
             metadata: 0,
         },
-        Ok(Some(sectors)) => Usage {
-            state: State::Good,
+        Ok(Some(sectors)) => PlaceUsage {
+            state: PlaceState::Good,
             allocated: sectors.allocated,
             metadata: sectors.metadata,
         },
-        Ok(None) => Usage {
-            state: State::Invalid,
+        Ok(None) => PlaceUsage {
+            state: PlaceState::Invalid,
             allocated: 0,
             metadata: 0,
         },
-        Err(_) => Usage::empty(),
+        Err(_) => PlaceUsage::empty(),
     }
 }

@@ -7,6 +7,7 @@ ghost use Rattle.volume_threads.specs.Rigs.{IsRoomOf};
 use crate::open_gate::OpenGate;
 use crate::slow::Slow;
 use crate::waiting::Waiting;
+use between_threads::{PlaceState, PlaceUsage};
 use device::MemDisk;
 use journal::Audit;
 use layers::Layered;
@@ -19,7 +20,6 @@ use std::sync::Wait;
 use std::test::Fail;
 use std::thread;
 use std::thread::Threads;
-use usage_board::{State, Usage};
 use volume::Volume;
 use volume_threads::{Opened, Rig, Room, Seat};
 
@@ -44,7 +44,7 @@ fn look<B: Layered, J: Room>(
     rig: &Rig<B, OpenGate, J>,
     seat: &mut Seat<J>,
     waiting: &Waiting,
-) -> Option<Usage>
+) -> Option<PlaceUsage>
     requires { 0 < J.volumes }
 {
     if !waiting.has_begun() {
@@ -61,7 +61,7 @@ fn read_and_look<B, J, R>(
     rig: &Rig<B, OpenGate, J>,
     seats: &mut Vec<Seat<J>>,
     waiting: &Waiting,
-) -> Option<Usage>
+) -> Option<PlaceUsage>
 where
     B: Layered + Send + Sync,
     J: Room + Send + Sync,
@@ -106,7 +106,7 @@ fn looked_at_in<B, J, R>(
     audits: Vec<Audit<B>>,
     opened: Opened,
     waiting: &Waiting,
-) -> Result<Option<Usage>, Refusal>
+) -> Result<Option<PlaceUsage>, Refusal>
 where
     B: Layered + Send + Sync + Drop,
     J: Room + Send + Sync,
@@ -130,7 +130,7 @@ fn looked_at<B, R>(
     alloc: Global,
     audit: Audit<B>,
     waiting: &Waiting,
-) -> Result<Option<Usage>, Refusal>
+) -> Result<Option<PlaceUsage>, Refusal>
 where
     B: Layered + Send + Sync + Drop,
     R: Threads + Wait + Sync,
@@ -171,8 +171,8 @@ fn a_look_is_answered_while_a_read_holds_the_lock(rt: HostRuntime) -> Result<(),
         return Err(Fail::from("no audit"));
     };
     let usage = looked_at(&rt, alloc, audit, &waiting)?;
-    let fresh = Usage {
-        state: State::Good,
+    let fresh = PlaceUsage {
+        state: PlaceState::Good,
         allocated: 2,
         metadata: 2,
     };

@@ -1,5 +1,5 @@
 // A gate that lets every copy through.
-use copy_queue::Gate;
+use between_threads::Gate;
 
 /// It keeps nobody waiting.
 #[derive(Drop)]

@@ -1,5 +1,5 @@
 // A read that waits for a look, and copies that wait for one another.
-use copy_queue::Gate;
+use between_threads::Gate;
 use std::sync::atomic::{AtomicBool, Ordering};
 use std::thread::yield_now;
 

@@ -6,7 +6,7 @@ ghost use Rattle.volume_threads.specs.Rigs.{IsRoomOf};
 
 use crate::asked::{Asked, SECTORS, ask_seat, ask_volume, status_of};
 use crate::open_gate::OpenGate;
-use copy_queue::Gate;
+use between_threads::{Gate, PlaceState, PlaceUsage};
 use device::MemDisk;
 use journal::Audit;
 use layers::Layered;
@@ -19,7 +19,6 @@ use std::sync::Wait;
 use std::test::Fail;
 use std::thread;
 use std::thread::Threads;
-use usage_board::{State, Usage};
 use volume::Volume;
 use volume_threads::{Opened, Rig, Room, Seat, Worker};
 
@@ -57,7 +56,7 @@ fn agrees<B: Layered, G: Gate + Drop, J: Room>(
     seat.usage(rig, 0, 0) == status_of(beside, LARGE)
         && seat.usage(rig, 0, 1) == status_of(beside, SMALL)
         && seat.usage(rig, 0, 2) == status_of(beside, OTHER)
-        && seat.usage(rig, 0, 3) == Usage::empty()
+        && seat.usage(rig, 0, 3) == PlaceUsage::empty()
 }
 
 /// Whether each seat does.
@@ -276,8 +275,8 @@ fn boards_say_what_status_says_after_each_call(rt: HostRuntime) -> Result<(), Fa
         watched(&rt, alloc, audit, 1, gate, &mut beside, &CALLS)?,
         None
     );
-    assert!(rt; status_of(&beside, SMALL).state == State::Invalid);
+    assert!(rt; status_of(&beside, SMALL).state == PlaceState::Invalid);
     assert_eq!(rt; beside.merging(), Some(LARGE));
-    assert!(rt; status_of(&beside, OTHER).state == State::Good);
+    assert!(rt; status_of(&beside, OTHER).state == PlaceState::Good);
     Ok(())
 }

@@ -15,7 +15,7 @@ use Rattle.plain.specs.declared.request.Reply.{Reply}
 use Rattle.plain.specs.Plain.{overflow_of}
 use Rattle.settled.specs.Devices.{Device}
 use Rattle.settled.specs.Snaps.{Snap, Volume}
-use Rattle.event_machine.specs.Held.{Held}
+use Rattle.event_machine.specs.Held.{SnapHeld}
 use Rattle.event_machine.specs.Rest.{IsResting, IsAtRest}
 use Rattle.event_machine.specs.Seen.{copying_of}
 use Rattle.settled.specs.Attaching.{Tried, Store, Attached, refuse, done, open_store, attached, with_tried, refused_attach}
@@ -129,7 +129,7 @@ module _ {B : Type 0} (contents : B → List ℕ) (layers : B → List Layer) wh
   abbrev pub snap_of : Kept B → Snap
   snap_of s = (held_of contents layers s).snap
 
-  snaps_length : (ss : List (Kept B)) → length (map (λ (h : Held). h.snap) (map (held_of contents layers) ss)) ≡ length ss
+  snaps_length : (ss : List (Kept B)) → length (map (λ (h : SnapHeld). h.snap) (map (held_of contents layers) ss)) ≡ length ss
   snaps_length [] = refl
   snaps_length (s ∷ ss) = let same = snaps_length ss in omega arith
 
@@ -140,7 +140,7 @@ module _ {B : Type 0} (contents : B → List ℕ) (layers : B → List Layer) wh
   abbrev pub taken : Volumed B → B → ℕ → Kept B → Volumed B
   taken v o number s = record v { origin = o; snaps = v.snaps ++ s ∷ []; attached = number }
 
-  snaps_taken : (ss : List (Kept B)) (s : Kept B) → map (λ (h : Held). h.snap) (map (held_of contents layers) (ss ++ s ∷ [])) ≡ map (λ (h : Held). h.snap) (map (held_of contents layers) ss) ++ snap_of s ∷ []
+  snaps_taken : (ss : List (Kept B)) (s : Kept B) → map (λ (h : SnapHeld). h.snap) (map (held_of contents layers) (ss ++ s ∷ [])) ≡ map (λ (h : SnapHeld). h.snap) (map (held_of contents layers) ss) ++ snap_of s ∷ []
   snaps_taken [] s = refl
   snaps_taken (t ∷ ss) s = ap (λ ys. snap_of t ∷ ys) (snaps_taken ss s)
 

@@ -26,7 +26,7 @@ use Rattle.volume_laws.proofs.Same.{books}
 use Rattle.volume_laws.proofs.Waiting.{waits_none}
 use Rattle.volume_laws.proofs.WholeMerge.{begin_event}
 use Rattle.volume_laws.proofs.WholeOne.{snap_holds}
-use Rattle.event_machine.specs.Held.{Held, MergeHeld, Moving}
+use Rattle.event_machine.specs.Held.{SnapHeld, MergeHeld, Moving}
 use Rattle.event_machine.specs.Merging.{begin, begun, merging_of}
 use Rattle.event_machine.specs.MergeSeen.{held_in, merge_held_of}
 use Rattle.event_machine.specs.Stepping.{first_that, for_some, without_first}
@@ -234,15 +234,15 @@ module _ {B : Type 0} (contents : B → List ℕ) (layers : B → List Layer) (s
     abbrev machine : Moving
     machine = moving_of contents layers replied v
 
-    abbrev test : Held → Bool
+    abbrev test : SnapHeld → Bool
     test t = t.snap.number == number
 
     pub exact_begun : begun number (moving_of contents layers replied v) ≡ moving_of contents layers replied with_merge
     exact_begun =
         let free : is_some machine.merge ≡ false = ap (λ (x : Option (Merging B)). is_some (held_in (merge_seen contents layers x))) alone in
-        let made : List Held → Option MergeHeld → Moving = λ (hs : List Held) (x : Option MergeHeld). record machine { snaps = hs; merge = x } in
+        let made : List SnapHeld → Option MergeHeld → Moving = λ (hs : List SnapHeld) (x : Option MergeHeld). record machine { snaps = hs; merge = x } in
         if_false (is_some machine.merge) machine (for_some (first_that test machine.snaps) (λ t. begin test t machine) machine) free
-        ∙ ap (λ (t : Option Held). for_some t (λ t. begin test t machine) machine) (first_is (held_of contents layers) test k s v.snaps first)
+        ∙ ap (λ (t : Option SnapHeld). for_some t (λ t. begin test t machine) machine) (first_is (held_of contents layers) test k s v.snaps first)
         ∙ if_true s.live (made (without_first test machine.snaps) (Some (merging_of (held_of contents layers s)))) machine live
-        ∙ ap (λ (hs : List Held). made hs (Some (merging_of (held_of contents layers s)))) (without_seen (held_of contents layers) test k s v.snaps first)
+        ∙ ap (λ (hs : List SnapHeld). made hs (Some (merging_of (held_of contents layers s)))) (without_seen (held_of contents layers) test k s v.snaps first)
         ∙ ap (λ (g : MergeHeld). made (map (held_of contents layers) (remove v.snaps k)) (Some g)) merging_same

@@ -13,7 +13,7 @@ use Rattle.in_flight.specs.declared.copies.Stage.TheVariants.{Waiting, Read}
 use Rattle.in_flight.specs.declared.flights.Flight.{Flight}
 use Rattle.in_flight.specs.Due.{first_by, least, number_of_mark}
 use Rattle.volume_laws.specs.Due.{is_unsafe}
-use Rattle.event_machine.specs.Held.{Held, Going, number_of}
+use Rattle.event_machine.specs.Held.{SnapHeld, Going, number_of}
 use Rattle.event_machine.specs.Due.{is_at, copy_at, number_of_copying, is_publishable, publishable_in, is_front_ready, is_front_unflushed, needs_area, waits_for_area, can_mark, can_flush_store, can_commit, can_zero, is_issuable, number_of_going, least_in, chosen, due}
 use Rattle.event_machine.specs.Seen.{copying_of, going_of}
 use Rattle.snapshot.specs.Kept.{Kept}
@@ -48,13 +48,13 @@ chosen_none a b c d e f g h pa pb pc pd pe pf pg ph =
 
 module _ {B : Type 0} (contents : B → List ℕ) (layers : B → List Layer) where
   -- a test that no snapshot passes that is done
-  first_idle : (test : Held → Bool) (ss : List (Kept B)) → ((s : Kept B) → is_done_of s ≡ true → test (held_of contents layers s) ≡ false) → list_all is_done_of ss ≡ true → first_by test number_of (map (held_of contents layers) ss) ≡ None
+  first_idle : (test : SnapHeld → Bool) (ss : List (Kept B)) → ((s : Kept B) → is_done_of s ≡ true → test (held_of contents layers s) ≡ false) → list_all is_done_of ss ≡ true → first_by test number_of (map (held_of contents layers) ss) ≡ None
   first_idle test [] fails done = refl
   first_idle test (s ∷ ss) fails done =
       ap (λ b. if b then Some s.number else first_by test number_of (map (held_of contents layers) ss)) (fails s (and_left (is_done_of s) (list_all is_done_of ss) done))
       ∙ first_idle test ss fails (and_right (is_done_of s) (list_all is_done_of ss) done)
 
-  least_idle : (f : Held → Option ℕ) (ss : List (Kept B)) → ((s : Kept B) → is_done_of s ≡ true → f (held_of contents layers s) ≡ None) → list_all is_done_of ss ≡ true → least_in f (map (held_of contents layers) ss) ≡ None
+  least_idle : (f : SnapHeld → Option ℕ) (ss : List (Kept B)) → ((s : Kept B) → is_done_of s ≡ true → f (held_of contents layers s) ≡ None) → list_all is_done_of ss ≡ true → least_in f (map (held_of contents layers) ss) ≡ None
   least_idle f [] none done = refl
   least_idle f (s ∷ ss) none done =
       ap (λ o. least o (least_in f (map (held_of contents layers) ss))) (none s (and_left (is_done_of s) (list_all is_done_of ss) done))
@@ -79,7 +79,7 @@ module _ {B : Type 0} (contents : B → List ℕ) (layers : B → List Layer) wh
   -- nothing is due but of the merge
   pub calm : (replied : Option Reply) (v : Volumed B) → v.flights ≡ [] → list_all is_done_of v.snaps ≡ true → due (moving_of contents layers replied v) ≡ None
   calm replied v none done =
-      let held : Kept B → Held = held_of contents layers in
+      let held : Kept B → SnapHeld = held_of contents layers in
       let rs : List Going = map going_of v.flights in
       chosen_none
       (first_by can_mark number_of (map held v.snaps)) (first_by can_flush_store number_of (map held v.snaps)) (least_in (publishable_in rs) (map held v.snaps)) (first_by can_commit number_of (map held v.snaps)) (first_by can_zero number_of (map held v.snaps))

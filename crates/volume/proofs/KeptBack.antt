@@ -10,7 +10,7 @@ use Rattle.plain.specs.declared.request.Reply.{Reply}
 use Rattle.volume_laws.specs.Books.{SnapBooks, Books}
 use Rattle.volume_laws.specs.Whole.{Holds, plain_of as plain_books}
 use Rattle.volume_laws.specs.Waits.{Waits}
-use Rattle.event_machine.specs.Held.{Held, Moving}
+use Rattle.event_machine.specs.Held.{SnapHeld, Moving}
 use Rattle.snapshot.specs.Kept.{Kept, books_of as snap_books}
 use Rattle.snapshots.specs.Numbers.{number_of_snap, numbers_in, count_in}
 use Rattle.merge.specs.Merging.{Merging}
@@ -56,7 +56,7 @@ module _ {B : Type 0} (contents : B → List ℕ) (layers : B → List Layer) (s
 
   -- none of it is seen of the machine, nor by the plain one
   pub moving_kept : (replied : Option Reply) → moving_of contents layers replied (record v { snaps = snaps }) ≡ moving_of contents layers replied v
-  moving_kept replied = ap (λ (hs : List Held). let w : Moving = record (moving_of contents layers replied v) { snaps = hs } in w) (hidden_map unkept snaps v.snaps e (held_of contents layers) (λ s. refl))
+  moving_kept replied = ap (λ (hs : List SnapHeld). let w : Moving = record (moving_of contents layers replied v) { snaps = hs } in w) (hidden_map unkept snaps v.snaps e (held_of contents layers) (λ s. refl))
 
   pub plain_kept : plain_of contents layers (record v { snaps = snaps }) ≡ plain_of contents layers v
   plain_kept =

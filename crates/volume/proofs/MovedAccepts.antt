@@ -21,7 +21,7 @@ use Rattle.in_flight.specs.declared.flights.Route.{Route}
 use Rattle.in_flight.specs.declared.flights.Route.TheVariants.{Held as Waits, Store, Whole}
 use Rattle.plain.specs.Kept.{kept}
 use Rattle.volume_laws.specs.Again.{published_place}
-use Rattle.event_machine.specs.Held.{Held, Going, Moving}
+use Rattle.event_machine.specs.Held.{SnapHeld, Going, Moving}
 use Rattle.event_machine.specs.Again.{is_clear, is_grouped, merged_place, write_route}
 use Rattle.event_machine.specs.MergeSeen.{held_in}
 use Rattle.event_machine.specs.Seen.{going_of}
@@ -45,7 +45,7 @@ module _ {B : Type 0} (contents : B → List ℕ) (layers : B → List Layer) wh
   -- room for copies is not seen
   unroomed_held : (xs : List (Kept B)) → map (held_of contents layers) xs ≡ map (held_of contents layers) (map unroomed xs)
   unroomed_held [] = refl
-  unroomed_held (x ∷ xs) = ap (λ (hs : List Held). held_of contents layers x ∷ hs) (unroomed_held xs)
+  unroomed_held (x ∷ xs) = ap (λ (hs : List SnapHeld). held_of contents layers x ∷ hs) (unroomed_held xs)
 
   pub unroomed_seen : (xs ys : List (Kept B)) → map unroomed xs ≡ map unroomed ys → map (held_of contents layers) xs ≡ map (held_of contents layers) ys
   unroomed_seen xs ys e = unroomed_held xs ∙ ap (map (held_of contents layers)) e ∙ sym (unroomed_held ys)
@@ -75,7 +75,7 @@ module _ {B : Type 0} (contents : B → List ℕ) (layers : B → List Layer) wh
           ∙ ap (λ x. is_grouped_at request.range.first v.merge || is_some x) (place_held_is contents layers v.merge request.range.first) ∙ e
 
       -- and where it goes
-      write_route_held : (hs : List Held) → write_route (held_in (merge_seen contents layers v.merge)) hs request.range.first ≡ write_route_of (is_grouped_at request.range.first v.merge) (place_at request.range.first v.merge) (is_clear hs request.range.first)
+      write_route_held : (hs : List SnapHeld) → write_route (held_in (merge_seen contents layers v.merge)) hs request.range.first ≡ write_route_of (is_grouped_at request.range.first v.merge) (place_at request.range.first v.merge) (is_clear hs request.range.first)
       write_route_held hs = ap (λ x. write_route_of x (merged_place (held_in (merge_seen contents layers v.merge)) request.range.first) (is_clear hs request.range.first)) (grouped_held contents layers v.merge request.range.first)
           ∙ ap (λ x. write_route_of (is_grouped_at request.range.first v.merge) x (is_clear hs request.range.first)) (place_held_is contents layers v.merge request.range.first)
 
@@ -96,18 +96,18 @@ module _ {B : Type 0} (contents : B → List ℕ) (layers : B → List Layer) wh
           → f.route ≡ write_route_of false None (is_clear_in (map (snap_books contents layers) after) request.range.first) → w ≡ entered_of f (record v { snaps = after; flights = gs; copies = m })
           → submitted number request (moving_of contents layers replied v) ≡ moving_of contents layers replied w
       origin_write_is m before after gs kind unmerged roomed sized saved is becomes =
-          let held : Kept B → Held = held_of contents layers in
+          let held : Kept B → SnapHeld = held_of contents layers in
           let m0 : Moving = moving_of contents layers replied v in
           let first : ℕ = request.range.first in
           let u : Volumed B = record v { snaps = after; flights = gs; copies = m } in
           let all : AreAll contents layers (chunk_at first) before after v.copies m v.flights gs = all_are contents layers (own_of first) (chunk_at first) (λ s. refl) before after v.copies m v.flights gs sized saved in
           let route : Route = write_route m0.merge (map held after) first in
           let to : Moving → Moving = λ (x : Moving). accepted number request (write_route x.merge x.snaps first) x in
-          let made : List Held → List Going → ℕ → Moving = λ (hs : List Held) (rs : List Going) (j : ℕ). accepted number request (write_route m0.merge hs first) (record m0 { snaps = hs; requests = rs; started = j }) in
+          let made : List SnapHeld → List Going → ℕ → Moving = λ (hs : List SnapHeld) (rs : List Going) (j : ℕ). accepted number request (write_route m0.merge hs first) (record m0 { snaps = hs; requests = rs; started = j }) in
           ap (λ (x : Kind). submitted_as x number request m0) kind
           ∙ ap to (if_false (is_grouped m0.merge first || is_some (merged_place m0.merge first)) m0 (start_copies (chunk_at first) m0) (merged_held false unmerged))
-          ∙ ap (λ (xs : List Held). made (started_all (chunk_at first) v.copies xs) (refused_by (chunk_at first) xs (map going_of v.flights)) (started_by (chunk_at first) v.copies xs)) (sym (unroomed_seen before v.snaps roomed))
-          ∙ ap (λ (hs : List Held). made hs (refused_by (chunk_at first) (map held before) (map going_of v.flights)) (started_by (chunk_at first) v.copies (map held before))) all.seen
+          ∙ ap (λ (xs : List SnapHeld). made (started_all (chunk_at first) v.copies xs) (refused_by (chunk_at first) xs (map going_of v.flights)) (started_by (chunk_at first) v.copies xs)) (sym (unroomed_seen before v.snaps roomed))
+          ∙ ap (λ (hs : List SnapHeld). made hs (refused_by (chunk_at first) (map held before) (map going_of v.flights)) (started_by (chunk_at first) v.copies (map held before))) all.seen
           ∙ ap (λ (rs : List Going). made (map held after) rs (started_by (chunk_at first) v.copies (map held before))) all.requests
           ∙ ap (made (map held after) (map going_of gs)) all.count
           ∙ accepted_is u w route (is ∙ ap (write_route_of false None) (sym (clear_seen contents layers first after)) ∙ sym (unmerged_route first v.merge unmerged (is_clear (map held after) first)) ∙ sym (write_route_held (map held after))) becomes
@@ -130,7 +130,7 @@ module _ {B : Type 0} (contents : B → List ℕ) (layers : B → List Layer) wh
         snap_flush_is whole kind live is becomes =
             let m : Moving = moving_of contents layers replied v in
             ap (λ (x : Kind). submitted_as x number request m) kind
-            ∙ ap (λ (x : Option Held). for_some x (λ h. flush_snap number (kept request) h m) (declined Invalid m)) (first_is (held_of contents layers) (λ (h : Held). h.snap.number == n) k s v.snaps found)
+            ∙ ap (λ (x : Option SnapHeld). for_some x (λ h. flush_snap number (kept request) h m) (declined Invalid m)) (first_is (held_of contents layers) (λ (h : SnapHeld). h.snap.number == n) k s v.snaps found)
             ∙ if_true s.live (accepted number (kept request) Whole m) (declined Invalid m) live
             ∙ ap (λ (r : Request). accepted number r Whole m) whole
             ∙ accepted_is v w Whole is becomes
@@ -142,18 +142,18 @@ module _ {B : Type 0} (contents : B → List ℕ) (layers : B → List Layer) wh
             let m : Moving = moving_of contents layers replied v in
             let route : Route = read_route_of (place_of s.pairs (request.range.first / s.state.chunk)) in
             ap (λ (x : Kind). submitted_as x number request m) kind
-            ∙ ap (λ (x : Option Held). for_some x (λ h. read_snap number request h m) (declined Invalid m)) (first_is (held_of contents layers) (λ (h : Held). h.snap.number == n) k s v.snaps found)
+            ∙ ap (λ (x : Option SnapHeld). for_some x (λ h. read_snap number request h m) (declined Invalid m)) (first_is (held_of contents layers) (λ (h : SnapHeld). h.snap.number == n) k s v.snaps found)
             ∙ if_true s.live (accepted number request route m) (declined Invalid m) live
             ∙ accepted_is v w route is becomes
 
         write_found : kind_of request ≡ SnapWrite n → s.live ≡ true → shuts (request.range.first / s.state.chunk) (held_of contents layers s) ≡ false → (place : Option ℕ) → published_place s.pairs s.marks (request.range.first / s.state.chunk) ≡ place
-            → submitted number request (moving_of contents layers replied v) ≡ write_placed number request (λ (h : Held). h.snap.number == n) (held_of contents layers s) place (moving_of contents layers replied v)
+            → submitted number request (moving_of contents layers replied v) ≡ write_placed number request (λ (h : SnapHeld). h.snap.number == n) (held_of contents layers s) place (moving_of contents layers replied v)
         write_found kind live takes place at =
             let m : Moving = moving_of contents layers replied v in
-            let h : Held = held_of contents layers s in
-            let test : Held → Bool = λ (x : Held). x.snap.number == n in
+            let h : SnapHeld = held_of contents layers s in
+            let test : SnapHeld → Bool = λ (x : SnapHeld). x.snap.number == n in
             ap (λ (x : Kind). submitted_as x number request m) kind
-            ∙ ap (λ (x : Option Held). for_some x (λ y. write_snap number request test y m) (declined Invalid m)) (first_is (held_of contents layers) test k s v.snaps found)
+            ∙ ap (λ (x : Option SnapHeld). for_some x (λ y. write_snap number request test y m) (declined Invalid m)) (first_is (held_of contents layers) test k s v.snaps found)
             ∙ if_false (shuts (request.range.first / s.state.chunk) h) (declined Overflow (put test (overflown h) m)) (write_open number request test h m) takes
             ∙ if_true s.live (write_placed number request test h (published_place s.pairs s.marks (request.range.first / s.state.chunk)) m) (declined Invalid m) live
             ∙ ap (λ (x : Option ℕ). write_placed number request test h x m) at
@@ -168,9 +168,9 @@ module _ {B : Type 0} (contents : B → List ℕ) (layers : B → List Layer) wh
             → w ≡ entered_of f v → submitted number request (moving_of contents layers replied v) ≡ moving_of contents layers replied w
         snap_write_waits_is kind live did at has is becomes =
             let m : Moving = moving_of contents layers replied v in
-            let h : Held = held_of contents layers s in
-            let test : Held → Bool = λ (x : Held). x.snap.number == n in
-            let h' : Held = with_copy (v.copies + 1) (request.range.first / s.state.chunk) h in
+            let h : SnapHeld = held_of contents layers s in
+            let test : SnapHeld → Bool = λ (x : SnapHeld). x.snap.number == n in
+            let h' : SnapHeld = with_copy (v.copies + 1) (request.range.first / s.state.chunk) h in
             write_found kind live (has_open contents layers request.range.first s did has) None at
             ∙ if_true (needs_none (request.range.first / s.state.chunk) h) (accepted number request Waits m) (if is_filled h then declined Invalid (spoil test h m) else accepted number request Waits (put test h' (record m { started = v.copies + 1 })))
             (yes_of (needs_none (request.range.first / s.state.chunk) h) (lacks request.range.first s) (needs_is contents layers (own_of request.range.first s) s) has)
@@ -183,17 +183,17 @@ module _ {B : Type 0} (contents : B → List ℕ) (layers : B → List Layer) wh
             → submitted number request (moving_of contents layers replied v) ≡ moving_of contents layers replied w
         snap_write_held_is t kind did at sized lacking room copy is becomes =
             let m : Moving = moving_of contents layers replied v in
-            let h : Held = held_of contents layers s in
-            let test : Held → Bool = λ (x : Held). x.snap.number == n in
-            let h' : Held = with_copy (v.copies + 1) (request.range.first / s.state.chunk) h in
+            let h : SnapHeld = held_of contents layers s in
+            let test : SnapHeld → Bool = λ (x : SnapHeld). x.snap.number == n in
+            let h' : SnapHeld = with_copy (v.copies + 1) (request.range.first / s.state.chunk) h in
             let u : Volumed B = record v { snaps = set v.snaps k t; copies = v.copies + 1 } in
             let live : s.live ≡ true = lacks_live (own_of request.range.first s) s lacking in
             write_found kind live (room_open contents layers request.range.first s did sized lacking room) None at
             ∙ if_false (needs_none (request.range.first / s.state.chunk) h) (accepted number request Waits m) (if is_filled h then declined Invalid (spoil test h m) else accepted number request Waits (put test h' (record m { started = v.copies + 1 })))
             (not_of (needs_none (request.range.first / s.state.chunk) h) (lacks request.range.first s) (needs_is contents layers (own_of request.range.first s) s) lacking)
             ∙ if_false (is_filled h) (declined Invalid (spoil test h m)) (accepted number request Waits (put test h' (record m { started = v.copies + 1 }))) (filled_is contents layers s sized live ∙ room)
-            ∙ ap (λ (x : Held). accepted number request Waits (put test x (record m { started = v.copies + 1 }))) (sym copy)
-            ∙ ap (λ (hs : List Held). accepted number request Waits (record m { snaps = hs; started = v.copies + 1 })) (with_is (held_of contents layers) test k s t v.snaps found)
+            ∙ ap (λ (x : SnapHeld). accepted number request Waits (put test x (record m { started = v.copies + 1 }))) (sym copy)
+            ∙ ap (λ (hs : List SnapHeld). accepted number request Waits (record m { snaps = hs; started = v.copies + 1 })) (with_is (held_of contents layers) test k s t v.snaps found)
             ∙ accepted_is u w Waits is becomes
 
   module _ (replied : Option Reply) (number : ℕ) (request : Request) (v : Volumed B) (n k : ℕ) (s : Kept B) (found : IsFirst (λ (x : Kept B). x.number == n) k s v.snaps) where
@@ -201,20 +201,20 @@ module _ {B : Type 0} (contents : B → List ℕ) (layers : B → List Layer) wh
     pub snap_dead_is : (kind_of request ≡ SnapRead n) ⊎ (kind_of request ≡ SnapWrite n) ⊎ (kind_of request ≡ SnapFlush n) → s.live ≡ false → submitted number request (moving_of contents layers replied v) ≡ moving_of contents layers (Some (Declined Invalid)) v
     snap_dead_is kind dead =
         let m : Moving = moving_of contents layers replied v in
-        let h : Held = held_of contents layers s in
-        let test : Held → Bool = λ (x : Held). x.snap.number == n in
+        let h : SnapHeld = held_of contents layers s in
+        let test : SnapHeld → Bool = λ (x : SnapHeld). x.snap.number == n in
         let c : ℕ = request.range.first / s.state.chunk in
         elim kind [
           | inl read ↦ ap (λ (x : Kind). submitted_as x number request m) read
-              ∙ ap (λ (x : Option Held). for_some x (λ y. read_snap number request y m) (declined Invalid m)) (first_is (held_of contents layers) test k s v.snaps found)
+              ∙ ap (λ (x : Option SnapHeld). for_some x (λ y. read_snap number request y m) (declined Invalid m)) (first_is (held_of contents layers) test k s v.snaps found)
               ∙ if_false s.live (accepted number request (read_route_of (place_of s.pairs c)) m) (declined Invalid m) dead
           | inr other ↦ elim other [
             | inl write ↦ ap (λ (x : Kind). submitted_as x number request m) write
-                ∙ ap (λ (x : Option Held). for_some x (λ y. write_snap number request test y m) (declined Invalid m)) (first_is (held_of contents layers) test k s v.snaps found)
+                ∙ ap (λ (x : Option SnapHeld). for_some x (λ y. write_snap number request test y m) (declined Invalid m)) (first_is (held_of contents layers) test k s v.snaps found)
                 ∙ if_false (shuts c h) (declined Overflow (put test (overflown h) m)) (write_open number request test h m) (dead_open contents layers request.range.first s dead)
                 ∙ if_false s.live (write_placed number request test h (published_place s.pairs s.marks c) m) (declined Invalid m) dead
             | inr flush ↦ ap (λ (x : Kind). submitted_as x number request m) flush
-                ∙ ap (λ (x : Option Held). for_some x (λ y. flush_snap number (kept request) y m) (declined Invalid m)) (first_is (held_of contents layers) test k s v.snaps found)
+                ∙ ap (λ (x : Option SnapHeld). for_some x (λ y. flush_snap number (kept request) y m) (declined Invalid m)) (first_is (held_of contents layers) test k s v.snaps found)
                 ∙ if_false s.live (accepted number (kept request) Whole m) (declined Invalid m) dead
           ]
         ]
@@ -224,12 +224,12 @@ module _ {B : Type 0} (contents : B → List ℕ) (layers : B → List Layer) wh
         → submitted number request (moving_of contents layers replied v) ≡ moving_of contents layers (Some (Declined Invalid)) (record v { snaps = set v.snaps k (spoilt_of s); flights = map (refused_of (s.number ∷ [])) v.flights })
     snap_write_full_is kind never at sized lacking full =
         let m : Moving = moving_of contents layers replied v in
-        let h : Held = held_of contents layers s in
-        let test : Held → Bool = λ (x : Held). x.snap.number == n in
-        let h' : Held = with_copy (v.copies + 1) (request.range.first / s.state.chunk) h in
+        let h : SnapHeld = held_of contents layers s in
+        let test : SnapHeld → Bool = λ (x : SnapHeld). x.snap.number == n in
+        let h' : SnapHeld = with_copy (v.copies + 1) (request.range.first / s.state.chunk) h in
         let live : s.live ≡ true = lacks_live (own_of request.range.first s) s lacking in
         ap (λ (x : Kind). submitted_as x number request m) kind
-        ∙ ap (λ (x : Option Held). for_some x (λ y. write_snap number request test y m) (declined Invalid m)) (first_is (held_of contents layers) test k s v.snaps found)
+        ∙ ap (λ (x : Option SnapHeld). for_some x (λ y. write_snap number request test y m) (declined Invalid m)) (first_is (held_of contents layers) test k s v.snaps found)
         ∙ if_false (shuts (request.range.first / s.state.chunk) h) (declined Overflow (put test (overflown h) m)) (write_open number request test h m) (never_open contents layers request.range.first s never)
         ∙ if_true s.live (write_placed number request test h (published_place s.pairs s.marks (request.range.first / s.state.chunk)) m) (declined Invalid m) live
         ∙ ap (λ (x : Option ℕ). write_placed number request test h x m) at
@@ -243,9 +243,9 @@ module _ {B : Type 0} (contents : B → List ℕ) (layers : B → List Layer) wh
         → submitted number request (moving_of contents layers replied v) ≡ moving_of contents layers (Some (Declined Overflow)) (record v { snaps = set v.snaps k (record s { overflow = Did }) })
     snap_write_shut_is kind shut =
         let m : Moving = moving_of contents layers replied v in
-        let h : Held = held_of contents layers s in
-        let test : Held → Bool = λ (x : Held). x.snap.number == n in
+        let h : SnapHeld = held_of contents layers s in
+        let test : SnapHeld → Bool = λ (x : SnapHeld). x.snap.number == n in
         ap (λ (x : Kind). submitted_as x number request m) kind
-        ∙ ap (λ (x : Option Held). for_some x (λ y. write_snap number request test y m) (declined Invalid m)) (first_is (held_of contents layers) test k s v.snaps found)
+        ∙ ap (λ (x : Option SnapHeld). for_some x (λ y. write_snap number request test y m) (declined Invalid m)) (first_is (held_of contents layers) test k s v.snaps found)
         ∙ if_true (shuts (request.range.first / s.state.chunk) h) (declined Overflow (put test (overflown h) m)) (write_open number request test h m) shut
-        ∙ ap (λ (hs : List Held). declined Overflow (record m { snaps = hs })) (with_is (held_of contents layers) test k s (record s { overflow = Did }) v.snaps found)
+        ∙ ap (λ (hs : List SnapHeld). declined Overflow (record m { snaps = hs })) (with_is (held_of contents layers) test k s (record s { overflow = Did }) v.snaps found)

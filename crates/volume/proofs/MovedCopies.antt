@@ -17,7 +17,7 @@ use Rattle.in_flight.specs.declared.copies.Stage.TheVariants.{Waiting, Read, Wri
 use Rattle.in_flight.specs.declared.copies.ChunkCopy.{ChunkCopy}
 use Rattle.store.specs.Operations.{IsOneOperation}
 use Rattle.settled.specs.Devices.{answers, met}
-use Rattle.event_machine.specs.Held.{Copying, Held, Moving, with_store}
+use Rattle.event_machine.specs.Held.{Copying, SnapHeld, Moving, with_store}
 use Rattle.event_machine.specs.Stepping.{for_some, first_that, with_first, put, spoil, store_write, is_copy, on_copy, read_copy, write_copy, stepped}
 use Rattle.event_machine.specs.Seen.{copying_of}
 use Rattle.snapshot.specs.Kept.{Kept}
@@ -54,7 +54,7 @@ sectors_is bytes n e = omega (arith, e)
 module _ {B : Type 0} (contents : B → List ℕ) (layers : B → List Layer) (replied : Option Reply) (v : Volumed B) (stage : Stage) (n k j : ℕ) (s : Kept B) (p : ChunkCopy)
     (found : IsFirst (λ (x : Kept B). has_copy_at stage n x) k s v.snaps) (copy : IsFirst (is_copy_of stage n) j p s.copies) where
   -- the test of a snapshot, as the event has it
-  abbrev has : Held → Bool
+  abbrev has : SnapHeld → Bool
   has h = list_any (is_copy stage n) h.copies
 
   seen : IsFirst (λ x. has (held_of contents layers x)) k s v.snaps
@@ -63,11 +63,11 @@ module _ {B : Type 0} (contents : B → List ℕ) (layers : B → List Layer) (r
   mine : IsFirst (λ c. is_copy stage n (copying_of c)) j p s.copies
   mine = first_by_test (is_copy_of stage n) (λ c. is_copy stage n (copying_of c)) j p s.copies (λ c. refl) copy
 
-  on_copy_is : (f : (Held → Bool) → (Copying → Bool) → Held → Copying → Moving → Moving)
+  on_copy_is : (f : (SnapHeld → Bool) → (Copying → Bool) → SnapHeld → Copying → Moving → Moving)
       → on_copy stage n f (moving_of contents layers replied v) ≡ f has (is_copy stage n) (held_of contents layers s) (copying_of p) (moving_of contents layers replied v)
   on_copy_is f =
       let m : Moving = moving_of contents layers replied v in
-      ap (λ (x : Option Held). for_some x (λ h. for_some (first_that (is_copy stage n) h.copies) (λ c. f has (is_copy stage n) h c m) m) m) (first_is (held_of contents layers) has k s v.snaps seen)
+      ap (λ (x : Option SnapHeld). for_some x (λ h. for_some (first_that (is_copy stage n) h.copies) (λ c. f has (is_copy stage n) h c m) m) m) (first_is (held_of contents layers) has k s v.snaps seen)
       ∙ ap (λ (x : Option Copying). for_some x (λ c. f has (is_copy stage n) (held_of contents layers s) c m) m) (first_is copying_of (is_copy stage n) j p s.copies mine)
 
   -- the snapshot with the copy gone on
@@ -88,7 +88,7 @@ module _ {B : Type 0} (contents : B → List ℕ) (layers : B → List Layer) (r
     abbrev reading : ℕ → Moving
     reading count =
         let m : Moving = moving_of contents layers replied v in
-        let h : Held = held_of contents layers s in
+        let h : SnapHeld = held_of contents layers s in
         let op : Operation = Reads (s.state.chunk * p.pair.old) count in
         let read : Copying = record (copying_of p) { stage = Read; bytes = sectors_at (contents v.origin) (s.state.chunk * p.pair.old) count } in
         let w : Moving = record m { origin = met m.origin op } in
@@ -104,12 +104,12 @@ module _ {B : Type 0} (contents : B → List ℕ) (layers : B → List Layer) (r
         → stepped (CopyRead n) (moving_of contents layers replied v) ≡ moving_of contents layers replied (changed v o' k s' v.flights)
     copy_read_done q s' one goes is =
         let m : Moving = moving_of contents layers replied v in
-        let h : Held = held_of contents layers s in
-        let test : Held → Bool = λ (x : Held). list_any (is_copy Waiting n) x.copies in
+        let h : SnapHeld = held_of contents layers s in
+        let test : SnapHeld → Bool = λ (x : SnapHeld). list_any (is_copy Waiting n) x.copies in
         let op : Operation = Reads (s.state.chunk * p.pair.old) size in
         let bytes : List ℕ = sectors_at (contents v.origin) (s.state.chunk * p.pair.old) size in
         let read : Copying = record (copying_of p) { stage = Read; bytes = bytes } in
-        let h' : Held = record h { copies = with_first (is_copy Waiting n) read h.copies } in
+        let h' : SnapHeld = record h { copies = with_first (is_copy Waiting n) read h.copies } in
         let w : Moving = record m { origin = met m.origin op } in
         reading_is ∙ if_true (answers m.origin op) (put test h' w) (spoil test h w) (sym one.answer)
         ∙ put_is contents layers replied v k s test (seen contents layers replied v Waiting n k j s p found copy) o' (met m.origin op) s' h' (met_is contents layers op true faults faults' done done' v.origin o' one same)
@@ -121,11 +121,11 @@ module _ {B : Type 0} (contents : B → List ℕ) (layers : B → List Layer) (r
         → stepped (CopyRead n) (moving_of contents layers replied v) ≡ moving_of contents layers replied (changed v o' k s'' (map (refused_of (s.number ∷ [])) v.flights))
     copy_read_fault q s' s'' one is gone =
         let m : Moving = moving_of contents layers replied v in
-        let h : Held = held_of contents layers s in
-        let test : Held → Bool = λ (x : Held). list_any (is_copy Waiting n) x.copies in
+        let h : SnapHeld = held_of contents layers s in
+        let test : SnapHeld → Bool = λ (x : SnapHeld). list_any (is_copy Waiting n) x.copies in
         let op : Operation = Reads (s.state.chunk * p.pair.old) size in
         let read : Copying = record (copying_of p) { stage = Read; bytes = sectors_at (contents v.origin) (s.state.chunk * p.pair.old) size } in
-        let h' : Held = record h { copies = with_first (is_copy Waiting n) read h.copies } in
+        let h' : SnapHeld = record h { copies = with_first (is_copy Waiting n) read h.copies } in
         let w : Moving = record m { origin = met m.origin op } in
         reading_is ∙ if_false (answers m.origin op) (put test h' w) (spoil test h w) (sym one.answer)
         ∙ spoil_is contents layers replied v k s test (seen contents layers replied v Waiting n k j s p found copy) o' (met m.origin op) s'' h (met_is contents layers op false faults faults' done done' v.origin o' one same)
@@ -142,7 +142,7 @@ module _ {B : Type 0} (contents : B → List ℕ) (layers : B → List Layer) (r
     bytes_is : bytes_at p.stage p.buffer.items ≡ p.buffer.items
     bytes_is = ap (λ (x : Stage). bytes_at x p.buffer.items) at
 
-    abbrev next : Held → Held
+    abbrev next : SnapHeld → SnapHeld
     next after = record after { copies = with_first (is_copy Read n) (record (copying_of p) { stage = Written }) after.copies }
 
     -- so many sectors of these bytes are written
@@ -159,14 +159,14 @@ module _ {B : Type 0} (contents : B → List ℕ) (layers : B → List Layer) (r
         → stepped (CopyWrite n) (moving_of contents layers replied v) ≡ moving_of contents layers replied (changed v v.origin k s' v.flights)
     copy_write_done q s' one new goes is =
         let bytes : List ℕ = with_sectors (contents s.device) (s.state.chunk * p.pair.new) p.buffer.items in
-        let h : Held = with_store (held_of contents layers s) (device_of contents layers d) in
+        let h : SnapHeld = with_store (held_of contents layers s) (device_of contents layers d) in
         let q_is : record (copying_of p) { stage = Written } ≡ copying_of q =
         sym (copying_by q.number p.number q.pair p.pair q.stage Written (bytes_at q.stage q.buffer.items) (bytes_at p.stage p.buffer.items) goes.number goes.pair goes.stage
         (ap (λ (x : Stage). bytes_at x q.buffer.items) goes.stage ∙ goes.buffer ∙ sym bytes_is)) in
         let copies : with_first (is_copy Read n) (record (copying_of p) { stage = Written }) (map copying_of s.copies) ≡ map copying_of (set s.copies j q) =
         ap (λ (x : Copying). with_first (is_copy Read n) x (map copying_of s.copies)) q_is
         ∙ with_is copying_of (is_copy Read n) j p q s.copies (mine contents layers replied v Read n k j s p found copy) in
-        writing_is ∙ write_is contents layers replied v k s (λ (x : Held). list_any (is_copy Read n) x.copies) (seen contents layers replied v Read n k j s p found copy)
+        writing_is ∙ write_is contents layers replied v k s (λ (x : SnapHeld). list_any (is_copy Read n) x.copies) (seen contents layers replied v Read n k j s p found copy)
         (Writes (s.state.chunk * p.pair.new) short) bytes next s' faults faults' done done' d one new
         (ap (λ (x : List Copying). record h { copies = x }) copies ∙ sym (ap (held_of contents layers) is))
 
@@ -175,5 +175,5 @@ module _ {B : Type 0} (contents : B → List ℕ) (layers : B → List Layer) (r
         → contents d ≡ contents s.device → s' ≡ record s { device = d } → s'' ≡ spoilt s'
         → stepped (CopyWrite n) (moving_of contents layers replied v) ≡ moving_of contents layers replied (changed v v.origin k s'' (map (refused_of (s.number ∷ [])) v.flights))
     copy_write_fault s' s'' one same kept gone =
-        writing_is ∙ fail_is contents layers replied v k s (λ (x : Held). list_any (is_copy Read n) x.copies) (seen contents layers replied v Read n k j s p found copy)
+        writing_is ∙ fail_is contents layers replied v k s (λ (x : SnapHeld). list_any (is_copy Read n) x.copies) (seen contents layers replied v Read n k j s p found copy)
         (Writes (s.state.chunk * p.pair.new) short) (with_sectors (contents s.device) (s.state.chunk * p.pair.new) p.buffer.items) next s' s'' faults faults' done done' d one same kept gone

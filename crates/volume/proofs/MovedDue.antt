@@ -16,7 +16,7 @@ use Rattle.in_flight.specs.declared.copies.Stage.TheVariants.{Waiting, Read}
 use Rattle.in_flight.specs.declared.copies.Mark.{Mark}
 use Rattle.in_flight.specs.declared.flights.Flight.{Flight}
 use Rattle.volume_laws.specs.Due.{is_unsafe, DueSnap, least_of, copy_of, publishable_of, can_mark as can_mark_due, can_flush_store as can_flush_store_due, can_commit as can_commit_due, can_zero as can_zero_due, snap_number, due_of}
-use Rattle.event_machine.specs.Held.{Held, number_of}
+use Rattle.event_machine.specs.Held.{SnapHeld, number_of}
 use Rattle.event_machine.specs.Due.{filled_of, batch_of, is_ready, fills_area, needs_area, waits_for_area, is_front_ready, is_front_unflushed, can_commit, can_zero, can_mark, can_flush_store, is_at, copy_at, number_of_copying, is_reading, is_publishable, publishable_in, is_issuable, number_of_going, least_in, chosen, due}
 use Rattle.event_machine.specs.Seen.{copying_of, going_of}
 use Rattle.snapshot.specs.Kept.{Kept, due_of_kept, batch_of as batch_in, fills_area as fills_area_of, needs_area as needs_area_of, waits_area as waits_area_of}
@@ -34,7 +34,7 @@ first_alike {X = X} f g t u m n (x ∷ xs) same numbers =
     ∙ ap (λ k. if u (g x) then Some k else first_by t m (map f xs)) (numbers x)
     ∙ ap (λ r. if u (g x) then Some (n (g x)) else r) (first_alike f g t u m n xs (All-tail (λ (y : X). t (f y) ≡ u (g y)) x xs same) numbers)
 
-least_alike : {X : Type 0} (f : X → Held) (g : X → DueSnap) (t : Held → Option ℕ) (u : DueSnap → Option ℕ) (xs : List X) → ((x : X) → t (f x) ≡ u (g x)) → least_in t (map f xs) ≡ least_of u (map g xs)
+least_alike : {X : Type 0} (f : X → SnapHeld) (g : X → DueSnap) (t : SnapHeld → Option ℕ) (u : DueSnap → Option ℕ) (xs : List X) → ((x : X) → t (f x) ≡ u (g x)) → least_in t (map f xs) ≡ least_of u (map g xs)
 least_alike f g t u [] same = refl
 least_alike f g t u (x ∷ xs) same = ap (λ a. least a (least_in t (map f xs))) (same x) ∙ ap (λ r. least (u (g x)) r) (least_alike f g t u xs same)
 
@@ -113,7 +113,7 @@ module _ {B : Type 0} (contents : B → List ℕ) (layers : B → List Layer) wh
 
   pub can_flush_same : (s : Kept B) → IsCounted s → can_flush_store (held_of contents layers s) ≡ can_flush_store_due (due_of_kept contents layers s)
   can_flush_same s c =
-      let h : Held = held_of contents layers s in
+      let h : SnapHeld = held_of contents layers s in
       let unsafe : Bool = list_any is_unsafe s.marks in
       let waits : Bool = waits_for_area h && not (needs_area h) in
       ap (λ b. (s.untried && s.marked) || b || (is_front_ready (map copying_of s.copies) && waits) || unsafe) (unflushed_same s.copies)
@@ -137,7 +137,7 @@ module _ {B : Type 0} (contents : B → List ℕ) (layers : B → List Layer) wh
   -- the event that is due first
   pub due_is : (replied : Option Reply) (v : Volumed B) → All IsCounted v.snaps → due (moving_of contents layers replied v) ≡ due_of (dues_of contents layers v) v.flights
   due_is replied v counted =
-      let held : Kept B → Held = held_of contents layers in
+      let held : Kept B → SnapHeld = held_of contents layers in
       let dues : Kept B → DueSnap = due_of_kept contents layers in
       let snaps : List (Kept B) = v.snaps in
       let fs : List Flight = v.flights in

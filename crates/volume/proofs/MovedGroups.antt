@@ -16,7 +16,7 @@ use Rattle.volume_laws.specs.Held.{SnapHolds}
 use Rattle.volume_laws.specs.MergeDue.{can_group, last_of}
 use Rattle.volume_laws.specs.MergeSteps.{FormsGroup}
 use Rattle.settled.specs.Merges.{last_run}
-use Rattle.event_machine.specs.Held.{Held, Going, MergeHeld, Moving}
+use Rattle.event_machine.specs.Held.{SnapHeld, Going, MergeHeld, Moving}
 use Rattle.event_machine.specs.MergeDue.{in_area}
 use Rattle.event_machine.specs.Seen.{going_of}
 use Rattle.event_machine.specs.MergeSeen.{MergeSeen, merge_held_of}
@@ -69,14 +69,14 @@ module _ {B : Type 0} (contents : B → List ℕ) (layers : B → List Layer) (r
       ∙ ap (λ (x : List Flight). moving_of contents layers replied (record u { flights = x })) requests)
   next_moved u chunk sectors (Some q) disk sized ts n gs saved =
       let at : Kept B → ℕ = next_for chunk sectors q in
-      let here : ℕ → Held → ℕ = λ (k : ℕ). next_held (chunk * q.old) (count_of chunk k q.old) in
+      let here : ℕ → SnapHeld → ℕ = λ (k : ℕ). next_held (chunk * q.old) (count_of chunk k q.old) in
       let (us, h) = as_saved contents layers (next_for chunk sectors q) u.snaps ts u.copies n u.flights gs saved in
       let all : AreAll contents layers (here sectors) u.snaps us u.copies n u.flights gs = all_are contents layers (next_for chunk sectors q) (here sectors) (λ s. refl) u.snaps us u.copies n u.flights gs sized h.saved in
-      let hs : List Held = map (held_of contents layers) u.snaps in
+      let hs : List SnapHeld = map (held_of contents layers) u.snaps in
       let rs : List Going = map going_of u.flights in
       let machine : Moving = moving_of contents layers replied u in
       ap (λ (k : ℕ). start_copies (here k) machine) (sectors_is (contents u.origin) sectors disk)
-      ∙ ap (λ (x : List Held). record machine { snaps = x; requests = refused_by (here sectors) hs rs; started = started_by (here sectors) u.copies hs }) (all.seen ∙ h.held)
+      ∙ ap (λ (x : List SnapHeld). record machine { snaps = x; requests = refused_by (here sectors) hs rs; started = started_by (here sectors) u.copies hs }) (all.seen ∙ h.held)
       ∙ ap (λ (x : List Going). record machine { snaps = map (held_of contents layers) ts; requests = x; started = started_by (here sectors) u.copies hs }) all.requests
       ∙ ap (λ (x : ℕ). record machine { snaps = map (held_of contents layers) ts; requests = map going_of gs; started = x }) all.count
 

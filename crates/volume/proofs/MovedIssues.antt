@@ -20,7 +20,7 @@ use Rattle.in_flight.specs.declared.flights.Route.{Route}
 use Rattle.in_flight.specs.declared.flights.Route.TheVariants.{Origin, Store, Whole, Refused}
 use Rattle.store.specs.Operations.{IsOneOperation}
 use Rattle.settled.specs.Devices.{Device, answers, flush_reply, met, written_by, read_reply}
-use Rattle.event_machine.specs.Held.{Copying, Held, Going, MergeHeld, Moving, flushed_held, on_device, with_merge, with_store}
+use Rattle.event_machine.specs.Held.{Copying, SnapHeld, Going, MergeHeld, Moving, flushed_held, on_device, with_merge, with_store}
 use Rattle.event_machine.specs.Due.{is_issuable}
 use Rattle.event_machine.specs.MergeSeen.{held_in, merge_held_of}
 use Rattle.event_machine.specs.Seen.{going_of}
@@ -44,11 +44,11 @@ issuable_first n j f fs found routed = record {
 }
 
 -- a machine by its parts
-machine_is : (replied : Option Reply) (started : ℕ) (o o' : Device) (hs hs' : List Held) (g g' : Option MergeHeld) (rs rs' : List Going) → o ≡ o' → hs ≡ hs' → g ≡ g' → rs ≡ rs'
+machine_is : (replied : Option Reply) (started : ℕ) (o o' : Device) (hs hs' : List SnapHeld) (g g' : Option MergeHeld) (rs rs' : List Going) → o ≡ o' → hs ≡ hs' → g ≡ g' → rs ≡ rs'
     → ◌≡◌ {A = Moving} (record { origin = o; snaps = hs; merge = g; requests = rs; replied = replied; started = started }) (record { origin = o'; snaps = hs'; merge = g'; requests = rs'; replied = replied; started = started })
 machine_is replied started o o' hs hs' g g' rs rs' po ps pm pr =
     ap (λ (x : Device). record { origin = x; snaps = hs; merge = g; requests = rs; replied = replied; started = started }) po
-    ∙ ap (λ (x : List Held). record { origin = o'; snaps = x; merge = g; requests = rs; replied = replied; started = started }) ps
+    ∙ ap (λ (x : List SnapHeld). record { origin = o'; snaps = x; merge = g; requests = rs; replied = replied; started = started }) ps
     ∙ ap (λ (x : Option MergeHeld). record { origin = o'; snaps = hs'; merge = x; requests = rs; replied = replied; started = started }) pm
     ∙ ap (λ (x : List Going). record { origin = o'; snaps = hs'; merge = g'; requests = x; replied = replied; started = started }) pr
 
@@ -66,7 +66,7 @@ module _ {B : Type 0} (contents : B → List ℕ) (layers : B → List Layer) wh
     abbrev left : Volumed B → Volumed B
     left w = record w { flights = remove v.flights j }
 
-    answered_is : (reply : Reply) (o : Device) (o' : B) (hs : List Held) (snaps : List (Kept B)) (g : Option MergeHeld) (merge : Option (Merging B)) → o ≡ device_of contents layers o' → hs ≡ map (held_of contents layers) snaps → g ≡ held_in (merge_seen contents layers merge)
+    answered_is : (reply : Reply) (o : Device) (o' : B) (hs : List SnapHeld) (snaps : List (Kept B)) (g : Option MergeHeld) (merge : Option (Merging B)) → o ≡ device_of contents layers o' → hs ≡ map (held_of contents layers) snaps → g ≡ held_in (merge_seen contents layers merge)
         → answer (λ (r : Going). r.number == n) reply (record (moving_of contents layers replied v) { origin = o; snaps = hs; merge = g })
         ≡ moving_of contents layers (Some reply) (record v { origin = o'; snaps = snaps; merge = merge; flights = remove v.flights j })
     answered_is reply o o' hs snaps g merge disk is beside =
@@ -133,35 +133,35 @@ module _ {B : Type 0} (contents : B → List ℕ) (layers : B → List Layer) wh
       -- it flushes its snapshot's store
       module _ (is : f.route ≡ Whole) (number : ℕ) (dev : f.request.dev ≡ ToSnap number) (k : ℕ) (s : Kept B) (of : IsFirst (λ (x : Kept B). x.number == number) k s v.snaps) (d : B)
           (one : IsOneOperation Flushes ok (layers s.device) (layers d) faults faults' done done') (same : contents d ≡ contents s.device) where
-        abbrev met_store : Held
+        abbrev met_store : SnapHeld
         met_store = with_store (held_of contents layers s) (met (held_of contents layers s).snap.store Flushes)
 
-        on_whole_is : stepped (Issue n) (moving_of contents layers replied v) ≡ flush_asked (λ (r : Going). r.number == n) (λ (x : Held). x.snap.number == number) (held_of contents layers s) (moving_of contents layers replied v)
+        on_whole_is : stepped (Issue n) (moving_of contents layers replied v) ≡ flush_asked (λ (r : Going). r.number == n) (λ (x : SnapHeld). x.snap.number == number) (held_of contents layers s) (moving_of contents layers replied v)
         on_whole_is =
             let m : Moving = moving_of contents layers replied v in
             let mine : Going → Bool = λ (r : Going). r.number == n in
-            let test : Held → Bool = λ (x : Held). x.snap.number == number in
+            let test : SnapHeld → Bool = λ (x : SnapHeld). x.snap.number == number in
             issue_is Whole is refl ∙ ap (λ (x : Dev). on_whole x mine (going_of f) m) dev
-            ∙ ap (λ (x : Option Held). for_some x (λ h. flush_asked mine test h m) m) (first_is (held_of contents layers) test k s v.snaps of)
+            ∙ ap (λ (x : Option SnapHeld). for_some x (λ h. flush_asked mine test h m) m) (first_is (held_of contents layers) test k s v.snaps of)
 
         store_is : met (held_of contents layers s).snap.store Flushes ≡ device_of contents layers d
         store_is = met_is contents layers Flushes ok faults faults' done done' s.device d one same
 
         -- the snapshot goes on as s'
-        put_whole : (x : Held) (s' : Kept B) (reply : Reply) → x ≡ held_of contents layers s'
-            → answer (λ (r : Going). r.number == n) reply (put (λ (y : Held). y.snap.number == number) x (moving_of contents layers replied v)) ≡ moving_of contents layers (Some reply) (changed v v.origin k s' (remove v.flights j))
+        put_whole : (x : SnapHeld) (s' : Kept B) (reply : Reply) → x ≡ held_of contents layers s'
+            → answer (λ (r : Going). r.number == n) reply (put (λ (y : SnapHeld). y.snap.number == number) x (moving_of contents layers replied v)) ≡ moving_of contents layers (Some reply) (changed v v.origin k s' (remove v.flights j))
         put_whole x s' reply seen =
             let m : Moving = moving_of contents layers replied v in
-            let test : Held → Bool = λ (y : Held). y.snap.number == number in
+            let test : SnapHeld → Bool = λ (y : SnapHeld). y.snap.number == number in
             answered_is reply m.origin v.origin (with_first test x m.snaps) (set v.snaps k s') m.merge v.merge refl
-            (ap (λ (y : Held). with_first test y m.snaps) seen ∙ with_is (held_of contents layers) test k s s' v.snaps of) refl
+            (ap (λ (y : SnapHeld). with_first test y m.snaps) seen ∙ with_is (held_of contents layers) test k s s' v.snaps of) refl
 
         -- the two ways on
         abbrev flushed_way : Moving
-        flushed_way = answer (λ (r : Going). r.number == n) DidFlush (put (λ (y : Held). y.snap.number == number) (flushed_held met_store) (moving_of contents layers replied v))
+        flushed_way = answer (λ (r : Going). r.number == n) DidFlush (put (λ (y : SnapHeld). y.snap.number == number) (flushed_held met_store) (moving_of contents layers replied v))
 
         abbrev failed_way : Moving
-        failed_way = answer (λ (r : Going). r.number == n) (Declined Io) (put (λ (y : Held). y.snap.number == number) met_store (moving_of contents layers replied v))
+        failed_way = answer (λ (r : Going). r.number == n) (Declined Io) (put (λ (y : SnapHeld). y.snap.number == number) met_store (moving_of contents layers replied v))
 
         pub issue_whole_io : ok ≡ false → (s' : Kept B) → s' ≡ record s { device = d } → stepped (Issue n) (moving_of contents layers replied v) ≡ moving_of contents layers (Some (Declined Io)) (changed v v.origin k s' (remove v.flights j))
         issue_whole_io fails s' s_is =
@@ -171,7 +171,7 @@ module _ {B : Type 0} (contents : B → List ℕ) (layers : B → List Layer) wh
         pub issue_whole : ok ≡ true → (s' : Kept B) → s' ≡ record s { device = d; state = record s.state { firm = s.state.zeroed; sure = length s.pairs }; copies = map flushed_copy s.copies; marks = map safe_mark s.marks }
             → stepped (Issue n) (moving_of contents layers replied v) ≡ moving_of contents layers (Some DidFlush) (changed v v.origin k s' (remove v.flights j))
         issue_whole works s' s_is =
-            let h : Held = held_of contents layers s in
+            let h : SnapHeld = held_of contents layers s in
             on_whole_is ∙ if_true (answers h.snap.store Flushes) flushed_way failed_way (sym one.answer ∙ works)
             ∙ put_whole (flushed_held met_store) s' DidFlush
             (ap (λ (x : Device). flushed_held (with_store h x)) store_is
@@ -225,15 +225,15 @@ module _ {B : Type 0} (contents : B → List ℕ) (layers : B → List Layer) wh
 
         -- it goes to its place
         on_place_is : (op : Op) → f.request.op ≡ op → stepped (Issue n) (moving_of contents layers replied v)
-            ≡ on_store op start f.request.range.count (λ (r : Going). r.number == n) (λ (x : Held). x.snap.number == number) (held_of contents layers s) (moving_of contents layers replied v)
+            ≡ on_store op start f.request.range.count (λ (r : Going). r.number == n) (λ (x : SnapHeld). x.snap.number == number) (held_of contents layers s) (moving_of contents layers replied v)
         on_place_is op kind =
             let m : Moving = moving_of contents layers replied v in
             let mine : Going → Bool = λ (r : Going). r.number == n in
             let first : ℕ = f.request.range.first in
             let count : ℕ = f.request.range.count in
             issue_is (Store place) is refl ∙ ap (λ (x : Dev). on_place x f.request.op place first count mine m) dev ∙ ap (λ (x : Op). on_place (ToSnap number) x place first count mine m) kind
-            ∙ ap (λ (x : Option Held). for_some x (λ h. on_store op (h.snap.chunk * place + first % h.snap.chunk) count mine (λ (y : Held). y.snap.number == number) h m) m)
-            (first_is (held_of contents layers) (λ (y : Held). y.snap.number == number) k s v.snaps of)
+            ∙ ap (λ (x : Option SnapHeld). for_some x (λ h. on_store op (h.snap.chunk * place + first % h.snap.chunk) count mine (λ (y : SnapHeld). y.snap.number == number) h m) m)
+            (first_is (held_of contents layers) (λ (y : SnapHeld). y.snap.number == number) k s v.snaps of)
 
         -- it reads its snapshot's store
         pub issue_store_read : f.request.op ≡ ReadOp → IsOneOperation (Reads start f.request.range.count) ok (layers s.device) (layers d) faults faults' done done'
@@ -241,17 +241,17 @@ module _ {B : Type 0} (contents : B → List ℕ) (layers : B → List Layer) wh
             → stepped (Issue n) (moving_of contents layers replied v) ≡ moving_of contents layers (Some reply) (changed v v.origin k s' (remove v.flights j))
         issue_store_read kind one same reply answered s' s_is =
             let m : Moving = moving_of contents layers replied v in
-            let h : Held = held_of contents layers s in
+            let h : SnapHeld = held_of contents layers s in
             let count : ℕ = f.request.range.count in
             let mine : Going → Bool = λ (r : Going). r.number == n in
-            let test : Held → Bool = λ (x : Held). x.snap.number == number in
+            let test : SnapHeld → Bool = λ (x : SnapHeld). x.snap.number == number in
             let after : Device = met h.snap.store (Reads start count) in
             let reply_is : read_reply h.snap.store start count ≡ reply = sym (answered ∙ ap (λ (b : Bool). if b then Data (sectors_at (contents s.device) start count) else Declined Io) one.answer) in
             let after_is : after ≡ device_of contents layers d = device_by contents layers (contents s.device) (contents d) after.layers (layers d) (sym same) (sym one.layers) in
             on_place_is ReadOp kind
             ∙ ap (λ (x : Reply). answer mine x (put test (with_store h after) m)) reply_is
             ∙ answered_is reply m.origin v.origin (with_first test (with_store h after) m.snaps) (set v.snaps k s') m.merge v.merge refl
-            (ap (λ (x : Held). with_first test x m.snaps) (ap (λ (x : Device). with_store h x) after_is ∙ sym (ap (held_of contents layers) s_is)) ∙ with_is (held_of contents layers) test k s s' v.snaps of) refl
+            (ap (λ (x : SnapHeld). with_first test x m.snaps) (ap (λ (x : Device). with_store h x) after_is ∙ sym (ap (held_of contents layers) s_is)) ∙ with_is (held_of contents layers) test k s s' v.snaps of) refl
 
         -- it writes it
         pub issue_store_write : (bytes : List ℕ) → f.request.op ≡ WriteOp bytes → IsOneOperation (Writes start f.request.range.count) ok (layers s.device) (layers d) faults faults' done done'
@@ -259,17 +259,17 @@ module _ {B : Type 0} (contents : B → List ℕ) (layers : B → List Layer) wh
             → stepped (Issue n) (moving_of contents layers replied v) ≡ moving_of contents layers (Some reply) (changed v v.origin k s' (remove v.flights j))
         issue_store_write bytes kind one new reply answered s' s_is =
             let m : Moving = moving_of contents layers replied v in
-            let h : Held = held_of contents layers s in
+            let h : SnapHeld = held_of contents layers s in
             let count : ℕ = f.request.range.count in
             let mine : Going → Bool = λ (r : Going). r.number == n in
-            let test : Held → Bool = λ (x : Held). x.snap.number == number in
+            let test : SnapHeld → Bool = λ (x : SnapHeld). x.snap.number == number in
             let after : Device = written_by h.snap.store (Writes start count) (with_sectors (contents s.device) start bytes) in
             let reply_is : write_reply h.snap.store start count ≡ reply = sym (answered ∙ ap (λ (b : Bool). if b then Done else Declined Io) one.answer) in
             let after_is : after ≡ device_of contents layers d = written_is (Writes start count) (with_sectors (contents s.device) start bytes) ok faults faults' done done' s.device d one new in
             on_place_is (WriteOp bytes) kind
             ∙ ap (λ (x : Reply). answer mine x (put test (with_store h after) m)) reply_is
             ∙ answered_is reply m.origin v.origin (with_first test (with_store h after) m.snaps) (set v.snaps k s') m.merge v.merge refl
-            (ap (λ (x : Held). with_first test x m.snaps) (ap (λ (x : Device). with_store h x) after_is ∙ sym (ap (held_of contents layers) s_is)) ∙ with_is (held_of contents layers) test k s s' v.snaps of) refl
+            (ap (λ (x : SnapHeld). with_first test x m.snaps) (ap (λ (x : Device). with_store h x) after_is ∙ sym (ap (held_of contents layers) s_is)) ∙ with_is (held_of contents layers) test k s s' v.snaps of) refl
 
       -- of the origin, at its chunk's place on the merging store
       module _ (place : ℕ) (is : f.route ≡ Store place) (dev : f.request.dev ≡ ToOrigin) (g : Merging B) (begun : v.merge ≡ Some g) (d : B) where

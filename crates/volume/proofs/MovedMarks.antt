@@ -26,7 +26,7 @@ use Rattle.volume_laws.specs.Books.{SnapBooks}
 use Rattle.volume_laws.specs.Published.{is_clear as is_clear_in, is_clear_over as is_clear_over_in, is_saved as is_saved_in, is_saved_over as is_saved_over_in}
 use Rattle.settled.specs.Saves.{marked}
 use Rattle.settled.specs.Devices.{Device, answers, met, written_by}
-use Rattle.event_machine.specs.Held.{Held, Going, MergeHeld, Moving, Copying, is_untried, flushed_copying, flushed_held, spoiled, with_store}
+use Rattle.event_machine.specs.Held.{SnapHeld, Going, MergeHeld, Moving, Copying, is_untried, flushed_copying, flushed_held, spoiled, with_store}
 use Rattle.event_machine.specs.Due.{can_flush_store, can_mark, is_publishable}
 use Rattle.event_machine.specs.Again.{is_saved, is_saved_over, is_clear, is_clear_over, is_grouped, merged_place, write_route, again, placed, rerouted}
 use Rattle.event_machine.specs.Stepping.{with_first, without_first, publish, publishes, flush_store, mark_invalid, put, spoil, stepped}
@@ -121,7 +121,7 @@ module _ {B : Type 0} (contents : B → List ℕ) (layers : B → List Layer) wh
 
     -- a spoiled snapshot's mark is written
     module _ (found : IsFirst (is_trying n) k s v.snaps) (s' : Kept B) (faults faults' done done' : ℕ) (d : B) where
-      abbrev tries : Held → Bool
+      abbrev tries : SnapHeld → Bool
       tries x = (x.snap.number == n) && can_mark x
 
       abbrev mark_op : Operation
@@ -130,7 +130,7 @@ module _ {B : Type 0} (contents : B → List ℕ) (layers : B → List Layer) wh
       abbrev mark_bytes : List ℕ
       mark_bytes = marked s.state.chunk (contents s.device)
 
-      abbrev mark_after : Held
+      abbrev mark_after : SnapHeld
       mark_after = with_store (held_of contents layers s) (written_by (held_of contents layers s).snap.store mark_op mark_bytes)
 
       pub write_invalid_done : IsOneOperation mark_op true (layers s.device) (layers d) faults faults' done done'
@@ -139,9 +139,9 @@ module _ {B : Type 0} (contents : B → List ℕ) (layers : B → List Layer) wh
           → stepped (WriteInvalid n) (moving_of contents layers replied v) ≡ moving_of contents layers replied (changed v v.origin k s' v.flights)
       write_invalid_done one new is =
           let m : Moving = moving_of contents layers replied v in
-          let h : Held = held_of contents layers s in
-          let test : Held → Bool = λ (x : Held). (x.snap.number == n) && can_mark x in
-          let after : Held = mark_after in
+          let h : SnapHeld = held_of contents layers s in
+          let test : SnapHeld → Bool = λ (x : SnapHeld). (x.snap.number == n) && can_mark x in
+          let after : SnapHeld = mark_after in
           let h_is : record after { marked = true } ≡ held_of contents layers s' =
           ap (λ (x : Device). record (with_store h x) { marked = true }) (wrote_is contents layers mark_op mark_bytes faults faults' done done' s.device d one new) ∙ sym (ap (held_of contents layers) is) in
           on_snap_is contents layers replied v k s test found mark_invalid
@@ -155,10 +155,10 @@ module _ {B : Type 0} (contents : B → List ℕ) (layers : B → List Layer) wh
           → stepped (WriteInvalid n) (moving_of contents layers replied v) ≡ moving_of contents layers replied (changed v v.origin k s' flights)
       write_invalid_fault flights one same is routed =
           let m : Moving = moving_of contents layers replied v in
-          let h : Held = held_of contents layers s in
-          let test : Held → Bool = λ (x : Held). (x.snap.number == n) && can_mark x in
-          let after : Held = mark_after in
-          let tried : Held = record after { snap = record after.snap { stale = true }; untried = false } in
+          let h : SnapHeld = held_of contents layers s in
+          let test : SnapHeld → Bool = λ (x : SnapHeld). (x.snap.number == n) && can_mark x in
+          let after : SnapHeld = mark_after in
+          let tried : SnapHeld = record after { snap = record after.snap { stale = true }; untried = false } in
           let h_is : tried ≡ held_of contents layers s' =
           ap (λ (x : Device). record h { snap = record h.snap { store = x; stale = true }; untried = false }) (failed_is contents layers mark_op mark_bytes faults faults' done done' s.device d one same) ∙ sym (ap (held_of contents layers) is) in
           on_snap_is contents layers replied v k s test found mark_invalid
@@ -172,19 +172,19 @@ module _ {B : Type 0} (contents : B → List ℕ) (layers : B → List Layer) wh
         (λ i e lt. sym (ap (λ b. ((get_or v.snaps i e).number == n) && b) (can_flush_same contents layers (get_or v.snaps i e) (counted i e lt)))) found
 
     module _ (counted : All IsCounted v.snaps) (first : IsFirst (is_flushing n) k s v.snaps) (faults faults' done done' : ℕ) (d : B) (same : contents d ≡ contents s.device) where
-      abbrev flushes : Held → Bool
+      abbrev flushes : SnapHeld → Bool
       flushes x = (x.snap.number == n) && can_flush_store x
 
       found : IsFirst (λ x. flushes (held_of contents layers x)) k s v.snaps
       found = flushing_first counted first
 
-      abbrev met_after : Held
+      abbrev met_after : SnapHeld
       met_after = with_store (held_of contents layers s) (met (held_of contents layers s).snap.store Flushes)
 
       -- a mark was written, which is tried then
-      abbrev tried_by : Bool → Device → Held
+      abbrev tried_by : Bool → Device → SnapHeld
       tried_by ok store =
-          let h : Held = held_of contents layers s in
+          let h : SnapHeld = held_of contents layers s in
           record h { snap = record h.snap { store = store; stale = not ok }; untried = false }
 
       pub flush_mark_is : (ok : Bool) (s' : Kept B) (flights : List Flight) → s.marked ≡ true → IsOneOperation Flushes ok (layers s.device) (layers d) faults faults' done done'
@@ -193,9 +193,9 @@ module _ {B : Type 0} (contents : B → List ℕ) (layers : B → List Layer) wh
           → stepped (FlushStore n) (moving_of contents layers replied v) ≡ moving_of contents layers replied (changed v v.origin k s' flights)
       flush_mark_is ok s' flights written one is routed =
           let m : Moving = moving_of contents layers replied v in
-          let h : Held = held_of contents layers s in
-          let test : Held → Bool = λ (x : Held). (x.snap.number == n) && can_flush_store x in
-          let after : Held = met_after in
+          let h : SnapHeld = held_of contents layers s in
+          let test : SnapHeld → Bool = λ (x : SnapHeld). (x.snap.number == n) && can_flush_store x in
+          let after : SnapHeld = met_after in
           let given : Bool = answers h.snap.store Flushes in
           let h_is : tried_by given after.snap.store ≡ held_of contents layers s' =
           ap (λ (b : Bool). tried_by b after.snap.store) (sym one.answer)
@@ -210,7 +210,7 @@ module _ {B : Type 0} (contents : B → List ℕ) (layers : B → List Layer) wh
           ≡ (if answers (held_of contents layers s).snap.store Flushes then put flushes (flushed_held met_after) (moving_of contents layers replied v) else spoil flushes met_after (moving_of contents layers replied v))
       flushing_is unmarked =
           let m : Moving = moving_of contents layers replied v in
-          let test : Held → Bool = λ (x : Held). (x.snap.number == n) && can_flush_store x in
+          let test : SnapHeld → Bool = λ (x : SnapHeld). (x.snap.number == n) && can_flush_store x in
           let given : Bool = answers (held_of contents layers s).snap.store Flushes in
           on_snap_is contents layers replied v k s test found flush_store
           ∙ if_false s.marked (rerouted (put test (tried_by given met_after.snap.store) m)) (if given then put test (flushed_held met_after) m else spoil test met_after m) unmarked
@@ -220,9 +220,9 @@ module _ {B : Type 0} (contents : B → List ℕ) (layers : B → List Layer) wh
           → stepped (FlushStore n) (moving_of contents layers replied v) ≡ moving_of contents layers replied (changed v v.origin k s' v.flights)
       flush_store_done s' unmarked one is =
           let m : Moving = moving_of contents layers replied v in
-          let h : Held = held_of contents layers s in
-          let test : Held → Bool = λ (x : Held). (x.snap.number == n) && can_flush_store x in
-          let after : Held = met_after in
+          let h : SnapHeld = held_of contents layers s in
+          let test : SnapHeld → Bool = λ (x : SnapHeld). (x.snap.number == n) && can_flush_store x in
+          let after : SnapHeld = met_after in
           let h_is : flushed_held after ≡ held_of contents layers s' =
           ap (λ (x : Device). flushed_held (with_store h x)) (met_is contents layers Flushes true faults faults' done done' s.device d one same)
           ∙ ap (λ (cs : List Copying). record (flushed_held (with_store h (device_of contents layers d))) { copies = cs }) (flushed_seen s.copies)
@@ -236,9 +236,9 @@ module _ {B : Type 0} (contents : B → List ℕ) (layers : B → List Layer) wh
           → stepped (FlushStore n) (moving_of contents layers replied v) ≡ moving_of contents layers replied (changed v v.origin k s'' (map (refused_of (s.number ∷ [])) v.flights))
       flush_store_fault s' s'' unmarked one kept gone =
           let m : Moving = moving_of contents layers replied v in
-          let h : Held = held_of contents layers s in
-          let test : Held → Bool = λ (x : Held). (x.snap.number == n) && can_flush_store x in
-          let after : Held = met_after in
+          let h : SnapHeld = held_of contents layers s in
+          let test : SnapHeld → Bool = λ (x : SnapHeld). (x.snap.number == n) && can_flush_store x in
+          let after : SnapHeld = met_after in
           flushing_is unmarked
           ∙ if_false (answers h.snap.store Flushes) (put test (flushed_held after) m) (spoil test after m) (sym one.answer)
           ∙ spoil_is contents layers replied v k s test found v.origin m.origin s'' after refl
@@ -248,7 +248,7 @@ module _ {B : Type 0} (contents : B → List ℕ) (layers : B → List Layer) wh
     -- the snapshot whose mark it is is found
     pub publishes_first : IsFirst (λ (x : Kept B). has_mark_at v.flights n x) k s v.snaps → IsFirst (λ (x : Kept B). publishes (map going_of v.flights) n (held_of contents layers x)) k s v.snaps
     publishes_first found =
-        let test : Held → Bool = publishes (map going_of v.flights) n in
+        let test : SnapHeld → Bool = publishes (map going_of v.flights) n in
         first_by_test (λ (x : Kept B). has_mark_at v.flights n x) (λ (x : Kept B). test (held_of contents layers x)) k s v.snaps
         (λ x. any_alike (is_mark_of x v.flights n) (λ (y : Mark). (y.number == n) && is_publishable (map going_of v.flights) (held_of contents layers x) y) x.marks
         (λ y. ap (λ b. (y.number == n) && b) (sym (publishable_same contents layers x v.flights y)))) found
@@ -260,15 +260,15 @@ module _ {B : Type 0} (contents : B → List ℕ) (layers : B → List Layer) wh
         → stepped (Publish n) (moving_of contents layers replied v) ≡ moving_of contents layers replied (changed v v.origin k s' flights)
     publish_is found j m mine s' flights is routed =
         let w : Moving = moving_of contents layers replied v in
-        let h : Held = held_of contents layers s in
-        let test : Held → Bool = publishes (map going_of v.flights) n in
+        let h : SnapHeld = held_of contents layers s in
+        let test : SnapHeld → Bool = publishes (map going_of v.flights) n in
         let seen : IsFirst (λ (x : Kept B). test (held_of contents layers x)) k s v.snaps = publishes_first found in
-        let after : Held = record h { marks = without_first (λ (x : Mark). x.number == n) s.marks } in
+        let after : SnapHeld = record h { marks = without_first (λ (x : Mark). x.number == n) s.marks } in
         let h_is : after ≡ held_of contents layers s' =
         ap (λ (ms : List Mark). record h { marks = ms }) (without_is (λ (x : Mark). x.number == n) j m s.marks mine) ∙ sym (ap (held_of contents layers) is) in
         let placed_first : Volumed B = changed v v.origin k s' (map (placed_of (snap_books contents layers s')) v.flights) in
         on_snap_is contents layers replied v k s test seen (λ t x. publish t (λ (y : Mark). y.number == n) x)
-        ∙ ap (λ (x : Held). rerouted (record w { snaps = with_first test x w.snaps; requests = map (placed x) w.requests })) h_is
+        ∙ ap (λ (x : SnapHeld). rerouted (record w { snaps = with_first test x w.snaps; requests = map (placed x) w.requests })) h_is
         ∙ ap rerouted (machine_by contents layers (held_in (merge_seen contents layers v.merge)) replied v.copies w.origin w.origin (with_first test (held_of contents layers s') w.snaps) (map (held_of contents layers) (set v.snaps k s'))
         (map (placed (held_of contents layers s')) w.requests) (map going_of (map (placed_of (snap_books contents layers s')) v.flights)) refl (with_is (held_of contents layers) test k s s' v.snaps seen) (placed_seen s' v.flights))
         ∙ rerouted_is placed_first flights routed

@@ -26,7 +26,7 @@ use Rattle.store.specs.declared.state.State.{State}
 use Rattle.volume_laws.specs.Steps.{mark_of}
 use Rattle.settled.specs.Saves.{zeroed}
 use Rattle.settled.specs.Saving.{lacks_area}
-use Rattle.event_machine.specs.Held.{Copying, Held, Moving, with_store}
+use Rattle.event_machine.specs.Held.{Copying, SnapHeld, Moving, with_store}
 use Rattle.event_machine.specs.Due.{batch_of as batch_in, can_commit, can_zero}
 use Rattle.event_machine.specs.Stepping.{spoil, store_write, zero_next, all_paired, commit, stepped, pair_of as pair_of_copying, mark_of as mark_of_copying}
 use Rattle.event_machine.specs.Seen.{copying_of}
@@ -56,8 +56,8 @@ and_right true b e = e
 and_right false b e = absurd (false≢true e)
 
 -- a snapshot by the parts that a commit changes
-held_by : (s : Held) (c c' : ℕ) (ps ps' : List Pair) (z z' f f' : Bool) (cs cs' : List Copying) (ms ms' : List Mark) → c ≡ c' → ps ≡ ps' → z ≡ z' → f ≡ f' → cs ≡ cs' → ms ≡ ms'
-    → ◌≡◌ {A = Held} (record s { snap = record s.snap { chunk = c }; pairs = ps; zeroed = z; firm = f; copies = cs; marks = ms }) (record s { snap = record s.snap { chunk = c' }; pairs = ps'; zeroed = z'; firm = f'; copies = cs'; marks = ms' })
+held_by : (s : SnapHeld) (c c' : ℕ) (ps ps' : List Pair) (z z' f f' : Bool) (cs cs' : List Copying) (ms ms' : List Mark) → c ≡ c' → ps ≡ ps' → z ≡ z' → f ≡ f' → cs ≡ cs' → ms ≡ ms'
+    → ◌≡◌ {A = SnapHeld} (record s { snap = record s.snap { chunk = c }; pairs = ps; zeroed = z; firm = f; copies = cs; marks = ms }) (record s { snap = record s.snap { chunk = c' }; pairs = ps'; zeroed = z'; firm = f'; copies = cs'; marks = ms' })
 held_by s c c' ps ps' z z' f f' cs cs' ms ms' pc pp pz pf pcs pm =
     ap (λ (x : ℕ). record s { snap = record s.snap { chunk = x }; pairs = ps; zeroed = z; firm = f; copies = cs; marks = ms }) pc
     ∙ ap (λ (x : List Pair). record s { snap = record s.snap { chunk = c' }; pairs = x; zeroed = z; firm = f; copies = cs; marks = ms }) pp
@@ -116,7 +116,7 @@ paired_is chunk store k a f pairs area slot =
 module _ {B : Type 0} (contents : B → List ℕ) (layers : B → List Layer) (replied : Option Reply) (v : Volumed B) (counted : All IsCounted v.snaps) (n k : ℕ) (s : Kept B) where
   module _ (found : IsFirst (is_committing n) k s v.snaps) (counts : IsCounted s) (live : s.live ≡ true) (count : ℕ) (batched : count ≡ batch_of s.state s.copies) (agree : s.begun ≡ map pair_of s.copies)
       (faults faults' done done' : ℕ) (d : B) where
-    abbrev commits : Held → Bool
+    abbrev commits : SnapHeld → Bool
     commits h = (h.snap.number == n) && can_commit h
 
     commits_first : IsFirst (λ x. commits (held_of contents layers x)) k s v.snaps
@@ -133,7 +133,7 @@ module _ {B : Type 0} (contents : B → List ℕ) (layers : B → List Layer) (r
     now = take count (map copying_of s.copies)
 
     -- the snapshot after the commit, by how many slots of the area were in use
-    abbrev committed : ℕ → Held → Held
+    abbrev committed : ℕ → SnapHeld → SnapHeld
     committed f after = record after {
       pairs = after.pairs ++ map pair_of_copying now;
       copies = drop count after.copies;
@@ -159,8 +159,8 @@ module _ {B : Type 0} (contents : B → List ℕ) (layers : B → List Layer) (r
     committing_is : stepped (WriteArea n) (moving_of contents layers replied v) ≡ store_write commits (held_of contents layers s) op bytes (committed s.state.filled) (moving_of contents layers replied v)
     committing_is =
         let m : Moving = moving_of contents layers replied v in
-        let h : Held = held_of contents layers s in
-        let test : Held → Bool = λ (x : Held). (x.snap.number == n) && can_commit x in
+        let h : SnapHeld = held_of contents layers s in
+        let test : SnapHeld → Bool = λ (x : SnapHeld). (x.snap.number == n) && can_commit x in
         on_snap_is contents layers replied v k s test commits_first (λ t x. commit (batch_in x) t x)
         ∙ ap (λ c. commit c test h m) (batch_same contents layers s counts live ∙ sym batched)
         ∙ ap (λ (a : ℕ). store_write test h (Writes (s.state.chunk * area_place s.state.chunk a) s.state.chunk) (all_paired s.state.chunk (contents s.device) (length s.pairs) (map pair_of_copying now)) (committed (length s.pairs % (32 * s.state.chunk))) m) area_is
@@ -173,8 +173,8 @@ module _ {B : Type 0} (contents : B → List ℕ) (layers : B → List Layer) (r
         → s' ≡ record s { device = d; state = after_commit s.state count; pairs = s.pairs ++ take count s.begun; begun = drop count s.begun; copies = drop count s.copies; marks = s.marks ++ map mark_of (take count s.copies); spare = spare_after count s }
         → stepped (WriteArea n) (moving_of contents layers replied v) ≡ moving_of contents layers replied (changed v v.origin k s' v.flights)
     write_area_done s' one new is =
-        let h : Held = with_store (held_of contents layers s) (device_of contents layers d) in
-        committing_is ∙ write_is contents layers replied v k s (λ (x : Held). (x.snap.number == n) && can_commit x) commits_first op bytes (committed s.state.filled) s' faults faults' done done' d one new
+        let h : SnapHeld = with_store (held_of contents layers s) (device_of contents layers d) in
+        committing_is ∙ write_is contents layers replied v k s (λ (x : SnapHeld). (x.snap.number == n) && can_commit x) commits_first op bytes (committed s.state.filled) s' faults faults' done done' d one new
         (held_by h s.state.chunk (after_commit s.state count).chunk (s.pairs ++ map pair_of_copying now) (s.pairs ++ take count s.begun)
         (s.state.zeroed && not (s.state.filled + count == 32 * s.state.chunk)) (after_commit s.state count).zeroed (s.state.firm && not (s.state.filled + count == 32 * s.state.chunk)) (after_commit s.state count).firm (drop count (map copying_of s.copies)) (map copying_of (drop count s.copies))
         (s.marks ++ map mark_of_copying now) (s.marks ++ map mark_of (take count s.copies))
@@ -188,11 +188,11 @@ module _ {B : Type 0} (contents : B → List ℕ) (layers : B → List Layer) (r
         → contents d ≡ contents s.device → s' ≡ record s { device = d } → s'' ≡ spoilt s'
         → stepped (WriteArea n) (moving_of contents layers replied v) ≡ moving_of contents layers replied (changed v v.origin k s'' (map (refused_of (s.number ∷ [])) v.flights))
     write_area_fault s' s'' one same kept gone =
-        committing_is ∙ fail_is contents layers replied v k s (λ (x : Held). (x.snap.number == n) && can_commit x) commits_first op bytes (committed s.state.filled) s' s'' faults faults' done done' d one same kept gone
+        committing_is ∙ fail_is contents layers replied v k s (λ (x : SnapHeld). (x.snap.number == n) && can_commit x) commits_first op bytes (committed s.state.filled) s' s'' faults faults' done done' d one same kept gone
 
   module _ (found : IsFirst (is_zeroing n) k s v.snaps) (counts : IsCounted s) (live : s.live ≡ true) (sized : length (contents s.device) ≡ 512 * s.state.size)
       (faults faults' done done' : ℕ) (d : B) where
-    abbrev zeroes : Held → Bool
+    abbrev zeroes : SnapHeld → Bool
     zeroes h = (h.snap.number == n) && can_zero h
 
     zeroes_first : IsFirst (λ x. zeroes (held_of contents layers x)) k s v.snaps
@@ -202,18 +202,18 @@ module _ {B : Type 0} (contents : B → List ℕ) (layers : B → List Layer) (r
     abbrev zero_op : ℕ → Operation
     zero_op a = Writes (s.state.chunk * area_place s.state.chunk a) s.state.chunk
 
-    abbrev zero_kept : Held → Held
+    abbrev zero_kept : SnapHeld → SnapHeld
     zero_kept after = record after { zeroed = true; firm = false }
 
     -- with area a as the next one
     abbrev zeroing : ℕ → Moving
     zeroing a =
         let m : Moving = moving_of contents layers replied v in
-        let h : Held = held_of contents layers s in
+        let h : SnapHeld = held_of contents layers s in
         if lacks_area a h.snap then spoil zeroes h m else store_write zeroes h (zero_op a) (zeroed s.state.chunk (contents s.device) a) zero_kept m
 
     zeroing_is : stepped (ZeroNext n) (moving_of contents layers replied v) ≡ zeroing (s.state.current + 1)
-    zeroing_is = on_snap_is contents layers replied v k s (λ (x : Held). (x.snap.number == n) && can_zero x) zeroes_first zero_next
+    zeroing_is = on_snap_is contents layers replied v k s (λ (x : SnapHeld). (x.snap.number == n) && can_zero x) zeroes_first zero_next
         ∙ ap (λ a. zeroing (a + 1)) (slot_area s.state.current (32 * s.state.chunk) s.state.filled (length s.pairs) (counts.fits live) counts.count)
 
     lacks : LacksArea s.state.chunk s.state.size (s.state.current + 1) → lacks_area (s.state.current + 1) (held_of contents layers s).snap ≡ true
@@ -234,8 +234,8 @@ module _ {B : Type 0} (contents : B → List ℕ) (layers : B → List Layer) (r
         → stepped (ZeroNext n) (moving_of contents layers replied v) ≡ moving_of contents layers replied (changed v v.origin k s' v.flights)
     zero_next_done s' inside one new is =
         let m : Moving = moving_of contents layers replied v in
-        let h : Held = held_of contents layers s in
-        let test : Held → Bool = λ (x : Held). (x.snap.number == n) && can_zero x in
+        let h : SnapHeld = held_of contents layers s in
+        let test : SnapHeld → Bool = λ (x : SnapHeld). (x.snap.number == n) && can_zero x in
         let a : ℕ = s.state.current + 1 in
         zeroing_is ∙ if_false (lacks_area a h.snap) (spoil test h m) (store_write test h (zero_op a) (zeroed s.state.chunk (contents s.device) a) zero_kept m) (has_area inside)
         ∙ write_is contents layers replied v k s test zeroes_first (zero_op a) (zeroed s.state.chunk (contents s.device) a) zero_kept s' faults faults' done done' d one new (sym (ap (held_of contents layers) is))
@@ -247,8 +247,8 @@ module _ {B : Type 0} (contents : B → List ℕ) (layers : B → List Layer) (r
         → stepped (ZeroNext n) (moving_of contents layers replied v) ≡ moving_of contents layers replied (changed v v.origin k s'' (map (refused_of (s.number ∷ [])) v.flights))
     zero_next_fault s' s'' inside one same kept gone =
         let m : Moving = moving_of contents layers replied v in
-        let h : Held = held_of contents layers s in
-        let test : Held → Bool = λ (x : Held). (x.snap.number == n) && can_zero x in
+        let h : SnapHeld = held_of contents layers s in
+        let test : SnapHeld → Bool = λ (x : SnapHeld). (x.snap.number == n) && can_zero x in
         let a : ℕ = s.state.current + 1 in
         zeroing_is ∙ if_false (lacks_area a h.snap) (spoil test h m) (store_write test h (zero_op a) (zeroed s.state.chunk (contents s.device) a) zero_kept m) (has_area inside)
         ∙ fail_is contents layers replied v k s test zeroes_first (zero_op a) (zeroed s.state.chunk (contents s.device) a) zero_kept s' s'' faults faults' done done' d one same kept gone
@@ -258,8 +258,8 @@ module _ {B : Type 0} (contents : B → List ℕ) (layers : B → List Layer) (r
         → stepped (ZeroNext n) (moving_of contents layers replied v) ≡ moving_of contents layers replied (changed v v.origin k s' (map (refused_of (s.number ∷ [])) v.flights))
     zero_next_lacks s' short gone =
         let m : Moving = moving_of contents layers replied v in
-        let h : Held = held_of contents layers s in
-        let test : Held → Bool = λ (x : Held). (x.snap.number == n) && can_zero x in
+        let h : SnapHeld = held_of contents layers s in
+        let test : SnapHeld → Bool = λ (x : SnapHeld). (x.snap.number == n) && can_zero x in
         let a : ℕ = s.state.current + 1 in
         zeroing_is ∙ if_true (lacks_area a h.snap) (spoil test h m) (store_write test h (zero_op a) (zeroed s.state.chunk (contents s.device) a) zero_kept m) (lacks short)
         ∙ spoil_is contents layers replied v k s test zeroes_first v.origin m.origin s' h refl (sym (ap (held_of contents layers) gone)) refl

@@ -13,7 +13,7 @@ use Rattle.store_bytes.specs.NextPlace.{stepped as stepped_place}
 use Rattle.in_flight.specs.Routes.{refused_of}
 use Rattle.in_flight.specs.declared.copies.ChunkCopy.{ChunkCopy}
 use Rattle.in_flight.specs.declared.flights.Flight.{Flight}
-use Rattle.event_machine.specs.Held.{Copying, Held, Going, spoiled}
+use Rattle.event_machine.specs.Held.{Copying, SnapHeld, Going, spoiled}
 use Rattle.event_machine.specs.Again.{refused}
 use Rattle.event_machine.specs.Seen.{copying_of, going_of}
 use Rattle.event_machine.specs.Submitting.{is_filled, with_copy, needs_none, started_all, started_by, refused_by}
@@ -76,22 +76,22 @@ pub lacks_live : {B : Type 0} (c : ℕ) (s : Kept B) → lacks_chunk c s ≡ tru
 lacks_live c s e = first_of s.live (not (is_some (place_of s.pairs c))) (first_of (s.live && not (is_some (place_of s.pairs c))) (not (list_any (λ p. p.pair.old == c) s.copies)) e)
 
 -- what becomes of a snapshot, before the others
-abbrev one_of : ℕ → ℕ → Held → (ℕ → List Held) → List Held
+abbrev one_of : ℕ → ℕ → SnapHeld → (ℕ → List SnapHeld) → List SnapHeld
 one_of c n h rest =
     if needs_none c h then h ∷ rest n
     else (if is_filled h then spoiled h ∷ rest n
     else with_copy (n + 1) c h ∷ rest (n + 1))
 
 -- of the numbers
-abbrev count_one : ℕ → ℕ → Held → (ℕ → ℕ) → ℕ
+abbrev count_one : ℕ → ℕ → SnapHeld → (ℕ → ℕ) → ℕ
 count_one c n h rest = if needs_none c h || is_filled h then rest n else rest (n + 1)
 
 -- and of the requests
-abbrev refuse_one : ℕ → Held → List Going → (List Going → List Going) → List Going
+abbrev refuse_one : ℕ → SnapHeld → List Going → (List Going → List Going) → List Going
 refuse_one c h rs rest = if needs_none c h || not (is_filled h) then rest rs else rest (map (refused h.snap.number) rs)
 
 module _ {B : Type 0} (contents : B → List ℕ) (layers : B → List Layer) where
-  abbrev held : Kept B → Held
+  abbrev held : Kept B → SnapHeld
   held = held_of contents layers
 
   pub needs_is : (c : ℕ) (s : Kept B) → needs_none c (held s) ≡ not (lacks_chunk c s)
@@ -120,12 +120,12 @@ module _ {B : Type 0} (contents : B → List ℕ) (layers : B → List Layer) wh
   Stays s t n k fs gs = (t ≡ s) × (k ≡ n) × (gs ≡ fs)
 
   -- what it is seen as, which number was given last then, and the requests
-  pub record IsOne (c : ℕ) (s t : Kept B) (n k : ℕ) (fs gs : List Flight) (rest : ℕ → List Held) (more : ℕ → ℕ) (next : List Going → List Going) : Type 0 where
+  pub record IsOne (c : ℕ) (s t : Kept B) (n k : ℕ) (fs gs : List Flight) (rest : ℕ → List SnapHeld) (more : ℕ → ℕ) (next : List Going → List Going) : Type 0 where
     pub seen : one_of c n (held s) rest ≡ held t ∷ rest k
     pub count : count_one c n (held s) more ≡ more k
     pub requests : refuse_one c (held s) (map going_of fs) next ≡ next (map going_of gs)
 
-  module _ (c : ℕ) (s t : Kept B) (n k : ℕ) (fs gs : List Flight) (rest : ℕ → List Held) (more : ℕ → ℕ) (next : List Going → List Going) (i : IsSized contents s) where
+  module _ (c : ℕ) (s t : Kept B) (n k : ℕ) (fs gs : List Flight) (rest : ℕ → List SnapHeld) (more : ℕ → ℕ) (next : List Going → List Going) (i : IsSized contents s) where
     abbrev needs : Bool
     needs = needs_none c (held s)
 
@@ -142,7 +142,7 @@ module _ {B : Type 0} (contents : B → List ℕ) (layers : B → List Layer) wh
         record {
           seen = if_false needs (held s ∷ rest n) (if filled then spoiled (held s) ∷ rest n else with_copy (n + 1) c (held s) ∷ rest (n + 1)) some
               ∙ if_false filled (spoiled (held s) ∷ rest n) (with_copy (n + 1) c (held s) ∷ rest (n + 1)) free
-              ∙ ap (λ (x : Held). x ∷ rest (n + 1)) (with_copy_is c s t n h.0 h.1) ∙ ap (λ j. held t ∷ rest j) (sym h.2);
+              ∙ ap (λ (x : SnapHeld). x ∷ rest (n + 1)) (with_copy_is c s t n h.0 h.1) ∙ ap (λ j. held t ∷ rest j) (sym h.2);
           count = if_false (needs || filled) (more n) (more (n + 1)) (either_then needs filled false some free) ∙ ap more (sym h.2);
           requests = if_true (needs || not filled) (next rs) (next (map (refused s.number) rs)) (either_then needs (not filled) true some (ap not free)) ∙ ap (λ (xs : List Flight). next (map going_of xs)) (sym h.3);
         }
@@ -188,12 +188,12 @@ module _ {B : Type 0} (contents : B → List ℕ) (layers : B → List Layer) wh
 
   -- All snapshots, what they are seen as, which number was given last, and the requests. at: the chunk that is wanted of each;
   -- here: the same, of the machine's.
-  pub record AreAll (here : Held → ℕ) (snaps snaps' : List (Kept B)) (n m : ℕ) (fs gs : List Flight) : Type 0 where
+  pub record AreAll (here : SnapHeld → ℕ) (snaps snaps' : List (Kept B)) (n m : ℕ) (fs gs : List Flight) : Type 0 where
     pub seen : started_all here n (map held snaps) ≡ map held snaps'
     pub count : started_by here n (map held snaps) ≡ m
     pub requests : refused_by here (map held snaps) (map going_of fs) ≡ map going_of gs
 
-  module _ (at : Kept B → ℕ) (here : Held → ℕ) (same : (s : Kept B) → here (held_of contents layers s) ≡ at s) where
+  module _ (at : Kept B → ℕ) (here : SnapHeld → ℕ) (same : (s : Kept B) → here (held_of contents layers s) ≡ at s) where
     pub all_are : (snaps snaps' : List (Kept B)) (n m : ℕ) (fs gs : List Flight) → All (IsSized contents) snaps → AreSavedIn contents layers at snaps snaps' n m fs gs → AreAll here snaps snaps' n m fs gs
     all_are [] [] n m fs gs sized saved = record { seen = refl; count = sym saved.0; requests = ap (map going_of) (sym saved.1) }
     all_are [] (t ∷ ts) n m fs gs sized saved = absurd saved
@@ -201,10 +201,10 @@ module _ {B : Type 0} (contents : B → List ℕ) (layers : B → List Layer) wh
     all_are (s ∷ ss) (t ∷ ts) n m fs gs sized saved =
         let k : ℕ = saved.0 in
         let hs : List Flight = saved.1 in
-        let rest : ℕ → List Held = λ j. started_all here j (map held ss) in
+        let rest : ℕ → List SnapHeld = λ j. started_all here j (map held ss) in
         let more : ℕ → ℕ = λ j. started_by here j (map held ss) in
         let next : List Going → List Going = λ xs. refused_by here (map held ss) xs in
         let one : IsOne (here (held s)) s t n k fs hs rest more next =
         one_is (here (held s)) s t n k fs hs rest more next (All-head (IsSized contents) s ss sized) (subst (λ c. IsSavedIn contents layers c s t n k fs hs) (sym (same s)) saved.2) in
         let later : AreAll here ss ts k m hs gs = all_are ss ts k m hs gs (All-tail (IsSized contents) s ss sized) saved.3 in
-        record { seen = one.seen ∙ ap (λ (xs : List Held). held t ∷ xs) later.seen; count = one.count ∙ later.count; requests = one.requests ∙ later.requests }
+        record { seen = one.seen ∙ ap (λ (xs : List SnapHeld). held t ∷ xs) later.seen; count = one.count ∙ later.count; requests = one.requests ∙ later.requests }

@@ -15,7 +15,7 @@ use Rattle.volume_laws.specs.Due.{DueSnap}
 use Rattle.volume_laws.specs.Touched.{lacks_chunk as lacks_in}
 use Rattle.volume_laws.specs.Steps.{SpoilsSnap, StartsCopy}
 use Rattle.volume_laws.proofs.MergeBeside.{weigh}
-use Rattle.event_machine.specs.Held.{Held}
+use Rattle.event_machine.specs.Held.{SnapHeld}
 use Rattle.snapshot.specs.Kept.{Kept, books_of as snap_books, due_of_kept}
 use Rattle.snapshot.specs.Calls.{StartsAt, StartsMerging, started}
 use Rattle.snapshots.specs.Numbers.{number_of_snap}
@@ -64,7 +64,7 @@ module _ {B : Type 0} (contents : B → List ℕ) (layers : B → List Layer) wh
   as_started p s t begun = record { fields = ap (λ (x : Kept B). roomed s x) begun.fields; event = begun.event }
 
   module _ (at : Kept B → ℕ) where
-    abbrev held : Kept B → Held
+    abbrev held : Kept B → SnapHeld
     held = held_of contents layers
 
     abbrev due : Kept B → DueSnap
@@ -100,7 +100,7 @@ module _ {B : Type 0} (contents : B → List ℕ) (layers : B → List Layer) wh
           u ∷ us,
           record {
             saved = (k, hs, a.saved, b.saved);
-            held = ap (λ (x : Held). x ∷ map (held_of contents layers) us) a.held ∙ ap (λ (xs : List Held). held_of contents layers t ∷ xs) b.held;
+            held = ap (λ (x : SnapHeld). x ∷ map (held_of contents layers) us) a.held ∙ ap (λ (xs : List SnapHeld). held_of contents layers t ∷ xs) b.held;
             live = ap (λ (x : Bool). x ∷ map (λ (y : Kept B). y.live) us) a.live ∙ ap (λ (xs : List Bool). t.live ∷ xs) b.live;
           },
         )

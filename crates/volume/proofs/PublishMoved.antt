@@ -10,7 +10,7 @@ use Rattle.in_flight.specs.declared.copies.Mark.{Mark}
 use Rattle.in_flight.specs.declared.flights.Flight.{Flight}
 use Rattle.volume_laws.specs.Again.{again_of, placed_of}
 use Rattle.volume_laws.specs.Published.{is_clear}
-use Rattle.event_machine.specs.Held.{Held, MergeHeld, Moving}
+use Rattle.event_machine.specs.Held.{SnapHeld, MergeHeld, Moving}
 use Rattle.event_machine.specs.MergeDue.{next_of}
 use Rattle.event_machine.specs.MergeSeen.{held_in}
 use Rattle.event_machine.specs.MergeStepping.{start_next, start_waiting}
@@ -66,7 +66,7 @@ module _ {B : Type 0} (contents : B → List ℕ) (layers : B → List Layer) (s
       → IsExact contents layers (Publish n) Done v (record u { snaps = ts; copies = c; flights = gs })
   published_exact ts c gs saved = record {
     step = λ loud replied.
-        ap (λ (x : Option Held). for_some x (λ (y : Held). start_waiting (stepped (Publish n) (moving_of contents layers replied v))) (moving_of contents layers replied v)) (publish_found contents layers size v h n k s within is j replied found)
+        ap (λ (x : Option SnapHeld). for_some x (λ (y : SnapHeld). start_waiting (stepped (Publish n) (moving_of contents layers replied v))) (moving_of contents layers replied v)) (publish_found contents layers size v h n k s within is j replied found)
         ∙ ap start_waiting (publish_stepped contents layers size v h n k s within is s' j m flights found at fields routed replied)
         ∙ waits_moved ts c gs replied v.merge refl saved;
   }

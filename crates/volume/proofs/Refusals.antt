@@ -25,7 +25,7 @@ use Rattle.in_flight.specs.Routes.{refused_of}
 use Rattle.in_flight.specs.declared.flights.Flight.{Flight}
 use Rattle.in_flight.specs.declared.flights.Kind.{Kind}
 use Rattle.in_flight.specs.declared.flights.Kind.TheVariants.{OriginRead, OriginWrite, OriginFlush, SnapRead, SnapWrite, SnapFlush}
-use Rattle.event_machine.specs.Held.{Held, Moving}
+use Rattle.event_machine.specs.Held.{SnapHeld, Moving}
 use Rattle.event_machine.specs.Submitting.{submitted}
 use Rattle.snapshot.specs.Kept.{Kept}
 use Rattle.volume.specs.Volumed.{Volumed, piece_with}
@@ -207,7 +207,7 @@ module _ {B : Type 0} (contents : B → List ℕ) (layers : B → List Layer) (s
       snap_write_full_is contents layers replied number request v n e.place e.snap (first_found n e.place e.snap place e.is) kind e.strict
       (lacking_unpublished first e.snap lacking) sized lacking full
       ∙ ap (λ (m : ℕ). moving_of contents layers last (u (map (refused_of (m ∷ [])) v.flights))) named
-      ∙ ap (λ (hs : List Held). let m : Moving = record (moving_of contents layers last (u fs)) { snaps = hs } in m) (sym (unroomed_seen contents layers w.snaps (set v.snaps e.place (spoilt_of e.snap)) e.spoilt))
+      ∙ ap (λ (hs : List SnapHeld). let m : Moving = record (moving_of contents layers last (u fs)) { snaps = hs } in m) (sym (unroomed_seen contents layers w.snaps (set v.snaps e.place (spoilt_of e.snap)) e.spoilt))
       ∙ sym (ap (moving_of contents layers last) e.becomes)
 
   -- a write of a live snapshot whose store overflowed
@@ -246,12 +246,12 @@ module _ {B : Type 0} (contents : B → List ℕ) (layers : B → List Layer) (s
       let full = both_right (lacks first e.snap) (is_full_of e.snap) e.full in
       let last : Option Reply = Some (Declined IsOverflow) in
       snap_write_shut_is contents layers replied number request v n e.place e.snap (first_found n e.place e.snap place e.is) kind (full_shut contents layers first e.snap e.may sized lacking full)
-      ∙ ap (λ (hs : List Held). let m : Moving = record (moving_of contents layers last v) { snaps = hs } in m) (sym (unroomed_seen contents layers w.snaps (set v.snaps e.place (record e.snap { overflow = Did })) e.marked))
+      ∙ ap (λ (hs : List SnapHeld). let m : Moving = record (moving_of contents layers last v) { snaps = hs } in m) (sym (unroomed_seen contents layers w.snaps (set v.snaps e.place (record e.snap { overflow = Did })) e.marked))
       ∙ sym (ap (moving_of contents layers last) e.becomes)
 
   room_unseen : SameButRoom v w → (replied : Option Reply) → moving_of contents layers replied w ≡ moving_of contents layers replied v
   room_unseen e replied = ap (moving_of contents layers replied) e.becomes
-      ∙ ap (λ (hs : List Held). let m : Moving = record (moving_of contents layers replied v) { snaps = hs } in m) (unroomed_seen contents layers w.snaps v.snaps e.roomed)
+      ∙ ap (λ (hs : List SnapHeld). let m : Moving = record (moving_of contents layers replied v) { snaps = hs } in m) (unroomed_seen contents layers w.snaps v.snaps e.roomed)
 
   -- an invalid one, as the machine declines it
   pub invalid_declined : (request : Request) (refusal : Refusal) → IsRefusedAs contents layers size request refusal v w → refusal ≡ Invalid → (number : ℕ) (replied : Option Reply)

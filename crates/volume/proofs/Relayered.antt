@@ -9,7 +9,7 @@ use Rattle.chunk.specs.Sizes.{is_chunk}
 use Rattle.device.specs.Layers.{Layer, is_loud}
 use Rattle.layers.specs.Ticks.{layers_ticked}
 use Rattle.layers.specs.Loudness.{loud_ticked}
-use Rattle.event_machine.specs.Held.{Held, MergeHeld, Moving, on_device}
+use Rattle.event_machine.specs.Held.{SnapHeld, MergeHeld, Moving, on_device}
 use Rattle.event_machine.specs.MergeSeen.{held_in, merge_held_of}
 use Rattle.settled.specs.Moments.{relayered}
 use Rattle.plain.specs.declared.request.Reply.{Reply}
@@ -254,7 +254,7 @@ module _ {B : Type 0} (m : Measures B) (layers : B → List Layer) (seconds : �
 
   held_later : (s t : Kept B) → IsSnapLater m layers seconds s t → held_of m.contents layers t ≡ held_relayered (layers_ticked seconds) (held_of m.contents layers s)
   held_later s t h =
-      let mk : List ℕ → List Layer → Held = λ bytes ls. (let o : Held = held_of m.contents layers s in record o { snap = record o.snap { store = record { bytes = bytes; layers = ls } } }) in
+      let mk : List ℕ → List Layer → SnapHeld = λ bytes ls. (let o : SnapHeld = held_of m.contents layers s in record o { snap = record o.snap { store = record { bytes = bytes; layers = ls } } }) in
       ap (held_of m.contents layers) h.same ∙ ap (λ b. mk b (layers t.device)) h.store.rest.contents_are ∙ ap (mk (m.contents s.device)) h.store.moved
 
   merge_later : (x y : Option (Merging B)) → IsMergeLater m layers seconds x y → held_in (merge_seen m.contents layers y) ≡ merging_relayered (layers_ticked seconds) (held_in (merge_seen m.contents layers x))
@@ -269,7 +269,7 @@ module _ {B : Type 0} (m : Measures B) (layers : B → List Layer) (seconds : �
   pub ticked_moving : (replied : Option Reply) (v w : Volumed B) → IsTicked m layers seconds v w → moving_of m.contents layers replied w ≡ moving_relayered (layers_ticked seconds) (moving_of m.contents layers replied v)
   ticked_moving replied v w h =
       let o : Moving = moving_of m.contents layers replied v in
-      let mk : List ℕ → List Layer → List Held → Option MergeHeld → Moving = λ bytes ls ss g. record o { origin = record { bytes = bytes; layers = ls }; snaps = ss; merge = g } in
+      let mk : List ℕ → List Layer → List SnapHeld → Option MergeHeld → Moving = λ bytes ls ss g. record o { origin = record { bytes = bytes; layers = ls }; snaps = ss; merge = g } in
       let after : Option MergeHeld = held_in (merge_seen m.contents layers w.merge) in
       let snaps : map (held_of m.contents layers) w.snaps ≡ map (held_relayered (layers_ticked seconds)) (map (held_of m.contents layers) v.snaps) =
       map_at (held_of m.contents layers) (λ s. held_relayered (layers_ticked seconds) (held_of m.contents layers s)) v.snaps w.snaps h.count (λ k d lt. held_later (get_or v.snaps k d) (get_or w.snaps k d) (h.snaps k d lt))

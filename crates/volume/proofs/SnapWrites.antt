@@ -33,7 +33,7 @@ use Rattle.volume.specs.Volumed.{Volumed, books_of, piece_with, plain_of}
 use Rattle.snapshots.specs.Numbers.{count_in}
 use Rattle.volume.specs.Whole.{IsWhole, IsCounted}
 use Rattle.plain.specs.declared.request.Reply.{Reply}
-use Rattle.event_machine.specs.Held.{Held as Seen, Moving}
+use Rattle.event_machine.specs.Held.{SnapHeld as Seen, Moving}
 use Rattle.event_machine.specs.Submitting.{submitted}
 use Rattle.volume.specs.Exact.{IsSubmittedAs}
 use Rattle.snapshots.specs.Finding.{place_of_snap}

@@ -15,7 +15,7 @@ use Rattle.plain.specs.declared.request.Dev.TheVariants.{Origin, Snap}
 use Rattle.plain.specs.declared.request.Reply.{Reply}
 use Rattle.sector.specs.declared.refusal.Refusal.{Refusal}
 use Rattle.sector.specs.declared.refusal.Refusal.TheVariants.{NoSuchDevice}
-use Rattle.event_machine.specs.Held.{Held, MergeHeld, Moving, on_device}
+use Rattle.event_machine.specs.Held.{SnapHeld, MergeHeld, Moving, on_device}
 use Rattle.event_machine.specs.MergeRest.{merge_in, IsMergeResting, IsBetween}
 use Rattle.event_machine.specs.MergeSeen.{held_in, merge_held_of}
 use Rattle.settled.specs.Moments.{snap_relayered}
@@ -152,7 +152,7 @@ later_first number k s y ys h = record { within = omega (arith, h.within); is = 
 module _ {B : Type 0} (m : Measures B) (layers : B → List Layer) (f : List Layer → List Layer) where
   held_by : (s : Kept B) (d : B) → IsRelayeredBy m layers f s.device d → held_of m.contents layers (record s { device = d }) ≡ held_relayered f (held_of m.contents layers s)
   held_by s d h =
-      let mk : List ℕ → List Layer → Held = λ bytes ls. (let o : Held = held_of m.contents layers s in record o { snap = record o.snap { store = record { bytes = bytes; layers = ls } } }) in
+      let mk : List ℕ → List Layer → SnapHeld = λ bytes ls. (let o : SnapHeld = held_of m.contents layers s in record o { snap = record o.snap { store = record { bytes = bytes; layers = ls } } }) in
       ap (λ b. mk b (layers d)) h.rest.contents_are ∙ ap (mk (m.contents s.device)) h.layers_are
 
   helds_at : (number k : ℕ) (s t : Kept B) (xs : List (Kept B)) → IsFirst (λ (x : Kept B). x.number == number) k s xs → held_of m.contents layers t ≡ held_relayered f (held_of m.contents layers s)
@@ -169,7 +169,7 @@ module _ {B : Type 0} (m : Measures B) (layers : B → List Layer) (f : List Lay
   others_stay number [] none = refl
   others_stay number (x ∷ xs) none = elim (cases_Bool (x.number == number)) [
     | inl here ↦ (let h : true ≡ false = rw here at none in absurd (true≢false h))
-    | inr other ↦ (let rest : list_any (λ (y : Kept B). y.number == number) xs ≡ false = rw other at none in rw other (ap (λ (hs : List Held). held_of m.contents layers x ∷ hs) (others_stay number xs rest)))
+    | inr other ↦ (let rest : list_any (λ (y : Kept B). y.number == number) xs ≡ false = rw other at none in rw other (ap (λ (hs : List SnapHeld). held_of m.contents layers x ∷ hs) (others_stay number xs rest)))
   ]
 
   merge_stays : (number : ℕ) (g : Option (Merging B)) → IsNotMerging number g → numbered_relayered number f (held_in (merge_seen m.contents layers g)) ≡ held_in (merge_seen m.contents layers g)
@@ -188,7 +188,7 @@ module _ {B : Type 0} (m : Measures B) (layers : B → List Layer) (f : List Lay
   snap_moving : (number : ℕ) (replied : Option Reply) (v w : Volumed B) → IsSnapRelayered m layers number f v w → moving_of m.contents layers replied w ≡ dev_relayered (Snap number) f (moving_of m.contents layers replied v)
   snap_moving number replied v w h =
       let o : Moving = moving_of m.contents layers replied v in
-      let mk : List Held → Option MergeHeld → Moving = λ hs g. record o { snaps = hs; merge = g } in
+      let mk : List SnapHeld → Option MergeHeld → Moving = λ hs g. record o { snaps = hs; merge = g } in
       ap (moving_of m.contents layers replied) h.becomes
       ∙ ap (λ hs. mk hs o.merge) (helds_at number h.place h.snap (record h.snap { device = h.device }) v.snaps (first_position (λ (x : Kept B). x.number == number) h.place h.snap v.snaps h.is h.found) (held_by h.snap h.device h.relayered_is))
       ∙ ap (mk (helds_relayered number f o.snaps)) (sym (merge_stays number v.merge h.other))
@@ -196,7 +196,7 @@ module _ {B : Type 0} (m : Measures B) (layers : B → List Layer) (f : List Lay
   merge_moving : (number : ℕ) (replied : Option Reply) (v w : Volumed B) → IsMergeRelayered m layers number f v w → moving_of m.contents layers replied w ≡ dev_relayered (Snap number) f (moving_of m.contents layers replied v)
   merge_moving number replied v w h =
       let o : Moving = moving_of m.contents layers replied v in
-      let mk : List Held → Option MergeHeld → Moving = λ hs g. record o { snaps = hs; merge = g } in
+      let mk : List SnapHeld → Option MergeHeld → Moving = λ hs g. record o { snaps = hs; merge = g } in
       let turned : held_in (merge_seen m.contents layers (Some (record h.merge { device = h.device }))) ≡ numbered_relayered number f o.merge =
       merge_turns number h.merge h.device h.mine h.relayered_is ∙ ap (λ (g : Option (Merging B)). numbered_relayered number f (held_in (merge_seen m.contents layers g))) (sym h.is) in
       ap (moving_of m.contents layers replied) h.becomes
@@ -217,7 +217,7 @@ module _ {B : Type 0} (m : Measures B) (layers : B → List Layer) (f : List Lay
   relayered_there number k v w found (inr h) = (let two : Some k ≡ None = sym found ∙ h.none in absurd (cc))
 
 -- the same layers again
-helds_again : (number : ℕ) (hs : List Held) → helds_relayered number (λ ls. ls) hs ≡ hs
+helds_again : (number : ℕ) (hs : List SnapHeld) → helds_relayered number (λ ls. ls) hs ≡ hs
 helds_again number [] = refl
 helds_again number (h ∷ hs) = elim (cases_Bool (h.snap.number == number)) [
   | inl here ↦ rw here refl
@@ -234,13 +234,13 @@ numbered_again number (Some g) = elim (cases_Bool (g.merge.number == number)) [
 dev_again : (dev : Dev) (v : Moving) → dev_relayered dev (λ ls. ls) v ≡ v
 dev_again Origin v = refl
 dev_again (Snap number) v =
-    ap (λ (hs : List Held). (let w : Moving = record v { snaps = hs; merge = numbered_relayered number (λ ls. ls) v.merge } in w)) (helds_again number v.snaps)
+    ap (λ (hs : List SnapHeld). (let w : Moving = record v { snaps = hs; merge = numbered_relayered number (λ ls. ls) v.merge } in w)) (helds_again number v.snaps)
     ∙ ap (λ g. (let w : Moving = record v { merge = g } in w)) (numbered_again number v.merge)
 
 -- what is told
 module _ {B : Type 0} (contents : B → List ℕ) (layers : B → List Layer) where
   abbrev layers_of_snaps : ℕ → List (Kept B) → Option (List Layer)
-  layers_of_snaps number xs = store_layers number (map (λ (h : Held). h.snap) (map (held_of contents layers) xs))
+  layers_of_snaps number xs = store_layers number (map (λ (h : SnapHeld). h.snap) (map (held_of contents layers) xs))
 
   layers_first : (number k : ℕ) (s : Kept B) (xs : List (Kept B)) → IsFirst (λ (x : Kept B). x.number == number) k s xs → layers_of_snaps number xs ≡ Some (layers s.device)
   layers_first number k s [] first = absurd (omega (arith, first.within))
@@ -481,7 +481,7 @@ module _ {B : Type 0} (m : Measures B) (layers : B → List Layer) (dev : Dev) (
   call_loud = loud_alike m.contents layers m.size v w call_alike
 
 -- the settled machine's volume
-helds_settled : (number : ℕ) (f : List Layer → List Layer) (hs : List Held) → map (λ (h : Held). h.snap) (helds_relayered number f hs) ≡ snap_relayered number f (map (λ (h : Held). h.snap) hs)
+helds_settled : (number : ℕ) (f : List Layer → List Layer) (hs : List SnapHeld) → map (λ (h : SnapHeld). h.snap) (helds_relayered number f hs) ≡ snap_relayered number f (map (λ (h : SnapHeld). h.snap) hs)
 helds_settled number f [] = refl
 helds_settled number f (h ∷ hs) = elim (cases_Bool (h.snap.number == number)) [
   | inl here ↦ rw here refl
@@ -493,7 +493,7 @@ dev_settled Origin f v = refl
 dev_settled (Snap number) f v = ap (λ (ss : List SettledSnap). (let w : Volume = record { origin = v.origin; snaps = ss } in w)) (helds_settled number f v.snaps)
 
 -- a volume at rest stays at rest
-one_rests : (sectors : ℕ) (f : List Layer → List Layer) (h : Held) → IsResting sectors h → IsResting sectors (held_relayered f h)
+one_rests : (sectors : ℕ) (f : List Layer → List Layer) (h : SnapHeld) → IsResting sectors h → IsResting sectors (held_relayered f h)
 one_rests sectors f h rest = record {
   tried = rest.tried;
   copies = rest.copies;
@@ -501,7 +501,7 @@ one_rests sectors f h rest = record {
   live = λ live. (let kept = rest.live live in record { order = kept.order; pairs = kept.pairs; next = kept.next; zeroed = kept.zeroed; firm = kept.firm; unmarked = kept.unmarked });
 }
 
-helds_rest : (sectors number : ℕ) (f : List Layer → List Layer) (hs : List Held) → Each (IsResting sectors) hs → Each (IsResting sectors) (helds_relayered number f hs)
+helds_rest : (sectors number : ℕ) (f : List Layer → List Layer) (hs : List SnapHeld) → Each (IsResting sectors) hs → Each (IsResting sectors) (helds_relayered number f hs)
 helds_rest sectors number f [] all = tt
 helds_rest sectors number f (h ∷ hs) all = elim (cases_Bool (h.snap.number == number)) [
   | inl here ↦ rw here (one_rests sectors f h all.0, all.1)

@@ -9,7 +9,7 @@ use Rattle.store_bytes.specs.Pairs.{pairs_of, AreWellFormed}
 use Rattle.plain.specs.declared.request.Reply.{Reply}
 use Rattle.settled.specs.MergeShown.{IsWell, IsUnderWay, IsMerging}
 use Rattle.settled.specs.Snaps.{Snap}
-use Rattle.event_machine.specs.Held.{Held, MergeHeld}
+use Rattle.event_machine.specs.Held.{SnapHeld, MergeHeld}
 use Rattle.event_machine.specs.MergeRest.{IsBetween, in_big_steps}
 use Rattle.event_machine.specs.MergeSeen.{held_in, merge_held_of as held_merge}
 use Rattle.event_machine.specs.Rest.{IsResting}
@@ -25,13 +25,13 @@ use Rattle.volume.proofs.MergeDue.{merged, merge_holds}
 use Rattle.volume.proofs.Shown.{and_right}
 
 -- a snapshot of which nothing is under way is well
-well_of : (sectors : ℕ) (h : Held) → IsResting sectors h → IsWell sectors h.snap
+well_of : (sectors : ℕ) (h : SnapHeld) → IsResting sectors h → IsWell sectors h.snap
 well_of sectors h rests = λ live. (rests.live live).order
 
-all_well : (sectors : ℕ) (hs : List Held) → All (IsResting sectors) hs → All (IsWell sectors) (map (λ (h : Held). h.snap) hs)
+all_well : (sectors : ℕ) (hs : List SnapHeld) → All (IsResting sectors) hs → All (IsWell sectors) (map (λ (h : SnapHeld). h.snap) hs)
 all_well sectors [] all = λ k d below. absurd (omega (arith, below))
 all_well sectors (h ∷ hs) all =
-    All-cons (IsWell sectors) h.snap (map (λ (x : Held). x.snap) hs) (well_of sectors h (All-head (IsResting sectors) h hs all)) (all_well sectors hs (All-tail (IsResting sectors) h hs all))
+    All-cons (IsWell sectors) h.snap (map (λ (x : SnapHeld). x.snap) hs) (well_of sectors h (All-head (IsResting sectors) h hs all)) (all_well sectors hs (All-tail (IsResting sectors) h hs all))
 
 low_of : (current area filled pairs found : ℕ) → pairs ≡ current * area + filled → found ≡ pairs → current * area ≤ found
 low_of current area filled pairs found count same = omega (arith, count, same)
@@ -41,10 +41,10 @@ high_of current area filled pairs found count fits same = omega (arith, count, f
 
 module _ {B : Type 0} (contents : B → List ℕ) (layers : B → List Layer) (size : B → ℕ) where
   -- the chunks of the others have allowed sizes
-  all_chunks : (copies sectors : ℕ) (ss : List (Kept B)) → All (IsAttached copies sectors) ss → All (λ (s : Snap). is_chunk s.chunk ≡ true) (map (λ (h : Held). h.snap) (map (held_of contents layers) ss))
+  all_chunks : (copies sectors : ℕ) (ss : List (Kept B)) → All (IsAttached copies sectors) ss → All (λ (s : Snap). is_chunk s.chunk ≡ true) (map (λ (h : SnapHeld). h.snap) (map (held_of contents layers) ss))
   all_chunks copies sectors [] all = λ k d below. absurd (omega (arith, below))
   all_chunks copies sectors (s ∷ ss) all =
-      All-cons (λ (x : Snap). is_chunk x.chunk ≡ true) (held_of contents layers s).snap (map (λ (h : Held). h.snap) (map (held_of contents layers) ss)) (All-head (IsAttached copies sectors) s ss all).allowed
+      All-cons (λ (x : Snap). is_chunk x.chunk ≡ true) (held_of contents layers s).snap (map (λ (h : SnapHeld). h.snap) (map (held_of contents layers) ss)) (All-head (IsAttached copies sectors) s ss all).allowed
       (all_chunks copies sectors ss (All-tail (IsAttached copies sectors) s ss all))
 
   module _ (v : Volumed B) (whole : IsWhole contents layers size v) (loud : is_loud_in_all layers v ≡ true) (replied : Option Reply) (between : IsBetween (size v.origin) (moving_of contents layers replied v)) where

@@ -3,7 +3,7 @@
 use Rattle.std.specs.Prelude.{◌≡◌, ℕ, ◌<◌, List, Option, Some, None, length, map, slice_index_or}
 use Rattle.device.specs.Layers.{Layer}
 use Rattle.layers.specs.Ticks.{layers_ticked}
-use Rattle.event_machine.specs.Held.{Held, MergeHeld, Moving, on_device}
+use Rattle.event_machine.specs.Held.{SnapHeld, MergeHeld, Moving, on_device}
 use Rattle.settled.specs.Moments.{relayered, store_relayered}
 use Rattle.store.specs.Layering.{IsRelayered}
 use Rattle.snapshot.specs.Kept.{Kept}
@@ -44,7 +44,7 @@ pub record IsTicked {B : Type 0} (m : Measures B) (layers : B → List Layer) (s
   pub becomes : new ≡ record old { origin = new.origin; snaps = new.snaps; merge = new.merge }
 
 -- the event machine, with other layers on every device
-abbrev pub held_relayered : (List Layer → List Layer) → Held → Held
+abbrev pub held_relayered : (List Layer → List Layer) → SnapHeld → SnapHeld
 held_relayered f h = record h { snap = store_relayered f h.snap }
 
 abbrev pub merge_relayered : (List Layer → List Layer) → MergeHeld → MergeHeld

@@ -4,7 +4,7 @@ use Rattle.std.specs.Prelude.{ℕ, true, List, Option, Some, None, map}
 use Rattle.device.specs.Layers.{Layer}
 use Rattle.plain.specs.declared.request.Reply.{Reply}
 use Rattle.settled.specs.Devices.{Device}
-use Rattle.event_machine.specs.Held.{Held, Moving}
+use Rattle.event_machine.specs.Held.{SnapHeld, Moving}
 use Rattle.event_machine.specs.Seen.{Seen, held_of as held_seen, going_of}
 use Rattle.snapshot.specs.Kept.{Kept, due_of_kept}
 use Rattle.event_machine.specs.MergeSeen.{MergeSeen, held_in}
@@ -15,7 +15,7 @@ use Rattle.volume.specs.Volumed.{Volumed}
 abbrev pub seen_of : {B : Type 0} → (B → List ℕ) → (B → List Layer) → Kept B → Seen
 seen_of contents layers s = record { due = due_of_kept contents layers s; layers = layers s.device; stale = s.stale; next = s.next }
 
-abbrev pub held_of : {B : Type 0} → (B → List ℕ) → (B → List Layer) → Kept B → Held
+abbrev pub held_of : {B : Type 0} → (B → List ℕ) → (B → List Layer) → Kept B → SnapHeld
 held_of contents layers s = held_seen (seen_of contents layers s)
 
 abbrev pub device_of : {B : Type 0} → (B → List ℕ) → (B → List Layer) → B → Device

@@ -9,7 +9,7 @@ use Rattle.layers.specs.declared.message.Message.{Message}
 use Rattle.layers.specs.Messages.{Told, Answered, Refused, NeedsRoom, answer_of, told}
 use Rattle.plain.specs.declared.request.Dev.{Dev}
 use Rattle.plain.specs.declared.request.Dev.TheVariants.{Origin, Snap}
-use Rattle.event_machine.specs.Held.{Held, MergeHeld, Moving}
+use Rattle.event_machine.specs.Held.{SnapHeld, MergeHeld, Moving}
 use Rattle.event_machine.specs.MergeRest.{merged_of}
 use Rattle.settled.specs.Moments.{relayered, origin_relayered, snap_relayered}
 use Rattle.settled.specs.Snaps.{Snap as SettledSnap, Volume}
@@ -62,7 +62,7 @@ abbrev pub merged_in : {B : Type 0} → (B → List ℕ) → (B → List Layer) 
 merged_in contents layers v = merged_of (moving_of contents layers None v)
 
 -- the event machine, with other layers on the store of the first snapshot that has a number
-abbrev pub helds_relayered : ℕ → (List Layer → List Layer) → List Held → List Held
+abbrev pub helds_relayered : ℕ → (List Layer → List Layer) → List SnapHeld → List SnapHeld
 helds_relayered number f [] = []
 helds_relayered number f (h ∷ snaps) = if h.snap.number == number then held_relayered f h ∷ snaps else h ∷ helds_relayered number f snaps
 

@@ -5,7 +5,7 @@ use Rattle.std.specs.List.{list_all}
 use Rattle.device.specs.Layers.{Layer, is_loud}
 use Rattle.settled.specs.Snaps.{Snap}
 use Rattle.settled.specs.Merges.{Merge, Merged}
-use Rattle.event_machine.specs.Held.{Held, MergeHeld, Moving}
+use Rattle.event_machine.specs.Held.{SnapHeld, MergeHeld, Moving}
 use Rattle.event_machine.specs.MergeRest.{merge_in, merged_of as merged_in_events}
 use Rattle.settled.specs.Moments.{relayered, store_relayered}
 use Rattle.settled.specs.MergedMoments.{merged_relayered, store_relayered as merging_store_relayered}
@@ -75,7 +75,7 @@ module _ {B : Type 0} (contents : B → List ℕ) (layers : B → List Layer) (s
     pub alike_requests : w.requests ≡ v.requests
     alike_requests = ap (λ (x : Volumed B). x.requests) h.becomes
 
-  snaps_relayered : (f : List Layer → List Layer) (hs : List Held) → map (λ (h : Held). h.snap) (map (held_relayered f) hs) ≡ map (store_relayered f) (map (λ (h : Held). h.snap) hs)
+  snaps_relayered : (f : List Layer → List Layer) (hs : List SnapHeld) → map (λ (h : SnapHeld). h.snap) (map (held_relayered f) hs) ≡ map (store_relayered f) (map (λ (h : SnapHeld). h.snap) hs)
   snaps_relayered f [] = refl
   snaps_relayered f (h ∷ hs) = ap (λ (ss : List Snap). store_relayered f h.snap ∷ ss) (snaps_relayered f hs)
 
@@ -91,5 +91,5 @@ module _ {B : Type 0} (contents : B → List ℕ) (layers : B → List Layer) (s
       let mk : List Snap → Option Merge → Merged = λ ss g. record { volume = record { origin = relayered f m.origin; snaps = ss }; merge = g } in
       merged_same contents layers None w ∙ ap merged_in_events e
       ∙ ap (λ ss. mk ss (merge_in (merging_relayered f m.merge))) (snaps_relayered f m.snaps)
-      ∙ ap (mk (map (store_relayered f) (map (λ (h : Held). h.snap) m.snaps))) (merge_relayered f m.merge)
+      ∙ ap (mk (map (store_relayered f) (map (λ (h : SnapHeld). h.snap) m.snaps))) (merge_relayered f m.merge)
       ∙ ap (merged_relayered f) (sym (merged_same contents layers None v))

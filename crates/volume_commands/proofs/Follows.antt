@@ -15,7 +15,7 @@ use Rattle.in_flight.specs.Due.{first_by, least, is_stage}
 use Rattle.sector.specs.Bytes.{sectors_at}
 use Rattle.settled.specs.Devices.{sectors_of, answers, met, written_by}
 use Rattle.settled.proofs.Each.{Each, each_weaker}
-use Rattle.event_machine.specs.Held.{Copying, Held, Going, Moving, number_of, with_store, spoiled}
+use Rattle.event_machine.specs.Held.{Copying, SnapHeld, Going, Moving, number_of, with_store, spoiled}
 use Rattle.event_machine.specs.Due.{batch_of, filled_of, can_mark, can_flush_store, can_commit, can_zero, is_at, is_ready, is_front_ready, is_front_unflushed, number_of_copying, copy_at, publishable_in, is_issuable, number_of_going, least_in, chosen, due}
 use Rattle.event_machine.specs.Stepping.{for_some, first_that, with_first, put, spoil, store_write, read_copy, write_copy, pair_of, mark_of, all_paired, commit, flush_store, is_copy, on_copy, on_snap, stepped}
 use Rattle.event_machine.proofs.Found.{IsSplit, split_at, none_that}
@@ -36,7 +36,7 @@ least_none None b e = (refl, e)
 least_none (Some m) None e = absurd (cc)
 least_none (Some m) (Some n) e = absurd (cc)
 
-lacks_by : (f : Held → Option ℕ) (snaps : List Held) → least_in f snaps ≡ None → Each (λ h. f h ≡ None) snaps
+lacks_by : (f : SnapHeld → Option ℕ) (snaps : List SnapHeld) → least_in f snaps ≡ None → Each (λ h. f h ≡ None) snaps
 lacks_by f [] none = tt
 lacks_by f (h ∷ snaps) none = (let both = least_none (f h) (least_in f snaps) none in (both.0, lacks_by f snaps both.1))
 
@@ -70,7 +70,7 @@ and_right true y e = e
 and_right false y e = absurd (true≢false (sym e))
 
 -- no mark is to be written, and no store to be flushed
-pub record IsCalm (snaps : List Held) : Type 0 where
+pub record IsCalm (snaps : List SnapHeld) : Type 0 where
   pub marks : Each (λ h. can_mark h ≡ false) snaps
   pub flushes : Each (λ h. can_flush_store h ≡ false) snaps
 
@@ -80,19 +80,19 @@ Follows next m = (due m ≡ Some next) ⊎ (stepped next m ≡ m)
 -- A flush of a store is first, or changes nothing, where all snapshots but one are calm, and no mark is to be written for that
 -- one if its store is to be flushed.
 module _ (s : ℕ) where
-  abbrev flush_test : Held → Bool
+  abbrev flush_test : SnapHeld → Bool
   flush_test h = (h.snap.number == s) && can_flush_store h
 
   flush_nowhere : (m : Moving) → Each (λ h. flush_test h ≡ false) m.snaps → stepped (FlushStore s) m ≡ m
   flush_nowhere m none = ap (λ o. for_some o (λ h. flush_store flush_test h m) m) (none_that flush_test m.snaps none)
 
   flush_calm : (m : Moving) → IsCalm m.snaps → stepped (FlushStore s) m ≡ m
-  flush_calm m calm = flush_nowhere m (each_weaker (λ (h : Held). can_flush_store h ≡ false) (λ h. flush_test h ≡ false) m.snaps (λ h e. and_no (h.snap.number == s) (can_flush_store h) e) calm.flushes)
+  flush_calm m calm = flush_nowhere m (each_weaker (λ (h : SnapHeld). can_flush_store h ≡ false) (λ h. flush_test h ≡ false) m.snaps (λ h e. and_no (h.snap.number == s) (can_flush_store h) e) calm.flushes)
 
-  module _ (m : Moving) (done rest : List Held) (h : Held) (is : m.snaps ≡ done ++ h ∷ rest)
+  module _ (m : Moving) (done rest : List SnapHeld) (h : SnapHeld) (is : m.snaps ≡ done ++ h ∷ rest)
       (before : IsCalm done) (later : IsCalm rest) (own : (can_mark h ≡ false) ⊎ (can_flush_store h ≡ false)) where
-    fails : (snaps : List Held) → IsCalm snaps → Each (λ d. flush_test d ≡ false) snaps
-    fails snaps calm = each_weaker (λ (d : Held). can_flush_store d ≡ false) (λ d. flush_test d ≡ false) snaps (λ d e. and_no (d.snap.number == s) (can_flush_store d) e) calm.flushes
+    fails : (snaps : List SnapHeld) → IsCalm snaps → Each (λ d. flush_test d ≡ false) snaps
+    fails snaps calm = each_weaker (λ (d : SnapHeld). can_flush_store d ≡ false) (λ d. flush_test d ≡ false) snaps (λ d e. and_no (d.snap.number == s) (can_flush_store d) e) calm.flushes
 
     first : (h.snap.number == s) ≡ true → can_flush_store h ≡ true → can_mark h ≡ false → due m ≡ Some (FlushStore s)
     first number waits unmarked =
@@ -114,7 +114,7 @@ module _ (s : ℕ) where
     ]
 
 -- a spoiled snapshot's mark is to be written, or its store to be flushed
-spoiled_own : (h : Held) → (can_mark (spoiled h) ≡ false) ⊎ (can_flush_store (spoiled h) ≡ false)
+spoiled_own : (h : SnapHeld) → (can_mark (spoiled h) ≡ false) ⊎ (can_flush_store (spoiled h) ≡ false)
 spoiled_own h = elim (cases_Bool h.marked) [
   | inl marked ↦ inl (ap not marked)
   | inr unmarked ↦ inr (rw unmarked refl)
@@ -122,40 +122,40 @@ spoiled_own h = elim (cases_Bool h.marked) [
 
 -- An event of a snapshot whose store it writes: what is calm of the others stays so.
 module _ (s : ℕ) (m : Moving) (calm : IsCalm m.snaps) where
-  calm_done : (done rest : List Held) (h : Held) → m.snaps ≡ done ++ h ∷ rest → IsCalm done
+  calm_done : (done rest : List SnapHeld) (h : SnapHeld) → m.snaps ≡ done ++ h ∷ rest → IsCalm done
   calm_done done rest h is = record {
-    marks = each_done (λ (d : Held). can_mark d ≡ false) done rest h (subst (Each (λ d. can_mark d ≡ false)) is calm.marks);
-    flushes = each_done (λ (d : Held). can_flush_store d ≡ false) done rest h (subst (Each (λ d. can_flush_store d ≡ false)) is calm.flushes);
+    marks = each_done (λ (d : SnapHeld). can_mark d ≡ false) done rest h (subst (Each (λ d. can_mark d ≡ false)) is calm.marks);
+    flushes = each_done (λ (d : SnapHeld). can_flush_store d ≡ false) done rest h (subst (Each (λ d. can_flush_store d ≡ false)) is calm.flushes);
   }
 
-  calm_rest : (done rest : List Held) (h : Held) → m.snaps ≡ done ++ h ∷ rest → IsCalm rest
+  calm_rest : (done rest : List SnapHeld) (h : SnapHeld) → m.snaps ≡ done ++ h ∷ rest → IsCalm rest
   calm_rest done rest h is = record {
-    marks = each_rest (λ (d : Held). can_mark d ≡ false) done rest h (subst (Each (λ d. can_mark d ≡ false)) is calm.marks);
-    flushes = each_rest (λ (d : Held). can_flush_store d ≡ false) done rest h (subst (Each (λ d. can_flush_store d ≡ false)) is calm.flushes);
+    marks = each_rest (λ (d : SnapHeld). can_mark d ≡ false) done rest h (subst (Each (λ d. can_mark d ≡ false)) is calm.marks);
+    flushes = each_rest (λ (d : SnapHeld). can_flush_store d ≡ false) done rest h (subst (Each (λ d. can_flush_store d ≡ false)) is calm.flushes);
   }
 
-  calm_here : (done rest : List Held) (h : Held) → m.snaps ≡ done ++ h ∷ rest → can_mark h ≡ false
-  calm_here done rest h is = each_here (λ (d : Held). can_mark d ≡ false) done rest h (subst (Each (λ d. can_mark d ≡ false)) is calm.marks)
+  calm_here : (done rest : List SnapHeld) (h : SnapHeld) → m.snaps ≡ done ++ h ∷ rest → can_mark h ≡ false
+  calm_here done rest h is = each_here (λ (d : SnapHeld). can_mark d ≡ false) done rest h (subst (Each (λ d. can_mark d ≡ false)) is calm.marks)
 
-  module _ (test : Held → Bool) (split : IsSplit test m.snaps) where
-    put_is : (h : Held) → with_first test h m.snaps ≡ split.done ++ h ∷ split.rest
+  module _ (test : SnapHeld → Bool) (split : IsSplit test m.snaps) where
+    put_is : (h : SnapHeld) → with_first test h m.snaps ≡ split.done ++ h ∷ split.rest
     put_is h = ap (with_first test h) split.is ∙ here_with test h split.done split.rest split.here split.before split.pass
 
     -- one that is spoiled
-    spoil_follows : (h : Held) → Follows (FlushStore s) (spoil test h m)
+    spoil_follows : (h : SnapHeld) → Follows (FlushStore s) (spoil test h m)
     spoil_follows h =
         flush_follows s (spoil test h m) split.done split.rest (spoiled h) (put_is (spoiled h))
         (calm_done split.done split.rest split.here split.is) (calm_rest split.done split.rest split.here split.is) (spoiled_own h)
 
     -- one of which no mark is to be written
-    put_follows : (h : Held) → can_mark h ≡ false → Follows (FlushStore s) (put test h m)
+    put_follows : (h : SnapHeld) → can_mark h ≡ false → Follows (FlushStore s) (put test h m)
     put_follows h unmarked =
         flush_follows s (put test h m) split.done split.rest h (put_is h)
         (calm_done split.done split.rest split.here split.is) (calm_rest split.done split.rest split.here split.is) (inl unmarked)
 
-    write_follows : (op : Operation) (bytes : List ℕ) (next : Held → Held) → ((w : Held) → can_mark (next w) ≡ can_mark w) → Follows (FlushStore s) (store_write test split.here op bytes next m)
+    write_follows : (op : Operation) (bytes : List ℕ) (next : SnapHeld → SnapHeld) → ((w : SnapHeld) → can_mark (next w) ≡ can_mark w) → Follows (FlushStore s) (store_write test split.here op bytes next m)
     write_follows op bytes next same =
-        let after : Held = with_store split.here (written_by split.here.snap.store op bytes) in
+        let after : SnapHeld = with_store split.here (written_by split.here.snap.store op bytes) in
         elim (cases_Bool (answers split.here.snap.store op)) [
           | inl ok ↦ subst (Follows (FlushStore s)) (sym (cond-true _ _ _ ok)) (put_follows (next after) (same after ∙ calm_here split.done split.rest split.here split.is))
           | inr failed ↦ subst (Follows (FlushStore s)) (sym (cond-false _ _ _ failed)) (spoil_follows after)
@@ -163,17 +163,17 @@ module _ (s : ℕ) (m : Moving) (calm : IsCalm m.snaps) where
 
 -- after an area was written, or none could be
 module _ (s : ℕ) (m : Moving) (calm : IsCalm m.snaps) where
-  abbrev area_test : Held → Bool
+  abbrev area_test : SnapHeld → Bool
   area_test h = (h.snap.number == s) && can_commit h
 
-  abbrev area_act : Held → Moving
+  abbrev area_act : SnapHeld → Moving
   area_act h = commit (batch_of h) area_test h m
 
   area_follows : Follows (FlushStore s) (stepped (WriteArea s) m)
   area_follows = elim (split_at area_test m.snaps) [
     | inl none ↦ subst (Follows (FlushStore s)) (sym (ap (λ o. for_some o area_act m) (none_that area_test m.snaps none))) (inr (flush_calm s m calm))
     | inr split ↦ subst (Follows (FlushStore s)) (sym (ap (λ o. for_some o area_act m) (ap (first_that area_test) split.is ∙ here_that area_test split.done split.rest split.here split.before split.pass)))
-        (let h : Held = split.here in
+        (let h : SnapHeld = split.here in
         let k : ℕ = length h.pairs in
         let now : List Copying = take (batch_of h) h.copies in
         let room : Bool = not (filled_of h + batch_of h == 32 * h.snap.chunk) in
@@ -224,21 +224,21 @@ waits_at Flushed e = absurd (true≢false (sym e))
 
 -- a snapshot without a copy that was read has none of this number
 module _ (n : ℕ) where
-  abbrev has_read : Held → Bool
+  abbrev has_read : SnapHeld → Bool
   has_read h = list_any (is_copy Read n) h.copies
 
   no_copy : (cs : List Copying) → Each (λ p. is_at Read p ≡ false) cs → list_any (is_copy Read n) cs ≡ false
   no_copy [] all = refl
   no_copy (p ∷ cs) all = ap (λ b. b || list_any (is_copy Read n) cs) (and_no (p.number == n) (is_at Read p) all.0) ∙ no_copy cs all.1
 
-  not_read : (h : Held) → copy_at Read h ≡ None → has_read h ≡ false
+  not_read : (h : SnapHeld) → copy_at Read h ≡ None → has_read h ≡ false
   not_read h none = no_copy h.copies (fails_by (is_at Read) number_of_copying h.copies none)
 
   write_nowhere : (m : Moving) → Each (λ h. has_read h ≡ false) m.snaps → stepped (CopyWrite n) m ≡ m
   write_nowhere m none = ap (λ o. for_some o (λ h. for_some (first_that (is_copy Read n) h.copies) (λ p. write_copy has_read (is_copy Read n) h p m) m) m) (none_that has_read m.snaps none)
 
-  unread : (snaps : List Held) → Each (λ h. copy_at Read h ≡ None) snaps → Each (λ h. has_read h ≡ false) snaps
-  unread snaps all = each_weaker (λ (h : Held). copy_at Read h ≡ None) (λ h. has_read h ≡ false) snaps not_read all
+  unread : (snaps : List SnapHeld) → Each (λ h. copy_at Read h ≡ None) snaps → Each (λ h. has_read h ≡ false) snaps
+  unread snaps all = each_weaker (λ (h : SnapHeld). copy_at Read h ≡ None) (λ h. has_read h ≡ false) snaps not_read all
 
 -- what was not due where the read of a chunk is chosen
 pub record IsReadChosen (a b c d e f : Option ℕ) : Type 0 where
@@ -270,13 +270,13 @@ module _ (n : ℕ) (m : Moving) (c : Chosen m) where
   same_follows = inr (write_nowhere n m (unread n m.snaps all_unread))
 
   module _ (split : IsSplit (λ h. list_any (is_copy Waiting n) h.copies) m.snaps) (copy : IsSplit (is_copy Waiting n) split.here.copies) (bytes : List ℕ) (w : Moving) (same : w.requests ≡ m.requests) (alike : w.snaps ≡ m.snaps) where
-    abbrev test : Held → Bool
+    abbrev test : SnapHeld → Bool
     test h = list_any (is_copy Waiting n) h.copies
 
     abbrev read : Copying
     read = record copy.here { stage = Read; bytes = bytes }
 
-    abbrev now : Held
+    abbrev now : SnapHeld
     now = record split.here { copies = with_first (is_copy Waiting n) read split.here.copies }
 
     waiting : copy.here.stage ≡ Waiting
@@ -303,13 +303,13 @@ module _ (n : ℕ) (m : Moving) (c : Chosen m) where
     snaps_now : with_first test now w.snaps ≡ split.done ++ now ∷ split.rest
     snaps_now = ap (with_first test now) (alike ∙ split.is) ∙ here_with test now split.done split.rest split.here split.before split.pass
 
-    nowhere_now : (t : Held → Bool) → first_by t number_of m.snaps ≡ None → t now ≡ t split.here → first_by t number_of (with_first test now w.snaps) ≡ None
+    nowhere_now : (t : SnapHeld → Bool) → first_by t number_of m.snaps ≡ None → t now ≡ t split.here → first_by t number_of (with_first test now w.snaps) ≡ None
     nowhere_now t none alike_here =
         let all : Each (λ d. t d ≡ false) (split.done ++ split.here ∷ split.rest) = subst (Each (λ d. t d ≡ false)) split.is (fails_by t number_of m.snaps none) in
         ap (first_by t number_of) snaps_now ∙ nowhere_by t number_of split.done split.rest now
         (each_done (λ d. t d ≡ false) split.done split.rest split.here all) (alike_here ∙ each_here (λ d. t d ≡ false) split.done split.rest split.here all) (each_rest (λ d. t d ≡ false) split.done split.rest split.here all)
 
-    none_now : (f : Held → Option ℕ) → least_in f m.snaps ≡ None → f now ≡ f split.here → least_in f (with_first test now w.snaps) ≡ None
+    none_now : (f : SnapHeld → Option ℕ) → least_in f m.snaps ≡ None → f now ≡ f split.here → least_in f (with_first test now w.snaps) ≡ None
     none_now f none alike_here =
         let all : Each (λ d. f d ≡ None) (split.done ++ split.here ∷ split.rest) = subst (Each (λ d. f d ≡ None)) split.is (lacks_by f m.snaps none) in
         ap (least_in f) snaps_now ∙ nowhere_least f split.done split.rest now
@@ -370,8 +370,8 @@ module _ (n : ℕ) (m : Moving) (c : Chosen m) where
 
   read_follows : Follows (CopyWrite n) (stepped (CopyRead n) m)
   read_follows =
-      let test : Held → Bool = λ h. list_any (is_copy Waiting n) h.copies in
-      let act : Held → Moving = λ h. for_some (first_that (is_copy Waiting n) h.copies) (λ p. read_copy test (is_copy Waiting n) h p m) m in
+      let test : SnapHeld → Bool = λ h. list_any (is_copy Waiting n) h.copies in
+      let act : SnapHeld → Moving = λ h. for_some (first_that (is_copy Waiting n) h.copies) (λ p. read_copy test (is_copy Waiting n) h p m) m in
       elim (split_at test m.snaps) [
         | inl none ↦ subst (Follows (CopyWrite n)) (sym (ap (λ o. for_some o act m) (none_that test m.snaps none))) same_follows
         | inr split ↦ subst (Follows (CopyWrite n)) (sym (ap (λ o. for_some o act m) (ap (first_that test) split.is ∙ here_that test split.done split.rest split.here split.before split.pass))) (copy_follows split)

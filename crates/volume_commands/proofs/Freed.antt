@@ -17,7 +17,7 @@ use Rattle.in_flight.specs.declared.flights.Route.TheVariants.{Held as Waits, Or
 use Rattle.volume_laws.specs.MergeDue.{has_group, is_none, next_pair, one_of, due_or}
 use Rattle.settled.specs.Devices.{answers, sectors_of}
 use Rattle.settled.specs.Saving.{lacks_area}
-use Rattle.event_machine.specs.Held.{Copying, Held, Going, MergeHeld, Moving, group_in}
+use Rattle.event_machine.specs.Held.{Copying, SnapHeld, Going, MergeHeld, Moving, group_in}
 use Rattle.event_machine.specs.Due.{due, batch_of}
 use Rattle.event_machine.specs.MergeDue.{merge_due, due_all, next_of, can_group, can_read_area, can_read, can_write, can_flush, can_commit_group, can_release}
 use Rattle.event_machine.specs.MergeSeen.{held_in}
@@ -52,22 +52,22 @@ module _ (ps : List Pair) where
   merge_keeps None f v is stays does = stays
   merge_keeps (Some m) f v is stays does = does m is
 
-  zero_keeps : (test : Held → Bool) (h : Held) (v : Moving) → Keeps v → Keeps (zero_next test h v)
+  zero_keeps : (test : SnapHeld → Bool) (h : SnapHeld) (v : Moving) → Keeps v → Keeps (zero_next test h v)
   zero_keeps test h v is = if_keeps (lacks_area _ h.snap) _ _ is (if_keeps (answers h.snap.store _) _ _ is is)
 
-  read_copy_keeps : (test : Held → Bool) (mine : Copying → Bool) (h : Held) (p : Copying) (v : Moving) → Keeps v → Keeps (read_copy test mine h p v)
+  read_copy_keeps : (test : SnapHeld → Bool) (mine : Copying → Bool) (h : SnapHeld) (p : Copying) (v : Moving) → Keeps v → Keeps (read_copy test mine h p v)
   read_copy_keeps test mine h p v is = if_keeps (answers v.origin _) _ _ is is
 
-  write_copy_keeps : (test : Held → Bool) (mine : Copying → Bool) (h : Held) (p : Copying) (v : Moving) → Keeps v → Keeps (write_copy test mine h p v)
+  write_copy_keeps : (test : SnapHeld → Bool) (mine : Copying → Bool) (h : SnapHeld) (p : Copying) (v : Moving) → Keeps v → Keeps (write_copy test mine h p v)
   write_copy_keeps test mine h p v is = if_keeps (answers h.snap.store _) _ _ is is
 
-  mark_keeps : (test : Held → Bool) (h : Held) (v : Moving) → Keeps v → Keeps (mark_invalid test h v)
+  mark_keeps : (test : SnapHeld → Bool) (h : SnapHeld) (v : Moving) → Keeps v → Keeps (mark_invalid test h v)
   mark_keeps test h v is = if_keeps (answers h.snap.store _) _ _ is is
 
-  flush_keeps : (test : Held → Bool) (h : Held) (v : Moving) → Keeps v → Keeps (flush_store test h v)
+  flush_keeps : (test : SnapHeld → Bool) (h : SnapHeld) (v : Moving) → Keeps v → Keeps (flush_store test h v)
   flush_keeps test h v is = if_keeps h.marked _ _ is (if_keeps (answers h.snap.store _) _ _ is is)
 
-  commit_keeps : (count : ℕ) (test : Held → Bool) (h : Held) (v : Moving) → Keeps v → Keeps (commit count test h v)
+  commit_keeps : (count : ℕ) (test : SnapHeld → Bool) (h : SnapHeld) (v : Moving) → Keeps v → Keeps (commit count test h v)
   commit_keeps count test h v is = if_keeps (answers h.snap.store _) _ _ is is
 
   disk_keeps : (op : Op) (first count : ℕ) (mine : Going → Bool) (v : Moving) → Keeps v → Keeps (on_disk op first count mine v)
@@ -75,7 +75,7 @@ module _ (ps : List Pair) where
   disk_keeps (WriteOp bytes) first count mine v is = is
   disk_keeps FlushOp first count mine v is = is
 
-  on_store_keeps : (op : Op) (first count : ℕ) (mine : Going → Bool) (test : Held → Bool) (h : Held) (v : Moving) → Keeps v → Keeps (on_store op first count mine test h v)
+  on_store_keeps : (op : Op) (first count : ℕ) (mine : Going → Bool) (test : SnapHeld → Bool) (h : SnapHeld) (v : Moving) → Keeps v → Keeps (on_store op first count mine test h v)
   on_store_keeps ReadOp first count mine test h v is = is
   on_store_keeps (WriteOp bytes) first count mine test h v is = is
   on_store_keeps FlushOp first count mine test h v is = is
@@ -92,7 +92,7 @@ module _ (ps : List Pair) where
   flush_merging_keeps : (mine : Going → Bool) (r : Going) (m : MergeHeld) (v : Moving) → group_in m ≡ ps → Keeps (flush_merging mine r m v)
   flush_merging_keeps mine r m v same = if_keeps (answers m.merge.store _) _ _ same same
 
-  asked_keeps : (mine : Going → Bool) (test : Held → Bool) (h : Held) (v : Moving) → Keeps v → Keeps (flush_asked mine test h v)
+  asked_keeps : (mine : Going → Bool) (test : SnapHeld → Bool) (h : SnapHeld) (v : Moving) → Keeps v → Keeps (flush_asked mine test h v)
   asked_keeps mine test h v is = if_keeps (answers h.snap.store _) _ _ is is
 
   whole_keeps : (dev : Dev) (mine : Going → Bool) (r : Going) (v : Moving) → Keeps v → Keeps (on_whole dev mine r v)
@@ -106,11 +106,11 @@ module _ (ps : List Pair) where
   issue_keeps Whole mine r v is = whole_keeps r.request.dev mine r v is
   issue_keeps Refused mine r v is = is
 
-  copy_keeps : (stage : Stage) (n : ℕ) (f : (Held → Bool) → (Copying → Bool) → Held → Copying → Moving → Moving) (v : Moving) → Keeps v
-      → ((test : Held → Bool) (mine : Copying → Bool) (h : Held) (p : Copying) → Keeps (f test mine h p v)) → Keeps (on_copy stage n f v)
+  copy_keeps : (stage : Stage) (n : ℕ) (f : (SnapHeld → Bool) → (Copying → Bool) → SnapHeld → Copying → Moving → Moving) (v : Moving) → Keeps v
+      → ((test : SnapHeld → Bool) (mine : Copying → Bool) (h : SnapHeld) (p : Copying) → Keeps (f test mine h p v)) → Keeps (on_copy stage n f v)
   copy_keeps stage n f v is does = some_keeps (first_that _ v.snaps) _ v is (λ h. some_keeps (first_that _ h.copies) _ v is (λ p. does _ _ h p))
 
-  snap_keeps : (test : Held → Bool) (f : (Held → Bool) → Held → Moving → Moving) (v : Moving) → Keeps v → ((h : Held) → Keeps (f test h v)) → Keeps (on_snap test f v)
+  snap_keeps : (test : SnapHeld → Bool) (f : (SnapHeld → Bool) → SnapHeld → Moving → Moving) (v : Moving) → Keeps v → ((h : SnapHeld) → Keeps (f test h v)) → Keeps (on_snap test f v)
   snap_keeps test f v is does = some_keeps (first_that test v.snaps) _ v is does
 
   pub step_keeps : (event : Event) (v : Moving) → Keeps v → Keeps (stepped event v)
@@ -146,8 +146,8 @@ free_waits v = by v.merge
 publish_steps : (n : ℕ) (v : Moving) → grouped v.merge ≡ [] → stepped_all (Publish n) v ≡ stepped (Publish n) v
 publish_steps n v free = by (first_that (publishes v.requests n) v.snaps) refl
   where
-    by : (o : Option Held) → first_that (publishes v.requests n) v.snaps ≡ o → for_some o (λ h. start_waiting (stepped (Publish n) v)) v ≡ stepped (Publish n) v
-    by None none = sym (ap (λ (o : Option Held). for_some o (λ h. publish (publishes v.requests n) (λ m. m.number == n) h v) v) none)
+    by : (o : Option SnapHeld) → first_that (publishes v.requests n) v.snaps ≡ o → for_some o (λ h. start_waiting (stepped (Publish n) v)) v ≡ stepped (Publish n) v
+    by None none = sym (ap (λ (o : Option SnapHeld). for_some o (λ h. publish (publishes v.requests n) (λ m. m.number == n) h v) v) none)
     by (Some h) some = free_waits (stepped (Publish n) v) (step_keeps [] (Publish n) v free)
 
 -- an event that is none of the merge is the smaller machine's, where the merge has no group
@@ -172,7 +172,7 @@ one_merges : (b : Bool) (mine event : Event) (others : Option Event) → is_of_m
 one_merges true mine event others is rest e = (let same : mine ≡ event = cc in ap is_of_merge (sym same) ∙ is)
 one_merges false mine event others is rest e = rest e
 
-merge_merges : (sectors : ℕ) (snaps : List Held) (rs : List Going) (m : Option MergeHeld) (event : Event) → merge_due sectors snaps rs m ≡ Some event → is_of_merge event ≡ true
+merge_merges : (sectors : ℕ) (snaps : List SnapHeld) (rs : List Going) (m : Option MergeHeld) (event : Event) → merge_due sectors snaps rs m ≡ Some event → is_of_merge event ≡ true
 merge_merges sectors snaps rs None event e = absurd (cc)
 merge_merges sectors snaps rs (Some m) event e =
     one_merges (can_release rs m) MergeRelease event _ refl

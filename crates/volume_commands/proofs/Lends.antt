@@ -10,7 +10,7 @@ use Rattle.device.specs.Layers.{Layer}
 use Rattle.chunk_alloc.specs.declared.usage.Usage.{Usage}
 use Rattle.store_bytes.specs.Pairs.{pairs_of}
 use Rattle.settled.specs.Saves.{next_of}
-use Rattle.event_machine.specs.Held.{Held}
+use Rattle.event_machine.specs.Held.{SnapHeld}
 use Rattle.event_machine.specs.MergeRest.{IsBetween}
 use Rattle.event_machine.specs.Rest.{IsKept, IsResting}
 use Rattle.snapshot.specs.Kept.{Kept}
@@ -54,7 +54,7 @@ module _ {B : Type 0} (contents : B → List ℕ) (layers : B → List Layer) (s
   -- a live snapshot of a volume between two commands is kept as its store's bytes say
   kept_at : IsBetween (size v.origin) (moving_of contents layers None v) → s.live ≡ true → IsKept (size v.origin) (held_of contents layers s)
   kept_at between live =
-      let held : List Held = map (held_of contents layers) v.snaps in
+      let held : List SnapHeld = map (held_of contents layers) v.snaps in
       let lt : k < length held = omega (arith, within, length-map v.snaps (held_of contents layers)) in
       let there : get_or held k (held_of contents layers s) ≡ held_of contents layers s = get_or-map (held_of contents layers) v.snaps k s (held_of contents layers s) within ∙ ap (held_of contents layers) (sym (is s)) in
       let rest : IsResting (size v.origin) (held_of contents layers s) = subst (IsResting (size v.origin)) there (between.snaps k (held_of contents layers s) lt) in

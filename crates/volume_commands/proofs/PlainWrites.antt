@@ -25,7 +25,7 @@ use Rattle.settled.specs.Shown.{ShowTheSame}
 use Rattle.settled.specs.Saving.{save}
 use Rattle.settled.specs.Pieces.{Answered, save_all, write_origin, write_snap, in_snap}
 use Rattle.settled.specs.Commands.{write_piece, write_pieces, go_on}
-use Rattle.event_machine.specs.Held.{Held}
+use Rattle.event_machine.specs.Held.{SnapHeld}
 use Rattle.settled.proofs.Each.{Each}
 use Rattle.settled.proofs.Chunks.{HasChunks}
 use Rattle.settling.proofs.Shown.{origin_write_shows}
@@ -89,7 +89,7 @@ module _ (sectors chunk : ℕ) (ok : is_chunk chunk ≡ true) where
   origin_shown : (piece : Span) (part : List ℕ) (v : Volume) → IsWell sectors chunk v → IsInside sectors chunk piece → length part ≡ 512 * piece.count → IsPieceShown Origin piece.first part (arrays_of v) (arrays_of (write_origin piece part v).volume) (write_origin piece part v).reply
   origin_shown piece part v well fits len =
       let range : Range = record { first = piece.first; count = piece.count; size = piece.size; inside = fits.ends } in
-      let chunks : Each (HasChunks chunk) (map (λ (h : Held). h.snap) well.moving.snaps) = subst (λ (w : Volume). Each (HasChunks chunk) w.snaps) (sym well.is) well.chunks in
+      let chunks : Each (HasChunks chunk) (map (λ (h : SnapHeld). h.snap) well.moving.snaps) = subst (λ (w : Volume). Each (HasChunks chunk) w.snaps) (sym well.is) well.chunks in
       let all : Volume = save_all piece.first v.origin v.snaps in
       let saved : all.origin.bytes ≡ v.origin.bytes = save_all_bytes piece.first v.origin v.snaps in
       let after : List ℕ = (write_origin piece part v).volume.origin.bytes in

@@ -11,7 +11,7 @@ use Rattle.plain.specs.declared.request.Op.{Op}
 use Rattle.settled.specs.Order.{IsInOrder}
 use Rattle.chunk.proofs.PiecePlaces.{join_le, piece_high}
 use Rattle.settled.specs.Snaps.{Snap, Volume}
-use Rattle.event_machine.specs.Held.{Held, Moving}
+use Rattle.event_machine.specs.Held.{SnapHeld, Moving}
 use Rattle.event_machine.specs.Rest.{IsResting, IsAtRest}
 use Rattle.event_machine.specs.Settles.{SettlesTo}
 use Rattle.event_machine.specs.Submitting.{submitted}
@@ -38,7 +38,7 @@ pub record IsWell (sectors chunk : ℕ) (v : Volume) : Type 0 where
   pub is : volume_of moving ≡ v
   pub chunks : Each (HasChunks chunk) v.snaps
 
-orders_of : (sectors : ℕ) (hs : List Held) → Each (IsResting sectors) hs → Each (IsOrderly sectors) (map (λ (h : Held). h.snap) hs)
+orders_of : (sectors : ℕ) (hs : List SnapHeld) → Each (IsResting sectors) hs → Each (IsOrderly sectors) (map (λ (h : SnapHeld). h.snap) hs)
 orders_of sectors [] all = tt
 orders_of sectors (h ∷ hs) all = (λ live. (all.0.live live).order, orders_of sectors hs all.1)
 
@@ -62,7 +62,7 @@ module _ (sectors chunk : ℕ) (ok : is_chunk chunk ≡ true) where
   well_whole v well = ap (λ (w : Volume). length w.origin.bytes) (sym well.is) ∙ well.rest.whole
 
   -- a piece lies inside one chunk of each snapshot
-  pub one_all : (range : Range) (snaps : List Held) → IsInOneChunk chunk (span_of range) → Each (HasChunks chunk) (map (λ (h : Held). h.snap) snaps) → Each (IsInChunk range) snaps
+  pub one_all : (range : Range) (snaps : List SnapHeld) → IsInOneChunk chunk (span_of range) → Each (HasChunks chunk) (map (λ (h : SnapHeld). h.snap) snaps) → Each (IsInChunk range) snaps
   one_all range [] one all = tt
   one_all range (h ∷ snaps) one all =
       (one_chunk chunk h.snap.chunk (span_of range) ok all.0 one, one_all range snaps one all.1)
@@ -72,7 +72,7 @@ module _ (sectors chunk : ℕ) (ok : is_chunk chunk ≡ true) where
   well_after dev op piece v well fits bytes =
       let range : Range = record { first = piece.first; count = piece.count; size = piece.size; inside = fits.ends } in
       let request : Request = record { dev = dev; op = op; range = range } in
-      let chunks : Each (HasChunks chunk) (map (λ (h : Held). h.snap) well.moving.snaps) = subst (λ (w : Volume). Each (HasChunks chunk) w.snaps) (sym well.is) well.chunks in
+      let chunks : Each (HasChunks chunk) (map (λ (h : SnapHeld). h.snap) well.moving.snaps) = subst (λ (w : Volume). Each (HasChunks chunk) w.snaps) (sym well.is) well.chunks in
       let fit : IsFit sectors well.moving.snaps request = record { some = fits.one.some; inside = fits.inside; bytes = bytes; chunks = all_from (IsInChunk range) well.moving.snaps (one_all range well.moving.snaps fits.one chunks) } in
       let to : SettlesTo sectors (submitted 0 request well.moving) (answer_of request (volume_of well.moving)) = request_settles sectors 0 request well.moving well.rest fit in
       let mk : _ → List Snap → Volume = λ o (ss : List Snap). record { origin = o; snaps = ss } in

@@ -8,7 +8,7 @@ use Rattle.plain.specs.declared.request.Dev.{Dev}
 use Rattle.plain.specs.declared.request.Dev.TheVariants.{Origin, Snap as ToSnap}
 use Rattle.plain.specs.declared.request.Reply.{Reply}
 use Rattle.settled.specs.Snaps.{Snap, Volume}
-use Rattle.event_machine.specs.Held.{Held}
+use Rattle.event_machine.specs.Held.{SnapHeld}
 use Rattle.event_machine.specs.MergeRest.{merge_in, merged_of as merged_in_events}
 use Rattle.event_machine.specs.Requests.{volume_of}
 use Rattle.settled.specs.Merges.{Merged}
@@ -32,7 +32,7 @@ all_of test f [] = refl
 all_of test f (x ∷ xs) = ap (λ b. test (f x) && b) (all_of test f xs)
 
 module _ {B : Type 0} (contents : B → List ℕ) (layers : B → List Layer) where
-  snaps_same : (xs : List (Kept B)) → map (snap_of contents layers) (map attached_of xs) ≡ map (λ (h : Held). h.snap) (map (held_of contents layers) xs)
+  snaps_same : (xs : List (Kept B)) → map (snap_of contents layers) (map attached_of xs) ≡ map (λ (h : SnapHeld). h.snap) (map (held_of contents layers) xs)
   snaps_same [] = refl
   snaps_same (x ∷ xs) = ap (λ (ys : List Snap). (held_of contents layers x).snap ∷ ys) (snaps_same xs)
 

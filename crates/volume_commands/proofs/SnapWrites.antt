@@ -26,7 +26,7 @@ use Rattle.settled.specs.Devices.{Device, answers, written_by}
 use Rattle.settled.specs.Snaps.{Snap, shown}
 use Rattle.settled.specs.Saving.{Saving, next_place, is_full, has_chunk, save}
 use Rattle.settled.specs.Pieces.{Answered, Served, shuts, write_place, write_saved, write_snap, in_snap}
-use Rattle.event_machine.specs.Held.{Held}
+use Rattle.event_machine.specs.Held.{SnapHeld}
 use Rattle.event_machine.specs.Rest.{IsResting}
 use Rattle.settled.proofs.Each.{Each}
 use Rattle.settled.proofs.Chunks.{HasChunks, save_chunk}
@@ -112,7 +112,7 @@ module _ (sectors chunk : ℕ) (ok : is_chunk chunk ≡ true) (piece : Span) (pa
       let wide : t.chunk * (n + 1) ≡ t.chunk * n + t.chunk = grind arith in
       let high : piece.first + piece.count ≤ t.chunk * (piece.first / t.chunk) + t.chunk = omega (arith, at, room) in
       let bytes : List ℕ = with_sectors t.store.bytes first part in
-      let h : Held = record { snap = t; untried = false; marked = false; pairs = pairs_of t.chunk t.store.bytes; next = next_of t.chunk (pairs_of t.chunk t.store.bytes); zeroed = false; firm = false; copies = []; marks = [] } in
+      let h : SnapHeld = record { snap = t; untried = false; marked = false; pairs = pairs_of t.chunk t.store.bytes; next = next_of t.chunk (pairs_of t.chunk t.store.bytes); zeroed = false; firm = false; copies = []; marks = [] } in
       let rest : IsResting sectors h = record { tried = refl; copies = refl; marks = refl; live = λ l. record { order = (size, order); pairs = refl; next = refl; zeroed = refl; firm = refl; unmarked = refl } } in
       let after : IsResting sectors _ = place_rests sectors n piece.first piece.count part h rest live some high len in
       let old_is : old ≡ Live array = was in

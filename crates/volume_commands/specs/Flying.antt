@@ -3,7 +3,7 @@
 use Rattle.std.specs.Prelude.{◌≡◌, ℕ, List, [], Option, Some, None, map}
 use Rattle.device.specs.Layers.{Layer}
 use Rattle.settled.specs.Devices.{Device}
-use Rattle.event_machine.specs.Held.{Held, MergeHeld, Moving, on_device}
+use Rattle.event_machine.specs.Held.{SnapHeld, MergeHeld, Moving, on_device}
 use Rattle.volume.specs.Volumed.{Volumed}
 use Rattle.volume.specs.Moved.{moving_of}
 use Rattle.volume_commands.specs.Rested.{Rested, rested_of}
@@ -13,7 +13,7 @@ abbrev pub untold : Device
 untold = record { bytes = []; layers = [] }
 
 -- a snapshot without its store
-abbrev pub without_store : Held → Held
+abbrev pub without_store : SnapHeld → SnapHeld
 without_store h = record h { snap = record h.snap { store = untold } }
 
 -- and a merge

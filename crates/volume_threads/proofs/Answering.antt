@@ -7,11 +7,11 @@ use Rattle.journal.specs.declared.entry.Receipt.{Receipt}
 use Rattle.journal.specs.Seats.{Seated, seated_under, without_seated}
 use Rattle.locked_volume.specs.declared.rule.View.{View}
 use Rattle.locked_volume.specs.declared.told.Told.{Told}
-use Rattle.copy_queue.specs.Passes.{Passed}
-use Rattle.copy_queue.specs.Working.{IsEnded, IsWorked}
-use Rattle.copy_queue.specs.declared.worker.Ended.{Ended}
-use Rattle.copy_queue.specs.declared.worker.Ended.TheVariants.{Stopped, NoTicket}
-use Rattle.copy_queue.specs.declared.ticket.PendingCopy.{PendingCopy}
+use Rattle.between_threads.specs.Passes.{Passed}
+use Rattle.between_threads.specs.Working.{IsEnded, IsWorked}
+use Rattle.between_threads.specs.declared.worker.WorkerEnd.{WorkerEnd}
+use Rattle.between_threads.specs.declared.worker.WorkerEnd.TheVariants.{Stopped, NoTicket}
+use Rattle.between_threads.specs.declared.ticket.PendingCopy.{PendingCopy}
 use Rattle.locked_volume.specs.Seats.{IsReceipted}
 use Rattle.locked_volume.specs.Keeping.{Begins}
 use Rattle.volume_threads.specs.Sittings.{IsAnswered, SittingShape}
@@ -48,9 +48,9 @@ answered_at history first seat me after reply r old new h was now volume same by
     }
 
 -- a worker's pass stays one of its queue
-pub worked_queue : {C : Type 0} (does : C → PendingCopy → C → Type 0) (ended : Ended) (p q : Passed) (c d : C) → IsWorked does ended p c q d → q.queue ≡ p.queue
+pub worked_queue : {C : Type 0} (does : C → PendingCopy → C → Type 0) (ended : WorkerEnd) (p q : Passed) (c d : C) → IsWorked does ended p c q d → q.queue ≡ p.queue
 worked_queue does ended p q c d w = ended_queue ended w.0 q w.2 ∙ ap (λ (x : Passed). x.queue) w.1.3
   where
-    ended_queue : (e : Ended) (l m : Passed) → IsEnded e l m → m.queue ≡ l.queue
+    ended_queue : (e : WorkerEnd) (l m : Passed) → IsEnded e l m → m.queue ≡ l.queue
     ended_queue Stopped l m h = ap (λ (x : Passed). x.queue) h
     ended_queue NoTicket l m h = ap (λ (x : Passed). x.queue) h.0

@@ -2,7 +2,7 @@
 use Rattle.std.proofs.Common.{◌≡◌, ◌==◌, ◌<◌, ℕ, Bool, true, false, List, [], ◌++◌, length, set, get_or, refl, sym, ap, ◌∙◌, subst, Result, Ok, Err, IfErr, IfOk}
 use Rattle.std.proofs.lemmas.Bool.{eqb-true, eqb-false}
 use Rattle.std.proofs.lemmas.List.{get_or-set_same, get_or-set_other, length-set}
-use Rattle.usage_board.specs.Passes.{Seen}
+use Rattle.between_threads.specs.BoardPasses.{Seen}
 use Rattle.journal.specs.declared.entry.Receipt.{Receipt}
 use Rattle.sector.specs.declared.refusal.Refusal.{Refusal}
 use Rattle.locked_volume.specs.Keeping.{Begins}

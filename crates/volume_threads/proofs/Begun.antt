@@ -2,8 +2,8 @@
 use Rattle.std.proofs.Common.{◌≡◌, ℕ, zero, suc, ◌<◌, List, [], ◌∷◌, length, get_or, slice_index_or, refl, sym, ap, ◌∙◌, arith}
 use Rattle.std.proofs.lemmas.List.{get_or-map}
 use Rattle.atomic_table.specs.Seated.{TableId}
-use Rattle.usage_board.specs.Passes.{BoardId}
-use Rattle.copy_queue.specs.Passes.{Queue}
+use Rattle.between_threads.specs.BoardPasses.{BoardId}
+use Rattle.between_threads.specs.Passes.{Queue}
 use Rattle.device.specs.Layers.{Layer}
 use Rattle.journal.specs.declared.entry.Entry.{Entry}
 use Rattle.journal.specs.Books.{AuditShape}

@@ -5,3 +5,9 @@ mod Parts
 mod Rows
 mod Begun
 mod Counting
+pub mod Stays
+pub mod Doing
+pub mod Reading
+pub mod Places
+pub mod Crossing
+pub mod Mapping

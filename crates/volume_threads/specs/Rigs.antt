@@ -1,7 +1,7 @@
 -- What callers see of a rig, of its seats and of what it is made from. This project's own.
 use Rattle.std.specs.Prelude.{◌≡◌, ◌⊎◌, ◌+◌, ◌<◌, ◌≤◌, ℕ, List, [], ◌∷◌, ◌++◌, length, map, slice_index_or}
 use Rattle.atomic_table.specs.Seated.{TableId}
-use Rattle.copy_queue.specs.Passes.{Queue}
+use Rattle.between_threads.specs.Passes.{Queue}
 use Rattle.device.specs.Layers.{Layer}
 use Rattle.journal.specs.declared.entry.Entry.{Entry}
 use Rattle.journal.specs.declared.entry.Receipt.{Receipt}
@@ -20,7 +20,7 @@ use Rattle.sector.specs.declared.refusal.Refusal.{Refusal}
 use Rattle.locked_volume.specs.Keeping.{Begins}
 use Rattle.volume_threads.specs.Served.{IsOf, IsRefused}
 use Rattle.locked_volume.specs.Fixed.{Fixed, fixed_of}
-use Rattle.usage_board.specs.Passes.{BoardId, Seen}
+use Rattle.between_threads.specs.BoardPasses.{BoardId, Seen}
 use Rattle.locked_volume.specs.Beside.{OpenedAt}
 use Rattle.locked_volume.specs.Names.{no_table, nothing_fixed}
 use Rattle.volume_threads.specs.Sittings.{AreCounted, SittingShape}

@@ -1,7 +1,7 @@
 -- What a seat sees of the boards. This project's own.
 use Rattle.std.specs.Prelude.{◌≡◌, ◌<◌, ℕ, List, [], length, slice_index_or}
-use Rattle.usage_board.specs.Passes.{BoardId, Seen}
-use Rattle.usage_board.specs.declared.usage.Usage.{Usage}
+use Rattle.between_threads.specs.BoardPasses.{BoardId, Seen}
+use Rattle.between_threads.specs.declared.usage.PlaceUsage.{PlaceUsage}
 use Rattle.locked_volume.specs.Boards.{AreReaders, HasRead}
 use Rattle.volume_threads.specs.Rigs.{SeatShape}
 
@@ -15,7 +15,7 @@ abbrev pub watch_at : SeatShape → ℕ → List Seen
 watch_at s k = slice_index_or s.watches k []
 
 -- The seat read at a place of a volume. Nothing else changed.
-pub record HasLooked (volume place : ℕ) (usage : Usage) (old new : SeatShape) : Type 0 where
+pub record HasLooked (volume place : ℕ) (usage : PlaceUsage) (old new : SeatShape) : Type 0 where
   pub here : HasRead place usage (watch_at old volume) (watch_at new volume)
   pub others : (k : ℕ) → (k ≡ volume → ⊥) → watch_at new k ≡ watch_at old k
   pub becomes : new ≡ record old { watches = new.watches }

@@ -11,14 +11,14 @@ ghost use Rattle.volume_threads.specs.Sittings.{IsSameSitting};
 ghost use Rattle.volume_threads.specs.Served.{IsOf, IsReadBy, IsReadCut, IsReadLost, IsWriteCut, IsWriteLost, IsWrittenBy, read_op, written_reply};
 
 use crate::performing::perform;
-use crate::place::Place;
-use crate::queue::{Queue, QueuePass};
+use crate::place::VolumePlace;
+use crate::queue::{QueuePass, TicketQueue};
 use crate::rig::Rig;
 use crate::seat::Seat;
 use crate::sitting::Sitting;
 use crate::turns::{begin, merge_turn};
+use between_threads::Gate;
 use chunk::Geometry;
-use copy_queue::Gate;
 use journal::Receipt;
 use layers::Layered;
 use locked_volume::Room;
@@ -244,8 +244,8 @@ impl<J: Room> Seat<J> {
 /// Begins a merge once the volume is quiet.
 fn begin_merge<B: Layered, J: Room, R: Wait>(
     rt: &R,
-    queue: &Queue<J>,
-    place: &Place<B, J>,
+    queue: &TicketQueue<J>,
+    place: &VolumePlace<B, J>,
     pass: &mut QueuePass<J>,
     sitting: &mut Sitting<J>,
     snap: SnapId,
@@ -268,8 +268,8 @@ fn begin_merge<B: Layered, J: Room, R: Wait>(
 /// Works until a merge can be finished or has stopped at a fault.
 fn work_merge<B: Layered, J: Room, R: Wait>(
     rt: &R,
-    queue: &Queue<J>,
-    place: &Place<B, J>,
+    queue: &TicketQueue<J>,
+    place: &VolumePlace<B, J>,
     pass: &mut QueuePass<J>,
 ) {
     for _ in rt.forever() {

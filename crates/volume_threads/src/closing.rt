@@ -6,11 +6,11 @@ ghost use Rattle.locked_volume.specs.Beside.{IsBeside};
 ghost use Rattle.locked_volume.specs.Fixed.{StaysFrom, fixed_of};
 ghost use Rattle.volume_threads.specs.Rigs.{IsSettledAt, SeatShape};
 
-use crate::place::Place;
+use crate::place::VolumePlace;
 use crate::rig::Rig;
 use crate::seat::Seat;
 use crate::worker::Worker;
-use copy_queue::Gate;
+use between_threads::Gate;
 use journal::Audit;
 use layers::Layered;
 use locked_volume::{Beside, Post, Room};
@@ -63,7 +63,7 @@ fn checked<B: Layered, J: Room, R: Wait>(rt: &R, post: Post<B, J>, volume: usize
 /// Takes the audit out of its place.
 fn close_one<B: Layered, J: Room, R: Wait>(
     rt: &R,
-    place: Place<B, J>,
+    place: VolumePlace<B, J>,
     seats: &mut [Seat<J>],
 ) -> Audit<B>
     requires { place.volume < J.volumes }
@@ -73,7 +73,7 @@ fn close_one<B: Layered, J: Room, R: Wait>(
     ensures seats { seats.new ≡ seats.old }
     ensures settled { (i : ℕ) (s : SeatShape) → i < length seats.new → IsSettledAt (J.start place.volume) result place.volume (slice_index_or seats.new i s) }
 {
-    let Place {
+    let VolumePlace {
         volume,
         piece: _,
         lock,

@@ -9,13 +9,13 @@ ghost use Rattle.volume_threads.specs.Rigs.{AreDealt, AreIdle, AreNewSeats, IsRo
 ghost use Rattle.volume_threads.specs.Watching.{AreWatching};
 
 use crate::opened::Opened;
-use crate::place::Place;
-use crate::queue::Queue;
+use crate::place::VolumePlace;
+use crate::queue::TicketQueue;
 use crate::rig::Rig;
 use crate::seat::Seat;
 use crate::sitting::Sitting;
 use crate::worker::Worker;
-use copy_queue::{Count, Gate};
+use between_threads::{Count, Gate};
 use journal::Audit;
 use layers::Layered;
 use locked_volume::{OpenedVolume, Readers, Room};
@@ -116,7 +116,7 @@ fn place_one<B: Layered, J: Room>(
     volume: usize,
     audit: Audit<B>,
     opened: OpenedVolume,
-) -> Place<B, J>
+) -> VolumePlace<B, J>
     requires history { opened.table ≡ J.history volume }
     requires boards { opened.boards ≡ J.boards volume }
     requires start { audit.entries ≡ J.start volume }
@@ -126,7 +126,7 @@ fn place_one<B: Layered, J: Room>(
 {
     let (beside, post) = opened.into_post(volume, audit);
     let piece = post.piece();
-    Place {
+    VolumePlace {
         volume,
         piece,
         lock: Mutex::new(post),
@@ -139,7 +139,7 @@ fn place_one<B: Layered, J: Room>(
 fn place_all<B: Layered, J: Room>(
     audits: &mut Vec<Audit<B>>,
     volumes: Vec<OpenedVolume>,
-    places: &mut Vec<Place<B, J>>,
+    places: &mut Vec<VolumePlace<B, J>>,
 )
     requires many { (length audits.old.items ≡ J.volumes) × (length volumes.items ≡ J.volumes) }
     requires room { (places.old.items ≡ []) × (J.volumes ≤ vec_capacity places.old) }
@@ -191,7 +191,7 @@ impl<B: Layered + Drop, G: Gate + Drop, J: Room> Rig<B, G, J> {
         } = opened;
         let mut audits = audits;
         place_all(&mut audits, volumes, &mut places);
-        let queue = Queue {
+        let queue = TicketQueue {
             tickets,
             count: Mutex::new(Count::new()),
             room: PhantomData,

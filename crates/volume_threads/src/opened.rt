@@ -1,5 +1,5 @@
 // What a rig is made from, beside its audits.
-use copy_queue::{Pass, Tickets};
+use between_threads::{TicketPass, Tickets};
 use locked_volume::OpenedVolume;
 use std::marker::Model;
 
@@ -9,7 +9,7 @@ use std::marker::Model;
 pub struct Opened {
     pub(crate) volumes: Vec<OpenedVolume>,
     pub(crate) tickets: Tickets,
-    pub(crate) pass: Pass,
+    pub(crate) pass: TicketPass,
 }
 
 impl Model for Opened {

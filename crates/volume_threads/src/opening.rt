@@ -4,7 +4,7 @@ ghost use Rattle.volume_threads.specs.Rigs.{AreOpened};
 
 use crate::opened::Opened;
 use crate::queue::QueuePass;
-use copy_queue::Tickets;
+use between_threads::Tickets;
 use locked_volume::{OpenedVolume, Room};
 use std::alloc::{AllocError, Global};
 use std::marker::PhantomData;

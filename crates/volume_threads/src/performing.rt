@@ -5,8 +5,8 @@ ghost use Rattle.journal.specs.declared.entry.Receipt.{Receipt};
 ghost use Rattle.locked_volume.specs.Denying.{Serve};
 ghost use Rattle.volume_threads.specs.Sittings.{IsPerformed, IsTurnedAway};
 
-use crate::place::Place;
-use crate::queue::{Queue, QueuePass};
+use crate::place::VolumePlace;
+use crate::queue::{QueuePass, TicketQueue};
 use crate::sitting::Sitting;
 use crate::turns::{submit, turn};
 use layers::Layered;
@@ -19,8 +19,8 @@ use std::sync::Wait;
 /// none, what the seat has then seen says why.
 pub(crate) fn perform<B: Layered, J: Room, R: Wait>(
     rt: &R,
-    queue: &Queue<J>,
-    place: &Place<B, J>,
+    queue: &TicketQueue<J>,
+    place: &VolumePlace<B, J>,
     pass: &mut QueuePass<J>,
     sitting: &mut Sitting<J>,
     request: Request,

@@ -10,7 +10,7 @@ use std::sync::{Condvar, Mutex};
 
 /// A volume's lock, what tells that something happened under it, and its history and its boards.
 #[derive(Drop)]
-pub struct Place<B: Layered, J: Room> {
+pub struct VolumePlace<B: Layered, J: Room> {
     pub(crate) volume: usize,
     /// The sectors of a piece: of the least chunk of the snapshots, the one that is being merged among them. None is attached,
     /// detached or taken out of its merge while a rig stands, so that they stay what they were when it was made.

@@ -1,14 +1,14 @@
 // The tickets of a rig.
 ghost use Rattle.std.specs.Prelude.{◌≡◌};
 
-use copy_queue::{Count, Pass, Tickets};
+use between_threads::{Count, TicketPass, Tickets};
 use locked_volume::Room;
 use std::marker::PhantomData;
 use std::sync::Mutex;
 
 /// The queue of tickets of all volumes, and how many were counted.
 #[derive(Drop)]
-pub struct Queue<J: Room> {
+pub struct TicketQueue<J: Room> {
     pub(crate) tickets: Tickets,
     pub(crate) count: Mutex<Count>,
     pub(crate) room: PhantomData<J>,
@@ -18,7 +18,7 @@ pub struct Queue<J: Room> {
 /// A thread's pass to the queue. It takes no bytes.
 #[derive(Drop)]
 pub struct QueuePass<J: Room> {
-    pub(crate) pass: Pass,
+    pub(crate) pass: TicketPass,
     pub(crate) room: PhantomData<J>,
     ghost of_room: { pass.queue ≡ J.queue },
 }

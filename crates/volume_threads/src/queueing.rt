@@ -1,9 +1,9 @@
 // Tickets are put.
 ghost use Rattle.std.specs.Prelude.{◌≡◌};
-ghost use Rattle.copy_queue.specs.Working.{HasPut};
+ghost use Rattle.between_threads.specs.Working.{HasPut};
 
-use crate::queue::{Queue, QueuePass};
-use copy_queue::{Pass, PendingCopy, Ticket};
+use crate::queue::{QueuePass, TicketQueue};
+use between_threads::{PendingCopy, Ticket, TicketPass};
 use locked_volume::Room;
 use plain::CopyId;
 use std::sync::Wait;
@@ -15,9 +15,15 @@ pub(crate) struct Started {
     pub last: CopyId,
 }
 
-impl<J: Room> Queue<J> {
+impl<J: Room> TicketQueue<J> {
     /// Counts and puts a ticket for each copy that was started. No volume's lock is held: a put may wait.
-    pub(crate) fn put_by<R: Wait>(&self, rt: &R, pass: &mut Pass, volume: usize, started: Started)
+    pub(crate) fn put_by<R: Wait>(
+        &self,
+        rt: &R,
+        pass: &mut TicketPass,
+        volume: usize,
+        started: Started,
+    )
         requires { pass.old.queue ≡ J.queue }
         ensures put { HasPut pass.old pass.new }
     {

@@ -1,7 +1,7 @@
 // A rig.
-use crate::place::Place;
-use crate::queue::Queue;
-use copy_queue::Gate;
+use crate::place::VolumePlace;
+use crate::queue::TicketQueue;
+use between_threads::Gate;
 use journal::Audit;
 use layers::Layered;
 use locked_volume::Room;
@@ -11,10 +11,10 @@ use std::marker::Model;
 /// workers there are.
 #[derive(Drop)]
 pub struct Rig<B: Layered, G: Gate + Drop, J: Room> {
-    pub(crate) places: Vec<Place<B, J>>,
+    pub(crate) places: Vec<VolumePlace<B, J>>,
     /// Room for the audits, once the rig is closed.
     pub(crate) audits: Vec<Audit<B>>,
-    pub(crate) queue: Queue<J>,
+    pub(crate) queue: TicketQueue<J>,
     pub(crate) workers: usize,
     pub(crate) gate: G,
 }

@@ -9,7 +9,7 @@ ghost use Rattle.locked_volume.specs.Denying.{Begin, Serve, WasBegun, WasDenied}
 ghost use Rattle.volume_threads.specs.Sittings.{IsAnswered, IsPerformed, IsSameSitting, IsTurnedAway, IsWaiting};
 ghost use Rattle.sector.specs.declared.refusal.Refusal.TheVariants.{NotQuiet};
 
-use crate::place::Place;
+use crate::place::VolumePlace;
 use crate::queueing::Started;
 use crate::sitting::Sitting;
 use layers::Layered;
@@ -21,7 +21,7 @@ use std::sync::{MutexGuard, Wait};
 /// Takes a volume's lock. That what lies under it is of another volume never comes: there it would wait for ever.
 pub(crate) fn locked<'a, B: Layered, J: Room, R: Wait>(
     rt: &R,
-    place: &'a Place<B, J>,
+    place: &'a VolumePlace<B, J>,
 ) -> MutexGuard<'a, Post<B, J>>
     ensures { (mutex_guard_value result).volume ≡ place.now.volume }
 {
@@ -36,7 +36,7 @@ pub(crate) fn locked<'a, B: Layered, J: Room, R: Wait>(
 /// What a seat that makes a read or a write does under the lock: it submits it, and issues it where that is due at once. Tells the
 /// request's number, and the reply where there is one.
 fn make<B: Layered, J: Room>(
-    place: &Place<B, J>,
+    place: &VolumePlace<B, J>,
     post: &mut Post<B, J>,
     sitting: &mut Sitting<J>,
     request: Request,
@@ -62,7 +62,7 @@ fn make<B: Layered, J: Room>(
 /// Makes a read or a write of a seat. Tells its number, and the reply where it was answered at once.
 pub(crate) fn submit<B: Layered, J: Room, R: Wait>(
     rt: &R,
-    place: &Place<B, J>,
+    place: &VolumePlace<B, J>,
     sitting: &mut Sitting<J>,
     request: Request,
 ) -> (Result<(ReqId, Option<Reply>), Refusal>, Started)
@@ -86,7 +86,7 @@ pub(crate) fn submit<B: Layered, J: Room, R: Wait>(
 /// may do. Tells the reply, and whether it did anything.
 fn act<B: Layered, J: Room, R: Wait>(
     rt: &R,
-    place: &Place<B, J>,
+    place: &VolumePlace<B, J>,
     post: &mut Post<B, J>,
     sitting: &mut Sitting<J>,
     number: ReqId,
@@ -108,7 +108,7 @@ fn act<B: Layered, J: Room, R: Wait>(
 /// a wait until something happened.
 pub(crate) fn turn<B: Layered, J: Room, R: Wait>(
     rt: &R,
-    place: &Place<B, J>,
+    place: &VolumePlace<B, J>,
     sitting: &mut Sitting<J>,
     number: ReqId,
 ) -> (Option<Reply>, Started)
@@ -131,7 +131,7 @@ pub(crate) fn turn<B: Layered, J: Room, R: Wait>(
 }
 
 /// Does one event of a copy, where it is due.
-pub(crate) fn copy<B: Layered, J: Room, R: Wait>(rt: &R, place: &Place<B, J>, event: Event)
+pub(crate) fn copy<B: Layered, J: Room, R: Wait>(rt: &R, place: &VolumePlace<B, J>, event: Event)
     requires { (n : ℕ) → event ≢ Issue n }
 {
     let mut post = locked(rt, place);
@@ -143,7 +143,7 @@ pub(crate) fn copy<B: Layered, J: Room, R: Wait>(rt: &R, place: &Place<B, J>, ev
 /// happened.
 pub(crate) fn begin<B: Layered, J: Room, R: Wait>(
     rt: &R,
-    place: &Place<B, J>,
+    place: &VolumePlace<B, J>,
     sitting: &mut Sitting<J>,
     number: SnapId,
 ) -> (Result<(), Refusal>, Started)
@@ -167,7 +167,7 @@ pub(crate) fn begin<B: Layered, J: Room, R: Wait>(
 /// One turn of a seat that works for a merge. Tells whether the merge is over.
 pub(crate) fn merge_turn<B: Layered, J: Room, R: Wait>(
     rt: &R,
-    place: &Place<B, J>,
+    place: &VolumePlace<B, J>,
 ) -> (bool, Started) {
     let mut post = locked(rt, place);
     let after = post.last_copy();

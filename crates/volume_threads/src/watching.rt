@@ -4,10 +4,9 @@ ghost use Rattle.volume_threads.specs.Watching.{HasLooked};
 
 use crate::rig::Rig;
 use crate::seat::Seat;
-use copy_queue::Gate;
+use between_threads::{Gate, PlaceUsage};
 use layers::Layered;
 use locked_volume::Room;
-use usage_board::Usage;
 
 impl<J: Room> Seat<J> {
     /// How much of a snapshot's store is in use, by its place in the volume, which counts snapshots from 0 in order of attaching;
@@ -18,7 +17,7 @@ impl<J: Room> Seat<J> {
         rig: &Rig<B, G, J>,
         volume: usize,
         place: usize,
-    ) -> Usage
+    ) -> PlaceUsage
         requires volume { volume < J.volumes }
         requires place { place < 8 }
         ensures { HasLooked volume place result self.old self.new }

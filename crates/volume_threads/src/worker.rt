@@ -1,12 +1,12 @@
 // Workers: they do the copies that have tickets.
 ghost use Rattle.std.specs.Prelude.{◌≡◌, ⊤};
 
-use crate::place::Place;
+use crate::place::VolumePlace;
 use crate::queue::QueuePass;
 use crate::rig::Rig;
 use crate::seat::Seat;
 use crate::turns::copy;
-use copy_queue::{Copies, Gate, Pass, PendingCopy, Tickets};
+use between_threads::{Copies, Gate, PendingCopy, TicketPass, Tickets};
 use layers::Layered;
 use locked_volume::Room;
 use plain::Event;
@@ -21,14 +21,20 @@ pub struct Worker<J: Room> {
 // Does copies of the volumes at these places.
 #[derive(Drop)]
 struct Copying<'a, B: Layered, J: Room> {
-    places: &'a [Place<B, J>],
+    places: &'a [VolumePlace<B, J>],
 }
 
 impl<'a, B: Layered, J: Room> Copies for Copying<'a, B, J> {
     ghost does = { λ before copy after. ⊤ };
 
     // A copy that is gone, since its snapshot was spoiled, is not due.
-    fn copy<R: Wait>(&mut self, rt: &R, _tickets: &Tickets, _pass: &mut Pass, copied: PendingCopy) {
+    fn copy<R: Wait>(
+        &mut self,
+        rt: &R,
+        _tickets: &Tickets,
+        _pass: &mut TicketPass,
+        copied: PendingCopy,
+    ) {
         if let Some(place) = self.places.get(copied.volume) {
             copy(rt, place, Event::CopyRead(copied.copy));
             copy(rt, place, Event::CopyWrite(copied.copy));
@@ -42,7 +48,7 @@ impl<B: Layered, G: Gate + Drop, J: Room> Rig<B, G, J> {
         let mut copies = Copying {
             places: self.places.as_slice(),
         };
-        let _ = copy_queue::work(
+        let _ = between_threads::work(
             rt,
             &self.queue.tickets,
             &mut worker.pass.pass,

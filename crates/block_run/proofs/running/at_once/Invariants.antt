@@ -3,7 +3,7 @@ use Rattle.std.proofs.Common.{◌≡◌, ◌+◌, ◌<◌, ◌≤◌, ℕ, List,
 use Rattle.layers.specs.declared.stack.Stack.{Stack}
 use Rattle.layers.specs.Stack.{stack_layers, stack_size}
 use Rattle.journal.specs.Books.{AuditShape}
-use Rattle.block_threads.specs.Tasks.{AreTold, tasks_at}
+use Rattle.volume_threads.specs.Tasks.{AreTold, tasks_at}
 use Rattle.block_run.specs.Spared.{NoneAdded}
 use Rattle.block_run.proofs.Slots.{AreLeft}
 use Rattle.block_run.proofs.running.at_once.Given as goal

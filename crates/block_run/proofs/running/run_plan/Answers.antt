@@ -1,8 +1,8 @@
 -- The replies of all seats, and then the gate's.
 use Rattle.std.proofs.Common.{◌++◌, Bool, List, ap, subst, ◌∙◌, arith}
 use Rattle.named_volume.specs.Tables.{table_of}
-use Rattle.reply.specs.declared.Reply.{Reply}
-use Rattle.block_threads.specs.Tasks.{tasks_at}
+use Rattle.command.specs.declared.command_reply.CommandReply.{CommandReply}
+use Rattle.volume_threads.specs.Tasks.{tasks_at}
 use Rattle.block_run.specs.Answering.{gate_replies}
 use Rattle.block_run.specs.Played.{ArePlayed}
 use Rattle.block_run.proofs.Tells.{ended_many}
@@ -23,6 +23,6 @@ returns-clause-told g c =
         told = tasks_at c.at_once.new.tasks.items;
         opened = c.opened.result;
         ended = played.2;
-        replies_are = c.tell_gate.ensures.told ∙ ap (λ (l : List Reply). l ++ gate_replies c.args.ticket c.opened.result) c.tell_seats.ensures.told;
+        replies_are = c.tell_gate.ensures.told ∙ ap (λ (l : List CommandReply). l ++ gate_replies c.args.ticket c.opened.result) c.tell_seats.ensures.told;
       },
     )

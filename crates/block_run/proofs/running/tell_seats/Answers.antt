@@ -1,9 +1,9 @@
 -- The replies of one seat more are told.
 use Rattle.std.proofs.Common.{◌≡◌, ◌<◌, ◌+◌, ◌-◌, ◌++◌, ℕ, List, length, length-set, map, ap, ◌∙◌, arith}
-use Rattle.reply.specs.declared.Reply.{Reply}
-use Rattle.block_threads.specs.declared.task.Task.{Task}
-use Rattle.block_threads.specs.Tasks.{tasks_at}
-use Rattle.block_threads.proofs.Places.{apart, at}
+use Rattle.command.specs.declared.command_reply.CommandReply.{CommandReply}
+use Rattle.volume_threads.specs.declared.task.Task.{Task}
+use Rattle.volume_threads.specs.Tasks.{tasks_at}
+use Rattle.volume_threads.proofs.Places.{apart, at}
 use Rattle.block_run.specs.Answering.{reply_of}
 use Rattle.block_run.proofs.Tells.{first_more, first_replies, seat_fits}
 use Rattle.block_run.proofs.running.tell_seats.Goals as goal
@@ -34,7 +34,7 @@ loop-seat-preserved c =
       many = length-set c.loop-seat.tasks.items i c.replace-list.new.dest ∙ c.loop-seat.invariant.many;
       left = λ k behind. apart c.loop-seat.tasks.items i k c.replace-list.new.dest (λ same. omega (arith, same, behind, c.from.ensures)) ∙ c.loop-seat.invariant.left k (omega (arith, behind));
       told = c.tell_seat.ensures.told
-          ∙ ap (λ (l : List Reply). l ++ map (reply_of c.loop-seat.seat) c.replace-list.result.items) (c.loop-seat.invariant.told ∙ ap (λ (n : ℕ). first_replies n told) place)
+          ∙ ap (λ (l : List CommandReply). l ++ map (reply_of c.loop-seat.seat) c.replace-list.result.items) (c.loop-seat.invariant.told ∙ ap (λ (n : ℕ). first_replies n told) place)
           ∙ ap (λ (n : ℕ). first_replies i told ++ map (reply_of n) c.replace-list.result.items) seat
           ∙ ap (λ (l : List Task). first_replies i told ++ map (reply_of (i + 1)) l) list
           ∙ first_more i told

@@ -1,6 +1,6 @@
 use Rattle.std.proofs.Common.{codes}
-use Rattle.cow_words.specs.Items.{run_objects, fault_objects}
-use Rattle.cow_words.proofs.Lines.{three_more}
+use Rattle.cow_answers.specs.Items.{run_objects, fault_objects}
+use Rattle.cow_answers.proofs.Lines.{three_more}
 use Rattle.cow_answers.specs.Objects.{count_object}
 use Rattle.cow_answers.proofs.note_objects.push_kept.Goals as goal
 

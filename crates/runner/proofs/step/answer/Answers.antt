@@ -2,7 +2,7 @@ use Rattle.std.proofs.Common.{◌≡◌, [], ◌∷◌, Option, Some, Ok, Err, r
 use Rattle.std.specs.Prelude.{Result, IfSome}
 use Rattle.sector.specs.declared.refusal.Refusal.{Refusal}
 use Rattle.command.specs.declared.grammar.Command.{Command}
-use Rattle.reply.specs.declared.Reply.TheVariants.{Refused}
+use Rattle.command.specs.declared.command_reply.CommandReply.TheVariants.{Refused}
 use Rattle.named_volume.specs.Tables.{table_of}
 use Rattle.runner.proofs.Lawful.{command_said}
 use Rattle.runner.proofs.StepLemmas.{silent_does, refused_does, obeyed_does, sound_said, starts_too, silent_starts}

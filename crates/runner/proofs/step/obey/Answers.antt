@@ -1,6 +1,6 @@
 use Rattle.std.proofs.Common.{◌≡◌, true, Some, refl, sym, subst}
 use Rattle.std.specs.Prelude.{IfSome}
-use Rattle.reply.specs.declared.Reply.TheVariants.{Data, Done}
+use Rattle.command.specs.declared.command_reply.CommandReply.TheVariants.{Data, Done}
 use Rattle.command.specs.declared.grammar.Command.{Command}
 use Rattle.named_volume.specs.Tables.{table_of}
 use Rattle.named_devices.specs.Ruled.{volume_for}

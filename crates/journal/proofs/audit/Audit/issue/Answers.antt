@@ -4,7 +4,7 @@ use Rattle.journal.specs.declared.entry.Entry.TheVariants.{Answered}
 use Rattle.std.proofs.lemmas.List.{get_or_default}
 use Rattle.volume.specs.Volumed.{plain_of}
 use Rattle.journal.specs.Books.{AuditShape, count_of}
-use Rattle.journal.specs.declared.entry.Held.{Held}
+use Rattle.journal.specs.declared.entry.HeldRequest.{HeldRequest}
 use Rattle.journal.proofs.Beginning.{plain_long, shows_long}
 use Rattle.journal.proofs.Bounds.{count_low, issued_bounds, long_kept, quiet_bounds, size_kept}
 use Rattle.journal.proofs.Keeping.{first_of, held_at, fits_held, going_is, going_keeps, taken_here, number_same, issued_keeps, answer_of}
@@ -49,7 +49,7 @@ count_one-count-requires-clause-few g c =
     let same = c.remove-held.ensures.value ∙ get_or_default c.self.inside.held.items c.in-Some.place c.remove-held.result c.index.result.now first.within ∙ sym c.index.ensures in
     let theirs : c.index.result.now.seat ≡ c.args.seat = search rules in
     let fit = held_at c.self.inside.held.items c.args.number c.in-Some.place c.remove-held.result c.self.invariant.audit.counted.fits first in
-    count_low _ 0 _ _ _ (plain_of g.B.Block.contents g.B.Block.layers c.self.inside.volume) _ 0 c.self.invariant.audit c.self.invariant.bounded c.args.number c.in-Some.place c.remove-held.result first c.args.seat (omega (arith, fit.seat, ap (λ (y : Held). y.seat) same ∙ theirs)) (omega (arith, c.last_request.ensures, c.last_request.type_inv, c.in-Ok-Reply.ensures.does.counts.0))
+    count_low _ 0 _ _ _ (plain_of g.B.Block.contents g.B.Block.layers c.self.inside.volume) _ 0 c.self.invariant.audit c.self.invariant.bounded c.args.number c.in-Some.place c.remove-held.result first c.args.seat (omega (arith, fit.seat, ap (λ (y : HeldRequest). y.seat) same ∙ theirs)) (omega (arith, c.last_request.ensures, c.last_request.type_inv, c.in-Ok-Reply.ensures.does.counts.0))
 
 pub invariant_of-self : goal.invariant_of-self
 invariant_of-self g c =
@@ -58,10 +58,10 @@ invariant_of-self g c =
     let same = c.remove-held.ensures.value ∙ get_or_default c.self.inside.held.items c.in-Some.place x c.index.result.now first.within ∙ sym c.index.ensures in
     let theirs : c.index.result.now.seat ≡ c.args.seat = search rules in
     let fit = held_at c.self.inside.held.items c.args.number c.in-Some.place x c.self.invariant.audit.counted.fits first in
-    let seat = ap (λ (y : Held). y.seat) same ∙ theirs in
+    let seat = ap (λ (y : HeldRequest). y.seat) same ∙ theirs in
     let flown = rw c.in-Ok-Reply.field-0-is at c.in-Ok-Reply.ensures.does.flown in
     let kept = issued_keeps _ _ c.self.inside.loud (plain_of g.B.Block.contents g.B.Block.layers c.self.inside.volume) (plain_of g.B.Block.contents g.B.Block.layers c.step.new.self) _ _ c.self.invariant.audit c.in-Ok-Reply.ensures.does.loud
-    (saved_same g.B.Block.contents g.B.Block.layers c.self.inside.volume c.step.new.self c.in-Ok-Reply.ensures.does.kept.numbers) c.push_reserved.ensures.capacity c.args.number c.in-Some.place x first c.args.seat (ap (λ (y : Held). y.seat) same ∙ theirs)
+    (saved_same g.B.Block.contents g.B.Block.layers c.self.inside.volume c.step.new.self c.in-Ok-Reply.ensures.does.kept.numbers) c.push_reserved.ensures.capacity c.args.number c.in-Some.place x first c.args.seat (ap (λ (y : HeldRequest). y.seat) same ∙ theirs)
     c.in-Ok-Reply.reply c.in-Ok-Reply.which (rw c.in-Ok-Reply.field-0-is at c.in-Ok-Reply.ensures.does.flown) (λ loud. rw c.in-Ok-Reply.field-0-is at (c.in-Ok-Reply.ensures.does.legal loud)) in
     let bounds = issued_bounds _ _ _ c.self.inside.loud (plain_of g.B.Block.contents g.B.Block.layers c.self.inside.volume) (plain_of g.B.Block.contents g.B.Block.layers c.step.new.self) _ _ c.self.invariant.audit c.self.invariant.bounded c.args.number c.in-Some.place x first c.in-Ok-Reply.ensures.does.counts.0
     (long_kept g.B.Block.contents g.B.Block.layers g.B.Block.size g.met.B.Block.whole c.self.inside.volume c.step.new.self (size_kept g.B.Block.size c.self.inside.volume c.step.new.self c.in-Ok-Reply.ensures.does.kept.sizes)) c.args.seat (omega (arith, fit.seat, seat)) c.in-Ok-Reply.reply (taken_here c.args.number c.in-Ok-Reply.which c.in-Ok-Reply.reply _ _ flown)
@@ -75,7 +75,7 @@ returns-in-Ok-Reply-clause-noted g c =
     let same = c.remove-held.ensures.value ∙ get_or_default c.self.inside.held.items c.in-Some.place x c.index.result.now first.within ∙ sym c.index.ensures in
     let theirs : c.index.result.now.seat ≡ c.args.seat = search rules in
     let fit = held_at c.self.inside.held.items c.args.number c.in-Some.place x c.self.invariant.audit.counted.fits first in
-    let mine = ap (λ (y : Held). y.seat) same ∙ theirs in
+    let mine = ap (λ (y : HeldRequest). y.seat) same ∙ theirs in
     let entries = ap (λ (a : AuditShape _). a.entries) c.self.view_is in
     let counted = c.count_one-count.ensures.result ∙ ap (λ k. k + 1) (c.self.invariant.audit.counted.counts c.args.seat (omega (arith, fit.seat, mine)) ∙ ap (count_of c.args.seat) c.self.view_is) in
     rw c.copy_into-for_receipt.ensures
@@ -90,7 +90,7 @@ returns-in-Ok-Reply-clause-due g c =
     let first = first_of c.args.number c.self.inside.held.items c.in-Some.place x c.remove-held.ensures.value (rw c.as_slice.ensures.value at c.in-Some.ensures.some) in
     let same = c.remove-held.ensures.value ∙ get_or_default c.self.inside.held.items c.in-Some.place x c.index.result.now first.within ∙ sym c.index.ensures in
     let theirs : c.index.result.now.seat ≡ c.args.seat = search rules in
-    by_second _ _ _ (mine_own c.args.seat c.args.number c.self.inside.held.items _ c.in-Some.place x (ap (λ (a : AuditShape _). a.held) c.self.view_is) first (ap (λ (y : Held). y.seat) same ∙ theirs))
+    by_second _ _ _ (mine_own c.args.seat c.args.number c.self.inside.held.items _ c.in-Some.place x (ap (λ (a : AuditShape _). a.held) c.self.view_is) first (ap (λ (y : HeldRequest). y.seat) same ∙ theirs))
     (rw (← c.self.view_is) c.in-Ok-Reply.ensures.due)
 
 pub invariant_of-self-in-Ok-Done : goal.invariant_of-self-in-Ok-Done

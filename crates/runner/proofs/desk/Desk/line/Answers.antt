@@ -3,7 +3,7 @@ use Rattle.std.proofs.Common.{rules, ◌≡◌, ◌<◌, ◌^◌, List, [], leng
 use Rattle.std.specs.Prelude.{OnOk, IfSome}
 use Rattle.std.specs.Io.KnownBytes.{Appends}
 use Rattle.named_volume.specs.Tables.{table_of}
-use Rattle.reply.specs.declared.Reply.{Reply}
+use Rattle.command.specs.declared.command_reply.CommandReply.{CommandReply}
 use Rattle.runner.specs.Asking.{line_first}
 use Rattle.runner.specs.Ended.{line_replies}
 use Rattle.runner.specs.Output.{printed}
@@ -16,7 +16,7 @@ pub returns-clause-done : goal.returns-clause-done
 returns-clause-done g c =
     let own = c.outcome-own.result in
     let ended = c.outcome-own.new.ended.items in
-    let P : List Reply → Type 0 = λ rs. OnOk c.match-print_all.result (Appends (g.W.Write.contents c.args.writer.now) (g.W.Write.contents c.print_all.new.writer) (printed rs)) in
+    let P : List CommandReply → Type 0 = λ rs. OnOk c.match-print_all.result (Appends (g.W.Write.contents c.args.writer.now) (g.W.Write.contents c.print_all.new.writer) (printed rs)) in
     let last : P (line_replies ended own) = search rules in
     let small : c.self.inside.summary.lines < 2 ^ 64 = omega (arith, c.self.ranges) in
     let size : c.len.result ≡ length ended = search rules in

@@ -1,0 +1,4 @@
+pub mod Moves
+pub mod Worked
+mod Widths
+mod BoardMoves

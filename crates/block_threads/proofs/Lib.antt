@@ -1,6 +1,0 @@
-pub mod Stays
-pub mod Doing
-pub mod Reading
-pub mod Places
-pub mod Crossing
-pub mod Mapping

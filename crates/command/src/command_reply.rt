@@ -1,0 +1,86 @@
+// What a command answers, and the line that prints it.
+ghost use Rattle.std.specs.Prelude.{◌≡◌, OnOk};
+ghost use Rattle.std.specs.Io.KnownBytes.{Appends};
+ghost use Rattle.command.specs.Refusals.{refusal_text};
+ghost use Rattle.command.specs.Texts.{text_of};
+
+use crate::ended::Ended;
+use crate::runs::write_data;
+use crate::seated::{Seated, write_gate};
+use itoa::Buffer;
+use sector::{Buf, Refusal};
+use std::io;
+use std::io::Write;
+use words::Text;
+
+/// What a command answers.
+#[derive(Drop)]
+pub enum CommandReply {
+    /// It is done: `ok`.
+    Done,
+    /// It is done, and these are the bytes that were asked for: `ok`, and the bytes as longest runs `COUNT*HH`.
+    Data(Buf),
+    /// It is done, and this is the text that was asked for: `ok TEXT`. The text holds no line end.
+    Said(Text),
+    /// It is done, and this is the number that was asked for: `ok N`.
+    Number(u64),
+    /// An event was done in which a device failed, and which answered no request: `ok fault`.
+    Fault,
+    /// The line of a request that ended in a command, before that command's own line: `reply NUMBER TEXT`.
+    Ended(Ended),
+    /// The line of a seat of a block: `SEAT ok`, `SEAT ok DATA` or `SEAT err NUMBER NAME`.
+    Seat(Seated),
+    /// How the gate of a block ended: `gate ok`, or `gate limit` where its turns ran out.
+    Gate(bool),
+    /// It is refused: `err NUMBER NAME`.
+    Refused(Refusal),
+}
+
+/// Prints a refusal, without the end of its line.
+#[tactic(auto, using(words::proofs::Written::appends_more))]
+pub(crate) fn write_refusal<W: Write>(writer: &mut W, refusal: Refusal) -> io::Result<()>
+    ensures { OnOk result (Appends (W.contents writer.old) (W.contents writer.new) (refusal_text refusal)) }
+{
+    let mut buffer = Buffer::new();
+    writer.write_all(b"err ")?;
+    writer.write_all(buffer.format(refusal.number()).as_bytes())?;
+    writer.write_all(b" ")?;
+    writer.write_all(refusal.name().as_bytes())
+}
+
+impl CommandReply {
+    /// Prints the line of a reply, its end included, straight into the writer. The one error is the writer's
+    /// own; then part of the line may stand in it.
+    #[tactic(auto, using(words::proofs::Written::appends_more))]
+    pub fn write_to<W: Write>(&self, writer: &mut W) -> io::Result<()>
+        ensures { OnOk result (Appends (W.contents writer.old) (W.contents writer.new) (text_of self.now)) }
+    {
+        match self {
+            CommandReply::Done => writer.write_all(b"ok\n"),
+            CommandReply::Data(bytes) => {
+                writer.write_all(b"ok")?;
+                write_data(writer, bytes.as_slice())?;
+                writer.write_all(b"\n")
+            }
+            CommandReply::Said(text) => {
+                writer.write_all(b"ok ")?;
+                writer.write_all(text.as_slice())?;
+                writer.write_all(b"\n")
+            }
+            CommandReply::Number(number) => {
+                let mut buffer = Buffer::new();
+                writer.write_all(b"ok ")?;
+                writer.write_all(buffer.format(*number).as_bytes())?;
+                writer.write_all(b"\n")
+            }
+            CommandReply::Fault => writer.write_all(b"ok fault\n"),
+            CommandReply::Ended(ended) => ended.write_to(writer),
+            CommandReply::Seat(seated) => seated.write_to(writer),
+            CommandReply::Gate(opened) => write_gate(writer, *opened),
+            CommandReply::Refused(refusal) => {
+                write_refusal(writer, *refusal)?;
+                writer.write_all(b"\n")
+            }
+        }
+    }
+}

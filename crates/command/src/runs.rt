@@ -1,0 +1,114 @@
+// Data as longest runs of equal bytes.
+ghost use Rattle.std.specs.Prelude.{◌≡◌, ◌≤◌, ◌<◌, ◌+◌, ◌∷◌, true, length, take, drop, replicate, slice_index, IfOk, OnOk};
+ghost use Rattle.std.specs.Io.KnownBytes.{Appends};
+ghost use Rattle.command.specs.Runs.{runs_of, hex_char, run_word, data_words};
+
+use itoa::Buffer;
+use std::alloc::{AllocError, Global};
+use std::io;
+use std::io::Write;
+use std::simd::prelude::*;
+use words::Text;
+
+/// So many bytes are compared at once.
+const WIDE: usize = 32;
+
+/// Room for the longest word of a run, the space before it counted: the greatest number has 20 digits.
+const RUN_ROOM: usize = 24;
+
+/// The lower-case hexadecimal digit of a number below 16.
+fn hex_digit(d: u8) -> u8
+    requires { d < 16 }
+    ensures { result ≡ hex_char d }
+{
+    if d < 10 { b'0' + d } else { b'a' - 10 + d }
+}
+
+/// Puts a space and a run at the front of a room, and tells how many bytes that are.
+#[tactic(auto, using(crate::proofs::RunWord::short_digits))]
+fn put_run(room: &mut [u8; RUN_ROOM], count: usize, byte: u8) -> usize
+    ensures within { result ≤ 24 }
+    ensures word { take result room.new ≡ run_word (count, byte) }
+{
+    let mut buffer = Buffer::new();
+    let digits = buffer.format(count).as_bytes();
+    let end = digits.len() + 1;
+    room[0] = b' ';
+    room[1..end].copy_from_slice(digits);
+    room[end] = b'*';
+    room[end + 1] = hex_digit(byte / 16);
+    room[end + 2] = hex_digit(byte % 16);
+    end + 3
+}
+
+/// Prints a space and a run, in one write.
+fn write_run<W: Write>(writer: &mut W, count: usize, byte: u8) -> io::Result<()>
+    ensures { OnOk result (Appends (W.contents writer.old) (W.contents writer.new) (run_word (count, byte))) }
+{
+    let mut room = [b' '; RUN_ROOM];
+    let end = put_run(&mut room, count, byte);
+    writer.write_all(&room[..end])
+}
+
+/// Whether the 32 bytes from a place on are all this one.
+fn is_even(bytes: &[u8], at: usize, byte: u8) -> bool
+    requires { at + 32 ≤ length bytes.now }
+    ensures { result ≡ true → take 32 (drop at bytes.now) ≡ replicate 32 byte }
+{
+    u8x32::from_slice(&bytes[at..]) == u8x32::splat(byte)
+}
+
+/// A number of bytes at the front that are all this one, found 32 at a time.
+#[tactic(auto, using(crate::proofs::RunLemmas::more_even))]
+fn even_len(bytes: &[u8], byte: u8) -> usize
+    ensures within { result ≤ length bytes.now }
+    ensures even { take result bytes.now ≡ replicate result byte }
+{
+    let mut at = 0;
+    while bytes.len() - at >= WIDE && is_even(bytes, at, byte) {
+        at += WIDE;
+    }
+    at
+}
+
+/// How many equal bytes the data begins with.
+#[tactic(auto, using(crate::proofs::RunLemmas::front_all, crate::proofs::RunLemmas::front_even, crate::proofs::RunLemmas::front_here, crate::proofs::RunLemmas::front_some, crate::proofs::RunLemmas::front_within, crate::proofs::RunLemmas::runs_cut))]
+fn run_len(bytes: &[u8]) -> usize
+    requires { 0 < length bytes.now }
+    ensures some { 0 < result }
+    ensures within { result ≤ length bytes.now }
+    ensures cut { runs_of bytes.now ≡ (result, slice_index bytes.now 0) ∷ runs_of (drop result bytes.now) }
+{
+    let first = bytes[0];
+    let mut at = even_len(bytes, first);
+    while at < bytes.len() && bytes[at] == first {
+        at += 1;
+    }
+    at
+}
+
+/// Prints data as longest runs, a space before each.
+#[tactic(auto, using(words::proofs::Written::starts, words::proofs::Written::writes_on, words::proofs::Written::ends, crate::proofs::RunLemmas::words_cut))]
+pub fn write_data<W: Write>(writer: &mut W, bytes: &[u8]) -> io::Result<()>
+    ensures { OnOk result (Appends (W.contents writer.old) (W.contents writer.new) (data_words bytes.now)) }
+{
+    let mut rest = bytes;
+    while !rest.is_empty() {
+        let count = run_len(rest);
+        write_run(writer, count, rest[0])?;
+        rest = &rest[count..];
+    }
+    Ok(())
+}
+
+/// Data in words, as it is printed after `ok`: longest runs, a space before each. An error says that the allocator refused
+/// memory for them.
+pub fn words_of_data(alloc: Global, bytes: &[u8]) -> Result<Text, AllocError>
+    ensures { IfOk result (λ words. words ≡ data_words bytes.now) }
+{
+    let mut words = Vec::new(alloc);
+    match write_data(&mut words, bytes) {
+        Ok(()) => Ok(Text::from_vec(words)),
+        Err(_) => Err(AllocError),
+    }
+}

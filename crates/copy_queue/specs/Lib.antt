@@ -1,3 +1,0 @@
-pub mod Balance
-pub mod Passes
-pub mod Working

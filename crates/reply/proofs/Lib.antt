@@ -1,5 +1,0 @@
-pub mod RunLemmas
-pub mod RunWord
-pub mod WordsAgain
-pub mod RunsAgain
-pub mod DataAgain

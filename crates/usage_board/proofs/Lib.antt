@@ -1,2 +1,0 @@
-mod Widths
-mod Moves

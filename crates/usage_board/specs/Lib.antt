@@ -1,3 +1,0 @@
-pub mod Words
-pub mod Growth
-pub mod Passes

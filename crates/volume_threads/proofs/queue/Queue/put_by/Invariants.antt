@@ -1,6 +1,0 @@
--- Tickets were put so far, and none was taken.
-use Rattle.copy_queue.specs.Working.{HasPut}
-use Rattle.volume_threads.proofs.queue.Queue.put_by.Given as goal
-
-abbrev pub invariant-loop-copy : goal.invariant-loop-copy
-invariant-loop-copy g l = HasPut l.fn.pass l.pass

@@ -1,0 +1,15 @@
+-- One more is done.
+use Rattle.std.proofs.Common.{◌+◌, set, subst, sym}
+use Rattle.volume_threads.specs.Tasks.{AreUnderWay, denied_of, pieces_at}
+use Rattle.volume_threads.proofs.Doing.{same_number, stepped}
+use Rattle.volume_threads.proofs.seat_run.SeatRun.step.Goals as goal
+
+pub invariant_of-self : goal.invariant_of-self
+invariant_of-self g c =
+    let run = c.args.self.now in
+    let task = c.index_mut-task.result.now in
+    record {
+      told = subst (λ n. AreUnderWay (denied_of g.J.Room.start g.J.Room.fixed) (pieces_at g.J.Room.fixed) (g.J.Plan.tasks n) (set run.tasks.items run.done c.perform.new.task) (run.done + 1) c.perform.new.seat)
+          (sym (same_number (denied_of g.J.Room.start g.J.Room.fixed) (pieces_at g.J.Room.fixed) task c.perform.new.task run.seat c.perform.new.seat c.perform.ensures))
+          (stepped (denied_of g.J.Room.start g.J.Room.fixed) (pieces_at g.J.Room.fixed) (g.J.Plan.tasks run.seat.number) run.tasks.items run.done task c.perform.new.task run.seat c.perform.new.seat c.requires.left run.told c.index_mut-task.ensures.value c.perform.ensures);
+    }
