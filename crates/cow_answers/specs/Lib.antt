@@ -1,5 +1,6 @@
 pub mod Seen
 pub mod Answers
+pub mod Noted
 pub mod Notes
 pub mod Objects
 pub mod Forms

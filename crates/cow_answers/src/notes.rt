@@ -1,11 +1,12 @@
 // What is told of a salvage, and of slots behind the end of a list.
-ghost use Rattle.std.specs.Prelude.{◌≡◌, ◌<◌, ◌++◌, IfOk, OnOk, MatchBool};
+ghost use Rattle.std.specs.Prelude.{◌≡◌, ◌<◌, ◌≤◌, ◌++◌, length, IfOk, OnOk, MatchBool};
+ghost use Rattle.cow_answers.specs.Noted.{front_by, lacks_by, first_by, behind_by, notes_by};
 ghost use Rattle.cow_answers.specs.Notes.{salvaged_words, kept_text, unknown_text, notes_text, salvaged_text, lacks_of, behind_of, IsWhole};
 
 use crate::listing::{push_listed, push_runs_lines};
 use crate::salvage::{push_behind_lines, push_skipped, push_spans};
 use cow_image::Listed;
-use cow_kept::{Saved, Span, Used, front_of};
+use cow_kept::{Saved, Slot, Span, Used, front_of};
 use std::alloc::{AllocError, Global};
 
 /// What is noted of a store's slots.
@@ -25,21 +26,43 @@ pub struct Behind {
 }
 
 /// What is noted of a store's slots, so many an area, where those behind the first empty one are taken or not.
-pub fn notes_of(used: &Used, slots: u64, taken: bool) -> Notes {
+pub fn notes_of(used: &Used, slots: u64, taken: bool) -> Notes
+    ensures { result ≡ notes_by used.now.areas used.now.slots.items slots taken }
+{
     let front = front_of(used.slots.as_slice());
-    let lacks = if used.areas.checked_mul(slots) == Some(front as u64) {
-        Some(used.areas)
-    } else {
-        None
-    };
-    let behind = match used.slots.get(front) {
-        Some(slot) if !taken => Some(Behind {
-            count: (used.slots.len() - front) as u64,
-            first: slot.number,
-        }),
-        _ => None,
-    };
+    let lacks = lacks_after(used.areas, slots, front as u64);
+    let behind = behind_in(used.slots.as_slice(), front, taken);
     Notes { lacks, behind }
+}
+
+/// The area that lacks after so many areas of so many slots each, of which so many stand before the first empty one.
+fn lacks_after(areas: u64, slots: u64, front: u64) -> Option<u64>
+    ensures { result ≡ lacks_by areas slots front }
+{
+    let all = areas.checked_mul(slots)?;
+    if all == front { Some(areas) } else { None }
+}
+
+/// The slots from a place on, where they are not taken.
+fn behind_in(slots: &[Slot], front: usize, taken: bool) -> Option<Behind>
+    requires { front ≤ length slots.now }
+    ensures { front ≡ front_by slots.now → result ≡ behind_by slots.now taken }
+{
+    if taken {
+        return None;
+    }
+    first_in(&slots[front..])
+}
+
+/// How many slots these are, and the first of them.
+fn first_in(slots: &[Slot]) -> Option<Behind>
+    ensures { result ≡ first_by slots.now }
+{
+    let first = slots.first()?;
+    Some(Behind {
+        count: slots.len() as u64,
+        first: first.number,
+    })
 }
 
 /// What is printed of a salvage of a store whose areas have so many slots: the runs of the kept pairs, the others and why they
