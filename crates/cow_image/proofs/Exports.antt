@@ -1,15 +1,13 @@
 -- What is written of a picture, piece after piece.
 use Rattle.std.proofs.Common.{◌≡◌, ℕ, zero, suc, ◌+◌, ◌-◌, ◌*◌, ◌/◌, ◌<◌, ◌≤◌, List, [], ◌∷◌, ◌++◌, length, map, get_or, arith, refl, ap, ◌∙◌, sym, append_assoc, append-nil, add-zero, zero-add, add_assoc}
 use Rattle.std.specs.List.{range_with_len}
-use Rattle.std.specs.List.Sorted.{IsPermutation}
 use Rattle.std.proofs.lemmas.List.{ext_get_or}
 use Rattle.std.proofs.lemmas.List.FromFn.{map-range_with_len_more, length-map-range_with_len, get_or-map-range_with_len}
 use Rattle.sector.specs.declared.pair.Pair.{Pair}
 use Rattle.store_bytes.specs.Pairs.{pairs_of}
-use Rattle.store_bytes.specs.Picture.{place_of, byte_of, picture_at, picture}
+use Rattle.store_bytes.specs.Picture.{byte_of, picture_at, picture}
 use Rattle.cow_image.specs.declared.map.CowMap.{CowMap}
 use Rattle.cow_image.specs.Maps.{IsMapOf}
-use Rattle.cow_image.specs.Sorted.{old_of}
 use Rattle.cow_image.proofs.Sorts.{old_differ}
 use Rattle.cow_image.proofs.Places.{place_moved}
 use Rattle.cow_image.specs.Shown.{shown, IsFrontOf}
@@ -65,10 +63,6 @@ picture_is origin end o b m whole is =
 pub bytes_shown : (chunk : ℕ) (o b : List ℕ) (ps : List Pair) (at n : ℕ) (out : List ℕ) → length out ≡ n → ((i : ℕ) → i < n → get_or out i 0 ≡ picture_at chunk o b ps (at + i)) → out ≡ shown chunk o b ps at n
 bytes_shown chunk o b ps at n out len each = ext_get_or 0 out (shown chunk o b ps at n) (len ∙ sym (length-map-range_with_len (picture_at chunk o b ps) at n))
     (λ i lt. let h : i < n = omega arith in each i h ∙ sym (get_or-map-range_with_len (picture_at chunk o b ps) at n i (at + i) 0 h refl))
-
--- the next chunk begins where this one ends
-pub next_at : (chunk number at : ℕ) → at ≡ 512 * (chunk * number) → at + 512 * chunk ≡ 512 * (chunk * (number + 1))
-next_at chunk number at is = grind arith
 
 -- without pairs the picture is the origin
 pub fresh_is : (chunk end : ℕ) (o b : List ℕ) → length o ≡ end → shown chunk o b [] 0 end ≡ o

@@ -1,6 +1,5 @@
 -- Reads that may fail.
-use Rattle.std.proofs.Common.{◌≡◌, ℕ, ◌+◌, ◌*◌, ◌^◌, ◌<◌, ◌≤◌, List, Option, Some, None, refl, arith, ap, ◌∙◌, sym, subst, inl, inr}
-use Rattle.std.specs.Prelude.{◌⊎◌}
+use Rattle.std.proofs.Common.{◌≡◌, ℕ, ◌+◌, ◌*◌, ◌<◌, ◌≤◌, List, Option, Some, None, refl, arith, ap, ◌∙◌, sym, subst, inl, inr}
 use Rattle.sector.specs.declared.pair.Pair.{Pair}
 use Rattle.store_bytes.specs.Picture.{place_of}
 use Rattle.cow_image.specs.Runs.{IsRun, place_after}

@@ -9,3 +9,4 @@ pub mod Exports
 pub mod Rows
 pub mod Ranges
 pub mod Fails
+pub mod Windows

@@ -1,11 +1,11 @@
 -- What chunks in a row show.
-use Rattle.std.proofs.Common.{◌≡◌, ℕ, zero, suc, ◌+◌, ◌-◌, ◌*◌, ◌/◌, ◌%◌, ◌<◌, ◌≤◌, List, [], ◌++◌, length, take, drop, get_or, arith, rules, refl, ap, ◌∙◌, sym, add_assoc}
-use Rattle.std.specs.Prelude.{Option, Some, None}
+use Rattle.std.proofs.Common.{◌≡◌, ℕ, ◌+◌, ◌-◌, ◌*◌, ◌/◌, ◌%◌, ◌<◌, ◌≤◌, List, ◌++◌, length, take, drop, get_or, arith, rules, ap, ◌∙◌, sym, add_assoc}
+use Rattle.std.specs.Prelude.{Some, None}
 use Rattle.std.proofs.lemmas.List.{places, same_lists}
 use Rattle.std.proofs.Math.Nat.{div-add-mod', div-lt_iff_lt-mul, mod-lt}
 use Rattle.sector.specs.declared.pair.Pair.{Pair}
-use Rattle.store_bytes.specs.Picture.{place_of, byte_of, picture_at}
-use Rattle.cow_image.specs.Runs.{IsRun, place_after}
+use Rattle.store_bytes.specs.Picture.{picture_at}
+use Rattle.cow_image.specs.Runs.{IsRun}
 use Rattle.cow_image.specs.Shown.{shown}
 use Rattle.cow_image.proofs.Shown.{byte_got, byte_shown, rest_of}
 use Rattle.cow_image.proofs.Exports.{bytes_shown, shown_parts}

@@ -1,8 +1,8 @@
 -- What a chunk shows, byte by byte.
-use Rattle.std.proofs.Common.{◌≡◌, ℕ, ◌+◌, ◌*◌, ◌/◌, ◌%◌, ◌<◌, ◌≤◌, List, take, drop, length, get_or, arith, ap, ◌∙◌, sym, rules}
+use Rattle.std.proofs.Common.{◌≡◌, ℕ, ◌+◌, ◌*◌, ◌/◌, ◌%◌, ◌<◌, List, take, drop, get_or, arith, ap, ◌∙◌}
 use Rattle.std.proofs.lemmas.Nat.{div-mul-add, mod-mul-add}
 use Rattle.std.proofs.lemmas.List.{get_or-take, get_or-drop}
-use Rattle.std.specs.Prelude.{Option, Some, None}
+use Rattle.std.specs.Prelude.{Option}
 use Rattle.sector.specs.declared.pair.Pair.{Pair}
 use Rattle.store_bytes.specs.Picture.{place_of, byte_of, picture_at}
 
@@ -21,9 +21,3 @@ pub rest_of : (chunk c i : ℕ) → i < 512 * chunk → (512 * (chunk * c) + i) 
 rest_of chunk c i lt =
     let at : 512 * (chunk * c) + i ≡ c * (512 * chunk) + i = grind arith in
     ap (λ n. n % (512 * chunk)) at ∙ mod-mul-add c (512 * chunk) i lt
-
-pub at_own : (at chunk c i : ℕ) → at ≡ c * (512 * chunk) → at + i ≡ 512 * (chunk * c) + i
-at_own at chunk c i is = let same : c * (512 * chunk) ≡ 512 * (chunk * c) = grind arith in ap (λ n. n + i) (is ∙ same)
-
-pub at_copy : (at chunk n c i : ℕ) → at ≡ n * (512 * chunk) → i < 512 * chunk → at + i ≡ 512 * (chunk * n) + (512 * (chunk * c) + i) % (512 * chunk)
-at_copy at chunk n c i is lt = at_own at chunk n i is ∙ ap (λ k. 512 * (chunk * n) + k) (sym (rest_of chunk c i lt))

@@ -7,3 +7,4 @@ pub mod Usage
 pub mod Shown
 pub mod Runs
 pub mod Fails
+pub mod Windows

@@ -6,6 +6,7 @@ ghost use Rattle.cow_image.specs.Maps.{IsMapOf};
 ghost use Rattle.cow_image.specs.Sorted.{IsRisingBy, old_of};
 ghost use Rattle.cow_image.specs.Shown.{shown, IsFrontOf};
 
+use crate::windowed::Windowed;
 use crate::{CowMap, show_range};
 use image::{Image, MemImage, Sink};
 use sector::Pair;
@@ -23,8 +24,8 @@ pub enum Stopped {
     NoMemory,
 }
 
-/// How many bytes are read and written at once: unsaved chunks in a row, or copies in a row, by one read, all of it by one
-/// write.
+/// How many bytes are written at once: unsaved chunks in a row, or copies in a row, are read by one read, and short ones that lie
+/// near one another by windows.
 const PIECE: usize = 1_048_576;
 
 /// Writes what a snapshot shows, for an origin of so many sectors: its array, from the front to the end.
@@ -40,13 +41,8 @@ pub fn export<O: Image, C: Image, S: Sink>(
     ensures all { OnOk result ((o : List ℕ) → (b : List ℕ) → O.bytes origin.old ≡ Some o → C.bytes cow.old ≡ Some b → length o ≡ 512 * size → IsMapOf size b map.now → Appends (S.contents sink.old) (S.contents sink.new) (picture map.now.chunk o b)) }
     ensures part { OnErr result ((o : List ℕ) → (b : List ℕ) → O.bytes origin.old ≡ Some o → C.bytes cow.old ≡ Some b → length o ≡ 512 * size → IsMapOf size b map.now → (front : List ℕ) × IsFrontOf front (picture map.now.chunk o b) × Appends (S.contents sink.old) (S.contents sink.new) front) }
 {
-    let Ok(mut room) = vec![in alloc; 0u8; PIECE] else {
-        return Err(Stopped::NoMemory);
-    };
     let pairs = map.pairs.as_slice();
-    let end = 512 * size;
-    let room = room.as_mut_slice();
-    match write_all(origin, cow, map.chunk, pairs, end, room, sink) {
+    match export_pairs(alloc, origin, cow, map.chunk, pairs, size, sink) {
         Ok(()) => Ok(()),
         Err(stopped) => Err(stopped),
     }
@@ -72,9 +68,15 @@ pub fn export_pairs<O: Image, C: Image, S: Sink>(
     let Ok(mut room) = vec![in alloc; 0u8; PIECE] else {
         return Err(Stopped::NoMemory);
     };
+    let Ok(mut origin) = Windowed::new(alloc, origin) else {
+        return Err(Stopped::NoMemory);
+    };
+    let Ok(mut cow) = Windowed::new(alloc, cow) else {
+        return Err(Stopped::NoMemory);
+    };
     let end = 512 * size;
     let room = room.as_mut_slice();
-    match write_all(origin, cow, chunk, pairs, end, room, sink) {
+    match write_all(&mut origin, &mut cow, chunk, pairs, end, room, sink) {
         Ok(()) => Ok(()),
         Err(stopped) => Err(stopped),
     }

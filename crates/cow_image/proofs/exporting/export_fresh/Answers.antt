@@ -1,4 +1,4 @@
-use Rattle.std.proofs.Common.{◌≡◌, List, [], ℕ, ◌*◌, subst, refl}
+use Rattle.std.proofs.Common.{List, [], ℕ, ◌*◌, subst, refl}
 use Rattle.std.specs.Io.KnownBytes.{Appends}
 use Rattle.std.proofs.KnownBytes.{Appends-nil}
 use Rattle.cow_image.specs.Shown.{IsFrontOf}

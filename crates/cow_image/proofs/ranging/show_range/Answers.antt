@@ -1,4 +1,4 @@
-use Rattle.std.proofs.Common.{◌≡◌, ℕ, ◌+◌, ◌-◌, ◌*◌, ◌/◌, ◌%◌, ◌<◌, ◌≤◌, List, length, take, arith, rules, subst, sym, ap, ◌∙◌}
+use Rattle.std.proofs.Common.{◌≡◌, ℕ, ◌+◌, ◌-◌, ◌*◌, ◌/◌, ◌%◌, ◌≤◌, length, arith, rules, ap, ◌∙◌}
 use Rattle.cow_image.specs.Shown.{shown}
 use Rattle.cow_image.proofs.Ranges.{range_more, length-put, length-part, chunk_and}
 use Rattle.cow_image.proofs.Fails.{shown_fails}

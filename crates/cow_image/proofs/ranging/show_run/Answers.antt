@@ -1,4 +1,4 @@
-use Rattle.std.proofs.Common.{◌≡◌, ℕ, ◌+◌, ◌*◌, ◌≤◌, List, length, take, drop, Some, None, subst, sym, ap, ◌∙◌}
+use Rattle.std.proofs.Common.{length, Some, None}
 use Rattle.cow_image.specs.Runs.{IsRun}
 use Rattle.cow_image.proofs.Ranges.{own_shown, copy_shown}
 use Rattle.cow_image.proofs.ranging.show_run.Goals as goal

@@ -1,4 +1,4 @@
-use Rattle.std.proofs.Common.{◌-◌, ◌<◌, length}
+use Rattle.std.proofs.Common.{◌-◌, ◌<◌}
 use Rattle.cow_image.specs.Runs.{IsRow}
 use Rattle.cow_image.proofs.running.row_at.Given as goal
 

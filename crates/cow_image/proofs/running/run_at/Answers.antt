@@ -1,5 +1,4 @@
-use Rattle.std.proofs.Common.{◌≤◌, ◌+◌, ◌-◌, ℕ, length, slice_index_or, arith, sym}
-use Rattle.sector.specs.declared.pair.Pair.{Pair}
+use Rattle.std.proofs.Common.{arith}
 use Rattle.cow_image.proofs.Rows.{run_past, run_between, run_here}
 use Rattle.cow_image.proofs.running.run_at.Goals as goal
 
