@@ -1,3 +1,5 @@
+pub mod Splits
+pub mod Asks
 pub mod Seen
 pub mod Answers
 pub mod Noted

@@ -43,7 +43,7 @@ pub struct Input<'a> {
     teller: Teller<'a>,
     /// How many bytes were read.
     read: u64,
-    /// Where a read failed.
+    /// Where the last read failed, if it did.
     failed: Option<u64>,
 }
 
@@ -113,7 +113,7 @@ impl<'a> Input<'a> {
         self.teller.hush();
     }
 
-    /// Where a read of it failed.
+    /// Where the last read of it failed, if it did.
     pub fn failed(&self) -> Option<u64> {
         self.failed
     }
@@ -174,6 +174,7 @@ impl Image for Input<'_> {
     fn read_at(&mut self, at: u64, out: &mut [u8]) -> io::Result<()> {
         match self.image.read_at(at, out) {
             Ok(()) => {
+                self.failed = None;
                 self.read = self.read.saturating_add(out.len() as u64);
                 self.teller.tell_read(self.name, self.read);
                 Ok(())
