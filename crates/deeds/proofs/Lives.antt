@@ -1,6 +1,6 @@
 -- Each deed does what it promises, by the volume's own contracts; and deeds one after another.
-use Rattle.std.proofs.Common.{◌≡◌, ◌≢◌, inl, inr, ℕ, Bool, true, false, List, [], ◌∷◌, ◌++◌, map, length, None, refl, sym, ◌∙◌, ap, subst, if◌then◌else◌}
-use Rattle.std.specs.Prelude.{◌==◌, ◌&&◌, IfErr, IfOk, MatchResult, OnOk, Result, Ok, Err, is_ok}
+use Rattle.std.proofs.Common.{◌≡◌, ◌≢◌, inl, inr, ℕ, Bool, true, false, List, [], ◌∷◌, ◌++◌, map, length, None, Some, refl, sym, ◌∙◌, ap, subst, if◌then◌else◌}
+use Rattle.std.specs.Prelude.{◌==◌, ◌&&◌, IfErr, IfOk, Result, Ok, Err, is_ok}
 use Rattle.std.specs.List.{All}
 use Rattle.std.specs.Option.{is_some}
 use Rattle.std.proofs.lemmas.Bool.{cases_Bool, ne_eqb}
@@ -9,7 +9,7 @@ use Rattle.std.proofs.lemmas.List.Elements.{All-head, All-tail}
 use Rattle.sector.specs.declared.refusal.Refusal.{Refusal}
 use Rattle.device.specs.Layers.{Layer, is_loud}
 use Rattle.plain.specs.Plain.{Plain, overflow_of, saved_under}
-use Rattle.plain.specs.Legal.{IsBegun, IsTaken}
+use Rattle.plain.specs.Legal.{IsTaken}
 use Rattle.layers.specs.declared.message.Answer.{Answer}
 use Rattle.layers.specs.declared.message.Message.{Message}
 use Rattle.plain.specs.declared.event.Event.{Event}
@@ -21,14 +21,20 @@ use Rattle.snapshot.specs.declared.opening.StoreDev.{StoreDev}
 use Rattle.snapshot.specs.Kept.{Kept}
 use Rattle.snapshot.specs.Opening.{shown_array}
 use Rattle.volume_laws.specs.Shape.{shown_entry, shown_origin}
-use Rattle.volume.specs.Attached.{IsGained, IsRefusedOver}
+use Rattle.volume.specs.Attached.{IsGained}
 use Rattle.volume.specs.Fresh.{is_fresh}
-use Rattle.volume.specs.Beginning.{IsMergeBegun, IsNotBegun, begin_refusal}
+use Rattle.volume.specs.Beginning.{IsNotBegun}
+use Rattle.volume.specs.DoesAttach.{DoesAttach}
+use Rattle.volume.specs.DoesBeginMerge.{DoesBeginMerge}
+use Rattle.volume.specs.DoesDetach.{DoesDetach}
+use Rattle.volume.specs.DoesFinishMerge.{DoesFinishMerge}
 use Rattle.volume.specs.DoesMessage.{DoesMessage}
+use Rattle.volume.specs.DoesResumeMerge.{DoesResumeMerge}
 use Rattle.volume.specs.DoesStep.{DoesStep}
 use Rattle.volume.specs.DoesTick.{DoesTick}
 use Rattle.volume.specs.Layering.{Measures}
-use Rattle.volume.specs.Leaving.{is_quiet_of}
+use Rattle.volume.specs.Finishing.{finish_refusal}
+use Rattle.volume.specs.Leaving.{detach_refusal, is_quiet_of}
 use Rattle.volume.specs.Submitting.{IsAcceptedAs, IsRefusedAs, submit_refusal}
 use Rattle.volume.specs.Taking.{IsNotTaken, attach_refusal}
 use Rattle.volume.specs.Volumed.{Volumed, is_due_of, is_loud_in_all, merge_shape, plain_of, snap_shape}
@@ -37,6 +43,7 @@ use Rattle.volume.proofs.Fresh.{fresh_shown}
 use Rattle.volume.proofs.Declines.{refused_declined, refused_loud}
 use Rattle.volume.proofs.Quieted.{quiet_flights}
 use Rattle.volume.proofs.Ran.{unbegun_same}
+use Rattle.volume.proofs.Shown.{and_left}
 use Rattle.deeds.specs.declared.deed.Deed.{Deed}
 use Rattle.deeds.specs.declared.deed.Deed.TheVariants.{Submit, Step, Tick, Tell, Attach, Detach, BeginMerge, ResumeMerge, FinishMerge}
 use Rattle.deeds.specs.declared.deed.Done.{Done}
@@ -99,16 +106,49 @@ module _ {B : Type 0} (m : Measures B) (layers : B → List Layer) where
     answered = (does.ok, does.err);
   }
 
-  pub begin_done : (number : ℕ) (result : Result _ Refusal) (v w : Volumed B) → OnOk result (is_loud_in_all layers v ≡ true → IsBegun (plain_of m.contents layers v) number (plain_of m.contents layers w)) → IfErr result (λ refusal. IsNotBegun number refusal v w)
-      → is_loud_in_all layers w ≡ is_loud_in_all layers v → OnOk result (begin_refusal number v ≡ None) → OnOk result (IsMergeBegun number v w) → IsDone m layers (BeginMerge number) (Begun result) v w
-  begin_done number (Ok done) v w legal refused loud admitted begun = record {
-    loud = λ l brought. loud ∙ l;
-    seen = λ l brought. record { sees = legal l; reason = tt; disk = tt };
-    answered = ((admitted, begun), refused);
+  pub detach_done : (holds : B → ℕ → List ℕ → Type 0) (number : ℕ) (result : Result (StoreDev B) Refusal) (v w : Volumed B) → DoesDetach holds m.contents layers m.size number result v w → IfErr result (λ refusal. (detach_refusal number v ≡ Some refusal) × (w ≡ v))
+      → IsDone m layers (Detach number) (Detached result) v w
+  detach_done holds number (Ok store) v w does refused = record {
+    loud = λ l brought. and_left (is_loud_in_all layers w) (is_loud (layers store.device)) (sym does.loud ∙ l);
+    seen = λ l brought. record { sees = does.plain l; reason = tt; disk = tt };
+    answered = (does.taken, refused);
   }
-  begin_done number (Err refusal) v w legal refused loud admitted begun = record {
-    loud = λ l brought. loud ∙ l;
+  detach_done holds number (Err refusal) v w does refused = record {
+    loud = λ l brought. ap (is_loud_in_all layers) refused.1 ∙ l;
+    seen = λ l brought. record { sees = ap plain refused.1; reason = tt; disk = tt };
+    answered = (tt, refused);
+  }
+
+  pub begin_done : (holds : B → ℕ → List ℕ → Type 0) (number : ℕ) (result : Result (Unit {0}) Refusal) (v w : Volumed B) → DoesBeginMerge holds m.contents layers m.size number result v w → IfErr result (λ refusal. IsNotBegun number refusal v w)
+      → IsDone m layers (BeginMerge number) (Begun result) v w
+  begin_done holds number (Ok done) v w does refused = record {
+    loud = λ l brought. does.loud ∙ l;
+    seen = λ l brought. record { sees = does.legal l; reason = tt; disk = tt };
+    answered = ((does.admitted, does.begun), refused);
+  }
+  begin_done holds number (Err refusal) v w does refused = record {
+    loud = λ l brought. does.loud ∙ l;
     seen = λ l brought. record { sees = unbegun_same m.contents layers number refusal v w refused; reason = tt; disk = tt };
+    answered = (tt, refused);
+  }
+
+  pub resume_done : (result : Result (Unit {0}) Refusal) (v w : Volumed B) → DoesResumeMerge m.contents layers result v w → IsDone m layers ResumeMerge (Resumed result) v w
+  resume_done result v w does = record {
+    loud = λ l brought. does.loud ∙ l;
+    seen = λ l brought. record { sees = does.plain; reason = tt; disk = tt };
+    answered = (does.resumed, does.err);
+  }
+
+  pub finish_done : (holds : B → ℕ → List ℕ → Type 0) (result : Result (StoreDev B) Refusal) (v w : Volumed B) → DoesFinishMerge holds m.contents layers m.size result v w → IfErr result (λ refusal. (finish_refusal v ≡ Some refusal) × (w ≡ v))
+      → IsDone m layers FinishMerge (Finished result) v w
+  finish_done holds (Ok store) v w does refused = record {
+    loud = λ l brought. and_left (is_loud_in_all layers w) (is_loud (layers store.device)) (sym does.loud ∙ l);
+    seen = λ l brought. record { sees = does.legal l; reason = tt; disk = sym (ap (λ (p : Plain). p.origin) (does.legal l).becomes ∙ does.disk l) };
+    answered = (does.taken, refused);
+  }
+  finish_done holds (Err refusal) v w does refused = record {
+    loud = λ l brought. ap (is_loud_in_all layers) refused.1 ∙ l;
+    seen = λ l brought. record { sees = ap plain refused.1; reason = tt; disk = tt };
     answered = (tt, refused);
   }
 
@@ -124,20 +164,18 @@ module _ {B : Type 0} (m : Measures B) (layers : B → List Layer) where
           subst (λ o. IsTaken (plain v) number (shown_array o (m.contents store.device)) (overflow_of overflow) (plain w)) origin taken,
         )
 
-    pub attach_done : (result : Result ℕ (Refusal × StoreDev B)) → IfOk result (λ number. attach_refusal store.stale chunk v ≡ None)
-        → IfOk result (λ number. is_loud_in_all layers v ≡ true → is_loud (layers store.device) ≡ true → IsTaken (plain_of m.contents layers v) number (shown_array (m.contents v.origin) (m.contents store.device)) (overflow_of overflow) (plain_of m.contents layers w))
-        → IfOk result (λ number. IsGained m.contents layers m.size number overflow store v w) → MatchResult result (λ number. is_loud_in_all layers w ≡ (is_loud_in_all layers v && is_loud (layers store.device))) (λ refused. is_loud (layers refused.1.device) ≡ is_loud (layers store.device)) → IfErr result (λ e. IsRefusedOver m.contents layers m.size e.0 v w)
+    pub attach_done : (holds : B → ℕ → List ℕ → Type 0) (result : Result ℕ (Refusal × StoreDev B)) → DoesAttach holds m layers store chunk overflow result v w
         → IfErr result (λ e. IsNotTaken store.stale chunk (m.size v.origin) (m.size store.device) (m.contents store.device) v e.0)
         → IsDone m layers (Attach store chunk overflow) (Attached result) v w
-    attach_done (Ok number) admitted taken gained loud same why = record {
-      loud = λ l brought. loud ∙ both (is_loud_in_all layers v) (is_loud (layers store.device)) l brought;
-      seen = λ l brought. record { sees = quiet_taken number admitted gained (taken l brought); reason = tt; disk = tt };
-      answered = ((admitted, gained), why);
+    attach_done holds (Ok number) does why = record {
+      loud = λ l brought. does.loud ∙ both (is_loud_in_all layers v) (is_loud (layers store.device)) l brought;
+      seen = λ l brought. record { sees = quiet_taken number does.admitted does.gained (does.taken l brought); reason = tt; disk = tt };
+      answered = ((does.admitted, does.gained), why);
     }
-    attach_done (Err refused) admitted taken gained loud same why = record {
-      loud = λ l brought. same.loud ∙ l;
-      seen = λ l brought. record { sees = same.shown; reason = tt; disk = tt };
-      answered = (tt, (why, same));
+    attach_done holds (Err refused) does why = record {
+      loud = λ l brought. does.same.loud ∙ l;
+      seen = λ l brought. record { sees = does.same.shown; reason = tt; disk = tt };
+      answered = (tt, (why, does.same));
     }
 
 attached_keeps : (number : ℕ) (bytes : List ℕ) (overflow : Bool) (p q : Plain) (taken : List Taken) → saved_under number p.saved ≡ None → p.requests ≡ [] → IsTaken p number (shown_array p.origin bytes) (overflow_of overflow) q → AreKept p taken

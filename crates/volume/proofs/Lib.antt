@@ -122,6 +122,7 @@ pub mod OpensNothing
 pub mod Opened
 pub mod OpenedCalls
 pub mod Stepped
+pub mod Between
 pub mod Submits
 pub mod AskedFor
 pub mod AddedUp

@@ -1,7 +1,7 @@
 -- What each call of a volume may open: an event what its write gives, a begun merge what the snapshot might be left with, and the
 -- others nothing.
 use Rattle.std.proofs.Common.{◌≡◌, ◌⊎◌, inl, inr, ℕ, ◌+◌, ◌<◌, Bool, true, false, List, [], ◌∷◌, length, get_or, map, Option, None, Some, refl, sym, ◌∙◌, ap, subst, arith}
-use Rattle.std.specs.Prelude.{◌*◌, ◌&&◌, ◌==◌, IfErr, IfOk, OnErr, OnOk, Result, Ok, Err, not, if◌then◌else◌}
+use Rattle.std.specs.Prelude.{◌*◌, ◌&&◌, ◌==◌, IfErr, IfOk, OnOk, Result, Ok, Err, not, if◌then◌else◌}
 use Rattle.std.specs.List.{remove}
 use Rattle.std.proofs.lemmas.Bool.{cases_lt}
 use Rattle.std.proofs.lemmas.List.{get_or-map, get_or_default, length-map}

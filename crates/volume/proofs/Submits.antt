@@ -1,6 +1,6 @@
 -- What `submit` does as one record: a call that was refused for want of room and changed nothing does it; and of a call it says, with
 -- why it is refused, what a list of calls asks.
-use Rattle.std.proofs.Common.{◌≡◌, ◌≢◌, ℕ, List, refl, subst}
+use Rattle.std.proofs.Common.{◌≢◌, ℕ, List, refl}
 use Rattle.std.specs.Prelude.{Err, IfErr, Ok, Result}
 use Rattle.device.specs.Layers.{Layer}
 use Rattle.sector.specs.declared.refusal.Refusal.{Refusal}

@@ -32,4 +32,9 @@ pub mod DoesStep
 pub mod DoesSubmit
 pub mod DoesTick
 pub mod DoesMessage
+pub mod DoesAttach
+pub mod DoesDetach
+pub mod DoesBeginMerge
+pub mod DoesResumeMerge
+pub mod DoesFinishMerge
 pub mod AddedUp

@@ -1,14 +1,7 @@
 // A merge that came to its end is taken out of its volume.
-ghost use Rattle.std.specs.Prelude.{◌≡◌, ◌&&◌, IfErr, IfOk, None, OnOk, Option, Some, true};
-ghost use Rattle.device.specs.Layers.{is_loud};
-ghost use Rattle.plain.specs.Legal.{IsFinished};
-ghost use Rattle.plain.specs.declared.request.Reply.{Reply};
-ghost use Rattle.event_machine.specs.Merging.{finished};
-ghost use Rattle.volume.specs.Volumed.{is_loud_in_all, plain_of};
-ghost use Rattle.volume.specs.Moved.{moving_of};
-ghost use Rattle.volume.specs.Finishing.{IsTakenOut, finish_refusal};
-ghost use Rattle.volume.specs.Stopping.{StopsAround};
-ghost use Rattle.volume.specs.Handing.{OpensTaken};
+ghost use Rattle.std.specs.Prelude.{◌≡◌, IfErr, Some};
+ghost use Rattle.volume.specs.DoesFinishMerge.{DoesFinishMerge};
+ghost use Rattle.volume.specs.Finishing.{finish_refusal};
 
 use crate::Volume;
 use device::Block;
@@ -23,15 +16,9 @@ impl<B: Block> Volume<B> {
     ///
     /// Refused, in this order: no merge is begun, or a pair or a group is left (`NotFinished`), or the volume is not quiet
     /// (`NotQuiet`).
+    #[tactic(auto, using(crate::proofs::Between::not_finished))]
     pub fn finish_merge(&mut self) -> Result<StoreDev<B>, Refusal>
-        ensures ok { IfOk result (λ store. finish_refusal self.old ≡ None) }
-        ensures taken { IfOk result (λ store. IsTakenOut self.old self.new store) }
-        ensures legal { IfOk result (λ store. is_loud_in_all B.layers self.old ≡ true → IsFinished (plain_of B.contents B.layers self.old) (plain_of B.contents B.layers self.new)) }
-        ensures disk { IfOk result (λ store. is_loud_in_all B.layers self.old ≡ true → (plain_of B.contents B.layers self.old).origin ≡ B.contents self.new.origin) }
-        ensures exact { IfOk result (λ store. (replied : Option Reply) → finished (moving_of B.contents B.layers replied self.old) ≡ moving_of B.contents B.layers replied self.new) }
-        ensures loud { IfOk result (λ store. is_loud_in_all B.layers self.old ≡ (is_loud_in_all B.layers self.new && is_loud (B.layers store.device))) }
-        ensures stops { OnOk result (StopsAround B.may_hold B.layers B.size self.old self.new) }
-        ensures opens { OnOk result (is_loud_in_all B.layers self.old ≡ true → OpensTaken B.may_hold B.size self.old self.new) }
+        ensures does { DoesFinishMerge B.may_hold B.contents B.layers B.size result self.old self.new }
         ensures err { IfErr result (λ refusal. (finish_refusal self.old ≡ Some refusal) × (self.new ≡ self.old)) }
     {
         self.look_at_stores();

@@ -1,15 +1,9 @@
 // A merge begins, and goes on after a fault.
-ghost use Rattle.std.specs.Prelude.{◌≡◌, IfErr, IfOk, None, OnErr, OnOk, Option, Some, true};
-ghost use Rattle.sector.specs.declared.refusal.Refusal.TheVariants.{NotMerging};
-ghost use Rattle.plain.specs.Legal.{IsBegun};
-ghost use Rattle.plain.specs.declared.request.Reply.{Reply};
-ghost use Rattle.event_machine.specs.Merging.{begun, resumed};
+ghost use Rattle.std.specs.Prelude.{◌≡◌, IfErr, IfOk, None, Option, Some};
 ghost use Rattle.snapshots.specs.Finding.{place_of_snap};
-ghost use Rattle.volume.specs.Volumed.{is_loud_in_all, plain_of};
-ghost use Rattle.volume.specs.Moved.{moving_of};
-ghost use Rattle.volume.specs.Stopping.{StopsAround};
-ghost use Rattle.volume.specs.Handing.{HandsOver};
-ghost use Rattle.volume.specs.Beginning.{IsMergeBegun, IsNotBegun, IsResumed, begin_refusal, beside_refusal};
+ghost use Rattle.volume.specs.DoesBeginMerge.{DoesBeginMerge};
+ghost use Rattle.volume.specs.DoesResumeMerge.{DoesResumeMerge};
+ghost use Rattle.volume.specs.Beginning.{IsNotBegun, begin_refusal, beside_refusal};
 
 use crate::Volume;
 use device::Block;
@@ -27,16 +21,10 @@ impl<B: Block> Volume<B> {
     /// Refused, in this order: there is no such snapshot, also not as the one that is being merged (`NoSuchDevice`), a merge
     /// is begun (`MergeInProgress`), the snapshot is spoiled (`Invalid`), the volume is not quiet (`NotQuiet`), or memory is
     /// refused (`NoMemory`): all that the merge will need is taken here.
+    #[tactic(auto, using(crate::proofs::Between::not_begun))]
     pub fn begin_merge(&mut self, alloc: Global, number: SnapId) -> Result<(), Refusal>
-        ensures admitted { OnOk result (begin_refusal number self.old ≡ None) }
-        ensures begun { OnOk result (IsMergeBegun number self.old self.new) }
-        ensures legal { OnOk result (is_loud_in_all B.layers self.old ≡ true → IsBegun (plain_of B.contents B.layers self.old) number (plain_of B.contents B.layers self.new)) }
-        ensures exact { OnOk result ((replied : Option Reply) → begun number (moving_of B.contents B.layers replied self.old) ≡ moving_of B.contents B.layers replied self.new) }
-        ensures loud { is_loud_in_all B.layers self.new ≡ is_loud_in_all B.layers self.old }
-        ensures stops { OnOk result (StopsAround B.may_hold B.layers B.size self.old self.new) }
-        ensures hands { OnOk result (HandsOver B.may_hold B.size number self.old self.new) }
+        ensures does { DoesBeginMerge B.may_hold B.contents B.layers B.size number result self.old self.new }
         ensures refused { IfErr result (λ refusal. IsNotBegun number refusal self.old self.new) }
-        ensures starved { OnErr result ((replied : Option Reply) → moving_of B.contents B.layers replied self.new ≡ moving_of B.contents B.layers replied self.old) }
     {
         self.look_at_stores();
         let k = match self.place_to_merge(number) {
@@ -84,12 +72,9 @@ impl<B: Block> Volume<B> {
     }
 
     /// Lets a merge that failed go on, and changes nothing of one that did not. `NotMerging` where none is begun.
+    #[tactic(auto, using(crate::proofs::Between::not_resumed))]
     pub fn resume_merge(&mut self) -> Result<(), Refusal>
-        ensures resumed { OnOk result (IsResumed self.old self.new) }
-        ensures exact { OnOk result ((replied : Option Reply) → resumed (moving_of B.contents B.layers replied self.old) ≡ moving_of B.contents B.layers replied self.new) }
-        ensures plain { plain_of B.contents B.layers self.new ≡ plain_of B.contents B.layers self.old }
-        ensures loud { is_loud_in_all B.layers self.new ≡ is_loud_in_all B.layers self.old }
-        ensures err { IfErr result (λ refusal. (refusal ≡ NotMerging) × (self.old.merge ≡ None) × (self.new ≡ self.old)) }
+        ensures does { DoesResumeMerge B.contents B.layers result self.old self.new }
     {
         let Some(merge) = &mut self.merge else {
             return Err(Refusal::NotMerging);

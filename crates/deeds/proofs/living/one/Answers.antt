@@ -3,13 +3,13 @@ use Rattle.std.proofs.Common.{[], sym, subst}
 use Rattle.volume.specs.Layering.{Measures}
 use Rattle.deeds.specs.declared.deed.Deed.{Deed}
 use Rattle.deeds.specs.declared.deed.Deed.TheVariants.{Submit, Step, Tick, Tell, Attach, ResumeMerge}
-use Rattle.deeds.specs.declared.deed.Done.TheVariants.{Submitted, Stepped, Ticked, Told, Attached, Begun, Resumed}
+use Rattle.deeds.specs.declared.deed.Done.TheVariants.{Submitted, Stepped, Ticked, Told, Attached, Detached, Begun, Resumed, Finished}
 use Rattle.volume.proofs.OpenedCalls.{opens_alike, opens_begin, opens_resume, opens_stepped, opens_submitted, opens_told}
 use Rattle.volume.proofs.Relayered.{ticked_alike}
 use Rattle.deeds.specs.Lasted.{OpensByDeed}
 use Rattle.deeds.specs.Lived.{IsDone, IsLoudDeed}
 use Rattle.deeds.proofs.Lasts.{attached_opens, begin_opens, by_calls, detached_opens, finished_opens}
-use Rattle.deeds.proofs.Lives.{attach_done, begin_done, step_done, submit_done, tell_done, tick_done}
+use Rattle.deeds.proofs.Lives.{attach_done, begin_done, detach_done, finish_done, resume_done, step_done, submit_done, tell_done, tick_done}
 use Rattle.deeds.proofs.living.one.Goals as goal
 
 pub returns-in-Submit-clause-done : goal.returns-in-Submit-clause-done
@@ -22,13 +22,13 @@ pub returns-in-Attach-clause-done : goal.returns-in-Attach-clause-done
 returns-in-Attach-clause-done g c =
     let m : Measures g.row.B.Denot = record { contents = g.B.Block.contents; durable = g.B.Block.durable; size = g.B.Block.size; faults = g.B.Block.fault_count; done = g.B.Block.done_count } in
     subst (λ (d : Deed g.row.B.Denot). IsDone m g.B.Block.layers d (Attached c.attach.result) c.args.volume.now c.attach.new.self) (sym c.in-Attach.is)
-    (attach_done m g.B.Block.layers c.in-Attach.store c.in-Attach.chunk c.in-Attach.overflow c.args.volume.now c.attach.new.self c.attach.result c.attach.ensures.admitted c.attach.ensures.taken c.attach.ensures.gained c.attach.ensures.loud c.attach.ensures.same c.attach.ensures.refused)
+    (attach_done m g.B.Block.layers c.in-Attach.store c.in-Attach.chunk c.in-Attach.overflow c.args.volume.now c.attach.new.self g.B.Block.may_hold c.attach.result c.attach.ensures.does c.attach.ensures.refused)
 
 pub returns-in-BeginMerge-clause-done : goal.returns-in-BeginMerge-clause-done
 returns-in-BeginMerge-clause-done g c =
     let m : Measures g.row.B.Denot = record { contents = g.B.Block.contents; durable = g.B.Block.durable; size = g.B.Block.size; faults = g.B.Block.fault_count; done = g.B.Block.done_count } in
     subst (λ (d : Deed g.row.B.Denot). IsDone m g.B.Block.layers d (Begun c.begin_merge.result) c.args.volume.now c.begin_merge.new.self) (sym c.in-BeginMerge.is)
-    (begin_done m g.B.Block.layers c.in-BeginMerge.number c.begin_merge.result c.args.volume.now c.begin_merge.new.self c.begin_merge.ensures.legal c.begin_merge.ensures.refused c.begin_merge.ensures.loud c.begin_merge.ensures.admitted c.begin_merge.ensures.begun)
+    (begin_done m g.B.Block.layers g.B.Block.may_hold c.in-BeginMerge.number c.begin_merge.result c.args.volume.now c.begin_merge.new.self c.begin_merge.ensures.does c.begin_merge.ensures.refused)
 
 pub returns-in-Submit-clause-opens : goal.returns-in-Submit-clause-opens
 returns-in-Submit-clause-opens g c = λ loud brought.
@@ -72,27 +72,45 @@ pub returns-in-Attach-clause-opens : goal.returns-in-Attach-clause-opens
 returns-in-Attach-clause-opens g c = λ loud brought.
     let m : Measures g.row.B.Denot = record { contents = g.B.Block.contents; durable = g.B.Block.durable; size = g.B.Block.size; faults = g.B.Block.fault_count; done = g.B.Block.done_count } in
     let deed : Deed g.row.B.Denot = Attach c.in-Attach.store c.in-Attach.chunk c.in-Attach.overflow in
-    let done = attach_done m g.B.Block.layers c.in-Attach.store c.in-Attach.chunk c.in-Attach.overflow c.args.volume.now c.attach.new.self c.attach.result c.attach.ensures.admitted c.attach.ensures.taken c.attach.ensures.gained c.attach.ensures.loud c.attach.ensures.same c.attach.ensures.refused in
+    let done = attach_done m g.B.Block.layers c.in-Attach.store c.in-Attach.chunk c.in-Attach.overflow c.args.volume.now c.attach.new.self g.B.Block.may_hold c.attach.result c.attach.ensures.does c.attach.ensures.refused in
     let fits : IsLoudDeed g.B.Block.layers deed = subst (IsLoudDeed g.B.Block.layers) c.in-Attach.is brought in
     subst (λ (d : Deed g.row.B.Denot). OpensByDeed g.B.Block.may_hold m g.B.Block.layers d (Attached c.attach.result) c.args.volume.now c.attach.new.self) (sym c.in-Attach.is)
-    (attached_opens g.B.Block.may_hold m g.B.Block.layers c.in-Attach.store c.in-Attach.chunk c.in-Attach.overflow c.args.volume.now c.attach.new.self c.attach.ensures.origin_kept c.attach.result g.met.B.Block.whole g.met.B.Block.holds_now loud fits done c.attach.ensures.origin_firm c.attach.ensures.firm)
+    (attached_opens g.B.Block.may_hold m g.B.Block.layers c.in-Attach.store c.in-Attach.chunk c.in-Attach.overflow c.args.volume.now c.attach.new.self c.attach.ensures.does.origin_kept c.attach.result g.met.B.Block.whole g.met.B.Block.holds_now loud fits done c.attach.ensures.does.origin_firm c.attach.ensures.does.firm)
+
+pub returns-in-Detach-clause-done : goal.returns-in-Detach-clause-done
+returns-in-Detach-clause-done g c =
+    let m : Measures g.row.B.Denot = record { contents = g.B.Block.contents; durable = g.B.Block.durable; size = g.B.Block.size; faults = g.B.Block.fault_count; done = g.B.Block.done_count } in
+    subst (λ (d : Deed g.row.B.Denot). IsDone m g.B.Block.layers d (Detached c.detach.result) c.args.volume.now c.detach.new.self) (sym c.in-Detach.is)
+    (detach_done m g.B.Block.layers g.B.Block.may_hold c.in-Detach.number c.detach.result c.args.volume.now c.detach.new.self c.detach.ensures.does c.detach.ensures.err)
 
 pub returns-in-Detach-clause-opens : goal.returns-in-Detach-clause-opens
 returns-in-Detach-clause-opens g c = λ loud brought.
     let m : Measures g.row.B.Denot = record { contents = g.B.Block.contents; durable = g.B.Block.durable; size = g.B.Block.size; faults = g.B.Block.fault_count; done = g.B.Block.done_count } in
-    rw c.in-Detach.is (detached_opens g.B.Block.may_hold m g.B.Block.layers c.in-Detach.number c.detach.result c.args.volume.now c.detach.new.self c.detach.ensures.taken c.detach.ensures.err)
+    rw c.in-Detach.is (detached_opens g.B.Block.may_hold m g.B.Block.layers c.in-Detach.number c.detach.result c.args.volume.now c.detach.new.self c.detach.ensures.does.taken c.detach.ensures.err)
 
 pub returns-in-BeginMerge-clause-opens : goal.returns-in-BeginMerge-clause-opens
 returns-in-BeginMerge-clause-opens g c = λ loud brought.
     let m : Measures g.row.B.Denot = record { contents = g.B.Block.contents; durable = g.B.Block.durable; size = g.B.Block.size; faults = g.B.Block.fault_count; done = g.B.Block.done_count } in
-    rw c.in-BeginMerge.is (begin_opens g.B.Block.may_hold m g.B.Block.layers c.in-BeginMerge.number (Begun c.begin_merge.result) c.args.volume.now c.begin_merge.new.self (opens_begin g.B.Block.may_hold g.B.Block.contents g.B.Block.layers g.B.Block.size c.in-BeginMerge.number c.begin_merge.result c.args.volume.now c.begin_merge.new.self c.begin_merge.ensures.admitted c.begin_merge.ensures.begun c.begin_merge.ensures.refused))
+    rw c.in-BeginMerge.is (begin_opens g.B.Block.may_hold m g.B.Block.layers c.in-BeginMerge.number (Begun c.begin_merge.result) c.args.volume.now c.begin_merge.new.self (opens_begin g.B.Block.may_hold g.B.Block.contents g.B.Block.layers g.B.Block.size c.in-BeginMerge.number c.begin_merge.result c.args.volume.now c.begin_merge.new.self c.begin_merge.ensures.does.admitted c.begin_merge.ensures.does.begun c.begin_merge.ensures.refused))
+
+pub returns-in-ResumeMerge-clause-done : goal.returns-in-ResumeMerge-clause-done
+returns-in-ResumeMerge-clause-done g c =
+    let m : Measures g.row.B.Denot = record { contents = g.B.Block.contents; durable = g.B.Block.durable; size = g.B.Block.size; faults = g.B.Block.fault_count; done = g.B.Block.done_count } in
+    subst (λ (d : Deed g.row.B.Denot). IsDone m g.B.Block.layers d (Resumed c.resume_merge.result) c.args.volume.now c.resume_merge.new.self) (sym c.in-ResumeMerge.is)
+    (resume_done m g.B.Block.layers c.resume_merge.result c.args.volume.now c.resume_merge.new.self c.resume_merge.ensures.does)
 
 pub returns-in-ResumeMerge-clause-opens : goal.returns-in-ResumeMerge-clause-opens
 returns-in-ResumeMerge-clause-opens g c = λ loud brought.
     let m : Measures g.row.B.Denot = record { contents = g.B.Block.contents; durable = g.B.Block.durable; size = g.B.Block.size; faults = g.B.Block.fault_count; done = g.B.Block.done_count } in
-    rw c.in-ResumeMerge.is (by_calls g.B.Block.may_hold m g.B.Block.layers ResumeMerge (Resumed c.resume_merge.result) c.args.volume.now c.resume_merge.new.self (opens_resume g.B.Block.may_hold g.B.Block.contents g.B.Block.layers g.B.Block.size [] c.resume_merge.result c.args.volume.now c.resume_merge.new.self c.resume_merge.ensures.resumed c.resume_merge.ensures.err))
+    rw c.in-ResumeMerge.is (by_calls g.B.Block.may_hold m g.B.Block.layers ResumeMerge (Resumed c.resume_merge.result) c.args.volume.now c.resume_merge.new.self (opens_resume g.B.Block.may_hold g.B.Block.contents g.B.Block.layers g.B.Block.size [] c.resume_merge.result c.args.volume.now c.resume_merge.new.self c.resume_merge.ensures.does.resumed c.resume_merge.ensures.does.err))
+
+pub returns-in-FinishMerge-clause-done : goal.returns-in-FinishMerge-clause-done
+returns-in-FinishMerge-clause-done g c =
+    let m : Measures g.row.B.Denot = record { contents = g.B.Block.contents; durable = g.B.Block.durable; size = g.B.Block.size; faults = g.B.Block.fault_count; done = g.B.Block.done_count } in
+    subst (λ (d : Deed g.row.B.Denot). IsDone m g.B.Block.layers d (Finished c.finish_merge.result) c.args.volume.now c.finish_merge.new.self) (sym c.in-FinishMerge.is)
+    (finish_done m g.B.Block.layers g.B.Block.may_hold c.finish_merge.result c.args.volume.now c.finish_merge.new.self c.finish_merge.ensures.does c.finish_merge.ensures.err)
 
 pub returns-in-FinishMerge-clause-opens : goal.returns-in-FinishMerge-clause-opens
 returns-in-FinishMerge-clause-opens g c = λ loud brought.
     let m : Measures g.row.B.Denot = record { contents = g.B.Block.contents; durable = g.B.Block.durable; size = g.B.Block.size; faults = g.B.Block.fault_count; done = g.B.Block.done_count } in
-    rw c.in-FinishMerge.is (finished_opens g.B.Block.may_hold m g.B.Block.layers c.finish_merge.result c.args.volume.now c.finish_merge.new.self c.finish_merge.ensures.taken c.finish_merge.ensures.err)
+    rw c.in-FinishMerge.is (finished_opens g.B.Block.may_hold m g.B.Block.layers c.finish_merge.result c.args.volume.now c.finish_merge.new.self c.finish_merge.ensures.does.taken c.finish_merge.ensures.err)

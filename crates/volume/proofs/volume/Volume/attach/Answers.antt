@@ -1,5 +1,5 @@
 -- The snapshot that was opened is the last one.
-use Rattle.std.proofs.Common.{◌≡◌, ◌*◌, ◌+◌, ◌<◌, ◌≤◌, ℕ, List, [], ◌∷◌, ◌++◌, length, inl, inr, get_or, refl, sym, ◌∙◌, ap, subst, arith, true, false}
+use Rattle.std.proofs.Common.{◌≡◌, ◌*◌, ◌+◌, ◌<◌, ◌≤◌, ℕ, List, [], ◌∷◌, ◌++◌, length, inl, inr, get_or, refl, sym, ◌∙◌, ap, subst, arith, true, false, Option, ⊎_elim}
 use Rattle.std.specs.Prelude.{Some, None}
 use Rattle.std.specs.Option.{is_some}
 use Rattle.plain.specs.Plain.{overflow_of}
@@ -23,11 +23,12 @@ use Rattle.volume.proofs.Attaches.{attach_fresh, taking_none, none_begun, whole_
 use Rattle.chunk.specs.Sizes.{is_chunk}
 use Rattle.chunk.proofs.Limits.{is_chunk-some}
 use Rattle.plain.specs.Legal.{IsTaken}
+use Rattle.sector.specs.declared.refusal.Refusal.{Refusal}
 use Rattle.sector.specs.declared.refusal.Refusal.TheVariants.{NoMemory}
 use Rattle.volume.specs.Moved.{device_of}
 use Rattle.volume.specs.Attached.{IsCountedFor, store_of, volume_in, IsTriedOrigin}
 use Rattle.volume.proofs.AttachedAs.{number_left, refused_before, admitted, count_in, resting, attached_is, back_is, unzeroed_of, unfirm_of, size_opened, loud_taken_as}
-use Rattle.volume.proofs.TriedOrigins.{over, over_whole, over_shown, refused_over, refused_still, tried_flushed, tried_back}
+use Rattle.volume.proofs.TriedOrigins.{over, over_whole, over_shown, refused_over, tried_flushed, tried_back}
 use Rattle.stop_laws.specs.Firm.{IsFirm}
 use Rattle.volume.proofs.LastOne.{IsSameDevice}
 use Rattle.volume.proofs.LastMoves.{all_left_by}
@@ -35,6 +36,9 @@ use Rattle.volume.proofs.Lefts.{all_same}
 use Rattle.volume.proofs.OriginLasts.{origin_met}
 use Rattle.volume.proofs.MergeStarts.{new_lasts}
 use Rattle.volume.proofs.BeginLasts.{attached_all}
+use Rattle.settled.proofs.Starved.{other_memory, starved_by}
+use Rattle.volume.specs.Layering.{Measures}
+use Rattle.volume.proofs.Between.{not_attached, not_tried}
 use Rattle.volume.proofs.volume.Volume.attach.Goals as goal
 
 pub push_reserved-requires : goal.push_reserved-requires
@@ -86,22 +90,84 @@ invariant_of-self-in-Ok-open_snapshot g c = record {
       rw pushed (record { snaps = attached_all g.B.Block.may_hold g.B.Block.contents g.B.Block.layers g.B.Block.size g.met.B.Block.whole g.met.B.Block.holds_now d v.snaps s all one; merge = array });
 }
 
-pub returns-in-Ok-open_snapshot-clause-taken : goal.returns-in-Ok-open_snapshot-clause-taken
-returns-in-Ok-open_snapshot-clause-taken g c = λ _ loud.
+pub returns-in-Ok-open_snapshot-clause-does : goal.returns-in-Ok-open_snapshot-clause-does
+returns-in-Ok-open_snapshot-clause-does g c =
     let v : Volumed g.row.B.Denot = record { origin = c.self.inside.origin; snaps = c.self.inside.snaps.items; merge = c.self.inside.merge; flights = c.self.inside.flights.items; requests = c.self.inside.requests; copies = c.self.inside.copies; attached = c.self.inside.attached } in
     let d = c.open_snapshot.new.origin in
     let t : IsTriedOrigin g.B.Block.contents g.B.Block.layers g.B.Block.size v.origin d = tried_flushed g.B.Block.contents g.B.Block.layers g.B.Block.size g.B.Block.fault_count g.B.Block.done_count true v.origin d c.in-Ok-open_snapshot.ensures.origin in
     let s : Kept g.row.B.Denot = c.in-Ok-open_snapshot.snap in
-    let admitted = taking_none c.args.store.stale (is_some c.args.self.now.merge) (is_quiet_of c.args.self.now) (length c.args.self.now.snaps) c.args.self.now.attached c.args.chunk (sym c.in-None.ensures.value) in
-    let none : v.flights ≡ [] = ap (λ (x : Volumed g.row.B.Denot). x.flights) c.self.view_is ∙ quiet_flights c.args.self.now admitted.0 in
-    let alone : v.merge ≡ None = none_begun v.merge (ap (λ (x : Volumed g.row.B.Denot). is_some x.merge) c.self.view_is ∙ admitted.2) in
-    let number : s.number ≡ v.attached + 1 = ap (λ (x : Kept g.row.B.Denot). x.number) c.in-Ok-open_snapshot.ensures.opened.fields in
-    let new : IsNewSnap (g.B.Block.contents d) (snap_books g.B.Block.contents g.B.Block.layers s) = c.in-Ok-open_snapshot.ensures.new (g.B.Block.contents d) (g.met.B.Block.whole d ∙ ap (λ n. 512 * n) t.size_is) in
-    let shows = c.in-Ok-open_snapshot.ensures.shown loud (g.B.Block.contents d) ∙ ap (λ b. shown_array b (g.B.Block.contents c.args.store.device)) t.contents_are in
     let pushed = c.push_reserved.ensures.items ∙ ap (λ (x : List (Kept g.row.B.Denot)). x ++ s ∷ []) c.reserve.ensures.items in
-    let array : List ℕ = shown_array (g.B.Block.contents v.origin) (g.B.Block.contents c.args.store.device) in
-    let step = plain_taken_as g.B.Block.contents g.B.Block.layers g.B.Block.size (over g.B.Block.contents g.B.Block.layers g.B.Block.size v d t) s none alone (over_whole g.B.Block.contents g.B.Block.layers g.B.Block.size v d t c.self.invariant.whole) number new array (overflow_of c.args.overflow) c.push_reserved.new.self.items (ap (λ (x : Kept g.row.B.Denot). x.overflow) c.in-Ok-open_snapshot.ensures.opened.fields) pushed shows in
-    rw (← c.self.view_is) (subst (λ p. IsTaken p (v.attached + 1) array (overflow_of c.args.overflow) (plain_of g.B.Block.contents g.B.Block.layers (record v { origin = d; snaps = c.push_reserved.new.self.items; attached = v.attached + 1 }))) (over_shown g.B.Block.contents g.B.Block.layers g.B.Block.size v d t) step)
+    let o = c.in-Ok-open_snapshot.ensures.opened in
+    let here : length c.args.self.now.snaps ≡ length v.snaps = ap (λ (x : Volumed g.row.B.Denot). length x.snaps) (sym c.self.view_is) in
+    record {
+      number = ap (λ (x : Volumed g.row.B.Denot). x.attached + 1) c.self.view_is;
+      admitted = sym c.in-None.ensures.value;
+      taken =
+          λ _ loud.
+          let admitted = taking_none c.args.store.stale (is_some c.args.self.now.merge) (is_quiet_of c.args.self.now) (length c.args.self.now.snaps) c.args.self.now.attached c.args.chunk (sym c.in-None.ensures.value) in
+          let none : v.flights ≡ [] = ap (λ (x : Volumed g.row.B.Denot). x.flights) c.self.view_is ∙ quiet_flights c.args.self.now admitted.0 in
+          let alone : v.merge ≡ None = none_begun v.merge (ap (λ (x : Volumed g.row.B.Denot). is_some x.merge) c.self.view_is ∙ admitted.2) in
+          let number : s.number ≡ v.attached + 1 = ap (λ (x : Kept g.row.B.Denot). x.number) c.in-Ok-open_snapshot.ensures.opened.fields in
+          let new : IsNewSnap (g.B.Block.contents d) (snap_books g.B.Block.contents g.B.Block.layers s) = c.in-Ok-open_snapshot.ensures.new (g.B.Block.contents d) (g.met.B.Block.whole d ∙ ap (λ n. 512 * n) t.size_is) in
+          let shows = c.in-Ok-open_snapshot.ensures.shown loud (g.B.Block.contents d) ∙ ap (λ b. shown_array b (g.B.Block.contents c.args.store.device)) t.contents_are in
+          let array : List ℕ = shown_array (g.B.Block.contents v.origin) (g.B.Block.contents c.args.store.device) in
+          let step = plain_taken_as g.B.Block.contents g.B.Block.layers g.B.Block.size (over g.B.Block.contents g.B.Block.layers g.B.Block.size v d t) s none alone (over_whole g.B.Block.contents g.B.Block.layers g.B.Block.size v d t c.self.invariant.whole) number new array (overflow_of c.args.overflow) c.push_reserved.new.self.items (ap (λ (x : Kept g.row.B.Denot). x.overflow) c.in-Ok-open_snapshot.ensures.opened.fields) pushed shows in
+          rw (← c.self.view_is) (subst (λ p. IsTaken p (v.attached + 1) array (overflow_of c.args.overflow) (plain_of g.B.Block.contents g.B.Block.layers (record v { origin = d; snaps = c.push_reserved.new.self.items; attached = v.attached + 1 }))) (over_shown g.B.Block.contents g.B.Block.layers g.B.Block.size v d t) step);
+      unread = tt;
+      gained =
+          rw (← c.self.view_is) (record {
+            snap = c.in-Ok-open_snapshot.snap;
+            becomes = rw pushed refl;
+            origin = t;
+            flushed = c.in-Ok-open_snapshot.ensures.origin.operation.layers;
+            number_is = ap (λ (x : Kept g.row.B.Denot). x.number) o.fields;
+            fresh = attach_fresh g.B.Block.contents g.B.Block.layers g.B.Block.size _ c.self.invariant.whole _ refl;
+            live = ap (λ (x : Kept g.row.B.Denot). x.live) o.fields;
+            stale = ap (λ (x : Kept g.row.B.Denot). x.stale) o.fields;
+            untried = ap (λ (x : Kept g.row.B.Denot). x.untried) o.fields;
+            overflow_is = ap (λ (x : Kept g.row.B.Denot). x.overflow) o.fields;
+            copies = ap (λ (x : Kept g.row.B.Denot). x.copies) o.fields;
+            marks = ap (λ (x : Kept g.row.B.Denot). x.marks) o.fields;
+            sizes = c.in-Ok-open_snapshot.ensures.size;
+            loud = c.in-Ok-open_snapshot.ensures.loud;
+          });
+      exact =
+          λ _ loud.
+          let e = c.in-Ok-open_snapshot.ensures in
+          let none : attach_refusal c.args.store.stale c.args.chunk v ≡ None = ap (attach_refusal c.args.store.stale c.args.chunk) c.self.view_is ∙ sym c.in-None.ensures.value in
+          let few : c.self.inside.attached ≤ 4294967295 = omega (arith, c.self.ranges) in
+          let goes = admitted c.args.store.stale (is_some v.merge) (is_quiet_of v) (length v.snaps) v.attached c.args.chunk (overflow_of c.args.overflow) (store_of g.B.Block.contents g.B.Block.layers c.args.store) (volume_in g.B.Block.contents g.B.Block.layers v) few refl (count_in g.B.Block.contents g.B.Block.layers v) none in
+          let opens = e.exact loud in
+          let number : s.number ≡ v.attached + 1 = ap (λ (x : Kept g.row.B.Denot). x.number) o.fields in
+          let new : IsNewSnap (g.B.Block.contents v.origin) (snap_books g.B.Block.contents g.B.Block.layers s) = e.new (g.B.Block.contents v.origin) (g.met.B.Block.whole v.origin) in
+          let unzeroed : s.state.zeroed ≡ false = unzeroed_of g.B.Block.contents g.B.Block.layers (v.attached + 1) c.args.chunk (g.B.Block.size v.origin) (g.B.Block.size c.args.store.device) c.args.overflow c.args.store.device s o in
+          let unfirm : s.state.firm ≡ false = unfirm_of g.B.Block.contents g.B.Block.layers (v.attached + 1) c.args.chunk (g.B.Block.size v.origin) (g.B.Block.size c.args.store.device) c.args.overflow c.args.store.device s o in
+          let here = resting g.B.Block.contents g.B.Block.layers (g.B.Block.size v.origin) (g.B.Block.size c.args.store.device) c.args.chunk (g.B.Block.contents v.origin) (device_of g.B.Block.contents g.B.Block.layers v.origin) (device_of g.B.Block.contents g.B.Block.layers d) (device_of g.B.Block.contents g.B.Block.layers c.args.store.device) s
+          (g.met.B.Block.small v.origin) (g.met.B.Block.small c.args.store.device) (is_chunk-some c.args.chunk goes.0) (g.met.B.Block.whole v.origin) (g.met.B.Block.whole c.args.store.device) opens (e.loud ∙ loud) new o.next unzeroed unfirm (ap (λ (x : Kept g.row.B.Denot). x.marked) o.fields) in
+          rw (← c.self.view_is) (attached_is g.B.Block.contents g.B.Block.layers v d (v.attached + 1) (g.B.Block.size v.origin) c.args.chunk c.args.overflow c.args.store s c.push_reserved.new.self.items (g.met.B.Block.whole v.origin) t.contents_are goes.2 opens number
+          (ap (λ (x : Kept g.row.B.Denot). x.live) o.fields) (ap (λ (x : Kept g.row.B.Denot). x.overflow) o.fields) (ap (λ (x : Kept g.row.B.Denot). x.stale) o.fields) here pushed);
+      back = tt;
+      starved = tt;
+      size = tt;
+      loud = rw (← c.self.view_is) (loud_taken_as g.B.Block.contents g.B.Block.layers v d (v.attached + 1) c.args.store.device s c.push_reserved.new.self.items t.loud_is pushed c.in-Ok-open_snapshot.ensures.loud);
+      stops = (c.look_at_stores.ensures.stops, c.look_at_stores-in-Ok-open_snapshot.ensures.stops);
+      leaves =
+          let pushed : c.push_reserved.new.self.items ≡ v.snaps ++ s ∷ [] = c.push_reserved.ensures.items ∙ ap (λ (ys : List (Kept g.row.B.Denot)). ys ++ s ∷ []) c.reserve.ensures.items in
+          let sectors : g.B.Block.size v.origin ≡ g.B.Block.size c.args.self.now.origin = ap (λ (x : Volumed g.row.B.Denot). g.B.Block.size x.origin) c.self.view_is in
+          λ loud x at. (let is : x ≡ s = at ∙ ap (λ n. get_or c.push_reserved.new.self.items n x) here ∙ ap (λ ys. get_or ys (length v.snaps) x) pushed ∙ get_or-append_seam v.snaps s [] x in
+          subst (λ n. Leaves (g.B.Block.may_hold c.args.store.device) (g.B.Block.may_hold x.device) (g.B.Block.size c.args.store.device) (MayOpen c.args.chunk n (g.B.Block.size c.args.store.device) (g.B.Block.contents c.args.store.device) (found_in (sector_at (g.B.Block.contents c.args.store.device) 0)))) sectors
+          (subst (λ (y : Kept g.row.B.Denot). Leaves (g.B.Block.may_hold c.args.store.device) (g.B.Block.may_hold y.device) (g.B.Block.size c.args.store.device) (MayOpen c.args.chunk (g.B.Block.size v.origin) (g.B.Block.size c.args.store.device) (g.B.Block.contents c.args.store.device) (found_in (sector_at (g.B.Block.contents c.args.store.device) 0)))) (sym is) (c.in-Ok-open_snapshot.ensures.leaves loud)));
+      leaves_back = tt;
+      origin_kept = rw (← c.self.view_is) c.open_snapshot.ensures.origin_kept;
+      origin_firm = rw (← c.self.view_is) c.in-Ok-open_snapshot.ensures.origin_firm;
+      firm =
+          let pushed : c.push_reserved.new.self.items ≡ v.snaps ++ s ∷ [] = c.push_reserved.ensures.items ∙ ap (λ (ys : List (Kept g.row.B.Denot)). ys ++ s ∷ []) c.reserve.ensures.items in
+          λ loud x at. (let is : x ≡ s = at ∙ ap (λ n. get_or c.push_reserved.new.self.items n x) here ∙ ap (λ ys. get_or ys (length v.snaps) x) pushed ∙ get_or-append_seam v.snaps s [] x in
+          subst (λ (y : Kept g.row.B.Denot). IsFirm (g.B.Block.may_hold y.device) (g.B.Block.contents y.device) (g.B.Block.size y.device)) (sym is) (c.in-Ok-open_snapshot.ensures.firm loud));
+      same = tt;
+      stale = tt;
+      faults = tt;
+    }
 
 pub returns-in-Err-open_snapshot-clause-refused : goal.returns-in-Err-open_snapshot-clause-refused
 returns-in-Err-open_snapshot-clause-refused g c =
@@ -114,71 +180,54 @@ returns-in-Err-open_snapshot-clause-refused g c =
           (subst (λ (n : ℕ). IsRefused c.args.chunk n (g.B.Block.size c.args.store.device) (g.B.Block.contents c.args.store.device) c.in-Err-open_snapshot.refused.0) sectors c.in-Err-open_snapshot.ensures.refused),
     )
 
-pub returns-in-Ok-open_snapshot-clause-gained : goal.returns-in-Ok-open_snapshot-clause-gained
-returns-in-Ok-open_snapshot-clause-gained g c =
+pub returns-in-Err-open_snapshot-clause-does : goal.returns-in-Err-open_snapshot-clause-does
+returns-in-Err-open_snapshot-clause-does g c =
     let v : Volumed g.row.B.Denot = record { origin = c.self.inside.origin; snaps = c.self.inside.snaps.items; merge = c.self.inside.merge; flights = c.self.inside.flights.items; requests = c.self.inside.requests; copies = c.self.inside.copies; attached = c.self.inside.attached } in
-    let d = c.open_snapshot.new.origin in
-    let t : IsTriedOrigin g.B.Block.contents g.B.Block.layers g.B.Block.size v.origin d = tried_flushed g.B.Block.contents g.B.Block.layers g.B.Block.size g.B.Block.fault_count g.B.Block.done_count true v.origin d c.in-Ok-open_snapshot.ensures.origin in
-    let s : Kept g.row.B.Denot = c.in-Ok-open_snapshot.snap in
-    let o = c.in-Ok-open_snapshot.ensures.opened in
-    let pushed = c.push_reserved.ensures.items ∙ ap (λ (x : List (Kept g.row.B.Denot)). x ++ s ∷ []) c.reserve.ensures.items in
-    rw (← c.self.view_is) (record {
-      snap = c.in-Ok-open_snapshot.snap;
-      becomes = rw pushed refl;
-      origin = t;
-      flushed = c.in-Ok-open_snapshot.ensures.origin.operation.layers;
-      number_is = ap (λ (x : Kept g.row.B.Denot). x.number) o.fields;
-      fresh = attach_fresh g.B.Block.contents g.B.Block.layers g.B.Block.size _ c.self.invariant.whole _ refl;
-      live = ap (λ (x : Kept g.row.B.Denot). x.live) o.fields;
-      stale = ap (λ (x : Kept g.row.B.Denot). x.stale) o.fields;
-      untried = ap (λ (x : Kept g.row.B.Denot). x.untried) o.fields;
-      overflow_is = ap (λ (x : Kept g.row.B.Denot). x.overflow) o.fields;
-      copies = ap (λ (x : Kept g.row.B.Denot). x.copies) o.fields;
-      marks = ap (λ (x : Kept g.row.B.Denot). x.marks) o.fields;
-      sizes = c.in-Ok-open_snapshot.ensures.size;
-      loud = c.in-Ok-open_snapshot.ensures.loud;
-    })
+    record {
+      number = tt;
+      admitted = tt;
+      taken = tt;
+      unread = λ first. (let never : ◌≡◌ {A = Option Refusal} None (Some c.in-Err-open_snapshot.refused.0) = c.in-None.ensures.value ∙ first in absurd (cc));
+      gained = tt;
+      exact = tt;
+      back =
+          λ some _ quiet _ loud.
+          let e = c.in-Err-open_snapshot.ensures in
+          let none : attach_refusal c.args.store.stale c.args.chunk v ≡ None = ap (attach_refusal c.args.store.stale c.args.chunk) c.self.view_is ∙ sym c.in-None.ensures.value in
+          let few : c.self.inside.attached ≤ 4294967295 = omega (arith, c.self.ranges) in
+          let goes = admitted c.args.store.stale (is_some v.merge) (is_quiet_of v) (length v.snaps) v.attached c.args.chunk (overflow_of c.args.overflow) (store_of g.B.Block.contents g.B.Block.layers c.args.store) (volume_in g.B.Block.contents g.B.Block.layers v) few refl (count_in g.B.Block.contents g.B.Block.layers v) none in
+          let opens = e.given_back (other_memory c.in-Err-open_snapshot.refused.0 some) loud in
+          rw (← c.self.view_is, c.reserve.ensures.items) (back_is g.B.Block.contents g.B.Block.layers v c.open_snapshot.new.origin (v.attached + 1) c.args.chunk c.args.overflow c.args.store c.in-Err-open_snapshot.refused.1 c.in-Err-open_snapshot.refused.0 goes.2 opens (e.stale ∙ goes.1));
+      starved = λ is. ⊎_elim c.in-Err-open_snapshot.ensures.starved (λ full. absurd (subst (IsRefused c.args.chunk (g.B.Block.size c.self.inside.origin) (g.B.Block.size c.args.store.device) (g.B.Block.contents c.args.store.device)) full c.in-Err-open_snapshot.ensures.refused)) (starved_by c.in-Err-open_snapshot.refused.0 is);
+      size = c.in-Err-open_snapshot.ensures.size;
+      loud = c.in-Err-open_snapshot.ensures.loud;
+      stops = tt;
+      leaves = tt;
+      leaves_back =
+          let sectors : g.B.Block.size v.origin ≡ g.B.Block.size c.args.self.now.origin = ap (λ (x : Volumed g.row.B.Denot). g.B.Block.size x.origin) c.self.view_is in
+          λ loud. subst (λ n. Leaves (g.B.Block.may_hold c.args.store.device) (g.B.Block.may_hold c.in-Err-open_snapshot.refused.1.device) (g.B.Block.size c.args.store.device) (MayOpen c.args.chunk n (g.B.Block.size c.args.store.device) (g.B.Block.contents c.args.store.device) (found_in (sector_at (g.B.Block.contents c.args.store.device) 0)))) sectors (c.in-Err-open_snapshot.ensures.leaves loud);
+      origin_kept = rw (← c.self.view_is) c.open_snapshot.ensures.origin_kept;
+      origin_firm = tt;
+      firm = tt;
+      same =
+          let d = c.open_snapshot.new.origin in
+          let t = tried_back g.B.Block.contents g.B.Block.layers g.B.Block.size g.B.Block.fault_count g.B.Block.done_count c.in-Err-open_snapshot.refused.0 v.origin d c.in-Err-open_snapshot.ensures.origin in
+          rw (← c.self.view_is, c.reserve.ensures.items) (refused_over g.B.Block.contents g.B.Block.layers g.B.Block.size v d t.0 c.in-Err-open_snapshot.refused.0 t.1);
+      stale = c.in-Err-open_snapshot.ensures.stale;
+      faults = subst (λ (x : Volumed g.row.B.Denot). IsCountedFor c.in-Err-open_snapshot.refused.0 (g.B.Block.fault_count c.args.store.device, g.B.Block.fault_count c.in-Err-open_snapshot.refused.1.device) (g.B.Block.fault_count x.origin, g.B.Block.fault_count c.open_snapshot.new.origin)) c.self.view_is c.in-Err-open_snapshot.ensures.faults;
+    }
 
-pub returns-in-Ok-open_snapshot-clause-exact : goal.returns-in-Ok-open_snapshot-clause-exact
-returns-in-Ok-open_snapshot-clause-exact g c = λ _ loud.
+pub returns-in-Some-clause-does : goal.returns-in-Some-clause-does
+returns-in-Some-clause-does g c =
     let v : Volumed g.row.B.Denot = record { origin = c.self.inside.origin; snaps = c.self.inside.snaps.items; merge = c.self.inside.merge; flights = c.self.inside.flights.items; requests = c.self.inside.requests; copies = c.self.inside.copies; attached = c.self.inside.attached } in
-    let d = c.open_snapshot.new.origin in
-    let t : IsTriedOrigin g.B.Block.contents g.B.Block.layers g.B.Block.size v.origin d = tried_flushed g.B.Block.contents g.B.Block.layers g.B.Block.size g.B.Block.fault_count g.B.Block.done_count true v.origin d c.in-Ok-open_snapshot.ensures.origin in
-    let s : Kept g.row.B.Denot = c.in-Ok-open_snapshot.snap in
-    let e = c.in-Ok-open_snapshot.ensures in
-    let o = c.in-Ok-open_snapshot.ensures.opened in
-    let none : attach_refusal c.args.store.stale c.args.chunk v ≡ None = ap (attach_refusal c.args.store.stale c.args.chunk) c.self.view_is ∙ sym c.in-None.ensures.value in
-    let few : c.self.inside.attached ≤ 4294967295 = omega (arith, c.self.ranges) in
-    let goes = admitted c.args.store.stale (is_some v.merge) (is_quiet_of v) (length v.snaps) v.attached c.args.chunk (overflow_of c.args.overflow) (store_of g.B.Block.contents g.B.Block.layers c.args.store) (volume_in g.B.Block.contents g.B.Block.layers v) few refl (count_in g.B.Block.contents g.B.Block.layers v) none in
-    let opens = e.exact loud in
-    let number : s.number ≡ v.attached + 1 = ap (λ (x : Kept g.row.B.Denot). x.number) o.fields in
-    let new : IsNewSnap (g.B.Block.contents v.origin) (snap_books g.B.Block.contents g.B.Block.layers s) = e.new (g.B.Block.contents v.origin) (g.met.B.Block.whole v.origin) in
-    let pushed = c.push_reserved.ensures.items ∙ ap (λ (x : List (Kept g.row.B.Denot)). x ++ s ∷ []) c.reserve.ensures.items in
-    let unzeroed : s.state.zeroed ≡ false = unzeroed_of g.B.Block.contents g.B.Block.layers (v.attached + 1) c.args.chunk (g.B.Block.size v.origin) (g.B.Block.size c.args.store.device) c.args.overflow c.args.store.device s o in
-    let unfirm : s.state.firm ≡ false = unfirm_of g.B.Block.contents g.B.Block.layers (v.attached + 1) c.args.chunk (g.B.Block.size v.origin) (g.B.Block.size c.args.store.device) c.args.overflow c.args.store.device s o in
-    let here = resting g.B.Block.contents g.B.Block.layers (g.B.Block.size v.origin) (g.B.Block.size c.args.store.device) c.args.chunk (g.B.Block.contents v.origin) (device_of g.B.Block.contents g.B.Block.layers v.origin) (device_of g.B.Block.contents g.B.Block.layers d) (device_of g.B.Block.contents g.B.Block.layers c.args.store.device) s
-    (g.met.B.Block.small v.origin) (g.met.B.Block.small c.args.store.device) (is_chunk-some c.args.chunk goes.0) (g.met.B.Block.whole v.origin) (g.met.B.Block.whole c.args.store.device) opens (e.loud ∙ loud) new o.next unzeroed unfirm (ap (λ (x : Kept g.row.B.Denot). x.marked) o.fields) in
-    rw (← c.self.view_is) (attached_is g.B.Block.contents g.B.Block.layers v d (v.attached + 1) (g.B.Block.size v.origin) c.args.chunk c.args.overflow c.args.store s c.push_reserved.new.self.items (g.met.B.Block.whole v.origin) t.contents_are goes.2 opens number
-    (ap (λ (x : Kept g.row.B.Denot). x.live) o.fields) (ap (λ (x : Kept g.row.B.Denot). x.overflow) o.fields) (ap (λ (x : Kept g.row.B.Denot). x.stale) o.fields) here pushed)
-
-pub returns-in-Err-open_snapshot-clause-back : goal.returns-in-Err-open_snapshot-clause-back
-returns-in-Err-open_snapshot-clause-back g c = λ some _ quiet _ loud.
-    let v : Volumed g.row.B.Denot = record { origin = c.self.inside.origin; snaps = c.self.inside.snaps.items; merge = c.self.inside.merge; flights = c.self.inside.flights.items; requests = c.self.inside.requests; copies = c.self.inside.copies; attached = c.self.inside.attached } in
-    let e = c.in-Err-open_snapshot.ensures in
-    let none : attach_refusal c.args.store.stale c.args.chunk v ≡ None = ap (attach_refusal c.args.store.stale c.args.chunk) c.self.view_is ∙ sym c.in-None.ensures.value in
-    let few : c.self.inside.attached ≤ 4294967295 = omega (arith, c.self.ranges) in
-    let goes = admitted c.args.store.stale (is_some v.merge) (is_quiet_of v) (length v.snaps) v.attached c.args.chunk (overflow_of c.args.overflow) (store_of g.B.Block.contents g.B.Block.layers c.args.store) (volume_in g.B.Block.contents g.B.Block.layers v) few refl (count_in g.B.Block.contents g.B.Block.layers v) none in
-    let opens = e.given_back some loud in
-    rw (← c.self.view_is, c.reserve.ensures.items) (back_is g.B.Block.contents g.B.Block.layers v c.open_snapshot.new.origin (v.attached + 1) c.args.chunk c.args.overflow c.args.store c.in-Err-open_snapshot.refused.1 c.in-Err-open_snapshot.refused.0 goes.2 opens (e.stale ∙ goes.1))
-
-pub returns-in-Some-clause-back : goal.returns-in-Some-clause-back
-returns-in-Some-clause-back g c = λ _ alone quiet _ _.
-    let v : Volumed g.row.B.Denot = record { origin = c.self.inside.origin; snaps = c.self.inside.snaps.items; merge = c.self.inside.merge; flights = c.self.inside.flights.items; requests = c.self.inside.requests; copies = c.self.inside.copies; attached = c.self.inside.attached } in
+    let m : Measures g.row.B.Denot = record { contents = g.B.Block.contents; durable = g.B.Block.durable; size = g.B.Block.size; faults = g.B.Block.fault_count; done = g.B.Block.done_count } in
+    rw (← c.self.view_is) (not_attached g.B.Block.may_hold m g.B.Block.layers c.args.store c.args.chunk c.args.overflow c.in-Some.refusal v v refl
+    (λ _ alone calm.
     let few : c.self.inside.attached ≤ 4294967295 = omega (arith, c.self.ranges) in
     let why : attach_refusal c.args.store.stale c.args.chunk v ≡ Some c.in-Some.refusal = ap (attach_refusal c.args.store.stale c.args.chunk) c.self.view_is ∙ sym c.in-Some.ensures.value in
-    let begun : is_some v.merge ≡ false = ap (λ (x : Volumed g.row.B.Denot). is_some x.merge) c.self.view_is ∙ ap is_some alone in
-    let calm : is_quiet_of v ≡ true = ap is_quiet_of c.self.view_is ∙ quiet in
-    rw (← c.self.view_is) (refused_before c.args.store.stale (is_some v.merge) (is_quiet_of v) (length v.snaps) v.attached c.args.chunk (overflow_of c.args.overflow) (store_of g.B.Block.contents g.B.Block.layers c.args.store) (volume_in g.B.Block.contents g.B.Block.layers v) c.in-Some.refusal few begun calm refl (count_in g.B.Block.contents g.B.Block.layers v) why)
+    let begun : is_some v.merge ≡ false = ap is_some alone in
+    refused_before c.args.store.stale (is_some v.merge) (is_quiet_of v) (length v.snaps) v.attached c.args.chunk (overflow_of c.args.overflow) (store_of g.B.Block.contents g.B.Block.layers c.args.store) (volume_in g.B.Block.contents g.B.Block.layers v) c.in-Some.refusal few begun calm refl (count_in g.B.Block.contents g.B.Block.layers v) why)
+    c.in-Some.ensures.faultless)
 
 pub overflow_add-number : goal.overflow_add-number
 overflow_add-number g c =
@@ -187,15 +236,6 @@ overflow_add-number g c =
     let none : attach_refusal c.args.store.stale c.args.chunk v ≡ None = ap (attach_refusal c.args.store.stale c.args.chunk) c.self.view_is ∙ sym c.in-None.ensures.value in
     let left = number_left c.args.store.stale (is_some v.merge) (is_quiet_of v) (length v.snaps) v.attached c.args.chunk few none in
     omega (arith, left)
-
-pub returns-in-Ok-open_snapshot-clause-loud : goal.returns-in-Ok-open_snapshot-clause-loud
-returns-in-Ok-open_snapshot-clause-loud g c =
-    let v : Volumed g.row.B.Denot = record { origin = c.self.inside.origin; snaps = c.self.inside.snaps.items; merge = c.self.inside.merge; flights = c.self.inside.flights.items; requests = c.self.inside.requests; copies = c.self.inside.copies; attached = c.self.inside.attached } in
-    let d = c.open_snapshot.new.origin in
-    let t : IsTriedOrigin g.B.Block.contents g.B.Block.layers g.B.Block.size v.origin d = tried_flushed g.B.Block.contents g.B.Block.layers g.B.Block.size g.B.Block.fault_count g.B.Block.done_count true v.origin d c.in-Ok-open_snapshot.ensures.origin in
-    let s : Kept g.row.B.Denot = c.in-Ok-open_snapshot.snap in
-    let pushed = c.push_reserved.ensures.items ∙ ap (λ (x : List (Kept g.row.B.Denot)). x ++ s ∷ []) c.reserve.ensures.items in
-    rw (← c.self.view_is) (loud_taken_as g.B.Block.contents g.B.Block.layers v d (v.attached + 1) c.args.store.device s c.push_reserved.new.self.items t.loud_is pushed c.in-Ok-open_snapshot.ensures.loud)
 
 pub invariant_of-self-in-Err-open_snapshot : goal.invariant_of-self-in-Err-open_snapshot
 invariant_of-self-in-Err-open_snapshot g c = record {
@@ -215,68 +255,8 @@ invariant_of-self-in-Err-open_snapshot g c = record {
       rw c.reserve.ensures.items (record { snaps = all; merge = array });
 }
 
-pub returns-in-Err-open_snapshot-clause-same : goal.returns-in-Err-open_snapshot-clause-same
-returns-in-Err-open_snapshot-clause-same g c =
+pub returns-in-Err-clause-does : goal.returns-in-Err-clause-does
+returns-in-Err-clause-does g c =
     let v : Volumed g.row.B.Denot = record { origin = c.self.inside.origin; snaps = c.self.inside.snaps.items; merge = c.self.inside.merge; flights = c.self.inside.flights.items; requests = c.self.inside.requests; copies = c.self.inside.copies; attached = c.self.inside.attached } in
-    let d = c.open_snapshot.new.origin in
-    let t = tried_back g.B.Block.contents g.B.Block.layers g.B.Block.size g.B.Block.fault_count g.B.Block.done_count c.in-Err-open_snapshot.refused.0 v.origin d c.in-Err-open_snapshot.ensures.origin in
-    rw (← c.self.view_is, c.reserve.ensures.items) (refused_over g.B.Block.contents g.B.Block.layers g.B.Block.size v d t.0 c.in-Err-open_snapshot.refused.0 t.1)
-
-pub returns-in-Some-clause-same : goal.returns-in-Some-clause-same
-returns-in-Some-clause-same g c = rw (← c.self.view_is) (refused_still g.B.Block.contents g.B.Block.layers g.B.Block.size (record { origin = c.self.inside.origin; snaps = c.self.inside.snaps.items; merge = c.self.inside.merge; flights = c.self.inside.flights.items; requests = c.self.inside.requests; copies = c.self.inside.copies; attached = c.self.inside.attached }) c.in-Some.refusal)
-
-pub returns-in-Err-clause-same : goal.returns-in-Err-clause-same
-returns-in-Err-clause-same g c = rw (← c.self.view_is, c.reserve.ensures.items) (refused_still g.B.Block.contents g.B.Block.layers g.B.Block.size (record { origin = c.self.inside.origin; snaps = c.self.inside.snaps.items; merge = c.self.inside.merge; flights = c.self.inside.flights.items; requests = c.self.inside.requests; copies = c.self.inside.copies; attached = c.self.inside.attached }) NoMemory)
-
-pub returns-in-Ok-open_snapshot-clause-leaves : goal.returns-in-Ok-open_snapshot-clause-leaves
-returns-in-Ok-open_snapshot-clause-leaves g c =
-    let v : Volumed g.row.B.Denot = record { origin = c.self.inside.origin; snaps = c.self.inside.snaps.items; merge = c.self.inside.merge; flights = c.self.inside.flights.items; requests = c.self.inside.requests; copies = c.self.inside.copies; attached = c.self.inside.attached } in
-    let s : Kept g.row.B.Denot = c.in-Ok-open_snapshot.snap in
-    let pushed : c.push_reserved.new.self.items ≡ v.snaps ++ s ∷ [] = c.push_reserved.ensures.items ∙ ap (λ (ys : List (Kept g.row.B.Denot)). ys ++ s ∷ []) c.reserve.ensures.items in
-    let here : length c.args.self.now.snaps ≡ length v.snaps = ap (λ (x : Volumed g.row.B.Denot). length x.snaps) (sym c.self.view_is) in
-    let sectors : g.B.Block.size v.origin ≡ g.B.Block.size c.args.self.now.origin = ap (λ (x : Volumed g.row.B.Denot). g.B.Block.size x.origin) c.self.view_is in
-    λ loud x at. (let is : x ≡ s = at ∙ ap (λ n. get_or c.push_reserved.new.self.items n x) here ∙ ap (λ ys. get_or ys (length v.snaps) x) pushed ∙ get_or-append_seam v.snaps s [] x in
-    subst (λ n. Leaves (g.B.Block.may_hold c.args.store.device) (g.B.Block.may_hold x.device) (g.B.Block.size c.args.store.device) (MayOpen c.args.chunk n (g.B.Block.size c.args.store.device) (g.B.Block.contents c.args.store.device) (found_in (sector_at (g.B.Block.contents c.args.store.device) 0)))) sectors
-    (subst (λ (y : Kept g.row.B.Denot). Leaves (g.B.Block.may_hold c.args.store.device) (g.B.Block.may_hold y.device) (g.B.Block.size c.args.store.device) (MayOpen c.args.chunk (g.B.Block.size v.origin) (g.B.Block.size c.args.store.device) (g.B.Block.contents c.args.store.device) (found_in (sector_at (g.B.Block.contents c.args.store.device) 0)))) (sym is) (c.in-Ok-open_snapshot.ensures.leaves loud)))
-
-pub returns-in-Ok-open_snapshot-clause-firm : goal.returns-in-Ok-open_snapshot-clause-firm
-returns-in-Ok-open_snapshot-clause-firm g c =
-    let v : Volumed g.row.B.Denot = record { origin = c.self.inside.origin; snaps = c.self.inside.snaps.items; merge = c.self.inside.merge; flights = c.self.inside.flights.items; requests = c.self.inside.requests; copies = c.self.inside.copies; attached = c.self.inside.attached } in
-    let s : Kept g.row.B.Denot = c.in-Ok-open_snapshot.snap in
-    let pushed : c.push_reserved.new.self.items ≡ v.snaps ++ s ∷ [] = c.push_reserved.ensures.items ∙ ap (λ (ys : List (Kept g.row.B.Denot)). ys ++ s ∷ []) c.reserve.ensures.items in
-    let here : length c.args.self.now.snaps ≡ length v.snaps = ap (λ (x : Volumed g.row.B.Denot). length x.snaps) (sym c.self.view_is) in
-    λ loud x at. (let is : x ≡ s = at ∙ ap (λ n. get_or c.push_reserved.new.self.items n x) here ∙ ap (λ ys. get_or ys (length v.snaps) x) pushed ∙ get_or-append_seam v.snaps s [] x in
-    subst (λ (y : Kept g.row.B.Denot). IsFirm (g.B.Block.may_hold y.device) (g.B.Block.contents y.device) (g.B.Block.size y.device)) (sym is) (c.in-Ok-open_snapshot.ensures.firm loud))
-
-pub returns-in-Ok-open_snapshot-clause-origin_firm : goal.returns-in-Ok-open_snapshot-clause-origin_firm
-returns-in-Ok-open_snapshot-clause-origin_firm g c =
-    rw (← c.self.view_is) c.in-Ok-open_snapshot.ensures.origin_firm
-
-pub returns-in-Ok-open_snapshot-clause-origin_kept : goal.returns-in-Ok-open_snapshot-clause-origin_kept
-returns-in-Ok-open_snapshot-clause-origin_kept g c =
-    rw (← c.self.view_is) c.open_snapshot.ensures.origin_kept
-
-pub returns-in-Err-open_snapshot-clause-origin_kept : goal.returns-in-Err-open_snapshot-clause-origin_kept
-returns-in-Err-open_snapshot-clause-origin_kept g c =
-    rw (← c.self.view_is) c.open_snapshot.ensures.origin_kept
-
-pub returns-in-Some-clause-leaves_back : goal.returns-in-Some-clause-leaves_back
-returns-in-Some-clause-leaves_back g c =
-    λ _ bytes left. inl left
-
-pub returns-in-Err-clause-leaves_back : goal.returns-in-Err-clause-leaves_back
-returns-in-Err-clause-leaves_back g c =
-    λ _ bytes left. inl left
-
-pub returns-in-Err-open_snapshot-clause-leaves_back : goal.returns-in-Err-open_snapshot-clause-leaves_back
-returns-in-Err-open_snapshot-clause-leaves_back g c =
-    let v : Volumed g.row.B.Denot = record { origin = c.self.inside.origin; snaps = c.self.inside.snaps.items; merge = c.self.inside.merge; flights = c.self.inside.flights.items; requests = c.self.inside.requests; copies = c.self.inside.copies; attached = c.self.inside.attached } in
-    let sectors : g.B.Block.size v.origin ≡ g.B.Block.size c.args.self.now.origin = ap (λ (x : Volumed g.row.B.Denot). g.B.Block.size x.origin) c.self.view_is in
-    λ loud. subst (λ n. Leaves (g.B.Block.may_hold c.args.store.device) (g.B.Block.may_hold c.in-Err-open_snapshot.refused.1.device) (g.B.Block.size c.args.store.device) (MayOpen c.args.chunk n (g.B.Block.size c.args.store.device) (g.B.Block.contents c.args.store.device) (found_in (sector_at (g.B.Block.contents c.args.store.device) 0)))) sectors (c.in-Err-open_snapshot.ensures.leaves loud)
-
-pub returns-in-Some-clause-faults : goal.returns-in-Some-clause-faults
-returns-in-Some-clause-faults g c = inl (sym (c.in-Some.ensures.faultless (g.B.Block.fault_count c.args.store.device)))
-
-pub returns-in-Err-open_snapshot-clause-faults : goal.returns-in-Err-open_snapshot-clause-faults
-returns-in-Err-open_snapshot-clause-faults g c =
-    subst (λ (x : Volumed g.row.B.Denot). IsCountedFor c.in-Err-open_snapshot.refused.0 (g.B.Block.fault_count c.args.store.device, g.B.Block.fault_count c.in-Err-open_snapshot.refused.1.device) (g.B.Block.fault_count x.origin, g.B.Block.fault_count c.open_snapshot.new.origin)) c.self.view_is c.in-Err-open_snapshot.ensures.faults
+    let m : Measures g.row.B.Denot = record { contents = g.B.Block.contents; durable = g.B.Block.durable; size = g.B.Block.size; faults = g.B.Block.fault_count; done = g.B.Block.done_count } in
+    rw (← c.self.view_is, c.reserve.ensures.items) (not_tried g.B.Block.may_hold m g.B.Block.layers c.args.store c.args.chunk c.args.overflow NoMemory v v refl refl)

@@ -50,12 +50,21 @@ invariant_of-self g c = record {
       rw (after) (record { snaps = all_hidden g.B.Block.may_hold g.B.Block.contents g.B.Block.layers g.B.Block.size g.met.B.Block.whole g.met.B.Block.holds_now v.origin v.snaps c.keep_back_all.new.snaps same c.self.invariant.lasting.snaps; merge = c.self.invariant.lasting.merge });
 }
 
-pub returns-in-Err-keep_back_all-clause-loud : goal.returns-in-Err-keep_back_all-clause-loud
-returns-in-Err-keep_back_all-clause-loud g c =
+pub returns-in-Err-keep_back_all-clause-does : goal.returns-in-Err-keep_back_all-clause-does
+returns-in-Err-keep_back_all-clause-does g c =
     let v : Volumed g.row.B.Denot = record { origin = c.self.inside.origin; snaps = c.self.inside.snaps.items; merge = c.self.inside.merge; flights = c.self.inside.flights.items; requests = c.self.inside.requests; copies = c.self.inside.copies; attached = c.self.inside.attached } in
     let after = back c.self.inside.snaps.len c.keep_back_all.new.snaps c.self.inside.snaps.items (c.keep_back_all.auto.snaps ∙ c.as_mut_slice.ensures.len) in
     let same : map (unkept {B = g.row.B.Denot}) c.keep_back_all.new.snaps ≡ map unkept v.snaps = ap (map (unkept {B = g.row.B.Denot})) (c.in-Err-keep_back_all.ensures.err ∙ ap (map (unkept {B = g.row.B.Denot})) c.as_mut_slice.ensures.value) ∙ twice_unkept v.snaps in
-    rw (← c.self.view_is, after) (loud_kept g.B.Block.contents g.B.Block.layers g.B.Block.size v c.keep_back_all.new.snaps same)
+    record {
+      admitted = tt;
+      begun = tt;
+      legal = tt;
+      exact = tt;
+      loud = rw (← c.self.view_is, after) (loud_kept g.B.Block.contents g.B.Block.layers g.B.Block.size v c.keep_back_all.new.snaps same);
+      stops = tt;
+      hands = tt;
+      starved = λ replied. rw (← c.self.view_is, after) (moving_kept g.B.Block.contents g.B.Block.layers g.B.Block.size v c.keep_back_all.new.snaps same replied);
+    }
 
 pub returns-in-Err-keep_back_all-clause-refused : goal.returns-in-Err-keep_back_all-clause-refused
 returns-in-Err-keep_back_all-clause-refused g c =
@@ -65,13 +74,6 @@ returns-in-Err-keep_back_all-clause-refused g c =
     let after = back c.self.inside.snaps.len c.keep_back_all.new.snaps c.self.inside.snaps.items (c.keep_back_all.auto.snaps ∙ c.as_mut_slice.ensures.len) in
     let none : c.keep_back_all.new.snaps ≡ map unkept v.snaps = c.in-Err-keep_back_all.ensures.err ∙ ap (map (unkept {B = g.row.B.Denot})) c.as_mut_slice.ensures.value in
     rw (← c.self.view_is, after) (inr (admitted, c.in-Err-keep_back_all.ensures.refusal, record { kept = inr none; becomes = refl }))
-
-pub returns-in-Err-keep_back_all-clause-starved : goal.returns-in-Err-keep_back_all-clause-starved
-returns-in-Err-keep_back_all-clause-starved g c =
-    let v : Volumed g.row.B.Denot = record { origin = c.self.inside.origin; snaps = c.self.inside.snaps.items; merge = c.self.inside.merge; flights = c.self.inside.flights.items; requests = c.self.inside.requests; copies = c.self.inside.copies; attached = c.self.inside.attached } in
-    let after = back c.self.inside.snaps.len c.keep_back_all.new.snaps c.self.inside.snaps.items (c.keep_back_all.auto.snaps ∙ c.as_mut_slice.ensures.len) in
-    let same : map (unkept {B = g.row.B.Denot}) c.keep_back_all.new.snaps ≡ map unkept v.snaps = ap (map (unkept {B = g.row.B.Denot})) (c.in-Err-keep_back_all.ensures.err ∙ ap (map (unkept {B = g.row.B.Denot})) c.as_mut_slice.ensures.value) ∙ twice_unkept v.snaps in
-    λ replied. rw (← c.self.view_is, after) (moving_kept g.B.Block.contents g.B.Block.layers g.B.Block.size v c.keep_back_all.new.snaps same replied)
 
 pub remove-snap-requires : goal.remove-snap-requires
 remove-snap-requires g c =
@@ -171,8 +173,8 @@ invariant_of-self-2 g c = record {
       rw (left, made) (record { snaps = both.0; merge = both.1 });
 }
 
-pub returns-clause-begun : goal.returns-clause-begun
-returns-clause-begun g c =
+pub returns-clause-does : goal.returns-clause-does
+returns-clause-does g c =
     let v : Volumed g.row.B.Denot = record { origin = c.self.inside.origin; snaps = c.self.inside.snaps.items; merge = c.self.inside.merge; flights = c.self.inside.flights.items; requests = c.self.inside.requests; copies = c.self.inside.copies; attached = c.self.inside.attached } in
     let admitted : begin_refusal c.args.number v ≡ None = ap (begin_refusal c.args.number) c.self.view_is ∙ c.in-Ok.ensures.ok.0 in
     let place : Some c.in-Ok.k ≡ place_of_snap c.args.number v.snaps = c.in-Ok.ensures.ok.1 ∙ ap (λ (x : Volumed g.row.B.Denot). place_of_snap c.args.number x.snaps) (sym c.self.view_is) in
@@ -190,88 +192,13 @@ returns-clause-begun g c =
     let e = c.into_store.ensures in
     let made = c.replace.ensures.after ∙ ap Some (c.begin-begun.ensures.begun ∙ made_from s c.args.number c.into_store.result.device c.into_store.result.state c.into_store.result.places.next (committed c.into_store.result.exceptions) c.in-Ok-vec.buffer.items mine e.device e.state e.next e.pairs) in
     let left = c.remove-snap.ensures.items ∙ ap (λ (xs : List (Kept g.row.B.Denot)). remove xs c.in-Ok.k) after in
-    rw (← c.self.view_is, left, made) (is_begun v c.args.number c.in-Ok.k admitted place c.len-count.result c.chunk-chunk.result c.keep_back_all.new.snaps kept s is g.B.Block.contents g.B.Block.layers g.B.Block.size c.self.invariant.whole c.in-Ok-vec.buffer.items sized counts chunks)
-
-pub returns-clause-legal : goal.returns-clause-legal
-returns-clause-legal g c =
-    let v : Volumed g.row.B.Denot = record { origin = c.self.inside.origin; snaps = c.self.inside.snaps.items; merge = c.self.inside.merge; flights = c.self.inside.flights.items; requests = c.self.inside.requests; copies = c.self.inside.copies; attached = c.self.inside.attached } in
-    let admitted : begin_refusal c.args.number v ≡ None = ap (begin_refusal c.args.number) c.self.view_is ∙ c.in-Ok.ensures.ok.0 in
-    let place : Some c.in-Ok.k ≡ place_of_snap c.args.number v.snaps = c.in-Ok.ensures.ok.1 ∙ ap (λ (x : Volumed g.row.B.Denot). place_of_snap c.args.number x.snaps) (sym c.self.view_is) in
-    let after = back c.self.inside.snaps.len c.keep_back_all.new.snaps c.self.inside.snaps.items (c.keep_back_all.auto.snaps ∙ c.as_mut_slice.ensures.len) in
-    let kept : c.keep_back_all.new.snaps ≡ map (kept_for c.args.number c.len-count.result c.chunk-chunk.result) v.snaps = c.in-Ok-keep_back_all.ensures.ok ∙ ap (map (kept_for c.args.number c.len-count.result c.chunk-chunk.result)) c.as_mut_slice.ensures.value in
-    let s : Kept g.row.B.Denot = c.remove-snap.result in
-    let is : s ≡ get_or c.keep_back_all.new.snaps c.in-Ok.k s = c.remove-snap.ensures.value ∙ ap (λ (xs : List (Kept g.row.B.Denot)). get_or xs c.in-Ok.k s) after in
-    let lt = within v c.args.number c.in-Ok.k admitted place in
-    let at : c.index.result.now ≡ get_or v.snaps c.in-Ok.k s = c.index.ensures ∙ get_or_default v.snaps c.in-Ok.k c.index.result.now s lt in
-    let sized : length c.in-Ok-vec.buffer.items ≡ 512 * s.state.chunk =
-    sym c.in-Ok-vec.buffer.ok.0 ∙ c.in-Ok-vec.ensures.len ∙ ap (λ n. 512 * n) (c.chunk-chunk.ensures.is ∙ ap (λ (t : Kept g.row.B.Denot). t.state.chunk) at ∙ sym (chunk_now v c.args.number c.in-Ok.k admitted place c.len-count.result c.chunk-chunk.result c.keep_back_all.new.snaps kept s is)) in
-    let counts : c.len-count.result ≡ length (get_or v.snaps c.in-Ok.k s).pairs = c.len-count.ensures ∙ ap (λ (t : Kept g.row.B.Denot). length t.pairs) (c.index-2.ensures ∙ get_or_default v.snaps c.in-Ok.k c.index-2.result.now s lt) in
-    let chunks : c.chunk-chunk.result ≡ (get_or v.snaps c.in-Ok.k s).state.chunk = c.chunk-chunk.ensures.is ∙ ap (λ (t : Kept g.row.B.Denot). t.state.chunk) at in
-    let mine = number_now v c.args.number c.in-Ok.k admitted place c.len-count.result c.chunk-chunk.result c.keep_back_all.new.snaps kept s is in
-    let e = c.into_store.ensures in
-    let made = c.replace.ensures.after ∙ ap Some (c.begin-begun.ensures.begun ∙ made_from s c.args.number c.into_store.result.device c.into_store.result.state c.into_store.result.places.next (committed c.into_store.result.exceptions) c.in-Ok-vec.buffer.items mine e.device e.state e.next e.pairs) in
-    let left = c.remove-snap.ensures.items ∙ ap (λ (xs : List (Kept g.row.B.Denot)). remove xs c.in-Ok.k) after in
-    λ _. rw (← c.self.view_is, left, made) (plain_after v c.args.number c.in-Ok.k admitted place c.len-count.result c.chunk-chunk.result c.keep_back_all.new.snaps kept s is g.B.Block.contents g.B.Block.layers g.B.Block.size c.self.invariant.whole c.in-Ok-vec.buffer.items sized counts chunks)
-
-pub returns-clause-exact : goal.returns-clause-exact
-returns-clause-exact g c =
-    let v : Volumed g.row.B.Denot = record { origin = c.self.inside.origin; snaps = c.self.inside.snaps.items; merge = c.self.inside.merge; flights = c.self.inside.flights.items; requests = c.self.inside.requests; copies = c.self.inside.copies; attached = c.self.inside.attached } in
-    let admitted : begin_refusal c.args.number v ≡ None = ap (begin_refusal c.args.number) c.self.view_is ∙ c.in-Ok.ensures.ok.0 in
-    let place : Some c.in-Ok.k ≡ place_of_snap c.args.number v.snaps = c.in-Ok.ensures.ok.1 ∙ ap (λ (x : Volumed g.row.B.Denot). place_of_snap c.args.number x.snaps) (sym c.self.view_is) in
-    let after = back c.self.inside.snaps.len c.keep_back_all.new.snaps c.self.inside.snaps.items (c.keep_back_all.auto.snaps ∙ c.as_mut_slice.ensures.len) in
-    let kept : c.keep_back_all.new.snaps ≡ map (kept_for c.args.number c.len-count.result c.chunk-chunk.result) v.snaps = c.in-Ok-keep_back_all.ensures.ok ∙ ap (map (kept_for c.args.number c.len-count.result c.chunk-chunk.result)) c.as_mut_slice.ensures.value in
-    let s : Kept g.row.B.Denot = c.remove-snap.result in
-    let is : s ≡ get_or c.keep_back_all.new.snaps c.in-Ok.k s = c.remove-snap.ensures.value ∙ ap (λ (xs : List (Kept g.row.B.Denot)). get_or xs c.in-Ok.k s) after in
-    let lt = within v c.args.number c.in-Ok.k admitted place in
-    let at : c.index.result.now ≡ get_or v.snaps c.in-Ok.k s = c.index.ensures ∙ get_or_default v.snaps c.in-Ok.k c.index.result.now s lt in
-    let sized : length c.in-Ok-vec.buffer.items ≡ 512 * s.state.chunk =
-    sym c.in-Ok-vec.buffer.ok.0 ∙ c.in-Ok-vec.ensures.len ∙ ap (λ n. 512 * n) (c.chunk-chunk.ensures.is ∙ ap (λ (t : Kept g.row.B.Denot). t.state.chunk) at ∙ sym (chunk_now v c.args.number c.in-Ok.k admitted place c.len-count.result c.chunk-chunk.result c.keep_back_all.new.snaps kept s is)) in
-    let counts : c.len-count.result ≡ length (get_or v.snaps c.in-Ok.k s).pairs = c.len-count.ensures ∙ ap (λ (t : Kept g.row.B.Denot). length t.pairs) (c.index-2.ensures ∙ get_or_default v.snaps c.in-Ok.k c.index-2.result.now s lt) in
-    let chunks : c.chunk-chunk.result ≡ (get_or v.snaps c.in-Ok.k s).state.chunk = c.chunk-chunk.ensures.is ∙ ap (λ (t : Kept g.row.B.Denot). t.state.chunk) at in
-    let mine = number_now v c.args.number c.in-Ok.k admitted place c.len-count.result c.chunk-chunk.result c.keep_back_all.new.snaps kept s is in
-    let e = c.into_store.ensures in
-    let made = c.replace.ensures.after ∙ ap Some (c.begin-begun.ensures.begun ∙ made_from s c.args.number c.into_store.result.device c.into_store.result.state c.into_store.result.places.next (committed c.into_store.result.exceptions) c.in-Ok-vec.buffer.items mine e.device e.state e.next e.pairs) in
-    let left = c.remove-snap.ensures.items ∙ ap (λ (xs : List (Kept g.row.B.Denot)). remove xs c.in-Ok.k) after in
-    λ replied. rw (← c.self.view_is, left, made) (exact_after v c.args.number c.in-Ok.k admitted place c.len-count.result c.chunk-chunk.result c.keep_back_all.new.snaps kept s is g.B.Block.contents g.B.Block.layers g.B.Block.size c.self.invariant.whole c.in-Ok-vec.buffer.items sized counts chunks replied)
-
-pub returns-clause-loud : goal.returns-clause-loud
-returns-clause-loud g c =
-    let v : Volumed g.row.B.Denot = record { origin = c.self.inside.origin; snaps = c.self.inside.snaps.items; merge = c.self.inside.merge; flights = c.self.inside.flights.items; requests = c.self.inside.requests; copies = c.self.inside.copies; attached = c.self.inside.attached } in
-    let admitted : begin_refusal c.args.number v ≡ None = ap (begin_refusal c.args.number) c.self.view_is ∙ c.in-Ok.ensures.ok.0 in
-    let place : Some c.in-Ok.k ≡ place_of_snap c.args.number v.snaps = c.in-Ok.ensures.ok.1 ∙ ap (λ (x : Volumed g.row.B.Denot). place_of_snap c.args.number x.snaps) (sym c.self.view_is) in
-    let after = back c.self.inside.snaps.len c.keep_back_all.new.snaps c.self.inside.snaps.items (c.keep_back_all.auto.snaps ∙ c.as_mut_slice.ensures.len) in
-    let kept : c.keep_back_all.new.snaps ≡ map (kept_for c.args.number c.len-count.result c.chunk-chunk.result) v.snaps = c.in-Ok-keep_back_all.ensures.ok ∙ ap (map (kept_for c.args.number c.len-count.result c.chunk-chunk.result)) c.as_mut_slice.ensures.value in
-    let s : Kept g.row.B.Denot = c.remove-snap.result in
-    let is : s ≡ get_or c.keep_back_all.new.snaps c.in-Ok.k s = c.remove-snap.ensures.value ∙ ap (λ (xs : List (Kept g.row.B.Denot)). get_or xs c.in-Ok.k s) after in
-    let lt = within v c.args.number c.in-Ok.k admitted place in
-    let at : c.index.result.now ≡ get_or v.snaps c.in-Ok.k s = c.index.ensures ∙ get_or_default v.snaps c.in-Ok.k c.index.result.now s lt in
-    let sized : length c.in-Ok-vec.buffer.items ≡ 512 * s.state.chunk =
-    sym c.in-Ok-vec.buffer.ok.0 ∙ c.in-Ok-vec.ensures.len ∙ ap (λ n. 512 * n) (c.chunk-chunk.ensures.is ∙ ap (λ (t : Kept g.row.B.Denot). t.state.chunk) at ∙ sym (chunk_now v c.args.number c.in-Ok.k admitted place c.len-count.result c.chunk-chunk.result c.keep_back_all.new.snaps kept s is)) in
-    let counts : c.len-count.result ≡ length (get_or v.snaps c.in-Ok.k s).pairs = c.len-count.ensures ∙ ap (λ (t : Kept g.row.B.Denot). length t.pairs) (c.index-2.ensures ∙ get_or_default v.snaps c.in-Ok.k c.index-2.result.now s lt) in
-    let chunks : c.chunk-chunk.result ≡ (get_or v.snaps c.in-Ok.k s).state.chunk = c.chunk-chunk.ensures.is ∙ ap (λ (t : Kept g.row.B.Denot). t.state.chunk) at in
-    let mine = number_now v c.args.number c.in-Ok.k admitted place c.len-count.result c.chunk-chunk.result c.keep_back_all.new.snaps kept s is in
-    let e = c.into_store.ensures in
-    let made = c.replace.ensures.after ∙ ap Some (c.begin-begun.ensures.begun ∙ made_from s c.args.number c.into_store.result.device c.into_store.result.state c.into_store.result.places.next (committed c.into_store.result.exceptions) c.in-Ok-vec.buffer.items mine e.device e.state e.next e.pairs) in
-    let left = c.remove-snap.ensures.items ∙ ap (λ (xs : List (Kept g.row.B.Denot)). remove xs c.in-Ok.k) after in
-    rw (← c.self.view_is, left, made) (loud_after v c.args.number c.in-Ok.k admitted place c.len-count.result c.chunk-chunk.result c.keep_back_all.new.snaps kept s is g.B.Block.contents g.B.Block.layers g.B.Block.size c.self.invariant.whole c.in-Ok-vec.buffer.items sized counts chunks)
-
-pub returns-clause-hands : goal.returns-clause-hands
-returns-clause-hands g c =
-    let v : Volumed g.row.B.Denot = record { origin = c.self.inside.origin; snaps = c.self.inside.snaps.items; merge = c.self.inside.merge; flights = c.self.inside.flights.items; requests = c.self.inside.requests; copies = c.self.inside.copies; attached = c.self.inside.attached } in
-    let admitted : begin_refusal c.args.number v ≡ None = ap (begin_refusal c.args.number) c.self.view_is ∙ c.in-Ok.ensures.ok.0 in
-    let place : Some c.in-Ok.k ≡ place_of_snap c.args.number v.snaps = c.in-Ok.ensures.ok.1 ∙ ap (λ (x : Volumed g.row.B.Denot). place_of_snap c.args.number x.snaps) (sym c.self.view_is) in
-    let after = back c.self.inside.snaps.len c.keep_back_all.new.snaps c.self.inside.snaps.items (c.keep_back_all.auto.snaps ∙ c.as_mut_slice.ensures.len) in
-    let kept : c.keep_back_all.new.snaps ≡ map (kept_for c.args.number c.len-count.result c.chunk-chunk.result) v.snaps = c.in-Ok-keep_back_all.ensures.ok ∙ ap (map (kept_for c.args.number c.len-count.result c.chunk-chunk.result)) c.as_mut_slice.ensures.value in
-    let s : Kept g.row.B.Denot = c.remove-snap.result in
-    let is : s ≡ get_or c.keep_back_all.new.snaps c.in-Ok.k s = c.remove-snap.ensures.value ∙ ap (λ (xs : List (Kept g.row.B.Denot)). get_or xs c.in-Ok.k s) after in
-    let lt = within v c.args.number c.in-Ok.k admitted place in
-    let at : c.index.result.now ≡ get_or v.snaps c.in-Ok.k s = c.index.ensures ∙ get_or_default v.snaps c.in-Ok.k c.index.result.now s lt in
-    let sized : length c.in-Ok-vec.buffer.items ≡ 512 * s.state.chunk =
-    sym c.in-Ok-vec.buffer.ok.0 ∙ c.in-Ok-vec.ensures.len ∙ ap (λ n. 512 * n) (c.chunk-chunk.ensures.is ∙ ap (λ (t : Kept g.row.B.Denot). t.state.chunk) at ∙ sym (chunk_now v c.args.number c.in-Ok.k admitted place c.len-count.result c.chunk-chunk.result c.keep_back_all.new.snaps kept s is)) in
-    let counts : c.len-count.result ≡ length (get_or v.snaps c.in-Ok.k s).pairs = c.len-count.ensures ∙ ap (λ (t : Kept g.row.B.Denot). length t.pairs) (c.index-2.ensures ∙ get_or_default v.snaps c.in-Ok.k c.index-2.result.now s lt) in
-    let chunks : c.chunk-chunk.result ≡ (get_or v.snaps c.in-Ok.k s).state.chunk = c.chunk-chunk.ensures.is ∙ ap (λ (t : Kept g.row.B.Denot). t.state.chunk) at in
-    let mine = number_now v c.args.number c.in-Ok.k admitted place c.len-count.result c.chunk-chunk.result c.keep_back_all.new.snaps kept s is in
-    let e = c.into_store.ensures in
-    let made = c.replace.ensures.after ∙ ap Some (c.begin-begun.ensures.begun ∙ made_from s c.args.number c.into_store.result.device c.into_store.result.state c.into_store.result.places.next (committed c.into_store.result.exceptions) c.in-Ok-vec.buffer.items mine e.device e.state e.next e.pairs) in
-    let left = c.remove-snap.ensures.items ∙ ap (λ (xs : List (Kept g.row.B.Denot)). remove xs c.in-Ok.k) after in
-    rw (← c.self.view_is, made) (hands_over g.B.Block.may_hold g.B.Block.size c.args.number v _ (is_begun v c.args.number c.in-Ok.k admitted place c.len-count.result c.chunk-chunk.result c.keep_back_all.new.snaps kept s is g.B.Block.contents g.B.Block.layers g.B.Block.size c.self.invariant.whole c.in-Ok-vec.buffer.items sized counts chunks))
+    record {
+      admitted = c.in-Ok.ensures.ok.0;
+      begun = rw (← c.self.view_is, left, made) (is_begun v c.args.number c.in-Ok.k admitted place c.len-count.result c.chunk-chunk.result c.keep_back_all.new.snaps kept s is g.B.Block.contents g.B.Block.layers g.B.Block.size c.self.invariant.whole c.in-Ok-vec.buffer.items sized counts chunks);
+      legal = λ _. rw (← c.self.view_is, left, made) (plain_after v c.args.number c.in-Ok.k admitted place c.len-count.result c.chunk-chunk.result c.keep_back_all.new.snaps kept s is g.B.Block.contents g.B.Block.layers g.B.Block.size c.self.invariant.whole c.in-Ok-vec.buffer.items sized counts chunks);
+      exact = λ replied. rw (← c.self.view_is, left, made) (exact_after v c.args.number c.in-Ok.k admitted place c.len-count.result c.chunk-chunk.result c.keep_back_all.new.snaps kept s is g.B.Block.contents g.B.Block.layers g.B.Block.size c.self.invariant.whole c.in-Ok-vec.buffer.items sized counts chunks replied);
+      loud = rw (← c.self.view_is, left, made) (loud_after v c.args.number c.in-Ok.k admitted place c.len-count.result c.chunk-chunk.result c.keep_back_all.new.snaps kept s is g.B.Block.contents g.B.Block.layers g.B.Block.size c.self.invariant.whole c.in-Ok-vec.buffer.items sized counts chunks);
+      stops = (c.look_at_stores.ensures.stops, c.look_at_stores-2.ensures.stops);
+      hands = rw (← c.self.view_is, made) (hands_over g.B.Block.may_hold g.B.Block.size c.args.number v _ (is_begun v c.args.number c.in-Ok.k admitted place c.len-count.result c.chunk-chunk.result c.keep_back_all.new.snaps kept s is g.B.Block.contents g.B.Block.layers g.B.Block.size c.self.invariant.whole c.in-Ok-vec.buffer.items sized counts chunks));
+      starved = tt;
+    }

@@ -2,6 +2,7 @@
 use Rattle.std.proofs.Common.{[], ◌∷◌}
 use Rattle.volume.specs.declared.calls.Call.TheVariants.{Submit, Step, Tick, Message as Tell, ResumeMerge}
 use Rattle.volume.specs.Layering.{Measures}
+use Rattle.volume.proofs.Between.{begin_returned, resume_returned}
 use Rattle.volume.proofs.OpenedCalls.{opens_alike, opens_begin, opens_resume, opens_stepped, opens_submitted, opens_told}
 use Rattle.volume.proofs.Ran.{message_returned}
 use Rattle.volume.proofs.Relayered.{ticked_alike}
@@ -45,10 +46,20 @@ returns-in-Message-clause-opens g c = λ loud.
     let m : Measures g.row.B.Denot = record { contents = g.B.Block.contents; durable = g.B.Block.durable; size = g.B.Block.size; faults = g.B.Block.fault_count; done = g.B.Block.done_count } in
     rw c.in-Message.is (opens_told g.B.Block.may_hold m g.B.Block.layers (Tell c.in-Message.dev c.in-Message.depth c.in-Message.message ∷ []) c.in-Message.dev c.in-Message.depth c.in-Message.message c.message.result c.args.self.now c.message.new.self c.message.ensures.does.ok c.message.ensures.does.err c.message.ensures.does.opens)
 
+pub returns-in-BeginMerge-clause-returned : goal.returns-in-BeginMerge-clause-returned
+returns-in-BeginMerge-clause-returned g c =
+    let m : Measures g.row.B.Denot = record { contents = g.B.Block.contents; durable = g.B.Block.durable; size = g.B.Block.size; faults = g.B.Block.fault_count; done = g.B.Block.done_count } in
+    rw c.in-BeginMerge.is (begin_returned g.B.Block.may_hold m g.B.Block.layers c.in-BeginMerge.number c.begin_merge.result c.args.self.now c.begin_merge.new.self c.begin_merge.ensures.does c.begin_merge.ensures.refused)
+
 pub returns-in-BeginMerge-clause-opens : goal.returns-in-BeginMerge-clause-opens
 returns-in-BeginMerge-clause-opens g c = λ loud.
-    rw c.in-BeginMerge.is (opens_begin g.B.Block.may_hold g.B.Block.contents g.B.Block.layers g.B.Block.size c.in-BeginMerge.number c.begin_merge.result c.args.self.now c.begin_merge.new.self c.begin_merge.ensures.admitted c.begin_merge.ensures.begun c.begin_merge.ensures.refused)
+    rw c.in-BeginMerge.is (opens_begin g.B.Block.may_hold g.B.Block.contents g.B.Block.layers g.B.Block.size c.in-BeginMerge.number c.begin_merge.result c.args.self.now c.begin_merge.new.self c.begin_merge.ensures.does.admitted c.begin_merge.ensures.does.begun c.begin_merge.ensures.refused)
+
+pub returns-in-ResumeMerge-clause-returned : goal.returns-in-ResumeMerge-clause-returned
+returns-in-ResumeMerge-clause-returned g c =
+    let m : Measures g.row.B.Denot = record { contents = g.B.Block.contents; durable = g.B.Block.durable; size = g.B.Block.size; faults = g.B.Block.fault_count; done = g.B.Block.done_count } in
+    rw c.in-ResumeMerge.is (resume_returned m g.B.Block.layers c.resume_merge.result c.args.self.now c.resume_merge.new.self c.resume_merge.ensures.does)
 
 pub returns-in-ResumeMerge-clause-opens : goal.returns-in-ResumeMerge-clause-opens
 returns-in-ResumeMerge-clause-opens g c = λ loud.
-    rw c.in-ResumeMerge.is (opens_resume g.B.Block.may_hold g.B.Block.contents g.B.Block.layers g.B.Block.size (ResumeMerge ∷ []) c.resume_merge.result c.args.self.now c.resume_merge.new.self c.resume_merge.ensures.resumed c.resume_merge.ensures.err)
+    rw c.in-ResumeMerge.is (opens_resume g.B.Block.may_hold g.B.Block.contents g.B.Block.layers g.B.Block.size (ResumeMerge ∷ []) c.resume_merge.result c.args.self.now c.resume_merge.new.self c.resume_merge.ensures.does.resumed c.resume_merge.ensures.does.err)

@@ -29,64 +29,24 @@ invariant_of-self-2 g c = record {
       rw (left, gone) (record { snaps = all_unkept g.B.Block.may_hold g.B.Block.contents g.B.Block.layers g.B.Block.size g.met.B.Block.whole g.met.B.Block.holds_now v.origin v.snaps c.self.invariant.lasting.snaps; merge = tt });
 }
 
-pub returns-clause-taken : goal.returns-clause-taken
-returns-clause-taken g c =
+pub returns-clause-does : goal.returns-clause-does
+returns-clause-does g c =
     let v : Volumed g.row.B.Denot = record { origin = c.self.inside.origin; snaps = c.self.inside.snaps.items; merge = c.self.inside.merge; flights = c.self.inside.flights.items; requests = c.self.inside.requests; copies = c.self.inside.copies; attached = c.self.inside.attached } in
     let m : Merging g.row.B.Denot = c.in-Some-take.merge in
     let is : v.merge ≡ Some m = sym c.in-Some-take.ensures.value in
     let admitted : finish_refusal v ≡ None = ap finish_refusal c.self.view_is ∙ sym c.in-None.ensures in
     let left = back c.self.inside.snaps.len c.let_go_all.new.snaps c.self.inside.snaps.items (c.let_go_all.auto.snaps ∙ c.as_mut_slice.ensures.len) ∙ c.let_go_all.ensures ∙ ap (map (unkept {B = g.row.B.Denot})) c.as_mut_slice.ensures.value in
     let gone : c.take.new.self ≡ None = c.take.ensures.after in
-    rw (← c.self.view_is, left, gone) (record { merge = m; was = is; device = c.into_device.ensures; stale = refl; becomes = refl })
-
-pub returns-clause-legal : goal.returns-clause-legal
-returns-clause-legal g c =
-    let v : Volumed g.row.B.Denot = record { origin = c.self.inside.origin; snaps = c.self.inside.snaps.items; merge = c.self.inside.merge; flights = c.self.inside.flights.items; requests = c.self.inside.requests; copies = c.self.inside.copies; attached = c.self.inside.attached } in
-    let m : Merging g.row.B.Denot = c.in-Some-take.merge in
-    let is : v.merge ≡ Some m = sym c.in-Some-take.ensures.value in
-    let admitted : finish_refusal v ≡ None = ap finish_refusal c.self.view_is ∙ sym c.in-None.ensures in
-    let left = back c.self.inside.snaps.len c.let_go_all.new.snaps c.self.inside.snaps.items (c.let_go_all.auto.snaps ∙ c.as_mut_slice.ensures.len) ∙ c.let_go_all.ensures ∙ ap (map (unkept {B = g.row.B.Denot})) c.as_mut_slice.ensures.value in
-    let gone : c.take.new.self ≡ None = c.take.ensures.after in
-    λ loud. rw (← c.self.view_is, left, gone) (plain_finished v m is admitted g.B.Block.contents g.B.Block.layers g.B.Block.size c.self.invariant.whole (ap (is_loud_in_all g.B.Block.layers) c.self.view_is ∙ loud))
-
-pub returns-clause-disk : goal.returns-clause-disk
-returns-clause-disk g c =
-    let v : Volumed g.row.B.Denot = record { origin = c.self.inside.origin; snaps = c.self.inside.snaps.items; merge = c.self.inside.merge; flights = c.self.inside.flights.items; requests = c.self.inside.requests; copies = c.self.inside.copies; attached = c.self.inside.attached } in
-    let m : Merging g.row.B.Denot = c.in-Some-take.merge in
-    let is : v.merge ≡ Some m = sym c.in-Some-take.ensures.value in
-    let admitted : finish_refusal v ≡ None = ap finish_refusal c.self.view_is ∙ sym c.in-None.ensures in
-    let left = back c.self.inside.snaps.len c.let_go_all.new.snaps c.self.inside.snaps.items (c.let_go_all.auto.snaps ∙ c.as_mut_slice.ensures.len) ∙ c.let_go_all.ensures ∙ ap (map (unkept {B = g.row.B.Denot})) c.as_mut_slice.ensures.value in
-    let gone : c.take.new.self ≡ None = c.take.ensures.after in
-    λ loud. rw (← c.self.view_is) (disk_finished v m is admitted g.B.Block.contents g.B.Block.layers g.B.Block.size c.self.invariant.whole (ap (is_loud_in_all g.B.Block.layers) c.self.view_is ∙ loud))
-
-pub returns-clause-exact : goal.returns-clause-exact
-returns-clause-exact g c =
-    let v : Volumed g.row.B.Denot = record { origin = c.self.inside.origin; snaps = c.self.inside.snaps.items; merge = c.self.inside.merge; flights = c.self.inside.flights.items; requests = c.self.inside.requests; copies = c.self.inside.copies; attached = c.self.inside.attached } in
-    let m : Merging g.row.B.Denot = c.in-Some-take.merge in
-    let is : v.merge ≡ Some m = sym c.in-Some-take.ensures.value in
-    let admitted : finish_refusal v ≡ None = ap finish_refusal c.self.view_is ∙ sym c.in-None.ensures in
-    let left = back c.self.inside.snaps.len c.let_go_all.new.snaps c.self.inside.snaps.items (c.let_go_all.auto.snaps ∙ c.as_mut_slice.ensures.len) ∙ c.let_go_all.ensures ∙ ap (map (unkept {B = g.row.B.Denot})) c.as_mut_slice.ensures.value in
-    let gone : c.take.new.self ≡ None = c.take.ensures.after in
-    λ replied. rw (← c.self.view_is, left, gone) (exact_finished v m is admitted g.B.Block.contents g.B.Block.layers g.B.Block.size c.self.invariant.whole replied)
-
-pub returns-clause-loud : goal.returns-clause-loud
-returns-clause-loud g c =
-    let v : Volumed g.row.B.Denot = record { origin = c.self.inside.origin; snaps = c.self.inside.snaps.items; merge = c.self.inside.merge; flights = c.self.inside.flights.items; requests = c.self.inside.requests; copies = c.self.inside.copies; attached = c.self.inside.attached } in
-    let m : Merging g.row.B.Denot = c.in-Some-take.merge in
-    let is : v.merge ≡ Some m = sym c.in-Some-take.ensures.value in
-    let admitted : finish_refusal v ≡ None = ap finish_refusal c.self.view_is ∙ sym c.in-None.ensures in
-    let left = back c.self.inside.snaps.len c.let_go_all.new.snaps c.self.inside.snaps.items (c.let_go_all.auto.snaps ∙ c.as_mut_slice.ensures.len) ∙ c.let_go_all.ensures ∙ ap (map (unkept {B = g.row.B.Denot})) c.as_mut_slice.ensures.value in
-    let gone : c.take.new.self ≡ None = c.take.ensures.after in
-    rw (← c.self.view_is, left, gone, c.into_device.ensures) (loud_finished v m is admitted g.B.Block.contents g.B.Block.layers g.B.Block.size c.self.invariant.whole)
-
-pub returns-clause-opens : goal.returns-clause-opens
-returns-clause-opens g c =
-    let v : Volumed g.row.B.Denot = record { origin = c.self.inside.origin; snaps = c.self.inside.snaps.items; merge = c.self.inside.merge; flights = c.self.inside.flights.items; requests = c.self.inside.requests; copies = c.self.inside.copies; attached = c.self.inside.attached } in
-    let m : Merging g.row.B.Denot = c.in-Some-take.merge in
-    let is : v.merge ≡ Some m = sym c.in-Some-take.ensures.value in
-    let admitted : finish_refusal v ≡ None = ap finish_refusal c.self.view_is ∙ sym c.in-None.ensures in
-    let left = back c.self.inside.snaps.len c.let_go_all.new.snaps c.self.inside.snaps.items (c.let_go_all.auto.snaps ∙ c.as_mut_slice.ensures.len) ∙ c.let_go_all.ensures ∙ ap (map (unkept {B = g.row.B.Denot})) c.as_mut_slice.ensures.value in
-    let gone : c.take.new.self ≡ None = c.take.ensures.after in
-    let w : Volumed g.row.B.Denot = record v { snaps = map unkept v.snaps; merge = None } in
-    let finished = taken_finished m (is_quiet_of v) (sym (ap (λ (x : Option (Merging g.row.B.Denot)). finish_with x (is_quiet_of v)) is) ∙ admitted) in
-    λ loud. rw (← c.self.view_is) (taken_opens g.B.Block.may_hold g.B.Block.size v w m is finished (subst (λ (x : Volumed g.row.B.Denot). StopsVolume g.B.Block.may_hold g.B.Block.size None x x) (sym c.self.view_is) (c.look_at_stores.ensures.stops loud)) refl)
+    record {
+      ok = sym c.in-None.ensures;
+      taken = rw (← c.self.view_is, left, gone) (record { merge = m; was = is; device = c.into_device.ensures; stale = refl; becomes = refl });
+      legal = λ loud. rw (← c.self.view_is, left, gone) (plain_finished v m is admitted g.B.Block.contents g.B.Block.layers g.B.Block.size c.self.invariant.whole (ap (is_loud_in_all g.B.Block.layers) c.self.view_is ∙ loud));
+      disk = λ loud. rw (← c.self.view_is) (disk_finished v m is admitted g.B.Block.contents g.B.Block.layers g.B.Block.size c.self.invariant.whole (ap (is_loud_in_all g.B.Block.layers) c.self.view_is ∙ loud));
+      exact = λ replied. rw (← c.self.view_is, left, gone) (exact_finished v m is admitted g.B.Block.contents g.B.Block.layers g.B.Block.size c.self.invariant.whole replied);
+      loud = rw (← c.self.view_is, left, gone, c.into_device.ensures) (loud_finished v m is admitted g.B.Block.contents g.B.Block.layers g.B.Block.size c.self.invariant.whole);
+      stops = (c.look_at_stores.ensures.stops, c.look_at_stores-2.ensures.stops);
+      opens =
+          let w : Volumed g.row.B.Denot = record v { snaps = map unkept v.snaps; merge = None } in
+          let finished = taken_finished m (is_quiet_of v) (sym (ap (λ (x : Option (Merging g.row.B.Denot)). finish_with x (is_quiet_of v)) is) ∙ admitted) in
+          λ loud. rw (← c.self.view_is) (taken_opens g.B.Block.may_hold g.B.Block.size v w m is finished (subst (λ (x : Volumed g.row.B.Denot). StopsVolume g.B.Block.may_hold g.B.Block.size None x x) (sym c.self.view_is) (c.look_at_stores.ensures.stops loud)) refl);
+    }

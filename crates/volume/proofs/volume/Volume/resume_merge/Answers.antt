@@ -26,37 +26,35 @@ invariant_of-self-2 g c = record {
       ];
 }
 
-pub returns-clause-resumed : goal.returns-clause-resumed
-returns-clause-resumed g c =
+pub returns : goal.returns
+returns g c =
     let v : Volumed g.row.B.Denot = record { origin = c.self.inside.origin; snaps = c.self.inside.snaps.items; merge = c.self.inside.merge; flights = c.self.inside.flights.items; requests = c.self.inside.requests; copies = c.self.inside.copies; attached = c.self.inside.attached } in
-    elim c.if-is_failed.branch [
-      | then-is_failed w ↦ rw (← c.self.view_is, w.self-inside-is, w.resume.ensures.fields) (record { merge = c.in-Some.merge; was = c.in-Some.is; becomes = refl })
-      | else-is_failed w ↦ rw (← c.self.view_is, w.self-inside-is)
-          (record { merge = c.in-Some.merge; was = c.in-Some.is; becomes = unfailed_same v c.in-Some.merge (sym c.is_failed.ensures ∙ w.if-is_failed.false) })
-    ]
-
-pub returns-clause-exact : goal.returns-clause-exact
-returns-clause-exact g c = λ replied.
-    let v : Volumed g.row.B.Denot = record { origin = c.self.inside.origin; snaps = c.self.inside.snaps.items; merge = c.self.inside.merge; flights = c.self.inside.flights.items; requests = c.self.inside.requests; copies = c.self.inside.copies; attached = c.self.inside.attached } in
-    let exact = exact_resumed g.B.Block.contents g.B.Block.layers g.B.Block.size v c.in-Some.merge c.in-Some.is replied in
-    elim c.if-is_failed.branch [
-      | then-is_failed w ↦ rw (← c.self.view_is, w.self-inside-is, w.resume.ensures.fields) exact
-      | else-is_failed w ↦ rw (← c.self.view_is, w.self-inside-is)
-          (exact ∙ ap (moving_of g.B.Block.contents g.B.Block.layers replied) (sym (unfailed_same v c.in-Some.merge (sym c.is_failed.ensures ∙ w.if-is_failed.false))))
-    ]
-
-pub returns-clause-plain : goal.returns-clause-plain
-returns-clause-plain g c =
-    let v : Volumed g.row.B.Denot = record { origin = c.self.inside.origin; snaps = c.self.inside.snaps.items; merge = c.self.inside.merge; flights = c.self.inside.flights.items; requests = c.self.inside.requests; copies = c.self.inside.copies; attached = c.self.inside.attached } in
-    elim c.if-is_failed.branch [
-      | then-is_failed w ↦ rw (← c.self.view_is, w.self-inside-is, w.resume.ensures.fields) (plain_resumed g.B.Block.contents g.B.Block.layers g.B.Block.size v c.in-Some.merge c.in-Some.is)
-      | else-is_failed w ↦ rw (← c.self.view_is, w.self-inside-is) (ap (plain_of g.B.Block.contents g.B.Block.layers) (sym (with_own v c.in-Some.merge c.in-Some.is)))
-    ]
-
-pub returns-clause-loud : goal.returns-clause-loud
-returns-clause-loud g c =
-    let v : Volumed g.row.B.Denot = record { origin = c.self.inside.origin; snaps = c.self.inside.snaps.items; merge = c.self.inside.merge; flights = c.self.inside.flights.items; requests = c.self.inside.requests; copies = c.self.inside.copies; attached = c.self.inside.attached } in
-    elim c.if-is_failed.branch [
-      | then-is_failed w ↦ rw (← c.self.view_is, w.self-inside-is, w.resume.ensures.fields) (loud_resumed g.B.Block.contents g.B.Block.layers g.B.Block.size v c.in-Some.merge c.in-Some.is)
-      | else-is_failed w ↦ rw (← c.self.view_is, w.self-inside-is) (ap (is_loud_in_all g.B.Block.layers) (sym (with_own v c.in-Some.merge c.in-Some.is)))
-    ]
+    record {
+      does = record {
+        resumed =
+            elim c.if-is_failed.branch [
+              | then-is_failed w ↦ rw (← c.self.view_is, w.self-inside-is, w.resume.ensures.fields) (record { merge = c.in-Some.merge; was = c.in-Some.is; becomes = refl })
+              | else-is_failed w ↦ rw (← c.self.view_is, w.self-inside-is)
+                  (record { merge = c.in-Some.merge; was = c.in-Some.is; becomes = unfailed_same v c.in-Some.merge (sym c.is_failed.ensures ∙ w.if-is_failed.false) })
+            ];
+        exact =
+            λ replied.
+            let exact = exact_resumed g.B.Block.contents g.B.Block.layers g.B.Block.size v c.in-Some.merge c.in-Some.is replied in
+            elim c.if-is_failed.branch [
+              | then-is_failed w ↦ rw (← c.self.view_is, w.self-inside-is, w.resume.ensures.fields) exact
+              | else-is_failed w ↦ rw (← c.self.view_is, w.self-inside-is)
+                  (exact ∙ ap (moving_of g.B.Block.contents g.B.Block.layers replied) (sym (unfailed_same v c.in-Some.merge (sym c.is_failed.ensures ∙ w.if-is_failed.false))))
+            ];
+        plain =
+            elim c.if-is_failed.branch [
+              | then-is_failed w ↦ rw (← c.self.view_is, w.self-inside-is, w.resume.ensures.fields) (plain_resumed g.B.Block.contents g.B.Block.layers g.B.Block.size v c.in-Some.merge c.in-Some.is)
+              | else-is_failed w ↦ rw (← c.self.view_is, w.self-inside-is) (ap (plain_of g.B.Block.contents g.B.Block.layers) (sym (with_own v c.in-Some.merge c.in-Some.is)))
+            ];
+        loud =
+            elim c.if-is_failed.branch [
+              | then-is_failed w ↦ rw (← c.self.view_is, w.self-inside-is, w.resume.ensures.fields) (loud_resumed g.B.Block.contents g.B.Block.layers g.B.Block.size v c.in-Some.merge c.in-Some.is)
+              | else-is_failed w ↦ rw (← c.self.view_is, w.self-inside-is) (ap (is_loud_in_all g.B.Block.layers) (sym (with_own v c.in-Some.merge c.in-Some.is)))
+            ];
+        err = tt;
+      };
+    }
