@@ -17,18 +17,21 @@ invariant_of-self g c =
     (record {
       audit = begun_keeps g.B.Block.contents g.B.Block.layers c.args.number c.self.inside.volume c.begin_merge.new.self _ _ true c.self.inside.loud _ _ c.self.invariant.audit
           (omega (arith, ltb-false 65_536 _ (sym c.is_full.ensures ∙ c.if-is_full.false), c.len.ensures, c.len-2.ensures, kept_same _ _ _ _ c.as_slice.ensures.value c.as_slice-2.ensures.value)) c.push_reserved.ensures.capacity c.in-Some.place (sym c.place_in-place.ensures ∙ c.in-Some.is)
-          c.in-Ok.ensures.loud c.in-Ok.ensures.begun c.in-Ok.ensures.legal;
-      bounded = entry_bounds _ _ c.self.inside.loud _ _ _ _ c.self.invariant.bounded (ap (λ (x : Volumed _). x.requests) c.in-Ok.ensures.begun.becomes) (λ on. on)
-          (long_kept g.B.Block.contents g.B.Block.layers g.B.Block.size g.met.B.Block.whole c.self.inside.volume c.begin_merge.new.self (ap (λ (x : Volumed _). g.B.Block.size x.origin) c.in-Ok.ensures.begun.becomes)) (ap (λ (x : Volumed _). map in_flight x.flights) c.in-Ok.ensures.begun.becomes) (Begun c.args.number) _ _ _ tt;
+          c.in-Ok.ensures.does.loud c.in-Ok.ensures.does.begun c.in-Ok.ensures.does.legal;
+      bounded = entry_bounds _ _ c.self.inside.loud _ _ _ _ c.self.invariant.bounded (ap (λ (x : Volumed _). x.requests) c.in-Ok.ensures.does.begun.becomes) (λ on. on)
+          (long_kept g.B.Block.contents g.B.Block.layers g.B.Block.size g.met.B.Block.whole c.self.inside.volume c.begin_merge.new.self (ap (λ (x : Volumed _). g.B.Block.size x.origin) c.in-Ok.ensures.does.begun.becomes)) (ap (λ (x : Volumed _). map in_flight x.flights) c.in-Ok.ensures.does.begun.becomes) (Begun c.args.number) _ _ _ tt;
     })
 
 pub invariant_of-self-in-Err : goal.invariant_of-self-in-Err
 invariant_of-self-in-Err g c =
     let same = unbegun_given c.args.number c.in-Err.refusal c.self.inside.volume c.begin_merge.new.self c.in-Err.ensures.refused in
     let plain = unbegun_same g.B.Block.contents g.B.Block.layers c.args.number c.in-Err.refusal c.self.inside.volume c.begin_merge.new.self c.in-Err.ensures.refused in record {
-      audit = quiet_keeps _ _ c.self.inside.loud _ _ _ c.self.invariant.audit c.in-Err.ensures.loud plain;
+      audit = quiet_keeps _ _ c.self.inside.loud _ _ _ c.self.invariant.audit c.in-Err.ensures.does.loud plain;
       bounded = quiet_bounds _ _ c.self.inside.loud _ _ _ _ c.self.invariant.bounded same.0 (λ on. on) (ap (λ (x : Plain). length x.origin) plain) (ap (λ (x : Plain). x.requests) plain);
     }
 
-pub returns-in-Err-clause-starved : goal.returns-in-Err-clause-starved
-returns-in-Err-clause-starved g c = rw (← c.self.view_is) c.in-Err.ensures.starved
+pub returns-in-Err-clause-does : goal.returns-in-Err-clause-does
+returns-in-Err-clause-does g c = rw (← c.self.view_is) c.in-Err.ensures.does
+
+pub returns-in-Some-clause-does : goal.returns-in-Some-clause-does
+returns-in-Some-clause-does g c = rw (← c.self.view_is) c.in-Ok.ensures.does

@@ -14,7 +14,10 @@ invariant_of-self g c =
     (record {
       audit = detached_keeps g.B.Block.contents g.B.Block.layers c.args.number c.self.inside.volume c.detach.new.self _ _ _ c.self.inside.loud _ _ c.self.invariant.audit
           (omega (arith, ltb-false 65_536 _ (sym c.is_full.ensures ∙ c.if-is_full.false), c.len.ensures, c.len-2.ensures, kept_same _ _ _ _ c.as_slice.ensures.value c.as_slice-2.ensures.value)) c.push_reserved.ensures.capacity c.in-Some.place (sym c.place_in-place.ensures ∙ c.in-Some.is)
-          c.in-Ok.ensures.loud c.in-Ok.store c.in-Ok.ensures.taken c.in-Ok.ensures.plain;
-      bounded = entry_bounds _ _ c.self.inside.loud _ _ _ _ c.self.invariant.bounded (ap (λ (x : Volumed _). x.requests) c.in-Ok.ensures.taken.becomes) (λ on. on)
-          (long_kept g.B.Block.contents g.B.Block.layers g.B.Block.size g.met.B.Block.whole c.self.inside.volume c.detach.new.self (ap (λ (x : Volumed _). g.B.Block.size x.origin) c.in-Ok.ensures.taken.becomes)) (ap (λ (x : Volumed _). map in_flight x.flights) c.in-Ok.ensures.taken.becomes) (Detached c.args.number) _ _ _ tt;
+          c.in-Ok.ensures.does.loud c.in-Ok.store c.in-Ok.ensures.does.taken c.in-Ok.ensures.does.plain;
+      bounded = entry_bounds _ _ c.self.inside.loud _ _ _ _ c.self.invariant.bounded (ap (λ (x : Volumed _). x.requests) c.in-Ok.ensures.does.taken.becomes) (λ on. on)
+          (long_kept g.B.Block.contents g.B.Block.layers g.B.Block.size g.met.B.Block.whole c.self.inside.volume c.detach.new.self (ap (λ (x : Volumed _). g.B.Block.size x.origin) c.in-Ok.ensures.does.taken.becomes)) (ap (λ (x : Volumed _). map in_flight x.flights) c.in-Ok.ensures.does.taken.becomes) (Detached c.args.number) _ _ _ tt;
     })
+
+pub returns-in-Some-clause-does : goal.returns-in-Some-clause-does
+returns-in-Some-clause-does g c = rw (← c.self.view_is) c.in-Ok.ensures.does

@@ -6,6 +6,9 @@ use Rattle.journal.proofs.audit.Audit.resume_merge.Goals as goal
 
 pub invariant_of-self : goal.invariant_of-self
 invariant_of-self g c = record {
-  audit = quiet_keeps _ _ c.self.inside.loud _ _ _ c.self.invariant.audit c.resume_merge.ensures.loud c.resume_merge.ensures.plain;
-  bounded = quiet_bounds _ _ c.self.inside.loud _ _ _ _ c.self.invariant.bounded (resumed_given c.resume_merge.result _ _ c.resume_merge.ensures.resumed c.resume_merge.ensures.err) (λ on. on) (ap (λ (x : Plain). length x.origin) c.resume_merge.ensures.plain) (ap (λ (x : Plain). x.requests) c.resume_merge.ensures.plain);
+  audit = quiet_keeps _ _ c.self.inside.loud _ _ _ c.self.invariant.audit c.resume_merge.ensures.does.loud c.resume_merge.ensures.does.plain;
+  bounded = quiet_bounds _ _ c.self.inside.loud _ _ _ _ c.self.invariant.bounded (resumed_given c.resume_merge.result _ _ c.resume_merge.ensures.does.resumed c.resume_merge.ensures.does.err) (λ on. on) (ap (λ (x : Plain). length x.origin) c.resume_merge.ensures.does.plain) (ap (λ (x : Plain). x.requests) c.resume_merge.ensures.does.plain);
 }
+
+pub returns-clause-does : goal.returns-clause-does
+returns-clause-does g c = rw (← c.self.view_is) c.resume_merge.ensures.does

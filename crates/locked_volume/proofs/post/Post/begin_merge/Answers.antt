@@ -44,7 +44,7 @@ invariant_of-self g c =
     c.note.ensures.is c.entries.ensures.value c.entries-from.ensures.value
     (ap (λ a. a.entries) left.becomes) (ap (λ a. a.held) left.becomes)
     (stays_begun g.B.Block.size g.B.Block.layers _ c.self.inside.audit c.begin_merge.new.self c.args.number c.self.invariant.0.stays
-    c.in-Ok.ensures.admitted c.in-Ok.ensures.begun c.in-Ok.ensures.loud (ap (λ a. a.loud) left.becomes) (ap (λ a. a.base) left.becomes) (ap (λ a. a.folded) left.becomes)) in (
+    c.in-Ok.ensures.does.admitted c.in-Ok.ensures.does.begun c.in-Ok.ensures.does.loud (ap (λ a. a.loud) left.becomes) (ap (λ a. a.base) left.becomes) (ap (λ a. a.folded) left.becomes)) in (
       looked_holds g.B.Block.size g.B.Block.layers history start fixed c.begin_merge.new.self c.note.new.keeper c.look-me-in-Ok.new.keeper c.look-me.result.me.0 noted
           (c.look-me-in-Ok.ensures.keeper.0.0 ∙ named) c.look-me-in-Ok.ensures.keeper.0.1 c.look-me-in-Ok.ensures.keeper.1,
       shown_as c.args.beside.now.boards (g.J.Room.boards c.self.inside.volume) c.begin_merge.new.self.volume c.begin_merge.new.self.volume c.keep_up.new.publishers
