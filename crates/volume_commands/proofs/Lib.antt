@@ -46,7 +46,6 @@ pub mod Shown
 pub mod Ordered
 pub mod MergeArrays
 pub mod MergeGoes
-pub mod NotFull
 pub mod Flown
 pub mod Fewer
 pub mod JournalGoing

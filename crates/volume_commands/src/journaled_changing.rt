@@ -1,23 +1,22 @@
 // What changes a volume between requests.
-ghost use Rattle.std.specs.Prelude.{◌≡◌, ◌⊎◌, ◌&&◌, ◌+◌, [], ◌∷◌, IfErr, IfOk, MatchResult, None, OnErr, OnOk, Option, Some, false, true};
-ghost use Rattle.sector.specs.declared.refusal.Refusal.TheVariants.{JournalFull, NotMerging};
+ghost use Rattle.std.specs.Prelude.{◌≡◌, ◌⊎◌, [], ◌∷◌, IfErr, IfOk, OnOk, Some, true};
+ghost use Rattle.sector.specs.declared.refusal.Refusal.TheVariants.{JournalFull};
 ghost use Rattle.device.specs.Layers.{is_loud};
 ghost use Rattle.plain.specs.Plain.{overflow_of};
-ghost use Rattle.plain.specs.declared.request.Reply.{Reply};
-ghost use Rattle.store.specs.Reading.{AreRead};
-ghost use Rattle.settled.specs.Attaching.{attached as attached_by, refused_attach};
 ghost use Rattle.settled.specs.Refusals.{is_starved};
-ghost use Rattle.event_machine.specs.Merging.{begun, finished, resumed};
 ghost use Rattle.snapshot.specs.Opening.{shown_array};
+ghost use Rattle.volume.specs.DoesAttach.{DoesAttach};
+ghost use Rattle.volume.specs.DoesBeginMerge.{DoesBeginMerge};
+ghost use Rattle.volume.specs.DoesDetach.{DoesDetach};
+ghost use Rattle.volume.specs.DoesFinishMerge.{DoesFinishMerge};
 ghost use Rattle.volume.specs.DoesMessage.{DoesMessage};
+ghost use Rattle.volume.specs.DoesResumeMerge.{DoesResumeMerge};
 ghost use Rattle.volume.specs.DoesTick.{DoesTick};
-ghost use Rattle.volume.specs.Attached.{IsAttachedAs, IsCountedFor, IsGained, IsRefusedOver, store_of, volume_in};
-ghost use Rattle.volume.specs.Beginning.{IsMergeBegun, IsNotBegun, IsResumed, begin_refusal};
+ghost use Rattle.volume.specs.Beginning.{IsNotBegun};
 ghost use Rattle.volume.specs.Fresh.{is_fresh};
-ghost use Rattle.volume.specs.Finishing.{IsTakenOut, finish_refusal};
-ghost use Rattle.volume.specs.Leaving.{IsWithout, detach_refusal, is_quiet_of};
-ghost use Rattle.volume.specs.Moved.{moving_of};
-ghost use Rattle.volume.specs.Taking.{IsNotTaken, attach_refusal};
+ghost use Rattle.volume.specs.Finishing.{finish_refusal};
+ghost use Rattle.volume.specs.Leaving.{detach_refusal};
+ghost use Rattle.volume.specs.Taking.{IsNotTaken};
 ghost use Rattle.volume.specs.Volumed.{is_loud_in_all, plain_of};
 ghost use Rattle.journal.specs.declared.entry.Entry.TheVariants.{Attached, Begun, Detached, Finished};
 ghost use Rattle.volume_commands.specs.GoingOn.{GoesOn};
@@ -36,26 +35,16 @@ impl<B: Layered> Journaled<B> {
     /// one that is kept free while it is live; and one more while it may overflow. Refused first of all where the journal is
     /// full (`JournalFull`), and the store is given back as it was; then as the volume refuses it, which after `Io` may have
     /// flushed the origin.
+    #[tactic(auto, using(volume::proofs::Between::not_tried))]
     pub fn attach(
         &mut self,
         store: StoreDev<B>,
         chunk: u32,
         overflow: bool,
     ) -> Result<SnapId, (Refusal, StoreDev<B>)>
-        ensures number { IfOk result (λ number. number ≡ self.old.attached + 1) }
-        ensures admitted { OnOk result (attach_refusal store.stale chunk self.old ≡ None) }
-        ensures gained { IfOk result (λ number. IsGained B.contents B.layers B.size number overflow store self.old self.new) }
-        ensures exact { IfOk result (λ number. is_loud_in_all B.layers self.old ≡ true → is_loud (B.layers store.device) ≡ true → IsAttachedAs B.contents B.layers number chunk overflow store self.old self.new) }
+        ensures does { DoesAttach B.may_hold (record { contents = B.contents; durable = B.durable; size = B.size; faults = B.fault_count; done = B.done_count }) B.layers store chunk overflow result self.old self.new }
         ensures refused { IfErr result (λ e. ((is_starved e.0 ≡ true) × (e.1 ≡ store)) ⊎ IsNotTaken store.stale chunk (B.size self.old.origin) (B.size store.device) (B.contents store.device) self.old e.0) }
-        ensures unread { IfErr result (λ e. attach_refusal store.stale chunk self.old ≡ Some e.0 → e.1 ≡ store) }
-        ensures back { IfErr result (λ e. is_starved e.0 ≡ false → self.old.merge ≡ None → is_quiet_of self.old ≡ true → is_loud_in_all B.layers self.old ≡ true → is_loud (B.layers store.device) ≡ true → attached_by (self.old.attached + 1) chunk (overflow_of overflow) (store_of B.contents B.layers store) (volume_in B.contents B.layers self.old) ≡ refused_attach e.0 (store_of B.contents B.layers e.1) (volume_in B.contents B.layers self.new)) }
-        ensures starved { IfErr result (λ e. is_starved e.0 ≡ true → (B.contents e.1.device ≡ B.contents store.device) × AreRead (B.layers store.device) (B.layers e.1.device)) }
-        ensures size { IfErr result (λ e. B.size e.1.device ≡ B.size store.device) }
-        ensures loud { MatchResult result (λ _. is_loud_in_all B.layers self.new ≡ (is_loud_in_all B.layers self.old && is_loud (B.layers store.device))) (λ e. is_loud (B.layers e.1.device) ≡ is_loud (B.layers store.device)) }
         ensures goes_on { IfOk result (λ number. is_loud_in_all B.layers self.old ≡ true → is_loud (B.layers store.device) ≡ true → GoesOn (plain_of B.contents B.layers self.old) (Attached number (shown_array (B.contents self.old.origin) (B.contents store.device)) (overflow_of overflow) (is_fresh (B.contents store.device)) ∷ []) (plain_of B.contents B.layers self.new)) }
-        ensures same { IfErr result (λ e. IsRefusedOver B.contents B.layers B.size e.0 self.old self.new) }
-        ensures stale { IfErr result (λ e. e.1.stale ≡ store.stale) }
-        ensures faults { IfErr result (λ e. IsCountedFor e.0 (B.fault_count store.device, B.fault_count e.1.device) (B.fault_count self.old.origin, B.fault_count self.new.origin)) }
     {
         if self.places + count_may(&self.volume) + places_needed(overflow) > MAX_ENTRIES {
             return Err((Refusal::JournalFull, store));
@@ -71,10 +60,9 @@ impl<B: Layered> Journaled<B> {
 
     /// Takes a snapshot away, and gives the device of its store back. Refused first of all where the journal is full
     /// (`JournalFull`), and then as the volume refuses it; nothing changed.
+    #[tactic(auto, using(volume::proofs::Between::not_detached))]
     pub fn detach(&mut self, number: SnapId) -> Result<StoreDev<B>, Refusal>
-        ensures ok { IfOk result (λ store. detach_refusal number self.old ≡ None) }
-        ensures taken { IfOk result (λ store. IsWithout number self.old self.new store) }
-        ensures loud { IfOk result (λ store. is_loud_in_all B.layers self.old ≡ (is_loud_in_all B.layers self.new && is_loud (B.layers store.device))) }
+        ensures does { DoesDetach B.may_hold B.contents B.layers B.size number result self.old self.new }
         ensures goes_on { OnOk result (is_loud_in_all B.layers self.old ≡ true → GoesOn (plain_of B.contents B.layers self.old) (Detached number ∷ []) (plain_of B.contents B.layers self.new)) }
         ensures err { IfErr result (λ refusal. ((detach_refusal number self.old ≡ Some refusal) ⊎ (refusal ≡ JournalFull)) × (self.new ≡ self.old)) }
     {
@@ -94,14 +82,11 @@ impl<B: Layered> Journaled<B> {
 
     /// Begins to merge a live snapshot. Refused first of all where the journal is full (`JournalFull`), and nothing changed;
     /// then as the volume refuses it.
+    #[tactic(auto, using(volume::proofs::Between::not_begun))]
     pub fn begin_merge(&mut self, number: SnapId) -> Result<(), Refusal>
-        ensures admitted { OnOk result (begin_refusal number self.old ≡ None) }
-        ensures begun { OnOk result (IsMergeBegun number self.old self.new) }
-        ensures exact { OnOk result ((replied : Option Reply) → begun number (moving_of B.contents B.layers replied self.old) ≡ moving_of B.contents B.layers replied self.new) }
-        ensures loud { is_loud_in_all B.layers self.new ≡ is_loud_in_all B.layers self.old }
+        ensures does { DoesBeginMerge B.may_hold B.contents B.layers B.size number result self.old self.new }
         ensures goes_on { OnOk result (is_loud_in_all B.layers self.old ≡ true → GoesOn (plain_of B.contents B.layers self.old) (Begun number ∷ []) (plain_of B.contents B.layers self.new)) }
         ensures refused { IfErr result (λ refusal. ((refusal ≡ JournalFull) × (self.new ≡ self.old)) ⊎ IsNotBegun number refusal self.old self.new) }
-        ensures starved { OnErr result ((replied : Option Reply) → moving_of B.contents B.layers replied self.new ≡ moving_of B.contents B.layers replied self.old) }
     {
         if self.places + count_may(&self.volume) + 1 > MAX_ENTRIES {
             return Err(Refusal::JournalFull);
@@ -112,21 +97,16 @@ impl<B: Layered> Journaled<B> {
 
     /// Lets a merge that failed go on. `NotMerging` where none is begun.
     pub fn resume_merge(&mut self) -> Result<(), Refusal>
-        ensures resumed { OnOk result (IsResumed self.old self.new) }
-        ensures exact { OnOk result ((replied : Option Reply) → resumed (moving_of B.contents B.layers replied self.old) ≡ moving_of B.contents B.layers replied self.new) }
-        ensures loud { is_loud_in_all B.layers self.new ≡ is_loud_in_all B.layers self.old }
-        ensures err { IfErr result (λ refusal. (refusal ≡ NotMerging) × (self.old.merge ≡ None) × (self.new ≡ self.old)) }
+        ensures does { DoesResumeMerge B.contents B.layers result self.old self.new }
     {
         self.volume.resume_merge()
     }
 
     /// Takes a merge out that came to its end, and gives the device of its store back. Refused first of all where the journal is
     /// full (`JournalFull`), and then as the volume refuses it; nothing changed.
+    #[tactic(auto, using(volume::proofs::Between::not_finished))]
     pub fn finish_merge(&mut self) -> Result<StoreDev<B>, Refusal>
-        ensures ok { IfOk result (λ store. finish_refusal self.old ≡ None) }
-        ensures taken { IfOk result (λ store. IsTakenOut self.old self.new store) }
-        ensures exact { IfOk result (λ store. (replied : Option Reply) → finished (moving_of B.contents B.layers replied self.old) ≡ moving_of B.contents B.layers replied self.new) }
-        ensures loud { IfOk result (λ store. is_loud_in_all B.layers self.old ≡ (is_loud_in_all B.layers self.new && is_loud (B.layers store.device))) }
+        ensures does { DoesFinishMerge B.may_hold B.contents B.layers B.size result self.old self.new }
         ensures goes_on { OnOk result (is_loud_in_all B.layers self.old ≡ true → GoesOn (plain_of B.contents B.layers self.old) (Finished ∷ []) (plain_of B.contents B.layers self.new)) }
         ensures err { IfErr result (λ refusal. ((finish_refusal self.old ≡ Some refusal) ⊎ (refusal ≡ JournalFull)) × (self.new ≡ self.old)) }
     {

@@ -3,13 +3,13 @@ use Rattle.volume_commands.proofs.Leaves.{left_quiet, left_settles, left_as_deta
 use Rattle.volume_commands.proofs.changing.leave.Goals as goal
 
 pub returns-in-Ok-clause-quiet : goal.returns-in-Ok-clause-quiet
-returns-in-Ok-clause-quiet g c = left_quiet c.args.number c.args.volume.now c.detach.new.self c.in-Ok.store c.in-Ok.ensures.taken c.in-Ok.ensures.ok
+returns-in-Ok-clause-quiet g c = left_quiet c.args.number c.args.volume.now c.detach.new.self c.in-Ok.store c.in-Ok.ensures.does.taken c.in-Ok.ensures.does.ok
 
 pub returns-in-Ok-clause-settled : goal.returns-in-Ok-clause-settled
-returns-in-Ok-clause-settled g c = left_settles c.args.number c.args.volume.now c.detach.new.self c.in-Ok.store c.in-Ok.ensures.taken g.B.Block.layers c.in-Ok.ensures.ok
+returns-in-Ok-clause-settled g c = left_settles c.args.number c.args.volume.now c.detach.new.self c.in-Ok.store c.in-Ok.ensures.does.taken g.B.Block.layers c.in-Ok.ensures.does.ok
 
 pub returns-in-Ok-clause-left : goal.returns-in-Ok-clause-left
-returns-in-Ok-clause-left g c = left_as_detached g.B.Block.contents g.B.Block.layers c.args.number c.args.volume.now c.detach.new.self c.in-Ok.store c.in-Ok.ensures.taken
+returns-in-Ok-clause-left g c = left_as_detached g.B.Block.contents g.B.Block.layers c.args.number c.args.volume.now c.detach.new.self c.in-Ok.store c.in-Ok.ensures.does.taken
 
 pub returns-in-Err-clause-settled : goal.returns-in-Err-clause-settled
 returns-in-Err-clause-settled g c = λ settled. rw c.in-Err.ensures.err.1 settled
