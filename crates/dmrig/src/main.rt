@@ -12,7 +12,7 @@ ghost use Rattle.dmrig.specs.Ended.{ended};
 mod asking;
 
 use crate::asking::{Asked, words_ask};
-use runner::{RunError, Summary, exit_status, run, run_numbered, run_numbered_traced, run_traced};
+use runner::{RunError, Summary, TraceTo, Tracer, Untraced, exit_status, run, run_numbered};
 use std::io::{BufReader, BufWriter, Read, Write};
 use std::process::ExitCode;
 use std::rt::{Files, Stderr};
@@ -21,7 +21,7 @@ use std::thread::Threads;
 use std::{fs, io};
 
 /// Runs the lines of a reader into a writer, and tells a tracer what is in flight, if that is asked for.
-fn ran<R: Read, W: Write, X: Write>(
+fn ran<R: Read, W: Write, X: Tracer>(
     rt: &(impl AllocGlobal + Threads + Wait + Sync),
     reader: &mut R,
     writer: &mut W,
@@ -33,10 +33,10 @@ fn ran<R: Read, W: Write, X: Write>(
 {
     let workers = asked.workers;
     match (asked.numbers, asked.trace) {
-        (false, false) => run(rt, rt.alloc(), reader, writer, workers),
-        (true, false) => run_numbered(rt, rt.alloc(), reader, writer, workers),
-        (false, true) => run_traced(rt, rt.alloc(), reader, writer, tracer, workers),
-        (true, true) => run_numbered_traced(rt, rt.alloc(), reader, writer, tracer, workers),
+        (false, false) => run(rt, rt.alloc(), reader, writer, &mut Untraced, workers),
+        (true, false) => run_numbered(rt, rt.alloc(), reader, writer, &mut Untraced, workers),
+        (false, true) => run(rt, rt.alloc(), reader, writer, tracer, workers),
+        (true, true) => run_numbered(rt, rt.alloc(), reader, writer, tracer, workers),
     }
 }
 
@@ -52,7 +52,9 @@ fn printed<R: Read + Drop>(
 {
     let mut reader = BufReader::new(rt.alloc(), reader)?;
     let mut writer = BufWriter::new(rt.alloc(), io::writer(rt))?;
-    let mut tracer = BufWriter::new(rt.alloc(), errors)?;
+    let mut tracer = TraceTo {
+        writer: BufWriter::new(rt.alloc(), errors)?,
+    };
     let ran = ran(rt, &mut reader, &mut writer, &mut tracer, asked);
     writer.flush()?;
     Ok(ran)

@@ -3,7 +3,7 @@ ghost use Rattle.std.specs.Prelude.{◌≡◌, ◌≤◌, true, IfOk};
 
 use crate::difference::first_difference;
 use crate::index::named;
-use runner::{exit_status, run};
+use runner::{Untraced, exit_status, run};
 use std::alloc::Global;
 use std::io::{BufReader, Read, Write};
 use std::rt::Files;
@@ -41,7 +41,7 @@ fn run_all<T: Threads + Wait + Sync, R: Read + Drop>(
 {
     let mut reader = BufReader::new(alloc, reader)?;
     let mut printed = Vec::new(alloc);
-    let ran = run(rt, alloc, &mut reader, &mut printed, workers);
+    let ran = run(rt, alloc, &mut reader, &mut printed, &mut Untraced, workers);
     let status = exit_status(&ran);
     Ok(Ended { printed, status })
 }

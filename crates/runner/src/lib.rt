@@ -33,7 +33,7 @@ mod session;
 mod step;
 mod summary;
 mod text;
-mod traced;
+mod tracer;
 mod tracing;
 mod undoing;
 
@@ -43,5 +43,5 @@ pub use numbered::run_numbered;
 pub use session::Session;
 pub use summary::Summary;
 pub use text::run;
-pub use traced::{run_numbered_traced, run_traced};
+pub use tracer::{TraceTo, Tracer, Untraced};
 pub use undoing::look_at_undoing;

@@ -13,6 +13,7 @@ use crate::numbering::print_numbered;
 use crate::reading::next_line;
 use crate::session::Session;
 use crate::summary::Summary;
+use crate::tracer::Tracer;
 use command::LINE_LIMIT;
 use std::alloc::Global;
 use std::io::{Read, Write};
@@ -24,11 +25,12 @@ use words::LineBuffer;
 /// Comments and empty lines count. A block's answers have the number of the line that ends it; where the text's end does, that
 /// of the line that would come next. A line's answers are kept until they are printed: where memory for that is refused, the run
 /// ends as if the writer had failed.
-pub fn run_numbered<T: Threads + Wait + Sync, R: Read, W: Write>(
+pub fn run_numbered<T: Threads + Wait + Sync, R: Read, W: Write, X: Tracer>(
     rt: &T,
     alloc: Global,
     reader: &mut R,
     writer: &mut W,
+    tracer: &mut X,
     workers: u32,
 ) -> Result<Summary, RunError>
     requires some { 1 ≤ workers }
@@ -61,6 +63,7 @@ pub fn run_numbered<T: Threads + Wait + Sync, R: Read, W: Write>(
         }
         session.line(rt, &buffer.line, &mut page)?;
         print_numbered(writer, number, &page)?;
+        tracer.behind(number, &session, writer);
     }
     Err(RunError::Endless)
 }

@@ -13,6 +13,7 @@ use crate::error::RunError;
 use crate::reading::next_line;
 use crate::session::Session;
 use crate::summary::Summary;
+use crate::tracer::Tracer;
 use command::LINE_LIMIT;
 use std::alloc::Global;
 use std::io::{Read, Write};
@@ -25,11 +26,14 @@ use words::LineBuffer;
 ///
 /// Each time before the reader is asked for more, the writer is flushed (`next_line`), so that a program, or a person, that waits for an
 /// answer before it writes its next line is answered. What was printed last is flushed by the caller.
-pub fn run<T: Threads + Wait + Sync, R: Read, W: Write>(
+///
+/// Behind each line the tracer is told of it, by its number, counted from 1; none is told of the text's end.
+pub fn run<T: Threads + Wait + Sync, R: Read, W: Write, X: Tracer>(
     rt: &T,
     alloc: Global,
     reader: &mut R,
     writer: &mut W,
+    tracer: &mut X,
     workers: u32,
 ) -> Result<Summary, RunError>
     requires some { 1 ≤ workers }
@@ -65,12 +69,13 @@ pub fn run<T: Threads + Wait + Sync, R: Read, W: Write>(
 {
     let mut buffer = LineBuffer::new(alloc, LINE_LIMIT).map_err(|_| RunError::Memory)?;
     let mut session = Session::new(alloc, workers)?;
-    for _lines in 0..u64::MAX {
+    for lines in 0..u64::MAX {
         if !next_line(reader, writer, &mut buffer)? {
             session.end(rt, writer)?;
             return Ok(session.summary());
         }
         session.line(rt, &buffer.line, writer)?;
+        tracer.behind(lines + 1, &session, writer);
     }
     Err(RunError::Endless)
 }

@@ -1,6 +1,6 @@
 // A text that is cut at any byte: its whole lines print what they print, and what is left of the next prints one line at most.
 
-use runner::run;
+use runner::{Untraced, run};
 use std::test::Fail;
 
 /// Lines, and what each prints: a snapshot of a written origin, and what both show after a write.
@@ -35,7 +35,7 @@ fn a_text_cut_at_any_byte_does_its_whole_lines(rt: HostRuntime) -> Result<(), Fa
         for byte in line.bytes() {
             let mut reader = text.as_slice();
             let mut out = Vec::new(rt.alloc());
-            run(&rt, rt.alloc(), &mut reader, &mut out, 1)?;
+            run(&rt, rt.alloc(), &mut reader, &mut out, &mut Untraced, 1)?;
             assert!(rt;
                 is_front(out.as_slice(), want.as_slice()),
                 "cut at {} bytes",

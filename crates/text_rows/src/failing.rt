@@ -1,6 +1,6 @@
 // Readers and writers that fail in mid-stream.
 
-use runner::{RunError, exit_status, run};
+use runner::{RunError, Untraced, exit_status, run};
 use std::alloc::Global;
 use std::io;
 use std::io::{ErrorKind, Read};
@@ -37,7 +37,7 @@ fn ends_where_the_reader_fails_and_not_as_at_the_end(rt: HostRuntime) -> Result<
             left,
         };
         let mut out = Vec::new(rt.alloc());
-        let ran = run(&rt, rt.alloc(), &mut reader, &mut out, 1);
+        let ran = run(&rt, rt.alloc(), &mut reader, &mut out, &mut Untraced, 1);
         assert!(rt;
             matches!(&ran, Err(RunError::Read(_))),
             "after {left} bytes"
@@ -62,7 +62,7 @@ fn ends_in_each_room(
         let mut out = [0u8; 64];
         let ran = {
             let mut writer = &mut out[..room];
-            run(rt, alloc, &mut reader, &mut writer, 1)
+            run(rt, alloc, &mut reader, &mut writer, &mut Untraced, 1)
         };
         assert!(rt; matches!(&ran, Err(RunError::Write(_))), "in {room} bytes");
         assert_eq!(rt; exit_status(&ran), 2);
@@ -126,7 +126,7 @@ fn counts_what_was_printed(rt: HostRuntime) -> Result<(), Fail> {
     ] {
         let mut reader = text.as_bytes();
         let mut out = Vec::new(rt.alloc());
-        let summary = run(&rt, rt.alloc(), &mut reader, &mut out, 4)?;
+        let summary = run(&rt, rt.alloc(), &mut reader, &mut out, &mut Untraced, 4)?;
         assert_eq!(rt; (summary.lines, summary.refused), (lines, refused));
         assert_eq!(rt; (summary.no_memory, summary.journal_full), (0, 0));
     }

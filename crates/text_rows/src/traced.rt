@@ -1,6 +1,6 @@
 // What is told behind each line: what is in flight, and which events are due.
 
-use runner::{exit_status, run, run_numbered, run_numbered_traced, run_traced};
+use runner::{TraceTo, Untraced, exit_status, run, run_numbered};
 use std::io;
 use std::io::{ErrorKind, Write};
 use std::test::Fail;
@@ -46,9 +46,18 @@ const TRACE: &str = "\
 fn tells_what_is_in_flight_and_due_behind_each_line(rt: HostRuntime) -> Result<(), Fail> {
     let mut plain = Vec::new(rt.alloc());
     let mut out = Vec::new(rt.alloc());
-    let mut trace = Vec::new(rt.alloc());
-    run(&rt, rt.alloc(), &mut TEXT.as_bytes(), &mut plain, 1)?;
-    let summary = run_traced(
+    let mut trace = TraceTo {
+        writer: Vec::new(rt.alloc()),
+    };
+    run(
+        &rt,
+        rt.alloc(),
+        &mut TEXT.as_bytes(),
+        &mut plain,
+        &mut Untraced,
+        1,
+    )?;
+    let summary = run(
         &rt,
         rt.alloc(),
         &mut TEXT.as_bytes(),
@@ -56,7 +65,7 @@ fn tells_what_is_in_flight_and_due_behind_each_line(rt: HostRuntime) -> Result<(
         &mut trace,
         1,
     )?;
-    assert_eq!(rt; trace.as_slice(), TRACE.as_bytes());
+    assert_eq!(rt; trace.writer.as_slice(), TRACE.as_bytes());
     assert_eq!(rt; out.as_slice(), plain.as_slice());
     assert_eq!(rt; summary.refused, 0);
     Ok(())
@@ -66,9 +75,18 @@ fn tells_what_is_in_flight_and_due_behind_each_line(rt: HostRuntime) -> Result<(
 fn tells_the_same_beside_numbered_answers(rt: HostRuntime) -> Result<(), Fail> {
     let mut plain = Vec::new(rt.alloc());
     let mut out = Vec::new(rt.alloc());
-    let mut trace = Vec::new(rt.alloc());
-    run_numbered(&rt, rt.alloc(), &mut TEXT.as_bytes(), &mut plain, 1)?;
-    run_numbered_traced(
+    let mut trace = TraceTo {
+        writer: Vec::new(rt.alloc()),
+    };
+    run_numbered(
+        &rt,
+        rt.alloc(),
+        &mut TEXT.as_bytes(),
+        &mut plain,
+        &mut Untraced,
+        1,
+    )?;
+    run_numbered(
         &rt,
         rt.alloc(),
         &mut TEXT.as_bytes(),
@@ -76,7 +94,7 @@ fn tells_the_same_beside_numbered_answers(rt: HostRuntime) -> Result<(), Fail> {
         &mut trace,
         1,
     )?;
-    assert_eq!(rt; trace.as_slice(), TRACE.as_bytes());
+    assert_eq!(rt; trace.writer.as_slice(), TRACE.as_bytes());
     assert_eq!(rt; out.as_slice(), plain.as_slice());
     Ok(())
 }
@@ -99,13 +117,20 @@ impl Write for Deaf {
 fn goes_on_where_nothing_can_be_told(rt: HostRuntime) -> Result<(), Fail> {
     let mut plain = Vec::new(rt.alloc());
     let mut out = Vec::new(rt.alloc());
-    run(&rt, rt.alloc(), &mut TEXT.as_bytes(), &mut plain, 1)?;
-    let ran = run_traced(
+    run(
+        &rt,
+        rt.alloc(),
+        &mut TEXT.as_bytes(),
+        &mut plain,
+        &mut Untraced,
+        1,
+    )?;
+    let ran = run(
         &rt,
         rt.alloc(),
         &mut TEXT.as_bytes(),
         &mut out,
-        &mut Deaf,
+        &mut TraceTo { writer: Deaf },
         1,
     );
     assert_eq!(rt; exit_status(&ran), 0);

@@ -27,10 +27,12 @@ loop-lines-preserved g c =
     let more : Appends (g.W.Write.contents c.next_line.new.writer) (g.W.Write.contents c.print_numbered-in-loop-lines.new.writer) (numbered (c.loop-lines.lines + 1) c.deref-in-loop-lines-2.result.now) = search rules in
     record {
       room = search rules;
-      follows = goes_on_each _ _ _ _ _ _ c.deref-in-loop-lines.result.now c.deref-in-loop-lines-2.result.now c.loop-lines.session c.line.new.self d.0 c.loop-lines.lines (c.loop-lines.lines + 1)
+      follows = written_each _ _ _ _ (g.W.Write.contents c.behind.new.writer) c.line.new.self (c.loop-lines.lines + 1)
+          (goes_on_each _ _ _ _ _ _ c.deref-in-loop-lines.result.now c.deref-in-loop-lines-2.result.now c.loop-lines.session c.line.new.self d.0 c.loop-lines.lines (c.loop-lines.lines + 1)
           (written_each _ _ _ _ (g.W.Write.contents c.next_line.new.writer) c.loop-lines.session c.loop-lines.lines c.loop-lines.invariant.follows c.next_line.ensures.kept)
           over (record { did = d.1; desk = d.2; sound = c.in_ok-line.ensures.sound }) refl
-          (c.deref-in-loop-lines-2.ensures.value ∙ d.3 ∙ ap (λ xs. xs ++ printed d.0.replies) c.clear.ensures.items) more;
+          (c.deref-in-loop-lines-2.ensures.value ∙ d.3 ∙ ap (λ xs. xs ++ printed d.0.replies) c.clear.ensures.items) more)
+          c.behind.ensures.kept;
       taken = line_taken (g.R.Read.remaining c.args.reader.now) (left c.loop-lines.buffer.ahead (g.R.Read.remaining c.loop-lines.reader)) (left c.next_line.new.buffer.ahead (g.R.Read.remaining c.next_line.new.reader)) c.deref-in-loop-lines.result.now c.loop-lines.lines c.loop-lines.invariant.taken over;
     }
 

@@ -22,8 +22,10 @@ loop-lines-preserved g c =
     let over : ReadsLine 65536 (left c.loop-lines.buffer.ahead (g.R.Read.remaining c.loop-lines.reader)) (left c.next_line.new.buffer.ahead (g.R.Read.remaining c.next_line.new.reader)) true c.deref.result.now = search rules in
     record {
       room = search rules;
-      follows = goes_on _ _ _ _ _ _ c.deref.result.now c.loop-lines.session c.line.new.self d.0 (written_out _ _ _ _ (g.W.Write.contents c.next_line.new.writer) c.loop-lines.session c.loop-lines.invariant.follows c.next_line.ensures.kept) over (record { did = d.1; desk = d.2; sound = c.in_ok-line.ensures.sound }) d.3;
-      taken = line_taken (g.R.Read.remaining c.args.reader.now) (left c.loop-lines.buffer.ahead (g.R.Read.remaining c.loop-lines.reader)) (left c.next_line.new.buffer.ahead (g.R.Read.remaining c.next_line.new.reader)) c.deref.result.now c.loop-lines._lines c.loop-lines.invariant.taken over;
+      follows = written_out _ _ _ _ (g.W.Write.contents c.behind.new.writer) c.line.new.self
+          (goes_on _ _ _ _ _ _ c.deref.result.now c.loop-lines.session c.line.new.self d.0 (written_out _ _ _ _ (g.W.Write.contents c.next_line.new.writer) c.loop-lines.session c.loop-lines.invariant.follows c.next_line.ensures.kept) over (record { did = d.1; desk = d.2; sound = c.in_ok-line.ensures.sound }) d.3)
+          c.behind.ensures.kept;
+      taken = line_taken (g.R.Read.remaining c.args.reader.now) (left c.loop-lines.buffer.ahead (g.R.Read.remaining c.loop-lines.reader)) (left c.next_line.new.buffer.ahead (g.R.Read.remaining c.next_line.new.reader)) c.deref.result.now c.loop-lines.lines c.loop-lines.invariant.taken over;
     }
 
 pub returns-then-not-branch-clause-exact : goal.returns-then-not-branch-clause-exact

@@ -7,5 +7,5 @@ abbrev pub invariant-loop-lines : goal.invariant-loop-lines
 invariant-loop-lines g l = record {
   room : 65536 < vec_capacity l.buffer.line;
   follows : Follows (g.R.Read.remaining l.fn.reader) (left l.buffer.ahead (g.R.Read.remaining l.reader)) (g.W.Write.contents l.fn.writer) (g.W.Write.contents l.writer) l.session;
-  taken : HasTaken (g.R.Read.remaining l.fn.reader) (left l.buffer.ahead (g.R.Read.remaining l.reader)) l._lines;
+  taken : HasTaken (g.R.Read.remaining l.fn.reader) (left l.buffer.ahead (g.R.Read.remaining l.reader)) l.lines;
 }
