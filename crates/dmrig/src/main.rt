@@ -52,9 +52,7 @@ fn printed<R: Read + Drop>(
 {
     let mut reader = BufReader::new(rt.alloc(), reader)?;
     let mut writer = BufWriter::new(rt.alloc(), io::writer(rt))?;
-    let mut tracer = TraceTo {
-        writer: BufWriter::new(rt.alloc(), errors)?,
-    };
+    let mut tracer = TraceTo::new(BufWriter::new(rt.alloc(), errors)?);
     let ran = ran(rt, &mut reader, &mut writer, &mut tracer, asked);
     writer.flush()?;
     Ok(ran)

@@ -19,3 +19,4 @@ pub mod BlockLemmas
 pub mod SessionLemmas
 pub mod UndoingLemmas
 pub mod TracedLemmas
+pub mod ToldLemmas

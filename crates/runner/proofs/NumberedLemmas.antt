@@ -64,7 +64,7 @@ numbered_push n (told ∷ answers) replies =
     ∙ sym (append_assoc (numbered n (printed told)) (numbered_from (n + 1) answers) (numbered (n + 1 + length answers) (printed replies)))
     ∙ ap (λ k. numbered n (printed told) ++ numbered_from (n + 1) answers ++ numbered k (printed replies)) same
 
-all_push : (answers : List (List CommandReply)) (replies : List CommandReply) → all_of (answers ++ replies ∷ []) ≡ all_of answers ++ replies
+pub all_push : (answers : List (List CommandReply)) (replies : List CommandReply) → all_of (answers ++ replies ∷ []) ≡ all_of answers ++ replies
 all_push answers replies = flat_map-append (λ (told : List CommandReply). told) answers (replies ∷ []) ∙ ap (λ told. all_of answers ++ told) (append-nil replies)
 
 more_each : (old mid new : Sitting) (first : List (List ℕ)) (line : List ℕ) (answers : List (List CommandReply)) (done : LineOutcome) → AreDoneEach old first answers mid → IsNext line mid new done → AreDoneEach old (first ++ line ∷ []) (answers ++ done.replies ∷ []) new
@@ -85,7 +85,7 @@ on_each (Some text) (Some left) (Some left') kept old new done answers (first, c
 )
 
 -- what was printed for a line stands behind what was printed before
-push_printed : (before now then : Option (List ℕ)) (answers : List (List CommandReply)) (replies : List CommandReply) (count number : ℕ) (page : List ℕ) → Appends before now (numbered_from 1 answers) → count ≡ length answers → number ≡ count + 1 → page ≡ printed replies → Appends now then (numbered number page) → Appends before then (numbered_from 1 (answers ++ replies ∷ []))
+pub push_printed : (before now then : Option (List ℕ)) (answers : List (List CommandReply)) (replies : List CommandReply) (count number : ℕ) (page : List ℕ) → Appends before now (numbered_from 1 answers) → count ≡ length answers → number ≡ count + 1 → page ≡ printed replies → Appends now then (numbered number page) → Appends before then (numbered_from 1 (answers ++ replies ∷ []))
 push_printed before now then answers replies count number page was many next is more =
     let W : List ℕ → Type 0 = λ bytes. Appends before then bytes in
     let V : List ℕ → Type 0 = λ bytes. Appends now then (numbered number bytes) in

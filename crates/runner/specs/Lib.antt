@@ -18,3 +18,4 @@ pub mod Runs
 pub mod Numbered
 pub mod Undoing
 pub mod Traced
+pub mod Told

@@ -7,6 +7,7 @@ ghost use Rattle.runner.specs.Exit.{IsEarly, IsWriters};
 ghost use Rattle.runner.specs.Numbered.{IsTextAnswered, IsTextAnsweredTo, all_of, numbered_from, numbered_output_of};
 ghost use Rattle.runner.specs.Runs.{IsTextDone};
 ghost use Rattle.runner.specs.Sound.{is_sound_text};
+ghost use Rattle.runner.specs.Told.{IsTextTold};
 
 use crate::error::RunError;
 use crate::numbering::print_numbered;
@@ -43,6 +44,10 @@ pub fn run_numbered<T: Threads + Wait + Sync, R: Read, W: Write, X: Tracer>(
     ensures lines { IfOk result (λ summary. (answers : List (List CommandReply))
         × Appends (W.contents writer.old) (W.contents writer.new) (numbered_from 1 answers) × (summary ≡ summary_of (all_of answers))
         × IfSome (R.remaining reader.old) (λ text. IsTextAnswered text answers × IsTextDone text (all_of answers))) }
+    // Behind each line the tracer was told of what stood then, in their order.
+    ensures traced { IfOk result (λ summary. (answers : List (List CommandReply))
+        × Appends (W.contents writer.old) (W.contents writer.new) (numbered_from 1 answers)
+        × IfSome (R.remaining reader.old) (λ text. IsTextTold X.tells text answers tracer.old tracer.new)) }
     // A run that ended early, and not for its writer, printed all that its first lines answered.
     ensures begun { IfErr result (λ e. (IsWriters e → ⊥) → (answers : List (List CommandReply))
         × Appends (W.contents writer.old) (W.contents writer.new) (numbered_from 1 answers)

@@ -5,9 +5,11 @@ ghost use Rattle.words.specs.Lines.{lines_of};
 ghost use Rattle.command.specs.declared.command_reply.CommandReply.{CommandReply};
 ghost use Rattle.runner.specs.Counts.{summary_of};
 ghost use Rattle.runner.specs.Exit.{IsEarly, IsWriters};
+ghost use Rattle.runner.specs.Numbered.{all_of};
 ghost use Rattle.runner.specs.Output.{output_of, replies_of, printed, MayAnswer, empty};
 ghost use Rattle.runner.specs.Runs.{IsTextBegun, IsTextDone};
 ghost use Rattle.runner.specs.Sound.{is_sound_text};
+ghost use Rattle.runner.specs.Told.{IsTextTold};
 
 use crate::error::RunError;
 use crate::reading::next_line;
@@ -27,7 +29,7 @@ use words::LineBuffer;
 /// Each time before the reader is asked for more, the writer is flushed (`next_line`), so that a program, or a person, that waits for an
 /// answer before it writes its next line is answered. What was printed last is flushed by the caller.
 ///
-/// Behind each line the tracer is told of it, by its number, counted from 1; none is told of the text's end.
+/// Behind each line the tracer is told of it, by its number, counted from 1; of the text's end it is not.
 pub fn run<T: Threads + Wait + Sync, R: Read, W: Write, X: Tracer>(
     rt: &T,
     alloc: Global,
@@ -55,6 +57,10 @@ pub fn run<T: Threads + Wait + Sync, R: Read, W: Write, X: Tracer>(
     ensures lines { IfOk result (λ summary. (replies : List CommandReply)
         × Appends (W.contents writer.old) (W.contents writer.new) (printed replies) × (summary ≡ summary_of replies)
         × IfSome (R.remaining reader.old) (λ text. IsTextDone text replies)) }
+    // Behind each line the tracer was told of what stood then, in their order: of these replies of each line, and at last of the text's end.
+    ensures traced { IfOk result (λ summary. (answers : List (List CommandReply))
+        × Appends (W.contents writer.old) (W.contents writer.new) (printed (all_of answers))
+        × IfSome (R.remaining reader.old) (λ text. IsTextTold X.tells text answers tracer.old tracer.new)) }
     // A run that ended early, and not for its writer, printed whole replies too: the first of what the lines may answer.
     ensures early { IfErr result (λ e. (IsWriters e → ⊥) → (replies : List CommandReply)
         × Appends (W.contents writer.old) (W.contents writer.new) (printed replies)

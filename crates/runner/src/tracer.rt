@@ -1,7 +1,8 @@
 // Who is told behind each line.
-ghost use Rattle.std.specs.Prelude.{◌≡◌, OnOk, List, ℕ};
+ghost use Rattle.std.specs.Prelude.{◌≡◌, OnOk, List, ℕ, true, ⊤};
 ghost use Rattle.std.specs.Io.KnownBytes.{Appends, Keeps};
 ghost use Rattle.runner.specs.Numbered.{numbered};
+ghost use Rattle.runner.specs.Sessions.{Sitting};
 ghost use Rattle.runner.specs.Traced.{AreTraced};
 
 use crate::error::RunError;
@@ -11,9 +12,13 @@ use std::io::Write;
 
 /// Who is told of each line of a text, once it is done and its answers are with the writer.
 pub trait Tracer {
+    /// What it says of being told of a line: what it was, the line's number, what stands behind the line, and what it is then.
+    ghost tells: { Self → ℕ → Sitting → Self → Type 0 };
+
     /// Tells of a line, by its number. What it is told, and that it fails, changes nothing of the run: it may write out what the writer
     /// holds, and no more.
     fn behind<W: Write>(&mut self, number: u64, session: &Session, writer: &mut W)
+        ensures tells { tells self.old number session.now self.new }
         ensures kept { Keeps (W.contents writer.old) (W.contents writer.new) };
 }
 
@@ -22,6 +27,8 @@ pub trait Tracer {
 pub struct Untraced;
 
 impl Tracer for Untraced {
+    ghost tells = { λ before number sitting after. ⊤ };
+
     fn behind<W: Write>(&mut self, _number: u64, _session: &Session, _writer: &mut W) {}
 }
 
@@ -29,12 +36,32 @@ impl Tracer for Untraced {
 #[derive(Drop)]
 pub struct TraceTo<X: Write> {
     pub writer: X,
+    /// Whether all was told so far: memory was there, and the writer took it.
+    pub is_whole: bool,
+}
+
+impl<X: Write> TraceTo<X> {
+    /// A trace to this writer, of which nothing is told yet.
+    pub fn new(writer: X) -> TraceTo<X>
+        ensures { result ≡ record { writer = writer; is_whole = true } }
+    {
+        TraceTo {
+            writer,
+            is_whole: true,
+        }
+    }
 }
 
 impl<X: Write> Tracer for TraceTo<X> {
+    // Where it is whole then, it was before, and these are the lines of all volumes, one after the other, each with the number.
+    ghost tells = { λ before number sitting after. after.is_whole ≡ true → (before.is_whole ≡ true) × ((page : List ℕ) × AreTraced page sitting.desk.table.volumes × Appends (X.contents before.writer) (X.contents after.writer) (numbered number page)) };
+
     fn behind<W: Write>(&mut self, number: u64, session: &Session, writer: &mut W) {
         write_out(writer);
-        let _ = trace(&mut self.writer, number, session);
+        match trace(&mut self.writer, number, session) {
+            Ok(()) => {}
+            Err(_) => self.is_whole = false,
+        }
     }
 }
 

@@ -46,9 +46,7 @@ const TRACE: &str = "\
 fn tells_what_is_in_flight_and_due_behind_each_line(rt: HostRuntime) -> Result<(), Fail> {
     let mut plain = Vec::new(rt.alloc());
     let mut out = Vec::new(rt.alloc());
-    let mut trace = TraceTo {
-        writer: Vec::new(rt.alloc()),
-    };
+    let mut trace = TraceTo::new(Vec::new(rt.alloc()));
     run(
         &rt,
         rt.alloc(),
@@ -75,9 +73,7 @@ fn tells_what_is_in_flight_and_due_behind_each_line(rt: HostRuntime) -> Result<(
 fn tells_the_same_beside_numbered_answers(rt: HostRuntime) -> Result<(), Fail> {
     let mut plain = Vec::new(rt.alloc());
     let mut out = Vec::new(rt.alloc());
-    let mut trace = TraceTo {
-        writer: Vec::new(rt.alloc()),
-    };
+    let mut trace = TraceTo::new(Vec::new(rt.alloc()));
     run_numbered(
         &rt,
         rt.alloc(),
@@ -130,7 +126,7 @@ fn goes_on_where_nothing_can_be_told(rt: HostRuntime) -> Result<(), Fail> {
         rt.alloc(),
         &mut TEXT.as_bytes(),
         &mut out,
-        &mut TraceTo { writer: Deaf },
+        &mut TraceTo::new(Deaf),
         1,
     );
     assert_eq!(rt; exit_status(&ran), 0);
