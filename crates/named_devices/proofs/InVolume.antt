@@ -79,10 +79,10 @@ asked_did holds v role first count table old new lt at did =
     on (Ok asks) h = (new, h, refl)
     on (Err e) h = tt
 
--- a premise goes to what was asked for
-pub later_asked : {A : Type 0} (P : A → Type 0) (Q : Type 0) (r : Result A Refusal) → (Q → IfOk r P) → IfOk r (λ x. Q → P x)
-later_asked P Q (Ok x) h = h
-later_asked P Q (Err e) h = tt
+-- premises go to what was asked for
+pub both_asked : {A : Type 0} (P P' : A → Type 0) (Q Q' : Type 0) (r : Result A Refusal) → (Q → IfOk r P) → (Q' → IfOk r P') → IfOk r (λ x. (Q → P x) × (Q' → P' x))
+both_asked P P' Q Q' (Ok x) h k = (h, k)
+both_asked P P' Q Q' (Err e) h k = tt
 
 -- the same under a number that was told
 pub number_did : (holds : ℕ → Asked → Volume → Volume → Type 0) (r : Result ℕ Refusal) (v : ℕ) (role : Role) (first count : ℕ) (table : Table) (old new : Volume) → v < length table.volumes → old ≡ get_or table.volumes v old → IfOk r (λ number. IfOk (asked_of role first count old) (λ asks. holds number asks old new)) → IfOk r (λ number. IfOk (asked_at (In v role) first count table) (λ asks. IsInVolume (holds number asks) v table (put_volume v new table) (volume_at v table)))

@@ -16,7 +16,7 @@ use Rattle.command_rules.specs.State.{Volume, Table}
 use Rattle.command_rules.specs.Places.{place_of, found, volume_at}
 use Rattle.command_rules.specs.Events.{numbered, snapshot_named}
 use Rattle.command_rules.specs.Sectors.{Asked, IsAtRole}
-use Rattle.named_volume.specs.Flights.{IsFlushServed, IsNotDue, IsNotStarted, IsReadServed, IsStarted, IsStepped, IsWriteServed}
+use Rattle.named_volume.specs.Flights.{IsFlushServed, IsFlushedAtRest, IsNotDue, IsNotStarted, IsReadAtRest, IsReadServed, IsStarted, IsStepped, IsWriteServed, IsWrittenAtRest}
 
 -- the number of the snapshot at a place of a volume
 abbrev pub number_in : ℕ → Result Volume Refusal → ℕ
@@ -67,15 +67,16 @@ abbrev pub IsNotDueIn : Step → Result Volume Refusal → Type 0
 IsNotDueIn event (Err refusal) = Unit {0}
 IsNotDueIn event (Ok volume) = IsNotDue event volume
 
--- what was read of a volume with something in flight, written, or flushed, and what was done of it before
+-- what was read of a volume, written, or flushed, whichever device drops writes: with something in flight, and what was done of that
+-- before; and with nothing
 abbrev pub IsReadAmong : Result (List ℕ) Refusal → List Replied → List Replied → Asked → Volume → Volume → Type 0
-IsReadAmong result before after asks old new = old.quiet ≡ false → IsReadServed result before after old new asks
+IsReadAmong result before after asks old new = (old.quiet ≡ false → IsReadServed result before after old new asks) × (old.quiet ≡ true → IsReadAtRest result old new asks)
 
 abbrev pub IsWrittenAmong : List ℕ → Result (Unit {0}) Refusal → List Replied → List Replied → Asked → Volume → Volume → Type 0
-IsWrittenAmong bytes result before after asks old new = old.quiet ≡ false → IsWriteServed bytes result before after old new asks
+IsWrittenAmong bytes result before after asks old new = (old.quiet ≡ false → IsWriteServed bytes result before after old new asks) × (old.quiet ≡ true → IsWrittenAtRest bytes result old new asks)
 
 abbrev pub IsFlushedAmong : Result (Unit {0}) Refusal → List Replied → List Replied → Asked → Volume → Volume → Type 0
-IsFlushedAmong result before after asks old new = old.quiet ≡ false → IsFlushServed result before after old new asks
+IsFlushedAmong result before after asks old new = (old.quiet ≡ false → IsFlushServed result before after old new asks) × (old.quiet ≡ true → IsFlushedAtRest result old new asks)
 
 abbrev pub IsStartedAs : Op → ℕ → Asked → Volume → Volume → Type 0
 IsStartedAs op number asks old new = IsStarted op number old new asks

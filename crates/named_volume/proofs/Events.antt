@@ -21,11 +21,12 @@ use Rattle.volume.specs.Submitting.{IsAcceptedAs, IsRefusedAs}
 use Rattle.plain.specs.declared.request.Replied.{Replied}
 use Rattle.volume_commands.specs.Rested.{Rested, rested_of}
 use Rattle.volume_commands.specs.Flying.{IsWhole}
+use Rattle.volume_commands.specs.AtRest.{AreReadAtRest, AreWrittenAtRest, IsFlushDone, IsFlushUndone, IsReadUndone, IsWriteCut}
 use Rattle.volume_commands.specs.Among.{AreReadAmong, AreWrittenAmong, IsFlushedAmong, IsFlushRefusedAmong, IsReadRefusedAmong, IsWriteRefusedAmong, pieces_among}
 use Rattle.command_rules.specs.State.{Volume, merge_in}
 use Rattle.command_rules.specs.Sectors.{Asked}
 use Rattle.named_volume.specs.Held.{flying_in, merged_inside, settled_in}
-use Rattle.named_volume.specs.Flights.{IsBehind, IsStarted, IsNotStarted, IsStepped, IsFlushServed, IsReadServed, IsWriteServed}
+use Rattle.named_volume.specs.Flights.{IsBehind, IsStarted, IsNotStarted, IsStepped, IsFlushServed, IsFlushedAtRest, IsReadAtRest, IsReadServed, IsWriteServed, IsWrittenAtRest}
 
 -- the volume of events that stands behind
 pub behind : (before : Rested Stack) (volume : Volume) → IsWhole before → volume.state ≡ settled_in before → merge_in volume.merging ≡ (merged_inside before).merge → volume.quiet ≡ is_quiet_of before.events → volume.flying ≡ flying_in before.events → IsBehind before.events volume
@@ -62,6 +63,34 @@ module _ (before after : Rested Stack) (old new : Volume) (was : IsBehind before
           | inr why ↦ inr (record { dev = dev; op = op; range = range }, record { dev_is = refl; op_is = refl; range_is = refl }, why)
         ];
       })
+
+  -- what was read, written or flushed where nothing was in flight
+  pub read_rested : (r : Result (List ℕ) Refusal) → IfOk r (λ bytes. AreReadAtRest stack_contents stack_layers stack_faults stack_size dev (pieces_among (span_of range) before) bytes before.events after.events)
+      → IfErr r (λ e. IsReadUndone stack_contents stack_layers stack_faults stack_size dev (pieces_among (span_of range) before) e before.events after.events) → IfOk asked (IsReadAtRest r old new)
+  read_rested (Ok bytes) did why =
+      let P : Result Asked Refusal → Type 0 = λ x. IfOk x (IsReadAtRest (Ok bytes) old new) in
+      subst P (sym asks) (record { before = before.events; after = after.events; was = was; is = is; did = did })
+  read_rested (Err e) did why =
+      let P : Result Asked Refusal → Type 0 = λ x. IfOk x (IsReadAtRest (Err e) old new) in
+      subst P (sym asks) (record { before = before.events; after = after.events; was = was; is = is; did = why })
+
+  pub write_rested : (bytes : List ℕ) (r : Result (Unit {0}) Refusal) → OnOk r (AreWrittenAtRest stack_contents stack_layers stack_faults stack_size dev (pieces_among (span_of range) before) bytes before.events after.events)
+      → IfErr r (λ e. IsWriteCut stack_contents stack_layers stack_faults stack_size dev (pieces_among (span_of range) before) bytes e before.events after.events) → IfOk asked (IsWrittenAtRest bytes r old new)
+  write_rested bytes (Ok unit) did why =
+      let P : Result Asked Refusal → Type 0 = λ x. IfOk x (IsWrittenAtRest bytes (Ok unit) old new) in
+      subst P (sym asks) (record { before = before.events; after = after.events; was = was; is = is; did = did })
+  write_rested bytes (Err e) did why =
+      let P : Result Asked Refusal → Type 0 = λ x. IfOk x (IsWrittenAtRest bytes (Err e) old new) in
+      subst P (sym asks) (record { before = before.events; after = after.events; was = was; is = is; did = why })
+
+  pub flush_rested : (r : Result (Unit {0}) Refusal) → OnOk r (IsFlushDone stack_contents stack_layers stack_faults stack_size dev before.events after.events)
+      → IfErr r (λ e. IsFlushUndone stack_contents stack_layers stack_faults stack_size dev e before.events after.events) → IfOk asked (IsFlushedAtRest r old new)
+  flush_rested (Ok unit) did why =
+      let P : Result Asked Refusal → Type 0 = λ x. IfOk x (IsFlushedAtRest (Ok unit) old new) in
+      subst P (sym asks) (record { before = before.events; after = after.events; was = was; is = is; did = did })
+  flush_rested (Err e) did why =
+      let P : Result Asked Refusal → Type 0 = λ x. IfOk x (IsFlushedAtRest (Err e) old new) in
+      subst P (sym asks) (record { before = before.events; after = after.events; was = was; is = is; did = why })
 
   module _ (whole_before : IsWhole before) (whole_after : IsWhole after) (earlier later : List Replied) where
     -- what was read among requests in flight

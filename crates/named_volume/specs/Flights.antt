@@ -21,6 +21,7 @@ use Rattle.volume.specs.Submitting.{IsAcceptedAs, IsRefusedAs}
 use Rattle.plain.specs.declared.request.Replied.{Replied}
 use Rattle.volume_commands.specs.Rested.{rested_of}
 use Rattle.volume_commands.specs.Among.{IsRequestOf, AreReadAmong, AreWrittenAmong, IsFlushedAmong, IsFlushRefusedAmong, IsReadRefusedAmong, IsWriteRefusedAmong}
+use Rattle.volume_commands.specs.AtRest.{AreReadAtRest, AreWrittenAtRest, IsFlushDone, IsFlushUndone, IsReadUndone, IsWriteCut}
 use Rattle.volume_commands.specs.Draining.{IsDrained}
 use Rattle.command_rules.specs.State.{Volume, merge_in}
 use Rattle.command_rules.specs.Sectors.{Asked}
@@ -92,6 +93,25 @@ IsFlushServed result earlier later old new asks =
     InEvents (λ before after. MatchResult result
     (λ done. IsFlushedAmong stack_contents stack_layers stack_faults asks.dev before after earlier later)
     (λ refusal. IsFlushRefusedAmong stack_contents stack_layers stack_faults stack_size asks.dev refusal (rested_of before) (rested_of after) earlier later)) old new
+
+-- and the same of a volume in which nothing is in flight, whichever device drops writes
+abbrev pub IsReadAtRest : Result (List ℕ) Refusal → Volume → Volume → Asked → Type 0
+IsReadAtRest result old new asks =
+    InEvents (λ before after. MatchResult result
+    (λ bytes. AreReadAtRest stack_contents stack_layers stack_faults stack_size asks.dev (pieces_of (piece_with before.merge before.snaps) asks.span) bytes before after)
+    (λ refusal. IsReadUndone stack_contents stack_layers stack_faults stack_size asks.dev (pieces_of (piece_with before.merge before.snaps) asks.span) refusal before after)) old new
+
+abbrev pub IsWrittenAtRest : List ℕ → Result (Unit {0}) Refusal → Volume → Volume → Asked → Type 0
+IsWrittenAtRest bytes result old new asks =
+    InEvents (λ before after. MatchResult result
+    (λ done. AreWrittenAtRest stack_contents stack_layers stack_faults stack_size asks.dev (pieces_of (piece_with before.merge before.snaps) asks.span) bytes before after)
+    (λ refusal. IsWriteCut stack_contents stack_layers stack_faults stack_size asks.dev (pieces_of (piece_with before.merge before.snaps) asks.span) bytes refusal before after)) old new
+
+abbrev pub IsFlushedAtRest : Result (Unit {0}) Refusal → Volume → Volume → Asked → Type 0
+IsFlushedAtRest result old new asks =
+    InEvents (λ before after. MatchResult result
+    (λ done. IsFlushDone stack_contents stack_layers stack_faults stack_size asks.dev before after)
+    (λ refusal. IsFlushUndone stack_contents stack_layers stack_faults stack_size asks.dev refusal before after)) old new
 
 -- Why a volume in which nothing is in flight refuses what may be asked of it, whichever device drops writes: memory or the room of
 -- its journal ran out, or the request of a piece failed.

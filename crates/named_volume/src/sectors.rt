@@ -8,7 +8,7 @@ ghost use Rattle.command_rules.specs.State.{Volume};
 ghost use Rattle.command_rules.specs.Changes.{Serves};
 ghost use Rattle.command_rules.specs.Places.{HasRole, IsRoleIn};
 ghost use Rattle.command_rules.specs.Sectors.{asked_of, dev_of, serves, takes, flushed_in, read_in, written_in, IsReadAsked, IsPartWritten};
-ghost use Rattle.named_volume.specs.Flights.{IsDenied, IsFlushServed, IsReadServed, IsWriteServed};
+ghost use Rattle.named_volume.specs.Flights.{IsDenied, IsFlushServed, IsFlushedAtRest, IsReadAtRest, IsReadServed, IsWriteServed, IsWrittenAtRest};
 ghost use Rattle.named_volume.specs.Held.{settled_in};
 ghost use Rattle.named_volume.specs.Names.{KeepsNames};
 
@@ -122,6 +122,7 @@ impl NamedVolume {
         requires few { count ≤ 2048 }
         ensures done { self.old.sound ≡ true → self.old.quiet ≡ true → Serves result self.new (λ v. (v ≡ self.old) ⊎ IsReadAsked count self.old v) (read_in role first count self.old) }
         ensures among { self.old.quiet ≡ false → IfOk (asked_of role first count self.old) (IsReadServed result ended.old.items ended.new.items self.old self.new) }
+        ensures at_rest { self.old.quiet ≡ true → IfOk (asked_of role first count self.old) (IsReadAtRest result self.old self.new) }
         ensures counts { IfOk (asked_of role first count self.old) (λ _. self.new.asked ≡ self.old.asked + count) }
         ensures told { self.old.quiet ≡ true → ended.new.items ≡ ended.old.items }
         ensures asks { IfErr (asked_of role first count self.old) (λ e. result ≡ Err e) }
@@ -157,6 +158,7 @@ impl NamedVolume {
         requires room { length bytes ≡ 512 * count }
         ensures done { self.old.sound ≡ true → self.old.quiet ≡ true → Serves result self.new (λ v. (v ≡ self.old) ⊎ IsPartWritten role first count bytes self.old v) (written_in role first count bytes self.old) }
         ensures among { self.old.quiet ≡ false → IfOk (asked_of role first count self.old) (IsWriteServed bytes result ended.old.items ended.new.items self.old self.new) }
+        ensures at_rest { self.old.quiet ≡ true → IfOk (asked_of role first count self.old) (IsWrittenAtRest bytes result self.old self.new) }
         ensures counts { IfOk (asked_of role first count self.old) (λ _. self.new.asked ≡ self.old.asked + count) }
         ensures told { self.old.quiet ≡ true → ended.new.items ≡ ended.old.items }
         ensures asks { IfErr (asked_of role first count self.old) (λ e. result ≡ Err e) }
@@ -180,6 +182,7 @@ impl NamedVolume {
         requires role { IsRoleIn role self.old }
         ensures done { self.old.sound ≡ true → self.old.quiet ≡ true → Serves result self.new (λ v. (v ≡ self.old) ⊎ IsReadAsked 1 self.old v) (flushed_in role self.old) }
         ensures among { self.old.quiet ≡ false → IfOk (asked_of role 0 1 self.old) (IsFlushServed result ended.old.items ended.new.items self.old self.new) }
+        ensures at_rest { self.old.quiet ≡ true → IfOk (asked_of role 0 1 self.old) (IsFlushedAtRest result self.old self.new) }
         ensures counts { IfOk (asked_of role 0 1 self.old) (λ _. self.new.asked ≡ self.old.asked + 1) }
         ensures told { self.old.quiet ≡ true → ended.new.items ≡ ended.old.items }
         ensures asks { IfErr (asked_of role 0 1 self.old) (λ e. result ≡ Err e) }

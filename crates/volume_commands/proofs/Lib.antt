@@ -11,6 +11,8 @@ pub mod Served
 pub mod Drains
 pub mod Amongs
 pub mod AmongRuns
+pub mod AtRest
+pub mod RestRuns
 pub mod Refusing
 pub mod Between
 pub mod ReadRuns

@@ -64,6 +64,13 @@ module _ {B : Type 0} (contents : B → List ℕ) (layers : B → List Layer) (s
     | inr other ↦ other
   ]
 
+  -- nor is one that is refused for another reason than want of room
+  pub plain_refused : is_starved refusal ≡ false → IsRefusedAs contents layers size request refusal old new
+  plain_refused other = elim refused [
+    | inl starved ↦ absurd (let both : false ≡ true = sym other ∙ starved.0 in cc)
+    | inr plain ↦ plain
+  ]
+
   -- refused for another reason than its snapshot: there is no room
   pub starved_only : CanServe size request.dev request.op request.range old → ((number : ℕ) → merging_number old.merge ≡ Some number → place_of_snap number old.snaps ≡ None) → is_quiet_of old ≡ true → length old.snaps ≤ 8 → refusal ≢ Invalid → refusal ≢ Overflow → (is_starved refusal ≡ true) × SameButRoom old new
   starved_only can apart quiet few alive free = elim refused [

@@ -12,6 +12,7 @@ pub mod Showing
 pub mod Draining
 pub mod Following
 pub mod Among
+pub mod AtRest
 pub mod Flying
 pub mod Merging
 pub mod Ordered

@@ -10,6 +10,7 @@ ghost use Rattle.volume_commands.specs.Between.{IsBetween};
 ghost use Rattle.volume_commands.specs.Flying.{IsWhole};
 ghost use Rattle.volume_commands.specs.Commands.{IsDoneBy, IsFlushRefused};
 ghost use Rattle.volume_commands.specs.Showing.{arrays_in, IsPlainFlush, IsPlainReadRefused};
+ghost use Rattle.volume_commands.specs.AtRest.{IsFlushDone, IsFlushUndone};
 ghost use Rattle.volume_commands.specs.Among.{IsFlushedAmong, IsFlushRefusedAmong, IsPieceFailed, IsRequestOf, flush_piece};
 
 use crate::among::serve_among;
@@ -44,6 +45,8 @@ fn flush_device<B: Layered>(volume: &mut Journaled<B>, dev: Dev) -> Result<(), R
     ensures settled { IsSettled B.layers (rested_of volume.old) → IsSettled B.layers (rested_of volume.new) }
     ensures done { OnOk result (IsDoneBy B.contents B.layers (flushed_beside dev) Flushed (rested_of volume.old) (rested_of volume.new)) }
     ensures refused { IfErr result (λ refusal. IsFlushRefused B.contents B.layers dev refusal (rested_of volume.old) (rested_of volume.new)) }
+    ensures answered { OnOk result (IsFlushDone B.contents B.layers B.fault_count B.size dev volume.old volume.new) }
+    ensures undone { IfErr result (λ refusal. IsFlushUndone B.contents B.layers B.fault_count B.size dev refusal volume.old volume.new) }
     ensures shows { OnOk result (IsSettled B.layers (rested_of volume.old) → IsPlainFlush dev (arrays_in B.contents B.layers (rested_of volume.old)) (arrays_in B.contents B.layers (rested_of volume.new))) }
     ensures loses { IfErr result (λ refusal. IsSettled B.layers (rested_of volume.old) → IsPlainReadRefused dev refusal (arrays_in B.contents B.layers (rested_of volume.old)) (arrays_in B.contents B.layers (rested_of volume.new))) }
     ensures kept { KeepsDevices B.layers B.size (rested_of volume.old) (rested_of volume.new) }
@@ -83,7 +86,8 @@ fn flush_device_among<B: Layered>(
 impl<B: Layered> Resting<B> {
     /// Flushes the origin or a snapshot of a quiet volume: what was written to it before lasts. A snapshot's store is flushed; of the
     /// origin the store of the snapshot that is being merged, if one is, and then the origin disk. Where the volume is settled, it
-    /// is the settled machine's flush, and nothing changes that the origin or a snapshot shows.
+    /// is the settled machine's flush, and nothing changes that the origin or a snapshot shows. Whichever device drops writes, it
+    /// is answered by an event that was due.
     ///
     /// Refused: there is no such snapshot (`NoSuchDevice`), and then nothing changed; the snapshot is spoiled (`Invalid`), or a
     /// device failed (`Io`); or memory is refused (`NoMemory`).
@@ -96,6 +100,9 @@ impl<B: Layered> Resting<B> {
         ensures done { OnOk result (IsDoneBy B.contents B.layers (flushed_beside dev) Flushed self.old self.new) }
         ensures there { OnOk result (has_dev dev self.old ≡ true) }
         ensures refused { IfErr result (λ refusal. IsFlushRefused B.contents B.layers dev refusal self.old self.new) }
+        ensures answered { OnOk result (IsFlushDone B.contents B.layers B.fault_count B.size dev self.old.events self.new.events) }
+        ensures undone { has_dev dev self.old ≡ true → IfErr result (λ refusal. IsFlushUndone B.contents B.layers B.fault_count B.size dev refusal self.old.events self.new.events) }
+        ensures whole { IsWhole self.old × IsWhole self.new }
         ensures shows { OnOk result (IsSettled B.layers self.old → IsPlainFlush dev (arrays_in B.contents B.layers self.old) (arrays_in B.contents B.layers self.new)) }
         ensures loses { IfErr result (λ refusal. IsSettled B.layers self.old → IsPlainReadRefused dev refusal (arrays_in B.contents B.layers self.old) (arrays_in B.contents B.layers self.new)) }
         ensures kept { KeepsDevices B.layers B.size self.old self.new }

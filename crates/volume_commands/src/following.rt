@@ -2,6 +2,7 @@
 ghost use Rattle.std.specs.Prelude.{◌≡◌, ◌≤◌};
 ghost use Rattle.volume.specs.Stepping.{KeepsAll};
 ghost use Rattle.volume.specs.Volumed.{is_loud_in_all, left_in_all};
+ghost use Rattle.volume_commands.specs.AtRest.{AreDone};
 ghost use Rattle.volume_commands.specs.Following.{following, IsFollowed};
 
 use crate::Journaled;
@@ -24,6 +25,7 @@ fn event_after(done: Event) -> Option<Event>
 /// was given before where it gave none.
 pub(crate) fn follow<B: Layered>(volume: &mut Journaled<B>, done: Event, reply: Reply) -> Reply
     ensures follows { IsFollowed B.contents B.layers done reply result volume.old volume.new }
+    ensures did { AreDone B.contents B.layers B.fault_count reply result volume.old volume.new }
     ensures loud { is_loud_in_all B.layers volume.new ≡ is_loud_in_all B.layers volume.old }
     ensures kept { KeepsAll B.size volume.old volume.new }
     ensures requests { volume.new.requests ≡ volume.old.requests }

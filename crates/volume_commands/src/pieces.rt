@@ -1,10 +1,13 @@
 // A command, cut into pieces: each is served before the next, and the first that is not done ends it.
-ghost use Rattle.std.specs.Prelude.{◌≡◌, ◌⊎◌, ℕ, ◌+◌, ◌-◌, ◌*◌, ◌≤◌, ◌<◌, ◌∷◌, [], take, drop, length, vec_capacity, vec_len, Option, None, Some, IfOk, IfErr, OnOk, OnErr, true};
+ghost use Rattle.std.specs.Prelude.{◌≡◌, ◌⊎◌, ℕ, ◌+◌, ◌-◌, ◌*◌, ◌≤◌, ◌<◌, ◌∷◌, ◌++◌, [], take, drop, length, vec_capacity, vec_len, Option, None, Some, IfOk, IfErr, OnOk, OnErr, true};
+ghost use Rattle.plain.specs.declared.request.Reply.{Reply as AnyReply};
 ghost use Rattle.plain.specs.declared.request.Reply.TheVariants.{Data, Refused, Written};
 ghost use Rattle.plain.specs.declared.request.Op.TheVariants.{Read, Write};
 ghost use Rattle.chunk.specs.Pieces.{pieces_of, span_of};
 ghost use Rattle.volume.specs.Volumed.{piece_with};
 ghost use Rattle.settled.specs.Beside.{written_beside, read_beside};
+ghost use Rattle.settled.specs.Commands.{bytes_in};
+ghost use Rattle.volume_commands.specs.AtRest.{AreReadAtRest, AreWrittenAtRest, IsPieceAnswered, IsPieceUndone, IsReadUndone, IsWriteCut};
 ghost use Rattle.volume_commands.specs.Serving.{part_written, part_read};
 ghost use Rattle.volume_commands.specs.Rested.{rested_of, IsSettled};
 ghost use Rattle.volume_commands.specs.Kept.{KeepsDevices};
@@ -59,6 +62,8 @@ fn write_piece<B: Layered>(
     ensures settled { IsSettled B.layers (rested_of volume.old) → IsSettled B.layers (rested_of volume.new) }
     ensures done { OnOk result (IsPieceDone B.contents B.layers (part_written dev (span_of piece) (take (to - from) (drop from bytes.old))) (rested_of volume.old) (rested_of volume.new)) }
     ensures refused { IfErr result (λ refusal. IsPieceRefused B.contents B.layers (part_written dev (span_of piece) (take (to - from) (drop from bytes.old))) refusal (rested_of volume.old) (rested_of volume.new)) }
+    ensures answered { OnOk result ((reply : AnyReply) × IsPieceAnswered B.contents B.layers B.fault_count B.size dev (Write (take (to - from) (drop from bytes.old))) (span_of piece) reply volume.old volume.new) }
+    ensures undone { IfErr result (λ refusal. IsPieceUndone B.contents B.layers B.fault_count B.size dev (Write (take (to - from) (drop from bytes.old))) (span_of piece) refusal volume.old volume.new) }
     ensures left { drop to bytes.new ≡ drop to bytes.old }
     ensures kept { KeepsDevices B.layers B.size (rested_of volume.old) (rested_of volume.new) }
     ensures piece { piece_with volume.new.merge volume.new.snaps ≡ piece_with volume.old.merge volume.old.snaps }
@@ -95,6 +100,8 @@ fn read_piece<B: Layered>(
     ensures settled { IsSettled B.layers (rested_of volume.old) → IsSettled B.layers (rested_of volume.new) }
     ensures done { OnOk result (IsPieceRead B.contents B.layers (part_read dev (span_of piece)) out.old.items out.new.items (rested_of volume.old) (rested_of volume.new)) }
     ensures refused { IfErr result (λ refusal. IsPieceRefused B.contents B.layers (part_read dev (span_of piece)) refusal (rested_of volume.old) (rested_of volume.new)) }
+    ensures answered { OnOk result ((reply : AnyReply) × IsPieceAnswered B.contents B.layers B.fault_count B.size dev Read (span_of piece) reply volume.old volume.new × (out.new.items ≡ out.old.items ++ bytes_in reply)) }
+    ensures undone { IfErr result (λ refusal. IsPieceUndone B.contents B.layers B.fault_count B.size dev Read (span_of piece) refusal volume.old volume.new) }
     ensures out_err { OnErr result (out.new.items ≡ out.old.items) }
     ensures len { vec_len out.new ≤ vec_len out.old + 512 * piece.count }
     ensures capacity { vec_capacity out.old ≤ vec_capacity out.new }
@@ -146,6 +153,8 @@ fn read_alone<B: Layered>(
     ensures settled { IsSettled B.layers (rested_of volume.old) → IsSettled B.layers (rested_of volume.new) }
     ensures done { IfOk result (λ bytes. IsPieceRead B.contents B.layers (part_read dev (span_of piece)) [] bytes (rested_of volume.old) (rested_of volume.new)) }
     ensures refused { IfErr result (λ refusal. IsPieceRefused B.contents B.layers (part_read dev (span_of piece)) refusal (rested_of volume.old) (rested_of volume.new)) }
+    ensures answered { IfOk result (λ bytes. (reply : AnyReply) × IsPieceAnswered B.contents B.layers B.fault_count B.size dev Read (span_of piece) reply volume.old volume.new × (bytes ≡ bytes_in reply)) }
+    ensures undone { IfErr result (λ refusal. IsPieceUndone B.contents B.layers B.fault_count B.size dev Read (span_of piece) refusal volume.old volume.new) }
     ensures kept { KeepsDevices B.layers B.size (rested_of volume.old) (rested_of volume.new) }
     ensures requests { volume.new.requests ≤ volume.old.requests + 1 }
 {
@@ -178,6 +187,8 @@ pub(crate) fn write_pieces<B: Layered>(
     ensures settled { IsSettled B.layers (rested_of volume.old) → IsSettled B.layers (rested_of volume.new) }
     ensures done { OnOk result (IsDoneBy B.contents B.layers (written_beside dev (span_of range) bytes) Written (rested_of volume.old) (rested_of volume.new)) }
     ensures refused { IfErr result (λ refusal. IsWriteRefused B.contents B.layers dev (span_of range) bytes refusal (rested_of volume.old) (rested_of volume.new)) }
+    ensures answered { OnOk result (AreWrittenAtRest B.contents B.layers B.fault_count B.size dev (pieces_of (piece_with volume.old.merge volume.old.snaps) (span_of range)) bytes volume.old volume.new) }
+    ensures undone { IfErr result (λ refusal. IsWriteCut B.contents B.layers B.fault_count B.size dev (pieces_of (piece_with volume.old.merge volume.old.snaps) (span_of range)) bytes refusal volume.old volume.new) }
     ensures shows { OnOk result (IsSettled B.layers (rested_of volume.old) → IsPlainWrite dev (span_of range) bytes (arrays_in B.contents B.layers (rested_of volume.old)) (arrays_in B.contents B.layers (rested_of volume.new))) }
     ensures loses { IfErr result (λ refusal. IsSettled B.layers (rested_of volume.old) → IsPlainWriteRefused dev (span_of range) (pieces_for B.contents B.layers (span_of range) (rested_of volume.old)) bytes refusal (arrays_in B.contents B.layers (rested_of volume.old)) (arrays_in B.contents B.layers (rested_of volume.new))) }
     ensures kept { KeepsDevices B.layers B.size (rested_of volume.old) (rested_of volume.new) }
@@ -214,6 +225,8 @@ pub(crate) fn read_pieces<B: Layered>(
     ensures settled { IsSettled B.layers (rested_of volume.old) → IsSettled B.layers (rested_of volume.new) }
     ensures done { IfOk result (λ bytes. IsDoneBy B.contents B.layers (read_beside dev (span_of range)) (Data bytes) (rested_of volume.old) (rested_of volume.new)) }
     ensures refused { IfErr result (λ refusal. IsReadRefused B.contents B.layers dev (span_of range) refusal (rested_of volume.old) (rested_of volume.new)) }
+    ensures answered { IfOk result (λ bytes. AreReadAtRest B.contents B.layers B.fault_count B.size dev (pieces_of (piece_with volume.old.merge volume.old.snaps) (span_of range)) bytes volume.old volume.new) }
+    ensures undone { IfErr result (λ refusal. IsReadUndone B.contents B.layers B.fault_count B.size dev (pieces_of (piece_with volume.old.merge volume.old.snaps) (span_of range)) refusal volume.old volume.new) }
     ensures shows { IfOk result (λ bytes. IsSettled B.layers (rested_of volume.old) → IsPlainRead dev (span_of range) bytes (arrays_in B.contents B.layers (rested_of volume.old)) (arrays_in B.contents B.layers (rested_of volume.new))) }
     ensures loses { IfErr result (λ refusal. IsSettled B.layers (rested_of volume.old) → IsPlainReadRefused dev refusal (arrays_in B.contents B.layers (rested_of volume.old)) (arrays_in B.contents B.layers (rested_of volume.new))) }
     ensures kept { KeepsDevices B.layers B.size (rested_of volume.old) (rested_of volume.new) }

@@ -8,6 +8,9 @@ ghost use Rattle.volume.specs.Leaving.{is_quiet_of};
 ghost use Rattle.settled.specs.Beside.{written_beside, read_beside};
 ghost use Rattle.volume_commands.specs.Rested.{has_dev, rested_of, IsSettled};
 ghost use Rattle.volume_commands.specs.Kept.{KeepsDevices};
+ghost use Rattle.volume_commands.specs.Flying.{IsWhole};
+ghost use Rattle.volume_commands.specs.Among.{pieces_among};
+ghost use Rattle.volume_commands.specs.AtRest.{AreReadAtRest, AreWrittenAtRest, IsReadUndone, IsWriteCut};
 ghost use Rattle.volume_commands.specs.Commands.{IsDoneBy, IsWriteRefused, IsReadRefused};
 ghost use Rattle.volume_commands.specs.Showing.{arrays_in, pieces_for, IsPlainRead, IsPlainReadRefused, IsPlainWrite, IsPlainWriteRefused};
 
@@ -68,7 +71,8 @@ impl<B: Layered> Resting<B> {
     /// Reads sectors of the origin or of a snapshot of a quiet volume. The range is cut into pieces of the snapshots' chunk
     /// size, which are read in order. Where the volume is settled, it is the settled machine's read: it gives the bytes of
     /// the array that the device shows, and changes nothing that the origin or a snapshot shows, answered or refused. While a
-    /// merge is begun the origin's array is what it shows through the merge.
+    /// merge is begun the origin's array is what it shows through the merge. Whichever device drops writes, each piece is
+    /// answered with as many bytes as it has, by an event that was due.
     ///
     /// Refused: there is no such snapshot (`NoSuchDevice`), and then nothing changed; the snapshot is spoiled (`Invalid`), or
     /// the device of a piece failed (`Io`), after the pieces before it were read; or memory is refused (`NoMemory`), after
@@ -83,6 +87,9 @@ impl<B: Layered> Resting<B> {
         ensures done { IfOk result (λ bytes. IsDoneBy B.contents B.layers (read_beside dev (span_of range)) (Data bytes) self.old self.new) }
         ensures there { OnOk result (has_dev dev self.old ≡ true) }
         ensures refused { IfErr result (λ refusal. IsReadRefused B.contents B.layers dev (span_of range) refusal self.old self.new) }
+        ensures answered { IfOk result (λ bytes. AreReadAtRest B.contents B.layers B.fault_count B.size dev (pieces_among (span_of range) self.old) bytes self.old.events self.new.events) }
+        ensures undone { has_dev dev self.old ≡ true → IfErr result (λ refusal. IsReadUndone B.contents B.layers B.fault_count B.size dev (pieces_among (span_of range) self.old) refusal self.old.events self.new.events) }
+        ensures whole { IsWhole self.old × IsWhole self.new }
         ensures shows { IfOk result (λ bytes. IsSettled B.layers self.old → IsPlainRead dev (span_of range) bytes (arrays_in B.contents B.layers self.old) (arrays_in B.contents B.layers self.new)) }
         ensures loses { IfErr result (λ refusal. IsSettled B.layers self.old → IsPlainReadRefused dev refusal (arrays_in B.contents B.layers self.old) (arrays_in B.contents B.layers self.new)) }
         ensures kept { KeepsDevices B.layers B.size self.old self.new }
@@ -98,7 +105,8 @@ impl<B: Layered> Resting<B> {
     /// Writes sectors of the origin or of a snapshot of a quiet volume. The range is cut into pieces of the snapshots' chunk
     /// size, which are written in order. Where the volume is settled, it is the settled machine's write: the bytes stand in
     /// the array of its device, also while a merge is begun. Of a write to the origin, each snapshot shows what it showed, or
-    /// is spoiled; one to a snapshot changes what that shows alone.
+    /// is spoiled; one to a snapshot changes what that shows alone. Whichever device drops writes, each piece is answered by an
+    /// event that was due.
     ///
     /// Refused: there is no such snapshot (`NoSuchDevice`), and then nothing changed; the snapshot is spoiled (`Invalid`), or
     /// the device of a piece failed (`Io`), and the pieces before it stand; the snapshot's store overflowed before
@@ -121,6 +129,9 @@ impl<B: Layered> Resting<B> {
         ensures done { OnOk result (IsDoneBy B.contents B.layers (written_beside dev (span_of range) bytes) Written self.old self.new) }
         ensures there { OnOk result (has_dev dev self.old ≡ true) }
         ensures refused { IfErr result (λ refusal. IsWriteRefused B.contents B.layers dev (span_of range) bytes refusal self.old self.new) }
+        ensures answered { OnOk result (AreWrittenAtRest B.contents B.layers B.fault_count B.size dev (pieces_among (span_of range) self.old) bytes self.old.events self.new.events) }
+        ensures undone { has_dev dev self.old ≡ true → IfErr result (λ refusal. IsWriteCut B.contents B.layers B.fault_count B.size dev (pieces_among (span_of range) self.old) bytes refusal self.old.events self.new.events) }
+        ensures whole { IsWhole self.old × IsWhole self.new }
         ensures shows { OnOk result (IsSettled B.layers self.old → IsPlainWrite dev (span_of range) bytes (arrays_in B.contents B.layers self.old) (arrays_in B.contents B.layers self.new)) }
         ensures loses { IfErr result (λ refusal. IsSettled B.layers self.old → IsPlainWriteRefused dev (span_of range) (pieces_for B.contents B.layers (span_of range) self.old) bytes refusal (arrays_in B.contents B.layers self.old) (arrays_in B.contents B.layers self.new)) }
         ensures kept { KeepsDevices B.layers B.size self.old self.new }

@@ -1,18 +1,19 @@
 // One piece of a command: it is submitted, and the events that are due are done until none is.
-ghost use Rattle.std.specs.Prelude.{◌≡◌, ℕ, ◌+◌, ◌≤◌, length, Option, None, Some, IfOk, IfErr, true, false};
+ghost use Rattle.std.specs.Prelude.{◌≡◌, ◌⊎◌, ℕ, ◌+◌, ◌≤◌, length, Option, None, Some, IfOk, IfErr, true, false};
 ghost use Rattle.plain.specs.declared.request.Reply.{Reply};
 ghost use Rattle.plain.specs.declared.request.Reply.TheVariants.{Refused};
-ghost use Rattle.settled.specs.Refusals.{is_starved};
+ghost use Rattle.settled.specs.Refusals.{IsStarved, is_starved};
 ghost use Rattle.event_machine.specs.Due.{due};
 ghost use Rattle.event_machine.specs.Submitting.{submitted};
 ghost use Rattle.volume.specs.Volumed.{is_loud_in_all, piece_with};
 ghost use Rattle.volume.specs.Moved.{moving_of};
 ghost use Rattle.volume.specs.Reaching.{IsRun};
 ghost use Rattle.volume.specs.Leaving.{has_group_in, is_quiet_of};
-ghost use Rattle.volume.specs.Submitting.{SameButRoom};
+ghost use Rattle.volume.specs.Submitting.{IsRefusedAs, SameButRoom};
 ghost use Rattle.volume_commands.specs.Rested.{rested_of, merged_of, IsSettled, has_dev};
 ghost use Rattle.volume_commands.specs.Kept.{KeepsDevices};
 ghost use Rattle.volume_commands.specs.Between.{IsBetween};
+ghost use Rattle.volume_commands.specs.AtRest.{AreDone, IsAnswered, IsEntered};
 ghost use Rattle.volume_commands.specs.Commands.{IsDoneBy};
 ghost use Rattle.volume_commands.specs.Serving.{CanServe, part_done};
 ghost use Rattle.volume.specs.Stepping.{KeepsAll};
@@ -29,6 +30,8 @@ use sector::Refusal;
 fn settle<B: Layered>(volume: &mut Journaled<B>, mut reply: Reply) -> Reply
     requires free { has_group_in volume.old.merge ≡ false }
     ensures run { IsRun B.contents B.layers (Some reply) (Some result) volume.old volume.new }
+    ensures did { AreDone B.contents B.layers B.fault_count reply result volume.old volume.new }
+    ensures still { is_quiet_of volume.old ≡ true → volume.new ≡ volume.old }
     ensures none { (replied : Option Reply) → due (moving_of B.contents B.layers replied volume.new) ≡ None }
     ensures quiet { is_quiet_of volume.new ≡ true }
     ensures kept { KeepsAll B.size volume.old volume.new }
@@ -56,7 +59,9 @@ fn enter<B: Layered>(volume: &mut Journaled<B>, request: Request) -> Result<Fail
     requires few { length volume.old.snaps ≤ 8 }
     requires can { CanServe B.size request.dev request.op request.range volume.old }
     ensures ok { IfOk result (λ failure. (number : ℕ) × (submitted number request (moving_of B.contents B.layers (Some (Refused failure)) volume.old) ≡ moving_of B.contents B.layers (Some (Refused failure)) volume.new)) }
+    ensures entered { IfOk result (λ failure. IsEntered B.contents B.layers B.size request failure volume.old volume.new) }
     ensures starved { IfErr result (λ refusal. (is_starved refusal ≡ true) × SameButRoom volume.old volume.new × (moving_of B.contents B.layers None volume.new ≡ moving_of B.contents B.layers None volume.old)) }
+    ensures untaken { IfErr result (λ refusal. IsStarved refusal volume.old volume.new ⊎ IsRefusedAs B.contents B.layers B.size request refusal volume.old volume.new) }
     ensures free { has_group_in volume.new.merge ≡ false }
     ensures loud { is_loud_in_all B.layers volume.new ≡ is_loud_in_all B.layers volume.old }
     ensures kept { KeepsAll B.size volume.old volume.new }
@@ -84,7 +89,9 @@ pub(crate) fn serve<B: Layered>(
     ensures between { IsBetween volume.new }
     ensures settled { IsSettled B.layers (rested_of volume.old) → IsSettled B.layers (rested_of volume.new) }
     ensures answer { IfOk result (λ reply. IsDoneBy B.contents B.layers (part_done request) reply (rested_of volume.old) (rested_of volume.new)) }
+    ensures answered { IfOk result (λ reply. IsAnswered B.contents B.layers B.fault_count B.size request reply volume.old volume.new) }
     ensures starved { IfErr result (λ refusal. (is_starved refusal ≡ true) × (merged_of B.contents B.layers (rested_of volume.new) ≡ merged_of B.contents B.layers (rested_of volume.old))) }
+    ensures untaken { IfErr result (λ refusal. IsStarved refusal volume.old volume.new ⊎ IsRefusedAs B.contents B.layers B.size request refusal volume.old volume.new) }
     ensures kept { KeepsDevices B.layers B.size (rested_of volume.old) (rested_of volume.new) }
     ensures piece { piece_with volume.new.merge volume.new.snaps ≡ piece_with volume.old.merge volume.old.snaps }
     ensures requests { volume.new.requests ≤ volume.old.requests + 1 }

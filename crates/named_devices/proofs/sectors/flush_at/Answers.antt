@@ -1,14 +1,14 @@
 use Rattle.std.proofs.Common.{◌≡◌, ◌∙◌}
-use Rattle.std.specs.Prelude.{Err, false}
+use Rattle.std.specs.Prelude.{Err, false, true}
 use Rattle.named_volume.specs.Tables.{table_of}
 use Rattle.command_rules.specs.Sectors.{asked_of, IsReadAsked, flushed_in}
 use Rattle.command_rules.proofs.NamedFrames.{put_volume_named}
 use Rattle.command_rules.proofs.SoundFrames.{of_both, put_volume_sound, volume_quiet, volume_sound}
 use Rattle.named_volume.specs.Names.{KeepsNames}
-use Rattle.named_volume.specs.Flights.{IsFlushServed}
+use Rattle.named_volume.specs.Flights.{IsFlushServed, IsFlushedAtRest}
 use Rattle.named_devices.specs.Flights.{IsFlushedAmong}
 use Rattle.named_devices.proofs.Denied.{denied_in}
-use Rattle.named_devices.proofs.InVolume.{later_asked, asked_did, asked_in, changed_in, serves_in, stays_in}
+use Rattle.named_devices.proofs.InVolume.{asked_did, asked_in, both_asked, changed_in, serves_in, stays_in}
 use Rattle.named_devices.proofs.Ruled.{quiet_here, sound_here}
 use Rattle.named_devices.proofs.sectors.flush_at.Goals as goal
 
@@ -25,7 +25,7 @@ returns c =
       told = λ quiet. c.flush.ensures.told (quiet_here table c.args.v old quiet lt at);
       asks = asked_in (λ e. c.flush.result ≡ Err e) c.args.v c.args.role 0 1 table old lt at c.flush.ensures.asks;
       stays = stays_in (c.flush.new.ended.items ≡ c.args.ended.now.items) c.args.v c.args.role 0 1 table old c.flush.new.self lt at c.flush.ensures.stays;
-      among = asked_did (IsFlushedAmong c.flush.result c.args.ended.now.items c.flush.new.ended.items) c.args.v c.args.role 0 1 table old c.flush.new.self lt at (later_asked (IsFlushServed c.flush.result c.args.ended.now.items c.flush.new.ended.items old c.flush.new.self) (old.quiet ≡ false) (asked_of c.args.role 0 1 old) c.flush.ensures.among);
+      among = asked_did (IsFlushedAmong c.flush.result c.args.ended.now.items c.flush.new.ended.items) c.args.v c.args.role 0 1 table old c.flush.new.self lt at (both_asked (IsFlushServed c.flush.result c.args.ended.now.items c.flush.new.ended.items old c.flush.new.self) (IsFlushedAtRest c.flush.result old c.flush.new.self) (old.quiet ≡ false) (old.quiet ≡ true) (asked_of c.args.role 0 1 old) c.flush.ensures.among c.flush.ensures.at_rest);
       denied = denied_in c.flush.result c.args.v c.args.role 0 1 table old lt at c.flush.ensures.denied;
       one = changed_in KeepsNames c.args.v table old c.flush.new.self lt at c.flush.ensures.kept;
       sound = λ sound.

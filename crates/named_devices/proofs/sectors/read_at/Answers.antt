@@ -1,14 +1,14 @@
 use Rattle.std.proofs.Common.{◌≡◌, ◌∙◌}
-use Rattle.std.specs.Prelude.{Err, false}
+use Rattle.std.specs.Prelude.{Err, false, true}
 use Rattle.named_volume.specs.Tables.{table_of}
 use Rattle.command_rules.specs.Sectors.{asked_of, IsReadAsked, read_in}
 use Rattle.command_rules.proofs.NamedFrames.{put_volume_named}
 use Rattle.command_rules.proofs.SoundFrames.{of_both, put_volume_sound, volume_quiet, volume_sound}
 use Rattle.named_volume.specs.Names.{KeepsNames}
-use Rattle.named_volume.specs.Flights.{IsReadServed}
+use Rattle.named_volume.specs.Flights.{IsReadAtRest, IsReadServed}
 use Rattle.named_devices.specs.Flights.{IsReadAmong}
 use Rattle.named_devices.proofs.Denied.{denied_in}
-use Rattle.named_devices.proofs.InVolume.{later_asked, asked_did, asked_in, changed_in, serves_in, stays_in}
+use Rattle.named_devices.proofs.InVolume.{asked_did, asked_in, both_asked, changed_in, serves_in, stays_in}
 use Rattle.named_devices.proofs.Ruled.{quiet_here, sound_here}
 use Rattle.named_devices.proofs.sectors.read_at.Goals as goal
 
@@ -25,7 +25,7 @@ returns c =
       told = λ quiet. c.read.ensures.told (quiet_here table c.args.v old quiet lt at);
       asks = asked_in (λ e. c.read.result ≡ Err e) c.args.v c.args.role c.args.first c.args.count table old lt at c.read.ensures.asks;
       stays = stays_in (c.read.new.ended.items ≡ c.args.ended.now.items) c.args.v c.args.role c.args.first c.args.count table old c.read.new.self lt at c.read.ensures.stays;
-      among = asked_did (IsReadAmong c.read.result c.args.ended.now.items c.read.new.ended.items) c.args.v c.args.role c.args.first c.args.count table old c.read.new.self lt at (later_asked (IsReadServed c.read.result c.args.ended.now.items c.read.new.ended.items old c.read.new.self) (old.quiet ≡ false) (asked_of c.args.role c.args.first c.args.count old) c.read.ensures.among);
+      among = asked_did (IsReadAmong c.read.result c.args.ended.now.items c.read.new.ended.items) c.args.v c.args.role c.args.first c.args.count table old c.read.new.self lt at (both_asked (IsReadServed c.read.result c.args.ended.now.items c.read.new.ended.items old c.read.new.self) (IsReadAtRest c.read.result old c.read.new.self) (old.quiet ≡ false) (old.quiet ≡ true) (asked_of c.args.role c.args.first c.args.count old) c.read.ensures.among c.read.ensures.at_rest);
       denied = denied_in c.read.result c.args.v c.args.role c.args.first c.args.count table old lt at c.read.ensures.denied;
       one = changed_in KeepsNames c.args.v table old c.read.new.self lt at c.read.ensures.kept;
       sound = λ sound.

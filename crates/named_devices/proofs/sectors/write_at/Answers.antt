@@ -1,14 +1,14 @@
 use Rattle.std.proofs.Common.{◌≡◌, ◌∙◌}
-use Rattle.std.specs.Prelude.{Err, false}
+use Rattle.std.specs.Prelude.{Err, false, true}
 use Rattle.named_volume.specs.Tables.{table_of}
 use Rattle.command_rules.specs.Sectors.{asked_of, IsPartWritten, written_in}
 use Rattle.command_rules.proofs.NamedFrames.{put_volume_named}
 use Rattle.command_rules.proofs.SoundFrames.{of_both, put_volume_sound, volume_quiet, volume_sound}
 use Rattle.named_volume.specs.Names.{KeepsNames}
-use Rattle.named_volume.specs.Flights.{IsWriteServed}
+use Rattle.named_volume.specs.Flights.{IsWriteServed, IsWrittenAtRest}
 use Rattle.named_devices.specs.Flights.{IsWrittenAmong}
 use Rattle.named_devices.proofs.Denied.{denied_in}
-use Rattle.named_devices.proofs.InVolume.{later_asked, asked_did, asked_in, changed_in, serves_in, stays_in}
+use Rattle.named_devices.proofs.InVolume.{asked_did, asked_in, both_asked, changed_in, serves_in, stays_in}
 use Rattle.named_devices.proofs.Ruled.{quiet_here, sound_here}
 use Rattle.named_devices.proofs.sectors.write_at.Goals as goal
 
@@ -25,7 +25,7 @@ returns c =
       told = λ quiet. c.write.ensures.told (quiet_here table c.args.v old quiet lt at);
       asks = asked_in (λ e. c.write.result ≡ Err e) c.args.v c.args.role c.args.first c.args.count table old lt at c.write.ensures.asks;
       stays = stays_in (c.write.new.ended.items ≡ c.args.ended.now.items) c.args.v c.args.role c.args.first c.args.count table old c.write.new.self lt at c.write.ensures.stays;
-      among = asked_did (IsWrittenAmong c.args.bytes c.write.result c.args.ended.now.items c.write.new.ended.items) c.args.v c.args.role c.args.first c.args.count table old c.write.new.self lt at (later_asked (IsWriteServed c.args.bytes c.write.result c.args.ended.now.items c.write.new.ended.items old c.write.new.self) (old.quiet ≡ false) (asked_of c.args.role c.args.first c.args.count old) c.write.ensures.among);
+      among = asked_did (IsWrittenAmong c.args.bytes c.write.result c.args.ended.now.items c.write.new.ended.items) c.args.v c.args.role c.args.first c.args.count table old c.write.new.self lt at (both_asked (IsWriteServed c.args.bytes c.write.result c.args.ended.now.items c.write.new.ended.items old c.write.new.self) (IsWrittenAtRest c.args.bytes c.write.result old c.write.new.self) (old.quiet ≡ false) (old.quiet ≡ true) (asked_of c.args.role c.args.first c.args.count old) c.write.ensures.among c.write.ensures.at_rest);
       denied = denied_in c.write.result c.args.v c.args.role c.args.first c.args.count table old lt at c.write.ensures.denied;
       one = changed_in KeepsNames c.args.v table old c.write.new.self lt at c.write.ensures.kept;
       sound = λ sound.

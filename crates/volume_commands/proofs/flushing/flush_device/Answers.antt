@@ -1,10 +1,13 @@
 -- The flush was done, or refused.
-use Rattle.std.proofs.Common.{inl, inr, ◌∙◌, ap}
-use Rattle.plain.specs.declared.request.Reply.TheVariants.{Data, Written, Flushed, Refused}
+use Rattle.std.proofs.Common.{inl, inr, refl, ◌∙◌, ap}
+use Rattle.plain.specs.declared.request.Reply.TheVariants.{Written, Flushed, Refused}
 use Rattle.volume_commands.specs.Rested.{rested_of, merged_of}
 use Rattle.volume_commands.proofs.Going.{chunks_by}
 use Rattle.volume_commands.proofs.WriteRuns.{answer}
 use Rattle.volume_commands.proofs.Flushes.{flush_can, flush_did, flush_good, plain_flush, plain_flush_refused}
+use Rattle.plain.specs.declared.request.Op.TheVariants.{Flush}
+use Rattle.volume_commands.specs.Among.{flush_piece}
+use Rattle.volume_commands.proofs.AtRest.{piece_answered, piece_failed, piece_untaken}
 use Rattle.volume_commands.proofs.flushing.flush_device.Goals as goal
 
 pub serve-requires-clause-can : goal.serve-requires-clause-can
@@ -62,3 +65,33 @@ returns-clause-refused g c = inr (inr (c.requires.there, c.in-Err.ensures.starve
 
 pub returns-clause-loses : goal.returns-clause-loses
 returns-clause-loses g c = plain_flush_refused g.B.Block.contents g.B.Block.layers c.args.dev c.args.volume.now c.serve.new.volume c.in-Err.refusal (returns-clause-refused g c)
+
+pub returns-in-Ok-Refused-clause-undone : goal.returns-in-Ok-Refused-clause-undone
+returns-in-Ok-Refused-clause-undone g c =
+    piece_failed g.B.Block.contents g.B.Block.layers g.B.Block.fault_count g.B.Block.size c.args.dev Flush flush_piece c.request_of.result c.request_of.ensures c.args.volume.now c.serve.new.volume
+    c.in-Ok-Refused.field-0 c.in-Ok-Refused.failure c.refusal_for.result c.refusal_for.ensures c.in-Ok-Refused.field-0-is c.in-Ok-Refused.ensures.answered
+
+pub returns-in-Ok-Written-clause-answered : goal.returns-in-Ok-Written-clause-answered
+returns-in-Ok-Written-clause-answered g c = (
+  Written,
+  piece_answered g.B.Block.contents g.B.Block.layers g.B.Block.fault_count g.B.Block.size c.args.dev Flush flush_piece c.request_of.result c.request_of.ensures c.args.volume.now c.serve.new.volume
+      c.in-Ok-Written.field-0 Written tt c.in-Ok-Written.field-0-is c.in-Ok-Written.ensures.answered,
+)
+
+pub returns-in-Ok-Flushed-clause-answered : goal.returns-in-Ok-Flushed-clause-answered
+returns-in-Ok-Flushed-clause-answered g c = (
+  Flushed,
+  piece_answered g.B.Block.contents g.B.Block.layers g.B.Block.fault_count g.B.Block.size c.args.dev Flush flush_piece c.request_of.result c.request_of.ensures c.args.volume.now c.serve.new.volume
+      c.in-Ok-Flushed.field-0 Flushed tt c.in-Ok-Flushed.field-0-is c.in-Ok-Flushed.ensures.answered,
+)
+
+pub returns-in-Ok-Data-clause-answered : goal.returns-in-Ok-Data-clause-answered
+returns-in-Ok-Data-clause-answered g c = (
+  c.in-Ok-Data.field-0,
+  piece_answered g.B.Block.contents g.B.Block.layers g.B.Block.fault_count g.B.Block.size c.args.dev Flush flush_piece c.request_of.result c.request_of.ensures c.args.volume.now c.serve.new.volume
+      c.in-Ok-Data.field-0 c.in-Ok-Data.field-0 (rw c.in-Ok-Data.field-0-is tt) refl c.in-Ok-Data.ensures.answered,
+)
+
+pub returns-clause-undone : goal.returns-clause-undone
+returns-clause-undone g c =
+    piece_untaken g.B.Block.contents g.B.Block.layers g.B.Block.fault_count g.B.Block.size c.args.dev Flush flush_piece c.request_of.result c.request_of.ensures c.args.volume.now c.serve.new.volume c.in-Err.refusal c.in-Err.ensures.starved.0 c.in-Err.ensures.untaken

@@ -1,14 +1,17 @@
 -- One piece more is read, and where the read ends.
 use Rattle.std.proofs.Common.{◌≡◌, None, ℕ, ◌+◌, ◌*◌, List, [], ◌∷◌, refl, sym, ◌∙◌, ap, subst, arith}
 use Rattle.sector.specs.declared.refusal.Refusal.{Refusal}
-use Rattle.chunk.specs.Pieces.{span_of, pieces_of}
+use Rattle.chunk.specs.Pieces.{Span, span_of, pieces_of}
 use Rattle.chunk.proofs.Limits.{is_chunk-some, is_chunk-small}
 use Rattle.plain.specs.declared.request.Op.TheVariants.{Read}
+use Rattle.plain.specs.declared.request.Reply.{Reply}
 use Rattle.plain.specs.declared.request.Reply.TheVariants.{Data}
 use Rattle.chunk.proofs.Runs.{StandsAt, first_piece, stands_first, stands_next, stands_last}
 use Rattle.settled.specs.Beside.{read_beside}
+use Rattle.settled.specs.Commands.{bytes_in}
 use Rattle.volume.specs.Volumed.{piece_with}
 use Rattle.volume_commands.specs.Rested.{rested_of, merged_of, IsSettled}
+use Rattle.volume_commands.specs.AtRest.{AreReadAtRest, IsPieceAnswered, IsPieceUndone, IsReadUndone}
 use Rattle.volume_commands.specs.Commands.{IsDoneBy, IsReadRefused}
 use Rattle.volume_commands.specs.Serving.{IsPieceRead, IsPieceRefused, part_read}
 use Rattle.volume_commands.specs.Showing.{IsPlainRead, IsPlainReadRefused, arrays_in}
@@ -19,6 +22,7 @@ use Rattle.volume_commands.proofs.WriteRuns.{answer}
 use Rattle.volume_commands.proofs.ReadRuns.{ReadsTo, reads_none}
 use Rattle.volume_commands.proofs.Reading.{got_more, got_refused, got_all, refused_first}
 use Rattle.volume_commands.proofs.PlainReads.{plain_read, plain_read_refused}
+use Rattle.volume_commands.proofs.RestRuns.{rest_alone, rest_end, rest_next, rest_start, rest_stop, rest_undone}
 use Rattle.volume_commands.proofs.pieces.read_pieces.Goals as goal
 
 pub returns-in_default-clause-refused : goal.returns-in_default-clause-refused
@@ -52,6 +56,8 @@ loop-piece-init g c = record {
       (merged_of g.B.Block.contents g.B.Block.layers (rested_of c.args.volume.now)) (merged_of g.B.Block.contents g.B.Block.layers (rested_of c.args.volume.now))) (sym c.in-Ok.ensures.items)
       (reads_none c.args.dev _ (pieces_of (piece_with c.args.volume.now.merge c.args.volume.now.snaps) (span_of c.args.range)) c.into_iter-piece-iterator.result (merged_of g.B.Block.contents g.B.Block.layers (rested_of c.args.volume.now))
       (c.into_iter-piece-iterator.ensures.into_iter_gives ∙ c.pieces-piece-items.ensures.pieces ∙ ap (λ n. pieces_of n (span_of c.args.range)) c.piece.ensures.piece));
+  met = rest_start g.B.Block.contents g.B.Block.layers g.B.Block.fault_count g.B.Block.size c.args.dev (pieces_of (piece_with c.args.volume.now.merge c.args.volume.now.snaps) (span_of c.args.range)) c.into_iter-piece-iterator.result _ c.args.volume.now
+      (c.into_iter-piece-iterator.ensures.into_iter_gives ∙ c.pieces-piece-items.ensures.pieces ∙ ap (λ n. pieces_of n (span_of c.args.range)) c.piece.ensures.piece) c.in-Ok.ensures.items;
 }
 
 pub read_piece-requires-clause-between : goal.read_piece-requires-clause-between
@@ -88,6 +94,8 @@ loop-piece-preserved g c =
       };
       did = got_more g.B.Block.contents g.B.Block.layers g.B.Block.size c.args.dev c.args.range (piece_with c.args.volume.now.merge c.args.volume.now.snaps) c.loop-piece.out.items c.read_piece.new.out.items c.loop-piece.piece-iterator c.next.new.self c.in-Some.piece
           c.args.volume.now c.loop-piece.volume c.read_piece.new.volume c.loop-piece.invariant.did c.in-Some.ensures.steps c.loop-piece.invariant.place.so.settled c.in-Ok-read_piece.ensures.done;
+      met = rest_next g.B.Block.contents g.B.Block.layers g.B.Block.fault_count g.B.Block.size c.args.dev (pieces_of (piece_with c.args.volume.now.merge c.args.volume.now.snaps) (span_of c.args.range)) c.loop-piece.piece-iterator c.next.new.self (span_of c.in-Some.piece) c.loop-piece.out.items c.read_piece.new.out.items c.in-Ok-read_piece.ensures.answered.0
+          c.args.volume.now c.loop-piece.volume c.read_piece.new.volume c.loop-piece.invariant.met c.in-Some.ensures.steps c.in-Ok-read_piece.ensures.answered.1 c.in-Ok-read_piece.ensures.answered.2;
     }
 
 pub returns-in-Err-clause-refused : goal.returns-in-Err-clause-refused
@@ -193,3 +201,31 @@ returns-then-is_one_piece-clause-loses g c =
     (λ e why settled. plain_read_refused g.B.Block.contents g.B.Block.layers g.B.Block.size c.args.dev c.args.range c.args.volume.now c.read_alone.new.volume chunk.1 c.requires.can.some c.requires.can.inside chunk.0
     (chunk_least g.B.Block.contents g.B.Block.layers c.args.volume.now) (c.is_quiet.ensures.between quiet (loud_in_all g.B.Block.contents g.B.Block.layers g.B.Block.size c.args.volume.now settled) None) (c.is_quiet.ensures.under quiet (loud_in_all g.B.Block.contents g.B.Block.layers g.B.Block.size c.args.volume.now settled) None) e why settled)
     (returns-then-is_one_piece-clause-refused g c)
+
+pub returns-in-Err-clause-undone : goal.returns-in-Err-clause-undone
+returns-in-Err-clause-undone g c =
+    rest_stop g.B.Block.contents g.B.Block.layers g.B.Block.fault_count g.B.Block.size c.args.dev (pieces_of (piece_with c.args.volume.now.merge c.args.volume.now.snaps) (span_of c.args.range)) c.loop-piece.piece-iterator c.next.new.self (span_of c.in-Some.piece) c.loop-piece.out.items c.in-Err.refusal
+    c.args.volume.now c.loop-piece.volume c.read_piece.new.volume c.loop-piece.invariant.met c.in-Some.ensures.steps c.in-Err.ensures.undone
+
+pub returns-clause-answered : goal.returns-clause-answered
+returns-clause-answered g c =
+    subst (λ (bs : List ℕ). AreReadAtRest g.B.Block.contents g.B.Block.layers g.B.Block.fault_count g.B.Block.size c.args.dev (pieces_of (piece_with c.args.volume.now.merge c.args.volume.now.snaps) (span_of c.args.range)) bs c.args.volume.now c.loop-piece.volume) (sym c.from_vec.ensures)
+    (rest_end g.B.Block.contents g.B.Block.layers g.B.Block.fault_count g.B.Block.size c.args.dev (pieces_of (piece_with c.args.volume.now.merge c.args.volume.now.snaps) (span_of c.args.range)) c.loop-piece.piece-iterator c.loop-piece.out.items c.args.volume.now c.loop-piece.volume c.loop-piece.invariant.met c.in-None.ensures.steps.0)
+
+pub returns-then-is_one_piece-clause-answered : goal.returns-then-is_one_piece-clause-answered
+returns-then-is_one_piece-clause-answered g c =
+    let one = subst (λ n. pieces_of n (span_of c.args.range) ≡ span_of c.args.range ∷ []) c.piece.ensures.piece (c.is_one_piece.ensures c.if-is_one_piece.true) in
+    let P : List ℕ → Type 0 = λ bytes. (reply : Reply) × IsPieceAnswered g.B.Block.contents g.B.Block.layers g.B.Block.fault_count g.B.Block.size c.args.dev Read (span_of c.args.range) reply c.args.volume.now c.read_alone.new.volume × (bytes ≡ bytes_in reply) in
+    let Q : List ℕ → Type 0 = λ bytes. AreReadAtRest g.B.Block.contents g.B.Block.layers g.B.Block.fault_count g.B.Block.size c.args.dev (pieces_of (piece_with c.args.volume.now.merge c.args.volume.now.snaps) (span_of c.args.range)) bytes c.args.volume.now c.read_alone.new.volume in
+    ok_so P Q c.read_alone.result
+    (λ bytes got. subst (λ (ps : List Span). AreReadAtRest g.B.Block.contents g.B.Block.layers g.B.Block.fault_count g.B.Block.size c.args.dev ps bytes c.args.volume.now c.read_alone.new.volume) (sym one)
+    (rest_alone g.B.Block.contents g.B.Block.layers g.B.Block.fault_count g.B.Block.size c.args.dev (span_of c.args.range) bytes got.0 c.args.volume.now c.read_alone.new.volume got.1 got.2)) c.read_alone.ensures.answered
+
+pub returns-then-is_one_piece-clause-undone : goal.returns-then-is_one_piece-clause-undone
+returns-then-is_one_piece-clause-undone g c =
+    let one = subst (λ n. pieces_of n (span_of c.args.range) ≡ span_of c.args.range ∷ []) c.piece.ensures.piece (c.is_one_piece.ensures c.if-is_one_piece.true) in
+    let P : Refusal → Type 0 = λ e. IsPieceUndone g.B.Block.contents g.B.Block.layers g.B.Block.fault_count g.B.Block.size c.args.dev Read (span_of c.args.range) e c.args.volume.now c.read_alone.new.volume in
+    let Q : Refusal → Type 0 = λ e. IsReadUndone g.B.Block.contents g.B.Block.layers g.B.Block.fault_count g.B.Block.size c.args.dev (pieces_of (piece_with c.args.volume.now.merge c.args.volume.now.snaps) (span_of c.args.range)) e c.args.volume.now c.read_alone.new.volume in
+    err_so P Q c.read_alone.result
+    (λ e undone. subst (λ (ps : List Span). IsReadUndone g.B.Block.contents g.B.Block.layers g.B.Block.fault_count g.B.Block.size c.args.dev ps e c.args.volume.now c.read_alone.new.volume) (sym one)
+    (rest_undone g.B.Block.contents g.B.Block.layers g.B.Block.fault_count g.B.Block.size c.args.dev (span_of c.args.range) e c.args.volume.now c.read_alone.new.volume undone)) c.read_alone.ensures.undone

@@ -5,6 +5,7 @@ use Rattle.volume.specs.Volumed.{piece_with}
 use Rattle.volume_commands.specs.Rested.{rested_of, merged_of, IsSettled}
 use Rattle.volume_commands.proofs.ReadRuns.{ReadsTo}
 use Rattle.volume_commands.proofs.Reading.{IsUnderWay}
+use Rattle.volume_commands.proofs.RestRuns.{ReadsAtRest}
 use Rattle.volume_commands.proofs.pieces.read_pieces.Given as goal
 
 abbrev pub invariant-loop-piece : goal.invariant-loop-piece
@@ -14,4 +15,5 @@ invariant-loop-piece g l = record {
   place : IsUnderWay g.B.Block.contents g.B.Block.layers g.B.Block.size (piece_with l.fn.volume.merge l.fn.volume.snaps) l.fn.range l.piece-iterator (vec_len l.out) (vec_capacity l.out) l.fn.volume l.volume;
   did : ReadsTo l.fn.dev (IsSettled g.B.Block.layers (rested_of l.fn.volume)) (pieces_of (piece_with l.fn.volume.merge l.fn.volume.snaps) (span_of l.fn.range)) l.piece-iterator l.out.items
       (merged_of g.B.Block.contents g.B.Block.layers (rested_of l.fn.volume)) (merged_of g.B.Block.contents g.B.Block.layers (rested_of l.volume));
+  met : ReadsAtRest g.B.Block.contents g.B.Block.layers g.B.Block.fault_count g.B.Block.size l.fn.dev (pieces_of (piece_with l.fn.volume.merge l.fn.volume.snaps) (span_of l.fn.range)) l.piece-iterator l.out.items l.fn.volume l.volume;
 }

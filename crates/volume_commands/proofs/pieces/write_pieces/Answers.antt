@@ -12,6 +12,7 @@ use Rattle.volume_commands.proofs.Going.{chunks_by, goes_none, goes_can, goes_mo
 use Rattle.volume_commands.proofs.WriteRuns.{writes_none}
 use Rattle.volume_commands.proofs.Writing.{left_behind, left_inside, left_part, part_is, part_fits, wrote_more, wrote_refused, wrote_all}
 use Rattle.volume_commands.proofs.BesideWrites.{plain_write, plain_write_lost}
+use Rattle.volume_commands.proofs.RestRuns.{wrote_end, wrote_next, wrote_start, wrote_stop}
 use Rattle.volume_commands.proofs.pieces.write_pieces.Goals as goal
 
 pub invariant_of-geometry : goal.invariant_of-geometry
@@ -28,6 +29,8 @@ loop-piece-init g c = record {
   same = refl;
   so = goes_none g.B.Block.contents g.B.Block.layers g.B.Block.size c.args.volume.now c.requires.between;
   did = writes_none c.args.dev _ (pieces_of (piece_with c.args.volume.now.merge c.args.volume.now.snaps) (span_of c.args.range)) c.into_iter-piece-iterator.result c.args.bytes (merged_of g.B.Block.contents g.B.Block.layers (rested_of c.args.volume.now))
+      (c.into_iter-piece-iterator.ensures.into_iter_gives ∙ c.pieces-piece-items.ensures.pieces ∙ ap (λ n. pieces_of n (span_of c.args.range)) c.piece.ensures.piece);
+  met = wrote_start g.B.Block.contents g.B.Block.layers g.B.Block.fault_count g.B.Block.size c.args.dev (pieces_of (piece_with c.args.volume.now.merge c.args.volume.now.snaps) (span_of c.args.range)) c.into_iter-piece-iterator.result c.args.bytes c.args.volume.now
       (c.into_iter-piece-iterator.ensures.into_iter_gives ∙ c.pieces-piece-items.ensures.pieces ∙ ap (λ n. pieces_of n (span_of c.args.range)) c.piece.ensures.piece);
 }
 
@@ -97,6 +100,9 @@ loop-piece-preserved g c =
       did = wrote_more g.B.Block.contents g.B.Block.layers g.B.Block.size c.args.dev c.args.range (piece_with c.args.volume.now.merge c.args.volume.now.snaps) c.args.bytes c.loop-piece.from c.loop-piece.piece-iterator c.next.new.self c.in-Some.piece
           c.args.volume.now c.loop-piece.volume c.write_piece.new.volume c.loop-piece.invariant.did c.in-Some.ensures.steps c.loop-piece.invariant.so.settled
           (take (c.loop-piece.from + c.in-Some.piece.count * 512 - c.loop-piece.from) (drop c.loop-piece.from c.loop-piece.bytes)) (left_part c.loop-piece.from (c.loop-piece.from + c.in-Some.piece.count * 512) c.loop-piece.bytes c.args.bytes c.loop-piece.invariant.same ∙ part_is c.loop-piece.from c.in-Some.piece.count c.args.bytes) c.in-Ok.ensures.done;
+      met = wrote_next g.B.Block.contents g.B.Block.layers g.B.Block.fault_count g.B.Block.size c.args.dev (pieces_of (piece_with c.args.volume.now.merge c.args.volume.now.snaps) (span_of c.args.range)) c.loop-piece.piece-iterator c.next.new.self (span_of c.in-Some.piece) c.loop-piece.from c.args.bytes
+          (take (c.loop-piece.from + c.in-Some.piece.count * 512 - c.loop-piece.from) (drop c.loop-piece.from c.loop-piece.bytes)) c.in-Ok.ensures.answered.0
+          c.args.volume.now c.loop-piece.volume c.write_piece.new.volume c.loop-piece.invariant.met c.in-Some.ensures.steps (left_part c.loop-piece.from (c.loop-piece.from + c.in-Some.piece.count * 512) c.loop-piece.bytes c.args.bytes c.loop-piece.invariant.same) c.in-Ok.ensures.answered.1;
     }
 
 pub returns-clause-between : goal.returns-clause-between
@@ -135,3 +141,13 @@ returns-in-Err-clause-loses g c = λ settled.
     let size = piece_with c.args.volume.now.merge c.args.volume.now.snaps in
     plain_write_lost g.B.Block.contents g.B.Block.layers g.B.Block.size c.args.dev c.args.range size c.args.bytes c.args.volume.now c.write_piece.new.volume chunk.1 c.requires.can.some c.requires.can.inside c.requires.room chunk.0
     (chunk_least g.B.Block.contents g.B.Block.layers c.args.volume.now) refl (c.is_quiet.ensures.between quiet loud None) (c.is_quiet.ensures.under quiet loud None) c.in-Err.refusal (returns-in-Err-clause-refused g c) settled
+
+pub returns-in-Err-clause-undone : goal.returns-in-Err-clause-undone
+returns-in-Err-clause-undone g c =
+    wrote_stop g.B.Block.contents g.B.Block.layers g.B.Block.fault_count g.B.Block.size c.args.dev (pieces_of (piece_with c.args.volume.now.merge c.args.volume.now.snaps) (span_of c.args.range)) c.loop-piece.piece-iterator c.next.new.self (span_of c.in-Some.piece) c.loop-piece.from c.args.bytes
+    (take (c.loop-piece.from + c.in-Some.piece.count * 512 - c.loop-piece.from) (drop c.loop-piece.from c.loop-piece.bytes)) c.in-Err.refusal
+    c.args.volume.now c.loop-piece.volume c.write_piece.new.volume c.loop-piece.invariant.met c.in-Some.ensures.steps (left_part c.loop-piece.from (c.loop-piece.from + c.in-Some.piece.count * 512) c.loop-piece.bytes c.args.bytes c.loop-piece.invariant.same) c.in-Err.ensures.undone
+
+pub returns-clause-answered : goal.returns-clause-answered
+returns-clause-answered g c =
+    wrote_end g.B.Block.contents g.B.Block.layers g.B.Block.fault_count g.B.Block.size c.args.dev (pieces_of (piece_with c.args.volume.now.merge c.args.volume.now.snaps) (span_of c.args.range)) c.loop-piece.piece-iterator c.loop-piece.from c.args.bytes c.args.volume.now c.loop-piece.volume c.loop-piece.invariant.met c.in-None.ensures.steps.0

@@ -6,6 +6,7 @@ use Rattle.volume.specs.Volumed.{piece_with}
 use Rattle.volume_commands.specs.Rested.{rested_of, merged_of, IsSettled}
 use Rattle.volume_commands.proofs.Going.{GoesSo}
 use Rattle.volume_commands.proofs.WriteRuns.{WritesTo}
+use Rattle.volume_commands.proofs.RestRuns.{WritesAtRest}
 use Rattle.volume_commands.proofs.pieces.write_pieces.Given as goal
 
 abbrev pub invariant-loop-piece : goal.invariant-loop-piece
@@ -17,4 +18,5 @@ invariant-loop-piece g l = record {
   so : GoesSo g.B.Block.contents g.B.Block.layers g.B.Block.size l.from l.fn.volume l.volume;
   did : WritesTo l.fn.dev (IsSettled g.B.Block.layers (rested_of l.fn.volume)) (pieces_of (piece_with l.fn.volume.merge l.fn.volume.snaps) (span_of l.fn.range)) l.fn.bytes l.from l.piece-iterator
       (merged_of g.B.Block.contents g.B.Block.layers (rested_of l.fn.volume)) (merged_of g.B.Block.contents g.B.Block.layers (rested_of l.volume));
+  met : WritesAtRest g.B.Block.contents g.B.Block.layers g.B.Block.fault_count g.B.Block.size l.fn.dev (pieces_of (piece_with l.fn.volume.merge l.fn.volume.snaps) (span_of l.fn.range)) l.piece-iterator l.from l.fn.bytes l.fn.volume l.volume;
 }

@@ -1,14 +1,20 @@
 -- Accepted, answered at once, or starved.
-use Rattle.std.proofs.Common.{◌∙◌, Some, None, ap, arith}
+use Rattle.std.proofs.Common.{◌∙◌, Some, None, ap, arith, inl, inr, refl, subst}
+use Rattle.sector.specs.declared.refusal.Refusal.{Refusal}
 use Rattle.plain.specs.declared.request.Reply.TheVariants.{Refused}
 use Rattle.plain.specs.declared.request.Failure.TheVariants.{Invalid, Overflow}
+use Rattle.settled.specs.Refusals.{is_starved}
 use Rattle.volume.specs.Leaving.{has_group_in}
+use Rattle.volume.specs.Submitting.{IsRefusedAs}
 use Rattle.volume.proofs.Quieted.{quiet_free}
-use Rattle.volume_commands.proofs.Refusing.{apart_by, starved_only, refused_requests}
+use Rattle.volume_commands.proofs.Refusing.{apart_by, plain_refused, starved_only, refused_requests}
 use Rattle.volume_commands.proofs.serving.enter.Goals as goal
 
 pub returns-in-Ok-clause-ok : goal.returns-in-Ok-clause-ok
 returns-in-Ok-clause-ok g c = (c.in-Ok.field-0, c.in-Ok.ensures.does.exact (Some (Refused Invalid)))
+
+pub returns-in-Ok-clause-entered : goal.returns-in-Ok-clause-entered
+returns-in-Ok-clause-entered g c = inl (c.in-Ok.field-0, refl, c.in-Ok.ensures.does.ok)
 
 pub returns-in-Ok-clause-free : goal.returns-in-Ok-clause-free
 returns-in-Ok-clause-free g c = ap has_group_in c.in-Ok.ensures.does.untouched.merge ∙ quiet_free c.args.volume.now c.requires.quiet
@@ -21,6 +27,11 @@ returns-in-Ok-clause-requests g c = let a = c.in-Ok.ensures.does.ok in omega (ar
 
 pub returns-in-Invalid-clause-ok : goal.returns-in-Invalid-clause-ok
 returns-in-Invalid-clause-ok g c = (0, c.in-Err.ensures.does.declined Invalid c.in-Invalid.is (λ e. cc) 0 (Some (Refused Invalid)))
+
+pub returns-in-Invalid-clause-entered : goal.returns-in-Invalid-clause-entered
+returns-in-Invalid-clause-entered g c =
+    let refused = plain_refused g.B.Block.contents g.B.Block.layers g.B.Block.size c.args.request c.in-Err.refusal c.args.volume.now c.submit.new.self c.in-Err.ensures.refused (ap is_starved c.in-Invalid.is) in
+    inr (subst (λ (r : Refusal). IsRefusedAs g.B.Block.contents g.B.Block.layers g.B.Block.size c.args.request r c.args.volume.now c.submit.new.self) c.in-Invalid.is refused)
 
 pub returns-in-Invalid-clause-free : goal.returns-in-Invalid-clause-free
 returns-in-Invalid-clause-free g c = ap has_group_in c.in-Err.ensures.does.untouched.merge ∙ quiet_free c.args.volume.now c.requires.quiet
@@ -36,6 +47,11 @@ returns-in-Invalid-clause-requests g c = refused_requests g.B.Block.contents g.B
 
 pub returns-in-Overflow-clause-ok : goal.returns-in-Overflow-clause-ok
 returns-in-Overflow-clause-ok g c = (0, c.in-Err.ensures.does.declined Overflow c.in-Overflow.is (λ e. cc) 0 (Some (Refused Overflow)))
+
+pub returns-in-Overflow-clause-entered : goal.returns-in-Overflow-clause-entered
+returns-in-Overflow-clause-entered g c =
+    let refused = plain_refused g.B.Block.contents g.B.Block.layers g.B.Block.size c.args.request c.in-Err.refusal c.args.volume.now c.submit.new.self c.in-Err.ensures.refused (ap is_starved c.in-Overflow.is) in
+    inr (subst (λ (r : Refusal). IsRefusedAs g.B.Block.contents g.B.Block.layers g.B.Block.size c.args.request r c.args.volume.now c.submit.new.self) c.in-Overflow.is refused)
 
 pub returns-in-Overflow-clause-free : goal.returns-in-Overflow-clause-free
 returns-in-Overflow-clause-free g c = ap has_group_in c.in-Err.ensures.does.untouched.merge ∙ quiet_free c.args.volume.now c.requires.quiet
@@ -54,6 +70,9 @@ returns-in_default-clause-starved g c =
     let apart = apart_by c.args.volume.now c.merging.result c.merging.ensures.value c.merging.ensures.apart in
     let only = starved_only g.B.Block.contents g.B.Block.layers g.B.Block.size c.args.request c.in-Err.refusal c.args.volume.now c.submit.new.self c.in-Err.ensures.refused c.requires.can apart c.requires.quiet c.requires.few c.in_default.not-Invalid c.in_default.not-Overflow in
     (only.0, only.1, c.in-Err.ensures.does.starved c.in_default.not-Invalid c.in_default.not-Overflow None)
+
+pub returns-in_default-clause-untaken : goal.returns-in_default-clause-untaken
+returns-in_default-clause-untaken g c = c.in-Err.ensures.refused
 
 pub returns-in_default-clause-free : goal.returns-in_default-clause-free
 returns-in_default-clause-free g c = ap has_group_in c.in-Err.ensures.does.untouched.merge ∙ quiet_free c.args.volume.now c.requires.quiet

@@ -6,6 +6,8 @@ use Rattle.volume_commands.proofs.Seen.{devices_kept, piece_kept}
 use Rattle.volume_commands.proofs.Refusing.{room_quiet}
 use Rattle.volume_commands.proofs.Between.{between_after, starved_between, starved_merged, settles_again, loud_in_all}
 use Rattle.volume_commands.proofs.Served.{served_did}
+use Rattle.volume.proofs.Quieted.{quiet_flights}
+use Rattle.volume_commands.proofs.AtRest.{answered}
 use Rattle.volume_commands.proofs.serving.serve.Goals as goal
 
 pub returns-in-Err-clause-kept : goal.returns-in-Err-clause-kept
@@ -49,3 +51,11 @@ returns-in-Ok-clause-answer g c = λ settled.
     let quiet = c.is_quiet.ensures.value ∙ c.requires.between.quiet in
     served_did g.B.Block.contents g.B.Block.layers g.B.Block.size c.args.request ok.0 (Refused c.in-Ok.failure) c.settle.result c.args.volume.now c.enter.new.volume c.settle.new.volume c.requires.can
     (c.is_quiet.ensures.between quiet loud) (c.is_quiet.ensures.under quiet loud) ok.1 (c.settle.ensures.run.reaches (c.in-Ok.ensures.loud ∙ loud)) (c.settle.ensures.none (Some c.settle.result))
+
+pub returns-in-Err-clause-untaken : goal.returns-in-Err-clause-untaken
+returns-in-Err-clause-untaken g c = c.in-Err.ensures.untaken
+
+pub returns-in-Ok-clause-answered : goal.returns-in-Ok-clause-answered
+returns-in-Ok-clause-answered g c =
+    answered g.B.Block.contents g.B.Block.layers g.B.Block.fault_count g.B.Block.size c.args.request c.in-Ok.failure c.args.volume.now c.enter.new.volume (quiet_flights c.args.volume.now c.requires.between.quiet) c.settle.result c.settle.new.volume
+    c.in-Ok.ensures.entered c.settle.ensures.did c.settle.ensures.still

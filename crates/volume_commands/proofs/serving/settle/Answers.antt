@@ -1,13 +1,19 @@
 -- One event more is done; and none is left.
-use Rattle.std.proofs.Common.{Some, sym, ◌∙◌}
+use Rattle.std.proofs.Common.{Some, refl, sym, ◌∙◌}
 use Rattle.std.proofs.lemmas.Bool.{true≢false}
+use Rattle.plain.specs.declared.event.Outcome.TheVariants.{Done, Fault, Reply as Answered}
 use Rattle.volume.specs.Exact.{IsExact}
+use Rattle.volume_commands.proofs.AtRest.{done_none, done_one, done_then, due_is, still_never}
 use Rattle.volume_commands.proofs.Runs.{beside_none, beside_more, beside_followed}
 use Rattle.volume_commands.proofs.Quiet.{still_free, free_quiet}
 use Rattle.volume_commands.proofs.serving.settle.Goals as goal
 
 pub loop-volume-init : goal.loop-volume-init
-loop-volume-init g c = beside_none g.B.Block.contents g.B.Block.layers g.B.Block.size (Some c.args.reply) c.args.volume.now c.requires.free
+loop-volume-init g c = record {
+  so = beside_none g.B.Block.contents g.B.Block.layers g.B.Block.size (Some c.args.reply) c.args.volume.now c.requires.free;
+  did = done_none g.B.Block.contents g.B.Block.layers g.B.Block.fault_count g.B.Block.size c.args.reply c.args.volume.now;
+  still = λ quiet. refl;
+}
 
 pub unreachable-requires : goal.unreachable-requires
 unreachable-requires g c =
@@ -18,23 +24,62 @@ pub loop-volume-preserved-in-Ok-Reply : goal.loop-volume-preserved-in-Ok-Reply
 loop-volume-preserved-in-Ok-Reply g c =
     let exact = c.in-Ok-Reply.ensures.does.exact in
     let is : IsExact g.B.Block.contents g.B.Block.layers c.in-Some.event _ c.loop-volume.volume c.step.new.self = rw c.in-Ok-Reply.field-0-is at exact in
-    beside_more g.B.Block.contents g.B.Block.layers g.B.Block.size (Some c.args.reply) (Some c.loop-volume.reply) c.args.volume.now c.loop-volume.volume c.step.new.self c.in-Some.event _ c.loop-volume.invariant
-    (sym c.is_quiet.ensures.value ∙ c.loop-volume-test.true) c.in-Some.ensures.machine c.in-Some.ensures.calm c.in-Some.ensures.seen is c.in-Ok-Reply.ensures.does.loud c.in-Ok-Reply.ensures.does.kept c.in-Ok-Reply.ensures.does.counts.0
+    let step = due_is g.B.Block.contents g.B.Block.layers g.B.Block.fault_count g.B.Block.size c.in-Some.event _ (Answered _ c.in-Ok-Reply.given) c.loop-volume.volume c.step.new.self c.in-Ok-Reply.ensures.due c.in-Ok-Reply.field-0-is
+    c.in-Ok-Reply.ensures.does.exact c.in-Ok-Reply.ensures.does.legal c.in-Ok-Reply.ensures.does.flown c.in-Ok-Reply.ensures.does.cause in
+    let one = done_one g.B.Block.contents g.B.Block.layers g.B.Block.fault_count g.B.Block.size c.loop-volume.reply c.in-Some.event (Answered _ c.in-Ok-Reply.given) c.loop-volume.volume c.step.new.self step in
+    let more = done_then g.B.Block.contents g.B.Block.layers g.B.Block.fault_count g.B.Block.size c.args.reply c.loop-volume.reply c.in-Ok-Reply.given c.args.volume.now c.loop-volume.volume c.step.new.self c.loop-volume.invariant.did one in
+    record {
+      so = beside_more g.B.Block.contents g.B.Block.layers g.B.Block.size (Some c.args.reply) (Some c.loop-volume.reply) c.args.volume.now c.loop-volume.volume c.step.new.self c.in-Some.event _ c.loop-volume.invariant.so
+          (sym c.is_quiet.ensures.value ∙ c.loop-volume-test.true) c.in-Some.ensures.machine c.in-Some.ensures.calm c.in-Some.ensures.seen is c.in-Ok-Reply.ensures.does.loud c.in-Ok-Reply.ensures.does.kept c.in-Ok-Reply.ensures.does.counts.0;
+      did = more;
+      still = still_never c.args.volume.now c.loop-volume.volume c.step.new.self c.loop-volume.invariant.still (sym c.is_quiet.ensures.value ∙ c.loop-volume-test.true);
+    }
 
 pub loop-volume-preserved-in-Ok-Done : goal.loop-volume-preserved-in-Ok-Done
 loop-volume-preserved-in-Ok-Done g c =
     let exact = c.in-Ok-Done.ensures.does.exact in
     let is : IsExact g.B.Block.contents g.B.Block.layers c.in-Some.event _ c.loop-volume.volume c.step.new.self = rw c.in-Ok-Done.field-0-is at exact in
-    beside_followed g.B.Block.contents g.B.Block.layers g.B.Block.size c.args.reply c.loop-volume.reply c.follow-reply.result c.args.volume.now c.loop-volume.volume c.step.new.self c.follow-reply.new.volume c.in-Some.event c.loop-volume.invariant
-    (sym c.is_quiet.ensures.value ∙ c.loop-volume-test.true) c.in-Some.ensures.machine c.in-Some.ensures.calm c.in-Some.ensures.seen is c.in-Ok-Done.ensures.does.loud c.in-Ok-Done.ensures.does.kept c.in-Ok-Done.ensures.does.counts.0
-    c.follow-reply.ensures.loud c.follow-reply.ensures.kept c.follow-reply.ensures.requests c.follow-reply.ensures.follows
+    let step = due_is g.B.Block.contents g.B.Block.layers g.B.Block.fault_count g.B.Block.size c.in-Some.event _ Done c.loop-volume.volume c.step.new.self c.in-Ok-Done.ensures.due c.in-Ok-Done.field-0-is
+    c.in-Ok-Done.ensures.does.exact c.in-Ok-Done.ensures.does.legal c.in-Ok-Done.ensures.does.flown c.in-Ok-Done.ensures.does.cause in
+    let one = done_one g.B.Block.contents g.B.Block.layers g.B.Block.fault_count g.B.Block.size c.loop-volume.reply c.in-Some.event Done c.loop-volume.volume c.step.new.self step in
+    let more = done_then g.B.Block.contents g.B.Block.layers g.B.Block.fault_count g.B.Block.size c.args.reply c.loop-volume.reply c.loop-volume.reply c.args.volume.now c.loop-volume.volume c.step.new.self c.loop-volume.invariant.did one in
+    record {
+      so = beside_followed g.B.Block.contents g.B.Block.layers g.B.Block.size c.args.reply c.loop-volume.reply c.follow-reply.result c.args.volume.now c.loop-volume.volume c.step.new.self c.follow-reply.new.volume c.in-Some.event c.loop-volume.invariant.so
+          (sym c.is_quiet.ensures.value ∙ c.loop-volume-test.true) c.in-Some.ensures.machine c.in-Some.ensures.calm c.in-Some.ensures.seen is c.in-Ok-Done.ensures.does.loud c.in-Ok-Done.ensures.does.kept c.in-Ok-Done.ensures.does.counts.0
+          c.follow-reply.ensures.loud c.follow-reply.ensures.kept c.follow-reply.ensures.requests c.follow-reply.ensures.follows;
+      did = done_then g.B.Block.contents g.B.Block.layers g.B.Block.fault_count g.B.Block.size c.args.reply c.loop-volume.reply c.follow-reply.result c.args.volume.now c.step.new.self c.follow-reply.new.volume more c.follow-reply.ensures.did;
+      still = still_never c.args.volume.now c.loop-volume.volume c.follow-reply.new.volume c.loop-volume.invariant.still (sym c.is_quiet.ensures.value ∙ c.loop-volume-test.true);
+    }
 
 pub loop-volume-preserved : goal.loop-volume-preserved
 loop-volume-preserved g c =
     let exact = c.in-Ok-Fault.ensures.does.exact in
     let is : IsExact g.B.Block.contents g.B.Block.layers c.in-Some.event _ c.loop-volume.volume c.step.new.self = rw c.in-Ok-Fault.field-0-is at exact in
-    beside_more g.B.Block.contents g.B.Block.layers g.B.Block.size (Some c.args.reply) (Some c.loop-volume.reply) c.args.volume.now c.loop-volume.volume c.step.new.self c.in-Some.event _ c.loop-volume.invariant
-    (sym c.is_quiet.ensures.value ∙ c.loop-volume-test.true) c.in-Some.ensures.machine c.in-Some.ensures.calm c.in-Some.ensures.seen is c.in-Ok-Fault.ensures.does.loud c.in-Ok-Fault.ensures.does.kept c.in-Ok-Fault.ensures.does.counts.0
+    let step = due_is g.B.Block.contents g.B.Block.layers g.B.Block.fault_count g.B.Block.size c.in-Some.event _ Fault c.loop-volume.volume c.step.new.self c.in-Ok-Fault.ensures.due c.in-Ok-Fault.field-0-is
+    c.in-Ok-Fault.ensures.does.exact c.in-Ok-Fault.ensures.does.legal c.in-Ok-Fault.ensures.does.flown c.in-Ok-Fault.ensures.does.cause in
+    let one = done_one g.B.Block.contents g.B.Block.layers g.B.Block.fault_count g.B.Block.size c.loop-volume.reply c.in-Some.event Fault c.loop-volume.volume c.step.new.self step in
+    let more = done_then g.B.Block.contents g.B.Block.layers g.B.Block.fault_count g.B.Block.size c.args.reply c.loop-volume.reply c.loop-volume.reply c.args.volume.now c.loop-volume.volume c.step.new.self c.loop-volume.invariant.did one in
+    record {
+      so = beside_more g.B.Block.contents g.B.Block.layers g.B.Block.size (Some c.args.reply) (Some c.loop-volume.reply) c.args.volume.now c.loop-volume.volume c.step.new.self c.in-Some.event _ c.loop-volume.invariant.so
+          (sym c.is_quiet.ensures.value ∙ c.loop-volume-test.true) c.in-Some.ensures.machine c.in-Some.ensures.calm c.in-Some.ensures.seen is c.in-Ok-Fault.ensures.does.loud c.in-Ok-Fault.ensures.does.kept c.in-Ok-Fault.ensures.does.counts.0;
+      did = more;
+      still = still_never c.args.volume.now c.loop-volume.volume c.step.new.self c.loop-volume.invariant.still (sym c.is_quiet.ensures.value ∙ c.loop-volume-test.true);
+    }
 
 pub returns-clause-none : goal.returns-clause-none
 returns-clause-none g c = c.is_quiet.ensures.calm c.loop-volume-test.false
+
+pub returns-clause-run : goal.returns-clause-run
+returns-clause-run g c = c.loop-volume.invariant.so.run
+
+pub returns-clause-did : goal.returns-clause-did
+returns-clause-did g c = c.loop-volume.invariant.did
+
+pub returns-clause-still : goal.returns-clause-still
+returns-clause-still g c = c.loop-volume.invariant.still
+
+pub returns-clause-kept : goal.returns-clause-kept
+returns-clause-kept g c = c.loop-volume.invariant.so.kept
+
+pub returns-clause-requests : goal.returns-clause-requests
+returns-clause-requests g c = c.loop-volume.invariant.so.requests

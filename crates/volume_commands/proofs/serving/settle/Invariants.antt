@@ -1,11 +1,17 @@
 -- The events so far.
-use Rattle.std.proofs.Common.{Some}
+use Rattle.std.proofs.Common.{◌≡◌, Some, true}
+use Rattle.volume.specs.Leaving.{is_quiet_of}
 use Rattle.volume.specs.Volumed.{left_in_all}
+use Rattle.volume_commands.specs.AtRest.{AreDone}
 use Rattle.volume_commands.proofs.Runs.{RunsBeside}
 use Rattle.volume_commands.proofs.serving.settle.Given as goal
 
 abbrev pub invariant-loop-volume : goal.invariant-loop-volume
-invariant-loop-volume g l = RunsBeside g.B.Block.contents g.B.Block.layers g.B.Block.size (Some l.fn.reply) (Some l.reply) l.fn.volume l.volume
+invariant-loop-volume g l = record {
+  so : RunsBeside g.B.Block.contents g.B.Block.layers g.B.Block.size (Some l.fn.reply) (Some l.reply) l.fn.volume l.volume;
+  did : AreDone g.B.Block.contents g.B.Block.layers g.B.Block.fault_count l.fn.reply l.reply l.fn.volume l.volume;
+  still : is_quiet_of l.fn.volume ≡ true → l.volume ≡ l.fn.volume;
+}
 
 abbrev pub decreases-loop-volume : goal.decreases-loop-volume
 decreases-loop-volume g l = left_in_all g.B.Block.contents g.B.Block.layers l.volume

@@ -1,6 +1,6 @@
 use Rattle.std.proofs.Common.{refl, sym, ◌∙◌}
 use Rattle.chunk.specs.Pieces.{span_of}
-use Rattle.named_volume.proofs.Events.{behind, flush_served}
+use Rattle.named_volume.proofs.Events.{behind, flush_rested, flush_served}
 use Rattle.named_volume.proofs.Serves.{flush_refused, flush_denied, flush_does}
 use Rattle.named_volume.proofs.Merges.{goes_on, inside_is, merge_is, still_begun}
 use Rattle.named_volume.proofs.origin.NamedVolume.flush.Goals as goal
@@ -25,3 +25,9 @@ returns-clause-among c =
 pub returns-then-is_quiet-clause-denied : goal.returns-then-is_quiet-clause-denied
 returns-then-is_quiet-clause-denied c =
     rw (← c.self.view_is) (λ quiet. flush_denied c.in-Ok.asks.0 c.self.inside.volume c.flush.new.self c.in-Ok.ensures.there _ c.flush.result c.flush.ensures.refused)
+
+pub returns-then-is_quiet-clause-at_rest : goal.returns-then-is_quiet-clause-at_rest
+returns-then-is_quiet-clause-at_rest c =
+    rw (← c.self.view_is) (λ quiet.
+    flush_rested c.self.inside.volume c.flush.new.self _ _ (behind c.self.inside.volume _ c.flush.ensures.whole.0 refl (merge_is _ c.self.inside.volume c.self.invariant.begun) refl refl) (behind c.flush.new.self _ c.flush.ensures.whole.1 refl (merge_is _ c.flush.new.self (c.self.invariant.begun ∙ still_begun c.self.inside.volume c.flush.new.self c.flush.ensures.kept.merging)) refl refl) c.in-Ok.asks.0 c.in-Ok.asks.1 _ (c.in-Ok.ensures.ok _ refl refl)
+    c.flush.result c.flush.ensures.answered (c.flush.ensures.undone c.in-Ok.ensures.there))

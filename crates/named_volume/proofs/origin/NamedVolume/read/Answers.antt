@@ -1,6 +1,6 @@
 use Rattle.std.proofs.Common.{refl, sym, ◌∙◌}
 use Rattle.chunk.specs.Pieces.{span_of}
-use Rattle.named_volume.proofs.Events.{behind, read_served}
+use Rattle.named_volume.proofs.Events.{behind, read_rested, read_served}
 use Rattle.named_volume.proofs.Serves.{read_refused, read_denied, read_does}
 use Rattle.named_volume.proofs.Merges.{goes_on, inside_is, merge_is, still_begun}
 use Rattle.named_volume.proofs.origin.NamedVolume.read.Goals as goal
@@ -25,3 +25,9 @@ returns-clause-among c =
 pub returns-then-is_quiet-clause-denied : goal.returns-then-is_quiet-clause-denied
 returns-then-is_quiet-clause-denied c =
     rw (← c.self.view_is) (λ quiet. read_denied c.in-Ok.asks.0 c.self.inside.volume c.read.new.self c.in-Ok.ensures.there _ (span_of c.in-Ok.asks.1) c.read.result c.read.ensures.refused)
+
+pub returns-then-is_quiet-clause-at_rest : goal.returns-then-is_quiet-clause-at_rest
+returns-then-is_quiet-clause-at_rest c =
+    rw (← c.self.view_is) (λ quiet.
+    read_rested c.self.inside.volume c.read.new.self _ _ (behind c.self.inside.volume _ c.read.ensures.whole.0 refl (merge_is _ c.self.inside.volume c.self.invariant.begun) refl refl) (behind c.read.new.self _ c.read.ensures.whole.1 refl (merge_is _ c.read.new.self (c.self.invariant.begun ∙ still_begun c.self.inside.volume c.read.new.self c.read.ensures.kept.merging)) refl refl) c.in-Ok.asks.0 c.in-Ok.asks.1 _ (c.in-Ok.ensures.ok _ refl refl)
+    c.read.result c.read.ensures.answered (c.read.ensures.undone c.in-Ok.ensures.there))

@@ -1,5 +1,6 @@
 -- Why it is refused.
 use Rattle.std.proofs.Common.{◌≡◌, true, false, refl, sym, ◌∙◌, subst}
+use Rattle.std.proofs.lemmas.Bool.{true≢false}
 use Rattle.volume.specs.Leaving.{is_quiet_of}
 use Rattle.volume_commands.proofs.PlainReads.{missing_shows}
 use Rattle.volume_commands.proofs.resting.Resting.flush.Goals as goal
@@ -20,3 +21,12 @@ returns-then-not-is_there-clause-loses g c =
 
 pub flush_device-requires-clause-between : goal.flush_device-requires-clause-between
 flush_device-requires-clause-between g c = record { quiet = subst (λ v. is_quiet_of v.events ≡ true) (sym c.self.view_is) c.requires.quiet; few = c.look.ensures }
+
+pub returns-clause-answered : goal.returns-clause-answered
+returns-clause-answered g c = rw (← c.self.view_is) c.flush_device.ensures.answered
+
+pub returns-clause-undone : goal.returns-clause-undone
+returns-clause-undone g c = rw (← c.self.view_is) (λ there. c.flush_device.ensures.undone)
+
+pub returns-then-not-is_there-clause-undone : goal.returns-then-not-is_there-clause-undone
+returns-then-not-is_there-clause-undone g c = rw (← c.self.view_is) (λ there. absurd (true≢false (sym there ∙ sym c.is_there.ensures ∙ c.if-not-is_there.true)))

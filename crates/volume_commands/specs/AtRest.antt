@@ -1,0 +1,135 @@
+-- A read, a write or a flush of a volume in which nothing is in flight, whichever device drops writes: the request of each piece is
+-- submitted, and events that are due are done until nothing is left to do, before the next. This project's own.
+use Rattle.std.specs.Prelude.{◌≡◌, ◌⊎◌, ℕ, ◌*◌, true, List, [], ◌∷◌, ◌++◌, map, take, drop}
+use Rattle.sector.specs.declared.refusal.Refusal.{Refusal}
+use Rattle.sector.specs.declared.refusal.Refusal.TheVariants.{NoMemory}
+use Rattle.device.specs.Layers.{Layer}
+use Rattle.chunk.specs.Pieces.{Span}
+use Rattle.plain.specs.declared.event.Event.{Event}
+use Rattle.plain.specs.declared.event.Outcome.{Outcome}
+use Rattle.plain.specs.declared.event.Outcome.TheVariants.{Reply as Replies, Done, Fault}
+use Rattle.plain.specs.declared.request.Dev.{Dev}
+use Rattle.plain.specs.declared.request.Op.{Op}
+use Rattle.plain.specs.declared.request.Op.TheVariants.{Read, Write, Flush}
+use Rattle.plain.specs.declared.request.Reply.{Reply}
+use Rattle.plain.specs.declared.request.Reply.TheVariants.{Refused}
+use Rattle.plain.specs.declared.request.Failure.{Failure}
+use Rattle.plain.specs.declared.request.Failure.TheVariants.{Invalid}
+use Rattle.plain.specs.declared.request.Request.{Request}
+use Rattle.plain.specs.Failures.{refusal_of}
+use Rattle.plain.specs.Legal.{IsLegalStep}
+use Rattle.in_flight.specs.Kinds.{in_flight}
+use Rattle.settled.specs.Commands.{bytes_in}
+use Rattle.settled.specs.Refusals.{IsStarved, is_starved}
+use Rattle.volume.specs.Causes.{HasCause}
+use Rattle.volume.specs.Exact.{IsExact}
+use Rattle.volume.specs.Flying.{Fits, IsFlown}
+use Rattle.volume.specs.Leaving.{is_quiet_of}
+use Rattle.volume.specs.Submitting.{IsAcceptedAs, IsRefusedAs}
+use Rattle.volume.specs.Volumed.{Volumed, is_due_of, is_loud_in_all, plain_of}
+use Rattle.volume_commands.specs.Among.{IsRequestOf, flush_piece, sectors_of}
+use Rattle.volume_commands.specs.Serving.{IsGood}
+
+-- An event that was due was done, with this outcome: it replies to a request in flight or to none, and each reply and each fault has
+-- its cause.
+pub record IsDoneDue {B : Type 0} (contents : B → List ℕ) (layers : B → List Layer) (faults : B → ℕ) (event : Event) (outcome : Outcome) (old new : Volumed B) : Type 0 where
+  pub due : is_due_of contents layers old event ≡ true
+  pub exact : IsExact contents layers event outcome old new
+  pub legal : is_loud_in_all layers old ≡ true → IsLegalStep (plain_of contents layers old) event outcome (plain_of contents layers new)
+  pub flown : IsFlown event outcome (map in_flight old.flights) (map in_flight new.flights)
+  pub cause : HasCause faults event outcome old new
+
+-- these events were done, in this order
+abbrev pub AreDoneDue : {B : Type 0} → (B → List ℕ) → (B → List Layer) → (B → ℕ) → List (Event × Outcome) → Volumed B → Volumed B → Type 0
+AreDoneDue contents layers faults [] old new = new ≡ old
+AreDoneDue contents layers faults (x ∷ xs) old new = (mid : Volumed _) × IsDoneDue contents layers faults x.0 x.1 old mid × AreDoneDue contents layers faults xs mid new
+
+-- the reply that an outcome is, or else the one that was given before; and the last of some
+abbrev pub told_by : Outcome → Reply → Reply
+told_by (Replies number reply) before = reply
+told_by Done before = before
+told_by Fault before = before
+
+abbrev pub last_told : Reply → List (Event × Outcome) → Reply
+last_told before [] = before
+last_told before (x ∷ done) = last_told (told_by x.1 before) done
+
+-- Events were done, and this is the last reply of them, or the one that was given before.
+pub record AreDone {B : Type 0} (contents : B → List ℕ) (layers : B → List Layer) (faults : B → ℕ) (before after : Reply) (old new : Volumed B) : Type 0 where
+  pub done : List (Event × Outcome)
+  pub chain : AreDoneDue contents layers faults done old new
+  pub reply_is : after ≡ last_told before done
+
+-- a request was accepted, and will be answered; or it was refused as one that failed
+abbrev pub IsEntered : {B : Type 0} → (B → List ℕ) → (B → List Layer) → (B → ℕ) → Request → Failure → Volumed B → Volumed B → Type 0
+IsEntered contents layers size request failure old new =
+    ((number : ℕ) × (failure ≡ Invalid) × IsAcceptedAs contents layers request number old new) ⊎ IsRefusedAs contents layers size request (refusal_of failure) old new
+
+-- A request was answered: accepted, and then by an event; or refused. All that was due then was done.
+pub record IsAnswered {B : Type 0} (contents : B → List ℕ) (layers : B → List Layer) (faults size : B → ℕ) (request : Request) (reply : Reply) (old new : Volumed B) : Type 0 where
+  pub failure : Failure
+  pub mid : Volumed B
+  pub entered : IsEntered contents layers size request failure old mid
+  pub did : AreDone contents layers faults (Refused failure) reply mid new
+  pub still : is_quiet_of mid ≡ true → new ≡ mid
+  pub fits : Fits request.op request.range reply
+
+-- a piece was done, with this reply
+pub record IsPieceAnswered {B : Type 0} (contents : B → List ℕ) (layers : B → List Layer) (faults size : B → ℕ) (dev : Dev) (op : Op) (piece : Span) (reply : Reply) (old new : Volumed B) : Type 0 where
+  pub request : Request
+  pub asked : IsRequestOf dev op piece request
+  pub good : IsGood reply
+  pub answered : IsAnswered contents layers faults size request reply old new
+
+-- a piece failed; or there was no room for its bytes, and nothing changed; or for its request
+abbrev pub IsPieceUndone : {B : Type 0} → (B → List ℕ) → (B → List Layer) → (B → ℕ) → (B → ℕ) → Dev → Op → Span → Refusal → Volumed B → Volumed B → Type 0
+IsPieceUndone contents layers faults size dev op piece refusal old new =
+    ((refusal ≡ NoMemory) × (new ≡ old))
+    ⊎ ((request : Request) × IsRequestOf dev op piece request × (failure : Failure) × (refusal ≡ refusal_of failure) × IsAnswered contents layers faults size request (Refused failure) old new)
+    ⊎ ((request : Request) × IsRequestOf dev op piece request × (is_starved refusal ≡ true) × (IsStarved refusal old new ⊎ IsRefusedAs contents layers size request refusal old new))
+
+-- these pieces were read, one after the other: as many bytes of each as it has
+abbrev pub AreReadAtRest : {B : Type 0} → (B → List ℕ) → (B → List Layer) → (B → ℕ) → (B → ℕ) → Dev → List Span → List ℕ → Volumed B → Volumed B → Type 0
+AreReadAtRest contents layers faults size dev [] bytes old new = (bytes ≡ []) × (new ≡ old)
+AreReadAtRest contents layers faults size dev (piece ∷ pieces) bytes old new =
+    (mid : Volumed _) × (reply : Reply) × (rest : List ℕ) × IsPieceAnswered contents layers faults size dev Read piece reply old mid
+    × AreReadAtRest contents layers faults size dev pieces rest mid new × (bytes ≡ bytes_in reply ++ rest)
+
+-- these were written, each its own of the bytes
+abbrev pub AreWrittenAtRest : {B : Type 0} → (B → List ℕ) → (B → List Layer) → (B → ℕ) → (B → ℕ) → Dev → List Span → List ℕ → Volumed B → Volumed B → Type 0
+AreWrittenAtRest contents layers faults size dev [] bytes old new = new ≡ old
+AreWrittenAtRest contents layers faults size dev (piece ∷ pieces) bytes old new =
+    (mid : Volumed _) × (reply : Reply) × IsPieceAnswered contents layers faults size dev (Write (take (512 * piece.count) bytes)) piece reply old mid
+    × AreWrittenAtRest contents layers faults size dev pieces (drop (512 * piece.count) bytes) mid new
+
+-- A read stopped: some first pieces were read, and one was not.
+pub record IsReadCut {B : Type 0} (contents : B → List ℕ) (layers : B → List Layer) (faults size : B → ℕ) (dev : Dev) (pieces : List Span) (refusal : Refusal) (old new : Volumed B) : Type 0 where
+  pub passed : List Span
+  pub piece : Span
+  pub rest : List Span
+  pub cut : passed ++ piece ∷ rest ≡ pieces
+  pub bytes : List ℕ
+  pub mid : Volumed B
+  pub did : AreReadAtRest contents layers faults size dev passed bytes old mid
+  pub undone : IsPieceUndone contents layers faults size dev Read piece refusal mid new
+
+-- or there was no room for its bytes, and nothing changed
+abbrev pub IsReadUndone : {B : Type 0} → (B → List ℕ) → (B → List Layer) → (B → ℕ) → (B → ℕ) → Dev → List Span → Refusal → Volumed B → Volumed B → Type 0
+IsReadUndone contents layers faults size dev pieces refusal old new = ((refusal ≡ NoMemory) × (new ≡ old)) ⊎ IsReadCut contents layers faults size dev pieces refusal old new
+
+-- A write stopped likewise: at these sectors of its bytes.
+pub record IsWriteCut {B : Type 0} (contents : B → List ℕ) (layers : B → List Layer) (faults size : B → ℕ) (dev : Dev) (pieces : List Span) (bytes : List ℕ) (refusal : Refusal) (old new : Volumed B) : Type 0 where
+  pub passed : List Span
+  pub piece : Span
+  pub rest : List Span
+  pub cut : passed ++ piece ∷ rest ≡ pieces
+  pub mid : Volumed B
+  pub did : AreWrittenAtRest contents layers faults size dev passed bytes old mid
+  pub undone : IsPieceUndone contents layers faults size dev (Write (take (512 * piece.count) (drop (512 * sectors_of passed) bytes))) piece refusal mid new
+
+-- a flush was done, by one request, whose sectors are not looked at; or it was not
+abbrev pub IsFlushDone : {B : Type 0} → (B → List ℕ) → (B → List Layer) → (B → ℕ) → (B → ℕ) → Dev → Volumed B → Volumed B → Type 0
+IsFlushDone contents layers faults size dev old new = (reply : Reply) × IsPieceAnswered contents layers faults size dev Flush flush_piece reply old new
+
+abbrev pub IsFlushUndone : {B : Type 0} → (B → List ℕ) → (B → List Layer) → (B → ℕ) → (B → ℕ) → Dev → Refusal → Volumed B → Volumed B → Type 0
+IsFlushUndone contents layers faults size dev refusal old new = IsPieceUndone contents layers faults size dev Flush flush_piece refusal old new
