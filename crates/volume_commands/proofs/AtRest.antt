@@ -116,9 +116,9 @@ module _ {B : Type 0} (contents : B → List ℕ) (layers : B → List Layer) (f
 
   -- an event that was due was done
   pub due_is : (event : Event) (outcome told : Outcome) (v w : Volumed B) → true ≡ is_due_of contents layers v event → outcome ≡ told → IsExact contents layers event outcome v w
-      → (is_loud_in_all layers v ≡ true → IsLegalStep (plain_of contents layers v) event outcome (plain_of contents layers w)) → IsFlown event outcome (map in_flight v.flights) (map in_flight w.flights) → HasCause faults event outcome v w → IsDoneDue contents layers faults event told v w
-  due_is event outcome told v w due is exact legal flown cause =
-      subst (λ (o : Outcome). IsDoneDue contents layers faults event o v w) is (record { due = sym due; exact = exact; legal = legal; flown = flown; cause = cause })
+      → (is_loud_in_all layers v ≡ true → IsLegalStep (plain_of contents layers v) event outcome (plain_of contents layers w)) → IsFlown event outcome (map in_flight v.flights) (map in_flight w.flights) → HasCause faults event outcome v w → w.requests ≡ v.requests → IsDoneDue contents layers faults event told v w
+  due_is event outcome told v w due is exact legal flown cause requests =
+      subst (λ (o : Outcome). IsDoneDue contents layers faults event o v w) is (record { due = sym due; exact = exact; legal = legal; flown = flown; cause = cause; requests = requests })
 
   -- none was done, one, or some and then others
   pub done_none : (reply : Reply) (v : Volumed B) → AreDone contents layers faults reply reply v v

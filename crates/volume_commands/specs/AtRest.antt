@@ -30,14 +30,15 @@ use Rattle.volume.specs.Volumed.{Volumed, is_due_of, is_loud_in_all, plain_of}
 use Rattle.volume_commands.specs.Among.{IsRequestOf, flush_piece, sectors_of}
 use Rattle.volume_commands.specs.Serving.{IsGood}
 
--- An event that was due was done, with this outcome: it replies to a request in flight or to none, and each reply and each fault has
--- its cause.
+-- An event that was due was done, with this outcome: it replies to a request in flight or to none, each reply and each fault has its
+-- cause, and no request is numbered.
 pub record IsDoneDue {B : Type 0} (contents : B → List ℕ) (layers : B → List Layer) (faults : B → ℕ) (event : Event) (outcome : Outcome) (old new : Volumed B) : Type 0 where
   pub due : is_due_of contents layers old event ≡ true
   pub exact : IsExact contents layers event outcome old new
   pub legal : is_loud_in_all layers old ≡ true → IsLegalStep (plain_of contents layers old) event outcome (plain_of contents layers new)
   pub flown : IsFlown event outcome (map in_flight old.flights) (map in_flight new.flights)
   pub cause : HasCause faults event outcome old new
+  pub requests : new.requests ≡ old.requests
 
 -- these events were done, in this order
 abbrev pub AreDoneDue : {B : Type 0} → (B → List ℕ) → (B → List Layer) → (B → ℕ) → List (Event × Outcome) → Volumed B → Volumed B → Type 0

@@ -25,7 +25,7 @@ loop-volume-preserved-in-Ok-Reply g c =
     let exact = c.in-Ok-Reply.ensures.does.exact in
     let is : IsExact g.B.Block.contents g.B.Block.layers c.in-Some.event _ c.loop-volume.volume c.step.new.self = rw c.in-Ok-Reply.field-0-is at exact in
     let step = due_is g.B.Block.contents g.B.Block.layers g.B.Block.fault_count g.B.Block.size c.in-Some.event _ (Answered _ c.in-Ok-Reply.given) c.loop-volume.volume c.step.new.self c.in-Ok-Reply.ensures.due c.in-Ok-Reply.field-0-is
-    c.in-Ok-Reply.ensures.does.exact c.in-Ok-Reply.ensures.does.legal c.in-Ok-Reply.ensures.does.flown c.in-Ok-Reply.ensures.does.cause in
+    c.in-Ok-Reply.ensures.does.exact c.in-Ok-Reply.ensures.does.legal c.in-Ok-Reply.ensures.does.flown c.in-Ok-Reply.ensures.does.cause c.in-Ok-Reply.ensures.does.counts.0 in
     let one = done_one g.B.Block.contents g.B.Block.layers g.B.Block.fault_count g.B.Block.size c.loop-volume.reply c.in-Some.event (Answered _ c.in-Ok-Reply.given) c.loop-volume.volume c.step.new.self step in
     let more = done_then g.B.Block.contents g.B.Block.layers g.B.Block.fault_count g.B.Block.size c.args.reply c.loop-volume.reply c.in-Ok-Reply.given c.args.volume.now c.loop-volume.volume c.step.new.self c.loop-volume.invariant.did one in
     record {
@@ -40,7 +40,7 @@ loop-volume-preserved-in-Ok-Done g c =
     let exact = c.in-Ok-Done.ensures.does.exact in
     let is : IsExact g.B.Block.contents g.B.Block.layers c.in-Some.event _ c.loop-volume.volume c.step.new.self = rw c.in-Ok-Done.field-0-is at exact in
     let step = due_is g.B.Block.contents g.B.Block.layers g.B.Block.fault_count g.B.Block.size c.in-Some.event _ Done c.loop-volume.volume c.step.new.self c.in-Ok-Done.ensures.due c.in-Ok-Done.field-0-is
-    c.in-Ok-Done.ensures.does.exact c.in-Ok-Done.ensures.does.legal c.in-Ok-Done.ensures.does.flown c.in-Ok-Done.ensures.does.cause in
+    c.in-Ok-Done.ensures.does.exact c.in-Ok-Done.ensures.does.legal c.in-Ok-Done.ensures.does.flown c.in-Ok-Done.ensures.does.cause c.in-Ok-Done.ensures.does.counts.0 in
     let one = done_one g.B.Block.contents g.B.Block.layers g.B.Block.fault_count g.B.Block.size c.loop-volume.reply c.in-Some.event Done c.loop-volume.volume c.step.new.self step in
     let more = done_then g.B.Block.contents g.B.Block.layers g.B.Block.fault_count g.B.Block.size c.args.reply c.loop-volume.reply c.loop-volume.reply c.args.volume.now c.loop-volume.volume c.step.new.self c.loop-volume.invariant.did one in
     record {
@@ -56,7 +56,7 @@ loop-volume-preserved g c =
     let exact = c.in-Ok-Fault.ensures.does.exact in
     let is : IsExact g.B.Block.contents g.B.Block.layers c.in-Some.event _ c.loop-volume.volume c.step.new.self = rw c.in-Ok-Fault.field-0-is at exact in
     let step = due_is g.B.Block.contents g.B.Block.layers g.B.Block.fault_count g.B.Block.size c.in-Some.event _ Fault c.loop-volume.volume c.step.new.self c.in-Ok-Fault.ensures.due c.in-Ok-Fault.field-0-is
-    c.in-Ok-Fault.ensures.does.exact c.in-Ok-Fault.ensures.does.legal c.in-Ok-Fault.ensures.does.flown c.in-Ok-Fault.ensures.does.cause in
+    c.in-Ok-Fault.ensures.does.exact c.in-Ok-Fault.ensures.does.legal c.in-Ok-Fault.ensures.does.flown c.in-Ok-Fault.ensures.does.cause c.in-Ok-Fault.ensures.does.counts.0 in
     let one = done_one g.B.Block.contents g.B.Block.layers g.B.Block.fault_count g.B.Block.size c.loop-volume.reply c.in-Some.event Fault c.loop-volume.volume c.step.new.self step in
     let more = done_then g.B.Block.contents g.B.Block.layers g.B.Block.fault_count g.B.Block.size c.args.reply c.loop-volume.reply c.loop-volume.reply c.args.volume.now c.loop-volume.volume c.step.new.self c.loop-volume.invariant.did one in
     record {
