@@ -80,13 +80,27 @@ impl<'a, I: Image> Windowed<'a, I> {
         true
     }
 
-    /// Reads the window that has a byte. Where that can't be read there is none.
-    fn read_window(&mut self, at: u64)
+    /// Whether a byte stands before the window.
+    fn stands_before(&self, at: u64) -> bool {
+        match self.at {
+            Some(first) => at < first,
+            None => false,
+        }
+    }
+
+    /// Reads a window that has so many bytes from one on: it begins with them, or ends with them where they stand before the
+    /// last one. Where it can't be read there is none.
+    fn read_window(&mut self, at: u64, len: usize)
         ensures bytes { I.bytes self.new.below.now ≡ I.bytes self.old.below.now }
         ensures calm { (k : ℕ) → (n : ℕ) → I.may_fail self.new.below.now k n → I.may_fail self.old.below.now k n }
     {
-        let first = at - at % (WINDOW / 4);
-        let first = first.min(self.end.saturating_sub(self.window.len() as u64));
+        let room = self.window.len() as u64;
+        let first = if self.stands_before(at) {
+            at.saturating_add(len as u64).saturating_sub(room)
+        } else {
+            at
+        };
+        let first = first.min(self.end.saturating_sub(room));
         self.at = None;
         if let Ok(()) = self.below.read_at(first, self.window.as_mut_slice()) {
             self.at = Some(first);
@@ -103,7 +117,7 @@ impl<'a, I: Image> Windowed<'a, I> {
         if !self.reads.is_near(at, out.len()) {
             return false;
         }
-        self.read_window(at);
+        self.read_window(at, out.len());
         self.give(at, out)
     }
 }
