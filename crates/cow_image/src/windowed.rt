@@ -10,6 +10,9 @@ use std::io;
 /// How many bytes are read ahead.
 const WINDOW: u64 = 262_144;
 
+/// A longer read costs less than its bytes' way through a window.
+const SHORT: usize = 2048;
+
 /// An image that is read by windows where its reads lie near one another: those inside the window are given from it. Its bytes
 /// are those of the image below. Where a window can't be read, just what is asked for is.
 #[derive(Drop)]
@@ -39,7 +42,7 @@ impl Reads {
         let near = at.abs_diff(self.last) <= WINDOW;
         self.last = at;
         self.near = if near { self.near.saturating_add(1) } else { 0 };
-        2 <= self.near && len as u64 <= WINDOW / 4
+        2 <= self.near && len <= SHORT
     }
 }
 
