@@ -54,9 +54,8 @@ fn is_front(alloc: Global, bytes: &[u8]) -> Result<bool, Fail> {
 #[test]
 fn a_read_that_fails_leaves_a_front(rt: HostRuntime) -> Result<(), Fail> {
     let map = map_of(&rt)?;
-    // The first call asks for the store's length. Its copies lie in two runs, each of which is read at once; the second lies near
-    // the first, and is read alone where the window fails that is read for it.
-    for (call, stops) in [(1, false), (2, true), (3, false)] {
+    // The first call asks for the store's length; its copies lie in two runs, each of which is read at once.
+    for (call, stops) in [(1, false), (2, true), (3, true)] {
         let mut origin = image_of(rt.alloc(), WRITTEN_ORIGIN)?;
         let below = image_of(rt.alloc(), WRITTEN_STORE)?;
         let mut cow = FailingImage { below, left: call };
