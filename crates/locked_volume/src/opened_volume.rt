@@ -85,6 +85,7 @@ impl OpenedVolume {
         requires fixed { fixed_of B.size B.layers audit ≡ J.fixed volume }
         ensures beside { IsBeside (J.history volume) (J.boards volume) result.0 }
         ensures volume { result.1.volume ≡ volume }
+        ensures audit { result.1.audit ≡ audit }
         ensures told { AreFirstTold audit.volume result.1.told }
     {
         let OpenedVolume {

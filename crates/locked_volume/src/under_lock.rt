@@ -1,6 +1,6 @@
 // What threads do with an audit while they hold its lock: each call tells the history what is new in the journal, and publishes
 // each usage that changed.
-ghost use Rattle.std.specs.Prelude.{◌≡◌, ◌≢◌, ◌&&◌, ◌||◌, false, is_some, ◌⊎◌, ◌*◌, ◌<◌, ◌++◌, ◌∷◌, [], ℕ, List, length, IfErr, IfSome, MatchOption, MatchResult, OnOk, Some, None, true};
+ghost use Rattle.std.specs.Prelude.{◌≡◌, ◌≢◌, ◌&&◌, ◌||◌, false, is_some, ◌⊎◌, ◌*◌, ◌<◌, ◌++◌, ◌∷◌, [], ℕ, List, length, IfErr, IfNone, IfSome, MatchOption, MatchResult, OnOk, Some, None, true};
 ghost use Rattle.chunk.specs.Sizes.{is_chunk};
 ghost use Rattle.plain.specs.declared.event.Outcome.{Outcome as OutcomeShape};
 ghost use Rattle.volume.specs.Asking.{is_finished_in};
@@ -122,6 +122,8 @@ impl<B: Layered, J: Room> Post<B, J> {
         ensures volume { self.new.volume ≡ self.old.volume }
         ensures due { ((x : Seated) → seated_under number self.old.audit.held ≡ Some x → x.request.op ≢ Flush) → is_some result.1 ≡ (may_do seat (Issue number) self.old.audit.held && is_due_of B.contents B.layers self.old.audit.volume (Issue number)) }
         ensures seat { MatchOption result.1 (IsSameSeat (J.history self.old.volume) seat me result.0) (λ r. IsReceipted (J.history self.old.volume) (count_at (J.fixed self.old.volume) (J.start self.old.volume) seat) seat me result.0 r.0 r.1) }
+        ensures done { IfSome result.1 (λ _. (outcome : OutcomeShape) × IsExact B.contents B.layers (Issue number) outcome self.old.audit.volume self.new.audit.volume) }
+        ensures still { ((x : Seated) → seated_under number self.old.audit.held ≡ Some x → x.request.op ≢ Flush) → IfNone result.1 (self.new ≡ self.old) }
         ensures told { AreKeptUp self.new.audit.volume self.old.told self.new.told }
     {
         let from = self.audit.entries().len();
@@ -152,6 +154,7 @@ impl<B: Layered, J: Room> Post<B, J> {
         requires beside { IsBeside (J.history self.old.volume) (J.boards self.old.volume) beside.now }
         requires event { (n : ℕ) → event ≢ Issue n }
         ensures volume { self.new.volume ≡ self.old.volume }
+        ensures due { result ≡ is_due_of B.contents B.layers self.old.audit.volume event }
         ensures first { next_of B.contents B.layers self.old.audit.volume ≡ Some event → result ≡ true }
         ensures done { result ≡ true → (is_due_of B.contents B.layers self.old.audit.volume event ≡ true) × ((outcome : OutcomeShape) × IsExact B.contents B.layers event outcome self.old.audit.volume self.new.audit.volume) }
         ensures still { result ≡ false → self.new ≡ self.old }

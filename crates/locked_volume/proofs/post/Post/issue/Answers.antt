@@ -1,4 +1,6 @@
 use Rattle.std.proofs.Common.{refl, sym, ap, ◌∙◌, subst}
+use Rattle.plain.specs.declared.event.Event.TheVariants.{Issue}
+use Rattle.volume.specs.Exact.{IsExact}
 use Rattle.journal.specs.Entries.{answered_of}
 use Rattle.journal.specs.declared.entry.Entry.TheVariants.{Answered}
 use Rattle.locked_volume.specs.Boards.{AreKeptUp}
@@ -25,6 +27,17 @@ pub returns-in-Done-clause-due : goal.returns-in-Done-clause-due
 returns-in-Done-clause-due g c = λ plain.
     let flush = flush_done c.args.number c.in-Ok.pair.0 c.self.inside.audit.held c.in-Done.is c.in-Ok.ensures.unanswered in
     absurd ((rw (← c.self.view_is) at plain) flush.0 flush.1 flush.2)
+
+pub returns-in-Done-clause-still : goal.returns-in-Done-clause-still
+returns-in-Done-clause-still g c = λ plain.
+    let flush = flush_done c.args.number c.in-Ok.pair.0 c.self.inside.audit.held c.in-Done.is c.in-Ok.ensures.unanswered in
+    absurd ((rw (← c.self.view_is) at plain) flush.0 flush.1 flush.2)
+
+pub returns-in-Some-clause-done : goal.returns-in-Some-clause-done
+returns-in-Some-clause-done g c = (
+    c.in-Ok.pair.0,
+    subst (λ p. IsExact g.B.Block.contents g.B.Block.layers (Issue c.args.number) c.in-Ok.pair.0 p.audit.volume c.apply.new.self.volume) c.self.view_is c.in-Ok.ensures.does.exact,
+)
 
 pub returns-in-Err-clause-told : goal.returns-in-Err-clause-told
 returns-in-Err-clause-told g c =
