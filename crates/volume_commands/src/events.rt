@@ -53,9 +53,6 @@ impl<B: Layered> Journaled<B> {
         ensures does { DoesStep B.may_hold B.contents B.layers B.size B.fault_count B.done_count event result self.old self.new }
         ensures goes_on { IfOk result (λ outcome. is_loud_in_all B.layers self.old ≡ true → (entries : List Entry) × ComesTo (plain_of B.contents B.layers self.old) outcome entries × GoesOn (plain_of B.contents B.layers self.old) entries (plain_of B.contents B.layers self.new)) }
     {
-        match self.volume.step(event) {
-            Ok(outcome) => Ok(outcome),
-            Err(NotDue) => Err(NotDue),
-        }
+        self.volume.step(event)
     }
 }
