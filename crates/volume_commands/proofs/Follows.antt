@@ -1,12 +1,12 @@
 -- The event that follows one that was due first is due first then, or changes nothing.
 use Rattle.std.proofs.Common.{◌≡◌, ◌⊎◌, inl, inr, ℕ, ◌+◌, ◌*◌, ◌/◌, Bool, true, false, List, [], ◌∷◌, ◌++◌, length, map, drop, Option, Some, None, refl, ap, ◌∙◌, sym, subst, eqb-true}
-use Rattle.std.specs.Prelude.{◌==◌, ◌&&◌, ◌||◌, not, min, take, if◌then◌else◌}
+use Rattle.std.specs.Prelude.{◌==◌, ◌&&◌, ◌||◌, not, take, if◌then◌else◌}
 use Rattle.std.specs.List.{list_any, prefix_len}
 use Rattle.std.proofs.lemmas.Bool.{cases_Bool, cond-true, cond-false, true≢false}
 use Rattle.device.specs.declared.operation.Operation.{Operation}
 use Rattle.device.specs.declared.operation.Operation.TheVariants.{Reads, Writes}
 use Rattle.plain.specs.declared.event.Event.{Event}
-use Rattle.plain.specs.declared.event.Event.TheVariants.{Issue, CopyRead, CopyWrite, ZeroNext, WriteArea, Publish, WriteInvalid, FlushStore, MergeGroup, MergeAreaRead, MergeRead, MergeWrite, MergeFlush, MergeCommit, MergeRelease}
+use Rattle.plain.specs.declared.event.Event.TheVariants.{CopyRead, CopyWrite, WriteArea, FlushStore}
 use Rattle.in_flight.specs.declared.copies.Stage.{Stage}
 use Rattle.in_flight.specs.declared.copies.Stage.TheVariants.{Waiting, Read, Written, Flushed}
 use Rattle.store_bytes.specs.Places.{area_place}
@@ -15,16 +15,14 @@ use Rattle.in_flight.specs.Due.{first_by, least, is_stage}
 use Rattle.sector.specs.Bytes.{sectors_at}
 use Rattle.settled.specs.Devices.{sectors_of, answers, met, written_by}
 use Rattle.settled.proofs.Each.{Each, each_weaker}
-use Rattle.event_machine.specs.Held.{Copying, SnapHeld, Going, Moving, number_of, with_store, spoiled}
-use Rattle.event_machine.specs.Due.{batch_of, filled_of, can_mark, can_flush_store, can_commit, can_zero, is_at, is_ready, is_front_ready, is_front_unflushed, number_of_copying, copy_at, publishable_in, is_issuable, number_of_going, least_in, chosen, due}
-use Rattle.event_machine.specs.Stepping.{for_some, first_that, with_first, put, spoil, store_write, read_copy, write_copy, pair_of, mark_of, all_paired, commit, flush_store, is_copy, on_copy, on_snap, stepped}
+use Rattle.event_machine.specs.Held.{Copying, SnapHeld, Moving, number_of, with_store, spoiled}
+use Rattle.event_machine.specs.Due.{batch_of, filled_of, can_mark, can_flush_store, can_commit, can_zero, is_at, is_ready, is_front_ready, is_front_unflushed, number_of_copying, copy_at, publishable_in, least_in, chosen, due}
+use Rattle.event_machine.specs.Stepping.{for_some, first_that, with_first, put, spoil, store_write, read_copy, write_copy, pair_of, mark_of, all_paired, commit, flush_store, is_copy, stepped}
 use Rattle.event_machine.proofs.Found.{IsSplit, split_at, none_that}
 use Rattle.event_machine.proofs.Lists.{here_that, here_with, here_by, nowhere_by, nowhere_least, only_least}
-use Rattle.volume.specs.EventKinds.{is_of_merge}
-use Rattle.volume_commands.specs.Following.{following}
 
 -- what has no first element fails for each, and what has no least number has none of any
-fails_by : {X : Type 0} (test : X → Bool) (number : X → ℕ) (xs : List X) → first_by test number xs ≡ None → Each (λ x. test x ≡ false) xs
+pub fails_by : {X : Type 0} (test : X → Bool) (number : X → ℕ) (xs : List X) → first_by test number xs ≡ None → Each (λ x. test x ≡ false) xs
 fails_by test number [] none = tt
 fails_by test number (x ∷ xs) none = elim (cases_Bool (test x)) [
   | inl pass ↦ (let e : Some (number x) ≡ None = sym (cond-true _ _ _ pass) ∙ none in absurd (cc))
@@ -36,36 +34,36 @@ least_none None b e = (refl, e)
 least_none (Some m) None e = absurd (cc)
 least_none (Some m) (Some n) e = absurd (cc)
 
-lacks_by : (f : SnapHeld → Option ℕ) (snaps : List SnapHeld) → least_in f snaps ≡ None → Each (λ h. f h ≡ None) snaps
+pub lacks_by : (f : SnapHeld → Option ℕ) (snaps : List SnapHeld) → least_in f snaps ≡ None → Each (λ h. f h ≡ None) snaps
 lacks_by f [] none = tt
 lacks_by f (h ∷ snaps) none = (let both = least_none (f h) (least_in f snaps) none in (both.0, lacks_by f snaps both.1))
 
 -- of each element of two lists and one between them
-each_done : {X : Type 0} (P : X → Type 0) (done rest : List X) (x : X) → Each P (done ++ x ∷ rest) → Each P done
+pub each_done : {X : Type 0} (P : X → Type 0) (done rest : List X) (x : X) → Each P (done ++ x ∷ rest) → Each P done
 each_done P [] rest x all = tt
 each_done P (d ∷ done) rest x all = (all.0, each_done P done rest x all.1)
 
-each_here : {X : Type 0} (P : X → Type 0) (done rest : List X) (x : X) → Each P (done ++ x ∷ rest) → P x
+pub each_here : {X : Type 0} (P : X → Type 0) (done rest : List X) (x : X) → Each P (done ++ x ∷ rest) → P x
 each_here P [] rest x all = all.0
 each_here P (d ∷ done) rest x all = each_here P done rest x all.1
 
-each_rest : {X : Type 0} (P : X → Type 0) (done rest : List X) (x : X) → Each P (done ++ x ∷ rest) → Each P rest
+pub each_rest : {X : Type 0} (P : X → Type 0) (done rest : List X) (x : X) → Each P (done ++ x ∷ rest) → Each P rest
 each_rest P [] rest x all = all.1
 each_rest P (d ∷ done) rest x all = each_rest P done rest x all.1
 
-each_join : {X : Type 0} (P : X → Type 0) (done rest : List X) (x : X) → Each P done → P x → Each P rest → Each P (done ++ x ∷ rest)
+pub each_join : {X : Type 0} (P : X → Type 0) (done rest : List X) (x : X) → Each P done → P x → Each P rest → Each P (done ++ x ∷ rest)
 each_join P [] rest x a b c = (b, c)
 each_join P (d ∷ done) rest x a b c = (a.0, each_join P done rest x a.1 b c)
 
-and_no : (x y : Bool) → y ≡ false → (x && y) ≡ false
+pub and_no : (x y : Bool) → y ≡ false → (x && y) ≡ false
 and_no true y e = e
 and_no false y e = refl
 
-and_left : (x y : Bool) → (x && y) ≡ true → x ≡ true
+pub and_left : (x y : Bool) → (x && y) ≡ true → x ≡ true
 and_left true y e = refl
 and_left false y e = absurd (true≢false (sym e))
 
-and_right : (x y : Bool) → (x && y) ≡ true → y ≡ true
+pub and_right : (x y : Bool) → (x && y) ≡ true → y ≡ true
 and_right true y e = e
 and_right false y e = absurd (true≢false (sym e))
 
@@ -74,19 +72,19 @@ pub record IsCalm (snaps : List SnapHeld) : Type 0 where
   pub marks : Each (λ h. can_mark h ≡ false) snaps
   pub flushes : Each (λ h. can_flush_store h ≡ false) snaps
 
-abbrev Follows : Event → Moving → Type 0
+abbrev pub Follows : Event → Moving → Type 0
 Follows next m = (due m ≡ Some next) ⊎ (stepped next m ≡ m)
 
 -- A flush of a store is first, or changes nothing, where all snapshots but one are calm, and no mark is to be written for that
 -- one if its store is to be flushed.
 module _ (s : ℕ) where
-  abbrev flush_test : SnapHeld → Bool
+  abbrev pub flush_test : SnapHeld → Bool
   flush_test h = (h.snap.number == s) && can_flush_store h
 
-  flush_nowhere : (m : Moving) → Each (λ h. flush_test h ≡ false) m.snaps → stepped (FlushStore s) m ≡ m
+  pub flush_nowhere : (m : Moving) → Each (λ h. flush_test h ≡ false) m.snaps → stepped (FlushStore s) m ≡ m
   flush_nowhere m none = ap (λ o. for_some o (λ h. flush_store flush_test h m) m) (none_that flush_test m.snaps none)
 
-  flush_calm : (m : Moving) → IsCalm m.snaps → stepped (FlushStore s) m ≡ m
+  pub flush_calm : (m : Moving) → IsCalm m.snaps → stepped (FlushStore s) m ≡ m
   flush_calm m calm = flush_nowhere m (each_weaker (λ (h : SnapHeld). can_flush_store h ≡ false) (λ h. flush_test h ≡ false) m.snaps (λ h e. and_no (h.snap.number == s) (can_flush_store h) e) calm.flushes)
 
   module _ (m : Moving) (done rest : List SnapHeld) (h : SnapHeld) (is : m.snaps ≡ done ++ h ∷ rest)
@@ -114,7 +112,7 @@ module _ (s : ℕ) where
     ]
 
 -- a spoiled snapshot's mark is to be written, or its store to be flushed
-spoiled_own : (h : SnapHeld) → (can_mark (spoiled h) ≡ false) ⊎ (can_flush_store (spoiled h) ≡ false)
+pub spoiled_own : (h : SnapHeld) → (can_mark (spoiled h) ≡ false) ⊎ (can_flush_store (spoiled h) ≡ false)
 spoiled_own h = elim (cases_Bool h.marked) [
   | inl marked ↦ inl (ap not marked)
   | inr unmarked ↦ inr (rw unmarked refl)
@@ -169,7 +167,7 @@ module _ (s : ℕ) (m : Moving) (calm : IsCalm m.snaps) where
   abbrev area_act : SnapHeld → Moving
   area_act h = commit (batch_of h) area_test h m
 
-  area_follows : Follows (FlushStore s) (stepped (WriteArea s) m)
+  pub area_follows : Follows (FlushStore s) (stepped (WriteArea s) m)
   area_follows = elim (split_at area_test m.snaps) [
     | inl none ↦ subst (Follows (FlushStore s)) (sym (ap (λ o. for_some o area_act m) (none_that area_test m.snaps none))) (inr (flush_calm s m calm))
     | inr split ↦ subst (Follows (FlushStore s)) (sym (ap (λ o. for_some o area_act m) (ap (first_that area_test) split.is ∙ here_that area_test split.done split.rest split.here split.before split.pass)))
@@ -224,7 +222,7 @@ waits_at Flushed e = absurd (true≢false (sym e))
 
 -- a snapshot without a copy that was read has none of this number
 module _ (n : ℕ) where
-  abbrev has_read : SnapHeld → Bool
+  abbrev pub has_read : SnapHeld → Bool
   has_read h = list_any (is_copy Read n) h.copies
 
   no_copy : (cs : List Copying) → Each (λ p. is_at Read p ≡ false) cs → list_any (is_copy Read n) cs ≡ false
@@ -234,10 +232,10 @@ module _ (n : ℕ) where
   not_read : (h : SnapHeld) → copy_at Read h ≡ None → has_read h ≡ false
   not_read h none = no_copy h.copies (fails_by (is_at Read) number_of_copying h.copies none)
 
-  write_nowhere : (m : Moving) → Each (λ h. has_read h ≡ false) m.snaps → stepped (CopyWrite n) m ≡ m
+  pub write_nowhere : (m : Moving) → Each (λ h. has_read h ≡ false) m.snaps → stepped (CopyWrite n) m ≡ m
   write_nowhere m none = ap (λ o. for_some o (λ h. for_some (first_that (is_copy Read n) h.copies) (λ p. write_copy has_read (is_copy Read n) h p m) m) m) (none_that has_read m.snaps none)
 
-  unread : (snaps : List SnapHeld) → Each (λ h. copy_at Read h ≡ None) snaps → Each (λ h. has_read h ≡ false) snaps
+  pub unread : (snaps : List SnapHeld) → Each (λ h. copy_at Read h ≡ None) snaps → Each (λ h. has_read h ≡ false) snaps
   unread snaps all = each_weaker (λ (h : SnapHeld). copy_at Read h ≡ None) (λ h. has_read h ≡ false) snaps not_read all
 
 -- what was not due where the read of a chunk is chosen
@@ -249,7 +247,7 @@ pub record IsReadChosen (a b c d e f : Option ℕ) : Type 0 where
   pub zeroes : e ≡ None
   pub reads : f ≡ None
 
-read_chosen : (n : ℕ) (a b c d e f g i : Option ℕ) → chosen a b c d e f g i ≡ Some (CopyRead n) → IsReadChosen a b c d e f
+pub read_chosen : (n : ℕ) (a b c d e f g i : Option ℕ) → chosen a b c d e f g i ≡ Some (CopyRead n) → IsReadChosen a b c d e f
 read_chosen n (Some x) b c d e f g i is = absurd (cc)
 read_chosen n None (Some x) c d e f g i is = absurd (cc)
 read_chosen n None None (Some x) d e f g i is = absurd (cc)
@@ -258,11 +256,11 @@ read_chosen n None None None None (Some x) f g i is = absurd (cc)
 read_chosen n None None None None None (Some x) g i is = absurd (cc)
 read_chosen n None None None None None None g i is = record { marks = refl; flushes = refl; publishes = refl; commits = refl; zeroes = refl; reads = refl }
 
-abbrev Chosen : Moving → Type 0
+abbrev pub Chosen : Moving → Type 0
 Chosen m = IsReadChosen (first_by can_mark number_of m.snaps) (first_by can_flush_store number_of m.snaps) (least_in (publishable_in m.requests) m.snaps) (first_by can_commit number_of m.snaps) (first_by can_zero number_of m.snaps) (least_in (copy_at Read) m.snaps)
 
 module _ (n : ℕ) (m : Moving) (c : Chosen m) where
-  all_unread : Each (λ h. copy_at Read h ≡ None) m.snaps
+  pub all_unread : Each (λ h. copy_at Read h ≡ None) m.snaps
   all_unread = lacks_by (copy_at Read) m.snaps c.reads
 
   -- no copy waits under this number
@@ -270,13 +268,13 @@ module _ (n : ℕ) (m : Moving) (c : Chosen m) where
   same_follows = inr (write_nowhere n m (unread n m.snaps all_unread))
 
   module _ (split : IsSplit (λ h. list_any (is_copy Waiting n) h.copies) m.snaps) (copy : IsSplit (is_copy Waiting n) split.here.copies) (bytes : List ℕ) (w : Moving) (same : w.requests ≡ m.requests) (alike : w.snaps ≡ m.snaps) where
-    abbrev test : SnapHeld → Bool
+    abbrev pub test : SnapHeld → Bool
     test h = list_any (is_copy Waiting n) h.copies
 
-    abbrev read : Copying
+    abbrev pub read : Copying
     read = record copy.here { stage = Read; bytes = bytes }
 
-    abbrev now : SnapHeld
+    abbrev pub now : SnapHeld
     now = record split.here { copies = with_first (is_copy Waiting n) read split.here.copies }
 
     waiting : copy.here.stage ≡ Waiting
@@ -300,7 +298,7 @@ module _ (n : ℕ) (m : Moving) (c : Chosen m) where
     prefix_now : prefix_len is_ready (with_first (is_copy Waiting n) read split.here.copies) ≡ prefix_len is_ready split.here.copies
     prefix_now = ap (prefix_len is_ready) copies_now ∙ same_prefix copy.done copy.rest read copy.here ready_same ∙ sym (ap (prefix_len is_ready) copy.is)
 
-    snaps_now : with_first test now w.snaps ≡ split.done ++ now ∷ split.rest
+    pub snaps_now : with_first test now w.snaps ≡ split.done ++ now ∷ split.rest
     snaps_now = ap (with_first test now) (alike ∙ split.is) ∙ here_with test now split.done split.rest split.here split.before split.pass
 
     nowhere_now : (t : SnapHeld → Bool) → first_by t number_of m.snaps ≡ None → t now ≡ t split.here → first_by t number_of (with_first test now w.snaps) ≡ None
@@ -331,7 +329,7 @@ module _ (n : ℕ) (m : Moving) (c : Chosen m) where
         ap (least_in (copy_at Read)) snaps_now ∙ only_least (copy_at Read) n split.done split.rest now
         (each_done (λ d. copy_at Read d ≡ None) split.done split.rest split.here unread_all) read_here (each_rest (λ d. copy_at Read d ≡ None) split.done split.rest split.here unread_all)
 
-    publish_now : least_in (publishable_in w.requests) (with_first test now w.snaps) ≡ None
+    pub publish_now : least_in (publishable_in w.requests) (with_first test now w.snaps) ≡ None
     publish_now = ap (λ rs. least_in (publishable_in rs) (with_first test now w.snaps)) same ∙ none_now (publishable_in m.requests) c.publishes refl
 
     write_first : due (put test now w) ≡ Some (CopyWrite n)
@@ -379,39 +377,3 @@ module _ (n : ℕ) (m : Moving) (c : Chosen m) where
 
 pub write_after_read : (n : ℕ) (m : Moving) → due m ≡ Some (CopyRead n) → Follows (CopyWrite n) (stepped (CopyRead n) m)
 write_after_read n m is = read_follows n m (read_chosen n _ _ _ _ _ _ _ _ is)
-
--- an event that follows one that was due first
-pub follows : (event next : Event) (m : Moving) → due m ≡ Some event → following event ≡ Some next → Follows next (stepped event m)
-follows (CopyRead n) next m is known = (let same : CopyWrite n ≡ next = cc in subst (λ e. Follows e (stepped (CopyRead n) m)) same (write_after_read n m is))
-follows (WriteArea s) next m is known = (let same : FlushStore s ≡ next = cc in subst (λ e. Follows e (stepped (WriteArea s) m)) same (flush_after_area s m is))
-follows (Issue n) next m is known = absurd (cc)
-follows (CopyWrite n) next m is known = absurd (cc)
-follows (ZeroNext n) next m is known = absurd (cc)
-follows (Publish n) next m is known = absurd (cc)
-follows (WriteInvalid n) next m is known = absurd (cc)
-follows (FlushStore n) next m is known = absurd (cc)
-follows MergeGroup next m is known = absurd (cc)
-follows MergeAreaRead next m is known = absurd (cc)
-follows MergeRead next m is known = absurd (cc)
-follows MergeWrite next m is known = absurd (cc)
-follows MergeFlush next m is known = absurd (cc)
-follows MergeCommit next m is known = absurd (cc)
-follows MergeRelease next m is known = absurd (cc)
-
--- and none of a merge
-pub follows_apart : (event next : Event) → following event ≡ Some next → is_of_merge next ≡ false
-follows_apart (CopyRead n) next known = (let same : CopyWrite n ≡ next = cc in ap is_of_merge (sym same))
-follows_apart (WriteArea s) next known = (let same : FlushStore s ≡ next = cc in ap is_of_merge (sym same))
-follows_apart (Issue n) next known = absurd (cc)
-follows_apart (CopyWrite n) next known = absurd (cc)
-follows_apart (ZeroNext n) next known = absurd (cc)
-follows_apart (Publish n) next known = absurd (cc)
-follows_apart (WriteInvalid n) next known = absurd (cc)
-follows_apart (FlushStore n) next known = absurd (cc)
-follows_apart MergeGroup next known = absurd (cc)
-follows_apart MergeAreaRead next known = absurd (cc)
-follows_apart MergeRead next known = absurd (cc)
-follows_apart MergeWrite next known = absurd (cc)
-follows_apart MergeFlush next known = absurd (cc)
-follows_apart MergeCommit next known = absurd (cc)
-follows_apart MergeRelease next known = absurd (cc)

@@ -43,6 +43,8 @@ pub mod Rooms
 pub mod Drained
 pub mod Freed
 pub mod Follows
+pub mod Carried
+pub mod Carrying
 pub mod Runs
 pub mod Shown
 pub mod Ordered

@@ -1,5 +1,5 @@
 -- Events that are done one after another until a volume is quiet: none of them is one of a merge.
-use Rattle.std.proofs.Common.{◌≡◌, ◌⊎◌, ℕ, inl, inr, true, false, List, [], Option, Some, None, refl, sym, ◌∙◌, ap, subst}
+use Rattle.std.proofs.Common.{◌≡◌, ◌⊎◌, ℕ, inl, inr, true, false, List, [], ◌∷◌, Option, Some, None, refl, sym, ◌∙◌, ap, subst}
 use Rattle.std.proofs.lemmas.Bool.{cases_Bool, true≢false}
 use Rattle.device.specs.Layers.{Layer}
 use Rattle.plain.specs.declared.event.Event.{Event}
@@ -23,8 +23,9 @@ use Rattle.volume.specs.Stepping.{KeepsAll}
 use Rattle.volume.specs.Volumed.{Volumed, is_loud_in_all}
 use Rattle.volume.proofs.Reaches.{reaches_none, reaches_more}
 use Rattle.volume_commands.proofs.Freed.{grouped, step_keeps, beside_steps, beside_due, freed, free_seen}
-use Rattle.volume_commands.specs.Following.{following, IsFollowed}
-use Rattle.volume_commands.proofs.Follows.{follows, follows_apart}
+use Rattle.volume_commands.specs.Following.{following, AreCarried, IsFollowed}
+use Rattle.volume_commands.proofs.Follows.{Follows}
+use Rattle.volume_commands.proofs.Carried.{AllFollow, follows}
 use Rattle.volume_commands.proofs.Settled.{keeps_none, keeps_more}
 
 -- so far
@@ -78,6 +79,41 @@ module _ {B : Type 0} (contents : B → List ℕ) (layers : B → List Layer) (s
     | inr still ↦ subst (Reaches m) (sym still ∙ step) r
   ]
 
+  -- a volume that was reached from another, where the merge has no group
+  record IsOn (first before : Reply) (v p : Volumed B) : Type 0 where
+    pub run : IsRun contents layers (Some first) (Some before) v p
+    pub free : is_loud_in_all layers v ≡ true → grouped (moving_of contents layers None p).merge ≡ []
+
+  module _ (first before after : Reply) (v p x : Volumed B) (event : Event) (outcome : Outcome) (on : IsOn first before v p) (exact : IsExact contents layers event outcome p x) (loud : is_loud_in_all layers x ≡ is_loud_in_all layers p)
+      (other : is_loud_in_all layers v ≡ true → is_of_merge event ≡ false) where
+    on_step : is_loud_in_all layers v ≡ true → (replied : Option Reply) → stepped event (moving_of contents layers replied p) ≡ moving_of contents layers (replied_by outcome replied) x
+    on_step all replied = sym (beside_steps event (moving_of contents layers replied p) (on.free all) (other all)) ∙ exact.step (on.run.loud ∙ all) replied
+
+    -- one event more, which is first due or changes nothing
+    on_more : (is_loud_in_all layers v ≡ true → Follows event (moving_of contents layers (Some before) p)) → Some after ≡ replied_by outcome (Some before) → IsOn first after v x
+    on_more law told = record {
+      run = record {
+        reaches = λ all. follow_reaches (moving_of contents layers (Some first) v) (moving_of contents layers (Some before) p) (moving_of contents layers (Some after) x) event (on.run.reaches all) (law all)
+            (on_step all (Some before) ∙ ap (λ (a : Option Reply). moving_of contents layers a x) (sym told));
+        loud = loud ∙ on.run.loud;
+      };
+      free = λ all. ap (λ (m : Moving). grouped m.merge) (sym (on_step all None)) ∙ step_keeps [] event (moving_of contents layers None p) (on.free all);
+    }
+
+  -- and some more that follow one another
+  carried_on : (events : List Event) (first before after : Reply) (v p q : Volumed B) → IsOn first before v p → (is_loud_in_all layers v ≡ true → (replied : Option Reply) → AllFollow events (moving_of contents layers replied p))
+      → AreCarried contents layers events before after p q → IsOn first after v q
+  carried_on [] first before after v p q on law (same, told) = subst (λ (y : Volumed B). IsOn first after v y) (sym same) (subst (λ (a : Reply). IsOn first a v p) (sym told) on)
+  carried_on (event ∷ events) first before after v p q on law (inl (same, told)) = subst (λ (y : Volumed B). IsOn first after v y) (sym same) (subst (λ (a : Reply). IsOn first a v p) (sym told) on)
+  carried_on (event ∷ events) first before after v p q on law (inr (outcome, x, exact, loud, inl (same, told))) =
+      subst (λ (y : Volumed B). IsOn first after v y) (sym same) (on_more first before after v p x event outcome on exact loud (λ all. (law all None).1) (λ all. (law all (Some before)).0) told)
+  carried_on (event ∷ events) first before after v p q on law (inr (outcome, x, exact, loud, inr (done, rest))) =
+      let told : Some before ≡ replied_by outcome (Some before) = sym (ap (λ (o : Outcome). replied_by o (Some before)) done) in
+      let next : IsOn first before v x = on_more first before before v p x event outcome on exact loud (λ all. (law all None).1) (λ all. (law all (Some before)).0) told in
+      let reached : is_loud_in_all layers v ≡ true → (replied : Option Reply) → stepped event (moving_of contents layers replied p) ≡ moving_of contents layers replied x =
+      λ all replied. on_step first before before v p x event outcome on exact loud (λ sure. (law sure None).1) all replied ∙ ap (λ (o : Outcome). moving_of contents layers (replied_by o replied) x) done in
+      carried_on events first before after v x q next (λ all replied. subst (AllFollow events) (reached all replied) (law all replied).2) rest
+
   module _ (before after again : Reply) (v w u x : Volumed B) (event : Event) (r : RunsBeside contents layers size (Some before) (Some after) v w) (busy : is_quiet_of w ≡ false)
       (first : (replied : Option Reply) → due_all (moving_of contents layers replied w) ≡ Some event)
       (calm : is_of_merge event ≡ true → has_group_in w.merge ≡ false → is_quiet_of w ≡ true)
@@ -96,26 +132,13 @@ module _ {B : Type 0} (contents : B → List ℕ) (layers : B → List Layer) (s
         sym (beside_steps event (moving_of contents layers replied w) (r.free all) (beside contents layers size (Some before) (Some after) v w u event Done r busy first calm seen all)) ∙ exact.step (r.run.loud ∙ all) replied
 
     pub beside_followed : IsFollowed contents layers event after again u x → RunsBeside contents layers size (Some before) (Some again) v x
-    beside_followed (inl same) = subst (λ (p : Volumed B). RunsBeside contents layers size (Some before) (Some again) v p) (sym same.0) (subst (λ (a : Reply). RunsBeside contents layers size (Some before) (Some a) v u) (sym same.1) so_far)
-    beside_followed (inr more) =
-        let next : Event = more.0 in
-        let outcome : Outcome = more.1 in
-        let known : following event ≡ Some next = more.2 in
-        let e : IsExact contents layers next outcome u x = more.3 in
-        let told : Some again ≡ replied_by outcome (Some after) = more.4 in
-        let step : is_loud_in_all layers v ≡ true → (replied : Option Reply) → stepped next (moving_of contents layers replied u) ≡ moving_of contents layers (replied_by outcome replied) x =
-        λ all replied. sym (beside_steps next (moving_of contents layers replied u) (so_far.free all) (follows_apart event next known)) ∙ e.step (so_far.run.loud ∙ all) replied in
+    beside_followed (s, carried) =
+        let law : is_loud_in_all layers v ≡ true → (replied : Option Reply) → AllFollow (following event s) (moving_of contents layers replied u) =
+        λ all replied. subst (AllFollow (following event s)) (was_done all replied) (follows event s (moving_of contents layers replied w) (was_due all replied)) in
+        let on : IsOn before again v x = carried_on (following event s) before after again v u x (record { run = so_far.run; free = so_far.free }) law carried in
         record {
-          run = record {
-            reaches = λ all.
-                let u_is : stepped event (moving_of contents layers (Some after) w) ≡ moving_of contents layers (Some after) u = was_done all (Some after) in
-                let law : (due (moving_of contents layers (Some after) u) ≡ Some next) ⊎ (stepped next (moving_of contents layers (Some after) u) ≡ moving_of contents layers (Some after) u) =
-                subst (λ (m : Moving). (due m ≡ Some next) ⊎ (stepped next m ≡ m)) u_is (follows event next (moving_of contents layers (Some after) w) (was_due all (Some after)) known) in
-                follow_reaches (moving_of contents layers (Some before) v) (moving_of contents layers (Some after) u) (moving_of contents layers (Some again) x) next (so_far.run.reaches all) law
-                (step all (Some after) ∙ ap (λ (a : Option Reply). moving_of contents layers a x) (sym told));
-            loud = more_loud ∙ so_far.run.loud;
-          };
+          run = on.run;
           kept = keeps_more size v u x so_far.kept more_kept;
           requests = more_requests ∙ so_far.requests;
-          free = λ all. ap (λ (m : Moving). grouped m.merge) (sym (step all None)) ∙ step_keeps [] next (moving_of contents layers None u) (so_far.free all);
+          free = on.free;
         }

@@ -1,28 +1,76 @@
-// Which event is due after one that was done, where that is known without a search.
-ghost use Rattle.std.specs.Prelude.{◌≡◌, ◌≤◌};
+// Which events are due after one that was done, one after the other, where that is known without a search.
+ghost use Rattle.std.specs.Prelude.{◌≡◌, ◌≤◌, IfNone, false};
+ghost use Rattle.std.specs.List.{list_any};
+ghost use Rattle.in_flight.specs.declared.copies.Stage.TheVariants.{Read};
+ghost use Rattle.plain.specs.declared.event.Event.TheVariants.{CopyRead};
+ghost use Rattle.snapshots.specs.Finding.{has_copy_at};
 ghost use Rattle.volume.specs.Stepping.{KeepsAll};
 ghost use Rattle.volume.specs.Volumed.{is_loud_in_all, left_in_all};
 ghost use Rattle.volume_commands.specs.AtRest.{AreDone};
-ghost use Rattle.volume_commands.specs.Following.{following, IsFollowed};
+ghost use Rattle.volume_commands.specs.Following.{AreCarried, IsFollowed};
 
 use crate::Journaled;
+use in_flight::Stage;
 use layers::Layered;
-use plain::{Event, NotDue, Outcome, Reply};
+use plain::{CopyId, Event, NotDue, Outcome, Reply, SnapId};
+use snapshots::find_copy;
 
-/// The event that is due first once this one is done, if it was due first itself and nothing failed: a chunk that was read is
-/// written, and the store of an area that was written is flushed. None where only a search tells.
-fn event_after(done: Event) -> Option<Event>
-    ensures { result ≡ following done }
+/// The number of a snapshot that has a copy of this number whose chunk was read, if one has.
+fn holder<B: Layered>(volume: &Journaled<B>, number: CopyId) -> Option<SnapId>
+    ensures { IfNone result (list_any (has_copy_at Read number) volume.now.snaps ≡ false) }
 {
-    match done {
-        Event::CopyRead(number) => Some(Event::CopyWrite(number)),
-        Event::WriteArea(number) => Some(Event::FlushStore(number)),
-        _ => None,
+    let snaps = volume.volume.snaps();
+    match find_copy(snaps, Stage::Read, number) {
+        Some((place, _)) => Some(snaps[place].number()),
+        None => None,
     }
 }
 
-/// Does the event that is known to follow one that was done, if there is one and it is due. Tells its reply, and the one that
-/// was given before where it gave none.
+/// Does these events one after the other, as long as each is due and nothing fails. Tells the last reply, and the one that was
+/// given before where there is none.
+fn carry<B: Layered>(volume: &mut Journaled<B>, events: &[Event], reply: Reply) -> Reply
+    ensures carried { AreCarried B.contents B.layers events.now reply result volume.old volume.new }
+    ensures did { AreDone B.contents B.layers B.fault_count reply result volume.old volume.new }
+    ensures loud { is_loud_in_all B.layers volume.new ≡ is_loud_in_all B.layers volume.old }
+    ensures kept { KeepsAll B.size volume.old volume.new }
+    ensures requests { volume.new.requests ≡ volume.old.requests }
+    ensures left { left_in_all B.contents B.layers volume.new ≤ left_in_all B.contents B.layers volume.old }
+{
+    for event in events {
+        match volume.step(*event) {
+            Ok(Outcome::Reply(_, given)) => return given,
+            Ok(Outcome::Done) => {}
+            Ok(Outcome::Fault) => return reply,
+            Err(NotDue) => return reply,
+        }
+    }
+    reply
+}
+
+/// Does the events that follow the read of a copy's chunk: the chunk is written, and its pair with it, the store being flushed
+/// after each. The copy's snapshot is told by the copy: where it has another number, its events are not due.
+fn follow_read<B: Layered>(volume: &mut Journaled<B>, number: CopyId, reply: Reply) -> Reply
+    ensures follows { IsFollowed B.contents B.layers (CopyRead number) reply result volume.old volume.new }
+    ensures did { AreDone B.contents B.layers B.fault_count reply result volume.old volume.new }
+    ensures loud { is_loud_in_all B.layers volume.new ≡ is_loud_in_all B.layers volume.old }
+    ensures kept { KeepsAll B.size volume.old volume.new }
+    ensures requests { volume.new.requests ≡ volume.old.requests }
+    ensures left { left_in_all B.contents B.layers volume.new ≤ left_in_all B.contents B.layers volume.old }
+{
+    let Some(snap) = holder(volume, number) else {
+        return reply;
+    };
+    let events = [
+        Event::CopyWrite(number),
+        Event::FlushStore(snap),
+        Event::WriteArea(snap),
+        Event::FlushStore(snap),
+    ];
+    carry(volume, &events, reply)
+}
+
+/// Does the events that are known to follow one that was due first and was done, as long as each is due and nothing fails: each
+/// is then due first. Tells the last reply, and the one that was given before where there is none.
 pub(crate) fn follow<B: Layered>(volume: &mut Journaled<B>, done: Event, reply: Reply) -> Reply
     ensures follows { IsFollowed B.contents B.layers done reply result volume.old volume.new }
     ensures did { AreDone B.contents B.layers B.fault_count reply result volume.old volume.new }
@@ -31,13 +79,9 @@ pub(crate) fn follow<B: Layered>(volume: &mut Journaled<B>, done: Event, reply: 
     ensures requests { volume.new.requests ≡ volume.old.requests }
     ensures left { left_in_all B.contents B.layers volume.new ≤ left_in_all B.contents B.layers volume.old }
 {
-    let Some(event) = event_after(done) else {
-        return reply;
-    };
-    match volume.step(event) {
-        Ok(Outcome::Reply(_, given)) => given,
-        Ok(Outcome::Done) => reply,
-        Ok(Outcome::Fault) => reply,
-        Err(NotDue) => reply,
+    match done {
+        Event::CopyRead(number) => follow_read(volume, number, reply),
+        Event::WriteArea(snap) => carry(volume, &[Event::FlushStore(snap)], reply),
+        _ => reply,
     }
 }
