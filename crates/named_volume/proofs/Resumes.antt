@@ -1,6 +1,6 @@
 -- A merge goes on after a fault, in a volume with its names.
 use Rattle.std.proofs.Common.{◌≡◌, Bool, true, false, refl, sym, ap, ◌∙◌}
-use Rattle.std.specs.Prelude.{Option, Some, None, Result, Ok, Err, IfErr, OnOk, is_some, if◌then◌else◌}
+use Rattle.std.specs.Prelude.{Option, Some, None, Result, Ok, Err, IfErr, OnErr, OnOk, is_some, if◌then◌else◌}
 use Rattle.std.specs.Option.{option_map}
 use Rattle.sector.specs.declared.refusal.Refusal.{Refusal}
 use Rattle.sector.specs.declared.refusal.Refusal.TheVariants.{NotMerging}
@@ -47,13 +47,13 @@ module _ (volume new : Volume) (before after : Rested Stack) (state : volume.sta
 
   pub resumes : (names : Option Names) (r : Result (Unit {0}) Refusal) → volume.merging ≡ merging_with names before → is_some names ≡ is_some before.events.merge
       → OnOk r (resumed_in_big_steps (merged_inside before) ≡ merged_inside after) → OnOk r (machine_resumed (flying_of stack_contents stack_layers before.events) ≡ flying_of stack_contents stack_layers after.events)
-      → OnOk r ((m : Merging Stack) × (before.events.merge ≡ Some m)) → IfErr r (λ e. (e ≡ NotMerging) × (before.events.merge ≡ None) × (after ≡ before)) → is_quiet_of after.events ≡ is_quiet_of before.events
+      → OnOk r ((m : Merging Stack) × (before.events.merge ≡ Some m)) → IfErr r (λ e. (e ≡ NotMerging) × (before.events.merge ≡ None) × (after.events ≡ before.events)) → OnErr r (after ≡ before) → is_quiet_of after.events ≡ is_quiet_of before.events
       → new ≡ record volume { merging = merging_with names after; state = settled_in after; flying = flying_in after.events } → Changes r volume new (resumed volume)
   unfolding resumed
-  resumes None (Ok unit) merging same merged flown begun why quiet new_is = absurd (let clash : false ≡ true = same ∙ ap (λ (o : Option (Merging Stack)). is_some o) begun.1 in cc)
-  resumes (Some names) (Ok unit) merging same merged flown begun why quiet new_is = resumed_is names begun.0 merging begun.1 merged flown quiet new_is
-  resumes None (Err e) merging same merged flown begun why quiet new_is = (
-    (rw new_is (rw why.2 (rw (sym merging) (rw (sym state) (rw (sym flying) refl))))),
+  resumes None (Ok unit) merging same merged flown begun why unchanged quiet new_is = absurd (let clash : false ≡ true = same ∙ ap (λ (o : Option (Merging Stack)). is_some o) begun.1 in cc)
+  resumes (Some names) (Ok unit) merging same merged flown begun why unchanged quiet new_is = resumed_is names begun.0 merging begun.1 merged flown quiet new_is
+  resumes None (Err e) merging same merged flown begun why unchanged quiet new_is = (
+    (rw new_is (rw unchanged (rw (sym merging) (rw (sym state) (rw (sym flying) refl))))),
     λ other. rw merging (rw why.0 refl),
   )
-  resumes (Some names) (Err e) merging same merged flown begun why quiet new_is = absurd (let clash : true ≡ false = same ∙ ap (λ (o : Option (Merging Stack)). is_some o) why.1 in cc)
+  resumes (Some names) (Err e) merging same merged flown begun why unchanged quiet new_is = absurd (let clash : true ≡ false = same ∙ ap (λ (o : Option (Merging Stack)). is_some o) why.1 in cc)

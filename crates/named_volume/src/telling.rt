@@ -1,13 +1,11 @@
 // Messages to the layers of a volume, and the time.
 ghost use Rattle.std.specs.Prelude.{◌≡◌, is_some, length};
 ghost use Rattle.layers.specs.Stack.{stack_contents, stack_layers, stack_size};
-ghost use Rattle.volume.specs.Leaving.{is_quiet_of};
-ghost use Rattle.volume_commands.specs.Flying.{flying_of};
-ghost use Rattle.volume_commands.specs.Kept.{KeepsDevices};
+ghost use Rattle.volume_commands.specs.ChangesLayers.{ChangesLayers};
 ghost use Rattle.command_rules.specs.Changes.{Steps};
 ghost use Rattle.command_rules.specs.Places.{HasRole, IsRoleIn};
 ghost use Rattle.command_rules.specs.Messages.{told_mounted, told_role, volume_ticked};
-ghost use Rattle.named_volume.specs.Held.{merged_inside, IsSettledIn};
+ghost use Rattle.named_volume.specs.Held.{merged_inside};
 
 use crate::origin::NamedVolume;
 use command_rules::Role;
@@ -16,14 +14,11 @@ use sector::Refusal;
 use volume_commands::Resting;
 
 /// Tells the layer of this role. `BadTable` for the origin and a snapshot, then as for a stack.
+#[tactic(auto, using(volume_commands::proofs::LayersChanged::unchanged))]
 fn tell_role(volume: &mut Resting<Stack>, role: Role, message: &Message) -> Result<Answer, Refusal>
     requires { HasRole role (length volume.old.snaps) (is_some volume.old.events.merge) }
     ensures steps { Steps result (merged_inside volume.old) (merged_inside volume.new) (told_role role message.now (merged_inside volume.old)) }
-    ensures settled { IsSettledIn volume.old → IsSettledIn volume.new }
-    ensures kept { KeepsDevices stack_layers stack_size volume.old volume.new }
-    ensures requests { volume.new.requests ≡ volume.old.requests }
-    ensures quiet { is_quiet_of volume.new.events ≡ is_quiet_of volume.old.events }
-    ensures flying { flying_of stack_contents stack_layers volume.new.events ≡ flying_of stack_contents stack_layers volume.old.events }
+    ensures rest { ChangesLayers stack_contents stack_layers stack_size volume.old volume.new }
 {
     match role {
         Role::Origin | Role::Snapshot(_) | Role::Merging => Err(Refusal::BadTable),

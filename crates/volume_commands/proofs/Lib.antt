@@ -54,3 +54,5 @@ pub mod Flown
 pub mod Fewer
 pub mod JournalGoing
 pub mod DueTold
+pub mod CallsSeen
+pub mod LayersChanged

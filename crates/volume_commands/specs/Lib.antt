@@ -19,3 +19,10 @@ pub mod Ordered
 pub mod Places
 pub mod GoingOn
 pub mod Trace
+pub mod SeesAttach
+pub mod SeesDetach
+pub mod SeesBeginMerge
+pub mod SeesResumeMerge
+pub mod SeesFinishMerge
+pub mod SeesRequests
+pub mod ChangesLayers

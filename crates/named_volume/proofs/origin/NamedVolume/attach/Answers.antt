@@ -1,4 +1,4 @@
-use Rattle.std.proofs.Common.{◌≡◌, ◌∙◌, ◌++◌, ◌∷◌, [], ap, refl, sym, subst, true, false, inl, inr}
+use Rattle.std.proofs.Common.{◌≡◌, ◌∙◌, ◌+◌, ◌++◌, ◌∷◌, [], ap, refl, sym, subst, true, false, inl, inr}
 use Rattle.std.specs.Prelude.{◌&&◌, Option, is_some}
 use Rattle.device.specs.Layers.{is_loud}
 use Rattle.command_rules.specs.Stacks.{device_of}
@@ -19,18 +19,18 @@ use Rattle.named_volume.proofs.origin.NamedVolume.attach.Goals as goal
 
 pub returns-after-self-clause-ok : goal.returns-after-self-clause-ok
 returns-after-self-clause-ok c =
-    rw (← c.self.view_is) (rw c.into_parts-names.ensures (rw c.in-Ok-attach.ensures.quiet.1 (rw c.in-Ok-attach.ensures.quiet.0 (λ sound quiet loud.
+    rw (← c.self.view_is) (rw c.into_parts-names.ensures (rw c.in-Ok-attach.ensures.seen.quiet.1 (rw c.in-Ok-attach.ensures.seen.quiet.0 (λ sound quiet loud.
     let here : Stacked = record { names = c.into_parts-names.result.0.items; device = device_of c.into_parts-names.result.1; stale = c.into_parts-names.result.2 } in
     let same : c.is_loud-loud.result ≡ is_loud here.device.layers = c.is_loud-loud.ensures ∙ ap (λ (s : Stacked). is_loud s.device.layers) c.into_parts-names.ensures in
     let both : c.if-self.self ≡ (c.self.inside.sound && is_loud here.device.layers) =
     elim c.if-self.branch [ then-self w ↦ rw sound (w.self-is ∙ same) | else-self w ↦ absurd (cc) ] in
-    let alone = c.in-Ok-attach.ensures.alone in
+    let alone = c.in-Ok-attach.ensures.seen.alone in
     let unmerged : (merged_inside c.attach.new.self).merge ≡ (merged_inside c.self.inside.volume).merge = ap (λ (o : Option (Merging Stack)). merge_by o) (alone.1 ∙ sym alone.0) in
     let none : is_some (merging_with c.self.inside.merging c.self.inside.volume) ≡ false = begun_too _ c.self.inside.volume c.self.invariant.begun ∙ c.self.invariant.begun ∙ ap (λ (o : Option (Merging Stack)). is_some o) alone.0 in
     rw (merging_as_before c.self.inside.merging c.self.inside.volume c.attach.new.self unmerged) (
     met c.args.name c.args.chunk c.args.overflow here _ c.push_reserved.new.self.items (settled_in c.attach.new.self) c.attach.new.self.attached c.in-Ok-attach.field-0 c.if-self.self none
-    c.in-Ok-attach.ensures.number (c.in-Ok-attach.ensures.exact (c.look.ensures c.in-Ok-attach.ensures.quiet.0 (c.self.invariant.loud sound)) loud)
-    (c.push_reserved.ensures.items ∙ ap (λ names. names ++ (record { snapshot = c.args.name; store = here.names; overflow = c.args.overflow }) ∷ []) c.reserve.ensures.items) c.in-Ok-attach.ensures.taken.attached both)))))
+    (c.in-Ok-attach.ensures.does.number ∙ ap (λ (x : Rested Stack). x.attached + 1) (sym c.attach.ensures.whole.0)) (c.in-Ok-attach.ensures.seen.exact (c.look.ensures c.in-Ok-attach.ensures.seen.quiet.0 (c.self.invariant.loud sound)) loud)
+    (c.push_reserved.ensures.items ∙ ap (λ names. names ++ (record { snapshot = c.args.name; store = here.names; overflow = c.args.overflow }) ∷ []) c.reserve.ensures.items) c.in-Ok-attach.ensures.seen.taken.attached both)))))
 
 pub returns-in-Err-attach-clause-err : goal.returns-in-Err-attach-clause-err
 returns-in-Err-attach-clause-err c =
@@ -38,15 +38,15 @@ returns-in-Err-attach-clause-err c =
       | inl starved ↦ absurd (no_both (is_starved c.in-Err-attach.refusal) starved.0 other)
       | inr why ↦
           unmet c.args.chunk (stack_size c.self.inside.volume.origin) _ (stack_contents c.into_parts-names.result.1) c.into_parts-names.result.0.items c.into_parts-names.result.1 c.into_parts-names.result.2 c.in-Err-attach.store c.args.stack c.of_parts.result c.self.inside.volume.events c.in-Err-attach.refusal
-          why c.in-Err-attach.ensures.unread c.into_parts-names.ensures c.of_parts.ensures c.args.name c.args.overflow _ (settled_in c.attach.new.self)
-          (begun_too _ c.self.inside.volume c.self.invariant.begun ∙ c.self.invariant.begun) c.in-Err-attach.ensures.stale
-          (λ fresh. c.in-Err-attach.ensures.back other fresh (c.look.ensures quiet (c.self.invariant.loud sound)) (subst (λ (s : Stacked). is_loud s.device.layers ≡ true) c.into_parts-names.ensures loud))
+          why c.in-Err-attach.ensures.does.unread c.into_parts-names.ensures c.of_parts.ensures c.args.name c.args.overflow _ (settled_in c.attach.new.self)
+          (begun_too _ c.self.inside.volume c.self.invariant.begun ∙ c.self.invariant.begun) c.in-Err-attach.ensures.does.stale
+          (λ fresh. c.in-Err-attach.ensures.seen.back other fresh (c.look.ensures quiet (c.self.invariant.loud sound)) (subst (λ (s : Stacked). is_loud s.device.layers ≡ true) c.into_parts-names.ensures loud))
     ])
 
 pub returns-in-Err-attach-clause-starved : goal.returns-in-Err-attach-clause-starved
 returns-in-Err-attach-clause-starved c = λ none.
-    let e = c.in-Err-attach.ensures.starved none in
-    rw c.into_parts-names.ensures (rw c.of_parts.ensures (rw (read_same c.into_parts-names.result.1 c.in-Err-attach.store.device e.0 e.1) (rw c.in-Err-attach.ensures.stale refl)))
+    let e = c.in-Err-attach.ensures.does.starved none in
+    rw c.into_parts-names.ensures (rw c.of_parts.ensures (rw (read_same c.into_parts-names.result.1 c.in-Err-attach.store.device e.0 e.1) (rw c.in-Err-attach.ensures.does.stale refl)))
 
 pub returns-in-Err-attach-clause-busy : goal.returns-in-Err-attach-clause-busy
 returns-in-Err-attach-clause-busy c =
@@ -54,7 +54,7 @@ returns-in-Err-attach-clause-busy c =
       | inl starved ↦ (inl starved.0, rw c.into_parts-names.ensures (rw c.of_parts.ensures (rw starved.1 refl)))
       | inr why ↦
           busy_back c.args.chunk (stack_size c.self.inside.volume.origin) _ (stack_contents c.into_parts-names.result.1) c.into_parts-names.result.0.items c.into_parts-names.result.1 c.into_parts-names.result.2 c.in-Err-attach.store c.args.stack c.of_parts.result c.self.inside.volume.events c.in-Err-attach.refusal
-          why c.in-Err-attach.ensures.unread c.into_parts-names.ensures c.of_parts.ensures _ (begun_too _ c.self.inside.volume c.self.invariant.begun ∙ c.self.invariant.begun) busy
+          why c.in-Err-attach.ensures.does.unread c.into_parts-names.ensures c.of_parts.ensures _ (begun_too _ c.self.inside.volume c.self.invariant.begun ∙ c.self.invariant.begun) busy
     ])
 
 pub returns-in-Err-attach-clause-refused : goal.returns-in-Err-attach-clause-refused
@@ -92,4 +92,4 @@ returns-in-Err-attach-clause-same c =
       quiet = is_quiet_of m.volume.events;
       flying = flying_in m.volume.events;
     } in
-    rw c.reserve.ensures.items (refused_seen c.in-Err-attach.refusal m.volume c.attach.new.self c.in-Err-attach.ensures.same held m.merging ∙ c.self.view_is)
+    rw c.reserve.ensures.items (refused_seen c.in-Err-attach.refusal m.volume c.attach.new.self c.in-Err-attach.ensures.seen.same held m.merging ∙ c.self.view_is)

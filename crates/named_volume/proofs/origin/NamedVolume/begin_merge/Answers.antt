@@ -22,7 +22,7 @@ returns-then-is_some-clause-done c = λ sound. returns-then-is_some-clause-err c
 
 pub invariant_of-self : goal.invariant_of-self
 invariant_of-self c =
-    let out = c.in-Ok.ensures.begun in
+    let out = c.in-Ok.ensures.seen.begun in
     let old = c.self.invariant in
     let lt = rw (← c.self.view_is) at c.requires in
     let many = old.many in
@@ -34,25 +34,25 @@ invariant_of-self c =
       many = omega (arith, many, names, snaps, left, gone);
       begun = sym (ap (λ (o : Option (Merging Stack)). is_some o) out.begun);
       requests = rw out.requests old.requests;
-      loud = λ sound. (c.begin_merge.ensures.settled (c.look.ensures c.in-Ok.ensures.quiet.0 (old.loud sound))).loud;
+      loud = λ sound. (c.begin_merge.ensures.seen.settled (c.look.ensures c.in-Ok.ensures.seen.quiet.0 (old.loud sound))).loud;
     }
 
 pub returns-in-Ok-clause-done : goal.returns-in-Ok-clause-done
 returns-in-Ok-clause-done c =
     let lt = rw (← c.self.view_is) at c.requires in
     let many = c.self.invariant.many in
-    let out = c.in-Ok.ensures.begun in
-    let quiet = c.in-Ok.ensures.quiet in
+    let out = c.in-Ok.ensures.seen.begun in
+    let quiet = c.in-Ok.ensures.seen.quiet in
     let unmerged : is_some (merging_with c.self.inside.merging c.self.inside.volume) ≡ false = begun_too c.self.inside.merging c.self.inside.volume c.self.invariant.begun ∙ sym c.is_some.ensures ∙ c.if-is_some.false in
     rw (← c.self.view_is) (λ sound.
     begun_is c.args.k _ c.self.inside.volume c.number-number.result c.remove.result refl unmerged lt c.remove.ensures.value (omega (arith, lt, many)) c.number-number.ensures.value c.number-number.ensures.first
-    c.begin_merge.new.self out (c.in-Ok.ensures.merged (c.look.ensures quiet.0 (c.self.invariant.loud sound))) quiet.0 _
+    c.begin_merge.new.self out (c.in-Ok.ensures.seen.merged (c.look.ensures quiet.0 (c.self.invariant.loud sound))) quiet.0 _
     (rw c.remove.ensures.items (rw out.attached (rw quiet.1 (rw quiet.0 refl)))))
 
 pub returns-in-Ok-clause-named : goal.returns-in-Ok-clause-named
 returns-in-Ok-clause-named c =
     let lt = rw (← c.self.view_is) at c.requires in
-    let out = c.in-Ok.ensures.begun in
+    let out = c.in-Ok.ensures.seen.begun in
     let none : is_some c.self.inside.merging ≡ false = sym c.is_some.ensures ∙ c.if-is_some.false in
     rw (← c.self.view_is) (record {
       origin = refl;
@@ -74,7 +74,7 @@ returns-in-Err-clause-err c =
     let one = here c.self.inside.snaps.items c.args.k lt in
     let none : is_some c.self.inside.merging ≡ false = sym c.is_some.ensures ∙ c.if-is_some.false in
     let unmerged : is_some (merging_with c.self.inside.merging old) ≡ false = begun_too c.self.inside.merging old c.self.invariant.begun ∙ none in
-    rw (← c.self.view_is) (elim c.in-Err.ensures.refused [
+    rw (← c.self.view_is) (elim c.in-Err.ensures.seen.refused [
       | inl first ↦ (
         rw first.1 refl,
         λ other.

@@ -5,10 +5,10 @@ use Rattle.named_volume.proofs.Merges.{merge_is, still_begun}
 use Rattle.named_volume.proofs.origin.NamedVolume.step.Goals as goal
 
 pub invariant_of-self : goal.invariant_of-self
-invariant_of-self c = stays_held _ _ c.self-2.inside.volume c.step.new.self _ _ c.self-2.invariant c.step.ensures.kept c.step.ensures.requests
+invariant_of-self c = stays_held _ _ c.self-2.inside.volume c.step.new.self _ _ c.self-2.invariant c.step.ensures.seen.kept c.step.ensures.seen.requests
 
 pub returns-clause-stepped : goal.returns-clause-stepped
 returns-clause-stepped c =
     rw (← c.self-2.view_is)
-    (stepped c.args.event c.self-2.inside.volume c.step.new.self _ _ (behind c.self-2.inside.volume _ c.step.ensures.whole.0 refl (merge_is _ c.self-2.inside.volume c.self-2.invariant.begun) refl refl) (behind c.step.new.self _ c.step.ensures.whole.1 refl (merge_is _ c.step.new.self (c.self-2.invariant.begun ∙ still_begun c.self-2.inside.volume c.step.new.self c.step.ensures.kept.merging)) refl refl)
-    c.step.result c.step.ensures.due c.step.ensures.exact c.step.ensures.legal c.step.ensures.cause c.step.ensures.one)
+    (stepped c.args.event c.self-2.inside.volume c.step.new.self _ _ (behind c.self-2.inside.volume _ c.step.ensures.whole.0 refl (merge_is _ c.self-2.inside.volume c.self-2.invariant.begun) refl refl) (behind c.step.new.self _ c.step.ensures.whole.1 refl (merge_is _ c.step.new.self (c.self-2.invariant.begun ∙ still_begun c.self-2.inside.volume c.step.new.self c.step.ensures.seen.kept.merging)) refl refl)
+    c.step.result c.step.ensures.due c.step.ensures.does.exact c.step.ensures.does.legal c.step.ensures.does.cause c.step.ensures.does.one)

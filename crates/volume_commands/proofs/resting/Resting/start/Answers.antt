@@ -1,8 +1,13 @@
--- Nothing changed, or the snapshot is spoiled or marked.
+-- What the volume of events does, and what callers see of it.
+use Rattle.volume_commands.proofs.CallsSeen.{start_seen}
 use Rattle.volume_commands.proofs.resting.Resting.start.Goals as goal
 
-pub returns-clause-starved : goal.returns-clause-starved
-returns-clause-starved g c = rw (← c.self.view_is) c.begin.ensures.starved
+pub returns-clause-does : goal.returns-clause-does
+returns-clause-does g c = rw (← c.self.view_is) c.submit.ensures.does
 
-pub returns-clause-declined : goal.returns-clause-declined
-returns-clause-declined g c = rw (← c.self.view_is) c.begin.ensures.declined
+pub returns-clause-seen : goal.returns-clause-seen
+returns-clause-seen g c =
+    rw (← c.self.view_is) (start_seen g.B.Block.contents g.B.Block.layers g.B.Block.size c.args.request c.submit.result c.self.inside.volume c.submit.new.self c.submit.ensures.does c.submit.ensures.refused c.submit.ensures.loud)
+
+pub returns-clause-refused : goal.returns-clause-refused
+returns-clause-refused g c = rw (← c.self.view_is) c.submit.ensures.refused
