@@ -1,5 +1,5 @@
 // Bytes that are read ahead of the line.
-ghost use Rattle.std.specs.Prelude.{◌≡◌, ◌≢◌, ◌+◌, ◌<◌, ◌≤◌, [], ◌++◌, length, take, position, IfErr, IfOk, IfSome, MatchBool, vec_capacity, vec_len};
+ghost use Rattle.std.specs.Prelude.{◌≡◌, ◌≢◌, ◌+◌, ◌<◌, ◌≤◌, [], ◌++◌, length, take, IfErr, IfOk, MatchBool, vec_capacity, vec_len};
 ghost use Rattle.std.specs.List.{after_first, before_first, list_any};
 ghost use Rattle.std.specs.IoError.{error_kind};
 ghost use Rattle.std.specs.declared.io.ErrorKind.TheVariants.{Interrupted};
@@ -7,6 +7,7 @@ ghost use Rattle.std.specs.Io.KnownBytes.{Consumes, IsAtEnd, Keeps};
 ghost use Rattle.words.specs.Lines.{is_end, left};
 
 use crate::lines::keep;
+use crate::wide::place_of;
 use std::alloc::{AllocError, Global};
 use std::io;
 use std::io::{ErrorKind, Read};
@@ -56,14 +57,6 @@ fn read_some<R: Read>(reader: &mut R, bytes: &mut [u8]) -> io::Result<usize>
     Err(io::Error::from(ErrorKind::TimedOut))
 }
 
-/// Where the first line feed stands.
-fn end_at(bytes: &[u8]) -> Option<usize>
-    ensures place { result ≡ position is_end bytes.now }
-    ensures within { IfSome result (λ i. i < length bytes.now) }
-{
-    bytes.iter().position(|byte| *byte == b'\n')
-}
-
 impl Ahead {
     /// Nothing is read yet. An error says that the allocator refused memory for what may be read ahead.
     pub fn new(alloc: Global) -> Result<Ahead, AllocError>
@@ -106,7 +99,7 @@ impl Ahead {
         ensures room { vec_capacity line.old ≤ vec_capacity line.new }
     {
         let rest = &self.bytes[self.from..self.to];
-        match end_at(rest) {
+        match place_of(rest, b'\n') {
             Some(end) => {
                 keep(line, &rest[..end], max);
                 self.from += end + 1;

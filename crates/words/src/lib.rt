@@ -10,6 +10,7 @@ mod lines;
 mod names;
 mod numbers;
 mod texts;
+mod wide;
 mod word;
 
 pub use ahead::Ahead;

@@ -6,17 +6,19 @@ ghost use Rattle.words.specs.Names.{is_name_byte, is_name, name_of};
 
 use sector::Refusal;
 use std::marker::Model;
+use std::simd::prelude::*;
 
 /// The name of a device: 1 to 16 of the characters a to z, 0 to 9 and `_`, the first of them a letter. Contracts
 /// see the list of its bytes. It takes no memory of the allocator.
 #[derive(Drop)]
 pub struct Name {
+    /// Zero past the name, so that names are compared whole.
     bytes: [u8; 16],
-    len: usize,
+    len: u8,
 }
 
 impl Model for Name {
-    ghost use Rattle.std.specs.Prelude.{ℕ, List, ◌≡◌, ◌≤◌, take, true};
+    ghost use Rattle.std.specs.Prelude.{ℕ, List, ◌≡◌, ◌≤◌, ◌-◌, drop, replicate, take, true};
 
     ghost Value = { List ℕ };
 
@@ -24,7 +26,7 @@ impl Model for Name {
 
     ghost view = { λ n. take n.len n.bytes };
 
-    ghost invariant = { λ n. (n.len ≤ 16) × (is_name (take n.len n.bytes) ≡ true) };
+    ghost invariant = { λ n. (n.len ≤ 16) × (is_name (take n.len n.bytes) ≡ true) × (drop n.len n.bytes ≡ replicate (16 - n.len) 0) };
 }
 
 fn is_name_character(byte: u8) -> bool
@@ -49,6 +51,14 @@ pub fn is_a_name(word: &[u8]) -> bool
         && are_name_characters(word)
 }
 
+/// Whether both have the same 16 bytes.
+#[inline(always)]
+fn are_same(one: &[u8; 16], other: &[u8; 16]) -> bool
+    ensures { result ≡ bytes_eq one.now other.now }
+{
+    u8x16::from_array(*one) == u8x16::from_array(*other)
+}
+
 impl Name {
     /// The name that a word says. `BadTable` for a word that is no name.
     pub fn new(word: &[u8]) -> Result<Name, Refusal>
@@ -59,8 +69,8 @@ impl Name {
             return Err(Refusal::BadTable);
         }
         let mut bytes = [0u8; 16];
-        let len = word.len();
-        bytes[..len].copy_from_slice(word);
+        bytes[..word.len()].copy_from_slice(word);
+        let len = word.len() as u8;
         Ok(Name { bytes, len })
     }
 
@@ -78,13 +88,13 @@ impl Name {
     pub fn as_slice(&self) -> &[u8]
         ensures { result.now ≡ self.now }
     {
-        &self.bytes[..self.len]
+        &self.bytes[..usize::from(self.len)]
     }
 
     /// Whether both have the same bytes.
     pub fn is_same(&self, other: &Name) -> bool
         ensures { result ≡ bytes_eq self.now other.now }
     {
-        self.as_slice() == other.as_slice()
+        self.len == other.len && are_same(&self.bytes, &other.bytes)
     }
 }

@@ -4,13 +4,7 @@ ghost use Rattle.std.specs.List.{after_first, before_first};
 ghost use Rattle.words.specs.Words.{words_of};
 ghost use Rattle.words.specs.Word.{after_word, first_word, is_space, unspaced};
 
-/// Where the first space stands.
-fn space_at(line: &[u8]) -> Option<usize>
-    ensures place { result ≡ position is_space line.now }
-    ensures within { IfSome result (λ i. i < length line.now) }
-{
-    line.iter().position(|byte| *byte == b' ')
-}
+use crate::wide::place_of;
 
 /// Where the first byte stands that is no space.
 fn start_at(line: &[u8]) -> Option<usize>
@@ -36,7 +30,7 @@ fn unspaced(line: &[u8]) -> &[u8]
 fn before_space(line: &[u8]) -> &[u8]
     ensures { result.now ≡ before_first is_space line.now }
 {
-    match space_at(line) {
+    match place_of(line, b' ') {
         Some(end) => &line[..end],
         None => line,
     }
@@ -47,7 +41,7 @@ fn before_space(line: &[u8]) -> &[u8]
 fn after_space(line: &[u8]) -> &[u8]
     ensures { result.now ≡ after_first is_space line.now }
 {
-    match space_at(line) {
+    match place_of(line, b' ') {
         Some(end) => &line[end + 1..],
         None => &line[line.len()..],
     }
@@ -74,7 +68,7 @@ fn cut_word(line: &[u8]) -> (&[u8], &[u8])
     ensures rest { result.1.now ≡ after_word line.now }
 {
     let line = unspaced(line);
-    match space_at(line) {
+    match place_of(line, b' ') {
         Some(end) => (&line[..end], &line[end + 1..]),
         None => (line, &line[line.len()..]),
     }
