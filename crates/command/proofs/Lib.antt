@@ -1,6 +1,7 @@
 pub mod Cut
 pub mod Kept
-pub mod Verbs
+pub mod LineSaid
+pub mod Printed
 pub mod Par
 pub mod BlockKept
 pub mod RunLemmas

@@ -1,6 +1,5 @@
 // The commands, and the words that say them.
-ghost use Rattle.std.specs.Prelude.{◌≡◌, ◌≤◌, [], ◌∷◌, length, codes, false};
-ghost use Rattle.std.specs.Str.{bytes_eq};
+ghost use Rattle.std.specs.Prelude.{◌≡◌, ◌≤◌, [], ◌∷◌, length};
 ghost use Rattle.words.specs.Given.{Gives};
 ghost use Rattle.words.specs.Texts.{texts};
 ghost use Rattle.words.specs.Words.{words_of};
@@ -266,14 +265,14 @@ fn tick(text: &[u8]) -> Result<Command, Refusal>
     Ok(Command::Tick { seconds })
 }
 
-fn read(text: &[u8]) -> Result<Command, Refusal>
+pub fn read(text: &[u8]) -> Result<Command, Refusal>
     ensures { result ≡ read_of (words_of text.now) }
 {
     let (name, first, count) = span(text)?;
     Ok(Command::Read { name, first, count })
 }
 
-fn write(alloc: Global, text: &[u8]) -> Result<Command, Refusal>
+pub fn write(alloc: Global, text: &[u8]) -> Result<Command, Refusal>
     requires { length text.now ≤ 65536 }
     ensures { Gives result (write_of (words_of text.now)) }
 {
@@ -385,7 +384,7 @@ fn stop(text: &[u8]) -> Result<Command, Refusal>
     Ok(Command::StopLosing { volume })
 }
 
-fn status(text: &[u8]) -> Result<Command, Refusal>
+pub fn status(text: &[u8]) -> Result<Command, Refusal>
     ensures { result ≡ status_of (words_of text.now) }
 {
     let name = alone(text)?;
@@ -399,12 +398,9 @@ fn table(text: &[u8]) -> Result<Command, Refusal>
     Ok(Command::Table { name })
 }
 
-// A command by a verb that is not one of those that most lines have, and by the words of the text after it.
-fn other_command(alloc: Global, verb: &[u8], text: &[u8]) -> Result<Command, Refusal>
-    requires short { length text.now ≤ 65536 }
-    requires no_write { bytes_eq verb.now (codes "write") ≡ false }
-    requires no_read { bytes_eq verb.now (codes "read") ≡ false }
-    requires no_status { bytes_eq verb.now (codes "status") ≡ false }
+// A command by its verb, and by the words of the text after it.
+fn command_by(alloc: Global, verb: &[u8], text: &[u8]) -> Result<Command, Refusal>
+    requires { length text.now ≤ 65536 }
     ensures { Gives result (command_of (verb.now ∷ words_of text.now)) }
 {
     if verb == b"disk".as_slice() {
@@ -421,6 +417,10 @@ fn other_command(alloc: Global, verb: &[u8], text: &[u8]) -> Result<Command, Ref
         message(text)
     } else if verb == b"tick".as_slice() {
         tick(text)
+    } else if verb == b"read".as_slice() {
+        read(text)
+    } else if verb == b"write".as_slice() {
+        write(alloc, text)
     } else if verb == b"flush".as_slice() {
         flush(text)
     } else if verb == b"start".as_slice() {
@@ -439,6 +439,8 @@ fn other_command(alloc: Global, verb: &[u8], text: &[u8]) -> Result<Command, Ref
         checkpoint(text)
     } else if verb == b"stop".as_slice() {
         stop(text)
+    } else if verb == b"status".as_slice() {
+        status(text)
     } else if verb == b"table".as_slice() {
         table(text)
     } else {
@@ -446,8 +448,7 @@ fn other_command(alloc: Global, verb: &[u8], text: &[u8]) -> Result<Command, Ref
     }
 }
 
-/// The command that the words of a text say. The verbs that most lines have are asked for first.
-#[tactic(auto, using(crate::proofs::Verbs::says_write, crate::proofs::Verbs::says_read, crate::proofs::Verbs::says_status))]
+/// The command that the words of a text say.
 pub fn command_in(alloc: Global, text: &[u8]) -> Result<Command, Refusal>
     requires { length text.now ≤ 65536 }
     ensures { Gives result (command_of (words_of text.now)) }
@@ -455,13 +456,5 @@ pub fn command_in(alloc: Global, text: &[u8]) -> Result<Command, Refusal>
     let Some((verb, rest)) = next_word(text) else {
         return Err(Refusal::BadTable);
     };
-    if verb == b"write".as_slice() {
-        write(alloc, rest)
-    } else if verb == b"read".as_slice() {
-        read(rest)
-    } else if verb == b"status".as_slice() {
-        status(rest)
-    } else {
-        other_command(alloc, verb, rest)
-    }
+    command_by(alloc, verb, rest)
 }
