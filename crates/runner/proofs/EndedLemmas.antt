@@ -42,13 +42,10 @@ ended_more before mid after ended replied was is =
     let P : List CommandReply → Type 0 = λ replies. Appends before after (printed replies) in
     subst P (sym (map-append ended_line ended (replied ∷ []))) (both_printed before mid after (ended_lines ended) (ended_line replied ∷ []) was (one_printed mid after (ended_line replied) is))
 
--- a command without a line of its own
-pub none_own : (before after : Option (List ℕ)) (ended : List Replied) → Appends before after (printed (ended_lines ended)) → Appends before after (printed (line_replies ended None))
-none_own before after ended was = let P : List CommandReply → Type 0 = λ replies. Appends before after (printed replies) in subst P (sym (append-nil (ended_lines ended))) was
-
--- a command's own line
-pub own_printed : (before mid after : Option (List ℕ)) (ended : List Replied) (reply : CommandReply) → Appends before mid (printed (ended_lines ended)) → Appends mid after (text_of reply) → Appends before after (printed (line_replies ended (Some reply)))
-own_printed before mid after ended reply was is = both_printed before mid after (ended_lines ended) (reply ∷ []) was (one_printed mid after reply is)
+-- a command's own line, where no request ended
+pub own_alone : (before after : Option (List ℕ)) (ended : List Replied) (own : Option CommandReply) → length ended ≡ 0 → Appends before after (printed (answered own)) → Appends before after (printed (line_replies ended own))
+own_alone before after [] own none is = is
+own_alone before after (replied ∷ ended) own none is = absurd (let no : ⊥ = omega (arith, none) in no)
 
 -- each line of a request that ended is counted as a line alone
 ended_counted : (ended : List Replied) (s : Summary) → s.lines < 2 ^ 64 → counted (ended_lines ended) s ≡ with_lines (length ended) s

@@ -2,7 +2,7 @@
 ghost use Rattle.std.specs.Prelude.{◌≡◌, OnOk};
 ghost use Rattle.std.specs.Io.KnownBytes.{Appends};
 ghost use Rattle.runner.specs.Ended.{ended_line, ended_lines, ending_of, line_replies};
-ghost use Rattle.runner.specs.Output.{printed};
+ghost use Rattle.runner.specs.Output.{answered, printed};
 
 use command::{CommandReply, Ended, Ending};
 use plain::{Replied, Reply as Answered, refusal_for};
@@ -43,9 +43,20 @@ fn print_ended<W: Write>(writer: &mut W, ended: Vec<Replied>) -> io::Result<()>
     Ok(())
 }
 
+/// Prints the line that a command answers itself, if it answers one. The one error is the writer's own.
+#[tactic(auto, using(crate::proofs::EndedLemmas::none_replied, crate::proofs::EndedLemmas::one_printed))]
+fn print_own<W: Write>(writer: &mut W, own: &Option<CommandReply>) -> io::Result<()>
+    ensures { OnOk result (Appends (W.contents writer.old) (W.contents writer.new) (printed (answered own.now))) }
+{
+    match own {
+        None => Ok(()),
+        Some(reply) => reply.write_to(writer),
+    }
+}
+
 /// Prints all that a line answers: the lines of requests that ended, and then its command's own. The one error is the
 /// writer's own; then part of them may be printed.
-#[tactic(auto, using(crate::proofs::EndedLemmas::none_own, crate::proofs::EndedLemmas::own_printed))]
+#[tactic(auto, using(crate::proofs::EndedLemmas::own_alone, crate::proofs::EndedLemmas::both_printed))]
 pub fn print_all<W: Write>(
     writer: &mut W,
     ended: Vec<Replied>,
@@ -53,9 +64,10 @@ pub fn print_all<W: Write>(
 ) -> io::Result<()>
     ensures { OnOk result (Appends (W.contents writer.old) (W.contents writer.new) (printed (line_replies ended.items own))) }
 {
-    print_ended(writer, ended)?;
-    match own {
-        None => Ok(()),
-        Some(reply) => reply.write_to(writer),
+    // In most lines no request ends.
+    if ended.is_empty() {
+        return print_own(writer, &own);
     }
+    print_ended(writer, ended)?;
+    print_own(writer, &own)
 }
