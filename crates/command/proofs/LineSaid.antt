@@ -1,5 +1,5 @@
 -- What a line says, by each test in its turn.
-use Rattle.std.proofs.Common.{◌≡◌, ℕ, ◌≤◌, List, length, true, false, cond, ltb, refl, sym, ap, ◌∙◌, arith}
+use Rattle.std.proofs.Common.{◌≡◌, ℕ, ◌≤◌, List, length, true, false, cond, ltb, refl, ap, ◌∙◌, arith}
 use Rattle.std.specs.Prelude.{None, Some, Ok, Err, Result}
 use Rattle.std.specs.List.{list_all}
 use borrow.Author.Tests.{tests}

@@ -1,5 +1,5 @@
 -- Names, numbers and data words are printable, so a read, a write or a status with another byte among its words is refused for them.
-use Rattle.std.proofs.Common.{◌≡◌, ℕ, ◌+◌, ◌-◌, ◌/◌, ◌%◌, ◌^◌, ◌<◌, ◌≤◌, Bool, true, false, cond, List, [], ◌∷◌, length, get_or, take, drop, eqb, ltb, filter, refl, sym, ap, ◌∙◌, arith, Some, None}
+use Rattle.std.proofs.Common.{◌≡◌, ℕ, ◌+◌, ◌-◌, ◌/◌, ◌%◌, ◌^◌, ◌≤◌, Bool, true, false, cond, List, [], ◌∷◌, length, get_or, take, eqb, ltb, filter, refl, sym, ap, ◌∙◌, arith, Some, None}
 use Rattle.std.specs.Prelude.{codes, nat_lt, nat_le, ◌&&◌, ◌==◌, is_some, slice_index, Result, Ok, Err}
 use Rattle.std.specs.List.{list_all, onto_first, slice_split}
 use Rattle.std.specs.Char.{is_ascii_digit, is_ascii_lowercase}

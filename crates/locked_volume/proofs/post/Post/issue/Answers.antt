@@ -35,8 +35,8 @@ returns-in-Done-clause-still g c = λ plain.
 
 pub returns-in-Some-clause-done : goal.returns-in-Some-clause-done
 returns-in-Some-clause-done g c = (
-    c.in-Ok.pair.0,
-    subst (λ p. IsExact g.B.Block.contents g.B.Block.layers (Issue c.args.number) c.in-Ok.pair.0 p.audit.volume c.apply.new.self.volume) c.self.view_is c.in-Ok.ensures.does.exact,
+  c.in-Ok.pair.0,
+  subst (λ p. IsExact g.B.Block.contents g.B.Block.layers (Issue c.args.number) c.in-Ok.pair.0 p.audit.volume c.apply.new.self.volume) c.self.view_is c.in-Ok.ensures.does.exact,
 )
 
 pub returns-in-Err-clause-told : goal.returns-in-Err-clause-told
