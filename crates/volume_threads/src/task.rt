@@ -40,13 +40,3 @@ pub struct Task {
     pub job: Option<Job>,
     pub answer: Option<SeatAnswer>,
 }
-
-impl Task {
-    /// A job that waits for its turn.
-    pub fn new(job: Job) -> Task {
-        Task {
-            job: Some(job),
-            answer: None,
-        }
-    }
-}
