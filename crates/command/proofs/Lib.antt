@@ -9,3 +9,5 @@ pub mod RunWord
 pub mod WordsAgain
 pub mod RunsAgain
 pub mod DataAgain
+pub mod RunLine
+pub mod SaidLine

@@ -2,7 +2,7 @@
 use Rattle.std.proofs.Common.{◌≡◌, ℕ, ◌≤◌, List, length, true, false, cond, ltb, refl, ap, ◌∙◌, arith}
 use Rattle.std.specs.Prelude.{None, Some, Ok, Err, Result}
 use Rattle.std.specs.List.{list_all}
-use borrow.Author.Tests.{tests}
+use Rattle.words.proofs.Bools.{no_more}
 use Rattle.sector.specs.declared.refusal.Refusal.{Refusal}
 use Rattle.sector.specs.declared.refusal.Refusal.TheVariants.{BadTable}
 use Rattle.words.specs.Given.{◌>>=◌}
@@ -10,9 +10,6 @@ use Rattle.words.specs.Words.{words_of}
 use Rattle.command.specs.declared.grammar.Command.{Command}
 use Rattle.command.specs.Grammar.{command_of}
 use Rattle.command.specs.Line.{is_silent, is_printable, said_of}
-
-no_more : (n m : ℕ) → m ≤ n → ltb n m ≡ false
-no_more n m le = grind (arith, tests, le)
 
 -- the command of a line that is looked at byte by byte
 abbrev command_text : List ℕ → Result Command Refusal

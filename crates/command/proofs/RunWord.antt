@@ -12,7 +12,7 @@ pub short_digits : (n : ℕ) → n < 2 ^ 64 → length (decimal n) ≤ 20
 short_digits n h = length-decimal-le 20 n (lit< tt) (omega arith) h
 
 -- one byte more
-put_next : (room : List ℕ) (i j b : ℕ) → j ≡ i + 1 → i < length room → take j (set room i b) ≡ take i room ++ b ∷ []
+pub put_next : (room : List ℕ) (i j b : ℕ) → j ≡ i + 1 → i < length room → take j (set room i b) ≡ take i room ++ b ∷ []
 put_next room i j b next within = ap (λ k. take k (set room i b)) next ∙ take_more_set room i b within
 
 -- the digits, after a space

@@ -1,11 +1,11 @@
 // What a command answers, and the line that prints it.
-ghost use Rattle.std.specs.Prelude.{◌≡◌, OnOk};
+ghost use Rattle.std.specs.Prelude.{◌≡◌, ◌≤◌, ◌++◌, OnOk, codes, decimal, length, take};
 ghost use Rattle.std.specs.Io.KnownBytes.{Appends};
 ghost use Rattle.command.specs.Refusals.{refusal_text};
 ghost use Rattle.command.specs.Texts.{text_of};
 
 use crate::ended::Ended;
-use crate::runs::write_data;
+use crate::runs::write_data_line;
 use crate::seated::{Seated, write_gate};
 use itoa::Buffer;
 use sector::{Buf, Refusal};
@@ -48,6 +48,59 @@ pub(crate) fn write_refusal<W: Write>(writer: &mut W, refusal: Refusal) -> io::R
     writer.write_all(refusal.name().as_bytes())
 }
 
+/// Room for most lines that say a text.
+const SAID_ROOM: usize = 96;
+
+/// Puts the line of a text that was asked for at the front of a room, and tells how many bytes that are.
+fn put_said(room: &mut [u8; SAID_ROOM], text: &[u8]) -> usize
+    requires { length text.now ≤ 92 }
+    ensures within { result ≤ 96 }
+    ensures line { take result room.new ≡ codes "ok " ++ text.now ++ codes "\n" }
+{
+    let end = text.len() + 3;
+    room[0] = b'o';
+    room[1] = b'k';
+    room[2] = b' ';
+    room[3..end].copy_from_slice(text);
+    room[end] = b'\n';
+    end + 1
+}
+
+/// Prints the line of a text that was asked for; a short one in one write. The one error is the writer's own.
+#[tactic(auto, using(words::proofs::Written::appends_more))]
+fn write_said<W: Write>(writer: &mut W, text: &[u8]) -> io::Result<()>
+    ensures { OnOk result (Appends (W.contents writer.old) (W.contents writer.new) (codes "ok " ++ text.now ++ codes "\n")) }
+{
+    if text.len() > SAID_ROOM - 4 {
+        writer.write_all(b"ok ")?;
+        writer.write_all(text)?;
+        return writer.write_all(b"\n");
+    }
+    let mut room = [b' '; SAID_ROOM];
+    let end = put_said(&mut room, text);
+    writer.write_all(&room[..end])
+}
+
+/// Prints the line of a number that was asked for. The one error is the writer's own.
+#[tactic(auto, using(words::proofs::Written::appends_more))]
+fn write_number<W: Write>(writer: &mut W, number: u64) -> io::Result<()>
+    ensures { OnOk result (Appends (W.contents writer.old) (W.contents writer.new) (codes "ok " ++ decimal number ++ codes "\n")) }
+{
+    let mut buffer = Buffer::new();
+    writer.write_all(b"ok ")?;
+    writer.write_all(buffer.format(number).as_bytes())?;
+    writer.write_all(b"\n")
+}
+
+/// Prints the line of a refusal. The one error is the writer's own.
+#[tactic(auto, using(words::proofs::Written::appends_more))]
+fn write_refused<W: Write>(writer: &mut W, refusal: Refusal) -> io::Result<()>
+    ensures { OnOk result (Appends (W.contents writer.old) (W.contents writer.new) (refusal_text refusal ++ codes "\n")) }
+{
+    write_refusal(writer, refusal)?;
+    writer.write_all(b"\n")
+}
+
 impl CommandReply {
     /// Prints the line of a reply, its end included, straight into the writer. The one error is the writer's
     /// own; then part of the line may stand in it.
@@ -57,30 +110,14 @@ impl CommandReply {
     {
         match self {
             CommandReply::Done => writer.write_all(b"ok\n"),
-            CommandReply::Data(bytes) => {
-                writer.write_all(b"ok")?;
-                write_data(writer, bytes.as_slice())?;
-                writer.write_all(b"\n")
-            }
-            CommandReply::Said(text) => {
-                writer.write_all(b"ok ")?;
-                writer.write_all(text.as_slice())?;
-                writer.write_all(b"\n")
-            }
-            CommandReply::Number(number) => {
-                let mut buffer = Buffer::new();
-                writer.write_all(b"ok ")?;
-                writer.write_all(buffer.format(*number).as_bytes())?;
-                writer.write_all(b"\n")
-            }
+            CommandReply::Data(bytes) => write_data_line(writer, bytes.as_slice()),
+            CommandReply::Said(text) => write_said(writer, text.as_slice()),
+            CommandReply::Number(number) => write_number(writer, *number),
             CommandReply::Fault => writer.write_all(b"ok fault\n"),
             CommandReply::Ended(ended) => ended.write_to(writer),
             CommandReply::Seat(seated) => seated.write_to(writer),
             CommandReply::Gate(opened) => write_gate(writer, *opened),
-            CommandReply::Refused(refusal) => {
-                write_refusal(writer, *refusal)?;
-                writer.write_all(b"\n")
-            }
+            CommandReply::Refused(refusal) => write_refused(writer, *refusal),
         }
     }
 }

@@ -40,8 +40,9 @@ fn hex_number(c: u8) -> u8
     }
 }
 
-/// The run that a word says.
-fn run_in(word: &[u8]) -> Option<DataRun>
+/// The run that a word says, `COUNT*HH`: a count from 1 to 1,048,576, and two lower-case hexadecimal digits; `None` for a word of
+/// another form.
+pub fn run_in(word: &[u8]) -> Option<DataRun>
     ensures value { result ≡ run_of word.now }
     ensures small { IfSome result (λ run. run.count ≤ 1048576) }
 {
@@ -160,6 +161,17 @@ fn even_payload(alloc: Global, word: &[u8]) -> Result<Buf, Refusal>
     Ok(Buf::from_vec(bytes))
 }
 
+/// The bytes of the sectors that the data words of a text say, of which there are several. Refused as `payload_size` is; then
+/// `NoMemory`.
+fn uneven_payload(alloc: Global, text: &[u8]) -> Result<Buf, Refusal>
+    requires { length text.now ≤ 65536 }
+    ensures { Gives result (payload_of (words_of text.now)) }
+{
+    let size = payload_size(text)?;
+    let bytes = data_in(alloc, text, size).map_err(|_| Refusal::NoMemory)?;
+    Ok(Buf::from_vec(bytes))
+}
+
 /// The bytes of the sectors that the data words of a text say. Refused as `payload_size` is; then `NoMemory`.
 pub fn payload(alloc: Global, text: &[u8]) -> Result<Buf, Refusal>
     requires { length text.now ≤ 65536 }
@@ -168,7 +180,5 @@ pub fn payload(alloc: Global, text: &[u8]) -> Result<Buf, Refusal>
     if let Some(word) = only_word(text) {
         return even_payload(alloc, word);
     }
-    let size = payload_size(text)?;
-    let bytes = data_in(alloc, text, size).map_err(|_| Refusal::NoMemory)?;
-    Ok(Buf::from_vec(bytes))
+    uneven_payload(alloc, text)
 }

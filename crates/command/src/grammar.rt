@@ -268,7 +268,15 @@ fn tick(text: &[u8]) -> Result<Command, Refusal>
 pub fn read(text: &[u8]) -> Result<Command, Refusal>
     ensures { result ≡ read_of (words_of text.now) }
 {
-    let (name, first, count) = span(text)?;
+    let Some((name, rest)) = next_word(text) else {
+        return Err(Refusal::BadTable);
+    };
+    let Some((first, rest)) = next_word(rest) else {
+        return Err(Refusal::BadTable);
+    };
+    let name = Name::new(name)?;
+    let first = numeral(first)?;
+    let count = amount(rest)?;
     Ok(Command::Read { name, first, count })
 }
 
@@ -276,7 +284,15 @@ pub fn write(alloc: Global, text: &[u8]) -> Result<Command, Refusal>
     requires { length text.now ≤ 65536 }
     ensures { Gives result (write_of (words_of text.now)) }
 {
-    let (name, first, bytes) = patch(alloc, text)?;
+    let Some((name, rest)) = next_word(text) else {
+        return Err(Refusal::BadTable);
+    };
+    let Some((first, rest)) = next_word(rest) else {
+        return Err(Refusal::BadTable);
+    };
+    let name = Name::new(name)?;
+    let first = numeral(first)?;
+    let bytes = payload(alloc, rest)?;
     Ok(Command::Write { name, first, bytes })
 }
 
@@ -387,7 +403,13 @@ fn stop(text: &[u8]) -> Result<Command, Refusal>
 pub fn status(text: &[u8]) -> Result<Command, Refusal>
     ensures { result ≡ status_of (words_of text.now) }
 {
-    let name = alone(text)?;
+    let Some((name, rest)) = next_word(text) else {
+        return Err(Refusal::BadTable);
+    };
+    if next_word(rest).is_some() {
+        return Err(Refusal::BadTable);
+    }
+    let name = Name::new(name)?;
     Ok(Command::Status { name })
 }
 

@@ -38,7 +38,7 @@ fn is_text(line: &[u8]) -> bool
 }
 
 // The command that a line says which holds more than spaces, by looking at each byte first.
-fn other_command(alloc: Global, line: &[u8]) -> Result<Command, Refusal>
+fn printable_command(alloc: Global, line: &[u8]) -> Result<Command, Refusal>
     requires { length line.now ≤ 65536 }
     ensures { Gives result (if list_all is_printable line.now then command_of (words_of line.now) else Err BadTable) }
 {
@@ -57,13 +57,13 @@ fn command_said(alloc: Global, line: &[u8]) -> Result<Command, Refusal>
     ensures { Gives result (if list_all is_printable line.now then command_of (words_of line.now) else Err BadTable) }
 {
     let Some((verb, rest)) = next_word(line) else {
-        return other_command(alloc, line);
+        return printable_command(alloc, line);
     };
     match verb {
         b"write" => write(alloc, rest),
         b"read" => read(rest),
         b"status" => status(rest),
-        _ => other_command(alloc, line),
+        _ => printable_command(alloc, line),
     }
 }
 

@@ -1,5 +1,5 @@
 // Data as longest runs of equal bytes.
-ghost use Rattle.std.specs.Prelude.{◌≡◌, ◌≤◌, ◌<◌, ◌+◌, ◌∷◌, true, length, take, drop, replicate, slice_index, IfOk, OnOk};
+ghost use Rattle.std.specs.Prelude.{◌≡◌, ◌≤◌, ◌<◌, ◌+◌, ◌∷◌, ◌++◌, codes, true, length, take, drop, replicate, slice_index, IfOk, OnOk};
 ghost use Rattle.std.specs.Io.KnownBytes.{Appends};
 ghost use Rattle.command.specs.Runs.{runs_of, hex_char, run_word, data_words};
 
@@ -99,6 +99,53 @@ pub fn write_data<W: Write>(writer: &mut W, bytes: &[u8]) -> io::Result<()>
         rest = &rest[count..];
     }
     Ok(())
+}
+
+/// Room for the line of one run: `ok`, the run, and the line's end.
+const LINE_ROOM: usize = 27;
+
+/// Whether some data is one run.
+#[tactic(auto, using(crate::proofs::RunLine::one_run))]
+fn is_one_run(bytes: &[u8]) -> bool
+    ensures { result ≡ true → (0 < length bytes.now) × (data_words bytes.now ≡ run_word (length bytes.now, slice_index bytes.now 0)) }
+{
+    !bytes.is_empty() && run_len(bytes) == bytes.len()
+}
+
+/// Puts the line of one run at the front of a room, and tells how many bytes that are.
+fn put_line(room: &mut [u8; LINE_ROOM], count: usize, byte: u8) -> usize
+    ensures within { result ≤ 27 }
+    ensures line { take result room.new ≡ codes "ok" ++ run_word (count, byte) ++ codes "\n" }
+{
+    let mut run = [b' '; RUN_ROOM];
+    let end = put_run(&mut run, count, byte) + 2;
+    room[0] = b'o';
+    room[1] = b'k';
+    room[2..26].copy_from_slice(&run);
+    room[end] = b'\n';
+    end + 1
+}
+
+/// Prints the line of one run, in one write.
+fn write_line<W: Write>(writer: &mut W, count: usize, byte: u8) -> io::Result<()>
+    ensures { OnOk result (Appends (W.contents writer.old) (W.contents writer.new) (codes "ok" ++ run_word (count, byte) ++ codes "\n")) }
+{
+    let mut room = [b' '; LINE_ROOM];
+    let end = put_line(&mut room, count, byte);
+    writer.write_all(&room[..end])
+}
+
+/// Prints the line of data that was asked for: `ok`, and longest runs. The one error is the writer's own.
+#[tactic(auto, using(words::proofs::Written::appends_more, crate::proofs::RunLine::line_same))]
+pub fn write_data_line<W: Write>(writer: &mut W, bytes: &[u8]) -> io::Result<()>
+    ensures { OnOk result (Appends (W.contents writer.old) (W.contents writer.new) (codes "ok" ++ data_words bytes.now ++ codes "\n")) }
+{
+    if is_one_run(bytes) {
+        return write_line(writer, bytes.len(), bytes[0]);
+    }
+    writer.write_all(b"ok")?;
+    write_data(writer, bytes)?;
+    writer.write_all(b"\n")
 }
 
 /// Data in words, as it is printed after `ok`: longest runs, a space before each. An error says that the allocator refused

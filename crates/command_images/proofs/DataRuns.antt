@@ -1,7 +1,8 @@
 -- Data words, the first of them cut off.
 use Rattle.std.proofs.Common.{◌≡◌, ℕ, true, false, List, [], ◌∷◌, ◌++◌, refl, sym, ap, ◌∙◌, Some, None}
-use Rattle.std.specs.Prelude.{is_some, ◌&&◌}
+use Rattle.std.specs.Prelude.{is_some, replicate, ◌&&◌}
 use Rattle.command.specs.DataWords.{run_of, are_runs, data_of, bytes_of}
+use Rattle.command.specs.declared.data_words.DataRun.{DataRun}
 
 -- a run in front of other words
 pub one_run : (words rest : List (List ℕ)) (word : List ℕ) → words ≡ word ∷ rest → is_some (run_of word) ≡ true → are_runs words ≡ are_runs rest
@@ -14,12 +15,13 @@ no_run words rest word cut not = ap are_runs cut ∙ ap (λ b. b && are_runs res
 pub one_data : (words rest : List (List ℕ)) (word : List ℕ) → words ≡ word ∷ rest → data_of words ≡ bytes_of word ++ data_of rest
 one_data words rest word cut = ap data_of cut
 
+-- a run says its byte, so often as it counts
+pub run_bytes : (word : List ℕ) (run : DataRun) → run_of word ≡ Some run → bytes_of word ≡ replicate run.count run.byte
+run_bytes word run is = rw is refl
+
 -- a word that is no run says no bytes
-pub no_bytes : (word : List ℕ) → is_some (run_of word) ≡ false → bytes_of word ≡ []
-no_bytes word not = elim (run_of word) as (λ o. run_of word ≡ o → bytes_of word ≡ []) [
-  | None ↦ λ is. rw is refl
-  | (Some run) ↦ λ is. absurd (let bad : true ≡ false = sym (ap is_some is) ∙ not in cc)
-] refl
+pub no_bytes : (word : List ℕ) → run_of word ≡ None → bytes_of word ≡ []
+no_bytes word none = rw none refl
 
 -- no words at all
 pub none_are_runs : (words : List (List ℕ)) → words ≡ [] → are_runs words ≡ true

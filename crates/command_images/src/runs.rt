@@ -1,63 +1,11 @@
 // Data words, `COUNT*HH` each, as `dmrig` prints them.
-ghost use Rattle.std.specs.Prelude.{◌≡◌, ◌≤◌, ◌<◌, ◌+◌, ◌^◌, ◌++◌, length, replicate, true, is_some, OnOk, IfSome, vec_len};
+ghost use Rattle.std.specs.Prelude.{◌≡◌, ◌++◌, replicate, OnOk};
 ghost use Rattle.words.specs.Words.{words_of};
-ghost use Rattle.command.specs.DataWords.{is_hex, hex_value, run_of, bytes_of, are_runs, data_of};
+ghost use Rattle.command.specs.DataWords.{are_runs, data_of};
 
+use command::{DataRun, run_in};
 use std::alloc::AllocError;
-use words::{next_word, number};
-
-/// The greatest count of a data word.
-const LONGEST_RUN: u32 = 1_048_576;
-
-/// Equal bytes.
-#[derive(Clone, Copy)]
-struct Run {
-    count: u32,
-    byte: u8,
-}
-
-fn is_hex_digit(c: u8) -> bool
-    ensures { result ≡ is_hex c }
-{
-    c.is_ascii_digit() || (b'a' <= c && c <= b'f')
-}
-
-fn hex_number(c: u8) -> u8
-    requires { is_hex c ≡ true }
-    ensures value { result ≡ hex_value c }
-    ensures small { result < 16 }
-{
-    if c.is_ascii_digit() {
-        c - b'0'
-    } else {
-        c - b'a' + 10
-    }
-}
-
-/// The run that a word says.
-fn run_in(word: &[u8]) -> Option<Run>
-    ensures form { is_some (run_of word.now) ≡ is_some result }
-    ensures value { IfSome result (λ run. bytes_of word.now ≡ replicate run.count run.byte) }
-    ensures small { IfSome result (λ run. run.count ≤ 1048576) }
-{
-    let end = word.len();
-    if end < 4 {
-        return None;
-    }
-    let count = number(&word[..end - 3])?;
-    let (star, high, low) = (word[end - 3], word[end - 2], word[end - 1]);
-    if 0 < count
-        && count <= LONGEST_RUN
-        && star == b'*'
-        && is_hex_digit(high)
-        && is_hex_digit(low)
-    {
-        let byte = 16 * hex_number(high) + hex_number(low);
-        Some(Run { count, byte })
-    } else {
-        None
-    }
-}
+use words::next_word;
 
 /// Whether each word of a text is a run.
 pub fn are_all_runs(text: &[u8]) -> bool
@@ -74,7 +22,7 @@ pub fn are_all_runs(text: &[u8]) -> bool
 }
 
 /// Adds equal bytes at the end.
-fn push_run(out: &mut Vec<u8>, run: Run) -> Result<(), AllocError>
+fn push_run(out: &mut Vec<u8>, run: DataRun) -> Result<(), AllocError>
     ensures { OnOk result (out.new.items ≡ out.old.items ++ replicate run.count run.byte) }
 {
     let Some(len) = out.len().checked_add(run.count as usize) else {

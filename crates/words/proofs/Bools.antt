@@ -1,7 +1,16 @@
 -- Tests that hold together.
-use Rattle.std.proofs.Common.{◌≡◌, Bool, true, false, List, [], ◌∷◌, refl}
+use Rattle.std.proofs.Common.{◌≡◌, ◌≢◌, ℕ, ◌≤◌, Bool, true, false, List, [], ◌∷◌, eqb, ltb, refl, arith, rules}
 use Rattle.std.specs.Prelude.{◌&&◌}
 use Rattle.std.specs.List.{list_all}
+use borrow.Author.Tests.{tests}
+
+-- other numbers are not the same
+pub other : (n m : ℕ) → n ≢ m → eqb n m ≡ false
+other n m h = search rules
+
+-- nor is one less that is no less
+pub no_more : (n m : ℕ) → m ≤ n → ltb n m ≡ false
+no_more n m le = grind (arith, tests, le)
 
 -- both tests hold
 pub and-split : (a b : Bool) → (a && b) ≡ true → (a ≡ true) × (b ≡ true)

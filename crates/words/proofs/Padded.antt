@@ -1,19 +1,18 @@
 -- Names of 16 bytes, zero past the name.
-use Rattle.std.proofs.Common.{◌≡◌, ◌≢◌, ℕ, ◌+◌, ◌-◌, ◌*◌, ◌≤◌, true, false, cond, List, [], ◌∷◌, ◌++◌, length, take, drop, eqb, refl, sym, ap, ◌∙◌, arith, rules, eq-eqb, inl, inr}
+use Rattle.std.proofs.Common.{◌≡◌, ℕ, ◌+◌, ◌-◌, ◌*◌, ◌<◌, ◌≤◌, true, false, cond, List, [], ◌∷◌, ◌++◌, length, get_or, take, drop, drop-cons, add-one, eqb, refl, sym, ap, ◌∙◌, arith, eq-eqb, inl, inr}
 use Rattle.std.specs.Prelude.{◌&&◌, not, replicate}
+use Rattle.std.specs.List.{list_all}
 use Rattle.std.specs.Str.{bytes_eq}
+use Rattle.std.proofs.Math.ListN.{set}
+use Rattle.std.proofs.Math.Seq.{take-length}
 use Rattle.std.proofs.lemmas.Bool.{cases_eq}
 use Rattle.std.proofs.lemmas.Bool.Decides.{same_from_decides}
-use Rattle.std.proofs.lemmas.List.{drop-replicate, length-take, take-append-drop}
-use Rattle.std.proofs.lemmas.Slice.{drop-put_mid, take-put_mid}
+use Rattle.std.proofs.lemmas.List.{drop-drop, drop-replicate, drop-set-lt, length-take, take-append-drop, take_more, take_more_set}
 use Rattle.std.proofs.lemmas.Slice.Eq.{bytes_eq-Decides}
 use borrow.Author.Tests.{tests}
-use borrow.Rule.Slice.PartMut.{put_mid}
 use lib.Lanes.{mask_l, zip2}
-use Rattle.words.specs.Names.{is_name}
-
-other : (n m : ℕ) → n ≢ m → eqb n m ≡ false
-other n m h = search rules
+use Rattle.words.proofs.Bools.{other}
+use Rattle.words.specs.Names.{is_name_byte}
 
 doubled : (n : ℕ) → eqb (0 + 2 * n) 0 ≡ eqb n 0
 doubled n = grind (arith, tests)
@@ -49,15 +48,27 @@ same_padded n m a b few less long also zero zeros = elim (cases_eq n m) [
   ] refl
 ]
 
-short_name : (word : List ℕ) → is_name word ≡ true → length word ≤ 16
-short_name word is = grind (arith, tests)
+cut : (word : List ℕ) (i : ℕ) → i < length word → drop i word ≡ get_or word i 0 ∷ drop (i + 1) word
+cut word i lt = rw (add-one, drop-cons word i 0 lt)
 
--- a name put over zeros is the name, and zeros past it
-pub name_put : (word put : List ℕ) → put ≡ word → is_name word ≡ true
-    → (length word ≤ 16) × (is_name (take (length word) (put_mid 0 (length word) (replicate 16 0) put)) ≡ true) × (drop (length word) (put_mid 0 (length word) (replicate 16 0) put) ≡ replicate (16 - length word) 0)
-name_put word put same is =
-    let long : length put ≡ length word = ap length same in (
-      short_name word is,
-      ap is_name (take-put_mid 0 (length word) (replicate 16 0) put (length word) (omega (arith, long)) (omega arith) ∙ same) ∙ is,
-      drop-put_mid 0 (length word) (replicate 16 0) put (length word) (omega arith) (omega arith) long ∙ drop-replicate (length word) 16 0,
-    )
+-- a byte of a name leaves it to the others whether all are
+pub name_here : (word : List ℕ) (i : ℕ) → i < length word → is_name_byte (get_or word i 0) ≡ true → list_all is_name_byte (drop (i + 1) word) ≡ list_all is_name_byte (drop i word)
+name_here word i lt is = sym (ap (list_all is_name_byte) (cut word i lt) ∙ ap (λ b. b && list_all is_name_byte (drop (i + 1) word)) is)
+
+-- and another byte decides it
+pub no_name_here : (word : List ℕ) (i : ℕ) → i < length word → is_name_byte (get_or word i 0) ≡ false → list_all is_name_byte (drop i word) ≡ false
+no_name_here word i lt none = ap (list_all is_name_byte) (cut word i lt) ∙ ap (λ b. b && list_all is_name_byte (drop (i + 1) word)) none
+
+-- a byte that is put in its place stands behind those before it
+pub front_here : (word bytes : List ℕ) (i : ℕ) → i < length word → i < length bytes → take i bytes ≡ take i word → take (i + 1) (set bytes i (get_or word i 0)) ≡ take (i + 1) word
+front_here word bytes i lt room is = take_more_set bytes i (get_or word i 0) room ∙ ap (λ t. t ++ get_or word i 0 ∷ []) is ∙ sym (take_more word i 0 lt)
+
+-- and zeros past it
+pub back_here : (bytes : List ℕ) (i b : ℕ) → drop i bytes ≡ replicate (16 - i) 0 → drop (i + 1) (set bytes i b) ≡ replicate (16 - (i + 1)) 0
+back_here bytes i b is =
+    let same : 16 - i - 1 ≡ 16 - (i + 1) = omega arith in
+    drop-set-lt (i + 1) bytes i b (omega arith) ∙ sym (drop-drop 1 i bytes) ∙ ap (drop 1) is ∙ drop-replicate 1 (16 - i) 0 ∙ ap (λ n. replicate n 0) same
+
+-- at last all stand there
+pub front_all : (word bytes : List ℕ) (n : ℕ) → n ≡ length word → take n bytes ≡ take n word → take (length word) bytes ≡ word
+front_all word bytes n long is = ap (λ k. take k bytes) (sym long) ∙ is ∙ ap (λ k. take k word) long ∙ take-length word

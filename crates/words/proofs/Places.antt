@@ -1,5 +1,5 @@
 -- Where a byte stands first, by what is before it in 16 bytes after those in which it does not stand.
-use Rattle.std.proofs.Common.{◌≡◌, ◌≢◌, ℕ, ◌+◌, ◌-◌, ◌<◌, ◌≤◌, Bool, true, false, cond, List, length, take, drop, eqb, ltb, Some, None, refl, sym, ap, ◌∙◌, arith, rules, eq-eqb}
+use Rattle.std.proofs.Common.{◌≡◌, ◌≢◌, ℕ, ◌+◌, ◌-◌, ◌<◌, ◌≤◌, Bool, true, false, cond, List, length, take, drop, eqb, ltb, Some, None, refl, sym, ap, ◌∙◌, arith, eq-eqb}
 use Rattle.std.specs.Prelude.{nat_lt, not, position}
 use Rattle.std.specs.List.{position_or_len}
 use Rattle.std.proofs.lemmas.Bool.{lt-ltb}
@@ -8,13 +8,11 @@ use Rattle.std.proofs.lemmas.List.Folds.{prefix_len-append}
 use Rattle.std.proofs.lemmas.List.Sums.{prefix_len-le-length}
 use Rattle.std.proofs.lemmas.Simd.{chunk-drop, length-chunk}
 use borrow.Author.Tests.{tests}
+use Rattle.words.proofs.Bools.{no_more, other}
 
 -- how many bytes stand before the first that is b
 abbrev before : ℕ → List ℕ → ℕ
 before b xs = position_or_len (λ x. eqb x b) xs
-
-other : (n m : ℕ) → n ≢ m → eqb n m ≡ false
-other n m h = search rules
 
 parted : (b : ℕ) (xs : List ℕ) (at : ℕ) → before b (drop at xs) ≡ cond (eqb (before b (take 16 (drop at xs))) (length (take 16 (drop at xs)))) (length (take 16 (drop at xs)) + before b (drop (at + 16) xs)) (before b (take 16 (drop at xs)))
 parted b xs at = ap (before b) (chunk-drop at 16 xs) ∙ prefix_len-append (λ x. not (eqb x b)) (take 16 (drop at xs)) (drop (at + 16) xs)
@@ -57,9 +55,6 @@ less_at n m is = grind (arith, tests, is)
 
 no_less : (n m : ℕ) → ltb n m ≡ false → m ≤ n
 no_less n m is = grind (arith, tests, is)
-
-no_more : (n m : ℕ) → m ≤ n → ltb n m ≡ false
-no_more n m le = grind (arith, tests, le)
 
 -- it stands past them
 pub place_past : (b : ℕ) (xs : List ℕ) (at i : ℕ) → before b xs ≡ at + before b (drop at xs) → position (λ x. eqb x b) (take (length xs - at) (drop at xs)) ≡ Some i → Some (at + i) ≡ position (λ x. eqb x b) xs

@@ -1,5 +1,5 @@
 // Names of devices.
-ghost use Rattle.std.specs.Prelude.{◌≡◌, true, IfOk};
+ghost use Rattle.std.specs.Prelude.{◌≡◌, ◌-◌, ◌≤◌, true, false, drop, length, replicate, take, IfOk, MatchOption};
 ghost use Rattle.std.specs.List.{list_all};
 ghost use Rattle.std.specs.Str.{bytes_eq};
 ghost use Rattle.words.specs.Names.{is_name_byte, is_name, name_of};
@@ -51,6 +51,24 @@ pub fn is_a_name(word: &[u8]) -> bool
         && are_name_characters(word)
 }
 
+/// A word of at most 16 bytes, zero past it; `None` where one of its bytes is none of a name. Each byte is looked at and put in
+/// its place at once.
+#[inline(always)]
+#[tactic(auto, using(crate::proofs::Padded::name_here, crate::proofs::Padded::no_name_here, crate::proofs::Padded::front_here, crate::proofs::Padded::back_here, crate::proofs::Padded::front_all))]
+fn padded(word: &[u8]) -> Option<[u8; 16]>
+    requires { length word.now ≤ 16 }
+    ensures { MatchOption result (list_all is_name_byte word.now ≡ false) (λ bytes. (list_all is_name_byte word.now ≡ true) × (take (length word.now) bytes ≡ word.now) × (drop (length word.now) bytes ≡ replicate (16 - length word.now) 0)) }
+{
+    let mut bytes = [0u8; 16];
+    for i in 0..word.len() {
+        if !is_name_character(word[i]) {
+            return None;
+        }
+        bytes[i] = word[i];
+    }
+    Some(bytes)
+}
+
 /// Whether both have the same 16 bytes.
 #[inline(always)]
 fn are_same(one: &[u8; 16], other: &[u8; 16]) -> bool
@@ -65,11 +83,12 @@ impl Name {
         ensures name { result ≡ name_of word.now }
         ensures form { IfOk result (λ name. is_name name ≡ true) }
     {
-        if !is_a_name(word) {
+        if word.is_empty() || word.len() > 16 || !word[0].is_ascii_lowercase() {
             return Err(Refusal::BadTable);
         }
-        let mut bytes = [0u8; 16];
-        bytes[..word.len()].copy_from_slice(word);
+        let Some(bytes) = padded(word) else {
+            return Err(Refusal::BadTable);
+        };
         let len = word.len() as u8;
         Ok(Name { bytes, len })
     }
