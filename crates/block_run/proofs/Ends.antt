@@ -9,8 +9,9 @@ use Rattle.journal.specs.Entries.{answered_of, entries_by}
 use Rattle.command_rules.specs.State.{Volume}
 use Rattle.volume_threads.specs.Rigs.{fixed_in, receipts_at, seen_at, start_in}
 use Rattle.volume_threads.specs.declared.task.Task.{Task}
-use Rattle.volume_threads.specs.Tasks.{AreTold, IsEnded, denied_of, pieces_at}
-use Rattle.block_run.specs.Answering.{AreEnded}
+use Rattle.volume_threads.specs.Left.{AllAddAskedFor}
+use Rattle.volume_threads.specs.Tasks.{AreTold, IsEnded, denied_of, merges_among, pieces_at}
+use Rattle.block_run.specs.Answering.{AreEnded, AreForTasks}
 use Rattle.layers.specs.Stack.{stack_layers, stack_size}
 use Rattle.locked_volume.specs.Denying.{Wish, WasDenied}
 use Rattle.locked_volume.specs.Fixed.{Fixed, fixed_of, piece_at}
@@ -116,3 +117,12 @@ made_told uses bs cs es olds news asked told made seats i low =
             seen = one.first (seen_at t.0 k) (both.seen.0, both.seen.1 ∙ ap (λ (l : List Entry). l ++ (seen_at t.0 k ++ both.seen.0)) start ∙ sym (append_assoc (get_or bs k d).entries (seen_at t.0 k) both.seen.0));
           },
     )
+
+-- and each entry was asked for
+pub made_asked : (uses : List Bool) (befores afters : List (AuditShape Stack)) (entries : List Story) (olds news : List Volume) (asked : ℕ → List Task) → AreMade IsMade uses befores afters entries olds news
+    → AllAddAskedFor asked befores afters → AreForTasks entries asked
+made_asked uses bs cs es olds news asked made adds k small =
+    let long = made_long IsMade uses bs cs es olds news made in
+    let here : k < length bs = omega (arith, small, long.0) in
+    let d = some_of bs k here in
+    (made_at IsMade uses bs cs es olds news made k d d no_story small).2.asked (merges_among asked k) (adds k d here)

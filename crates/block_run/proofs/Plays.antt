@@ -1,21 +1,24 @@
 -- The entries that seats made at a volume lead from what it showed to what it shows.
 use Rattle.std.proofs.Common.{◌≡◌, inl, inr, ℕ, Bool, true, false, List, [], ◌∷◌, ◌++◌, map, sym, ap, ◌∙◌, subst, refl}
 use Rattle.std.specs.Prelude.{◌==◌, if◌then◌else◌}
+use Rattle.std.specs.List.{All}
 use Rattle.std.proofs.lemmas.List.{append_assoc, append_cancel_left}
+use Rattle.std.proofs.lemmas.List.Elements.{All-append, All-map}
 use Rattle.layers.specs.declared.stack.Stack.{Stack}
 use Rattle.journal.specs.declared.entry.Answered.{Answered}
 use Rattle.journal.specs.declared.entry.Entry.{Entry}
 use Rattle.journal.specs.declared.entry.Entry.TheVariants.{Answered as IsAnswered, Spoiled, Overflowed, Attached, Detached, Begun, Finished}
 use Rattle.journal.specs.Books.{AuditShape}
 use Rattle.journal.specs.Entries.{entries_by}
-use Rattle.plain.specs.Plain.{saved_under, overflow_under}
+use Rattle.plain.specs.Plain.{Shown, saved_under, overflow_under}
 use Rattle.journal.specs.Inside.{AllInside}
-use Rattle.journal.specs.Replay.{AllLawful, Saves, replay}
+use Rattle.journal.specs.Replay.{AllLawful, replay}
 use Rattle.journal.proofs.Own.{inside_rest, lawful_rest, meets_own}
 use Rattle.journal.proofs.Replaying.{entries_by_spoils, replay_then}
 use Rattle.command_rules.specs.State.{Volume}
 use Rattle.named_volume.specs.Flights.{IsBehind}
 use Rattle.named_volume.specs.Parting.{Parts}
+use Rattle.locked_volume.specs.AskedFor.{AddsAskedFor, IsAskedFor}
 use Rattle.locked_volume.specs.Keeping.{Begins}
 use Rattle.layers.specs.Stack.{stack_layers, stack_size}
 use Rattle.plain.specs.declared.request.Dev.{Dev}
@@ -66,9 +69,9 @@ stood_of a = record {
 }
 
 -- What is denied by one list of entries is denied by another that shows the same.
-module _ (g : Fixed) (base s t : Saves) (same : g.loud ≡ true → t ≡ s) where
+module _ (g : Fixed) (base s t : Shown) (same : g.loud ≡ true → t ≡ s) where
   still_lost : (number : ℕ) → IsLost g s number → IsLost (record g { base = base; folded = [] }) t number
-  still_lost number h = (h.0, h.1, λ loud. ap (λ (x : Saves). saved_under number x.saved) (same loud) ∙ h.2 loud)
+  still_lost number h = (h.0, h.1, λ loud. ap (λ (x : Shown). saved_under number x.saved) (same loud) ∙ h.2 loud)
 
   still_closed : (dev : Dev) (refusal : Refusal) → IsClosed g s dev refusal → IsClosed (record g { base = base; folded = [] }) t dev refusal
   still_closed Origin refusal h = absurd h
@@ -78,10 +81,10 @@ module _ (g : Fixed) (base s t : Saves) (same : g.loud ≡ true → t ≡ s) whe
 
   still_open : (dev : Dev) → IsOpen g s dev → IsOpen (record g { base = base; folded = [] }) t dev
   still_open Origin h = tt
-  still_open (Snap number) h = (h.0, h.1, λ loud lost. h.2 loud (ap (λ (x : Saves). saved_under number x.saved) (sym (same loud)) ∙ lost))
+  still_open (Snap number) h = (h.0, h.1, λ loud lost. h.2 loud (ap (λ (x : Shown). saved_under number x.saved) (sym (same loud)) ∙ lost))
 
   still_shut : (request : Request) → IsShut g s request → IsShut (record g { base = base; folded = [] }) t request
-  still_shut request h = (h.0, h.1, h.2, h.3, h.4, h.5, λ loud. ap (λ (x : Saves). overflow_under h.0 x.saved) (same loud) ∙ h.6 loud)
+  still_shut request h = (h.0, h.1, h.2, h.3, h.4, h.5, λ loud. ap (λ (x : Shown). overflow_under h.0 x.saved) (same loud) ∙ h.6 loud)
 
   still_denied : (wish : Wish) (refusal : Refusal) → IsDenied g s wish refusal → IsDenied (record g { base = base; folded = [] }) t wish refusal
   still_denied (Serve request) refusal (inl closed) = inl (still_closed request.dev refusal closed)
@@ -99,11 +102,11 @@ denied_so : (before : AuditShape Stack) → IsTrue before → (seen : List Entry
 denied_so before truth seen wish refusal (inl starved) = inl starved
 denied_so before truth seen wish refusal (inr (g, stays, agrees, denied)) =
     let same : g.loud ≡ true → replay (shown_by before.volume) seen ≡ replay g.base (before.entries ++ seen) =
-    λ loud. ap (λ (x : Saves). replay x seen) (sym (truth.gives (sym stays.loud ∙ loud))) ∙ sym (replay_then before.base before.entries seen) ∙ ap (λ (x : Saves). replay x (before.entries ++ seen)) (sym stays.base) in
+    λ loud. ap (λ (x : Shown). replay x seen) (sym (truth.gives (sym stays.loud ∙ loud))) ∙ sym (replay_then before.base before.entries seen) ∙ ap (λ (x : Shown). replay x (before.entries ++ seen)) (sym stays.base) in
     inr (
       record g { base = shown_by before.volume; folded = [] },
       record { attached = stays.attached; sectors = stays.sectors; snaps = stays.snaps; sound = stays.sound; loud = stays.loud; base = refl; folded = refl; piece = stays.piece },
-      (λ loud. ap (λ (x : Saves). x.begun) (same loud) ∙ agrees loud),
+      (λ loud. ap (λ (x : Shown). x.begun) (same loud) ∙ agrees loud),
       still_denied g (shown_by before.volume) (replay g.base (before.entries ++ seen)) (replay (shown_by before.volume) seen) same wish refusal denied,
     )
 
@@ -117,9 +120,9 @@ plays before p audit rested old new back done truth is sound =
     let base : rested.base ≡ before.base = done.base.base ∙ back.left.stays.base in
     let all : rested.entries ≡ before.entries ++ entries = goes_on before p audit rested old back done in
     let shown : replay before.base before.entries ≡ shown_by before.volume = back.out.truth.gives was_loud in
-    let lawful : AllLawful before.base (before.entries ++ entries) = subst (λ (s : Saves). AllLawful s (before.entries ++ entries)) base (subst (λ (l : List Entry). AllLawful rested.base l) all (truth.lawful loud)) in
-    let inside : AllInside before.base (before.entries ++ entries) = subst (λ (s : Saves). AllInside s (before.entries ++ entries)) base (subst (λ (l : List Entry). AllInside rested.base l) all (truth.inside loud)) in
-    let rest : AllLawful (shown_by before.volume) entries = subst (λ (s : Saves). AllLawful s entries) shown (lawful_rest before.base before.entries entries lawful) in
+    let lawful : AllLawful before.base (before.entries ++ entries) = subst (λ (s : Shown). AllLawful s (before.entries ++ entries)) base (subst (λ (l : List Entry). AllLawful rested.base l) all (truth.lawful loud)) in
+    let inside : AllInside before.base (before.entries ++ entries) = subst (λ (s : Shown). AllInside s (before.entries ++ entries)) base (subst (λ (l : List Entry). AllInside rested.base l) all (truth.inside loud)) in
+    let rest : AllLawful (shown_by before.volume) entries = subst (λ (s : Shown). AllLawful s entries) shown (lawful_rest before.base before.entries entries lawful) in
     record {
       before = before.volume;
       after = rested.volume;
@@ -138,8 +141,8 @@ plays before p audit rested old new back done truth is sound =
           folded = [];
         };
         lawful = rest;
-        own = meets_own (shown_by before.volume) entries rest (subst (λ (s : Saves). AllInside s entries) shown (inside_rest before.base before.entries entries inside));
-        gives = ap (λ (s : Saves). replay s entries) (sym shown) ∙ sym (replay_then before.base before.entries entries) ∙ ap (λ (l : List Entry). replay before.base l) (sym all) ∙ ap (λ (s : Saves). replay s rested.entries) (sym base) ∙ truth.gives loud;
+        own = meets_own (shown_by before.volume) entries rest (subst (λ (s : Shown). AllInside s entries) shown (inside_rest before.base before.entries entries inside));
+        gives = ap (λ (s : Shown). replay s entries) (sym shown) ∙ sym (replay_then before.base before.entries entries) ∙ ap (λ (l : List Entry). replay before.base l) (sym all) ∙ ap (λ (s : Shown). replay s rested.entries) (sym base) ∙ truth.gives loud;
       };
     }
 
@@ -158,6 +161,12 @@ first_of before p audit rested old back done seen h =
     let more : back.left.more ≡ seen ++ h.0 = append_cancel_left before.entries back.left.more (seen ++ h.0) (sym back.left.grows ∙ h.1 ∙ append_assoc before.entries seen h.0) in
     (h.0 ++ spoils, ap (λ (l : List Entry). l ++ spoils) more ∙ append_assoc seen h.0 spoils)
 
+-- the spoils after them are nobody's
+asked_all : (before : AuditShape Stack) (p : Parts) (audit rested : AuditShape Stack) (old : Volume) → (back : IsBack before p audit old) → (done : IsRested audit rested) → (merges : ℕ → Bool)
+    → AddsAskedFor merges before.entries audit.entries → All (IsAskedFor merges) (back.left.more ++ map Spoiled done.spoils.which)
+asked_all before p audit rested old back done merges h =
+    All-append (IsAskedFor merges) back.left.more (map Spoiled done.spoils.which) (h back.left.more back.left.grows) (All-map (IsAskedFor merges) Spoiled done.spoils.which (λ k d low. tt))
+
 pub is_made : (before : AuditShape Stack) (p : Parts) (audit rested : AuditShape Stack) (old new : Volume) → IsBack before p audit old → IsRested audit rested → IsTrue rested → IsBehind rested.volume new → IsRun old new
     → (story : Story) × IsMade before audit story old new
 is_made before p audit rested old new back done truth is run = (
@@ -169,5 +178,6 @@ is_made before p audit rested old new back done truth is run = (
     first = first_of before p audit rested old back done;
     denied = denied_so before back.out.truth;
     piece = refl;
+    asked = asked_all before p audit rested old back done;
   },
 )

@@ -1,6 +1,6 @@
 -- What a block answers: one reply for each line, by what its task answered. This project's own.
-use Rattle.std.specs.Prelude.{◌≡◌, ◌+◌, ◌<◌, ◌==◌, ℕ, Bool, List, [], ◌∷◌, ◌++◌, map, Option, Some, None}
-use Rattle.std.specs.List.{AllZip, filter, flat_map, range_with_len}
+use Rattle.std.specs.Prelude.{◌≡◌, ◌+◌, ◌<◌, ◌==◌, ℕ, Bool, List, [], ◌∷◌, ◌++◌, length, map, slice_index_or, Option, Some, None}
+use Rattle.std.specs.List.{All, AllZip, filter, flat_map, range_with_len}
 use Rattle.sector.specs.declared.refusal.Refusal.TheVariants.{NoMemory}
 use Rattle.command.specs.Blocks.{Lines}
 use Rattle.command.specs.declared.seat_line.SeatLine.{SeatLine}
@@ -9,9 +9,11 @@ use Rattle.command.specs.declared.command_reply.CommandReply.{CommandReply}
 use Rattle.command.specs.declared.command_reply.CommandReply.TheVariants.{Seat, Gate}
 use Rattle.command.specs.declared.seated.SeatAnswer.{SeatAnswer}
 use Rattle.command.specs.declared.seated.SeatAnswer.TheVariants.{Refused}
+use Rattle.locked_volume.specs.AskedFor.{IsAskedFor}
 use Rattle.volume_threads.specs.declared.task.Task.{Task}
+use Rattle.volume_threads.specs.Tasks.{merges_among}
 use Rattle.block_run.specs.Asking.{IsTask}
-use Rattle.block_run.specs.Played.{ArePlayed, IsPlayedBy, Story}
+use Rattle.block_run.specs.Played.{ArePlayed, IsPlayedBy, Story, no_story}
 use Rattle.block_run.specs.Running.{used_in}
 
 -- the lines of a seat, in their order
@@ -43,15 +45,22 @@ gate_replies (Some ticket) opened = Gate opened ∷ []
 abbrev pub AreEnded : List Story → (ℕ → List Task) → (ℕ → List Task) → Type 0
 AreEnded played asked told = (i : ℕ) → i < 8 → IsPlayedBy played (i + 1) (asked i) (told i)
 
+-- Each entry that was made at a volume is one that these tasks ask for: a request of a seat, whose entries are its receipts, or a
+-- merge that a task asks for; or what the volume notes itself.
+abbrev pub AreForTasks : List Story → (ℕ → List Task) → Type 0
+AreForTasks played asked = (k : ℕ) → k < length played → All (IsAskedFor (merges_among asked k)) (slice_index_or played k no_story).entries
+
 -- the replies of these tasks, with the gate's
 pub record AreReplied (ticket : Option ℕ) (played : List Story) (asked : ℕ → List Task) (replies : List CommandReply) : Type 0 where
   pub told : ℕ → List Task
   pub opened : Bool
   pub ended : AreEnded played asked told
+  pub for_tasks : AreForTasks played asked
   pub replies_are : replies ≡ replies_of told ++ gate_replies ticket opened
 
 -- The replies of a block that was run: those of the tasks that its lines are, as their seats left them. What they answer are
--- entries of one list for each volume, which lead from what it showed before the block to what it shows after it.
+-- entries of one list for each volume, which lead from what it showed before the block to what it shows after it; and no entry of
+-- these is of anything else that could be asked.
 pub record AreAnswered (block : Lines) (old new : Table) (replies : List CommandReply) : Type 0 where
   pub asked : ℕ → List Task
   pub played : List Story

@@ -4,7 +4,8 @@ use Rattle.std.specs.List.{count_by}
 use Rattle.journal.specs.declared.entry.Entry.{Entry}
 use Rattle.journal.specs.Entries.{answered_of, entries_by}
 use Rattle.journal.specs.Own.{MeetsOwn}
-use Rattle.journal.specs.Replay.{AllLawful, Saves, replay, saves_of}
+use Rattle.journal.specs.Replay.{AllLawful, replay}
+use Rattle.plain.specs.Plain.{Shown, shown_of}
 use Rattle.layers.specs.declared.stack.Stack.{Stack}
 use Rattle.locked_volume.specs.Keeping.{Begins}
 use Rattle.layers.specs.Stack.{stack_contents, stack_layers, stack_size}
@@ -31,8 +32,8 @@ abbrev pub no_story : Story
 no_story = record { stood = nothing_fixed; entries = [] }
 
 -- the arrays and states that a volume shows
-abbrev pub shown_by : Volumed Stack → Saves
-shown_by events = saves_of (plain_of stack_contents stack_layers events)
+abbrev pub shown_by : Volumed Stack → Shown
+shown_by events = shown_of (plain_of stack_contents stack_layers events)
 
 -- how a volume stands, no device of which ever dropped writes, where no entries are counted yet
 abbrev pub standing_of : Volumed Stack → Fixed

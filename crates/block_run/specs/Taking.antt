@@ -1,5 +1,6 @@
 -- Volumes that are taken out of the table while their seats run. This project's own.
 use Rattle.std.specs.Prelude.{◌≡◌, Bool, true, ℕ, List, [], ◌∷◌, ◌++◌}
+use Rattle.std.specs.List.{All}
 use Rattle.layers.specs.declared.stack.Stack.{Stack}
 use Rattle.layers.specs.Stack.{stack_layers, stack_size}
 use Rattle.journal.specs.declared.entry.Entry.{Entry}
@@ -12,6 +13,7 @@ use Rattle.command_rules.specs.State.{Volume}
 use Rattle.named_volume.specs.Parting.{IsParted, Parts, named_with}
 use Rattle.volume_commands.specs.Kept.{KeepsDevices}
 use Rattle.volume_commands.specs.Rested.{rested_of}
+use Rattle.locked_volume.specs.AskedFor.{AddsAskedFor, IsAskedFor}
 use Rattle.locked_volume.specs.Keeping.{Begins}
 use Rattle.locked_volume.specs.Denying.{Wish, WasDenied}
 use Rattle.locked_volume.specs.Fixed.{StaysFrom, fixed_of, piece_at}
@@ -57,7 +59,7 @@ pub record IsRested (old new : AuditShape Stack) : Type 0 where
 
 -- What seats made of a volume, by its audits before and as they left it: these entries lead from the one volume to the other,
 -- each seat's among them are those that it added, the first of them are those that the audit was left with, and what was denied
--- by these is denied by them; its pieces are the same.
+-- by these is denied by them; its pieces are the same; and where those that the audit was left with were asked for, all were.
 pub record IsMade (before audit : AuditShape Stack) (story : Story) (old new : Volume) : Type 0 where
   pub run : IsRun old new
   pub played : IsPlayedIn story old new
@@ -66,6 +68,7 @@ pub record IsMade (before audit : AuditShape Stack) (story : Story) (old new : V
   pub denied : (seen : List Entry) (wish : Wish) (refusal : Refusal)
       → WasDenied before.entries (fixed_of stack_size stack_layers before) seen wish refusal → WasDenied [] story.stood seen wish refusal
   pub piece : piece_at (fixed_of stack_size stack_layers before) ≡ piece_at story.stood
+  pub asked : (merges : ℕ → Bool) → AddsAskedFor merges before.entries audit.entries → All (IsAskedFor merges) story.entries
 
 -- What a place of the table has: its volume, or the names of one that lines use, whose audit is the last of all.
 abbrev pub IsSlot : Bool → Slot → List (AuditShape Stack) → List (AuditShape Stack) → Volume → Type 0

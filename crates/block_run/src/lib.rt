@@ -6,8 +6,8 @@
 //! names; that each volume keeps its place and its names, but that a merge of one of its snapshots may have begun, drops no
 //! more writes than before, and is quiet again; and that each line has one reply, in the order of the seats, by the task that
 //! the line is; and that these are answered by entries, one list for each volume, which lawfully lead from what it showed to
-//! what it shows, where no device of it ever dropped writes. In which of the lawful orders the seats' lines came is decided by
-//! the threads.
+//! what it shows, where no device of it ever dropped writes, and have no request of another seat and no merge that no line asks
+//! for. In which of the lawful orders the seats' lines came is decided by the threads.
 #![tactic(auto)]
 
 mod looking;

@@ -8,8 +8,9 @@ ghost use Rattle.journal.specs.Books.{AuditShape};
 ghost use Rattle.command_rules.specs.Naming.{AreNamed};
 ghost use Rattle.command_rules.specs.Sound.{is_sound};
 ghost use Rattle.named_volume.specs.Tables.{table_of};
+ghost use Rattle.volume_threads.specs.Left.{AllAddAskedFor};
 ghost use Rattle.volume_threads.specs.Tasks.{AreTold, tasks_at};
-ghost use Rattle.block_run.specs.Answering.{AreAnswered, AreEnded, AreReplied, gate_replies, replies_of, reply_of};
+ghost use Rattle.block_run.specs.Answering.{AreAnswered, AreEnded, AreForTasks, AreReplied, gate_replies, replies_of, reply_of};
 ghost use Rattle.block_run.specs.Looking.{block_refusal};
 ghost use Rattle.block_run.specs.Played.{ArePlayed, Story};
 ghost use Rattle.block_run.specs.Running.{AreRun, IsOfBlock, IsRefusedFor, IsTableRun, all_told, seat_in};
@@ -65,6 +66,7 @@ fn run<R: Threads + Wait + Sync>(
     ensures eight { length tasks.new.items ≡ 8 }
     ensures spared { result.1 ≡ false → NoneAdded audits.items result.0.items }
     ensures told { result.1 ≡ true → (i : ℕ) → i < 8 → AreTold stack_size stack_layers audits.items result.0.items (i + 1) (tasks_at tasks.old.items i) (tasks_at tasks.new.items i) }
+    ensures asked { result.1 ≡ true → AllAddAskedFor (tasks_at tasks.old.items) audits.items result.0.items }
 {
     if audits.len() < many {
         return (audits, false);
@@ -97,7 +99,7 @@ fn at_once<R: Threads + Wait + Sync>(
     requires many { length used.now ≡ length (table_of held.old).volumes }
     requires eight { length tasks.old.items ≡ 8 }
     ensures eight { OnOk result (length tasks.new.items ≡ 8) }
-    ensures played { OnOk result ((played : List Story) × ArePlayed used.now played (table_of held.old).volumes (table_of held.new).volumes × AreEnded played (tasks_at tasks.old.items) (tasks_at tasks.new.items)) }
+    ensures played { OnOk result ((played : List Story) × ArePlayed used.now played (table_of held.old).volumes (table_of held.new).volumes × AreEnded played (tasks_at tasks.old.items) (tasks_at tasks.new.items) × AreForTasks played (tasks_at tasks.old.items)) }
     ensures err { IfErr result (λ e. e ≡ NoMemory) }
     ensures spared { OnErr result (AreSpared (table_of held.old).volumes (table_of held.new).volumes) }
     ensures stacks { (table_of held.new).stacks ≡ (table_of held.old).stacks }

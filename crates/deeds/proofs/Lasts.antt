@@ -20,7 +20,7 @@ use Rattle.snapshot.specs.declared.opening.StoreDev.{StoreDev}
 use Rattle.snapshot.specs.Kept.{Kept}
 use Rattle.snapshot.specs.Opening.{shown_array}
 use Rattle.snapshots.proofs.Finds.{position_within}
-use Rattle.volume_laws.specs.Shape.{shown_entry}
+use Rattle.volume.specs.Shown.{shown_entry}
 use Rattle.volume.specs.AddedUp.{GivesAsked, IsOpenIn, IsOpenSnap, IsSomeOf, OpensOnly}
 use Rattle.volume.specs.Adding.{LeavesNoMore}
 use Rattle.volume.specs.Attached.{IsGained, IsRefusedOver}
@@ -30,12 +30,11 @@ use Rattle.volume.specs.Fresh.{is_fresh}
 use Rattle.volume.specs.Layering.{Measures}
 use Rattle.volume.specs.Leaving.{IsWithout, detach_refusal}
 use Rattle.volume.specs.Stopping.{StopsVolume}
-use Rattle.volume.specs.Volumed.{Volumed, is_loud_in_all, plain_of, snap_shape}
+use Rattle.volume.specs.Volumed.{Volumed, is_loud_in_all, plain_of}
 use Rattle.volume.specs.declared.calls.Call.TheVariants.{BeginMerge as Begins}
 use Rattle.volume.proofs.AddedUp.{asked_none}
 use Rattle.volume.proofs.Fresh.{fresh_shown}
 use Rattle.volume.proofs.Opened.{IsEarlier, open_before, snap_before}
-use Rattle.volume.proofs.Relayered.{map_twice}
 use Rattle.volume.proofs.Shown.{loud_books}
 use Rattle.volume.proofs.OpenedCalls.{kept_snaps, no_more, same_snap, same_snaps, stood}
 use Rattle.deeds.specs.declared.deed.Deed.{Deed}
@@ -214,21 +213,21 @@ module _ {B : Type 0} (holds : B → ℕ → List ℕ → Type 0) (m : Measures 
       -- its array
       module _ (array : List ℕ) (taken : IsTaken (plain v) number array (overflow_of overflow) (plain w)) where
         abbrev as_entry : Kept B → Entry
-        as_entry y = shown_entry m.contents (m.contents w.origin) (snap_shape y)
+        as_entry = shown_entry m.contents (m.contents w.origin)
 
         by_live : (b : Bool) (shown : List ℕ) → b ≡ true → (if b then Live shown else Invalid) ≡ Live array → shown ≡ array
         by_live true shown live e = cc
         by_live false shown live e = absurd (true≢false (sym live))
 
         entries : map as_entry w.snaps ≡ (plain v).saved ++ record { number = number; saved = Live array; overflow = overflow_of overflow } ∷ []
-        entries = sym (map_twice snap_shape (shown_entry m.contents (m.contents w.origin)) w.snaps) ∙ ap (λ (p : Plain). p.saved) taken.becomes
+        entries = ap (λ (p : Plain). p.saved) taken.becomes
 
         last_shown : picture gained.snap.state.chunk (m.contents w.origin) (m.contents gained.snap.device) ≡ array
         last_shown =
             let e : Entry = record { number = number; saved = Live array; overflow = overflow_of overflow } in
             let at : get_or w.snaps (length v.snaps) gained.snap ≡ gained.snap = ap (λ l. get_or l (length v.snaps) gained.snap) grown ∙ get_or_push v.snaps gained.snap gained.snap (length v.snaps) refl in
             let one : get_or (map as_entry w.snaps) (length v.snaps) e ≡ as_entry gained.snap = get_or-map as_entry w.snaps (length v.snaps) gained.snap e (omega (arith, long)) ∙ ap as_entry at in
-            let two : get_or ((plain v).saved ++ e ∷ []) (length v.snaps) e ≡ e = get_or_push (plain v).saved e e (length v.snaps) (length-map (map snap_shape v.snaps) (shown_entry m.contents (m.contents v.origin)) ∙ length-map v.snaps snap_shape) in
+            let two : get_or ((plain v).saved ++ e ∷ []) (length v.snaps) e ≡ e = get_or_push (plain v).saved e e (length v.snaps) (length-map v.snaps (shown_entry m.contents (m.contents v.origin))) in
             let same : as_entry gained.snap ≡ e = sym one ∙ ap (λ l. get_or l (length v.snaps) e) entries ∙ two in
             by_live gained.snap.live (picture gained.snap.state.chunk (m.contents w.origin) (m.contents gained.snap.device)) gained.live (ap (λ (y : Entry). y.saved) same)
 

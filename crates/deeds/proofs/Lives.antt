@@ -1,6 +1,6 @@
 -- Each deed does what it promises, by the volume's own contracts; and deeds one after another.
 use Rattle.std.proofs.Common.{◌≡◌, ◌≢◌, inl, inr, ℕ, Bool, true, false, List, [], ◌∷◌, ◌++◌, map, length, None, Some, refl, sym, ◌∙◌, ap, subst, if◌then◌else◌}
-use Rattle.std.specs.Prelude.{◌==◌, ◌&&◌, IfErr, IfOk, Result, Ok, Err, is_ok}
+use Rattle.std.specs.Prelude.{◌==◌, ◌&&◌, IfErr, IfOk, Result, Ok, Err}
 use Rattle.std.specs.List.{All}
 use Rattle.std.specs.Option.{is_some}
 use Rattle.std.proofs.lemmas.Bool.{cases_Bool, ne_eqb}
@@ -20,7 +20,7 @@ use Rattle.plain.specs.declared.request.Request.{Request}
 use Rattle.snapshot.specs.declared.opening.StoreDev.{StoreDev}
 use Rattle.snapshot.specs.Kept.{Kept}
 use Rattle.snapshot.specs.Opening.{shown_array}
-use Rattle.volume_laws.specs.Shape.{shown_entry, shown_origin}
+use Rattle.volume.specs.Shown.{shown_entry, shown_origin}
 use Rattle.volume.specs.Attached.{IsGained}
 use Rattle.volume.specs.Fresh.{is_fresh}
 use Rattle.volume.specs.Beginning.{IsNotBegun}
@@ -37,7 +37,7 @@ use Rattle.volume.specs.Finishing.{finish_refusal}
 use Rattle.volume.specs.Leaving.{detach_refusal, is_quiet_of}
 use Rattle.volume.specs.Submitting.{IsAcceptedAs, IsRefusedAs, submit_refusal}
 use Rattle.volume.specs.Taking.{IsNotTaken, attach_refusal}
-use Rattle.volume.specs.Volumed.{Volumed, is_due_of, is_loud_in_all, merge_shape, plain_of, snap_shape}
+use Rattle.volume.specs.Volumed.{Volumed, is_loud_in_all, plain_of}
 use Rattle.volume.proofs.Attaches.{none_begun, taking_none}
 use Rattle.volume.proofs.Fresh.{fresh_shown}
 use Rattle.volume.proofs.Declines.{refused_declined, refused_loud}
@@ -57,7 +57,7 @@ both true b e f = f
 both false b e f = e
 
 -- no snapshot has the number
-none_under : {B : Type 0} (contents : B → List ℕ) (origin : List ℕ) (number : ℕ) (snaps : List (Kept B)) → All (λ s. s.number ≢ number) snaps → saved_under number (map (shown_entry contents origin) (map snap_shape snaps)) ≡ None
+none_under : {B : Type 0} (contents : B → List ℕ) (origin : List ℕ) (number : ℕ) (snaps : List (Kept B)) → All (λ s. s.number ≢ number) snaps → saved_under number (map (shown_entry contents origin) snaps) ≡ None
 none_under contents origin number [] fresh = refl
 none_under contents origin number (s ∷ snaps) fresh =
     let other : (s.number == number) ≡ false = ne_eqb s.number number (All-head (λ (x : Kept _). x.number ≢ number) s snaps fresh) in
@@ -80,16 +80,16 @@ module _ {B : Type 0} (m : Measures B) (layers : B → List Layer) where
   }
 
   pub step_done : (holds : B → ℕ → List ℕ → Type 0) (event : Event) (result : Result Outcome NotDue) (v w : Volumed B)
-      → DoesStep holds m.contents layers m.size m.faults m.done event result v w → is_ok result ≡ is_due_of m.contents layers v event → IsDone m layers (Step event) (Stepped result) v w
-  step_done holds event (Ok outcome) v w does due = record {
+      → DoesStep holds m.contents layers m.size m.faults m.done true event result v w → IsDone m layers (Step event) (Stepped result) v w
+  step_done holds event (Ok outcome) v w does = record {
     loud = λ l brought. does.loud ∙ l;
     seen = λ l brought. record { sees = does.legal l; reason = (does.cause, does.one); disk = tt };
-    answered = due;
+    answered = does.due;
   }
-  step_done holds event (Err early) v w does due = record {
+  step_done holds event (Err early) v w does = record {
     loud = λ l brought. does.loud ∙ l;
     seen = λ l brought. record { sees = ap plain does.same; reason = tt; disk = tt };
-    answered = due;
+    answered = does.due;
   }
 
   pub tick_done : (holds : B → ℕ → List ℕ → Type 0) (seconds : ℕ) (v w : Volumed B) → DoesTick holds m layers seconds v w → IsDone m layers (Tick seconds) Ticked v w
@@ -158,7 +158,7 @@ module _ {B : Type 0} (m : Measures B) (layers : B → List Layer) where
         → Sees m.contents (Attach store chunk overflow) (Attached (Ok number)) (plain v) (plain w)
     quiet_taken number admitted gained taken =
         let (quiet, few, alone) = taking_none store.stale (is_some v.merge) (is_quiet_of v) (length v.snaps) v.attached chunk admitted in
-        let origin : m.contents v.origin ≡ (plain v).origin = sym (ap (λ o. shown_origin m.contents v.origin (merge_shape o)) (none_begun v.merge alone)) in (
+        let origin : m.contents v.origin ≡ (plain v).origin = sym (ap (shown_origin m.contents v.origin) (none_begun v.merge alone)) in (
           none_under m.contents (m.contents v.origin) number v.snaps gained.fresh,
           ap (map _) (quiet_flights v quiet),
           subst (λ o. IsTaken (plain v) number (shown_array o (m.contents store.device)) (overflow_of overflow) (plain w)) origin taken,

@@ -9,7 +9,7 @@ use Rattle.std.proofs.Math.Seq.{take-suc, take-length}
 use Rattle.device.specs.Layers.{Layer, is_loud}
 use Rattle.store_bytes.specs.Picture.{picture}
 use Rattle.store_bytes.proofs.Pictures.{length-picture}
-use Rattle.plain.specs.Plain.{Entry as Shown, Saved as State, Live, Invalid, may_overflow, saved_under}
+use Rattle.plain.specs.Plain.{Entry as ShownEntry, Saved as State, Live, Invalid, may_overflow, saved_under}
 use Rattle.plain.specs.Serves.{Shows}
 use Rattle.plain.specs.declared.request.Dev.{Dev}
 use Rattle.plain.specs.declared.request.Dev.TheVariants.{Origin, Snap}
@@ -17,11 +17,11 @@ use Rattle.sector.specs.declared.refusal.Refusal.TheVariants.{MergingSnapshot, I
 use Rattle.snapshot.specs.Kept.{Kept}
 use Rattle.snapshots.specs.Finding.{place_of_snap}
 use Rattle.merge.specs.Merging.{Merging}
-use Rattle.volume_laws.specs.Shape.{shown_entry, shown_origin, shown_begun}
+use Rattle.volume.specs.Shown.{shown_entry, shown_origin, shown_begun}
 use Rattle.volume.specs.Asking.{HoldsOf, merging_number}
 use Rattle.volume.specs.Peeking.{is_loud_merging, is_loud_under}
 use Rattle.volume.specs.Submitting.{dev_refusal, is_merging, refusal_at}
-use Rattle.volume.specs.Volumed.{Volumed, is_loud_in_all, is_loud_with, merge_shape, plain_of, snap_shape}
+use Rattle.volume.specs.Volumed.{Volumed, is_loud_in_all, is_loud_with, plain_of}
 use Rattle.journal.specs.declared.entry.Saved.{Saved}
 use Rattle.journal.specs.Books.{shown_in}
 use Rattle.journal.specs.Noted.{is_live, is_open}
@@ -30,7 +30,7 @@ use Rattle.journal.proofs.Gained.{loud_under}
 use Rattle.journal.proofs.Lost.{live_shown, shown_at}
 
 -- an array that is shown is as long as the origin disk
-origin_long : {B : Type 0} (contents : B → List ℕ) (origin : B) (merge : Option (Merging B)) → length (shown_origin contents origin (merge_shape merge)) ≡ length (contents origin)
+origin_long : {B : Type 0} (contents : B → List ℕ) (origin : B) (merge : Option (Merging B)) → length (shown_origin contents origin merge) ≡ length (contents origin)
 origin_long contents origin None = refl
 origin_long contents origin (Some m) = length-picture m.state.chunk (contents origin) (contents m.device)
 
@@ -40,10 +40,10 @@ long_by true true shown array origin rest whole more e = let same : shown ≡ ar
 long_by true false shown array origin rest whole more e = absurd (cc)
 long_by false live shown array origin rest whole more e = more e
 
-saved_long : {B : Type 0} (contents : B → List ℕ) (origin : List ℕ) (number : ℕ) (snaps : List (Kept B)) (array : List ℕ) → saved_under number (map (shown_entry contents origin) (map snap_shape snaps)) ≡ Some (Live array) → length array ≡ length origin
+saved_long : {B : Type 0} (contents : B → List ℕ) (origin : List ℕ) (number : ℕ) (snaps : List (Kept B)) (array : List ℕ) → saved_under number (map (shown_entry contents origin) snaps) ≡ Some (Live array) → length array ≡ length origin
 saved_long contents origin number [] array e = absurd (cc)
 saved_long contents origin number (s ∷ snaps) array e =
-    long_by (s.number == number) s.live (picture s.state.chunk origin (contents s.device)) array origin (saved_under number (map (shown_entry contents origin) (map snap_shape snaps)))
+    long_by (s.number == number) s.live (picture s.state.chunk origin (contents s.device)) array origin (saved_under number (map (shown_entry contents origin) snaps))
     (length-picture s.state.chunk origin (contents s.device)) (saved_long contents origin number snaps array) e
 
 module _ {B : Type 0} (contents : B → List ℕ) (layers : B → List Layer) (w : Volumed B) where
@@ -117,12 +117,12 @@ pub merged_loud : {B : Type 0} (layers : B → List Layer) (number : ℕ) (w : V
 merged_loud layers number w device is (inl found) = ap (λ d. is_loud (layers d)) found.3 ∙ sym (ap (is_loud_merging layers) found.1)
 merged_loud layers number w device is (inr other) = absurd (merged_here number w.merge is other.0)
 
-pub begun_is : {B : Type 0} (merge : Option (Merging B)) → merging_number merge ≡ shown_begun (merge_shape merge)
+pub begun_is : {B : Type 0} (merge : Option (Merging B)) → merging_number merge ≡ shown_begun merge
 begun_is None = refl
 begun_is (Some m) = refl
 
 -- which snapshots are live
-pub lives_shown : {B : Type 0} (contents : B → List ℕ) (origin : List ℕ) (snaps : List (Kept B)) → map (λ s. s.live) snaps ≡ map is_live (map (shown_entry contents origin) (map snap_shape snaps))
+pub lives_shown : {B : Type 0} (contents : B → List ℕ) (origin : List ℕ) (snaps : List (Kept B)) → map (λ s. s.live) snaps ≡ map is_live (map (shown_entry contents origin) snaps)
 lives_shown contents origin [] = refl
 lives_shown contents origin (s ∷ snaps) = (λ i. sym (live_shown s.live (picture s.state.chunk origin (contents s.device))) i ∷ lives_shown contents origin snaps i)
 
@@ -132,7 +132,7 @@ lives_more snaps k s lives within is so =
     ap (λ bs. bs ++ s.live ∷ []) so ∙ sym (map-append (λ x. x.live) (take k snaps) (s ∷ [])) ∙ ap (λ x. map (λ y. y.live) (take k snaps ++ x ∷ [])) is ∙ ap (map (λ y. y.live)) (sym (take-suc snaps k s within) ∙ ap (λ n. take n snaps) next)
 
 -- and which of their stores may still overflow
-pub mays_shown : {B : Type 0} (contents : B → List ℕ) (origin : List ℕ) (snaps : List (Kept B)) → map (λ s. may_overflow s.overflow) snaps ≡ map is_open (map (shown_entry contents origin) (map snap_shape snaps))
+pub mays_shown : {B : Type 0} (contents : B → List ℕ) (origin : List ℕ) (snaps : List (Kept B)) → map (λ s. may_overflow s.overflow) snaps ≡ map is_open (map (shown_entry contents origin) snaps)
 mays_shown contents origin [] = refl
 mays_shown contents origin (s ∷ snaps) = ap (λ bs. may_overflow s.overflow ∷ bs) (mays_shown contents origin snaps)
 
@@ -148,10 +148,10 @@ get_next x xs n d = ap (λ k. get_or (x ∷ xs) k d) (next n) where
   next n = omega arith
 
 under_place : {B : Type 0} (contents : B → List ℕ) (origin : List ℕ) (number : ℕ) (snaps : List (Kept B)) (s : Kept B) → position_or_len (λ x. x.number == number) snaps < length snaps → s ≡ get_or snaps (position_or_len (λ x. x.number == number) snaps) s
-    → saved_under number (map (shown_entry contents origin) (map snap_shape snaps)) ≡ Some (shown_entry contents origin (snap_shape s)).saved
+    → saved_under number (map (shown_entry contents origin) snaps) ≡ Some (shown_entry contents origin s).saved
 under_place contents origin number [] s within is = absurd (omega (arith, within))
 under_place contents origin number (x ∷ snaps) s within is = elim (cases_Bool (x.number == number)) [
-  | inl here ↦ rw here (ap (λ (y : Kept _). Some (shown_entry contents origin (snap_shape y)).saved) (sym (rw here at is)))
+  | inl here ↦ rw here (ap (λ (y : Kept _). Some (shown_entry contents origin y).saved) (sym (rw here at is)))
   | inr other ↦ rw other (under_place contents origin number snaps s (let lt = rw other at within in omega (arith, lt)) ((rw other at is) ∙ get_next x snaps (position_or_len (λ y. y.number == number) snaps) s))
 ]
 
@@ -164,10 +164,10 @@ if_spoilt true array e = absurd (false≢true (sym e))
 if_spoilt false array e = refl
 
 module _ {B : Type 0} (contents : B → List ℕ) (layers : B → List Layer) (w : Volumed B) (k : ℕ) (s : Kept B) (within : k < length w.snaps) (is : s ≡ get_or w.snaps k s) where
-  shown_here : (d : Shown) → get_or (plain_of contents layers w).saved k d ≡ shown_entry contents (contents w.origin) (snap_shape s)
-  shown_here d = shown_at contents (contents w.origin) w.snaps k s within d ∙ ap (λ x. shown_entry contents (contents w.origin) (snap_shape x)) (sym is)
+  shown_here : (d : ShownEntry) → get_or (plain_of contents layers w).saved k d ≡ shown_entry contents (contents w.origin) s
+  shown_here d = shown_at contents (contents w.origin) w.snaps k s within d ∙ ap (shown_entry contents (contents w.origin)) (sym is)
 
-  pub spoilt_here : (number : ℕ) → s.number ≡ number → s.live ≡ false → (d : Shown) → get_or (plain_of contents layers w).saved k d ≡ shown_in (record { number = number; array = None; overflow = s.overflow })
+  pub spoilt_here : (number : ℕ) → s.number ≡ number → s.live ≡ false → (d : ShownEntry) → get_or (plain_of contents layers w).saved k d ≡ shown_in (record { number = number; array = None; overflow = s.overflow })
   spoilt_here number mine spoilt d = shown_here d ∙ (λ i. record { number = mine i; saved = if_spoilt s.live (picture s.state.chunk (contents w.origin) (contents s.device)) spoilt i; overflow = s.overflow })
 
   module _ (live : s.live ≡ true) (number : ℕ) (mine : s.number ≡ number) (first : place_of_snap s.number w.snaps ≡ Some k) where
@@ -186,16 +186,16 @@ module _ {B : Type 0} (contents : B → List ℕ) (layers : B → List Layer) (w
         under_place contents (contents w.origin) number w.snaps s (omega (arith, place, within)) (is ∙ ap (λ n. get_or w.snaps n s) (sym place))
         ∙ ap Some (if_live s.live (picture s.state.chunk (contents w.origin) (contents s.device)) live)
 
-    pub live_here : (bytes : List ℕ) → ((array : List ℕ) → Shows (plain_of contents layers w) (Snap number) array → bytes ≡ array) → (d : Shown) → get_or (plain_of contents layers w).saved k d ≡ shown_in (record { number = number; array = Some bytes; overflow = s.overflow })
+    pub live_here : (bytes : List ℕ) → ((array : List ℕ) → Shows (plain_of contents layers w) (Snap number) array → bytes ≡ array) → (d : ShownEntry) → get_or (plain_of contents layers w).saved k d ≡ shown_in (record { number = number; array = Some bytes; overflow = s.overflow })
     live_here bytes shown d =
         let same : bytes ≡ picture s.state.chunk (contents w.origin) (contents s.device) = shown (picture s.state.chunk (contents w.origin) (contents s.device)) array_here in
         shown_here d ∙ (λ i. record { number = mine i; saved = (if_live s.live (picture s.state.chunk (contents w.origin) (contents s.device)) live ∙ ap Live (sym same)) i; overflow = s.overflow })
 
 -- one snapshot more
-pub saved_more : (saved : List Shown) (xs : List Saved) (k : ℕ) (x : Saved) → k < length saved → map shown_in xs ≡ take k saved → ((d : Shown) → get_or saved k d ≡ shown_in x) → map shown_in (xs ++ x ∷ []) ≡ take (k + 1) saved
+pub saved_more : (saved : List ShownEntry) (xs : List Saved) (k : ℕ) (x : Saved) → k < length saved → map shown_in xs ≡ take k saved → ((d : ShownEntry) → get_or saved k d ≡ shown_in x) → map shown_in (xs ++ x ∷ []) ≡ take (k + 1) saved
 saved_more saved xs k x within so here =
     let next : suc k ≡ k + 1 = omega arith in
     map-append shown_in xs (x ∷ []) ∙ ap (λ es. es ++ shown_in x ∷ []) so ∙ ap (λ e. take k saved ++ e ∷ []) (sym (here (shown_in x))) ∙ sym (take-suc saved k (shown_in x) within) ∙ ap (λ n. take n saved) next
 
-pub all_saved : (saved es : List Shown) (k : ℕ) → k ≡ length saved → es ≡ take k saved → es ≡ saved
+pub all_saved : (saved es : List ShownEntry) (k : ℕ) → k ≡ length saved → es ≡ take k saved → es ≡ saved
 all_saved saved es k all is = is ∙ ap (λ n. take n saved) all ∙ take-length saved

@@ -15,7 +15,7 @@ use Rattle.layers.specs.declared.message.Answer.{Answer}
 use Rattle.layers.specs.declared.message.Message.{Message}
 use Rattle.merge.specs.Merging.{Merging}
 use Rattle.plain.specs.Kept.{kept, kept_range}
-use Rattle.plain.specs.Plain.{Plain, InFlight, asked_under, without}
+use Rattle.plain.specs.Plain.{Plain, InFlight, asked_under, without, Shown, shown_of}
 use Rattle.plain.specs.Serves.{Shows}
 use Rattle.plain.specs.declared.request.Dev.{Dev}
 use Rattle.plain.specs.declared.request.Dev.TheVariants.{Origin, Snap}
@@ -36,16 +36,16 @@ use Rattle.journal.specs.declared.entry.Entry.TheVariants.{Answered, Spoiled}
 use Rattle.journal.specs.declared.entry.HeldRequest.{HeldRequest}
 use Rattle.journal.specs.Books.{Books, IsAudit, IsBounded}
 use Rattle.journal.specs.Inside.{AllInside, IsAsked, IsInside, LiesInside}
-use Rattle.journal.specs.Replay.{Saves, after, plain_in, replay, saves_of}
+use Rattle.journal.specs.Replay.{after, plain_in, replay}
 use Rattle.journal.proofs.Beginning.{plain_long}
 use Rattle.journal.proofs.Keeping.{answer_of, same_asked}
 use Rattle.journal.proofs.Replaying.{IsFirst}
 
-pub inside_then : (s : Saves) (es fs : List Entry) → AllInside s es → AllInside (replay s es) fs → AllInside s (es ++ fs)
+pub inside_then : (s : Shown) (es fs : List Entry) → AllInside s es → AllInside (replay s es) fs → AllInside s (es ++ fs)
 inside_then s [] fs all more = more
 inside_then s (e ∷ es) fs all more = (all.0, inside_then (after s e) es fs all.1 more)
 
-inside_spoils : (s : Saves) (ns : List ℕ) → AllInside s (map Spoiled ns)
+inside_spoils : (s : Shown) (ns : List ℕ) → AllInside s (map Spoiled ns)
 inside_spoils s [] = tt
 inside_spoils s (n ∷ ns) = (tt, inside_spoils (after s (Spoiled n)) ns)
 
@@ -160,12 +160,12 @@ refused_given contents layers size request refusal w w' (inr (inr (inl full))) =
 refused_given contents layers size request refusal w w' (inr (inr (inr full))) = let found : IsOverflown contents layers full.2.0 _ w w' = full.2.2 in ap (λ (y : Volumed _). y.requests) found.becomes
 
 -- a request that was answered
-shows_bare : (p : Plain) (dev : Dev) (array : List ℕ) → Shows (plain_in (saves_of p)) dev array → Shows p dev array
+shows_bare : (p : Plain) (dev : Dev) (array : List ℕ) → Shows (plain_in (shown_of p)) dev array → Shows p dev array
 shows_bare p Origin array shows = shows
 shows_bare p (Snap number) array shows = shows
 
 lies : (p : Plain) (dev : Dev) (op : Op) (first count : ℕ) (reply : Reply) → ((array : List ℕ) → Shows p dev array → length array ≡ length p.origin) → 512 * (first + count) ≤ length p.origin
-    → ((bytes : List ℕ) → op ≡ Write bytes → length bytes ≡ 512 * count) → LiesInside (saves_of p) dev op first reply
+    → ((bytes : List ℕ) → op ≡ Write bytes → length bytes ≡ 512 * count) → LiesInside (shown_of p) dev op first reply
 lies p dev Read first count reply whole inside bytes = tt
 lies p dev Flush first count reply whole inside bytes = tt
 lies p dev (Write sent) first count (Data read) whole inside bytes = tt
@@ -196,7 +196,7 @@ module _ (given given' : ℕ) (loud told : Bool) (p q : Plain) (v : Books) (room
         made = λ s lt. made_one seat s same low lt;
         inside = λ on. let r = h.replays on in
             inside_then v.base v.entries (Answered (answer_of x seat reply) ∷ []) (b.inside on)
-            (subst (λ (s : Saves). IsInside s (Answered (answer_of x seat reply))) (sym r.replay_is) (lies p x.for_entry.dev x.for_entry.op x.for_entry.range.first x.for_entry.range.count reply (whole x.for_entry.dev) mine.inside mine.whole), tt);
+            (subst (λ (s : Shown). IsInside s (Answered (answer_of x seat reply))) (sym r.replay_is) (lies p x.for_entry.dev x.for_entry.op x.for_entry.range.first x.for_entry.range.count reply (whole x.for_entry.dev) mine.inside mine.whole), tt);
       }
 
 -- none is in flight

@@ -4,7 +4,7 @@ use Rattle.std.specs.Prelude.{◌&&◌}
 use Rattle.std.proofs.lemmas.Bool.{false≢true}
 use Rattle.std.proofs.lemmas.List.{length-map}
 use Rattle.device.specs.Layers.{Layer}
-use Rattle.plain.specs.Plain.{Plain}
+use Rattle.plain.specs.Plain.{Plain, Shown, shown_of}
 use Rattle.plain.specs.Legal.{IsFinished}
 use Rattle.snapshot.specs.declared.opening.StoreDev.{StoreDev}
 use Rattle.snapshots.specs.Keeping.{unkept}
@@ -14,7 +14,7 @@ use Rattle.volume.specs.Finishing.{IsTakenOut}
 use Rattle.journal.specs.declared.entry.Answered.{Answered as AnsweredEntry}
 use Rattle.journal.specs.declared.entry.Entry.{Entry}
 use Rattle.journal.specs.declared.entry.Entry.TheVariants.{Finished}
-use Rattle.journal.specs.Replay.{Saves, saves_of, after, IsLawful}
+use Rattle.journal.specs.Replay.{after, IsLawful}
 use Rattle.journal.specs.Entries.{entries_by}
 use Rattle.journal.specs.Noted.{is_live, is_open, kept_count}
 use Rattle.journal.specs.Books.{Books, IsAudit}
@@ -29,7 +29,7 @@ first_on a false c e on = absurd (false≢true (sym e ∙ on))
 module _ (loud loud' told told' : Bool) (p q : Plain) (v : Books) (e : Entry) (lives' may' : List Bool) (room' : ℕ) (h : IsAudit loud told p v)
     (still : told' ≡ true → told ≡ true) (keeps : told' ≡ true → loud ≡ true → loud' ≡ true) (requests : q.requests ≡ p.requests) (count : length lives' ≡ length q.saved) (count_may : length may' ≡ length q.saved)
     (none : (s : ℕ) (es : List Entry) → entries_by s (es ++ e ∷ []) ≡ entries_by s es) (free : v.taken + length v.entries + length v.held + kept_count lives' may' + 1 ≤ 65_536) (room : room' ≡ v.room)
-    (does : told' ≡ true → loud ≡ true → (after (saves_of p) e ≡ saves_of q) × IsLawful (saves_of p) e × (v.lives ≡ map is_live p.saved → lives' ≡ map is_live q.saved) × (v.may ≡ map is_open p.saved → may' ≡ map is_open q.saved)) where
+    (does : told' ≡ true → loud ≡ true → (after (shown_of p) e ≡ shown_of q) × IsLawful (shown_of p) e × (v.lives ≡ map is_live p.saved → lives' ≡ map is_live q.saved) × (v.may ≡ map is_open p.saved → may' ≡ map is_open q.saved)) where
   abbrev more_books : Books
   more_books = record v { entries = v.entries ++ e ∷ []; lives = lives'; may = may'; room = room' }
 
@@ -48,8 +48,8 @@ module _ (loud loud' told told' : Bool) (p q : Plain) (v : Books) (e : Entry) (l
     };
     loud_is = λ on. keeps on (h.loud_is (still on));
     replays = λ on. let r = h.replays (still on) in let d = does on (h.loud_is (still on)) in record {
-      replay_is = replay_then v.base v.entries (e ∷ []) ∙ ap (λ (s : Saves). after s e) r.replay_is ∙ d.0;
-      lawful = lawful_then v.base v.entries (e ∷ []) r.lawful (subst (λ (s : Saves). IsLawful s e) (sym r.replay_is) d.1, tt);
+      replay_is = replay_then v.base v.entries (e ∷ []) ∙ ap (λ (s : Shown). after s e) r.replay_is ∙ d.0;
+      lawful = lawful_then v.base v.entries (e ∷ []) r.lawful (subst (λ (s : Shown). IsLawful s e) (sym r.replay_is) d.1, tt);
       lives = d.2 r.lives;
       may = d.3 r.may;
     };
@@ -60,7 +60,7 @@ none_finished : (s : ℕ) (es : List Entry) → entries_by s (es ++ Finished ∷
 none_finished s es = entries_by_silent s es Finished refl
 
 pub finished_does : (p q : Plain) (lives may : List Bool) → IsFinished p q
-    → (after (saves_of p) Finished ≡ saves_of q) × IsLawful (saves_of p) Finished × (lives ≡ map is_live p.saved → lives ≡ map is_live q.saved) × (may ≡ map is_open p.saved → may ≡ map is_open q.saved)
+    → (after (shown_of p) Finished ≡ shown_of q) × IsLawful (shown_of p) Finished × (lives ≡ map is_live p.saved → lives ≡ map is_live q.saved) × (may ≡ map is_open p.saved → may ≡ map is_open q.saved)
 finished_does p q lives may f = (
   (λ i. record { origin = sym (ap (λ (x : Plain). x.origin) f.becomes) i; begun = sym (ap (λ (x : Plain). x.begun) f.becomes) i; saved = sym (ap (λ (x : Plain). x.saved) f.becomes) i }),
   (f.number, f.merged),

@@ -6,7 +6,7 @@ use Rattle.std.proofs.lemmas.List.{get_or-map, get_or_default, length-map, map-s
 use Rattle.std.proofs.lemmas.List.Edits.{map_over_more}
 use Rattle.sector.specs.Bytes.{with_sectors}
 use Rattle.sector.specs.declared.range.Range.{Range}
-use Rattle.plain.specs.Plain.{Plain, Entry as Shown, Saved as State, Live, Invalid, marked_in, saved_under, spoiled_entry, with_saved, without_saved}
+use Rattle.plain.specs.Plain.{Plain, Entry as ShownEntry, Saved as State, Live, Invalid, marked_in, saved_under, spoiled_entry, with_saved, without_saved, Shown}
 use Rattle.plain.specs.Serves.{Serves, Shows}
 use Rattle.plain.specs.declared.request.Dev.{Dev}
 use Rattle.plain.specs.declared.request.Failure.{Failure}
@@ -21,7 +21,7 @@ use Rattle.journal.specs.declared.entry.Saved.{Saved}
 use Rattle.journal.specs.Books.{Books, IsKept, shown_in, state_in}
 use Rattle.journal.specs.Entries.{entries_by}
 use Rattle.journal.specs.Inside.{AllInside, IsInside, LiesInside, attached_count}
-use Rattle.journal.specs.Replay.{Saves, AllLawful, IsLawful, after, array_in, plain_in, put, replay, served}
+use Rattle.journal.specs.Replay.{AllLawful, IsLawful, after, array_in, plain_in, put, replay, served}
 
 -- the first snapshot with a number
 pub record IsFirstSaved (n : ℕ) (xs : List Saved) (k : ℕ) : Type 0 where
@@ -67,21 +67,21 @@ array_of None array e = absurd (cc)
 array_of (Some other) array e = let same : other ≡ array = cc in ap Some same
 
 -- spoils, place after place
-pub spoilt_here : (n : ℕ) (x : Shown) → x.number ≡ n → record x { saved = Invalid } ≡ spoiled_entry (n ∷ []) x
+pub spoilt_here : (n : ℕ) (x : ShownEntry) → x.number ≡ n → record x { saved = Invalid } ≡ spoiled_entry (n ∷ []) x
 spoilt_here n x same = rw (eq-eqb n x.number (sym same)) refl
 
-pub spoilt_other : (n : ℕ) (x : Shown) → x.number ≢ n → x ≡ spoiled_entry (n ∷ []) x
+pub spoilt_other : (n : ℕ) (x : ShownEntry) → x.number ≢ n → x ≡ spoiled_entry (n ∷ []) x
 spoilt_other n x apart = rw (ne_eqb n x.number (λ e. apart (sym e))) refl
 
 pub spoilt_more : (n : ℕ) (old now : List Saved) (k : ℕ) (y : Saved) → k < length old → k < length now → map shown_in now ≡ map (spoiled_entry (n ∷ [])) (take k (map shown_in old)) ++ drop k (map shown_in old) → shown_in y ≡ spoiled_entry (n ∷ []) (shown_in (get_or now k y))
     → map shown_in (set now k y) ≡ map (spoiled_entry (n ∷ [])) (take (k + 1) (map shown_in old)) ++ drop (k + 1) (map shown_in old)
 spoilt_more n old now k y within here so is =
-    let x : Shown = shown_in (get_or now k y) in
+    let x : ShownEntry = shown_in (get_or now k y) in
     map-set shown_in now k y ∙ ap (set (map shown_in now) k) is
     ∙ map_over_more (spoiled_entry (n ∷ [])) (map shown_in old) (map shown_in now) k x (omega (arith, within, length-map old shown_in)) so (sym (get_or-map shown_in now k y x here))
 
 -- what a write that was done does to the base, and that no other reply does anything
-pub served_put : (s s' : Saves) (dev : Dev) (op : Op) (range : Range) (reply : Reply) (bytes : List ℕ) → op ≡ Write bytes → reply ≡ Written → Serves (plain_in s) dev op range reply (plain_in (served dev op range.first reply s)) → LiesInside s dev op range.first reply
+pub served_put : (s s' : Shown) (dev : Dev) (op : Op) (range : Range) (reply : Reply) (bytes : List ℕ) → op ≡ Write bytes → reply ≡ Written → Serves (plain_in s) dev op range reply (plain_in (served dev op range.first reply s)) → LiesInside s dev op range.first reply
     → ((array : List ℕ) → Shows (plain_in s) dev array → 512 * range.first + length bytes ≤ length array → s' ≡ put dev range.first bytes s) → s' ≡ served dev op range.first reply s
 served_put s s' dev Read range reply bytes writes done serves inside puts = absurd (cc)
 served_put s s' dev Flush range reply bytes writes done serves inside puts = absurd (cc)
@@ -92,7 +92,7 @@ served_put s s' dev (Write sent) range Written bytes writes done serves inside p
     let same : bytes ≡ sent = cc in
     subst (λ b. s' ≡ put dev range.first b s) same (puts serves.0 serves.1 (subst (λ b. 512 * range.first + length b ≤ length serves.0) (sym same) (inside serves.0 serves.1)))
 
-pub served_read : (s : Saves) (dev : Dev) (op : Op) (first : ℕ) (reply : Reply) → op ≡ Read → s ≡ served dev op first reply s
+pub served_read : (s : Shown) (dev : Dev) (op : Op) (first : ℕ) (reply : Reply) → op ≡ Read → s ≡ served dev op first reply s
 served_read s dev Read first (Data bytes) is = refl
 served_read s dev Read first Written is = refl
 served_read s dev Read first Flushed is = refl
@@ -100,7 +100,7 @@ served_read s dev Read first (Refused failure) is = refl
 served_read s dev (Write sent) first reply is = absurd (cc)
 served_read s dev Flush first reply is = absurd (cc)
 
-pub served_flush : (s : Saves) (dev : Dev) (op : Op) (first : ℕ) (reply : Reply) → op ≡ Flush → s ≡ served dev op first reply s
+pub served_flush : (s : Shown) (dev : Dev) (op : Op) (first : ℕ) (reply : Reply) → op ≡ Flush → s ≡ served dev op first reply s
 served_flush s dev Flush first (Data bytes) is = refl
 served_flush s dev Flush first Written is = refl
 served_flush s dev Flush first Flushed is = refl
@@ -108,25 +108,25 @@ served_flush s dev Flush first (Refused failure) is = refl
 served_flush s dev Read first reply is = absurd (cc)
 served_flush s dev (Write sent) first reply is = absurd (cc)
 
-pub served_flushed : (s : Saves) (dev : Dev) (op : Op) (first : ℕ) (reply : Reply) → reply ≡ Flushed → s ≡ served dev op first reply s
+pub served_flushed : (s : Shown) (dev : Dev) (op : Op) (first : ℕ) (reply : Reply) → reply ≡ Flushed → s ≡ served dev op first reply s
 served_flushed s dev op first Flushed is = refl
 served_flushed s dev op first (Data bytes) is = absurd (cc)
 served_flushed s dev op first Written is = absurd (cc)
 served_flushed s dev op first (Refused failure) is = absurd (cc)
 
-pub served_data : (s : Saves) (dev : Dev) (op : Op) (first : ℕ) (reply : Reply) (bytes : List ℕ) → reply ≡ Data bytes → s ≡ served dev op first reply s
+pub served_data : (s : Shown) (dev : Dev) (op : Op) (first : ℕ) (reply : Reply) (bytes : List ℕ) → reply ≡ Data bytes → s ≡ served dev op first reply s
 served_data s dev op first (Data read) bytes is = refl
 served_data s dev op first Written bytes is = absurd (cc)
 served_data s dev op first Flushed bytes is = absurd (cc)
 served_data s dev op first (Refused failure) bytes is = absurd (cc)
 
-pub served_refused : (s : Saves) (dev : Dev) (op : Op) (first : ℕ) (reply : Reply) (failure : Failure) → reply ≡ Refused failure → s ≡ served dev op first reply s
+pub served_refused : (s : Shown) (dev : Dev) (op : Op) (first : ℕ) (reply : Reply) (failure : Failure) → reply ≡ Refused failure → s ≡ served dev op first reply s
 served_refused s dev op first (Data read) failure is = absurd (cc)
 served_refused s dev op first Written failure is = absurd (cc)
 served_refused s dev op first Flushed failure is = absurd (cc)
 served_refused s dev op first (Refused why) failure is = refl
 
-pub put_at : (n first : ℕ) (bytes array : List ℕ) (xs : List Shown) → saved_under n xs ≡ Some (Live array) → with_saved n (Live (with_sectors array first bytes)) xs ≡ with_saved n (Live (with_sectors (array_in (saved_under n xs)) first bytes)) xs
+pub put_at : (n first : ℕ) (bytes array : List ℕ) (xs : List ShownEntry) → saved_under n xs ≡ Some (Live array) → with_saved n (Live (with_sectors array first bytes)) xs ≡ with_saved n (Live (with_sectors (array_in (saved_under n xs)) first bytes)) xs
 put_at n first bytes array xs found = ap (λ a. with_saved n (Live (with_sectors a first bytes)) xs) (sym (ap array_in found))
 
 pub put_first : (n first : ℕ) (bytes array : List ℕ) (xs : List Saved) (k : ℕ) (old new : Saved) → IsFirstSaved n xs k → old ≡ get_or xs k old → saved_under n (map shown_in xs) ≡ Some (Live array) → 512 * first + length bytes ≤ length array
@@ -159,8 +159,8 @@ pub begun_spoilt : (o : Option (List ℕ)) (array : List ℕ) → o ≡ None →
 begun_spoilt None array none found = absurd (cc)
 begun_spoilt (Some other) array none found = absurd (cc)
 
-pub begun_after : (s : Saves) (n : ℕ) (o : Option (List ℕ)) (array taken : List ℕ) (left : List Shown) → saved_under n s.saved ≡ Some (Live array) → o ≡ Some taken → state_in o ≡ Live array → left ≡ without_saved n s.saved
-    → (let t : Saves = record { origin = taken; begun = Some n; saved = left } in t) ≡ after s (Begun n)
+pub begun_after : (s : Shown) (n : ℕ) (o : Option (List ℕ)) (array taken : List ℕ) (left : List ShownEntry) → saved_under n s.saved ≡ Some (Live array) → o ≡ Some taken → state_in o ≡ Live array → left ≡ without_saved n s.saved
+    → (let t : Shown = record { origin = taken; begun = Some n; saved = left } in t) ≡ after s (Begun n)
 begun_after s n None array taken left found is live gone = absurd (cc)
 begun_after s n (Some other) array taken left found is live gone =
     let same : taken ≡ array = cc in
@@ -195,25 +195,25 @@ count_reversed [] = refl
 count_reversed (e ∷ es) = ap attached_count (reverse-append (e ∷ []) es) ∙ count_both (reverse es) (e ∷ []) ∙ omega (arith, count_reversed es, count_one e es)
 
 -- What is left to do, from a base on, comes to what all of it does from the base that there was.
-pub record IsLeft (s : Saves) (es : List Entry) (old : Saves) (all : List Entry) : Type 0 where
+pub record IsLeft (s : Shown) (es : List Entry) (old : Shown) (all : List Entry) : Type 0 where
   pub comes_to : replay s es ≡ replay old all
   pub lawful : AllLawful s es
   pub inside : AllInside s es
 
-pub all_left : (s : Saves) (es all : List Entry) → es ≡ all → AllLawful s all → AllInside s all → IsLeft s es s all
+pub all_left : (s : Shown) (es all : List Entry) → es ≡ all → AllLawful s all → AllInside s all → IsLeft s es s all
 all_left s es all same lawful inside = subst (λ xs. IsLeft s xs s all) (sym same) (record { comes_to = refl; lawful = lawful; inside = inside })
 
-pub left_next : (s s' old : Saves) (e : Entry) (es all : List Entry) → IsLeft s (e ∷ es) old all → (IsLawful s e → IsInside s e → s' ≡ after s e) → IsLeft s' es old all
+pub left_next : (s s' old : Shown) (e : Entry) (es all : List Entry) → IsLeft s (e ∷ es) old all → (IsLawful s e → IsInside s e → s' ≡ after s e) → IsLeft s' es old all
 left_next s s' old e es all l does = subst (λ t. IsLeft t es old all) (sym (does l.lawful.0 l.inside.0)) (record { comes_to = l.comes_to; lawful = l.lawful.1; inside = l.inside.1 })
 
-pub left_last : (s old : Saves) (e : Entry) (es fs all : List Entry) → fs ≡ es ++ e ∷ [] → IsLeft s (reverse fs) old all → IsLeft s (e ∷ reverse es) old all
+pub left_last : (s old : Shown) (e : Entry) (es fs all : List Entry) → fs ≡ es ++ e ∷ [] → IsLeft s (reverse fs) old all → IsLeft s (e ∷ reverse es) old all
 left_last s old e es fs all are l = subst (λ xs. IsLeft s xs old all) (ap reverse are ∙ reverse-append es (e ∷ [])) l
 
-pub left_none : (s old : Saves) (es all : List Entry) → es ≡ [] → IsLeft s es old all → s ≡ replay old all
+pub left_none : (s old : Shown) (es all : List Entry) → es ≡ [] → IsLeft s es old all → s ≡ replay old all
 left_none s old es all none l = sym (ap (replay s) none) ∙ l.comes_to
 
 -- a checkpoint
-pub cut_keeps : (given : ℕ) (loud told : Bool) (p : Plain) (v : Books) (base : Saves) (entries : List Entry) (folded : List ℕ) (room : ℕ) → IsKept given loud told p v → (told ≡ true → base ≡ replay v.base v.entries) → entries ≡ [] → folded ≡ v.counts → room ≡ v.room
+pub cut_keeps : (given : ℕ) (loud told : Bool) (p : Plain) (v : Books) (base : Shown) (entries : List Entry) (folded : List ℕ) (room : ℕ) → IsKept given loud told p v → (told ≡ true → base ≡ replay v.base v.entries) → entries ≡ [] → folded ≡ v.counts → room ≡ v.room
     → IsKept given loud told p (record v { base = base; taken = 0; entries = entries; folded = folded; room = room })
 cut_keeps given loud told p v base entries folded room h made none cut same = record {
   audit = record {

@@ -6,7 +6,7 @@ use Rattle.std.proofs.lemmas.Bool.{cases_Bool, ne_eqb}
 use Rattle.std.proofs.lemmas.List.{length-map}
 use Rattle.std.proofs.lemmas.List.Edits.{length-remove}
 use Rattle.device.specs.Layers.{Layer}
-use Rattle.plain.specs.Plain.{Plain, Entry as Shown, Saved, without_saved}
+use Rattle.plain.specs.Plain.{Plain, Entry as ShownEntry, Saved, without_saved, shown_of}
 use Rattle.plain.specs.Legal.{IsBegun, IsDetached}
 use Rattle.in_flight.specs.Kinds.{in_flight}
 use Rattle.snapshot.specs.Kept.{Kept}
@@ -14,14 +14,14 @@ use Rattle.snapshot.specs.declared.opening.StoreDev.{StoreDev}
 use Rattle.snapshots.specs.Finding.{place_of_snap}
 use Rattle.snapshots.proofs.Finds.{position_within}
 use Rattle.snapshots.specs.Keeping.{kept_for}
-use Rattle.volume_laws.specs.Shape.{shown_entry}
+use Rattle.volume.specs.Shown.{shown_entry}
 use Rattle.volume.specs.Beginning.{IsMergeBegun}
 use Rattle.volume.specs.Leaving.{IsWithout}
-use Rattle.volume.specs.Volumed.{Volumed, plain_of, snap_shape}
+use Rattle.volume.specs.Volumed.{Volumed, plain_of}
 use Rattle.journal.specs.declared.entry.Entry.{Entry}
 use Rattle.journal.specs.declared.entry.Entry.TheVariants.{Begun, Detached}
 use Rattle.journal.specs.Entries.{entries_by}
-use Rattle.journal.specs.Replay.{saves_of, after, array_in, IsLawful}
+use Rattle.journal.specs.Replay.{after, array_in, IsLawful}
 use Rattle.journal.specs.Noted.{is_live, is_open, kept_count, live_count}
 use Rattle.journal.specs.Books.{Books, IsAudit}
 use Rattle.journal.proofs.Changes.{entry_keeps, first_on}
@@ -57,13 +57,13 @@ remove_next x xs n = ap (λ k. remove (x ∷ xs) k) (next n) where
   next n = omega arith
 
 -- a snapshot less shows what is left of a list
-left_list : (f : Shown → Bool) {B : Type 0} (contents : B → List ℕ) (origin : List ℕ) (number : ℕ) (snaps : List (Kept B))
-    → map f (without_saved number (map (shown_entry contents origin) (map snap_shape snaps))) ≡ remove (map f (map (shown_entry contents origin) (map snap_shape snaps))) (position_or_len (λ s. s.number == number) snaps)
+left_list : (f : ShownEntry → Bool) {B : Type 0} (contents : B → List ℕ) (origin : List ℕ) (number : ℕ) (snaps : List (Kept B))
+    → map f (without_saved number (map (shown_entry contents origin) snaps)) ≡ remove (map f (map (shown_entry contents origin) snaps)) (position_or_len (λ s. s.number == number) snaps)
 left_list f contents origin number [] = refl
 left_list f contents origin number (s ∷ snaps) = elim (cases_Bool (s.number == number)) [
   | inl here ↦ rw here refl
-  | inr other ↦ rw other (ap (λ (bs : List Bool). f (shown_entry contents origin (snap_shape s)) ∷ bs) (left_list f contents origin number snaps)
-      ∙ remove_next (f (shown_entry contents origin (snap_shape s))) (map f (map (shown_entry contents origin) (map snap_shape snaps))) (position_or_len (λ x. x.number == number) snaps))
+  | inr other ↦ rw other (ap (λ (bs : List Bool). f (shown_entry contents origin s) ∷ bs) (left_list f contents origin number snaps)
+      ∙ remove_next (f (shown_entry contents origin s)) (map f (map (shown_entry contents origin) snaps)) (position_or_len (λ x. x.number == number) snaps))
 ]
 
 same_place : (k j : ℕ) → Some k ≡ Some j → j ≡ k
@@ -91,7 +91,7 @@ module _ {B : Type 0} (contents : B → List ℕ) (layers : B → List Layer) (n
   abbrev q : Plain
   q = plain_of contents layers w'
 
-  are_left : (f : Shown → Bool) (k : ℕ) (bits : List Bool) → place_of_snap number w.snaps ≡ Some k → q.saved ≡ without_saved number p.saved → bits ≡ map f p.saved → remove bits k ≡ map f q.saved
+  are_left : (f : ShownEntry → Bool) (k : ℕ) (bits : List Bool) → place_of_snap number w.snaps ≡ Some k → q.saved ≡ without_saved number p.saved → bits ≡ map f p.saved → remove bits k ≡ map f q.saved
   are_left f k bits found left was =
       ap (λ (bs : List Bool). remove bs k) was ∙ ap (remove (map f p.saved)) (sym (found_at (λ s. s.number == number) w.snaps k found))
       ∙ sym (left_list f contents (contents w.origin) number w.snaps) ∙ ap (map f) (sym left)
@@ -107,18 +107,18 @@ module _ {B : Type 0} (contents : B → List ℕ) (layers : B → List Layer) (n
   left_within k lives found count = omega (arith, position_within (λ s. s.number == number) w.snaps k found, count, saved_count contents layers w)
 
   pub detached_does : (k : ℕ) (lives may : List Bool) → place_of_snap number w.snaps ≡ Some k → IsDetached p number q
-      → (after (saves_of p) (Detached number) ≡ saves_of q) × IsLawful (saves_of p) (Detached number) × (lives ≡ map is_live p.saved → remove lives k ≡ map is_live q.saved) × (may ≡ map is_open p.saved → remove may k ≡ map is_open q.saved)
+      → (after (shown_of p) (Detached number) ≡ shown_of q) × IsLawful (shown_of p) (Detached number) × (lives ≡ map is_live p.saved → remove lives k ≡ map is_live q.saved) × (may ≡ map is_open p.saved → remove may k ≡ map is_open q.saved)
   detached_does k lives may found d = (
-    sym (ap saves_of d.becomes),
+    sym (ap shown_of d.becomes),
     (d.saved, d.found),
     are_left is_live k lives found (ap (λ (x : Plain). x.saved) d.becomes),
     are_left is_open k may found (ap (λ (x : Plain). x.saved) d.becomes),
   )
 
   pub begun_does : (k : ℕ) (lives may : List Bool) → place_of_snap number w.snaps ≡ Some k → IsBegun p number q
-      → (after (saves_of p) (Begun number) ≡ saves_of q) × IsLawful (saves_of p) (Begun number) × (lives ≡ map is_live p.saved → remove lives k ≡ map is_live q.saved) × (may ≡ map is_open p.saved → remove may k ≡ map is_open q.saved)
+      → (after (shown_of p) (Begun number) ≡ shown_of q) × IsLawful (shown_of p) (Begun number) × (lives ≡ map is_live p.saved → remove lives k ≡ map is_live q.saved) × (may ≡ map is_open p.saved → remove may k ≡ map is_open q.saved)
   begun_does k lives may found b = (
-    ap (λ (o : Option Saved). record { origin = array_in o; begun = Some number; saved = without_saved number p.saved }) b.found ∙ sym (ap saves_of b.becomes),
+    ap (λ (o : Option Saved). record { origin = array_in o; begun = Some number; saved = without_saved number p.saved }) b.found ∙ sym (ap shown_of b.becomes),
     (b.alone, (b.array, b.found)),
     are_left is_live k lives found (ap (λ (x : Plain). x.saved) b.becomes),
     are_left is_open k may found (ap (λ (x : Plain). x.saved) b.becomes),

@@ -9,7 +9,7 @@ use Rattle.std.proofs.Math.Seq.{get_or-append_seam, take-length}
 use Rattle.device.specs.Layers.{Layer, is_loud}
 use Rattle.sector.specs.Bytes.{sectors_at}
 use Rattle.sector.specs.declared.refusal.Refusal.TheVariants.{Invalid}
-use Rattle.plain.specs.Plain.{Plain, Entry as Shown, Saved, Live, overflow_of, saved_under}
+use Rattle.plain.specs.Plain.{Plain, Entry as ShownEntry, Saved, Live, overflow_of, saved_under, shown_of}
 use Rattle.plain.specs.declared.request.Overflowing.{Overflowing}
 use Rattle.plain.specs.Legal.{IsTaken}
 use Rattle.plain.specs.declared.request.Dev.TheVariants.{Snap}
@@ -18,15 +18,15 @@ use Rattle.snapshot.specs.Kept.{Kept}
 use Rattle.snapshot.specs.declared.opening.StoreDev.{StoreDev}
 use Rattle.snapshots.specs.Finding.{place_of_snap}
 use Rattle.merge.specs.Merging.{Merging}
-use Rattle.volume_laws.specs.Shape.{shown_entry}
+use Rattle.volume.specs.Shown.{shown_entry}
 use Rattle.volume.specs.Attached.{IsGained}
 use Rattle.volume.specs.Peeking.{is_loud_at, is_loud_under}
 use Rattle.volume.specs.Submitting.{dev_refusal, refusal_at}
-use Rattle.volume.specs.Volumed.{Volumed, plain_of, snap_shape, is_loud_in_all, is_loud_with}
+use Rattle.volume.specs.Volumed.{Volumed, plain_of, is_loud_in_all, is_loud_with}
 use Rattle.journal.specs.declared.entry.Entry.{Entry}
 use Rattle.journal.specs.declared.entry.Entry.TheVariants.{Attached}
 use Rattle.journal.specs.Entries.{entries_by}
-use Rattle.journal.specs.Replay.{saves_of, after, IsLawful}
+use Rattle.journal.specs.Replay.{after, IsLawful}
 use Rattle.journal.specs.Noted.{is_live, is_open, kept_count, live_count}
 use Rattle.journal.specs.Journaled.{places_for}
 use Rattle.journal.specs.Books.{Books, IsAudit}
@@ -93,17 +93,17 @@ loud_under layers number w all =
     loud_place layers w.snaps (place_of_snap number w.snaps) (and_right (is_loud (layers w.origin)) (list_all (λ s. is_loud (layers s.device)) w.snaps) (loud_others layers w.merge (is_loud (layers w.origin) && list_all (λ s. is_loud (layers s.device)) w.snaps) all))
 
 -- the last of a list, where no other has its number
-pub saved_last : (number : ℕ) (saved : Saved) (overflow : Overflowing) (xs : List Shown) → All (λ e. e.number ≢ number) xs → saved_under number (xs ++ record { number = number; saved = saved; overflow = overflow } ∷ []) ≡ Some saved
+pub saved_last : (number : ℕ) (saved : Saved) (overflow : Overflowing) (xs : List ShownEntry) → All (λ e. e.number ≢ number) xs → saved_under number (xs ++ record { number = number; saved = saved; overflow = overflow } ∷ []) ≡ Some saved
 saved_last number saved overflow [] fresh = rw (eq-eqb number number refl) refl
 saved_last number saved overflow (x ∷ xs) fresh = rw (ne_eqb x.number number (fresh 0 x (omega arith))) (saved_last number saved overflow xs (λ j d lt. fresh (suc j) d (omega (arith, lt))))
 
-fresh_both : (xs : List Shown) (x : Shown) (number : ℕ) → x.number ≢ number → All (λ e. e.number ≢ number) xs → All (λ e. e.number ≢ number) (x ∷ xs)
+fresh_both : (xs : List ShownEntry) (x : ShownEntry) (number : ℕ) → x.number ≢ number → All (λ e. e.number ≢ number) xs → All (λ e. e.number ≢ number) (x ∷ xs)
 fresh_both xs x number here rest zero d lt = here
 fresh_both xs x number here rest (suc j) d lt = rest j d (omega (arith, lt))
 
-fresh_shown : {B : Type 0} (contents : B → List ℕ) (origin : List ℕ) (number : ℕ) (snaps : List (Kept B)) → All (λ s. s.number ≢ number) snaps → All (λ e. e.number ≢ number) (map (shown_entry contents origin) (map snap_shape snaps))
+fresh_shown : {B : Type 0} (contents : B → List ℕ) (origin : List ℕ) (number : ℕ) (snaps : List (Kept B)) → All (λ s. s.number ≢ number) snaps → All (λ e. e.number ≢ number) (map (shown_entry contents origin) snaps)
 fresh_shown contents origin number [] fresh = λ j d lt. absurd (omega (arith, lt))
-fresh_shown contents origin number (s ∷ snaps) fresh = fresh_both (map (shown_entry contents origin) (map snap_shape snaps)) (shown_entry contents origin (snap_shape s)) number (fresh 0 s (omega arith)) (fresh_shown contents origin number snaps (λ i e less. fresh (suc i) e (omega (arith, less))))
+fresh_shown contents origin number (s ∷ snaps) fresh = fresh_both (map (shown_entry contents origin) snaps) (shown_entry contents origin s) number (fresh 0 s (omega arith)) (fresh_shown contents origin number snaps (λ i e less. fresh (suc i) e (omega (arith, less))))
 
 -- one more is live
 one_more : (bs : List Bool) → live_count (bs ++ true ∷ []) ≡ live_count bs + 1
@@ -132,14 +132,14 @@ module _ {B : Type 0} (contents : B → List ℕ) (layers : B → List Layer) (s
   pub shows_last : (array : List ℕ) → IsTaken p number array (overflow_of wanted) q → saved_under number q.saved ≡ Some (Live array)
   shows_last array t = ap (λ (x : Plain). saved_under number x.saved) t.becomes ∙ saved_last number (Live array) (overflow_of wanted) p.saved fresh_saved
 
-  abbrev entry_more : List ℕ → Shown
+  abbrev entry_more : List ℕ → ShownEntry
   entry_more array = record { number = number; saved = Live array; overflow = overflow_of wanted }
 
   pub attached_does : (array : List ℕ) (fresh : Bool) (lives may : List Bool) → IsTaken p number array (overflow_of wanted) q → (fresh ≡ true → array ≡ p.origin)
-      → (after (saves_of p) (Attached number array (overflow_of wanted) fresh) ≡ saves_of q) × IsLawful (saves_of p) (Attached number array (overflow_of wanted) fresh)
+      → (after (shown_of p) (Attached number array (overflow_of wanted) fresh) ≡ shown_of q) × IsLawful (shown_of p) (Attached number array (overflow_of wanted) fresh)
       × (lives ≡ map is_live p.saved → lives ++ true ∷ [] ≡ map is_live q.saved) × (may ≡ map is_open p.saved → may ++ wanted ∷ [] ≡ map is_open q.saved)
   attached_does array fresh lives may t same = (
-    sym (ap saves_of t.becomes),
+    sym (ap shown_of t.becomes),
     (fresh_saved, t.strict, same),
     λ was. ap (λ (bs : List Bool). bs ++ true ∷ []) was ∙ sym (map-append is_live p.saved (entry_more array ∷ [])) ∙ ap (λ (x : Plain). map is_live x.saved) (sym t.becomes),
     λ was. (λ i. was i ++ sym (wanted_may wanted) i ∷ []) ∙ sym (map-append is_open p.saved (entry_more array ∷ [])) ∙ ap (λ (x : Plain). map is_open x.saved) (sym t.becomes),

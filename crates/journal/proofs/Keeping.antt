@@ -16,7 +16,7 @@ use Rattle.plain.specs.declared.request.Request.{Request}
 use Rattle.plain.specs.declared.request.Reply.{Reply}
 use Rattle.plain.specs.declared.request.Reply.TheVariants.{Data, Written, Flushed, Refused}
 use Rattle.plain.specs.Kept.{kept, kept_range}
-use Rattle.plain.specs.Plain.{Plain, InFlight, Entry as Shown, spoiled, spoiled_entry, asked_under, without}
+use Rattle.plain.specs.Plain.{Plain, InFlight, Entry as ShownEntry, spoiled, spoiled_entry, asked_under, without, Shown, shown_of}
 use Rattle.plain.specs.Replies.{FitsReply}
 use Rattle.plain.specs.Legal.{Spoils, IsAnswered, IsLegalStep, IsSubmitted, IsDeclined}
 use Rattle.plain.specs.Serves.{Serves}
@@ -30,7 +30,7 @@ use Rattle.journal.specs.declared.entry.Entry.{Entry}
 use Rattle.journal.specs.declared.entry.Entry.TheVariants.{Answered, Spoiled}
 use Rattle.journal.specs.declared.entry.HeldRequest.{HeldRequest}
 use Rattle.journal.specs.Seats.{Seated, seated, seated_under}
-use Rattle.journal.specs.Replay.{Saves, saves_of, plain_in, served, replay, IsLawful, AllLawful}
+use Rattle.journal.specs.Replay.{plain_in, served, replay, IsLawful, AllLawful}
 use Rattle.journal.specs.Entries.{entries_by}
 use Rattle.journal.specs.Noted.{Noted, is_live, is_open, kept_count}
 use Rattle.journal.specs.Books.{Books, Counted, Replays, IsAudit, HeldFits, in_flight}
@@ -126,9 +126,9 @@ pub noted_replays : (p q : Plain) (v : Books) (which : List ℕ) (lives' : List 
     → Noted (length q.saved) q.saved v.lives lives' v.entries es' → Replays q (record v { entries = es'; lives = lives'; room = room' })
 noted_replays p q v which lives' es' room' h origin begun saved s =
     let noted : map (spoiled_entry s.which) p.saved ≡ q.saved = all_noted which p.saved q.saved v.lives lives' v.entries es' h.lives saved s in
-    let last : record (saves_of p) { saved = map (spoiled_entry s.which) p.saved } ≡ saves_of q = (λ i. record { origin = sym origin i; begun = sym begun i; saved = noted i }) in record {
+    let last : record (shown_of p) { saved = map (spoiled_entry s.which) p.saved } ≡ shown_of q = (λ i. record { origin = sym origin i; begun = sym begun i; saved = noted i }) in record {
       replay_is = ap (replay v.base) s.entries_are ∙ replay_then v.base v.entries (map Spoiled s.which) ∙ replay_spoils (replay v.base v.entries) s.which
-          ∙ ap (λ (x : Saves). record x { saved = map (spoiled_entry s.which) x.saved }) h.replay_is ∙ last;
+          ∙ ap (λ (x : Shown). record x { saved = map (spoiled_entry s.which) x.saved }) h.replay_is ∙ last;
       lawful = subst (AllLawful v.base) (sym s.entries_are) (lawful_then v.base v.entries (map Spoiled s.which) h.lawful (lawful_spoils (replay v.base v.entries) s.which));
       lives = lives_now which p.saved q.saved v.lives lives' v.entries es' h.lives saved s;
       may = h.may ∙ sym (open_spoiled which p.saved) ∙ ap (map is_open) (sym saved);
@@ -247,10 +247,10 @@ module _ (loud loud' told : Bool) (p q : Plain) (v : Books) (room' : ℕ) (h : I
     issued_replays r a =
         let asked : a.request ≡ x.for_entry = same_asked p v n k x a.request h.counted first a.asked in
         let serves : Serves p x.for_entry.dev x.for_entry.op x.for_entry.range reply q = subst (λ (y : Request). Serves p y.dev y.op y.range reply q) asked a.served in
-        let made : saves_of q ≡ served x.for_entry.dev x.for_entry.op x.for_entry.range.first reply (saves_of p) = served_is p q x.for_entry.dev x.for_entry.op x.for_entry.range reply serves in
-        let lawful : IsLawful (saves_of p) (Answered (answer_of x seat reply)) = subst (λ (s : Saves). Serves (plain_in (saves_of p)) x.for_entry.dev x.for_entry.op x.for_entry.range reply (plain_in s)) made (lawful_is p q x.for_entry.dev x.for_entry.op x.for_entry.range reply serves) in record {
+        let made : shown_of q ≡ served x.for_entry.dev x.for_entry.op x.for_entry.range.first reply (shown_of p) = served_is p q x.for_entry.dev x.for_entry.op x.for_entry.range reply serves in
+        let lawful : IsLawful (shown_of p) (Answered (answer_of x seat reply)) = subst (λ (s : Shown). Serves (plain_in (shown_of p)) x.for_entry.dev x.for_entry.op x.for_entry.range reply (plain_in s)) made (lawful_is p q x.for_entry.dev x.for_entry.op x.for_entry.range reply serves) in record {
           replay_is = replay_then v.base v.entries (Answered (answer_of x seat reply) ∷ []) ∙ ap (λ s. served x.for_entry.dev x.for_entry.op x.for_entry.range.first reply s) r.replay_is ∙ sym made;
-          lawful = lawful_then v.base v.entries (Answered (answer_of x seat reply) ∷ []) r.lawful (subst (λ (s : Saves). IsLawful s (Answered (answer_of x seat reply))) (sym r.replay_is) lawful, tt);
+          lawful = lawful_then v.base v.entries (Answered (answer_of x seat reply) ∷ []) r.lawful (subst (λ (s : Shown). IsLawful s (Answered (answer_of x seat reply))) (sym r.replay_is) lawful, tt);
           lives = r.lives ∙ sym (lives_served p q x.for_entry.dev x.for_entry.op x.for_entry.range reply serves);
           may = r.may ∙ sym (opens_served p q x.for_entry.dev x.for_entry.op x.for_entry.range reply serves);
         }
@@ -346,7 +346,7 @@ submitted_keeps loud loud' told p q v x number request lives' es' room' h same c
 spoiled_nothing : (p q : Plain) → q ≡ p → Spoils [] p q
 spoiled_nothing p q same = same ∙ (λ i. record { origin = p.origin; begun = p.begun; saved = sym (no_spoil p.saved) i; requests = p.requests })
   where
-    no_spoil : (xs : List Shown) → map (spoiled_entry []) xs ≡ xs
+    no_spoil : (xs : List ShownEntry) → map (spoiled_entry []) xs ≡ xs
     no_spoil [] = refl
     no_spoil (y ∷ ys) = ap (λ zs. y ∷ zs) (no_spoil ys)
 
@@ -356,7 +356,7 @@ declined_spoils request refusal p q other (inr (number, bytes, dev, op, inl full
 declined_spoils request refusal p q other (inr (number, bytes, dev, op, inr marked)) = absurd (other marked.0)
 
 -- a new audit
-abbrev pub new_books : Saves → ℕ → List Bool → List Bool → List ℕ → List ℕ → ℕ → Books
+abbrev pub new_books : Shown → ℕ → List Bool → List Bool → List ℕ → List ℕ → ℕ → Books
 new_books base taken lives may counts folded room = record { base = base; taken = taken; entries = []; held = []; lives = lives; may = may; counts = counts; folded = folded; room = room }
 
 zeros : (n s z : ℕ) → z ≡ 0 → get_or (replicate n z) s z ≡ z
@@ -367,7 +367,7 @@ zeros (suc n) (suc s) z e = zeros n s z e
 pub none_yet : (counts : List ℕ) (s : ℕ) → counts ≡ replicate 9 0 → get_or counts s 0 ≡ 0
 none_yet counts s nought = ap (λ (l : List ℕ). get_or l s 0) nought ∙ zeros 9 s 0 refl
 
-pub new_keeps : (loud told : Bool) (p : Plain) (base : Saves) (taken : ℕ) (lives may : List Bool) (counts folded : List ℕ) (room : ℕ) → p.requests ≡ [] → (told ≡ true → loud ≡ true) → (told ≡ true → base ≡ saves_of p) → lives ≡ map is_live p.saved → may ≡ map is_open p.saved → taken + kept_count lives may ≤ 65_536 → 65_536 ≤ room → counts ≡ replicate 9 0 → folded ≡ replicate 9 0
+pub new_keeps : (loud told : Bool) (p : Plain) (base : Shown) (taken : ℕ) (lives may : List Bool) (counts folded : List ℕ) (room : ℕ) → p.requests ≡ [] → (told ≡ true → loud ≡ true) → (told ≡ true → base ≡ shown_of p) → lives ≡ map is_live p.saved → may ≡ map is_open p.saved → taken + kept_count lives may ≤ 65_536 → 65_536 ≤ room → counts ≡ replicate 9 0 → folded ≡ replicate 9 0
     → IsAudit loud told p (new_books base taken lives may counts folded room)
 new_keeps loud told p base taken lives may counts folded room quiet on begins are opens few enough nought none = record {
   counted = record {

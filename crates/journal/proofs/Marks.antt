@@ -5,7 +5,7 @@ use Rattle.std.specs.List.{position, position_or_len}
 use Rattle.std.proofs.lemmas.Bool.{cases_Bool, false≢true}
 use Rattle.std.proofs.lemmas.List.{length-set}
 use Rattle.plain.specs.Legal.{IsDeclined, Overflows}
-use Rattle.plain.specs.Plain.{Plain, Entry as Shown, Live, did_overflow, marked_in, may_overflow, overflow_under, saved_under}
+use Rattle.plain.specs.Plain.{Plain, Entry as ShownEntry, Live, did_overflow, marked_in, may_overflow, overflow_under, saved_under, shown_of}
 use Rattle.plain.specs.declared.request.Dev.{Dev}
 use Rattle.plain.specs.declared.request.Dev.TheVariants.{Snap}
 use Rattle.plain.specs.declared.request.Overflowing.{Overflowing}
@@ -20,7 +20,6 @@ use Rattle.journal.specs.Entries.{entries_by}
 use Rattle.journal.specs.Journaled.{IsRefusalNoted, OnlySpoils}
 use Rattle.journal.specs.Marked.{IsMarkNoted, IsPlaced, is_marked, is_new_mark}
 use Rattle.journal.specs.Noted.{is_live, is_live_state, is_open}
-use Rattle.journal.specs.Replay.{saves_of}
 use Rattle.journal.proofs.Bounds.{entry_bounds, quiet_bounds}
 use Rattle.journal.proofs.Changes.{entry_keeps}
 use Rattle.journal.proofs.Departed.{found_at}
@@ -29,7 +28,7 @@ use Rattle.journal.proofs.Receipts.{none_new}
 use Rattle.journal.proofs.Replaying.{entries_by_silent}
 
 -- the place of a number
-abbrev place_in : ℕ → List Shown → ℕ
+abbrev place_in : ℕ → List ShownEntry → ℕ
 place_in n xs = position_or_len (λ e. e.number == n) xs
 
 next_get : {X : Type 0} (x : X) (xs : List X) (n : ℕ) (d : X) → get_or (x ∷ xs) (1 + n) d ≡ get_or xs n d
@@ -43,7 +42,7 @@ next_set x xs n d = ap (λ k. set (x ∷ xs) k d) (next n) where
   next n = omega arith
 
 -- a mark changes no number and no array
-pub live_marked : (n : ℕ) (xs : List Shown) → map is_live (marked_in n xs) ≡ map is_live xs
+pub live_marked : (n : ℕ) (xs : List ShownEntry) → map is_live (marked_in n xs) ≡ map is_live xs
 live_marked n [] = refl
 live_marked n (x ∷ xs) = elim (cases_Bool (x.number == n)) [
   | inl here ↦ rw here refl
@@ -51,7 +50,7 @@ live_marked n (x ∷ xs) = elim (cases_Bool (x.number == n)) [
 ]
 
 -- at its place the store may not overflow any more
-pub open_marked : (n : ℕ) (xs : List Shown) → set (map is_open xs) (place_in n (marked_in n xs)) false ≡ map is_open (marked_in n xs)
+pub open_marked : (n : ℕ) (xs : List ShownEntry) → set (map is_open xs) (place_in n (marked_in n xs)) false ≡ map is_open (marked_in n xs)
 open_marked n [] = refl
 open_marked n (x ∷ xs) = elim (cases_Bool (x.number == n)) [
   | inl here ↦ rw here (rw here refl)
@@ -59,20 +58,20 @@ open_marked n (x ∷ xs) = elim (cases_Bool (x.number == n)) [
 ]
 
 -- What is seen at the place of a snapshot that is marked, which was live and could overflow.
-record IsAtMark (n k : ℕ) (xs : List Shown) : Type 0 where
+record IsAtMark (n k : ℕ) (xs : List ShownEntry) : Type 0 where
   pub within : k < length (marked_in n xs)
   pub live : get_or (map is_live xs) k false ≡ true
   pub could : get_or (map is_open xs) k false ≡ true
   pub marked : get_or (map is_marked (marked_in n xs)) k false ≡ true
 
-at_first : (n : ℕ) (x : Shown) (xs : List Shown) (array : List ℕ) → (x.number == n) ≡ true → saved_under n (x ∷ xs) ≡ Some (Live array) → overflow_under n (x ∷ xs) ≡ May → IsAtMark n 0 (x ∷ xs)
+at_first : (n : ℕ) (x : ShownEntry) (xs : List ShownEntry) (array : List ℕ) → (x.number == n) ≡ true → saved_under n (x ∷ xs) ≡ Some (Live array) → overflow_under n (x ∷ xs) ≡ May → IsAtMark n 0 (x ∷ xs)
 at_first n x xs array here live may =
     let is : Some x.saved ≡ Some (Live array) = rw here at live in
     let alive : x.saved ≡ Live array = cc in
     let could : x.overflow ≡ May = rw here at may in
     record { within = rw here (omega arith); live = ap is_live_state alive; could = ap may_overflow could; marked = rw here refl }
 
-at_later : (n k : ℕ) (x : Shown) (xs : List Shown) → (x.number == n) ≡ false → IsAtMark n k xs → IsAtMark n (1 + k) (x ∷ xs)
+at_later : (n k : ℕ) (x : ShownEntry) (xs : List ShownEntry) → (x.number == n) ≡ false → IsAtMark n k xs → IsAtMark n (1 + k) (x ∷ xs)
 at_later n k x xs other rest =
     record {
       within = rw other (omega (arith, rest.within));
@@ -81,17 +80,17 @@ at_later n k x xs other rest =
       marked = rw other (next_get (is_marked x) (map is_marked (marked_in n xs)) k false ∙ rest.marked);
     }
 
-at_mark : (n : ℕ) (xs : List Shown) (array : List ℕ) → saved_under n xs ≡ Some (Live array) → overflow_under n xs ≡ May → IsAtMark n (place_in n (marked_in n xs)) xs
+at_mark : (n : ℕ) (xs : List ShownEntry) (array : List ℕ) → saved_under n xs ≡ Some (Live array) → overflow_under n xs ≡ May → IsAtMark n (place_in n (marked_in n xs)) xs
 at_mark n [] array live may = absurd (cc)
 at_mark n (x ∷ xs) array live may = elim (cases_Bool (x.number == n)) [
   | inl here ↦ subst (λ k. IsAtMark n k (x ∷ xs)) (sym (zero_place n x xs here)) (at_first n x xs array here live may)
   | inr other ↦ subst (λ k. IsAtMark n k (x ∷ xs)) (sym (next_place n x xs other)) (at_later n (place_in n (marked_in n xs)) x xs other (at_mark n xs array (rw other at live) (rw other at may)))
 ]
   where
-    zero_place : (n : ℕ) (x : Shown) (xs : List Shown) → (x.number == n) ≡ true → place_in n (marked_in n (x ∷ xs)) ≡ 0
+    zero_place : (n : ℕ) (x : ShownEntry) (xs : List ShownEntry) → (x.number == n) ≡ true → place_in n (marked_in n (x ∷ xs)) ≡ 0
     zero_place n x xs here = rw here (rw here refl)
 
-    next_place : (n : ℕ) (x : Shown) (xs : List Shown) → (x.number == n) ≡ false → place_in n (marked_in n (x ∷ xs)) ≡ 1 + place_in n (marked_in n xs)
+    next_place : (n : ℕ) (x : ShownEntry) (xs : List ShownEntry) → (x.number == n) ≡ false → place_in n (marked_in n (x ∷ xs)) ≡ 1 + place_in n (marked_in n xs)
     next_place n x xs other = rw other (rw other refl)
 
 -- one that overflowed may not
@@ -100,7 +99,7 @@ not_again Never may did = false≢true may
 not_again May may did = false≢true did
 not_again Did may did = false≢true may
 
-pub not_open : (xs : List Shown) (k : ℕ) → get_or (map is_open xs) k false ≡ true → get_or (map is_marked xs) k false ≡ true → ⊥
+pub not_open : (xs : List ShownEntry) (k : ℕ) → get_or (map is_open xs) k false ≡ true → get_or (map is_marked xs) k false ≡ true → ⊥
 not_open [] k could marked = false≢true could
 not_open (x ∷ xs) zero could marked = not_again x.overflow could marked
 not_open (x ∷ xs) (suc k) could marked = not_open xs k could marked
@@ -165,7 +164,7 @@ module _ (loud loud' told : Bool) (p q : Plain) (v : Books) (h : IsAudit loud to
       (entry_keeps loud loud' told told p q v (Overflowed number) v.lives (set v.may place false) room' h (λ on. on) (λ on was. same ∙ was) requests (h.counted.lives ∙ sym count)
       (length-set v.may place false ∙ h.counted.may ∙ sym count) (none_overflowed number) (omega (arith, h.counted.entries, may_marked v.lives v.may place live could)) room
       (λ on was. let o = overflows on in (
-        sym (ap saves_of o.becomes),
+        sym (ap shown_of o.becomes),
         record { array = o.array; live = o.live; may = o.may; becomes = refl },
         λ lives. lives ∙ sym (live_marked number p.saved) ∙ ap (λ (x : Plain). map is_live x.saved) (sym o.becomes),
         λ were. ap (λ (bs : List Bool). set bs place false) were ∙ ap (λ k. set (map is_open p.saved) k false) (sym (placed on) ∙ ap (λ (x : Plain). place_in number x.saved) o.becomes)
@@ -199,7 +198,7 @@ module _ (loud loud' told : Bool) (p q : Plain) (v : Books) (h : IsAudit loud to
             let is : marked_in n p.saved ≡ q.saved = ap (λ (x : Plain). x.saved) (sym o.1.becomes) in
             let found = ap (position (λ e. e.number == n)) (sym is) ∙ under_there k (length (marked_in n p.saved)) (Some k) None m.within in
             absurd (all_bits (get_or v.lives k false) (get_or v.may k false) (get_or (map is_marked q.saved) k false) (ap (λ (bs : List Bool). get_or bs k false) r.lives ∙ m.live) (ap (λ (bs : List Bool). get_or bs k false) r.may ∙ m.could)
-            (ap (λ (xs : List Shown). get_or (map is_marked xs) k false) (sym is) ∙ m.marked) (none n k (full.2, found))))
+            (ap (λ (xs : List ShownEntry). get_or (map is_marked xs) k false) (sym is) ∙ m.marked) (none n k (full.2, found))))
       ]
     ]
 
@@ -210,7 +209,7 @@ module _ (loud loud' told : Bool) (p q : Plain) (v : Books) (h : IsAudit loud to
     marked_keeps (inr (none, may, are)) = still (λ on. unmarked_there on none) may' es' room' may are room
 
 -- and nothing that is written lies outside its array
-pub marked_bounds : (given given' : ℕ) (told : Bool) (p q : Plain) (v : Books) (dev : Dev) (saved : List Shown) (may' : List Bool) (es' : List Entry) (room' : ℕ) → IsBounded given told p v → given' ≡ given → length q.origin ≡ length p.origin → q.requests ≡ p.requests
+pub marked_bounds : (given given' : ℕ) (told : Bool) (p q : Plain) (v : Books) (dev : Dev) (saved : List ShownEntry) (may' : List Bool) (es' : List Entry) (room' : ℕ) → IsBounded given told p v → given' ≡ given → length q.origin ≡ length p.origin → q.requests ≡ p.requests
     → IsMarkNoted dev saved v.lives v.may may' v.entries es' → IsBounded given' told q (record v { entries = es'; may = may'; room = room' })
 marked_bounds given given' told p q v dev saved may' es' room' b same long requests (inl (number, place, placed, is, may, are)) =
     subst (λ (w : Books). IsBounded given' told q w) (λ i. record v { entries = sym are i; may = may'; room = room' }) (entry_bounds given given' told told p q v b same (λ on. on) long requests (Overflowed number) v.lives may' room' tt)
@@ -219,7 +218,7 @@ marked_bounds given given' told p q v dev saved may' es' room' b same long reque
     subst (λ (w : Books). IsBounded given' told q w) (λ i. record v { entries = sym are i; may = may'; room = room' }) (record { asked = s.asked; made = s.made; inside = s.inside })
 
 -- what callers see of it
-pub mark_noted : {B : Type 0} (request : Request) (refusal : Refusal) (old new : AuditShape B) (saved : List Shown) (lives may may' : List Bool) (es es' : List Entry) → refusal ≡ Overflow → new.held ≡ old.held
+pub mark_noted : {B : Type 0} (request : Request) (refusal : Refusal) (old new : AuditShape B) (saved : List ShownEntry) (lives may may' : List Bool) (es es' : List Entry) → refusal ≡ Overflow → new.held ≡ old.held
     → IsMarkNoted request.dev saved lives may may' es es' → es ≡ old.entries → new.entries ≡ es' → IsRefusalNoted request refusal old new
 mark_noted request refusal old new saved lives may may' es es' overflow held (inl (number, place, placed, is, marked, are)) was now = record {
   held = held;

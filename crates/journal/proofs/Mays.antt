@@ -10,7 +10,7 @@ use Rattle.plain.specs.declared.request.Op.{Op}
 use Rattle.plain.specs.declared.request.Op.TheVariants.{Read, Write, Flush}
 use Rattle.plain.specs.declared.request.Reply.{Reply}
 use Rattle.plain.specs.declared.request.Reply.TheVariants.{Data, Written, Flushed, Refused}
-use Rattle.plain.specs.Plain.{Plain, Entry as Shown, Saved, Live, is_in, may_overflow, overflow_of, spoiled_entry, with_saved}
+use Rattle.plain.specs.Plain.{Plain, Entry as ShownEntry, Saved, Live, is_in, may_overflow, overflow_of, spoiled_entry, with_saved}
 use Rattle.plain.specs.Serves.{Serves}
 use Rattle.sector.specs.Bytes.{with_sectors}
 use Rattle.sector.specs.declared.range.Range.{Range}
@@ -22,15 +22,15 @@ wanted_may true = refl
 wanted_may false = refl
 
 -- a spoil changes none, nor does a write
-open_either : (b : Bool) (x : Shown) → is_open (if b then record x { saved = Saved.Invalid } else x) ≡ is_open x
+open_either : (b : Bool) (x : ShownEntry) → is_open (if b then record x { saved = Saved.Invalid } else x) ≡ is_open x
 open_either true x = refl
 open_either false x = refl
 
-pub open_spoiled : (which : List ℕ) (xs : List Shown) → map is_open (map (spoiled_entry which) xs) ≡ map is_open xs
+pub open_spoiled : (which : List ℕ) (xs : List ShownEntry) → map is_open (map (spoiled_entry which) xs) ≡ map is_open xs
 open_spoiled which [] = refl
 open_spoiled which (x ∷ xs) = (λ i. open_either (is_in which x.number) x i ∷ open_spoiled which xs i)
 
-open_with : (n : ℕ) (saved : Saved) (xs : List Shown) → map is_open (with_saved n saved xs) ≡ map is_open xs
+open_with : (n : ℕ) (saved : Saved) (xs : List ShownEntry) → map is_open (with_saved n saved xs) ≡ map is_open xs
 open_with n saved [] = refl
 open_with n saved (x ∷ xs) = elim (cases_Bool (x.number == n)) [
   | inl here ↦ rw here refl
@@ -145,7 +145,7 @@ may_few (true ∷ bs) (false ∷ ms) = omega (arith, may_few bs ms)
 may_few (false ∷ bs) (m ∷ ms) = omega (arith, may_few bs ms)
 
 -- a loss gives its places back
-noted_less : (n : ℕ) (saved : List Shown) (lives lives' : List Bool) (es es' : List Entry) → Noted n saved lives lives' es es' → (d : Shown) (k : ℕ) → get_or lives' k false ≡ true → get_or lives k false ≡ true
+noted_less : (n : ℕ) (saved : List ShownEntry) (lives lives' : List Bool) (es es' : List Entry) → Noted n saved lives lives' es es' → (d : ShownEntry) (k : ℕ) → get_or lives' k false ≡ true → get_or lives k false ≡ true
 noted_less n saved lives lives' es es' s d k e = elim (cases_lt k n) [
   | inl lt ↦ first (get_or lives k false) _ (sym (s.looked k d lt) ∙ e)
   | inr ge ↦ sym (s.ahead k (omega (arith, ge))) ∙ e
@@ -155,10 +155,10 @@ noted_less n saved lives lives' es es' s d k e = elim (cases_lt k n) [
     first true b e = refl
     first false b e = e
 
-pub noted_may : (n : ℕ) (saved : List Shown) (lives lives' may : List Bool) (es es' : List Entry) → Shown → Noted n saved lives lives' es es' → may_count lives' may ≤ may_count lives may
+pub noted_may : (n : ℕ) (saved : List ShownEntry) (lives lives' may : List Bool) (es es' : List Entry) → ShownEntry → Noted n saved lives lives' es es' → may_count lives' may ≤ may_count lives may
 noted_may n saved lives lives' may es es' d s = may_fewer lives lives' may may (noted_less n saved lives lives' es es' s d) (λ k e. e)
 
-pub any_shown : Shown
+pub any_shown : ShownEntry
 any_shown = record { number = 0; saved = Saved.Invalid; overflow = overflow_of false }
 
 -- one place after another

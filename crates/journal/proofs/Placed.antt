@@ -4,13 +4,12 @@ use Rattle.std.specs.Prelude.{◌==◌, ◌&&◌}
 use Rattle.std.specs.List.{position, position_or_len}
 use Rattle.std.proofs.lemmas.Bool.{cases_Bool}
 use Rattle.std.proofs.lemmas.List.{get_or-map, get_or_default, length-map}
-use Rattle.plain.specs.Plain.{Entry as Shown, did_overflow}
+use Rattle.plain.specs.Plain.{Entry as ShownEntry, did_overflow}
 use Rattle.plain.specs.declared.request.Dev.{Dev}
 use Rattle.plain.specs.declared.request.Dev.TheVariants.{Snap}
 use Rattle.snapshot.specs.Kept.{Kept}
 use Rattle.snapshots.specs.Finding.{place_of_snap}
-use Rattle.volume_laws.specs.Shape.{shown_entry}
-use Rattle.volume.specs.Volumed.{snap_shape}
+use Rattle.volume.specs.Shown.{shown_entry}
 use Rattle.journal.specs.declared.entry.Entry.{Entry}
 use Rattle.journal.specs.declared.entry.Entry.TheVariants.{Overflowed}
 use Rattle.journal.specs.Marked.{IsMarkNoted, is_marked, is_new_mark}
@@ -23,8 +22,8 @@ some_is : (m n : ℕ) → Some m ≡ Some n → m ≡ n
 some_is m n e = cc
 
 module _ {B : Type 0} (contents : B → List ℕ) (origin : List ℕ) where
-  abbrev shown : List (Kept B) → List Shown
-  shown snaps = map (shown_entry contents origin) (map snap_shape snaps)
+  abbrev shown : List (Kept B) → List ShownEntry
+  shown snaps = map (shown_entry contents origin) snaps
 
   same_search : (number : ℕ) (snaps : List (Kept B)) → position_or_len (λ e. e.number == number) (shown snaps) ≡ position_or_len (λ s. s.number == number) snaps
   same_search number [] = refl
@@ -35,13 +34,13 @@ module _ {B : Type 0} (contents : B → List ℕ) (origin : List ℕ) where
 
   same_place : (number : ℕ) (snaps : List (Kept B)) → position (λ e. e.number == number) (shown snaps) ≡ place_of_snap number snaps
   same_place number snaps =
-      let long : length (shown snaps) ≡ length snaps = length-map (map snap_shape snaps) (shown_entry contents origin) ∙ length-map snaps snap_shape in
+      let long : length (shown snaps) ≡ length snaps = length-map snaps (shown_entry contents origin) in
       (λ i. cond (nat_lt (same_search number snaps i) (long i)) (Some (same_search number snaps i)) None)
 
   marked_there : (snaps : List (Kept B)) (k : ℕ) (s : Kept B) → k < length snaps → s ≡ get_or snaps k s → get_or (map is_marked (shown snaps)) k false ≡ did_overflow s.overflow
   marked_there snaps k s within is =
-      let d : Shown = shown_entry contents origin (snap_shape s) in
-      get_or-map is_marked (shown snaps) k d false (omega (arith, within, length-map (map snap_shape snaps) (shown_entry contents origin), length-map snaps snap_shape))
+      let d : ShownEntry = shown_entry contents origin s in
+      get_or-map is_marked (shown snaps) k d false (omega (arith, within, length-map snaps (shown_entry contents origin)))
       ∙ ap is_marked (shown_at contents origin snaps k s within d) ∙ ap (λ (x : Kept B). did_overflow x.overflow) (sym is)
 
   module _ (dev : Dev) (number : ℕ) (named : dev ≡ Snap number) (snaps : List (Kept B)) (lives may may' : List Bool) (es es' : List Entry) where

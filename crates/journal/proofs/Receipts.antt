@@ -1,21 +1,21 @@
 -- What a call noted, as callers see it.
 use Rattle.std.proofs.Common.{◌≡◌, ◌≢◌, inl, inr, ℕ, ◌+◌, ◌<◌, Bool, true, false, List, [], ◌∷◌, ◌++◌, length, get_or, map, Some, None, refl, sym, ◌∙◌, ap, subst}
-use Rattle.std.specs.Prelude.{◌&&◌, ◌==◌}
+use Rattle.std.specs.Prelude.{◌==◌}
 use Rattle.std.specs.List.{remove}
 use Rattle.std.proofs.Common.{eq-eqb}
 use Rattle.std.proofs.lemmas.Bool.{ne_eqb}
 use Rattle.std.proofs.lemmas.List.{length-map, map-append}
 use Rattle.device.specs.Layers.{Layer}
 use Rattle.plain.specs.declared.event.Event.{Event}
-use Rattle.plain.specs.declared.event.Event.TheVariants.{Issue}
+use Rattle.plain.specs.declared.event.Event.TheVariants.{Issue, CopyRead, CopyWrite, ZeroNext, WriteArea, Publish, WriteInvalid, FlushStore, MergeGroup, MergeAreaRead, MergeRead, MergeWrite, MergeFlush, MergeCommit, MergeRelease}
 use Rattle.plain.specs.declared.event.Outcome.{Outcome}
 use Rattle.plain.specs.declared.event.Outcome.TheVariants.{Done, Fault, Reply as Replied}
 use Rattle.plain.specs.declared.request.Reply.{Reply}
 use Rattle.plain.specs.declared.request.Request.{Request}
-use Rattle.plain.specs.Plain.{InFlight, Entry as Shown}
-use Rattle.volume_laws.specs.Shape.{shown_entry}
+use Rattle.plain.specs.Plain.{InFlight, Entry as ShownEntry}
+use Rattle.volume.specs.Shown.{shown_entry}
 use Rattle.snapshots.specs.Numbers.{number_of_snap}
-use Rattle.volume.specs.Volumed.{Volumed, plain_of, snap_shape}
+use Rattle.volume.specs.Volumed.{Volumed, plain_of}
 use Rattle.in_flight.specs.Kinds.{in_flight}
 use Rattle.sector.specs.declared.refusal.Refusal.{Refusal}
 use Rattle.volume_laws.proofs.Refusing.{refused_in_flight}
@@ -27,13 +27,13 @@ use Rattle.journal.specs.declared.entry.HeldRequest.{HeldRequest}
 use Rattle.journal.specs.Books.{AuditShape, count_of, in_flight as held_in_flight}
 use Rattle.journal.specs.Journaled.{HasReceipt, IsNoted, IsSilent, OnlySpoils}
 use Rattle.journal.specs.Noted.{Noted}
-use Rattle.journal.specs.Seats.{Seated, flight_in, is_of, seated, seated_under, without_seated}
+use Rattle.journal.specs.Seats.{Seated, flight_in, is_of, may_do, seated, seated_under, without_seated}
 use Rattle.journal.proofs.Replaying.{IsFirst, seated_first, seated_none, unseated_first}
 use Rattle.journal.proofs.Keeping.{answer_of}
 
 -- a volume's snapshots, counted
 pub saved_count : {B : Type 0} (contents : B → List ℕ) (layers : B → List Layer) (w : Volumed B) → length (plain_of contents layers w).saved ≡ length w.snaps
-saved_count contents layers w = length-map (map snap_shape w.snaps) (shown_entry contents (contents w.origin)) ∙ length-map w.snaps snap_shape
+saved_count contents layers w = length-map w.snaps (shown_entry contents (contents w.origin))
 
 pub snaps_same : {B : Type 0} (w w' : Volumed B) → map number_of_snap w'.snaps ≡ map number_of_snap w.snaps → length w'.snaps ≡ length w.snaps
 snaps_same w w' numbers = sym (length-map w'.snaps number_of_snap) ∙ ap length numbers ∙ length-map w.snaps number_of_snap
@@ -58,11 +58,23 @@ mine_other seat n hs held k x same first apart = mine_is seat n hs held k x same
 pub mine_own : (seat n : ℕ) (hs : List HeldRequest) (held : List Seated) (k : ℕ) (x : HeldRequest) → map seated hs ≡ held → IsFirst n hs k x → x.seat ≡ seat → is_of seat (seated_under n held) ≡ true
 mine_own seat n hs held k x same first mine = mine_is seat n hs held k x same first ∙ eq-eqb x.seat seat mine
 
-pub not_both : (a b : Bool) → a ≡ false → false ≡ (a && b)
-not_both a b e = sym (ap (λ x. x && b) e)
-
-pub by_second : (a b c : Bool) → a ≡ true → c ≡ b → c ≡ (a && b)
-by_second a b c e f = f ∙ sym (ap (λ x. x && b) e)
+-- an event that is no Issue any seat may do
+pub may_other : (seat : ℕ) (event : Event) (held : List Seated) → ((n : ℕ) → event ≢ Issue n) → may_do seat event held ≡ true
+may_other seat (Issue n) held other = absurd (other n refl)
+may_other seat (CopyRead n) held other = refl
+may_other seat (CopyWrite n) held other = refl
+may_other seat (ZeroNext n) held other = refl
+may_other seat (WriteArea n) held other = refl
+may_other seat (Publish n) held other = refl
+may_other seat (WriteInvalid n) held other = refl
+may_other seat (FlushStore n) held other = refl
+may_other seat MergeGroup held other = refl
+may_other seat MergeAreaRead held other = refl
+may_other seat MergeRead held other = refl
+may_other seat MergeWrite held other = refl
+may_other seat MergeFlush held other = refl
+may_other seat MergeCommit held other = refl
+may_other seat MergeRelease held other = refl
 
 -- a reply's receipt
 pub receipt_has : {B : Type 0} (old new : AuditShape B) (hs : List HeldRequest) (n m k seat count : ℕ) (x : HeldRequest) (reply : Reply) → m ≡ n → IsFirst n hs k x → x.seat ≡ seat → x.for_receipt ≡ x.for_entry
@@ -78,7 +90,7 @@ receipt_has old new hs n m k seat count x reply same first mine copied was now c
 }
 
 -- spoils alone
-pub only_spoils : {B : Type 0} (old new : AuditShape B) (n : ℕ) (saved : List Shown) (lives lives' : List Bool) (es es' : List Entry) → Noted n saved lives lives' es es' → es ≡ old.entries → new.entries ≡ es' → OnlySpoils old new
+pub only_spoils : {B : Type 0} (old new : AuditShape B) (n : ℕ) (saved : List ShownEntry) (lives lives' : List Bool) (es es' : List Entry) → Noted n saved lives lives' es es' → es ≡ old.entries → new.entries ≡ es' → OnlySpoils old new
 only_spoils old new n saved lives lives' es es' noted was now = record { which = noted.which; entries = now ∙ noted.entries_are ∙ ap (λ (l : List Entry). l ++ map Spoiled noted.which) was }
 
 pub none_new : {B : Type 0} (old new : AuditShape B) → new.entries ≡ old.entries → OnlySpoils old new

@@ -1,5 +1,5 @@
 -- A store that is refused before the volume is asked leaves it as it was.
-use Rattle.std.proofs.Common.{◌≡◌, inl, ℕ, List, refl}
+use Rattle.std.proofs.Common.{inl, ℕ, List, refl}
 use Rattle.sector.specs.declared.refusal.Refusal.{Refusal}
 use Rattle.device.specs.Layers.{Layer}
 use Rattle.volume.specs.Attached.{IsRefusedOver}

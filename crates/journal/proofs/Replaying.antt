@@ -11,36 +11,36 @@ use Rattle.plain.specs.declared.request.Op.TheVariants.{Read, Write, Flush}
 use Rattle.plain.specs.declared.request.Reply.{Reply}
 use Rattle.plain.specs.declared.request.Reply.TheVariants.{Data, Written, Flushed, Refused}
 use Rattle.plain.specs.declared.request.Failure.TheVariants.{Invalid as IsInvalid, Io, Overflow}
-use Rattle.plain.specs.Plain.{Plain, Entry as Shown, Live, Invalid, is_in, spoiled_entry, saved_under, with_saved, asked_under, without}
+use Rattle.plain.specs.Plain.{Plain, Entry as ShownEntry, Live, Invalid, is_in, spoiled_entry, saved_under, with_saved, asked_under, without, Shown, shown_of}
 use Rattle.plain.specs.Serves.{Serves, SameArrays, Shows, Assigns, IsSpoilt}
 use Rattle.sector.specs.Bytes.{with_sectors}
 use Rattle.journal.specs.declared.entry.Answered.{Answered as AnsweredEntry}
 use Rattle.journal.specs.declared.entry.Entry.{Entry}
 use Rattle.journal.specs.declared.entry.Entry.TheVariants.{Answered, Spoiled, Overflowed, Attached, Detached, Begun, Finished}
 use Rattle.journal.specs.declared.entry.HeldRequest.{HeldRequest}
-use Rattle.journal.specs.Replay.{Saves, saves_of, plain_in, served, array_in, after, replay, AllLawful}
+use Rattle.journal.specs.Replay.{plain_in, served, array_in, after, replay, AllLawful}
 use Rattle.journal.specs.Entries.{entries_by}
 use Rattle.journal.specs.Books.{in_flight}
 use Rattle.journal.specs.Noted.{is_live, is_live_state}
 use Rattle.journal.specs.Seats.{seated, seated_under, without_seated}
 
-pub replay_then : (s : Saves) (es fs : List Entry) → replay s (es ++ fs) ≡ replay (replay s es) fs
+pub replay_then : (s : Shown) (es fs : List Entry) → replay s (es ++ fs) ≡ replay (replay s es) fs
 replay_then s [] fs = refl
 replay_then s (e ∷ es) fs = replay_then (after s e) es fs
 
-pub lawful_then : (s : Saves) (es fs : List Entry) → AllLawful s es → AllLawful (replay s es) fs → AllLawful s (es ++ fs)
+pub lawful_then : (s : Shown) (es fs : List Entry) → AllLawful s es → AllLawful (replay s es) fs → AllLawful s (es ++ fs)
 lawful_then s [] fs all more = more
 lawful_then s (e ∷ es) fs all more = (all.0, lawful_then (after s e) es fs all.1 more)
 
 -- spoils
-spoiled_none : (xs : List Shown) → map (spoiled_entry []) xs ≡ xs
+spoiled_none : (xs : List ShownEntry) → map (spoiled_entry []) xs ≡ xs
 spoiled_none [] = refl
 spoiled_none (x ∷ xs) = ap (λ ys. x ∷ ys) (spoiled_none xs)
 
-both_spoiled : (n : ℕ) (ns : List ℕ) (x : Shown) → spoiled_entry ns (spoiled_entry (n ∷ []) x) ≡ spoiled_entry (n ∷ ns) x
+both_spoiled : (n : ℕ) (ns : List ℕ) (x : ShownEntry) → spoiled_entry ns (spoiled_entry (n ∷ []) x) ≡ spoiled_entry (n ∷ ns) x
 both_spoiled n ns x = by (n == x.number) refl
   where
-    same : (b : Bool) (y : Shown) → (if b then (record y { saved = Invalid }) else (record y { saved = Invalid })) ≡ record y { saved = Invalid }
+    same : (b : Bool) (y : ShownEntry) → (if b then (record y { saved = Invalid }) else (record y { saved = Invalid })) ≡ record y { saved = Invalid }
     same true y = refl
     same false y = refl
 
@@ -48,16 +48,16 @@ both_spoiled n ns x = by (n == x.number) refl
     by true e = rw e (same (is_in ns x.number) x)
     by false e = rw e refl
 
-spoiled_both : (n : ℕ) (ns : List ℕ) (xs : List Shown) → map (spoiled_entry ns) (map (spoiled_entry (n ∷ [])) xs) ≡ map (spoiled_entry (n ∷ ns)) xs
+spoiled_both : (n : ℕ) (ns : List ℕ) (xs : List ShownEntry) → map (spoiled_entry ns) (map (spoiled_entry (n ∷ [])) xs) ≡ map (spoiled_entry (n ∷ ns)) xs
 spoiled_both n ns [] = refl
 spoiled_both n ns (x ∷ xs) = (λ i. both_spoiled n ns x i ∷ spoiled_both n ns xs i)
 
-pub replay_spoils : (s : Saves) (ns : List ℕ) → replay s (map Spoiled ns) ≡ record s { saved = map (spoiled_entry ns) s.saved }
+pub replay_spoils : (s : Shown) (ns : List ℕ) → replay s (map Spoiled ns) ≡ record s { saved = map (spoiled_entry ns) s.saved }
 replay_spoils s [] = ap (λ ys. record s { saved = ys }) (sym (spoiled_none s.saved))
 replay_spoils s (n ∷ ns) =
     replay_spoils (record s { saved = map (spoiled_entry (n ∷ [])) s.saved }) ns ∙ ap (λ ys. record s { saved = ys }) (spoiled_both n ns s.saved)
 
-pub lawful_spoils : (s : Saves) (ns : List ℕ) → AllLawful s (map Spoiled ns)
+pub lawful_spoils : (s : Shown) (ns : List ℕ) → AllLawful s (map Spoiled ns)
 lawful_spoils s [] = tt
 lawful_spoils s (n ∷ ns) = (tt, lawful_spoils (after s (Spoiled n)) ns)
 
@@ -113,11 +113,11 @@ entries_by_few seat (Begun n ∷ es) = omega (arith, entries_by_few seat es)
 entries_by_few seat (Finished ∷ es) = omega (arith, entries_by_few seat es)
 
 -- a reply of the plain machine is what replay makes of it
-same_saves : (p q : Plain) → SameArrays p q → saves_of q ≡ saves_of p
-same_saves p q s = (λ i. record { origin = s.origin i; begun = s.begun i; saved = s.saved i })
+same_shown : (p q : Plain) → SameArrays p q → shown_of q ≡ shown_of p
+same_shown p q s = (λ i. record { origin = s.origin i; begun = s.begun i; saved = s.saved i })
 
-pub served_is : (p q : Plain) (dev : Dev) (op : Op) (range : Range) (reply : Reply) → Serves p dev op range reply q → saves_of q ≡ served dev op range.first reply (saves_of p)
-served_is p q dev Read range (Data bytes) s = same_saves p q s.0
+pub served_is : (p q : Plain) (dev : Dev) (op : Op) (range : Range) (reply : Reply) → Serves p dev op range reply q → shown_of q ≡ served dev op range.first reply (shown_of p)
+served_is p q dev Read range (Data bytes) s = same_shown p q s.0
 served_is p q dev (Write bytes) range (Data read) s = absurd s
 served_is p q dev Read range Written s = absurd s
 served_is p q Origin (Write bytes) range Written s =
@@ -128,44 +128,44 @@ served_is p q (Snap number) (Write bytes) range Written s =
     let same : with_saved number (Live (with_sectors s.0 range.first bytes)) p.saved ≡ with_saved number (Live (with_sectors (array_in (saved_under number p.saved)) range.first bytes)) p.saved =
     ap (λ array. with_saved number (Live (with_sectors array range.first bytes)) p.saved) (sym (ap array_in s.1)) in
     (λ i. record { origin = w.origin i; begun = w.begun i; saved = (w.saved ∙ same) i })
-served_is p q dev Read range (Refused Io) s = same_saves p q s.0
-served_is p q dev (Write bytes) range (Refused Io) s = same_saves p q s.0
-served_is p q dev Read range (Refused IsInvalid) s = same_saves p q s.0
-served_is p q dev (Write bytes) range (Refused IsInvalid) s = same_saves p q s.0
+served_is p q dev Read range (Refused Io) s = same_shown p q s.0
+served_is p q dev (Write bytes) range (Refused Io) s = same_shown p q s.0
+served_is p q dev Read range (Refused IsInvalid) s = same_shown p q s.0
+served_is p q dev (Write bytes) range (Refused IsInvalid) s = same_shown p q s.0
 served_is p q dev Read range (Refused Overflow) s = absurd s
 served_is p q dev Read range Flushed s = absurd s
 served_is p q dev (Write bytes) range Flushed s = absurd s
-served_is p q dev Flush range Flushed s = same_saves p q s.0
+served_is p q dev Flush range Flushed s = same_shown p q s.0
 served_is p q dev Flush range (Data bytes) s = absurd s
 served_is p q dev Flush range Written s = absurd s
-served_is p q dev Flush range (Refused Io) s = same_saves p q s.0
-served_is p q dev Flush range (Refused IsInvalid) s = same_saves p q s.0
+served_is p q dev Flush range (Refused Io) s = same_shown p q s.0
+served_is p q dev Flush range (Refused IsInvalid) s = same_shown p q s.0
 served_is p q dev Flush range (Refused Overflow) s = absurd s
 served_is p q dev (Write bytes) range (Refused Overflow) s = absurd s
 
-bare_arrays : (p q : Plain) → SameArrays p q → SameArrays (plain_in (saves_of p)) (plain_in (saves_of q))
+bare_arrays : (p q : Plain) → SameArrays p q → SameArrays (plain_in (shown_of p)) (plain_in (shown_of q))
 bare_arrays p q s = record { origin = s.origin; begun = s.begun; saved = s.saved }
 
-bare_shows : (p : Plain) (dev : Dev) (array : List ℕ) → Shows p dev array → Shows (plain_in (saves_of p)) dev array
+bare_shows : (p : Plain) (dev : Dev) (array : List ℕ) → Shows p dev array → Shows (plain_in (shown_of p)) dev array
 bare_shows p Origin array s = s
 bare_shows p (Snap number) array s = s
 
-bare_spoilt : (p : Plain) (dev : Dev) → IsSpoilt p dev → IsSpoilt (plain_in (saves_of p)) dev
+bare_spoilt : (p : Plain) (dev : Dev) → IsSpoilt p dev → IsSpoilt (plain_in (shown_of p)) dev
 bare_spoilt p Origin s = absurd s
 bare_spoilt p (Snap number) s = s
 
-bare_assigns : (p q : Plain) (dev : Dev) (array : List ℕ) → Assigns dev p q array → Assigns dev (plain_in (saves_of p)) (plain_in (saves_of q)) array
+bare_assigns : (p q : Plain) (dev : Dev) (array : List ℕ) → Assigns dev p q array → Assigns dev (plain_in (shown_of p)) (plain_in (shown_of q)) array
 bare_assigns p q Origin array w = record { origin = w.origin; begun = w.begun; saved = w.saved }
 bare_assigns p q (Snap number) array w = record { origin = w.origin; begun = w.begun; saved = w.saved }
 
 -- and keeps which snapshots are live
-live_with : (b : Bool) (n : ℕ) (x : Shown) (xs : List Shown) (array other : List ℕ) → (x.number == n) ≡ b → (if b then Some x.saved else saved_under n xs) ≡ Some (Live other)
+live_with : (b : Bool) (n : ℕ) (x : ShownEntry) (xs : List ShownEntry) (array other : List ℕ) → (x.number == n) ≡ b → (if b then Some x.saved else saved_under n xs) ≡ Some (Live other)
     → (saved_under n xs ≡ Some (Live other) → map is_live (with_saved n (Live array) xs) ≡ map is_live xs)
     → map is_live (if b then (record x { saved = Live array }) ∷ xs else x ∷ with_saved n (Live array) xs) ≡ is_live x ∷ map is_live xs
 live_with true n x xs array other e found rest = let is : x.saved ≡ Live other = cc in ap (λ y. y ∷ map is_live xs) (sym (ap is_live_state is))
 live_with false n x xs array other e found rest = ap (λ ys. is_live x ∷ ys) (rest found)
 
-lives_with : (n : ℕ) (xs : List Shown) (array other : List ℕ) → saved_under n xs ≡ Some (Live other) → map is_live (with_saved n (Live array) xs) ≡ map is_live xs
+lives_with : (n : ℕ) (xs : List ShownEntry) (array other : List ℕ) → saved_under n xs ≡ Some (Live other) → map is_live (with_saved n (Live array) xs) ≡ map is_live xs
 lives_with n [] array other found = refl
 lives_with n (x ∷ xs) array other found = live_with (x.number == n) n x xs array other refl found (lives_with n xs array other)
 
@@ -191,7 +191,7 @@ lives_served p q dev Flush range (Refused Overflow) s = absurd s
 lives_served p q dev (Write bytes) range (Refused Overflow) s = absurd s
 
 -- the arrays and states alone say whether a reply is lawful
-pub lawful_is : (p q : Plain) (dev : Dev) (op : Op) (range : Range) (reply : Reply) → Serves p dev op range reply q → Serves (plain_in (saves_of p)) dev op range reply (plain_in (saves_of q))
+pub lawful_is : (p q : Plain) (dev : Dev) (op : Op) (range : Range) (reply : Reply) → Serves p dev op range reply q → Serves (plain_in (shown_of p)) dev op range reply (plain_in (shown_of q))
 lawful_is p q dev Read range (Data bytes) s = (bare_arrays p q s.0, (s.1.0, bare_shows p dev s.1.0 s.1.1, s.1.2))
 lawful_is p q dev (Write bytes) range (Data read) s = absurd s
 lawful_is p q dev Read range Written s = absurd s

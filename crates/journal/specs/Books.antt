@@ -2,13 +2,13 @@
 use Rattle.std.specs.Prelude.{◌≡◌, ℕ, ◌+◌, ◌<◌, ◌≤◌, Bool, true, List, Option, Some, None, length, map, slice_index_or}
 use Rattle.std.specs.List.{All}
 use Rattle.in_flight.specs.Kinds.{room_of}
-use Rattle.plain.specs.Plain.{Plain, InFlight, Entry as Shown, Saved as State, Live, Invalid}
+use Rattle.plain.specs.Plain.{Plain, InFlight, Entry as ShownEntry, Saved as State, Live, Invalid, Shown, shown_of}
 use Rattle.volume.specs.Volumed.{Volumed}
 use Rattle.journal.specs.declared.entry.Base.{Base}
 use Rattle.journal.specs.declared.entry.Saved.{Saved}
 use Rattle.journal.specs.declared.entry.HeldRequest.{HeldRequest}
 use Rattle.journal.specs.declared.entry.Entry.{Entry}
-use Rattle.journal.specs.Replay.{Saves, saves_of, replay, AllLawful}
+use Rattle.journal.specs.Replay.{replay, AllLawful}
 use Rattle.journal.specs.Entries.{entries_by}
 use Rattle.journal.specs.Inside.{IsAsked, AllInside}
 use Rattle.journal.specs.Noted.{is_live, is_open, kept_count}
@@ -18,11 +18,11 @@ abbrev pub state_in : Option (List ℕ) → State
 state_in (Some array) = Live array
 state_in None = Invalid
 
-abbrev pub shown_in : Saved → Shown
+abbrev pub shown_in : Saved → ShownEntry
 shown_in s = record { number = s.number; saved = state_in s.array; overflow = s.overflow }
 
-abbrev pub saves_in : Base → Saves
-saves_in b = record { origin = b.origin; begun = b.begun; saved = map shown_in b.saved.items }
+abbrev pub shown_in_base : Base → Shown
+shown_in_base b = record { origin = b.origin; begun = b.begun; saved = map shown_in b.saved.items }
 
 -- What callers see of an audit. taken: how many places of the journal were taken before it began, since the last checkpoint.
 -- lives: which snapshots were live when it looked last, in order of attaching, and may: which of their stores could still
@@ -30,7 +30,7 @@ saves_in b = record { origin = b.origin; begun = b.begun; saved = map shown_in b
 -- dropped writes. folded: of each seat, from 0 to 8, how many of its request entries checkpoints folded into the base.
 pub record AuditShape (B : Type 0) : Type 0 where
   pub volume : Volumed B
-  pub base : Saves
+  pub base : Shown
   pub taken : ℕ
   pub entries : List Entry
   pub held : List Seated
@@ -44,7 +44,7 @@ abbrev pub count_of : {B : Type 0} → ℕ → AuditShape B → ℕ
 count_of seat a = slice_index_or a.folded seat 0 + length (entries_by seat a.entries)
 
 pub record Books : Type 0 where
-  pub base : Saves
+  pub base : Shown
   pub taken : ℕ
   pub entries : List Entry
   pub held : List HeldRequest
@@ -78,7 +78,7 @@ pub record Counted (p : Plain) (v : Books) : Type 0 where
 
 -- the entries, replayed, give the plain machine's arrays and states
 pub record Replays (p : Plain) (v : Books) : Type 0 where
-  pub replay_is : replay v.base v.entries ≡ saves_of p
+  pub replay_is : replay v.base v.entries ≡ shown_of p
   pub lawful : AllLawful v.base v.entries
   pub lives : v.lives ≡ map is_live p.saved
   pub may : v.may ≡ map is_open p.saved

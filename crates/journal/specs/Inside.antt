@@ -7,12 +7,13 @@ use Rattle.plain.specs.declared.request.Reply.{Reply}
 use Rattle.plain.specs.declared.request.Reply.TheVariants.{Data, Written, Flushed, Refused}
 use Rattle.plain.specs.declared.request.Request.{Request}
 use Rattle.plain.specs.Serves.{Shows}
+use Rattle.plain.specs.Plain.{Shown}
 use Rattle.journal.specs.declared.entry.Entry.{Entry}
 use Rattle.journal.specs.declared.entry.Entry.TheVariants.{Answered, Spoiled, Overflowed, Attached, Detached, Begun, Finished}
-use Rattle.journal.specs.Replay.{Saves, plain_in, after}
+use Rattle.journal.specs.Replay.{plain_in, after}
 
 -- a write that was done lies inside the array that its device shows
-abbrev pub LiesInside : Saves → Dev → Op → ℕ → Reply → Type 0
+abbrev pub LiesInside : Shown → Dev → Op → ℕ → Reply → Type 0
 LiesInside s dev Read first reply = Unit {0}
 LiesInside s dev Flush first reply = Unit {0}
 LiesInside s dev (Write bytes) first (Data read) = Unit {0}
@@ -20,7 +21,7 @@ LiesInside s dev (Write bytes) first Written = (array : List ℕ) → Shows (pla
 LiesInside s dev (Write bytes) first Flushed = Unit {0}
 LiesInside s dev (Write bytes) first (Refused failure) = Unit {0}
 
-abbrev pub IsInside : Saves → Entry → Type 0
+abbrev pub IsInside : Shown → Entry → Type 0
 IsInside s (Answered a) = LiesInside s a.request.dev a.request.op a.request.range.first a.reply
 IsInside s (Spoiled number) = Unit {0}
 IsInside s (Overflowed number) = Unit {0}
@@ -30,7 +31,7 @@ IsInside s (Begun number) = Unit {0}
 IsInside s Finished = Unit {0}
 
 -- all of them, in their order
-abbrev pub AllInside : Saves → List Entry → Type 0
+abbrev pub AllInside : Shown → List Entry → Type 0
 AllInside s [] = Unit {0}
 AllInside s (e ∷ es) = IsInside s e × AllInside (after s e) es
 

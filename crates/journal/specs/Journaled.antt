@@ -10,8 +10,10 @@ use Rattle.plain.specs.declared.request.Request.{Request}
 use Rattle.std.specs.List.{remove}
 use Rattle.sector.specs.declared.refusal.Refusal.{Refusal}
 use Rattle.sector.specs.declared.refusal.Refusal.TheVariants.{JournalFull, NoMemory, Overflow}
+use Rattle.device.specs.Layers.{Layer}
 use Rattle.snapshots.specs.Finding.{place_of_snap}
 use Rattle.volume.specs.Beginning.{IsNotBegun}
+use Rattle.volume.specs.Submitting.{IsRefusedAs}
 use Rattle.journal.specs.declared.entry.Entry.{Entry}
 use Rattle.journal.specs.declared.entry.Entry.TheVariants.{Answered, Attached, Overflowed, Spoiled}
 use Rattle.journal.specs.declared.entry.Receipt.{Receipt}
@@ -91,6 +93,11 @@ pub record IsHeld {B : Type 0} (seat number : ℕ) (request : Request) (old new 
 abbrev pub IsBarred : {B : Type 0} → ℕ → Refusal → AuditShape B → AuditShape B → Type 0
 IsBarred more refusal old new =
     (((is_full_by more old ≡ true) × (refusal ≡ JournalFull)) ⊎ ((is_full_by more old ≡ false) × (refusal ≡ NoMemory))) × (new ≡ old)
+
+-- A request is refused: before the volume was asked, or as the volume says.
+abbrev pub IsNotSubmitted : {B : Type 0} → (B → List ℕ) → (B → List Layer) → (B → ℕ) → Request → Refusal → AuditShape B → AuditShape B → Type 0
+IsNotSubmitted contents layers size request refusal old new =
+    IsBarred 1 refusal old new ⊎ ((is_full_by 1 old ≡ false) × IsRefusedAs contents layers size request refusal old.volume new.volume)
 
 -- nothing but the volume changes
 pub record KeepsJournal {B : Type 0} (old new : AuditShape B) : Type 0 where

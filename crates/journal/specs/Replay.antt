@@ -8,23 +8,14 @@ use Rattle.plain.specs.declared.request.Op.{Op}
 use Rattle.plain.specs.declared.request.Op.TheVariants.{Read, Write, Flush}
 use Rattle.plain.specs.declared.request.Reply.{Reply}
 use Rattle.plain.specs.declared.request.Reply.TheVariants.{Data, Written, Flushed, Refused}
-use Rattle.plain.specs.Plain.{Plain, Entry as Shown, Saved, Live, Invalid, saved_under, with_saved, without_saved, spoiled_entry, did_overflow, marked_in}
+use Rattle.plain.specs.Plain.{Plain, Saved, Live, Invalid, saved_under, with_saved, without_saved, spoiled_entry, did_overflow, marked_in, Shown}
 use Rattle.plain.specs.Legal.{Overflows}
 use Rattle.plain.specs.Serves.{Serves}
 use Rattle.journal.specs.declared.entry.Entry.{Entry}
 use Rattle.journal.specs.declared.entry.Entry.TheVariants.{Answered, Spoiled, Overflowed, Attached, Detached, Begun, Finished}
 
--- the arrays and states of a plain machine
-pub record Saves : Type 0 where
-  pub origin : List ℕ
-  pub begun : Option ℕ
-  pub saved : List Shown
-
-abbrev pub saves_of : Plain → Saves
-saves_of p = record { origin = p.origin; begun = p.begun; saved = p.saved }
-
--- and with no request in flight
-abbrev pub plain_in : Saves → Plain
+-- what is shown, with no request in flight
+abbrev pub plain_in : Shown → Plain
 plain_in s = record { origin = s.origin; begun = s.begun; saved = s.saved; requests = [] }
 
 -- the array of a state
@@ -34,24 +25,24 @@ array_in (Some Invalid) = []
 array_in None = []
 
 -- a write to one array
-abbrev pub put : Dev → ℕ → List ℕ → Saves → Saves
+abbrev pub put : Dev → ℕ → List ℕ → Shown → Shown
 put Origin first bytes s = record s { origin = with_sectors s.origin first bytes }
 put (Snap number) first bytes s = record s { saved = with_saved number (Live (with_sectors (array_in (saved_under number s.saved)) first bytes)) s.saved }
 
-abbrev pub put_op : Dev → Op → ℕ → Saves → Saves
+abbrev pub put_op : Dev → Op → ℕ → Shown → Shown
 put_op dev Read first s = s
 put_op dev Flush first s = s
 put_op dev (Write bytes) first s = put dev first bytes s
 
 -- what a reply does
-abbrev pub served : Dev → Op → ℕ → Reply → Saves → Saves
+abbrev pub served : Dev → Op → ℕ → Reply → Shown → Shown
 served dev op first (Data bytes) s = s
 served dev op first Written s = put_op dev op first s
 served dev op first Flushed s = s
 served dev op first (Refused failure) s = s
 
 -- what an entry does
-abbrev pub after : Saves → Entry → Saves
+abbrev pub after : Shown → Entry → Shown
 after s (Answered a) = served a.request.dev a.request.op a.request.range.first a.reply s
 after s (Spoiled number) = record s { saved = map (spoiled_entry (number ∷ [])) s.saved }
 after s (Overflowed number) = record s { saved = marked_in number s.saved }
@@ -61,14 +52,14 @@ after s (Begun number) = record { origin = array_in (saved_under number s.saved)
 after s Finished = record s { begun = None }
 
 -- all of them, in their order
-abbrev pub replay : Saves → List Entry → Saves
+abbrev pub replay : Shown → List Entry → Shown
 replay s [] = s
 replay s (e ∷ es) = replay (after s e) es
 
 -- An entry that the plain machine allows there: each reply is lawful, a store that overflowed is that of a live snapshot which
 -- could, a snapshot that is taken has a number of its own, did not overflow, and shows the origin where its store was fresh, one
 -- that is taken away is there, one that begins to be merged is live and alone in that, and a merge that is taken out was begun.
-abbrev pub IsLawful : Saves → Entry → Type 0
+abbrev pub IsLawful : Shown → Entry → Type 0
 IsLawful s (Answered a) = Serves (plain_in s) a.request.dev a.request.op a.request.range a.reply (plain_in (after s (Answered a)))
 IsLawful s (Spoiled number) = Unit {0}
 IsLawful s (Overflowed number) = Overflows number (plain_in s) (plain_in (after s (Overflowed number)))
@@ -77,6 +68,6 @@ IsLawful s (Detached number) = (saved : Saved) × (saved_under number s.saved �
 IsLawful s (Begun number) = (s.begun ≡ None) × ((array : List ℕ) × (saved_under number s.saved ≡ Some (Live array)))
 IsLawful s Finished = (number : ℕ) × (s.begun ≡ Some number)
 
-abbrev pub AllLawful : Saves → List Entry → Type 0
+abbrev pub AllLawful : Shown → List Entry → Type 0
 AllLawful s [] = Unit {0}
 AllLawful s (e ∷ es) = IsLawful s e × AllLawful (after s e) es

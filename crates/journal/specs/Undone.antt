@@ -5,9 +5,10 @@ use Rattle.std.specs.Prelude.{◌≡◌, ◌==◌, ℕ, Bool, true, false, List,
 use Rattle.plain.specs.declared.request.Reply.{Reply}
 use Rattle.plain.specs.declared.request.Reply.TheVariants.{Data, Written, Flushed, Refused}
 use Rattle.plain.specs.Unwritten.{writes}
+use Rattle.plain.specs.Plain.{Shown}
 use Rattle.journal.specs.declared.entry.Entry.{Entry}
 use Rattle.journal.specs.declared.entry.Entry.TheVariants.{Answered, Spoiled, Overflowed, Attached, Detached, Begun, Finished}
-use Rattle.journal.specs.Replay.{Saves, after}
+use Rattle.journal.specs.Replay.{after}
 
 -- a snapshot that was taken, and what its merge gives the origin
 pub record Taken : Type 0 where
@@ -57,7 +58,7 @@ ShowsTaken n origin [] = Unit {0}
 ShowsTaken n origin (t ∷ taken) = (t.number ≡ n → origin ≡ t.array) × ShowsTaken n origin taken
 
 -- what holds right after an entry: one by which a merge begins gives the origin its old array back
-abbrev pub IsUndone : List Taken → Entry → Saves → Type 0
+abbrev pub IsUndone : List Taken → Entry → Shown → Type 0
 IsUndone taken (Answered a) s = Unit {0}
 IsUndone taken (Spoiled n) s = Unit {0}
 IsUndone taken (Overflowed n) s = Unit {0}
@@ -67,6 +68,6 @@ IsUndone taken (Begun n) s = ShowsTaken n s.origin taken
 IsUndone taken Finished s = Unit {0}
 
 -- after each of these entries
-abbrev pub AllUndone : List Taken → Saves → List Entry → Type 0
+abbrev pub AllUndone : List Taken → Shown → List Entry → Type 0
 AllUndone taken s [] = Unit {0}
 AllUndone taken s (e ∷ es) = IsUndone taken e (after s e) × AllUndone (noted s.origin e taken) (after s e) es

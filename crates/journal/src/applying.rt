@@ -1,8 +1,7 @@
 // The events of a volume, each with what it comes to in the journal.
-ghost use Rattle.std.specs.Prelude.{◌≡◌, ◌≢◌, ◌&&◌, ℕ, IfOk, IsOk, OnErr, None, Some, is_ok, true};
+ghost use Rattle.std.specs.Prelude.{◌≡◌, ◌≢◌, ℕ, IfOk, OnErr, None, true};
 ghost use Rattle.plain.specs.declared.event.Event.TheVariants.{Issue};
 ghost use Rattle.volume.specs.DoesStep.{DoesStep};
-ghost use Rattle.volume.specs.Volumed.{is_due_of, next_of};
 ghost use Rattle.journal.specs.Journaled.{IsNoted, KeepsBase, outcome_in};
 ghost use Rattle.journal.specs.Seats.{IsUnanswered, may_do};
 
@@ -21,9 +20,7 @@ impl<B: Layered> Audit<B> {
         ensures noted { IfOk result (λ r. IsNoted seat r.0 r.1 self.old self.new) }
         ensures unanswered { IfOk result (λ r. IsUnanswered event r.0 self.old.held) }
         ensures base { KeepsBase self.old self.new }
-        ensures due { is_ok result ≡ (may_do seat event self.old.held && is_due_of B.contents B.layers self.old.volume event) }
-        ensures first { next_of B.contents B.layers self.old.volume ≡ Some event → may_do seat event self.old.held ≡ true → IsOk result }
-        ensures does { DoesStep B.may_hold B.contents B.layers B.size B.fault_count B.done_count event (outcome_in result) self.old.volume self.new.volume }
+        ensures does { DoesStep B.may_hold B.contents B.layers B.size B.fault_count B.done_count (may_do seat event self.old.held) event (outcome_in result) self.old.volume self.new.volume }
         ensures err { OnErr result (self.new ≡ self.old) }
     {
         match event {
@@ -40,9 +37,7 @@ impl<B: Layered> Audit<B> {
         requires { (n : ℕ) → event ≢ Issue n }
         ensures noted { IfOk result (λ outcome. IsNoted 0 outcome None self.old self.new) }
         ensures base { KeepsBase self.old self.new }
-        ensures due { is_ok result ≡ is_due_of B.contents B.layers self.old.volume event }
-        ensures first { next_of B.contents B.layers self.old.volume ≡ Some event → IsOk result }
-        ensures does { DoesStep B.may_hold B.contents B.layers B.size B.fault_count B.done_count event result self.old.volume self.new.volume }
+        ensures does { DoesStep B.may_hold B.contents B.layers B.size B.fault_count B.done_count true event result self.old.volume self.new.volume }
         ensures err { OnErr result (self.new ≡ self.old) }
     {
         match self.volume.step(event) {
@@ -59,9 +54,7 @@ impl<B: Layered> Audit<B> {
         ensures noted { IfOk result (λ r. IsNoted seat r.0 r.1 self.old self.new) }
         ensures unanswered { IfOk result (λ r. IsUnanswered (Issue number) r.0 self.old.held) }
         ensures base { KeepsBase self.old self.new }
-        ensures due { is_ok result ≡ (may_do seat (Issue number) self.old.held && is_due_of B.contents B.layers self.old.volume (Issue number)) }
-        ensures first { next_of B.contents B.layers self.old.volume ≡ Some (Issue number) → may_do seat (Issue number) self.old.held ≡ true → IsOk result }
-        ensures does { DoesStep B.may_hold B.contents B.layers B.size B.fault_count B.done_count (Issue number) (outcome_in result) self.old.volume self.new.volume }
+        ensures does { DoesStep B.may_hold B.contents B.layers B.size B.fault_count B.done_count (may_do seat (Issue number) self.old.held) (Issue number) (outcome_in result) self.old.volume self.new.volume }
         ensures err { OnErr result (self.new ≡ self.old) }
     {
         let Some(place) = place_of(self.held.as_slice(), number) else {

@@ -2,6 +2,7 @@
 ghost use Rattle.std.specs.Prelude.{◌≡◌, ◌+◌, ◌<◌, ◌≤◌, [], IfErr, IfOk, None, length, map, replicate, slice_index_or, true, ℕ};
 ghost use Rattle.sector.specs.declared.refusal.Refusal.TheVariants.{NoMemory};
 ghost use Rattle.in_flight.specs.Kinds.{in_flight};
+ghost use Rattle.plain.specs.Plain.{shown_of};
 ghost use Rattle.volume.specs.Volumed.{is_loud_in_all, plain_of};
 ghost use Rattle.volume.specs.Causes.{lives_of};
 ghost use Rattle.journal.specs.Books.{count_of};
@@ -9,7 +10,7 @@ ghost use Rattle.journal.specs.Entries.{HasVerdict};
 ghost use Rattle.journal.specs.Noted.{kept_count, mays_of};
 ghost use Rattle.journal.specs.Inside.{AllInside};
 ghost use Rattle.journal.specs.Own.{MeetsOwn};
-ghost use Rattle.journal.specs.Replay.{AllLawful, replay, saves_of};
+ghost use Rattle.journal.specs.Replay.{AllLawful, replay};
 ghost use Rattle.journal.specs.Seats.{flight_in};
 ghost use Rattle.journal.specs.Undone.{AllUndone};
 
@@ -58,12 +59,12 @@ impl<B: Layered> Model for Audit<B> {
 
     ghost use Rattle.std.specs.Prelude.{map, vec_capacity};
     ghost use Rattle.volume.specs.Volumed.{is_loud_in_all, plain_of};
-    ghost use Rattle.journal.specs.Books.{IsKept, saves_in};
+    ghost use Rattle.journal.specs.Books.{IsKept, shown_in_base};
     ghost use Rattle.journal.specs.Seats.{seated};
 
-    ghost view = { λ a. record { volume = a.volume; base = saves_in a.base; taken = a.taken; entries = a.entries.items; held = map seated a.held.items; lives = a.lives.items; may = a.may.items; loud = a.loud; folded = a.folded.items } };
+    ghost view = { λ a. record { volume = a.volume; base = shown_in_base a.base; taken = a.taken; entries = a.entries.items; held = map seated a.held.items; lives = a.lives.items; may = a.may.items; loud = a.loud; folded = a.folded.items } };
 
-    ghost invariant = { λ a. IsKept a.volume.requests (is_loud_in_all B.layers a.volume) a.loud (plain_of B.contents B.layers a.volume) (record { base = saves_in a.base; taken = a.taken; entries = a.entries.items; held = a.held.items; lives = a.lives.items; may = a.may.items; counts = a.counts.items; folded = a.folded.items; room = vec_capacity a.entries }) };
+    ghost invariant = { λ a. IsKept a.volume.requests (is_loud_in_all B.layers a.volume) a.loud (plain_of B.contents B.layers a.volume) (record { base = shown_in_base a.base; taken = a.taken; entries = a.entries.items; held = a.held.items; lives = a.lives.items; may = a.may.items; counts = a.counts.items; folded = a.folded.items; room = vec_capacity a.entries }) };
 }
 
 impl<B: Layered> Audit<B> {
@@ -73,7 +74,7 @@ impl<B: Layered> Audit<B> {
     pub fn new(alloc: Global, volume: Volume<B>) -> Result<Audit<B>, (Refusal, Volume<B>)>
         requires quiet { volume.flights ≡ [] }
         ensures ok { IfOk result (λ a. (a.volume ≡ volume) × (a.entries ≡ []) × (a.held ≡ []) × (a.lives ≡ lives_of volume) × (a.may ≡ mays_of volume) × (a.loud ≡ is_loud_in_all B.layers volume)) }
-        ensures base { IfOk result (λ a. a.loud ≡ true → a.base ≡ saves_of (plain_of B.contents B.layers volume)) }
+        ensures base { IfOk result (λ a. a.loud ≡ true → a.base ≡ shown_of (plain_of B.contents B.layers volume)) }
         ensures taken { IfOk result (λ a. a.taken ≡ 0) }
         ensures folded { IfOk result (λ a. a.folded ≡ replicate 9 0) }
         ensures err { IfErr result (λ e. e ≡ record { 0 = NoMemory; 1 = volume }) }
@@ -93,7 +94,7 @@ impl<B: Layered> Audit<B> {
         requires quiet { volume.flights ≡ [] }
         requires room { taken + kept_count (lives_of volume) (mays_of volume) ≤ 65_536 }
         ensures ok { IfOk result (λ a. (a.volume ≡ volume) × (a.entries ≡ []) × (a.held ≡ []) × (a.lives ≡ lives_of volume) × (a.may ≡ mays_of volume) × (a.loud ≡ is_loud_in_all B.layers volume)) }
-        ensures base { IfOk result (λ a. a.loud ≡ true → a.base ≡ saves_of (plain_of B.contents B.layers volume)) }
+        ensures base { IfOk result (λ a. a.loud ≡ true → a.base ≡ shown_of (plain_of B.contents B.layers volume)) }
         ensures taken { IfOk result (λ a. a.taken ≡ taken) }
         ensures folded { IfOk result (λ a. a.folded ≡ replicate 9 0) }
         ensures err { IfErr result (λ e. e ≡ record { 0 = NoMemory; 1 = volume }) }
@@ -147,7 +148,7 @@ impl<B: Layered> Audit<B> {
     /// between the two changed that.
     pub fn entries(&self) -> &[Entry]
         ensures value { result.now ≡ self.now.entries }
-        ensures replay { self.now.loud ≡ true → replay self.now.base self.now.entries ≡ saves_of (plain_of B.contents B.layers self.now.volume) }
+        ensures replay { self.now.loud ≡ true → replay self.now.base self.now.entries ≡ shown_of (plain_of B.contents B.layers self.now.volume) }
         ensures lawful { self.now.loud ≡ true → AllLawful self.now.base self.now.entries }
         ensures undone { self.now.loud ≡ true → AllUndone [] self.now.base self.now.entries }
         ensures own { self.now.loud ≡ true → (seat : ℕ) → MeetsOwn seat self.now.entries }

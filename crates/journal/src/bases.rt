@@ -1,11 +1,10 @@
 // The arrays and states that a volume has when its journal begins.
 ghost use Rattle.std.specs.Prelude.{◌≡◌, ◌*◌, ◌<◌, ℕ, IfOk, List, None, length, slice_index_or, true};
-ghost use Rattle.plain.specs.Plain.{Entry as Shown};
+ghost use Rattle.plain.specs.Plain.{Entry as ShownEntry, shown_of};
 ghost use Rattle.plain.specs.Serves.{Shows};
 ghost use Rattle.volume.specs.Submitting.{dev_refusal};
 ghost use Rattle.volume.specs.Volumed.{is_loud_in_all, plain_of};
-ghost use Rattle.journal.specs.Books.{saves_in, shown_in};
-ghost use Rattle.journal.specs.Replay.{saves_of};
+ghost use Rattle.journal.specs.Books.{shown_in_base, shown_in};
 
 use crate::array::Array;
 use crate::entry::{Base, Saved};
@@ -50,7 +49,7 @@ fn whole<B: Layered>(alloc: Global, volume: &Volume<B>, dev: Dev) -> Result<Arra
 /// What the snapshot at a place shows: its array, or none where it is spoiled.
 fn saved_at<B: Layered>(alloc: Global, volume: &Volume<B>, k: usize) -> Result<Saved, AllocError>
     requires { k < length volume.now.snaps }
-    ensures { IfOk result (λ s. is_loud_in_all B.layers volume.now ≡ true → (d : Shown) → slice_index_or (plain_of B.contents B.layers volume.now).saved k d ≡ shown_in s) }
+    ensures { IfOk result (λ s. is_loud_in_all B.layers volume.now ≡ true → (d : ShownEntry) → slice_index_or (plain_of B.contents B.layers volume.now).saved k d ≡ shown_in s) }
 {
     let snap = volume.snap(k);
     let number = snap.number();
@@ -72,7 +71,7 @@ fn saved_at<B: Layered>(alloc: Global, volume: &Volume<B>, k: usize) -> Result<S
 
 /// What a volume shows: its origin, beside a merge too, and each of its snapshots.
 pub(crate) fn base_of<B: Layered>(alloc: Global, volume: &Volume<B>) -> Result<Base, AllocError>
-    ensures { IfOk result (λ b. is_loud_in_all B.layers volume.now ≡ true → saves_in b ≡ saves_of (plain_of B.contents B.layers volume.now)) }
+    ensures { IfOk result (λ b. is_loud_in_all B.layers volume.now ≡ true → shown_in_base b ≡ shown_of (plain_of B.contents B.layers volume.now)) }
 {
     let mut saved = Vec::new(alloc);
     for k in 0..volume.len() {

@@ -6,7 +6,7 @@ ghost use Rattle.plain.specs.declared.request.Overflowing.TheVariants.{Did};
 ghost use Rattle.journal.specs.declared.entry.Entry.TheVariants.{Answered as IsAnswered, Begun};
 ghost use Rattle.journal.specs.declared.entry.Saved.{Saved};
 ghost use Rattle.sector.specs.Bytes.{with_sectors};
-ghost use Rattle.journal.specs.Books.{saves_in, shown_in, state_in};
+ghost use Rattle.journal.specs.Books.{shown_in_base, shown_in, state_in};
 ghost use Rattle.journal.specs.Inside.{AllInside, IsInside, attached_count};
 ghost use Rattle.journal.specs.Replay.{AllLawful, IsLawful, after, plain_in, put, replay};
 
@@ -112,7 +112,7 @@ fn take_out(saved: &mut Vec<Saved>, number: SnapId) -> Option<Saved>
 
 /// What a write does to the base.
 fn write(base: &mut Base, dev: Dev, first: Sector, bytes: &[u8])
-    ensures put { (array : List ℕ) → Shows (plain_in (saves_in base.old)) dev array → 512 * first + length bytes.now ≤ length array → saves_in base.new ≡ put dev first bytes.now (saves_in base.old) }
+    ensures put { (array : List ℕ) → Shows (plain_in (shown_in_base base.old)) dev array → 512 * first + length bytes.now ≤ length array → shown_in_base base.new ≡ put dev first bytes.now (shown_in_base base.old) }
     ensures len { vec_len base.new.saved ≡ vec_len base.old.saved }
     ensures capacity { vec_capacity base.new.saved ≡ vec_capacity base.old.saved }
 {
@@ -124,7 +124,7 @@ fn write(base: &mut Base, dev: Dev, first: Sector, bytes: &[u8])
 
 /// What the entry of a request does to the base: a write that was done, and nothing else, does something.
 fn serve(base: &mut Base, answered: &Answered)
-    ensures after { IsLawful (saves_in base.old) (IsAnswered answered.now) → IsInside (saves_in base.old) (IsAnswered answered.now) → saves_in base.new ≡ after (saves_in base.old) (IsAnswered answered.now) }
+    ensures after { IsLawful (shown_in_base base.old) (IsAnswered answered.now) → IsInside (shown_in_base base.old) (IsAnswered answered.now) → shown_in_base base.new ≡ after (shown_in_base base.old) (IsAnswered answered.now) }
     ensures len { vec_len base.new.saved ≡ vec_len base.old.saved }
     ensures capacity { vec_capacity base.new.saved ≡ vec_capacity base.old.saved }
 {
@@ -145,7 +145,7 @@ fn serve(base: &mut Base, answered: &Answered)
 
 /// The origin is what a snapshot was, which is none of the others any more.
 fn begin(base: &mut Base, number: SnapId)
-    ensures after { IsLawful (saves_in base.old) (Begun number) → saves_in base.new ≡ after (saves_in base.old) (Begun number) }
+    ensures after { IsLawful (shown_in_base base.old) (Begun number) → shown_in_base base.new ≡ after (shown_in_base base.old) (Begun number) }
     ensures len { vec_len base.new.saved ≤ vec_len base.old.saved }
     ensures capacity { vec_capacity base.new.saved ≡ vec_capacity base.old.saved }
 {
@@ -162,7 +162,7 @@ fn begin(base: &mut Base, number: SnapId)
 /// Does what an entry does. Its array becomes the base's, and is not copied.
 fn fold(base: &mut Base, entry: Entry)
     requires room { vec_len base.old.saved + attached_count (entry ∷ []) ≤ vec_capacity base.old.saved }
-    ensures after { IsLawful (saves_in base.old) entry → IsInside (saves_in base.old) entry → saves_in base.new ≡ after (saves_in base.old) entry }
+    ensures after { IsLawful (shown_in_base base.old) entry → IsInside (shown_in_base base.old) entry → shown_in_base base.new ≡ after (shown_in_base base.old) entry }
     ensures len { vec_len base.new.saved ≤ vec_len base.old.saved + attached_count (entry ∷ []) }
     ensures capacity { vec_capacity base.new.saved ≡ vec_capacity base.old.saved }
 {
@@ -188,7 +188,7 @@ fn fold(base: &mut Base, entry: Entry)
 pub(crate) fn fold_all(base: &mut Base, entries: &mut Vec<Entry>)
     requires room { vec_len base.old.saved + attached_count entries.old.items ≤ vec_capacity base.old.saved }
     ensures none { entries.new.items ≡ [] }
-    ensures base { AllLawful (saves_in base.old) entries.old.items → AllInside (saves_in base.old) entries.old.items → saves_in base.new ≡ replay (saves_in base.old) entries.old.items }
+    ensures base { AllLawful (shown_in_base base.old) entries.old.items → AllInside (shown_in_base base.old) entries.old.items → shown_in_base base.new ≡ replay (shown_in_base base.old) entries.old.items }
     ensures capacity { vec_capacity entries.new ≡ vec_capacity entries.old }
 {
     entries.reverse();

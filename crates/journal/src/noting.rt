@@ -1,6 +1,6 @@
 // Snapshots that a call spoiled are noted, each as one entry, and so is one whose store overflowed.
 ghost use Rattle.std.specs.Prelude.{◌≡◌, ◌+◌, ◌≤◌, length, ◌<◌, ◌&&◌, not, false, slice_index_or, vec_capacity, vec_len};
-ghost use Rattle.plain.specs.Plain.{Entry as Shown};
+ghost use Rattle.plain.specs.Plain.{Entry as ShownEntry};
 ghost use Rattle.volume.specs.Volumed.{plain_of};
 ghost use Rattle.journal.specs.Marked.{IsMarkNoted};
 ghost use Rattle.journal.specs.Noted.{Noted, is_live, live_count, may_count};
@@ -16,7 +16,7 @@ use volume::Volume;
 fn is_lost<B: Block>(volume: &Volume<B>, lives: &[bool], k: usize) -> bool
     requires snaps { k < length volume.now.snaps }
     requires lives { k < length lives.now }
-    ensures { (d : Shown) → result ≡ (slice_index_or lives.now k false && not (is_live (slice_index_or (plain_of B.contents B.layers volume.now).saved k d))) }
+    ensures { (d : ShownEntry) → result ≡ (slice_index_or lives.now k false && not (is_live (slice_index_or (plain_of B.contents B.layers volume.now).saved k d))) }
 {
     let snap = volume.snap(k);
     lives[k] && !snap.is_live()
@@ -25,7 +25,7 @@ fn is_lost<B: Block>(volume: &Volume<B>, lives: &[bool], k: usize) -> bool
 /// Its number.
 fn number_at<B: Block>(volume: &Volume<B>, k: usize) -> SnapId
     requires { k < length volume.now.snaps }
-    ensures { (d : Shown) → (slice_index_or (plain_of B.contents B.layers volume.now).saved k d).number ≡ result }
+    ensures { (d : ShownEntry) → (slice_index_or (plain_of B.contents B.layers volume.now).saved k d).number ≡ result }
 {
     volume.snap(k).number()
 }

@@ -1,11 +1,9 @@
 // Requests of seats.
-ghost use Rattle.std.specs.Prelude.{◌≡◌, ◌≢◌, ◌⊎◌, ◌*◌, ◌<◌, ℕ, IfErr, IfOk, List, MatchBool, false, length};
+ghost use Rattle.std.specs.Prelude.{◌≡◌, ◌≢◌, ◌*◌, ◌<◌, ℕ, IfErr, IfOk, List, MatchBool, false, length};
 ghost use Rattle.plain.specs.declared.request.Op.TheVariants.{Write};
 ghost use Rattle.sector.specs.declared.refusal.Refusal.TheVariants.{Overflow};
 ghost use Rattle.volume.specs.DoesSubmit.{DoesSubmit};
-ghost use Rattle.volume.specs.Submitting.{IsRefusedAs};
-ghost use Rattle.volume.specs.Volumed.{is_loud_in_all};
-ghost use Rattle.journal.specs.Journaled.{IsBarred, IsHeld, IsRefusalNoted, KeepsBase, is_full_by};
+ghost use Rattle.journal.specs.Journaled.{IsHeld, IsNotSubmitted, IsRefusalNoted, KeepsBase, is_full_by};
 
 use crate::Audit;
 use crate::holding::{hold, is_full};
@@ -33,8 +31,7 @@ impl<B: Layered> Audit<B> {
         ensures base { KeepsBase self.old self.new }
         ensures room { IfOk result (λ _. is_full_by 1 self.old ≡ false) }
         ensures does { DoesSubmit B.contents B.layers B.size request result self.old.volume self.new.volume }
-        ensures refused { IfErr result (λ refusal. IsBarred 1 refusal self.old self.new ⊎ ((is_full_by 1 self.old ≡ false) × IsRefusedAs B.contents B.layers B.size request refusal self.old.volume self.new.volume)) }
-        ensures loud { is_loud_in_all B.layers self.new.volume ≡ is_loud_in_all B.layers self.old.volume }
+        ensures refused { IfErr result (λ refusal. IsNotSubmitted B.contents B.layers B.size request refusal self.old self.new) }
         ensures noted { IfErr result (λ refusal. IsRefusalNoted request refusal self.old self.new) }
     {
         if is_full(

@@ -1,5 +1,5 @@
 -- Why a volume takes no request and begins no merge, by what its journal says that it shows.
-use Rattle.std.proofs.Common.{◌≡◌, ◌⊎◌, inl, inr, ℕ, zero, suc, ◌+◌, ◌<◌, ◌≤◌, Bool, true, false, List, [], ◌∷◌, ◌++◌, length, map, set, get_or, cond, Option, Some, None, refl, sym, ap, ◌∙◌, subst, arith, nat_lt}
+use Rattle.std.proofs.Common.{◌≡◌, inl, inr, ℕ, zero, suc, ◌+◌, ◌<◌, ◌≤◌, Bool, true, false, List, [], ◌∷◌, ◌++◌, length, map, set, get_or, cond, Option, Some, None, refl, sym, ap, ◌∙◌, subst, arith, nat_lt}
 use Rattle.std.specs.Prelude.{◌==◌, ◌≢◌, if◌then◌else◌, min}
 use Rattle.std.specs.List.{list_any, position_or_len}
 use Rattle.std.proofs.lemmas.Bool.{cases_Bool, cases_lt}
@@ -10,7 +10,7 @@ use Rattle.sector.specs.declared.range.Range.{Range}
 use Rattle.sector.specs.declared.refusal.Refusal.{Refusal}
 use Rattle.sector.specs.declared.refusal.Refusal.TheVariants.{Invalid as IsInvalid, JournalFull, MergingSnapshot, NoMemory, NoSuchDevice, NotQuiet, OutOfRange, Overflow as OverflowRefusal, TooMany, MergeInProgress}
 use Rattle.plain.specs.Kept.{kept_range}
-use Rattle.plain.specs.Plain.{Live, Invalid, did_overflow, is_in, overflow_under, saved_under}
+use Rattle.plain.specs.Plain.{Live, Invalid, did_overflow, is_in, overflow_under, saved_under, Shown, shown_of}
 use Rattle.plain.specs.declared.request.Dev.{Dev}
 use Rattle.plain.specs.declared.request.Dev.TheVariants.{Origin, Snap}
 use Rattle.plain.specs.declared.request.Op.{Op}
@@ -27,16 +27,16 @@ use Rattle.snapshots.specs.Finding.{place_of_snap}
 use Rattle.snapshots.specs.Numbers.{number_of_snap}
 use Rattle.snapshots.specs.Starting.{spoilt_of, unroomed}
 use Rattle.snapshots.proofs.Finds.{any_of, position_any, position_none, position_within}
-use Rattle.volume_laws.specs.Shape.{shown_begun, shown_entry}
+use Rattle.volume.specs.Shown.{shown_begun, shown_entry}
 use Rattle.volume.specs.Beginning.{begin_refusal, begin_with, beside_refusal, place_refusal}
 use Rattle.volume.specs.Leaving.{is_quiet_of}
 use Rattle.volume.specs.Stepping.{KeepsAll, merged_of}
-use Rattle.volume.specs.Submitting.{IsFoundFull, IsOverflown, IsRefusedAs, are_too_many, dev_refusal, first_of_two, is_merging, is_piece_of, limit_refusal, range_refusal, refusal_at, shut_at, shut_refusal, starting, submit_refusal}
-use Rattle.volume.specs.Volumed.{Volumed, piece_of, piece_with, merge_shape, plain_of, snap_shape}
+use Rattle.volume.specs.Submitting.{IsFoundFull, IsOverflown, are_too_many, dev_refusal, first_of_two, is_merging, is_piece_of, limit_refusal, range_refusal, refusal_at, shut_at, shut_refusal, starting, submit_refusal}
+use Rattle.volume.specs.Volumed.{Volumed, piece_of, piece_with, plain_of}
 use Rattle.journal.specs.declared.entry.Entry.{Entry}
 use Rattle.journal.specs.Books.{AuditShape}
-use Rattle.journal.specs.Journaled.{IsBarred, IsNotMerged, is_full_by}
-use Rattle.journal.specs.Replay.{Saves, replay, saves_of}
+use Rattle.journal.specs.Journaled.{IsNotMerged, IsNotSubmitted}
+use Rattle.journal.specs.Replay.{replay}
 use Rattle.locked_volume.specs.Denying.{Agrees, merged_number, IsClosed, IsDenied, IsLost, IsOpen, IsShut, Begin, Serve, WasDenied, is_merged}
 use Rattle.locked_volume.specs.Fixed.{Fixed, StaysFrom, fixed_of, least_of, piece_at, piece_in}
 
@@ -115,7 +115,7 @@ module _ {B : Type 0} where
   -- one that is lost shows nothing
   dead_at : (contents : B → List ℕ) (origin : List ℕ) (number : ℕ) (snaps : List (Kept B)) → position_or_len (λ (s : Kept B). s.number == number) snaps < length snaps
       → get_or (map (λ (s : Kept B). s.live) snaps) (position_or_len (λ (s : Kept B). s.number == number) snaps) false ≡ false
-      → saved_under number (map (shown_entry contents origin) (map snap_shape snaps)) ≡ Some Invalid
+      → saved_under number (map (shown_entry contents origin) snaps) ≡ Some Invalid
   dead_at contents origin number [] within dead = absurd (omega (arith, within))
   dead_at contents origin number (s ∷ snaps) within dead = elim (cases_Bool (s.number == number)) [
     | inl here ↦ (let lost : s.live ≡ false = rw here at dead in rw here (ap (λ b. Some (if b then Live (picture s.state.chunk origin (contents s.device)) else Invalid)) lost))
@@ -126,7 +126,7 @@ module _ {B : Type 0} where
   -- one that is live shows something
   live_at : (contents : B → List ℕ) (origin : List ℕ) (number : ℕ) (snaps : List (Kept B)) → position_or_len (λ (s : Kept B). s.number == number) snaps < length snaps
       → get_or (map (λ (s : Kept B). s.live) snaps) (position_or_len (λ (s : Kept B). s.number == number) snaps) false ≡ true
-      → saved_under number (map (shown_entry contents origin) (map snap_shape snaps)) ≡ Some Invalid → ⊥
+      → saved_under number (map (shown_entry contents origin) snaps) ≡ Some Invalid → ⊥
   live_at contents origin number [] within live lost = absurd (omega (arith, within))
   live_at contents origin number (s ∷ snaps) within live lost = elim (cases_Bool (s.number == number)) [
     | inl here ↦ (
@@ -141,7 +141,7 @@ module _ {B : Type 0} where
   -- one whose store overflowed
   marked_at : (contents : B → List ℕ) (origin : List ℕ) (number : ℕ) (snaps : List (Kept B)) → position_or_len (λ (s : Kept B). s.number == number) snaps < length snaps
       → did_overflow (get_or (map (λ (s : Kept B). s.overflow) snaps) (position_or_len (λ (s : Kept B). s.number == number) snaps) Never) ≡ true
-      → overflow_under number (map (shown_entry contents origin) (map snap_shape snaps)) ≡ Did
+      → overflow_under number (map (shown_entry contents origin) snaps) ≡ Did
   marked_at contents origin number [] within did = absurd (omega (arith, within))
   marked_at contents origin number (s ∷ snaps) within did = elim (cases_Bool (s.number == number)) [
     | inl here ↦ (let marked : did_overflow s.overflow ≡ true = rw here at did in rw here (did_is s.overflow marked))
@@ -167,7 +167,7 @@ module _ {B : Type 0} where
   dead_set (x ∷ snaps) zero s dead = dead
   dead_set (x ∷ snaps) (suc k) s dead = dead_set snaps k s dead
 
-begun_is : {B : Type 0} (merge : Option (Merging B)) → shown_begun (merge_shape merge) ≡ merged_number (merged_of merge)
+begun_is : {B : Type 0} (merge : Option (Merging B)) → shown_begun merge ≡ merged_number (merged_of merge)
 begun_is None = refl
 begun_is (Some m) = refl
 
@@ -176,13 +176,13 @@ module _ {B : Type 0} (contents : B → List ℕ) (size : B → ℕ) (layers : B
   pub record IsSeen (seen : List Entry) (a : AuditShape B) : Type 0 where
     pub entries : a.entries ≡ start ++ seen
     pub stays : StaysFrom fixed (fixed_of size layers a)
-    pub truth : a.loud ≡ true → replay a.base a.entries ≡ saves_of (plain_of contents layers a.volume)
+    pub truth : a.loud ≡ true → replay a.base a.entries ≡ shown_of (plain_of contents layers a.volume)
 
-  abbrev shown_in : AuditShape B → List Entry → Saves
+  abbrev shown_in : AuditShape B → List Entry → Shown
   shown_in a seen = replay a.base (start ++ seen)
 
   agrees : (seen : List Entry) (a : AuditShape B) → IsSeen seen a → Agrees (fixed_of size layers a) (shown_in a seen)
-  agrees seen a is loud = ap (λ (s : Saves). s.begun) (ap (replay a.base) (sym is.entries) ∙ is.truth loud) ∙ begun_is a.volume.merge
+  agrees seen a is loud = ap (λ (s : Shown). s.begun) (ap (replay a.base) (sym is.entries) ∙ is.truth loud) ∙ begun_is a.volume.merge
 
   lost : (seen : List Entry) (a : AuditShape B) (number k : ℕ) → IsSeen seen a → is_merging number a.volume.merge ≡ false → place_of_snap number a.volume.snaps ≡ Some k
       → get_or (map (λ (s : Kept B). s.live) a.volume.snaps) k false ≡ false → IsLost (fixed_of size layers a) (shown_in a seen) number
@@ -191,7 +191,7 @@ module _ {B : Type 0} (contents : B → List ℕ) (size : B → ℕ) (layers : B
       let at = place_is number k a.volume.snaps found in (
         merged_is number a.volume.merge ∙ other,
         there number k a.volume.snaps found,
-        λ loud. ap (λ (s : Saves). saved_under number s.saved) (ap (replay a.base) (sym is.entries) ∙ is.truth loud)
+        λ loud. ap (λ (s : Shown). saved_under number s.saved) (ap (replay a.base) (sym is.entries) ∙ is.truth loud)
             ∙ dead_at contents (contents a.volume.origin) number a.volume.snaps (subst (λ n. n < length a.volume.snaps) (sym at) (position_within test a.volume.snaps k found))
             (ap (λ n. get_or (map (λ (s : Kept B). s.live) a.volume.snaps) n false) at ∙ dead),
       )
@@ -237,7 +237,7 @@ module _ {B : Type 0} (contents : B → List ℕ) (size : B → ℕ) (layers : B
             there number k v.snaps found,
             λ loud lost. live_at contents (contents v.origin) number v.snaps (subst (λ n. n < length v.snaps) (sym at) (position_within test v.snaps k found))
                 (ap (λ n. get_or (map (λ (s : Kept B). s.live) v.snaps) n false) at ∙ live)
-                (sym (ap (λ (s : Saves). saved_under number s.saved) (ap (replay a.base) (sym is.entries) ∙ is.truth loud)) ∙ lost),
+                (sym (ap (λ (s : Shown). saved_under number s.saved) (ap (replay a.base) (sym is.entries) ∙ is.truth loud)) ∙ lost),
           )
       by_life k false other found dead e = some_none IsInvalid e
 
@@ -285,7 +285,7 @@ module _ {B : Type 0} (contents : B → List ℕ) (size : B → ℕ) (layers : B
         op,
         merged_is number a.volume.merge ∙ other,
         there number k a.volume.snaps found,
-        λ loud. ap (λ (s : Saves). overflow_under number s.saved) (ap (replay a.base) (sym is.entries) ∙ is.truth loud)
+        λ loud. ap (λ (s : Shown). overflow_under number s.saved) (ap (replay a.base) (sym is.entries) ∙ is.truth loud)
             ∙ marked_at contents (contents a.volume.origin) number a.volume.snaps (subst (λ n. n < length a.volume.snaps) (sym at) (position_within test a.volume.snaps k found))
             (ap (λ n. did_overflow (get_or (map (λ (s : Kept B). s.overflow) a.volume.snaps) n Never)) at ∙ did),
       )
@@ -372,7 +372,7 @@ module _ {B : Type 0} (contents : B → List ℕ) (size : B → ℕ) (layers : B
         (
           ap (is_merged number) kept.merged ∙ merged_is number v.merge ∙ alone,
           ap (λ (l : List ℕ). is_in l number) kept.numbers ∙ there number found.place v.snaps found.found,
-          λ loud. ap (λ (s : Saves). saved_under number s.saved) (ap (replay b.base) (sym is.entries) ∙ is.truth loud)
+          λ loud. ap (λ (s : Shown). saved_under number s.saved) (ap (replay b.base) (sym is.entries) ∙ is.truth loud)
               ∙ dead_at contents (contents w.origin) number w.snaps within
               (ap (λ n. get_or (map (λ (s : Kept B). s.live) w.snaps) n false) at ∙ ap (λ (l : List Bool). get_or l found.place false) lives ∙ dead_set v.snaps found.place (spoilt_of found.snap) refl),
         ),
@@ -399,7 +399,7 @@ module _ {B : Type 0} (contents : B → List ℕ) (size : B → ℕ) (layers : B
       shut seen b request number found.place is kind (ap (is_merging number) same ∙ alone) here (ap (λ (l : List Overflowing). did_overflow (get_or l found.place Never)) marked ∙ marked_set v.snaps found.place snap low refl)
 
   pub denied : (seen : List Entry) (a b : AuditShape B) (request : Request) (refusal : Refusal) → IsSeen seen b → KeepsAll size a.volume b.volume
-      → IsBarred 1 refusal a b ⊎ ((is_full_by 1 a ≡ false) × IsRefusedAs contents layers size request refusal a.volume b.volume) → WasDenied start fixed seen (Serve request) refusal
+      → IsNotSubmitted contents layers size request refusal a b → WasDenied start fixed seen (Serve request) refusal
   denied seen a b request refusal is kept (inl (inl full, same)) = inr (fixed_of size layers b, is.stays, agrees seen b is, inr (inr (inr (inr full.1))))
   denied seen a b request refusal is kept (inl (inr starved, same)) = inl starved.1
   denied seen a b request refusal is kept (inr (free, inl told)) = inr (fixed_of size layers b, is.stays, agrees seen b is, refused seen b request refusal is (ap (submit_refusal size request) told.1 ∙ told.0))

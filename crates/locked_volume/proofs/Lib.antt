@@ -1,4 +1,5 @@
 mod Fresh
+mod AskedFor
 mod Staying
 mod Matched
 mod Passes

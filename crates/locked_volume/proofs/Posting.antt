@@ -1,5 +1,5 @@
 -- What is true under a lock stays true.
-use Rattle.std.proofs.Common.{◌≡◌, inl, inr, ℕ, ◌+◌, Bool, true, List, [], ◌∷◌, ◌++◌, length, Option, Some, None, refl, sym, ap, ◌∙◌, subst, arith, append_assoc, if◌then◌else◌, length-append}
+use Rattle.std.proofs.Common.{◌≡◌, inl, inr, ℕ, ◌+◌, Bool, List, [], ◌∷◌, ◌++◌, length, Option, Some, None, refl, sym, ap, ◌∙◌, subst, arith, append_assoc, if◌then◌else◌, length-append}
 use Rattle.std.specs.Prelude.{◌≢◌, ◌&&◌, slice_index_or}
 use Rattle.std.proofs.lemmas.Bool.{eq-eqb}
 use Rattle.sector.specs.declared.range.Range.{Range}
@@ -8,7 +8,7 @@ use Rattle.atomic_table.specs.Seated.{TableId}
 use Rattle.atomic_table.specs.declared.shared.Seat.{Seat}
 use Rattle.device.specs.Layers.{Layer}
 use Rattle.plain.specs.declared.event.Event.{Event}
-use Rattle.plain.specs.declared.event.Event.TheVariants.{Issue, CopyRead, CopyWrite, ZeroNext, WriteArea, Publish, WriteInvalid, FlushStore, MergeGroup, MergeAreaRead, MergeRead, MergeWrite, MergeFlush, MergeCommit, MergeRelease}
+use Rattle.plain.specs.declared.event.Event.TheVariants.{Issue}
 use Rattle.plain.specs.declared.event.Outcome.{Outcome}
 use Rattle.plain.specs.declared.event.Outcome.TheVariants.{Done, Fault, Reply as Replied}
 use Rattle.plain.specs.declared.request.Op.{Op}
@@ -24,6 +24,7 @@ use Rattle.journal.specs.Books.{AuditShape}
 use Rattle.journal.specs.Entries.{answered_of, entries_by}
 use Rattle.journal.specs.Journaled.{HasReceipt, IsNotMerged, IsNoted, IsSilent, KeepsJournal}
 use Rattle.journal.specs.Seats.{IsUnanswered, Seated, may_do, seated_under, without_seated}
+use Rattle.journal.proofs.Receipts.{may_other}
 use Rattle.locked_volume.specs.Keeping.{Begins, answered_by, asked_by, keeper_of, looking_of, seated_with}
 use Rattle.locked_volume.specs.declared.rule.View.{View}
 use Rattle.locked_volume.specs.declared.told.Told.{Told}
@@ -193,24 +194,6 @@ pub has_asked : {B : Type 0} (seat number : ℕ) (reply : Reply) (r : Receipt) (
     → (x : Seated) × (seated_under number flying ≡ Some x) × (x.seat ≡ s)
 has_asked seat number reply r a b flying s flies by h = (record { number = number; seat = seat; request = r.request }, ap (seated_under number) flies ∙ h.asked, sym by)
 
--- an event that is no request's may be done by anyone
-pub may_any : (seat : ℕ) (event : Event) (held : List Seated) → ((n : ℕ) → event ≡ Issue n → ⊥) → may_do seat event held ≡ true
-may_any seat (Issue n) held other = absurd (other n refl)
-may_any seat (CopyRead n) held other = refl
-may_any seat (CopyWrite n) held other = refl
-may_any seat (ZeroNext n) held other = refl
-may_any seat (WriteArea n) held other = refl
-may_any seat (Publish n) held other = refl
-may_any seat (WriteInvalid n) held other = refl
-may_any seat (FlushStore n) held other = refl
-may_any seat MergeGroup held other = refl
-may_any seat MergeAreaRead held other = refl
-may_any seat MergeRead held other = refl
-may_any seat MergeWrite held other = refl
-may_any seat MergeFlush held other = refl
-may_any seat MergeCommit held other = refl
-may_any seat MergeRelease held other = refl
-
--- so one is done just where it is due
+-- an event that is no request's, which may be done by anyone, is done just where it is due
 pub due_so : (seat : ℕ) (event : Event) (held : List Seated) (ok due : Bool) → ((n : ℕ) → event ≡ Issue n → ⊥) → ok ≡ (may_do seat event held && due) → ok ≡ due
-due_so seat event held ok due other is = is ∙ ap (λ (b : Bool). b && due) (may_any seat event held other)
+due_so seat event held ok due other is = is ∙ ap (λ (b : Bool). b && due) (may_other seat event held other)

@@ -5,7 +5,7 @@ use Rattle.std.specs.Prelude.{◌≡◌, ◌≢◌, ◌⊎◌, ◌==◌, ℕ, Bo
 use Rattle.sector.specs.declared.refusal.Refusal.{Refusal}
 use Rattle.sector.specs.declared.refusal.Refusal.TheVariants.{Invalid as IsInvalid, JournalFull, MergeInProgress, MergingSnapshot, NoMemory, NoSuchDevice, OutOfRange, Overflow, TooMany}
 use Rattle.plain.specs.Kept.{kept_range}
-use Rattle.plain.specs.Plain.{Invalid, is_in, overflow_under, saved_under}
+use Rattle.plain.specs.Plain.{Invalid, is_in, overflow_under, saved_under, Shown}
 use Rattle.plain.specs.declared.request.Dev.{Dev}
 use Rattle.plain.specs.declared.request.Dev.TheVariants.{Origin, Snap}
 use Rattle.plain.specs.declared.request.Op.TheVariants.{Write}
@@ -13,7 +13,7 @@ use Rattle.plain.specs.declared.request.Overflowing.TheVariants.{Did}
 use Rattle.plain.specs.declared.request.Request.{Request}
 use Rattle.journal.specs.declared.entry.Entry.{Entry}
 use Rattle.journal.specs.declared.entry.Entry.TheVariants.{Begun}
-use Rattle.journal.specs.Replay.{Saves, replay}
+use Rattle.journal.specs.Replay.{replay}
 use Rattle.locked_volume.specs.Keeping.{Begins}
 use Rattle.volume.specs.Submitting.{is_piece_of}
 use Rattle.locked_volume.specs.Fixed.{Fixed, StaysFrom, piece_at}
@@ -34,7 +34,7 @@ merged_number None = None
 merged_number (Some m) = Some m.0
 
 -- The entries say which snapshot is being merged, where no device ever dropped writes.
-abbrev pub Agrees : Fixed → Saves → Type 0
+abbrev pub Agrees : Fixed → Shown → Type 0
 Agrees g shown = g.loud ≡ true → shown.begun ≡ merged_number g.merged
 
 -- There is no snapshot with a number.
@@ -42,30 +42,30 @@ abbrev pub IsMissing : Fixed → ℕ → Type 0
 IsMissing g number = (is_merged number g.merged ≡ false) × (is_in g.numbers number ≡ false)
 
 -- The snapshot with a number is lost: the arrays say so, where no device ever dropped writes.
-abbrev pub IsLost : Fixed → Saves → ℕ → Type 0
+abbrev pub IsLost : Fixed → Shown → ℕ → Type 0
 IsLost g shown number = (is_merged number g.merged ≡ false) × (is_in g.numbers number ≡ true) × (g.loud ≡ true → saved_under number shown.saved ≡ Some Invalid)
 
 -- A device takes no request. The origin takes each.
-abbrev pub IsClosed : Fixed → Saves → Dev → Refusal → Type 0
+abbrev pub IsClosed : Fixed → Shown → Dev → Refusal → Type 0
 IsClosed g shown Origin refusal = ⊥
 IsClosed g shown (Snap number) refusal =
     ((refusal ≡ MergingSnapshot) × (is_merged number g.merged ≡ true)) ⊎ ((refusal ≡ NoSuchDevice) × IsMissing g number) ⊎ ((refusal ≡ IsInvalid) × IsLost g shown number)
 
 -- It is a write of a snapshot whose store overflowed: the journal says so, where no device ever dropped writes.
-abbrev pub IsShut : Fixed → Saves → Request → Type 0
+abbrev pub IsShut : Fixed → Shown → Request → Type 0
 IsShut g shown request =
     (number : ℕ) × (bytes : List ℕ) × (request.dev ≡ Snap number) × (request.op ≡ Write bytes)
     × (is_merged number g.merged ≡ false) × (is_in g.numbers number ≡ true) × (g.loud ≡ true → overflow_under number shown.saved ≡ Did)
 
 -- A device takes requests: it is the origin, or a snapshot that is there, is not being merged and is not lost.
-abbrev pub IsOpen : Fixed → Saves → Dev → Type 0
+abbrev pub IsOpen : Fixed → Shown → Dev → Type 0
 IsOpen g shown Origin = Unit {0}
 IsOpen g shown (Snap number) =
     (is_merged number g.merged ≡ false) × (is_in g.numbers number ≡ true) × (g.loud ≡ true → saved_under number shown.saved ≢ Some Invalid)
 
 -- What is asked of a volume is denied, as it stands: by the first of its reasons. (TooMany: 64 requests are in flight, or more than
 -- 256 copies would be pending. JournalFull comes before all of them, where the journal has no place.)
-abbrev pub IsDenied : Fixed → Saves → Wish → Refusal → Type 0
+abbrev pub IsDenied : Fixed → Shown → Wish → Refusal → Type 0
 IsDenied g shown (Serve request) refusal =
     IsClosed g shown request.dev refusal
     ⊎ ((refusal ≡ Overflow) × IsShut g shown request)

@@ -3,12 +3,12 @@ use Rattle.std.specs.Prelude.{◌≡◌, ◌⊎◌, ◌+◌, ◌<◌, ℕ, Bool,
 use Rattle.std.specs.List.{remove}
 use Rattle.device.specs.Layers.{Layer}
 use Rattle.snapshots.specs.Numbers.{number_of_snap}
+use Rattle.plain.specs.Plain.{Shown}
 use Rattle.volume.specs.Stepping.{merged_of}
 use Rattle.volume.specs.Volumed.{is_loud_in_all}
 use Rattle.journal.specs.declared.entry.Entry.{Entry}
 use Rattle.journal.specs.Books.{AuditShape}
 use Rattle.journal.specs.Entries.{entries_by}
-use Rattle.journal.specs.Replay.{Saves}
 
 -- attached: how many snapshots were ever attached; sectors: of the origin; numbers, chunks: of the snapshots in order of
 -- attaching, but for the one that is being merged, and merged: of that one; sound: whether no device drops writes; loud:
@@ -22,7 +22,7 @@ pub record Fixed : Type 0 where
   pub merged : Option (ℕ × ℕ)
   pub sound : Bool
   pub loud : Bool
-  pub base : Saves
+  pub base : Shown
   pub folded : List ℕ
 
 abbrev pub fixed_of : {B : Type 0} → (B → ℕ) → (B → List Layer) → AuditShape B → Fixed

@@ -1,4 +1,5 @@
 pub mod Fixed
+pub mod AskedFor
 pub mod Names
 pub mod Usages
 pub mod Boards

@@ -4,7 +4,9 @@
 //!
 //! It stands on `journal`, on the board of `between_threads`, and on `atomic_table`, for one word that never changes. Whenever the lock is taken,
 //! the history's keeper knows the journal's entries and the requests in flight, and what was published last at each place is the
-//! usage of the snapshot there: each call that changes one publishes it once, before the lock is released.
+//! usage of the snapshot there: each call that changes one publishes it once, before the lock is released. Each entry since the rig was
+//! made is then the reply to a request of a seat from 1 to 8, the begin of a merge that a seat may ask for, or what the volume notes
+//! itself.
 //!
 //! Of the history it promises that a seat's entries among all are those that it had when it was dealt, and then those that were
 //! noted beside its pass, in that order and no others; that its requests in flight among all are those that were noted beside its

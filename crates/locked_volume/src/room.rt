@@ -2,9 +2,10 @@
 use std::marker::Brand;
 
 /// Names of a rig: how many volumes it has, and of each by its place the history, the boards, the entries that its journal had when
-/// the rig was made, and what the rig leaves as it was; and the queue of tickets. Each call of a program picks them.
+/// the rig was made, what the rig leaves as it was, and which of its snapshots a seat may merge; and the queue of tickets. Each call of
+/// a program picks them.
 pub trait Room {
-    ghost use Rattle.std.specs.Prelude.{ℕ, List};
+    ghost use Rattle.std.specs.Prelude.{ℕ, Bool, List};
     ghost use Rattle.journal.specs.declared.entry.Entry.{Entry};
     ghost use Rattle.atomic_table.specs.Seated.{TableId};
     ghost use Rattle.between_threads.specs.BoardPasses.{BoardId};
@@ -22,10 +23,12 @@ pub trait Room {
     ghost queue: { Queue };
 
     ghost fixed: { ℕ → Fixed };
+
+    ghost merges: { ℕ → ℕ → Bool };
 }
 
 impl Room for Brand {
-    ghost use Rattle.std.specs.Prelude.{[]};
+    ghost use Rattle.std.specs.Prelude.{[], false};
     ghost use Rattle.locked_volume.specs.Names.{no_queue, no_table, nothing_fixed};
 
     ghost volumes = { 0 };
@@ -39,4 +42,6 @@ impl Room for Brand {
     ghost queue = { no_queue };
 
     ghost fixed = { λ k. nothing_fixed };
+
+    ghost merges = { λ k number. false };
 }

@@ -1,23 +1,25 @@
 // What threads do with an audit while they hold its lock: each call tells the history what is new in the journal, and publishes
 // each usage that changed.
-ghost use Rattle.std.specs.Prelude.{◌≡◌, ◌≢◌, ◌&&◌, ◌||◌, false, is_some, ◌⊎◌, ◌*◌, ◌<◌, ◌++◌, ◌∷◌, [], ℕ, List, length, IfErr, IfNone, IfSome, MatchOption, MatchResult, OnOk, Some, None, true};
+ghost use Rattle.std.specs.Prelude.{◌≡◌, ◌≢◌, ◌&&◌, ◌||◌, false, is_some, ◌*◌, ◌<◌, ◌++◌, ◌∷◌, [], ℕ, List, length, IfErr, IfNone, IfSome, MatchOption, MatchResult, OnOk, Some, None, true};
 ghost use Rattle.chunk.specs.Sizes.{is_chunk};
 ghost use Rattle.plain.specs.declared.event.Outcome.{Outcome as OutcomeShape};
 ghost use Rattle.volume.specs.Asking.{is_finished_in};
+ghost use Rattle.volume.specs.DoesBeginMerge.{DoesBeginMerge};
+ghost use Rattle.volume.specs.DoesSubmit.{DoesSubmit};
 ghost use Rattle.volume.specs.Exact.{IsExact};
 ghost use Rattle.volume.specs.Leaving.{is_quiet_of};
 ghost use Rattle.volume.specs.Stepping.{has_failed};
-ghost use Rattle.volume.specs.Submitting.{IsRefusedAs};
 ghost use Rattle.volume.specs.Volumed.{is_due_of, next_of};
 ghost use Rattle.plain.specs.declared.event.Event.{Event as EventShape};
 ghost use Rattle.plain.specs.declared.event.Event.TheVariants.{Issue};
 ghost use Rattle.plain.specs.declared.request.Op.TheVariants.{Flush, Write};
 ghost use Rattle.journal.specs.Entries.{entries_by};
-ghost use Rattle.journal.specs.Journaled.{IsBarred, IsNotMerged, is_full_by};
+ghost use Rattle.journal.specs.Journaled.{IsNotMerged, IsNotSubmitted};
 ghost use Rattle.journal.specs.Seats.{Seated, may_do, seated_under};
 ghost use Rattle.journal.specs.declared.entry.Entry.{Entry};
 ghost use Rattle.locked_volume.specs.Keeping.{held_by};
 ghost use Rattle.sector.specs.declared.refusal.Refusal.TheVariants.{NotQuiet};
+ghost use Rattle.locked_volume.specs.AskedFor.{AddsAskedFor};
 ghost use Rattle.locked_volume.specs.Beside.{IsBeside};
 ghost use Rattle.locked_volume.specs.Denying.{Begin, Serve, WasBegun, WasDenied};
 ghost use Rattle.locked_volume.specs.Boards.{AreKeptUp};
@@ -86,7 +88,8 @@ impl<B: Layered, J: Room> Post<B, J> {
         ensures volume { self.new.volume ≡ self.old.volume }
         ensures seat { MatchResult result.1 (λ number. IsAsked (J.history self.old.volume) seat number request me result.0) (λ _. IsSameSeat (J.history self.old.volume) seat me result.0) }
         ensures denied { IfErr result.1 (λ refusal. WasDenied (J.start self.old.volume) (J.fixed self.old.volume) result.0.me.0.seen (Serve request) refusal) }
-        ensures refused { IfErr result.1 (λ refusal. IsBarred 1 refusal self.old.audit self.new.audit ⊎ ((is_full_by 1 self.old.audit ≡ false) × IsRefusedAs B.contents B.layers B.size request refusal self.old.audit.volume self.new.audit.volume)) }
+        ensures refused { IfErr result.1 (λ refusal. IsNotSubmitted B.contents B.layers B.size request refusal self.old.audit self.new.audit) }
+        ensures does { DoesSubmit B.contents B.layers B.size request result.1 self.old.audit.volume self.new.audit.volume }
         ensures told { AreKeptUp self.new.audit.volume self.old.told self.new.told }
     {
         let said = Snapshot::of(&request);
@@ -119,6 +122,7 @@ impl<B: Layered, J: Room> Post<B, J> {
     ) -> (Pass, Option<(Reply, Receipt)>)
         requires beside { IsBeside (J.history self.old.volume) (J.boards self.old.volume) beside.now }
         requires seat { IsSeat (J.history self.old.volume) seat me }
+        requires numbered { (0 < seat) × (seat < 9) }
         ensures volume { self.new.volume ≡ self.old.volume }
         ensures due { ((x : Seated) → seated_under number self.old.audit.held ≡ Some x → x.request.op ≢ Flush) → is_some result.1 ≡ (may_do seat (Issue number) self.old.audit.held && is_due_of B.contents B.layers self.old.audit.volume (Issue number)) }
         ensures seat { MatchOption result.1 (IsSameSeat (J.history self.old.volume) seat me result.0) (λ r. IsReceipted (J.history self.old.volume) (count_at (J.fixed self.old.volume) (J.start self.old.volume) seat) seat me result.0 r.0 r.1) }
@@ -207,7 +211,7 @@ impl<B: Layered, J: Room> Post<B, J> {
         }
     }
 
-    /// Begins a merge for a seat, which has then seen all entries: the last of them says that it began, or else they and what
+    /// Begins a merge that a seat may ask for. The seat has then seen all entries: the last of them says that it began, or else they and what
     /// stays of the volume say why it did not, but where the volume is not quiet.
     pub fn begin_merge(
         &mut self,
@@ -218,12 +222,14 @@ impl<B: Layered, J: Room> Post<B, J> {
     ) -> (Pass, Result<(), Refusal>)
         requires beside { IsBeside (J.history self.old.volume) (J.boards self.old.volume) beside.now }
         requires seat { IsSeat (J.history self.old.volume) seat me }
+        requires asked { J.merges self.old.volume number ≡ true }
         ensures volume { self.new.volume ≡ self.old.volume }
         ensures seat { IsSameSeat (J.history self.old.volume) seat me result.0 }
         ensures begun { OnOk result.1 (WasBegun number me.me.0.seen result.0.me.0.seen) }
         ensures denied { IfErr result.1 (λ refusal. refusal ≢ NotQuiet → WasDenied (J.start self.old.volume) (J.fixed self.old.volume) result.0.me.0.seen (Begin number) refusal) }
         ensures refused { IfErr result.1 (λ refusal. IsNotMerged number refusal self.old.audit self.new.audit) }
         ensures busy { IfErr result.1 (λ refusal. refusal ≡ NotQuiet → is_quiet_of self.old.audit.volume ≡ false) }
+        ensures does { DoesBeginMerge B.may_hold B.contents B.layers B.size number result.1 self.old.audit.volume self.new.audit.volume }
         ensures told { AreKeptUp self.new.audit.volume self.old.told self.new.told }
     {
         let me = beside.history.look(&mut self.keeper, me);
@@ -272,11 +278,13 @@ impl<B: Layered, J: Room> Post<B, J> {
         self.audit.in_flight()
     }
 
-    /// Gives the audit back, whose journal begins with the entries that it had when the rig was made.
+    /// Gives the audit back, whose journal begins with the entries that it had when the rig was made. Each of the others is one that
+    /// was asked for.
     pub fn into_audit(self) -> Audit<B>
         ensures same { result ≡ self.audit }
         ensures stays { StaysFrom (J.fixed self.volume) (fixed_of B.size B.layers result) }
         ensures grows { (more : List Entry) × (result.entries ≡ J.start self.volume ++ more) }
+        ensures asked { AddsAskedFor (J.merges self.volume) (J.start self.volume) result.entries }
     {
         let Post {
             volume: _,

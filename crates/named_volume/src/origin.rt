@@ -38,9 +38,9 @@ impl Model for NamedVolume {
 
     ghost Value = { Volume };
 
-    ghost view = { λ m. record { origin = m.origin; under = m.under.items; stale = m.stale; snaps = m.snaps.items; merging = merging_with m.merging m.volume; state = settled_in m.volume; given = m.volume.attached; asked = m.asked; sound = m.sound; quiet = is_quiet_of m.volume.events; flying = flying_in m.volume.events } };
+    ghost view = { λ m. record { origin = m.origin; under = m.under.items; stale = m.stale; snaps = m.snaps.items; merging = merging_with m.merging m.volume.rested; state = settled_in m.volume.rested; given = m.volume.rested.attached; asked = m.asked; sound = m.sound; quiet = is_quiet_of m.volume.rested.events; flying = flying_in m.volume.rested.events } };
 
-    ghost invariant = { λ m. IsHeld m.snaps.items m.merging m.volume m.asked m.sound };
+    ghost invariant = { λ m. IsHeld m.snaps.items m.merging m.volume.rested m.asked m.sound };
 }
 
 fn snapshot_of(snaps: &[SnapNames], name: &Name) -> Option<usize>

@@ -50,10 +50,10 @@ impl NamedParts {
 /// Takes out the names of the snapshot that is being merged since there was one more.
 #[tactic(auto, using(crate::proofs::Begun::place_within, crate::proofs::Begun::taken_sum))]
 fn take_begun(snaps: &mut Vec<SnapNames>, volume: &Resting<Stack>) -> SnapNames
-    requires { length snaps.old.items ≡ suc (length volume.now.snaps) }
-    ensures rest { snaps.new.items ≡ remove snaps.old.items (place_begun volume.now) }
-    ensures names { slice_get snaps.old.items (place_begun volume.now) ≡ Some result }
-    ensures many { length snaps.new.items ≡ length volume.now.snaps }
+    requires { length snaps.old.items ≡ suc (length volume.now.rested.snaps) }
+    ensures rest { snaps.new.items ≡ remove snaps.old.items (place_begun volume.now.rested) }
+    ensures names { slice_get snaps.old.items (place_begun volume.now.rested) ≡ Some result }
+    ensures many { length snaps.new.items ≡ length volume.now.rested.snaps }
     ensures sum { (f : List ℕ → ℕ) → sum_by (names_sum f) snaps.new.items + names_sum f result ≡ sum_by (names_sum f) snaps.old.items }
 {
     let k = earlier(volume);
@@ -63,12 +63,12 @@ fn take_begun(snaps: &mut Vec<SnapNames>, volume: &Resting<Stack>) -> SnapNames
 /// Gives the names of the snapshot to the merge that was begun of it, if one was.
 #[tactic(auto, using(crate::proofs::Begun::one_more, crate::proofs::Begun::still_all, crate::proofs::Begun::none_sum, crate::proofs::Begun::none_begun))]
 fn name_merge(snaps: &mut Vec<SnapNames>, merging: &mut Option<SnapNames>, volume: &Resting<Stack>)
-    requires many { ((length snaps.old.items ≡ length volume.now.snaps) × (is_some merging.old ≡ is_some volume.now.events.merge)) ⊎ ((length snaps.old.items ≡ suc (length volume.now.snaps)) × (merging.old ≡ None) × (is_some volume.now.events.merge ≡ true)) }
-    ensures many { length snaps.new.items ≡ length volume.now.snaps }
-    ensures begun { is_some merging.new ≡ is_some volume.now.events.merge }
-    ensures same { is_some merging.old ≡ is_some volume.now.events.merge → (snaps.new.items ≡ snaps.old.items) × (merging.new ≡ merging.old) }
+    requires many { ((length snaps.old.items ≡ length volume.now.rested.snaps) × (is_some merging.old ≡ is_some volume.now.rested.events.merge)) ⊎ ((length snaps.old.items ≡ suc (length volume.now.rested.snaps)) × (merging.old ≡ None) × (is_some volume.now.rested.events.merge ≡ true)) }
+    ensures many { length snaps.new.items ≡ length volume.now.rested.snaps }
+    ensures begun { is_some merging.new ≡ is_some volume.now.rested.events.merge }
+    ensures same { is_some merging.old ≡ is_some volume.now.rested.events.merge → (snaps.new.items ≡ snaps.old.items) × (merging.new ≡ merging.old) }
     ensures sum { (f : List ℕ → ℕ) → sum_by (names_sum f) snaps.new.items + merging_sum f merging.new ≡ sum_by (names_sum f) snaps.old.items + merging_sum f merging.old }
-    ensures named { merging.old ≡ None → is_some volume.now.events.merge ≡ true → (snaps.new.items ≡ remove snaps.old.items (place_begun volume.now)) × (merging.new ≡ slice_get snaps.old.items (place_begun volume.now)) }
+    ensures named { merging.old ≡ None → is_some volume.now.rested.events.merge ≡ true → (snaps.new.items ≡ remove snaps.old.items (place_begun volume.now.rested)) × (merging.new ≡ slice_get snaps.old.items (place_begun volume.now.rested)) }
 {
     if merging.is_some() {
         return;
@@ -82,8 +82,8 @@ impl NamedVolume {
     /// The names of its devices, and the volume itself.
     #[tactic(auto, using(crate::proofs::Begun::named_sum))]
     pub fn into_parts(self) -> (NamedParts, Resting<Stack>)
-        ensures named { self ≡ named_with result.0 result.1 }
-        ensures parted { IsParted result.0 result.1 }
+        ensures named { self ≡ named_with result.0 result.1.rested }
+        ensures parted { IsParted result.0 result.1.rested }
         ensures names { (f : List ℕ → ℕ) → parts_sum f result.0 ≡ volume_sum f self }
     {
         let NamedVolume {
@@ -111,13 +111,13 @@ impl NamedVolume {
     /// A volume under the names of its devices, of which one of the snapshots may be merged since they were taken from it.
 
     pub fn of_parts(parts: NamedParts, volume: Resting<Stack>) -> NamedVolume
-        requires fits { HasAll parts volume ⊎ HasBegun parts volume }
-        requires loud { parts.sound ≡ true → is_loud_in stack_layers volume ≡ true }
+        requires fits { HasAll parts volume.rested ⊎ HasBegun parts volume.rested }
+        requires loud { parts.sound ≡ true → is_loud_in stack_layers volume.rested ≡ true }
         ensures names { (f : List ℕ → ℕ) → volume_sum f result ≡ parts_sum f parts }
         ensures sound { result.sound ≡ parts.sound }
-        ensures quiet { result.quiet ≡ is_quiet_of volume.events }
-        ensures same { HasAll parts volume → result ≡ named_with (with_requests volume.requests parts) volume }
-        ensures begun { HasBegun parts volume → result ≡ named_with (with_requests volume.requests (with_begun (place_begun volume) parts)) volume }
+        ensures quiet { result.quiet ≡ is_quiet_of volume.rested.events }
+        ensures same { HasAll parts volume.rested → result ≡ named_with (with_requests volume.rested.requests parts) volume.rested }
+        ensures begun { HasBegun parts volume.rested → result ≡ named_with (with_requests volume.rested.requests (with_begun (place_begun volume.rested) parts)) volume.rested }
     {
         let NamedParts {
             origin,

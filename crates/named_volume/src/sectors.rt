@@ -39,9 +39,9 @@ fn serves(role: Role) -> Result<(), Refusal>
 /// merged.
 #[tactic(auto, unfolding(command_rules::specs::Sectors::dev_of))]
 fn dev_of(volume: &Resting<Stack>, role: Role) -> Result<Dev, Refusal>
-    requires { HasRole role (length volume.now.snaps) (is_some volume.now.events.merge) }
-    ensures value { result ≡ dev_of role (settled_in volume.now) }
-    ensures there { IfOk result (λ dev. has_dev dev volume.now ≡ true) }
+    requires { HasRole role (length volume.now.rested.snaps) (is_some volume.now.rested.events.merge) }
+    ensures value { result ≡ dev_of role (settled_in volume.now.rested) }
+    ensures there { IfOk result (λ dev. has_dev dev volume.now.rested ≡ true) }
     ensures known { IfErr result (λ e. e ≢ NoMemory) }
 {
     match role {
@@ -76,12 +76,12 @@ pub(crate) fn ask(
     first: u32,
     count: u32,
 ) -> Result<(Dev, Range), Refusal>
-    requires role { HasRole role (length volume.now.snaps) (is_some volume.now.events.merge) }
-    ensures ok { IfOk result (λ asks. (v : Volume) → v.state ≡ settled_in volume.now → v.asked ≡ asked.old → asked_of role first count v ≡ Ok (record { dev = asks.0; span = span_of asks.1 })) }
-    ensures err { IfErr result (λ e. (v : Volume) → v.state ≡ settled_in volume.now → v.asked ≡ asked.old → asked_of role first count v ≡ Err e) }
+    requires role { HasRole role (length volume.now.rested.snaps) (is_some volume.now.rested.events.merge) }
+    ensures ok { IfOk result (λ asks. (v : Volume) → v.state ≡ settled_in volume.now.rested → v.asked ≡ asked.old → asked_of role first count v ≡ Ok (record { dev = asks.0; span = span_of asks.1 })) }
+    ensures err { IfErr result (λ e. (v : Volume) → v.state ≡ settled_in volume.now.rested → v.asked ≡ asked.old → asked_of role first count v ≡ Err e) }
     ensures known { IfErr result (λ e. e ≢ NoMemory) }
-    ensures there { IfOk result (λ asks. has_dev asks.0 volume.now ≡ true) }
-    ensures inside { IfOk result (λ asks. asks.1.first + asks.1.count ≤ stack_size volume.now.origin) }
+    ensures there { IfOk result (λ asks. has_dev asks.0 volume.now.rested ≡ true) }
+    ensures inside { IfOk result (λ asks. asks.1.first + asks.1.count ≤ stack_size volume.now.rested.origin) }
     ensures count { IfOk result (λ asks. asks.1.count ≡ count) }
     ensures more { OnOk result ((asked.new ≡ asked.old + count) × (asked.new < 1_152_921_504_606_846_976)) }
     ensures same { OnErr result (asked.new ≡ asked.old) }

@@ -36,7 +36,7 @@ impl Model for StoppedVolume {
 
 /// How many snapshots were attached before the one that is being merged.
 pub(crate) fn earlier(volume: &Resting<Stack>) -> usize
-    ensures { result ≡ earlier_than (merging_number volume.now.events.merge) volume.now.snaps }
+    ensures { result ≡ earlier_than (merging_number volume.now.rested.events.merge) volume.now.rested.snaps }
 {
     let Some(number) = volume.merging() else {
         return 0;

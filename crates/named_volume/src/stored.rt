@@ -21,31 +21,31 @@ use volume_commands::Resting;
 
 /// A look at whether the volume is quiet: one that is, and of which no device drops writes, is settled.
 pub(crate) fn look(volume: &Resting<Stack>)
-    ensures { is_quiet_of volume.now.events ≡ true → is_loud_in stack_layers volume.now ≡ true → IsSettledIn volume.now }
+    ensures { is_quiet_of volume.now.rested.events ≡ true → is_loud_in stack_layers volume.now.rested ≡ true → IsSettledIn volume.now.rested }
 {
     let _ = volume.is_quiet();
 }
 
 /// The stack of its store.
 pub(crate) fn store_at(volume: &Resting<Stack>, k: usize) -> &Stack
-    requires { k < length volume.now.snaps }
-    ensures { (d : Snap) → device_of result.now ≡ (get_or (settled_in volume.now).snaps k d).store }
+    requires { k < length volume.now.rested.snaps }
+    ensures { (d : Snap) → device_of result.now ≡ (get_or (settled_in volume.now.rested).snaps k d).store }
 {
     volume.store_at(k)
 }
 
 /// Its chunk size, in sectors.
 pub(crate) fn chunk_at(volume: &Resting<Stack>, k: usize) -> u32
-    requires { k < length volume.now.snaps }
-    ensures { (d : Snap) → result ≡ (get_or (settled_in volume.now).snaps k d).chunk }
+    requires { k < length volume.now.rested.snaps }
+    ensures { (d : Snap) → result ≡ (get_or (settled_in volume.now.rested).snaps k d).chunk }
 {
     volume.chunk(k)
 }
 
 /// Its number.
 pub(crate) fn number_at(volume: &Resting<Stack>, k: usize) -> SnapId
-    requires { k < length volume.now.snaps }
-    ensures { (d : Snap) → result ≡ (get_or (settled_in volume.now).snaps k d).number }
+    requires { k < length volume.now.rested.snaps }
+    ensures { (d : Snap) → result ≡ (get_or (settled_in volume.now.rested).snaps k d).number }
 {
     volume.number(k)
 }
@@ -63,10 +63,10 @@ fn used(usage: Usage) -> StatusState
 
 /// What its status line says of it, whatever is in flight.
 pub(crate) fn state_at(volume: &Resting<Stack>, k: usize) -> StatusState
-    requires { k < length volume.now.snaps }
-    ensures settled { IsSettledIn volume.now → (d : Snap) → result ≡ state_of (get_or (settled_in volume.now).snaps k d) }
-    ensures held { IsStateAt result k volume.now }
-    ensures whole { IsWhole volume.now }
+    requires { k < length volume.now.rested.snaps }
+    ensures settled { IsSettledIn volume.now.rested → (d : Snap) → result ≡ state_of (get_or (settled_in volume.now.rested).snaps k d) }
+    ensures held { IsStateAt result k volume.now.rested }
+    ensures whole { IsWhole volume.now.rested }
 {
     let usage = match volume.usage(k) {
         None => return StatusState::Invalid,
@@ -81,24 +81,24 @@ pub(crate) fn state_at(volume: &Resting<Stack>, k: usize) -> StatusState
 
 /// The stack of the merging store, if a merge is begun.
 pub(crate) fn merging_store(volume: &Resting<Stack>) -> Option<&Stack>
-    ensures some { IfSome result (λ store. (g : Merge) × ((merged_inside volume.now).merge ≡ Some g) × (device_of store.now ≡ g.store)) }
-    ensures none { IfNone result ((merged_inside volume.now).merge ≡ None) }
+    ensures some { IfSome result (λ store. (g : Merge) × ((merged_inside volume.now.rested).merge ≡ Some g) × (device_of store.now ≡ g.store)) }
+    ensures none { IfNone result ((merged_inside volume.now.rested).merge ≡ None) }
 {
     volume.merging_store()
 }
 
 /// The chunk size of the merge, in sectors.
 pub(crate) fn merging_chunk(volume: &Resting<Stack>) -> Option<u32>
-    ensures some { IfSome result (λ chunk. (g : Merge) × ((merged_inside volume.now).merge ≡ Some g) × (chunk ≡ g.chunk)) }
-    ensures none { IfNone result ((merged_inside volume.now).merge ≡ None) }
+    ensures some { IfSome result (λ chunk. (g : Merge) × ((merged_inside volume.now.rested).merge ≡ Some g) × (chunk ≡ g.chunk)) }
+    ensures none { IfNone result ((merged_inside volume.now.rested).merge ≡ None) }
 {
     volume.merging_chunk()
 }
 
 /// What the status line of the origin says of the merge.
 pub(crate) fn merging_state(volume: &Resting<Stack>) -> Option<StatusState>
-    ensures some { IfSome result (λ state. (g : Merge) × ((merged_inside volume.now).merge ≡ Some g) × (state ≡ merge_state g)) }
-    ensures none { IfNone result ((merged_inside volume.now).merge ≡ None) }
+    ensures some { IfSome result (λ state. (g : Merge) × ((merged_inside volume.now.rested).merge ≡ Some g) × (state ≡ merge_state g)) }
+    ensures none { IfNone result ((merged_inside volume.now.rested).merge ≡ None) }
 {
     let usage = match volume.merging_usage() {
         None => return None,

@@ -16,9 +16,9 @@ use volume_commands::Resting;
 /// Tells the layer of this role. `BadTable` for the origin and a snapshot, then as for a stack.
 #[tactic(auto, using(volume_commands::proofs::LayersChanged::unchanged))]
 fn tell_role(volume: &mut Resting<Stack>, role: Role, message: &Message) -> Result<Answer, Refusal>
-    requires { HasRole role (length volume.old.snaps) (is_some volume.old.events.merge) }
-    ensures steps { Steps result (merged_inside volume.old) (merged_inside volume.new) (told_role role message.now (merged_inside volume.old)) }
-    ensures rest { ChangesLayers stack_contents stack_layers stack_size volume.old volume.new }
+    requires { HasRole role (length volume.old.rested.snaps) (is_some volume.old.rested.events.merge) }
+    ensures steps { Steps result (merged_inside volume.old.rested) (merged_inside volume.new.rested) (told_role role message.now (merged_inside volume.old.rested)) }
+    ensures rest { ChangesLayers stack_contents stack_layers stack_size volume.old.rested volume.new.rested }
 {
     match role {
         Role::Origin | Role::Snapshot(_) | Role::Merging => Err(Refusal::BadTable),

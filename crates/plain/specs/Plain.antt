@@ -31,6 +31,15 @@ pub record Plain : Type 0 where
   pub saved : List Entry
   pub requests : List InFlight
 
+-- what is shown: all of that but the requests
+pub record Shown : Type 0 where
+  pub origin : List ℕ
+  pub begun : Option ℕ
+  pub saved : List Entry
+
+abbrev pub shown_of : Plain → Shown
+shown_of plain = record { origin = plain.origin; begun = plain.begun; saved = plain.saved }
+
 -- the snapshot of a number, the first that has it
 abbrev pub saved_under : ℕ → List Entry → Option Saved
 saved_under number [] = None

@@ -24,7 +24,7 @@ least_assoc (Some m) None c = refl
 least_assoc (Some m) (Some n) None = refl
 least_assoc (Some m) (Some n) (Some k) = ap Some (omega arith)
 
-least_right : (a : Option ℕ) → least a None ≡ a
+pub least_right : (a : Option ℕ) → least a None ≡ a
 least_right None = refl
 least_right (Some m) = refl
 

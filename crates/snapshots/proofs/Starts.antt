@@ -1,10 +1,8 @@
 -- Room is made in one snapshot after another, and copies are started in one after another.
-use Rattle.std.proofs.Common.{◌≡◌, inl, inr, ℕ, suc, ◌+◌, ◌*◌, ◌/◌, ◌%◌, ◌<◌, ◌≤◌, List, [], ◌∷◌, ◌++◌, length, get_or, set, map, take, drop, true, false, refl, sym, ◌∙◌, ap, subst, arith, length-append}
-use Rattle.std.specs.List.{remove}
+use Rattle.std.proofs.Common.{◌≡◌, inl, inr, ℕ, suc, ◌+◌, ◌*◌, ◌/◌, ◌%◌, ◌<◌, ◌≤◌, List, [], ◌∷◌, ◌++◌, length, get_or, set, map, take, take_all, drop, true, false, refl, sym, ◌∙◌, ap, subst, arith, length-append}
 use Rattle.std.specs.Global.{Vec}
 use Rattle.std.proofs.lemmas.Bool.{cases_eq, cases_Bool, le-ltb, MatchBool-at_true, MatchBool-at_false}
 use Rattle.std.proofs.lemmas.List.{get_or-set_same, get_or-set_other, get_or_append_left, get_or-append-add, get_or-drop, drop-set-lt, get_or_default}
-use Rattle.std.proofs.lemmas.List.Edits.{get_or-remove_above, length-remove}
 use Rattle.std.proofs.lemmas.Nat.{div-add-mod'}
 use Rattle.std.proofs.lemmas.Grind.{drop_more_same}
 use Rattle.std.proofs.Math.Seq.{map-set_same, take-suc-set, take-suc}
@@ -57,28 +55,6 @@ rooms_more first k snaps rooms t room h within has = record {
 
 pub rooms_done : {B : Type 0} (first k : ℕ) (snaps : List (Kept B)) (rooms : List (Vec ℕ)) → HaveRoomBelow first k snaps rooms → k ≡ length snaps → HaveRooms first snaps rooms
 rooms_done first k snaps rooms h whole = record { len = h.len ∙ whole; each = λ j d e lt. h.each j d e (omega (arith, lt, whole)) }
-
--- the snapshots from one on have room
-pub record HaveRoomFrom {B : Type 0} (first k : ℕ) (snaps : List (Kept B)) (rooms : List (Vec ℕ)) : Type 0 where
-  pub len : length rooms + k ≡ length snaps
-  pub each : (j : ℕ) (d : Kept B) (e : Vec ℕ) → k + j < length snaps → HasRoomFor first (get_or snaps (k + j) d) (get_or rooms j e)
-
-pub rooms_all : {B : Type 0} (first : ℕ) (snaps : List (Kept B)) (rooms : List (Vec ℕ)) → HaveRooms first snaps rooms → HaveRoomFrom first 0 snaps rooms
-rooms_all first snaps rooms h = record {
-  len = omega (arith, h.len);
-  each = λ j d e lt. (let at : j ≡ 0 + j = omega arith in subst (λ (i : ℕ). HasRoomFor first (get_or snaps i d) (get_or rooms j e)) at (h.each j d e (omega (arith, lt))));
-}
-
-pub rooms_fewer : {B : Type 0} (first k : ℕ) (snaps : List (Kept B)) (rooms : List (Vec ℕ)) → HaveRoomFrom first k snaps rooms → k < length snaps → HaveRoomFrom first (k + 1) snaps (remove rooms 0)
-rooms_fewer first k snaps rooms h within =
-    let some : 0 < length rooms = omega (arith, h.len, within) in
-    record {
-      len = omega (arith, h.len, length-remove rooms 0 some);
-      each = λ j d e lt.
-          (let at : k + (j + 1) ≡ k + 1 + j = omega arith in
-          subst (HasRoomFor first (get_or snaps (k + 1 + j) d)) (sym (get_or-remove_above rooms 0 e j (omega arith) some))
-          (subst (λ (i : ℕ). HasRoomFor first (get_or snaps i d) (get_or rooms (j + 1) e)) at (h.each (j + 1) d e (omega (arith, lt)))));
-    }
 
 module _ {B : Type 0} (contents : B → List ℕ) (layers : B → List Layer) where
   -- a copy is started
@@ -133,6 +109,11 @@ module _ {B : Type 0} (contents : B → List ℕ) (layers : B → List Layer) wh
           rest = drop-set-lt (k + 1) news k t (omega arith) ∙ drop_more_same news olds k h.rest;
           few = omega (arith, h.few, step);
         }
+
+    -- all are
+    pub saved_all : (k : ℕ) (olds news : List (Kept B)) (n m : ℕ) (fs gs : List Flight) → length olds ≤ k → length news ≤ k → IsSavedBelow k olds news n m fs gs → AreSavedIn contents layers at olds news n m fs gs
+    saved_all k olds news n m fs gs whole len h =
+        subst (λ (x : List (Kept B)). AreSavedIn contents layers at x news n m fs gs) (take_all k olds whole) (subst (λ (x : List (Kept B)). AreSavedIn contents layers at (take k olds) x n m fs gs) (take_all k news len) h.saved)
 
 -- an element as its own default
 pub element_is : {X : Type 0} (xs : List X) (k : ℕ) (d : X) → k < length xs → get_or xs k d ≡ get_or xs k (get_or xs k d)

@@ -1,10 +1,12 @@
 // What is due of a volume's snapshots and requests: the first event, by kind and then by number.
-ghost use Rattle.std.specs.Prelude.{◌≡◌, ◌<◌, map};
+ghost use Rattle.std.specs.Prelude.{◌≡◌, ◌<◌, None, map};
 ghost use Rattle.std.specs.List.{All, list_any};
-ghost use Rattle.in_flight.specs.Due.{first_by};
-ghost use Rattle.volume_laws.specs.Due.{can_commit as can_be_committed, can_flush_store as can_be_flushed, can_mark as can_be_marked, can_zero as can_be_zeroed, copy_of, due_of, least_of, publishable_of, snap_number};
+ghost use Rattle.plain.specs.declared.event.Event.TheVariants.{CopyRead, Issue};
+ghost use Rattle.in_flight.specs.Due.{first_by, is_issuable, least as lesser, number_of_flight};
+ghost use Rattle.in_flight.specs.declared.copies.Stage.TheVariants.{Waiting};
+ghost use Rattle.volume_laws.specs.Due.{can_commit as can_be_committed, can_flush_store as can_be_flushed, can_mark as can_be_marked, can_zero as can_be_zeroed, copy_of, due_of, event_or, least_of, publishable_of, snap_number};
 ghost use Rattle.snapshot.specs.Kept.{due_of_kept};
-ghost use Rattle.snapshots.specs.Busy.{AreAlike, busy_due, is_begun, is_busy as is_busy_in, waiting_due};
+ghost use Rattle.snapshots.specs.Busy.{AreAlike, busy_due, is_begun, is_busy as is_busy_in};
 
 use device::Block;
 use in_flight::{
@@ -135,16 +137,21 @@ fn is_busy<B: Block>(snap: &Snapshot<B>) -> bool
     snap.is_untried() || !snap.marks().is_empty() || has_begun(snap.copies())
 }
 
-/// The snapshots from the first that is busy on: what is due of all, but reads of chunks, is due of these.
-fn from_busy<B: Block>(snaps: &[Snapshot<B>]) -> &[Snapshot<B>]
-    ensures { AreAlike (map (due_of_kept B.contents B.layers) result.now) (map (due_of_kept B.contents B.layers) snaps.now) }
+/// The snapshots from the first that is busy on, and the least number of a copy that waits in those before: what is due of all,
+/// but reads of chunks, is due of the former.
+fn from_busy<B: Block>(snaps: &[Snapshot<B>]) -> (&[Snapshot<B>], Option<CopyId>)
+    ensures alike { AreAlike (map (due_of_kept B.contents B.layers) result.0.now) (map (due_of_kept B.contents B.layers) snaps.now) }
+    ensures waiting { least_of (copy_of Waiting) (map (due_of_kept B.contents B.layers) snaps.now) ≡ lesser result.1 (least_of (copy_of Waiting) (map (due_of_kept B.contents B.layers) result.0.now)) }
 {
+    let mut waiting = None;
     for k in 0..snaps.len() {
-        if is_busy(&snaps[k]) {
-            return &snaps[k..];
+        let snap = &snaps[k];
+        if is_busy(snap) {
+            return (&snaps[k..], waiting);
         }
+        waiting = least(waiting, first_copy(snap.copies(), Stage::Waiting));
     }
-    &snaps[snaps.len()..]
+    (&snaps[snaps.len()..], waiting)
 }
 
 /// The snapshots up to the last that is busy.
@@ -184,11 +191,11 @@ fn first_busy<B: Block>(snaps: &[Snapshot<B>], flights: &[Flight]) -> Option<Eve
     }
 }
 
-/// The read of a chunk or the request that is due first, where nothing else is.
-fn first_waiting<B: Block>(snaps: &[Snapshot<B>], flights: &[Flight]) -> Option<Event>
-    ensures { result ≡ waiting_due (map (due_of_kept B.contents B.layers) snaps.now) flights.now }
+/// The read of a chunk or the request that is due first, where nothing else is: `waiting` is the least number of a copy that waits.
+fn first_waiting(waiting: Option<CopyId>, flights: &[Flight]) -> Option<Event>
+    ensures { result ≡ event_or waiting CopyRead (event_or (first_by is_issuable number_of_flight flights.now) Issue None) }
 {
-    if let Some(number) = least_copy(snaps, Stage::Waiting) {
+    if let Some(number) = waiting {
         return Some(Event::CopyRead(number));
     }
     match first_routed(flights) {
@@ -204,8 +211,12 @@ pub fn first_due<B: Block>(snaps: &[Snapshot<B>], flights: &[Flight]) -> Option<
     requires { All (λ s. 0 < s.state.chunk) snaps.now }
     ensures { result ≡ due_of (map (due_of_kept B.contents B.layers) snaps.now) flights.now }
 {
-    match first_busy(to_busy(from_busy(snaps)), flights) {
+    let (busy, waiting) = from_busy(snaps);
+    if busy.is_empty() {
+        return first_waiting(waiting, flights);
+    }
+    match first_busy(to_busy(busy), flights) {
         Some(event) => Some(event),
-        None => first_waiting(snaps, flights),
+        None => first_waiting(least(waiting, least_copy(busy, Stage::Waiting)), flights),
     }
 }

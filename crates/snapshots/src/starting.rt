@@ -70,16 +70,15 @@ pub fn take_rooms<B: Block>(
     ensures ok { IfOk result (λ rooms. HaveRooms first snaps.new rooms.items) }
     ensures refusal { IfErr result (λ e. e ≡ NoMemory) }
 {
-    let mut rooms: Vec<Vec<u8>> = Vec::new(alloc);
+    let Ok(mut rooms) = Vec::with_capacity(alloc, snaps.len()) else {
+        return Err(Refusal::NoMemory);
+    };
     for k in 0..snaps.len() {
         let room = match take_room(alloc, &mut snaps[k], first) {
             Ok(room) => room,
             Err(refusal) => return Err(refusal),
         };
-        match rooms.push(room) {
-            Ok(()) => {}
-            Err(_) => return Err(Refusal::NoMemory),
-        }
+        rooms.push_reserved(room);
     }
     Ok(rooms)
 }
@@ -121,7 +120,7 @@ pub fn save_in_all<B: Block>(
     flights: &mut [Flight],
     copies: u64,
     first: u64,
-    mut rooms: Vec<Vec<u8>>,
+    rooms: Vec<Vec<u8>>,
 ) -> u64
     requires begins { All (λ s. first < s.state.origin) snaps.old }
     requires rooms { HaveRooms first snaps.old rooms.items }
@@ -129,9 +128,10 @@ pub fn save_in_all<B: Block>(
     ensures saved { AreSavedIn B.contents B.layers (own_of first) snaps.old snaps.new copies result flights.old flights.new }
 {
     let mut given = copies;
-    for k in 0..snaps.len() {
-        let room = rooms.remove(0);
-        given = save_in(&mut snaps[k], flights, given, first, room);
+    let mut place = 0;
+    for room in rooms {
+        given = save_in(&mut snaps[place], flights, given, first, room);
+        place += 1;
     }
     given
 }

@@ -1,5 +1,5 @@
 // What is asked of a rig, and in the same words of a volume beside it.
-ghost use Rattle.std.specs.Prelude.{◌≡◌, ◌*◌, ◌<◌, length, IfOk};
+ghost use Rattle.std.specs.Prelude.{◌≡◌, ◌*◌, ◌<◌, ℕ, length, true, IfOk};
 
 use between_threads::{Gate, PlaceState, PlaceUsage};
 use device::Block;
@@ -40,7 +40,8 @@ pub fn ask_seat<B: Layered, G: Gate + Drop, J: Room, R: Wait>(
     seat: &mut Seat<J>,
     asked: Asked,
 ) -> Result<(), Refusal>
-    requires { 0 < J.volumes }
+    requires some { 0 < J.volumes }
+    requires merges { (snap : ℕ) → J.merges 0 snap ≡ true }
 {
     match asked {
         Asked::Read(dev, first, count) => {

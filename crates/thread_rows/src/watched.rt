@@ -1,6 +1,6 @@
 // After each call of two seats, made in turn, the boards say what the status of a volume does that was asked the same.
 ghost use denote.Param.Send.{IsSend, IsSync};
-ghost use Rattle.std.specs.Prelude.{◌≡◌, ◌<◌, ℕ, [], length, slice_index_or, IfOk};
+ghost use Rattle.std.specs.Prelude.{◌≡◌, ◌<◌, ℕ, [], length, slice_index_or, true, IfOk};
 ghost use Rattle.journal.specs.Books.{AuditShape};
 ghost use Rattle.volume_threads.specs.Rigs.{IsRoomOf};
 
@@ -84,7 +84,8 @@ fn call_all<B: Layered, G: Gate + Drop, J: Room, R: Wait>(
     beside: &mut Volume<B>,
     calls: &[(usize, Asked)],
 ) -> Option<usize>
-    requires { 0 < J.volumes }
+    requires some { 0 < J.volumes }
+    requires merges { (snap : ℕ) → J.merges 0 snap ≡ true }
 {
     let mut made = 0usize;
     for call in calls {
@@ -120,7 +121,8 @@ fn call_and_end<B: Layered, G: Gate + Drop, J: Room, R: Wait>(
     beside: &mut Volume<B>,
     calls: &[(usize, Asked)],
 ) -> Option<usize>
-    requires { 0 < J.volumes }
+    requires some { 0 < J.volumes }
+    requires merges { (snap : ℕ) → J.merges 0 snap ≡ true }
 {
     let differs = call_all(rt, alloc, rig, seats.as_mut_slice(), beside, calls);
     if let Some(seat) = seats.first_mut() {
@@ -144,13 +146,15 @@ where
     G: Gate + Drop + Sync,
     J: Room + Send + Sync,
     R: Threads + Wait + Sync,
-    requires { 0 < J.volumes }
+    requires some { 0 < J.volumes }
+    requires merges { (snap : ℕ) → J.merges 0 snap ≡ true }
 {
     thread::scope(
         thread::scope_env(),
         rt,
         move |scope|
             requires some { 0 < J.volumes }
+            requires merges { (snap : ℕ) → J.merges 0 snap ≡ true }
             requires crosses { IsSend B.row × IsSync B.row × IsSync G.row × IsSend J.row × IsSync J.row × IsSync R.row }
         {
             for worker in workers {
@@ -182,6 +186,7 @@ where
     requires room { IsRoomOf B.size B.layers audits.items opened J.volumes J.history J.boards J.start J.queue J.fixed }
     requires quiet { (k : ℕ) (d : AuditShape B) → k < length audits.items → (slice_index_or audits.items k d).held ≡ [] }
     requires some { 0 < J.volumes }
+    requires merges { (snap : ℕ) → J.merges 0 snap ≡ true }
     requires few { workers < 5 }
 {
     let made = Rig::<B, G, J>::new(alloc, audits, workers, 2, gate, opened);

@@ -5,8 +5,8 @@ use Rattle.plain.specs.declared.event.Event.{Event}
 use Rattle.volume_laws.specs.Due.{due_of, is_due}
 use Rattle.merge.specs.Merging.{Merging}
 use Rattle.snapshots.specs.Rooms.{merge_books}
-use Rattle.volume.specs.Volumed.{Volumed, dues_of, merge_due, due_by, is_due_by, next_of, is_due_of, merge_shape, plain_of}
-use Rattle.volume_laws.specs.Shape.{shown_origin}
+use Rattle.volume.specs.Volumed.{Volumed, dues_of, merge_due, due_by, is_due_by, next_of, is_due_of, plain_of}
+use Rattle.volume.specs.Shown.{shown_origin}
 
 pub alone_books : {B : Type 0} (contents : B → List ℕ) (layers : B → List Layer) (loud : Bool) (m : Option (Merging B)) → m ≡ None → merge_books contents layers loud m ≡ None
 alone_books contents layers loud m e = ap (merge_books contents layers loud) e
@@ -21,4 +21,4 @@ module _ {B : Type 0} (contents : B → List ℕ) (layers : B → List Layer) (v
 
   -- the origin shows its disk's bytes
   pub origin_alone : (plain_of contents layers v).origin ≡ contents v.origin
-  origin_alone = ap (λ m. shown_origin contents v.origin (merge_shape m)) alone
+  origin_alone = ap (shown_origin contents v.origin) alone

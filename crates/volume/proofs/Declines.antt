@@ -12,10 +12,10 @@ use Rattle.plain.specs.Plain.{overflow_under}
 use Rattle.plain.specs.Legal.{IsDeclined}
 use Rattle.in_flight.specs.Kinds.{kind_at, in_flight}
 use Rattle.in_flight.specs.declared.flights.Kind.TheVariants.{SnapWrite}
-use Rattle.volume_laws.specs.Shape.{shown_entry}
+use Rattle.volume.specs.Shown.{shown_entry}
 use Rattle.volume_laws.specs.Waits.{IsQuiet}
 use Rattle.snapshot.specs.Kept.{Kept}
-use Rattle.volume.specs.Volumed.{Volumed, books_of, plain_of, snap_shape, is_loud_in_all}
+use Rattle.volume.specs.Volumed.{Volumed, books_of, plain_of, is_loud_in_all}
 use Rattle.volume.specs.Submitting.{SameButRoom, IsRefusedAs}
 use Rattle.volume.proofs.Finishes.{plain_roomed, loud_roomed}
 use Rattle.volume.proofs.MovedLists.{IsFirst, first_position}
@@ -31,7 +31,7 @@ op_at_write (Snap m) Flush n e = absurd (cc)
 
 -- what a write of the snapshot of a number does that finds its store full, as the plain machine has it
 overflow_found : {B : Type 0} (contents : B → List ℕ) (origin : List ℕ) (n k : ℕ) (s : Kept B) (snaps : List (Kept B)) → IsFirst (λ (x : Kept B). x.number == n) k s snaps
-    → overflow_under n (map (shown_entry contents origin) (map snap_shape snaps)) ≡ s.overflow
+    → overflow_under n (map (shown_entry contents origin) snaps) ≡ s.overflow
 overflow_found contents origin n k s [] first = absurd (omega (arith, first.within))
 overflow_found contents origin n zero s (x ∷ xs) first =
     rw (ap (λ (y : Kept _). y.number == n) (sym first.is) ∙ first.passes) (ap (λ (y : Kept _). y.overflow) (sym first.is))

@@ -276,7 +276,7 @@ module _ {B : Type 0} (holds : B → ℕ → List ℕ → Type 0) (contents : B 
 
   -- an event that was due, or was not
   pub opens_stepped : (calls : List Call) (event : Event) (result : Result Outcome NotDue) (faults done : B → ℕ) (v w : Volumed B) → ((d : B) → length (contents d) ≡ 512 * size d) → ((d : B) (s : ℕ) → s < size d → holds d s (sector_at (contents d) s)) → is_loud_in_all layers v ≡ true
-      → DoesStep holds contents layers size faults done event result v w → OpensOnly holds size calls v w
+      → DoesStep holds contents layers size faults done true event result v w → OpensOnly holds size calls v w
   opens_stepped calls event (Ok outcome) faults done v w whole here loud does = opens_event event outcome faults v w does.kept does.cause (does.stops loud) whole here calls
   opens_stepped calls event (Err early) faults done v w whole here loud does = opens_same calls v w does.same
 

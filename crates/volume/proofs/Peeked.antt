@@ -11,9 +11,9 @@ use Rattle.plain.specs.Plain.{Entry, Live, Invalid, saved_under}
 use Rattle.settled.proofs.PictureSectors.{all_front, place_inside}
 use Rattle.snapshot.specs.Kept.{Kept, books_of as snap_books}
 use Rattle.volume_laws.specs.Held.{LiveHolds, SnapHolds}
-use Rattle.volume_laws.specs.Shape.{shown_entry, shown_origin}
+use Rattle.volume.specs.Shown.{shown_entry, shown_origin}
 use Rattle.volume.specs.Peeking.{is_loud_at, is_loud_under}
-use Rattle.volume.specs.Volumed.{Volumed, snap_shape, merge_shape, plain_of}
+use Rattle.volume.specs.Volumed.{Volumed, plain_of}
 use Rattle.volume.specs.Whole.{IsWhole}
 use Rattle.snapshots.specs.Finding.{place_of_snap}
 use Rattle.volume.specs.Submitting.{dev_refusal, is_merging, refusal_at}
@@ -61,13 +61,13 @@ snap_loud layers merge snaps dev number k s is found at loud =
 
 -- what the snapshot with a number shows
 abbrev pub entries_in : {B : Type 0} → (B → List ℕ) → List ℕ → List (Kept B) → List Entry
-entries_in contents origin xs = map (shown_entry contents origin) (map snap_shape xs)
+entries_in contents origin xs = map (shown_entry contents origin) xs
 
 saved_first : {B : Type 0} (contents : B → List ℕ) (origin : List ℕ) (number k : ℕ) (s : Kept B) (xs : List (Kept B)) → IsFirst (λ (x : Kept B). x.number == number) k s xs
-    → saved_under number (entries_in contents origin xs) ≡ Some (shown_entry contents origin (snap_shape s)).saved
+    → saved_under number (entries_in contents origin xs) ≡ Some (shown_entry contents origin s).saved
 saved_first contents origin number k s [] first = absurd (omega (arith, first.within))
 saved_first contents origin number zero s (y ∷ ys) first =
-    rw (subst (λ (x : Kept _). (x.number == number) ≡ true) first.is first.passes) (ap (λ (x : Kept _). Some (shown_entry contents origin (snap_shape x)).saved) (sym first.is))
+    rw (subst (λ (x : Kept _). (x.number == number) ≡ true) first.is first.passes) (ap (λ (x : Kept _). Some (shown_entry contents origin x).saved) (sym first.is))
 saved_first contents origin number (suc k) s (y ∷ ys) first = rw (first.before 0 y (omega arith)) (saved_first contents origin number k s ys (later_first number k s y ys first))
 
 live_saved : (b : Bool) (array other : List ℕ) → b ≡ true → Some (if b then Live array else Invalid) ≡ Some (Live other) → other ≡ array
@@ -96,7 +96,7 @@ spoilt_refusal merge snaps dev number k s is other found at spoilt =
 
 -- beside a merge the origin shows the picture over the merging store
 pub origin_merged : {B : Type 0} (contents : B → List ℕ) (layers : B → List Layer) (v : Volumed B) (m : Merging B) → v.merge ≡ Some m → (plain_of contents layers v).origin ≡ picture m.state.chunk (contents v.origin) (contents m.device)
-origin_merged contents layers v m is = ap (λ x. shown_origin contents v.origin (merge_shape x)) is
+origin_merged contents layers v m is = ap (λ x. shown_origin contents v.origin x) is
 
 -- the places of the merge's pairs lie inside its device
 pub merged_places : {B : Type 0} (contents : B → List ℕ) (layers : B → List Layer) (size : B → ℕ) (m : Merging B) → IsInStep contents layers size m → (c n : ℕ) → place_of m.pairs c ≡ Some n → m.state.chunk * (n + 1) ≤ size m.device

@@ -5,7 +5,7 @@ use Rattle.std.specs.Prelude.{None, Result, IfErr, IfOk, Ok, Err, MatchResult}
 use Rattle.device.specs.Layers.{Layer}
 use Rattle.layers.specs.declared.message.Answer.{Answer}
 use Rattle.layers.specs.declared.message.Message.{Message}
-use Rattle.plain.specs.Plain.{Plain}
+use Rattle.plain.specs.Plain.{Entry, Plain}
 use Rattle.plain.specs.Runs.{IsRun, MayStep, MaySubmit}
 use Rattle.plain.specs.declared.event.Event.{Event}
 use Rattle.plain.specs.declared.event.NotDue.{NotDue}
@@ -14,14 +14,14 @@ use Rattle.plain.specs.declared.request.Dev.{Dev}
 use Rattle.plain.specs.declared.request.Request.{Request}
 use Rattle.sector.specs.declared.refusal.Refusal.{Refusal}
 use Rattle.sector.specs.declared.refusal.Refusal.TheVariants.{NotMerging}
-use Rattle.volume_laws.specs.Shape.{SnapShape, shown_entry}
+use Rattle.volume.specs.Shown.{shown_entry}
 use Rattle.snapshot.specs.Kept.{Kept}
 use Rattle.snapshots.specs.Keeping.{unkept}
 use Rattle.volume.specs.declared.calls.Call.{Call}
 use Rattle.volume.specs.declared.calls.Call.TheVariants.{Submit, Step, Tick, Message as Tell, BeginMerge, ResumeMerge}
 use Rattle.volume.specs.declared.calls.Returned.{Returned}
 use Rattle.volume.specs.declared.calls.Returned.TheVariants.{Submitted, Stepped, Ticked, Told, Begun, Resumed}
-use Rattle.volume.specs.Volumed.{Volumed, plain_of, is_loud_in_all, snap_shape}
+use Rattle.volume.specs.Volumed.{Volumed, plain_of, is_loud_in_all}
 use Rattle.volume.specs.Beginning.{IsNotBegun, SameButKept}
 use Rattle.volume.specs.Layering.{Measures}
 use Rattle.volume.specs.Running.{IsSubmitReturned, IsStepReturned, IsMessageReturned, IsBegunAs, IsBeginRefused, IsResumedAs, IsReturned, AreReturned, MayBegin, MayCall}
@@ -38,13 +38,14 @@ still_but_kept xs ys (inr e) = ap (map unkept) e ∙ twice_unkept xs
 
 -- a merge that did not begin changed nothing that is seen
 module _ {B : Type 0} (contents : B → List ℕ) (layers : B → List Layer) where
-  shapes_kept : (xs ys : List (Kept B)) → map unkept ys ≡ map unkept xs → map snap_shape ys ≡ map snap_shape xs
-  shapes_kept xs ys same = sym (map_twice unkept snap_shape ys) ∙ ap (map snap_shape) same ∙ map_twice unkept snap_shape xs
+  entries_kept : (origin : List ℕ) (xs ys : List (Kept B)) → map unkept ys ≡ map unkept xs → map (shown_entry contents origin) ys ≡ map (shown_entry contents origin) xs
+  entries_kept origin xs ys same =
+      sym (map_twice unkept (shown_entry contents origin) ys) ∙ ap (map (shown_entry contents origin)) same ∙ map_twice unkept (shown_entry contents origin) xs
 
   plain_kept : (v w : Volumed B) → SameButKept v w → plain_of contents layers w ≡ plain_of contents layers v
   plain_kept v w same =
-      let mk : List (SnapShape B) → Plain = λ ss. record (plain_of contents layers v) { saved = map (shown_entry contents (contents v.origin)) ss } in
-      ap (plain_of contents layers) same.becomes ∙ ap mk (shapes_kept v.snaps w.snaps (still_but_kept v.snaps w.snaps same.kept))
+      let mk : List Entry → Plain = λ es. record (plain_of contents layers v) { saved = es } in
+      ap (plain_of contents layers) same.becomes ∙ ap mk (entries_kept (contents v.origin) v.snaps w.snaps (still_but_kept v.snaps w.snaps same.kept))
 
   pub unbegun_same : (number : ℕ) (refusal : Refusal) (v w : Volumed B) → IsNotBegun number refusal v w → plain_of contents layers w ≡ plain_of contents layers v
   unbegun_same number refusal v w (inl first) = ap (plain_of contents layers) first.1

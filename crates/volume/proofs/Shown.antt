@@ -5,15 +5,16 @@ use Rattle.std.specs.List.{All, list_all}
 use Rattle.std.proofs.lemmas.Bool.{false≢true}
 use Rattle.std.proofs.lemmas.List.Elements.{All-cons, All-nil}
 use Rattle.device.specs.Layers.{Layer, is_loud}
+use Rattle.in_flight.specs.Kinds.{in_flight}
 use Rattle.volume_laws.specs.Books.{SnapBooks, MergeBooks}
 use Rattle.volume_laws.specs.Due.{books_of as books_due}
-use Rattle.volume_laws.specs.Shape.{shown_origin, shown_begun}
-use Rattle.volume_laws.specs.Whole.{IsLoud, origin_of, begun_of, plain_of as plain_books}
-use Rattle.volume_laws.proofs.Showing.{entries_shown, plain_shown_is}
+use Rattle.volume.specs.Shown.{shown_begun, shown_entry, shown_origin}
+use Rattle.volume_laws.specs.Whole.{IsLoud, entry_of, origin_of, begun_of, plain_of as plain_books}
+use Rattle.volume_laws.proofs.Same.{plain}
 use Rattle.snapshot.specs.Kept.{Kept, books_of as snap_books, due_of_kept}
 use Rattle.merge.specs.Merging.{Merging, books_of as merging_books}
 use Rattle.snapshots.specs.Rooms.{merge_books}
-use Rattle.volume.specs.Volumed.{Volumed, books_of, shape_of, merge_shape, snap_shape, plain_of, is_loud_in_all, is_loud_with}
+use Rattle.volume.specs.Volumed.{Volumed, books_of, plain_of, is_loud_in_all, is_loud_with}
 
 pub and_left : (a b : Bool) → (a && b) ≡ true → a ≡ true
 and_left true b h = refl
@@ -50,21 +51,26 @@ merge_loud layers contents origin snaps (Some x) e m is =
     ∙ and_right (origin && snaps) (is_loud (layers x.device)) e
 
 module _ {B : Type 0} (contents : B → List ℕ) (layers : B → List Layer) (size : B → ℕ) (v : Volumed B) where
+  abbrev begun : Option (Merging B) → Option MergeBooks
+  begun m = merge_books contents layers (is_loud (layers v.origin)) m
+
   pub shown : plain_of contents layers v ≡ plain_books (books_of contents layers size v)
-  shown = plain_shown_is contents (shape_of contents layers v) (books_of contents layers size v) (record {
-    origin = origin_shown v.merge;
-    begun = begun_shown v.merge;
-    saved = entries_shown contents (contents v.origin) snap_shape (snap_books contents layers) v.snaps (λ s. refl);
-    requests = refl;
-  })
+  shown =
+      ap (λ x. plain x (shown_begun v.merge) (map (shown_entry contents (contents v.origin)) v.snaps) (map in_flight v.flights)) (origin_shown v.merge)
+      ∙ ap (λ x. plain (origin_of (contents v.origin) (begun v.merge)) x (map (shown_entry contents (contents v.origin)) v.snaps) (map in_flight v.flights)) (begun_shown v.merge)
+      ∙ ap (λ x. plain (origin_of (contents v.origin) (begun v.merge)) (begun_of (begun v.merge)) x (map in_flight v.flights)) (entries_shown v.snaps)
     where
-      origin_shown : (m : Option (Merging B)) → shown_origin contents v.origin (merge_shape m) ≡ origin_of (contents v.origin) (merge_books contents layers (is_loud (layers v.origin)) m)
+      origin_shown : (m : Option (Merging B)) → shown_origin contents v.origin m ≡ origin_of (contents v.origin) (begun m)
       origin_shown None = refl
       origin_shown (Some m) = refl
 
-      begun_shown : (m : Option (Merging B)) → shown_begun (merge_shape m) ≡ begun_of (merge_books contents layers (is_loud (layers v.origin)) m)
+      begun_shown : (m : Option (Merging B)) → shown_begun m ≡ begun_of (begun m)
       begun_shown None = refl
       begun_shown (Some m) = refl
+
+      entries_shown : (snaps : List (Kept B)) → map (shown_entry contents (contents v.origin)) snaps ≡ map (entry_of (contents v.origin)) (map (snap_books contents layers) snaps)
+      entries_shown [] = refl
+      entries_shown (s ∷ snaps) = ap (λ es. shown_entry contents (contents v.origin) s ∷ es) (entries_shown snaps)
 
   -- the other devices, and the merging store
   pub loud_others : is_loud_in_all layers v ≡ true → (is_loud (layers v.origin) && list_all (λ s. is_loud (layers s.device)) v.snaps) ≡ true

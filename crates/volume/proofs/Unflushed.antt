@@ -13,8 +13,6 @@ use Rattle.plain.specs.Kept.{kept, kept_range}
 use Rattle.in_flight.specs.Kinds.{kind_at, kind_of}
 use Rattle.in_flight.specs.declared.flights.Kind.{Kind}
 use Rattle.in_flight.specs.declared.flights.Kind.TheVariants.{OriginRead, OriginWrite, OriginFlush, SnapRead, SnapWrite, SnapFlush}
-use Rattle.event_machine.specs.Held.{Moving}
-use Rattle.event_machine.specs.Submitting.{submitted}
 use Rattle.volume.specs.Volumed.{Volumed}
 use Rattle.volume.specs.Submitting.{IsAcceptedAs, IsRefusedAs, submit_refusal}
 
@@ -60,15 +58,6 @@ module _ {B : Type 0} (contents : B → List ℕ) (layers : B → List Layer) (s
 
   pub refusal_kept : (request : Request) → submit_refusal size (kept request) v ≡ submit_refusal size request v
   refusal_kept request = refused_at request.dev request.op request.range
-
-  submitted_at : (dev : Dev) (op : Op) (range : Range) (number : ℕ) (m : Moving) → let r : Request = record { dev = dev; op = op; range = range } in submitted number (kept r) m ≡ submitted number r m
-  submitted_at dev Read range number m = refl
-  submitted_at dev (Write bytes) range number m = refl
-  submitted_at Origin Flush range number m = refl
-  submitted_at (Snap n) Flush range number m = refl
-
-  pub submitted_kept : (request : Request) (number : ℕ) (m : Moving) → submitted number (kept request) m ≡ submitted number request m
-  submitted_kept request number m = submitted_at request.dev request.op request.range number m
 
   accepted_at : (dev : Dev) (op : Op) (range : Range) (number : ℕ) → let r : Request = record { dev = dev; op = op; range = range } in IsAcceptedAs contents layers (kept r) number v w → IsAcceptedAs contents layers r number v w
   accepted_at dev Read range number e = e

@@ -1,6 +1,6 @@
 -- To be believed: a volume's steps are said in these words.
 -- What a call of `step` does to a volume, as one record: a layer that passes an event on says the same record of the volume below it.
-use Rattle.std.specs.Prelude.{◌≡◌, ℕ, ◌+◌, ◌<◌, ◌≤◌, true, List, IfOk, OnErr, OnOk, Result, map}
+use Rattle.std.specs.Prelude.{◌≡◌, ◌&&◌, ℕ, ◌+◌, ◌<◌, ◌≤◌, Bool, true, List, IfOk, OnErr, OnOk, Result, Some, is_ok, map}
 use Rattle.device.specs.Layers.{Layer}
 use Rattle.plain.specs.declared.event.Event.{Event}
 use Rattle.plain.specs.declared.event.NotDue.{NotDue}
@@ -15,13 +15,16 @@ use Rattle.volume.specs.Flying.{IsFlown}
 use Rattle.volume.specs.Stepping.{KeepsAll, failed_by, has_failed, starts_by}
 use Rattle.volume.specs.Stopping.{StopsVolume, given_by}
 use Rattle.volume.specs.Stored.{RemovesPairs, is_finished_on}
-use Rattle.volume.specs.Volumed.{Volumed, is_loud_in_all, left_in_all, plain_of}
+use Rattle.volume.specs.Volumed.{Volumed, is_due_of, is_loud_in_all, left_in_all, next_of, plain_of}
 
--- An event that was due, whatever the devices do: a whole number falls, the cause is counted, a request leaves only where it is
--- answered, at most one operation of a device is done, and no snapshot is marked for a full store. Where no device drops writes,
--- it is a legal step of the plain machine, and the event machine's own; and so are what a stop within it may leave, and what an
--- answered flush closes. One that was not due changes nothing.
-pub record DoesStep {B : Type 0} (holds : B → ℕ → List ℕ → Type 0) (contents : B → List ℕ) (layers : B → List Layer) (size faults done : B → ℕ) (event : Event) (result : Result Outcome NotDue) (old new : Volumed B) : Type 0 where
+-- An event is done where it is due and who asks for it `may` do it; the one that is due first is due. Of one that is done, whatever
+-- the devices do: a whole number falls, the cause is counted, a request leaves only where it is answered, at most one operation of
+-- a device is done, and no snapshot is marked for a full store. Where no device drops writes, it is a legal step of the plain
+-- machine, and the event machine's own; and so are what a stop within it may leave, and what an answered flush closes. One that is
+-- not done changes nothing.
+pub record DoesStep {B : Type 0} (holds : B → ℕ → List ℕ → Type 0) (contents : B → List ℕ) (layers : B → List Layer) (size faults done : B → ℕ) (may : Bool) (event : Event) (result : Result Outcome NotDue) (old new : Volumed B) : Type 0 where
+  pub due : is_ok result ≡ (may && is_due_of contents layers old event)
+  pub first : next_of contents layers old ≡ Some event → is_ok result ≡ may
   pub legal : IfOk result (λ outcome. is_loud_in_all layers old ≡ true → IsLegalStep (plain_of contents layers old) event outcome (plain_of contents layers new))
   pub exact : IfOk result (λ outcome. IsExact contents layers event outcome old new)
   pub lower : OnOk result (left_in_all contents layers new < left_in_all contents layers old)

@@ -1,3 +1,4 @@
+pub mod Shown
 pub mod Volumed
 pub mod Whole
 pub mod Causes

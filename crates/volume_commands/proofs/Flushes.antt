@@ -1,6 +1,6 @@
 -- A flush of a settled volume is answered by what its device shows, and changes nothing that is shown, whether a merge is begun or not.
-use Rattle.std.proofs.Common.{◌≡◌, inl, inr, ℕ, ◌+◌, ◌/◌, ◌<◌, ◌≤◌, Bool, true, false, List, [], ◌∷◌, map, Option, Some, None, arith, refl, ap, ◌∙◌, sym, subst}
-use Rattle.std.specs.Prelude.{◌-◌, ◌==◌, IfErr, Ok, Err, Result}
+use Rattle.std.proofs.Common.{◌≡◌, inl, inr, ℕ, ◌/◌, ◌<◌, true, List, [], ◌∷◌, map, Option, Some, None, arith, refl, ap, ◌∙◌, sym, subst}
+use Rattle.std.specs.Prelude.{◌==◌, IfErr, Ok, Err, Result}
 use Rattle.std.specs.List.{All}
 use Rattle.std.proofs.lemmas.Bool.{cases_Bool, cond-true, cond-false}
 use Rattle.sector.specs.declared.refusal.Refusal.{Refusal}
@@ -21,7 +21,7 @@ use Rattle.plain.specs.declared.request.Reply.TheVariants.{Data, Written, Flushe
 use Rattle.plain.specs.declared.request.Replied.{Replied as Ended}
 use Rattle.plain.specs.declared.request.Request.{Request}
 use Rattle.settled.specs.Devices.{Device, answers, flush_reply}
-use Rattle.settled.specs.Snaps.{Snap, Volume, shown}
+use Rattle.settled.specs.Snaps.{Snap, Volume}
 use Rattle.settled.specs.Pieces.{Answered, Served as One, flush_snap, in_snap}
 use Rattle.settled.specs.Commands.{flushed}
 use Rattle.settled.specs.Merges.{Merge, Merged, Merging, Replied, merged_of as in_one, flush_through, flushed_through}

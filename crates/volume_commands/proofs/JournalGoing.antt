@@ -9,7 +9,7 @@ use Rattle.plain.specs.declared.event.Outcome.{Outcome}
 use Rattle.plain.specs.declared.event.Outcome.TheVariants.{Done, Fault, Reply as Replied}
 use Rattle.plain.specs.declared.request.Reply.{Reply}
 use Rattle.plain.specs.declared.request.Request.{Request}
-use Rattle.plain.specs.Plain.{Plain, overflow_of, spoiled_entry}
+use Rattle.plain.specs.Plain.{Plain, Shown, overflow_of, shown_of, spoiled_entry}
 use Rattle.plain.specs.Serves.{Serves}
 use Rattle.plain.specs.Legal.{IsAnswered, IsBegun, IsDeclined, IsDetached, IsFinished, IsLegalStep, IsTaken, Overflows, Spoils}
 use Rattle.snapshot.specs.declared.opening.StoreDev.{StoreDev}
@@ -21,7 +21,7 @@ use Rattle.volume.specs.Volumed.{Volumed, is_loud_in_all, plain_of}
 use Rattle.volume.proofs.Declines.{refused_declined}
 use Rattle.journal.specs.declared.entry.Entry.{Entry}
 use Rattle.journal.specs.declared.entry.Entry.TheVariants.{Answered, Attached, Begun, Detached, Finished, Overflowed, Spoiled}
-use Rattle.journal.specs.Replay.{Saves, AllLawful, IsLawful, after, plain_in, replay, saves_of, served}
+use Rattle.journal.specs.Replay.{AllLawful, IsLawful, after, plain_in, replay, served}
 use Rattle.journal.proofs.Changes.{finished_does}
 use Rattle.journal.proofs.Departed.{begun_does, detached_does}
 use Rattle.journal.proofs.Gained.{attached_does}
@@ -29,36 +29,36 @@ use Rattle.journal.proofs.Keeping.{spoils_of}
 use Rattle.journal.proofs.Replaying.{lawful_is, lawful_spoils, lawful_then, replay_spoils, replay_then, served_is}
 use Rattle.volume_commands.specs.GoingOn.{ComesTo, GoesOn, IsSubmitNoted}
 
-goes_on : (p q : Plain) (es : List Entry) → AllLawful (saves_of p) es → replay (saves_of p) es ≡ saves_of q → GoesOn p es q
+goes_on : (p q : Plain) (es : List Entry) → AllLawful (shown_of p) es → replay (shown_of p) es ≡ shown_of q → GoesOn p es q
 goes_on p q es lawful gives = record {
-  lawful = λ base past all was. lawful_then base past es all (subst (λ (s : Saves). AllLawful s es) (sym was) lawful);
-  gives = λ base past was. replay_then base past es ∙ ap (λ (s : Saves). replay s es) was ∙ gives;
+  lawful = λ base past all was. lawful_then base past es all (subst (λ (s : Shown). AllLawful s es) (sym was) lawful);
+  gives = λ base past was. replay_then base past es ∙ ap (λ (s : Shown). replay s es) was ∙ gives;
 }
 
-one_goes_on : (p q : Plain) (e : Entry) → IsLawful (saves_of p) e → after (saves_of p) e ≡ saves_of q → GoesOn p (e ∷ []) q
+one_goes_on : (p q : Plain) (e : Entry) → IsLawful (shown_of p) e → after (shown_of p) e ≡ shown_of q → GoesOn p (e ∷ []) q
 one_goes_on p q e lawful gives = goes_on p q (e ∷ []) (lawful, tt) gives
 
 -- a request that nobody sees
 pub none_goes_on : (request : Request) (refusal : Refusal) (p q : Plain) → q ≡ p → (entries : List Entry) × IsSubmitNoted request (Err refusal) entries × GoesOn p entries q
-none_goes_on request refusal p q same = ([], inl ([], refl), goes_on p q [] tt (ap saves_of (sym same)))
+none_goes_on request refusal p q same = ([], inl ([], refl), goes_on p q [] tt (ap shown_of (sym same)))
 
 spoils_go_on : (which : List ℕ) (p q : Plain) → q.origin ≡ p.origin → q.begun ≡ p.begun → q.saved ≡ map (spoiled_entry which) p.saved → GoesOn p (map Spoiled which) q
 spoils_go_on which p q origin begun saved =
-    goes_on p q (map Spoiled which) (lawful_spoils (saves_of p) which) (replay_spoils (saves_of p) which ∙ (λ i. record { origin = sym origin i; begun = sym begun i; saved = sym saved i }))
+    goes_on p q (map Spoiled which) (lawful_spoils (shown_of p) which) (replay_spoils (shown_of p) which ∙ (λ i. record { origin = sym origin i; begun = sym begun i; saved = sym saved i }))
 
 spoilt_goes_on : (which : List ℕ) (p q : Plain) → Spoils which p q → GoesOn p (map Spoiled which) q
 spoilt_goes_on which p q is = spoils_go_on which p q (ap (λ (x : Plain). x.origin) is) (ap (λ (x : Plain). x.begun) is) (ap (λ (x : Plain). x.saved) is)
 
 -- a store that overflowed
 marked_goes_on : (number : ℕ) (p q : Plain) → Overflows number p q → GoesOn p (Overflowed number ∷ []) q
-marked_goes_on number p q o = one_goes_on p q (Overflowed number) (record { array = o.array; live = o.live; may = o.may; becomes = refl }) (sym (ap saves_of o.becomes))
+marked_goes_on number p q o = one_goes_on p q (Overflowed number) (record { array = o.array; live = o.live; may = o.may; becomes = refl }) (sym (ap shown_of o.becomes))
 
 -- an event
 answered_goes_on : (number : ℕ) (reply : Reply) (p q : Plain) (a : IsAnswered p number reply q) → GoesOn p (Answered (record { seat = 1; request = a.request; reply = reply }) ∷ []) q
 answered_goes_on number reply p q a =
     let r : Request = a.request in
-    let made : saves_of q ≡ served r.dev r.op r.range.first reply (saves_of p) = served_is p q r.dev r.op r.range reply a.served in
-    let lawful = subst (λ (s : Saves). Serves (plain_in (saves_of p)) r.dev r.op r.range reply (plain_in s)) made (lawful_is p q r.dev r.op r.range reply a.served) in
+    let made : shown_of q ≡ served r.dev r.op r.range.first reply (shown_of p) = served_is p q r.dev r.op r.range reply a.served in
+    let lawful = subst (λ (s : Shown). Serves (plain_in (shown_of p)) r.dev r.op r.range reply (plain_in s)) made (lawful_is p q r.dev r.op r.range reply a.served) in
     one_goes_on p q (Answered (record { seat = 1; request = a.request; reply = reply })) lawful (sym made)
 
 is_issue : (event : Event) → ((n : ℕ) × (event ≡ Issue n)) ⊎ ((n : ℕ) → event ≢ Issue n)
@@ -81,7 +81,7 @@ is_issue MergeRelease = inr (λ n e. cc)
 pub stepped_goes_on : (p : Plain) (event : Event) (outcome : Outcome) (q : Plain) → IsLegalStep p event outcome q → (entries : List Entry) × ComesTo p outcome entries × GoesOn p entries q
 stepped_goes_on p event (Replied number reply) q legal = (Answered (record { seat = 1; request = legal.1.request; reply = reply }) ∷ [], (legal.1.request, legal.1.asked, refl), answered_goes_on number reply p q legal.1)
 stepped_goes_on p event Done q legal = elim (is_issue event) [
-  | inl issue ↦ (let l = subst (λ (e : Event). IsLegalStep p e Done q) issue.1 legal in ([], ([], refl), goes_on p q [] tt (ap saves_of (sym l.0))))
+  | inl issue ↦ (let l = subst (λ (e : Event). IsLegalStep p e Done q) issue.1 legal in ([], ([], refl), goes_on p q [] tt (ap shown_of (sym l.0))))
   | inr other ↦ (let s = spoils_of p event Done q other legal in (map Spoiled s.0, (s.0, refl), spoilt_goes_on s.0 p q s.1))
 ]
 stepped_goes_on p event Fault q legal = elim (is_issue event) [

@@ -52,6 +52,7 @@ pub mod MergeArrays
 pub mod MergeGoes
 pub mod Flown
 pub mod Fewer
+pub mod Full
 pub mod JournalGoing
 pub mod DueTold
 pub mod CallsSeen

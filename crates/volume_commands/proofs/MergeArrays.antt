@@ -8,9 +8,10 @@ use Rattle.plain.specs.Plain.{Live, Entry}
 use Rattle.settled.specs.Merges.{Merge, Merged, resumed, resumed_by}
 use Rattle.settled.specs.Snaps.{shown}
 use Rattle.snapshot.specs.declared.opening.StoreDev.{StoreDev}
+use Rattle.volume.specs.Shown.{shown_origin}
 use Rattle.volume_commands.specs.Rested.{Attached, Rested, merged_of, snap_at, snap_of, without}
 use Rattle.volume_commands.specs.Merging.{IsBegunAs, IsTakenOutAs}
-use Rattle.volume_commands.specs.Showing.{Arrays, arrays_in, entries_without, entry_of, origin_with, saved_at, IsRolledBack}
+use Rattle.volume_commands.specs.Showing.{Arrays, arrays_in, entries_without, entry_of, saved_at, IsRolledBack}
 use Rattle.settled.specs.MergeShown.{origin_shown}
 use Rattle.volume_commands.proofs.Shown.{arrays_with, seen, shown_by}
 
@@ -50,7 +51,7 @@ module _ {B : Type 0} (contents : B → List ℕ) (layers : B → List Layer) wh
   -- the origin shows what the snapshot did
   pub begun_shows : (number : ℕ) (old new : Rested B) → IsBegunAs number old new → IsRolledBack number (arrays_in contents layers old) (arrays_in contents layers new)
   begun_shows number old new is = record {
-    origin = ap (λ o. Live (origin_with contents o (contents new.origin))) is.begun
+    origin = ap (λ o. Live (shown_origin contents new.origin o)) is.begun
         ∙ ap (λ c. Live (picture c (contents new.origin) (contents is.merge.device))) is.chunk_is
         ∙ ap (λ d. Live (picture is.snap.chunk (contents new.origin) (contents d))) is.store
         ∙ ap (λ d. Live (picture is.snap.chunk (contents d) (contents is.snap.store))) is.origin
@@ -68,7 +69,7 @@ module _ {B : Type 0} (contents : B → List ℕ) (layers : B → List Layer) wh
       let mk : List ℕ → List Entry → Arrays = λ o s. record { origin = o; saved = s } in
       let entries : B → List (Attached B) → List Entry = λ d xs. map (entry_of (contents d)) (map (snap_of contents layers) xs) in
       let own : (arrays_in contents layers old).origin ≡ contents new.origin = ap (λ (a : Arrays). a.origin) (shown_by contents layers old) ∙ disk in (
-        ap (λ o. mk (origin_with contents o (contents new.origin)) (entries new.origin new.snaps)) is.ended
+        ap (λ o. mk (shown_origin contents new.origin o) (entries new.origin new.snaps)) is.ended
             ∙ ap (λ o. mk o (entries new.origin new.snaps)) (sym own)
             ∙ ap (λ d. mk (arrays_in contents layers old).origin (entries d new.snaps)) is.origin
             ∙ ap (λ (xs : List (Attached B)). mk (arrays_in contents layers old).origin (entries old.origin xs)) is.snaps,

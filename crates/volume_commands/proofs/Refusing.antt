@@ -84,20 +84,23 @@ module _ {B : Type 0} (contents : B → List ℕ) (layers : B → List Layer) (s
     ]
   ]
 
-  pub refused_requests : new.requests ≤ old.requests + 1
-  refused_requests = elim refused [
-    | inl starved ↦ (let same : new.requests ≡ old.requests = ap (λ (v : Volumed B). v.requests) starved.1 in omega (arith, same))
+  pub refused_given : new.requests ≡ old.requests
+  refused_given = elim refused [
+    | inl starved ↦ ap (λ (v : Volumed B). v.requests) starved.1
     | inr plain ↦ elim plain [
-      | inl first ↦ (let same : new.requests ≡ old.requests = ap (λ (v : Volumed B). v.requests) first.1 in omega (arith, same))
+      | inl first ↦ ap (λ (v : Volumed B). v.requests) first.1
       | inr later ↦ elim later [
-        | inl lacks ↦ (let same : new.requests ≡ old.requests = ap (λ (v : Volumed B). v.requests) lacks.2.becomes in omega (arith, same))
+        | inl lacks ↦ ap (λ (v : Volumed B). v.requests) lacks.2.becomes
         | inr full ↦ elim full [
-          | inl lost ↦ (let same : new.requests ≡ old.requests = ap (λ (v : Volumed B). v.requests) lost.2.2.becomes in omega (arith, same))
-          | inr shut ↦ (let same : new.requests ≡ old.requests = ap (λ (v : Volumed B). v.requests) shut.2.2.becomes in omega (arith, same))
+          | inl lost ↦ ap (λ (v : Volumed B). v.requests) lost.2.2.becomes
+          | inr shut ↦ ap (λ (v : Volumed B). v.requests) shut.2.2.becomes
         ]
       ]
     ]
   ]
+
+  pub refused_requests : new.requests ≤ old.requests + 1
+  refused_requests = (let same = refused_given in omega (arith, same))
 
   -- it is as quiet as before, where its snapshot is not spoiled
   pub refused_quiet : refusal ≢ Invalid → is_quiet_of new ≡ is_quiet_of old

@@ -7,8 +7,9 @@ use Rattle.settled.specs.Merges.{Merged}
 use Rattle.settled.specs.MergeShown.{origin_shown}
 use Rattle.merge.specs.Merging.{Merging}
 use Rattle.volume.specs.Moved.{merge_seen}
+use Rattle.volume.specs.Shown.{shown_origin}
 use Rattle.volume_commands.specs.Rested.{Rested, merged_of, settled_of}
-use Rattle.volume_commands.specs.Showing.{Arrays, arrays_of, arrays_in, origin_with}
+use Rattle.volume_commands.specs.Showing.{Arrays, arrays_of, arrays_in}
 
 abbrev pub arrays_with : Merged → Arrays
 arrays_with m = record { origin = origin_shown m; saved = (arrays_of m.volume).saved }
@@ -22,7 +23,7 @@ module _ {B : Type 0} (contents : B → List ℕ) (layers : B → List Layer) wh
   shown_by v = by v.events.merge
     where
       by : (o : Option (Merging B))
-          → (let a : Arrays = record { origin = origin_with contents o (contents v.origin); saved = (arrays_of (settled_of contents layers v)).saved } in a)
+          → (let a : Arrays = record { origin = shown_origin contents v.origin o; saved = (arrays_of (settled_of contents layers v)).saved } in a)
           ≡ (let m : Merged = record { volume = settled_of contents layers v; merge = merge_in (held_in (merge_seen contents layers o)) } in arrays_with m)
       by None = refl
       by (Some m) = refl

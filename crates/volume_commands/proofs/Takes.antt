@@ -4,7 +4,7 @@ use Rattle.std.specs.Prelude.{◌==◌, ◌&&◌, ◌||◌, ◌⊎◌, not, nat_
 use Rattle.std.specs.List.{list_all}
 use Rattle.std.proofs.lemmas.Bool.{cases_Bool, cond-true, cond-false, true≢false}
 use Rattle.sector.specs.declared.refusal.Refusal.{Refusal}
-use Rattle.sector.specs.declared.refusal.Refusal.TheVariants.{BadChunk, Io, MergeInProgress, NotQuiet, Stale, TooMany}
+use Rattle.sector.specs.declared.refusal.Refusal.TheVariants.{BadChunk, Io, MergeInProgress, Stale, TooMany}
 use Rattle.settled.specs.Refusals.{is_starved}
 use Rattle.chunk.specs.Sizes.{is_chunk}
 use Rattle.device.specs.Layers.{Layer, is_loud}

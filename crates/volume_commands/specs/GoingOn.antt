@@ -4,18 +4,18 @@ use Rattle.plain.specs.declared.event.Outcome.{Outcome}
 use Rattle.plain.specs.declared.event.Outcome.TheVariants.{Done, Fault, Reply as Replied}
 use Rattle.plain.specs.declared.request.Request.{Request}
 use Rattle.plain.specs.declared.request.Dev.TheVariants.{Snap}
-use Rattle.plain.specs.Plain.{Plain, asked_under}
+use Rattle.plain.specs.Plain.{Plain, Shown, asked_under, shown_of}
 use Rattle.sector.specs.declared.refusal.Refusal.{Refusal}
 use Rattle.sector.specs.declared.refusal.Refusal.TheVariants.{Overflow}
 use Rattle.journal.specs.declared.entry.Entry.{Entry}
 use Rattle.journal.specs.declared.entry.Entry.TheVariants.{Answered, Overflowed, Spoiled}
-use Rattle.journal.specs.Replay.{Saves, AllLawful, replay, saves_of}
+use Rattle.journal.specs.Replay.{AllLawful, replay}
 
 -- Whatever lawful entries gave what callers saw of a volume before, from whatever arrays and states: these behind them are
 -- lawful too, and give what callers see then.
 pub record GoesOn (old : Plain) (entries : List Entry) (new : Plain) : Type 0 where
-  pub lawful : (base : Saves) (past : List Entry) → AllLawful base past → replay base past ≡ saves_of old → AllLawful base (past ++ entries)
-  pub gives : (base : Saves) (past : List Entry) → replay base past ≡ saves_of old → replay base (past ++ entries) ≡ saves_of new
+  pub lawful : (base : Shown) (past : List Entry) → AllLawful base past → replay base past ≡ shown_of old → AllLawful base (past ++ entries)
+  pub gives : (base : Shown) (past : List Entry) → replay base past ≡ shown_of old → replay base (past ++ entries) ≡ shown_of new
 
 -- the entries of snapshots that were spoiled, and no others
 abbrev pub AreSpoils : List Entry → Type 0

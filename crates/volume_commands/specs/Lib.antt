@@ -26,3 +26,4 @@ pub mod SeesResumeMerge
 pub mod SeesFinishMerge
 pub mod SeesRequests
 pub mod ChangesLayers
+pub mod Recorded

@@ -1,8 +1,15 @@
--- The places that a volume takes in its journal. This project's own.
-use Rattle.std.specs.Prelude.{ℕ, ◌+◌, ◌≤◌, length}
+-- The places that a volume takes in its journal, and when a call finds none. This project's own.
+use Rattle.std.specs.Prelude.{◌≡◌, ◌≢◌, ◌⊎◌, nat_lt, ℕ, ◌+◌, ◌≤◌, Bool, true, false, length, Result, Ok, Err}
+use Rattle.sector.specs.declared.refusal.Refusal.{Refusal}
+use Rattle.sector.specs.declared.refusal.Refusal.TheVariants.{JournalFull}
 use Rattle.volume.specs.Causes.{lives_of}
 use Rattle.volume.specs.Volumed.{Volumed}
 use Rattle.journal.specs.Noted.{live_count, may_count, mays_of}
+
+-- a volume, and how many places of its journal are taken
+pub record Counted (B : Type 0) : Type 0 where
+  pub volume : Volumed B
+  pub taken : ℕ
 
 -- those that are kept free for what is to come: an entry of each request in flight, and one of each live snapshot, which may
 -- be spoiled, or leave
@@ -13,7 +20,25 @@ kept_free v = length v.flights + live_count (lives_of v)
 abbrev pub kept_for_marks : {B : Type 0} → Volumed B → ℕ
 kept_for_marks v = may_count (lives_of v) (mays_of v)
 
--- so many places are taken, these among them, and with those for marks there are no more than a journal has
+-- so many are taken but for those for marks, the former among them, and with these there are no more than a journal has
 pub record HasPlaces {B : Type 0} (v : Volumed B) (places : ℕ) : Type 0 where
   pub enough : kept_free v ≤ places
   pub few : places + kept_for_marks v ≤ 65_536
+
+abbrev pub counted_with : {B : Type 0} → Volumed B → ℕ → Counted B
+counted_with v places = record { volume = v; taken = places + kept_for_marks v }
+
+-- whether so many more may be too many
+abbrev pub is_full_for : ℕ → ℕ → Bool
+is_full_for more taken = nat_lt 65_536 (taken + more)
+
+-- A call that takes places is refused with JournalFull where the journal may not have them, and there alone: so that comes before all
+-- other reasons.
+abbrev pub IsFullFirst : {A : Type 0} → Bool → Result A Refusal → Type 0
+IsFullFirst full (Ok done) = full ≡ false
+IsFullFirst full (Err refusal) = ((full ≡ true) × (refusal ≡ JournalFull)) ⊎ ((full ≡ false) × (refusal ≢ JournalFull))
+
+-- the same of one that gives back what it was called with
+abbrev pub IsFullFirstOf : {A C : Type 0} → Bool → Result A (Refusal × C) → Type 0
+IsFullFirstOf full (Ok done) = full ≡ false
+IsFullFirstOf full (Err e) = ((full ≡ true) × (e.0 ≡ JournalFull)) ⊎ ((full ≡ false) × (e.0 ≢ JournalFull))

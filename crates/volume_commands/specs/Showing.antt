@@ -1,6 +1,6 @@
 -- What a settled volume shows, in words of saved arrays alone, and what reads and writes of many sectors do to that. This
 -- project's own; the kernel's admin-guide page on snapshots says in words what a snapshot keeps, and where reads and writes go.
-use Rattle.std.specs.Prelude.{◌≡◌, ◌≢◌, ◌⊎◌, ◌==◌, ℕ, ◌+◌, ◌*◌, ◌<◌, List, [], ◌∷◌, length, map, take, Option, Some, None, if◌then◌else◌}
+use Rattle.std.specs.Prelude.{◌≡◌, ◌≢◌, ◌⊎◌, ◌==◌, ℕ, ◌+◌, ◌*◌, ◌<◌, List, [], ◌∷◌, length, map, take, if◌then◌else◌}
 use Rattle.sector.specs.Bytes.{sectors_at, with_sectors}
 use Rattle.sector.specs.declared.refusal.Refusal.{Refusal}
 use Rattle.sector.specs.declared.refusal.Refusal.TheVariants.{NoSuchDevice, NoMemory, JournalFull, Invalid as InvalidRefusal, Io as IoRefusal, Overflow as OverflowRefusal}
@@ -12,8 +12,7 @@ use Rattle.plain.specs.declared.request.Overflowing.TheVariants.{May, Did}
 use Rattle.device.specs.Layers.{Layer}
 use Rattle.settled.specs.Snaps.{Snap, Volume, shown}
 use Rattle.settled.specs.Beside.{pieces_beside}
-use Rattle.merge.specs.Merging.{Merging}
-use Rattle.store_bytes.specs.Picture.{picture}
+use Rattle.volume.specs.Shown.{shown_origin}
 use Rattle.volume_commands.specs.Rested.{Rested, merged_of, settled_of}
 
 -- the origin's array, and what each snapshot shows, in order of attaching
@@ -29,14 +28,9 @@ abbrev pub arrays_of : Volume → Arrays
 arrays_of v = record { origin = v.origin.bytes; saved = map (entry_of v.origin.bytes) v.snaps }
 
 -- While a merge is begun the origin's array is the origin disk with the chunks of the merging store in place: what the merged
--- snapshot showed, with what was written since.
-abbrev pub origin_with : {B : Type 0} → (B → List ℕ) → Option (Merging B) → List ℕ → List ℕ
-origin_with contents None disk = disk
-origin_with contents (Some m) disk = picture m.state.chunk disk (contents m.device)
-
--- the other snapshots show what they do without a merge
+-- snapshot showed, with what was written since. The other snapshots show what they do without a merge.
 abbrev pub arrays_in : {B : Type 0} → (B → List ℕ) → (B → List Layer) → Rested B → Arrays
-arrays_in contents layers v = record { origin = origin_with contents v.events.merge (contents v.origin); saved = (arrays_of (settled_of contents layers v)).saved }
+arrays_in contents layers v = record { origin = shown_origin contents v.origin v.events.merge; saved = (arrays_of (settled_of contents layers v)).saved }
 
 -- what the first snapshot with a number shows
 abbrev pub saved_at : ℕ → List Entry → Saved

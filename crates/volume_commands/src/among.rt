@@ -1,11 +1,12 @@
 // One request of a command, among requests in flight: it is submitted, and then all that is due is done.
 ghost use Rattle.std.specs.Prelude.{◌≡◌, ◌⊎◌, ◌+◌, ◌*◌, ◌≤◌, ℕ, List, length, vec_capacity, vec_len, IfOk, IfErr, true, false, None};
-ghost use Rattle.sector.specs.declared.refusal.Refusal.TheVariants.{Invalid, NoMemory};
+ghost use Rattle.sector.specs.declared.refusal.Refusal.TheVariants.{Invalid, NoMemory, JournalFull};
 ghost use Rattle.plain.specs.declared.request.Op.TheVariants.{Write};
 ghost use Rattle.volume_commands.specs.Rested.{rested_of};
 ghost use Rattle.volume_commands.specs.Kept.{KeepsDevices};
 ghost use Rattle.volume_commands.specs.Draining.{IsDrainedApart, is_idle_of};
 ghost use Rattle.volume_commands.specs.Among.{is_live_dev, IsServedAmong, IsRefusedAmong};
+ghost use Rattle.volume_commands.specs.Places.{is_full_for};
 
 use crate::draining::{drain_apart, drain_for};
 use crate::serving::look;
@@ -17,7 +18,7 @@ use sector::Refusal;
 
 /// Whether a request's device is a snapshot that is live.
 fn is_live<B: Layered>(volume: &Journaled<B>, dev: Dev) -> bool
-    ensures { result ≡ is_live_dev dev (rested_of volume.now) }
+    ensures { result ≡ is_live_dev dev (rested_of volume.now.volume) }
 {
     match dev {
         Dev::Origin => false,
@@ -37,12 +38,13 @@ fn is_live<B: Layered>(volume: &Journaled<B>, dev: Dev) -> bool
 /// What follows a request that is answered `Invalid` at once: where its snapshot was live it is spoiled by that, and all that
 /// is due then is done, but for events of a merge. There is room in `ended` for a reply to each request in flight.
 fn follow<B: Layered>(volume: &mut Journaled<B>, live: bool, ended: &mut Vec<Replied>)
-    requires room { vec_len ended.old + length volume.old.flights ≤ vec_capacity ended.old }
-    ensures drained { IsDrainedApart B.contents B.layers B.fault_count volume.old volume.new ended.old.items ended.new.items }
-    ensures dead { live ≡ false → (volume.new ≡ volume.old) × (ended.new.items ≡ ended.old.items) }
-    ensures idle { live ≡ true → is_idle_of B.contents B.layers volume.new ≡ true }
-    ensures kept { KeepsDevices B.layers B.size (rested_of volume.old) (rested_of volume.new) }
-    ensures requests { volume.new.requests ≡ volume.old.requests }
+    requires room { vec_len ended.old + length volume.old.volume.flights ≤ vec_capacity ended.old }
+    ensures drained { IsDrainedApart B.contents B.layers B.fault_count volume.old.volume volume.new.volume ended.old.items ended.new.items }
+    ensures dead { live ≡ false → (volume.new.volume ≡ volume.old.volume) × (ended.new.items ≡ ended.old.items) }
+    ensures idle { live ≡ true → is_idle_of B.contents B.layers volume.new.volume ≡ true }
+    ensures kept { KeepsDevices B.layers B.size (rested_of volume.old.volume) (rested_of volume.new.volume) }
+    ensures requests { volume.new.volume.requests ≡ volume.old.volume.requests }
+    ensures taken { volume.new.taken ≤ volume.old.taken }
 {
     if live {
         drain_apart(volume, ended);
@@ -58,10 +60,12 @@ pub(crate) fn serve_among<B: Layered>(
     ended: &mut Vec<Replied>,
 ) -> Result<Reply, Refusal>
     requires bytes { (bytes : List ℕ) → request.op ≡ Write bytes → length bytes ≡ 512 * request.range.count }
-    ensures served { IfOk result (λ reply. IsServedAmong B.contents B.layers B.fault_count request reply volume.old volume.new ended.old.items ended.new.items) }
-    ensures refused { IfErr result (λ refusal. IsRefusedAmong B.contents B.layers B.fault_count B.size request refusal volume.old volume.new ended.old.items ended.new.items) }
-    ensures kept { KeepsDevices B.layers B.size (rested_of volume.old) (rested_of volume.new) }
-    ensures requests { volume.new.requests ≤ volume.old.requests + 1 }
+    ensures served { IfOk result (λ reply. IsServedAmong B.contents B.layers B.fault_count request reply volume.old.volume volume.new.volume ended.old.items ended.new.items) }
+    ensures refused { IfErr result (λ refusal. IsRefusedAmong B.contents B.layers B.fault_count B.size request refusal volume.old.volume volume.new.volume ended.old.items ended.new.items) }
+    ensures kept { KeepsDevices B.layers B.size (rested_of volume.old.volume) (rested_of volume.new.volume) }
+    ensures requests { volume.new.volume.requests ≤ volume.old.volume.requests + 1 }
+    ensures taken { volume.new.taken + volume.old.volume.requests ≤ volume.old.taken + volume.new.volume.requests }
+    ensures full { IfErr result (λ refusal. refusal ≡ JournalFull → is_full_for 1 volume.new.taken ≡ true) }
 {
     let Ok(()) = ended.reserve(MAX_REQUESTS) else {
         return Err(Refusal::NoMemory);

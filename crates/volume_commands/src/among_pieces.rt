@@ -10,6 +10,8 @@ ghost use Rattle.volume_commands.specs.Rested.{has_dev, rested_of};
 ghost use Rattle.volume_commands.specs.Flying.{IsWhole};
 ghost use Rattle.volume_commands.specs.Kept.{KeepsDevices};
 ghost use Rattle.volume_commands.specs.Among.{AreReadAmong, AreWrittenAmong, IsPieceFailed, IsPieceServed, IsReadRefusedAmong, IsReadStopped, IsWriteRefusedAmong, IsWriteStopped, pieces_among};
+ghost use Rattle.sector.specs.declared.refusal.Refusal.TheVariants.{JournalFull};
+ghost use Rattle.volume_commands.specs.Places.{is_full_for};
 
 use crate::among::serve_among;
 use crate::pieces::part_of;
@@ -35,11 +37,13 @@ fn write_piece_among<B: Layered>(
     requires order { from ≤ to }
     requires inside { to ≤ length bytes.old }
     requires room { length (take (to - from) (drop from bytes.old)) ≡ 512 * piece.count }
-    ensures written { OnOk result ((reply : AnyReply) × IsPieceServed B.contents B.layers B.fault_count dev (Write (take (to - from) (drop from bytes.old))) (span_of piece) reply volume.old volume.new ended.old.items ended.new.items) }
-    ensures failed { IfErr result (λ refusal. IsPieceFailed B.contents B.layers B.fault_count B.size dev (Write (take (to - from) (drop from bytes.old))) (span_of piece) refusal volume.old volume.new ended.old.items ended.new.items) }
+    ensures written { OnOk result ((reply : AnyReply) × IsPieceServed B.contents B.layers B.fault_count dev (Write (take (to - from) (drop from bytes.old))) (span_of piece) reply volume.old.volume volume.new.volume ended.old.items ended.new.items) }
+    ensures failed { IfErr result (λ refusal. IsPieceFailed B.contents B.layers B.fault_count B.size dev (Write (take (to - from) (drop from bytes.old))) (span_of piece) refusal volume.old.volume volume.new.volume ended.old.items ended.new.items) }
     ensures left { drop to bytes.new ≡ drop to bytes.old }
-    ensures kept { KeepsDevices B.layers B.size (rested_of volume.old) (rested_of volume.new) }
-    ensures requests { volume.new.requests ≤ volume.old.requests + 1 }
+    ensures kept { KeepsDevices B.layers B.size (rested_of volume.old.volume) (rested_of volume.new.volume) }
+    ensures requests { volume.new.volume.requests ≤ volume.old.volume.requests + 1 }
+    ensures taken { volume.new.taken + volume.old.volume.requests ≤ volume.old.taken + volume.new.volume.requests }
+    ensures full { IfErr result (λ refusal. refusal ≡ JournalFull → is_full_for 1 volume.new.taken ≡ true) }
 {
     let Ok(part) = part_of(alloc, bytes, from, to) else {
         return Err(Refusal::NoMemory);
@@ -67,12 +71,14 @@ fn read_piece_among<B: Layered>(
     ended: &mut Vec<Replied>,
 ) -> Result<(), Refusal>
     requires room { vec_len out.old + 512 * piece.count ≤ vec_capacity out.old }
-    ensures read { OnOk result ((reply : AnyReply) × IsPieceServed B.contents B.layers B.fault_count dev Read (span_of piece) reply volume.old volume.new ended.old.items ended.new.items × (out.new.items ≡ out.old.items ++ take (512 * piece.count) (bytes_in reply))) }
-    ensures failed { IfErr result (λ refusal. IsPieceFailed B.contents B.layers B.fault_count B.size dev Read (span_of piece) refusal volume.old volume.new ended.old.items ended.new.items) }
+    ensures read { OnOk result ((reply : AnyReply) × IsPieceServed B.contents B.layers B.fault_count dev Read (span_of piece) reply volume.old.volume volume.new.volume ended.old.items ended.new.items × (out.new.items ≡ out.old.items ++ take (512 * piece.count) (bytes_in reply))) }
+    ensures failed { IfErr result (λ refusal. IsPieceFailed B.contents B.layers B.fault_count B.size dev Read (span_of piece) refusal volume.old.volume volume.new.volume ended.old.items ended.new.items) }
     ensures len { vec_len out.new ≤ vec_len out.old + 512 * piece.count }
     ensures capacity { vec_capacity out.old ≤ vec_capacity out.new }
-    ensures kept { KeepsDevices B.layers B.size (rested_of volume.old) (rested_of volume.new) }
-    ensures requests { volume.new.requests ≤ volume.old.requests + 1 }
+    ensures kept { KeepsDevices B.layers B.size (rested_of volume.old.volume) (rested_of volume.new.volume) }
+    ensures requests { volume.new.volume.requests ≤ volume.old.volume.requests + 1 }
+    ensures taken { volume.new.taken + volume.old.volume.requests ≤ volume.old.taken + volume.new.volume.requests }
+    ensures full { IfErr result (λ refusal. refusal ≡ JournalFull → is_full_for 1 volume.new.taken ≡ true) }
 {
     let request = Request {
         dev,
@@ -105,10 +111,12 @@ fn write_pieces_among<B: Layered>(
     ended: &mut Vec<Replied>,
 ) -> Result<(), Refusal>
     requires room { length bytes ≡ 512 * range.count }
-    ensures written { OnOk result (AreWrittenAmong B.contents B.layers B.fault_count dev (pieces_of (piece_with volume.old.merge volume.old.snaps) (span_of range)) bytes volume.old volume.new ended.old.items ended.new.items) }
-    ensures stopped { IfErr result (λ refusal. IsWriteStopped B.contents B.layers B.fault_count B.size dev (pieces_of (piece_with volume.old.merge volume.old.snaps) (span_of range)) bytes refusal volume.old volume.new ended.old.items ended.new.items) }
-    ensures kept { KeepsDevices B.layers B.size (rested_of volume.old) (rested_of volume.new) }
-    ensures requests { volume.new.requests ≤ volume.old.requests + range.count }
+    ensures written { OnOk result (AreWrittenAmong B.contents B.layers B.fault_count dev (pieces_of (piece_with volume.old.volume.merge volume.old.volume.snaps) (span_of range)) bytes volume.old.volume volume.new.volume ended.old.items ended.new.items) }
+    ensures stopped { IfErr result (λ refusal. IsWriteStopped B.contents B.layers B.fault_count B.size dev (pieces_of (piece_with volume.old.volume.merge volume.old.volume.snaps) (span_of range)) bytes refusal volume.old.volume volume.new.volume ended.old.items ended.new.items) }
+    ensures kept { KeepsDevices B.layers B.size (rested_of volume.old.volume) (rested_of volume.new.volume) }
+    ensures requests { volume.new.volume.requests ≤ volume.old.volume.requests + range.count }
+    ensures taken { volume.new.taken + volume.old.volume.requests ≤ volume.old.taken + volume.new.volume.requests }
+    ensures full { IfErr result (λ refusal. refusal ≡ JournalFull → is_full_for 1 volume.new.taken ≡ true) }
 {
     let geometry = Geometry {
         chunk: volume.piece(),
@@ -137,10 +145,12 @@ fn read_pieces_among<B: Layered>(
     requires empty { out.old.items ≡ [] }
     requires none { vec_len out.old ≡ 0 }
     requires room { 512 * range.count ≤ vec_capacity out.old }
-    ensures read { OnOk result (AreReadAmong B.contents B.layers B.fault_count dev (pieces_of (piece_with volume.old.merge volume.old.snaps) (span_of range)) out.new.items volume.old volume.new ended.old.items ended.new.items) }
-    ensures stopped { IfErr result (λ refusal. IsReadStopped B.contents B.layers B.fault_count B.size dev (pieces_of (piece_with volume.old.merge volume.old.snaps) (span_of range)) refusal volume.old volume.new ended.old.items ended.new.items) }
-    ensures kept { KeepsDevices B.layers B.size (rested_of volume.old) (rested_of volume.new) }
-    ensures requests { volume.new.requests ≤ volume.old.requests + range.count }
+    ensures read { OnOk result (AreReadAmong B.contents B.layers B.fault_count dev (pieces_of (piece_with volume.old.volume.merge volume.old.volume.snaps) (span_of range)) out.new.items volume.old.volume volume.new.volume ended.old.items ended.new.items) }
+    ensures stopped { IfErr result (λ refusal. IsReadStopped B.contents B.layers B.fault_count B.size dev (pieces_of (piece_with volume.old.volume.merge volume.old.volume.snaps) (span_of range)) refusal volume.old.volume volume.new.volume ended.old.items ended.new.items) }
+    ensures kept { KeepsDevices B.layers B.size (rested_of volume.old.volume) (rested_of volume.new.volume) }
+    ensures requests { volume.new.volume.requests ≤ volume.old.volume.requests + range.count }
+    ensures taken { volume.new.taken + volume.old.volume.requests ≤ volume.old.taken + volume.new.volume.requests }
+    ensures full { IfErr result (λ refusal. refusal ≡ JournalFull → is_full_for 1 volume.new.taken ≡ true) }
 {
     let geometry = Geometry {
         chunk: volume.piece(),
@@ -170,14 +180,16 @@ impl<B: Layered> Resting<B> {
         ended: &mut Vec<Replied>,
     ) -> Result<Buf, Refusal>
         requires some { 0 < range.count }
-        requires inside { range.first + range.count ≤ B.size self.old.origin }
-        requires requests { self.old.requests + range.count < 9_223_372_036_854_775_808 }
-        ensures read { IfOk result (λ bytes. AreReadAmong B.contents B.layers B.fault_count dev (pieces_among (span_of range) self.old) bytes self.old.events self.new.events ended.old.items ended.new.items) }
-        ensures refused { IfErr result (λ refusal. IsReadRefusedAmong B.contents B.layers B.fault_count B.size dev (pieces_among (span_of range) self.old) refusal self.old self.new ended.old.items ended.new.items) }
-        ensures there { OnOk result (has_dev dev self.old ≡ true) }
-        ensures whole { IsWhole self.old × IsWhole self.new }
-        ensures kept { KeepsDevices B.layers B.size self.old self.new }
-        ensures requests { self.new.requests ≤ self.old.requests + range.count }
+        requires inside { range.first + range.count ≤ B.size self.old.rested.origin }
+        requires requests { self.old.rested.requests + range.count < 9_223_372_036_854_775_808 }
+        ensures read { IfOk result (λ bytes. AreReadAmong B.contents B.layers B.fault_count dev (pieces_among (span_of range) self.old.rested) bytes self.old.rested.events self.new.rested.events ended.old.items ended.new.items) }
+        ensures refused { IfErr result (λ refusal. IsReadRefusedAmong B.contents B.layers B.fault_count B.size dev (pieces_among (span_of range) self.old.rested) refusal self.old.rested self.new.rested ended.old.items ended.new.items) }
+        ensures there { OnOk result (has_dev dev self.old.rested ≡ true) }
+        ensures whole { IsWhole self.old.rested × IsWhole self.new.rested }
+        ensures kept { KeepsDevices B.layers B.size self.old.rested self.new.rested }
+        ensures requests { self.new.rested.requests ≤ self.old.rested.requests + range.count }
+        ensures taken { self.new.taken + self.old.rested.requests ≤ self.old.taken + self.new.rested.requests }
+        ensures full { IfErr result (λ refusal. refusal ≡ JournalFull → is_full_for 1 self.new.taken ≡ true) }
     {
         if !is_there(&self.volume, dev) {
             return Err(Refusal::NoSuchDevice);
@@ -204,15 +216,17 @@ impl<B: Layered> Resting<B> {
         ended: &mut Vec<Replied>,
     ) -> Result<(), Refusal>
         requires some { 0 < range.count }
-        requires inside { range.first + range.count ≤ B.size self.old.origin }
+        requires inside { range.first + range.count ≤ B.size self.old.rested.origin }
         requires room { length bytes ≡ 512 * range.count }
-        requires requests { self.old.requests + range.count < 9_223_372_036_854_775_808 }
-        ensures written { OnOk result (AreWrittenAmong B.contents B.layers B.fault_count dev (pieces_among (span_of range) self.old) bytes self.old.events self.new.events ended.old.items ended.new.items) }
-        ensures refused { IfErr result (λ refusal. IsWriteRefusedAmong B.contents B.layers B.fault_count B.size dev (pieces_among (span_of range) self.old) bytes refusal self.old self.new ended.old.items ended.new.items) }
-        ensures there { OnOk result (has_dev dev self.old ≡ true) }
-        ensures whole { IsWhole self.old × IsWhole self.new }
-        ensures kept { KeepsDevices B.layers B.size self.old self.new }
-        ensures requests { self.new.requests ≤ self.old.requests + range.count }
+        requires requests { self.old.rested.requests + range.count < 9_223_372_036_854_775_808 }
+        ensures written { OnOk result (AreWrittenAmong B.contents B.layers B.fault_count dev (pieces_among (span_of range) self.old.rested) bytes self.old.rested.events self.new.rested.events ended.old.items ended.new.items) }
+        ensures refused { IfErr result (λ refusal. IsWriteRefusedAmong B.contents B.layers B.fault_count B.size dev (pieces_among (span_of range) self.old.rested) bytes refusal self.old.rested self.new.rested ended.old.items ended.new.items) }
+        ensures there { OnOk result (has_dev dev self.old.rested ≡ true) }
+        ensures whole { IsWhole self.old.rested × IsWhole self.new.rested }
+        ensures kept { KeepsDevices B.layers B.size self.old.rested self.new.rested }
+        ensures requests { self.new.rested.requests ≤ self.old.rested.requests + range.count }
+        ensures taken { self.new.taken + self.old.rested.requests ≤ self.old.taken + self.new.rested.requests }
+        ensures full { IfErr result (λ refusal. refusal ≡ JournalFull → is_full_for 1 self.new.taken ≡ true) }
     {
         if !is_there(&self.volume, dev) {
             return Err(Refusal::NoSuchDevice);

@@ -35,14 +35,14 @@ use snapshot::Snapshot;
 impl<B: Layered> Journaled<B> {
     /// The origin disk.
     pub fn origin(&self) -> &B
-        ensures { result.now ≡ self.now.origin }
+        ensures { result.now ≡ self.now.volume.origin }
     {
         self.volume.origin()
     }
 
     /// How many snapshots there are: eight at most.
     pub fn len(&self) -> usize
-        ensures len { result ≡ length self.now.snaps }
+        ensures len { result ≡ length self.now.volume.snaps }
         ensures few { result ≤ 8 }
     {
         self.volume.len()
@@ -51,8 +51,8 @@ impl<B: Layered> Journaled<B> {
     /// The sectors of a piece: of the least chunk of the snapshots, the one that is being merged among them. A request lies
     /// inside one piece.
     pub fn piece(&self) -> u32
-        ensures piece { result ≡ piece_with self.now.merge self.now.snaps }
-        ensures within { All (λ s. (is_chunk s.state.chunk ≡ true) × (result ≤ s.state.chunk)) self.now.snaps }
+        ensures piece { result ≡ piece_with self.now.volume.merge self.now.volume.snaps }
+        ensures within { All (λ s. (is_chunk s.state.chunk ≡ true) × (result ≤ s.state.chunk)) self.now.volume.snaps }
         ensures allowed { is_chunk result ≡ true }
     {
         self.volume.piece()
@@ -60,53 +60,53 @@ impl<B: Layered> Journaled<B> {
 
     /// The event that is due first.
     pub fn due(&self) -> Option<Event>
-        ensures event { result ≡ next_of B.contents B.layers self.now }
-        ensures machine { (replied : Option Reply) → due_all (moving_of B.contents B.layers replied self.now) ≡ result }
-        ensures calm { IfSome result (λ event. is_of_merge event ≡ true → has_group_in self.now.merge ≡ false → is_quiet_of self.now ≡ true) }
-        ensures seen { IfSome result (λ event. is_of_merge event ≡ true → (m : Merging B) → self.now.merge ≡ Some m → has_group_of m.group ≡ has_group (merging_books B.contents true m)) }
-        ensures quiet { IfNone result (IsQuiet (books_of B.contents B.layers B.size self.now) × IsMergeStill self.now.merge) }
+        ensures event { result ≡ next_of B.contents B.layers self.now.volume }
+        ensures machine { (replied : Option Reply) → due_all (moving_of B.contents B.layers replied self.now.volume) ≡ result }
+        ensures calm { IfSome result (λ event. is_of_merge event ≡ true → has_group_in self.now.volume.merge ≡ false → is_quiet_of self.now.volume ≡ true) }
+        ensures seen { IfSome result (λ event. is_of_merge event ≡ true → (m : Merging B) → self.now.volume.merge ≡ Some m → has_group_of m.group ≡ has_group (merging_books B.contents true m)) }
+        ensures quiet { IfNone result (IsQuiet (books_of B.contents B.layers B.size self.now.volume) × IsMergeStill self.now.volume.merge) }
     {
         self.volume.due()
     }
 
     /// The number of the snapshot that is being merged, if one is. It is none of the others.
     pub fn merging(&self) -> Option<SnapId>
-        ensures value { result ≡ merging_number self.now.merge }
-        ensures apart { IfSome result (λ number. place_of_snap number self.now.snaps ≡ None) }
-        ensures fine { (m : Merging B) → self.now.merge ≡ Some m → (is_chunk m.state.chunk ≡ true) × (m.state.origin ≡ B.size self.now.origin) }
+        ensures value { result ≡ merging_number self.now.volume.merge }
+        ensures apart { IfSome result (λ number. place_of_snap number self.now.volume.snaps ≡ None) }
+        ensures fine { (m : Merging B) → self.now.volume.merge ≡ Some m → (is_chunk m.state.chunk ≡ true) × (m.state.origin ≡ B.size self.now.volume.origin) }
     {
         self.volume.merging()
     }
 
     /// The sectors of the chunks of the snapshot that is being merged, if one is.
     pub fn merging_chunk(&self) -> Option<u32>
-        ensures { result ≡ merging_chunk_of self.now.merge }
+        ensures { result ≡ merging_chunk_of self.now.volume.merge }
     {
         self.volume.merging_chunk()
     }
 
     /// Whether a merge is begun that stopped at a fault, and was not resumed.
     pub fn is_merge_failed(&self) -> bool
-        ensures { result ≡ has_failed self.now.merge }
+        ensures { result ≡ has_failed self.now.volume.merge }
     {
         self.volume.is_merge_failed()
     }
 
     /// Whether no request is in flight, no group of a merge is formed, no copy is pending, and no invalid mark is untried.
     pub fn is_quiet(&self) -> bool
-        ensures value { result ≡ is_quiet_of self.now }
-        ensures between { result ≡ true → is_loud_in_all B.layers self.now ≡ true → (replied : Option Reply) → IsBetween (B.size self.now.origin) (moving_of B.contents B.layers replied self.now) }
-        ensures calm { result ≡ true → (replied : Option Reply) → due (moving_of B.contents B.layers replied self.now) ≡ None }
-        ensures under { result ≡ true → is_loud_in_all B.layers self.now ≡ true → (replied : Option Reply) → (h : MergeHeld) → (moving_of B.contents B.layers replied self.now).merge ≡ Some h → IsMerging (B.size self.now.origin) (in_big_steps h (moving_of B.contents B.layers replied self.now)) }
-        ensures few { length self.now.snaps ≤ 8 }
-        ensures numbers { AllPairs (λ m n. m < n) (map number_of_snap self.now.snaps) }
+        ensures value { result ≡ is_quiet_of self.now.volume }
+        ensures between { result ≡ true → is_loud_in_all B.layers self.now.volume ≡ true → (replied : Option Reply) → IsBetween (B.size self.now.volume.origin) (moving_of B.contents B.layers replied self.now.volume) }
+        ensures calm { result ≡ true → (replied : Option Reply) → due (moving_of B.contents B.layers replied self.now.volume) ≡ None }
+        ensures under { result ≡ true → is_loud_in_all B.layers self.now.volume ≡ true → (replied : Option Reply) → (h : MergeHeld) → (moving_of B.contents B.layers replied self.now.volume).merge ≡ Some h → IsMerging (B.size self.now.volume.origin) (in_big_steps h (moving_of B.contents B.layers replied self.now.volume)) }
+        ensures few { length self.now.volume.snaps ≤ 8 }
+        ensures numbers { AllPairs (λ m n. m < n) (map number_of_snap self.now.volume.snaps) }
     {
         self.volume.is_quiet()
     }
 
     /// How many requests are in flight: 64 at most.
     pub fn flying(&self) -> usize
-        ensures len { result ≡ length self.now.flights }
+        ensures len { result ≡ length self.now.volume.flights }
         ensures few { result ≤ 64 }
     {
         self.volume.flying()
@@ -114,18 +114,18 @@ impl<B: Layered> Journaled<B> {
 
     /// The number of the request that was accepted last.
     pub fn last_request(&self) -> ReqId
-        ensures { result ≡ self.now.requests }
+        ensures { result ≡ self.now.volume.requests }
     {
         self.volume.last_request()
     }
 
     /// The snapshot at a place, counted from 0 in order of attaching. It is not the one that is being merged.
     pub fn snap(&self, k: usize) -> &Snapshot<B>
-        requires { k < length self.now.snaps }
-        ensures value { (d : Kept B) → result.now ≡ slice_index_or self.now.snaps k d }
-        ensures first { place_of_snap result.now.number self.now.snaps ≡ Some k }
+        requires { k < length self.now.volume.snaps }
+        ensures value { (d : Kept B) → result.now ≡ slice_index_or self.now.volume.snaps k d }
+        ensures first { place_of_snap result.now.number self.now.volume.snaps ≡ Some k }
         ensures counted { IsCounted result.now }
-        ensures other { is_merging result.now.number self.now.merge ≡ false }
+        ensures other { is_merging result.now.number self.now.volume.merge ≡ false }
         ensures sized { result.now.live ≡ true → result.now.state.size ≡ B.size result.now.device }
     {
         self.volume.snap(k)
@@ -133,16 +133,16 @@ impl<B: Layered> Journaled<B> {
 
     /// The device of a snapshot's store, also of the one that is being merged.
     pub fn store(&self, number: SnapId) -> Result<&B, Refusal>
-        ensures ok { IfOk result (λ device. HoldsOf (λ m. device.now ≡ m.device) (λ s. device.now ≡ s.device) number self.now) }
-        ensures err { IfErr result (λ refusal. (refusal ≡ NoSuchDevice) × HasNone number self.now) }
+        ensures ok { IfOk result (λ device. HoldsOf (λ m. device.now ≡ m.device) (λ s. device.now ≡ s.device) number self.now.volume) }
+        ensures err { IfErr result (λ refusal. (refusal ≡ NoSuchDevice) × HasNone number self.now.volume) }
     {
         self.volume.store(number)
     }
 
     /// The sectors in use on a snapshot's store, also of the one that is being merged; none of a snapshot that is spoiled.
     pub fn usage(&self, number: SnapId) -> Result<Option<Usage>, Refusal>
-        ensures ok { IfOk result (λ usage. HoldsOf (λ m. usage ≡ Some (merging_usage m)) (λ s. usage ≡ usage_of s) number self.now) }
-        ensures err { IfErr result (λ refusal. (refusal ≡ NoSuchDevice) × HasNone number self.now) }
+        ensures ok { IfOk result (λ usage. HoldsOf (λ m. usage ≡ Some (merging_usage m)) (λ s. usage ≡ usage_of s) number self.now.volume) }
+        ensures err { IfErr result (λ refusal. (refusal ≡ NoSuchDevice) × HasNone number self.now.volume) }
     {
         self.volume.usage(number)
     }

@@ -1,5 +1,5 @@
 // A snapshot is taken or leaves, and the volume is closed.
-ghost use Rattle.std.specs.Prelude.{◌≡◌, ◌≢◌, ◌⊎◌, [], None, Some, IfErr, IfOk, is_some, true, false};
+ghost use Rattle.std.specs.Prelude.{◌≡◌, ◌≢◌, ◌⊎◌, [], None, Some, IfErr, IfOk, is_some, true, false, ◌+◌, ◌≤◌, MatchResult};
 ghost use Rattle.sector.specs.declared.refusal.Refusal.TheVariants.{Busy, NoSuchDevice, NotQuiet};
 ghost use Rattle.plain.specs.declared.request.Dev.TheVariants.{Snap};
 ghost use Rattle.settled.specs.Refusals.{is_starved};
@@ -13,6 +13,8 @@ ghost use Rattle.volume_commands.specs.Flying.{IsWhole};
 ghost use Rattle.volume_commands.specs.Rested.{Attached, has_dev, snap_at};
 ghost use Rattle.volume_commands.specs.SeesAttach.{SeesAttach};
 ghost use Rattle.volume_commands.specs.SeesDetach.{SeesDetach};
+ghost use Rattle.volume_commands.specs.Places.{IsFullFirst, IsFullFirstOf, is_full_for};
+ghost use Rattle.journal.specs.Journaled.{places_for};
 
 use crate::Resting;
 use layers::Layered;
@@ -34,10 +36,12 @@ impl<B: Layered> Resting<B> {
         chunk: u32,
         overflow: bool,
     ) -> Result<SnapId, (Refusal, StoreDev<B>)>
-        ensures does { DoesAttach B.may_hold (record { contents = B.contents; durable = B.durable; size = B.size; faults = B.fault_count; done = B.done_count }) B.layers store chunk overflow result self.old.events self.new.events }
-        ensures seen { SeesAttach B.contents B.layers B.size store chunk overflow result self.old self.new }
-        ensures refused { IfErr result (λ e. ((is_starved e.0 ≡ true) × (e.1 ≡ store)) ⊎ IsNotTaken store.stale chunk (B.size self.old.origin) (B.size store.device) (B.contents store.device) self.old.events e.0) }
-        ensures whole { IsWhole self.old × IsWhole self.new }
+        ensures does { DoesAttach B.may_hold (record { contents = B.contents; durable = B.durable; size = B.size; faults = B.fault_count; done = B.done_count }) B.layers store chunk overflow result self.old.rested.events self.new.rested.events }
+        ensures seen { SeesAttach B.contents B.layers B.size store chunk overflow result self.old.rested self.new.rested }
+        ensures refused { IfErr result (λ e. ((is_starved e.0 ≡ true) × (e.1 ≡ store)) ⊎ IsNotTaken store.stale chunk (B.size self.old.rested.origin) (B.size store.device) (B.contents store.device) self.old.rested.events e.0) }
+        ensures whole { IsWhole self.old.rested × IsWhole self.new.rested }
+        ensures full { IsFullFirstOf (is_full_for (places_for overflow) self.old.taken) result }
+        ensures taken { MatchResult result (λ number. self.new.taken ≡ self.old.taken + places_for overflow) (λ e. self.new.taken ≡ self.old.taken) }
     {
         self.volume.attach(store, chunk, overflow)
     }
@@ -45,16 +49,18 @@ impl<B: Layered> Resting<B> {
     /// Takes a snapshot of a quiet volume away, and gives its store back, stale where its invalid mark failed. `MergeInProgress`
     /// where it is being merged, `NoSuchDevice` where there is no such snapshot, `NotQuiet` where the volume is not quiet, and then nothing changed.
     pub fn detach(&mut self, number: SnapId) -> Result<StoreDev<B>, Refusal>
-        ensures does { DoesDetach B.may_hold B.contents B.layers B.size number result self.old.events self.new.events }
-        ensures seen { SeesDetach B.contents B.layers number result self.old self.new }
+        ensures does { DoesDetach B.may_hold B.contents B.layers B.size number result self.old.rested.events self.new.rested.events }
+        ensures seen { SeesDetach B.contents B.layers number result self.old.rested self.new.rested }
+        ensures full { IsFullFirst (is_full_for 1 self.old.taken) result }
+        ensures taken { MatchResult result (λ store. self.new.taken ≤ self.old.taken + 1) (λ refusal. self.new.taken ≡ self.old.taken) }
     {
         self.volume.detach(number)
     }
 
     /// The device of a snapshot's store, also of the one that is being merged. `NoSuchDevice` where there is no such snapshot.
     pub fn store(&self, number: SnapId) -> Result<&B, Refusal>
-        ensures ok { IfOk result (λ device. ((snap : Attached B) × (snap_at number self.now.snaps ≡ Some snap) × (device.now ≡ snap.store)) ⊎ ((m : Merging B) × (self.now.events.merge ≡ Some m) × (m.number ≡ number) × (device.now ≡ m.device))) }
-        ensures err { IfErr result (λ refusal. (refusal ≡ NoSuchDevice) × (has_dev (Snap number) self.now ≡ false) × (is_merging number self.now.events.merge ≡ false)) }
+        ensures ok { IfOk result (λ device. ((snap : Attached B) × (snap_at number self.now.rested.snaps ≡ Some snap) × (device.now ≡ snap.store)) ⊎ ((m : Merging B) × (self.now.rested.events.merge ≡ Some m) × (m.number ≡ number) × (device.now ≡ m.device))) }
+        ensures err { IfErr result (λ refusal. (refusal ≡ NoSuchDevice) × (has_dev (Snap number) self.now.rested ≡ false) × (is_merging number self.now.rested.events.merge ≡ false)) }
     {
         match self.volume.store(number) {
             Ok(device) => Ok(device),
@@ -66,8 +72,8 @@ impl<B: Layered> Resting<B> {
 impl<B: Layered + Drop> Resting<B> {
     /// Gives the origin disk back. `Busy` where a snapshot is attached or a merge is begun, and else `NotQuiet` where the volume is not quiet.
     pub fn close(self) -> Result<B, (Refusal, Resting<B>)>
-        ensures ok { IfOk result (λ origin. (origin ≡ self.origin) × (self.snaps ≡ []) × (self.events.merge ≡ None) × (is_quiet_of self.events ≡ true)) }
-        ensures err { IfErr result (λ e. (((e.0 ≡ Busy) × ((self.snaps ≢ []) ⊎ (is_some self.events.merge ≡ true))) ⊎ ((e.0 ≡ NotQuiet) × (self.snaps ≡ []) × (self.events.merge ≡ None) × (is_quiet_of self.events ≡ false))) × (e.1 ≡ self)) }
+        ensures ok { IfOk result (λ origin. (origin ≡ self.rested.origin) × (self.rested.snaps ≡ []) × (self.rested.events.merge ≡ None) × (is_quiet_of self.rested.events ≡ true)) }
+        ensures err { IfErr result (λ e. (((e.0 ≡ Busy) × ((self.rested.snaps ≢ []) ⊎ (is_some self.rested.events.merge ≡ true))) ⊎ ((e.0 ≡ NotQuiet) × (self.rested.snaps ≡ []) × (self.rested.events.merge ≡ None) × (is_quiet_of self.rested.events ≡ false))) × (e.1 ≡ self)) }
     {
         let Resting { volume } = self;
         match volume.close() {

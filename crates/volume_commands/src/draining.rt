@@ -34,16 +34,17 @@ pub(crate) fn make_room(ended: &mut Vec<Replied>, replies: usize) -> Result<(), 
 /// Does the events that are due, each time the one that is due first, until none is. Each reply is put at the end of `ended`,
 /// where room for one of each request in flight is taken first: where that is refused, nothing is done.
 fn drain<B: Layered>(volume: &mut Journaled<B>, ended: &mut Vec<Replied>) -> Result<(), Refusal>
-    ensures drained { OnOk result (IsDrained B.contents B.layers B.fault_count volume.old volume.new ended.old.items ended.new.items) }
-    ensures quiet { OnOk result (is_quiet_of volume.new ≡ true) }
-    ensures merged { OnOk result (IsSettled B.layers (rested_of volume.old) → merged (merged_of B.contents B.layers (rested_of volume.old)) ≡ merged_of B.contents B.layers (rested_of volume.new)) }
-    ensures shows { IsSettled B.layers (rested_of volume.old) → IsGoneOn (arrays_in B.contents B.layers (rested_of volume.old)) (arrays_in B.contents B.layers (rested_of volume.new)) }
-    ensures idle { is_quiet_of volume.old ≡ true → is_ok result ≡ true }
-    ensures still { is_quiet_of volume.old ≡ true → ended.new.items ≡ ended.old.items }
-    ensures alone { is_quiet_of volume.old ≡ true → volume.old.merge ≡ None → volume.new ≡ volume.old }
-    ensures err { IfErr result (λ refusal. (refusal ≡ NoMemory) × (volume.new ≡ volume.old) × (ended.new.items ≡ ended.old.items)) }
-    ensures kept { KeepsDevices B.layers B.size (rested_of volume.old) (rested_of volume.new) }
-    ensures requests { volume.new.requests ≡ volume.old.requests }
+    ensures drained { OnOk result (IsDrained B.contents B.layers B.fault_count volume.old.volume volume.new.volume ended.old.items ended.new.items) }
+    ensures quiet { OnOk result (is_quiet_of volume.new.volume ≡ true) }
+    ensures merged { OnOk result (IsSettled B.layers (rested_of volume.old.volume) → merged (merged_of B.contents B.layers (rested_of volume.old.volume)) ≡ merged_of B.contents B.layers (rested_of volume.new.volume)) }
+    ensures shows { IsSettled B.layers (rested_of volume.old.volume) → IsGoneOn (arrays_in B.contents B.layers (rested_of volume.old.volume)) (arrays_in B.contents B.layers (rested_of volume.new.volume)) }
+    ensures idle { is_quiet_of volume.old.volume ≡ true → is_ok result ≡ true }
+    ensures still { is_quiet_of volume.old.volume ≡ true → ended.new.items ≡ ended.old.items }
+    ensures alone { is_quiet_of volume.old.volume ≡ true → volume.old.volume.merge ≡ None → volume.new.volume ≡ volume.old.volume }
+    ensures err { IfErr result (λ refusal. (refusal ≡ NoMemory) × (volume.new.volume ≡ volume.old.volume) × (ended.new.items ≡ ended.old.items)) }
+    ensures kept { KeepsDevices B.layers B.size (rested_of volume.old.volume) (rested_of volume.new.volume) }
+    ensures requests { volume.new.volume.requests ≡ volume.old.volume.requests }
+    ensures taken { volume.new.taken ≤ volume.old.taken }
 {
     let _ = volume.is_quiet();
     make_room(ended, volume.flying())?;
@@ -61,11 +62,12 @@ fn drain<B: Layered>(volume: &mut Journaled<B>, ended: &mut Vec<Replied>) -> Res
 /// Does the events that are due likewise, until none is but one of a merge. There is room in `ended` for a reply to each
 /// request in flight.
 pub(crate) fn drain_apart<B: Layered>(volume: &mut Journaled<B>, ended: &mut Vec<Replied>)
-    requires room { vec_len ended.old + length volume.old.flights ≤ vec_capacity ended.old }
-    ensures drained { IsDrainedApart B.contents B.layers B.fault_count volume.old volume.new ended.old.items ended.new.items }
-    ensures idle { is_idle_of B.contents B.layers volume.new ≡ true }
-    ensures kept { KeepsDevices B.layers B.size (rested_of volume.old) (rested_of volume.new) }
-    ensures requests { volume.new.requests ≡ volume.old.requests }
+    requires room { vec_len ended.old + length volume.old.volume.flights ≤ vec_capacity ended.old }
+    ensures drained { IsDrainedApart B.contents B.layers B.fault_count volume.old.volume volume.new.volume ended.old.items ended.new.items }
+    ensures idle { is_idle_of B.contents B.layers volume.new.volume ≡ true }
+    ensures kept { KeepsDevices B.layers B.size (rested_of volume.old.volume) (rested_of volume.new.volume) }
+    ensures requests { volume.new.volume.requests ≡ volume.old.volume.requests }
+    ensures taken { volume.new.taken ≤ volume.old.taken }
 {
     while let Some(event) = volume.due() {
         if is_of_merge(event) {
@@ -87,11 +89,12 @@ pub(crate) fn drain_for<B: Layered>(
     own: ReqId,
     ended: &mut Vec<Replied>,
 ) -> Reply
-    requires room { vec_len ended.old + length volume.old.flights ≤ vec_capacity ended.old }
-    ensures answered { IsAnsweredAmong B.contents B.layers B.fault_count own result volume.old volume.new ended.old.items ended.new.items }
-    ensures idle { is_idle_of B.contents B.layers volume.new ≡ true }
-    ensures kept { KeepsDevices B.layers B.size (rested_of volume.old) (rested_of volume.new) }
-    ensures requests { volume.new.requests ≡ volume.old.requests }
+    requires room { vec_len ended.old + length volume.old.volume.flights ≤ vec_capacity ended.old }
+    ensures answered { IsAnsweredAmong B.contents B.layers B.fault_count own result volume.old.volume volume.new.volume ended.old.items ended.new.items }
+    ensures idle { is_idle_of B.contents B.layers volume.new.volume ≡ true }
+    ensures kept { KeepsDevices B.layers B.size (rested_of volume.old.volume) (rested_of volume.new.volume) }
+    ensures requests { volume.new.volume.requests ≡ volume.old.volume.requests }
+    ensures taken { volume.new.taken ≤ volume.old.taken }
 {
     let mut answer = Reply::Refused(Failure::Invalid);
     let mut told = false;
@@ -123,17 +126,18 @@ impl<B: Layered> Resting<B> {
     /// left as the settled machine's whole merge leaves it, and as it was where no merge is begun: whatever fails, its origin
     /// shows what it showed, and so does each snapshot that is not spoiled.
     pub fn settle(&mut self, ended: &mut Vec<Replied>) -> Result<(), Refusal>
-        ensures drained { OnOk result (IsDrained B.contents B.layers B.fault_count self.old.events self.new.events ended.old.items ended.new.items) }
-        ensures quiet { OnOk result (is_quiet_of self.new.events ≡ true) }
-        ensures merged { OnOk result (IsSettled B.layers self.old → merged (merged_of B.contents B.layers self.old) ≡ merged_of B.contents B.layers self.new) }
-        ensures shows { IsSettled B.layers self.old → IsGoneOn (arrays_in B.contents B.layers self.old) (arrays_in B.contents B.layers self.new) }
-        ensures idle { is_quiet_of self.old.events ≡ true → is_ok result ≡ true }
-        ensures still { is_quiet_of self.old.events ≡ true → ended.new.items ≡ ended.old.items }
-        ensures alone { is_quiet_of self.old.events ≡ true → self.old.events.merge ≡ None → self.new ≡ self.old }
-        ensures err { IfErr result (λ refusal. (refusal ≡ NoMemory) × (self.new ≡ self.old) × (ended.new.items ≡ ended.old.items)) }
-        ensures whole { IsWhole self.old × IsWhole self.new }
-        ensures kept { KeepsDevices B.layers B.size self.old self.new }
-        ensures requests { self.new.requests ≡ self.old.requests }
+        ensures drained { OnOk result (IsDrained B.contents B.layers B.fault_count self.old.rested.events self.new.rested.events ended.old.items ended.new.items) }
+        ensures quiet { OnOk result (is_quiet_of self.new.rested.events ≡ true) }
+        ensures merged { OnOk result (IsSettled B.layers self.old.rested → merged (merged_of B.contents B.layers self.old.rested) ≡ merged_of B.contents B.layers self.new.rested) }
+        ensures shows { IsSettled B.layers self.old.rested → IsGoneOn (arrays_in B.contents B.layers self.old.rested) (arrays_in B.contents B.layers self.new.rested) }
+        ensures idle { is_quiet_of self.old.rested.events ≡ true → is_ok result ≡ true }
+        ensures still { is_quiet_of self.old.rested.events ≡ true → ended.new.items ≡ ended.old.items }
+        ensures alone { is_quiet_of self.old.rested.events ≡ true → self.old.rested.events.merge ≡ None → self.new.rested ≡ self.old.rested }
+        ensures err { IfErr result (λ refusal. (refusal ≡ NoMemory) × (self.new.rested ≡ self.old.rested) × (ended.new.items ≡ ended.old.items)) }
+        ensures whole { IsWhole self.old.rested × IsWhole self.new.rested }
+        ensures kept { KeepsDevices B.layers B.size self.old.rested self.new.rested }
+        ensures requests { self.new.rested.requests ≡ self.old.rested.requests }
+        ensures taken { self.new.taken ≤ self.old.taken }
     {
         drain(&mut self.volume, ended)
     }

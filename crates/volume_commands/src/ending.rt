@@ -13,8 +13,8 @@ use volume::Stopped;
 impl<B: Layered> Journaled<B> {
     /// Ends the volume without a further event, whatever is in flight: what is left are its devices, as they are.
     pub fn stop(self) -> Stopped<B>
-        ensures devices { result ≡ devices_of self }
-        ensures stops { is_loud_in_all B.layers self ≡ true → StopsVolume B.may_hold B.size None self self }
+        ensures devices { result ≡ devices_of self.volume }
+        ensures stops { is_loud_in_all B.layers self.volume ≡ true → StopsVolume B.may_hold B.size None self.volume self.volume }
     {
         self.volume.stop()
     }
@@ -24,8 +24,8 @@ impl<B: Layered + Drop> Journaled<B> {
     /// Gives the origin disk back. `Busy` where a snapshot is attached or a merge is begun, `NotQuiet` where a request is in
     /// flight.
     pub fn close(self) -> Result<B, (Refusal, Journaled<B>)>
-        ensures ok { IfOk result (λ origin. (origin ≡ self.origin) × (close_refusal self ≡ None)) }
-        ensures err { IfErr result (λ e. (close_refusal self ≡ Some e.0) × (e.1 ≡ self)) }
+        ensures ok { IfOk result (λ origin. (origin ≡ self.volume.origin) × (close_refusal self.volume ≡ None)) }
+        ensures err { IfErr result (λ e. (close_refusal self.volume ≡ Some e.0) × (e.1 ≡ self)) }
     {
         let Journaled {
             volume,

@@ -1,14 +1,15 @@
 // Requests and events.
-ghost use Rattle.std.specs.Prelude.{◌≡◌, ◌⊎◌, ◌*◌, ◌+◌, IfErr, IfOk, IsOk, List, Some, is_ok, length, true, ℕ};
+ghost use Rattle.std.specs.Prelude.{◌≡◌, ◌⊎◌, ◌*◌, ◌+◌, ◌≤◌, IfErr, IfOk, List, MatchResult, length, true, ℕ};
 ghost use Rattle.plain.specs.declared.request.Op.TheVariants.{Write};
 ghost use Rattle.plain.specs.declared.request.Reply.TheVariants.{Refused};
 ghost use Rattle.settled.specs.Refusals.{IsStarved};
 ghost use Rattle.volume.specs.DoesStep.{DoesStep};
 ghost use Rattle.volume.specs.DoesSubmit.{DoesSubmit};
 ghost use Rattle.volume.specs.Submitting.{IsRefusedAs};
-ghost use Rattle.volume.specs.Volumed.{is_due_of, is_loud_in_all, next_of, plain_of};
+ghost use Rattle.volume.specs.Volumed.{is_loud_in_all, plain_of};
 ghost use Rattle.journal.specs.declared.entry.Entry.{Entry};
 ghost use Rattle.volume_commands.specs.GoingOn.{ComesTo, GoesOn, IsSubmitNoted};
+ghost use Rattle.volume_commands.specs.Places.{IsFullFirst, is_full_for};
 
 use crate::Journaled;
 use crate::journaled::count_may;
@@ -23,10 +24,11 @@ impl<B: Layered> Journaled<B> {
     /// its entry has the one that was kept free for it.
     pub fn submit(&mut self, request: Request) -> Result<ReqId, Refusal>
         requires bytes { (bytes : List ℕ) → request.op ≡ Write bytes → length bytes ≡ 512 * request.range.count }
-        ensures does { DoesSubmit B.contents B.layers B.size request result self.old self.new }
-        ensures refused { IfErr result (λ refusal. IsStarved refusal self.old self.new ⊎ IsRefusedAs B.contents B.layers B.size request refusal self.old self.new) }
-        ensures loud { is_loud_in_all B.layers self.new ≡ is_loud_in_all B.layers self.old }
-        ensures goes_on { is_loud_in_all B.layers self.old ≡ true → (entries : List Entry) × IsSubmitNoted request result entries × GoesOn (plain_of B.contents B.layers self.old) entries (plain_of B.contents B.layers self.new) }
+        ensures does { DoesSubmit B.contents B.layers B.size request result self.old.volume self.new.volume }
+        ensures refused { IfErr result (λ refusal. IsStarved refusal self.old.volume self.new.volume ⊎ IsRefusedAs B.contents B.layers B.size request refusal self.old.volume self.new.volume) }
+        ensures full { IsFullFirst (is_full_for 1 self.old.taken) result }
+        ensures taken { MatchResult result (λ number. self.new.taken ≤ self.old.taken + 1) (λ refusal. self.new.taken ≡ self.old.taken) }
+        ensures goes_on { is_loud_in_all B.layers self.old.volume ≡ true → (entries : List Entry) × IsSubmitNoted request result entries × GoesOn (plain_of B.contents B.layers self.old.volume) entries (plain_of B.contents B.layers self.new.volume) }
     {
         let may = count_may(&self.volume);
         if self.places + may + 1 > MAX_ENTRIES {
@@ -48,10 +50,9 @@ impl<B: Layered> Journaled<B> {
     /// Does one event, where it is due. Where it is not, nothing changes. It takes no place of the journal: a reply's entry has
     /// that of its request, and a spoiled snapshot's entry that of the snapshot.
     pub fn step(&mut self, event: Event) -> Result<Outcome, NotDue>
-        ensures due { is_ok result ≡ is_due_of B.contents B.layers self.old event }
-        ensures first { next_of B.contents B.layers self.old ≡ Some event → IsOk result }
-        ensures does { DoesStep B.may_hold B.contents B.layers B.size B.fault_count B.done_count event result self.old self.new }
-        ensures goes_on { IfOk result (λ outcome. is_loud_in_all B.layers self.old ≡ true → (entries : List Entry) × ComesTo (plain_of B.contents B.layers self.old) outcome entries × GoesOn (plain_of B.contents B.layers self.old) entries (plain_of B.contents B.layers self.new)) }
+        ensures does { DoesStep B.may_hold B.contents B.layers B.size B.fault_count B.done_count true event result self.old.volume self.new.volume }
+        ensures taken { self.new.taken ≤ self.old.taken }
+        ensures goes_on { IfOk result (λ outcome. is_loud_in_all B.layers self.old.volume ≡ true → (entries : List Entry) × ComesTo (plain_of B.contents B.layers self.old.volume) outcome entries × GoesOn (plain_of B.contents B.layers self.old.volume) entries (plain_of B.contents B.layers self.new.volume)) }
     {
         self.volume.step(event)
     }

@@ -1,16 +1,16 @@
 // Requests in flight between commands: one is started, and one event is done.
-ghost use Rattle.std.specs.Prelude.{◌≡◌, ◌⊎◌, ◌*◌, ◌<◌, ℕ, List, length, AllPairs, Some, IfErr, IsOk, is_ok, true};
+ghost use Rattle.std.specs.Prelude.{◌≡◌, ◌⊎◌, ◌*◌, ◌<◌, ℕ, List, length, AllPairs, IfErr, true, ◌+◌, ◌≤◌, MatchResult};
 ghost use Rattle.plain.specs.declared.request.Op.TheVariants.{Write};
 ghost use Rattle.settled.specs.Refusals.{IsStarved};
 ghost use Rattle.volume.specs.DoesStep.{DoesStep};
 ghost use Rattle.volume.specs.DoesSubmit.{DoesSubmit};
 ghost use Rattle.volume.specs.Leaving.{is_quiet_of};
 ghost use Rattle.volume.specs.Submitting.{IsRefusedAs};
-ghost use Rattle.volume.specs.Volumed.{is_due_of, next_of};
 ghost use Rattle.volume_commands.specs.Flying.{IsWhole};
 ghost use Rattle.volume_commands.specs.Ordered.{IsOrdered};
 ghost use Rattle.volume_commands.specs.Rested.{rested_of, merged_of, numbers_of, is_loud_in, IsSettled};
 ghost use Rattle.volume_commands.specs.SeesRequests.{SeesStart, SeesStep};
+ghost use Rattle.volume_commands.specs.Places.{IsFullFirst, is_full_for};
 
 use crate::serving::look;
 use crate::{Journaled, Resting};
@@ -22,11 +22,11 @@ use std::alloc::Global;
 /// Whether a volume of events is quiet. One that is, and of which no device drops writes, is settled. The numbers of its
 /// snapshots rise in any case.
 fn is_still<B: Layered>(volume: &Journaled<B>) -> bool
-    ensures value { result ≡ is_quiet_of volume.now }
-    ensures numbers { AllPairs (λ a b. a < b) (numbers_of (rested_of volume.now)) }
-    ensures rest { result ≡ true → is_loud_in B.layers (rested_of volume.now) ≡ true → IsSettled B.layers (rested_of volume.now) }
-    ensures still { IsSettled B.layers (rested_of volume.now) → result ≡ true }
-    ensures ordered { result ≡ true → is_loud_in B.layers (rested_of volume.now) ≡ true → IsOrdered (merged_of B.contents B.layers (rested_of volume.now)) }
+    ensures value { result ≡ is_quiet_of volume.now.volume }
+    ensures numbers { AllPairs (λ a b. a < b) (numbers_of (rested_of volume.now.volume)) }
+    ensures rest { result ≡ true → is_loud_in B.layers (rested_of volume.now.volume) ≡ true → IsSettled B.layers (rested_of volume.now.volume) }
+    ensures still { IsSettled B.layers (rested_of volume.now.volume) → result ≡ true }
+    ensures ordered { result ≡ true → is_loud_in B.layers (rested_of volume.now.volume) ≡ true → IsOrdered (merged_of B.contents B.layers (rested_of volume.now.volume)) }
 {
     // A look: the chunks of all snapshots are as large as a piece, or larger.
     let _ = volume.piece();
@@ -38,11 +38,11 @@ impl<B: Layered> Resting<B> {
     /// A settled volume is; and one that is, and of which no device drops writes, is settled, whatever was done to it, and the
     /// stores of its live snapshots are in order. Whatever is in flight, each snapshot has a number above those before it.
     pub fn is_quiet(&self) -> bool
-        ensures value { result ≡ is_quiet_of self.now.events }
-        ensures numbers { AllPairs (λ a b. a < b) (numbers_of self.now) }
-        ensures rest { result ≡ true → is_loud_in B.layers self.now ≡ true → IsSettled B.layers self.now }
-        ensures still { IsSettled B.layers self.now → result ≡ true }
-        ensures ordered { result ≡ true → is_loud_in B.layers self.now ≡ true → IsOrdered (merged_of B.contents B.layers self.now) }
+        ensures value { result ≡ is_quiet_of self.now.rested.events }
+        ensures numbers { AllPairs (λ a b. a < b) (numbers_of self.now.rested) }
+        ensures rest { result ≡ true → is_loud_in B.layers self.now.rested ≡ true → IsSettled B.layers self.now.rested }
+        ensures still { IsSettled B.layers self.now.rested → result ≡ true }
+        ensures ordered { result ≡ true → is_loud_in B.layers self.now.rested ≡ true → IsOrdered (merged_of B.contents B.layers self.now.rested) }
     {
         is_still(&self.volume)
     }
@@ -57,10 +57,12 @@ impl<B: Layered> Resting<B> {
     /// (`Invalid`), or, if its store may overflow, marked (`Overflow`).
     pub fn start(&mut self, alloc: Global, request: Request) -> Result<ReqId, Refusal>
         requires bytes { (bytes : List ℕ) → request.op ≡ Write bytes → length bytes ≡ 512 * request.range.count }
-        ensures does { DoesSubmit B.contents B.layers B.size request result self.old.events self.new.events }
-        ensures seen { SeesStart B.contents B.layers B.size result self.old self.new }
-        ensures refused { IfErr result (λ refusal. IsStarved refusal self.old.events self.new.events ⊎ IsRefusedAs B.contents B.layers B.size request refusal self.old.events self.new.events) }
-        ensures whole { IsWhole self.old × IsWhole self.new }
+        ensures does { DoesSubmit B.contents B.layers B.size request result self.old.rested.events self.new.rested.events }
+        ensures seen { SeesStart B.contents B.layers B.size result self.old.rested self.new.rested }
+        ensures refused { IfErr result (λ refusal. IsStarved refusal self.old.rested.events self.new.rested.events ⊎ IsRefusedAs B.contents B.layers B.size request refusal self.old.rested.events self.new.rested.events) }
+        ensures whole { IsWhole self.old.rested × IsWhole self.new.rested }
+        ensures full { IsFullFirst (is_full_for 1 self.old.taken) result }
+        ensures taken { MatchResult result (λ number. self.new.taken ≤ self.old.taken + 1) (λ refusal. self.new.taken ≡ self.old.taken) }
     {
         look(&self.volume);
         self.volume.submit(request)
@@ -70,11 +72,10 @@ impl<B: Layered> Resting<B> {
     /// a step of the plain machine: only Issue replies, and every other event is not seen, or spoils the snapshot whose
     /// device failed. Where it is not due, nothing changes.
     pub fn step(&mut self, event: Event) -> Result<Outcome, NotDue>
-        ensures due { is_ok result ≡ is_due_of B.contents B.layers self.old.events event }
-        ensures first { next_of B.contents B.layers self.old.events ≡ Some event → IsOk result }
-        ensures does { DoesStep B.may_hold B.contents B.layers B.size B.fault_count B.done_count event result self.old.events self.new.events }
-        ensures seen { SeesStep B.layers B.size result self.old self.new }
-        ensures whole { IsWhole self.old × IsWhole self.new }
+        ensures does { DoesStep B.may_hold B.contents B.layers B.size B.fault_count B.done_count true event result self.old.rested.events self.new.rested.events }
+        ensures seen { SeesStep B.layers B.size result self.old.rested self.new.rested }
+        ensures whole { IsWhole self.old.rested × IsWhole self.new.rested }
+        ensures taken { self.new.taken ≤ self.old.taken }
     {
         self.volume.step(event)
     }

@@ -12,6 +12,8 @@ ghost use Rattle.volume_commands.specs.Commands.{IsDoneBy, IsFlushRefused};
 ghost use Rattle.volume_commands.specs.Showing.{arrays_in, IsPlainFlush, IsPlainReadRefused};
 ghost use Rattle.volume_commands.specs.AtRest.{IsFlushDone, IsFlushUndone};
 ghost use Rattle.volume_commands.specs.Among.{IsFlushedAmong, IsFlushRefusedAmong, IsPieceFailed, IsRequestOf, flush_piece};
+ghost use Rattle.sector.specs.declared.refusal.Refusal.TheVariants.{JournalFull};
+ghost use Rattle.volume_commands.specs.Places.{is_full_for};
 
 use crate::among::serve_among;
 use crate::serving::{is_there, look, serve};
@@ -37,20 +39,22 @@ fn request_of(dev: Dev) -> Request
 
 /// Flushes a device of a volume of events that is at rest.
 fn flush_device<B: Layered>(volume: &mut Journaled<B>, dev: Dev) -> Result<(), Refusal>
-    requires between { IsBetween volume.old }
-    requires there { has_dev dev (rested_of volume.old) ≡ true }
-    requires some { 0 < B.size volume.old.origin }
-    requires requests { volume.old.requests < 9_223_372_036_854_775_808 }
-    ensures between { IsBetween volume.new }
-    ensures settled { IsSettled B.layers (rested_of volume.old) → IsSettled B.layers (rested_of volume.new) }
-    ensures done { OnOk result (IsDoneBy B.contents B.layers (flushed_beside dev) Flushed (rested_of volume.old) (rested_of volume.new)) }
-    ensures refused { IfErr result (λ refusal. IsFlushRefused B.contents B.layers dev refusal (rested_of volume.old) (rested_of volume.new)) }
-    ensures answered { OnOk result (IsFlushDone B.contents B.layers B.fault_count B.size dev volume.old volume.new) }
-    ensures undone { IfErr result (λ refusal. IsFlushUndone B.contents B.layers B.fault_count B.size dev refusal volume.old volume.new) }
-    ensures shows { OnOk result (IsSettled B.layers (rested_of volume.old) → IsPlainFlush dev (arrays_in B.contents B.layers (rested_of volume.old)) (arrays_in B.contents B.layers (rested_of volume.new))) }
-    ensures loses { IfErr result (λ refusal. IsSettled B.layers (rested_of volume.old) → IsPlainReadRefused dev refusal (arrays_in B.contents B.layers (rested_of volume.old)) (arrays_in B.contents B.layers (rested_of volume.new))) }
-    ensures kept { KeepsDevices B.layers B.size (rested_of volume.old) (rested_of volume.new) }
-    ensures requests { volume.new.requests ≤ volume.old.requests + 1 }
+    requires between { IsBetween volume.old.volume }
+    requires there { has_dev dev (rested_of volume.old.volume) ≡ true }
+    requires some { 0 < B.size volume.old.volume.origin }
+    requires requests { volume.old.volume.requests < 9_223_372_036_854_775_808 }
+    ensures between { IsBetween volume.new.volume }
+    ensures settled { IsSettled B.layers (rested_of volume.old.volume) → IsSettled B.layers (rested_of volume.new.volume) }
+    ensures done { OnOk result (IsDoneBy B.contents B.layers (flushed_beside dev) Flushed (rested_of volume.old.volume) (rested_of volume.new.volume)) }
+    ensures refused { IfErr result (λ refusal. IsFlushRefused B.contents B.layers dev refusal (rested_of volume.old.volume) (rested_of volume.new.volume)) }
+    ensures answered { OnOk result (IsFlushDone B.contents B.layers B.fault_count B.size dev volume.old.volume volume.new.volume) }
+    ensures undone { IfErr result (λ refusal. IsFlushUndone B.contents B.layers B.fault_count B.size dev refusal volume.old.volume volume.new.volume) }
+    ensures shows { OnOk result (IsSettled B.layers (rested_of volume.old.volume) → IsPlainFlush dev (arrays_in B.contents B.layers (rested_of volume.old.volume)) (arrays_in B.contents B.layers (rested_of volume.new.volume))) }
+    ensures loses { IfErr result (λ refusal. IsSettled B.layers (rested_of volume.old.volume) → IsPlainReadRefused dev refusal (arrays_in B.contents B.layers (rested_of volume.old.volume)) (arrays_in B.contents B.layers (rested_of volume.new.volume))) }
+    ensures kept { KeepsDevices B.layers B.size (rested_of volume.old.volume) (rested_of volume.new.volume) }
+    ensures requests { volume.new.volume.requests ≤ volume.old.volume.requests + 1 }
+    ensures taken { volume.new.taken + volume.old.volume.requests ≤ volume.old.taken + volume.new.volume.requests }
+    ensures full { IfErr result (λ refusal. refusal ≡ JournalFull → is_full_for 1 volume.new.taken ≡ true) }
 {
     // A look: the chunks of all snapshots are as large as a piece, or larger.
     let _ = volume.piece();
@@ -69,10 +73,12 @@ fn flush_device_among<B: Layered>(
     dev: Dev,
     ended: &mut Vec<Replied>,
 ) -> Result<(), Refusal>
-    ensures flushed { OnOk result (IsFlushedAmong B.contents B.layers B.fault_count dev volume.old volume.new ended.old.items ended.new.items) }
-    ensures failed { IfErr result (λ refusal. IsPieceFailed B.contents B.layers B.fault_count B.size dev Flush flush_piece refusal volume.old volume.new ended.old.items ended.new.items) }
-    ensures kept { KeepsDevices B.layers B.size (rested_of volume.old) (rested_of volume.new) }
-    ensures requests { volume.new.requests ≤ volume.old.requests + 1 }
+    ensures flushed { OnOk result (IsFlushedAmong B.contents B.layers B.fault_count dev volume.old.volume volume.new.volume ended.old.items ended.new.items) }
+    ensures failed { IfErr result (λ refusal. IsPieceFailed B.contents B.layers B.fault_count B.size dev Flush flush_piece refusal volume.old.volume volume.new.volume ended.old.items ended.new.items) }
+    ensures kept { KeepsDevices B.layers B.size (rested_of volume.old.volume) (rested_of volume.new.volume) }
+    ensures requests { volume.new.volume.requests ≤ volume.old.volume.requests + 1 }
+    ensures taken { volume.new.taken + volume.old.volume.requests ≤ volume.old.taken + volume.new.volume.requests }
+    ensures full { IfErr result (λ refusal. refusal ≡ JournalFull → is_full_for 1 volume.new.taken ≡ true) }
 {
     match serve_among(volume, request_of(dev), ended) {
         Ok(Reply::Refused(failure)) => Err(refusal_for(failure)),
@@ -92,21 +98,23 @@ impl<B: Layered> Resting<B> {
     /// Refused: there is no such snapshot (`NoSuchDevice`), and then nothing changed; the snapshot is spoiled (`Invalid`), or a
     /// device failed (`Io`); or memory is refused (`NoMemory`).
     pub fn flush(&mut self, dev: Dev) -> Result<(), Refusal>
-        requires quiet { is_quiet_of self.old.events ≡ true }
-        requires inside { 0 < B.size self.old.origin }
-        requires requests { self.old.requests + 1 < 9_223_372_036_854_775_808 }
-        ensures quiet { is_quiet_of self.new.events ≡ true }
-        ensures settled { IsSettled B.layers self.old → IsSettled B.layers self.new }
-        ensures done { OnOk result (IsDoneBy B.contents B.layers (flushed_beside dev) Flushed self.old self.new) }
-        ensures there { OnOk result (has_dev dev self.old ≡ true) }
-        ensures refused { IfErr result (λ refusal. IsFlushRefused B.contents B.layers dev refusal self.old self.new) }
-        ensures answered { OnOk result (IsFlushDone B.contents B.layers B.fault_count B.size dev self.old.events self.new.events) }
-        ensures undone { has_dev dev self.old ≡ true → IfErr result (λ refusal. IsFlushUndone B.contents B.layers B.fault_count B.size dev refusal self.old.events self.new.events) }
-        ensures whole { IsWhole self.old × IsWhole self.new }
-        ensures shows { OnOk result (IsSettled B.layers self.old → IsPlainFlush dev (arrays_in B.contents B.layers self.old) (arrays_in B.contents B.layers self.new)) }
-        ensures loses { IfErr result (λ refusal. IsSettled B.layers self.old → IsPlainReadRefused dev refusal (arrays_in B.contents B.layers self.old) (arrays_in B.contents B.layers self.new)) }
-        ensures kept { KeepsDevices B.layers B.size self.old self.new }
-        ensures requests { self.new.requests ≤ self.old.requests + 1 }
+        requires quiet { is_quiet_of self.old.rested.events ≡ true }
+        requires inside { 0 < B.size self.old.rested.origin }
+        requires requests { self.old.rested.requests + 1 < 9_223_372_036_854_775_808 }
+        ensures quiet { is_quiet_of self.new.rested.events ≡ true }
+        ensures settled { IsSettled B.layers self.old.rested → IsSettled B.layers self.new.rested }
+        ensures done { OnOk result (IsDoneBy B.contents B.layers (flushed_beside dev) Flushed self.old.rested self.new.rested) }
+        ensures there { OnOk result (has_dev dev self.old.rested ≡ true) }
+        ensures refused { IfErr result (λ refusal. IsFlushRefused B.contents B.layers dev refusal self.old.rested self.new.rested) }
+        ensures answered { OnOk result (IsFlushDone B.contents B.layers B.fault_count B.size dev self.old.rested.events self.new.rested.events) }
+        ensures undone { has_dev dev self.old.rested ≡ true → IfErr result (λ refusal. IsFlushUndone B.contents B.layers B.fault_count B.size dev refusal self.old.rested.events self.new.rested.events) }
+        ensures whole { IsWhole self.old.rested × IsWhole self.new.rested }
+        ensures shows { OnOk result (IsSettled B.layers self.old.rested → IsPlainFlush dev (arrays_in B.contents B.layers self.old.rested) (arrays_in B.contents B.layers self.new.rested)) }
+        ensures loses { IfErr result (λ refusal. IsSettled B.layers self.old.rested → IsPlainReadRefused dev refusal (arrays_in B.contents B.layers self.old.rested) (arrays_in B.contents B.layers self.new.rested)) }
+        ensures kept { KeepsDevices B.layers B.size self.old.rested self.new.rested }
+        ensures requests { self.new.rested.requests ≤ self.old.rested.requests + 1 }
+        ensures taken { self.new.taken + self.old.rested.requests ≤ self.old.taken + self.new.rested.requests }
+        ensures full { IfErr result (λ refusal. refusal ≡ JournalFull → is_full_for 1 self.new.taken ≡ true) }
     {
         look(&self.volume);
         if !is_there(&self.volume, dev) {
@@ -121,14 +129,16 @@ impl<B: Layered> Resting<B> {
     /// Refused: there is no such snapshot (`NoSuchDevice`), and then nothing changed; the request is refused, as `start` says,
     /// or answered `Invalid` or `Io`; or memory is refused (`NoMemory`).
     pub fn flush_among(&mut self, dev: Dev, ended: &mut Vec<Replied>) -> Result<(), Refusal>
-        requires inside { 0 < B.size self.old.origin }
-        requires requests { self.old.requests + 1 < 9_223_372_036_854_775_808 }
-        ensures flushed { OnOk result (IsFlushedAmong B.contents B.layers B.fault_count dev self.old.events self.new.events ended.old.items ended.new.items) }
-        ensures refused { IfErr result (λ refusal. IsFlushRefusedAmong B.contents B.layers B.fault_count B.size dev refusal self.old self.new ended.old.items ended.new.items) }
-        ensures there { OnOk result (has_dev dev self.old ≡ true) }
-        ensures whole { IsWhole self.old × IsWhole self.new }
-        ensures kept { KeepsDevices B.layers B.size self.old self.new }
-        ensures requests { self.new.requests ≤ self.old.requests + 1 }
+        requires inside { 0 < B.size self.old.rested.origin }
+        requires requests { self.old.rested.requests + 1 < 9_223_372_036_854_775_808 }
+        ensures flushed { OnOk result (IsFlushedAmong B.contents B.layers B.fault_count dev self.old.rested.events self.new.rested.events ended.old.items ended.new.items) }
+        ensures refused { IfErr result (λ refusal. IsFlushRefusedAmong B.contents B.layers B.fault_count B.size dev refusal self.old.rested self.new.rested ended.old.items ended.new.items) }
+        ensures there { OnOk result (has_dev dev self.old.rested ≡ true) }
+        ensures whole { IsWhole self.old.rested × IsWhole self.new.rested }
+        ensures kept { KeepsDevices B.layers B.size self.old.rested self.new.rested }
+        ensures requests { self.new.rested.requests ≤ self.old.rested.requests + 1 }
+        ensures taken { self.new.taken + self.old.rested.requests ≤ self.old.taken + self.new.rested.requests }
+        ensures full { IfErr result (λ refusal. refusal ≡ JournalFull → is_full_for 1 self.new.taken ≡ true) }
     {
         if !is_there(&self.volume, dev) {
             return Err(Refusal::NoSuchDevice);

@@ -17,7 +17,7 @@ use snapshots::find_copy;
 
 /// The number of a snapshot that has a copy of this number whose chunk was read, if one has.
 fn holder<B: Layered>(volume: &Journaled<B>, number: CopyId) -> Option<SnapId>
-    ensures { IfNone result (list_any (has_copy_at Read number) volume.now.snaps ≡ false) }
+    ensures { IfNone result (list_any (has_copy_at Read number) volume.now.volume.snaps ≡ false) }
 {
     let snaps = volume.volume.snaps();
     match find_copy(snaps, Stage::Read, number) {
@@ -29,12 +29,13 @@ fn holder<B: Layered>(volume: &Journaled<B>, number: CopyId) -> Option<SnapId>
 /// Does these events one after the other, as long as each is due and nothing fails. Tells the last reply, and the one that was
 /// given before where there is none.
 fn carry<B: Layered>(volume: &mut Journaled<B>, events: &[Event], reply: Reply) -> Reply
-    ensures carried { AreCarried B.contents B.layers events.now reply result volume.old volume.new }
-    ensures did { AreDone B.contents B.layers B.fault_count reply result volume.old volume.new }
-    ensures loud { is_loud_in_all B.layers volume.new ≡ is_loud_in_all B.layers volume.old }
-    ensures kept { KeepsAll B.size volume.old volume.new }
-    ensures requests { volume.new.requests ≡ volume.old.requests }
-    ensures left { left_in_all B.contents B.layers volume.new ≤ left_in_all B.contents B.layers volume.old }
+    ensures carried { AreCarried B.contents B.layers events.now reply result volume.old.volume volume.new.volume }
+    ensures did { AreDone B.contents B.layers B.fault_count reply result volume.old.volume volume.new.volume }
+    ensures loud { is_loud_in_all B.layers volume.new.volume ≡ is_loud_in_all B.layers volume.old.volume }
+    ensures kept { KeepsAll B.size volume.old.volume volume.new.volume }
+    ensures requests { volume.new.volume.requests ≡ volume.old.volume.requests }
+    ensures left { left_in_all B.contents B.layers volume.new.volume ≤ left_in_all B.contents B.layers volume.old.volume }
+    ensures taken { volume.new.taken ≤ volume.old.taken }
 {
     for event in events {
         match volume.step(*event) {
@@ -50,12 +51,13 @@ fn carry<B: Layered>(volume: &mut Journaled<B>, events: &[Event], reply: Reply) 
 /// Does the events that follow the read of a copy's chunk: the chunk is written, and its pair with it, the store being flushed
 /// after each. The copy's snapshot is told by the copy: where it has another number, its events are not due.
 fn follow_read<B: Layered>(volume: &mut Journaled<B>, number: CopyId, reply: Reply) -> Reply
-    ensures follows { IsFollowed B.contents B.layers (CopyRead number) reply result volume.old volume.new }
-    ensures did { AreDone B.contents B.layers B.fault_count reply result volume.old volume.new }
-    ensures loud { is_loud_in_all B.layers volume.new ≡ is_loud_in_all B.layers volume.old }
-    ensures kept { KeepsAll B.size volume.old volume.new }
-    ensures requests { volume.new.requests ≡ volume.old.requests }
-    ensures left { left_in_all B.contents B.layers volume.new ≤ left_in_all B.contents B.layers volume.old }
+    ensures follows { IsFollowed B.contents B.layers (CopyRead number) reply result volume.old.volume volume.new.volume }
+    ensures did { AreDone B.contents B.layers B.fault_count reply result volume.old.volume volume.new.volume }
+    ensures loud { is_loud_in_all B.layers volume.new.volume ≡ is_loud_in_all B.layers volume.old.volume }
+    ensures kept { KeepsAll B.size volume.old.volume volume.new.volume }
+    ensures requests { volume.new.volume.requests ≡ volume.old.volume.requests }
+    ensures left { left_in_all B.contents B.layers volume.new.volume ≤ left_in_all B.contents B.layers volume.old.volume }
+    ensures taken { volume.new.taken ≤ volume.old.taken }
 {
     let Some(snap) = holder(volume, number) else {
         return reply;
@@ -72,12 +74,13 @@ fn follow_read<B: Layered>(volume: &mut Journaled<B>, number: CopyId, reply: Rep
 /// Does the events that are known to follow one that was due first and was done, as long as each is due and nothing fails: each
 /// is then due first. Tells the last reply, and the one that was given before where there is none.
 pub(crate) fn follow<B: Layered>(volume: &mut Journaled<B>, done: Event, reply: Reply) -> Reply
-    ensures follows { IsFollowed B.contents B.layers done reply result volume.old volume.new }
-    ensures did { AreDone B.contents B.layers B.fault_count reply result volume.old volume.new }
-    ensures loud { is_loud_in_all B.layers volume.new ≡ is_loud_in_all B.layers volume.old }
-    ensures kept { KeepsAll B.size volume.old volume.new }
-    ensures requests { volume.new.requests ≡ volume.old.requests }
-    ensures left { left_in_all B.contents B.layers volume.new ≤ left_in_all B.contents B.layers volume.old }
+    ensures follows { IsFollowed B.contents B.layers done reply result volume.old.volume volume.new.volume }
+    ensures did { AreDone B.contents B.layers B.fault_count reply result volume.old.volume volume.new.volume }
+    ensures loud { is_loud_in_all B.layers volume.new.volume ≡ is_loud_in_all B.layers volume.old.volume }
+    ensures kept { KeepsAll B.size volume.old.volume volume.new.volume }
+    ensures requests { volume.new.volume.requests ≡ volume.old.volume.requests }
+    ensures left { left_in_all B.contents B.layers volume.new.volume ≤ left_in_all B.contents B.layers volume.old.volume }
+    ensures taken { volume.new.taken ≤ volume.old.taken }
 {
     match done {
         Event::CopyRead(number) => follow_read(volume, number, reply),

@@ -1,10 +1,12 @@
 // A volume, and how many places of its journal are taken.
-ghost use Rattle.std.specs.Prelude.{◌≡◌, ◌&&◌, ◌≤◌, [], IfErr, IfOk, None};
+ghost use Rattle.std.specs.Prelude.{◌≡◌, ◌&&◌, ◌+◌, ◌≤◌, [], IfErr, IfOk, None, max};
 ghost use Rattle.plain.specs.Plain.{may_overflow};
 ghost use Rattle.sector.specs.declared.refusal.Refusal.TheVariants.{NoMemory};
 ghost use Rattle.volume.specs.Causes.{lives_of};
 ghost use Rattle.volume.specs.Volumed.{is_loud_in_all};
-ghost use Rattle.journal.specs.Noted.{live_count, may_count, mays_of};
+ghost use Rattle.journal.specs.Journaled.{places_of};
+ghost use Rattle.journal.specs.Noted.{kept_count, live_count, may_count, mays_of};
+ghost use Rattle.volume_commands.specs.Places.{kept_for_marks, kept_free};
 
 use journal::{Audit, is_may};
 use layers::Layered;
@@ -17,7 +19,7 @@ use volume::Volume;
 /// A volume, and how many places of its journal are taken since the last checkpoint: one by each entry that would stand in it,
 /// by each request in flight, and by each live snapshot. One more is taken by each live snapshot whose store may still overflow,
 /// which is counted where it is asked for: it turns into the entry of that mark, and is given back where the snapshot is lost, is
-/// taken away, or begins to be merged. An event turns places into entries, and takes none. Contracts see the volume.
+/// taken away, or begins to be merged. An event turns places into entries, and takes none. Contracts see the volume, and the count.
 #[derive(Drop)]
 pub struct Journaled<B: Layered> {
     pub(crate) volume: Volume<B>,
@@ -27,13 +29,11 @@ pub struct Journaled<B: Layered> {
 }
 
 impl<B: Layered> Model for Journaled<B> {
-    ghost use Rattle.volume.specs.Volumed.{Volumed};
+    ghost use Rattle.volume_commands.specs.Places.{Counted, HasPlaces, counted_with};
 
-    ghost Value = { Volumed B };
+    ghost Value = { Counted B };
 
-    ghost use Rattle.volume_commands.specs.Places.{HasPlaces};
-
-    ghost view = { λ j. j.volume };
+    ghost view = { λ j. counted_with j.volume j.places };
 
     ghost invariant = { λ j. HasPlaces j.volume j.places };
 }
@@ -77,7 +77,8 @@ impl<B: Layered + Drop> Journaled<B> {
     /// A volume over an origin disk, without snapshots and requests, and no place of its journal is taken. Where memory is
     /// refused, the disk is given back.
     pub fn new(alloc: Global, origin: B) -> Result<Journaled<B>, (Refusal, B)>
-        ensures ok { IfOk result (λ v. v ≡ record { origin = origin; snaps = []; merge = None; flights = []; requests = 0; copies = 0; attached = 0 }) }
+        ensures ok { IfOk result (λ v. v.volume ≡ record { origin = origin; snaps = []; merge = None; flights = []; requests = 0; copies = 0; attached = 0 }) }
+        ensures taken { IfOk result (λ v. v.taken ≡ 0) }
         ensures err { IfErr result (λ e. e ≡ record { 0 = NoMemory; 1 = origin }) }
     {
         let volume = Volume::new(alloc, origin)?;
@@ -93,7 +94,8 @@ impl<B: Layered> Journaled<B> {
     /// The volume of an audit with no request in flight. The places that are taken of its journal stay so.
     pub fn of_audit(audit: Audit<B>) -> Journaled<B>
         requires none { audit.held ≡ [] }
-        ensures { result ≡ audit.volume }
+        ensures volume { result.volume ≡ audit.volume }
+        ensures taken { result.taken ≡ max (places_of audit) (kept_count (lives_of audit.volume) (mays_of audit.volume)) }
     {
         // A look: then none is in flight in the volume.
         audit.look_at_requests();
@@ -111,11 +113,12 @@ impl<B: Layered> Journaled<B> {
     /// An audit of the volume, which begins with what it shows now and in which as many places are taken. `NoMemory` where
     /// memory is refused for that, and the volume is given back.
     pub fn into_audit(self) -> Result<Audit<B>, (Refusal, Journaled<B>)>
-        requires quiet { self.flights ≡ [] }
-        ensures volume { IfOk result (λ audit. audit.volume ≡ self) }
+        requires quiet { self.volume.flights ≡ [] }
+        ensures volume { IfOk result (λ audit. audit.volume ≡ self.volume) }
         ensures idle { IfOk result (λ audit. audit.held ≡ []) }
         ensures begins { IfOk result (λ audit. audit.entries ≡ []) }
-        ensures loud { IfOk result (λ audit. audit.loud ≡ is_loud_in_all B.layers self) }
+        ensures taken { IfOk result (λ audit. places_of audit ≡ self.taken) }
+        ensures loud { IfOk result (λ audit. audit.loud ≡ is_loud_in_all B.layers self.volume) }
         ensures err { IfErr result (λ e. (e.0 ≡ NoMemory) × (e.1 ≡ self)) }
     {
         let Journaled {
@@ -137,9 +140,11 @@ impl<B: Layered> Journaled<B> {
         }
     }
 
-    /// Cuts the journal, so that it takes as many entries again. Callers see no change.
+    /// Cuts the journal, so that it takes as many entries again: no place is taken but those that are kept free. The volume is as it
+    /// was.
     pub fn checkpoint(&mut self)
-        ensures { self.new ≡ self.old }
+        ensures volume { self.new.volume ≡ self.old.volume }
+        ensures taken { self.new.taken ≡ kept_free self.old.volume + kept_for_marks self.old.volume }
     {
         self.places = self.volume.flying() + count_live(&self.volume);
     }

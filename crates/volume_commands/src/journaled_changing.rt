@@ -1,5 +1,5 @@
 // What changes a volume between requests.
-ghost use Rattle.std.specs.Prelude.{◌≡◌, ◌⊎◌, [], ◌∷◌, IfErr, IfOk, OnOk, Some, true};
+ghost use Rattle.std.specs.Prelude.{◌≡◌, ◌⊎◌, ◌+◌, ◌≤◌, [], ◌∷◌, IfErr, IfOk, MatchResult, OnOk, Some, true};
 ghost use Rattle.sector.specs.declared.refusal.Refusal.TheVariants.{JournalFull};
 ghost use Rattle.device.specs.Layers.{is_loud};
 ghost use Rattle.plain.specs.Plain.{overflow_of};
@@ -19,7 +19,9 @@ ghost use Rattle.volume.specs.Leaving.{detach_refusal};
 ghost use Rattle.volume.specs.Taking.{IsNotTaken};
 ghost use Rattle.volume.specs.Volumed.{is_loud_in_all, plain_of};
 ghost use Rattle.journal.specs.declared.entry.Entry.TheVariants.{Attached, Begun, Detached, Finished};
+ghost use Rattle.journal.specs.Journaled.{places_for};
 ghost use Rattle.volume_commands.specs.GoingOn.{GoesOn};
+ghost use Rattle.volume_commands.specs.Places.{IsFullFirst, IsFullFirstOf, is_full_for};
 
 use crate::Journaled;
 use crate::journaled::{count_live, count_may};
@@ -42,9 +44,11 @@ impl<B: Layered> Journaled<B> {
         chunk: u32,
         overflow: bool,
     ) -> Result<SnapId, (Refusal, StoreDev<B>)>
-        ensures does { DoesAttach B.may_hold (record { contents = B.contents; durable = B.durable; size = B.size; faults = B.fault_count; done = B.done_count }) B.layers store chunk overflow result self.old self.new }
-        ensures refused { IfErr result (λ e. ((is_starved e.0 ≡ true) × (e.1 ≡ store)) ⊎ IsNotTaken store.stale chunk (B.size self.old.origin) (B.size store.device) (B.contents store.device) self.old e.0) }
-        ensures goes_on { IfOk result (λ number. is_loud_in_all B.layers self.old ≡ true → is_loud (B.layers store.device) ≡ true → GoesOn (plain_of B.contents B.layers self.old) (Attached number (shown_array (B.contents self.old.origin) (B.contents store.device)) (overflow_of overflow) (is_fresh (B.contents store.device)) ∷ []) (plain_of B.contents B.layers self.new)) }
+        ensures does { DoesAttach B.may_hold (record { contents = B.contents; durable = B.durable; size = B.size; faults = B.fault_count; done = B.done_count }) B.layers store chunk overflow result self.old.volume self.new.volume }
+        ensures refused { IfErr result (λ e. ((is_starved e.0 ≡ true) × (e.1 ≡ store)) ⊎ IsNotTaken store.stale chunk (B.size self.old.volume.origin) (B.size store.device) (B.contents store.device) self.old.volume e.0) }
+        ensures full { IsFullFirstOf (is_full_for (places_for overflow) self.old.taken) result }
+        ensures taken { MatchResult result (λ number. self.new.taken ≡ self.old.taken + places_for overflow) (λ e. self.new.taken ≡ self.old.taken) }
+        ensures goes_on { IfOk result (λ number. is_loud_in_all B.layers self.old.volume ≡ true → is_loud (B.layers store.device) ≡ true → GoesOn (plain_of B.contents B.layers self.old.volume) (Attached number (shown_array (B.contents self.old.volume.origin) (B.contents store.device)) (overflow_of overflow) (is_fresh (B.contents store.device)) ∷ []) (plain_of B.contents B.layers self.new.volume)) }
     {
         if self.places + count_may(&self.volume) + places_needed(overflow) > MAX_ENTRIES {
             return Err((Refusal::JournalFull, store));
@@ -62,9 +66,11 @@ impl<B: Layered> Journaled<B> {
     /// (`JournalFull`), and then as the volume refuses it; nothing changed.
     #[tactic(auto, using(volume::proofs::Between::not_detached))]
     pub fn detach(&mut self, number: SnapId) -> Result<StoreDev<B>, Refusal>
-        ensures does { DoesDetach B.may_hold B.contents B.layers B.size number result self.old self.new }
-        ensures goes_on { OnOk result (is_loud_in_all B.layers self.old ≡ true → GoesOn (plain_of B.contents B.layers self.old) (Detached number ∷ []) (plain_of B.contents B.layers self.new)) }
-        ensures err { IfErr result (λ refusal. ((detach_refusal number self.old ≡ Some refusal) ⊎ (refusal ≡ JournalFull)) × (self.new ≡ self.old)) }
+        ensures does { DoesDetach B.may_hold B.contents B.layers B.size number result self.old.volume self.new.volume }
+        ensures full { IsFullFirst (is_full_for 1 self.old.taken) result }
+        ensures taken { MatchResult result (λ store. self.new.taken ≤ self.old.taken + 1) (λ refusal. self.new.taken ≡ self.old.taken) }
+        ensures goes_on { OnOk result (is_loud_in_all B.layers self.old.volume ≡ true → GoesOn (plain_of B.contents B.layers self.old.volume) (Detached number ∷ []) (plain_of B.contents B.layers self.new.volume)) }
+        ensures err { IfErr result (λ refusal. ((detach_refusal number self.old.volume ≡ Some refusal) ⊎ (refusal ≡ JournalFull)) × (self.new.volume ≡ self.old.volume)) }
     {
         if self.places + count_may(&self.volume) + 1 > MAX_ENTRIES {
             return Err(Refusal::JournalFull);
@@ -84,9 +90,11 @@ impl<B: Layered> Journaled<B> {
     /// then as the volume refuses it.
     #[tactic(auto, using(volume::proofs::Between::not_begun))]
     pub fn begin_merge(&mut self, number: SnapId) -> Result<(), Refusal>
-        ensures does { DoesBeginMerge B.may_hold B.contents B.layers B.size number result self.old self.new }
-        ensures goes_on { OnOk result (is_loud_in_all B.layers self.old ≡ true → GoesOn (plain_of B.contents B.layers self.old) (Begun number ∷ []) (plain_of B.contents B.layers self.new)) }
-        ensures refused { IfErr result (λ refusal. ((refusal ≡ JournalFull) × (self.new ≡ self.old)) ⊎ IsNotBegun number refusal self.old self.new) }
+        ensures does { DoesBeginMerge B.may_hold B.contents B.layers B.size number result self.old.volume self.new.volume }
+        ensures full { IsFullFirst (is_full_for 1 self.old.taken) result }
+        ensures taken { self.new.taken ≤ self.old.taken }
+        ensures goes_on { OnOk result (is_loud_in_all B.layers self.old.volume ≡ true → GoesOn (plain_of B.contents B.layers self.old.volume) (Begun number ∷ []) (plain_of B.contents B.layers self.new.volume)) }
+        ensures refused { IfErr result (λ refusal. ((refusal ≡ JournalFull) × (self.new.volume ≡ self.old.volume)) ⊎ IsNotBegun number refusal self.old.volume self.new.volume) }
     {
         if self.places + count_may(&self.volume) + 1 > MAX_ENTRIES {
             return Err(Refusal::JournalFull);
@@ -97,7 +105,8 @@ impl<B: Layered> Journaled<B> {
 
     /// Lets a merge that failed go on. `NotMerging` where none is begun.
     pub fn resume_merge(&mut self) -> Result<(), Refusal>
-        ensures does { DoesResumeMerge B.contents B.layers result self.old self.new }
+        ensures does { DoesResumeMerge B.contents B.layers result self.old.volume self.new.volume }
+        ensures taken { self.new.taken ≡ self.old.taken }
     {
         self.volume.resume_merge()
     }
@@ -106,9 +115,11 @@ impl<B: Layered> Journaled<B> {
     /// full (`JournalFull`), and then as the volume refuses it; nothing changed.
     #[tactic(auto, using(volume::proofs::Between::not_finished))]
     pub fn finish_merge(&mut self) -> Result<StoreDev<B>, Refusal>
-        ensures does { DoesFinishMerge B.may_hold B.contents B.layers B.size result self.old self.new }
-        ensures goes_on { OnOk result (is_loud_in_all B.layers self.old ≡ true → GoesOn (plain_of B.contents B.layers self.old) (Finished ∷ []) (plain_of B.contents B.layers self.new)) }
-        ensures err { IfErr result (λ refusal. ((finish_refusal self.old ≡ Some refusal) ⊎ (refusal ≡ JournalFull)) × (self.new ≡ self.old)) }
+        ensures does { DoesFinishMerge B.may_hold B.contents B.layers B.size result self.old.volume self.new.volume }
+        ensures full { IsFullFirst (is_full_for 1 self.old.taken) result }
+        ensures taken { MatchResult result (λ store. self.new.taken ≤ self.old.taken + 1) (λ refusal. self.new.taken ≡ self.old.taken) }
+        ensures goes_on { OnOk result (is_loud_in_all B.layers self.old.volume ≡ true → GoesOn (plain_of B.contents B.layers self.old.volume) (Finished ∷ []) (plain_of B.contents B.layers self.new.volume)) }
+        ensures err { IfErr result (λ refusal. ((finish_refusal self.old.volume ≡ Some refusal) ⊎ (refusal ≡ JournalFull)) × (self.new.volume ≡ self.old.volume)) }
     {
         if self.places + count_may(&self.volume) + 1 > MAX_ENTRIES {
             return Err(Refusal::JournalFull);
@@ -124,14 +135,16 @@ impl<B: Layered> Journaled<B> {
 
     /// Lets so many seconds pass for the layers of every device.
     pub fn tick(&mut self, seconds: u32)
-        ensures does { DoesTick B.may_hold (record { contents = B.contents; durable = B.durable; size = B.size; faults = B.fault_count; done = B.done_count }) B.layers seconds self.old self.new }
+        ensures does { DoesTick B.may_hold (record { contents = B.contents; durable = B.durable; size = B.size; faults = B.fault_count; done = B.done_count }) B.layers seconds self.old.volume self.new.volume }
+        ensures taken { self.new.taken ≡ self.old.taken }
     {
         self.volume.tick(seconds)
     }
 
     /// Tells a layer of one of the devices a message.
     pub fn message(&mut self, dev: Dev, depth: usize, message: &Message) -> Result<Answer, Refusal>
-        ensures does { DoesMessage B.may_hold (record { contents = B.contents; durable = B.durable; size = B.size; faults = B.fault_count; done = B.done_count }) B.layers dev depth message.now result self.old self.new }
+        ensures does { DoesMessage B.may_hold (record { contents = B.contents; durable = B.durable; size = B.size; faults = B.fault_count; done = B.done_count }) B.layers dev depth message.now result self.old.volume self.new.volume }
+        ensures taken { self.new.taken ≡ self.old.taken }
     {
         self.volume.message(dev, depth, message)
     }

@@ -11,8 +11,9 @@ use layers::Layered;
 impl<B: Layered> Resting<B> {
     /// Lets so many seconds pass for the layers of every device, the merging store among them. Nothing else that callers see changes.
     pub fn tick(&mut self, seconds: u32)
-        ensures moved { merged_of B.contents B.layers self.new ≡ merged_relayered (layers_ticked seconds) (merged_of B.contents B.layers self.old) }
-        ensures rest { ChangesLayers B.contents B.layers B.size self.old self.new }
+        ensures moved { merged_of B.contents B.layers self.new.rested ≡ merged_relayered (layers_ticked seconds) (merged_of B.contents B.layers self.old.rested) }
+        ensures rest { ChangesLayers B.contents B.layers B.size self.old.rested self.new.rested }
+        ensures taken { self.new.taken ≡ self.old.taken }
     {
         self.volume.tick(seconds)
     }

@@ -1,5 +1,5 @@
 // A merge of one snapshot into the origin: it begins, goes on after a fault, and is taken out at its end.
-ghost use Rattle.std.specs.Prelude.{◌≡◌, ◌⊎◌, IfErr, IfNone, IfSome, None, Some};
+ghost use Rattle.std.specs.Prelude.{◌≡◌, ◌⊎◌, IfErr, IfNone, IfSome, None, Some, ◌+◌, ◌≤◌, MatchResult};
 ghost use Rattle.sector.specs.declared.refusal.Refusal.TheVariants.{JournalFull};
 ghost use Rattle.merge.specs.Merging.{Merging};
 ghost use Rattle.volume.specs.Asking.{merging_number, merging_usage};
@@ -12,6 +12,7 @@ ghost use Rattle.volume_commands.specs.Flying.{IsWhole};
 ghost use Rattle.volume_commands.specs.SeesBeginMerge.{SeesBeginMerge};
 ghost use Rattle.volume_commands.specs.SeesFinishMerge.{SeesFinishMerge};
 ghost use Rattle.volume_commands.specs.SeesResumeMerge.{SeesResumeMerge};
+ghost use Rattle.volume_commands.specs.Places.{IsFullFirst, is_full_for};
 
 use crate::Resting;
 use chunk_alloc::Usage;
@@ -29,9 +30,11 @@ impl<B: Layered> Resting<B> {
     /// is begun (`MergeInProgress`), the snapshot is spoiled (`Invalid`), the volume is not quiet (`NotQuiet`), or memory is
     /// refused (`NoMemory`): all that the merge will need is taken here.
     pub fn begin_merge(&mut self, alloc: Global, number: SnapId) -> Result<(), Refusal>
-        ensures does { DoesBeginMerge B.may_hold B.contents B.layers B.size number result self.old.events self.new.events }
-        ensures seen { SeesBeginMerge B.contents B.layers number result self.old self.new }
-        ensures whole { IsWhole self.old × IsWhole self.new }
+        ensures does { DoesBeginMerge B.may_hold B.contents B.layers B.size number result self.old.rested.events self.new.rested.events }
+        ensures seen { SeesBeginMerge B.contents B.layers number result self.old.rested self.new.rested }
+        ensures whole { IsWhole self.old.rested × IsWhole self.new.rested }
+        ensures full { IsFullFirst (is_full_for 1 self.old.taken) result }
+        ensures taken { self.new.taken ≤ self.old.taken }
     {
         // What a quiet volume is.
         let _ = self.volume.is_quiet();
@@ -40,8 +43,9 @@ impl<B: Layered> Resting<B> {
 
     /// Lets a merge that failed go on, and changes nothing of one that did not. `NotMerging` where none is begun.
     pub fn resume_merge(&mut self) -> Result<(), Refusal>
-        ensures does { DoesResumeMerge B.contents B.layers result self.old.events self.new.events }
-        ensures seen { SeesResumeMerge B.contents B.layers B.size result self.old self.new }
+        ensures does { DoesResumeMerge B.contents B.layers result self.old.rested.events self.new.rested.events }
+        ensures seen { SeesResumeMerge B.contents B.layers B.size result self.old.rested self.new.rested }
+        ensures taken { self.new.taken ≡ self.old.taken }
     {
         self.volume.resume_merge()
     }
@@ -52,10 +56,12 @@ impl<B: Layered> Resting<B> {
     /// Refused, in this order: no merge is begun, or a pair or a group is left (`NotFinished`), or the volume is not quiet
     /// (`NotQuiet`); then nothing changed.
     pub fn finish_merge(&mut self) -> Result<StoreDev<B>, Refusal>
-        ensures does { DoesFinishMerge B.may_hold B.contents B.layers B.size result self.old.events self.new.events }
-        ensures seen { SeesFinishMerge B.contents B.layers result self.old self.new }
-        ensures refused { IfErr result (λ refusal. (finish_refusal self.old.events ≡ Some refusal) ⊎ (refusal ≡ JournalFull)) }
-        ensures whole { IsWhole self.old × IsWhole self.new }
+        ensures does { DoesFinishMerge B.may_hold B.contents B.layers B.size result self.old.rested.events self.new.rested.events }
+        ensures seen { SeesFinishMerge B.contents B.layers result self.old.rested self.new.rested }
+        ensures refused { IfErr result (λ refusal. (finish_refusal self.old.rested.events ≡ Some refusal) ⊎ (refusal ≡ JournalFull)) }
+        ensures whole { IsWhole self.old.rested × IsWhole self.new.rested }
+        ensures full { IsFullFirst (is_full_for 1 self.old.taken) result }
+        ensures taken { MatchResult result (λ store. self.new.taken ≤ self.old.taken + 1) (λ refusal. self.new.taken ≡ self.old.taken) }
     {
         // What a quiet volume is.
         let _ = self.volume.is_quiet();
@@ -64,22 +70,22 @@ impl<B: Layered> Resting<B> {
 
     /// The number of the snapshot that is being merged, if one is.
     pub fn merging(&self) -> Option<SnapId>
-        ensures { result ≡ merging_number self.now.events.merge }
+        ensures { result ≡ merging_number self.now.rested.events.merge }
     {
         self.volume.merging()
     }
 
     /// Whether a merge is begun that stopped at a fault, and was not resumed.
     pub fn is_merge_failed(&self) -> bool
-        ensures { result ≡ has_failed self.now.events.merge }
+        ensures { result ≡ has_failed self.now.rested.events.merge }
     {
         self.volume.is_merge_failed()
     }
 
     /// The device of the store of the snapshot that is being merged.
     pub fn merging_store(&self) -> Option<&B>
-        ensures some { IfSome result (λ device. (m : Merging B) × (self.now.events.merge ≡ Some m) × (device.now ≡ m.device)) }
-        ensures none { IfNone result (self.now.events.merge ≡ None) }
+        ensures some { IfSome result (λ device. (m : Merging B) × (self.now.rested.events.merge ≡ Some m) × (device.now ≡ m.device)) }
+        ensures none { IfNone result (self.now.rested.events.merge ≡ None) }
     {
         let Some(number) = self.volume.merging() else {
             return None;
@@ -92,16 +98,16 @@ impl<B: Layered> Resting<B> {
 
     /// The sectors of its own chunks, of which a piece may be a part.
     pub fn merging_chunk(&self) -> Option<u32>
-        ensures some { IfSome result (λ chunk. (m : Merging B) × (self.now.events.merge ≡ Some m) × (chunk ≡ m.state.chunk)) }
-        ensures none { IfNone result (self.now.events.merge ≡ None) }
+        ensures some { IfSome result (λ chunk. (m : Merging B) × (self.now.rested.events.merge ≡ Some m) × (chunk ≡ m.state.chunk)) }
+        ensures none { IfNone result (self.now.rested.events.merge ≡ None) }
     {
         self.volume.merging_chunk()
     }
 
     /// The sectors in use on its store, by the numbers that are kept in memory.
     pub fn merging_usage(&self) -> Option<Usage>
-        ensures some { IfSome result (λ usage. (m : Merging B) × (self.now.events.merge ≡ Some m) × (usage ≡ merging_usage m)) }
-        ensures none { IfNone result (self.now.events.merge ≡ None) }
+        ensures some { IfSome result (λ usage. (m : Merging B) × (self.now.rested.events.merge ≡ Some m) × (usage ≡ merging_usage m)) }
+        ensures none { IfNone result (self.now.rested.events.merge ≡ None) }
     {
         let Some(number) = self.volume.merging() else {
             return None;

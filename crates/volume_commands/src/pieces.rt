@@ -15,6 +15,8 @@ ghost use Rattle.volume_commands.specs.Between.{IsBetween};
 ghost use Rattle.volume_commands.specs.Commands.{IsDoneBy, IsWriteRefused, IsReadRefused};
 ghost use Rattle.volume_commands.specs.Showing.{arrays_in, pieces_for, IsPlainRead, IsPlainReadRefused, IsPlainWrite, IsPlainWriteRefused};
 ghost use Rattle.volume_commands.specs.Serving.{CanAsk, CanServe, IsPieceDone, IsPieceRead, IsPieceRefused};
+ghost use Rattle.sector.specs.declared.refusal.Refusal.TheVariants.{JournalFull};
+ghost use Rattle.volume_commands.specs.Places.{is_full_for};
 
 use crate::Journaled;
 use crate::serving::serve;
@@ -54,20 +56,22 @@ fn write_piece<B: Layered>(
     from: usize,
     to: usize,
 ) -> Result<(), Refusal>
-    requires between { IsBetween volume.old }
+    requires between { IsBetween volume.old.volume }
     requires order { from ≤ to }
     requires inside { to ≤ length bytes.old }
-    requires can { CanServe B.size dev (Write (take (to - from) (drop from bytes.old))) piece volume.old }
-    ensures between { IsBetween volume.new }
-    ensures settled { IsSettled B.layers (rested_of volume.old) → IsSettled B.layers (rested_of volume.new) }
-    ensures done { OnOk result (IsPieceDone B.contents B.layers (part_written dev (span_of piece) (take (to - from) (drop from bytes.old))) (rested_of volume.old) (rested_of volume.new)) }
-    ensures refused { IfErr result (λ refusal. IsPieceRefused B.contents B.layers (part_written dev (span_of piece) (take (to - from) (drop from bytes.old))) refusal (rested_of volume.old) (rested_of volume.new)) }
-    ensures answered { OnOk result ((reply : AnyReply) × IsPieceAnswered B.contents B.layers B.fault_count B.size dev (Write (take (to - from) (drop from bytes.old))) (span_of piece) reply volume.old volume.new) }
-    ensures undone { IfErr result (λ refusal. IsPieceUndone B.contents B.layers B.fault_count B.size dev (Write (take (to - from) (drop from bytes.old))) (span_of piece) refusal volume.old volume.new) }
+    requires can { CanServe B.size dev (Write (take (to - from) (drop from bytes.old))) piece volume.old.volume }
+    ensures between { IsBetween volume.new.volume }
+    ensures settled { IsSettled B.layers (rested_of volume.old.volume) → IsSettled B.layers (rested_of volume.new.volume) }
+    ensures done { OnOk result (IsPieceDone B.contents B.layers (part_written dev (span_of piece) (take (to - from) (drop from bytes.old))) (rested_of volume.old.volume) (rested_of volume.new.volume)) }
+    ensures refused { IfErr result (λ refusal. IsPieceRefused B.contents B.layers (part_written dev (span_of piece) (take (to - from) (drop from bytes.old))) refusal (rested_of volume.old.volume) (rested_of volume.new.volume)) }
+    ensures answered { OnOk result ((reply : AnyReply) × IsPieceAnswered B.contents B.layers B.fault_count B.size dev (Write (take (to - from) (drop from bytes.old))) (span_of piece) reply volume.old.volume volume.new.volume) }
+    ensures undone { IfErr result (λ refusal. IsPieceUndone B.contents B.layers B.fault_count B.size dev (Write (take (to - from) (drop from bytes.old))) (span_of piece) refusal volume.old.volume volume.new.volume) }
     ensures left { drop to bytes.new ≡ drop to bytes.old }
-    ensures kept { KeepsDevices B.layers B.size (rested_of volume.old) (rested_of volume.new) }
-    ensures piece { piece_with volume.new.merge volume.new.snaps ≡ piece_with volume.old.merge volume.old.snaps }
-    ensures requests { volume.new.requests ≤ volume.old.requests + 1 }
+    ensures kept { KeepsDevices B.layers B.size (rested_of volume.old.volume) (rested_of volume.new.volume) }
+    ensures piece { piece_with volume.new.volume.merge volume.new.volume.snaps ≡ piece_with volume.old.volume.merge volume.old.volume.snaps }
+    ensures requests { volume.new.volume.requests ≤ volume.old.volume.requests + 1 }
+    ensures taken { volume.new.taken + volume.old.volume.requests ≤ volume.old.taken + volume.new.volume.requests }
+    ensures full { IfErr result (λ refusal. refusal ≡ JournalFull → is_full_for 1 volume.new.taken ≡ true) }
 {
     let Ok(part) = part_of(alloc, bytes, from, to) else {
         return Err(Refusal::NoMemory);
@@ -93,21 +97,23 @@ fn read_piece<B: Layered>(
     piece: Range,
     out: &mut Vec<u8>,
 ) -> Result<(), Refusal>
-    requires between { IsBetween volume.old }
-    requires can { CanServe B.size dev Read piece volume.old }
+    requires between { IsBetween volume.old.volume }
+    requires can { CanServe B.size dev Read piece volume.old.volume }
     requires room { vec_len out.old + 512 * piece.count ≤ vec_capacity out.old }
-    ensures between { IsBetween volume.new }
-    ensures settled { IsSettled B.layers (rested_of volume.old) → IsSettled B.layers (rested_of volume.new) }
-    ensures done { OnOk result (IsPieceRead B.contents B.layers (part_read dev (span_of piece)) out.old.items out.new.items (rested_of volume.old) (rested_of volume.new)) }
-    ensures refused { IfErr result (λ refusal. IsPieceRefused B.contents B.layers (part_read dev (span_of piece)) refusal (rested_of volume.old) (rested_of volume.new)) }
-    ensures answered { OnOk result ((reply : AnyReply) × IsPieceAnswered B.contents B.layers B.fault_count B.size dev Read (span_of piece) reply volume.old volume.new × (out.new.items ≡ out.old.items ++ bytes_in reply)) }
-    ensures undone { IfErr result (λ refusal. IsPieceUndone B.contents B.layers B.fault_count B.size dev Read (span_of piece) refusal volume.old volume.new) }
+    ensures between { IsBetween volume.new.volume }
+    ensures settled { IsSettled B.layers (rested_of volume.old.volume) → IsSettled B.layers (rested_of volume.new.volume) }
+    ensures done { OnOk result (IsPieceRead B.contents B.layers (part_read dev (span_of piece)) out.old.items out.new.items (rested_of volume.old.volume) (rested_of volume.new.volume)) }
+    ensures refused { IfErr result (λ refusal. IsPieceRefused B.contents B.layers (part_read dev (span_of piece)) refusal (rested_of volume.old.volume) (rested_of volume.new.volume)) }
+    ensures answered { OnOk result ((reply : AnyReply) × IsPieceAnswered B.contents B.layers B.fault_count B.size dev Read (span_of piece) reply volume.old.volume volume.new.volume × (out.new.items ≡ out.old.items ++ bytes_in reply)) }
+    ensures undone { IfErr result (λ refusal. IsPieceUndone B.contents B.layers B.fault_count B.size dev Read (span_of piece) refusal volume.old.volume volume.new.volume) }
     ensures out_err { OnErr result (out.new.items ≡ out.old.items) }
     ensures len { vec_len out.new ≤ vec_len out.old + 512 * piece.count }
     ensures capacity { vec_capacity out.old ≤ vec_capacity out.new }
-    ensures kept { KeepsDevices B.layers B.size (rested_of volume.old) (rested_of volume.new) }
-    ensures piece { piece_with volume.new.merge volume.new.snaps ≡ piece_with volume.old.merge volume.old.snaps }
-    ensures requests { volume.new.requests ≤ volume.old.requests + 1 }
+    ensures kept { KeepsDevices B.layers B.size (rested_of volume.old.volume) (rested_of volume.new.volume) }
+    ensures piece { piece_with volume.new.volume.merge volume.new.volume.snaps ≡ piece_with volume.old.volume.merge volume.old.volume.snaps }
+    ensures requests { volume.new.volume.requests ≤ volume.old.volume.requests + 1 }
+    ensures taken { volume.new.taken + volume.old.volume.requests ≤ volume.old.taken + volume.new.volume.requests }
+    ensures full { IfErr result (λ refusal. refusal ≡ JournalFull → is_full_for 1 volume.new.taken ≡ true) }
 {
     let request = Request {
         dev,
@@ -147,16 +153,18 @@ fn read_alone<B: Layered>(
     dev: Dev,
     piece: Range,
 ) -> Result<Buf, Refusal>
-    requires between { IsBetween volume.old }
-    requires can { CanServe B.size dev Read piece volume.old }
-    ensures between { IsBetween volume.new }
-    ensures settled { IsSettled B.layers (rested_of volume.old) → IsSettled B.layers (rested_of volume.new) }
-    ensures done { IfOk result (λ bytes. IsPieceRead B.contents B.layers (part_read dev (span_of piece)) [] bytes (rested_of volume.old) (rested_of volume.new)) }
-    ensures refused { IfErr result (λ refusal. IsPieceRefused B.contents B.layers (part_read dev (span_of piece)) refusal (rested_of volume.old) (rested_of volume.new)) }
-    ensures answered { IfOk result (λ bytes. (reply : AnyReply) × IsPieceAnswered B.contents B.layers B.fault_count B.size dev Read (span_of piece) reply volume.old volume.new × (bytes ≡ bytes_in reply)) }
-    ensures undone { IfErr result (λ refusal. IsPieceUndone B.contents B.layers B.fault_count B.size dev Read (span_of piece) refusal volume.old volume.new) }
-    ensures kept { KeepsDevices B.layers B.size (rested_of volume.old) (rested_of volume.new) }
-    ensures requests { volume.new.requests ≤ volume.old.requests + 1 }
+    requires between { IsBetween volume.old.volume }
+    requires can { CanServe B.size dev Read piece volume.old.volume }
+    ensures between { IsBetween volume.new.volume }
+    ensures settled { IsSettled B.layers (rested_of volume.old.volume) → IsSettled B.layers (rested_of volume.new.volume) }
+    ensures done { IfOk result (λ bytes. IsPieceRead B.contents B.layers (part_read dev (span_of piece)) [] bytes (rested_of volume.old.volume) (rested_of volume.new.volume)) }
+    ensures refused { IfErr result (λ refusal. IsPieceRefused B.contents B.layers (part_read dev (span_of piece)) refusal (rested_of volume.old.volume) (rested_of volume.new.volume)) }
+    ensures answered { IfOk result (λ bytes. (reply : AnyReply) × IsPieceAnswered B.contents B.layers B.fault_count B.size dev Read (span_of piece) reply volume.old.volume volume.new.volume × (bytes ≡ bytes_in reply)) }
+    ensures undone { IfErr result (λ refusal. IsPieceUndone B.contents B.layers B.fault_count B.size dev Read (span_of piece) refusal volume.old.volume volume.new.volume) }
+    ensures kept { KeepsDevices B.layers B.size (rested_of volume.old.volume) (rested_of volume.new.volume) }
+    ensures requests { volume.new.volume.requests ≤ volume.old.volume.requests + 1 }
+    ensures taken { volume.new.taken + volume.old.volume.requests ≤ volume.old.taken + volume.new.volume.requests }
+    ensures full { IfErr result (λ refusal. refusal ≡ JournalFull → is_full_for 1 volume.new.taken ≡ true) }
 {
     let request = Request {
         dev,
@@ -180,19 +188,21 @@ pub(crate) fn write_pieces<B: Layered>(
     range: Range,
     mut bytes: Buf,
 ) -> Result<(), Refusal>
-    requires between { IsBetween volume.old }
-    requires can { CanAsk B.size dev range volume.old }
+    requires between { IsBetween volume.old.volume }
+    requires can { CanAsk B.size dev range volume.old.volume }
     requires room { length bytes ≡ 512 * range.count }
-    ensures between { IsBetween volume.new }
-    ensures settled { IsSettled B.layers (rested_of volume.old) → IsSettled B.layers (rested_of volume.new) }
-    ensures done { OnOk result (IsDoneBy B.contents B.layers (written_beside dev (span_of range) bytes) Written (rested_of volume.old) (rested_of volume.new)) }
-    ensures refused { IfErr result (λ refusal. IsWriteRefused B.contents B.layers dev (span_of range) bytes refusal (rested_of volume.old) (rested_of volume.new)) }
-    ensures answered { OnOk result (AreWrittenAtRest B.contents B.layers B.fault_count B.size dev (pieces_of (piece_with volume.old.merge volume.old.snaps) (span_of range)) bytes volume.old volume.new) }
-    ensures undone { IfErr result (λ refusal. IsWriteCut B.contents B.layers B.fault_count B.size dev (pieces_of (piece_with volume.old.merge volume.old.snaps) (span_of range)) bytes refusal volume.old volume.new) }
-    ensures shows { OnOk result (IsSettled B.layers (rested_of volume.old) → IsPlainWrite dev (span_of range) bytes (arrays_in B.contents B.layers (rested_of volume.old)) (arrays_in B.contents B.layers (rested_of volume.new))) }
-    ensures loses { IfErr result (λ refusal. IsSettled B.layers (rested_of volume.old) → IsPlainWriteRefused dev (span_of range) (pieces_for B.contents B.layers (span_of range) (rested_of volume.old)) bytes refusal (arrays_in B.contents B.layers (rested_of volume.old)) (arrays_in B.contents B.layers (rested_of volume.new))) }
-    ensures kept { KeepsDevices B.layers B.size (rested_of volume.old) (rested_of volume.new) }
-    ensures requests { volume.new.requests ≤ volume.old.requests + range.count }
+    ensures between { IsBetween volume.new.volume }
+    ensures settled { IsSettled B.layers (rested_of volume.old.volume) → IsSettled B.layers (rested_of volume.new.volume) }
+    ensures done { OnOk result (IsDoneBy B.contents B.layers (written_beside dev (span_of range) bytes) Written (rested_of volume.old.volume) (rested_of volume.new.volume)) }
+    ensures refused { IfErr result (λ refusal. IsWriteRefused B.contents B.layers dev (span_of range) bytes refusal (rested_of volume.old.volume) (rested_of volume.new.volume)) }
+    ensures answered { OnOk result (AreWrittenAtRest B.contents B.layers B.fault_count B.size dev (pieces_of (piece_with volume.old.volume.merge volume.old.volume.snaps) (span_of range)) bytes volume.old.volume volume.new.volume) }
+    ensures undone { IfErr result (λ refusal. IsWriteCut B.contents B.layers B.fault_count B.size dev (pieces_of (piece_with volume.old.volume.merge volume.old.volume.snaps) (span_of range)) bytes refusal volume.old.volume volume.new.volume) }
+    ensures shows { OnOk result (IsSettled B.layers (rested_of volume.old.volume) → IsPlainWrite dev (span_of range) bytes (arrays_in B.contents B.layers (rested_of volume.old.volume)) (arrays_in B.contents B.layers (rested_of volume.new.volume))) }
+    ensures loses { IfErr result (λ refusal. IsSettled B.layers (rested_of volume.old.volume) → IsPlainWriteRefused dev (span_of range) (pieces_for B.contents B.layers (span_of range) (rested_of volume.old.volume)) bytes refusal (arrays_in B.contents B.layers (rested_of volume.old.volume)) (arrays_in B.contents B.layers (rested_of volume.new.volume))) }
+    ensures kept { KeepsDevices B.layers B.size (rested_of volume.old.volume) (rested_of volume.new.volume) }
+    ensures requests { volume.new.volume.requests ≤ volume.old.volume.requests + range.count }
+    ensures taken { volume.new.taken + volume.old.volume.requests ≤ volume.old.taken + volume.new.volume.requests }
+    ensures full { IfErr result (λ refusal. refusal ≡ JournalFull → is_full_for 1 volume.new.taken ≡ true) }
 {
     // A quiet volume, no device of which drops writes, is at rest.
     let _ = volume.is_quiet();
@@ -219,18 +229,20 @@ pub(crate) fn read_pieces<B: Layered>(
     dev: Dev,
     range: Range,
 ) -> Result<Buf, Refusal>
-    requires between { IsBetween volume.old }
-    requires can { CanAsk B.size dev range volume.old }
-    ensures between { IsBetween volume.new }
-    ensures settled { IsSettled B.layers (rested_of volume.old) → IsSettled B.layers (rested_of volume.new) }
-    ensures done { IfOk result (λ bytes. IsDoneBy B.contents B.layers (read_beside dev (span_of range)) (Data bytes) (rested_of volume.old) (rested_of volume.new)) }
-    ensures refused { IfErr result (λ refusal. IsReadRefused B.contents B.layers dev (span_of range) refusal (rested_of volume.old) (rested_of volume.new)) }
-    ensures answered { IfOk result (λ bytes. AreReadAtRest B.contents B.layers B.fault_count B.size dev (pieces_of (piece_with volume.old.merge volume.old.snaps) (span_of range)) bytes volume.old volume.new) }
-    ensures undone { IfErr result (λ refusal. IsReadUndone B.contents B.layers B.fault_count B.size dev (pieces_of (piece_with volume.old.merge volume.old.snaps) (span_of range)) refusal volume.old volume.new) }
-    ensures shows { IfOk result (λ bytes. IsSettled B.layers (rested_of volume.old) → IsPlainRead dev (span_of range) bytes (arrays_in B.contents B.layers (rested_of volume.old)) (arrays_in B.contents B.layers (rested_of volume.new))) }
-    ensures loses { IfErr result (λ refusal. IsSettled B.layers (rested_of volume.old) → IsPlainReadRefused dev refusal (arrays_in B.contents B.layers (rested_of volume.old)) (arrays_in B.contents B.layers (rested_of volume.new))) }
-    ensures kept { KeepsDevices B.layers B.size (rested_of volume.old) (rested_of volume.new) }
-    ensures requests { volume.new.requests ≤ volume.old.requests + range.count }
+    requires between { IsBetween volume.old.volume }
+    requires can { CanAsk B.size dev range volume.old.volume }
+    ensures between { IsBetween volume.new.volume }
+    ensures settled { IsSettled B.layers (rested_of volume.old.volume) → IsSettled B.layers (rested_of volume.new.volume) }
+    ensures done { IfOk result (λ bytes. IsDoneBy B.contents B.layers (read_beside dev (span_of range)) (Data bytes) (rested_of volume.old.volume) (rested_of volume.new.volume)) }
+    ensures refused { IfErr result (λ refusal. IsReadRefused B.contents B.layers dev (span_of range) refusal (rested_of volume.old.volume) (rested_of volume.new.volume)) }
+    ensures answered { IfOk result (λ bytes. AreReadAtRest B.contents B.layers B.fault_count B.size dev (pieces_of (piece_with volume.old.volume.merge volume.old.volume.snaps) (span_of range)) bytes volume.old.volume volume.new.volume) }
+    ensures undone { IfErr result (λ refusal. IsReadUndone B.contents B.layers B.fault_count B.size dev (pieces_of (piece_with volume.old.volume.merge volume.old.volume.snaps) (span_of range)) refusal volume.old.volume volume.new.volume) }
+    ensures shows { IfOk result (λ bytes. IsSettled B.layers (rested_of volume.old.volume) → IsPlainRead dev (span_of range) bytes (arrays_in B.contents B.layers (rested_of volume.old.volume)) (arrays_in B.contents B.layers (rested_of volume.new.volume))) }
+    ensures loses { IfErr result (λ refusal. IsSettled B.layers (rested_of volume.old.volume) → IsPlainReadRefused dev refusal (arrays_in B.contents B.layers (rested_of volume.old.volume)) (arrays_in B.contents B.layers (rested_of volume.new.volume))) }
+    ensures kept { KeepsDevices B.layers B.size (rested_of volume.old.volume) (rested_of volume.new.volume) }
+    ensures requests { volume.new.volume.requests ≤ volume.old.volume.requests + range.count }
+    ensures taken { volume.new.taken + volume.old.volume.requests ≤ volume.old.taken + volume.new.volume.requests }
+    ensures full { IfErr result (λ refusal. refusal ≡ JournalFull → is_full_for 1 volume.new.taken ≡ true) }
 {
     // A quiet volume, no device of which drops writes, is at rest.
     let _ = volume.is_quiet();

@@ -1,6 +1,6 @@
 // A volume by whole commands, and what callers ask of it.
 ghost use Rattle.std.specs.Prelude.{◌≡◌, ◌+◌, ◌*◌, ◌<◌, ◌≤◌, true, [], length, IfErr, IfOk, OnOk, Ok, Err, None};
-ghost use Rattle.sector.specs.declared.refusal.Refusal.TheVariants.{NoMemory};
+ghost use Rattle.sector.specs.declared.refusal.Refusal.TheVariants.{NoMemory, JournalFull};
 ghost use Rattle.device.specs.Layers.{is_loud};
 ghost use Rattle.plain.specs.declared.request.Reply.TheVariants.{Data, Written};
 ghost use Rattle.chunk.specs.Pieces.{span_of};
@@ -13,6 +13,7 @@ ghost use Rattle.volume_commands.specs.Among.{pieces_among};
 ghost use Rattle.volume_commands.specs.AtRest.{AreReadAtRest, AreWrittenAtRest, IsReadUndone, IsWriteCut};
 ghost use Rattle.volume_commands.specs.Commands.{IsDoneBy, IsWriteRefused, IsReadRefused};
 ghost use Rattle.volume_commands.specs.Showing.{arrays_in, pieces_for, IsPlainRead, IsPlainReadRefused, IsPlainWrite, IsPlainWriteRefused};
+ghost use Rattle.volume_commands.specs.Places.{is_full_for};
 
 use crate::Journaled;
 use crate::pieces::{read_pieces, write_pieces};
@@ -25,25 +26,28 @@ use std::marker::Model;
 
 /// An origin disk and the snapshots of it, in order of attaching. Contracts see the devices, each snapshot's number, chunk
 /// size and marks, how many numbers were given, whether the volume is settled, and whether it is quiet: nothing is in flight
-/// or left to do. What the devices' bytes and layers are is the settled machine's volume.
+/// or left to do; and how many places of its journal are taken. What the devices' bytes and layers are is the settled machine's
+/// volume.
 #[derive(Drop)]
 pub struct Resting<B: Layered> {
     pub(crate) volume: Journaled<B>,
 }
 
 impl<B: Layered> Model for Resting<B> {
-    ghost use Rattle.volume_commands.specs.Rested.{Rested, rested_of};
+    ghost use Rattle.volume_commands.specs.Recorded.{Recorded};
+    ghost use Rattle.volume_commands.specs.Rested.{rested_of};
 
-    ghost Value = { Rested B };
+    ghost Value = { Recorded B };
 
-    ghost view = { λ v. rested_of v.volume };
+    ghost view = { λ v. record { rested = rested_of v.volume.volume; taken = v.volume.taken } };
 }
 
 impl<B: Layered + Drop> Resting<B> {
     /// A volume over an origin disk, without snapshots. Where memory is refused, the disk is given back.
     pub fn new(alloc: Global, origin: B) -> Result<Resting<B>, (Refusal, B)>
-        ensures ok { IfOk result (λ v. v ≡ rested_of (record { origin = origin; snaps = []; merge = None; flights = []; requests = 0; copies = 0; attached = 0 })) }
-        ensures settled { IfOk result (λ v. is_loud (B.layers origin) ≡ true → IsSettled B.layers v) }
+        ensures ok { IfOk result (λ v. v.rested ≡ rested_of (record { origin = origin; snaps = []; merge = None; flights = []; requests = 0; copies = 0; attached = 0 })) }
+        ensures taken { IfOk result (λ v. v.taken ≡ 0) }
+        ensures settled { IfOk result (λ v. is_loud (B.layers origin) ≡ true → IsSettled B.layers v.rested) }
         ensures err { IfErr result (λ e. e ≡ record { 0 = NoMemory; 1 = origin }) }
     {
         match Journaled::new(alloc, origin) {
@@ -56,14 +60,14 @@ impl<B: Layered + Drop> Resting<B> {
 impl<B: Layered> Resting<B> {
     /// The origin disk.
     pub fn origin(&self) -> &B
-        ensures { result.now ≡ self.now.origin }
+        ensures { result.now ≡ self.now.rested.origin }
     {
         self.volume.origin()
     }
 
     /// How many snapshots there are.
     pub fn len(&self) -> usize
-        ensures { result ≡ length self.now.snaps }
+        ensures { result ≡ length self.now.rested.snaps }
     {
         self.volume.len()
     }
@@ -78,22 +82,24 @@ impl<B: Layered> Resting<B> {
     /// the device of a piece failed (`Io`), after the pieces before it were read; or memory is refused (`NoMemory`), after
     /// some first pieces were read, but not all.
     pub fn read(&mut self, alloc: Global, dev: Dev, range: Range) -> Result<Buf, Refusal>
-        requires quiet { is_quiet_of self.old.events ≡ true }
+        requires quiet { is_quiet_of self.old.rested.events ≡ true }
         requires some { 0 < range.count }
-        requires inside { range.first + range.count ≤ B.size self.old.origin }
-        requires requests { self.old.requests + range.count < 9_223_372_036_854_775_808 }
-        ensures quiet { is_quiet_of self.new.events ≡ true }
-        ensures settled { IsSettled B.layers self.old → IsSettled B.layers self.new }
-        ensures done { IfOk result (λ bytes. IsDoneBy B.contents B.layers (read_beside dev (span_of range)) (Data bytes) self.old self.new) }
-        ensures there { OnOk result (has_dev dev self.old ≡ true) }
-        ensures refused { IfErr result (λ refusal. IsReadRefused B.contents B.layers dev (span_of range) refusal self.old self.new) }
-        ensures answered { IfOk result (λ bytes. AreReadAtRest B.contents B.layers B.fault_count B.size dev (pieces_among (span_of range) self.old) bytes self.old.events self.new.events) }
-        ensures undone { has_dev dev self.old ≡ true → IfErr result (λ refusal. IsReadUndone B.contents B.layers B.fault_count B.size dev (pieces_among (span_of range) self.old) refusal self.old.events self.new.events) }
-        ensures whole { IsWhole self.old × IsWhole self.new }
-        ensures shows { IfOk result (λ bytes. IsSettled B.layers self.old → IsPlainRead dev (span_of range) bytes (arrays_in B.contents B.layers self.old) (arrays_in B.contents B.layers self.new)) }
-        ensures loses { IfErr result (λ refusal. IsSettled B.layers self.old → IsPlainReadRefused dev refusal (arrays_in B.contents B.layers self.old) (arrays_in B.contents B.layers self.new)) }
-        ensures kept { KeepsDevices B.layers B.size self.old self.new }
-        ensures requests { self.new.requests ≤ self.old.requests + range.count }
+        requires inside { range.first + range.count ≤ B.size self.old.rested.origin }
+        requires requests { self.old.rested.requests + range.count < 9_223_372_036_854_775_808 }
+        ensures quiet { is_quiet_of self.new.rested.events ≡ true }
+        ensures settled { IsSettled B.layers self.old.rested → IsSettled B.layers self.new.rested }
+        ensures done { IfOk result (λ bytes. IsDoneBy B.contents B.layers (read_beside dev (span_of range)) (Data bytes) self.old.rested self.new.rested) }
+        ensures there { OnOk result (has_dev dev self.old.rested ≡ true) }
+        ensures refused { IfErr result (λ refusal. IsReadRefused B.contents B.layers dev (span_of range) refusal self.old.rested self.new.rested) }
+        ensures answered { IfOk result (λ bytes. AreReadAtRest B.contents B.layers B.fault_count B.size dev (pieces_among (span_of range) self.old.rested) bytes self.old.rested.events self.new.rested.events) }
+        ensures undone { has_dev dev self.old.rested ≡ true → IfErr result (λ refusal. IsReadUndone B.contents B.layers B.fault_count B.size dev (pieces_among (span_of range) self.old.rested) refusal self.old.rested.events self.new.rested.events) }
+        ensures whole { IsWhole self.old.rested × IsWhole self.new.rested }
+        ensures shows { IfOk result (λ bytes. IsSettled B.layers self.old.rested → IsPlainRead dev (span_of range) bytes (arrays_in B.contents B.layers self.old.rested) (arrays_in B.contents B.layers self.new.rested)) }
+        ensures loses { IfErr result (λ refusal. IsSettled B.layers self.old.rested → IsPlainReadRefused dev refusal (arrays_in B.contents B.layers self.old.rested) (arrays_in B.contents B.layers self.new.rested)) }
+        ensures kept { KeepsDevices B.layers B.size self.old.rested self.new.rested }
+        ensures requests { self.new.rested.requests ≤ self.old.rested.requests + range.count }
+        ensures taken { self.new.taken + self.old.rested.requests ≤ self.old.taken + self.new.rested.requests }
+        ensures full { IfErr result (λ refusal. refusal ≡ JournalFull → is_full_for 1 self.new.taken ≡ true) }
     {
         look(&self.volume);
         if !is_there(&self.volume, dev) {
@@ -119,23 +125,25 @@ impl<B: Layered> Resting<B> {
         range: Range,
         bytes: Buf,
     ) -> Result<(), Refusal>
-        requires quiet { is_quiet_of self.old.events ≡ true }
+        requires quiet { is_quiet_of self.old.rested.events ≡ true }
         requires some { 0 < range.count }
-        requires inside { range.first + range.count ≤ B.size self.old.origin }
+        requires inside { range.first + range.count ≤ B.size self.old.rested.origin }
         requires room { length bytes ≡ 512 * range.count }
-        requires requests { self.old.requests + range.count < 9_223_372_036_854_775_808 }
-        ensures quiet { is_quiet_of self.new.events ≡ true }
-        ensures settled { IsSettled B.layers self.old → IsSettled B.layers self.new }
-        ensures done { OnOk result (IsDoneBy B.contents B.layers (written_beside dev (span_of range) bytes) Written self.old self.new) }
-        ensures there { OnOk result (has_dev dev self.old ≡ true) }
-        ensures refused { IfErr result (λ refusal. IsWriteRefused B.contents B.layers dev (span_of range) bytes refusal self.old self.new) }
-        ensures answered { OnOk result (AreWrittenAtRest B.contents B.layers B.fault_count B.size dev (pieces_among (span_of range) self.old) bytes self.old.events self.new.events) }
-        ensures undone { has_dev dev self.old ≡ true → IfErr result (λ refusal. IsWriteCut B.contents B.layers B.fault_count B.size dev (pieces_among (span_of range) self.old) bytes refusal self.old.events self.new.events) }
-        ensures whole { IsWhole self.old × IsWhole self.new }
-        ensures shows { OnOk result (IsSettled B.layers self.old → IsPlainWrite dev (span_of range) bytes (arrays_in B.contents B.layers self.old) (arrays_in B.contents B.layers self.new)) }
-        ensures loses { IfErr result (λ refusal. IsSettled B.layers self.old → IsPlainWriteRefused dev (span_of range) (pieces_for B.contents B.layers (span_of range) self.old) bytes refusal (arrays_in B.contents B.layers self.old) (arrays_in B.contents B.layers self.new)) }
-        ensures kept { KeepsDevices B.layers B.size self.old self.new }
-        ensures requests { self.new.requests ≤ self.old.requests + range.count }
+        requires requests { self.old.rested.requests + range.count < 9_223_372_036_854_775_808 }
+        ensures quiet { is_quiet_of self.new.rested.events ≡ true }
+        ensures settled { IsSettled B.layers self.old.rested → IsSettled B.layers self.new.rested }
+        ensures done { OnOk result (IsDoneBy B.contents B.layers (written_beside dev (span_of range) bytes) Written self.old.rested self.new.rested) }
+        ensures there { OnOk result (has_dev dev self.old.rested ≡ true) }
+        ensures refused { IfErr result (λ refusal. IsWriteRefused B.contents B.layers dev (span_of range) bytes refusal self.old.rested self.new.rested) }
+        ensures answered { OnOk result (AreWrittenAtRest B.contents B.layers B.fault_count B.size dev (pieces_among (span_of range) self.old.rested) bytes self.old.rested.events self.new.rested.events) }
+        ensures undone { has_dev dev self.old.rested ≡ true → IfErr result (λ refusal. IsWriteCut B.contents B.layers B.fault_count B.size dev (pieces_among (span_of range) self.old.rested) bytes refusal self.old.rested.events self.new.rested.events) }
+        ensures whole { IsWhole self.old.rested × IsWhole self.new.rested }
+        ensures shows { OnOk result (IsSettled B.layers self.old.rested → IsPlainWrite dev (span_of range) bytes (arrays_in B.contents B.layers self.old.rested) (arrays_in B.contents B.layers self.new.rested)) }
+        ensures loses { IfErr result (λ refusal. IsSettled B.layers self.old.rested → IsPlainWriteRefused dev (span_of range) (pieces_for B.contents B.layers (span_of range) self.old.rested) bytes refusal (arrays_in B.contents B.layers self.old.rested) (arrays_in B.contents B.layers self.new.rested)) }
+        ensures kept { KeepsDevices B.layers B.size self.old.rested self.new.rested }
+        ensures requests { self.new.rested.requests ≤ self.old.rested.requests + range.count }
+        ensures taken { self.new.taken + self.old.rested.requests ≤ self.old.taken + self.new.rested.requests }
+        ensures full { IfErr result (λ refusal. refusal ≡ JournalFull → is_full_for 1 self.new.taken ≡ true) }
     {
         look(&self.volume);
         if !is_there(&self.volume, dev) {

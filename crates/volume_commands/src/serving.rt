@@ -17,6 +17,8 @@ ghost use Rattle.volume_commands.specs.AtRest.{AreDone, IsAnswered, IsEntered};
 ghost use Rattle.volume_commands.specs.Commands.{IsDoneBy};
 ghost use Rattle.volume_commands.specs.Serving.{CanServe, part_done};
 ghost use Rattle.volume.specs.Stepping.{KeepsAll};
+ghost use Rattle.sector.specs.declared.refusal.Refusal.TheVariants.{JournalFull};
+ghost use Rattle.volume_commands.specs.Places.{is_full_for};
 
 use crate::Journaled;
 use crate::following::follow;
@@ -28,14 +30,15 @@ use sector::Refusal;
 /// merge. Tells the last reply, and the one that was given before where there is none. What is known to follow an event is
 /// done without a search for what is due.
 fn settle<B: Layered>(volume: &mut Journaled<B>, mut reply: Reply) -> Reply
-    requires free { has_group_in volume.old.merge ≡ false }
-    ensures run { IsRun B.contents B.layers (Some reply) (Some result) volume.old volume.new }
-    ensures did { AreDone B.contents B.layers B.fault_count reply result volume.old volume.new }
-    ensures still { is_quiet_of volume.old ≡ true → volume.new ≡ volume.old }
-    ensures none { (replied : Option Reply) → due (moving_of B.contents B.layers replied volume.new) ≡ None }
-    ensures quiet { is_quiet_of volume.new ≡ true }
-    ensures kept { KeepsAll B.size volume.old volume.new }
-    ensures requests { volume.new.requests ≡ volume.old.requests }
+    requires free { has_group_in volume.old.volume.merge ≡ false }
+    ensures run { IsRun B.contents B.layers (Some reply) (Some result) volume.old.volume volume.new.volume }
+    ensures did { AreDone B.contents B.layers B.fault_count reply result volume.old.volume volume.new.volume }
+    ensures still { is_quiet_of volume.old.volume ≡ true → volume.new.volume ≡ volume.old.volume }
+    ensures none { (replied : Option Reply) → due (moving_of B.contents B.layers replied volume.new.volume) ≡ None }
+    ensures quiet { is_quiet_of volume.new.volume ≡ true }
+    ensures kept { KeepsAll B.size volume.old.volume volume.new.volume }
+    ensures requests { volume.new.volume.requests ≡ volume.old.volume.requests }
+    ensures taken { volume.new.taken ≤ volume.old.taken }
 {
     while !volume.is_quiet() {
         let Some(event) = volume.due() else {
@@ -55,17 +58,19 @@ fn settle<B: Layered>(volume: &mut Journaled<B>, mut reply: Reply) -> Reply
 /// answered `Invalid` or `Overflow` at once, and may have spoiled or marked that snapshot; any other will be answered. Where
 /// memory is refused nothing changed.
 fn enter<B: Layered>(volume: &mut Journaled<B>, request: Request) -> Result<Failure, Refusal>
-    requires quiet { is_quiet_of volume.old ≡ true }
-    requires few { length volume.old.snaps ≤ 8 }
-    requires can { CanServe B.size request.dev request.op request.range volume.old }
-    ensures ok { IfOk result (λ failure. (number : ℕ) × (submitted number request (moving_of B.contents B.layers (Some (Refused failure)) volume.old) ≡ moving_of B.contents B.layers (Some (Refused failure)) volume.new)) }
-    ensures entered { IfOk result (λ failure. IsEntered B.contents B.layers B.size request failure volume.old volume.new) }
-    ensures starved { IfErr result (λ refusal. (is_starved refusal ≡ true) × SameButRoom volume.old volume.new × (moving_of B.contents B.layers None volume.new ≡ moving_of B.contents B.layers None volume.old)) }
-    ensures untaken { IfErr result (λ refusal. IsStarved refusal volume.old volume.new ⊎ IsRefusedAs B.contents B.layers B.size request refusal volume.old volume.new) }
-    ensures free { has_group_in volume.new.merge ≡ false }
-    ensures loud { is_loud_in_all B.layers volume.new ≡ is_loud_in_all B.layers volume.old }
-    ensures kept { KeepsAll B.size volume.old volume.new }
-    ensures requests { volume.new.requests ≤ volume.old.requests + 1 }
+    requires quiet { is_quiet_of volume.old.volume ≡ true }
+    requires few { length volume.old.volume.snaps ≤ 8 }
+    requires can { CanServe B.size request.dev request.op request.range volume.old.volume }
+    ensures ok { IfOk result (λ failure. (number : ℕ) × (submitted number request (moving_of B.contents B.layers (Some (Refused failure)) volume.old.volume) ≡ moving_of B.contents B.layers (Some (Refused failure)) volume.new.volume)) }
+    ensures entered { IfOk result (λ failure. IsEntered B.contents B.layers B.size request failure volume.old.volume volume.new.volume) }
+    ensures starved { IfErr result (λ refusal. (is_starved refusal ≡ true) × SameButRoom volume.old.volume volume.new.volume × (moving_of B.contents B.layers None volume.new.volume ≡ moving_of B.contents B.layers None volume.old.volume)) }
+    ensures untaken { IfErr result (λ refusal. IsStarved refusal volume.old.volume volume.new.volume ⊎ IsRefusedAs B.contents B.layers B.size request refusal volume.old.volume volume.new.volume) }
+    ensures free { has_group_in volume.new.volume.merge ≡ false }
+    ensures loud { is_loud_in_all B.layers volume.new.volume ≡ is_loud_in_all B.layers volume.old.volume }
+    ensures kept { KeepsAll B.size volume.old.volume volume.new.volume }
+    ensures requests { volume.new.volume.requests ≤ volume.old.volume.requests + 1 }
+    ensures taken { volume.new.taken + volume.old.volume.requests ≤ volume.old.taken + volume.new.volume.requests }
+    ensures full { IfErr result (λ refusal. refusal ≡ JournalFull → is_full_for 1 volume.new.taken ≡ true) }
 {
     // Of the snapshots that a request may go to, none is the one that is being merged.
     let _ = volume.merging();
@@ -84,17 +89,19 @@ pub(crate) fn serve<B: Layered>(
     volume: &mut Journaled<B>,
     request: Request,
 ) -> Result<Reply, Refusal>
-    requires between { IsBetween volume.old }
-    requires can { CanServe B.size request.dev request.op request.range volume.old }
-    ensures between { IsBetween volume.new }
-    ensures settled { IsSettled B.layers (rested_of volume.old) → IsSettled B.layers (rested_of volume.new) }
-    ensures answer { IfOk result (λ reply. IsDoneBy B.contents B.layers (part_done request) reply (rested_of volume.old) (rested_of volume.new)) }
-    ensures answered { IfOk result (λ reply. IsAnswered B.contents B.layers B.fault_count B.size request reply volume.old volume.new) }
-    ensures starved { IfErr result (λ refusal. (is_starved refusal ≡ true) × (merged_of B.contents B.layers (rested_of volume.new) ≡ merged_of B.contents B.layers (rested_of volume.old))) }
-    ensures untaken { IfErr result (λ refusal. IsStarved refusal volume.old volume.new ⊎ IsRefusedAs B.contents B.layers B.size request refusal volume.old volume.new) }
-    ensures kept { KeepsDevices B.layers B.size (rested_of volume.old) (rested_of volume.new) }
-    ensures piece { piece_with volume.new.merge volume.new.snaps ≡ piece_with volume.old.merge volume.old.snaps }
-    ensures requests { volume.new.requests ≤ volume.old.requests + 1 }
+    requires between { IsBetween volume.old.volume }
+    requires can { CanServe B.size request.dev request.op request.range volume.old.volume }
+    ensures between { IsBetween volume.new.volume }
+    ensures settled { IsSettled B.layers (rested_of volume.old.volume) → IsSettled B.layers (rested_of volume.new.volume) }
+    ensures answer { IfOk result (λ reply. IsDoneBy B.contents B.layers (part_done request) reply (rested_of volume.old.volume) (rested_of volume.new.volume)) }
+    ensures answered { IfOk result (λ reply. IsAnswered B.contents B.layers B.fault_count B.size request reply volume.old.volume volume.new.volume) }
+    ensures starved { IfErr result (λ refusal. (is_starved refusal ≡ true) × (merged_of B.contents B.layers (rested_of volume.new.volume) ≡ merged_of B.contents B.layers (rested_of volume.old.volume))) }
+    ensures untaken { IfErr result (λ refusal. IsStarved refusal volume.old.volume volume.new.volume ⊎ IsRefusedAs B.contents B.layers B.size request refusal volume.old.volume volume.new.volume) }
+    ensures kept { KeepsDevices B.layers B.size (rested_of volume.old.volume) (rested_of volume.new.volume) }
+    ensures piece { piece_with volume.new.volume.merge volume.new.volume.snaps ≡ piece_with volume.old.volume.merge volume.old.volume.snaps }
+    ensures requests { volume.new.volume.requests ≤ volume.old.volume.requests + 1 }
+    ensures taken { volume.new.taken + volume.old.volume.requests ≤ volume.old.taken + volume.new.volume.requests }
+    ensures full { IfErr result (λ refusal. refusal ≡ JournalFull → is_full_for 1 volume.new.taken ≡ true) }
 {
     // A quiet volume, no device of which drops writes, is at rest.
     let _ = volume.is_quiet();
@@ -106,14 +113,14 @@ pub(crate) fn serve<B: Layered>(
 
 /// A look at how many snapshots there are: eight at most.
 pub(crate) fn look<B: Layered>(volume: &Journaled<B>)
-    ensures { length volume.now.snaps ≤ 8 }
+    ensures { length volume.now.volume.snaps ≤ 8 }
 {
     let _ = volume.len();
 }
 
 /// Whether a request's device is there.
 pub(crate) fn is_there<B: Layered>(volume: &Journaled<B>, dev: Dev) -> bool
-    ensures { result ≡ has_dev dev (rested_of volume.now) }
+    ensures { result ≡ has_dev dev (rested_of volume.now.volume) }
 {
     match dev {
         Dev::Origin => true,

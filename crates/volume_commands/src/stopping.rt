@@ -13,9 +13,9 @@ impl<B: Layered> Resting<B> {
     /// Ends the volume without a further event, whatever is in flight: what is left are its devices, as they are. Where none
     /// drops writes, each live snapshot's store and the origin are loaded again with their arrays.
     pub fn stop(self) -> Stopped<B>
-        ensures devices { result ≡ devices_of self.events }
-        ensures stops { is_loud_in_all B.layers self.events ≡ true → StopsVolume B.may_hold B.size None self.events self.events }
-        ensures whole { IsWhole self }
+        ensures devices { result ≡ devices_of self.rested.events }
+        ensures stops { is_loud_in_all B.layers self.rested.events ≡ true → StopsVolume B.may_hold B.size None self.rested.events self.rested.events }
+        ensures whole { IsWhole self.rested }
     {
         let Resting { volume } = self;
         volume.stop()

@@ -82,14 +82,14 @@ fn add_merge(events: &mut Vec<Event>) -> Result<(), AllocError>
 impl<B: Layered> Journaled<B> {
     /// Whether an event is due: `step` does just those that are.
     pub fn is_due(&self, event: Event) -> bool
-        ensures { result ≡ is_due_of B.contents B.layers self.now event }
+        ensures { result ≡ is_due_of B.contents B.layers self.now.volume event }
     {
         self.volume.is_due(event)
     }
 
     /// The requests in flight, in the order in which they were accepted: 64 at most.
     pub fn flights(&self) -> &[Flight]
-        ensures is { result.now ≡ self.now.flights }
+        ensures is { result.now ≡ self.now.volume.flights }
         ensures few { length result.now ≤ 64 }
     {
         self.volume.flights()
@@ -97,14 +97,14 @@ impl<B: Layered> Journaled<B> {
 
     /// The snapshots, in order of attaching, without the one that is being merged.
     pub fn snaps(&self) -> &[Snapshot<B>]
-        ensures { result.now ≡ self.now.snaps }
+        ensures { result.now ≡ self.now.volume.snaps }
     {
         self.volume.snaps()
     }
 
     /// The events of which one may be due: of each snapshot, then of the requests and of a merge.
     fn candidates(&self, alloc: Global) -> Result<Vec<Event>, AllocError>
-        ensures { IfOk result (λ events. events.items ≡ candidates_of self.now) }
+        ensures { IfOk result (λ events. events.items ≡ candidates_of self.now.volume) }
     {
         let mut events = Vec::new(alloc);
         add_snaps(self.snaps(), &mut events)?;
@@ -115,7 +115,7 @@ impl<B: Layered> Journaled<B> {
 
     /// Those of some events that are due.
     fn due_of(&self, alloc: Global, events: &[Event]) -> Result<Vec<Event>, AllocError>
-        ensures { IfOk result (λ due. due.items ≡ filter (is_due_of B.contents B.layers self.now) events.now) }
+        ensures { IfOk result (λ due. due.items ≡ filter (is_due_of B.contents B.layers self.now.volume) events.now) }
     {
         let mut due = Vec::new(alloc);
         for event in events {
@@ -129,8 +129,8 @@ impl<B: Layered> Journaled<B> {
     /// The events that are due, all of them: those of each snapshot, in order of attaching, then of the requests, in the order in
     /// which they were accepted, and at last of the merge.
     pub fn due_events(&self, alloc: Global) -> Result<Vec<Event>, AllocError>
-        ensures are { IfOk result (λ events. events.items ≡ due_among B.contents B.layers self.now) }
-        ensures all { IfOk result (λ events. IsAllDue B.contents B.layers self.now events.items) }
+        ensures are { IfOk result (λ events. events.items ≡ due_among B.contents B.layers self.now.volume) }
+        ensures all { IfOk result (λ events. IsAllDue B.contents B.layers self.now.volume events.items) }
     {
         let events = self.candidates(alloc)?;
         self.due_of(alloc, &events)
@@ -140,7 +140,7 @@ impl<B: Layered> Journaled<B> {
 impl<B: Layered> Resting<B> {
     /// The requests in flight, in the order in which they were accepted: 64 at most.
     pub fn flights(&self) -> &[Flight]
-        ensures is { result.now ≡ self.now.events.flights }
+        ensures is { result.now ≡ self.now.rested.events.flights }
         ensures few { length result.now ≤ 64 }
     {
         self.volume.flights()
@@ -148,8 +148,8 @@ impl<B: Layered> Resting<B> {
 
     /// The snapshots, in order of attaching, without the one that is being merged. All that commands see is what these events show.
     pub fn snaps(&self) -> &[Snapshot<B>]
-        ensures is { result.now ≡ self.now.events.snaps }
-        ensures whole { IsWhole self.now }
+        ensures is { result.now ≡ self.now.rested.events.snaps }
+        ensures whole { IsWhole self.now.rested }
     {
         self.volume.snaps()
     }
@@ -157,8 +157,8 @@ impl<B: Layered> Resting<B> {
     /// The events that are due, all of them: those of each snapshot, in order of attaching, then of the requests, in the order in
     /// which they were accepted, and at last of the merge.
     pub fn due_events(&self, alloc: Global) -> Result<Vec<Event>, AllocError>
-        ensures are { IfOk result (λ events. events.items ≡ due_among B.contents B.layers self.now.events) }
-        ensures all { IfOk result (λ events. IsAllDue B.contents B.layers self.now.events events.items) }
+        ensures are { IfOk result (λ events. events.items ≡ due_among B.contents B.layers self.now.rested.events) }
+        ensures all { IfOk result (λ events. IsAllDue B.contents B.layers self.now.rested.events events.items) }
     {
         self.volume.due_events(alloc)
     }

@@ -28,7 +28,6 @@ pub mod Composing
 pub mod Overflowing
 pub mod Submitting
 pub mod Attaching
-pub mod Showing
 pub mod Due
 pub mod Quiet
 pub mod Left

@@ -12,6 +12,5 @@ pub mod MergeDue
 pub mod Waits
 pub mod MergeWaits
 pub mod MergeSteps
-pub mod Shape
 pub mod Accepting
 pub mod MergeRooms

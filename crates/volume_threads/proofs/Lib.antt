@@ -5,6 +5,8 @@ mod Parts
 mod Rows
 mod Begun
 mod Counting
+mod Submitted
+mod Merging
 pub mod Stays
 pub mod Doing
 pub mod Reading

@@ -5,6 +5,8 @@ use Rattle.journal.specs.declared.entry.Entry.{Entry}
 use Rattle.journal.specs.Books.{AuditShape}
 use Rattle.journal.specs.Entries.{entries_by}
 use Rattle.locked_volume.specs.Fixed.{StaysFrom, fixed_of}
+use Rattle.locked_volume.specs.AskedFor.{AddsAskedFor}
+use Rattle.volume_threads.specs.Tasks.{merges_among}
 use Rattle.volume_threads.specs.declared.task.Task.{Task}
 
 -- Each is in its place, with no request in flight, and has stayed as it was but for a merge that began. Its journal begins
@@ -14,6 +16,10 @@ pub record AreLeft {B : Type 0} (size : B → ℕ) (layers : B → List Layer) (
   pub quiet : (k : ℕ) (d : AuditShape B) → k < length new → (slice_index_or new k d).held ≡ []
   pub stays : (k : ℕ) (d : AuditShape B) → k < length new → StaysFrom (fixed_of size layers (slice_index_or old k d)) (fixed_of size layers (slice_index_or new k d))
   pub grows : (k : ℕ) (d : AuditShape B) → k < length new → (more : List Entry) × ((slice_index_or new k d).entries ≡ (slice_index_or old k d).entries ++ more)
+
+-- Each journal has behind the entries that it had only what these tasks may ask for.
+abbrev pub AllAddAskedFor : {B : Type 0} → (ℕ → List Task) → List (AuditShape B) → List (AuditShape B) → Type 0
+AllAddAskedFor {B = B} tasks old new = (k : ℕ) (d : AuditShape B) → k < length old → AddsAskedFor (merges_among tasks k) (slice_index_or old k d).entries (slice_index_or new k d).entries
 
 -- No task of a seat was begun, and no seat, of 1 to 8, has an entry more.
 pub record NothingRan {B : Type 0} (old new : List (AuditShape B)) (asked told : ℕ → List Task) : Type 0 where

@@ -1,5 +1,6 @@
 -- What a seat's tasks answer, by the receipts of its calls. This project's own.
-use Rattle.std.specs.Prelude.{◌≡◌, ◌⊎◌, ◌<◌, ◌≤◌, ℕ, List, [], ◌∷◌, Option, None, Some, drop, length, map, slice_index_or, take}
+use Rattle.std.specs.Prelude.{◌≡◌, ◌⊎◌, ◌==◌, ◌&&◌, ◌<◌, ◌≤◌, ℕ, Bool, true, false, List, [], ◌∷◌, Option, None, Some, drop, length, map, slice_index_or, take}
+use Rattle.std.specs.List.{list_any, range_with_len}
 use Rattle.std.specs.Global.{Vec}
 use Rattle.chunk.specs.Pieces.{span_of}
 use Rattle.sector.specs.declared.range.Range.{Range}
@@ -19,6 +20,26 @@ use Rattle.volume_threads.specs.Served.{IsReadBy, IsReadCut, IsWriteCut, IsWritt
 use Rattle.volume_threads.specs.declared.task.Job.{Job}
 use Rattle.volume_threads.specs.declared.task.Job.TheVariants.{Read, Write, Merge, RefusedRead, Refused}
 use Rattle.volume_threads.specs.declared.task.Task.{Task}
+
+-- whether a job merges the snapshot with a number of a volume
+abbrev pub is_merge_of : ℕ → ℕ → Job → Bool
+is_merge_of volume number (Read v dev range) = false
+is_merge_of volume number (Write v dev range bytes) = false
+is_merge_of volume number (Merge v snap) = v == volume && snap == number
+is_merge_of volume number (RefusedRead refusal) = false
+is_merge_of volume number (Refused refusal) = false
+
+abbrev pub is_merge_in : ℕ → ℕ → Option Job → Bool
+is_merge_in volume number None = false
+is_merge_in volume number (Some job) = is_merge_of volume number job
+
+-- Whether one of these tasks does: those of seat 1 are at place 0, and so on.
+abbrev pub merges_among : (ℕ → List Task) → ℕ → ℕ → Bool
+merges_among tasks volume number = list_any (λ i. list_any (λ task. is_merge_in volume number task.job) (tasks i)) (range_with_len 0 8)
+
+-- What a task merges may be merged.
+abbrev pub MayMerge : (ℕ → ℕ → Bool) → Task → Type 0
+MayMerge merges task = (volume number : ℕ) → is_merge_in volume number task.job ≡ true → merges volume number ≡ true
 
 -- no receipts of any volume
 abbrev pub IsNew : SeatShape → Type 0

@@ -1,5 +1,5 @@
 // What a seat asks of the volumes of a rig.
-ghost use Rattle.std.specs.Prelude.{◌≡◌, ◌≢◌, ◌*◌, ◌<◌, ◌∷◌, ◌++◌, ℕ, List, [], length, IfOk, IfErr, OnOk};
+ghost use Rattle.std.specs.Prelude.{◌≡◌, ◌≢◌, ◌*◌, ◌<◌, ◌∷◌, ◌++◌, ℕ, true, List, [], length, IfOk, IfErr, OnOk};
 ghost use Rattle.chunk.specs.Pieces.{span_of};
 ghost use Rattle.plain.specs.declared.request.Op.TheVariants.{Flush, Read, Write};
 ghost use Rattle.plain.specs.declared.request.Reply.TheVariants.{Data, Written};
@@ -218,7 +218,7 @@ impl<J: Room> Seat<J> {
         self.write_all(rt, rig, volume, dev, range, bytes.as_slice())
     }
 
-    /// Merges a snapshot into its origin: begins the merge once the volume is quiet, and works until it can be finished or has
+    /// Merges a snapshot that a seat may merge into its origin: begins the merge once the volume is quiet, and works until it can be finished or has
     /// stopped at a fault. That it began is an entry of the journal, which the seat had not seen before and has seen then; it is
     /// refused by what the entries that it has seen and what stays of the volume say.
     pub fn merge<B: Layered, G: Gate + Drop, R: Wait>(
@@ -229,6 +229,7 @@ impl<J: Room> Seat<J> {
         snap: SnapId,
     ) -> Result<(), Refusal>
         requires volume { volume < J.volumes }
+        requires asked { J.merges volume snap ≡ true }
         ensures added { HasAdded volume [] self.old self.new }
         ensures begun { OnOk result (WasBegun snap (seen_at self.old volume) (seen_at self.new volume)) }
         ensures denied { IfErr result (λ refusal. WasDenied (J.start volume) (J.fixed volume) (seen_at self.new volume) (Begin snap) refusal) }
@@ -251,6 +252,7 @@ fn begin_merge<B: Layered, J: Room, R: Wait>(
     snap: SnapId,
 ) -> Result<(), Refusal>
     requires volume { sitting.old.volume ≡ place.now.volume }
+    requires asked { J.merges sitting.old.volume snap ≡ true }
     ensures seat { IsSameSitting sitting.old sitting.new }
     ensures begun { OnOk result (WasBegun snap sitting.old.seen sitting.new.seen) }
     ensures denied { IfErr result (λ refusal. WasDenied (J.start sitting.old.volume) (J.fixed sitting.old.volume) sitting.new.seen (Begin snap) refusal) }

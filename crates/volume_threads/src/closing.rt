@@ -2,6 +2,7 @@
 ghost use Rattle.std.specs.Prelude.{◌≡◌, ◌<◌, ◌++◌, ℕ, List, [], length, slice_index_or};
 ghost use Rattle.journal.specs.declared.entry.Entry.{Entry};
 ghost use Rattle.journal.specs.Books.{AuditShape};
+ghost use Rattle.locked_volume.specs.AskedFor.{AddsAskedFor};
 ghost use Rattle.locked_volume.specs.Beside.{IsBeside};
 ghost use Rattle.locked_volume.specs.Fixed.{StaysFrom, fixed_of};
 ghost use Rattle.volume_threads.specs.Rigs.{IsSettledAt, SeatShape};
@@ -70,6 +71,7 @@ fn close_one<B: Layered, J: Room, R: Wait>(
     ensures quiet { result.held ≡ [] }
     ensures stays { StaysFrom (J.fixed place.volume) (fixed_of B.size B.layers result) }
     ensures grows { (more : List Entry) × (result.entries ≡ J.start place.volume ++ more) }
+    ensures asked { AddsAskedFor (J.merges place.volume) (J.start place.volume) result.entries }
     ensures seats { seats.new ≡ seats.old }
     ensures settled { (i : ℕ) (s : SeatShape) → i < length seats.new → IsSettledAt (J.start place.volume) result place.volume (slice_index_or seats.new i s) }
 {
@@ -86,7 +88,8 @@ fn close_one<B: Layered, J: Room, R: Wait>(
 }
 
 impl<B: Layered + Drop, G: Gate + Drop, J: Room> Rig<B, G, J> {
-    /// Gives the audits back, in their order. A journal begins with the entries that it had when the rig was made, and each
+    /// Gives the audits back, in their order. A journal begins with the entries that it had when the rig was made, each of the
+    /// others is one that was asked for, and each
     /// seat's receipts of the volume are its entries after those, in their order, and there are as many; each one's count is the
     /// place of its entry among the seat's, so that the audit's `check` agrees with it.
     pub fn close<R: Wait>(
@@ -99,6 +102,7 @@ impl<B: Layered + Drop, G: Gate + Drop, J: Room> Rig<B, G, J> {
         ensures quiet { (k : ℕ) (d : AuditShape B) → k < J.volumes → (slice_index_or result.items k d).held ≡ [] }
         ensures stays { (k : ℕ) (d : AuditShape B) → k < J.volumes → StaysFrom (J.fixed k) (fixed_of B.size B.layers (slice_index_or result.items k d)) }
         ensures grows { (k : ℕ) (d : AuditShape B) → k < J.volumes → (more : List Entry) × ((slice_index_or result.items k d).entries ≡ J.start k ++ more) }
+        ensures asked { (k : ℕ) (d : AuditShape B) → k < J.volumes → AddsAskedFor (J.merges k) (J.start k) (slice_index_or result.items k d).entries }
         ensures seats { seats.new ≡ seats.old }
         ensures settled { (k : ℕ) (d : AuditShape B) (i : ℕ) (s : SeatShape) → k < J.volumes → i < length seats.new → IsSettledAt (J.start k) (slice_index_or result.items k d) k (slice_index_or seats.new i s) }
     {

@@ -2,7 +2,7 @@
 ghost use Rattle.std.specs.Prelude.{◌≡◌, ◌≢◌, ◌+◌, ◌<◌, ◌≤◌, ℕ, [], length, slice_index_or, vec_capacity};
 ghost use Rattle.std.specs.List.{All};
 ghost use Rattle.volume_threads.specs.Rigs.{AreNewSeats, SeatShape};
-ghost use Rattle.volume_threads.specs.Tasks.{IsEnded, IsNew, denied_of, pieces_at, tasks_at};
+ghost use Rattle.volume_threads.specs.Tasks.{IsEnded, IsNew, MayMerge, denied_of, pieces_at, tasks_at};
 
 use crate::plan::Plan;
 use crate::seat_run::SeatRun;
@@ -44,6 +44,7 @@ pub(crate) fn begin_all<J: Plan>(
 )
     requires seats { AreNewSeats 8 seats.items }
     requires plan { (i : ℕ) → J.tasks (i + 1) ≡ tasks_at tasks.old.items i }
+    requires asked { (i : ℕ) → i < 8 → All (MayMerge J.merges) (tasks_at tasks.old.items i) }
     requires room { (runs.old.items ≡ []) × (8 ≤ vec_capacity runs.old) }
     ensures many { length tasks.new.items ≡ length tasks.old.items }
     ensures others { (i : ℕ) → 8 ≤ i → tasks_at tasks.new.items i ≡ tasks_at tasks.old.items i }

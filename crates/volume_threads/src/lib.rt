@@ -12,7 +12,7 @@
 //!
 //! Of `run_seats` it promises that each volume comes back with no request in flight, with the snapshots that it had, but that a merge of
 //! one of them may have begun, and that its devices drop no more writes than before; that its journal goes on from the entries that it
-//! had; and that each task of a seat comes back in its place, the first of them done in their order, each answer made of the receipts of
+//! had, with what the tasks ask for and what the volume notes itself alone; and that each task of a seat comes back in its place, the first of them done in their order, each answer made of the receipts of
 //! its call. In which lawful order the seats' calls come is decided by the threads.
 //!
 //! Nothing is promised of waiting: not that a call ever returns, that a waiting thread is woken, that a worker ever runs, that

@@ -26,7 +26,7 @@ pub(crate) fn perform<B: Layered, J: Room, R: Wait>(
     request: Request,
 ) -> Result<Reply, Refusal>
     requires volume { sitting.old.volume ≡ place.now.volume }
-    requires few { sitting.old.seat < 9 }
+    requires few { (0 < sitting.old.seat) × (sitting.old.seat < 9) }
     requires idle { sitting.old.waits ≡ [] }
     requires plain { request.op ≢ Flush }
     requires bytes { (bytes : List ℕ) → request.op ≡ Write bytes → length bytes ≡ 512 * request.range.count }

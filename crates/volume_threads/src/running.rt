@@ -1,12 +1,12 @@
 // Seats and workers have threads.
-ghost use Rattle.std.specs.Prelude.{◌≡◌, ◌+◌, ◌<◌, ◌≤◌, ℕ, [], false, length, slice_index_or, IfErr, IfOk};
+ghost use Rattle.std.specs.Prelude.{◌≡◌, ◌+◌, ◌<◌, ◌≤◌, ℕ, [], false, length, slice_index_or, IfErr, IfOk, MatchResult};
 ghost use Rattle.std.specs.List.{All};
 ghost use denote.Param.Send.{IsSend, IsSync};
 ghost use Rattle.sector.specs.declared.refusal.Refusal.TheVariants.{NoMemory};
 ghost use Rattle.journal.specs.Books.{AuditShape};
 ghost use Rattle.volume_threads.specs.Rigs.{IsRoomOf};
-ghost use Rattle.volume_threads.specs.Left.{AreLeft, NothingRan};
-ghost use Rattle.volume_threads.specs.Tasks.{AreTold, tasks_at};
+ghost use Rattle.volume_threads.specs.Left.{AllAddAskedFor, AreLeft, NothingRan};
+ghost use Rattle.volume_threads.specs.Tasks.{AreTold, merges_among, tasks_at};
 
 use crate::giving::{begin_all, end_all};
 use crate::hold::{Hold, HoldGate};
@@ -165,11 +165,13 @@ where
     requires few { workers < 5 }
     requires room { IsRoomOf B.size B.layers audits.items opened J.volumes J.history J.boards J.start J.queue J.fixed }
     requires plan { (i : ℕ) → J.tasks (i + 1) ≡ tasks_at tasks.old.items i }
+    requires merges { J.merges ≡ merges_among (tasks_at tasks.old.items) }
     requires quiet { (k : ℕ) (d : AuditShape B) → k < length audits.items → (slice_index_or audits.items k d).held ≡ [] }
     ensures ok { IfOk result (λ after. AreLeft B.size B.layers audits.items after.items) }
     ensures err { IfErr result (λ e. (e.0 ≡ NoMemory) × AreLeft B.size B.layers audits.items e.1.items) }
     ensures spared { IfErr result (λ e. NothingRan audits.items e.1.items (tasks_at tasks.old.items) (tasks_at tasks.new.items)) }
     ensures told { IfOk result (λ after. (i : ℕ) → i < 8 → i < length tasks.old.items → AreTold B.size B.layers audits.items after.items (i + 1) (tasks_at tasks.old.items i) (tasks_at tasks.new.items i)) }
+    ensures asked { MatchResult result (λ after. AllAddAskedFor (tasks_at tasks.old.items) audits.items after.items) (λ e. AllAddAskedFor (tasks_at tasks.old.items) audits.items e.1.items) }
     ensures others { (length tasks.new.items ≡ length tasks.old.items) × ((i : ℕ) → 8 ≤ i → tasks_at tasks.new.items i ≡ tasks_at tasks.old.items i) }
 {
     let volumes = audits.len();
@@ -205,7 +207,7 @@ where
 /// Runs the tasks of up to eight seats, each seat's in their order on a thread of its own, all seats at once, with so many
 /// workers for the copies, on threads of their own too. The volumes come back in their order, and so do the tasks: of those of
 /// a seat the first are done, in their order, each answered by the receipts of one call, which are the seat's entries in the
-/// journals. `NoMemory` where there is no memory for what the threads share, or a worker can't be started; then no task was
+/// journals. What else these have is a merge that one of the tasks asks for, or what the volumes note themselves. `NoMemory` where there is no memory for what the threads share, or a worker can't be started; then no task was
 /// done.
 pub fn run_seats<B, R>(
     rt: &R,
@@ -224,6 +226,7 @@ where
     ensures err { IfErr result (λ e. (e.0 ≡ NoMemory) × AreLeft B.size B.layers audits.items e.1.items) }
     ensures spared { IfErr result (λ e. NothingRan audits.items e.1.items (tasks_at tasks.old.items) (tasks_at tasks.new.items)) }
     ensures told { IfOk result (λ after. (i : ℕ) → i < 8 → i < length tasks.old.items → AreTold B.size B.layers audits.items after.items (i + 1) (tasks_at tasks.old.items i) (tasks_at tasks.new.items i)) }
+    ensures asked { MatchResult result (λ after. AllAddAskedFor (tasks_at tasks.old.items) audits.items after.items) (λ e. AllAddAskedFor (tasks_at tasks.old.items) audits.items e.1.items) }
     ensures others { (length tasks.new.items ≡ length tasks.old.items) × ((i : ℕ) → 8 ≤ i → tasks_at tasks.new.items i ≡ tasks_at tasks.old.items i) }
 {
     let Ok(opened) = Opened::new(alloc, audits.len()) else {

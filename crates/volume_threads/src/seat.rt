@@ -27,5 +27,5 @@ impl<J: Room> Model for Seat<J> {
 
     ghost view = { λ s. record { number = s.number; sittings = s.sittings.items; watches = s.watches.items } };
 
-    ghost invariant = { λ s. (s.number < 9) × (length s.sittings.items ≡ J.volumes) × AreIdle s.number s.sittings.items × AreWatching J.boards J.volumes s.watches.items };
+    ghost invariant = { λ s. (s.number < 9) × (length s.sittings.items ≡ J.volumes) × AreIdle s.number s.sittings.items × AreWatching J.boards J.volumes s.watches.items × (0 < s.number) };
 }

@@ -1,6 +1,7 @@
 // A seat at its tasks.
 ghost use Rattle.std.specs.Prelude.{◌≡◌, true};
-ghost use Rattle.volume_threads.specs.Tasks.{AreUnderWay, IsEnded, IsNew, IsUnbegun, denied_of, pieces_at};
+ghost use Rattle.std.specs.List.{All};
+ghost use Rattle.volume_threads.specs.Tasks.{AreUnderWay, IsEnded, IsNew, IsUnbegun, MayMerge, denied_of, pieces_at};
 
 use crate::Seat;
 use crate::plan::Plan;
@@ -16,6 +17,7 @@ pub struct SeatRun<J: Plan> {
     pub(crate) tasks: Vec<Task>,
     pub(crate) done: usize,
     ghost told: { AreUnderWay (denied_of J.start J.fixed) (pieces_at J.fixed) (J.tasks seat.number) tasks.items done seat },
+    ghost asked: { All (MayMerge J.merges) tasks.items },
 }
 
 impl<J: Plan> SeatRun<J> {
@@ -23,6 +25,7 @@ impl<J: Plan> SeatRun<J> {
     pub(crate) fn new(alloc: Global, seat: Seat<J>, tasks: Vec<Task>) -> SeatRun<J>
         requires tasks { tasks.items ≡ J.tasks seat.number }
         requires new { IsNew seat }
+        requires asked { All (MayMerge J.merges) tasks.items }
         ensures { result.done ≡ 0 }
     {
         SeatRun {

@@ -1,6 +1,6 @@
 // What the thread of a seat does.
-ghost use Rattle.std.specs.Prelude.{◌≡◌, ◌*◌, ◌<◌, length};
-ghost use Rattle.volume_threads.specs.Tasks.{IsCall, IsDone, IsMergedAs, IsReadAs, IsWrittenAs, denied_of, pieces_at};
+ghost use Rattle.std.specs.Prelude.{◌≡◌, ◌*◌, ◌<◌, ℕ, length, true};
+ghost use Rattle.volume_threads.specs.Tasks.{IsCall, IsDone, IsMergedAs, IsReadAs, IsWrittenAs, MayMerge, denied_of, is_merge_of, pieces_at};
 
 use crate::hold::Hold;
 use crate::plan::Plan;
@@ -85,7 +85,8 @@ fn merge<B: Layered, G: Gate + Drop, J: Room, R: Wait>(
     volume: usize,
     snap: SnapId,
 ) -> SeatAnswer
-    requires { volume < J.volumes }
+    requires volume { volume < J.volumes }
+    requires asked { J.merges volume snap ≡ true }
     ensures { IsMergedAs (denied_of J.start J.fixed) (pieces_at J.fixed) volume snap result seat.old seat.new }
 {
     match seat.merge(rt, rig, volume, snap) {
@@ -104,7 +105,8 @@ fn answer<B: Layered, G: Gate + Drop, J: Room, R: Wait>(
     hold: &Hold,
     job: Job,
 ) -> SeatAnswer
-    requires { volumes ≡ J.volumes }
+    requires volumes { volumes ≡ J.volumes }
+    requires asked { (volume number : ℕ) → is_merge_of volume number job ≡ true → J.merges volume number ≡ true }
     ensures { IsCall (denied_of J.start J.fixed) (pieces_at J.fixed) job result seat.old seat.new }
 {
     match job {
@@ -145,7 +147,8 @@ fn perform<B: Layered, G: Gate + Drop, J: Room, R: Wait>(
     hold: &Hold,
     task: &mut Task,
 )
-    requires { volumes ≡ J.volumes }
+    requires volumes { volumes ≡ J.volumes }
+    requires asked { MayMerge J.merges task.old }
     ensures { IsDone (denied_of J.start J.fixed) (pieces_at J.fixed) task.old task.new seat.old seat.new }
 {
     if let Some(job) = task.job.take() {

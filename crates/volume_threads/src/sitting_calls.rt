@@ -1,5 +1,5 @@
 // What a seat does at one volume, under its lock.
-ghost use Rattle.std.specs.Prelude.{◌≡◌, ◌≢◌, ◌+◌, ◌*◌, ◌<◌, ◌++◌, ◌∷◌, ℕ, List, [], length, map, slice_index_or, IfErr, IfOk, IfSome, IfNone, MatchResult, OnErr, OnOk};
+ghost use Rattle.std.specs.Prelude.{◌≡◌, ◌≢◌, ◌+◌, ◌*◌, ◌<◌, ◌++◌, ◌∷◌, ℕ, true, List, [], length, map, slice_index_or, IfErr, IfOk, IfSome, IfNone, MatchResult, OnErr, OnOk};
 ghost use Rattle.plain.specs.declared.request.Op.TheVariants.{Flush, Write};
 ghost use Rattle.journal.specs.Entries.{answered_of, entries_by};
 ghost use Rattle.journal.specs.Seats.{Seated};
@@ -83,6 +83,7 @@ impl<J: Room> Sitting<J> {
     ) -> Option<Reply>
         requires beside { IsBeside (J.history post.old.volume) (J.boards post.old.volume) beside.now }
         requires volume { post.old.volume ≡ self.old.volume }
+        requires few { (0 < self.old.seat) × (self.old.seat < 9) }
         requires room { length self.old.receipts < self.old.room }
         requires one { (x : Seated) × (self.old.waits ≡ x ∷ []) }
         ensures post { post.new.volume ≡ post.old.volume }
@@ -102,7 +103,7 @@ impl<J: Room> Sitting<J> {
         }
     }
 
-    /// Begins a merge for this seat.
+    /// Begins a merge for this seat, which may ask for it.
     pub(crate) fn begin_merge<B: Layered>(
         &mut self,
         post: &mut Post<B, J>,
@@ -111,6 +112,7 @@ impl<J: Room> Sitting<J> {
     ) -> Result<(), Refusal>
         requires beside { IsBeside (J.history post.old.volume) (J.boards post.old.volume) beside.now }
         requires volume { post.old.volume ≡ self.old.volume }
+        requires asked { J.merges self.old.volume number ≡ true }
         ensures post { post.new.volume ≡ post.old.volume }
         ensures seat { IsSameSitting self.old self.new }
         ensures begun { OnOk result (WasBegun number self.old.seen self.new.seen) }

@@ -1,5 +1,5 @@
 // What a seat or a worker does while it holds a volume's lock once.
-ghost use Rattle.std.specs.Prelude.{◌≡◌, ◌≢◌, ◌*◌, ◌<◌, ◌∷◌, ℕ, List, [], length, IfErr, IfSome, IfNone, MatchOption, MatchResult, OnOk};
+ghost use Rattle.std.specs.Prelude.{◌≡◌, ◌≢◌, ◌*◌, ◌<◌, ◌∷◌, ℕ, true, List, [], length, IfErr, IfSome, IfNone, MatchOption, MatchResult, OnOk};
 ghost use Rattle.std.specs.Sync.Mutex.{mutex_guard_value};
 ghost use Rattle.plain.specs.declared.event.Event.TheVariants.{Issue};
 ghost use Rattle.plain.specs.declared.request.Op.TheVariants.{Flush, Write};
@@ -43,7 +43,7 @@ fn make<B: Layered, J: Room>(
 ) -> Result<(ReqId, Option<Reply>), Refusal>
     requires post { post.old.volume ≡ place.now.volume }
     requires volume { sitting.old.volume ≡ place.now.volume }
-    requires few { sitting.old.seat < 9 }
+    requires few { (0 < sitting.old.seat) × (sitting.old.seat < 9) }
     requires idle { sitting.old.waits ≡ [] }
     requires room { length sitting.old.receipts < sitting.old.room }
     requires plain { request.op ≢ Flush }
@@ -67,7 +67,7 @@ pub(crate) fn submit<B: Layered, J: Room, R: Wait>(
     request: Request,
 ) -> (Result<(ReqId, Option<Reply>), Refusal>, Started)
     requires volume { sitting.old.volume ≡ place.now.volume }
-    requires few { sitting.old.seat < 9 }
+    requires few { (0 < sitting.old.seat) × (sitting.old.seat < 9) }
     requires idle { sitting.old.waits ≡ [] }
     requires room { length sitting.old.receipts < sitting.old.room }
     requires plain { request.op ≢ Flush }
@@ -93,6 +93,7 @@ fn act<B: Layered, J: Room, R: Wait>(
 ) -> (Option<Reply>, bool)
     requires post { post.old.volume ≡ place.now.volume }
     requires volume { sitting.old.volume ≡ place.now.volume }
+    requires few { (0 < sitting.old.seat) × (sitting.old.seat < 9) }
     requires room { length sitting.old.receipts < sitting.old.room }
     requires one { (x : Seated) × (sitting.old.waits ≡ x ∷ []) }
     ensures some { IfSome result.0 (λ reply. (r : Receipt) × IsAnswered reply r sitting.old sitting.new) }
@@ -113,6 +114,7 @@ pub(crate) fn turn<B: Layered, J: Room, R: Wait>(
     number: ReqId,
 ) -> (Option<Reply>, Started)
     requires volume { sitting.old.volume ≡ place.now.volume }
+    requires few { (0 < sitting.old.seat) × (sitting.old.seat < 9) }
     requires room { length sitting.old.receipts < sitting.old.room }
     requires one { (x : Seated) × (sitting.old.waits ≡ x ∷ []) }
     ensures some { IfSome result.0 (λ reply. (r : Receipt) × IsAnswered reply r sitting.old sitting.new) }
@@ -139,7 +141,7 @@ pub(crate) fn copy<B: Layered, J: Room, R: Wait>(rt: &R, place: &VolumePlace<B, 
     place.moved.notify_all();
 }
 
-/// Tries to begin a merge for a seat. Where the volume is not quiet, does another event that is due, or waits until something
+/// Tries to begin a merge that a seat may ask for. Where the volume is not quiet, does another event that is due, or waits until something
 /// happened.
 pub(crate) fn begin<B: Layered, J: Room, R: Wait>(
     rt: &R,
@@ -148,6 +150,7 @@ pub(crate) fn begin<B: Layered, J: Room, R: Wait>(
     number: SnapId,
 ) -> (Result<(), Refusal>, Started)
     requires volume { sitting.old.volume ≡ place.now.volume }
+    requires asked { J.merges sitting.old.volume number ≡ true }
     ensures seat { IsSameSitting sitting.old sitting.new }
     ensures begun { OnOk result.0 (WasBegun number sitting.old.seen sitting.new.seen) }
     ensures denied { IfErr result.0 (λ refusal. refusal ≢ NotQuiet → WasDenied (J.start sitting.old.volume) (J.fixed sitting.old.volume) sitting.new.seen (Begin number) refusal) }

@@ -4,7 +4,7 @@ use Rattle.std.specs.Option.{option_to_list}
 use Rattle.command_rules.specs.State.{Volume}
 use Rattle.volume_threads.specs.Tasks.{tasks_at}
 use Rattle.block_run.specs.declared.taking.Slot.{Slot}
-use Rattle.block_run.proofs.Ends.{made_played, made_run, made_told}
+use Rattle.block_run.proofs.Ends.{made_asked, made_played, made_run, made_told}
 use Rattle.block_run.proofs.Made.{uses_of}
 use Rattle.block_run.proofs.Runs.{none_run}
 use Rattle.block_run.specs.Spared.{AreSpared}
@@ -31,6 +31,7 @@ loop-slot-init g c = let none = ap length c.take_all.ensures.empty in record {
     first_left c.args.used.now c.args.held.now.volumes.items c.take_all.new.audits.items c.run-audits.result.0.items c.take_all.new.slots.items c.take_all.new.volumes.items c.take_all.ensures.empty c.take_all.ensures.slots c.run-audits.ensures.left,
     c.run-audits.ensures.told,
     c.run-audits.ensures.spared,
+    c.run-audits.ensures.asked,
   );
 }
 
@@ -55,7 +56,7 @@ loop-slot-preserved g c =
     record {
       stacks = c.loop-slot.invariant.stacks;
       room = omega (arith, c.loop-slot.invariant.room, c.in-Some.ensures.cases, c.push_reserved.ensures.len, c.push_reserved.ensures.capacity);
-      left = (befores, subst (λ (l : List Volume). AreLeft c.args.used.now olds befores afters c.pop.new.self.items c.put_back.new.audits.items l) (sym c.push_reserved.ensures.items) left, c.loop-slot.invariant.left.2, c.loop-slot.invariant.left.3);
+      left = (befores, subst (λ (l : List Volume). AreLeft c.args.used.now olds befores afters c.pop.new.self.items c.put_back.new.audits.items l) (sym c.push_reserved.ensures.items) left, c.loop-slot.invariant.left.2, c.loop-slot.invariant.left.3, c.loop-slot.invariant.left.4);
     }
 
 pub returns-then-ran-clause-volumes : goal.returns-then-ran-clause-volumes
@@ -76,6 +77,7 @@ returns-then-ran-clause-played g c =
       made.0,
       made_played c.args.used.now befores afters made.0 olds c.loop-slot.held.volumes.items made.1 all,
       made_told c.args.used.now befores afters made.0 olds c.loop-slot.held.volumes.items (tasks_at c.args.tasks.now.items) (tasks_at c.run-audits.new.tasks.items) made.1 (c.loop-slot.invariant.left.2 c.if-ran.true),
+      made_asked c.args.used.now befores afters made.0 olds c.loop-slot.held.volumes.items (tasks_at c.args.tasks.now.items) made.1 (c.loop-slot.invariant.left.4 c.if-ran.true),
     )
 
 pub returns-clause-volumes : goal.returns-clause-volumes

@@ -3,6 +3,7 @@ use Rattle.std.proofs.Common.{◌≡◌, ◌+◌, ◌<◌, ◌≤◌, ℕ, List,
 use Rattle.layers.specs.declared.stack.Stack.{Stack}
 use Rattle.layers.specs.Stack.{stack_layers, stack_size}
 use Rattle.journal.specs.Books.{AuditShape}
+use Rattle.volume_threads.specs.Left.{AllAddAskedFor}
 use Rattle.volume_threads.specs.Tasks.{AreTold, tasks_at}
 use Rattle.block_run.specs.Spared.{NoneAdded}
 use Rattle.block_run.proofs.Slots.{AreLeft}
@@ -14,7 +15,8 @@ invariant-loop-slot g l = record {
   room : vec_len l.held.volumes + vec_len l.slots ≤ vec_capacity l.held.volumes;
   left : (befores : List (AuditShape Stack)) × AreLeft l.used l.fn.held.volumes.items befores l.initial.audits.items l.slots.items l.audits.items l.held.volumes.items
       × (l.ran ≡ true → (i : ℕ) → i < 8 → AreTold stack_size stack_layers befores l.initial.audits.items (i + 1) (tasks_at l.fn.tasks.items i) (tasks_at l.tasks.items i))
-      × (l.ran ≡ false → NoneAdded befores l.initial.audits.items);
+      × (l.ran ≡ false → NoneAdded befores l.initial.audits.items)
+      × (l.ran ≡ true → AllAddAskedFor (tasks_at l.fn.tasks.items) befores l.initial.audits.items);
 }
 
 abbrev pub decreases-loop-slot : goal.decreases-loop-slot

@@ -31,3 +31,6 @@ returns-then-len-many-clause-spared g c missed = none_added c.args.audits.items
 
 pub returns-in-Err-clause-spared : goal.returns-in-Err-clause-spared
 returns-in-Err-clause-spared g c missed = c.in-Err.ensures.spared.entries
+
+pub returns-in-Ok-clause-asked : goal.returns-in-Ok-clause-asked
+returns-in-Ok-clause-asked g c ran = c.in-Ok.ensures.asked

@@ -23,6 +23,7 @@ returns-clause-told g c =
         told = tasks_at c.at_once.new.tasks.items;
         opened = c.opened.result;
         ended = played.2;
+        for_tasks = played.3;
         replies_are = c.tell_gate.ensures.told ∙ ap (λ (l : List CommandReply). l ++ gate_replies c.args.ticket c.opened.result) c.tell_seats.ensures.told;
       },
     )

@@ -15,18 +15,18 @@ rest-requires g c = record { none = c.requires.2.left.held }
 
 pub of_parts-requires-clause-fits : goal.of_parts-requires-clause-fits
 of_parts-requires-clause-fits g c =
-    fits c.requires.0 c.args.parts c.args.audit c.requires.1 c.of_audit.result c.requires.2 (subst (λ (v : Rested Stack). KeepsDevices stack_layers stack_size (rested_of c.args.audit.volume) v) (sym c.of_audit.ensures) c.rest.ensures.rested.kept)
+    fits c.requires.0 c.args.parts c.args.audit c.requires.1 c.of_audit.result.rested c.requires.2 (subst (λ (v : Rested Stack). KeepsDevices stack_layers stack_size (rested_of c.args.audit.volume) v) (sym c.of_audit.ensures.rested) c.rest.ensures.rested.kept)
 
 pub of_parts-requires-clause-loud : goal.of_parts-requires-clause-loud
 of_parts-requires-clause-loud g c =
-    loud c.requires.0 c.args.parts c.args.audit c.requires.1 c.of_audit.result c.requires.2 (subst (λ (v : Rested Stack). KeepsDevices stack_layers stack_size (rested_of c.args.audit.volume) v) (sym c.of_audit.ensures) c.rest.ensures.rested.kept)
+    loud c.requires.0 c.args.parts c.args.audit c.requires.1 c.of_audit.result.rested c.requires.2 (subst (λ (v : Rested Stack). KeepsDevices stack_layers stack_size (rested_of c.args.audit.volume) v) (sym c.of_audit.ensures.rested) c.rest.ensures.rested.kept)
 
 pub returns : goal.returns
 returns g c before old back =
     let p = c.args.parts in
     let result = c.of_parts.result in
     let rested = c.rest.new.audit in
-    let is = c.of_audit.ensures in
+    let is = c.of_audit.ensures.rested in
     let kept = c.rest.ensures.rested.kept in
     let all = subst (λ (v : Rested Stack). HasAll p v → result ≡ named_with (with_requests v.requests p) v) is c.of_parts.ensures.same in
     let begun = subst (λ (v : Rested Stack). HasBegun p v → result ≡ named_with (with_requests v.requests (with_begun (place_begun v) p)) v) is c.of_parts.ensures.begun in

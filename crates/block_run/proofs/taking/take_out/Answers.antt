@@ -3,6 +3,7 @@ use Rattle.std.proofs.Common.{◌≡◌, ◌∙◌, ap, inl, refl, subst, sym}
 use Rattle.layers.specs.declared.stack.Stack.{Stack}
 use Rattle.layers.specs.Stack.{stack_layers}
 use Rattle.volume.specs.Volumed.{Volumed}
+use Rattle.volume_commands.specs.Recorded.{Recorded}
 use Rattle.volume_commands.specs.Rested.{Rested, is_loud_in, rested_of}
 use Rattle.named_volume.specs.Parting.{HasAll, IsParted, named_with}
 use Rattle.block_run.proofs.Backs.{loud_is}
@@ -10,21 +11,21 @@ use Rattle.block_run.proofs.Outs.{as_it_was, idle}
 use Rattle.block_run.proofs.taking.take_out.Goals as goal
 
 pub into_audit-requires : goal.into_audit-requires
-into_audit-requires c = record { quiet = idle c.into_parts-parts.result.0 c.into_parts-parts.result.1 c.args.volume c.into_parts-parts.ensures.named c.requires.quiet }
+into_audit-requires c = record { quiet = idle c.into_parts-parts.result.0 c.into_parts-parts.result.1.rested c.args.volume c.into_parts-parts.ensures.named c.requires.quiet }
 
 pub of_parts-requires-clause-fits : goal.of_parts-requires-clause-fits
-of_parts-requires-clause-fits c = inl (subst (HasAll c.into_parts-parts.result.0) (sym c.in-Err.ensures.err.1) c.into_parts-parts.ensures.parted.all)
+of_parts-requires-clause-fits c = inl (subst (HasAll c.into_parts-parts.result.0) (sym (ap (λ (r : Recorded Stack). r.rested) c.in-Err.ensures.err.1)) c.into_parts-parts.ensures.parted.all)
 
 pub of_parts-requires-clause-loud : goal.of_parts-requires-clause-loud
-of_parts-requires-clause-loud c sound = ap (λ (v : Rested Stack). is_loud_in stack_layers v) c.in-Err.ensures.err.1 ∙ c.into_parts-parts.ensures.parted.loud sound
+of_parts-requires-clause-loud c sound = ap (λ (v : Rested Stack). is_loud_in stack_layers v) (ap (λ (r : Recorded Stack). r.rested) c.in-Err.ensures.err.1) ∙ c.into_parts-parts.ensures.parted.loud sound
 
 pub returns-in-Err-clause-slot : goal.returns-in-Err-clause-slot
 returns-in-Err-clause-slot c =
-    (as_it_was c.into_parts-parts.result.0 c.into_parts-parts.result.1 c.in-Err.resting c.args.volume c.of_parts.result c.in-Err.ensures.err.1 c.into_parts-parts.ensures.parted c.into_parts-parts.ensures.named c.of_parts.ensures.same, refl)
+    (as_it_was c.into_parts-parts.result.0 c.into_parts-parts.result.1.rested c.in-Err.resting.rested c.args.volume c.of_parts.result (ap (λ (r : Recorded Stack). r.rested) c.in-Err.ensures.err.1) c.into_parts-parts.ensures.parted c.into_parts-parts.ensures.named c.of_parts.ensures.same, refl)
 
 pub returns-in-Ok-clause-slot : goal.returns-in-Ok-clause-slot
 returns-in-Ok-clause-slot c =
-    let all : Rested Stack = c.into_parts-parts.result.1 in
+    let all : Rested Stack = c.into_parts-parts.result.1.rested in
     let is : rested_of c.in-Ok.audit.volume ≡ all = ap (λ (v : Volumed Stack). rested_of v) c.in-Ok.ensures.volume ∙ sym c.in-Ok.ensures.whole in (
       refl,
       c.in-Ok.audit,

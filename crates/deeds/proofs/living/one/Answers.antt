@@ -39,7 +39,7 @@ pub returns-in-Step-clause-done : goal.returns-in-Step-clause-done
 returns-in-Step-clause-done g c =
     let m : Measures g.row.B.Denot = record { contents = g.B.Block.contents; durable = g.B.Block.durable; size = g.B.Block.size; faults = g.B.Block.fault_count; done = g.B.Block.done_count } in
     subst (λ (d : Deed g.row.B.Denot). IsDone m g.B.Block.layers d (Stepped c.step.result) c.args.volume.now c.step.new.self) (sym c.in-Step.is)
-    (step_done m g.B.Block.layers g.B.Block.may_hold c.in-Step.event c.step.result c.args.volume.now c.step.new.self c.step.ensures.does c.step.ensures.due)
+    (step_done m g.B.Block.layers g.B.Block.may_hold c.in-Step.event c.step.result c.args.volume.now c.step.new.self c.step.ensures.does)
 
 pub returns-in-Step-clause-opens : goal.returns-in-Step-clause-opens
 returns-in-Step-clause-opens g c = λ loud brought.

@@ -1,5 +1,5 @@
 use Rattle.std.proofs.Common.{◌≡◌, ◌+◌, ◌≤◌, reverse, vec_capacity, vec_len}
-use Rattle.journal.specs.Books.{saves_in}
+use Rattle.journal.specs.Books.{shown_in_base}
 use Rattle.journal.specs.Inside.{AllInside, attached_count}
 use Rattle.journal.specs.Replay.{AllLawful}
 use Rattle.journal.proofs.Cut.{IsLeft}
@@ -7,7 +7,7 @@ use Rattle.journal.proofs.fold.fold_all.Given as goal
 
 abbrev pub invariant-loop-entry : goal.invariant-loop-entry
 invariant-loop-entry l =
-    (AllLawful (saves_in l.fn.base) l.fn.entries.items → AllInside (saves_in l.fn.base) l.fn.entries.items → IsLeft (saves_in l.base) (reverse l.entries.items) (saves_in l.fn.base) l.fn.entries.items)
+    (AllLawful (shown_in_base l.fn.base) l.fn.entries.items → AllInside (shown_in_base l.fn.base) l.fn.entries.items → IsLeft (shown_in_base l.base) (reverse l.entries.items) (shown_in_base l.fn.base) l.fn.entries.items)
     × (vec_len l.base.saved + attached_count l.entries.items ≤ vec_capacity l.base.saved)
     × (vec_capacity l.entries ≡ vec_capacity l.fn.entries)
 

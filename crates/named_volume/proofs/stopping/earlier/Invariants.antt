@@ -5,9 +5,9 @@ use Rattle.named_volume.proofs.stopping.earlier.Given as goal
 
 abbrev pub invariant-loop-k : goal.invariant-loop-k
 invariant-loop-k l = record {
-  so : earlier l.number (drop l.k l.volume.snaps) + l.k ≡ earlier l.number l.volume.snaps;
-  most : l.k ≤ length l.volume.snaps;
+  so : earlier l.number (drop l.k l.volume.rested.snaps) + l.k ≡ earlier l.number l.volume.rested.snaps;
+  most : l.k ≤ length l.volume.rested.snaps;
 }
 
 abbrev pub decreases-loop-k : goal.decreases-loop-k
-decreases-loop-k l = length l.volume.snaps - l.k
+decreases-loop-k l = length l.volume.rested.snaps - l.k

@@ -8,5 +8,5 @@ use Rattle.named_volume.proofs.stored.store_at.Goals as goal
 
 pub returns : goal.returns
 returns c = λ d.
-    let at = at_place c.args.volume.now c.args.k c.requires in
+    let at = at_place c.args.volume.now.rested c.args.k c.requires in
     ap device_of (c.store_at.ensures at.0 ∙ ap (λ (s : Attached Stack). s.store) (at.1.is at.0)) ∙ sym (ap (λ (s : Snap). s.store) (at.1.held d))

@@ -1,5 +1,5 @@
 -- The names are those of what was opened and of the audit.
-use Rattle.std.proofs.Common.{length}
+use Rattle.std.proofs.Common.{length, true}
 use Rattle.volume_threads.specs.Rigs.{boards_in, histories_in, start_in, fixed_in}
 use Rattle.thread_rows.proofs.watched.watched.Given as goal
 
@@ -11,4 +11,5 @@ ghosts-watched_in g a = record {
   start = start_in a.audits.items;
   queue = a.opened.queue;
   fixed = fixed_in g.B.Block.size g.B.Block.layers a.audits.items;
+  merges = λ k number. true;
 }

@@ -20,9 +20,10 @@ loop-piece-init g c = record {
   stands = subst (λ n. StandsAt n c.args.range.first (c.args.range.first + c.args.range.count) 0 c.into_iter-piece-iterator.result) c.piece.ensures.piece
       (stands_first c.piece.result (span_of c.args.range) _ _ c.pieces-piece-items.ensures.cut c.into_iter-piece-iterator.ensures.into_iter_gives);
   same = refl;
-  so = among_start g.B.Block.layers g.B.Block.size c.args.volume.now;
-  did = writes_start g.B.Block.contents g.B.Block.layers g.B.Block.fault_count g.B.Block.size c.args.dev (pieces_of (piece_with c.args.volume.now.merge c.args.volume.now.snaps) (span_of c.args.range)) c.into_iter-piece-iterator.result c.args.bytes c.args.volume.now c.args.ended.now.items
+  so = among_start g.B.Block.layers g.B.Block.size c.args.volume.now.volume;
+  did = writes_start g.B.Block.contents g.B.Block.layers g.B.Block.fault_count g.B.Block.size c.args.dev (pieces_of (piece_with c.args.volume.now.volume.merge c.args.volume.now.volume.snaps) (span_of c.args.range)) c.into_iter-piece-iterator.result c.args.bytes c.args.volume.now.volume c.args.ended.now.items
       (c.into_iter-piece-iterator.ensures.into_iter_gives ∙ c.pieces-piece-items.ensures.pieces ∙ ap (λ n. pieces_of n (span_of c.args.range)) c.piece.ensures.piece);
+  taken = omega arith;
 }
 
 pub overflow_add-to : goal.overflow_add-to
@@ -49,21 +50,21 @@ write_piece_among-requires-clause-room g c =
 
 pub returns-in-Err-clause-stopped : goal.returns-in-Err-clause-stopped
 returns-in-Err-clause-stopped g c =
-    writes_stop g.B.Block.contents g.B.Block.layers g.B.Block.fault_count g.B.Block.size c.args.dev (pieces_of (piece_with c.args.volume.now.merge c.args.volume.now.snaps) (span_of c.args.range)) c.loop-piece.piece-iterator c.next.new.self (span_of c.in-Some.piece) c.loop-piece.from c.args.bytes
+    writes_stop g.B.Block.contents g.B.Block.layers g.B.Block.fault_count g.B.Block.size c.args.dev (pieces_of (piece_with c.args.volume.now.volume.merge c.args.volume.now.volume.snaps) (span_of c.args.range)) c.loop-piece.piece-iterator c.next.new.self (span_of c.in-Some.piece) c.loop-piece.from c.args.bytes
     (take (c.loop-piece.from + c.in-Some.piece.count * 512 - c.loop-piece.from) (drop c.loop-piece.from c.loop-piece.bytes)) c.in-Err.refusal
-    c.args.volume.now c.loop-piece.volume c.write_piece_among.new.volume c.args.ended.now.items c.loop-piece.ended.items c.write_piece_among.new.ended.items c.loop-piece.invariant.did c.in-Some.ensures.steps (left_part c.loop-piece.from (c.loop-piece.from + c.in-Some.piece.count * 512) c.loop-piece.bytes c.args.bytes c.loop-piece.invariant.same) c.in-Err.ensures.failed
+    c.args.volume.now.volume c.loop-piece.volume.volume c.write_piece_among.new.volume.volume c.args.ended.now.items c.loop-piece.ended.items c.write_piece_among.new.ended.items c.loop-piece.invariant.did c.in-Some.ensures.steps (left_part c.loop-piece.from (c.loop-piece.from + c.in-Some.piece.count * 512) c.loop-piece.bytes c.args.bytes c.loop-piece.invariant.same) c.in-Err.ensures.failed
 
 pub returns-in-Err-clause-kept : goal.returns-in-Err-clause-kept
 returns-in-Err-clause-kept g c =
     let is = first_piece _ _ _ _ _ _ _ c.loop-piece.invariant.stands c.in-Some.ensures.steps in
-    (among_next g.B.Block.layers g.B.Block.size c.loop-piece.from c.in-Some.piece.count c.args.volume.now c.loop-piece.volume c.write_piece_among.new.volume c.loop-piece.invariant.so c.in-Err.ensures.kept c.in-Err.ensures.requests is.some).kept
+    (among_next g.B.Block.layers g.B.Block.size c.loop-piece.from c.in-Some.piece.count c.args.volume.now.volume c.loop-piece.volume.volume c.write_piece_among.new.volume.volume c.loop-piece.invariant.so c.in-Err.ensures.kept c.in-Err.ensures.requests is.some).kept
 
 pub returns-in-Err-clause-requests : goal.returns-in-Err-clause-requests
 returns-in-Err-clause-requests g c =
     let is = first_piece _ _ _ _ _ _ _ c.loop-piece.invariant.stands c.in-Some.ensures.steps in
     let bytes = is.bytes in
-    let more = among_next g.B.Block.layers g.B.Block.size c.loop-piece.from c.in-Some.piece.count c.args.volume.now c.loop-piece.volume c.write_piece_among.new.volume c.loop-piece.invariant.so c.in-Err.ensures.kept c.in-Err.ensures.requests is.some in
-    (among_within g.B.Block.layers g.B.Block.size (c.loop-piece.from + c.in-Some.piece.count * 512) c.args.range.count c.args.volume.now c.write_piece_among.new.volume more (omega arith))
+    let more = among_next g.B.Block.layers g.B.Block.size c.loop-piece.from c.in-Some.piece.count c.args.volume.now.volume c.loop-piece.volume.volume c.write_piece_among.new.volume.volume c.loop-piece.invariant.so c.in-Err.ensures.kept c.in-Err.ensures.requests is.some in
+    (among_within g.B.Block.layers g.B.Block.size (c.loop-piece.from + c.in-Some.piece.count * 512) c.args.range.count c.args.volume.now.volume c.write_piece_among.new.volume.volume more (omega arith))
 
 pub loop-piece-preserved : goal.loop-piece-preserved
 loop-piece-preserved g c =
@@ -73,15 +74,16 @@ loop-piece-preserved g c =
       finite = tt;
       stands = stands_next _ _ _ _ _ _ _ c.loop-piece.invariant.stands c.in-Some.ensures.steps;
       same = left_behind c.loop-piece.from (c.in-Some.piece.count * 512) c.loop-piece.bytes c.args.bytes c.write_piece_among.new.bytes c.loop-piece.invariant.same c.write_piece_among.ensures.left;
-      so = among_next g.B.Block.layers g.B.Block.size c.loop-piece.from c.in-Some.piece.count c.args.volume.now c.loop-piece.volume c.write_piece_among.new.volume c.loop-piece.invariant.so c.in-Ok.ensures.kept c.in-Ok.ensures.requests is.some;
-      did = writes_next g.B.Block.contents g.B.Block.layers g.B.Block.fault_count g.B.Block.size c.args.dev (pieces_of (piece_with c.args.volume.now.merge c.args.volume.now.snaps) (span_of c.args.range)) c.loop-piece.piece-iterator c.next.new.self (span_of c.in-Some.piece) c.loop-piece.from c.args.bytes
+      so = among_next g.B.Block.layers g.B.Block.size c.loop-piece.from c.in-Some.piece.count c.args.volume.now.volume c.loop-piece.volume.volume c.write_piece_among.new.volume.volume c.loop-piece.invariant.so c.in-Ok.ensures.kept c.in-Ok.ensures.requests is.some;
+      did = writes_next g.B.Block.contents g.B.Block.layers g.B.Block.fault_count g.B.Block.size c.args.dev (pieces_of (piece_with c.args.volume.now.volume.merge c.args.volume.now.volume.snaps) (span_of c.args.range)) c.loop-piece.piece-iterator c.next.new.self (span_of c.in-Some.piece) c.loop-piece.from c.args.bytes
           (take (c.loop-piece.from + c.in-Some.piece.count * 512 - c.loop-piece.from) (drop c.loop-piece.from c.loop-piece.bytes)) c.in-Ok.ensures.written.0
-          c.args.volume.now c.loop-piece.volume c.write_piece_among.new.volume c.args.ended.now.items c.loop-piece.ended.items c.write_piece_among.new.ended.items c.loop-piece.invariant.did c.in-Some.ensures.steps (left_part c.loop-piece.from (c.loop-piece.from + c.in-Some.piece.count * 512) c.loop-piece.bytes c.args.bytes c.loop-piece.invariant.same) c.in-Ok.ensures.written.1;
+          c.args.volume.now.volume c.loop-piece.volume.volume c.write_piece_among.new.volume.volume c.args.ended.now.items c.loop-piece.ended.items c.write_piece_among.new.ended.items c.loop-piece.invariant.did c.in-Some.ensures.steps (left_part c.loop-piece.from (c.loop-piece.from + c.in-Some.piece.count * 512) c.loop-piece.bytes c.args.bytes c.loop-piece.invariant.same) c.in-Ok.ensures.written.1;
+      taken = omega (arith, c.loop-piece.invariant.taken, c.in-Ok.ensures.taken);
     }
 
 pub returns-clause-written : goal.returns-clause-written
 returns-clause-written g c =
-    writes_end g.B.Block.contents g.B.Block.layers g.B.Block.fault_count g.B.Block.size c.args.dev (pieces_of (piece_with c.args.volume.now.merge c.args.volume.now.snaps) (span_of c.args.range)) c.loop-piece.piece-iterator c.loop-piece.from c.args.bytes c.args.volume.now c.loop-piece.volume c.args.ended.now.items c.loop-piece.ended.items
+    writes_end g.B.Block.contents g.B.Block.layers g.B.Block.fault_count g.B.Block.size c.args.dev (pieces_of (piece_with c.args.volume.now.volume.merge c.args.volume.now.volume.snaps) (span_of c.args.range)) c.loop-piece.piece-iterator c.loop-piece.from c.args.bytes c.args.volume.now.volume c.loop-piece.volume.volume c.args.ended.now.items c.loop-piece.ended.items
     c.loop-piece.invariant.did c.in-None.ensures.steps.0
 
 pub returns-clause-kept : goal.returns-clause-kept
@@ -90,4 +92,10 @@ returns-clause-kept g c = c.loop-piece.invariant.so.kept
 pub returns-clause-requests : goal.returns-clause-requests
 returns-clause-requests g c =
     let end = stands_last _ _ _ _ _ c.loop-piece.invariant.stands c.in-None.ensures.steps.0 (omega arith) in
-    (among_within g.B.Block.layers g.B.Block.size c.loop-piece.from c.args.range.count c.args.volume.now c.loop-piece.volume c.loop-piece.invariant.so (omega arith))
+    (among_within g.B.Block.layers g.B.Block.size c.loop-piece.from c.args.range.count c.args.volume.now.volume c.loop-piece.volume.volume c.loop-piece.invariant.so (omega arith))
+
+pub returns-in-Err-clause-taken : goal.returns-in-Err-clause-taken
+returns-in-Err-clause-taken g c = omega (arith, c.loop-piece.invariant.taken, c.in-Err.ensures.taken)
+
+pub returns-clause-taken : goal.returns-clause-taken
+returns-clause-taken g c = c.loop-piece.invariant.taken

@@ -10,11 +10,11 @@ pub returns-clause-still : goal.returns-clause-still
 returns-clause-still g c = λ settled. c.is_quiet.ensures.value ∙ settled.quiet
 
 pub returns-clause-numbers : goal.returns-clause-numbers
-returns-clause-numbers g c = subst (AllPairs (λ a b. a < b)) (sym (numbers_same g.B.Block.size c.args.volume.now)) c.is_quiet.ensures.numbers
+returns-clause-numbers g c = subst (AllPairs (λ a b. a < b)) (sym (numbers_same g.B.Block.size c.args.volume.now.volume)) c.is_quiet.ensures.numbers
 
 pub returns-clause-ordered : goal.returns-clause-ordered
 returns-clause-ordered g c = λ quiet loud.
-    let v = c.args.volume.now in
+    let v = c.args.volume.now.volume in
     let all = sym (loud_same g.B.Block.contents g.B.Block.layers v) ∙ loud in
     ordered_by g.B.Block.contents g.B.Block.layers g.B.Block.size v c.is_quiet.ensures.numbers (chunks_by v c.piece.result c.piece.ensures.piece c.piece.ensures.within c.piece.ensures.allowed)
     (c.is_quiet.ensures.between quiet all None) (c.is_quiet.ensures.under quiet all None)

@@ -12,7 +12,7 @@ pub returns-in-WriteArea-clause-follows : goal.returns-in-WriteArea-clause-follo
 returns-in-WriteArea-clause-follows g c = rw c.in-WriteArea.is (0, c.carry.ensures.carried)
 
 pub returns-in_default-clause-did : goal.returns-in_default-clause-did
-returns-in_default-clause-did g c = done_none g.B.Block.contents g.B.Block.layers g.B.Block.fault_count g.B.Block.size c.args.reply c.args.volume.now
+returns-in_default-clause-did g c = done_none g.B.Block.contents g.B.Block.layers g.B.Block.fault_count g.B.Block.size c.args.reply c.args.volume.now.volume
 
 pub returns-in_default-clause-follows : goal.returns-in_default-clause-follows
-returns-in_default-clause-follows g c = (0, none_carried g.B.Block.contents g.B.Block.layers g.B.Block.fault_count g.B.Block.size [] c.args.reply c.args.volume.now (following c.args.done 0) c.args.volume.now)
+returns-in_default-clause-follows g c = (0, none_carried g.B.Block.contents g.B.Block.layers g.B.Block.fault_count g.B.Block.size [] c.args.reply c.args.volume.now.volume (following c.args.done 0) c.args.volume.now.volume)

@@ -7,7 +7,7 @@ pub returns-in_default-clause-follows : goal.returns-in_default-clause-follows
 returns-in_default-clause-follows g c = (0, inl (refl, refl))
 
 pub returns-in_default-clause-did : goal.returns-in_default-clause-did
-returns-in_default-clause-did g c = done_none g.B.Block.contents g.B.Block.layers g.B.Block.fault_count g.B.Block.size c.args.reply c.args.volume.now
+returns-in_default-clause-did g c = done_none g.B.Block.contents g.B.Block.layers g.B.Block.fault_count g.B.Block.size c.args.reply c.args.volume.now.volume
 
 pub returns-clause-follows : goal.returns-clause-follows
 returns-clause-follows g c = (c.in-Some.snap, c.carry.ensures.carried)

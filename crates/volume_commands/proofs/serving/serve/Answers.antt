@@ -1,5 +1,5 @@
 -- The piece was answered, or starved.
-use Rattle.std.proofs.Common.{Some, ◌∙◌}
+use Rattle.std.proofs.Common.{Some, ◌∙◌, arith}
 use Rattle.plain.specs.declared.request.Reply.TheVariants.{Refused}
 use Rattle.volume_commands.proofs.Settled.{keeps_more}
 use Rattle.volume_commands.proofs.Seen.{devices_kept, piece_kept}
@@ -11,45 +11,45 @@ use Rattle.volume_commands.proofs.AtRest.{answered}
 use Rattle.volume_commands.proofs.serving.serve.Goals as goal
 
 pub returns-in-Err-clause-kept : goal.returns-in-Err-clause-kept
-returns-in-Err-clause-kept g c = devices_kept g.B.Block.size g.B.Block.layers c.args.volume.now c.enter.new.volume c.in-Err.ensures.kept c.in-Err.ensures.loud
+returns-in-Err-clause-kept g c = devices_kept g.B.Block.size g.B.Block.layers c.args.volume.now.volume c.enter.new.volume.volume c.in-Err.ensures.kept c.in-Err.ensures.loud
 
 pub returns-in-Err-clause-between : goal.returns-in-Err-clause-between
 returns-in-Err-clause-between g c =
-    starved_between g.B.Block.contents g.B.Block.layers g.B.Block.size c.args.volume.now c.enter.new.volume c.requires.between c.in-Err.ensures.starved.1 (returns-in-Err-clause-kept g c)
+    starved_between g.B.Block.contents g.B.Block.layers g.B.Block.size c.args.volume.now.volume c.enter.new.volume.volume c.requires.between c.in-Err.ensures.starved.1 (returns-in-Err-clause-kept g c)
 
 pub returns-in-Err-clause-settled : goal.returns-in-Err-clause-settled
 returns-in-Err-clause-settled g c =
-    settles_again g.B.Block.contents g.B.Block.layers g.B.Block.size c.args.volume.now c.enter.new.volume
-    (room_quiet c.args.volume.now c.enter.new.volume c.in-Err.ensures.starved.1 ∙ c.requires.between.quiet) (returns-in-Err-clause-kept g c)
+    settles_again g.B.Block.contents g.B.Block.layers g.B.Block.size c.args.volume.now.volume c.enter.new.volume.volume
+    (room_quiet c.args.volume.now.volume c.enter.new.volume.volume c.in-Err.ensures.starved.1 ∙ c.requires.between.quiet) (returns-in-Err-clause-kept g c)
 
 pub returns-in-Err-clause-starved : goal.returns-in-Err-clause-starved
 returns-in-Err-clause-starved g c =
     let s = c.in-Err.ensures.starved in
-    (s.0, starved_merged g.B.Block.contents g.B.Block.layers c.args.volume.now c.enter.new.volume s.2)
+    (s.0, starved_merged g.B.Block.contents g.B.Block.layers c.args.volume.now.volume c.enter.new.volume.volume s.2)
 
 pub returns-in-Err-clause-piece : goal.returns-in-Err-clause-piece
-returns-in-Err-clause-piece g c = piece_kept g.B.Block.size c.args.volume.now c.enter.new.volume c.in-Err.ensures.kept
+returns-in-Err-clause-piece g c = piece_kept g.B.Block.size c.args.volume.now.volume c.enter.new.volume.volume c.in-Err.ensures.kept
 
 pub returns-in-Ok-clause-kept : goal.returns-in-Ok-clause-kept
 returns-in-Ok-clause-kept g c =
-    devices_kept g.B.Block.size g.B.Block.layers c.args.volume.now c.settle.new.volume
-    (keeps_more g.B.Block.size c.args.volume.now c.enter.new.volume c.settle.new.volume c.in-Ok.ensures.kept c.settle.ensures.kept) (c.settle.ensures.run.loud ∙ c.in-Ok.ensures.loud)
+    devices_kept g.B.Block.size g.B.Block.layers c.args.volume.now.volume c.settle.new.volume.volume
+    (keeps_more g.B.Block.size c.args.volume.now.volume c.enter.new.volume.volume c.settle.new.volume.volume c.in-Ok.ensures.kept c.settle.ensures.kept) (c.settle.ensures.run.loud ∙ c.in-Ok.ensures.loud)
 
 pub returns-in-Ok-clause-between : goal.returns-in-Ok-clause-between
-returns-in-Ok-clause-between g c = between_after g.B.Block.contents g.B.Block.layers g.B.Block.size c.args.volume.now c.settle.new.volume c.requires.between c.settle.ensures.quiet (returns-in-Ok-clause-kept g c)
+returns-in-Ok-clause-between g c = between_after g.B.Block.contents g.B.Block.layers g.B.Block.size c.args.volume.now.volume c.settle.new.volume.volume c.requires.between c.settle.ensures.quiet (returns-in-Ok-clause-kept g c)
 
 pub returns-in-Ok-clause-settled : goal.returns-in-Ok-clause-settled
-returns-in-Ok-clause-settled g c = settles_again g.B.Block.contents g.B.Block.layers g.B.Block.size c.args.volume.now c.settle.new.volume c.settle.ensures.quiet (returns-in-Ok-clause-kept g c)
+returns-in-Ok-clause-settled g c = settles_again g.B.Block.contents g.B.Block.layers g.B.Block.size c.args.volume.now.volume c.settle.new.volume.volume c.settle.ensures.quiet (returns-in-Ok-clause-kept g c)
 
 pub returns-in-Ok-clause-piece : goal.returns-in-Ok-clause-piece
-returns-in-Ok-clause-piece g c = piece_kept g.B.Block.size c.args.volume.now c.settle.new.volume (keeps_more g.B.Block.size c.args.volume.now c.enter.new.volume c.settle.new.volume c.in-Ok.ensures.kept c.settle.ensures.kept)
+returns-in-Ok-clause-piece g c = piece_kept g.B.Block.size c.args.volume.now.volume c.settle.new.volume.volume (keeps_more g.B.Block.size c.args.volume.now.volume c.enter.new.volume.volume c.settle.new.volume.volume c.in-Ok.ensures.kept c.settle.ensures.kept)
 
 pub returns-in-Ok-clause-answer : goal.returns-in-Ok-clause-answer
 returns-in-Ok-clause-answer g c = λ settled.
     let ok = c.in-Ok.ensures.ok in
-    let loud = loud_in_all g.B.Block.contents g.B.Block.layers g.B.Block.size c.args.volume.now settled in
+    let loud = loud_in_all g.B.Block.contents g.B.Block.layers g.B.Block.size c.args.volume.now.volume settled in
     let quiet = c.is_quiet.ensures.value ∙ c.requires.between.quiet in
-    served_did g.B.Block.contents g.B.Block.layers g.B.Block.size c.args.request ok.0 (Refused c.in-Ok.failure) c.settle.result c.args.volume.now c.enter.new.volume c.settle.new.volume c.requires.can
+    served_did g.B.Block.contents g.B.Block.layers g.B.Block.size c.args.request ok.0 (Refused c.in-Ok.failure) c.settle.result c.args.volume.now.volume c.enter.new.volume.volume c.settle.new.volume.volume c.requires.can
     (c.is_quiet.ensures.between quiet loud) (c.is_quiet.ensures.under quiet loud) ok.1 (c.settle.ensures.run.reaches (c.in-Ok.ensures.loud ∙ loud)) (c.settle.ensures.none (Some c.settle.result))
 
 pub returns-in-Err-clause-untaken : goal.returns-in-Err-clause-untaken
@@ -57,5 +57,8 @@ returns-in-Err-clause-untaken g c = c.in-Err.ensures.untaken
 
 pub returns-in-Ok-clause-answered : goal.returns-in-Ok-clause-answered
 returns-in-Ok-clause-answered g c =
-    answered g.B.Block.contents g.B.Block.layers g.B.Block.fault_count g.B.Block.size c.args.request c.in-Ok.failure c.args.volume.now c.enter.new.volume (quiet_flights c.args.volume.now c.requires.between.quiet) c.settle.result c.settle.new.volume
+    answered g.B.Block.contents g.B.Block.layers g.B.Block.fault_count g.B.Block.size c.args.request c.in-Ok.failure c.args.volume.now.volume c.enter.new.volume.volume (quiet_flights c.args.volume.now.volume c.requires.between.quiet) c.settle.result c.settle.new.volume.volume
     c.in-Ok.ensures.entered c.settle.ensures.did c.settle.ensures.still
+
+pub returns-in-Ok-clause-taken : goal.returns-in-Ok-clause-taken
+returns-in-Ok-clause-taken g c = omega (arith, c.in-Ok.ensures.taken, c.settle.ensures.taken, c.settle.ensures.requests)

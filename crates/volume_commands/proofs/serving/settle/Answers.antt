@@ -1,5 +1,5 @@
 -- One event more is done; and none is left.
-use Rattle.std.proofs.Common.{Some, refl, sym, ◌∙◌}
+use Rattle.std.proofs.Common.{Some, refl, sym, ◌∙◌, arith}
 use Rattle.std.proofs.lemmas.Bool.{true≢false}
 use Rattle.plain.specs.declared.event.Outcome.TheVariants.{Done, Fault, Reply as Answered}
 use Rattle.volume.specs.Exact.{IsExact}
@@ -10,60 +10,64 @@ use Rattle.volume_commands.proofs.serving.settle.Goals as goal
 
 pub loop-volume-init : goal.loop-volume-init
 loop-volume-init g c = record {
-  so = beside_none g.B.Block.contents g.B.Block.layers g.B.Block.size (Some c.args.reply) c.args.volume.now c.requires.free;
-  did = done_none g.B.Block.contents g.B.Block.layers g.B.Block.fault_count g.B.Block.size c.args.reply c.args.volume.now;
+  so = beside_none g.B.Block.contents g.B.Block.layers g.B.Block.size (Some c.args.reply) c.args.volume.now.volume c.requires.free;
+  did = done_none g.B.Block.contents g.B.Block.layers g.B.Block.fault_count g.B.Block.size c.args.reply c.args.volume.now.volume;
+  taken = omega arith;
   still = λ quiet. refl;
 }
 
 pub unreachable-requires : goal.unreachable-requires
 unreachable-requires g c =
-    let quiet = free_quiet g.B.Block.contents g.B.Block.layers g.B.Block.size c.loop-volume.volume (still_free c.loop-volume.volume.merge c.in_default.ensures.quiet.1) c.in_default.ensures.quiet.0 in
+    let quiet = free_quiet g.B.Block.contents g.B.Block.layers g.B.Block.size c.loop-volume.volume.volume (still_free c.loop-volume.volume.volume.merge c.in_default.ensures.quiet.1) c.in_default.ensures.quiet.0 in
     true≢false (sym quiet ∙ sym c.is_quiet.ensures.value ∙ c.loop-volume-test.true)
 
 pub loop-volume-preserved-in-Ok-Reply : goal.loop-volume-preserved-in-Ok-Reply
 loop-volume-preserved-in-Ok-Reply g c =
     let exact = c.in-Ok-Reply.ensures.does.exact in
-    let is : IsExact g.B.Block.contents g.B.Block.layers c.in-Some.event _ c.loop-volume.volume c.step.new.self = rw c.in-Ok-Reply.field-0-is at exact in
-    let step = due_is g.B.Block.contents g.B.Block.layers g.B.Block.fault_count g.B.Block.size c.in-Some.event _ (Answered _ c.in-Ok-Reply.given) c.loop-volume.volume c.step.new.self c.in-Ok-Reply.ensures.due c.in-Ok-Reply.field-0-is
+    let is : IsExact g.B.Block.contents g.B.Block.layers c.in-Some.event _ c.loop-volume.volume.volume c.step.new.self.volume = rw c.in-Ok-Reply.field-0-is at exact in
+    let step = due_is g.B.Block.contents g.B.Block.layers g.B.Block.fault_count g.B.Block.size c.in-Some.event _ (Answered _ c.in-Ok-Reply.given) c.loop-volume.volume.volume c.step.new.self.volume c.in-Ok-Reply.ensures.does.due c.in-Ok-Reply.field-0-is
     c.in-Ok-Reply.ensures.does.exact c.in-Ok-Reply.ensures.does.legal c.in-Ok-Reply.ensures.does.flown c.in-Ok-Reply.ensures.does.cause c.in-Ok-Reply.ensures.does.counts.0 in
-    let one = done_one g.B.Block.contents g.B.Block.layers g.B.Block.fault_count g.B.Block.size c.loop-volume.reply c.in-Some.event (Answered _ c.in-Ok-Reply.given) c.loop-volume.volume c.step.new.self step in
-    let more = done_then g.B.Block.contents g.B.Block.layers g.B.Block.fault_count g.B.Block.size c.args.reply c.loop-volume.reply c.in-Ok-Reply.given c.args.volume.now c.loop-volume.volume c.step.new.self c.loop-volume.invariant.did one in
+    let one = done_one g.B.Block.contents g.B.Block.layers g.B.Block.fault_count g.B.Block.size c.loop-volume.reply c.in-Some.event (Answered _ c.in-Ok-Reply.given) c.loop-volume.volume.volume c.step.new.self.volume step in
+    let more = done_then g.B.Block.contents g.B.Block.layers g.B.Block.fault_count g.B.Block.size c.args.reply c.loop-volume.reply c.in-Ok-Reply.given c.args.volume.now.volume c.loop-volume.volume.volume c.step.new.self.volume c.loop-volume.invariant.did one in
     record {
-      so = beside_more g.B.Block.contents g.B.Block.layers g.B.Block.size (Some c.args.reply) (Some c.loop-volume.reply) c.args.volume.now c.loop-volume.volume c.step.new.self c.in-Some.event _ c.loop-volume.invariant.so
+      so = beside_more g.B.Block.contents g.B.Block.layers g.B.Block.size (Some c.args.reply) (Some c.loop-volume.reply) c.args.volume.now.volume c.loop-volume.volume.volume c.step.new.self.volume c.in-Some.event _ c.loop-volume.invariant.so
           (sym c.is_quiet.ensures.value ∙ c.loop-volume-test.true) c.in-Some.ensures.machine c.in-Some.ensures.calm c.in-Some.ensures.seen is c.in-Ok-Reply.ensures.does.loud c.in-Ok-Reply.ensures.does.kept c.in-Ok-Reply.ensures.does.counts.0;
       did = more;
-      still = still_never c.args.volume.now c.loop-volume.volume c.step.new.self c.loop-volume.invariant.still (sym c.is_quiet.ensures.value ∙ c.loop-volume-test.true);
+      taken = omega (arith, c.loop-volume.invariant.taken, c.in-Ok-Reply.ensures.taken);
+      still = still_never c.args.volume.now.volume c.loop-volume.volume.volume c.step.new.self.volume c.loop-volume.invariant.still (sym c.is_quiet.ensures.value ∙ c.loop-volume-test.true);
     }
 
 pub loop-volume-preserved-in-Ok-Done : goal.loop-volume-preserved-in-Ok-Done
 loop-volume-preserved-in-Ok-Done g c =
     let exact = c.in-Ok-Done.ensures.does.exact in
-    let is : IsExact g.B.Block.contents g.B.Block.layers c.in-Some.event _ c.loop-volume.volume c.step.new.self = rw c.in-Ok-Done.field-0-is at exact in
-    let step = due_is g.B.Block.contents g.B.Block.layers g.B.Block.fault_count g.B.Block.size c.in-Some.event _ Done c.loop-volume.volume c.step.new.self c.in-Ok-Done.ensures.due c.in-Ok-Done.field-0-is
+    let is : IsExact g.B.Block.contents g.B.Block.layers c.in-Some.event _ c.loop-volume.volume.volume c.step.new.self.volume = rw c.in-Ok-Done.field-0-is at exact in
+    let step = due_is g.B.Block.contents g.B.Block.layers g.B.Block.fault_count g.B.Block.size c.in-Some.event _ Done c.loop-volume.volume.volume c.step.new.self.volume c.in-Ok-Done.ensures.does.due c.in-Ok-Done.field-0-is
     c.in-Ok-Done.ensures.does.exact c.in-Ok-Done.ensures.does.legal c.in-Ok-Done.ensures.does.flown c.in-Ok-Done.ensures.does.cause c.in-Ok-Done.ensures.does.counts.0 in
-    let one = done_one g.B.Block.contents g.B.Block.layers g.B.Block.fault_count g.B.Block.size c.loop-volume.reply c.in-Some.event Done c.loop-volume.volume c.step.new.self step in
-    let more = done_then g.B.Block.contents g.B.Block.layers g.B.Block.fault_count g.B.Block.size c.args.reply c.loop-volume.reply c.loop-volume.reply c.args.volume.now c.loop-volume.volume c.step.new.self c.loop-volume.invariant.did one in
+    let one = done_one g.B.Block.contents g.B.Block.layers g.B.Block.fault_count g.B.Block.size c.loop-volume.reply c.in-Some.event Done c.loop-volume.volume.volume c.step.new.self.volume step in
+    let more = done_then g.B.Block.contents g.B.Block.layers g.B.Block.fault_count g.B.Block.size c.args.reply c.loop-volume.reply c.loop-volume.reply c.args.volume.now.volume c.loop-volume.volume.volume c.step.new.self.volume c.loop-volume.invariant.did one in
     record {
-      so = beside_followed g.B.Block.contents g.B.Block.layers g.B.Block.size c.args.reply c.loop-volume.reply c.follow-reply.result c.args.volume.now c.loop-volume.volume c.step.new.self c.follow-reply.new.volume c.in-Some.event c.loop-volume.invariant.so
+      so = beside_followed g.B.Block.contents g.B.Block.layers g.B.Block.size c.args.reply c.loop-volume.reply c.follow-reply.result c.args.volume.now.volume c.loop-volume.volume.volume c.step.new.self.volume c.follow-reply.new.volume.volume c.in-Some.event c.loop-volume.invariant.so
           (sym c.is_quiet.ensures.value ∙ c.loop-volume-test.true) c.in-Some.ensures.machine c.in-Some.ensures.calm c.in-Some.ensures.seen is c.in-Ok-Done.ensures.does.loud c.in-Ok-Done.ensures.does.kept c.in-Ok-Done.ensures.does.counts.0
           c.follow-reply.ensures.loud c.follow-reply.ensures.kept c.follow-reply.ensures.requests c.follow-reply.ensures.follows;
-      did = done_then g.B.Block.contents g.B.Block.layers g.B.Block.fault_count g.B.Block.size c.args.reply c.loop-volume.reply c.follow-reply.result c.args.volume.now c.step.new.self c.follow-reply.new.volume more c.follow-reply.ensures.did;
-      still = still_never c.args.volume.now c.loop-volume.volume c.follow-reply.new.volume c.loop-volume.invariant.still (sym c.is_quiet.ensures.value ∙ c.loop-volume-test.true);
+      did = done_then g.B.Block.contents g.B.Block.layers g.B.Block.fault_count g.B.Block.size c.args.reply c.loop-volume.reply c.follow-reply.result c.args.volume.now.volume c.step.new.self.volume c.follow-reply.new.volume.volume more c.follow-reply.ensures.did;
+      taken = omega (arith, c.loop-volume.invariant.taken, c.in-Ok-Done.ensures.taken, c.follow-reply.ensures.taken);
+      still = still_never c.args.volume.now.volume c.loop-volume.volume.volume c.follow-reply.new.volume.volume c.loop-volume.invariant.still (sym c.is_quiet.ensures.value ∙ c.loop-volume-test.true);
     }
 
 pub loop-volume-preserved : goal.loop-volume-preserved
 loop-volume-preserved g c =
     let exact = c.in-Ok-Fault.ensures.does.exact in
-    let is : IsExact g.B.Block.contents g.B.Block.layers c.in-Some.event _ c.loop-volume.volume c.step.new.self = rw c.in-Ok-Fault.field-0-is at exact in
-    let step = due_is g.B.Block.contents g.B.Block.layers g.B.Block.fault_count g.B.Block.size c.in-Some.event _ Fault c.loop-volume.volume c.step.new.self c.in-Ok-Fault.ensures.due c.in-Ok-Fault.field-0-is
+    let is : IsExact g.B.Block.contents g.B.Block.layers c.in-Some.event _ c.loop-volume.volume.volume c.step.new.self.volume = rw c.in-Ok-Fault.field-0-is at exact in
+    let step = due_is g.B.Block.contents g.B.Block.layers g.B.Block.fault_count g.B.Block.size c.in-Some.event _ Fault c.loop-volume.volume.volume c.step.new.self.volume c.in-Ok-Fault.ensures.does.due c.in-Ok-Fault.field-0-is
     c.in-Ok-Fault.ensures.does.exact c.in-Ok-Fault.ensures.does.legal c.in-Ok-Fault.ensures.does.flown c.in-Ok-Fault.ensures.does.cause c.in-Ok-Fault.ensures.does.counts.0 in
-    let one = done_one g.B.Block.contents g.B.Block.layers g.B.Block.fault_count g.B.Block.size c.loop-volume.reply c.in-Some.event Fault c.loop-volume.volume c.step.new.self step in
-    let more = done_then g.B.Block.contents g.B.Block.layers g.B.Block.fault_count g.B.Block.size c.args.reply c.loop-volume.reply c.loop-volume.reply c.args.volume.now c.loop-volume.volume c.step.new.self c.loop-volume.invariant.did one in
+    let one = done_one g.B.Block.contents g.B.Block.layers g.B.Block.fault_count g.B.Block.size c.loop-volume.reply c.in-Some.event Fault c.loop-volume.volume.volume c.step.new.self.volume step in
+    let more = done_then g.B.Block.contents g.B.Block.layers g.B.Block.fault_count g.B.Block.size c.args.reply c.loop-volume.reply c.loop-volume.reply c.args.volume.now.volume c.loop-volume.volume.volume c.step.new.self.volume c.loop-volume.invariant.did one in
     record {
-      so = beside_more g.B.Block.contents g.B.Block.layers g.B.Block.size (Some c.args.reply) (Some c.loop-volume.reply) c.args.volume.now c.loop-volume.volume c.step.new.self c.in-Some.event _ c.loop-volume.invariant.so
+      so = beside_more g.B.Block.contents g.B.Block.layers g.B.Block.size (Some c.args.reply) (Some c.loop-volume.reply) c.args.volume.now.volume c.loop-volume.volume.volume c.step.new.self.volume c.in-Some.event _ c.loop-volume.invariant.so
           (sym c.is_quiet.ensures.value ∙ c.loop-volume-test.true) c.in-Some.ensures.machine c.in-Some.ensures.calm c.in-Some.ensures.seen is c.in-Ok-Fault.ensures.does.loud c.in-Ok-Fault.ensures.does.kept c.in-Ok-Fault.ensures.does.counts.0;
       did = more;
-      still = still_never c.args.volume.now c.loop-volume.volume c.step.new.self c.loop-volume.invariant.still (sym c.is_quiet.ensures.value ∙ c.loop-volume-test.true);
+      taken = omega (arith, c.loop-volume.invariant.taken, c.in-Ok-Fault.ensures.taken);
+      still = still_never c.args.volume.now.volume c.loop-volume.volume.volume c.step.new.self.volume c.loop-volume.invariant.still (sym c.is_quiet.ensures.value ∙ c.loop-volume-test.true);
     }
 
 pub returns-clause-none : goal.returns-clause-none
@@ -83,3 +87,6 @@ returns-clause-kept g c = c.loop-volume.invariant.so.kept
 
 pub returns-clause-requests : goal.returns-clause-requests
 returns-clause-requests g c = c.loop-volume.invariant.so.requests
+
+pub returns-clause-taken : goal.returns-clause-taken
+returns-clause-taken g c = c.loop-volume.invariant.taken

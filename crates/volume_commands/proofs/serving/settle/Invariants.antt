@@ -1,5 +1,5 @@
 -- The events so far.
-use Rattle.std.proofs.Common.{◌≡◌, Some, true}
+use Rattle.std.proofs.Common.{◌≡◌, Some, true, ◌≤◌}
 use Rattle.volume.specs.Leaving.{is_quiet_of}
 use Rattle.volume.specs.Volumed.{left_in_all}
 use Rattle.volume_commands.specs.AtRest.{AreDone}
@@ -8,10 +8,11 @@ use Rattle.volume_commands.proofs.serving.settle.Given as goal
 
 abbrev pub invariant-loop-volume : goal.invariant-loop-volume
 invariant-loop-volume g l = record {
-  so : RunsBeside g.B.Block.contents g.B.Block.layers g.B.Block.size (Some l.fn.reply) (Some l.reply) l.fn.volume l.volume;
-  did : AreDone g.B.Block.contents g.B.Block.layers g.B.Block.fault_count l.fn.reply l.reply l.fn.volume l.volume;
-  still : is_quiet_of l.fn.volume ≡ true → l.volume ≡ l.fn.volume;
+  so : RunsBeside g.B.Block.contents g.B.Block.layers g.B.Block.size (Some l.fn.reply) (Some l.reply) l.fn.volume.volume l.volume.volume;
+  did : AreDone g.B.Block.contents g.B.Block.layers g.B.Block.fault_count l.fn.reply l.reply l.fn.volume.volume l.volume.volume;
+  taken : l.volume.taken ≤ l.fn.volume.taken;
+  still : is_quiet_of l.fn.volume.volume ≡ true → l.volume.volume ≡ l.fn.volume.volume;
 }
 
 abbrev pub decreases-loop-volume : goal.decreases-loop-volume
-decreases-loop-volume g l = left_in_all g.B.Block.contents g.B.Block.layers l.volume
+decreases-loop-volume g l = left_in_all g.B.Block.contents g.B.Block.layers l.volume.volume

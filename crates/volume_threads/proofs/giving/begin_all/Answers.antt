@@ -2,8 +2,15 @@
 use Rattle.std.proofs.Common.{◌≡◌, ◌+◌, ◌<◌, length, subst, sym, ap, ◌∙◌, arith}
 use Rattle.std.proofs.lemmas.List.Edits.{length-remove}
 use Rattle.std.proofs.lemmas.List.Elements.{All-push, All-same}
+use Rattle.std.specs.List.{All}
+use Rattle.volume_threads.specs.Tasks.{MayMerge}
 use Rattle.volume_threads.proofs.Places.{AreNewFrom, rest_of}
 use Rattle.volume_threads.proofs.giving.begin_all.Goals as goal
+
+pub new-requires-clause-asked : goal.new-requires-clause-asked
+new-requires-clause-asked g c =
+    subst (All (MayMerge g.J.Room.merges)) (sym (c.take_tasks-list.ensures.taken ∙ c.loop-i.invariant.others c.loop-i.i (omega arith)))
+    (c.requires.asked c.loop-i.i (omega (arith, c.loop-i-test.true)))
 
 pub loop-i-preserved : goal.loop-i-preserved
 loop-i-preserved g c =

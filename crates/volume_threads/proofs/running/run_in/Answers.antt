@@ -1,11 +1,13 @@
 -- What the seats did is what their journals tell.
-use Rattle.std.proofs.Common.{◌≡◌, ℕ, ◌+◌, ◌-◌, ◌<◌, List, [], length, slice_index_or, refl, subst, sym, ap, ◌∙◌, arith}
+use Rattle.std.proofs.Common.{◌≡◌, ℕ, Bool, ◌+◌, ◌-◌, ◌<◌, List, [], length, slice_index_or, refl, subst, sym, ap, ◌∙◌, arith}
+use Rattle.std.specs.List.{All}
 use Rattle.std.proofs.lemmas.List.{get_or-map}
 use Rattle.volume_threads.specs.Rigs.{IsSettledAt, SeatShape, fixed_in, receipts_at, start_in}
 use Rattle.journal.specs.declared.entry.Entry.{Entry}
 use Rattle.locked_volume.specs.Fixed.{Fixed}
-use Rattle.volume_threads.specs.Left.{AreLeft, NothingRan}
-use Rattle.volume_threads.specs.Tasks.{IsEnded, denied_of, pieces_at, tasks_at}
+use Rattle.volume_threads.specs.Left.{AllAddAskedFor, AreLeft, NothingRan}
+use Rattle.volume_threads.specs.Tasks.{IsEnded, MayMerge, denied_of, pieces_at, tasks_at}
+use Rattle.volume_threads.proofs.Merging.{all_may, closed_asked, same_asked}
 use Rattle.volume_threads.proofs.Places.{tasks_same}
 use Rattle.volume_threads.proofs.Stays.{closed, entries_same, none_ran, same_spared}
 use Rattle.volume_threads.proofs.running.run_in.Goals as goal
@@ -100,3 +102,27 @@ returns-clause-spared g c =
           entries_same s (start_in c.args.audits.items k) (slice_index_or c.args.audits.items k d).entries (slice_index_or c.close-audits.result.items k d).entries (receipts_at seat k) seat.number
           (numbers i nobody within ∙ omega (arith, some)) (get_or-map (λ a. a.entries) c.args.audits.items k d [] low) (unbegun i nobody within k) settled.own;
     }
+
+pub begin_all-requires-clause-asked : goal.begin_all-requires-clause-asked
+begin_all-requires-clause-asked g c i low =
+    subst (λ (m : ℕ → ℕ → Bool). All (MayMerge m) (tasks_at c.args.tasks.now.items i)) (sym c.requires.merges) (all_may (tasks_at c.args.tasks.now.items) i low)
+
+pub returns-then-ran-clause-asked : goal.returns-then-ran-clause-asked
+returns-then-ran-clause-asked g c =
+    closed_asked (tasks_at c.args.tasks.now.items) c.args.audits.items c.close-audits.result.items g.J.Room.volumes g.J.Room.start g.J.Room.merges c.requires.room.volumes_are c.requires.room.starts c.requires.merges
+    c.close-audits.ensures.asked
+
+pub returns-clause-asked : goal.returns-clause-asked
+returns-clause-asked g c =
+    closed_asked (tasks_at c.args.tasks.now.items) c.args.audits.items c.close-audits.result.items g.J.Room.volumes g.J.Room.start g.J.Room.merges c.requires.room.volumes_are c.requires.room.starts c.requires.merges
+    c.close-audits.ensures.asked
+
+pub returns-in_default-clause-asked : goal.returns-in_default-clause-asked
+returns-in_default-clause-asked g c = same_asked (tasks_at c.args.tasks.now.items) c.args.audits.items
+
+pub returns-in_default-with_capacity-clause-asked : goal.returns-in_default-with_capacity-clause-asked
+returns-in_default-with_capacity-clause-asked g c = same_asked (tasks_at c.args.tasks.now.items) c.args.audits.items
+
+pub returns-in-Err-clause-asked : goal.returns-in-Err-clause-asked
+returns-in-Err-clause-asked g c =
+    subst (λ e. AllAddAskedFor (tasks_at c.args.tasks.now.items) c.args.audits.items e.1.items) (sym c.in-Err.ensures.err) (same_asked (tasks_at c.args.tasks.now.items) c.args.audits.items)

@@ -2,6 +2,7 @@
 use Rattle.std.proofs.Common.{refl, subst, ◌∙◌}
 use Rattle.volume_threads.specs.Rigs.{AreOpened}
 use Rattle.volume_threads.specs.Tasks.{tasks_at}
+use Rattle.volume_threads.proofs.Merging.{same_asked}
 use Rattle.volume_threads.proofs.Stays.{none_ran, room_of, same_spared}
 use Rattle.volume_threads.proofs.running.run_seats.Goals as goal
 
@@ -14,3 +15,6 @@ run_in-requires-clause-room g c κs within =
 
 pub returns-in_default-clause-spared : goal.returns-in_default-clause-spared
 returns-in_default-clause-spared g c = same_spared c.args.audits.items (tasks_at c.args.tasks.now.items)
+
+pub returns-in_default-clause-asked : goal.returns-in_default-clause-asked
+returns-in_default-clause-asked g c = same_asked (tasks_at c.args.tasks.now.items) c.args.audits.items

@@ -9,6 +9,9 @@ pub issue-requires-clause-beside : goal.issue-requires-clause-beside
 issue-requires-clause-beside g c =
     subst (λ n. IsBeside (g.J.Room.history n) (g.J.Room.boards n) c.args.place.now.beside) (sym (c.submit.ensures.post ∙ c.requires.post)) c.args.place.now.is_beside
 
+pub issue-requires-clause-few : goal.issue-requires-clause-few
+issue-requires-clause-few g c = subst (λ n. (0 < n) × (n < 9)) (sym c.in-Ok.ensures.seat.seat) c.requires.few
+
 pub issue-requires-clause-room : goal.issue-requires-clause-room
 issue-requires-clause-room g c =
     let waits = c.in-Ok.ensures.seat in

@@ -1,35 +1,29 @@
-use Rattle.std.proofs.Common.{rules, ◌≡◌, ◌≢◌, ◌+◌, ◌++◌, ◌∷◌, [], sym, ap, ◌∙◌, arith, map, append-nil}
+use Rattle.std.proofs.Common.{rules, ◌≡◌, ◌≢◌, ◌+◌, ◌++◌, ◌∷◌, [], refl, sym, ap, ◌∙◌, arith, map, append-nil}
 use Rattle.journal.specs.Seats.{seated}
 use Rattle.journal.specs.declared.entry.Entry.TheVariants.{Answered}
 use Rattle.std.proofs.lemmas.List.{get_or_default}
+use Rattle.plain.specs.declared.event.Event.TheVariants.{Issue}
 use Rattle.volume.specs.Volumed.{plain_of}
+use Rattle.volume.proofs.Stepped.{allowed, not_allowed}
 use Rattle.journal.specs.Books.{AuditShape, count_of}
 use Rattle.journal.specs.declared.entry.HeldRequest.{HeldRequest}
 use Rattle.journal.proofs.Beginning.{plain_long, shows_long}
 use Rattle.journal.proofs.Bounds.{count_low, issued_bounds, long_kept, quiet_bounds, size_kept}
 use Rattle.journal.proofs.Keeping.{first_of, held_at, fits_held, going_is, going_keeps, taken_here, number_same, issued_keeps, answer_of}
-use Rattle.journal.proofs.Receipts.{saved_same, mine_none, mine_other, mine_own, not_both, by_second, receipt_has}
+use Rattle.journal.proofs.Receipts.{saved_same, mine_none, mine_other, mine_own, receipt_has}
 use Rattle.journal.proofs.audit.Audit.issue.Goals as goal
 
-pub returns-in_default-clause-due : goal.returns-in_default-clause-due
-returns-in_default-clause-due g c =
-    not_both _ _ (mine_none c.args.seat c.args.number c.self.inside.held.items _ (ap (λ (a : AuditShape _). a.held) c.self.view_is) (rw c.as_slice.ensures.value at c.in_default.ensures.none))
+pub returns-in_default-clause-does : goal.returns-in_default-clause-does
+returns-in_default-clause-does g c =
+    not_allowed g.B.Block.may_hold g.B.Block.contents g.B.Block.layers g.B.Block.size g.B.Block.fault_count g.B.Block.done_count _ (Issue c.args.number) _ _ _ refl
+    (mine_none c.args.seat c.args.number c.self.inside.held.items _ (ap (λ (a : AuditShape _). a.held) c.self.view_is) (rw c.as_slice.ensures.value at c.in_default.ensures.none))
 
-pub returns-in_default-clause-first : goal.returns-in_default-clause-first
-returns-in_default-clause-first g c = λ next mine.
-    sym (mine_none c.args.seat c.args.number c.self.inside.held.items _ (ap (λ (a : AuditShape _). a.held) c.self.view_is) (rw c.as_slice.ensures.value at c.in_default.ensures.none)) ∙ mine
-
-pub returns-then-index-seat-clause-due : goal.returns-then-index-seat-clause-due
-returns-then-index-seat-clause-due g c =
+pub returns-then-index-seat-clause-does : goal.returns-then-index-seat-clause-does
+returns-then-index-seat-clause-does g c =
     let first = first_of c.args.number c.self.inside.held.items c.in-Some.place c.index.result.now c.index.ensures (rw c.as_slice.ensures.value at c.in-Some.ensures.some) in
     let apart : c.index.result.now.seat ≢ c.args.seat = search rules in
-    not_both _ _ (mine_other c.args.seat c.args.number c.self.inside.held.items _ c.in-Some.place c.index.result.now (ap (λ (a : AuditShape _). a.held) c.self.view_is) first apart)
-
-pub returns-then-index-seat-clause-first : goal.returns-then-index-seat-clause-first
-returns-then-index-seat-clause-first g c = λ next mine.
-    let first = first_of c.args.number c.self.inside.held.items c.in-Some.place c.index.result.now c.index.ensures (rw c.as_slice.ensures.value at c.in-Some.ensures.some) in
-    let apart : c.index.result.now.seat ≢ c.args.seat = search rules in
-    sym (mine_other c.args.seat c.args.number c.self.inside.held.items _ c.in-Some.place c.index.result.now (ap (λ (a : AuditShape _). a.held) c.self.view_is) first apart) ∙ mine
+    not_allowed g.B.Block.may_hold g.B.Block.contents g.B.Block.layers g.B.Block.size g.B.Block.fault_count g.B.Block.done_count _ (Issue c.args.number) _ _ _ refl
+    (mine_other c.args.seat c.args.number c.self.inside.held.items _ c.in-Some.place c.index.result.now (ap (λ (a : AuditShape _). a.held) c.self.view_is) first apart)
 
 pub copy_into-for_entry-requires : goal.copy_into-for_entry-requires
 copy_into-for_entry-requires g c =
@@ -84,15 +78,6 @@ returns-in-Ok-Reply-clause-noted g c =
     (ap (λ (a : AuditShape _). a.held) c.self.view_is) (ap (map seated) c.remove-held.ensures.items) counted
     (rw (c.push_reserved.ensures.items, c.copy_into-for_entry.ensures) (ap (λ es. es ++ Answered (answer_of x c.args.seat c.in-Ok-Reply.reply) ∷ []) entries)))
 
-pub returns-in-Ok-Reply-clause-due : goal.returns-in-Ok-Reply-clause-due
-returns-in-Ok-Reply-clause-due g c =
-    let x = c.remove-held.result in
-    let first = first_of c.args.number c.self.inside.held.items c.in-Some.place x c.remove-held.ensures.value (rw c.as_slice.ensures.value at c.in-Some.ensures.some) in
-    let same = c.remove-held.ensures.value ∙ get_or_default c.self.inside.held.items c.in-Some.place x c.index.result.now first.within ∙ sym c.index.ensures in
-    let theirs : c.index.result.now.seat ≡ c.args.seat = search rules in
-    by_second _ _ _ (mine_own c.args.seat c.args.number c.self.inside.held.items _ c.in-Some.place x (ap (λ (a : AuditShape _). a.held) c.self.view_is) first (ap (λ (y : HeldRequest). y.seat) same ∙ theirs))
-    (rw (← c.self.view_is) c.in-Ok-Reply.ensures.due)
-
 pub invariant_of-self-in-Ok-Done : goal.invariant_of-self-in-Ok-Done
 invariant_of-self-in-Ok-Done g c =
     let flown = rw c.in-Ok-Done.field-0-is at c.in-Ok-Done.ensures.does.flown in record {
@@ -114,19 +99,26 @@ returns-in-Ok-Done-clause-unanswered g c =
     let first = first_of c.args.number c.self.inside.held.items c.in-Some.place x c.index.ensures (rw c.as_slice.ensures.value at c.in-Some.ensures.some) in
     going_is (plain_of g.B.Block.contents g.B.Block.layers c.self.inside.volume) _ c.args.number c.in-Some.place x _ _ c.self.invariant.audit.counted first (rw c.in-Ok-Done.field-0-is at c.in-Ok-Done.ensures.does.flown) (ap (λ (a : AuditShape _). a.held) c.self.view_is)
 
-pub returns-in-Ok-Done-clause-due : goal.returns-in-Ok-Done-clause-due
-returns-in-Ok-Done-clause-due g c =
+pub returns-in-Ok-Reply-clause-does : goal.returns-in-Ok-Reply-clause-does
+returns-in-Ok-Reply-clause-does g c =
     let x = c.index.result.now in
     let first = first_of c.args.number c.self.inside.held.items c.in-Some.place x c.index.ensures (rw c.as_slice.ensures.value at c.in-Some.ensures.some) in
     let theirs : x.seat ≡ c.args.seat = search rules in
-    by_second _ _ _ (mine_own c.args.seat c.args.number c.self.inside.held.items _ c.in-Some.place x (ap (λ (a : AuditShape _). a.held) c.self.view_is) first theirs)
-    (rw (← c.self.view_is) c.in-Ok-Done.ensures.due)
-
-pub returns-in-Ok-Reply-clause-does : goal.returns-in-Ok-Reply-clause-does
-returns-in-Ok-Reply-clause-does g c = rw (← c.self.view_is) (rw c.in-Ok-Reply.field-0-is at c.in-Ok-Reply.ensures.does)
+    allowed g.B.Block.may_hold g.B.Block.contents g.B.Block.layers g.B.Block.size g.B.Block.fault_count g.B.Block.done_count _ (Issue c.args.number) _ _ _ (mine_own c.args.seat c.args.number c.self.inside.held.items _ c.in-Some.place x (ap (λ (a : AuditShape _). a.held) c.self.view_is) first theirs)
+    (rw (← c.self.view_is) (rw c.in-Ok-Reply.field-0-is at c.in-Ok-Reply.ensures.does))
 
 pub returns-in-Ok-Done-clause-does : goal.returns-in-Ok-Done-clause-does
-returns-in-Ok-Done-clause-does g c = rw (← c.self.view_is) (rw c.in-Ok-Done.field-0-is at c.in-Ok-Done.ensures.does)
+returns-in-Ok-Done-clause-does g c =
+    let x = c.index.result.now in
+    let first = first_of c.args.number c.self.inside.held.items c.in-Some.place x c.index.ensures (rw c.as_slice.ensures.value at c.in-Some.ensures.some) in
+    let theirs : x.seat ≡ c.args.seat = search rules in
+    allowed g.B.Block.may_hold g.B.Block.contents g.B.Block.layers g.B.Block.size g.B.Block.fault_count g.B.Block.done_count _ (Issue c.args.number) _ _ _ (mine_own c.args.seat c.args.number c.self.inside.held.items _ c.in-Some.place x (ap (λ (a : AuditShape _). a.held) c.self.view_is) first theirs)
+    (rw (← c.self.view_is) (rw c.in-Ok-Done.field-0-is at c.in-Ok-Done.ensures.does))
 
 pub returns-in-Err-clause-does : goal.returns-in-Err-clause-does
-returns-in-Err-clause-does g c = rw (← c.self.view_is) c.in-Err.ensures.does
+returns-in-Err-clause-does g c =
+    let x = c.index.result.now in
+    let first = first_of c.args.number c.self.inside.held.items c.in-Some.place x c.index.ensures (rw c.as_slice.ensures.value at c.in-Some.ensures.some) in
+    let theirs : x.seat ≡ c.args.seat = search rules in
+    allowed g.B.Block.may_hold g.B.Block.contents g.B.Block.layers g.B.Block.size g.B.Block.fault_count g.B.Block.done_count _ (Issue c.args.number) _ _ _ (mine_own c.args.seat c.args.number c.self.inside.held.items _ c.in-Some.place x (ap (λ (a : AuditShape _). a.held) c.self.view_is) first theirs)
+    (rw (← c.self.view_is) c.in-Err.ensures.does)

@@ -6,7 +6,7 @@ use Rattle.volume.specs.Volumed.{plain_of}
 use Rattle.journal.specs.Books.{AuditShape}
 use Rattle.journal.proofs.Mays.{kept_same}
 use Rattle.journal.specs.Seats.{seated}
-use Rattle.volume.proofs.Declines.{refused_declined, refused_loud}
+use Rattle.volume.proofs.Declines.{refused_declined}
 use Rattle.journal.proofs.Bounds.{admitted_asked, long_kept, refused_given, spoilt_bounds, submitted_bounds}
 use Rattle.journal.proofs.Keeping.{kept_room, submitted_kept, submitted_keeps, spoilt_keeps, declined_spoils}
 use Rattle.journal.proofs.Marks.{mark_noted, marked_bounds, marked_keeps, none_noted}
@@ -47,7 +47,7 @@ invariant_of-self-in-Err-submit g c =
     rw c.reserve.ensures.items
     (record {
       audit = spoilt_keeps _ _ c.self.inside.loud (plain_of g.B.Block.contents g.B.Block.layers c.self.inside.volume) (plain_of g.B.Block.contents g.B.Block.layers c.submit.new.self) _ _ _ _ c.self.invariant.audit
-          (refused_loud g.B.Block.contents g.B.Block.layers g.B.Block.size c.self.inside.volume c.submit.new.self c.args.request c.in-Err.refusal refused)
+          c.in-Err.ensures.does.loud
           (refused_requests g.B.Block.contents g.B.Block.layers g.B.Block.size c.args.request c.in-Err.refusal c.self.inside.volume c.submit.new.self refused)
           (saved_same g.B.Block.contents g.B.Block.layers c.self.inside.volume c.submit.new.self c.in-Err.ensures.does.kept.numbers)
           (λ loud. declined_spoils c.args.request c.in-Err.refusal _ _ other (refused_declined g.B.Block.contents g.B.Block.layers g.B.Block.size c.self.inside.volume c.submit.new.self c.args.request c.in-Err.refusal refused loud))
@@ -66,16 +66,12 @@ invariant_of-self-then-is_overflow g c =
     rw c.reserve.ensures.items
     (record {
       audit = marked_keeps _ _ c.self.inside.loud (plain_of g.B.Block.contents g.B.Block.layers c.self.inside.volume) (plain_of g.B.Block.contents g.B.Block.layers c.submit.new.self) _ c.self.invariant.audit
-          (refused_loud g.B.Block.contents g.B.Block.layers g.B.Block.size c.self.inside.volume c.submit.new.self c.args.request c.in-Err.refusal refused) requests
+          c.in-Err.ensures.does.loud requests
           (saved_same g.B.Block.contents g.B.Block.layers c.self.inside.volume c.submit.new.self c.in-Err.ensures.does.kept.numbers) c.args.request c.in-Err.refusal _ _ _ overflow
           (λ loud. refused_declined g.B.Block.contents g.B.Block.layers g.B.Block.size c.self.inside.volume c.submit.new.self c.args.request c.in-Err.refusal refused loud) c.note_mark.ensures.capacity noted;
       bounded = marked_bounds _ _ c.self.inside.loud _ _ _ c.args.request.dev (plain_of g.B.Block.contents g.B.Block.layers c.submit.new.self).saved _ _ _ c.self.invariant.bounded (refused_given g.B.Block.contents g.B.Block.layers g.B.Block.size c.args.request c.in-Err.refusal _ _ refused)
           (long_kept g.B.Block.contents g.B.Block.layers g.B.Block.size g.met.B.Block.whole c.self.inside.volume c.submit.new.self (ap g.B.Block.size c.in-Err.ensures.does.untouched.origin)) requests noted;
     })
-
-pub returns-else-is_overflow-clause-loud : goal.returns-else-is_overflow-clause-loud
-returns-else-is_overflow-clause-loud g c =
-    rw (← c.self.view_is) (refused_loud g.B.Block.contents g.B.Block.layers g.B.Block.size c.self.inside.volume c.submit.new.self c.args.request c.in-Err.refusal c.in-Err.ensures.refused)
 
 pub returns-else-is_overflow-clause-noted : goal.returns-else-is_overflow-clause-noted
 returns-else-is_overflow-clause-noted g c =

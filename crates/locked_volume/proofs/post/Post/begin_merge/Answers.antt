@@ -1,9 +1,12 @@
 -- A seat has seen all entries, before and after.
-use Rattle.std.proofs.Common.{◌≡◌, false, ◌++◌, [], ◌∷◌, refl, sym, ap, ◌∙◌, subst}
+use Rattle.std.proofs.Common.{◌≡◌, true, false, ◌++◌, [], ◌∷◌, refl, sym, ap, ◌∙◌, subst}
 use Rattle.journal.specs.declared.entry.Entry.TheVariants.{Begun}
 use Rattle.volume.specs.Leaving.{is_quiet_of}
 use Rattle.locked_volume.specs.Denying.{Begin, WasDenied}
 use Rattle.locked_volume.specs.Posts.{IsKeeper}
+use Rattle.std.proofs.lemmas.List.Elements.{All-same}
+use Rattle.locked_volume.specs.AskedFor.{IsAskedFor}
+use Rattle.locked_volume.proofs.AskedFor.{more_asked, none_asked, one_asked}
 use Rattle.locked_volume.proofs.Denied.{busy_so, merge_denied}
 use Rattle.locked_volume.proofs.Fresh.{fresh_is}
 use Rattle.locked_volume.proofs.Passes.{shown_as}
@@ -44,11 +47,17 @@ invariant_of-self g c =
     c.note.ensures.is c.entries.ensures.value c.entries-from.ensures.value
     (ap (λ a. a.entries) left.becomes) (ap (λ a. a.held) left.becomes)
     (stays_begun g.B.Block.size g.B.Block.layers _ c.self.inside.audit c.begin_merge.new.self c.args.number c.self.invariant.0.stays
-    c.in-Ok.ensures.does.admitted c.in-Ok.ensures.does.begun c.in-Ok.ensures.does.loud (ap (λ a. a.loud) left.becomes) (ap (λ a. a.base) left.becomes) (ap (λ a. a.folded) left.becomes)) in (
+    c.in-Ok.ensures.does.admitted c.in-Ok.ensures.does.begun c.in-Ok.ensures.does.loud (ap (λ a. a.loud) left.becomes) (ap (λ a. a.base) left.becomes) (ap (λ a. a.folded) left.becomes)) in
+    let merges = g.J.Room.merges c.self.inside.volume in
+    let asked = more_asked merges c.look-me.new.keeper.me.0 c.note.new.keeper.me.0 c.entries.result.now c.entries-from.result.now c.self.inside.audit.entries c.begin_merge.new.self.entries (Begun c.args.number ∷ [])
+    c.note.ensures.is c.entries.ensures.value c.entries-from.ensures.value (ap (λ a. a.entries) left.becomes)
+    (All-same (IsAskedFor merges) _ _ (ap (λ v. v.all) c.look-me.ensures.keeper.1) c.self.invariant.2)
+    (one_asked merges [] (Begun c.args.number) (none_asked merges) (subst (λ p. g.J.Room.merges p.volume c.args.number ≡ true) (sym c.self.view_is) c.requires.asked)) in (
       looked_holds g.B.Block.size g.B.Block.layers history start fixed c.begin_merge.new.self c.note.new.keeper c.look-me-in-Ok.new.keeper c.look-me.result.me.0 noted
           (c.look-me-in-Ok.ensures.keeper.0.0 ∙ named) c.look-me-in-Ok.ensures.keeper.0.1 c.look-me-in-Ok.ensures.keeper.1,
       shown_as c.args.beside.now.boards (g.J.Room.boards c.self.inside.volume) c.begin_merge.new.self.volume c.begin_merge.new.self.volume c.keep_up.new.publishers
           (c.requires.beside.boards_are ∙ sym (ap (λ p. g.J.Room.boards p.volume) c.self.view_is)) refl c.keep_up.ensures.shown,
+      All-same (IsAskedFor merges) _ _ (ap (λ v. v.all) c.look-me-in-Ok.ensures.keeper.1) asked,
     )
 
 pub invariant_of-self-in-Err : goal.invariant_of-self-in-Err
@@ -62,6 +71,7 @@ invariant_of-self-in-Err g c =
       not_begun_holds g.B.Block.size g.B.Block.layers history start fixed c.self.inside.audit c.begin_merge.new.self c.look-me.new.keeper c.args.number c.in-Err.refusal looked c.in-Err.ensures.refused,
       shown_as c.args.beside.now.boards (g.J.Room.boards c.self.inside.volume) c.begin_merge.new.self.volume c.begin_merge.new.self.volume c.keep_up-in-Err.new.publishers
           (c.requires.beside.boards_are ∙ sym (ap (λ p. g.J.Room.boards p.volume) c.self.view_is)) refl c.keep_up-in-Err.ensures.shown,
+      All-same (IsAskedFor (g.J.Room.merges c.self.inside.volume)) _ _ (ap (λ v. v.all) c.look-me.ensures.keeper.1) c.self.invariant.2,
     )
 
 pub returns-in-Err-clause-busy : goal.returns-in-Err-clause-busy

@@ -25,10 +25,10 @@ returns-after-self-clause-ok c =
     let both : c.if-self.self ≡ (c.self.inside.sound && is_loud here.device.layers) =
     elim c.if-self.branch [ then-self w ↦ rw sound (w.self-is ∙ same) | else-self w ↦ absurd (cc) ] in
     let alone = c.in-Ok-attach.ensures.seen.alone in
-    let unmerged : (merged_inside c.attach.new.self).merge ≡ (merged_inside c.self.inside.volume).merge = ap (λ (o : Option (Merging Stack)). merge_by o) (alone.1 ∙ sym alone.0) in
-    let none : is_some (merging_with c.self.inside.merging c.self.inside.volume) ≡ false = begun_too _ c.self.inside.volume c.self.invariant.begun ∙ c.self.invariant.begun ∙ ap (λ (o : Option (Merging Stack)). is_some o) alone.0 in
-    rw (merging_as_before c.self.inside.merging c.self.inside.volume c.attach.new.self unmerged) (
-    met c.args.name c.args.chunk c.args.overflow here _ c.push_reserved.new.self.items (settled_in c.attach.new.self) c.attach.new.self.attached c.in-Ok-attach.field-0 c.if-self.self none
+    let unmerged : (merged_inside c.attach.new.self.rested).merge ≡ (merged_inside c.self.inside.volume.rested).merge = ap (λ (o : Option (Merging Stack)). merge_by o) (alone.1 ∙ sym alone.0) in
+    let none : is_some (merging_with c.self.inside.merging c.self.inside.volume.rested) ≡ false = begun_too _ c.self.inside.volume.rested c.self.invariant.begun ∙ c.self.invariant.begun ∙ ap (λ (o : Option (Merging Stack)). is_some o) alone.0 in
+    rw (merging_as_before c.self.inside.merging c.self.inside.volume.rested c.attach.new.self.rested unmerged) (
+    met c.args.name c.args.chunk c.args.overflow here _ c.push_reserved.new.self.items (settled_in c.attach.new.self.rested) c.attach.new.self.rested.attached c.in-Ok-attach.field-0 c.if-self.self none
     (c.in-Ok-attach.ensures.does.number ∙ ap (λ (x : Rested Stack). x.attached + 1) (sym c.attach.ensures.whole.0)) (c.in-Ok-attach.ensures.seen.exact (c.look.ensures c.in-Ok-attach.ensures.seen.quiet.0 (c.self.invariant.loud sound)) loud)
     (c.push_reserved.ensures.items ∙ ap (λ names. names ++ (record { snapshot = c.args.name; store = here.names; overflow = c.args.overflow }) ∷ []) c.reserve.ensures.items) c.in-Ok-attach.ensures.seen.taken.attached both)))))
 
@@ -37,9 +37,9 @@ returns-in-Err-attach-clause-err c =
     rw (← c.self.view_is) (λ other sound quiet loud. elim c.in-Err-attach.ensures.refused [
       | inl starved ↦ absurd (no_both (is_starved c.in-Err-attach.refusal) starved.0 other)
       | inr why ↦
-          unmet c.args.chunk (stack_size c.self.inside.volume.origin) _ (stack_contents c.into_parts-names.result.1) c.into_parts-names.result.0.items c.into_parts-names.result.1 c.into_parts-names.result.2 c.in-Err-attach.store c.args.stack c.of_parts.result c.self.inside.volume.events c.in-Err-attach.refusal
-          why c.in-Err-attach.ensures.does.unread c.into_parts-names.ensures c.of_parts.ensures c.args.name c.args.overflow _ (settled_in c.attach.new.self)
-          (begun_too _ c.self.inside.volume c.self.invariant.begun ∙ c.self.invariant.begun) c.in-Err-attach.ensures.does.stale
+          unmet c.args.chunk (stack_size c.self.inside.volume.rested.origin) _ (stack_contents c.into_parts-names.result.1) c.into_parts-names.result.0.items c.into_parts-names.result.1 c.into_parts-names.result.2 c.in-Err-attach.store c.args.stack c.of_parts.result c.self.inside.volume.rested.events c.in-Err-attach.refusal
+          why c.in-Err-attach.ensures.does.unread c.into_parts-names.ensures c.of_parts.ensures c.args.name c.args.overflow _ (settled_in c.attach.new.self.rested)
+          (begun_too _ c.self.inside.volume.rested c.self.invariant.begun ∙ c.self.invariant.begun) c.in-Err-attach.ensures.does.stale
           (λ fresh. c.in-Err-attach.ensures.seen.back other fresh (c.look.ensures quiet (c.self.invariant.loud sound)) (subst (λ (s : Stacked). is_loud s.device.layers ≡ true) c.into_parts-names.ensures loud))
     ])
 
@@ -53,8 +53,8 @@ returns-in-Err-attach-clause-busy c =
     rw (← c.self.view_is) (λ busy. elim c.in-Err-attach.ensures.refused [
       | inl starved ↦ (inl starved.0, rw c.into_parts-names.ensures (rw c.of_parts.ensures (rw starved.1 refl)))
       | inr why ↦
-          busy_back c.args.chunk (stack_size c.self.inside.volume.origin) _ (stack_contents c.into_parts-names.result.1) c.into_parts-names.result.0.items c.into_parts-names.result.1 c.into_parts-names.result.2 c.in-Err-attach.store c.args.stack c.of_parts.result c.self.inside.volume.events c.in-Err-attach.refusal
-          why c.in-Err-attach.ensures.does.unread c.into_parts-names.ensures c.of_parts.ensures _ (begun_too _ c.self.inside.volume c.self.invariant.begun ∙ c.self.invariant.begun) busy
+          busy_back c.args.chunk (stack_size c.self.inside.volume.rested.origin) _ (stack_contents c.into_parts-names.result.1) c.into_parts-names.result.0.items c.into_parts-names.result.1 c.into_parts-names.result.2 c.in-Err-attach.store c.args.stack c.of_parts.result c.self.inside.volume.rested.events c.in-Err-attach.refusal
+          why c.in-Err-attach.ensures.does.unread c.into_parts-names.ensures c.of_parts.ensures _ (begun_too _ c.self.inside.volume.rested c.self.invariant.begun ∙ c.self.invariant.begun) busy
     ])
 
 pub returns-in-Err-attach-clause-refused : goal.returns-in-Err-attach-clause-refused
@@ -62,12 +62,12 @@ returns-in-Err-attach-clause-refused c =
     rw (← c.self.view_is) (elim c.in-Err-attach.ensures.refused [
       | inl starved ↦ inl starved.0
       | inr why ↦ inr (rw c.into_parts-names.ensures (record {
-        events = c.self.inside.volume.events;
-        origin = c.self.inside.volume.origin;
+        events = c.self.inside.volume.rested.events;
+        origin = c.self.inside.volume.rested.origin;
         store = c.into_parts-names.result.1;
         quiet = refl;
-        merge = sym (begun_too _ c.self.inside.volume c.self.invariant.begun ∙ c.self.invariant.begun);
-        snaps = as_many c.self.inside.volume c.attach.ensures.whole.0;
+        merge = sym (begun_too _ c.self.inside.volume.rested c.self.invariant.begun ∙ c.self.invariant.begun);
+        snaps = as_many c.self.inside.volume.rested c.attach.ensures.whole.0;
         given = sym (ap (λ (x : Rested Stack). x.attached) c.attach.ensures.whole.0);
         origin_is = refl;
         store_is = refl;
@@ -84,12 +84,12 @@ returns-in-Err-attach-clause-same c =
       under = m.under.items;
       stale = m.stale;
       snaps = m.snaps.items;
-      merging = merging_with m.merging m.volume;
-      state = settled_in m.volume;
-      given = m.volume.attached;
+      merging = merging_with m.merging m.volume.rested;
+      state = settled_in m.volume.rested;
+      given = m.volume.rested.attached;
       asked = m.asked;
       sound = m.sound;
-      quiet = is_quiet_of m.volume.events;
-      flying = flying_in m.volume.events;
+      quiet = is_quiet_of m.volume.rested.events;
+      flying = flying_in m.volume.rested.events;
     } in
-    rw c.reserve.ensures.items (refused_seen c.in-Err-attach.refusal m.volume c.attach.new.self c.in-Err-attach.ensures.seen.same held m.merging ∙ c.self.view_is)
+    rw c.reserve.ensures.items (refused_seen c.in-Err-attach.refusal m.volume.rested c.attach.new.self.rested c.in-Err-attach.ensures.seen.same held m.merging ∙ c.self.view_is)

@@ -15,7 +15,7 @@ use Rattle.named_volume.proofs.origin.NamedVolume.begin_merge.Goals as goal
 
 pub returns-then-is_some-clause-err : goal.returns-then-is_some-clause-err
 returns-then-is_some-clause-err c =
-    rw (← c.self.view_is) (refl, λ other. begun_once c.args.k _ (begun_too c.self.inside.merging c.self.inside.volume c.self.invariant.begun ∙ sym c.is_some.ensures ∙ c.if-is_some.true))
+    rw (← c.self.view_is) (refl, λ other. begun_once c.args.k _ (begun_too c.self.inside.merging c.self.inside.volume.rested c.self.invariant.begun ∙ sym c.is_some.ensures ∙ c.if-is_some.true))
 
 pub returns-then-is_some-clause-done : goal.returns-then-is_some-clause-done
 returns-then-is_some-clause-done c = λ sound. returns-then-is_some-clause-err c
@@ -27,9 +27,9 @@ invariant_of-self c =
     let lt = rw (← c.self.view_is) at c.requires in
     let many = old.many in
     let names = length-remove c.self.inside.snaps.items c.args.k lt in
-    let snaps = length-remove c.self.inside.volume.snaps c.args.k (omega (arith, lt, many)) in
+    let snaps = length-remove c.self.inside.volume.rested.snaps c.args.k (omega (arith, lt, many)) in
     let left : length c.remove.new.self.items ≡ length (remove c.self.inside.snaps.items c.args.k) = ap length c.remove.ensures.items in
-    let gone : length c.begin_merge.new.self.snaps ≡ length (remove c.self.inside.volume.snaps c.args.k) = ap length (out.snaps ∙ c.number-number.ensures.rest) in
+    let gone : length c.begin_merge.new.self.rested.snaps ≡ length (remove c.self.inside.volume.rested.snaps c.args.k) = ap length (out.snaps ∙ c.number-number.ensures.rest) in
     record {
       many = omega (arith, many, names, snaps, left, gone);
       begun = sym (ap (λ (o : Option (Merging Stack)). is_some o) out.begun);
@@ -43,10 +43,10 @@ returns-in-Ok-clause-done c =
     let many = c.self.invariant.many in
     let out = c.in-Ok.ensures.seen.begun in
     let quiet = c.in-Ok.ensures.seen.quiet in
-    let unmerged : is_some (merging_with c.self.inside.merging c.self.inside.volume) ≡ false = begun_too c.self.inside.merging c.self.inside.volume c.self.invariant.begun ∙ sym c.is_some.ensures ∙ c.if-is_some.false in
+    let unmerged : is_some (merging_with c.self.inside.merging c.self.inside.volume.rested) ≡ false = begun_too c.self.inside.merging c.self.inside.volume.rested c.self.invariant.begun ∙ sym c.is_some.ensures ∙ c.if-is_some.false in
     rw (← c.self.view_is) (λ sound.
-    begun_is c.args.k _ c.self.inside.volume c.number-number.result c.remove.result refl unmerged lt c.remove.ensures.value (omega (arith, lt, many)) c.number-number.ensures.value c.number-number.ensures.first
-    c.begin_merge.new.self out (c.in-Ok.ensures.seen.merged (c.look.ensures quiet.0 (c.self.invariant.loud sound))) quiet.0 _
+    begun_is c.args.k _ c.self.inside.volume.rested c.number-number.result c.remove.result refl unmerged lt c.remove.ensures.value (omega (arith, lt, many)) c.number-number.ensures.value c.number-number.ensures.first
+    c.begin_merge.new.self.rested out (c.in-Ok.ensures.seen.merged (c.look.ensures quiet.0 (c.self.invariant.loud sound))) quiet.0 _
     (rw c.remove.ensures.items (rw out.attached (rw quiet.1 (rw quiet.0 refl)))))
 
 pub returns-in-Ok-clause-named : goal.returns-in-Ok-clause-named
@@ -61,8 +61,8 @@ returns-in-Ok-clause-named c =
       names = c.remove.result;
       named = rw (slice_get_read c.self.inside.snaps.items (length c.self.inside.snaps.items) c.args.k c.remove.result refl lt c.remove.ensures.value) refl;
       snaps = c.remove.ensures.items;
-      before = names_are c.self.inside.merging c.self.inside.volume c.self.invariant.begun ∙ none_of c.self.inside.merging none;
-      merging = names_are (Some c.remove.result) c.begin_merge.new.self (sym (ap (λ (o : Option (Merging Stack)). is_some o) out.begun));
+      before = names_are c.self.inside.merging c.self.inside.volume.rested c.self.invariant.begun ∙ none_of c.self.inside.merging none;
+      merging = names_are (Some c.remove.result) c.begin_merge.new.self.rested (sym (ap (λ (o : Option (Merging Stack)). is_some o) out.begun));
       given = out.attached;
     })
 
@@ -70,7 +70,7 @@ pub returns-in-Err-clause-err : goal.returns-in-Err-clause-err
 returns-in-Err-clause-err c =
     let lt = rw (← c.self.view_is) at c.requires in
     let many = c.self.invariant.many in
-    let old = c.self.inside.volume in
+    let old = c.self.inside.volume.rested in
     let one = here c.self.inside.snaps.items c.args.k lt in
     let none : is_some c.self.inside.merging ≡ false = sym c.is_some.ensures ∙ c.if-is_some.false in
     let unmerged : is_some (merging_with c.self.inside.merging old) ≡ false = begun_too c.self.inside.merging old c.self.invariant.begun ∙ none in
@@ -83,7 +83,7 @@ returns-in-Err-clause-err c =
       )
       | inr more ↦ elim more [
         | inl starved ↦ (
-          (let same = starved.2 in rw (alike_state old c.begin_merge.new.self same) (rw (alike_merging old c.begin_merge.new.self same c.self.inside.merging) (rw (alike_flying old c.begin_merge.new.self same) (rw same.attached (rw same.quiet refl))))),
+          (let same = starved.2 in rw (alike_state old c.begin_merge.new.self.rested same) (rw (alike_merging old c.begin_merge.new.self.rested same c.self.inside.merging) (rw (alike_flying old c.begin_merge.new.self.rested same) (rw same.attached (rw same.quiet refl))))),
           λ other. absurd (no_both (is_starved c.in-Err.refusal) (ap is_starved starved.1) other),
         )
         | inr full ↦ (rw full.1 refl, λ other. absurd (no_both (is_starved c.in-Err.refusal) (ap is_starved full.0) other))

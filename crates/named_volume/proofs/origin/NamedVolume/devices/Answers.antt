@@ -10,7 +10,7 @@ use Rattle.named_volume.proofs.origin.NamedVolume.devices.Goals.{in-None, in-Som
 
 pub returns : goal.returns
 returns c =
-    let count = left_count c.self.inside.snaps.items c.self.inside.merging c.self.inside.volume c.self.invariant.many c.self.invariant.begun in
+    let count = left_count c.self.inside.snaps.items c.self.inside.merging c.self.inside.volume.rested c.self.invariant.many c.self.invariant.begun in
     let left = sym (ap (λ (v : Volume). length (stores_left v.snaps v.state.snaps v.merging)) c.self.view_is) ∙ count in
     elim c.match-self.branch [
       | in-None w ↦ (let none = left ∙ cond-false _ _ _ (ap is_some w.in-None.is) in let is = w.stores-is in let len = w.len-stores.ensures in let add = c.saturating_add.ensures in omega (arith, none, is, len, add))

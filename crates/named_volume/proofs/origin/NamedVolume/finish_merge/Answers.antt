@@ -12,8 +12,8 @@ pub returns-in-Err-clause-refused : goal.returns-in-Err-clause-refused
 returns-in-Err-clause-refused c =
     rw (← c.self.view_is) (λ sound quiet other.
     elim c.in-Err.ensures.refused [
-      | inl first ↦ unfinished_is _ c.self.inside.volume c.self.inside.merging c.in-Err.refusal refl
-          (c.in-Err.ensures.seen.unfinished (unfinished_served c.self.inside.volume.events.merge (is_quiet_of c.self.inside.volume.events) c.in-Err.refusal first) (c.look.ensures quiet (c.self.invariant.loud sound)))
+      | inl first ↦ unfinished_is _ c.self.inside.volume.rested c.self.inside.merging c.in-Err.refusal refl
+          (c.in-Err.ensures.seen.unfinished (unfinished_served c.self.inside.volume.rested.events.merge (is_quiet_of c.self.inside.volume.rested.events) c.in-Err.refusal first) (c.look.ensures quiet (c.self.invariant.loud sound)))
       | inr full ↦ absurd (other full)
     ])
 
@@ -21,7 +21,7 @@ pub returns-in-Err-clause-unfinished : goal.returns-in-Err-clause-unfinished
 returns-in-Err-clause-unfinished c =
     rw (← c.self.view_is) (λ other.
     elim c.in-Err.ensures.refused [
-      | inl first ↦ (c.self.inside.volume.events, behind c.self.inside.volume _ c.finish_merge.ensures.whole.0 refl (merge_is _ c.self.inside.volume c.self.invariant.begun) refl refl, first)
+      | inl first ↦ (c.self.inside.volume.rested.events, behind c.self.inside.volume.rested _ c.finish_merge.ensures.whole.0 refl (merge_is _ c.self.inside.volume.rested c.self.invariant.begun) refl refl, first)
       | inr full ↦ absurd (other full)
     ])
 
@@ -31,11 +31,11 @@ returns-clause-parted c =
     let quiet = c.in-Ok.ensures.seen.quiet in
     let names : Names = record { snapshot = c.in-Some.field-0.snapshot; store = c.in-Some.field-0.store.items; overflow = c.in-Some.field-0.overflow } in
     let was : c.self.inside.merging ≡ Some names = sym c.take.ensures.value ∙ (rw (← c.take-2.view_is) (rw c.in-Some.is refl)) in
-    let merging = ap (λ (o : Option Names). merging_with o c.self.inside.volume) was in
+    let merging = ap (λ (o : Option Names). merging_with o c.self.inside.volume.rested) was in
     rw (← c.self.view_is) (λ sound.
-    finished_is _ c.self.inside.volume c.finish_merge.new.self names c.in-Ok.given refl merging out quiet.0 (c.in-Ok.ensures.seen.merged (c.look.ensures quiet.0 (c.self.invariant.loud sound)))
+    finished_is _ c.self.inside.volume.rested c.finish_merge.new.self.rested names c.in-Ok.given refl merging out quiet.0 (c.in-Ok.ensures.seen.merged (c.look.ensures quiet.0 (c.self.invariant.loud sound)))
     c.of_parts.result _ c.of_parts.ensures
-    (rw c.take.ensures.after (rw (same_state c.in-Ok.given c.self.inside.volume c.finish_merge.new.self out) (rw out.attached (rw quiet.1 (rw quiet.0 refl))))))
+    (rw c.take.ensures.after (rw (same_state c.in-Ok.given c.self.inside.volume.rested c.finish_merge.new.self.rested out) (rw out.attached (rw quiet.1 (rw quiet.0 refl))))))
 
 pub returns-clause-named : goal.returns-clause-named
 returns-clause-named c =
@@ -48,8 +48,8 @@ returns-clause-named c =
       stale = refl;
       snaps = refl;
       names = names;
-      was = names_are c.self.inside.merging c.self.inside.volume c.self.invariant.begun ∙ was;
+      was = names_are c.self.inside.merging c.self.inside.volume.rested c.self.invariant.begun ∙ was;
       store = ap (λ (s : Stacked). s.names) c.of_parts.ensures;
-      merging = ap (λ (o : Option Names). names_in (merging_with o c.finish_merge.new.self)) c.take.ensures.after;
+      merging = ap (λ (o : Option Names). names_in (merging_with o c.finish_merge.new.self.rested)) c.take.ensures.after;
       given = out.attached;
     })

@@ -13,21 +13,21 @@ returns-in-Err-clause-done c =
 pub returns-then-is_quiet-clause-done : goal.returns-then-is_quiet-clause-done
 returns-then-is_quiet-clause-done c =
     rw (← c.self.view_is) (λ sound quiet.
-    flush_does c.args.role _ _ c.in-Ok.asks.0 (span_of c.in-Ok.asks.1) c.self.inside.volume c.flush.new.self (c.in-Ok.ensures.ok _ refl refl) (inside_is _ c.self.inside.volume c.self.invariant.begun) (rw (goes_on _ c.self.inside.volume c.flush.new.self c.self.invariant.begun (c.self.invariant.begun ∙ still_begun c.self.inside.volume c.flush.new.self c.flush.ensures.kept.merging)) (rw c.flush.ensures.kept.attached (rw c.in-Ok.ensures.more.0 (rw c.flush.ensures.quiet (rw (sym c.is_quiet.ensures.value ∙ c.if-is_quiet.true) refl)))))
+    flush_does c.args.role _ _ c.in-Ok.asks.0 (span_of c.in-Ok.asks.1) c.self.inside.volume.rested c.flush.new.self.rested (c.in-Ok.ensures.ok _ refl refl) (inside_is _ c.self.inside.volume.rested c.self.invariant.begun) (rw (goes_on _ c.self.inside.volume.rested c.flush.new.self.rested c.self.invariant.begun (c.self.invariant.begun ∙ still_begun c.self.inside.volume.rested c.flush.new.self.rested c.flush.ensures.kept.merging)) (rw c.flush.ensures.kept.attached (rw c.in-Ok.ensures.more.0 (rw c.flush.ensures.quiet (rw (sym c.is_quiet.ensures.value ∙ c.if-is_quiet.true) refl)))))
     (c.is_quiet.ensures.rest c.if-is_quiet.true (c.self.invariant.loud sound)) c.in-Ok.ensures.there c.flush.result c.flush.ensures.done c.flush.ensures.refused)
 
 pub returns-clause-among : goal.returns-clause-among
 returns-clause-among c =
     rw (← c.self.view_is) (λ busy.
-    flush_served c.self.inside.volume c.flush_among.new.self _ _ (behind c.self.inside.volume _ c.flush_among.ensures.whole.0 refl (merge_is _ c.self.inside.volume c.self.invariant.begun) refl refl) (behind c.flush_among.new.self _ c.flush_among.ensures.whole.1 refl (merge_is _ c.flush_among.new.self (c.self.invariant.begun ∙ still_begun c.self.inside.volume c.flush_among.new.self c.flush_among.ensures.kept.merging)) refl refl) c.in-Ok.asks.0 c.in-Ok.asks.1 _ (c.in-Ok.ensures.ok _ refl refl)
+    flush_served c.self.inside.volume.rested c.flush_among.new.self.rested _ _ (behind c.self.inside.volume.rested _ c.flush_among.ensures.whole.0 refl (merge_is _ c.self.inside.volume.rested c.self.invariant.begun) refl refl) (behind c.flush_among.new.self.rested _ c.flush_among.ensures.whole.1 refl (merge_is _ c.flush_among.new.self.rested (c.self.invariant.begun ∙ still_begun c.self.inside.volume.rested c.flush_among.new.self.rested c.flush_among.ensures.kept.merging)) refl refl) c.in-Ok.asks.0 c.in-Ok.asks.1 _ (c.in-Ok.ensures.ok _ refl refl)
     c.flush_among.ensures.whole.0 c.flush_among.ensures.whole.1 c.args.ended.now.items c.flush_among.new.ended.items c.flush_among.result c.flush_among.ensures.flushed c.flush_among.ensures.refused)
 
 pub returns-then-is_quiet-clause-denied : goal.returns-then-is_quiet-clause-denied
 returns-then-is_quiet-clause-denied c =
-    rw (← c.self.view_is) (λ quiet. flush_denied c.in-Ok.asks.0 c.self.inside.volume c.flush.new.self c.in-Ok.ensures.there _ c.flush.result c.flush.ensures.refused)
+    rw (← c.self.view_is) (λ quiet. flush_denied c.in-Ok.asks.0 c.self.inside.volume.rested c.flush.new.self.rested c.in-Ok.ensures.there _ c.flush.result c.flush.ensures.refused)
 
 pub returns-then-is_quiet-clause-at_rest : goal.returns-then-is_quiet-clause-at_rest
 returns-then-is_quiet-clause-at_rest c =
     rw (← c.self.view_is) (λ quiet.
-    flush_rested c.self.inside.volume c.flush.new.self _ _ (behind c.self.inside.volume _ c.flush.ensures.whole.0 refl (merge_is _ c.self.inside.volume c.self.invariant.begun) refl refl) (behind c.flush.new.self _ c.flush.ensures.whole.1 refl (merge_is _ c.flush.new.self (c.self.invariant.begun ∙ still_begun c.self.inside.volume c.flush.new.self c.flush.ensures.kept.merging)) refl refl) c.in-Ok.asks.0 c.in-Ok.asks.1 _ (c.in-Ok.ensures.ok _ refl refl)
+    flush_rested c.self.inside.volume.rested c.flush.new.self.rested _ _ (behind c.self.inside.volume.rested _ c.flush.ensures.whole.0 refl (merge_is _ c.self.inside.volume.rested c.self.invariant.begun) refl refl) (behind c.flush.new.self.rested _ c.flush.ensures.whole.1 refl (merge_is _ c.flush.new.self.rested (c.self.invariant.begun ∙ still_begun c.self.inside.volume.rested c.flush.new.self.rested c.flush.ensures.kept.merging)) refl refl) c.in-Ok.asks.0 c.in-Ok.asks.1 _ (c.in-Ok.ensures.ok _ refl refl)
     c.flush.result c.flush.ensures.answered (c.flush.ensures.undone c.in-Ok.ensures.there))

@@ -8,5 +8,5 @@ use Rattle.named_volume.proofs.origin.NamedVolume.line_of_origin.Goals as goal
 pub line_of_merged_origin-requires : goal.line_of_merged_origin-requires
 line_of_merged_origin-requires c =
     let was : c.self.inside.merging ≡ Some c.in-Some.names = c.in-Some.is in
-    let stand = names_stand c.in-Some.names c.self.inside.volume (sym (ap (λ (o : Option Names). is_some o) was) ∙ c.self.invariant.begun) in
-    rw (← c.self.view_is) (stand.0, ap (λ (o : Option Names). merging_with o c.self.inside.volume) was ∙ stand.1, stand.2)
+    let stand = names_stand c.in-Some.names c.self.inside.volume.rested (sym (ap (λ (o : Option Names). is_some o) was) ∙ c.self.invariant.begun) in
+    rw (← c.self.view_is) (stand.0, ap (λ (o : Option Names). merging_with o c.self.inside.volume.rested) was ∙ stand.1, stand.2)

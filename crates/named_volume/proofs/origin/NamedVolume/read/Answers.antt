@@ -13,21 +13,21 @@ returns-in-Err-clause-done c =
 pub returns-then-is_quiet-clause-done : goal.returns-then-is_quiet-clause-done
 returns-then-is_quiet-clause-done c =
     rw (← c.self.view_is) (λ sound quiet.
-    read_does c.args.role c.args.first c.args.count _ _ c.in-Ok.asks.0 (span_of c.in-Ok.asks.1) c.self.inside.volume c.read.new.self (c.in-Ok.ensures.ok _ refl refl) (inside_is _ c.self.inside.volume c.self.invariant.begun) (rw (goes_on _ c.self.inside.volume c.read.new.self c.self.invariant.begun (c.self.invariant.begun ∙ still_begun c.self.inside.volume c.read.new.self c.read.ensures.kept.merging)) (rw c.read.ensures.kept.attached (rw c.in-Ok.ensures.more.0 (rw c.read.ensures.quiet (rw (sym c.is_quiet.ensures.value ∙ c.if-is_quiet.true) refl)))))
+    read_does c.args.role c.args.first c.args.count _ _ c.in-Ok.asks.0 (span_of c.in-Ok.asks.1) c.self.inside.volume.rested c.read.new.self.rested (c.in-Ok.ensures.ok _ refl refl) (inside_is _ c.self.inside.volume.rested c.self.invariant.begun) (rw (goes_on _ c.self.inside.volume.rested c.read.new.self.rested c.self.invariant.begun (c.self.invariant.begun ∙ still_begun c.self.inside.volume.rested c.read.new.self.rested c.read.ensures.kept.merging)) (rw c.read.ensures.kept.attached (rw c.in-Ok.ensures.more.0 (rw c.read.ensures.quiet (rw (sym c.is_quiet.ensures.value ∙ c.if-is_quiet.true) refl)))))
     (c.is_quiet.ensures.rest c.if-is_quiet.true (c.self.invariant.loud sound)) c.in-Ok.ensures.there c.read.result c.read.ensures.done c.read.ensures.refused)
 
 pub returns-clause-among : goal.returns-clause-among
 returns-clause-among c =
     rw (← c.self.view_is) (λ busy.
-    read_served c.self.inside.volume c.read_among.new.self _ _ (behind c.self.inside.volume _ c.read_among.ensures.whole.0 refl (merge_is _ c.self.inside.volume c.self.invariant.begun) refl refl) (behind c.read_among.new.self _ c.read_among.ensures.whole.1 refl (merge_is _ c.read_among.new.self (c.self.invariant.begun ∙ still_begun c.self.inside.volume c.read_among.new.self c.read_among.ensures.kept.merging)) refl refl) c.in-Ok.asks.0 c.in-Ok.asks.1 _ (c.in-Ok.ensures.ok _ refl refl)
+    read_served c.self.inside.volume.rested c.read_among.new.self.rested _ _ (behind c.self.inside.volume.rested _ c.read_among.ensures.whole.0 refl (merge_is _ c.self.inside.volume.rested c.self.invariant.begun) refl refl) (behind c.read_among.new.self.rested _ c.read_among.ensures.whole.1 refl (merge_is _ c.read_among.new.self.rested (c.self.invariant.begun ∙ still_begun c.self.inside.volume.rested c.read_among.new.self.rested c.read_among.ensures.kept.merging)) refl refl) c.in-Ok.asks.0 c.in-Ok.asks.1 _ (c.in-Ok.ensures.ok _ refl refl)
     c.read_among.ensures.whole.0 c.read_among.ensures.whole.1 c.args.ended.now.items c.read_among.new.ended.items c.read_among.result c.read_among.ensures.read c.read_among.ensures.refused)
 
 pub returns-then-is_quiet-clause-denied : goal.returns-then-is_quiet-clause-denied
 returns-then-is_quiet-clause-denied c =
-    rw (← c.self.view_is) (λ quiet. read_denied c.in-Ok.asks.0 c.self.inside.volume c.read.new.self c.in-Ok.ensures.there _ (span_of c.in-Ok.asks.1) c.read.result c.read.ensures.refused)
+    rw (← c.self.view_is) (λ quiet. read_denied c.in-Ok.asks.0 c.self.inside.volume.rested c.read.new.self.rested c.in-Ok.ensures.there _ (span_of c.in-Ok.asks.1) c.read.result c.read.ensures.refused)
 
 pub returns-then-is_quiet-clause-at_rest : goal.returns-then-is_quiet-clause-at_rest
 returns-then-is_quiet-clause-at_rest c =
     rw (← c.self.view_is) (λ quiet.
-    read_rested c.self.inside.volume c.read.new.self _ _ (behind c.self.inside.volume _ c.read.ensures.whole.0 refl (merge_is _ c.self.inside.volume c.self.invariant.begun) refl refl) (behind c.read.new.self _ c.read.ensures.whole.1 refl (merge_is _ c.read.new.self (c.self.invariant.begun ∙ still_begun c.self.inside.volume c.read.new.self c.read.ensures.kept.merging)) refl refl) c.in-Ok.asks.0 c.in-Ok.asks.1 _ (c.in-Ok.ensures.ok _ refl refl)
+    read_rested c.self.inside.volume.rested c.read.new.self.rested _ _ (behind c.self.inside.volume.rested _ c.read.ensures.whole.0 refl (merge_is _ c.self.inside.volume.rested c.self.invariant.begun) refl refl) (behind c.read.new.self.rested _ c.read.ensures.whole.1 refl (merge_is _ c.read.new.self.rested (c.self.invariant.begun ∙ still_begun c.self.inside.volume.rested c.read.new.self.rested c.read.ensures.kept.merging)) refl refl) c.in-Ok.asks.0 c.in-Ok.asks.1 _ (c.in-Ok.ensures.ok _ refl refl)
     c.read.result c.read.ensures.answered (c.read.ensures.undone c.in-Ok.ensures.there))

@@ -11,13 +11,13 @@ use Rattle.named_volume.proofs.origin.NamedVolume.tell.Goals as goal
 pub invariant_of-self : goal.invariant_of-self
 invariant_of-self c =
     let told = c.tell_role.ensures in
-    stays_held _ _ c.self.inside.volume c.tell_role.new.volume _ _ c.self.invariant told.rest.kept told.rest.requests
+    stays_held _ _ c.self.inside.volume.rested c.tell_role.new.volume.rested _ _ c.self.invariant told.rest.kept told.rest.requests
 
 pub returns : goal.returns
 returns c =
     let told = c.tell_role.ensures in
     let begun = c.self.invariant.begun in
-    let after = begun ∙ still_begun c.self.inside.volume c.tell_role.new.volume told.rest.kept.merging in
+    let after = begun ∙ still_begun c.self.inside.volume.rested c.tell_role.new.volume.rested told.rest.kept.merging in
     rw (← c.self.view_is)
-    (mounted c.args.role c.args.message.now c.tell_role.result _ _ (merged_inside c.tell_role.new.volume) (rw (goes_on _ c.self.inside.volume c.tell_role.new.volume begun after) (rw told.rest.kept.attached (rw told.rest.quiet (rw told.rest.flying refl))))
-    (subst (λ (m : Merged). Steps c.tell_role.result m (merged_inside c.tell_role.new.volume) (told_role c.args.role c.args.message.now m)) (sym (inside_is _ c.self.inside.volume begun)) told.steps))
+    (mounted c.args.role c.args.message.now c.tell_role.result _ _ (merged_inside c.tell_role.new.volume.rested) (rw (goes_on _ c.self.inside.volume.rested c.tell_role.new.volume.rested begun after) (rw told.rest.kept.attached (rw told.rest.quiet (rw told.rest.flying refl))))
+    (subst (λ (m : Merged). Steps c.tell_role.result m (merged_inside c.tell_role.new.volume.rested) (told_role c.args.role c.args.message.now m)) (sym (inside_is _ c.self.inside.volume.rested begun)) told.steps))

@@ -22,7 +22,7 @@ returns-in-Submit-clause-opens g c = λ loud.
 pub returns-in-Step-clause-returned : goal.returns-in-Step-clause-returned
 returns-in-Step-clause-returned g c =
     let m : Measures g.row.B.Denot = record { contents = g.B.Block.contents; durable = g.B.Block.durable; size = g.B.Block.size; faults = g.B.Block.fault_count; done = g.B.Block.done_count } in
-    rw c.in-Step.is (step_returned g.B.Block.may_hold m g.B.Block.layers c.in-Step.event c.step.result c.args.self.now c.step.new.self c.step.ensures.does c.step.ensures.due)
+    rw c.in-Step.is (step_returned g.B.Block.may_hold m g.B.Block.layers c.in-Step.event c.step.result c.args.self.now c.step.new.self c.step.ensures.does)
 
 pub returns-in-Step-clause-opens : goal.returns-in-Step-clause-opens
 returns-in-Step-clause-opens g c = λ loud.

@@ -5,5 +5,5 @@ use Rattle.volume_commands.proofs.journaled.Journaled.due_events.Goals as goal
 
 pub returns-clause-all : goal.returns-clause-all
 returns-clause-all g c =
-    let are : IfOk c.due_of.result (λ events. events.items ≡ due_among g.B.Block.contents g.B.Block.layers c.args.self.now) = search rules in
-    told_all g.B.Block.contents g.B.Block.layers c.args.self.now c.due_of.result are
+    let are : IfOk c.due_of.result (λ events. events.items ≡ due_among g.B.Block.contents g.B.Block.layers c.args.self.now.volume) = search rules in
+    told_all g.B.Block.contents g.B.Block.layers c.args.self.now.volume c.due_of.result are

@@ -1,7 +1,7 @@
 -- There is a place for each live snapshot, and nothing is in flight.
 use Rattle.std.proofs.Common.{◌∙◌, ap}
 use Rattle.volume.specs.Volumed.{Volumed}
-use Rattle.volume_commands.proofs.Fewer.{none_flying, quiet_have}
+use Rattle.volume_commands.proofs.Fewer.{none_flying, quiet_have, quiet_places}
 use Rattle.volume_commands.proofs.journaled.Journaled.of_audit.Goals as goal
 
 pub invariant_of-result : goal.invariant_of-result
@@ -9,3 +9,8 @@ invariant_of-result g c =
     let counted = c.into_counted-volume.ensures in
     rw c.max.ensures (quiet_have c.into_counted-volume.result.0 c.into_counted-volume.result.1 c.count_live-live.result c.count_may-may.result
     (ap (λ (v : Volumed _). v.flights) counted.volume ∙ none_flying c.args.audit.held c.args.audit.volume.flights c.look_at_requests.ensures c.requires.none) c.count_live-live.ensures.count c.count_live-live.ensures.few c.count_may-may.ensures.count c.count_may-may.ensures.few counted.few)
+
+pub returns-clause-taken : goal.returns-clause-taken
+returns-clause-taken g c =
+    let counted = c.into_counted-volume.ensures in
+    rw c.max.ensures (quiet_places c.args.audit.volume c.into_counted-volume.result.0 c.into_counted-volume.result.1 _ c.count_live-live.result c.count_may-may.result counted.volume counted.places c.count_live-live.ensures.count c.count_may-may.ensures.count)

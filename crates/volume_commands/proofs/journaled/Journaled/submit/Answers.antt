@@ -1,13 +1,11 @@
 -- A request has one place more, and one that is refused none.
-use Rattle.std.proofs.Common.{arith}
-use Rattle.volume.proofs.Declines.{refused_loud}
-use Rattle.volume_commands.proofs.Fewer.{accepted_have, refused_fewer_marks, refused_have}
+use Rattle.std.proofs.Common.{◌≡◌, arith, ◌+◌, ◌<◌, ◌≤◌, inl, inr, refl}
+use Rattle.std.specs.Prelude.{◌-◌}
+use Rattle.volume_commands.specs.Places.{kept_for_marks}
+use Rattle.volume_commands.proofs.Fewer.{accepted_fewer_marks, accepted_have, refused_fewer_marks, refused_have}
 use Rattle.volume_commands.proofs.JournalGoing.{accepted_goes_on, refused_goes_on}
+use Rattle.volume_commands.proofs.Full.{has_room, is_full, unsent_other}
 use Rattle.volume_commands.proofs.journaled.Journaled.submit.Goals as goal
-
-pub returns-in-Err-clause-loud : goal.returns-in-Err-clause-loud
-returns-in-Err-clause-loud g c =
-    rw (← c.self.view_is) (refused_loud g.B.Block.contents g.B.Block.layers g.B.Block.size c.self.inside.volume c.submit.new.self c.args.request c.in-Err.refusal c.in-Err.ensures.refused)
 
 pub returns-in-Ok-clause-goes_on : goal.returns-in-Ok-clause-goes_on
 returns-in-Ok-clause-goes_on g c =
@@ -33,3 +31,30 @@ returns-in-Ok-clause-does g c = rw (← c.self.view_is) c.in-Ok.ensures.does
 
 pub returns-in-Err-clause-does : goal.returns-in-Err-clause-does
 returns-in-Err-clause-does g c = rw (← c.self.view_is) c.in-Err.ensures.does
+
+pub returns-then-self-may-gt-MAX_ENTRIES-clause-full : goal.returns-then-self-may-gt-MAX_ENTRIES-clause-full
+returns-then-self-may-gt-MAX_ENTRIES-clause-full g c =
+    let over : 65_536 < c.self.inside.places + kept_for_marks c.self.inside.volume + 1 = omega (arith, c.if-self-may-gt-MAX_ENTRIES.true, c.count_may-may.ensures.count) in
+    rw (← c.self.view_is) (inl (is_full 1 (c.self.inside.places + kept_for_marks c.self.inside.volume) over, refl))
+
+pub returns-in-Ok-clause-full : goal.returns-in-Ok-clause-full
+returns-in-Ok-clause-full g c =
+    let within : c.self.inside.places + kept_for_marks c.self.inside.volume + 1 ≤ 65_536 = omega (arith, c.if-self-may-gt-MAX_ENTRIES.false, c.count_may-may.ensures.count) in
+    rw (← c.self.view_is) (has_room 1 (c.self.inside.places + kept_for_marks c.self.inside.volume) within)
+
+pub returns-in-Err-clause-full : goal.returns-in-Err-clause-full
+returns-in-Err-clause-full g c =
+    let within : c.self.inside.places + kept_for_marks c.self.inside.volume + 1 ≤ 65_536 = omega (arith, c.if-self-may-gt-MAX_ENTRIES.false, c.count_may-may.ensures.count) in
+    rw (← c.self.view_is) (inr (has_room 1 (c.self.inside.places + kept_for_marks c.self.inside.volume) within, unsent_other g.B.Block.contents g.B.Block.layers g.B.Block.size c.args.request c.in-Err.refusal c.self.inside.volume c.submit.new.self c.in-Err.ensures.refused))
+
+pub returns-in-Ok-clause-taken : goal.returns-in-Ok-clause-taken
+returns-in-Ok-clause-taken g c =
+    let fewer = accepted_fewer_marks c.self.inside.volume c.submit.new.self g.B.Block.contents g.B.Block.layers c.args.request c.in-Ok.number c.in-Ok.ensures.does.ok in
+    let less : c.self.inside.places + 1 + kept_for_marks c.submit.new.self ≤ c.self.inside.places + kept_for_marks c.self.inside.volume + 1 = omega (arith, fewer) in
+    rw (← c.self.view_is) less
+
+pub returns-in-Err-clause-taken : goal.returns-in-Err-clause-taken
+returns-in-Err-clause-taken g c =
+    let fewer = refused_fewer_marks c.self.inside.volume c.submit.new.self g.B.Block.contents g.B.Block.layers g.B.Block.size c.args.request c.in-Err.refusal c.in-Err.ensures.refused in
+    let same : c.self.inside.places + (c.count_may-may.result - c.count_may.result) + kept_for_marks c.submit.new.self ≡ c.self.inside.places + kept_for_marks c.self.inside.volume = omega (arith, fewer, c.count_may.ensures.count, c.count_may-may.ensures.count) in
+    rw (← c.self.view_is) same

@@ -9,7 +9,7 @@ returns-clause-does g c = rw (← c.self.view_is) c.finish_merge.ensures.does
 
 pub returns-clause-seen : goal.returns-clause-seen
 returns-clause-seen g c =
-    rw (← c.self.view_is) (finish_seen g.B.Block.may_hold g.B.Block.contents g.B.Block.layers g.B.Block.size c.finish_merge.result c.self.inside.volume c.finish_merge.new.self
+    rw (← c.self.view_is) (finish_seen g.B.Block.may_hold g.B.Block.contents g.B.Block.layers g.B.Block.size c.finish_merge.result c.self.inside.volume.volume c.finish_merge.new.self.volume
     (λ quiet loud. c.is_quiet.ensures.between (c.is_quiet.ensures.value ∙ quiet) loud None) c.finish_merge.ensures.does c.finish_merge.ensures.err)
 
 pub returns-clause-refused : goal.returns-clause-refused

@@ -7,5 +7,5 @@ use Rattle.volume_commands.proofs.resting.Resting.merging_usage.Goals as goal
 
 pub returns-clause-some : goal.returns-clause-some
 returns-clause-some g c =
-    rw (← c.self.view_is) (used_merging c.self.inside.volume.merge c.in-Ok.usage
-    (holds_merging (λ m. c.in-Ok.usage ≡ Some (merging_usage m)) (λ s. c.in-Ok.usage ≡ usage_of s) c.in-Some.number c.self.inside.volume c.in-Some.ensures.value c.in-Ok.ensures.ok))
+    rw (← c.self.view_is) (used_merging c.self.inside.volume.volume.merge c.in-Ok.usage
+    (holds_merging (λ m. c.in-Ok.usage ≡ Some (merging_usage m)) (λ s. c.in-Ok.usage ≡ usage_of s) c.in-Some.number c.self.inside.volume.volume c.in-Some.ensures.value c.in-Ok.ensures.ok))

@@ -10,14 +10,14 @@ use Rattle.volume_commands.proofs.resting.Resting.message_merging.Goals as goal
 pub returns-clause-ok : goal.returns-clause-ok
 returns-clause-ok g c =
     let m : Measures g.row.B.Denot = record { contents = g.B.Block.contents; durable = g.B.Block.durable; size = g.B.Block.size; faults = g.B.Block.fault_count; done = g.B.Block.done_count } in
-    rw (← c.self.view_is) (if_ok c.message.result _ _ (λ answer told. merging_told_as m g.B.Block.layers c.args.depth c.args.message.now c.self.inside.volume c.message.new.self c.in-Some.merging c.in-Some.ensures.apart answer told) c.message.ensures.does.ok)
+    rw (← c.self.view_is) (if_ok c.message.result _ _ (λ answer told. merging_told_as m g.B.Block.layers c.args.depth c.args.message.now c.self.inside.volume.volume c.message.new.self.volume c.in-Some.merging c.in-Some.ensures.apart answer told) c.message.ensures.does.ok)
 
 pub returns-clause-err : goal.returns-clause-err
 returns-clause-err g c =
     let m : Measures g.row.B.Denot = record { contents = g.B.Block.contents; durable = g.B.Block.durable; size = g.B.Block.size; faults = g.B.Block.fault_count; done = g.B.Block.done_count } in
-    rw (← c.self.view_is) (merging_untold_as g.B.Block.may_hold m g.B.Block.layers c.in-Some.merging c.args.depth c.args.message.now c.message.result c.self.inside.volume c.message.new.self c.in-Some.ensures.apart (one_begun c.self.inside.volume.merge c.in-Some.merging c.in-Some.ensures.value) c.message.ensures.does)
+    rw (← c.self.view_is) (merging_untold_as g.B.Block.may_hold m g.B.Block.layers c.in-Some.merging c.args.depth c.args.message.now c.message.result c.self.inside.volume.volume c.message.new.self.volume c.in-Some.ensures.apart (one_begun c.self.inside.volume.volume.merge c.in-Some.merging c.in-Some.ensures.value) c.message.ensures.does)
 
 pub returns-clause-rest : goal.returns-clause-rest
 returns-clause-rest g c =
     let m : Measures g.row.B.Denot = record { contents = g.B.Block.contents; durable = g.B.Block.durable; size = g.B.Block.size; faults = g.B.Block.fault_count; done = g.B.Block.done_count } in
-    rw (← c.self.view_is) (message_changes g.B.Block.may_hold m g.B.Block.layers (Snap c.in-Some.merging) c.args.depth c.args.message.now c.message.result c.self.inside.volume c.message.new.self c.message.ensures.does)
+    rw (← c.self.view_is) (message_changes g.B.Block.may_hold m g.B.Block.layers (Snap c.in-Some.merging) c.args.depth c.args.message.now c.message.result c.self.inside.volume.volume c.message.new.self.volume c.message.ensures.does)

@@ -7,4 +7,4 @@ returns-clause-does g c = rw (← c.self.view_is) c.resume_merge.ensures.does
 
 pub returns-clause-seen : goal.returns-clause-seen
 returns-clause-seen g c =
-    rw (← c.self.view_is) (resume_seen g.B.Block.contents g.B.Block.layers g.B.Block.size c.resume_merge.result c.self.inside.volume c.resume_merge.new.self c.resume_merge.ensures.does)
+    rw (← c.self.view_is) (resume_seen g.B.Block.contents g.B.Block.layers g.B.Block.size c.resume_merge.result c.self.inside.volume.volume c.resume_merge.new.self.volume c.resume_merge.ensures.does)

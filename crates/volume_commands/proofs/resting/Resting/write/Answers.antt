@@ -17,10 +17,10 @@ returns-clause-loses g c = rw (← c.self.view_is) c.write_pieces.ensures.loses
 pub returns-then-not-is_there-clause-loses : goal.returns-then-not-is_there-clause-loses
 returns-then-not-is_there-clause-loses g c =
     let none : c.is_there.result ≡ false = c.if-not-is_there.true in
-    λ settled. (missing_shows g.B.Block.contents g.B.Block.layers c.args.dev c.args.self.now (rw (← c.self.view_is) (sym c.is_there.ensures ∙ none)), refl)
+    λ settled. (missing_shows g.B.Block.contents g.B.Block.layers c.args.dev c.args.self.now.rested (rw (← c.self.view_is) (sym c.is_there.ensures ∙ none)), refl)
 
 pub write_pieces-requires-clause-between : goal.write_pieces-requires-clause-between
-write_pieces-requires-clause-between g c = record { quiet = subst (λ v. is_quiet_of v.events ≡ true) (sym c.self.view_is) c.requires.quiet; few = c.look.ensures }
+write_pieces-requires-clause-between g c = record { quiet = subst (λ v. is_quiet_of v.rested.events ≡ true) (sym c.self.view_is) c.requires.quiet; few = c.look.ensures }
 
 pub returns-clause-answered : goal.returns-clause-answered
 returns-clause-answered g c = rw (← c.self.view_is) c.write_pieces.ensures.answered

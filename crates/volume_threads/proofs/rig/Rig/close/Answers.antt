@@ -1,6 +1,7 @@
 -- The first volume that is left is closed.
 use Rattle.std.proofs.Common.{◌≡◌, ◌+◌, ◌<◌, ◌≤◌, ◌++◌, ℕ, [], List, length, slice_index_or, vec_capacity, refl, sym, ap, ◌∙◌, subst}
 use Rattle.journal.specs.declared.entry.Entry.{Entry}
+use Rattle.locked_volume.specs.AskedFor.{AddsAskedFor}
 use Rattle.locked_volume.specs.Fixed.{StaysFrom, fixed_of}
 use Rattle.volume_threads.specs.Rigs.{IsSettledAt, SeatShape}
 use Rattle.volume_threads.proofs.Rows.{AreFrom, AreUpTo, grown, taken, first_is, all_from, none_yet, long_more, one_less, none_done, some_left, below_end, at_end}
@@ -16,6 +17,7 @@ loop-init g c = record {
   quiet = none_yet (λ k a. a.held ≡ []) c.self.inside.audits.items;
   stays = none_yet (λ k a. StaysFrom (g.J.Room.fixed k) (fixed_of g.B.Block.size g.B.Block.layers a)) c.self.inside.audits.items;
   grows = none_yet (λ k a. (more : List Entry) × (a.entries ≡ g.J.Room.start k ++ more)) c.self.inside.audits.items;
+  asked = none_yet (λ k a. AddsAskedFor (g.J.Room.merges k) (g.J.Room.start k) a.entries) c.self.inside.audits.items;
   settled = none_yet (λ k a. (i : ℕ) (s : SeatShape) → i < length c.args.seats.now → IsSettledAt (g.J.Room.start k) a k (slice_index_or c.args.seats.now i s)) c.self.inside.audits.items;
 }
 
@@ -45,6 +47,9 @@ loop-preserved g c =
       grows = subst (AreUpTo (λ k a. (more : List Entry) × (a.entries ≡ g.J.Room.start k ++ more)) (c.loop.counter + 1)) (sym c.push_reserved.ensures.items)
           (grown (λ k a. (more : List Entry) × (a.entries ≡ g.J.Room.start k ++ more)) c.loop.counter c.loop.audits.items c.close_one.result c.loop.invariant.many c.loop.invariant.grows
           (subst (λ n. (more : List Entry) × (c.close_one.result.entries ≡ g.J.Room.start n ++ more)) here c.close_one.ensures.grows));
+      asked = subst (AreUpTo (λ k a. AddsAskedFor (g.J.Room.merges k) (g.J.Room.start k) a.entries) (c.loop.counter + 1)) (sym c.push_reserved.ensures.items)
+          (grown (λ k a. AddsAskedFor (g.J.Room.merges k) (g.J.Room.start k) a.entries) c.loop.counter c.loop.audits.items c.close_one.result c.loop.invariant.many c.loop.invariant.asked
+          (subst (λ n. AddsAskedFor (g.J.Room.merges n) (g.J.Room.start n) c.close_one.result.entries) here c.close_one.ensures.asked));
       settled = subst (AreUpTo (λ k a. (i : ℕ) (s : SeatShape) → i < length c.args.seats.now → IsSettledAt (g.J.Room.start k) a k (slice_index_or c.args.seats.now i s)) (c.loop.counter + 1)) (sym c.push_reserved.ensures.items)
           (grown (λ k a. (i : ℕ) (s : SeatShape) → i < length c.args.seats.now → IsSettledAt (g.J.Room.start k) a k (slice_index_or c.args.seats.now i s)) c.loop.counter c.loop.audits.items c.close_one.result c.loop.invariant.many c.loop.invariant.settled
           (subst (λ n. (i : ℕ) (s : SeatShape) → i < length c.args.seats.now → IsSettledAt (g.J.Room.start n) c.close_one.result n (slice_index_or c.args.seats.now i s)) here
@@ -62,6 +67,10 @@ returns-clause-stays g c k d low =
 pub returns-clause-grows : goal.returns-clause-grows
 returns-clause-grows g c k d low =
     c.loop.invariant.grows k d (at_end k c.loop.counter c.len-end.result c.self.inside.places.len (length c.self.inside.places.items) g.J.Room.volumes c.loop-test.false c.len-end.ensures c.self.inside.places.ok.0 c.self.invariant.1 low)
+
+pub returns-clause-asked : goal.returns-clause-asked
+returns-clause-asked g c k d low =
+    c.loop.invariant.asked k d (at_end k c.loop.counter c.len-end.result c.self.inside.places.len (length c.self.inside.places.items) g.J.Room.volumes c.loop-test.false c.len-end.ensures c.self.inside.places.ok.0 c.self.invariant.1 low)
 
 pub returns-clause-settled : goal.returns-clause-settled
 returns-clause-settled g c k d i s low lows =

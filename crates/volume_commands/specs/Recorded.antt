@@ -1,0 +1,7 @@
+-- A volume by whole commands, and how many places of its journal are taken. This project's own.
+use Rattle.std.specs.Prelude.{ℕ}
+use Rattle.volume_commands.specs.Rested.{Rested}
+
+pub record Recorded (B : Type 0) : Type 0 where
+  pub rested : Rested B
+  pub taken : ℕ
