@@ -1,6 +1,6 @@
 -- What is left to do in a volume is done while no request is in flight.
 use Rattle.std.proofs.Common.{◌≡◌, List, [], ◌++◌, map, refl, sym, ap, ◌∙◌, subst}
-use Rattle.std.specs.Prelude.{Err, IfOk, None, Ok, OnErr, OnOk, Option, Result, Some}
+use Rattle.std.specs.Prelude.{Err, None, Ok, OnOk, Option, Result, Some}
 use Rattle.std.proofs.lemmas.List.{append-nil, append_assoc, map-append}
 use Rattle.layers.specs.declared.stack.Stack.{Stack}
 use Rattle.layers.specs.Stack.{stack_layers, stack_size}
@@ -12,7 +12,7 @@ use Rattle.journal.specs.declared.entry.Entry.{Entry}
 use Rattle.journal.specs.declared.entry.Entry.TheVariants.{Spoiled}
 use Rattle.journal.specs.declared.entry.Receipt.{Receipt}
 use Rattle.journal.specs.Books.{AuditShape}
-use Rattle.journal.specs.Journaled.{IsNoted, IsSilent, KeepsBase, outcome_in}
+use Rattle.journal.specs.Journaled.{IsApplied, IsNoted, IsSilent, KeepsBase, outcome_in}
 use Rattle.volume_commands.specs.Rested.{rested_of}
 use Rattle.volume_commands.proofs.Seen.{devices_kept, devices_more, devices_none}
 use Rattle.block_run.specs.Taking.{IsRested}
@@ -53,6 +53,6 @@ more_rested first old new outcome receipt so noted base kept loud =
     }
 
 -- or none, where it was not due
-pub still_rested : {E : Type 0} (first old new : AuditShape Stack) (r : Result (Outcome × Option Receipt) E) → IsRested first old → IfOk r (λ x. IsNoted 1 x.0 x.1 old new) → KeepsBase old new → OnOk (outcome_in r) (KeepsAll stack_size old.volume new.volume) → is_loud_in_all stack_layers new.volume ≡ is_loud_in_all stack_layers old.volume → OnErr r (new ≡ old) → IsRested first new
-still_rested first old new (Ok x) so noted base kept loud same = more_rested first old new x.0 x.1 so noted base kept loud
-still_rested first old new (Err e) so noted base kept loud same = subst (IsRested first) (sym same) so
+pub still_rested : {E : Type 0} (first old new : AuditShape Stack) (r : Result (Outcome × Option Receipt) E) → IsRested first old → IsApplied 1 r old new → OnOk (outcome_in r) (KeepsAll stack_size old.volume new.volume) → is_loud_in_all stack_layers new.volume ≡ is_loud_in_all stack_layers old.volume → IsRested first new
+still_rested first old new (Ok x) so applied kept loud = more_rested first old new x.0 x.1 so applied.noted applied.base kept loud
+still_rested first old new (Err e) so applied kept loud = subst (IsRested first) (sym applied.err) so

@@ -18,6 +18,7 @@ use Rattle.plain.specs.declared.request.Reply.TheVariants.{Data, Written, Flushe
 use Rattle.journal.specs.declared.entry.Entry.{Entry}
 use Rattle.journal.specs.declared.entry.Entry.TheVariants.{Answered, Spoiled, Overflowed, Attached, Detached, Begun, Finished}
 use Rattle.journal.specs.declared.entry.Saved.{Saved}
+use Rattle.volume.specs.Volumed.{Volumed}
 use Rattle.journal.specs.Books.{Books, IsKept, shown_in, state_in}
 use Rattle.journal.specs.Entries.{entries_by}
 use Rattle.journal.specs.Inside.{AllInside, IsInside, LiesInside, attached_count}
@@ -213,9 +214,9 @@ pub left_none : (s old : Shown) (es all : List Entry) → es ≡ [] → IsLeft s
 left_none s old es all none l = sym (ap (replay s) none) ∙ l.comes_to
 
 -- a checkpoint
-pub cut_keeps : (given : ℕ) (loud told : Bool) (p : Plain) (v : Books) (base : Shown) (entries : List Entry) (folded : List ℕ) (room : ℕ) → IsKept given loud told p v → (told ≡ true → base ≡ replay v.base v.entries) → entries ≡ [] → folded ≡ v.counts → room ≡ v.room
-    → IsKept given loud told p (record v { base = base; taken = 0; entries = entries; folded = folded; room = room })
-cut_keeps given loud told p v base entries folded room h made none cut same = record {
+pub cut_keeps : {B : Type 0} (w : Volumed B) (loud told : Bool) (p : Plain) (v : Books) (base : Shown) (entries : List Entry) (folded : List ℕ) (room : ℕ) → IsKept w loud told p v → (told ≡ true → base ≡ replay v.base v.entries) → entries ≡ [] → folded ≡ v.counts → room ≡ v.room
+    → IsKept w loud told p (record v { base = base; taken = 0; entries = entries; folded = folded; room = room })
+cut_keeps w loud told p v base entries folded room h made none cut same = record {
   audit = record {
     counted = record {
       fits = h.audit.counted.fits;
@@ -241,4 +242,5 @@ cut_keeps given loud told p v base entries folded room h made none cut same = re
     made = h.bounded.made;
     inside = λ on. subst (AllInside base) (sym none) tt;
   };
+  earned = omega (arith, h.earned, ap length none);
 }

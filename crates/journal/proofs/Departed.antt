@@ -70,7 +70,7 @@ same_place : (k j : ℕ) → Some k ≡ Some j → j ≡ k
 same_place k j e = cc
 
 -- fewer are live
-fewer : (bs : List Bool) (k : ℕ) → live_count (remove bs k) ≤ live_count bs
+pub fewer : (bs : List Bool) (k : ℕ) → live_count (remove bs k) ≤ live_count bs
 fewer [] zero = omega arith
 fewer [] (suc k) = omega arith
 fewer (true ∷ bs) zero = omega arith

@@ -112,7 +112,7 @@ one_more (true ∷ bs) = omega (arith, one_more bs)
 one_more (false ∷ bs) = one_more bs
 
 -- and may overflow, or not
-kept_more : (wanted : Bool) (bs ms : List Bool) → length ms ≡ length bs → kept_count (bs ++ true ∷ []) (ms ++ wanted ∷ []) + 1 ≤ kept_count bs ms + places_for wanted
+pub kept_more : (wanted : Bool) (bs ms : List Bool) → length ms ≡ length bs → kept_count (bs ++ true ∷ []) (ms ++ wanted ∷ []) + 1 ≤ kept_count bs ms + places_for wanted
 kept_more true bs ms same = omega (arith, one_more bs, may_more bs ms true true same)
 kept_more false bs ms same = omega (arith, one_more bs, may_more bs ms true false same)
 

@@ -15,3 +15,4 @@ pub mod Cut
 pub mod Undone
 pub mod Fresh
 pub mod Own
+pub mod Earning

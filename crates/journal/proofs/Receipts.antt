@@ -1,6 +1,6 @@
 -- What a call noted, as callers see it.
-use Rattle.std.proofs.Common.{◌≡◌, ◌≢◌, inl, inr, ℕ, ◌+◌, ◌<◌, Bool, true, false, List, [], ◌∷◌, ◌++◌, length, get_or, map, Some, None, refl, sym, ◌∙◌, ap, subst}
-use Rattle.std.specs.Prelude.{◌==◌}
+use Rattle.std.proofs.Common.{◌≡◌, ◌≢◌, inl, inr, ℕ, ◌+◌, ◌<◌, Bool, true, false, List, [], ◌∷◌, ◌++◌, length, get_or, map, Option, Some, None, refl, sym, ◌∙◌, ap, subst}
+use Rattle.std.specs.Prelude.{◌==◌, Result, Ok, Err, IfOk}
 use Rattle.std.specs.List.{remove}
 use Rattle.std.proofs.Common.{eq-eqb}
 use Rattle.std.proofs.lemmas.Bool.{ne_eqb}
@@ -24,10 +24,11 @@ use Rattle.volume.specs.Flying.{IsFlown}
 use Rattle.journal.specs.declared.entry.Entry.{Entry}
 use Rattle.journal.specs.declared.entry.Entry.TheVariants.{Answered, Spoiled}
 use Rattle.journal.specs.declared.entry.HeldRequest.{HeldRequest}
+use Rattle.journal.specs.declared.entry.Receipt.{Receipt}
 use Rattle.journal.specs.Books.{AuditShape, count_of, in_flight as held_in_flight}
-use Rattle.journal.specs.Journaled.{HasReceipt, IsNoted, IsSilent, OnlySpoils}
+use Rattle.journal.specs.Journaled.{HasReceipt, IsNoted, IsSilent, KeepsBase, OnlySpoils}
 use Rattle.journal.specs.Noted.{Noted}
-use Rattle.journal.specs.Seats.{Seated, flight_in, is_of, may_do, seated, seated_under, without_seated}
+use Rattle.journal.specs.Seats.{IsUnanswered, Seated, flight_in, is_of, may_do, seated, seated_under, without_seated}
 use Rattle.journal.proofs.Replaying.{IsFirst, seated_first, seated_none, unseated_first}
 use Rattle.journal.proofs.Keeping.{answer_of}
 
@@ -76,6 +77,28 @@ may_other seat MergeFlush held other = refl
 may_other seat MergeCommit held other = refl
 may_other seat MergeRelease held other = refl
 
+-- and none is of a flush
+pub none_unanswered : {E : Type 0} (event : Event) (result : Result (Outcome × Option Receipt) E) (held : List Seated) → ((n : ℕ) → event ≢ Issue n) → IfOk result (λ r. IsUnanswered event r.0 held)
+none_unanswered event (Err e) held other = tt
+none_unanswered event (Ok r) held other = of_none event r.0 held other
+  where
+    of_none : (event : Event) (outcome : Outcome) (held : List Seated) → ((n : ℕ) → event ≢ Issue n) → IsUnanswered event outcome held
+    of_none (Issue n) outcome held other = absurd (other n refl)
+    of_none (CopyRead n) outcome held other = tt
+    of_none (CopyWrite n) outcome held other = tt
+    of_none (ZeroNext n) outcome held other = tt
+    of_none (WriteArea n) outcome held other = tt
+    of_none (Publish n) outcome held other = tt
+    of_none (WriteInvalid n) outcome held other = tt
+    of_none (FlushStore n) outcome held other = tt
+    of_none MergeGroup outcome held other = tt
+    of_none MergeAreaRead outcome held other = tt
+    of_none MergeRead outcome held other = tt
+    of_none MergeWrite outcome held other = tt
+    of_none MergeFlush outcome held other = tt
+    of_none MergeCommit outcome held other = tt
+    of_none MergeRelease outcome held other = tt
+
 -- a reply's receipt
 pub receipt_has : {B : Type 0} (old new : AuditShape B) (hs : List HeldRequest) (n m k seat count : ℕ) (x : HeldRequest) (reply : Reply) → m ≡ n → IsFirst n hs k x → x.seat ≡ seat → x.for_receipt ≡ x.for_entry
     → map seated hs ≡ old.held → new.held ≡ map seated (remove hs k) → count ≡ count_of seat old + 1 → new.entries ≡ old.entries ++ Answered (answer_of x seat reply) ∷ []
@@ -109,6 +132,10 @@ pub noted_any : {B : Type 0} (old new : AuditShape B) (seat seat' : ℕ) (outcom
 noted_any old new seat seat' (Replied n reply) s = absurd s
 noted_any old new seat seat' Done s = s
 noted_any old new seat seat' Fault s = s
+
+-- what the journal began with, as callers see it
+pub base_kept : {B : Type 0} (was old new : AuditShape B) → was ≡ old → KeepsBase was new → KeepsBase old new
+base_kept was old new same kept = subst (λ (a : AuditShape _). KeepsBase a new) same kept
 
 -- a request that is in flight now
 pub held_more : (hs : List HeldRequest) (held : List Seated) (x : HeldRequest) (number seat : ℕ) (request : Request) → map seated hs ≡ held → x.number ≡ number → x.seat ≡ seat → x.for_entry ≡ request

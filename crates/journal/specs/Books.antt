@@ -9,6 +9,7 @@ use Rattle.journal.specs.declared.entry.Saved.{Saved}
 use Rattle.journal.specs.declared.entry.HeldRequest.{HeldRequest}
 use Rattle.journal.specs.declared.entry.Entry.{Entry}
 use Rattle.journal.specs.Replay.{replay, AllLawful}
+use Rattle.journal.specs.Earned.{AreEarned}
 use Rattle.journal.specs.Entries.{entries_by}
 use Rattle.journal.specs.Inside.{IsAsked, AllInside}
 use Rattle.journal.specs.Noted.{is_live, is_open, kept_count}
@@ -96,7 +97,12 @@ pub record IsBounded (given : ℕ) (told : Bool) (p : Plain) (v : Books) : Type 
   pub made : (s : ℕ) → s < 9 → slice_index_or v.counts s 0 + length v.held ≤ given
   pub inside : told ≡ true → AllInside v.base v.entries
 
--- all of it
-pub record IsKept (given : ℕ) (loud told : Bool) (p : Plain) (v : Books) : Type 0 where
+-- how many places are taken
+abbrev pub places_in : Books → ℕ
+places_in v = v.taken + length v.entries + length v.held + kept_count v.lives v.may
+
+-- all of it, of a volume that this plain machine stands for
+pub record IsKept {B : Type 0} (w : Volumed B) (loud told : Bool) (p : Plain) (v : Books) : Type 0 where
   pub audit : IsAudit loud told p v
-  pub bounded : IsBounded given told p v
+  pub bounded : IsBounded w.requests told p v
+  pub earned : AreEarned (places_in v) w

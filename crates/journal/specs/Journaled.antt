@@ -1,5 +1,5 @@
 -- What a call notes in the journal. This project's own.
-use Rattle.std.specs.Prelude.{◌≡◌, ◌≢◌, ◌⊎◌, nat_lt, ℕ, ◌+◌, ◌<◌, Bool, true, false, List, [], ◌∷◌, ◌++◌, length, map, Option, Some, None, Result, Ok, Err, slice_index_or}
+use Rattle.std.specs.Prelude.{◌≡◌, ◌≢◌, ◌⊎◌, nat_lt, ℕ, ◌+◌, ◌<◌, Bool, true, false, IfOk, List, [], ◌∷◌, ◌++◌, length, map, OnErr, Option, Some, None, Result, Ok, Err, slice_index_or}
 use Rattle.plain.specs.declared.event.Outcome.{Outcome}
 use Rattle.plain.specs.declared.event.Outcome.TheVariants.{Reply as Replied}
 use Rattle.plain.specs.Kept.{kept}
@@ -83,6 +83,13 @@ IsNoted seat (Replied number reply) (Some receipt) old new = HasReceipt seat num
 IsNoted seat (Replied number reply) None old new = ⊥
 IsNoted seat outcome None old new = IsSilent old new
 IsNoted seat outcome (Some receipt) old new = ⊥
+
+-- What an event comes to, as one record: one that is done is noted as what came of it, one that is not changes nothing, and none
+-- changes what the journal began with.
+pub record IsApplied {B E : Type 0} (seat : ℕ) (result : Result (Outcome × Option Receipt) E) (old new : AuditShape B) : Type 0 where
+  pub noted : IfOk result (λ r. IsNoted seat r.0 r.1 old new)
+  pub base : KeepsBase old new
+  pub err : OnErr result (new ≡ old)
 
 -- a request is in flight for a seat, as it is kept
 pub record IsHeld {B : Type 0} (seat number : ℕ) (request : Request) (old new : AuditShape B) : Type 0 where

@@ -4,6 +4,7 @@ pub mod Entries
 pub mod Noted
 pub mod Marked
 pub mod Inside
+pub mod Earned
 pub mod Books
 pub mod Journaled
 pub mod Undone

@@ -1,8 +1,8 @@
 // The events of a volume, each with what it comes to in the journal.
-ghost use Rattle.std.specs.Prelude.{◌≡◌, ◌≢◌, ℕ, IfOk, OnErr, None, true};
+ghost use Rattle.std.specs.Prelude.{◌≢◌, ℕ, IfOk, true};
 ghost use Rattle.plain.specs.declared.event.Event.TheVariants.{Issue};
 ghost use Rattle.volume.specs.DoesStep.{DoesStep};
-ghost use Rattle.journal.specs.Journaled.{IsNoted, KeepsBase, outcome_in};
+ghost use Rattle.journal.specs.Journaled.{IsApplied, outcome_in};
 ghost use Rattle.journal.specs.Seats.{IsUnanswered, may_do};
 
 use crate::Audit;
@@ -17,33 +17,26 @@ impl<B: Layered> Audit<B> {
     /// it; for another it is not due. A reply has a receipt for its entry. A flush that is issued and not answered yet has none, and
     /// stays its seat's.
     pub fn apply(&mut self, seat: u8, event: Event) -> Result<(Outcome, Option<Receipt>), NotDue>
-        ensures noted { IfOk result (λ r. IsNoted seat r.0 r.1 self.old self.new) }
+        ensures applied { IsApplied seat result self.old self.new }
         ensures unanswered { IfOk result (λ r. IsUnanswered event r.0 self.old.held) }
-        ensures base { KeepsBase self.old self.new }
         ensures does { DoesStep B.may_hold B.contents B.layers B.size B.fault_count B.done_count (may_do seat event self.old.held) event (outcome_in result) self.old.volume self.new.volume }
-        ensures err { OnErr result (self.new ≡ self.old) }
     {
         match event {
             Event::Issue(number) => self.issue(seat, number),
-            other => match self.other(other) {
-                Ok(outcome) => Ok((outcome, None)),
-                Err(NotDue) => Err(NotDue),
-            },
+            _ => self.other(event),
         }
     }
 
-    /// Does one event that replies to nobody.
-    fn other(&mut self, event: Event) -> Result<Outcome, NotDue>
+    /// Does one event that replies to nobody, whose seat does not matter.
+    fn other(&mut self, event: Event) -> Result<(Outcome, Option<Receipt>), NotDue>
         requires { (n : ℕ) → event ≢ Issue n }
-        ensures noted { IfOk result (λ outcome. IsNoted 0 outcome None self.old self.new) }
-        ensures base { KeepsBase self.old self.new }
-        ensures does { DoesStep B.may_hold B.contents B.layers B.size B.fault_count B.done_count true event result self.old.volume self.new.volume }
-        ensures err { OnErr result (self.new ≡ self.old) }
+        ensures applied { (seat : ℕ) → IsApplied seat result self.old self.new }
+        ensures does { DoesStep B.may_hold B.contents B.layers B.size B.fault_count B.done_count true event (outcome_in result) self.old.volume self.new.volume }
     {
         match self.volume.step(event) {
             Ok(outcome) => {
                 note_spoils(&self.volume, &mut self.lives, &mut self.entries);
-                Ok(outcome)
+                Ok((outcome, None))
             }
             Err(NotDue) => Err(NotDue),
         }
@@ -51,11 +44,9 @@ impl<B: Layered> Audit<B> {
 
     /// Issues a request, where this seat submitted it.
     fn issue(&mut self, seat: u8, number: ReqId) -> Result<(Outcome, Option<Receipt>), NotDue>
-        ensures noted { IfOk result (λ r. IsNoted seat r.0 r.1 self.old self.new) }
+        ensures applied { IsApplied seat result self.old self.new }
         ensures unanswered { IfOk result (λ r. IsUnanswered (Issue number) r.0 self.old.held) }
-        ensures base { KeepsBase self.old self.new }
         ensures does { DoesStep B.may_hold B.contents B.layers B.size B.fault_count B.done_count (may_do seat (Issue number) self.old.held) (Issue number) (outcome_in result) self.old.volume self.new.volume }
-        ensures err { OnErr result (self.new ≡ self.old) }
     {
         let Some(place) = place_of(self.held.as_slice(), number) else {
             return Err(NotDue);

@@ -6,9 +6,11 @@ ghost use Rattle.plain.specs.Plain.{shown_of};
 ghost use Rattle.volume.specs.Volumed.{is_loud_in_all, plain_of};
 ghost use Rattle.volume.specs.Causes.{lives_of};
 ghost use Rattle.journal.specs.Books.{count_of};
+ghost use Rattle.journal.specs.Earned.{AreEarned};
 ghost use Rattle.journal.specs.Entries.{HasVerdict};
 ghost use Rattle.journal.specs.Noted.{kept_count, mays_of};
 ghost use Rattle.journal.specs.Inside.{AllInside};
+ghost use Rattle.journal.specs.Journaled.{places_of};
 ghost use Rattle.journal.specs.Own.{MeetsOwn};
 ghost use Rattle.journal.specs.Replay.{AllLawful, replay};
 ghost use Rattle.journal.specs.Seats.{flight_in};
@@ -64,7 +66,7 @@ impl<B: Layered> Model for Audit<B> {
 
     ghost view = { λ a. record { volume = a.volume; base = shown_in_base a.base; taken = a.taken; entries = a.entries.items; held = map seated a.held.items; lives = a.lives.items; may = a.may.items; loud = a.loud; folded = a.folded.items } };
 
-    ghost invariant = { λ a. IsKept a.volume.requests (is_loud_in_all B.layers a.volume) a.loud (plain_of B.contents B.layers a.volume) (record { base = shown_in_base a.base; taken = a.taken; entries = a.entries.items; held = a.held.items; lives = a.lives.items; may = a.may.items; counts = a.counts.items; folded = a.folded.items; room = vec_capacity a.entries }) };
+    ghost invariant = { λ a. IsKept a.volume (is_loud_in_all B.layers a.volume) a.loud (plain_of B.contents B.layers a.volume) (record { base = shown_in_base a.base; taken = a.taken; entries = a.entries.items; held = a.held.items; lives = a.lives.items; may = a.may.items; counts = a.counts.items; folded = a.folded.items; room = vec_capacity a.entries }) };
 }
 
 impl<B: Layered> Audit<B> {
@@ -85,7 +87,7 @@ impl<B: Layered> Audit<B> {
     }
 
     /// As `new`, where so many places of the journal are taken already. With the live snapshots, and those of them that may still
-    /// overflow, they are 65,536 at most.
+    /// overflow, they are 65,536 at most, and no more than what the volume was asked takes.
     pub fn going_on(
         alloc: Global,
         volume: Volume<B>,
@@ -93,6 +95,7 @@ impl<B: Layered> Audit<B> {
     ) -> Result<Audit<B>, (Refusal, Volume<B>)>
         requires quiet { volume.flights ≡ [] }
         requires room { taken + kept_count (lives_of volume) (mays_of volume) ≤ 65_536 }
+        requires earned { AreEarned (taken + kept_count (lives_of volume) (mays_of volume)) volume }
         ensures ok { IfOk result (λ a. (a.volume ≡ volume) × (a.entries ≡ []) × (a.held ≡ []) × (a.lives ≡ lives_of volume) × (a.may ≡ mays_of volume) × (a.loud ≡ is_loud_in_all B.layers volume)) }
         ensures base { IfOk result (λ a. a.loud ≡ true → a.base ≡ shown_of (plain_of B.contents B.layers volume)) }
         ensures taken { IfOk result (λ a. a.taken ≡ taken) }
@@ -189,6 +192,13 @@ impl<B: Layered> Audit<B> {
     /// A look at the requests in flight, which does nothing: those that seats submitted are the volume's.
     pub fn look_at_requests(&self)
         ensures { map flight_in self.now.held ≡ map in_flight self.now.volume.flights }
+    {
+        let _ = &self.held;
+    }
+
+    /// A look at the places of the journal, which does nothing: what the volume was asked takes no more, and a few.
+    pub fn look_at_places(&self)
+        ensures { AreEarned (places_of self.now) self.now.volume }
     {
         let _ = &self.held;
     }

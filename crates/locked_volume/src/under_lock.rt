@@ -211,8 +211,8 @@ impl<B: Layered, J: Room> Post<B, J> {
         }
     }
 
-    /// Begins a merge that a seat may ask for. The seat has then seen all entries: the last of them says that it began, or else they and what
-    /// stays of the volume say why it did not, but where the volume is not quiet.
+    /// Begins a merge that a seat may ask for. The seat has then seen all entries: the last of them says that it began, or else
+    /// they and what stays of the volume say why it did not, but where the volume is not quiet.
     pub fn begin_merge(
         &mut self,
         beside: &Beside,

@@ -1,11 +1,12 @@
 -- What a call of a volume does to the requests in flight and to the live snapshots, so that there is a place for each.
-use Rattle.std.proofs.Common.{◌≡◌, inl, inr, ℕ, zero, suc, ◌+◌, ◌<◌, ◌≤◌, Bool, true, false, List, [], ◌∷◌, ◌++◌, length, get_or, set, map, max, take, refl, sym, ◌∙◌, ap, arith}
+use Rattle.std.proofs.Common.{◌≡◌, inl, inr, ℕ, zero, suc, ◌+◌, ◌<◌, ◌≤◌, Bool, true, false, List, [], ◌∷◌, ◌++◌, length, get_or, set, map, max, take, Option, None, refl, sym, ◌∙◌, ap, arith}
 use Rattle.std.specs.Prelude.{◌-◌, ◌&&◌, ◌==◌, Err, IfErr, Ok, OnOk, Result, not, if◌then◌else◌}
 use Rattle.std.specs.List.{remove}
 use Rattle.std.proofs.lemmas.Bool.{false≢true}
 use Rattle.std.proofs.lemmas.List.{length-map, map-append, map-set}
 use Rattle.device.specs.Layers.{Layer}
 use Rattle.sector.specs.declared.refusal.Refusal.{Refusal}
+use Rattle.merge.specs.Merging.{Merging}
 use Rattle.plain.specs.declared.event.Event.{Event}
 use Rattle.plain.specs.declared.event.Outcome.{Outcome}
 use Rattle.plain.specs.declared.request.Overflowing.TheVariants.{Did}
@@ -26,16 +27,19 @@ use Rattle.volume.specs.Causes.{HasCause, lives_of}
 use Rattle.volume.specs.Finishing.{IsTakenOut}
 use Rattle.volume.specs.Flying.{IsFlown}
 use Rattle.volume.specs.Leaving.{IsWithout}
+use Rattle.volume.specs.Stepping.{KeepsDevices}
 use Rattle.volume.specs.Submitting.{IsAcceptedAs, IsFoundFull, IsOverflown, IsRefusedAs, SameButRoom}
 use Rattle.volume.specs.Volumed.{Volumed, plain_of}
 use Rattle.volume.proofs.FewerLives.{accepted_lives, caused_lives, roomed_lives, same_fewer, same_lives, set_fewer, set_lives, set_own, then_fewer}
 use Rattle.journal.specs.Books.{AuditShape}
+use Rattle.journal.specs.Earned.{AreEarned, merges_of}
 use Rattle.journal.specs.Journaled.{places_for, places_of}
 use Rattle.journal.specs.Noted.{is_live, is_open, kept_count, live_count, may_count, mays_of}
 use Rattle.journal.specs.Seats.{Seated, flight_in}
 use Rattle.journal.proofs.Beginning.{lives_more, lives_shown, mays_more, mays_shown}
 use Rattle.journal.proofs.Mays.{IsFewer, bit, may_fewer, may_more, may_removed, wanted_may}
 use Rattle.volume_commands.specs.Places.{HasPlaces, kept_for_marks}
+use Rattle.volume_commands.proofs.Earns.{HasAsMany, accepted_many, begun_earned, finished_earned, gained_earned, left_earned, many_earned, merges_few, refused_many, unbegun_many, unseen_many}
 use Rattle.volume_commands.proofs.Flown.{fewer_fly}
 
 -- of lists of what is live
@@ -75,6 +79,10 @@ alike_mays : {B : Type 0} (f : Kept B → Kept B) → IsAlike f → (snaps : Lis
 alike_mays f is [] = refl
 alike_mays f is (s ∷ snaps) = (λ i. may_overflow (is.overflow s i) ∷ alike_mays f is snaps i)
 
+alike_overflows : {B : Type 0} (f : Kept B → Kept B) → IsAlike f → (snaps : List (Kept B)) → map (λ s. s.overflow) (map f snaps) ≡ map (λ s. s.overflow) snaps
+alike_overflows f is [] = refl
+alike_overflows f is (s ∷ snaps) = (λ i. is.overflow s i ∷ alike_overflows f is snaps i)
+
 unroomed_alike : {B : Type 0} → IsAlike {B = B} unroomed
 unroomed_alike = record { live = λ s. refl; overflow = λ s. refl }
 
@@ -92,8 +100,11 @@ kept_alike number count chunk = record { live = λ s. either_live (s.live && not
     either_overflow true count s = refl
     either_overflow false count s = refl
 
-roomed_mays : {B : Type 0} (xs ys : List (Kept B)) → map unroomed xs ≡ map unroomed ys → map (λ s. may_overflow s.overflow) xs ≡ map (λ s. may_overflow s.overflow) ys
+pub roomed_mays : {B : Type 0} (xs ys : List (Kept B)) → map unroomed xs ≡ map unroomed ys → map (λ s. may_overflow s.overflow) xs ≡ map (λ s. may_overflow s.overflow) ys
 roomed_mays xs ys same = sym (alike_mays unroomed unroomed_alike xs) ∙ ap (map (λ s. may_overflow s.overflow)) same ∙ alike_mays unroomed unroomed_alike ys
+
+pub roomed_overflows : {B : Type 0} (xs ys : List (Kept B)) → map unroomed xs ≡ map unroomed ys → map (λ s. s.overflow) xs ≡ map (λ s. s.overflow) ys
+roomed_overflows xs ys same = sym (alike_overflows unroomed unroomed_alike xs) ∙ ap (map (λ s. s.overflow)) same ∙ alike_overflows unroomed unroomed_alike ys
 
 overflow_mays : {B : Type 0} (snaps : List (Kept B)) → map (λ s. may_overflow s.overflow) snaps ≡ map may_overflow (map (λ s. s.overflow) snaps)
 overflow_mays [] = refl
@@ -106,11 +117,22 @@ module _ {B : Type 0} (v w : Volumed B) where
     pub live : live_count (lives_of w) ≤ live_count (lives_of v)
     pub marks : kept_for_marks w ≤ kept_for_marks v
 
-  pub fewer_have : (p q : ℕ) → length w.flights ≤ length v.flights → HasFewer → p ≤ q → q + kept_for_marks v ≤ 65_536 → HasPlaces v p → HasPlaces w q
-  fewer_have p q fly less more few h = record { enough = omega (arith, fly, less.live, more, h.enough); few = omega (arith, few, less.marks) }
+  fewer_have : (p q : ℕ) → length w.flights ≤ length v.flights → HasFewer → p ≤ q → q + kept_for_marks v ≤ 65_536 → AreEarned (q + kept_for_marks w) w → HasPlaces v p → HasPlaces w q
+  fewer_have p q fly less more few earned h = record { enough = omega (arith, fly, less.live, more, h.enough); few = omega (arith, few, less.marks); earned = earned }
+
+  -- and no more of anything
+  still_have : (places : ℕ) → length w.flights ≤ length v.flights → HasFewer → HasAsMany v w 0 → HasPlaces v places → HasPlaces w places
+  still_have places fly less many h =
+      fewer_have places places fly less (omega arith) h.few (many_earned v w 0 (places + kept_for_marks v) (places + kept_for_marks w) many (omega (arith, less.marks)) h.earned) h
 
   are_fewer : IsFewer (lives_of w) (lives_of v) → IsFewer (mays_of w) (mays_of v) → HasFewer
   are_fewer lives mays = record { live = live_fewer (lives_of v) (lives_of w) lives; marks = may_fewer (lives_of v) (lives_of w) (mays_of v) (mays_of w) lives mays }
+
+  alike_fewer : lives_of w ≡ lives_of v → mays_of w ≡ mays_of v → HasFewer
+  alike_fewer lives mays = are_fewer (same_lives v w lives) (same_fewer (mays_of w) (mays_of v) mays)
+
+  pub alike_marks : lives_of w ≡ lives_of v → mays_of w ≡ mays_of v → kept_for_marks w ≡ kept_for_marks v
+  alike_marks lives mays = (λ i. may_count (lives i) (mays i))
 
   same_mays : map (λ s. s.overflow) w.snaps ≡ map (λ s. s.overflow) v.snaps → IsFewer (mays_of w) (mays_of v)
   same_mays same = same_fewer (mays_of w) (mays_of v) (overflow_mays w.snaps ∙ ap (map may_overflow) same ∙ sym (overflow_mays v.snaps))
@@ -120,14 +142,10 @@ module _ {B : Type 0} (v w : Volumed B) where
 
   module _ (faults : B → ℕ) where
     -- an event
-    pub stepped_have : (event : Event) (outcome : Outcome) (places : ℕ) → IsFlown event outcome (map in_flight v.flights) (map in_flight w.flights) → HasCause faults event outcome v w → map (λ s. s.overflow) w.snaps ≡ map (λ s. s.overflow) v.snaps → HasPlaces v places → HasPlaces w places
-    stepped_have event outcome places flown cause overflows h =
+    pub stepped_have : (event : Event) (outcome : Outcome) (places : ℕ) → IsFlown event outcome (map in_flight v.flights) (map in_flight w.flights) → HasCause faults event outcome v w → map (λ s. s.overflow) w.snaps ≡ map (λ s. s.overflow) v.snaps → HasAsMany v w 0 → HasPlaces v places → HasPlaces w places
+    stepped_have event outcome places flown cause overflows many h =
         let less = fewer_fly event outcome (map in_flight v.flights) (map in_flight w.flights) flown in
-        fewer_have places places (omega (arith, less, length-map v.flights in_flight, length-map w.flights in_flight)) (are_fewer (caused_lives v w faults event outcome cause) (same_mays overflows)) (omega arith) h.few h
-
-    -- takes no place, not even one for a mark
-    pub stepped_fewer_marks : (event : Event) (outcome : Outcome) → HasCause faults event outcome v w → map (λ s. s.overflow) w.snaps ≡ map (λ s. s.overflow) v.snaps → kept_for_marks w ≤ kept_for_marks v
-    stepped_fewer_marks event outcome cause overflows = (are_fewer (caused_lives v w faults event outcome cause) (same_mays overflows)).marks
+        still_have places (omega (arith, less, length-map v.flights in_flight, length-map w.flights in_flight)) (are_fewer (caused_lives v w faults event outcome cause) (same_mays overflows)) many h
 
   module _ (contents : B → List ℕ) (layers : B → List Layer) where
     -- a request that is accepted, in one place more
@@ -136,14 +154,15 @@ module _ {B : Type 0} (v w : Volumed B) where
         let less = are_fewer (accepted_lives v w contents layers request number is) (same_mays is.overflows) in
         let flown = ap (λ (rs : List InFlight). length rs) is.flown in
         let one : length (map in_flight v.flights ++ record { number = number; request = kept request } ∷ []) ≡ length (map in_flight v.flights) + 1 = length_more (map in_flight v.flights) _ in
-        record { enough = omega (arith, less.live, flown, one, length-map v.flights in_flight, length-map w.flights in_flight, h.enough); few = omega (arith, less.marks, few) }
+        record {
+          enough = omega (arith, less.live, flown, one, length-map v.flights in_flight, length-map w.flights in_flight, h.enough);
+          few = omega (arith, less.marks, few);
+          earned = many_earned v w 1 (places + kept_for_marks v) (places + 1 + kept_for_marks w) (accepted_many v w contents layers request number is) (omega (arith, less.marks)) h.earned;
+        }
       where
         length_more : (rs : List InFlight) (r : InFlight) → length (rs ++ r ∷ []) ≡ length rs + 1
         length_more [] r = omega arith
         length_more (x ∷ rs) r = omega (arith, length_more rs r)
-
-    pub accepted_fewer_marks : (request : Request) (number : ℕ) → IsAcceptedAs contents layers request number v w → kept_for_marks w ≤ kept_for_marks v
-    accepted_fewer_marks request number is = (are_fewer (accepted_lives v w contents layers request number is) (same_mays is.overflows)).marks
 
     -- and one that is refused: a mark's entry has the place that was kept free for it
     refused_fewer : (size : B → ℕ) (request : Request) (refusal : Refusal) → IsRefusedAs contents layers size request refusal v w → (length w.flights ≡ length v.flights) × HasFewer
@@ -169,10 +188,14 @@ module _ {B : Type 0} (v w : Volumed B) where
           are_fewer (same_lives v w alive) (set_mays full.place (roomed_mays w.snaps after full.marked ∙ map-set (λ (s : Kept B). may_overflow s.overflow) v.snaps full.place snap)),
         )
 
-    pub refused_have : (size : B → ℕ) (request : Request) (refusal : Refusal) (places may : ℕ) → IsRefusedAs contents layers size request refusal v w → may ≡ kept_for_marks v → HasPlaces v places → HasPlaces w (places + (may - kept_for_marks w))
-    refused_have size request refusal places may is was h =
+    pub refused_have : (size : B → ℕ) (request : Request) (refusal : Refusal) (places may : ℕ) → IsRefusedAs contents layers size request refusal v w → KeepsDevices v w → may ≡ kept_for_marks v → HasPlaces v places → HasPlaces w (places + (may - kept_for_marks w))
+    refused_have size request refusal places may is kept was h =
         let f = refused_fewer size request refusal is in
-        record { enough = omega (arith, f.0, f.1.live, h.enough); few = omega (arith, f.1.marks, was, h.few) }
+        record {
+          enough = omega (arith, f.0, f.1.live, h.enough);
+          few = omega (arith, f.1.marks, was, h.few);
+          earned = many_earned v w 0 (places + kept_for_marks v) (places + (may - kept_for_marks w) + kept_for_marks w) (refused_many v w contents layers size request refusal is kept) (omega (arith, f.1.marks, was)) h.earned;
+        }
 
     pub refused_fewer_marks : (size : B → ℕ) (request : Request) (refusal : Refusal) → IsRefusedAs contents layers size request refusal v w → kept_for_marks w ≤ kept_for_marks v
     refused_fewer_marks size request refusal is = (refused_fewer size request refusal is).1.marks
@@ -184,35 +207,42 @@ module _ {B : Type 0} (v w : Volumed B) where
     unseen_mays : plain_of contents layers w ≡ plain_of contents layers v → mays_of w ≡ mays_of v
     unseen_mays same = mays_shown contents (contents w.origin) w.snaps ∙ ap (λ (p : Plain). map is_open p.saved) same ∙ sym (mays_shown contents (contents v.origin) v.snaps)
 
-    pub unseen_have : (places : ℕ) → plain_of contents layers w ≡ plain_of contents layers v → HasPlaces v places → HasPlaces w places
-    unseen_have places same h =
+    pub unseen_have : (places : ℕ) → plain_of contents layers w ≡ plain_of contents layers v → (w.requests ≡ v.requests) × (w.attached ≡ v.attached) → HasPlaces v places → HasPlaces w places
+    unseen_have places same given h =
         let e = ap (λ (p : Plain). length p.requests) same in
-        fewer_have places places (omega (arith, e, length-map v.flights in_flight, length-map w.flights in_flight)) (are_fewer (same_lives v w (unseen_lives same)) (same_fewer (mays_of w) (mays_of v) (unseen_mays same))) (omega arith) h.few h
+        still_have places (omega (arith, e, length-map v.flights in_flight, length-map w.flights in_flight)) (alike_fewer (unseen_lives same) (unseen_mays same)) (unseen_many v w contents layers same given) h
 
     pub unseen_marks : plain_of contents layers w ≡ plain_of contents layers v → kept_for_marks w ≡ kept_for_marks v
-    unseen_marks same = (λ i. may_count (unseen_lives same i) (unseen_mays same i))
+    unseen_marks same = alike_marks (unseen_lives same) (unseen_mays same)
 
   -- a snapshot that is taken, in two places more, and one for its mark where it may overflow
+  pub gained_lives : (contents : B → List ℕ) (layers : B → List Layer) (size : B → ℕ) (number : ℕ) (wanted : Bool) (store : StoreDev B) → IsGained contents layers size number wanted store v w → lives_of w ≡ lives_of v ++ true ∷ []
+  gained_lives contents layers size number wanted store is = ap lives_of is.becomes ∙ map-append (λ (s : Kept B). s.live) v.snaps (is.snap ∷ []) ∙ ap (λ b. lives_of v ++ b ∷ []) is.live
+
   gained_bit : (contents : B → List ℕ) (layers : B → List Layer) (size : B → ℕ) (number : ℕ) (wanted : Bool) (store : StoreDev B) → IsGained contents layers size number wanted store v w → kept_for_marks w ≡ kept_for_marks v + bit wanted
   gained_bit contents layers size number wanted store is =
-      let lives : lives_of w ≡ lives_of v ++ is.snap.live ∷ [] = ap lives_of is.becomes ∙ map-append (λ (s : Kept B). s.live) v.snaps (is.snap ∷ []) in
+      let lives = gained_lives contents layers size number wanted store is in
       let mays : mays_of w ≡ mays_of v ++ wanted ∷ [] = ap mays_of is.becomes ∙ map-append (λ (s : Kept B). may_overflow s.overflow) v.snaps (is.snap ∷ []) ∙ ap (λ b. mays_of v ++ b ∷ []) (ap may_overflow is.overflow_is ∙ wanted_may wanted) in
-      (λ i. may_count ((lives ∙ ap (λ b. lives_of v ++ b ∷ []) is.live) i) (mays i)) ∙ may_more (lives_of v) (mays_of v) true wanted (length-map v.snaps (λ s. may_overflow s.overflow) ∙ sym (length-map v.snaps (λ s. s.live)))
+      (λ i. may_count (lives i) (mays i)) ∙ may_more (lives_of v) (mays_of v) true wanted (length-map v.snaps (λ s. may_overflow s.overflow) ∙ sym (length-map v.snaps (λ s. s.live)))
 
   bit_for : (wanted : Bool) → bit wanted + 2 ≡ places_for wanted
   bit_for true = refl
   bit_for false = refl
 
-  pub gained_marks : (contents : B → List ℕ) (layers : B → List Layer) (size : B → ℕ) (number : ℕ) (wanted : Bool) (store : StoreDev B) → IsGained contents layers size number wanted store v w → kept_for_marks w + 2 ≡ kept_for_marks v + places_for wanted
-  gained_marks contents layers size number wanted store is = (let marks = gained_bit contents layers size number wanted store is in omega (arith, marks, bit_for wanted))
+  bit_few : (wanted : Bool) → bit wanted ≤ 1
+  bit_few true = omega arith
+  bit_few false = omega arith
 
-  pub gained_have : (contents : B → List ℕ) (layers : B → List Layer) (size : B → ℕ) (number : ℕ) (wanted : Bool) (store : StoreDev B) (places more : ℕ) → IsGained contents layers size number wanted store v w → more ≡ places_for wanted → places + kept_for_marks v + more ≤ 65_536 → HasPlaces v places → HasPlaces w (places + 2)
-  gained_have contents layers size number wanted store places more is for few h =
-      let lives : lives_of w ≡ lives_of v ++ is.snap.live ∷ [] = ap lives_of is.becomes ∙ map-append (λ (s : Kept B). s.live) v.snaps (is.snap ∷ []) in
-      let live = ap live_count lives in
+  pub gained_have : (contents : B → List ℕ) (layers : B → List Layer) (size : B → ℕ) (number : ℕ) (wanted : Bool) (store : StoreDev B) (places more : ℕ) → IsGained contents layers size number wanted store v w → number ≡ v.attached + 1 → more ≡ places_for wanted → places + kept_for_marks v + more ≤ 65_536 → HasPlaces v places → HasPlaces w (places + 2)
+  gained_have contents layers size number wanted store places more is next for few h =
+      let live = ap live_count (gained_lives contents layers size number wanted store is) in
       let marks = gained_bit contents layers size number wanted store is in
       let e = ap (λ (x : Volumed B). length x.flights) is.becomes in
-      record { enough = omega (arith, live, one_more (lives_of v) is.snap.live, e, h.enough); few = omega (arith, marks, for, bit_for wanted, few) }
+      record {
+        enough = omega (arith, live, one_more (lives_of v) true, e, h.enough);
+        few = omega (arith, marks, for, bit_for wanted, few);
+        earned = gained_earned v w contents layers size number wanted store (places + kept_for_marks v) (places + 2 + kept_for_marks w) is next (omega (arith, marks, bit_few wanted)) h.earned;
+      }
 
   left_lives : (place : ℕ) → lives_of w ≡ remove (lives_of v) place → mays_of w ≡ remove (mays_of v) place → HasFewer
   left_lives place live may = record {
@@ -227,74 +257,96 @@ module _ {B : Type 0} (v w : Volumed B) where
   pub left_fewer : (number : ℕ) (store : StoreDev B) → IsWithout number v w store → live_count (lives_of w) ≤ live_count (lives_of v)
   left_fewer number store is = (left_less number store is).live
 
-  pub left_fewer_marks : (number : ℕ) (store : StoreDev B) → IsWithout number v w store → kept_for_marks w ≤ kept_for_marks v
-  left_fewer_marks number store is = (left_less number store is).marks
-
   pub left_have : (number : ℕ) (store : StoreDev B) (places live : ℕ) → IsWithout number v w store → live ≡ live_count (lives_of v) → places + kept_for_marks v + 1 ≤ 65_536 → HasPlaces v places → HasPlaces w (places + 1 - (live - live_count (lives_of w)))
   left_have number store places live is was few h =
       let less = left_less number store is in
       let e = ap (λ (x : Volumed B). length x.flights) is.becomes in
-      record { enough = omega (arith, less.live, e, was, h.enough); few = omega (arith, few, less.marks) }
+      record {
+        enough = omega (arith, less.live, e, was, h.enough);
+        few = omega (arith, few, less.marks);
+        earned = left_earned v w number store (places + kept_for_marks v) (places + 1 - (live - live_count (lives_of w)) + kept_for_marks w) is (omega (arith, less.marks)) h.earned;
+      }
 
   -- a merge that begins, or does not, or is taken out
-  begun_have : (number places : ℕ) → IsMergeBegun number v w → HasPlaces v places → HasPlaces w places
-  begun_have number places is h =
-      let e = ap (λ (x : Volumed B). length x.flights) is.becomes in
+  pub begun_lives : (number : ℕ) (is : IsMergeBegun number v w) → lives_of w ≡ remove (lives_of v) is.place
+  begun_lives number is =
+      let count : ℕ = length is.snap.pairs in
+      let chunk : ℕ = is.snap.state.chunk in
+      ap lives_of is.becomes ∙ alike_lives (kept_for number count chunk) (kept_alike number count chunk) (remove v.snaps is.place) ∙ map-remove (λ (s : Kept B). s.live) v.snaps is.place
+
+  begun_less : (number : ℕ) → IsMergeBegun number v w → HasFewer
+  begun_less number is =
       let count : ℕ = length is.snap.pairs in
       let chunk : ℕ = is.snap.state.chunk in
       let left : List (Kept B) = remove v.snaps is.place in
-      let lives = ap lives_of is.becomes ∙ alike_lives (kept_for number count chunk) (kept_alike number count chunk) left ∙ map-remove (λ (s : Kept B). s.live) v.snaps is.place in
-      let mays = ap mays_of is.becomes ∙ alike_mays (kept_for number count chunk) (kept_alike number count chunk) left ∙ map-remove (λ (s : Kept B). may_overflow s.overflow) v.snaps is.place in
-      fewer_have places places (omega (arith, e)) (left_lives is.place lives mays) (omega arith) h.few h
+      left_lives is.place (begun_lives number is)
+      (ap mays_of is.becomes ∙ alike_mays (kept_for number count chunk) (kept_alike number count chunk) left ∙ map-remove (λ (s : Kept B). may_overflow s.overflow) v.snaps is.place)
+
+  begun_have : (number places : ℕ) → IsMergeBegun number v w → HasPlaces v places → HasPlaces w places
+  begun_have number places is h =
+      let e = ap (λ (x : Volumed B). length x.flights) is.becomes in
+      let less = begun_less number is in
+      fewer_have places places (omega (arith, e)) less (omega arith) h.few (begun_earned v w number (places + kept_for_marks v) (places + kept_for_marks w) is (omega (arith, less.marks)) h.earned) h
+
+  unbegun_flights : (number : ℕ) (refusal : Refusal) → IsNotBegun number refusal v w → length w.flights ≡ length v.flights
+  unbegun_flights number refusal (inl is) = ap (λ (x : Volumed B). length x.flights) is.1
+  unbegun_flights number refusal (inr is) = (let kept : SameButKept v w = is.2 in ap (λ (x : Volumed B). length x.flights) kept.becomes)
+
+  unbegun_lives : (number : ℕ) (refusal : Refusal) → IsNotBegun number refusal v w → (lives_of w ≡ lives_of v) × (mays_of w ≡ mays_of v)
+  unbegun_lives number refusal (inl is) = (ap lives_of is.1, ap mays_of is.1)
+  unbegun_lives number refusal (inr is) =
+      let kept : SameButKept v w = is.2 in
+      elim kept.kept [
+        | inl same ↦ (ap (map (λ (s : Kept B). s.live)) same, ap (map (λ (s : Kept B). may_overflow s.overflow)) same)
+        | inr unkept_are ↦ (
+          ap (map (λ (s : Kept B). s.live)) unkept_are ∙ alike_lives unkept unkept_alike v.snaps,
+          ap (map (λ (s : Kept B). may_overflow s.overflow)) unkept_are ∙ alike_mays unkept unkept_alike v.snaps,
+        )
+      ]
 
   unbegun_have : (number : ℕ) (refusal : Refusal) (places : ℕ) → IsNotBegun number refusal v w → HasPlaces v places → HasPlaces w places
-  unbegun_have number refusal places (inl is) h =
-      fewer_have places places (let e = ap (λ (x : Volumed B). length x.flights) is.1 in omega (arith, e)) (are_fewer (same_lives v w (ap lives_of is.1)) (same_fewer (mays_of w) (mays_of v) (ap mays_of is.1))) (omega arith) h.few h
-  unbegun_have number refusal places (inr is) h =
-      let kept : SameButKept v w = is.2 in
-      let e = ap (λ (x : Volumed B). length x.flights) kept.becomes in
-      fewer_have places places (omega (arith, e)) (elim kept.kept [
-        | inl same ↦ are_fewer (same_lives v w (ap (map (λ (s : Kept B). s.live)) same)) (same_fewer (mays_of w) (mays_of v) (ap (map (λ (s : Kept B). may_overflow s.overflow)) same))
-        | inr unkept_are ↦ are_fewer (same_lives v w (ap (map (λ (s : Kept B). s.live)) unkept_are ∙ alike_lives unkept unkept_alike v.snaps))
-            (same_fewer (mays_of w) (mays_of v) (ap (map (λ (s : Kept B). may_overflow s.overflow)) unkept_are ∙ alike_mays unkept unkept_alike v.snaps))
-      ]) (omega arith) h.few h
+  unbegun_have number refusal places is h =
+      let e = unbegun_flights number refusal is in
+      let alike = unbegun_lives number refusal is in
+      still_have places (omega (arith, e)) (alike_fewer alike.0 alike.1) (unbegun_many v w number refusal is) h
+
+  pub unbegun_marks : (number : ℕ) (refusal : Refusal) → IsNotBegun number refusal v w → kept_for_marks w ≡ kept_for_marks v
+  unbegun_marks number refusal is = (let alike = unbegun_lives number refusal is in alike_marks alike.0 alike.1)
 
   pub begun_or_have : {A : Type 0} (number places : ℕ) (r : Result A Refusal) → OnOk r (IsMergeBegun number v w) → IfErr r (λ refusal. IsNotBegun number refusal v w) → HasPlaces v places → HasPlaces w places
   begun_or_have number places (Ok a) begun refused h = begun_have number places begun h
   begun_or_have number places (Err e) begun refused h = unbegun_have number e places refused h
 
-  -- it takes no place, not even one for a mark
-  pub begun_fewer_marks : {A : Type 0} (number places : ℕ) (r : Result A Refusal) → OnOk r (IsMergeBegun number v w) → IfErr r (λ refusal. IsNotBegun number refusal v w) → HasPlaces v places → kept_for_marks w ≤ kept_for_marks v
-  begun_fewer_marks number places r begun refused h =
-      let most : HasPlaces v (65_536 - kept_for_marks v) = record { enough = omega (arith, h.enough, h.few); few = omega (arith, h.few) } in
-      let few = (begun_or_have number (65_536 - kept_for_marks v) r begun refused most).few in
-      omega (arith, few, h.few)
-
-  finished_less : (store : StoreDev B) → IsTakenOut v w store → HasFewer
-  finished_less store is = are_fewer (same_lives v w (ap lives_of is.becomes ∙ alike_lives unkept unkept_alike v.snaps)) (same_fewer (mays_of w) (mays_of v) (ap mays_of is.becomes ∙ alike_mays unkept unkept_alike v.snaps))
-
-  pub finished_fewer_marks : (store : StoreDev B) → IsTakenOut v w store → kept_for_marks w ≤ kept_for_marks v
-  finished_fewer_marks store is = (finished_less store is).marks
+  pub finished_lives : (store : StoreDev B) → IsTakenOut v w store → (lives_of w ≡ lives_of v) × (mays_of w ≡ mays_of v)
+  finished_lives store is = (ap lives_of is.becomes ∙ alike_lives unkept unkept_alike v.snaps, ap mays_of is.becomes ∙ alike_mays unkept unkept_alike v.snaps)
 
   pub finished_have : (store : StoreDev B) (places : ℕ) → IsTakenOut v w store → places + kept_for_marks v + 1 ≤ 65_536 → HasPlaces v places → HasPlaces w (places + 1)
   finished_have store places is few h =
       let e = ap (λ (x : Volumed B). length x.flights) is.becomes in
-      fewer_have places (places + 1) (omega (arith, e)) (finished_less store is) (omega arith) (omega (arith, few)) h
+      let alike = finished_lives store is in
+      let marks = alike_marks alike.0 alike.1 in
+      fewer_have places (places + 1) (omega (arith, e)) (alike_fewer alike.0 alike.1) (omega arith) (omega (arith, few))
+      (finished_earned v w store (places + kept_for_marks v) (places + 1 + kept_for_marks w) is (omega (arith, marks)) h.earned) h
 
 -- a new volume
-pub new_have : {B : Type 0} (v : Volumed B) → v.snaps ≡ [] → v.flights ≡ [] → HasPlaces v 0
-new_have v snaps flights =
+pub new_have : {B : Type 0} (v : Volumed B) → v.snaps ≡ [] → v.flights ≡ [] → v.merge ≡ None → HasPlaces v 0
+new_have v snaps flights merge =
     let none = ap (λ (l : List (Kept _)). live_count (map (λ s. s.live) l)) snaps in
     let marks : kept_for_marks v ≡ 0 = ap (λ (l : List (Kept _)). may_count (map (λ s. s.live) l) (map (λ s. may_overflow s.overflow) l)) snaps in
-    let fly = ap length flights in record { enough = omega (arith, none, fly); few = omega (arith, marks) }
+    let fly = ap length flights in
+    let count = ap (λ (l : List (Kept _)). length l) snaps in
+    let merges = ap (λ (m : Option (Merging _)). merges_of m) merge in
+    record { enough = omega (arith, none, fly); few = omega (arith, marks); earned = omega (arith, marks, count, merges) }
 
 -- one in which nothing is in flight
 pub none_flying : (held : List Seated) (flights : List Flight) → map flight_in held ≡ map in_flight flights → held ≡ [] → flights ≡ []
 none_flying held [] same none = refl
 none_flying held (f ∷ fs) same none = absurd (let two : [] ≡ in_flight f ∷ map in_flight fs = ap (map flight_in) (sym none) ∙ same in cc)
 
-pub quiet_have : {B : Type 0} (v : Volumed B) (places live may : ℕ) → v.flights ≡ [] → live ≡ live_count (lives_of v) → live ≤ 8 → may ≡ kept_for_marks v → may ≤ 8 → places ≤ 65_536 → HasPlaces v (max places (live + may) - may)
-quiet_have v places live may flights is eight kept most few = (let fly = ap length flights in record { enough = omega (arith, fly, is, kept); few = omega (arith, eight, most, kept, few) })
+pub quiet_have : {B : Type 0} (v : Volumed B) (places live may : ℕ) → v.flights ≡ [] → live ≡ live_count (lives_of v) → live ≤ 8 → may ≡ kept_for_marks v → may ≤ 8 → length v.snaps ≤ 8 → places ≤ 65_536 → AreEarned places v → HasPlaces v (max places (live + may) - may)
+quiet_have v places live may flights is eight kept most snaps few earned =
+    let fly = ap length flights in
+    record { enough = omega (arith, fly, is, kept); few = omega (arith, eight, most, kept, few); earned = omega (arith, eight, most, kept, snaps, merges_few v.merge, earned) }
 
 -- an audit goes on with as many places
 pub going_places : {B : Type 0} (a : AuditShape B) (v : Volumed B) (places live : ℕ) → a.entries ≡ [] → a.held ≡ [] → a.lives ≡ lives_of v → a.may ≡ mays_of v → a.taken ≡ places - live → live ≡ live_count (lives_of v) → HasPlaces v places

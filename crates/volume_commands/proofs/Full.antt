@@ -1,6 +1,6 @@
 -- When a journal is full; and that no other reason is told so.
 use Rattle.std.proofs.Common.{◌≡◌, ◌≢◌, ◌⊎◌, inl, inr, ℕ, ◌+◌, ◌<◌, ◌≤◌, Bool, true, false, List, Option, Some, None, refl, sym, ◌∙◌, ap, subst}
-use Rattle.std.specs.Prelude.{◌==◌, ◌||◌, nat_le, not, Err, IfErr, Ok, Result, if◌then◌else◌}
+use Rattle.std.specs.Prelude.{◌==◌, ◌||◌, nat_le, not, if◌then◌else◌}
 use Rattle.std.specs.Option.{is_some}
 use Rattle.std.proofs.lemmas.Bool.{le-ltb, lt-ltb}
 use Rattle.sector.specs.declared.refusal.Refusal.{Refusal}
@@ -28,7 +28,7 @@ use Rattle.volume.specs.Leaving.{detach_refusal, is_quiet_of, leaving_refusal}
 use Rattle.volume.specs.Submitting.{IsRefusedAs, dev_refusal, first_of_two, is_merging, limit_refusal, range_refusal, refusal_at, shut_at, shut_refusal, starting, submit_refusal}
 use Rattle.volume.specs.Taking.{IsNotTaken, attach_refusal, taking_refusal}
 use Rattle.volume.specs.Volumed.{Volumed, piece_with}
-use Rattle.volume_commands.specs.Places.{IsFullFirst, is_full_for}
+use Rattle.volume_commands.specs.Places.{is_full_for}
 
 pub is_full : (more taken : ℕ) → 65_536 < taken + more → is_full_for more taken ≡ true
 is_full more taken over = lt-ltb 65_536 (taken + more) over
@@ -148,13 +148,9 @@ module _ {B : Type 0} where
       beside (Some k) = refl
 
   -- a merge that does not begin
-  unbegun_other : (number : ℕ) (e : Refusal) (v w : Volumed B) → IsNotBegun number e v w → e ≢ JournalFull
+  pub unbegun_other : (number : ℕ) (e : Refusal) (v w : Volumed B) → IsNotBegun number e v w → e ≢ JournalFull
   unbegun_other number e v w (inl is) = fed_other e (begin_refusal number v) (begin_fed v.merge number v) is.0
   unbegun_other number e v w (inr is) = memory_other e is.1
-
-  pub begun_first : {A : Type 0} (number : ℕ) (full : Bool) (r : Result A Refusal) (v w : Volumed B) → full ≡ false → IfErr r (λ e. IsNotBegun number e v w) → IsFullFirst full r
-  begun_first number full (Ok done) v w room refused = room
-  begun_first number full (Err e) v w room refused = inr (room, unbegun_other number e v w refused)
 
   -- one that is not taken out
   pub unfinished_other : (v : Volumed B) (e : Refusal) → finish_refusal v ≡ Some e → e ≢ JournalFull

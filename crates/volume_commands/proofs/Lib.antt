@@ -51,8 +51,10 @@ pub mod Ordered
 pub mod MergeArrays
 pub mod MergeGoes
 pub mod Flown
+pub mod Earns
 pub mod Fewer
 pub mod Full
+pub mod Takings
 pub mod JournalGoing
 pub mod DueTold
 pub mod CallsSeen

@@ -1,10 +1,10 @@
 -- A request that was not accepted.
 use Rattle.std.proofs.Common.{◌≡◌, ◌≢◌, inl, inr, ℕ, zero, suc, get_or, set, Bool, ◌+◌, ◌≤◌, true, false, List, [], ◌∷◌, length, map, Option, Some, None, refl, sym, ◌∙◌, ap, subst, arith}
-use Rattle.std.specs.Prelude.{◌&&◌, ◌⊎◌, not, IfSome}
+use Rattle.std.specs.Prelude.{◌&&◌, not, IfSome}
 use Rattle.std.specs.List.{list_all}
 use Rattle.sector.specs.declared.refusal.Refusal.{Refusal}
 use Rattle.sector.specs.declared.refusal.Refusal.TheVariants.{Invalid, Overflow}
-use Rattle.settled.specs.Refusals.{IsStarved, is_starved}
+use Rattle.settled.specs.Refusals.{is_starved}
 use Rattle.settled.proofs.Starved.{memory_starved}
 use Rattle.device.specs.Layers.{Layer}
 use Rattle.plain.specs.declared.request.Overflowing.TheVariants.{Did}
@@ -16,6 +16,7 @@ use Rattle.snapshots.specs.Finding.{place_of_snap}
 use Rattle.snapshots.specs.Starting.{unroomed}
 use Rattle.volume.specs.Asking.{merging_number}
 use Rattle.volume.specs.Submitting.{SameButRoom, IsOverflown, IsRefusedAs}
+use Rattle.volume_commands.specs.Declined.{IsUnsent}
 use Rattle.volume_commands.specs.Serving.{CanServe}
 use Rattle.volume_commands.proofs.Limits.{only_its_snap}
 
@@ -52,10 +53,7 @@ pub apart_by : {B : Type 0} (v : Volumed B) (seen : Option ℕ) → seen ≡ mer
 apart_by v None is apart number e = absurd (let none : None ≡ Some number = is ∙ e in cc)
 apart_by v (Some n) is apart number e = (let some : Some n ≡ Some number = is ∙ e in let same : n ≡ number = cc in ap (λ k. place_of_snap k v.snaps) (sym same) ∙ apart)
 
--- a request was refused: for want of room, or as the volume says
-abbrev pub IsUnsent : {B : Type 0} → (B → List ℕ) → (B → List Layer) → (B → ℕ) → Request → Refusal → Volumed B → Volumed B → Type 0
-IsUnsent contents layers size request refusal old new = IsStarved refusal old new ⊎ IsRefusedAs contents layers size request refusal old new
-
+-- a request was refused
 module _ {B : Type 0} (contents : B → List ℕ) (layers : B → List Layer) (size : B → ℕ) (request : Request) (refusal : Refusal) (old new : Volumed B) (refused : IsUnsent contents layers size request refusal old new) where
   -- one that its snapshot refuses is not starved
   pub invalid_refused : refusal ≡ Invalid → IsRefusedAs contents layers size request refusal old new

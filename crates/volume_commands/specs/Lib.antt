@@ -17,6 +17,8 @@ pub mod Flying
 pub mod Merging
 pub mod Ordered
 pub mod Places
+pub mod TakesPlaces
+pub mod Declined
 pub mod GoingOn
 pub mod Trace
 pub mod SeesAttach

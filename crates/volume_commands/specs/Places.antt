@@ -4,7 +4,8 @@ use Rattle.sector.specs.declared.refusal.Refusal.{Refusal}
 use Rattle.sector.specs.declared.refusal.Refusal.TheVariants.{JournalFull}
 use Rattle.volume.specs.Causes.{lives_of}
 use Rattle.volume.specs.Volumed.{Volumed}
-use Rattle.journal.specs.Noted.{live_count, may_count, mays_of}
+use Rattle.journal.specs.Earned.{AreEarned}
+use Rattle.journal.specs.Noted.{kept_count, live_count, may_count, mays_of}
 
 -- a volume, and how many places of its journal are taken
 pub record Counted (B : Type 0) : Type 0 where
@@ -20,10 +21,16 @@ kept_free v = length v.flights + live_count (lives_of v)
 abbrev pub kept_for_marks : {B : Type 0} → Volumed B → ℕ
 kept_for_marks v = may_count (lives_of v) (mays_of v)
 
--- so many are taken but for those for marks, the former among them, and with these there are no more than a journal has
+-- and both for snapshots: one of each that is live, and that for its mark
+abbrev pub kept_for_snaps : {B : Type 0} → Volumed B → ℕ
+kept_for_snaps v = kept_count (lives_of v) (mays_of v)
+
+-- so many are taken but for those for marks, the former among them; and with these there are no more than a journal has, and than
+-- the volume's requests and snapshots earned
 pub record HasPlaces {B : Type 0} (v : Volumed B) (places : ℕ) : Type 0 where
   pub enough : kept_free v ≤ places
   pub few : places + kept_for_marks v ≤ 65_536
+  pub earned : AreEarned (places + kept_for_marks v) v
 
 abbrev pub counted_with : {B : Type 0} → Volumed B → ℕ → Counted B
 counted_with v places = record { volume = v; taken = places + kept_for_marks v }
@@ -37,8 +44,3 @@ is_full_for more taken = nat_lt 65_536 (taken + more)
 abbrev pub IsFullFirst : {A : Type 0} → Bool → Result A Refusal → Type 0
 IsFullFirst full (Ok done) = full ≡ false
 IsFullFirst full (Err refusal) = ((full ≡ true) × (refusal ≡ JournalFull)) ⊎ ((full ≡ false) × (refusal ≢ JournalFull))
-
--- the same of one that gives back what it was called with
-abbrev pub IsFullFirstOf : {A C : Type 0} → Bool → Result A (Refusal × C) → Type 0
-IsFullFirstOf full (Ok done) = full ≡ false
-IsFullFirstOf full (Err e) = ((full ≡ true) × (e.0 ≡ JournalFull)) ⊎ ((full ≡ false) × (e.0 ≢ JournalFull))

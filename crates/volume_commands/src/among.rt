@@ -7,6 +7,7 @@ ghost use Rattle.volume_commands.specs.Kept.{KeepsDevices};
 ghost use Rattle.volume_commands.specs.Draining.{IsDrainedApart, is_idle_of};
 ghost use Rattle.volume_commands.specs.Among.{is_live_dev, IsServedAmong, IsRefusedAmong};
 ghost use Rattle.volume_commands.specs.Places.{is_full_for};
+ghost use Rattle.volume_commands.specs.TakesPlaces.{TakesByRequests};
 
 use crate::draining::{drain_apart, drain_for};
 use crate::serving::look;
@@ -44,7 +45,7 @@ fn follow<B: Layered>(volume: &mut Journaled<B>, live: bool, ended: &mut Vec<Rep
     ensures idle { live ≡ true → is_idle_of B.contents B.layers volume.new.volume ≡ true }
     ensures kept { KeepsDevices B.layers B.size (rested_of volume.old.volume) (rested_of volume.new.volume) }
     ensures requests { volume.new.volume.requests ≡ volume.old.volume.requests }
-    ensures taken { volume.new.taken ≤ volume.old.taken }
+    ensures taken { TakesByRequests volume.old volume.new }
 {
     if live {
         drain_apart(volume, ended);
@@ -64,7 +65,7 @@ pub(crate) fn serve_among<B: Layered>(
     ensures refused { IfErr result (λ refusal. IsRefusedAmong B.contents B.layers B.fault_count B.size request refusal volume.old.volume volume.new.volume ended.old.items ended.new.items) }
     ensures kept { KeepsDevices B.layers B.size (rested_of volume.old.volume) (rested_of volume.new.volume) }
     ensures requests { volume.new.volume.requests ≤ volume.old.volume.requests + 1 }
-    ensures taken { volume.new.taken + volume.old.volume.requests ≤ volume.old.taken + volume.new.volume.requests }
+    ensures taken { TakesByRequests volume.old volume.new }
     ensures full { IfErr result (λ refusal. refusal ≡ JournalFull → is_full_for 1 volume.new.taken ≡ true) }
 {
     let Ok(()) = ended.reserve(MAX_REQUESTS) else {

@@ -12,6 +12,8 @@ ghost use Rattle.volume_commands.specs.Kept.{KeepsDevices};
 ghost use Rattle.volume_commands.specs.Among.{AreReadAmong, AreWrittenAmong, IsPieceFailed, IsPieceServed, IsReadRefusedAmong, IsReadStopped, IsWriteRefusedAmong, IsWriteStopped, pieces_among};
 ghost use Rattle.sector.specs.declared.refusal.Refusal.TheVariants.{JournalFull};
 ghost use Rattle.volume_commands.specs.Places.{is_full_for};
+ghost use Rattle.volume_commands.specs.Recorded.{counted_in};
+ghost use Rattle.volume_commands.specs.TakesPlaces.{TakesByRequests};
 
 use crate::among::serve_among;
 use crate::pieces::part_of;
@@ -42,7 +44,7 @@ fn write_piece_among<B: Layered>(
     ensures left { drop to bytes.new ≡ drop to bytes.old }
     ensures kept { KeepsDevices B.layers B.size (rested_of volume.old.volume) (rested_of volume.new.volume) }
     ensures requests { volume.new.volume.requests ≤ volume.old.volume.requests + 1 }
-    ensures taken { volume.new.taken + volume.old.volume.requests ≤ volume.old.taken + volume.new.volume.requests }
+    ensures taken { TakesByRequests volume.old volume.new }
     ensures full { IfErr result (λ refusal. refusal ≡ JournalFull → is_full_for 1 volume.new.taken ≡ true) }
 {
     let Ok(part) = part_of(alloc, bytes, from, to) else {
@@ -77,7 +79,7 @@ fn read_piece_among<B: Layered>(
     ensures capacity { vec_capacity out.old ≤ vec_capacity out.new }
     ensures kept { KeepsDevices B.layers B.size (rested_of volume.old.volume) (rested_of volume.new.volume) }
     ensures requests { volume.new.volume.requests ≤ volume.old.volume.requests + 1 }
-    ensures taken { volume.new.taken + volume.old.volume.requests ≤ volume.old.taken + volume.new.volume.requests }
+    ensures taken { TakesByRequests volume.old volume.new }
     ensures full { IfErr result (λ refusal. refusal ≡ JournalFull → is_full_for 1 volume.new.taken ≡ true) }
 {
     let request = Request {
@@ -115,7 +117,7 @@ fn write_pieces_among<B: Layered>(
     ensures stopped { IfErr result (λ refusal. IsWriteStopped B.contents B.layers B.fault_count B.size dev (pieces_of (piece_with volume.old.volume.merge volume.old.volume.snaps) (span_of range)) bytes refusal volume.old.volume volume.new.volume ended.old.items ended.new.items) }
     ensures kept { KeepsDevices B.layers B.size (rested_of volume.old.volume) (rested_of volume.new.volume) }
     ensures requests { volume.new.volume.requests ≤ volume.old.volume.requests + range.count }
-    ensures taken { volume.new.taken + volume.old.volume.requests ≤ volume.old.taken + volume.new.volume.requests }
+    ensures taken { TakesByRequests volume.old volume.new }
     ensures full { IfErr result (λ refusal. refusal ≡ JournalFull → is_full_for 1 volume.new.taken ≡ true) }
 {
     let geometry = Geometry {
@@ -149,7 +151,7 @@ fn read_pieces_among<B: Layered>(
     ensures stopped { IfErr result (λ refusal. IsReadStopped B.contents B.layers B.fault_count B.size dev (pieces_of (piece_with volume.old.volume.merge volume.old.volume.snaps) (span_of range)) refusal volume.old.volume volume.new.volume ended.old.items ended.new.items) }
     ensures kept { KeepsDevices B.layers B.size (rested_of volume.old.volume) (rested_of volume.new.volume) }
     ensures requests { volume.new.volume.requests ≤ volume.old.volume.requests + range.count }
-    ensures taken { volume.new.taken + volume.old.volume.requests ≤ volume.old.taken + volume.new.volume.requests }
+    ensures taken { TakesByRequests volume.old volume.new }
     ensures full { IfErr result (λ refusal. refusal ≡ JournalFull → is_full_for 1 volume.new.taken ≡ true) }
 {
     let geometry = Geometry {
@@ -188,7 +190,7 @@ impl<B: Layered> Resting<B> {
         ensures whole { IsWhole self.old.rested × IsWhole self.new.rested }
         ensures kept { KeepsDevices B.layers B.size self.old.rested self.new.rested }
         ensures requests { self.new.rested.requests ≤ self.old.rested.requests + range.count }
-        ensures taken { self.new.taken + self.old.rested.requests ≤ self.old.taken + self.new.rested.requests }
+        ensures taken { TakesByRequests (counted_in self.old) (counted_in self.new) }
         ensures full { IfErr result (λ refusal. refusal ≡ JournalFull → is_full_for 1 self.new.taken ≡ true) }
     {
         if !is_there(&self.volume, dev) {
@@ -225,7 +227,7 @@ impl<B: Layered> Resting<B> {
         ensures whole { IsWhole self.old.rested × IsWhole self.new.rested }
         ensures kept { KeepsDevices B.layers B.size self.old.rested self.new.rested }
         ensures requests { self.new.rested.requests ≤ self.old.rested.requests + range.count }
-        ensures taken { self.new.taken + self.old.rested.requests ≤ self.old.taken + self.new.rested.requests }
+        ensures taken { TakesByRequests (counted_in self.old) (counted_in self.new) }
         ensures full { IfErr result (λ refusal. refusal ≡ JournalFull → is_full_for 1 self.new.taken ≡ true) }
     {
         if !is_there(&self.volume, dev) {

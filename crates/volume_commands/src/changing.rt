@@ -1,19 +1,20 @@
 // A snapshot is taken or leaves, and the volume is closed.
-ghost use Rattle.std.specs.Prelude.{◌≡◌, ◌≢◌, ◌⊎◌, [], None, Some, IfErr, IfOk, is_some, true, false, ◌+◌, ◌≤◌, MatchResult};
+ghost use Rattle.std.specs.Prelude.{◌≡◌, ◌≢◌, ◌⊎◌, [], None, Some, IfErr, IfOk, is_some, true, false};
 ghost use Rattle.sector.specs.declared.refusal.Refusal.TheVariants.{Busy, NoSuchDevice, NotQuiet};
 ghost use Rattle.plain.specs.declared.request.Dev.TheVariants.{Snap};
-ghost use Rattle.settled.specs.Refusals.{is_starved};
 ghost use Rattle.merge.specs.Merging.{Merging};
 ghost use Rattle.volume.specs.DoesAttach.{DoesAttach};
 ghost use Rattle.volume.specs.DoesDetach.{DoesDetach};
 ghost use Rattle.volume.specs.Leaving.{is_quiet_of};
 ghost use Rattle.volume.specs.Submitting.{is_merging};
-ghost use Rattle.volume.specs.Taking.{IsNotTaken};
+ghost use Rattle.volume_commands.specs.Declined.{IsUnattached};
 ghost use Rattle.volume_commands.specs.Flying.{IsWhole};
 ghost use Rattle.volume_commands.specs.Rested.{Attached, has_dev, snap_at};
 ghost use Rattle.volume_commands.specs.SeesAttach.{SeesAttach};
 ghost use Rattle.volume_commands.specs.SeesDetach.{SeesDetach};
-ghost use Rattle.volume_commands.specs.Places.{IsFullFirst, IsFullFirstOf, is_full_for};
+ghost use Rattle.volume_commands.specs.Places.{kept_for_snaps};
+ghost use Rattle.volume_commands.specs.Recorded.{counted_in};
+ghost use Rattle.volume_commands.specs.TakesPlaces.{TakesPlaces, reason_of};
 ghost use Rattle.journal.specs.Journaled.{places_for};
 
 use crate::Resting;
@@ -38,10 +39,9 @@ impl<B: Layered> Resting<B> {
     ) -> Result<SnapId, (Refusal, StoreDev<B>)>
         ensures does { DoesAttach B.may_hold (record { contents = B.contents; durable = B.durable; size = B.size; faults = B.fault_count; done = B.done_count }) B.layers store chunk overflow result self.old.rested.events self.new.rested.events }
         ensures seen { SeesAttach B.contents B.layers B.size store chunk overflow result self.old.rested self.new.rested }
-        ensures refused { IfErr result (λ e. ((is_starved e.0 ≡ true) × (e.1 ≡ store)) ⊎ IsNotTaken store.stale chunk (B.size self.old.rested.origin) (B.size store.device) (B.contents store.device) self.old.rested.events e.0) }
+        ensures refused { IfErr result (λ e. IsUnattached B.contents B.size store chunk self.old.rested.origin self.old.rested.events e) }
         ensures whole { IsWhole self.old.rested × IsWhole self.new.rested }
-        ensures full { IsFullFirstOf (is_full_for (places_for overflow) self.old.taken) result }
-        ensures taken { MatchResult result (λ number. self.new.taken ≡ self.old.taken + places_for overflow) (λ e. self.new.taken ≡ self.old.taken) }
+        ensures places { TakesPlaces (places_for overflow) kept_for_snaps (reason_of result) (counted_in self.old) (counted_in self.new) }
     {
         self.volume.attach(store, chunk, overflow)
     }
@@ -51,8 +51,7 @@ impl<B: Layered> Resting<B> {
     pub fn detach(&mut self, number: SnapId) -> Result<StoreDev<B>, Refusal>
         ensures does { DoesDetach B.may_hold B.contents B.layers B.size number result self.old.rested.events self.new.rested.events }
         ensures seen { SeesDetach B.contents B.layers number result self.old.rested self.new.rested }
-        ensures full { IsFullFirst (is_full_for 1 self.old.taken) result }
-        ensures taken { MatchResult result (λ store. self.new.taken ≤ self.old.taken + 1) (λ refusal. self.new.taken ≡ self.old.taken) }
+        ensures places { TakesPlaces 1 kept_for_snaps result (counted_in self.old) (counted_in self.new) }
     {
         self.volume.detach(number)
     }

@@ -8,6 +8,8 @@ ghost use Rattle.volume_commands.specs.Flying.{IsWhole};
 ghost use Rattle.volume_commands.specs.Kept.{KeepsDevices};
 ghost use Rattle.volume_commands.specs.Showing.{arrays_in, IsGoneOn};
 ghost use Rattle.volume_commands.specs.Draining.{IsDrained, IsDrainedApart, IsAnsweredAmong, is_idle_of};
+ghost use Rattle.volume_commands.specs.Recorded.{counted_in};
+ghost use Rattle.volume_commands.specs.TakesPlaces.{TakesByRequests};
 
 use crate::{Journaled, Replied, Resting};
 use layers::Layered;
@@ -44,7 +46,7 @@ fn drain<B: Layered>(volume: &mut Journaled<B>, ended: &mut Vec<Replied>) -> Res
     ensures err { IfErr result (λ refusal. (refusal ≡ NoMemory) × (volume.new.volume ≡ volume.old.volume) × (ended.new.items ≡ ended.old.items)) }
     ensures kept { KeepsDevices B.layers B.size (rested_of volume.old.volume) (rested_of volume.new.volume) }
     ensures requests { volume.new.volume.requests ≡ volume.old.volume.requests }
-    ensures taken { volume.new.taken ≤ volume.old.taken }
+    ensures taken { TakesByRequests volume.old volume.new }
 {
     let _ = volume.is_quiet();
     make_room(ended, volume.flying())?;
@@ -67,7 +69,7 @@ pub(crate) fn drain_apart<B: Layered>(volume: &mut Journaled<B>, ended: &mut Vec
     ensures idle { is_idle_of B.contents B.layers volume.new.volume ≡ true }
     ensures kept { KeepsDevices B.layers B.size (rested_of volume.old.volume) (rested_of volume.new.volume) }
     ensures requests { volume.new.volume.requests ≡ volume.old.volume.requests }
-    ensures taken { volume.new.taken ≤ volume.old.taken }
+    ensures taken { TakesByRequests volume.old volume.new }
 {
     while let Some(event) = volume.due() {
         if is_of_merge(event) {
@@ -94,7 +96,7 @@ pub(crate) fn drain_for<B: Layered>(
     ensures idle { is_idle_of B.contents B.layers volume.new.volume ≡ true }
     ensures kept { KeepsDevices B.layers B.size (rested_of volume.old.volume) (rested_of volume.new.volume) }
     ensures requests { volume.new.volume.requests ≡ volume.old.volume.requests }
-    ensures taken { volume.new.taken ≤ volume.old.taken }
+    ensures taken { TakesByRequests volume.old volume.new }
 {
     let mut answer = Reply::Refused(Failure::Invalid);
     let mut told = false;
@@ -137,7 +139,7 @@ impl<B: Layered> Resting<B> {
         ensures whole { IsWhole self.old.rested × IsWhole self.new.rested }
         ensures kept { KeepsDevices B.layers B.size self.old.rested self.new.rested }
         ensures requests { self.new.rested.requests ≡ self.old.rested.requests }
-        ensures taken { self.new.taken ≤ self.old.taken }
+        ensures taken { TakesByRequests (counted_in self.old) (counted_in self.new) }
     {
         drain(&mut self.volume, ended)
     }

@@ -1,15 +1,15 @@
 // Requests and events.
-ghost use Rattle.std.specs.Prelude.{◌≡◌, ◌⊎◌, ◌*◌, ◌+◌, ◌≤◌, IfErr, IfOk, List, MatchResult, length, true, ℕ};
+ghost use Rattle.std.specs.Prelude.{◌≡◌, ◌*◌, IfErr, IfOk, List, length, true, ℕ};
 ghost use Rattle.plain.specs.declared.request.Op.TheVariants.{Write};
 ghost use Rattle.plain.specs.declared.request.Reply.TheVariants.{Refused};
-ghost use Rattle.settled.specs.Refusals.{IsStarved};
 ghost use Rattle.volume.specs.DoesStep.{DoesStep};
 ghost use Rattle.volume.specs.DoesSubmit.{DoesSubmit};
-ghost use Rattle.volume.specs.Submitting.{IsRefusedAs};
 ghost use Rattle.volume.specs.Volumed.{is_loud_in_all, plain_of};
 ghost use Rattle.journal.specs.declared.entry.Entry.{Entry};
+ghost use Rattle.volume_commands.specs.Declined.{IsUnsent};
 ghost use Rattle.volume_commands.specs.GoingOn.{ComesTo, GoesOn, IsSubmitNoted};
-ghost use Rattle.volume_commands.specs.Places.{IsFullFirst, is_full_for};
+ghost use Rattle.volume_commands.specs.Places.{kept_for_marks};
+ghost use Rattle.volume_commands.specs.TakesPlaces.{TakesByRequests, TakesPlaces};
 
 use crate::Journaled;
 use crate::journaled::count_may;
@@ -25,9 +25,8 @@ impl<B: Layered> Journaled<B> {
     pub fn submit(&mut self, request: Request) -> Result<ReqId, Refusal>
         requires bytes { (bytes : List ℕ) → request.op ≡ Write bytes → length bytes ≡ 512 * request.range.count }
         ensures does { DoesSubmit B.contents B.layers B.size request result self.old.volume self.new.volume }
-        ensures refused { IfErr result (λ refusal. IsStarved refusal self.old.volume self.new.volume ⊎ IsRefusedAs B.contents B.layers B.size request refusal self.old.volume self.new.volume) }
-        ensures full { IsFullFirst (is_full_for 1 self.old.taken) result }
-        ensures taken { MatchResult result (λ number. self.new.taken ≤ self.old.taken + 1) (λ refusal. self.new.taken ≡ self.old.taken) }
+        ensures refused { IfErr result (λ refusal. IsUnsent B.contents B.layers B.size request refusal self.old.volume self.new.volume) }
+        ensures places { TakesPlaces 1 kept_for_marks result self.old self.new }
         ensures goes_on { is_loud_in_all B.layers self.old.volume ≡ true → (entries : List Entry) × IsSubmitNoted request result entries × GoesOn (plain_of B.contents B.layers self.old.volume) entries (plain_of B.contents B.layers self.new.volume) }
     {
         let may = count_may(&self.volume);
@@ -51,7 +50,7 @@ impl<B: Layered> Journaled<B> {
     /// that of its request, and a spoiled snapshot's entry that of the snapshot.
     pub fn step(&mut self, event: Event) -> Result<Outcome, NotDue>
         ensures does { DoesStep B.may_hold B.contents B.layers B.size B.fault_count B.done_count true event result self.old.volume self.new.volume }
-        ensures taken { self.new.taken ≤ self.old.taken }
+        ensures taken { TakesByRequests self.old self.new }
         ensures goes_on { IfOk result (λ outcome. is_loud_in_all B.layers self.old.volume ≡ true → (entries : List Entry) × ComesTo (plain_of B.contents B.layers self.old.volume) outcome entries × GoesOn (plain_of B.contents B.layers self.old.volume) entries (plain_of B.contents B.layers self.new.volume)) }
     {
         self.volume.step(event)

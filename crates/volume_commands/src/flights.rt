@@ -1,16 +1,17 @@
 // Requests in flight between commands: one is started, and one event is done.
-ghost use Rattle.std.specs.Prelude.{◌≡◌, ◌⊎◌, ◌*◌, ◌<◌, ℕ, List, length, AllPairs, IfErr, true, ◌+◌, ◌≤◌, MatchResult};
+ghost use Rattle.std.specs.Prelude.{◌≡◌, ◌*◌, ◌<◌, ℕ, List, length, AllPairs, IfErr, true};
 ghost use Rattle.plain.specs.declared.request.Op.TheVariants.{Write};
-ghost use Rattle.settled.specs.Refusals.{IsStarved};
 ghost use Rattle.volume.specs.DoesStep.{DoesStep};
 ghost use Rattle.volume.specs.DoesSubmit.{DoesSubmit};
 ghost use Rattle.volume.specs.Leaving.{is_quiet_of};
-ghost use Rattle.volume.specs.Submitting.{IsRefusedAs};
+ghost use Rattle.volume_commands.specs.Declined.{IsUnsent};
 ghost use Rattle.volume_commands.specs.Flying.{IsWhole};
 ghost use Rattle.volume_commands.specs.Ordered.{IsOrdered};
 ghost use Rattle.volume_commands.specs.Rested.{rested_of, merged_of, numbers_of, is_loud_in, IsSettled};
 ghost use Rattle.volume_commands.specs.SeesRequests.{SeesStart, SeesStep};
-ghost use Rattle.volume_commands.specs.Places.{IsFullFirst, is_full_for};
+ghost use Rattle.volume_commands.specs.Places.{kept_for_marks};
+ghost use Rattle.volume_commands.specs.Recorded.{counted_in};
+ghost use Rattle.volume_commands.specs.TakesPlaces.{TakesByRequests, TakesPlaces};
 
 use crate::serving::look;
 use crate::{Journaled, Resting};
@@ -59,10 +60,9 @@ impl<B: Layered> Resting<B> {
         requires bytes { (bytes : List ℕ) → request.op ≡ Write bytes → length bytes ≡ 512 * request.range.count }
         ensures does { DoesSubmit B.contents B.layers B.size request result self.old.rested.events self.new.rested.events }
         ensures seen { SeesStart B.contents B.layers B.size result self.old.rested self.new.rested }
-        ensures refused { IfErr result (λ refusal. IsStarved refusal self.old.rested.events self.new.rested.events ⊎ IsRefusedAs B.contents B.layers B.size request refusal self.old.rested.events self.new.rested.events) }
+        ensures refused { IfErr result (λ refusal. IsUnsent B.contents B.layers B.size request refusal self.old.rested.events self.new.rested.events) }
         ensures whole { IsWhole self.old.rested × IsWhole self.new.rested }
-        ensures full { IsFullFirst (is_full_for 1 self.old.taken) result }
-        ensures taken { MatchResult result (λ number. self.new.taken ≤ self.old.taken + 1) (λ refusal. self.new.taken ≡ self.old.taken) }
+        ensures places { TakesPlaces 1 kept_for_marks result (counted_in self.old) (counted_in self.new) }
     {
         look(&self.volume);
         self.volume.submit(request)
@@ -75,7 +75,7 @@ impl<B: Layered> Resting<B> {
         ensures does { DoesStep B.may_hold B.contents B.layers B.size B.fault_count B.done_count true event result self.old.rested.events self.new.rested.events }
         ensures seen { SeesStep B.layers B.size result self.old.rested self.new.rested }
         ensures whole { IsWhole self.old.rested × IsWhole self.new.rested }
-        ensures taken { self.new.taken ≤ self.old.taken }
+        ensures taken { TakesByRequests (counted_in self.old) (counted_in self.new) }
     {
         self.volume.step(event)
     }

@@ -8,6 +8,7 @@ ghost use Rattle.volume.specs.Stepping.{KeepsAll};
 ghost use Rattle.volume.specs.Volumed.{is_loud_in_all, left_in_all};
 ghost use Rattle.volume_commands.specs.AtRest.{AreDone};
 ghost use Rattle.volume_commands.specs.Following.{AreCarried, IsFollowed};
+ghost use Rattle.volume_commands.specs.TakesPlaces.{TakesByRequests};
 
 use crate::Journaled;
 use in_flight::Stage;
@@ -35,7 +36,7 @@ fn carry<B: Layered>(volume: &mut Journaled<B>, events: &[Event], reply: Reply) 
     ensures kept { KeepsAll B.size volume.old.volume volume.new.volume }
     ensures requests { volume.new.volume.requests ≡ volume.old.volume.requests }
     ensures left { left_in_all B.contents B.layers volume.new.volume ≤ left_in_all B.contents B.layers volume.old.volume }
-    ensures taken { volume.new.taken ≤ volume.old.taken }
+    ensures taken { TakesByRequests volume.old volume.new }
 {
     for event in events {
         match volume.step(*event) {
@@ -57,7 +58,7 @@ fn follow_read<B: Layered>(volume: &mut Journaled<B>, number: CopyId, reply: Rep
     ensures kept { KeepsAll B.size volume.old.volume volume.new.volume }
     ensures requests { volume.new.volume.requests ≡ volume.old.volume.requests }
     ensures left { left_in_all B.contents B.layers volume.new.volume ≤ left_in_all B.contents B.layers volume.old.volume }
-    ensures taken { volume.new.taken ≤ volume.old.taken }
+    ensures taken { TakesByRequests volume.old volume.new }
 {
     let Some(snap) = holder(volume, number) else {
         return reply;
@@ -80,7 +81,7 @@ pub(crate) fn follow<B: Layered>(volume: &mut Journaled<B>, done: Event, reply: 
     ensures kept { KeepsAll B.size volume.old.volume volume.new.volume }
     ensures requests { volume.new.volume.requests ≡ volume.old.volume.requests }
     ensures left { left_in_all B.contents B.layers volume.new.volume ≤ left_in_all B.contents B.layers volume.old.volume }
-    ensures taken { volume.new.taken ≤ volume.old.taken }
+    ensures taken { TakesByRequests volume.old volume.new }
 {
     match done {
         Event::CopyRead(number) => follow_read(volume, number, reply),

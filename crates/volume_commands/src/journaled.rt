@@ -4,6 +4,7 @@ ghost use Rattle.plain.specs.Plain.{may_overflow};
 ghost use Rattle.sector.specs.declared.refusal.Refusal.TheVariants.{NoMemory};
 ghost use Rattle.volume.specs.Causes.{lives_of};
 ghost use Rattle.volume.specs.Volumed.{is_loud_in_all};
+ghost use Rattle.journal.specs.Earned.{AreEarned};
 ghost use Rattle.journal.specs.Journaled.{places_of};
 ghost use Rattle.journal.specs.Noted.{kept_count, live_count, may_count, mays_of};
 ghost use Rattle.volume_commands.specs.Places.{kept_for_marks, kept_free};
@@ -97,9 +98,12 @@ impl<B: Layered> Journaled<B> {
         ensures volume { result.volume ≡ audit.volume }
         ensures taken { result.taken ≡ max (places_of audit) (kept_count (lives_of audit.volume) (mays_of audit.volume)) }
     {
-        // A look: then none is in flight in the volume.
+        // Two looks: then none is in flight in the volume, and its places are earned.
         audit.look_at_requests();
+        audit.look_at_places();
         let (volume, places, alloc) = audit.into_counted();
+        // A look: there are eight snapshots at most.
+        let _ = volume.len();
         // Each live snapshot has its places, whatever the audit saw of it last.
         let live = count_live(&volume);
         let may = count_may(&volume);
@@ -138,6 +142,14 @@ impl<B: Layered> Journaled<B> {
                 },
             )),
         }
+    }
+
+    /// A look at the places that are taken, which does nothing: there are no more than the requests and the snapshots that were
+    /// numbered earned.
+    pub fn look_at_places(&self)
+        ensures { AreEarned self.now.taken self.now.volume }
+    {
+        let _ = &self.places;
     }
 
     /// Cuts the journal, so that it takes as many entries again: no place is taken but those that are kept free. The volume is as it

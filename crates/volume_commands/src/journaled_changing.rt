@@ -1,9 +1,8 @@
 // What changes a volume between requests.
-ghost use Rattle.std.specs.Prelude.{◌≡◌, ◌⊎◌, ◌+◌, ◌≤◌, [], ◌∷◌, IfErr, IfOk, MatchResult, OnOk, Some, true};
+ghost use Rattle.std.specs.Prelude.{◌≡◌, ◌⊎◌, [], ◌∷◌, IfErr, IfOk, OnOk, Some, true};
 ghost use Rattle.sector.specs.declared.refusal.Refusal.TheVariants.{JournalFull};
 ghost use Rattle.device.specs.Layers.{is_loud};
 ghost use Rattle.plain.specs.Plain.{overflow_of};
-ghost use Rattle.settled.specs.Refusals.{is_starved};
 ghost use Rattle.snapshot.specs.Opening.{shown_array};
 ghost use Rattle.volume.specs.DoesAttach.{DoesAttach};
 ghost use Rattle.volume.specs.DoesBeginMerge.{DoesBeginMerge};
@@ -16,12 +15,13 @@ ghost use Rattle.volume.specs.Beginning.{IsNotBegun};
 ghost use Rattle.volume.specs.Fresh.{is_fresh};
 ghost use Rattle.volume.specs.Finishing.{finish_refusal};
 ghost use Rattle.volume.specs.Leaving.{detach_refusal};
-ghost use Rattle.volume.specs.Taking.{IsNotTaken};
 ghost use Rattle.volume.specs.Volumed.{is_loud_in_all, plain_of};
 ghost use Rattle.journal.specs.declared.entry.Entry.TheVariants.{Attached, Begun, Detached, Finished};
 ghost use Rattle.journal.specs.Journaled.{places_for};
+ghost use Rattle.volume_commands.specs.Declined.{IsUnattached};
 ghost use Rattle.volume_commands.specs.GoingOn.{GoesOn};
-ghost use Rattle.volume_commands.specs.Places.{IsFullFirst, IsFullFirstOf, is_full_for};
+ghost use Rattle.volume_commands.specs.Places.{kept_for_snaps};
+ghost use Rattle.volume_commands.specs.TakesPlaces.{TakesPlaces, reason_of};
 
 use crate::Journaled;
 use crate::journaled::{count_live, count_may};
@@ -45,9 +45,8 @@ impl<B: Layered> Journaled<B> {
         overflow: bool,
     ) -> Result<SnapId, (Refusal, StoreDev<B>)>
         ensures does { DoesAttach B.may_hold (record { contents = B.contents; durable = B.durable; size = B.size; faults = B.fault_count; done = B.done_count }) B.layers store chunk overflow result self.old.volume self.new.volume }
-        ensures refused { IfErr result (λ e. ((is_starved e.0 ≡ true) × (e.1 ≡ store)) ⊎ IsNotTaken store.stale chunk (B.size self.old.volume.origin) (B.size store.device) (B.contents store.device) self.old.volume e.0) }
-        ensures full { IsFullFirstOf (is_full_for (places_for overflow) self.old.taken) result }
-        ensures taken { MatchResult result (λ number. self.new.taken ≡ self.old.taken + places_for overflow) (λ e. self.new.taken ≡ self.old.taken) }
+        ensures refused { IfErr result (λ e. IsUnattached B.contents B.size store chunk self.old.volume.origin self.old.volume e) }
+        ensures places { TakesPlaces (places_for overflow) kept_for_snaps (reason_of result) self.old self.new }
         ensures goes_on { IfOk result (λ number. is_loud_in_all B.layers self.old.volume ≡ true → is_loud (B.layers store.device) ≡ true → GoesOn (plain_of B.contents B.layers self.old.volume) (Attached number (shown_array (B.contents self.old.volume.origin) (B.contents store.device)) (overflow_of overflow) (is_fresh (B.contents store.device)) ∷ []) (plain_of B.contents B.layers self.new.volume)) }
     {
         if self.places + count_may(&self.volume) + places_needed(overflow) > MAX_ENTRIES {
@@ -67,8 +66,7 @@ impl<B: Layered> Journaled<B> {
     #[tactic(auto, using(volume::proofs::Between::not_detached))]
     pub fn detach(&mut self, number: SnapId) -> Result<StoreDev<B>, Refusal>
         ensures does { DoesDetach B.may_hold B.contents B.layers B.size number result self.old.volume self.new.volume }
-        ensures full { IsFullFirst (is_full_for 1 self.old.taken) result }
-        ensures taken { MatchResult result (λ store. self.new.taken ≤ self.old.taken + 1) (λ refusal. self.new.taken ≡ self.old.taken) }
+        ensures places { TakesPlaces 1 kept_for_snaps result self.old self.new }
         ensures goes_on { OnOk result (is_loud_in_all B.layers self.old.volume ≡ true → GoesOn (plain_of B.contents B.layers self.old.volume) (Detached number ∷ []) (plain_of B.contents B.layers self.new.volume)) }
         ensures err { IfErr result (λ refusal. ((detach_refusal number self.old.volume ≡ Some refusal) ⊎ (refusal ≡ JournalFull)) × (self.new.volume ≡ self.old.volume)) }
     {
@@ -91,8 +89,7 @@ impl<B: Layered> Journaled<B> {
     #[tactic(auto, using(volume::proofs::Between::not_begun))]
     pub fn begin_merge(&mut self, number: SnapId) -> Result<(), Refusal>
         ensures does { DoesBeginMerge B.may_hold B.contents B.layers B.size number result self.old.volume self.new.volume }
-        ensures full { IsFullFirst (is_full_for 1 self.old.taken) result }
-        ensures taken { self.new.taken ≤ self.old.taken }
+        ensures places { TakesPlaces 1 kept_for_snaps result self.old self.new }
         ensures goes_on { OnOk result (is_loud_in_all B.layers self.old.volume ≡ true → GoesOn (plain_of B.contents B.layers self.old.volume) (Begun number ∷ []) (plain_of B.contents B.layers self.new.volume)) }
         ensures refused { IfErr result (λ refusal. ((refusal ≡ JournalFull) × (self.new.volume ≡ self.old.volume)) ⊎ IsNotBegun number refusal self.old.volume self.new.volume) }
     {
@@ -116,8 +113,7 @@ impl<B: Layered> Journaled<B> {
     #[tactic(auto, using(volume::proofs::Between::not_finished))]
     pub fn finish_merge(&mut self) -> Result<StoreDev<B>, Refusal>
         ensures does { DoesFinishMerge B.may_hold B.contents B.layers B.size result self.old.volume self.new.volume }
-        ensures full { IsFullFirst (is_full_for 1 self.old.taken) result }
-        ensures taken { MatchResult result (λ store. self.new.taken ≤ self.old.taken + 1) (λ refusal. self.new.taken ≡ self.old.taken) }
+        ensures places { TakesPlaces 1 kept_for_snaps result self.old self.new }
         ensures goes_on { OnOk result (is_loud_in_all B.layers self.old.volume ≡ true → GoesOn (plain_of B.contents B.layers self.old.volume) (Finished ∷ []) (plain_of B.contents B.layers self.new.volume)) }
         ensures err { IfErr result (λ refusal. ((finish_refusal self.old.volume ≡ Some refusal) ⊎ (refusal ≡ JournalFull)) × (self.new.volume ≡ self.old.volume)) }
     {

@@ -14,7 +14,8 @@
 //! kept. It stands on `journal`, whose audits it is made of and makes: an audit goes on from the count, and gives it back. It
 //! promises of each call what the volume's own contract promises, but that one for which there is no place is refused, and then
 //! nothing changed, and that this comes nowhere else; that there is a place for each request in flight, for each live snapshot, and for the mark of each of these
-//! that may still overflow, so that no event is ever refused, and no mark is left out; which entries each call comes to, and
+//! that may still overflow, so that no event is ever refused, and no mark is left out; how many places each call takes, and that
+//! they are never more than its requests and snapshots earned; which entries each call comes to, and
 //! that whatever journal led to what the volume showed before, with these behind it leads to what it shows then; and that a
 //! checkpoint changes nothing that callers see.
 #![tactic(auto)]

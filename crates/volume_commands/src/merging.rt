@@ -1,5 +1,5 @@
 // A merge of one snapshot into the origin: it begins, goes on after a fault, and is taken out at its end.
-ghost use Rattle.std.specs.Prelude.{◌≡◌, ◌⊎◌, IfErr, IfNone, IfSome, None, Some, ◌+◌, ◌≤◌, MatchResult};
+ghost use Rattle.std.specs.Prelude.{◌≡◌, ◌⊎◌, IfErr, IfNone, IfSome, None, Some};
 ghost use Rattle.sector.specs.declared.refusal.Refusal.TheVariants.{JournalFull};
 ghost use Rattle.merge.specs.Merging.{Merging};
 ghost use Rattle.volume.specs.Asking.{merging_number, merging_usage};
@@ -12,7 +12,9 @@ ghost use Rattle.volume_commands.specs.Flying.{IsWhole};
 ghost use Rattle.volume_commands.specs.SeesBeginMerge.{SeesBeginMerge};
 ghost use Rattle.volume_commands.specs.SeesFinishMerge.{SeesFinishMerge};
 ghost use Rattle.volume_commands.specs.SeesResumeMerge.{SeesResumeMerge};
-ghost use Rattle.volume_commands.specs.Places.{IsFullFirst, is_full_for};
+ghost use Rattle.volume_commands.specs.Places.{kept_for_snaps};
+ghost use Rattle.volume_commands.specs.Recorded.{counted_in};
+ghost use Rattle.volume_commands.specs.TakesPlaces.{TakesPlaces};
 
 use crate::Resting;
 use chunk_alloc::Usage;
@@ -33,8 +35,7 @@ impl<B: Layered> Resting<B> {
         ensures does { DoesBeginMerge B.may_hold B.contents B.layers B.size number result self.old.rested.events self.new.rested.events }
         ensures seen { SeesBeginMerge B.contents B.layers number result self.old.rested self.new.rested }
         ensures whole { IsWhole self.old.rested × IsWhole self.new.rested }
-        ensures full { IsFullFirst (is_full_for 1 self.old.taken) result }
-        ensures taken { self.new.taken ≤ self.old.taken }
+        ensures places { TakesPlaces 1 kept_for_snaps result (counted_in self.old) (counted_in self.new) }
     {
         // What a quiet volume is.
         let _ = self.volume.is_quiet();
@@ -60,8 +61,7 @@ impl<B: Layered> Resting<B> {
         ensures seen { SeesFinishMerge B.contents B.layers result self.old.rested self.new.rested }
         ensures refused { IfErr result (λ refusal. (finish_refusal self.old.rested.events ≡ Some refusal) ⊎ (refusal ≡ JournalFull)) }
         ensures whole { IsWhole self.old.rested × IsWhole self.new.rested }
-        ensures full { IsFullFirst (is_full_for 1 self.old.taken) result }
-        ensures taken { MatchResult result (λ store. self.new.taken ≤ self.old.taken + 1) (λ refusal. self.new.taken ≡ self.old.taken) }
+        ensures places { TakesPlaces 1 kept_for_snaps result (counted_in self.old) (counted_in self.new) }
     {
         // What a quiet volume is.
         let _ = self.volume.is_quiet();

@@ -1,5 +1,5 @@
 // A volume by whole commands is made of an audit, and may be taken apart again.
-ghost use Rattle.std.specs.Prelude.{◌≡◌, [], IfErr, IfOk, IsOk, ◌+◌, max};
+ghost use Rattle.std.specs.Prelude.{◌≡◌, ◌+◌, ◌*◌, ◌≤◌, [], IfErr, IfOk, IsOk, max};
 ghost use Rattle.sector.specs.declared.refusal.Refusal.TheVariants.{NoMemory};
 ghost use Rattle.volume.specs.Volumed.{is_loud_in_all};
 ghost use Rattle.volume_commands.specs.Flying.{IsWhole};
@@ -57,6 +57,14 @@ impl<B: Layered> Resting<B> {
     {
         self.volume.checkpoint();
         Ok(())
+    }
+
+    /// A look at how many places of the journal are taken, which does nothing: no more than one for each request that was numbered,
+    /// five for each snapshot that was attached, and forty.
+    pub fn look_at_places(&self)
+        ensures { self.now.taken ≤ self.now.rested.requests + 5 * self.now.rested.attached + 40 }
+    {
+        self.volume.look_at_places()
     }
 
     /// The number of the last request, and so how many requests there were.

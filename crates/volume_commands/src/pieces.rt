@@ -17,6 +17,7 @@ ghost use Rattle.volume_commands.specs.Showing.{arrays_in, pieces_for, IsPlainRe
 ghost use Rattle.volume_commands.specs.Serving.{CanAsk, CanServe, IsPieceDone, IsPieceRead, IsPieceRefused};
 ghost use Rattle.sector.specs.declared.refusal.Refusal.TheVariants.{JournalFull};
 ghost use Rattle.volume_commands.specs.Places.{is_full_for};
+ghost use Rattle.volume_commands.specs.TakesPlaces.{TakesByRequests};
 
 use crate::Journaled;
 use crate::serving::serve;
@@ -70,7 +71,7 @@ fn write_piece<B: Layered>(
     ensures kept { KeepsDevices B.layers B.size (rested_of volume.old.volume) (rested_of volume.new.volume) }
     ensures piece { piece_with volume.new.volume.merge volume.new.volume.snaps ≡ piece_with volume.old.volume.merge volume.old.volume.snaps }
     ensures requests { volume.new.volume.requests ≤ volume.old.volume.requests + 1 }
-    ensures taken { volume.new.taken + volume.old.volume.requests ≤ volume.old.taken + volume.new.volume.requests }
+    ensures taken { TakesByRequests volume.old volume.new }
     ensures full { IfErr result (λ refusal. refusal ≡ JournalFull → is_full_for 1 volume.new.taken ≡ true) }
 {
     let Ok(part) = part_of(alloc, bytes, from, to) else {
@@ -112,7 +113,7 @@ fn read_piece<B: Layered>(
     ensures kept { KeepsDevices B.layers B.size (rested_of volume.old.volume) (rested_of volume.new.volume) }
     ensures piece { piece_with volume.new.volume.merge volume.new.volume.snaps ≡ piece_with volume.old.volume.merge volume.old.volume.snaps }
     ensures requests { volume.new.volume.requests ≤ volume.old.volume.requests + 1 }
-    ensures taken { volume.new.taken + volume.old.volume.requests ≤ volume.old.taken + volume.new.volume.requests }
+    ensures taken { TakesByRequests volume.old volume.new }
     ensures full { IfErr result (λ refusal. refusal ≡ JournalFull → is_full_for 1 volume.new.taken ≡ true) }
 {
     let request = Request {
@@ -163,7 +164,7 @@ fn read_alone<B: Layered>(
     ensures undone { IfErr result (λ refusal. IsPieceUndone B.contents B.layers B.fault_count B.size dev Read (span_of piece) refusal volume.old.volume volume.new.volume) }
     ensures kept { KeepsDevices B.layers B.size (rested_of volume.old.volume) (rested_of volume.new.volume) }
     ensures requests { volume.new.volume.requests ≤ volume.old.volume.requests + 1 }
-    ensures taken { volume.new.taken + volume.old.volume.requests ≤ volume.old.taken + volume.new.volume.requests }
+    ensures taken { TakesByRequests volume.old volume.new }
     ensures full { IfErr result (λ refusal. refusal ≡ JournalFull → is_full_for 1 volume.new.taken ≡ true) }
 {
     let request = Request {
@@ -201,7 +202,7 @@ pub(crate) fn write_pieces<B: Layered>(
     ensures loses { IfErr result (λ refusal. IsSettled B.layers (rested_of volume.old.volume) → IsPlainWriteRefused dev (span_of range) (pieces_for B.contents B.layers (span_of range) (rested_of volume.old.volume)) bytes refusal (arrays_in B.contents B.layers (rested_of volume.old.volume)) (arrays_in B.contents B.layers (rested_of volume.new.volume))) }
     ensures kept { KeepsDevices B.layers B.size (rested_of volume.old.volume) (rested_of volume.new.volume) }
     ensures requests { volume.new.volume.requests ≤ volume.old.volume.requests + range.count }
-    ensures taken { volume.new.taken + volume.old.volume.requests ≤ volume.old.taken + volume.new.volume.requests }
+    ensures taken { TakesByRequests volume.old volume.new }
     ensures full { IfErr result (λ refusal. refusal ≡ JournalFull → is_full_for 1 volume.new.taken ≡ true) }
 {
     // A quiet volume, no device of which drops writes, is at rest.
@@ -241,7 +242,7 @@ pub(crate) fn read_pieces<B: Layered>(
     ensures loses { IfErr result (λ refusal. IsSettled B.layers (rested_of volume.old.volume) → IsPlainReadRefused dev refusal (arrays_in B.contents B.layers (rested_of volume.old.volume)) (arrays_in B.contents B.layers (rested_of volume.new.volume))) }
     ensures kept { KeepsDevices B.layers B.size (rested_of volume.old.volume) (rested_of volume.new.volume) }
     ensures requests { volume.new.volume.requests ≤ volume.old.volume.requests + range.count }
-    ensures taken { volume.new.taken + volume.old.volume.requests ≤ volume.old.taken + volume.new.volume.requests }
+    ensures taken { TakesByRequests volume.old volume.new }
     ensures full { IfErr result (λ refusal. refusal ≡ JournalFull → is_full_for 1 volume.new.taken ≡ true) }
 {
     // A quiet volume, no device of which drops writes, is at rest.

@@ -14,6 +14,8 @@ ghost use Rattle.volume_commands.specs.AtRest.{AreReadAtRest, AreWrittenAtRest, 
 ghost use Rattle.volume_commands.specs.Commands.{IsDoneBy, IsWriteRefused, IsReadRefused};
 ghost use Rattle.volume_commands.specs.Showing.{arrays_in, pieces_for, IsPlainRead, IsPlainReadRefused, IsPlainWrite, IsPlainWriteRefused};
 ghost use Rattle.volume_commands.specs.Places.{is_full_for};
+ghost use Rattle.volume_commands.specs.Recorded.{counted_in};
+ghost use Rattle.volume_commands.specs.TakesPlaces.{TakesByRequests};
 
 use crate::Journaled;
 use crate::pieces::{read_pieces, write_pieces};
@@ -98,7 +100,7 @@ impl<B: Layered> Resting<B> {
         ensures loses { IfErr result (λ refusal. IsSettled B.layers self.old.rested → IsPlainReadRefused dev refusal (arrays_in B.contents B.layers self.old.rested) (arrays_in B.contents B.layers self.new.rested)) }
         ensures kept { KeepsDevices B.layers B.size self.old.rested self.new.rested }
         ensures requests { self.new.rested.requests ≤ self.old.rested.requests + range.count }
-        ensures taken { self.new.taken + self.old.rested.requests ≤ self.old.taken + self.new.rested.requests }
+        ensures taken { TakesByRequests (counted_in self.old) (counted_in self.new) }
         ensures full { IfErr result (λ refusal. refusal ≡ JournalFull → is_full_for 1 self.new.taken ≡ true) }
     {
         look(&self.volume);
@@ -142,7 +144,7 @@ impl<B: Layered> Resting<B> {
         ensures loses { IfErr result (λ refusal. IsSettled B.layers self.old.rested → IsPlainWriteRefused dev (span_of range) (pieces_for B.contents B.layers (span_of range) self.old.rested) bytes refusal (arrays_in B.contents B.layers self.old.rested) (arrays_in B.contents B.layers self.new.rested)) }
         ensures kept { KeepsDevices B.layers B.size self.old.rested self.new.rested }
         ensures requests { self.new.rested.requests ≤ self.old.rested.requests + range.count }
-        ensures taken { self.new.taken + self.old.rested.requests ≤ self.old.taken + self.new.rested.requests }
+        ensures taken { TakesByRequests (counted_in self.old) (counted_in self.new) }
         ensures full { IfErr result (λ refusal. refusal ≡ JournalFull → is_full_for 1 self.new.taken ≡ true) }
     {
         look(&self.volume);

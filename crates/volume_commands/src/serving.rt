@@ -1,15 +1,16 @@
 // One piece of a command: it is submitted, and the events that are due are done until none is.
-ghost use Rattle.std.specs.Prelude.{◌≡◌, ◌⊎◌, ℕ, ◌+◌, ◌≤◌, length, Option, None, Some, IfOk, IfErr, true, false};
+ghost use Rattle.std.specs.Prelude.{◌≡◌, ℕ, ◌+◌, ◌≤◌, length, Option, None, Some, IfOk, IfErr, true, false};
 ghost use Rattle.plain.specs.declared.request.Reply.{Reply};
 ghost use Rattle.plain.specs.declared.request.Reply.TheVariants.{Refused};
-ghost use Rattle.settled.specs.Refusals.{IsStarved, is_starved};
+ghost use Rattle.settled.specs.Refusals.{is_starved};
 ghost use Rattle.event_machine.specs.Due.{due};
 ghost use Rattle.event_machine.specs.Submitting.{submitted};
 ghost use Rattle.volume.specs.Volumed.{is_loud_in_all, piece_with};
 ghost use Rattle.volume.specs.Moved.{moving_of};
 ghost use Rattle.volume.specs.Reaching.{IsRun};
 ghost use Rattle.volume.specs.Leaving.{has_group_in, is_quiet_of};
-ghost use Rattle.volume.specs.Submitting.{IsRefusedAs, SameButRoom};
+ghost use Rattle.volume.specs.Submitting.{SameButRoom};
+ghost use Rattle.volume_commands.specs.Declined.{IsUnsent};
 ghost use Rattle.volume_commands.specs.Rested.{rested_of, merged_of, IsSettled, has_dev};
 ghost use Rattle.volume_commands.specs.Kept.{KeepsDevices};
 ghost use Rattle.volume_commands.specs.Between.{IsBetween};
@@ -19,6 +20,7 @@ ghost use Rattle.volume_commands.specs.Serving.{CanServe, part_done};
 ghost use Rattle.volume.specs.Stepping.{KeepsAll};
 ghost use Rattle.sector.specs.declared.refusal.Refusal.TheVariants.{JournalFull};
 ghost use Rattle.volume_commands.specs.Places.{is_full_for};
+ghost use Rattle.volume_commands.specs.TakesPlaces.{TakesByRequests};
 
 use crate::Journaled;
 use crate::following::follow;
@@ -38,7 +40,7 @@ fn settle<B: Layered>(volume: &mut Journaled<B>, mut reply: Reply) -> Reply
     ensures quiet { is_quiet_of volume.new.volume ≡ true }
     ensures kept { KeepsAll B.size volume.old.volume volume.new.volume }
     ensures requests { volume.new.volume.requests ≡ volume.old.volume.requests }
-    ensures taken { volume.new.taken ≤ volume.old.taken }
+    ensures taken { TakesByRequests volume.old volume.new }
 {
     while !volume.is_quiet() {
         let Some(event) = volume.due() else {
@@ -64,12 +66,12 @@ fn enter<B: Layered>(volume: &mut Journaled<B>, request: Request) -> Result<Fail
     ensures ok { IfOk result (λ failure. (number : ℕ) × (submitted number request (moving_of B.contents B.layers (Some (Refused failure)) volume.old.volume) ≡ moving_of B.contents B.layers (Some (Refused failure)) volume.new.volume)) }
     ensures entered { IfOk result (λ failure. IsEntered B.contents B.layers B.size request failure volume.old.volume volume.new.volume) }
     ensures starved { IfErr result (λ refusal. (is_starved refusal ≡ true) × SameButRoom volume.old.volume volume.new.volume × (moving_of B.contents B.layers None volume.new.volume ≡ moving_of B.contents B.layers None volume.old.volume)) }
-    ensures untaken { IfErr result (λ refusal. IsStarved refusal volume.old.volume volume.new.volume ⊎ IsRefusedAs B.contents B.layers B.size request refusal volume.old.volume volume.new.volume) }
+    ensures untaken { IfErr result (λ refusal. IsUnsent B.contents B.layers B.size request refusal volume.old.volume volume.new.volume) }
     ensures free { has_group_in volume.new.volume.merge ≡ false }
     ensures loud { is_loud_in_all B.layers volume.new.volume ≡ is_loud_in_all B.layers volume.old.volume }
     ensures kept { KeepsAll B.size volume.old.volume volume.new.volume }
     ensures requests { volume.new.volume.requests ≤ volume.old.volume.requests + 1 }
-    ensures taken { volume.new.taken + volume.old.volume.requests ≤ volume.old.taken + volume.new.volume.requests }
+    ensures taken { TakesByRequests volume.old volume.new }
     ensures full { IfErr result (λ refusal. refusal ≡ JournalFull → is_full_for 1 volume.new.taken ≡ true) }
 {
     // Of the snapshots that a request may go to, none is the one that is being merged.
@@ -96,11 +98,11 @@ pub(crate) fn serve<B: Layered>(
     ensures answer { IfOk result (λ reply. IsDoneBy B.contents B.layers (part_done request) reply (rested_of volume.old.volume) (rested_of volume.new.volume)) }
     ensures answered { IfOk result (λ reply. IsAnswered B.contents B.layers B.fault_count B.size request reply volume.old.volume volume.new.volume) }
     ensures starved { IfErr result (λ refusal. (is_starved refusal ≡ true) × (merged_of B.contents B.layers (rested_of volume.new.volume) ≡ merged_of B.contents B.layers (rested_of volume.old.volume))) }
-    ensures untaken { IfErr result (λ refusal. IsStarved refusal volume.old.volume volume.new.volume ⊎ IsRefusedAs B.contents B.layers B.size request refusal volume.old.volume volume.new.volume) }
+    ensures untaken { IfErr result (λ refusal. IsUnsent B.contents B.layers B.size request refusal volume.old.volume volume.new.volume) }
     ensures kept { KeepsDevices B.layers B.size (rested_of volume.old.volume) (rested_of volume.new.volume) }
     ensures piece { piece_with volume.new.volume.merge volume.new.volume.snaps ≡ piece_with volume.old.volume.merge volume.old.volume.snaps }
     ensures requests { volume.new.volume.requests ≤ volume.old.volume.requests + 1 }
-    ensures taken { volume.new.taken + volume.old.volume.requests ≤ volume.old.taken + volume.new.volume.requests }
+    ensures taken { TakesByRequests volume.old volume.new }
     ensures full { IfErr result (λ refusal. refusal ≡ JournalFull → is_full_for 1 volume.new.taken ≡ true) }
 {
     // A quiet volume, no device of which drops writes, is at rest.

@@ -1,5 +1,5 @@
 -- What the tasks of seats may merge.
-use Rattle.std.proofs.Common.{◌≡◌, ◌==◌, ◌&&◌, ◌+◌, ◌<◌, ℕ, Bool, true, false, List, [], ◌++◌, Option, None, Some, length, get_or, refl, sym, ap, ◌∙◌, subst, arith, eq-eqb}
+use Rattle.std.proofs.Common.{◌≡◌, ◌==◌, ◌&&◌, ◌+◌, ◌<◌, ℕ, Bool, true, false, List, [], Option, None, Some, length, get_or, refl, sym, ap, ◌∙◌, subst, arith, eq-eqb}
 use Rattle.std.specs.List.{All, list_any, range_with_len}
 use Rattle.std.proofs.lemmas.List.{append_cancel_left, append-nil, get_or-map}
 use Rattle.std.proofs.lemmas.List.Elements.{All-nil, All-same}

@@ -88,10 +88,9 @@ fn close_one<B: Layered, J: Room, R: Wait>(
 }
 
 impl<B: Layered + Drop, G: Gate + Drop, J: Room> Rig<B, G, J> {
-    /// Gives the audits back, in their order. A journal begins with the entries that it had when the rig was made, each of the
-    /// others is one that was asked for, and each
-    /// seat's receipts of the volume are its entries after those, in their order, and there are as many; each one's count is the
-    /// place of its entry among the seat's, so that the audit's `check` agrees with it.
+    /// Gives the audits back, in their order. A journal begins with the entries that it had when the rig was made, and each of the
+    /// others is one that was asked for. Each seat's receipts of the volume are its entries after those, in their order, and there
+    /// are as many; each one's count is the place of its entry among the seat's, so that the audit's `check` agrees with it.
     pub fn close<R: Wait>(
         self,
         rt: &R,

@@ -207,8 +207,8 @@ where
 /// Runs the tasks of up to eight seats, each seat's in their order on a thread of its own, all seats at once, with so many
 /// workers for the copies, on threads of their own too. The volumes come back in their order, and so do the tasks: of those of
 /// a seat the first are done, in their order, each answered by the receipts of one call, which are the seat's entries in the
-/// journals. What else these have is a merge that one of the tasks asks for, or what the volumes note themselves. `NoMemory` where there is no memory for what the threads share, or a worker can't be started; then no task was
-/// done.
+/// journals. What else these have is a merge that one of the tasks asks for, or what the volumes note themselves. `NoMemory`
+/// where there is no memory for what the threads share, or a worker can't be started; then none is done.
 pub fn run_seats<B, R>(
     rt: &R,
     alloc: Global,

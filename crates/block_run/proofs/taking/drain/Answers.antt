@@ -4,4 +4,4 @@ use Rattle.block_run.proofs.taking.drain.Goals as goal
 
 pub loop-event-preserved : goal.loop-event-preserved
 loop-event-preserved c =
-    still_rested c.args.audit.now c.loop-event.audit c.apply.new.self c.apply.result c.loop-event.invariant c.apply.ensures.noted c.apply.ensures.base c.apply.ensures.does.kept c.apply.ensures.does.loud c.apply.ensures.err
+    still_rested c.args.audit.now c.loop-event.audit c.apply.new.self c.apply.result c.loop-event.invariant c.apply.ensures.applied c.apply.ensures.does.kept c.apply.ensures.does.loud

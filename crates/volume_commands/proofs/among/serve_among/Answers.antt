@@ -1,12 +1,13 @@
 -- The request was served, or refused.
-use Rattle.std.proofs.Common.{inl, inr, subst, List, arith}
+use Rattle.std.proofs.Common.{inl, inr, subst, List}
 use Rattle.plain.specs.declared.request.Replied.{Replied}
 use Rattle.volume_commands.specs.Rested.{rested_of}
 use Rattle.volume_commands.specs.Draining.{IsAnsweredAmong}
 use Rattle.volume_commands.proofs.Seen.{devices_kept, devices_more}
-use Rattle.volume_commands.proofs.Refusing.{invalid_refused, refused_requests, refused_given}
+use Rattle.volume_commands.proofs.Refusing.{invalid_refused, refused_requests}
 use Rattle.volume_commands.proofs.Amongs.{turned_plain, turned_invalid}
 use Rattle.volume_commands.proofs.Full.{still_full}
+use Rattle.volume_commands.proofs.Takings.{accepted_takes, takes_then, unsent_takes}
 use Rattle.volume_commands.proofs.among.serve_among.Goals as goal
 
 pub returns-in-Ok-submitted-clause-served : goal.returns-in-Ok-submitted-clause-served
@@ -45,14 +46,14 @@ returns-in_default-refusal g c = record {
   ];
   kept = devices_kept g.B.Block.size g.B.Block.layers c.args.volume.now.volume c.submit-submitted.new.self.volume c.in-Err.ensures.does.kept c.in-Err.ensures.does.loud;
   requests = refused_requests g.B.Block.contents g.B.Block.layers g.B.Block.size c.args.request c.in-Err.refusal c.args.volume.now.volume c.submit-submitted.new.self.volume c.in-Err.ensures.refused;
-  taken = (let same = refused_given g.B.Block.contents g.B.Block.layers g.B.Block.size c.args.request c.in-Err.refusal c.args.volume.now.volume c.submit-submitted.new.self.volume c.in-Err.ensures.refused in omega (arith, same, c.in-Err.ensures.taken));
-  full = still_full c.in-Err.refusal c.args.volume.now.taken c.submit-submitted.new.self.taken c.in-Err.ensures.full c.in-Err.ensures.taken;
+  taken = unsent_takes c.args.volume.now c.submit-submitted.new.self g.B.Block.contents g.B.Block.layers g.B.Block.size c.args.request c.in-Err.refusal c.in-Err.ensures.refused c.in-Err.ensures.places.taken;
+  full = still_full c.in-Err.refusal c.args.volume.now.taken c.submit-submitted.new.self.taken c.in-Err.ensures.places.full c.in-Err.ensures.places.taken;
 }
 
 pub returns-in-Ok-submitted-clause-taken : goal.returns-in-Ok-submitted-clause-taken
-returns-in-Ok-submitted-clause-taken g c = let a = c.in-Ok-submitted.ensures.does.ok in omega (arith, a.given, a.next, c.in-Ok-submitted.ensures.taken, c.drain_for.ensures.taken, c.drain_for.ensures.requests)
+returns-in-Ok-submitted-clause-taken g c =
+    takes_then _ _ _ (accepted_takes c.args.volume.now c.submit-submitted.new.self g.B.Block.contents g.B.Block.layers c.args.request c.in-Ok-submitted.number c.in-Ok-submitted.ensures.does.ok c.in-Ok-submitted.ensures.places) c.drain_for.ensures.taken
 
 pub returns-in-Invalid-clause-taken : goal.returns-in-Invalid-clause-taken
 returns-in-Invalid-clause-taken g c =
-    let same = refused_given g.B.Block.contents g.B.Block.layers g.B.Block.size c.args.request c.in-Err.refusal c.args.volume.now.volume c.submit-submitted.new.self.volume c.in-Err.ensures.refused in
-    omega (arith, same, c.in-Err.ensures.taken, c.follow.ensures.taken, c.follow.ensures.requests)
+    takes_then _ _ _ (unsent_takes c.args.volume.now c.submit-submitted.new.self g.B.Block.contents g.B.Block.layers g.B.Block.size c.args.request c.in-Err.refusal c.in-Err.ensures.refused c.in-Err.ensures.places.taken) c.follow.ensures.taken

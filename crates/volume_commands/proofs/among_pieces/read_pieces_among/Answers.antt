@@ -5,6 +5,7 @@ use Rattle.chunk.proofs.Limits.{is_chunk-some, is_chunk-small}
 use Rattle.chunk.proofs.Runs.{StandsAt, first_piece, stands_first, stands_next, stands_last}
 use Rattle.volume.specs.Volumed.{piece_with}
 use Rattle.volume_commands.proofs.AmongRuns.{among_start, among_next, among_within, reads_start, reads_next, reads_end, reads_stop}
+use Rattle.volume_commands.proofs.Takings.{takes_none, takes_then}
 use Rattle.volume_commands.proofs.among_pieces.read_pieces_among.Goals as goal
 
 pub invariant_of-geometry : goal.invariant_of-geometry
@@ -26,7 +27,7 @@ loop-piece-init g c = record {
   };
   did = reads_start g.B.Block.contents g.B.Block.layers g.B.Block.fault_count g.B.Block.size c.args.dev (pieces_of (piece_with c.args.volume.now.volume.merge c.args.volume.now.volume.snaps) (span_of c.args.range)) c.into_iter-piece-iterator.result c.args.out.now.items c.args.volume.now.volume c.args.ended.now.items
       (c.into_iter-piece-iterator.ensures.into_iter_gives ∙ c.pieces-piece-items.ensures.pieces ∙ ap (λ n. pieces_of n (span_of c.args.range)) c.piece.ensures.piece) c.requires.empty;
-  taken = omega arith;
+  taken = takes_none _;
 }
 
 pub read_piece_among-requires : goal.read_piece_among-requires
@@ -52,7 +53,7 @@ loop-piece-preserved g c =
       };
       did = reads_next g.B.Block.contents g.B.Block.layers g.B.Block.fault_count g.B.Block.size c.args.dev (pieces_of (piece_with c.args.volume.now.volume.merge c.args.volume.now.volume.snaps) (span_of c.args.range)) c.loop-piece.piece-iterator c.next.new.self (span_of c.in-Some.piece) c.loop-piece.out.items c.read_piece_among.new.out.items c.in-Ok.ensures.read.0
           c.args.volume.now.volume c.loop-piece.volume.volume c.read_piece_among.new.volume.volume c.args.ended.now.items c.loop-piece.ended.items c.read_piece_among.new.ended.items c.loop-piece.invariant.did c.in-Some.ensures.steps c.in-Ok.ensures.read.1 c.in-Ok.ensures.read.2;
-      taken = omega (arith, c.loop-piece.invariant.taken, c.in-Ok.ensures.taken);
+      taken = takes_then _ _ _ c.loop-piece.invariant.taken c.in-Ok.ensures.taken;
     }
 
 pub returns-in-Err-clause-stopped : goal.returns-in-Err-clause-stopped
@@ -86,7 +87,7 @@ returns-clause-requests g c =
     (among_within g.B.Block.layers g.B.Block.size c.loop-piece.invariant.place.from c.args.range.count c.args.volume.now.volume c.loop-piece.volume.volume c.loop-piece.invariant.place.so (omega (arith, end)))
 
 pub returns-in-Err-clause-taken : goal.returns-in-Err-clause-taken
-returns-in-Err-clause-taken g c = omega (arith, c.loop-piece.invariant.taken, c.in-Err.ensures.taken)
+returns-in-Err-clause-taken g c = takes_then _ _ _ c.loop-piece.invariant.taken c.in-Err.ensures.taken
 
 pub returns-clause-taken : goal.returns-clause-taken
 returns-clause-taken g c = c.loop-piece.invariant.taken

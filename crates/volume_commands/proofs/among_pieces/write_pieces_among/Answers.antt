@@ -6,6 +6,7 @@ use Rattle.chunk.proofs.Runs.{StandsAt, first_piece, stands_first, stands_next, 
 use Rattle.volume.specs.Volumed.{piece_with}
 use Rattle.volume_commands.proofs.Writing.{left_behind, left_inside, left_part, part_fits}
 use Rattle.volume_commands.proofs.AmongRuns.{among_start, among_next, among_within, writes_start, writes_next, writes_end, writes_stop}
+use Rattle.volume_commands.proofs.Takings.{takes_none, takes_then}
 use Rattle.volume_commands.proofs.among_pieces.write_pieces_among.Goals as goal
 
 pub invariant_of-geometry : goal.invariant_of-geometry
@@ -23,7 +24,7 @@ loop-piece-init g c = record {
   so = among_start g.B.Block.layers g.B.Block.size c.args.volume.now.volume;
   did = writes_start g.B.Block.contents g.B.Block.layers g.B.Block.fault_count g.B.Block.size c.args.dev (pieces_of (piece_with c.args.volume.now.volume.merge c.args.volume.now.volume.snaps) (span_of c.args.range)) c.into_iter-piece-iterator.result c.args.bytes c.args.volume.now.volume c.args.ended.now.items
       (c.into_iter-piece-iterator.ensures.into_iter_gives ∙ c.pieces-piece-items.ensures.pieces ∙ ap (λ n. pieces_of n (span_of c.args.range)) c.piece.ensures.piece);
-  taken = omega arith;
+  taken = takes_none _;
 }
 
 pub overflow_add-to : goal.overflow_add-to
@@ -78,7 +79,7 @@ loop-piece-preserved g c =
       did = writes_next g.B.Block.contents g.B.Block.layers g.B.Block.fault_count g.B.Block.size c.args.dev (pieces_of (piece_with c.args.volume.now.volume.merge c.args.volume.now.volume.snaps) (span_of c.args.range)) c.loop-piece.piece-iterator c.next.new.self (span_of c.in-Some.piece) c.loop-piece.from c.args.bytes
           (take (c.loop-piece.from + c.in-Some.piece.count * 512 - c.loop-piece.from) (drop c.loop-piece.from c.loop-piece.bytes)) c.in-Ok.ensures.written.0
           c.args.volume.now.volume c.loop-piece.volume.volume c.write_piece_among.new.volume.volume c.args.ended.now.items c.loop-piece.ended.items c.write_piece_among.new.ended.items c.loop-piece.invariant.did c.in-Some.ensures.steps (left_part c.loop-piece.from (c.loop-piece.from + c.in-Some.piece.count * 512) c.loop-piece.bytes c.args.bytes c.loop-piece.invariant.same) c.in-Ok.ensures.written.1;
-      taken = omega (arith, c.loop-piece.invariant.taken, c.in-Ok.ensures.taken);
+      taken = takes_then _ _ _ c.loop-piece.invariant.taken c.in-Ok.ensures.taken;
     }
 
 pub returns-clause-written : goal.returns-clause-written
@@ -95,7 +96,7 @@ returns-clause-requests g c =
     (among_within g.B.Block.layers g.B.Block.size c.loop-piece.from c.args.range.count c.args.volume.now.volume c.loop-piece.volume.volume c.loop-piece.invariant.so (omega arith))
 
 pub returns-in-Err-clause-taken : goal.returns-in-Err-clause-taken
-returns-in-Err-clause-taken g c = omega (arith, c.loop-piece.invariant.taken, c.in-Err.ensures.taken)
+returns-in-Err-clause-taken g c = takes_then _ _ _ c.loop-piece.invariant.taken c.in-Err.ensures.taken
 
 pub returns-clause-taken : goal.returns-clause-taken
 returns-clause-taken g c = c.loop-piece.invariant.taken

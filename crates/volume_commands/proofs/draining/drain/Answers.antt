@@ -7,6 +7,7 @@ use Rattle.volume_commands.proofs.Drains.{drains_more, drains_start, step_is}
 use Rattle.volume_commands.proofs.MergeGoes.{merged_gone_on}
 use Rattle.volume_commands.proofs.Quiet.{free_quiet, still_free}
 use Rattle.volume_commands.proofs.Seen.{devices_kept, loud_same}
+use Rattle.volume_commands.proofs.Takings.{takes_none, takes_then}
 use Rattle.volume_commands.proofs.draining.drain.Goals as goal
 
 pub loop-event-init : goal.loop-event-init
@@ -20,7 +21,7 @@ loop-event-init g c =
         calm = λ quiet. c.is_quiet.ensures.calm (c.is_quiet.ensures.value ∙ quiet);
         under = λ quiet. c.is_quiet.ensures.under (c.is_quiet.ensures.value ∙ quiet);
       }) c.make_room.ensures.items;
-      taken = omega arith;
+      taken = takes_none _;
     }
 
 pub loop-event-preserved-in-Ok-Reply : goal.loop-event-preserved-in-Ok-Reply
@@ -32,7 +33,7 @@ loop-event-preserved-in-Ok-Reply g c =
           c.loop-event.invariant.so step c.push_reserved.ensures.items c.push_reserved.ensures.len c.push_reserved.ensures.capacity;
       quiet = quiet_more g.B.Block.contents g.B.Block.layers g.B.Block.size g.B.Block.fault_count c.args.volume.now.volume c.loop-event.volume.volume c.step.new.self.volume c.in-Some.event (Answered c.in-Ok-Reply.number c.in-Ok-Reply.reply) c.args.ended.now.items c.loop-event.ended.items c.push_reserved.new.self.items
           c.loop-event.invariant.quiet step c.push_reserved.ensures.items;
-      taken = omega (arith, c.loop-event.invariant.taken, c.in-Ok-Reply.ensures.taken);
+      taken = takes_then _ _ _ c.loop-event.invariant.taken c.in-Ok-Reply.ensures.taken;
     }
 
 pub loop-event-preserved-in-Ok-Done : goal.loop-event-preserved-in-Ok-Done
@@ -44,7 +45,7 @@ loop-event-preserved-in-Ok-Done g c =
           c.loop-event.invariant.so step (sym (append-nil c.loop-event.ended.items)) (omega arith) refl;
       quiet = quiet_more g.B.Block.contents g.B.Block.layers g.B.Block.size g.B.Block.fault_count c.args.volume.now.volume c.loop-event.volume.volume c.step.new.self.volume c.in-Some.event Done c.args.ended.now.items c.loop-event.ended.items c.loop-event.ended.items
           c.loop-event.invariant.quiet step (sym (append-nil c.loop-event.ended.items));
-      taken = omega (arith, c.loop-event.invariant.taken, c.in-Ok-Done.ensures.taken);
+      taken = takes_then _ _ _ c.loop-event.invariant.taken c.in-Ok-Done.ensures.taken;
     }
 
 pub loop-event-preserved : goal.loop-event-preserved
@@ -56,7 +57,7 @@ loop-event-preserved g c =
           c.loop-event.invariant.so step (sym (append-nil c.loop-event.ended.items)) (omega arith) refl;
       quiet = quiet_more g.B.Block.contents g.B.Block.layers g.B.Block.size g.B.Block.fault_count c.args.volume.now.volume c.loop-event.volume.volume c.step.new.self.volume c.in-Some.event Fault c.args.ended.now.items c.loop-event.ended.items c.loop-event.ended.items
           c.loop-event.invariant.quiet step (sym (append-nil c.loop-event.ended.items));
-      taken = omega (arith, c.loop-event.invariant.taken, c.in-Ok-Fault.ensures.taken);
+      taken = takes_then _ _ _ c.loop-event.invariant.taken c.in-Ok-Fault.ensures.taken;
     }
 
 pub returns-clause-quiet : goal.returns-clause-quiet

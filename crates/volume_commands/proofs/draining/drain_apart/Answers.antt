@@ -4,6 +4,7 @@ use Rattle.std.proofs.lemmas.List.{append-nil}
 use Rattle.plain.specs.declared.event.Outcome.TheVariants.{Done, Fault, Reply as Answered}
 use Rattle.volume_commands.proofs.Drains.{apart_next, step_is}
 use Rattle.volume_commands.proofs.Seen.{devices_kept}
+use Rattle.volume_commands.proofs.Takings.{takes_then}
 use Rattle.volume_commands.proofs.draining.drain_apart.Goals as goal
 
 pub loop-event-preserved-in-Ok-Reply : goal.loop-event-preserved-in-Ok-Reply
@@ -13,7 +14,7 @@ loop-event-preserved-in-Ok-Reply g c =
     record {
       so = apart_next g.B.Block.contents g.B.Block.layers g.B.Block.fault_count g.B.Block.size _ _ _ _ c.args.volume.now.volume c.loop-event.volume.volume c.step.new.self.volume c.in-Some.event (Answered c.in-Ok-Reply.number c.in-Ok-Reply.reply) c.args.ended.now.items c.loop-event.ended.items c.push_reserved.new.self.items
           c.loop-event.invariant.so (sym c.is_of_merge.ensures ∙ c.if-is_of_merge.false) step c.push_reserved.ensures.items c.push_reserved.ensures.len c.push_reserved.ensures.capacity;
-      taken = omega (arith, c.loop-event.invariant.taken, c.in-Ok-Reply.ensures.taken);
+      taken = takes_then _ _ _ c.loop-event.invariant.taken c.in-Ok-Reply.ensures.taken;
     }
 
 pub loop-event-preserved-in-Ok-Done : goal.loop-event-preserved-in-Ok-Done
@@ -23,7 +24,7 @@ loop-event-preserved-in-Ok-Done g c =
     record {
       so = apart_next g.B.Block.contents g.B.Block.layers g.B.Block.fault_count g.B.Block.size _ _ _ _ c.args.volume.now.volume c.loop-event.volume.volume c.step.new.self.volume c.in-Some.event Done c.args.ended.now.items c.loop-event.ended.items c.loop-event.ended.items
           c.loop-event.invariant.so (sym c.is_of_merge.ensures ∙ c.if-is_of_merge.false) step (sym (append-nil c.loop-event.ended.items)) (omega arith) refl;
-      taken = omega (arith, c.loop-event.invariant.taken, c.in-Ok-Done.ensures.taken);
+      taken = takes_then _ _ _ c.loop-event.invariant.taken c.in-Ok-Done.ensures.taken;
     }
 
 pub loop-event-preserved : goal.loop-event-preserved
@@ -33,7 +34,7 @@ loop-event-preserved g c =
     record {
       so = apart_next g.B.Block.contents g.B.Block.layers g.B.Block.fault_count g.B.Block.size _ _ _ _ c.args.volume.now.volume c.loop-event.volume.volume c.step.new.self.volume c.in-Some.event Fault c.args.ended.now.items c.loop-event.ended.items c.loop-event.ended.items
           c.loop-event.invariant.so (sym c.is_of_merge.ensures ∙ c.if-is_of_merge.false) step (sym (append-nil c.loop-event.ended.items)) (omega arith) refl;
-      taken = omega (arith, c.loop-event.invariant.taken, c.in-Ok-Fault.ensures.taken);
+      taken = takes_then _ _ _ c.loop-event.invariant.taken c.in-Ok-Fault.ensures.taken;
     }
 
 pub returns-then-is_of_merge-clause-kept : goal.returns-then-is_of_merge-clause-kept

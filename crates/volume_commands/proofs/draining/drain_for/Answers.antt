@@ -7,11 +7,12 @@ use Rattle.plain.specs.declared.request.Replied.{Replied}
 use Rattle.volume.specs.EventKinds.{is_of_merge}
 use Rattle.volume_commands.proofs.Drains.{for_next, for_start, goes_apart, goes_untold, other_reply, other_tells, other_told, own_reply, own_tells, own_told, step_is, told_before, told_now}
 use Rattle.volume_commands.proofs.Seen.{devices_kept}
+use Rattle.volume_commands.proofs.Takings.{takes_none, takes_then}
 use Rattle.volume_commands.proofs.draining.drain_for.Goals.{else-told-via-then-told+else-is_of_merge, else-told-via-else-told}
 use Rattle.volume_commands.proofs.draining.drain_for.Goals as goal
 
 pub loop-event-init : goal.loop-event-init
-loop-event-init g c = record { so = for_start g.B.Block.contents g.B.Block.layers g.B.Block.fault_count g.B.Block.size c.args.own _ _ c.args.volume.now.volume c.args.ended.now.items c.requires.room; taken = omega arith }
+loop-event-init g c = record { so = for_start g.B.Block.contents g.B.Block.layers g.B.Block.fault_count g.B.Block.size c.args.own _ _ c.args.volume.now.volume c.args.ended.now.items c.requires.room; taken = takes_none _ }
 
 pub loop-event-preserved-then-number-own : goal.loop-event-preserved-then-number-own
 loop-event-preserved-then-number-own g c =
@@ -25,7 +26,7 @@ loop-event-preserved-then-number-own g c =
       so = for_next g.B.Block.contents g.B.Block.layers g.B.Block.fault_count g.B.Block.size c.args.own c.loop-event.answer c.in-Ok-Reply.reply c.loop-event.told true _ _ _ _ c.args.volume.now.volume c.loop-event.volume.volume c.step.new.self.volume c.in-Some.event (Answered c.in-Ok-Reply.number c.in-Ok-Reply.reply) c.args.ended.now.items c.loop-event.ended.items c.loop-event.ended.items
           c.loop-event.invariant.so goes step (sym (append-nil c.loop-event.ended.items) ∙ ap (λ (rs : List Replied). c.loop-event.ended.items ++ rs) (sym (own_told c.in-Ok-Reply.number c.args.own c.in-Ok-Reply.reply c.loop-event.answer c.if-number-own.true)))
           (sym (own_reply c.in-Ok-Reply.number c.args.own c.in-Ok-Reply.reply c.loop-event.answer c.if-number-own.true)) (told_now c.loop-event.told _ (own_tells c.in-Ok-Reply.number c.args.own c.in-Ok-Reply.reply c.loop-event.answer c.if-number-own.true)) (omega arith) refl;
-      taken = omega (arith, c.loop-event.invariant.taken, c.in-Ok-Reply.ensures.taken);
+      taken = takes_then _ _ _ c.loop-event.invariant.taken c.in-Ok-Reply.ensures.taken;
     }
 
 pub loop-event-preserved-in-Ok-Reply-2 : goal.loop-event-preserved-in-Ok-Reply-2
@@ -40,7 +41,7 @@ loop-event-preserved-in-Ok-Reply-2 g c =
       so = for_next g.B.Block.contents g.B.Block.layers g.B.Block.fault_count g.B.Block.size c.args.own c.loop-event.answer c.loop-event.answer c.loop-event.told c.loop-event.told _ _ _ _ c.args.volume.now.volume c.loop-event.volume.volume c.step.new.self.volume c.in-Some.event (Answered c.in-Ok-Reply.number c.in-Ok-Reply.reply) c.args.ended.now.items c.loop-event.ended.items c.push_reserved.new.self.items
           c.loop-event.invariant.so goes step (◌∙◌ {A = List Replied} c.push_reserved.ensures.items (ap (λ (rs : List Replied). c.loop-event.ended.items ++ rs) (sym (other_told c.in-Ok-Reply.number c.args.own c.in-Ok-Reply.reply c.loop-event.answer c.if-number-own.false))))
           (sym (other_reply c.in-Ok-Reply.number c.args.own c.in-Ok-Reply.reply c.loop-event.answer c.if-number-own.false)) (told_before c.loop-event.told _ (other_tells c.in-Ok-Reply.number c.args.own c.in-Ok-Reply.reply c.loop-event.answer c.if-number-own.false)) (let more = c.push_reserved.ensures.len in omega (arith, more)) c.push_reserved.ensures.capacity;
-      taken = omega (arith, c.loop-event.invariant.taken, c.in-Ok-Reply.ensures.taken);
+      taken = takes_then _ _ _ c.loop-event.invariant.taken c.in-Ok-Reply.ensures.taken;
     }
 
 pub loop-event-preserved-in-Ok-Done : goal.loop-event-preserved-in-Ok-Done
@@ -54,7 +55,7 @@ loop-event-preserved-in-Ok-Done g c =
     record {
       so = for_next g.B.Block.contents g.B.Block.layers g.B.Block.fault_count g.B.Block.size c.args.own c.loop-event.answer c.loop-event.answer c.loop-event.told c.loop-event.told _ _ _ _ c.args.volume.now.volume c.loop-event.volume.volume c.step.new.self.volume c.in-Some.event Done c.args.ended.now.items c.loop-event.ended.items c.loop-event.ended.items
           c.loop-event.invariant.so goes step (sym (append-nil c.loop-event.ended.items)) refl (told_before c.loop-event.told _ refl) (omega arith) refl;
-      taken = omega (arith, c.loop-event.invariant.taken, c.in-Ok-Done.ensures.taken);
+      taken = takes_then _ _ _ c.loop-event.invariant.taken c.in-Ok-Done.ensures.taken;
     }
 
 pub loop-event-preserved : goal.loop-event-preserved
@@ -68,7 +69,7 @@ loop-event-preserved g c =
     record {
       so = for_next g.B.Block.contents g.B.Block.layers g.B.Block.fault_count g.B.Block.size c.args.own c.loop-event.answer c.loop-event.answer c.loop-event.told c.loop-event.told _ _ _ _ c.args.volume.now.volume c.loop-event.volume.volume c.step.new.self.volume c.in-Some.event Fault c.args.ended.now.items c.loop-event.ended.items c.loop-event.ended.items
           c.loop-event.invariant.so goes step (sym (append-nil c.loop-event.ended.items)) refl (told_before c.loop-event.told _ refl) (omega arith) refl;
-      taken = omega (arith, c.loop-event.invariant.taken, c.in-Ok-Fault.ensures.taken);
+      taken = takes_then _ _ _ c.loop-event.invariant.taken c.in-Ok-Fault.ensures.taken;
     }
 
 pub returns-then-is_of_merge-clause-kept : goal.returns-then-is_of_merge-clause-kept

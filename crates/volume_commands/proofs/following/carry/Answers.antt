@@ -5,6 +5,7 @@ use Rattle.plain.specs.declared.event.Event.{Event}
 use Rattle.plain.specs.declared.event.Outcome.TheVariants.{Done, Fault, Reply as Answered}
 use Rattle.volume_commands.proofs.AtRest.{due_is}
 use Rattle.volume_commands.proofs.Carrying.{CarriesTo, carries_none, carries_more, last_out, none_out}
+use Rattle.volume_commands.proofs.Takings.{takes_then}
 use Rattle.volume_commands.proofs.following.carry.Goals as goal
 
 pub loop-event-init : goal.loop-event-init
@@ -15,7 +16,7 @@ loop-event-preserved g c =
     let have = subst (λ (es : List Event). CarriesTo g.B.Block.contents g.B.Block.layers g.B.Block.fault_count g.B.Block.size c.args.events.now c.args.reply c.args.volume.now.volume es c.loop-event.volume.volume) (drop_more c.args.events.now c.loop-event.event-index _ c.loop-event-test.true) c.loop-event.invariant.1 in
     let step = due_is g.B.Block.contents g.B.Block.layers g.B.Block.fault_count g.B.Block.size _ _ Done c.loop-event.volume.volume c.step.new.self.volume c.in-Ok-Done.ensures.does.due c.in-Ok-Done.field-0-is
     c.in-Ok-Done.ensures.does.exact c.in-Ok-Done.ensures.does.legal c.in-Ok-Done.ensures.does.flown c.in-Ok-Done.ensures.does.cause c.in-Ok-Done.ensures.does.counts.0 in
-    (c.loop-event.invariant.0, carries_more g.B.Block.contents g.B.Block.layers g.B.Block.fault_count g.B.Block.size c.args.events.now c.args.reply c.args.volume.now.volume _ (drop _ c.args.events.now) c.loop-event.volume.volume c.step.new.self.volume have c.in-Ok-Done.ensures.does.loud c.in-Ok-Done.ensures.does.kept c.in-Ok-Done.ensures.does.counts.0 c.in-Ok-Done.ensures.does.lower step, omega (arith, c.loop-event.invariant.2, c.in-Ok-Done.ensures.taken))
+    (c.loop-event.invariant.0, carries_more g.B.Block.contents g.B.Block.layers g.B.Block.fault_count g.B.Block.size c.args.events.now c.args.reply c.args.volume.now.volume _ (drop _ c.args.events.now) c.loop-event.volume.volume c.step.new.self.volume have c.in-Ok-Done.ensures.does.loud c.in-Ok-Done.ensures.does.kept c.in-Ok-Done.ensures.does.counts.0 c.in-Ok-Done.ensures.does.lower step, takes_then _ _ _ c.loop-event.invariant.2 c.in-Ok-Done.ensures.taken)
 
 pub returns-in-Ok-Reply-clause-carried : goal.returns-in-Ok-Reply-clause-carried
 returns-in-Ok-Reply-clause-carried g c =
@@ -138,13 +139,13 @@ pub returns-clause-left : goal.returns-clause-left
 returns-clause-left g c = (none_out g.B.Block.contents g.B.Block.layers g.B.Block.fault_count g.B.Block.size c.args.events.now c.args.reply c.args.volume.now.volume (drop c.loop-event.event-index c.args.events.now) c.loop-event.volume.volume c.loop-event.invariant.1).left
 
 pub returns-in-Ok-Reply-clause-taken : goal.returns-in-Ok-Reply-clause-taken
-returns-in-Ok-Reply-clause-taken g c = omega (arith, c.loop-event.invariant.2, c.in-Ok-Reply.ensures.taken)
+returns-in-Ok-Reply-clause-taken g c = takes_then _ _ _ c.loop-event.invariant.2 c.in-Ok-Reply.ensures.taken
 
 pub returns-in-Ok-Fault-clause-taken : goal.returns-in-Ok-Fault-clause-taken
-returns-in-Ok-Fault-clause-taken g c = omega (arith, c.loop-event.invariant.2, c.in-Ok-Fault.ensures.taken)
+returns-in-Ok-Fault-clause-taken g c = takes_then _ _ _ c.loop-event.invariant.2 c.in-Ok-Fault.ensures.taken
 
 pub returns-in-Err-clause-taken : goal.returns-in-Err-clause-taken
-returns-in-Err-clause-taken g c = omega (arith, c.loop-event.invariant.2, c.in-Err.ensures.taken)
+returns-in-Err-clause-taken g c = takes_then _ _ _ c.loop-event.invariant.2 c.in-Err.ensures.taken
 
 pub returns-clause-taken : goal.returns-clause-taken
 returns-clause-taken g c = c.loop-event.invariant.2

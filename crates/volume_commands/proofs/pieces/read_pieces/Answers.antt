@@ -23,6 +23,7 @@ use Rattle.volume_commands.proofs.ReadRuns.{ReadsTo, reads_none}
 use Rattle.volume_commands.proofs.Reading.{got_more, got_refused, got_all, refused_first}
 use Rattle.volume_commands.proofs.PlainReads.{plain_read, plain_read_refused}
 use Rattle.volume_commands.proofs.RestRuns.{rest_alone, rest_end, rest_next, rest_start, rest_stop, rest_undone}
+use Rattle.volume_commands.proofs.Takings.{takes_none, takes_then}
 use Rattle.volume_commands.proofs.pieces.read_pieces.Goals as goal
 
 pub returns-in_default-clause-refused : goal.returns-in_default-clause-refused
@@ -58,7 +59,7 @@ loop-piece-init g c = record {
       (c.into_iter-piece-iterator.ensures.into_iter_gives ∙ c.pieces-piece-items.ensures.pieces ∙ ap (λ n. pieces_of n (span_of c.args.range)) c.piece.ensures.piece));
   met = rest_start g.B.Block.contents g.B.Block.layers g.B.Block.fault_count g.B.Block.size c.args.dev (pieces_of (piece_with c.args.volume.now.volume.merge c.args.volume.now.volume.snaps) (span_of c.args.range)) c.into_iter-piece-iterator.result _ c.args.volume.now.volume
       (c.into_iter-piece-iterator.ensures.into_iter_gives ∙ c.pieces-piece-items.ensures.pieces ∙ ap (λ n. pieces_of n (span_of c.args.range)) c.piece.ensures.piece) c.in-Ok.ensures.items;
-  taken = omega arith;
+  taken = takes_none _;
 }
 
 pub read_piece-requires-clause-between : goal.read_piece-requires-clause-between
@@ -97,7 +98,7 @@ loop-piece-preserved g c =
           c.args.volume.now.volume c.loop-piece.volume.volume c.read_piece.new.volume.volume c.loop-piece.invariant.did c.in-Some.ensures.steps c.loop-piece.invariant.place.so.settled c.in-Ok-read_piece.ensures.done;
       met = rest_next g.B.Block.contents g.B.Block.layers g.B.Block.fault_count g.B.Block.size c.args.dev (pieces_of (piece_with c.args.volume.now.volume.merge c.args.volume.now.volume.snaps) (span_of c.args.range)) c.loop-piece.piece-iterator c.next.new.self (span_of c.in-Some.piece) c.loop-piece.out.items c.read_piece.new.out.items c.in-Ok-read_piece.ensures.answered.0
           c.args.volume.now.volume c.loop-piece.volume.volume c.read_piece.new.volume.volume c.loop-piece.invariant.met c.in-Some.ensures.steps c.in-Ok-read_piece.ensures.answered.1 c.in-Ok-read_piece.ensures.answered.2;
-      taken = omega (arith, c.loop-piece.invariant.taken, c.in-Ok-read_piece.ensures.taken);
+      taken = takes_then _ _ _ c.loop-piece.invariant.taken c.in-Ok-read_piece.ensures.taken;
     }
 
 pub returns-in-Err-clause-refused : goal.returns-in-Err-clause-refused
@@ -233,7 +234,7 @@ returns-then-is_one_piece-clause-undone g c =
     (rest_undone g.B.Block.contents g.B.Block.layers g.B.Block.fault_count g.B.Block.size c.args.dev (span_of c.args.range) e c.args.volume.now.volume c.read_alone.new.volume.volume undone)) c.read_alone.ensures.undone
 
 pub returns-in-Err-clause-taken : goal.returns-in-Err-clause-taken
-returns-in-Err-clause-taken g c = omega (arith, c.loop-piece.invariant.taken, c.in-Err.ensures.taken)
+returns-in-Err-clause-taken g c = takes_then _ _ _ c.loop-piece.invariant.taken c.in-Err.ensures.taken
 
 pub returns-clause-taken : goal.returns-clause-taken
 returns-clause-taken g c = c.loop-piece.invariant.taken

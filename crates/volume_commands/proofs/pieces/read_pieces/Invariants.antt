@@ -1,11 +1,12 @@
 -- The pieces so far were read.
-use Rattle.std.proofs.Common.{vec_len, vec_capacity, ◌+◌, ◌≤◌}
+use Rattle.std.proofs.Common.{vec_len, vec_capacity}
 use Rattle.chunk.specs.Pieces.{span_of, pieces_of}
 use Rattle.volume.specs.Volumed.{piece_with}
 use Rattle.volume_commands.specs.Rested.{rested_of, merged_of, IsSettled}
 use Rattle.volume_commands.proofs.ReadRuns.{ReadsTo}
 use Rattle.volume_commands.proofs.Reading.{IsUnderWay}
 use Rattle.volume_commands.proofs.RestRuns.{ReadsAtRest}
+use Rattle.volume_commands.specs.TakesPlaces.{TakesByRequests}
 use Rattle.volume_commands.proofs.pieces.read_pieces.Given as goal
 
 abbrev pub invariant-loop-piece : goal.invariant-loop-piece
@@ -16,5 +17,5 @@ invariant-loop-piece g l = record {
   did : ReadsTo l.fn.dev (IsSettled g.B.Block.layers (rested_of l.fn.volume.volume)) (pieces_of (piece_with l.fn.volume.volume.merge l.fn.volume.volume.snaps) (span_of l.fn.range)) l.piece-iterator l.out.items
       (merged_of g.B.Block.contents g.B.Block.layers (rested_of l.fn.volume.volume)) (merged_of g.B.Block.contents g.B.Block.layers (rested_of l.volume.volume));
   met : ReadsAtRest g.B.Block.contents g.B.Block.layers g.B.Block.fault_count g.B.Block.size l.fn.dev (pieces_of (piece_with l.fn.volume.volume.merge l.fn.volume.volume.snaps) (span_of l.fn.range)) l.piece-iterator l.out.items l.fn.volume.volume l.volume.volume;
-  taken : l.volume.taken + l.fn.volume.volume.requests ≤ l.fn.volume.taken + l.volume.volume.requests;
+  taken : TakesByRequests l.fn.volume l.volume;
 }

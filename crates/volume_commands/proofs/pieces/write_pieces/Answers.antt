@@ -13,6 +13,7 @@ use Rattle.volume_commands.proofs.WriteRuns.{writes_none}
 use Rattle.volume_commands.proofs.Writing.{left_behind, left_inside, left_part, part_is, part_fits, wrote_more, wrote_refused, wrote_all}
 use Rattle.volume_commands.proofs.BesideWrites.{plain_write, plain_write_lost}
 use Rattle.volume_commands.proofs.RestRuns.{wrote_end, wrote_next, wrote_start, wrote_stop}
+use Rattle.volume_commands.proofs.Takings.{takes_none, takes_then}
 use Rattle.volume_commands.proofs.pieces.write_pieces.Goals as goal
 
 pub invariant_of-geometry : goal.invariant_of-geometry
@@ -32,7 +33,7 @@ loop-piece-init g c = record {
       (c.into_iter-piece-iterator.ensures.into_iter_gives ∙ c.pieces-piece-items.ensures.pieces ∙ ap (λ n. pieces_of n (span_of c.args.range)) c.piece.ensures.piece);
   met = wrote_start g.B.Block.contents g.B.Block.layers g.B.Block.fault_count g.B.Block.size c.args.dev (pieces_of (piece_with c.args.volume.now.volume.merge c.args.volume.now.volume.snaps) (span_of c.args.range)) c.into_iter-piece-iterator.result c.args.bytes c.args.volume.now.volume
       (c.into_iter-piece-iterator.ensures.into_iter_gives ∙ c.pieces-piece-items.ensures.pieces ∙ ap (λ n. pieces_of n (span_of c.args.range)) c.piece.ensures.piece);
-  taken = omega arith;
+  taken = takes_none _;
 }
 
 pub overflow_add-to : goal.overflow_add-to
@@ -104,7 +105,7 @@ loop-piece-preserved g c =
       met = wrote_next g.B.Block.contents g.B.Block.layers g.B.Block.fault_count g.B.Block.size c.args.dev (pieces_of (piece_with c.args.volume.now.volume.merge c.args.volume.now.volume.snaps) (span_of c.args.range)) c.loop-piece.piece-iterator c.next.new.self (span_of c.in-Some.piece) c.loop-piece.from c.args.bytes
           (take (c.loop-piece.from + c.in-Some.piece.count * 512 - c.loop-piece.from) (drop c.loop-piece.from c.loop-piece.bytes)) c.in-Ok.ensures.answered.0
           c.args.volume.now.volume c.loop-piece.volume.volume c.write_piece.new.volume.volume c.loop-piece.invariant.met c.in-Some.ensures.steps (left_part c.loop-piece.from (c.loop-piece.from + c.in-Some.piece.count * 512) c.loop-piece.bytes c.args.bytes c.loop-piece.invariant.same) c.in-Ok.ensures.answered.1;
-      taken = omega (arith, c.loop-piece.invariant.taken, c.in-Ok.ensures.taken);
+      taken = takes_then _ _ _ c.loop-piece.invariant.taken c.in-Ok.ensures.taken;
     }
 
 pub returns-clause-between : goal.returns-clause-between
@@ -155,7 +156,7 @@ returns-clause-answered g c =
     wrote_end g.B.Block.contents g.B.Block.layers g.B.Block.fault_count g.B.Block.size c.args.dev (pieces_of (piece_with c.args.volume.now.volume.merge c.args.volume.now.volume.snaps) (span_of c.args.range)) c.loop-piece.piece-iterator c.loop-piece.from c.args.bytes c.args.volume.now.volume c.loop-piece.volume.volume c.loop-piece.invariant.met c.in-None.ensures.steps.0
 
 pub returns-in-Err-clause-taken : goal.returns-in-Err-clause-taken
-returns-in-Err-clause-taken g c = omega (arith, c.loop-piece.invariant.taken, c.in-Err.ensures.taken)
+returns-in-Err-clause-taken g c = takes_then _ _ _ c.loop-piece.invariant.taken c.in-Err.ensures.taken
 
 pub returns-clause-taken : goal.returns-clause-taken
 returns-clause-taken g c = c.loop-piece.invariant.taken

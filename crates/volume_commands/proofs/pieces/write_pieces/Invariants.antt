@@ -1,5 +1,5 @@
 -- The pieces so far were written.
-use Rattle.std.proofs.Common.{◌≡◌, ◌+◌, drop, ◌≤◌}
+use Rattle.std.proofs.Common.{◌≡◌, ◌+◌, drop}
 use Rattle.chunk.specs.Pieces.{span_of, pieces_of}
 use Rattle.chunk.proofs.Runs.{StandsAt}
 use Rattle.volume.specs.Volumed.{piece_with}
@@ -7,6 +7,7 @@ use Rattle.volume_commands.specs.Rested.{rested_of, merged_of, IsSettled}
 use Rattle.volume_commands.proofs.Going.{GoesSo}
 use Rattle.volume_commands.proofs.WriteRuns.{WritesTo}
 use Rattle.volume_commands.proofs.RestRuns.{WritesAtRest}
+use Rattle.volume_commands.specs.TakesPlaces.{TakesByRequests}
 use Rattle.volume_commands.proofs.pieces.write_pieces.Given as goal
 
 abbrev pub invariant-loop-piece : goal.invariant-loop-piece
@@ -19,5 +20,5 @@ invariant-loop-piece g l = record {
   did : WritesTo l.fn.dev (IsSettled g.B.Block.layers (rested_of l.fn.volume.volume)) (pieces_of (piece_with l.fn.volume.volume.merge l.fn.volume.volume.snaps) (span_of l.fn.range)) l.fn.bytes l.from l.piece-iterator
       (merged_of g.B.Block.contents g.B.Block.layers (rested_of l.fn.volume.volume)) (merged_of g.B.Block.contents g.B.Block.layers (rested_of l.volume.volume));
   met : WritesAtRest g.B.Block.contents g.B.Block.layers g.B.Block.fault_count g.B.Block.size l.fn.dev (pieces_of (piece_with l.fn.volume.volume.merge l.fn.volume.volume.snaps) (span_of l.fn.range)) l.piece-iterator l.from l.fn.bytes l.fn.volume.volume l.volume.volume;
-  taken : l.volume.taken + l.fn.volume.volume.requests ≤ l.fn.volume.taken + l.volume.volume.requests;
+  taken : TakesByRequests l.fn.volume l.volume;
 }

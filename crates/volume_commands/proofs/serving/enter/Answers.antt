@@ -7,8 +7,9 @@ use Rattle.settled.specs.Refusals.{is_starved}
 use Rattle.volume.specs.Leaving.{has_group_in}
 use Rattle.volume.specs.Submitting.{IsRefusedAs}
 use Rattle.volume.proofs.Quieted.{quiet_free}
-use Rattle.volume_commands.proofs.Refusing.{apart_by, plain_refused, starved_only, refused_requests, refused_given}
+use Rattle.volume_commands.proofs.Refusing.{apart_by, plain_refused, starved_only, refused_requests}
 use Rattle.volume_commands.proofs.Full.{still_full}
+use Rattle.volume_commands.proofs.Takings.{accepted_takes, unsent_takes}
 use Rattle.volume_commands.proofs.serving.enter.Goals as goal
 
 pub returns-in-Ok-clause-ok : goal.returns-in-Ok-clause-ok
@@ -88,22 +89,16 @@ pub returns-in_default-clause-requests : goal.returns-in_default-clause-requests
 returns-in_default-clause-requests g c = refused_requests g.B.Block.contents g.B.Block.layers g.B.Block.size c.args.request c.in-Err.refusal c.args.volume.now.volume c.submit.new.self.volume c.in-Err.ensures.refused
 
 pub returns-in-Ok-clause-taken : goal.returns-in-Ok-clause-taken
-returns-in-Ok-clause-taken g c = let a = c.in-Ok.ensures.does.ok in omega (arith, a.given, a.next, c.in-Ok.ensures.taken)
+returns-in-Ok-clause-taken g c = accepted_takes c.args.volume.now c.submit.new.self g.B.Block.contents g.B.Block.layers c.args.request c.in-Ok.field-0 c.in-Ok.ensures.does.ok c.in-Ok.ensures.places
 
 pub returns-in-Invalid-clause-taken : goal.returns-in-Invalid-clause-taken
-returns-in-Invalid-clause-taken g c =
-    let same = refused_given g.B.Block.contents g.B.Block.layers g.B.Block.size c.args.request c.in-Err.refusal c.args.volume.now.volume c.submit.new.self.volume c.in-Err.ensures.refused in
-    omega (arith, same, c.in-Err.ensures.taken)
+returns-in-Invalid-clause-taken g c = unsent_takes c.args.volume.now c.submit.new.self g.B.Block.contents g.B.Block.layers g.B.Block.size c.args.request c.in-Err.refusal c.in-Err.ensures.refused c.in-Err.ensures.places.taken
 
 pub returns-in-Overflow-clause-taken : goal.returns-in-Overflow-clause-taken
-returns-in-Overflow-clause-taken g c =
-    let same = refused_given g.B.Block.contents g.B.Block.layers g.B.Block.size c.args.request c.in-Err.refusal c.args.volume.now.volume c.submit.new.self.volume c.in-Err.ensures.refused in
-    omega (arith, same, c.in-Err.ensures.taken)
+returns-in-Overflow-clause-taken g c = unsent_takes c.args.volume.now c.submit.new.self g.B.Block.contents g.B.Block.layers g.B.Block.size c.args.request c.in-Err.refusal c.in-Err.ensures.refused c.in-Err.ensures.places.taken
 
 pub returns-in_default-clause-taken : goal.returns-in_default-clause-taken
-returns-in_default-clause-taken g c =
-    let same = refused_given g.B.Block.contents g.B.Block.layers g.B.Block.size c.args.request c.in-Err.refusal c.args.volume.now.volume c.submit.new.self.volume c.in-Err.ensures.refused in
-    omega (arith, same, c.in-Err.ensures.taken)
+returns-in_default-clause-taken g c = unsent_takes c.args.volume.now c.submit.new.self g.B.Block.contents g.B.Block.layers g.B.Block.size c.args.request c.in-Err.refusal c.in-Err.ensures.refused c.in-Err.ensures.places.taken
 
 pub returns-in_default-clause-full : goal.returns-in_default-clause-full
-returns-in_default-clause-full g c = still_full c.in-Err.refusal c.args.volume.now.taken c.submit.new.self.taken c.in-Err.ensures.full c.in-Err.ensures.taken
+returns-in_default-clause-full g c = still_full c.in-Err.refusal c.args.volume.now.taken c.submit.new.self.taken c.in-Err.ensures.places.full c.in-Err.ensures.places.taken

@@ -1,5 +1,5 @@
 -- The piece was answered, or starved.
-use Rattle.std.proofs.Common.{Some, ◌∙◌, arith}
+use Rattle.std.proofs.Common.{Some, ◌∙◌}
 use Rattle.plain.specs.declared.request.Reply.TheVariants.{Refused}
 use Rattle.volume_commands.proofs.Settled.{keeps_more}
 use Rattle.volume_commands.proofs.Seen.{devices_kept, piece_kept}
@@ -8,6 +8,7 @@ use Rattle.volume_commands.proofs.Between.{between_after, starved_between, starv
 use Rattle.volume_commands.proofs.Served.{served_did}
 use Rattle.volume.proofs.Quieted.{quiet_flights}
 use Rattle.volume_commands.proofs.AtRest.{answered}
+use Rattle.volume_commands.proofs.Takings.{takes_then}
 use Rattle.volume_commands.proofs.serving.serve.Goals as goal
 
 pub returns-in-Err-clause-kept : goal.returns-in-Err-clause-kept
@@ -61,4 +62,4 @@ returns-in-Ok-clause-answered g c =
     c.in-Ok.ensures.entered c.settle.ensures.did c.settle.ensures.still
 
 pub returns-in-Ok-clause-taken : goal.returns-in-Ok-clause-taken
-returns-in-Ok-clause-taken g c = omega (arith, c.in-Ok.ensures.taken, c.settle.ensures.taken, c.settle.ensures.requests)
+returns-in-Ok-clause-taken g c = takes_then _ _ _ c.in-Ok.ensures.taken c.settle.ensures.taken

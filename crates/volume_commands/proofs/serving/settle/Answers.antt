@@ -1,18 +1,19 @@
 -- One event more is done; and none is left.
-use Rattle.std.proofs.Common.{Some, refl, sym, ◌∙◌, arith}
+use Rattle.std.proofs.Common.{Some, refl, sym, ◌∙◌}
 use Rattle.std.proofs.lemmas.Bool.{true≢false}
 use Rattle.plain.specs.declared.event.Outcome.TheVariants.{Done, Fault, Reply as Answered}
 use Rattle.volume.specs.Exact.{IsExact}
 use Rattle.volume_commands.proofs.AtRest.{done_none, done_one, done_then, due_is, still_never}
 use Rattle.volume_commands.proofs.Runs.{beside_none, beside_more, beside_followed}
 use Rattle.volume_commands.proofs.Quiet.{still_free, free_quiet}
+use Rattle.volume_commands.proofs.Takings.{takes_none, takes_then}
 use Rattle.volume_commands.proofs.serving.settle.Goals as goal
 
 pub loop-volume-init : goal.loop-volume-init
 loop-volume-init g c = record {
   so = beside_none g.B.Block.contents g.B.Block.layers g.B.Block.size (Some c.args.reply) c.args.volume.now.volume c.requires.free;
   did = done_none g.B.Block.contents g.B.Block.layers g.B.Block.fault_count g.B.Block.size c.args.reply c.args.volume.now.volume;
-  taken = omega arith;
+  taken = takes_none _;
   still = λ quiet. refl;
 }
 
@@ -33,7 +34,7 @@ loop-volume-preserved-in-Ok-Reply g c =
       so = beside_more g.B.Block.contents g.B.Block.layers g.B.Block.size (Some c.args.reply) (Some c.loop-volume.reply) c.args.volume.now.volume c.loop-volume.volume.volume c.step.new.self.volume c.in-Some.event _ c.loop-volume.invariant.so
           (sym c.is_quiet.ensures.value ∙ c.loop-volume-test.true) c.in-Some.ensures.machine c.in-Some.ensures.calm c.in-Some.ensures.seen is c.in-Ok-Reply.ensures.does.loud c.in-Ok-Reply.ensures.does.kept c.in-Ok-Reply.ensures.does.counts.0;
       did = more;
-      taken = omega (arith, c.loop-volume.invariant.taken, c.in-Ok-Reply.ensures.taken);
+      taken = takes_then _ _ _ c.loop-volume.invariant.taken c.in-Ok-Reply.ensures.taken;
       still = still_never c.args.volume.now.volume c.loop-volume.volume.volume c.step.new.self.volume c.loop-volume.invariant.still (sym c.is_quiet.ensures.value ∙ c.loop-volume-test.true);
     }
 
@@ -50,7 +51,7 @@ loop-volume-preserved-in-Ok-Done g c =
           (sym c.is_quiet.ensures.value ∙ c.loop-volume-test.true) c.in-Some.ensures.machine c.in-Some.ensures.calm c.in-Some.ensures.seen is c.in-Ok-Done.ensures.does.loud c.in-Ok-Done.ensures.does.kept c.in-Ok-Done.ensures.does.counts.0
           c.follow-reply.ensures.loud c.follow-reply.ensures.kept c.follow-reply.ensures.requests c.follow-reply.ensures.follows;
       did = done_then g.B.Block.contents g.B.Block.layers g.B.Block.fault_count g.B.Block.size c.args.reply c.loop-volume.reply c.follow-reply.result c.args.volume.now.volume c.step.new.self.volume c.follow-reply.new.volume.volume more c.follow-reply.ensures.did;
-      taken = omega (arith, c.loop-volume.invariant.taken, c.in-Ok-Done.ensures.taken, c.follow-reply.ensures.taken);
+      taken = takes_then _ _ _ (takes_then _ _ _ c.loop-volume.invariant.taken c.in-Ok-Done.ensures.taken) c.follow-reply.ensures.taken;
       still = still_never c.args.volume.now.volume c.loop-volume.volume.volume c.follow-reply.new.volume.volume c.loop-volume.invariant.still (sym c.is_quiet.ensures.value ∙ c.loop-volume-test.true);
     }
 
@@ -66,7 +67,7 @@ loop-volume-preserved g c =
       so = beside_more g.B.Block.contents g.B.Block.layers g.B.Block.size (Some c.args.reply) (Some c.loop-volume.reply) c.args.volume.now.volume c.loop-volume.volume.volume c.step.new.self.volume c.in-Some.event _ c.loop-volume.invariant.so
           (sym c.is_quiet.ensures.value ∙ c.loop-volume-test.true) c.in-Some.ensures.machine c.in-Some.ensures.calm c.in-Some.ensures.seen is c.in-Ok-Fault.ensures.does.loud c.in-Ok-Fault.ensures.does.kept c.in-Ok-Fault.ensures.does.counts.0;
       did = more;
-      taken = omega (arith, c.loop-volume.invariant.taken, c.in-Ok-Fault.ensures.taken);
+      taken = takes_then _ _ _ c.loop-volume.invariant.taken c.in-Ok-Fault.ensures.taken;
       still = still_never c.args.volume.now.volume c.loop-volume.volume.volume c.step.new.self.volume c.loop-volume.invariant.still (sym c.is_quiet.ensures.value ∙ c.loop-volume-test.true);
     }
 

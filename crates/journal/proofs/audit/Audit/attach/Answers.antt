@@ -13,6 +13,7 @@ use Rattle.journal.proofs.Mays.{kept_same}
 use Rattle.in_flight.specs.Kinds.{in_flight}
 use Rattle.journal.specs.declared.entry.Entry.TheVariants.{Attached}
 use Rattle.journal.proofs.Bounds.{entry_bounds, long_kept}
+use Rattle.journal.proofs.Earning.{attached_earned}
 use Rattle.journal.proofs.Fresh.{fresh_taken}
 use Rattle.journal.proofs.Gained.{and_left, attached_keeps, taken_there, shows_last}
 use Rattle.journal.proofs.audit.Audit.attach.Goals as goal
@@ -44,6 +45,7 @@ invariant_of-self-in-Ok-attach g c =
           (c.from_vec-array.ensures ∙ back c.in-Ok.array.len c.fill.new.out c.in-Ok.array.items (c.fill.auto.out ∙ c.as_mut_slice.ensures.len) ∙ c.fill.ensures all shown shows, taken, fresh_taken g.B.Block.contents g.B.Block.layers c.args.store c.args.chunk w c.in-Ok-attach.ensures.does.admitted c.looks_fresh-fresh.result c.looks_fresh-fresh.ensures));
       bounded = entry_bounds _ _ c.self.inside.loud c.if-self.self _ _ _ c.self.invariant.bounded (ap (λ (x : Volumed _). x.requests) c.in-Ok-attach.ensures.does.gained.becomes) (λ on. and_left c.self.inside.loud c.is_loud-loud.result (sym tells ∙ on))
           (long_kept g.B.Block.contents g.B.Block.layers g.B.Block.size g.met.B.Block.whole c.self.inside.volume c.attach.new.self c.in-Ok-attach.ensures.does.gained.origin.size_is) (ap (λ (x : Volumed _). map in_flight x.flights) c.in-Ok-attach.ensures.does.gained.becomes) (Attached c.in-Ok-attach.number c.from_vec-array.result (overflow_of c.args.overflow) c.looks_fresh-fresh.result) _ _ _ tt;
+      earned = attached_earned w c.attach.new.self c.self.inside.taken (length c.self.inside.held.items) c.self.inside.entries.items c.self.inside.lives.items c.self.inside.may.items c.self.invariant.earned g.B.Block.contents g.B.Block.layers g.B.Block.size c.in-Ok-attach.number c.args.overflow c.args.store c.in-Ok-attach.ensures.does.gained c.in-Ok-attach.ensures.does.number (c.self.invariant.audit.counted.may ∙ sym c.self.invariant.audit.counted.lives) (Attached c.in-Ok-attach.number c.from_vec-array.result (overflow_of c.args.overflow) c.looks_fresh-fresh.result);
     })
 
 pub returns-after-self-clause-does : goal.returns-after-self-clause-does

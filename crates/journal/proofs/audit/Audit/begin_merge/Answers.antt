@@ -8,6 +8,7 @@ use Rattle.volume.specs.Volumed.{Volumed}
 use Rattle.journal.specs.declared.entry.Entry.TheVariants.{Begun}
 use Rattle.journal.proofs.Bounds.{entry_bounds, long_kept, quiet_bounds, unbegun_given}
 use Rattle.journal.proofs.Departed.{begun_keeps}
+use Rattle.journal.proofs.Earning.{begun_earned, many_earned, unbegun_many}
 use Rattle.journal.proofs.Keeping.{quiet_keeps}
 use Rattle.journal.proofs.audit.Audit.begin_merge.Goals as goal
 
@@ -20,6 +21,7 @@ invariant_of-self g c =
           c.in-Ok.ensures.does.loud c.in-Ok.ensures.does.begun c.in-Ok.ensures.does.legal;
       bounded = entry_bounds _ _ c.self.inside.loud _ _ _ _ c.self.invariant.bounded (ap (λ (x : Volumed _). x.requests) c.in-Ok.ensures.does.begun.becomes) (λ on. on)
           (long_kept g.B.Block.contents g.B.Block.layers g.B.Block.size g.met.B.Block.whole c.self.inside.volume c.begin_merge.new.self (ap (λ (x : Volumed _). g.B.Block.size x.origin) c.in-Ok.ensures.does.begun.becomes)) (ap (λ (x : Volumed _). map in_flight x.flights) c.in-Ok.ensures.does.begun.becomes) (Begun c.args.number) _ _ _ tt;
+      earned = begun_earned c.self.inside.volume c.begin_merge.new.self c.self.inside.taken (length c.self.inside.held.items) c.self.inside.entries.items c.self.inside.lives.items c.self.inside.may.items c.self.invariant.earned c.args.number c.in-Some.place (Begun c.args.number) c.in-Ok.ensures.does.begun;
     })
 
 pub invariant_of-self-in-Err : goal.invariant_of-self-in-Err
@@ -28,6 +30,7 @@ invariant_of-self-in-Err g c =
     let plain = unbegun_same g.B.Block.contents g.B.Block.layers c.args.number c.in-Err.refusal c.self.inside.volume c.begin_merge.new.self c.in-Err.ensures.refused in record {
       audit = quiet_keeps _ _ c.self.inside.loud _ _ _ c.self.invariant.audit c.in-Err.ensures.does.loud plain;
       bounded = quiet_bounds _ _ c.self.inside.loud _ _ _ _ c.self.invariant.bounded same.0 (λ on. on) (ap (λ (x : Plain). length x.origin) plain) (ap (λ (x : Plain). x.requests) plain);
+      earned = many_earned c.self.inside.volume c.begin_merge.new.self _ _ c.self.invariant.earned (unbegun_many c.args.number c.in-Err.refusal c.self.inside.volume c.begin_merge.new.self c.in-Err.ensures.refused) (omega arith);
     }
 
 pub returns-in-Err-clause-does : goal.returns-in-Err-clause-does

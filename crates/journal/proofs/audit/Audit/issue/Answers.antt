@@ -1,7 +1,8 @@
-use Rattle.std.proofs.Common.{rules, ◌≡◌, ◌≢◌, ◌+◌, ◌++◌, ◌∷◌, [], refl, sym, ap, ◌∙◌, arith, map, append-nil}
+use Rattle.std.proofs.Common.{rules, ◌≡◌, ◌≢◌, ◌+◌, ◌++◌, ◌∷◌, [], refl, sym, ap, ◌∙◌, arith, map, append-nil, length-append}
 use Rattle.journal.specs.Seats.{seated}
 use Rattle.journal.specs.declared.entry.Entry.TheVariants.{Answered}
 use Rattle.std.proofs.lemmas.List.{get_or_default}
+use Rattle.std.proofs.lemmas.List.Edits.{length-remove}
 use Rattle.plain.specs.declared.event.Event.TheVariants.{Issue}
 use Rattle.volume.specs.Volumed.{plain_of}
 use Rattle.volume.proofs.Stepped.{allowed, not_allowed}
@@ -9,8 +10,9 @@ use Rattle.journal.specs.Books.{AuditShape, count_of}
 use Rattle.journal.specs.declared.entry.HeldRequest.{HeldRequest}
 use Rattle.journal.proofs.Beginning.{plain_long, shows_long}
 use Rattle.journal.proofs.Bounds.{count_low, issued_bounds, long_kept, quiet_bounds, size_kept}
+use Rattle.journal.proofs.Earning.{kept_earned}
 use Rattle.journal.proofs.Keeping.{first_of, held_at, fits_held, going_is, going_keeps, taken_here, number_same, issued_keeps, answer_of}
-use Rattle.journal.proofs.Receipts.{saved_same, mine_none, mine_other, mine_own, receipt_has}
+use Rattle.journal.proofs.Receipts.{base_kept, saved_same, mine_none, mine_other, mine_own, receipt_has}
 use Rattle.journal.proofs.audit.Audit.issue.Goals as goal
 
 pub returns-in_default-clause-does : goal.returns-in_default-clause-does
@@ -60,10 +62,14 @@ invariant_of-self g c =
     let bounds = issued_bounds _ _ _ c.self.inside.loud (plain_of g.B.Block.contents g.B.Block.layers c.self.inside.volume) (plain_of g.B.Block.contents g.B.Block.layers c.step.new.self) _ _ c.self.invariant.audit c.self.invariant.bounded c.args.number c.in-Some.place x first c.in-Ok-Reply.ensures.does.counts.0
     (long_kept g.B.Block.contents g.B.Block.layers g.B.Block.size g.met.B.Block.whole c.self.inside.volume c.step.new.self (size_kept g.B.Block.size c.self.inside.volume c.step.new.self c.in-Ok-Reply.ensures.does.kept.sizes)) c.args.seat (omega (arith, fit.seat, seat)) c.in-Ok-Reply.reply (taken_here c.args.number c.in-Ok-Reply.which c.in-Ok-Reply.reply _ _ flown)
     (λ dev array shows. shows_long g.B.Block.contents g.B.Block.layers c.self.inside.volume dev array shows ∙ sym (plain_long g.B.Block.contents g.B.Block.layers c.self.inside.volume)) in
-    rw (c.push_reserved.ensures.items, c.remove-held.ensures.items, c.count_one-count.ensures.counts, c.copy_into-for_entry.ensures) (record { audit = kept; bounded = bounds })
+    rw (c.push_reserved.ensures.items, c.remove-held.ensures.items, c.count_one-count.ensures.counts, c.copy_into-for_entry.ensures) (record {
+      audit = kept;
+      bounded = bounds;
+      earned = kept_earned g.B.Block.size c.self.inside.volume c.step.new.self _ _ c.self.invariant.earned c.in-Ok-Reply.ensures.does.kept (omega (arith, c.in-Ok-Reply.ensures.does.counts.0, length-append c.self.inside.entries.items (Answered (answer_of c.remove-held.result c.args.seat c.in-Ok-Reply.reply) ∷ []), length-remove c.self.inside.held.items c.in-Some.place first.within));
+    })
 
-pub returns-in-Ok-Reply-clause-noted : goal.returns-in-Ok-Reply-clause-noted
-returns-in-Ok-Reply-clause-noted g c =
+pub returns-in-Ok-Reply-clause-applied : goal.returns-in-Ok-Reply-clause-applied
+returns-in-Ok-Reply-clause-applied g c =
     let x = c.remove-held.result in
     let first = first_of c.args.number c.self.inside.held.items c.in-Some.place x c.remove-held.ensures.value (rw c.as_slice.ensures.value at c.in-Some.ensures.some) in
     let same = c.remove-held.ensures.value ∙ get_or_default c.self.inside.held.items c.in-Some.place x c.index.result.now first.within ∙ sym c.index.ensures in
@@ -72,11 +78,15 @@ returns-in-Ok-Reply-clause-noted g c =
     let mine = ap (λ (y : HeldRequest). y.seat) same ∙ theirs in
     let entries = ap (λ (a : AuditShape _). a.entries) c.self.view_is in
     let counted = c.count_one-count.ensures.result ∙ ap (λ k. k + 1) (c.self.invariant.audit.counted.counts c.args.seat (omega (arith, fit.seat, mine)) ∙ ap (count_of c.args.seat) c.self.view_is) in
-    rw c.copy_into-for_receipt.ensures
-    (receipt_has _ _ c.self.inside.held.items c.args.number c.in-Ok-Reply.which c.in-Some.place c.args.seat c.count_one-count.result x c.in-Ok-Reply.reply
-    (number_same c.args.number c.in-Ok-Reply.which c.in-Ok-Reply.reply _ _ (rw c.in-Ok-Reply.field-0-is at c.in-Ok-Reply.ensures.does.flown)) first mine fit.same
-    (ap (λ (a : AuditShape _). a.held) c.self.view_is) (ap (map seated) c.remove-held.ensures.items) counted
-    (rw (c.push_reserved.ensures.items, c.copy_into-for_entry.ensures) (ap (λ es. es ++ Answered (answer_of x c.args.seat c.in-Ok-Reply.reply) ∷ []) entries)))
+    record {
+      noted = rw c.copy_into-for_receipt.ensures
+          (receipt_has _ _ c.self.inside.held.items c.args.number c.in-Ok-Reply.which c.in-Some.place c.args.seat c.count_one-count.result x c.in-Ok-Reply.reply
+          (number_same c.args.number c.in-Ok-Reply.which c.in-Ok-Reply.reply _ _ (rw c.in-Ok-Reply.field-0-is at c.in-Ok-Reply.ensures.does.flown)) first mine fit.same
+          (ap (λ (a : AuditShape _). a.held) c.self.view_is) (ap (map seated) c.remove-held.ensures.items) counted
+          (rw (c.push_reserved.ensures.items, c.copy_into-for_entry.ensures) (ap (λ es. es ++ Answered (answer_of x c.args.seat c.in-Ok-Reply.reply) ∷ []) entries)));
+      base = base_kept _ _ _ c.self.view_is (record { base = refl; taken = refl; loud = refl; folded = refl });
+      err = tt;
+    }
 
 pub invariant_of-self-in-Ok-Done : goal.invariant_of-self-in-Ok-Done
 invariant_of-self-in-Ok-Done g c =
@@ -85,12 +95,17 @@ invariant_of-self-in-Ok-Done g c =
           (saved_same g.B.Block.contents g.B.Block.layers c.self.inside.volume c.step.new.self c.in-Ok-Done.ensures.does.kept.numbers) flown.same (λ loud. (rw c.in-Ok-Done.field-0-is at (c.in-Ok-Done.ensures.does.legal loud)).0);
       bounded = quiet_bounds _ _ c.self.inside.loud c.self.inside.loud (plain_of g.B.Block.contents g.B.Block.layers c.self.inside.volume) (plain_of g.B.Block.contents g.B.Block.layers c.step.new.self) _ c.self.invariant.bounded c.in-Ok-Done.ensures.does.counts.0 (λ on. on)
           (long_kept g.B.Block.contents g.B.Block.layers g.B.Block.size g.met.B.Block.whole c.self.inside.volume c.step.new.self (size_kept g.B.Block.size c.self.inside.volume c.step.new.self c.in-Ok-Done.ensures.does.kept.sizes)) flown.same;
+      earned = kept_earned g.B.Block.size c.self.inside.volume c.step.new.self _ _ c.self.invariant.earned c.in-Ok-Done.ensures.does.kept (omega (arith, c.in-Ok-Done.ensures.does.counts.0));
     }
 
-pub returns-in-Ok-Done-clause-noted : goal.returns-in-Ok-Done-clause-noted
-returns-in-Ok-Done-clause-noted g c = record {
-  held = ap (λ (a : AuditShape _). a.held) c.self.view_is;
-  spoils = record { which = []; entries = ap (λ (a : AuditShape _). a.entries) c.self.view_is ∙ sym (append-nil _) };
+pub returns-in-Ok-Done-clause-applied : goal.returns-in-Ok-Done-clause-applied
+returns-in-Ok-Done-clause-applied g c = record {
+  noted = record {
+    held = ap (λ (a : AuditShape _). a.held) c.self.view_is;
+    spoils = record { which = []; entries = ap (λ (a : AuditShape _). a.entries) c.self.view_is ∙ sym (append-nil _) };
+  };
+  base = base_kept _ _ _ c.self.view_is (record { base = refl; taken = refl; loud = refl; folded = refl });
+  err = tt;
 }
 
 pub returns-in-Ok-Done-clause-unanswered : goal.returns-in-Ok-Done-clause-unanswered

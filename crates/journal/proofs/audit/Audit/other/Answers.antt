@@ -1,9 +1,10 @@
-use Rattle.std.proofs.Common.{◌∙◌, ap, sym, refl}
+use Rattle.std.proofs.Common.{◌∙◌, ap, sym, refl, arith}
 use Rattle.volume.specs.Volumed.{plain_of}
 use Rattle.journal.specs.Books.{AuditShape}
 use Rattle.journal.proofs.Bounds.{long_kept, size_kept, spoilt_bounds}
+use Rattle.journal.proofs.Earning.{kept_earned, noted_places}
 use Rattle.journal.proofs.Keeping.{spoilt_keeps, spoils_of, flown_other}
-use Rattle.journal.proofs.Receipts.{saved_count, saved_same, snaps_same, noted_all, only_spoils, silent_noted}
+use Rattle.journal.proofs.Receipts.{base_kept, saved_count, saved_same, snaps_same, noted_all, only_spoils, silent_noted}
 use Rattle.journal.proofs.audit.Audit.other.Goals as goal
 
 pub note_spoils-requires-clause-lives : goal.note_spoils-requires-clause-lives
@@ -17,12 +18,16 @@ invariant_of-self g c =
           flown (saved_same g.B.Block.contents g.B.Block.layers c.self.inside.volume c.step.new.self c.in-Ok.ensures.does.kept.numbers)
           (λ loud. spoils_of _ c.args.event c.in-Ok.outcome _ c.requires (c.in-Ok.ensures.does.legal loud)) (noted_all g.B.Block.contents g.B.Block.layers c.step.new.self _ _ _ _ c.note_spoils.ensures.noted) c.note_spoils.ensures.capacity;
       bounded = spoilt_bounds _ _ c.self.inside.loud _ _ _ _ c.self.invariant.bounded c.in-Ok.ensures.does.counts.0 (λ on. on) (long_kept g.B.Block.contents g.B.Block.layers g.B.Block.size g.met.B.Block.whole c.self.inside.volume c.step.new.self (size_kept g.B.Block.size c.self.inside.volume c.step.new.self c.in-Ok.ensures.does.kept.sizes)) flown c.note_spoils.ensures.noted.which _ _ _ c.note_spoils.ensures.noted.entries_are;
+      earned = kept_earned g.B.Block.size c.self.inside.volume c.step.new.self _ _ c.self.invariant.earned c.in-Ok.ensures.does.kept (omega (arith, c.in-Ok.ensures.does.counts.0, noted_places _ _ _ _ c.self.inside.may.items _ _ c.note_spoils.ensures.noted));
     }
 
-pub returns-in-Ok-clause-noted : goal.returns-in-Ok-clause-noted
-returns-in-Ok-clause-noted g c =
-    silent_noted _ _ 0 c.args.event c.in-Ok.outcome _ _ c.requires c.in-Ok.ensures.does.flown
-    (record { held = ap (λ (a : AuditShape _). a.held) c.self.view_is; spoils = only_spoils _ _ _ _ _ _ _ _ c.note_spoils.ensures.noted (ap (λ (a : AuditShape _). a.entries) c.self.view_is) refl })
+pub returns-in-Ok-clause-applied : goal.returns-in-Ok-clause-applied
+returns-in-Ok-clause-applied g c = λ seat. record {
+  noted = silent_noted _ _ seat c.args.event c.in-Ok.outcome _ _ c.requires c.in-Ok.ensures.does.flown
+      (record { held = ap (λ (a : AuditShape _). a.held) c.self.view_is; spoils = only_spoils _ _ _ _ _ _ _ _ c.note_spoils.ensures.noted (ap (λ (a : AuditShape _). a.entries) c.self.view_is) refl });
+  base = base_kept _ _ _ c.self.view_is (record { base = refl; taken = refl; loud = refl; folded = refl });
+  err = tt;
+}
 
 pub returns-in-Ok-clause-does : goal.returns-in-Ok-clause-does
 returns-in-Ok-clause-does g c = rw (← c.self.view_is) c.in-Ok.ensures.does

@@ -1,13 +1,15 @@
-use Rattle.std.proofs.Common.{length, refl, sym, ap, ◌∙◌, arith, map}
+use Rattle.std.proofs.Common.{length, refl, sym, ap, ◌∙◌, arith, map, length-append}
 use Rattle.std.proofs.lemmas.Bool.{MatchBool-at_false, MatchBool-at_true, ltb-false}
 use Rattle.plain.specs.Kept.{kept}
 use Rattle.in_flight.specs.Kinds.{room_of}
 use Rattle.volume.specs.Volumed.{plain_of}
 use Rattle.journal.specs.Books.{AuditShape}
+use Rattle.journal.specs.declared.entry.HeldRequest.{HeldRequest}
 use Rattle.journal.proofs.Mays.{kept_same}
 use Rattle.journal.specs.Seats.{seated}
 use Rattle.volume.proofs.Declines.{refused_declined}
 use Rattle.journal.proofs.Bounds.{admitted_asked, long_kept, refused_given, spoilt_bounds, submitted_bounds}
+use Rattle.journal.proofs.Earning.{kept_earned, marked_places, noted_places}
 use Rattle.journal.proofs.Keeping.{kept_room, submitted_kept, submitted_keeps, spoilt_keeps, declined_spoils}
 use Rattle.journal.proofs.Marks.{mark_noted, marked_bounds, marked_keeps, none_noted}
 use Rattle.journal.proofs.Receipts.{saved_count, saved_same, snaps_same, noted_all, only_spoils, refused_requests}
@@ -38,6 +40,7 @@ invariant_of-self-in-Ok-submit g c =
           (omega (arith, ltb-false 65_536 _ (sym c.is_full.ensures ∙ c.if-is_full.false), c.len.ensures, c.len-2.ensures, kept_same _ _ _ _ c.as_slice.ensures.value c.as_slice-2.ensures.value));
       bounded = submitted_bounds _ _ c.self.inside.loud _ _ _ _ c.in-Ok-submit.number (kept c.args.request) c.note_spoils.ensures.noted.which _ _ _ c.self.invariant.bounded ok.given ok.next
           (long_kept g.B.Block.contents g.B.Block.layers g.B.Block.size g.met.B.Block.whole c.self.inside.volume c.submit.new.self (ap g.B.Block.size ok.origin)) ok.flown (admitted_asked g.B.Block.contents g.B.Block.layers g.B.Block.size g.met.B.Block.whole c.args.request c.self.inside.volume c.in-Ok-submit.ensures.does.admitted c.requires.bytes) c.note_spoils.ensures.noted.entries_are;
+      earned = kept_earned g.B.Block.size c.self.inside.volume c.submit.new.self _ _ c.self.invariant.earned c.in-Ok-submit.ensures.does.kept (omega (arith, ok.given, ok.next, length-append {A = HeldRequest}, noted_places _ _ _ _ c.self.inside.may.items _ _ c.note_spoils.ensures.noted));
     })
 
 pub invariant_of-self-in-Err-submit : goal.invariant_of-self-in-Err-submit
@@ -54,6 +57,7 @@ invariant_of-self-in-Err-submit g c =
           (noted_all g.B.Block.contents g.B.Block.layers c.submit.new.self _ _ _ _ c.note_spoils-in-Err.ensures.noted) c.note_spoils-in-Err.ensures.capacity;
       bounded = spoilt_bounds _ _ c.self.inside.loud _ _ _ _ c.self.invariant.bounded (refused_given g.B.Block.contents g.B.Block.layers g.B.Block.size c.args.request c.in-Err.refusal _ _ refused) (λ on. on)
           (long_kept g.B.Block.contents g.B.Block.layers g.B.Block.size g.met.B.Block.whole c.self.inside.volume c.submit.new.self (ap g.B.Block.size c.in-Err.ensures.does.untouched.origin)) (refused_requests g.B.Block.contents g.B.Block.layers g.B.Block.size c.args.request c.in-Err.refusal c.self.inside.volume c.submit.new.self refused) c.note_spoils-in-Err.ensures.noted.which _ _ _ c.note_spoils-in-Err.ensures.noted.entries_are;
+      earned = kept_earned g.B.Block.size c.self.inside.volume c.submit.new.self _ _ c.self.invariant.earned c.in-Err.ensures.does.kept (omega (arith, refused_given g.B.Block.contents g.B.Block.layers g.B.Block.size c.args.request c.in-Err.refusal _ _ refused, noted_places _ _ _ _ c.self.inside.may.items _ _ c.note_spoils-in-Err.ensures.noted));
     })
 
 pub invariant_of-self-then-is_overflow : goal.invariant_of-self-then-is_overflow
@@ -71,6 +75,7 @@ invariant_of-self-then-is_overflow g c =
           (λ loud. refused_declined g.B.Block.contents g.B.Block.layers g.B.Block.size c.self.inside.volume c.submit.new.self c.args.request c.in-Err.refusal refused loud) c.note_mark.ensures.capacity noted;
       bounded = marked_bounds _ _ c.self.inside.loud _ _ _ c.args.request.dev (plain_of g.B.Block.contents g.B.Block.layers c.submit.new.self).saved _ _ _ c.self.invariant.bounded (refused_given g.B.Block.contents g.B.Block.layers g.B.Block.size c.args.request c.in-Err.refusal _ _ refused)
           (long_kept g.B.Block.contents g.B.Block.layers g.B.Block.size g.met.B.Block.whole c.self.inside.volume c.submit.new.self (ap g.B.Block.size c.in-Err.ensures.does.untouched.origin)) requests noted;
+      earned = kept_earned g.B.Block.size c.self.inside.volume c.submit.new.self _ _ c.self.invariant.earned c.in-Err.ensures.does.kept (omega (arith, refused_given g.B.Block.contents g.B.Block.layers g.B.Block.size c.args.request c.in-Err.refusal _ _ refused, marked_places _ _ _ _ _ _ _ noted));
     })
 
 pub returns-else-is_overflow-clause-noted : goal.returns-else-is_overflow-clause-noted

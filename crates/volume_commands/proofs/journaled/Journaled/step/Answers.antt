@@ -1,5 +1,5 @@
 -- An event takes no place, and what it comes to is noted.
-use Rattle.std.proofs.Common.{◌≡◌, ◌+◌, ◌≤◌, ℕ, List, true, ap, arith, sym, subst}
+use Rattle.std.proofs.Common.{◌≡◌, ℕ, List, true, sym, subst}
 use Rattle.std.specs.Prelude.{Err, IfOk, Ok, Result}
 use Rattle.device.specs.Layers.{Layer}
 use Rattle.plain.specs.declared.event.Event.{Event}
@@ -9,19 +9,17 @@ use Rattle.volume.specs.DoesStep.{DoesStep}
 use Rattle.volume.specs.Volumed.{Volumed, is_loud_in_all, plain_of}
 use Rattle.journal.specs.declared.entry.Entry.{Entry}
 use Rattle.volume_commands.specs.GoingOn.{ComesTo, GoesOn}
-use Rattle.volume_commands.specs.Places.{HasPlaces, kept_for_marks}
-use Rattle.volume_commands.proofs.Fewer.{stepped_fewer_marks, stepped_have}
+use Rattle.volume_commands.specs.Places.{HasPlaces}
+use Rattle.volume_commands.proofs.Earns.{stepped_many}
+use Rattle.volume_commands.proofs.Fewer.{stepped_have}
 use Rattle.volume_commands.proofs.JournalGoing.{stepped_goes_on}
+use Rattle.volume_commands.proofs.Takings.{stepped_takes}
 use Rattle.volume_commands.proofs.journaled.Journaled.step.Goals as goal
 
 module _ {B : Type 0} (holds : B → ℕ → List ℕ → Type 0) (contents : B → List ℕ) (layers : B → List Layer) (size faults done : B → ℕ) (event : Event) where
   places_by : (result : Result Outcome NotDue) (v w : Volumed B) (places : ℕ) → DoesStep holds contents layers size faults done true event result v w → HasPlaces v places → HasPlaces w places
-  places_by (Ok outcome) v w places does have = stepped_have v w faults event outcome places does.flown does.cause does.overflows have
+  places_by (Ok outcome) v w places does have = stepped_have v w faults event outcome places does.flown does.cause does.overflows (stepped_many v w size does.kept does.counts.0) have
   places_by (Err early) v w places does have = subst (λ (x : Volumed B). HasPlaces x places) (sym does.same) have
-
-  marks_by : (result : Result Outcome NotDue) (v w : Volumed B) → DoesStep holds contents layers size faults done true event result v w → kept_for_marks w ≤ kept_for_marks v
-  marks_by (Ok outcome) v w does = stepped_fewer_marks v w faults event outcome does.cause does.overflows
-  marks_by (Err early) v w does = (let same = ap kept_for_marks does.same in omega (arith, same))
 
   goes_by : (result : Result Outcome NotDue) (v w : Volumed B) → DoesStep holds contents layers size faults done true event result v w
       → IfOk result (λ outcome. is_loud_in_all layers v ≡ true → (entries : List Entry) × ComesTo (plain_of contents layers v) outcome entries × GoesOn (plain_of contents layers v) entries (plain_of contents layers w))
@@ -41,6 +39,4 @@ returns-clause-does g c = rw (← c.self.view_is) c.step.ensures.does
 
 pub returns-clause-taken : goal.returns-clause-taken
 returns-clause-taken g c =
-    let fewer = marks_by g.B.Block.may_hold g.B.Block.contents g.B.Block.layers g.B.Block.size g.B.Block.fault_count g.B.Block.done_count c.args.event c.step.result c.self.inside.volume c.step.new.self c.step.ensures.does in
-    let less : c.self.inside.places + kept_for_marks c.step.new.self ≤ c.self.inside.places + kept_for_marks c.self.inside.volume = omega (arith, fewer) in
-    rw (← c.self.view_is) less
+    rw (← c.self.view_is) (stepped_takes c.self.inside.volume c.step.new.self g.B.Block.may_hold g.B.Block.contents g.B.Block.layers g.B.Block.size g.B.Block.fault_count g.B.Block.done_count c.args.event c.self.inside.places c.step.result c.step.ensures.does)

@@ -10,3 +10,6 @@ pub returns-clause-seen : goal.returns-clause-seen
 returns-clause-seen g c =
     rw (← c.self.view_is) (begin_seen g.B.Block.may_hold g.B.Block.contents g.B.Block.layers g.B.Block.size c.args.number c.begin_merge.result c.self.inside.volume.volume c.begin_merge.new.self.volume
     (λ quiet loud. c.is_quiet.ensures.between (c.is_quiet.ensures.value ∙ quiet) loud None) c.begin_merge.ensures.does c.begin_merge.ensures.refused)
+
+pub returns-clause-places : goal.returns-clause-places
+returns-clause-places g c = rw (← c.self.view_is) c.begin_merge.ensures.places

@@ -8,3 +8,6 @@ returns-clause-does g c = rw (← c.self.view_is) c.detach.ensures.does
 pub returns-clause-seen : goal.returns-clause-seen
 returns-clause-seen g c =
     rw (← c.self.view_is) (detach_seen g.B.Block.may_hold g.B.Block.contents g.B.Block.layers g.B.Block.size c.args.number c.detach.result c.self.inside.volume.volume c.detach.new.self.volume c.detach.ensures.does c.detach.ensures.err)
+
+pub returns-clause-places : goal.returns-clause-places
+returns-clause-places g c = rw (← c.self.view_is) c.detach.ensures.places

@@ -14,3 +14,6 @@ returns-clause-seen g c =
 
 pub returns-clause-refused : goal.returns-clause-refused
 returns-clause-refused g c = rw (← c.self.view_is) (if_err c.finish_merge.result _ _ (λ refusal err. err.0) c.finish_merge.ensures.err)
+
+pub returns-clause-places : goal.returns-clause-places
+returns-clause-places g c = rw (← c.self.view_is) c.finish_merge.ensures.places

@@ -3,6 +3,7 @@ use Rattle.std.proofs.Common.{◌≡◌, true, false, refl, sym, ◌∙◌, subs
 use Rattle.std.proofs.lemmas.Bool.{true≢false}
 use Rattle.volume.specs.Leaving.{is_quiet_of}
 use Rattle.volume_commands.proofs.PlainReads.{missing_shows}
+use Rattle.volume_commands.proofs.Takings.{takes_none}
 use Rattle.volume_commands.proofs.resting.Resting.flush.Goals as goal
 
 pub returns-clause-refused : goal.returns-clause-refused
@@ -30,3 +31,9 @@ returns-clause-undone g c = rw (← c.self.view_is) (λ there. c.flush_device.en
 
 pub returns-then-not-is_there-clause-undone : goal.returns-then-not-is_there-clause-undone
 returns-then-not-is_there-clause-undone g c = rw (← c.self.view_is) (λ there. absurd (true≢false (sym there ∙ sym c.is_there.ensures ∙ c.if-not-is_there.true)))
+
+pub returns-clause-taken : goal.returns-clause-taken
+returns-clause-taken g c = rw (← c.self.view_is) c.flush_device.ensures.taken
+
+pub returns-then-not-is_there-clause-taken : goal.returns-then-not-is_there-clause-taken
+returns-then-not-is_there-clause-taken g c = rw (← c.self.view_is) (takes_none c.self.inside.volume)

@@ -11,3 +11,6 @@ returns-clause-seen g c =
 
 pub returns-clause-refused : goal.returns-clause-refused
 returns-clause-refused g c = rw (← c.self.view_is) c.submit.ensures.refused
+
+pub returns-clause-places : goal.returns-clause-places
+returns-clause-places g c = rw (← c.self.view_is) c.submit.ensures.places
