@@ -1,5 +1,5 @@
 -- Names, numbers and data words are printable, so a read, a write or a status with another byte among its words is refused for them.
-use Rattle.std.proofs.Common.{◌≡◌, ℕ, ◌+◌, ◌-◌, ◌/◌, ◌%◌, ◌^◌, ◌≤◌, Bool, true, false, cond, List, [], ◌∷◌, length, get_or, take, eqb, ltb, filter, refl, sym, ap, ◌∙◌, arith, Some, None}
+use Rattle.std.proofs.Common.{◌≡◌, ℕ, ◌+◌, ◌-◌, ◌/◌, ◌%◌, ◌^◌, ◌≤◌, Bool, true, false, cond, List, [], ◌∷◌, ◌++◌, length, get_or, take, eqb, ltb, filter, refl, sym, ap, ◌∙◌, arith, Some, None}
 use Rattle.std.specs.Prelude.{codes, nat_lt, nat_le, ◌&&◌, ◌==◌, is_some, slice_index, Result, Ok, Err}
 use Rattle.std.specs.List.{list_all, onto_first, slice_split}
 use Rattle.std.specs.Char.{is_ascii_digit, is_ascii_lowercase}
@@ -7,7 +7,6 @@ use Rattle.std.proofs.Math.Seq.{take-length}
 use Rattle.std.proofs.lemmas.Bool.{lt-ltb}
 use Rattle.std.proofs.lemmas.List.Folds.{list_all_more}
 use Rattle.std.proofs.lemmas.List.Splits.{slice_split-cons_yes, slice_split-cons_no}
-use Rattle.std.proofs.lemmas.Slice.Eq.{text_from_reads}
 use borrow.Author.Tests.{tests}
 use Rattle.sector.specs.declared.refusal.Refusal.{Refusal}
 use Rattle.sector.specs.declared.refusal.Refusal.TheVariants.{BadTable}
@@ -16,6 +15,7 @@ use Rattle.words.specs.Given.{◌>>=◌}
 use Rattle.words.specs.Names.{is_name_byte, is_name, name_of}
 use Rattle.words.specs.Numbers.{is_numeral, number_after, number_of, numeral_of}
 use Rattle.words.specs.Words.{words_of}
+use Rattle.command.proofs.Verbs.{write_cut, read_cut, status_cut}
 use Rattle.command.specs.DataWords.{is_hex, run_of, are_runs, total, size_of, payload_of}
 use Rattle.command.specs.Grammar.{alone_of, amount_of, command_of, patch_of, place_of, read_of, span_of, status_of, write_of}
 use Rattle.command.specs.Line.{is_printable}
@@ -240,20 +240,11 @@ decides line verb words rule cut front is bad =
       | false ↦ λ e. ap (λ t. cond t (command_of (words_of line)) (Err BadTable)) (sym whole ∙ e) ∙ sym (bad e)
     ] refl
 
-pub line_writes : (line verb : List ℕ) (words : List (List ℕ)) → words_of line ≡ verb ∷ words → length verb ≡ 5 → get_or verb 0 0 ≡ 119 → get_or verb 1 0 ≡ 114 → get_or verb 2 0 ≡ 105 → get_or verb 3 0 ≡ 116 → get_or verb 4 0 ≡ 101
-    → cond (list_all is_printable line) (command_of (words_of line)) (Err BadTable) ≡ write_of words
-line_writes line verb words cut long a b c d e =
-    let is = text_from_reads verb (codes "write") long (a, (b, (c, (d, (e, tt))))) in
-    decides line (codes "write") words (write_of words) (cut ∙ ap (λ v. v ∷ words) is) refl refl (write_bad words)
+pub line_writes : (line rest : List ℕ) → line ≡ codes "write " ++ rest → cond (list_all is_printable line) (command_of (words_of line)) (Err BadTable) ≡ write_of (words_of rest)
+line_writes line rest is = decides line (codes "write") (words_of rest) (write_of (words_of rest)) (ap words_of is ∙ write_cut rest) refl refl (write_bad (words_of rest))
 
-pub line_reads : (line verb : List ℕ) (words : List (List ℕ)) → words_of line ≡ verb ∷ words → length verb ≡ 4 → get_or verb 0 0 ≡ 114 → get_or verb 1 0 ≡ 101 → get_or verb 2 0 ≡ 97 → get_or verb 3 0 ≡ 100
-    → cond (list_all is_printable line) (command_of (words_of line)) (Err BadTable) ≡ read_of words
-line_reads line verb words cut long a b c d =
-    let is = text_from_reads verb (codes "read") long (a, (b, (c, (d, tt)))) in
-    decides line (codes "read") words (read_of words) (cut ∙ ap (λ v. v ∷ words) is) refl refl (read_bad words)
+pub line_reads : (line rest : List ℕ) → line ≡ codes "read " ++ rest → cond (list_all is_printable line) (command_of (words_of line)) (Err BadTable) ≡ read_of (words_of rest)
+line_reads line rest is = decides line (codes "read") (words_of rest) (read_of (words_of rest)) (ap words_of is ∙ read_cut rest) refl refl (read_bad (words_of rest))
 
-pub line_tells : (line verb : List ℕ) (words : List (List ℕ)) → words_of line ≡ verb ∷ words → length verb ≡ 6 → get_or verb 0 0 ≡ 115 → get_or verb 1 0 ≡ 116 → get_or verb 2 0 ≡ 97 → get_or verb 3 0 ≡ 116 → get_or verb 4 0 ≡ 117 → get_or verb 5 0 ≡ 115
-    → cond (list_all is_printable line) (command_of (words_of line)) (Err BadTable) ≡ status_of words
-line_tells line verb words cut long a b c d e f =
-    let is = text_from_reads verb (codes "status") long (a, (b, (c, (d, (e, (f, tt)))))) in
-    decides line (codes "status") words (status_of words) (cut ∙ ap (λ v. v ∷ words) is) refl refl (status_bad words)
+pub line_tells : (line rest : List ℕ) → line ≡ codes "status " ++ rest → cond (list_all is_printable line) (command_of (words_of line)) (Err BadTable) ≡ status_of (words_of rest)
+line_tells line rest is = decides line (codes "status") (words_of rest) (status_of (words_of rest)) (ap words_of is ∙ status_cut rest) refl refl (status_bad (words_of rest))

@@ -46,14 +46,14 @@ front_more b (suc n) xs = rw (same b) (let more = front_more b n xs in omega ari
 pub front_even : (b : ℕ) (xs : List ℕ) (n : ℕ) → take n xs ≡ replicate n b → front b xs ≡ n + front b (drop n xs)
 front_even b xs n e = ap (front b) (sym (take-append-drop n xs) ∙ ap (λ ys. ys ++ drop n xs) e) ∙ front_more b n (drop n xs)
 
--- the same byte again and again, and then 32 times more
-pub more_even : (b : ℕ) (xs : List ℕ) (i : ℕ) → take i xs ≡ replicate i b → take 32 (drop i xs) ≡ replicate 32 b → take (i + 32) xs ≡ replicate (i + 32) b
-more_even b xs i e more = take-add i 32 xs ∙ ap (λ ys. ys ++ take 32 (drop i xs)) e ∙ ap (λ ys. replicate i b ++ ys) more ∙ replicate-append-replicate i 32 b
+-- the same byte again and again, and then 64 times more
+pub more_even : (b : ℕ) (xs : List ℕ) (i : ℕ) → take i xs ≡ replicate i b → take 64 (drop i xs) ≡ replicate 64 b → take (i + 64) xs ≡ replicate (i + 64) b
+more_even b xs i e more = take-add i 64 xs ∙ ap (λ ys. ys ++ take 64 (drop i xs)) e ∙ ap (λ ys. replicate i b ++ ys) more ∙ replicate-append-replicate i 64 b
 
 lane : (x b : ℕ) (same : Bool) (xs : List ℕ) → eqb x b ≡ same → mask_l (map (λ y. not (eqb y b)) (x ∷ xs)) ≡ cond (not same) 1 0 + 2 * mask_l (map (λ y. not (eqb y b)) xs)
 lane x b same xs e = rw e refl
 
--- 32 lanes none of which is another byte
+-- lanes none of which is another byte
 same_lanes : (xs : List ℕ) (b : ℕ) → mask_l (map (λ x. not (eqb x b)) xs) ≡ 0 → xs ≡ replicate (length xs) b
 same_lanes [] b none = refl
 same_lanes (x ∷ xs) b none = elim (cases_eq x b) [
@@ -65,7 +65,7 @@ same_lanes (x ∷ xs) b none = elim (cases_eq x b) [
 pub is_zero : (n : ℕ) → eqb n 0 ≡ true → n ≡ 0
 is_zero n is = grind (arith, tests, is)
 
-pub even_lanes : (xs : List ℕ) (b : ℕ) → length xs ≡ 32 → mask_l (map (λ x. not (eqb x b)) xs) ≡ 0 → xs ≡ replicate 32 b
+pub even_lanes : (xs : List ℕ) (b : ℕ) → length xs ≡ 64 → mask_l (map (λ x. not (eqb x b)) xs) ≡ 0 → xs ≡ replicate 64 b
 even_lanes xs b long none = same_lanes xs b none ∙ ap (λ n. replicate n b) long
 
 -- a byte that is b lengthens the front

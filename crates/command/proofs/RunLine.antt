@@ -1,7 +1,5 @@
 -- The line of data that is one run.
-use Rattle.std.proofs.Common.{◌≡◌, ℕ, ◌+◌, ◌-◌, ◌≤◌, List, [], ◌∷◌, ◌++◌, length, length-append, take, drop, refl, sym, ap, ◌∙◌, arith, subst}
-use Rattle.std.specs.Prelude.{codes, Option}
-use Rattle.std.specs.Io.KnownBytes.{Appends}
+use Rattle.std.proofs.Common.{◌≡◌, ℕ, ◌+◌, ◌-◌, ◌≤◌, List, [], ◌∷◌, ◌++◌, length, length-append, take, drop, refl, sym, ap, ◌∙◌, arith}
 use Rattle.std.specs.List.{flat_map}
 use Rattle.std.proofs.Math.ListN.{set}
 use Rattle.std.proofs.Math.Seq.{drop-length, take-append-add}
@@ -17,14 +15,8 @@ one_run bytes n b cut all =
     ap (λ runs. flat_map run_word runs) (cut ∙ ap (λ rest. (n, b) ∷ runs_of rest) (ap (λ k. drop k bytes) all ∙ drop-length bytes))
     ∙ append-nil (run_word (n, b)) ∙ ap (λ k. run_word (k, b)) all
 
--- so the line of that run is the line of the data
-pub line_same : (before after : Option (List ℕ)) (bytes word : List ℕ) → data_words bytes ≡ word → Appends before after (codes "ok" ++ word ++ codes "\n") → Appends before after (codes "ok" ++ data_words bytes ++ codes "\n")
-line_same before after bytes word is more =
-    let P : List ℕ → Type 0 = λ t. Appends before after (codes "ok" ++ t ++ codes "\n") in
-    subst P (sym is) more
-
 -- the first bytes of a run, after `ok`
-put_front : (room run : List ℕ) (n : ℕ) → length room ≡ 27 → length run ≡ 24 → n ≤ 24 → take (n + 2) (put_mid 2 (26 - 2) (set (set room 0 111) 1 107) run) ≡ 111 ∷ 107 ∷ take n run
+put_front : (room run : List ℕ) (n : ℕ) → length room ≡ 96 → length run ≡ 24 → n ≤ 24 → take (n + 2) (put_mid 2 (26 - 2) (set (set room 0 111) 1 107) run) ≡ 111 ∷ 107 ∷ take n run
 put_front room run n long full few =
     let one = length-set room 0 111 in
     let both = length-set (set room 0 111) 1 107 in
@@ -37,7 +29,7 @@ put_front room run n long full few =
     ∙ ap (λ k. take k (ok ++ run)) back
     ∙ take-append-add ok run n
 
-put_length : (room run : List ℕ) → length room ≡ 27 → length run ≡ 24 → length (put_mid 2 (26 - 2) (set (set room 0 111) 1 107) run) ≡ 27
+put_length : (room run : List ℕ) → length room ≡ 96 → length run ≡ 24 → length (put_mid 2 (26 - 2) (set (set room 0 111) 1 107) run) ≡ 96
 put_length room run long full =
     let spaced = set (set room 0 111) 1 107 in
     let one = length-set room 0 111 in
@@ -50,7 +42,7 @@ put_length room run long full =
     omega (arith, one, both, front, a, b, back, whole, long, full)
 
 -- the line of a run: `ok`, the run, and the line's end
-pub line_put : (room run word : List ℕ) (n : ℕ) → length room ≡ 27 → length run ≡ 24 → n ≤ 24 → take n run ≡ word
+pub line_put : (room run word : List ℕ) (n : ℕ) → length room ≡ 96 → length run ≡ 24 → n ≤ 24 → take n run ≡ word
     → take (n + 2 + 1) (set (put_mid 2 (26 - 2) (set (set room 0 111) 1 107) run) (n + 2) 10) ≡ 111 ∷ 107 ∷ (word ++ 10 ∷ [])
 line_put room run word n long full few is =
     let whole = put_length room run long full in

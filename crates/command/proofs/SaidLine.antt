@@ -6,16 +6,17 @@ use Rattle.std.proofs.lemmas.Slice.{take-put_mid}
 use borrow.Rule.Slice.PartMut.{put_mid}
 use Rattle.command.proofs.RunWord.{put_next}
 
+-- `ok` and a byte
+pub ok_put : (room : List ℕ) (b : ℕ) → length room ≡ 96 → take 3 (set (set (set room 0 111) 1 107) 2 b) ≡ 111 ∷ 107 ∷ b ∷ []
+ok_put room b long =
+    let one = length-set room 0 111 in
+    let two = length-set (set room 0 111) 1 107 in
+    take_more_set (set (set room 0 111) 1 107) 2 b (omega (arith, one, two, long))
+    ∙ ap (λ t. t ++ b ∷ []) (take_more_set (set room 0 111) 1 107 (omega (arith, one, long)) ∙ ap (λ t. t ++ 107 ∷ []) (take_more_set room 0 111 (omega (arith, long))))
+
 -- `ok` and a space
 abbrev started : List ℕ → List ℕ
 started room = set (set (set room 0 111) 1 107) 2 32
-
-start : (room : List ℕ) → length room ≡ 96 → take 3 (started room) ≡ 111 ∷ 107 ∷ 32 ∷ []
-start room long =
-    let one = length-set room 0 111 in
-    let two = length-set (set room 0 111) 1 107 in
-    take_more_set (set (set room 0 111) 1 107) 2 32 (omega (arith, one, two, long))
-    ∙ ap (λ t. t ++ 32 ∷ []) (take_more_set (set room 0 111) 1 107 (omega (arith, one, long)) ∙ ap (λ t. t ++ 107 ∷ []) (take_more_set room 0 111 (omega (arith, long))))
 
 put_length : (room text : List ℕ) (n : ℕ) → length room ≡ 96 → n ≡ length text → n ≤ 92 → length (put_mid 3 (n + 3 - 3) (started room) text) ≡ 96
 put_length room text n long is few =
@@ -38,4 +39,4 @@ said_put room put text n long is few same =
     let two = length-set (set room 0 111) 1 107 in
     let three = length-set (set (set room 0 111) 1 107) 2 32 in
     put_next (put_mid 3 (n + 3 - 3) (started room) put) (n + 3) (n + 3 + 1) 10 refl (omega (arith, whole, few))
-    ∙ ap (λ t. t ++ 10 ∷ []) (take-put_mid 3 (n + 3 - 3) (started room) put (n + 3) (omega (arith, is)) (omega (arith, one, two, three, long)) ∙ ap (λ t. t ++ put) (start room long) ∙ ap (λ t. 111 ∷ 107 ∷ 32 ∷ t) same)
+    ∙ ap (λ t. t ++ 10 ∷ []) (take-put_mid 3 (n + 3 - 3) (started room) put (n + 3) (omega (arith, is)) (omega (arith, one, two, three, long)) ∙ ap (λ t. t ++ put) (ok_put room 32 long) ∙ ap (λ t. 111 ∷ 107 ∷ 32 ∷ t) same)

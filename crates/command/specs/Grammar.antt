@@ -171,7 +171,22 @@ status_of words = alone_of words >>= λ name. Ok (Status name)
 abbrev pub table_of : List (List ℕ) → Result Command Refusal
 table_of words = alone_of words >>= λ name. Ok (Table name)
 
--- the command that some words say; an unknown one is BadTable
+-- the command about a volume that a verb and the words after it say; an unknown one is BadTable
+abbrev pub volume_command_of : List ℕ → List (List ℕ) → Result Command Refusal
+volume_command_of verb words =
+    if bytes_eq verb (codes "start") then start_of words else
+    if bytes_eq verb (codes "step") then step_of words else
+    if bytes_eq verb (codes "settle") then settle_of words else
+    if bytes_eq verb (codes "merge") then merge_of words else
+    if bytes_eq verb (codes "resume") then resume_of words else
+    if bytes_eq verb (codes "finish") then finish_of words else
+    if bytes_eq verb (codes "checkpoint") then checkpoint_of words else
+    if bytes_eq verb (codes "stop") then stop_of words else
+    if bytes_eq verb (codes "status") then status_of words else
+    if bytes_eq verb (codes "table") then table_of words else
+    Err BadTable
+
+-- the command that some words say
 abbrev pub command_of : List (List ℕ) → Result Command Refusal
 command_of [] = Err BadTable
 command_of (verb ∷ words) =
@@ -185,14 +200,4 @@ command_of (verb ∷ words) =
     if bytes_eq verb (codes "read") then read_of words else
     if bytes_eq verb (codes "write") then write_of words else
     if bytes_eq verb (codes "flush") then flush_of words else
-    if bytes_eq verb (codes "start") then start_of words else
-    if bytes_eq verb (codes "step") then step_of words else
-    if bytes_eq verb (codes "settle") then settle_of words else
-    if bytes_eq verb (codes "merge") then merge_of words else
-    if bytes_eq verb (codes "resume") then resume_of words else
-    if bytes_eq verb (codes "finish") then finish_of words else
-    if bytes_eq verb (codes "checkpoint") then checkpoint_of words else
-    if bytes_eq verb (codes "stop") then stop_of words else
-    if bytes_eq verb (codes "status") then status_of words else
-    if bytes_eq verb (codes "table") then table_of words else
-    Err BadTable
+    volume_command_of verb words

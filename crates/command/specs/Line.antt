@@ -20,6 +20,10 @@ is_silent line = (slice_index line 0 == 35) || list_all (λ byte. byte == 32) li
 abbrev pub is_printable : ℕ → Bool
 is_printable byte = is_in_range 32 126 byte
 
+-- what a line says whose words say this command
+abbrev pub line_saying : Result Command Refusal → Result (Option Command) Refusal
+line_saying rule = rule >>= λ command. Ok (Some command)
+
 -- the command that a line of at most max bytes says, or that it says nothing
 unfoldable pub said_of : ℕ → List ℕ → Result (Option Command) Refusal
 said_of max line =

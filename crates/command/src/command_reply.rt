@@ -1,11 +1,11 @@
 // What a command answers, and the line that prints it.
-ghost use Rattle.std.specs.Prelude.{◌≡◌, ◌≤◌, ◌++◌, OnOk, codes, decimal, length, take};
+ghost use Rattle.std.specs.Prelude.{◌≡◌, ◌≤◌, ◌<◌, ◌++◌, OnOk, codes, decimal, length, take};
 ghost use Rattle.std.specs.Io.KnownBytes.{Appends};
 ghost use Rattle.command.specs.Refusals.{refusal_text};
 ghost use Rattle.command.specs.Texts.{text_of};
 
 use crate::ended::Ended;
-use crate::runs::write_data_line;
+use crate::runs::{LINE_ROOM, is_one_run, put_line, write_data_line};
 use crate::seated::{Seated, write_gate};
 use itoa::Buffer;
 use sector::{Buf, Refusal};
@@ -48,11 +48,8 @@ pub(crate) fn write_refusal<W: Write>(writer: &mut W, refusal: Refusal) -> io::R
     writer.write_all(refusal.name().as_bytes())
 }
 
-/// Room for most lines that say a text.
-const SAID_ROOM: usize = 96;
-
 /// Puts the line of a text that was asked for at the front of a room, and tells how many bytes that are.
-fn put_said(room: &mut [u8; SAID_ROOM], text: &[u8]) -> usize
+fn put_said(room: &mut [u8; LINE_ROOM], text: &[u8]) -> usize
     requires { length text.now ≤ 92 }
     ensures within { result ≤ 96 }
     ensures line { take result room.new ≡ codes "ok " ++ text.now ++ codes "\n" }
@@ -66,19 +63,14 @@ fn put_said(room: &mut [u8; SAID_ROOM], text: &[u8]) -> usize
     end + 1
 }
 
-/// Prints the line of a text that was asked for; a short one in one write. The one error is the writer's own.
+/// Prints the line of a text that was asked for. The one error is the writer's own.
 #[tactic(auto, using(words::proofs::Written::appends_more))]
 fn write_said<W: Write>(writer: &mut W, text: &[u8]) -> io::Result<()>
     ensures { OnOk result (Appends (W.contents writer.old) (W.contents writer.new) (codes "ok " ++ text.now ++ codes "\n")) }
 {
-    if text.len() > SAID_ROOM - 4 {
-        writer.write_all(b"ok ")?;
-        writer.write_all(text)?;
-        return writer.write_all(b"\n");
-    }
-    let mut room = [b' '; SAID_ROOM];
-    let end = put_said(&mut room, text);
-    writer.write_all(&room[..end])
+    writer.write_all(b"ok ")?;
+    writer.write_all(text)?;
+    writer.write_all(b"\n")
 }
 
 /// Prints the line of a number that was asked for. The one error is the writer's own.
@@ -102,10 +94,36 @@ fn write_refused<W: Write>(writer: &mut W, refusal: Refusal) -> io::Result<()>
 }
 
 impl CommandReply {
-    /// Prints the line of a reply, its end included, straight into the writer. The one error is the writer's
-    /// own; then part of the line may stand in it.
+    /// Puts the line of a text or of one run of data at the front of a room where it has room there, and tells how many bytes that
+    /// are; 0 for any other, which is to be printed by its parts.
+    #[inline(always)]
+    fn put_short(&self, room: &mut [u8; LINE_ROOM]) -> usize
+        ensures within { result ≤ 96 }
+        ensures line { 0 < result → take result room.new ≡ text_of self.now }
+    {
+        match self {
+            CommandReply::Data(bytes) => {
+                let bytes = bytes.as_slice();
+                if is_one_run(bytes) {
+                    put_line(room, bytes.len(), bytes[0])
+                } else {
+                    0
+                }
+            }
+            CommandReply::Said(text) => {
+                if text.len() <= LINE_ROOM - 4 {
+                    put_said(room, text.as_slice())
+                } else {
+                    0
+                }
+            }
+            _ => 0,
+        }
+    }
+
+    /// Prints the line of a reply by its parts.
     #[tactic(auto, using(words::proofs::Written::appends_more))]
-    pub fn write_to<W: Write>(&self, writer: &mut W) -> io::Result<()>
+    fn write_parts<W: Write>(&self, writer: &mut W) -> io::Result<()>
         ensures { OnOk result (Appends (W.contents writer.old) (W.contents writer.new) (text_of self.now)) }
     {
         match self {
@@ -119,5 +137,21 @@ impl CommandReply {
             CommandReply::Gate(opened) => write_gate(writer, *opened),
             CommandReply::Refused(refusal) => write_refused(writer, *refusal),
         }
+    }
+
+    /// Prints the line of a reply, its end included, straight into the writer; a short one in one write. The one error is the
+    /// writer's own; then part of the line may stand in it.
+    pub fn write_to<W: Write>(&self, writer: &mut W) -> io::Result<()>
+        ensures { OnOk result (Appends (W.contents writer.old) (W.contents writer.new) (text_of self.now)) }
+    {
+        if let CommandReply::Done = self {
+            return writer.write_all(b"ok\n");
+        }
+        let mut room = [b' '; LINE_ROOM];
+        let end = self.put_short(&mut room);
+        if end > 0 {
+            return writer.write_all(&room[..end]);
+        }
+        self.write_parts(writer)
     }
 }

@@ -3,7 +3,7 @@ ghost use Rattle.std.specs.Prelude.{◌≡◌, ◌≤◌, [], ◌∷◌, length}
 ghost use Rattle.words.specs.Given.{Gives};
 ghost use Rattle.words.specs.Texts.{texts};
 ghost use Rattle.words.specs.Words.{words_of};
-ghost use Rattle.command.specs.Grammar.{place_of, amount_of, span_of, patch_of, alone_of, disk_of, is_merge, made_line_of, create_of, remove_of, load_of, save_of, message_of, tick_of, read_of, write_of, flush_of, start_read_of, start_write_of, start_of, step_of, settle_of, merge_of, resume_of, finish_of, checkpoint_of, stop_of, status_of, table_of, command_of};
+ghost use Rattle.command.specs.Grammar.{place_of, amount_of, span_of, patch_of, alone_of, disk_of, is_merge, made_line_of, create_of, remove_of, load_of, save_of, message_of, tick_of, read_of, write_of, flush_of, start_read_of, start_write_of, start_of, step_of, settle_of, merge_of, resume_of, finish_of, checkpoint_of, stop_of, status_of, table_of, volume_command_of, command_of};
 
 use super::data_words::{payload, sectors};
 use super::events::{EventWords, event_in};
@@ -71,7 +71,7 @@ fn place(name: &[u8], first: &[u8]) -> Result<(Name, u32), Refusal>
     Ok((name, first))
 }
 
-fn amount(text: &[u8]) -> Result<u32, Refusal>
+pub fn amount(text: &[u8]) -> Result<u32, Refusal>
     ensures { result ≡ amount_of (words_of text.now) }
 {
     let Some((count, rest)) = next_word(text) else {
@@ -265,34 +265,18 @@ fn tick(text: &[u8]) -> Result<Command, Refusal>
     Ok(Command::Tick { seconds })
 }
 
-pub fn read(text: &[u8]) -> Result<Command, Refusal>
+fn read(text: &[u8]) -> Result<Command, Refusal>
     ensures { result ≡ read_of (words_of text.now) }
 {
-    let Some((name, rest)) = next_word(text) else {
-        return Err(Refusal::BadTable);
-    };
-    let Some((first, rest)) = next_word(rest) else {
-        return Err(Refusal::BadTable);
-    };
-    let name = Name::new(name)?;
-    let first = numeral(first)?;
-    let count = amount(rest)?;
+    let (name, first, count) = span(text)?;
     Ok(Command::Read { name, first, count })
 }
 
-pub fn write(alloc: Global, text: &[u8]) -> Result<Command, Refusal>
+fn write(alloc: Global, text: &[u8]) -> Result<Command, Refusal>
     requires { length text.now ≤ 65536 }
     ensures { Gives result (write_of (words_of text.now)) }
 {
-    let Some((name, rest)) = next_word(text) else {
-        return Err(Refusal::BadTable);
-    };
-    let Some((first, rest)) = next_word(rest) else {
-        return Err(Refusal::BadTable);
-    };
-    let name = Name::new(name)?;
-    let first = numeral(first)?;
-    let bytes = payload(alloc, rest)?;
+    let (name, first, bytes) = patch(alloc, text)?;
     Ok(Command::Write { name, first, bytes })
 }
 
@@ -400,16 +384,10 @@ fn stop(text: &[u8]) -> Result<Command, Refusal>
     Ok(Command::StopLosing { volume })
 }
 
-pub fn status(text: &[u8]) -> Result<Command, Refusal>
+fn status(text: &[u8]) -> Result<Command, Refusal>
     ensures { result ≡ status_of (words_of text.now) }
 {
-    let Some((name, rest)) = next_word(text) else {
-        return Err(Refusal::BadTable);
-    };
-    if next_word(rest).is_some() {
-        return Err(Refusal::BadTable);
-    }
-    let name = Name::new(name)?;
+    let name = alone(text)?;
     Ok(Command::Status { name })
 }
 
@@ -418,6 +396,36 @@ fn table(text: &[u8]) -> Result<Command, Refusal>
 {
     let name = alone(text)?;
     Ok(Command::Table { name })
+}
+
+// A command about a volume by its verb, and by the words of the text after it.
+fn volume_command_by(alloc: Global, verb: &[u8], text: &[u8]) -> Result<Command, Refusal>
+    requires { length text.now ≤ 65536 }
+    ensures { Gives result (volume_command_of verb.now (words_of text.now)) }
+{
+    if verb == b"start".as_slice() {
+        start(alloc, text)
+    } else if verb == b"step".as_slice() {
+        step(text)
+    } else if verb == b"settle".as_slice() {
+        settle(text)
+    } else if verb == b"merge".as_slice() {
+        merge(text)
+    } else if verb == b"resume".as_slice() {
+        resume(text)
+    } else if verb == b"finish".as_slice() {
+        finish(text)
+    } else if verb == b"checkpoint".as_slice() {
+        checkpoint(text)
+    } else if verb == b"stop".as_slice() {
+        stop(text)
+    } else if verb == b"status".as_slice() {
+        status(text)
+    } else if verb == b"table".as_slice() {
+        table(text)
+    } else {
+        Err(Refusal::BadTable)
+    }
 }
 
 // A command by its verb, and by the words of the text after it.
@@ -445,28 +453,8 @@ fn command_by(alloc: Global, verb: &[u8], text: &[u8]) -> Result<Command, Refusa
         write(alloc, text)
     } else if verb == b"flush".as_slice() {
         flush(text)
-    } else if verb == b"start".as_slice() {
-        start(alloc, text)
-    } else if verb == b"step".as_slice() {
-        step(text)
-    } else if verb == b"settle".as_slice() {
-        settle(text)
-    } else if verb == b"merge".as_slice() {
-        merge(text)
-    } else if verb == b"resume".as_slice() {
-        resume(text)
-    } else if verb == b"finish".as_slice() {
-        finish(text)
-    } else if verb == b"checkpoint".as_slice() {
-        checkpoint(text)
-    } else if verb == b"stop".as_slice() {
-        stop(text)
-    } else if verb == b"status".as_slice() {
-        status(text)
-    } else if verb == b"table".as_slice() {
-        table(text)
     } else {
-        Err(Refusal::BadTable)
+        volume_command_by(alloc, verb, text)
     }
 }
 

@@ -1,16 +1,17 @@
 // What a whole line says.
-ghost use Rattle.std.specs.Prelude.{◌≡◌, ◌≤◌, ◌==◌, if◌then◌else◌, length, Err};
+ghost use Rattle.std.specs.Prelude.{◌≡◌, ◌≤◌, ◌==◌, ◌++◌, if◌then◌else◌, codes, length, Err, IfSome};
 ghost use Rattle.std.specs.List.{list_all};
 ghost use Rattle.sector.specs.declared.refusal.Refusal.TheVariants.{BadTable};
 ghost use Rattle.words.specs.Given.{Gives};
 ghost use Rattle.words.specs.Words.{words_of};
-ghost use Rattle.command.specs.Grammar.{command_of};
-ghost use Rattle.command.specs.Line.{is_silent, is_printable, said_of};
+ghost use Rattle.command.specs.Grammar.{command_of, read_of, status_of, write_of};
+ghost use Rattle.command.specs.Line.{is_silent, is_printable, line_saying, said_of};
 
-use super::grammar::{Command, command_in, read, status, write};
+use super::data_words::payload;
+use super::grammar::{Command, amount, command_in};
 use sector::Refusal;
 use std::alloc::Global;
-use words::next_word;
+use words::{Name, next_word, numeral};
 
 /// The most bytes that a line may have, its end not counted.
 pub const LINE_LIMIT: usize = 65_536;
@@ -37,34 +38,95 @@ fn is_text(line: &[u8]) -> bool
     is_all
 }
 
-// The command that a line says which holds more than spaces, by looking at each byte first.
-fn printable_command(alloc: Global, line: &[u8]) -> Result<Command, Refusal>
+// What a line says that holds more than spaces, by looking at each byte first.
+fn any_said(alloc: Global, line: &[u8]) -> Result<Option<Command>, Refusal>
     requires { length line.now ≤ 65536 }
-    ensures { Gives result (if list_all is_printable line.now then command_of (words_of line.now) else Err BadTable) }
+    ensures { Gives result (if list_all is_printable line.now then line_saying (command_of (words_of line.now)) else Err BadTable) }
 {
-    if is_text(line) {
-        command_in(alloc, line)
-    } else {
-        Err(Refusal::BadTable)
+    if !is_text(line) {
+        return Err(Refusal::BadTable);
+    }
+    let command = command_in(alloc, line)?;
+    Ok(Some(command))
+}
+
+// What stands after a verb and a space where a line begins with them, for the verbs that most lines have. What follows these is not
+// looked at twice: words of a right form are printable, and those of a wrong form are refused as bytes are that are not.
+#[tactic(auto, using(crate::proofs::Verbs::write_front))]
+fn after_write(line: &[u8]) -> Option<&[u8]>
+    ensures { IfSome result (λ rest. line.now ≡ codes "write " ++ rest.now) }
+{
+    match line {
+        [b'w', b'r', b'i', b't', b'e', b' ', rest @ ..] => Some(rest),
+        _ => None,
     }
 }
 
-// The same, where the verbs that most lines have are told by their bytes, and what follows them is not looked at twice: words of a
-// right form are printable, and those of a wrong form are refused as bytes are that are not.
-#[tactic(auto, using(crate::proofs::Printed::line_writes, crate::proofs::Printed::line_reads, crate::proofs::Printed::line_tells))]
-fn command_said(alloc: Global, line: &[u8]) -> Result<Command, Refusal>
-    requires { length line.now ≤ 65536 }
-    ensures { Gives result (if list_all is_printable line.now then command_of (words_of line.now) else Err BadTable) }
+#[tactic(auto, using(crate::proofs::Verbs::read_front))]
+fn after_read(line: &[u8]) -> Option<&[u8]>
+    ensures { IfSome result (λ rest. line.now ≡ codes "read " ++ rest.now) }
 {
-    let Some((verb, rest)) = next_word(line) else {
-        return printable_command(alloc, line);
-    };
-    match verb {
-        b"write" => write(alloc, rest),
-        b"read" => read(rest),
-        b"status" => status(rest),
-        _ => printable_command(alloc, line),
+    match line {
+        [b'r', b'e', b'a', b'd', b' ', rest @ ..] => Some(rest),
+        _ => None,
     }
+}
+
+#[tactic(auto, using(crate::proofs::Verbs::status_front))]
+fn after_status(line: &[u8]) -> Option<&[u8]>
+    ensures { IfSome result (λ rest. line.now ≡ codes "status " ++ rest.now) }
+{
+    match line {
+        [b's', b't', b'a', b't', b'u', b's', b' ', rest @ ..] => Some(rest),
+        _ => None,
+    }
+}
+
+// What a line says, by the words after its verb, for the verbs that most lines have. These three take their words as `grammar`'s
+// `span`, `patch` and `alone` do, written out: so a name or a number is put where the answer has it, and is not copied from call to
+// call.
+fn read_said(text: &[u8]) -> Result<Option<Command>, Refusal>
+    ensures { result ≡ line_saying (read_of (words_of text.now)) }
+{
+    let Some((name, rest)) = next_word(text) else {
+        return Err(Refusal::BadTable);
+    };
+    let Some((first, rest)) = next_word(rest) else {
+        return Err(Refusal::BadTable);
+    };
+    let name = Name::new(name)?;
+    let first = numeral(first)?;
+    let count = amount(rest)?;
+    Ok(Some(Command::Read { name, first, count }))
+}
+
+fn write_said(alloc: Global, text: &[u8]) -> Result<Option<Command>, Refusal>
+    requires { length text.now ≤ 65536 }
+    ensures { Gives result (line_saying (write_of (words_of text.now))) }
+{
+    let Some((name, rest)) = next_word(text) else {
+        return Err(Refusal::BadTable);
+    };
+    let Some((first, rest)) = next_word(rest) else {
+        return Err(Refusal::BadTable);
+    };
+    let name = Name::new(name)?;
+    let first = numeral(first)?;
+    let bytes = payload(alloc, rest)?;
+    Ok(Some(Command::Write { name, first, bytes }))
+}
+
+fn status_said(text: &[u8]) -> Result<Option<Command>, Refusal>
+    ensures { result ≡ line_saying (status_of (words_of text.now)) }
+{
+    let Some((name, rest)) = next_word(text) else {
+        return Err(Refusal::BadTable);
+    };
+    if next_word(rest).is_some() {
+        return Err(Refusal::BadTable);
+    }
+    let name = Name::new(name)?;
+    Ok(Some(Command::Status { name }))
 }
 
 /// The command that a line says, the line given without its end; `None` for a line that prints nothing, which is
@@ -75,7 +137,7 @@ fn command_said(alloc: Global, line: &[u8]) -> Result<Command, Refusal>
 /// wrong form comes first (`BadTable`), then a table line's chunk that is not allowed (`BadChunk`), then a number
 /// of sectors outside 1 to 2048 (`OutOfRange`). `NoMemory` may stand in place of any of these; only the words of a
 /// table line and the data of a command take memory.
-#[tactic(auto, using(crate::proofs::Kept::said_long, crate::proofs::LineSaid::said_nothing, crate::proofs::LineSaid::said_command, crate::proofs::LineSaid::said_refused))]
+#[tactic(auto, using(crate::proofs::Kept::said_long, crate::proofs::LineSaid::said_nothing))]
 pub fn said(alloc: Global, line: &[u8], max: usize) -> Result<Option<Command>, Refusal>
     requires { max ≤ 65536 }
     ensures { Gives result (said_of max line.now) }
@@ -86,8 +148,14 @@ pub fn said(alloc: Global, line: &[u8], max: usize) -> Result<Option<Command>, R
     if says_nothing(line) {
         return Ok(None);
     }
-    match command_said(alloc, line) {
-        Ok(command) => Ok(Some(command)),
-        Err(refusal) => Err(refusal),
+    if let Some(rest) = after_write(line) {
+        return write_said(alloc, rest);
     }
+    if let Some(rest) = after_read(line) {
+        return read_said(rest);
+    }
+    if let Some(rest) = after_status(line) {
+        return status_said(rest);
+    }
+    any_said(alloc, line)
 }

@@ -11,10 +11,13 @@ use std::simd::prelude::*;
 use words::Text;
 
 /// So many bytes are compared at once.
-const WIDE: usize = 32;
+const WIDE: usize = 64;
 
 /// Room for the longest word of a run, the space before it counted: the greatest number has 20 digits.
 const RUN_ROOM: usize = 24;
+
+/// Room for most lines of an answer.
+pub const LINE_ROOM: usize = 96;
 
 /// The lower-case hexadecimal digit of a number below 16.
 fn hex_digit(d: u8) -> u8
@@ -50,15 +53,15 @@ fn write_run<W: Write>(writer: &mut W, count: usize, byte: u8) -> io::Result<()>
     writer.write_all(&room[..end])
 }
 
-/// Whether the 32 bytes from a place on are all this one.
+/// Whether the 64 bytes from a place on are all this one.
 fn is_even(bytes: &[u8], at: usize, byte: u8) -> bool
-    requires { at + 32 ≤ length bytes.now }
-    ensures { result ≡ true → take 32 (drop at bytes.now) ≡ replicate 32 byte }
+    requires { at + 64 ≤ length bytes.now }
+    ensures { result ≡ true → take 64 (drop at bytes.now) ≡ replicate 64 byte }
 {
-    u8x32::from_slice(&bytes[at..]) == u8x32::splat(byte)
+    u8x64::from_slice(&bytes[at..]) == u8x64::splat(byte)
 }
 
-/// A number of bytes at the front that are all this one, found 32 at a time.
+/// A number of bytes at the front that are all this one, found 64 at a time.
 #[tactic(auto, using(crate::proofs::RunLemmas::more_even))]
 fn even_len(bytes: &[u8], byte: u8) -> usize
     ensures within { result ≤ length bytes.now }
@@ -101,20 +104,17 @@ pub fn write_data<W: Write>(writer: &mut W, bytes: &[u8]) -> io::Result<()>
     Ok(())
 }
 
-/// Room for the line of one run: `ok`, the run, and the line's end.
-const LINE_ROOM: usize = 27;
-
 /// Whether some data is one run.
 #[tactic(auto, using(crate::proofs::RunLine::one_run))]
-fn is_one_run(bytes: &[u8]) -> bool
+pub fn is_one_run(bytes: &[u8]) -> bool
     ensures { result ≡ true → (0 < length bytes.now) × (data_words bytes.now ≡ run_word (length bytes.now, slice_index bytes.now 0)) }
 {
     !bytes.is_empty() && run_len(bytes) == bytes.len()
 }
 
 /// Puts the line of one run at the front of a room, and tells how many bytes that are.
-fn put_line(room: &mut [u8; LINE_ROOM], count: usize, byte: u8) -> usize
-    ensures within { result ≤ 27 }
+pub fn put_line(room: &mut [u8; LINE_ROOM], count: usize, byte: u8) -> usize
+    ensures within { result ≤ 96 }
     ensures line { take result room.new ≡ codes "ok" ++ run_word (count, byte) ++ codes "\n" }
 {
     let mut run = [b' '; RUN_ROOM];
@@ -126,23 +126,11 @@ fn put_line(room: &mut [u8; LINE_ROOM], count: usize, byte: u8) -> usize
     end + 1
 }
 
-/// Prints the line of one run, in one write.
-fn write_line<W: Write>(writer: &mut W, count: usize, byte: u8) -> io::Result<()>
-    ensures { OnOk result (Appends (W.contents writer.old) (W.contents writer.new) (codes "ok" ++ run_word (count, byte) ++ codes "\n")) }
-{
-    let mut room = [b' '; LINE_ROOM];
-    let end = put_line(&mut room, count, byte);
-    writer.write_all(&room[..end])
-}
-
 /// Prints the line of data that was asked for: `ok`, and longest runs. The one error is the writer's own.
-#[tactic(auto, using(words::proofs::Written::appends_more, crate::proofs::RunLine::line_same))]
+#[tactic(auto, using(words::proofs::Written::appends_more))]
 pub fn write_data_line<W: Write>(writer: &mut W, bytes: &[u8]) -> io::Result<()>
     ensures { OnOk result (Appends (W.contents writer.old) (W.contents writer.new) (codes "ok" ++ data_words bytes.now ++ codes "\n")) }
 {
-    if is_one_run(bytes) {
-        return write_line(writer, bytes.len(), bytes[0]);
-    }
     writer.write_all(b"ok")?;
     write_data(writer, bytes)?;
     writer.write_all(b"\n")

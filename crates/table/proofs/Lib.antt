@@ -1,3 +1,4 @@
+pub mod Digits
 pub mod Short
 pub mod Added
 pub mod Counted

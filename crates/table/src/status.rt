@@ -1,6 +1,6 @@
 // Status lines of origins, snapshots and merges, as the kernel's admin-guide page on snapshots has them. What the numbers of a
 // line are is the caller's; only want of memory keeps a line from being made.
-ghost use Rattle.std.specs.Prelude.{◌≡◌, ◌++◌, OnOk, IfOk, decimal};
+ghost use Rattle.std.specs.Prelude.{◌≡◌, ◌+◌, ◌≤◌, ◌++◌, drop, length, IfOk, decimal};
 ghost use Rattle.table.specs.Lines.{origin_text, snapshot_text, merge_text, stated_text, state_text};
 
 use itoa::Buffer;
@@ -24,35 +24,56 @@ pub enum StatusState {
     },
 }
 
-/// Room for the longest line, so that a line takes memory once.
+/// Room for the longest line: of numbers of 20 digits each.
 const LINE_ROOM: usize = 100;
 
-/// Adds a number in decimal digits.
-fn push_number(text: &mut Vec<u8>, number: u64) -> Result<(), AllocError>
-    ensures { OnOk result (text.new.items ≡ text.old.items ++ decimal number) }
+/// Puts some bytes before a place, and tells where they begin.
+#[inline(always)]
+fn put(room: &mut [u8; LINE_ROOM], end: usize, bytes: &[u8]) -> usize
+    requires room { end ≤ 100 }
+    requires space { length bytes.now ≤ end }
+    ensures start { result + length bytes.now ≡ end }
+    ensures written { drop result room.new ≡ bytes.now ++ drop end room.old }
 {
-    let mut buffer = Buffer::new();
-    text.extend_from_slice(buffer.format(number).as_bytes())
+    let start = end - bytes.len();
+    room[start..end].copy_from_slice(bytes);
+    start
 }
 
-/// Adds what a status line says of a snapshot, or of one that is being merged.
-fn push_state(text: &mut Vec<u8>, state: StatusState) -> Result<(), AllocError>
-    ensures { OnOk result (text.new.items ≡ text.old.items ++ state_text state) }
+/// Puts the digits of a number before a place, and tells where they begin.
+#[tactic(auto, using(crate::proofs::Digits::short_digits))]
+fn put_number(room: &mut [u8; LINE_ROOM], end: usize, number: u64) -> usize
+    requires room { end ≤ 100 }
+    requires space { 20 ≤ end }
+    ensures start { result + length (decimal number) ≡ end }
+    ensures written { drop result room.new ≡ decimal number ++ drop end room.old }
+    ensures short { length (decimal number) ≤ 20 }
+{
+    let mut buffer = Buffer::new();
+    put(room, end, buffer.format(number).as_bytes())
+}
+
+/// Puts what a status line says of a snapshot, or of one that is being merged, at the end of a room, and tells where it begins.
+#[inline(always)]
+fn put_state(room: &mut [u8; LINE_ROOM], state: StatusState) -> usize
+    ensures within { 38 ≤ result }
+    ensures few { result ≤ 100 }
+    ensures written { drop result room.new ≡ state_text state }
 {
     match state {
-        StatusState::Invalid => text.extend_from_slice(b"Invalid"),
-        StatusState::Failed => text.extend_from_slice(b"Merge failed"),
-        StatusState::Overflow => text.extend_from_slice(b"Overflow"),
+        StatusState::Invalid => put(room, LINE_ROOM, b"Invalid"),
+        StatusState::Failed => put(room, LINE_ROOM, b"Merge failed"),
+        StatusState::Overflow => put(room, LINE_ROOM, b"Overflow"),
         StatusState::Used {
             allocated,
             total,
             metadata,
         } => {
-            push_number(text, allocated)?;
-            text.extend_from_slice(b"/")?;
-            push_number(text, total)?;
-            text.extend_from_slice(b" ")?;
-            push_number(text, metadata)
+            let end = put_number(room, LINE_ROOM, metadata);
+            let end = put(room, end, b" ");
+            let end = put_number(room, end, total);
+            let end = put(room, end, b"/");
+            put_number(room, end, allocated)
         }
     }
 }
@@ -61,28 +82,31 @@ fn push_state(text: &mut Vec<u8>, state: StatusState) -> Result<(), AllocError>
 pub fn origin_line(alloc: Global, sectors: u64) -> Result<Text, AllocError>
     ensures { IfOk result (λ text. text ≡ origin_text sectors) }
 {
-    let mut text = Vec::with_capacity(alloc, LINE_ROOM)?;
-    text.extend_from_slice(b"0 ")?;
-    push_number(&mut text, sectors)?;
-    text.extend_from_slice(b" snapshot-origin")?;
-    Ok(Text::from_vec(text))
+    let mut room = [0u8; LINE_ROOM];
+    let end = put(&mut room, LINE_ROOM, b" snapshot-origin");
+    let end = put_number(&mut room, end, sectors);
+    let start = put(&mut room, end, b"0 ");
+    Text::from_slice(alloc, &room[start..])
 }
 
-/// The line of a device of so many sectors whose target, with a space on either side, has a state.
+/// The line of a device of so many sectors whose target, with a space on either side, has a state. It is made from its end to its
+/// beginning, as numbers are.
+#[inline(always)]
 fn stated_line(
     alloc: Global,
     sectors: u64,
     target: &[u8],
     state: StatusState,
 ) -> Result<Text, AllocError>
+    requires { length target.now ≤ 16 }
     ensures { IfOk result (λ text. text ≡ stated_text sectors target.now state) }
 {
-    let mut text = Vec::with_capacity(alloc, LINE_ROOM)?;
-    text.extend_from_slice(b"0 ")?;
-    push_number(&mut text, sectors)?;
-    text.extend_from_slice(target)?;
-    push_state(&mut text, state)?;
-    Ok(Text::from_vec(text))
+    let mut room = [0u8; LINE_ROOM];
+    let end = put_state(&mut room, state);
+    let end = put(&mut room, end, target);
+    let end = put_number(&mut room, end, sectors);
+    let start = put(&mut room, end, b"0 ");
+    Text::from_slice(alloc, &room[start..])
 }
 
 /// The status line of a snapshot of so many sectors, without a line end.

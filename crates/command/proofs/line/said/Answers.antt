@@ -1,9 +1,24 @@
 use Rattle.std.proofs.Common.{◌∙◌, sym}
-use Rattle.command.proofs.LineSaid.{said_command, said_refused}
+use Rattle.words.specs.Words.{words_of}
+use Rattle.command.specs.Grammar.{read_of, status_of, write_of}
+use Rattle.command.proofs.LineSaid.{gives_any, gives_words, same_words}
+use Rattle.command.proofs.Printed.{line_reads, line_tells, line_writes}
 use Rattle.command.proofs.line.said.Goals as goal
 
-pub returns-in-Ok : goal.returns-in-Ok
-returns-in-Ok c = said_command c.args.max c.args.line.now c.in-Ok.command c.if-line-max.false (sym c.says_nothing.ensures ∙ c.if-says_nothing.false) c.in-Ok.ensures
+pub returns-in-Some : goal.returns-in-Some
+returns-in-Some c =
+    gives_words c.write_said.result c.args.max c.args.line.now (write_of (words_of c.in-Some.rest.now)) c.if-line-max.false (sym c.says_nothing.ensures ∙ c.if-says_nothing.false)
+    (line_writes c.args.line.now c.in-Some.rest.now c.in-Some.ensures) c.write_said.ensures
 
-pub returns-in-Err : goal.returns-in-Err
-returns-in-Err c = λ other. said_refused c.args.max c.args.line.now c.in-Err.refusal c.if-line-max.false (sym c.says_nothing.ensures ∙ c.if-says_nothing.false) (c.in-Err.ensures other)
+pub returns-in-Some-after_read : goal.returns-in-Some-after_read
+returns-in-Some-after_read c =
+    same_words c.read_said.result c.args.max c.args.line.now (read_of (words_of c.in-Some-after_read.rest.now)) c.if-line-max.false (sym c.says_nothing.ensures ∙ c.if-says_nothing.false)
+    (line_reads c.args.line.now c.in-Some-after_read.rest.now c.in-Some-after_read.ensures) c.read_said.ensures
+
+pub returns-in-Some-after_status : goal.returns-in-Some-after_status
+returns-in-Some-after_status c =
+    same_words c.status_said.result c.args.max c.args.line.now (status_of (words_of c.in-Some-after_status.rest.now)) c.if-line-max.false (sym c.says_nothing.ensures ∙ c.if-says_nothing.false)
+    (line_tells c.args.line.now c.in-Some-after_status.rest.now c.in-Some-after_status.ensures) c.status_said.ensures
+
+pub returns : goal.returns
+returns c = gives_any c.any_said.result c.args.max c.args.line.now c.if-line-max.false (sym c.says_nothing.ensures ∙ c.if-says_nothing.false) c.any_said.ensures

@@ -6,6 +6,6 @@ use Rattle.command.proofs.runs.is_even.Goals as goal
 
 pub returns : goal.returns
 returns c = λ same.
-    let long = length-chunk c.args.at 32 c.args.bytes.now c.requires in
-    even_lanes (take 32 (drop c.args.at c.args.bytes.now)) c.args.byte long
-    (sym (bitmask_splat w8 (λ x y. not (eqb x y)) (take 32 (drop c.args.at c.args.bytes.now)) 32 c.args.byte long (omega arith)) ∙ is_zero _ same)
+    let long = length-chunk c.args.at 64 c.args.bytes.now c.requires in
+    even_lanes (take 64 (drop c.args.at c.args.bytes.now)) c.args.byte long
+    (sym (bitmask_splat w8 (λ x y. not (eqb x y)) (take 64 (drop c.args.at c.args.bytes.now)) 64 c.args.byte long (omega arith)) ∙ is_zero _ same)
