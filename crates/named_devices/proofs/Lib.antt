@@ -12,3 +12,4 @@ pub mod Orders
 pub mod Folds
 pub mod Starts
 pub mod Denied
+pub mod Fills

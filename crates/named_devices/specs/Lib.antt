@@ -1,6 +1,7 @@
 pub mod Devices
 pub mod Busy
 pub mod Ruled
+pub mod Asked
 pub mod Flights
 pub mod Merging
 pub mod Stopping

@@ -1,15 +1,17 @@
 // Snapshots: taken over an origin, and taken away again.
-ghost use Rattle.std.specs.Prelude.{◌≡◌, ◌<◌, length, nat_le, true, false, slice_get, None, IfOk};
+ghost use Rattle.std.specs.Prelude.{◌≡◌, ◌≢◌, ◌<◌, length, nat_le, true, false, slice_get, None, Some, IfErr, IfOk};
+ghost use Rattle.sector.specs.declared.refusal.Refusal.TheVariants.{JournalFull};
 ghost use Rattle.command_rules.specs.Changes.{Enters, Serves};
 ghost use Rattle.command_rules.specs.Disks.{device_count};
 ghost use Rattle.command_rules.specs.Naming.{AreNamed};
-ghost use Rattle.command_rules.specs.Places.{IsPlaceIn, place_of};
+ghost use Rattle.command_rules.specs.Places.{IsPlaceIn, place_of, volume_at};
 ghost use Rattle.command_rules.specs.Snapshots.{left_by, named_in, over, snapshot_by, snapshot_made};
 ghost use Rattle.command_rules.specs.Sound.{is_sound};
 ghost use Rattle.command_rules.specs.declared.place.Place.TheVariants.{In};
-ghost use Rattle.command_rules.specs.declared.place.Role.TheVariants.{Snapshot};
+ghost use Rattle.command_rules.specs.declared.place.Role.TheVariants.{Snapshot, Under};
 ghost use Rattle.named_devices.specs.Busy.{IsBusyRefused};
 ghost use Rattle.named_volume.specs.Tables.{table_of};
+ghost use Rattle.named_devices.specs.Asked.{has_asked_much_for, has_asked_much_in};
 ghost use Rattle.named_devices.specs.Devices.{named_at};
 ghost use Rattle.named_devices.specs.Meeting.{IsMetBy};
 ghost use Rattle.named_devices.specs.Ruled.{is_sound_for};
@@ -27,6 +29,8 @@ use words::Name;
 fn volume_over(held: &Devices, name: &Name) -> Result<usize, Refusal>
     ensures volume { result ≡ over (place_of name.now (table_of held.now)) }
     ensures within { IfOk result (λ v. v < length held.now.volumes.items) }
+    ensures place { IfOk result (λ v. place_of name.now (table_of held.now) ≡ Some (In v (Under 0))) }
+    ensures room { IfErr result (λ e. e ≢ JournalFull) }
 {
     match find(held, name) {
         Some(Place::In(v, Role::Under(0))) => Ok(v),
@@ -50,6 +54,7 @@ fn meet(
     ensures busy { IsBusyRefused result (table_of held.old) (table_of held.new) (named_at v i (table_of held.old)) }
     ensures made { IsMetBy name chunk overflow result (table_of held.old) (table_of held.new) (named_at v i (table_of held.old)) }
     ensures named { place_of name (table_of held.old) ≡ None → nat_le 64 (device_count (table_of held.old)) ≡ false → AreNamed (table_of held.old) → AreNamed (table_of held.new) }
+    ensures full { IfErr result (λ e. e ≡ JournalFull → has_asked_much_in (volume_at v (table_of held.new)) ≡ true) }
 {
     let stack = held.stacks.remove(i);
     match held.volumes[v].attach(alloc, name, stack, chunk, overflow) {
@@ -78,6 +83,7 @@ pub fn make_snapshot(
     ensures busy { IsBusyRefused result (table_of held.old) (table_of held.new) (named_in sectors device.now store.now (table_of held.old)) }
     ensures made { IsMetBy name chunk overflow result (table_of held.old) (table_of held.new) (named_in sectors device.now store.now (table_of held.old)) }
     ensures named { place_of name (table_of held.old) ≡ None → nat_le 64 (device_count (table_of held.old)) ≡ false → AreNamed (table_of held.old) → AreNamed (table_of held.new) }
+    ensures full { IfErr result (λ e. e ≡ JournalFull → has_asked_much_for device.now (table_of held.old) (table_of held.new) ≡ true) }
 {
     let v = volume_over(held, device)?;
     let i = top(held, store)?;
@@ -91,6 +97,7 @@ pub fn detach(held: &mut Devices, v: usize, k: usize) -> Result<(), Refusal>
     requires { IsPlaceIn (In v (Snapshot k)) (table_of held.old) }
     ensures done { Enters result (table_of held.old) (table_of held.new) (left_by v k (table_of held.old)) }
     ensures sound { is_sound (table_of held.old) ≡ true → is_sound (table_of held.new) ≡ true }
+    ensures full { IfErr result (λ e. e ≡ JournalFull → has_asked_much_in (volume_at v (table_of held.new)) ≡ true) }
 {
     held.stacks.reserve(1).map_err(|_| Refusal::NoMemory)?;
     match held.volumes[v].detach(k) {

@@ -1,5 +1,6 @@
 // Making devices by table lines.
-ghost use Rattle.std.specs.Prelude.{◌≡◌, nat_le, true, false, None};
+ghost use Rattle.std.specs.Prelude.{◌≡◌, nat_le, true, false, None, IfErr};
+ghost use Rattle.sector.specs.declared.refusal.Refusal.TheVariants.{JournalFull};
 ghost use Rattle.table.specs.Lawful.{is_line, is_target};
 ghost use Rattle.command_rules.specs.Changes.{ServesIf};
 ghost use Rattle.command_rules.specs.Creating.{create, is_merge, made};
@@ -8,6 +9,7 @@ ghost use Rattle.command_rules.specs.Journal.{enters_journal};
 ghost use Rattle.command_rules.specs.Naming.{AreNamed};
 ghost use Rattle.command_rules.specs.Places.{place_of};
 ghost use Rattle.command_rules.specs.Sound.{drops_writes, is_sound};
+ghost use Rattle.named_devices.specs.Asked.{IsAskedMuch};
 ghost use Rattle.named_devices.specs.Busy.{IsBusyTarget};
 ghost use Rattle.named_volume.specs.Tables.{table_of};
 ghost use Rattle.named_devices.specs.Meeting.{IsCreated, IsMadeBy};
@@ -39,6 +41,7 @@ fn made(
     ensures busy { IsBusyTarget result (table_of held.old) (table_of held.new) sectors target }
     ensures made { IsMadeBy name sectors target result (table_of held.old) (table_of held.new) }
     ensures named { place_of name (table_of held.old) ≡ None → nat_le 64 (device_count (table_of held.old)) ≡ false → AreNamed (table_of held.old) → AreNamed (table_of held.new) }
+    ensures full { IfErr result (λ e. e ≡ JournalFull → IsAskedMuch (changed_under target) (table_of held.old) (table_of held.new)) }
 {
     match target {
         Target::Origin { device } => make_origin(alloc, held, name, sectors, &device),
@@ -89,6 +92,7 @@ pub fn create_device(
     ensures ordered { IsLookedAt (table_of held.old) (changed_under line.target) }
     ensures sound { is_sound (table_of held.old) ≡ true → drops_writes line.target ≡ false → is_sound (table_of held.new) ≡ true }
     ensures named { AreNamed (table_of held.old) → AreNamed (table_of held.new) }
+    ensures full { IfErr result (λ e. e ≡ JournalFull → IsAskedMuch (changed_under line.target) (table_of held.old) (table_of held.new)) }
 {
     look_under(held, &line.target);
     if is_merge(&line.target) {

@@ -1,8 +1,8 @@
 // Requests that one command starts and later ones end, and the events of a volume, one by one.
-ghost use Rattle.std.specs.Prelude.{◌≡◌, ◌<◌, ◌≤◌, ◌*◌, ◌&&◌, ℕ, List, length, is_ok, not, IfSome, IfNone, true, false, Some, Ok, Err, IfOk, IfErr, OnOk, OnErr, MatchResult};
+ghost use Rattle.std.specs.Prelude.{◌≡◌, ◌≢◌, ◌<◌, ◌≤◌, ◌*◌, ◌&&◌, ℕ, List, length, is_ok, not, IfSome, IfNone, true, false, Some, Ok, Err, IfOk, IfErr, OnOk, OnErr, MatchResult};
 ghost use Rattle.std.specs.Option.{option_copied};
 ghost use Rattle.plain.specs.declared.request.Op.TheVariants.{Read, Write};
-ghost use Rattle.sector.specs.declared.refusal.Refusal.TheVariants.{NoMemory};
+ghost use Rattle.sector.specs.declared.refusal.Refusal.TheVariants.{JournalFull, NoMemory};
 ghost use Rattle.command_rules.specs.Changes.{Changes, Does, refused};
 ghost use Rattle.command_rules.specs.Events.{event_asked, event_at, is_merge_event, none_due, numbered, origin_at, origin_by, rested, settle, snapshot_at, snapshot_named, step_event};
 ghost use Rattle.command_rules.specs.Naming.{AreNamed};
@@ -15,6 +15,7 @@ ghost use Rattle.command_rules.specs.declared.place.Role.TheVariants.{Merging, O
 ghost use Rattle.named_volume.specs.Flights.{IsSettledBy, IsStepped};
 ghost use Rattle.named_volume.specs.Names.{KeepsNames};
 ghost use Rattle.named_volume.specs.Tables.{table_of};
+ghost use Rattle.named_devices.specs.Asked.{has_asked_much_for, has_asked_much_in};
 ghost use Rattle.named_devices.specs.Devices.{Flies, KeepsOthers};
 ghost use Rattle.named_devices.specs.Flights.{IsDoneFor, IsNotDueIn, IsNotStartedAs, IsStartedAs, event_of, is_about_merging, number_about};
 ghost use Rattle.named_devices.specs.Merging.{settled_at};
@@ -52,6 +53,7 @@ fn start_at(
     ensures flies { OnOk result (IsInVolume (λ was now. now.quiet ≡ false) v (table_of held.old) (table_of held.new) (volume_at v (table_of held.old))) }
     ensures one { IsInVolume KeepsNames v (table_of held.old) (table_of held.new) (volume_at v (table_of held.old)) }
     ensures named { AreNamed (table_of held.old) → AreNamed (table_of held.new) }
+    ensures full { IfErr result (λ e. e ≡ JournalFull → has_asked_much_in (volume_at v (table_of held.new)) ≡ true) }
 {
     held.volumes[v].start(alloc, role, first, count, op)
 }
@@ -75,6 +77,7 @@ pub fn start_read(
     ensures flies { OnOk result (Flies name.now (table_of held.old) (table_of held.new)) }
     ensures one { KeepsOthers name.now (table_of held.old) (table_of held.new) }
     ensures named { AreNamed (table_of held.old) → AreNamed (table_of held.new) }
+    ensures full { IfErr result (λ e. e ≡ JournalFull → has_asked_much_for name.now (table_of held.old) (table_of held.new) ≡ true) }
 {
     let count = some_sectors(count)?;
     match find_device(held, name)? {
@@ -100,6 +103,7 @@ pub fn start_write(
     ensures flies { OnOk result (Flies name.now (table_of held.old) (table_of held.new)) }
     ensures one { KeepsOthers name.now (table_of held.old) (table_of held.new) }
     ensures named { AreNamed (table_of held.old) → AreNamed (table_of held.new) }
+    ensures full { IfErr result (λ e. e ≡ JournalFull → has_asked_much_for name.now (table_of held.old) (table_of held.new) ≡ true) }
 {
     let count = whole_sectors(bytes.as_slice())?;
     match find_device(held, name)? {
@@ -112,6 +116,7 @@ pub fn start_write(
 pub fn origin_at(place: Place) -> Result<usize, Refusal>
     ensures value { result ≡ origin_at place }
     ensures place { IfOk result (λ v. place ≡ In v Origin) }
+    ensures room { IfErr result (λ e. e ≢ JournalFull) }
 {
     match place {
         Place::In(v, Role::Origin) => Ok(v),

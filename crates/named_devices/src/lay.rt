@@ -1,5 +1,6 @@
 // Making layers.
-ghost use Rattle.std.specs.Prelude.{◌≡◌, ◌+◌, ◌<◌, ◌≤◌, false, [], length, IfOk};
+ghost use Rattle.std.specs.Prelude.{◌≡◌, ◌≢◌, ◌+◌, ◌<◌, ◌≤◌, false, [], length, IfErr, IfOk};
+ghost use Rattle.sector.specs.declared.refusal.Refusal.TheVariants.{JournalFull};
 ghost use Rattle.device.specs.Layers.{Dusty};
 ghost use Rattle.layers.specs.Layer.{features_of as layer_features, flakey_layer};
 ghost use Rattle.command_rules.specs.Changes.{Changes};
@@ -16,7 +17,8 @@ use words::Name;
 
 /// Why nothing can be put on a device of a volume.
 fn taken(role: Role) -> Refusal
-    ensures { result ≡ taken role }
+    ensures value { result ≡ taken role }
+    ensures room { result ≢ JournalFull }
 {
     match role {
         Role::Origin | Role::Snapshot(_) | Role::Merging => Refusal::BadTable,
@@ -26,7 +28,8 @@ fn taken(role: Role) -> Refusal
 
 /// The stack that nothing uses and that a device is the top of.
 fn unused(place: Place) -> Result<usize, Refusal>
-    ensures { result ≡ unused place }
+    ensures value { result ≡ unused place }
+    ensures room { IfErr result (λ e. e ≢ JournalFull) }
 {
     match place {
         Place::Free(i, 0) => Ok(i),
@@ -40,6 +43,7 @@ fn unused(place: Place) -> Result<usize, Refusal>
 pub fn top(held: &Devices, name: &Name) -> Result<usize, Refusal>
     ensures value { result ≡ top name.now (table_of held.now) }
     ensures within { IfOk result (λ i. i < length held.now.stacks.items) }
+    ensures room { IfErr result (λ e. e ≢ JournalFull) }
 {
     let place = find_device(held, name)?;
     unused(place)

@@ -1,5 +1,6 @@
 // A snapshot is merged into its origin: the merge begins, goes on after a fault, and is finished.
-ghost use Rattle.std.specs.Prelude.{◌≡◌, ◌<◌, length, true, false, Err, IfErr, IfOk, OnErr, OnOk};
+ghost use Rattle.std.specs.Prelude.{◌≡◌, ◌≢◌, ◌<◌, length, true, false, Err, IfErr, IfOk, OnErr, OnOk};
+ghost use Rattle.sector.specs.declared.refusal.Refusal.TheVariants.{JournalFull};
 ghost use Rattle.settled.specs.Refusals.{is_starved};
 ghost use Rattle.command_rules.specs.Changes.{Changes, Enters};
 ghost use Rattle.command_rules.specs.Events.{origin_by};
@@ -11,6 +12,7 @@ ghost use Rattle.command_rules.specs.Sound.{is_sound};
 ghost use Rattle.command_rules.specs.declared.place.Place.TheVariants.{In};
 ghost use Rattle.command_rules.specs.declared.place.Role.TheVariants.{Snapshot};
 ghost use Rattle.named_volume.specs.Tables.{table_of};
+ghost use Rattle.named_devices.specs.Asked.{has_asked_much_for, has_asked_much_in};
 ghost use Rattle.named_devices.specs.Flights.{IsDoneFor};
 ghost use Rattle.named_devices.specs.Merging.{IsBegunIn, IsFinishedIn, IsUnfinishedIn, finished_at, resumed_at};
 ghost use Rattle.named_devices.specs.Order.{IsInOrderFor};
@@ -30,6 +32,7 @@ use words::Name;
 fn to_merge(held: &Devices, place: Place) -> Result<(usize, usize), Refusal>
     ensures place { IfOk result (λ at. place ≡ In at.0 (Snapshot at.1)) }
     ensures err { IfErr result (λ e. begun_at place (table_of held.now) ≡ Err e) }
+    ensures room { IfErr result (λ e. e ≢ JournalFull) }
 {
     match place {
         Place::In(v, Role::Snapshot(k)) => Ok((v, k)),
@@ -46,6 +49,7 @@ fn begin_at(alloc: Global, held: &mut Devices, v: usize, k: usize) -> Result<(),
     ensures begun { OnOk result (IsInVolume IsBegunIn v (table_of held.old) (table_of held.new) (volume_at v (table_of held.old))) }
     ensures sound { is_sound (table_of held.old) ≡ true → is_sound (table_of held.new) ≡ true }
     ensures named { AreNamed (table_of held.old) → AreNamed (table_of held.new) }
+    ensures full { IfErr result (λ e. e ≡ JournalFull → has_asked_much_in (volume_at v (table_of held.new)) ≡ true) }
 {
     held.volumes[v].begin_merge(alloc, k)
 }
@@ -64,6 +68,7 @@ pub fn merge_device(alloc: Global, held: &mut Devices, name: &Name) -> Result<()
     ensures ordered { IsInOrderFor name.now (table_of held.old) }
     ensures sound { is_sound (table_of held.old) ≡ true → is_sound (table_of held.new) ≡ true }
     ensures named { AreNamed (table_of held.old) → AreNamed (table_of held.new) }
+    ensures full { IfErr result (λ e. e ≡ JournalFull → has_asked_much_for name.now (table_of held.old) (table_of held.new) ≡ true) }
 {
     let place = find_in_order(held, name)?;
     let (v, k) = to_merge(held, place)?;
@@ -103,6 +108,7 @@ fn finish_at(held: &mut Devices, v: usize) -> Result<(), Refusal>
     ensures err { OnErr result (table_of held.new ≡ table_of held.old) }
     ensures sound { is_sound (table_of held.old) ≡ true → is_sound (table_of held.new) ≡ true }
     ensures named { AreNamed (table_of held.old) → AreNamed (table_of held.new) }
+    ensures full { IfErr result (λ e. e ≡ JournalFull → has_asked_much_in (volume_at v (table_of held.new)) ≡ true) }
 {
     held.stacks.reserve(1).map_err(|_| Refusal::NoMemory)?;
     match held.volumes[v].finish_merge() {
@@ -128,6 +134,7 @@ pub fn finish_device(held: &mut Devices, name: &Name) -> Result<(), Refusal>
     ensures err { OnErr result (table_of held.new ≡ table_of held.old) }
     ensures sound { is_sound (table_of held.old) ≡ true → is_sound (table_of held.new) ≡ true }
     ensures named { AreNamed (table_of held.old) → AreNamed (table_of held.new) }
+    ensures full { IfErr result (λ e. e ≡ JournalFull → has_asked_much_for name.now (table_of held.old) (table_of held.new) ≡ true) }
 {
     let place = find_device(held, name)?;
     let v = origin_at(place)?;

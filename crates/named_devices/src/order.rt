@@ -1,5 +1,6 @@
 // In what order the snapshots of a volume stand, and its stores, by a name.
-ghost use Rattle.std.specs.Prelude.{◌≡◌, ◌<◌, length, IfOk};
+ghost use Rattle.std.specs.Prelude.{◌≡◌, ◌≢◌, ◌<◌, length, IfErr, IfOk};
+ghost use Rattle.sector.specs.declared.refusal.Refusal.TheVariants.{JournalFull};
 ghost use Rattle.std.specs.Option.{option_copied};
 ghost use Rattle.command_rules.specs.Places.{found, place_of, volume_at, IsPlaceIn};
 ghost use Rattle.named_volume.specs.Tables.{table_of};
@@ -26,6 +27,7 @@ pub(crate) fn find_in_order(held: &Devices, name: &Name) -> Result<Place, Refusa
     ensures place { result ≡ found (place_of name.now (table_of held.now)) }
     ensures within { IfOk result (λ place. IsPlaceIn place (table_of held.now)) }
     ensures ordered { IsInOrderFor name.now (table_of held.now) }
+    ensures room { IfErr result (λ e. e ≢ JournalFull) }
 {
     match find(held, name) {
         None => Err(Refusal::NoSuchDevice),

@@ -1,5 +1,6 @@
 // Origins: made over a stack, and taken away again.
-ghost use Rattle.std.specs.Prelude.{◌≡◌, ◌<◌, length, true};
+ghost use Rattle.std.specs.Prelude.{◌≡◌, ◌≢◌, ◌<◌, length, true, IfErr};
+ghost use Rattle.sector.specs.declared.refusal.Refusal.TheVariants.{JournalFull};
 ghost use Rattle.command_rules.specs.Changes.{Changes};
 ghost use Rattle.command_rules.specs.Origins.{closed, origin_made, same_size};
 ghost use Rattle.command_rules.specs.Sound.{is_sound};
@@ -14,7 +15,8 @@ use words::Name;
 
 /// `BadTable` where the sectors of a line are not those that the device must have.
 pub fn same_size(line: u32, device: u64) -> Result<(), Refusal>
-    ensures { result ≡ same_size line device }
+    ensures value { result ≡ same_size line device }
+    ensures room { IfErr result (λ e. e ≢ JournalFull) }
 {
     if u64::from(line) == device {
         Ok(())
@@ -56,6 +58,7 @@ pub fn close(held: &mut Devices, v: usize) -> Result<(), Refusal>
     requires { v < length held.old.volumes.items }
     ensures done { Changes result (table_of held.old) (table_of held.new) (closed v (table_of held.old)) }
     ensures sound { is_sound (table_of held.old) ≡ true → is_sound (table_of held.new) ≡ true }
+    ensures room { IfErr result (λ e. e ≢ JournalFull) }
 {
     held.stacks.reserve(1).map_err(|_| Refusal::NoMemory)?;
     let volume = held.volumes.remove(v);

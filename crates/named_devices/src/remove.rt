@@ -1,5 +1,6 @@
 // Taking devices away.
-ghost use Rattle.std.specs.Prelude.{◌≡◌, ◌<◌, length, true};
+ghost use Rattle.std.specs.Prelude.{◌≡◌, ◌<◌, length, true, IfErr};
+ghost use Rattle.sector.specs.declared.refusal.Refusal.TheVariants.{JournalFull};
 ghost use Rattle.command_rules.specs.Changes.{Enters};
 ghost use Rattle.command_rules.specs.Naming.{AreNamed};
 ghost use Rattle.command_rules.specs.Places.{IsPlaceIn};
@@ -7,6 +8,7 @@ ghost use Rattle.command_rules.specs.Removing.{lowered, take_away};
 ghost use Rattle.command_rules.specs.Sound.{is_sound};
 ghost use Rattle.command_rules.specs.declared.place.Place.TheVariants.{Free};
 ghost use Rattle.named_volume.specs.Tables.{table_of};
+ghost use Rattle.named_devices.specs.Asked.{has_asked_much_for};
 ghost use Rattle.named_devices.specs.Order.{IsInOrderFor};
 
 use crate::attaching::detach;
@@ -40,6 +42,7 @@ pub fn remove_device(held: &mut Devices, name: &Name) -> Result<(), Refusal>
     ensures ordered { IsInOrderFor name.now (table_of held.old) }
     ensures sound { is_sound (table_of held.old) ≡ true → is_sound (table_of held.new) ≡ true }
     ensures named { AreNamed (table_of held.old) → AreNamed (table_of held.new) }
+    ensures full { IfErr result (λ e. e ≡ JournalFull → has_asked_much_for name.now (table_of held.old) (table_of held.new) ≡ true) }
 {
     match find_in_order(held, name)? {
         Place::Free(i, 0) => {

@@ -1,5 +1,6 @@
 // Reading, writing and flushing origins and snapshots.
 ghost use Rattle.std.specs.Prelude.{◌≡◌, ◌⊎◌, ◌<◌, ◌≤◌, ◌*◌, length, true, Err, IfErr, IfOk};
+ghost use Rattle.sector.specs.declared.refusal.Refusal.TheVariants.{JournalFull};
 ghost use Rattle.command_rules.specs.Changes.{Serves};
 ghost use Rattle.command_rules.specs.Naming.{AreNamed};
 ghost use Rattle.command_rules.specs.Places.{IsPlaceIn, volume_at};
@@ -10,6 +11,7 @@ ghost use Rattle.command_rules.specs.declared.place.Place.TheVariants.{In};
 ghost use Rattle.named_volume.specs.Flights.{IsDenied};
 ghost use Rattle.named_volume.specs.Names.{KeepsNames};
 ghost use Rattle.named_volume.specs.Tables.{table_of};
+ghost use Rattle.named_devices.specs.Asked.{has_asked_much_for, has_asked_much_in};
 ghost use Rattle.named_devices.specs.Devices.{KeepsOthers};
 ghost use Rattle.named_devices.specs.Flights.{IsDoneFor, IsFlushedAmong, IsReadAmong, IsWrittenAmong};
 ghost use Rattle.named_devices.specs.Order.{IsInOrderFor};
@@ -45,6 +47,7 @@ fn read_at(
     ensures one { IsInVolume KeepsNames v (table_of held.old) (table_of held.new) (volume_at v (table_of held.old)) }
     ensures sound { is_sound (table_of held.old) ≡ true → is_sound (table_of held.new) ≡ true }
     ensures named { AreNamed (table_of held.old) → AreNamed (table_of held.new) }
+    ensures full { IfErr result (λ e. e ≡ JournalFull → has_asked_much_in (volume_at v (table_of held.new)) ≡ true) }
 {
     held.volumes[v].read(alloc, role, first, count, ended)
 }
@@ -73,6 +76,7 @@ pub fn read_device(
     ensures one { KeepsOthers name.now (table_of held.old) (table_of held.new) }
     ensures sound { is_sound (table_of held.old) ≡ true → is_sound (table_of held.new) ≡ true }
     ensures named { AreNamed (table_of held.old) → AreNamed (table_of held.new) }
+    ensures full { IfErr result (λ e. e ≡ JournalFull → has_asked_much_for name.now (table_of held.old) (table_of held.new) ≡ true) }
 {
     let count = some_sectors(count)?;
     match find_device(held, name)? {
@@ -105,6 +109,7 @@ fn write_at(
     ensures one { IsInVolume KeepsNames v (table_of held.old) (table_of held.new) (volume_at v (table_of held.old)) }
     ensures sound { is_sound (table_of held.old) ≡ true → is_sound (table_of held.new) ≡ true }
     ensures named { AreNamed (table_of held.old) → AreNamed (table_of held.new) }
+    ensures full { IfErr result (λ e. e ≡ JournalFull → has_asked_much_in (volume_at v (table_of held.new)) ≡ true) }
 {
     held.volumes[v].write(alloc, role, first, count, bytes, ended)
 }
@@ -133,6 +138,7 @@ pub fn write_device(
     ensures ordered { IsInOrderFor name.now (table_of held.old) }
     ensures sound { is_sound (table_of held.old) ≡ true → is_sound (table_of held.new) ≡ true }
     ensures named { AreNamed (table_of held.old) → AreNamed (table_of held.new) }
+    ensures full { IfErr result (λ e. e ≡ JournalFull → has_asked_much_for name.now (table_of held.old) (table_of held.new) ≡ true) }
 {
     let place = find_in_order(held, name);
     let count = whole_sectors(bytes.as_slice())?;
@@ -159,6 +165,7 @@ fn flush_at(
     ensures one { IsInVolume KeepsNames v (table_of held.old) (table_of held.new) (volume_at v (table_of held.old)) }
     ensures sound { is_sound (table_of held.old) ≡ true → is_sound (table_of held.new) ≡ true }
     ensures named { AreNamed (table_of held.old) → AreNamed (table_of held.new) }
+    ensures full { IfErr result (λ e. e ≡ JournalFull → has_asked_much_in (volume_at v (table_of held.new)) ≡ true) }
 {
     held.volumes[v].flush(role, ended)
 }
@@ -183,6 +190,7 @@ pub fn flush_device(
     ensures one { KeepsOthers name.now (table_of held.old) (table_of held.new) }
     ensures sound { is_sound (table_of held.old) ≡ true → is_sound (table_of held.new) ≡ true }
     ensures named { AreNamed (table_of held.old) → AreNamed (table_of held.new) }
+    ensures full { IfErr result (λ e. e ≡ JournalFull → has_asked_much_for name.now (table_of held.old) (table_of held.new) ≡ true) }
 {
     match find_device(held, name)? {
         Place::Free(_, _) => Err(Refusal::BadTable),

@@ -2,7 +2,7 @@
 use Rattle.std.proofs.Common.{◌≡◌, ◌≢◌, ℕ, ◌+◌, Bool, true, false, refl, sym, ap, ◌∙◌}
 use Rattle.std.specs.Prelude.{Result, Ok, Err, nat_lt, if◌then◌else◌}
 use Rattle.sector.specs.declared.refusal.Refusal.{Refusal}
-use Rattle.sector.specs.declared.refusal.Refusal.TheVariants.{NoMemory, OutOfRange}
+use Rattle.sector.specs.declared.refusal.Refusal.TheVariants.{JournalFull, NoMemory, OutOfRange}
 use Rattle.chunk.specs.Pieces.{Span}
 use Rattle.plain.specs.declared.request.Dev.{Dev}
 use Rattle.settled.specs.Devices.{sectors_of as size_of}
@@ -58,3 +58,11 @@ not_for_memory false e is none = absurd (cc)
 -- sectors past the end are not refused for want of memory
 pub fits_known : (size first count : ℕ) (e : Refusal) → fits size first count ≡ Err e → e ≢ NoMemory
 fits_known size first count e is = not_for_memory (nat_lt size (first + count)) e is
+
+not_for_room : (b : Bool) (e : Refusal) → (let r : Result (Unit {0}) Refusal = if b then Err OutOfRange else Ok tt in r) ≡ Err e → e ≢ JournalFull
+not_for_room true e is none = absurd (cc)
+not_for_room false e is none = absurd (cc)
+
+-- nor for want of room in a journal
+pub fits_anyway : (size first count : ℕ) (e : Refusal) → fits size first count ≡ Err e → e ≢ JournalFull
+fits_anyway size first count e is = not_for_room (nat_lt size (first + count)) e is

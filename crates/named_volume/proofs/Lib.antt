@@ -2,6 +2,7 @@ pub mod Meets
 pub mod Refused
 pub mod Places
 pub mod Asks
+pub mod Filled
 pub mod Flies
 pub mod Holds
 pub mod Serves

@@ -1,5 +1,6 @@
 pub mod Names
 pub mod Held
+pub mod Asked
 pub mod Flights
 pub mod Stopping
 pub mod Parting

@@ -4,13 +4,14 @@ ghost use Rattle.sector.specs.declared.refusal.Refusal.TheVariants.{JournalFull,
 ghost use Rattle.device.specs.Layers.{is_loud};
 ghost use Rattle.settled.specs.Refusals.{is_starved};
 ghost use Rattle.command_rules.specs.Snapshots.{meet, parted};
+ghost use Rattle.named_volume.specs.Asked.{has_asked_much};
 ghost use Rattle.named_volume.specs.Names.{IsNamedMore};
 ghost use Rattle.named_volume.specs.Taking.{IsNotMet};
 
 use crate::NamedStack;
 use crate::names::SnapNames;
 use crate::origin::NamedVolume;
-use crate::stored::look;
+use crate::stored::{look, look_at_places};
 use sector::Refusal;
 use snapshot::StoreDev;
 use std::alloc::Global;
@@ -41,12 +42,14 @@ impl NamedVolume {
         ensures loud { IfErr result (λ e. is_loud e.1.device.layers ≡ is_loud stack.device.layers) }
         ensures quiet { self.new.quiet ≡ self.old.quiet }
         ensures still { OnOk result (self.old.quiet ≡ true) }
+        ensures full { IfErr result (λ e. e.0 ≡ JournalFull → has_asked_much self.new ≡ true) }
     {
         match self.snaps.reserve(1) {
             Ok(()) => {}
             Err(_) => return Err((Refusal::NoMemory, stack)),
         }
         look(&self.volume);
+        look_at_places(&self.volume);
         let loud = stack.is_loud();
         let (names, device, stale) = stack.into_parts();
         match self
@@ -78,8 +81,10 @@ impl NamedVolume {
         ensures same { OnErr result (self.new ≡ self.old) }
         ensures loud { IfOk result (λ stack. self.old.sound ≡ true → is_loud stack.device.layers ≡ true) }
         ensures sound { self.new.sound ≡ self.old.sound }
+        ensures full { IfErr result (λ e. e ≡ JournalFull → has_asked_much self.new ≡ true) }
     {
         look(&self.volume);
+        look_at_places(&self.volume);
         let number = self.volume.number(k);
         let given = match self.volume.detach(number) {
             Ok(given) => given,

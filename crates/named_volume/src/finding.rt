@@ -1,5 +1,6 @@
 // Finding a device by its name.
-ghost use Rattle.std.specs.Prelude.{◌≡◌, ◌<◌, ◌-◌, length, IfSome, IfOk, nat_le, sum_by, slice_get, Some, position};
+ghost use Rattle.std.specs.Prelude.{◌≡◌, ◌≢◌, ◌<◌, ◌-◌, length, IfSome, IfErr, IfOk, nat_le, sum_by, slice_get, Some, position};
+ghost use Rattle.sector.specs.declared.refusal.Refusal.TheVariants.{JournalFull};
 ghost use Rattle.named_volume.specs.Tables.{table_of};
 ghost use Rattle.command_rules.specs.Places.{place_of, place_free, place_among, found, is_among, IsDepthAt, IsRoleAt, IsPlaceIn};
 ghost use Rattle.command_rules.specs.declared.place.Place.TheVariants.{Free, In};
@@ -63,6 +64,7 @@ pub fn find(held: &Devices, name: &Name) -> Option<Place>
 pub fn find_device(held: &Devices, name: &Name) -> Result<Place, Refusal>
     ensures place { result ≡ found (place_of name.now (table_of held.now)) }
     ensures within { IfOk result (λ place. IsPlaceIn place (table_of held.now)) }
+    ensures room { IfErr result (λ e. e ≢ JournalFull) }
 {
     match find(held, name) {
         None => Err(Refusal::NoSuchDevice),

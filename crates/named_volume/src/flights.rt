@@ -1,18 +1,19 @@
 // Requests that one call starts and later ones end.
 ghost use Rattle.std.specs.Prelude.{◌≡◌, ◌≢◌, ◌+◌, ◌*◌, ◌<◌, ◌≤◌, ℕ, List, length, get_or, is_ok, true, false, not, ◌&&◌, None, Ok, Err, IfErr, IfOk, OnOk, OnErr};
-ghost use Rattle.sector.specs.declared.refusal.Refusal.TheVariants.{NoMemory, Invalid, Overflow};
+ghost use Rattle.sector.specs.declared.refusal.Refusal.TheVariants.{NoMemory, Invalid, JournalFull, Overflow};
 ghost use Rattle.plain.specs.declared.request.Op.TheVariants.{Write};
 ghost use Rattle.settled.specs.Snaps.{Snap};
 ghost use Rattle.volume.specs.EventKinds.{is_of_merge};
 ghost use Rattle.command_rules.specs.Events.{merge_done};
 ghost use Rattle.command_rules.specs.Places.{IsRoleIn};
 ghost use Rattle.command_rules.specs.Sectors.{asked_of};
+ghost use Rattle.named_volume.specs.Asked.{has_asked_much};
 ghost use Rattle.named_volume.specs.Flights.{IsNotDue, IsNotStarted, IsSettledBy, IsStarted, IsStepped};
 ghost use Rattle.named_volume.specs.Names.{KeepsNames};
 
 use crate::origin::NamedVolume;
 use crate::sectors::ask;
-use crate::stored::{look, number_at};
+use crate::stored::{look, look_at_places, number_at};
 use command_rules::Role;
 use plain::{Event, NotDue, Op, Outcome, ReqId, Request, SnapId};
 use sector::Refusal;
@@ -62,11 +63,13 @@ impl NamedVolume {
         ensures same { IfErr result (λ e. e ≢ Invalid → e ≢ Overflow → self.new.state ≡ self.old.state) }
         ensures still { IfErr result (λ e. e ≢ Invalid → self.new.quiet ≡ self.old.quiet) }
         ensures kept { KeepsNames self.old self.new }
+        ensures full { IfErr result (λ e. e ≡ JournalFull → has_asked_much self.new ≡ true) }
     {
         let (dev, range) = match ask(&self.volume, &mut self.asked, role, first, count) {
             Ok(asks) => asks,
             Err(refusal) => return Err(refusal),
         };
+        look_at_places(&self.volume);
         self.volume.start(alloc, Request { dev, op, range })
     }
 

@@ -5,13 +5,14 @@ ghost use Rattle.device.specs.Layers.{is_loud};
 ghost use Rattle.settled.specs.Refusals.{is_starved};
 ghost use Rattle.command_rules.specs.Changes.{Changes, Enters};
 ghost use Rattle.command_rules.specs.Merging.{begun, finished, resumed};
+ghost use Rattle.named_volume.specs.Asked.{has_asked_much};
 ghost use Rattle.named_volume.specs.Flights.{IsUnfinished};
 ghost use Rattle.named_volume.specs.Names.{IsNamedBegun, IsNamedLess};
 
 use crate::NamedStack;
 use crate::names::SnapNames;
 use crate::origin::NamedVolume;
-use crate::stored::look;
+use crate::stored::{look, look_at_places};
 use sector::Refusal;
 use std::alloc::Global;
 
@@ -26,11 +27,13 @@ impl NamedVolume {
         ensures named { OnOk result (IsNamedBegun k self.old self.new) }
         ensures sound { self.new.sound ≡ self.old.sound }
         ensures quiet { self.new.quiet ≡ self.old.quiet }
+        ensures full { IfErr result (λ e. e ≡ JournalFull → has_asked_much self.new ≡ true) }
     {
         if self.merging.is_some() {
             return Err(Refusal::MergeInProgress);
         }
         look(&self.volume);
+        look_at_places(&self.volume);
         let number = self.volume.number(k);
         match self.volume.begin_merge(alloc, number) {
             Ok(()) => {
@@ -60,8 +63,10 @@ impl NamedVolume {
         ensures loud { IfOk result (λ stack. self.old.sound ≡ true → is_loud stack.device.layers ≡ true) }
         ensures sound { self.new.sound ≡ self.old.sound }
         ensures quiet { OnOk result ((self.old.quiet ≡ true) × (self.new.quiet ≡ true)) }
+        ensures full { IfErr result (λ e. e ≡ JournalFull → has_asked_much self.new ≡ true) }
     {
         look(&self.volume);
+        look_at_places(&self.volume);
         let given = match self.volume.finish_merge() {
             Ok(given) => given,
             Err(refusal) => return Err(refusal),

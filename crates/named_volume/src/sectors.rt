@@ -1,6 +1,6 @@
 // Reads, writes and flushes of the origin and of snapshots.
 ghost use Rattle.std.specs.Prelude.{◌≡◌, ◌≢◌, ◌⊎◌, ◌+◌, ◌*◌, ◌<◌, ◌≤◌, length, is_some, true, false, Ok, Err, IfOk, IfErr, OnOk, OnErr};
-ghost use Rattle.sector.specs.declared.refusal.Refusal.TheVariants.{NoMemory, BadTable, TooMany};
+ghost use Rattle.sector.specs.declared.refusal.Refusal.TheVariants.{NoMemory, JournalFull, BadTable, TooMany};
 ghost use Rattle.chunk.specs.Pieces.{span_of};
 ghost use Rattle.layers.specs.Stack.{stack_size};
 ghost use Rattle.volume_commands.specs.Rested.{has_dev};
@@ -8,11 +8,13 @@ ghost use Rattle.command_rules.specs.State.{Volume};
 ghost use Rattle.command_rules.specs.Changes.{Serves};
 ghost use Rattle.command_rules.specs.Places.{HasRole, IsRoleIn};
 ghost use Rattle.command_rules.specs.Sectors.{asked_of, dev_of, serves, takes, flushed_in, read_in, written_in, IsReadAsked, IsPartWritten};
+ghost use Rattle.named_volume.specs.Asked.{has_asked_much};
 ghost use Rattle.named_volume.specs.Flights.{IsDenied, IsFlushServed, IsFlushedAtRest, IsReadAtRest, IsReadServed, IsWriteServed, IsWrittenAtRest};
 ghost use Rattle.named_volume.specs.Held.{settled_in};
 ghost use Rattle.named_volume.specs.Names.{KeepsNames};
 
 use crate::origin::NamedVolume;
+use crate::stored::look_at_places;
 use crate::{range_in, sectors_of};
 use command_rules::Role;
 use layers::Stack;
@@ -43,6 +45,7 @@ fn dev_of(volume: &Resting<Stack>, role: Role) -> Result<Dev, Refusal>
     ensures value { result ≡ dev_of role (settled_in volume.now.rested) }
     ensures there { IfOk result (λ dev. has_dev dev volume.now.rested ≡ true) }
     ensures known { IfErr result (λ e. e ≢ NoMemory) }
+    ensures room { IfErr result (λ e. e ≢ JournalFull) }
 {
     match role {
         Role::Origin => Ok(Dev::Origin),
@@ -80,6 +83,7 @@ pub(crate) fn ask(
     ensures ok { IfOk result (λ asks. (v : Volume) → v.state ≡ settled_in volume.now.rested → v.asked ≡ asked.old → asked_of role first count v ≡ Ok (record { dev = asks.0; span = span_of asks.1 })) }
     ensures err { IfErr result (λ e. (v : Volume) → v.state ≡ settled_in volume.now.rested → v.asked ≡ asked.old → asked_of role first count v ≡ Err e) }
     ensures known { IfErr result (λ e. e ≢ NoMemory) }
+    ensures room { IfErr result (λ e. e ≢ JournalFull) }
     ensures there { IfOk result (λ asks. has_dev asks.0 volume.now.rested ≡ true) }
     ensures inside { IfOk result (λ asks. asks.1.first + asks.1.count ≤ stack_size volume.now.rested.origin) }
     ensures count { IfOk result (λ asks. asks.1.count ≡ count) }
@@ -130,15 +134,20 @@ impl NamedVolume {
         ensures stays { IfErr (asked_of role first count self.old) (λ _. (self.new ≡ self.old) × (ended.new.items ≡ ended.old.items)) }
         ensures quiet { self.old.quiet ≡ true → self.new.quiet ≡ true }
         ensures kept { KeepsNames self.old self.new }
+        ensures full { IfErr result (λ e. e ≡ JournalFull → has_asked_much self.new ≡ true) }
     {
         let (dev, range) = match ask(&self.volume, &mut self.asked, role, first, count) {
             Ok(asks) => asks,
             Err(refusal) => return Err(refusal),
         };
         if self.volume.is_quiet() {
-            return self.volume.read(alloc, dev, range);
+            let did = self.volume.read(alloc, dev, range);
+            look_at_places(&self.volume);
+            return did;
         }
-        self.volume.read_among(alloc, dev, range, ended)
+        let did = self.volume.read_among(alloc, dev, range, ended);
+        look_at_places(&self.volume);
+        did
     }
 
     /// Writes sectors of the origin or of a snapshot, from `first` on. Refused as a read is, and with `Overflow` where the
@@ -166,15 +175,20 @@ impl NamedVolume {
         ensures stays { IfErr (asked_of role first count self.old) (λ _. (self.new ≡ self.old) × (ended.new.items ≡ ended.old.items)) }
         ensures quiet { self.old.quiet ≡ true → self.new.quiet ≡ true }
         ensures kept { KeepsNames self.old self.new }
+        ensures full { IfErr result (λ e. e ≡ JournalFull → has_asked_much self.new ≡ true) }
     {
         let (dev, range) = match ask(&self.volume, &mut self.asked, role, first, count) {
             Ok(asks) => asks,
             Err(refusal) => return Err(refusal),
         };
         if self.volume.is_quiet() {
-            return self.volume.write(alloc, dev, range, bytes);
+            let did = self.volume.write(alloc, dev, range, bytes);
+            look_at_places(&self.volume);
+            return did;
         }
-        self.volume.write_among(alloc, dev, range, bytes, ended)
+        let did = self.volume.write_among(alloc, dev, range, bytes, ended);
+        look_at_places(&self.volume);
+        did
     }
     /// Flushes the origin, or a snapshot: what was written to it lasts. While a merge is begun, the merging store is flushed
     /// before the origin. Refused as a read of the first sector is, before the volume is asked and by it.
@@ -190,14 +204,19 @@ impl NamedVolume {
         ensures stays { IfErr (asked_of role 0 1 self.old) (λ _. (self.new ≡ self.old) × (ended.new.items ≡ ended.old.items)) }
         ensures quiet { self.old.quiet ≡ true → self.new.quiet ≡ true }
         ensures kept { KeepsNames self.old self.new }
+        ensures full { IfErr result (λ e. e ≡ JournalFull → has_asked_much self.new ≡ true) }
     {
         let (dev, _range) = match ask(&self.volume, &mut self.asked, role, 0, 1) {
             Ok(asks) => asks,
             Err(refusal) => return Err(refusal),
         };
         if self.volume.is_quiet() {
-            return self.volume.flush(dev);
+            let did = self.volume.flush(dev);
+            look_at_places(&self.volume);
+            return did;
         }
-        self.volume.flush_among(dev, ended)
+        let did = self.volume.flush_among(dev, ended);
+        look_at_places(&self.volume);
+        did
     }
 }

@@ -1,5 +1,6 @@
 // Numbers of sectors.
-ghost use Rattle.std.specs.Prelude.{◌≡◌, ◌≤◌, ◌<◌, ◌+◌, ◌*◌, length, MatchResult, IfOk, OnOk, Ok, Err};
+ghost use Rattle.std.specs.Prelude.{◌≡◌, ◌≢◌, ◌≤◌, ◌<◌, ◌+◌, ◌*◌, length, MatchResult, IfErr, IfOk, OnOk, Ok, Err};
+ghost use Rattle.sector.specs.declared.refusal.Refusal.TheVariants.{JournalFull};
 ghost use Rattle.command.specs.Words.{sectors_of};
 ghost use Rattle.command_rules.specs.Raw.{fits, whole};
 
@@ -14,6 +15,7 @@ pub fn some_sectors(count: u32) -> Result<u32, Refusal>
     ensures same { IfOk result (λ n. n ≡ count) }
     ensures some { IfOk result (λ n. 0 < n) }
     ensures few { IfOk result (λ n. n ≤ 2048) }
+    ensures room { IfErr result (λ e. e ≢ JournalFull) }
 {
     if 0 < count && count <= MOST_SECTORS as u32 {
         Ok(count)
@@ -27,6 +29,7 @@ pub fn whole_sectors(bytes: &[u8]) -> Result<u32, Refusal>
     ensures value { result ≡ whole bytes.now }
     ensures whole { IfOk result (λ n. length bytes.now ≡ 512 * n) }
     ensures some { IfOk result (λ n. 0 < n) }
+    ensures room { IfErr result (λ e. e ≢ JournalFull) }
 {
     if bytes.len() % SECTOR_BYTES != 0 {
         return Err(Refusal::BadTable);

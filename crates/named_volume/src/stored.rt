@@ -1,5 +1,5 @@
 // What a volume over stacks tells of the snapshot at a place.
-ghost use Rattle.std.specs.Prelude.{◌≡◌, ◌<◌, true, length, get_or, IfSome, IfNone, Some, None};
+ghost use Rattle.std.specs.Prelude.{◌≡◌, ◌<◌, ◌≤◌, ◌+◌, ◌*◌, true, length, get_or, IfSome, IfNone, Some, None};
 ghost use Rattle.layers.specs.Stack.{stack_layers};
 ghost use Rattle.settled.specs.Merges.{Merge};
 ghost use Rattle.settled.specs.Snaps.{Snap};
@@ -24,6 +24,13 @@ pub(crate) fn look(volume: &Resting<Stack>)
     ensures { is_quiet_of volume.now.rested.events ≡ true → is_loud_in stack_layers volume.now.rested ≡ true → IsSettledIn volume.now.rested }
 {
     let _ = volume.is_quiet();
+}
+
+/// A look at the places of the journal that are taken: one for each request, five for each snapshot that was taken, and forty at most.
+pub(crate) fn look_at_places(volume: &Resting<Stack>)
+    ensures { volume.now.taken ≤ volume.now.rested.requests + 5 * volume.now.rested.attached + 40 }
+{
+    volume.look_at_places()
 }
 
 /// The stack of its store.

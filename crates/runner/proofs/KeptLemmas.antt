@@ -18,6 +18,7 @@ use Rattle.command_rules.specs.State.{Table}
 use Rattle.command_arrays.specs.Arrays.{arrays_in}
 use Rattle.runner.specs.Asking.{IsFirst, line_first, said_first}
 use Rattle.runner.specs.Done.{IsLineDone, IsToldFor}
+use Rattle.runner.proofs.FullLemmas.{full_alike}
 use Rattle.runner.specs.Left.{IsLeftSaid, IsLineLeft}
 use Rattle.runner.specs.Output.{IsPartSaid, IsStarved, MayBe, LineOutcome, outcome, outcome_of}
 use Rattle.runner.specs.Ruled.{is_ruled_line, is_ruled_said}
@@ -81,6 +82,7 @@ told_alike line kept table done same is = record {
   own = is.own;
   lines = is.lines;
   left = left_alike line kept is.own table done.table [] is.ended same is.left;
+  full = λ said. full_alike line kept table done.table same (is.full said);
 }
 
 line_alike : (line kept : List ℕ) (table : Table) (done : LineOutcome) → said_of 65536 kept ≡ said_of 65536 line → IsLineDone kept table done → IsLineDone line table done

@@ -1,17 +1,19 @@
 -- What a line leaves of the devices, by what its command does.
-use Rattle.std.proofs.Common.{◌≡◌, ◌≢◌, ℕ, List, [], ◌++◌, Option, Some, None, refl, sym, ap, ◌∙◌, inl, inr, subst}
+use Rattle.std.proofs.Common.{◌≡◌, ◌≢◌, ℕ, List, [], ◌∷◌, ◌++◌, Option, Some, None, refl, sym, ap, ◌∙◌, inl, inr, subst}
 use Rattle.std.specs.Prelude.{IfErr, IfSome, OnErr, Result, Ok, Err}
 use Rattle.sector.specs.declared.refusal.Refusal.{Refusal}
-use Rattle.sector.specs.declared.refusal.Refusal.TheVariants.{NoMemory}
+use Rattle.sector.specs.declared.refusal.Refusal.TheVariants.{JournalFull, NoMemory}
 use Rattle.command.specs.Line.{said_of}
 use Rattle.command.specs.declared.grammar.Command.{Command}
 use Rattle.command.specs.declared.command_reply.CommandReply.{CommandReply}
+use Rattle.command.specs.declared.command_reply.CommandReply.TheVariants.{Refused}
 use Rattle.plain.specs.declared.request.Replied.{Replied}
 use Rattle.command_rules.specs.State.{Table}
 use Rattle.runner.specs.Asking.{refusal_in, IsFirst}
 use Rattle.runner.specs.Ended.{ended_lines, line_replies}
 use Rattle.command.specs.declared.events.EventWords.{EventWords}
 use Rattle.named_devices.specs.Devices.{KeepsOthers}
+use Rattle.runner.specs.Full.{IsAskedByLine}
 use Rattle.runner.specs.Left.{IsLeft, IsLeftSaid, IsLineLeft, IsStepLeft}
 use Rattle.runner.specs.Output.{answered, told}
 use Rattle.runner.specs.Done.{IsToldFor}
@@ -58,14 +60,15 @@ command_left line command own old new before after is left =
     let P : Result (Option Command) Refusal → Type 0 = λ said. IsLeftSaid said (reworded Some own) old new before after in inr (subst P (sym is) (own, refl, left))
 
 -- what a line answers is told by its desk, after the lines of the requests that ended
-pub told_for : (line : List ℕ) (old new : Table) (before ended : List Replied) (own : Option CommandReply) (answer : Result (Option CommandReply) Refusal) → before ≡ [] → answered own ≡ told answer → IsLineLeft line answer old new before ended → IsToldFor line old (record { replies = line_replies ended own; table = new })
-told_for line old new before ended own answer none is left =
+pub told_for : (line : List ℕ) (old new : Table) (before ended : List Replied) (own : Option CommandReply) (answer : Result (Option CommandReply) Refusal) → before ≡ [] → answered own ≡ told answer → IsLineLeft line answer old new before ended → (answered own ≡ Refused JournalFull ∷ [] → IsAskedByLine line old new) → IsToldFor line old (record { replies = line_replies ended own; table = new })
+told_for line old new before ended own answer none is left full =
     let P : List Replied → Type 0 = λ es. IsLineLeft line answer old new es ended in
     record {
       ended = ended;
       own = answer;
       lines = ap (λ rs. ended_lines ended ++ rs) is;
       left = subst P none left;
+      full = λ said. full (is ∙ said);
     }
 
 -- an event for whose reply there is no memory

@@ -1,6 +1,6 @@
 -- A line where a block may be open.
 use Rattle.std.proofs.Common.{◌≡◌, ◌≢◌, ◌⊎◌, ℕ, true, false, List, [], ◌∷◌, Option, Some, None, refl, sym, ap, ◌∙◌, subst, inl, inr}
-use Rattle.std.specs.Prelude.{Result, Ok, Err}
+use Rattle.std.specs.Prelude.{is_some, Result, Ok, Err}
 use Rattle.std.specs.Io.KnownBytes.{Appends}
 use Rattle.sector.specs.declared.refusal.Refusal.{Refusal}
 use Rattle.sector.specs.declared.refusal.Refusal.TheVariants.{NoMemory}
@@ -85,3 +85,8 @@ block_taken line old desk block after before same is isnt why = (
   same,
   none_replied before,
 )
+
+-- no block is open where none is found
+pub none_open : (block : Option Lines) → is_some block ≡ false → block ≡ None
+none_open None none = refl
+none_open (Some block) none = absurd (let no : ⊥ = cc in no)

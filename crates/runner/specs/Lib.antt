@@ -10,6 +10,7 @@ pub mod Ended
 pub mod Exit
 pub mod Ruled
 pub mod Left
+pub mod Full
 pub mod Done
 pub mod Shown
 pub mod Changed

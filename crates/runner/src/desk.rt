@@ -1,8 +1,10 @@
 // Lines in, lines out.
-ghost use Rattle.std.specs.Prelude.{◌≡◌, [], true, MatchResult, IfErr, IfSome, OnOk, Option, Result};
+ghost use Rattle.std.specs.Prelude.{◌≡◌, [], ◌∷◌, true, MatchResult, IfErr, IfSome, OnOk, Option, Result};
 ghost use Rattle.std.specs.Io.KnownBytes.{Appends};
 ghost use Rattle.sector.specs.declared.refusal.Refusal.{Refusal as AnyRefusal};
+ghost use Rattle.sector.specs.declared.refusal.Refusal.TheVariants.{JournalFull};
 ghost use Rattle.command.specs.declared.command_reply.CommandReply.{CommandReply as AnyReply};
+ghost use Rattle.command.specs.declared.command_reply.CommandReply.TheVariants.{Refused};
 ghost use Rattle.command_rules.specs.Naming.{AreNamed};
 ghost use Rattle.command_rules.specs.Sound.{is_sound};
 ghost use Rattle.named_volume.specs.Tables.{table_of};
@@ -10,6 +12,7 @@ ghost use Rattle.runner.specs.Asking.{IsFirst, line_first};
 ghost use Rattle.runner.specs.Counts.{summary_of};
 ghost use Rattle.runner.specs.Exit.{IsMemory, IsWriters};
 ghost use Rattle.runner.specs.Done.{IsLineDone};
+ghost use Rattle.runner.specs.Full.{IsAskedByLine};
 ghost use Rattle.runner.specs.Left.{IsLineLeft};
 ghost use Rattle.runner.specs.Output.{LineOutcome, MayBe, answered, empty, followed, printed, told};
 ghost use Rattle.runner.specs.Ruled.{is_ruled_line};
@@ -51,6 +54,7 @@ impl Model for Desk {
 
 /// Does what a line says, and gives what it prints: its answer, or its refusal. Requests that end in it go to the end of
 /// `ended`.
+#[inline(always)]
 fn outcome(
     alloc: Global,
     held: &mut Devices,
@@ -65,6 +69,7 @@ fn outcome(
     ensures still { IfSome (line_first line.now (table_of held.old)) (λ _. (table_of held.new ≡ table_of held.old) × (ended.new.items ≡ ended.old.items)) }
     ensures told { is_ruled_line line.now (table_of held.old) ≡ true → ended.new.items ≡ ended.old.items }
     ensures left { (own : Result (Option AnyReply) AnyRefusal) × (answered result ≡ told own) × IsLineLeft line.now own (table_of held.old) (table_of held.new) ended.old.items ended.new.items }
+    ensures full { answered result ≡ Refused JournalFull ∷ [] → IsAskedByLine line.now (table_of held.old) (table_of held.new) }
     ensures sound { is_sound (table_of held.old) ≡ true → is_sound_line line.now ≡ true → is_sound (table_of held.new) ≡ true }
     ensures named { AreNamed (table_of held.old) → AreNamed (table_of held.new) }
 {
@@ -101,6 +106,7 @@ impl Desk {
     /// write some part may have been done. Where its command has its rule, each
     /// volume shows what the command leaves of what it showed. The one error is `RunError::Write`, the writer's own; then the
     /// line was done all the same, and part of what it prints may be printed.
+    #[inline(always)]
     pub fn line<W: Write>(&mut self, line: &[u8], writer: &mut W) -> Result<(), RunError>
         ensures done { (done : LineOutcome) × IsLineDone line.now self.old.table done × (self.new ≡ followed self.old done)
             × OnOk result (Appends (W.contents writer.old) (W.contents writer.new) (printed done.replies)) }
@@ -113,9 +119,6 @@ impl Desk {
         let mut ended = Vec::new(self.alloc);
         let own = outcome(self.alloc, &mut self.held, line, &mut ended);
         self.summary = self.summary.with_lines(ended.len()).with_own(&own);
-        match print_all(writer, ended, own) {
-            Ok(()) => Ok(()),
-            Err(error) => Err(RunError::Write(error)),
-        }
+        print_all(self.alloc, writer, &mut ended, &own)
     }
 }

@@ -1,13 +1,16 @@
 // The lines of requests that ended.
-ghost use Rattle.std.specs.Prelude.{◌≡◌, OnOk};
+ghost use Rattle.std.specs.Prelude.{◌≡◌, IfErr, OnOk};
 ghost use Rattle.std.specs.Io.KnownBytes.{Appends};
 ghost use Rattle.runner.specs.Ended.{ended_line, ended_lines, ending_of, line_replies};
+ghost use Rattle.runner.specs.Exit.{IsWriters};
 ghost use Rattle.runner.specs.Output.{answered, printed};
 
+use crate::error::RunError;
 use command::{CommandReply, Ended, Ending};
 use plain::{Replied, Reply as Answered, refusal_for};
-use std::io;
+use std::alloc::Global;
 use std::io::Write;
+use std::{io, mem};
 
 /// How a request ended, by what its volume replied.
 fn ending_of(reply: Answered) -> Ending
@@ -43,31 +46,44 @@ fn print_ended<W: Write>(writer: &mut W, ended: Vec<Replied>) -> io::Result<()>
     Ok(())
 }
 
-/// Prints the line that a command answers itself, if it answers one. The one error is the writer's own.
+/// Prints the line that a command answers itself, if it answers one. The one error is `RunError::Write`, the writer's own.
+#[inline(always)]
 #[tactic(auto, using(crate::proofs::EndedLemmas::none_replied, crate::proofs::EndedLemmas::one_printed))]
-fn print_own<W: Write>(writer: &mut W, own: &Option<CommandReply>) -> io::Result<()>
-    ensures { OnOk result (Appends (W.contents writer.old) (W.contents writer.new) (printed (answered own.now))) }
+fn print_own<W: Write>(writer: &mut W, own: &Option<CommandReply>) -> Result<(), RunError>
+    ensures printed { OnOk result (Appends (W.contents writer.old) (W.contents writer.new) (printed (answered own.now))) }
+    ensures error { IfErr result IsWriters }
 {
     match own {
         None => Ok(()),
-        Some(reply) => reply.write_to(writer),
+        Some(reply) => {
+            if let Err(error) = reply.write_to(writer) {
+                return Err(RunError::Write(error));
+            }
+            Ok(())
+        }
     }
 }
 
-/// Prints all that a line answers: the lines of requests that ended, and then its command's own. The one error is the
-/// writer's own; then part of them may be printed.
+/// Prints all that a line answers: the lines of requests that ended, and then its command's own. The one error is
+/// `RunError::Write`, the writer's own; then part of them may be printed.
+#[inline(always)]
 #[tactic(auto, using(crate::proofs::EndedLemmas::own_alone, crate::proofs::EndedLemmas::both_printed))]
 pub fn print_all<W: Write>(
+    alloc: Global,
     writer: &mut W,
-    ended: Vec<Replied>,
-    own: Option<CommandReply>,
-) -> io::Result<()>
-    ensures { OnOk result (Appends (W.contents writer.old) (W.contents writer.new) (printed (line_replies ended.items own))) }
+    ended: &mut Vec<Replied>,
+    own: &Option<CommandReply>,
+) -> Result<(), RunError>
+    ensures printed { OnOk result (Appends (W.contents writer.old) (W.contents writer.new) (printed (line_replies ended.old.items own.now))) }
+    ensures error { IfErr result IsWriters }
 {
     // In most lines no request ends.
     if ended.is_empty() {
-        return print_own(writer, &own);
+        return print_own(writer, own);
     }
-    print_ended(writer, ended)?;
-    print_own(writer, &own)
+    let ended = mem::replace(ended, Vec::new(alloc));
+    if let Err(error) = print_ended(writer, ended) {
+        return Err(RunError::Write(error));
+    }
+    print_own(writer, own)
 }

@@ -1,5 +1,5 @@
 // A desk at which a block of lines may be open.
-ghost use Rattle.std.specs.Prelude.{◌≡◌, ◌≤◌, None, true, MatchResult, IfErr, IfOk, OnOk};
+ghost use Rattle.std.specs.Prelude.{◌≡◌, ◌≤◌, None, true, is_some, MatchResult, IfErr, IfOk, OnOk};
 ghost use Rattle.std.specs.Io.KnownBytes.{Appends};
 ghost use Rattle.command_rules.specs.Naming.{AreNamed};
 ghost use Rattle.command_rules.specs.Sound.{is_sound};
@@ -90,16 +90,14 @@ impl Session {
         }
     }
 
-    /// Does what a line says, the line given without its end. Where no block is open, a line that begins with the word `par`
-    /// opens one, or is refused, and each other line is the desk's. Where one is open, each line is one of the block's, which
-    /// prints nothing, until one that says `end`: then the block is run. The one error is `RunError::Write`, the writer's own;
-    /// then the line was done all the same, and part of what it prints may be printed.
-    pub fn line<R: Threads + Wait + Sync, W: Write>(
+    /// Gives a line to the block that is open; where it ends that, the block is run.
+    fn take_line<R: Threads + Wait + Sync, W: Write>(
         &mut self,
         rt: &R,
         line: &[u8],
         writer: &mut W,
     ) -> Result<(), RunError>
+        requires { is_some self.old.block ≡ true }
         ensures done { (done : LineOutcome) × IsSessionDone line.now self.old self.new done × (self.new.desk ≡ followed self.old.desk done)
             × OnOk result (Appends (W.contents writer.old) (W.contents writer.new) (printed done.replies)) }
         ensures sound { is_sound self.old.desk.table ≡ true → is_sound_line line.now ≡ true → is_sound self.new.desk.table ≡ true }
@@ -113,14 +111,33 @@ impl Session {
                 self.block = Some(block);
                 Ok(())
             }
-            None => {
-                if is_par(line, LINE_LIMIT) {
-                    self.open(line, writer)
-                } else {
-                    self.desk.line(line, writer)
-                }
-            }
+            None => Ok(()),
         }
+    }
+
+    /// Does what a line says, the line given without its end. Where no block is open, a line that begins with the word `par`
+    /// opens one, or is refused, and each other line is the desk's. Where one is open, each line is one of the block's, which
+    /// prints nothing, until one that says `end`: then the block is run. The one error is `RunError::Write`, the writer's own;
+    /// then the line was done all the same, and part of what it prints may be printed.
+    #[tactic(auto, using(crate::proofs::SessionLemmas::none_open))]
+    pub fn line<R: Threads + Wait + Sync, W: Write>(
+        &mut self,
+        rt: &R,
+        line: &[u8],
+        writer: &mut W,
+    ) -> Result<(), RunError>
+        ensures done { (done : LineOutcome) × IsSessionDone line.now self.old self.new done × (self.new.desk ≡ followed self.old.desk done)
+            × OnOk result (Appends (W.contents writer.old) (W.contents writer.new) (printed done.replies)) }
+        ensures sound { is_sound self.old.desk.table ≡ true → is_sound_line line.now ≡ true → is_sound self.new.desk.table ≡ true }
+        ensures error { IfErr result IsWriters }
+    {
+        if self.block.is_some() {
+            return self.take_line(rt, line, writer);
+        }
+        if is_par(line, LINE_LIMIT) {
+            return self.open(line, writer);
+        }
+        self.desk.line(line, writer)
     }
 
     /// Runs the block that is open, if one is, as its end would. The one error is `RunError::Write`, the writer's own.

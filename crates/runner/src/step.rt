@@ -1,17 +1,19 @@
 // What each line does.
-ghost use Rattle.std.specs.Prelude.{◌≡◌, ◌≢◌, true, Some, IfSome, MatchResult};
-ghost use Rattle.sector.specs.declared.refusal.Refusal.TheVariants.{NoMemory};
+ghost use Rattle.std.specs.Prelude.{◌≡◌, ◌≢◌, [], ◌∷◌, true, Some, IfSome, MatchResult};
+ghost use Rattle.sector.specs.declared.refusal.Refusal.TheVariants.{JournalFull, NoMemory};
 ghost use Rattle.layers.specs.declared.message.Answer.TheVariants as answers;
-ghost use Rattle.command.specs.declared.command_reply.CommandReply.TheVariants.{Done, Data, Said, Number};
+ghost use Rattle.command.specs.declared.command_reply.CommandReply.TheVariants.{Done, Data, Said, Number, Refused};
 ghost use Rattle.command.specs.Answers.{reply_to};
 ghost use Rattle.command_rules.specs.Changes.{Does, ServesIf, kept};
 ghost use Rattle.command_rules.specs.Messages.{tell};
 ghost use Rattle.command_rules.specs.Naming.{AreNamed};
 ghost use Rattle.command_rules.specs.Sound.{is_sound};
 ghost use Rattle.named_volume.specs.Tables.{table_of};
+ghost use Rattle.named_devices.specs.Asked.{IsAskedMuch};
 ghost use Rattle.named_devices.specs.Order.{IsLookedAt};
 ghost use Rattle.runner.specs.Asking.{IsFirst, first_refusal, line_first};
 ghost use Rattle.runner.specs.Changed.{changed_by};
+ghost use Rattle.runner.specs.Full.{IsAskedByLine, entered_by};
 ghost use Rattle.runner.specs.Lawful.{is_lawful};
 ghost use Rattle.runner.specs.Left.{IsLeft, IsLineLeft};
 ghost use Rattle.runner.specs.Output.{IsPartDone, IsStarved, told};
@@ -123,6 +125,7 @@ fn obey(
     ensures told { is_ruled command (table_of held.old) ≡ true → ended.new.items ≡ ended.old.items }
     ensures ordered { IsLookedAt (table_of held.old) (changed_by command) }
     ensures left { IsLeft command result (table_of held.old) (table_of held.new) ended.old.items ended.new.items }
+    ensures full { told (reworded Some result) ≡ Refused JournalFull ∷ [] → IsAskedMuch (entered_by command) (table_of held.old) (table_of held.new) }
     ensures sound { is_sound (table_of held.old) ≡ true → is_sound_command command ≡ true → is_sound (table_of held.new) ≡ true }
     ensures named { AreNamed (table_of held.old) → AreNamed (table_of held.new) }
 {
@@ -168,6 +171,7 @@ pub fn answer(
     ensures still { IfSome (line_first line.now (table_of held.old)) (λ _. (table_of held.new ≡ table_of held.old) × (ended.new.items ≡ ended.old.items)) }
     ensures told { is_ruled_line line.now (table_of held.old) ≡ true → ended.new.items ≡ ended.old.items }
     ensures left { IsLineLeft line.now result (table_of held.old) (table_of held.new) ended.old.items ended.new.items }
+    ensures full { told result ≡ Refused JournalFull ∷ [] → IsAskedByLine line.now (table_of held.old) (table_of held.new) }
     ensures sound { is_sound (table_of held.old) ≡ true → is_sound_line line.now ≡ true → is_sound (table_of held.new) ≡ true }
     ensures named { AreNamed (table_of held.old) → AreNamed (table_of held.new) }
 {

@@ -1,6 +1,7 @@
 use Rattle.std.proofs.Common.{rules}
 use Rattle.named_volume.specs.Tables.{table_of}
 use Rattle.named_devices.proofs.Leaving.{left_by_is, left_by_sound, left_by_stays}
+use Rattle.named_devices.proofs.Fills.{asked_there}
 use Rattle.named_devices.proofs.attaching.detach.Goals as goal
 
 pub returns-in-Ok-clause-done : goal.returns-in-Ok-clause-done
@@ -17,3 +18,6 @@ pub returns-in-Err-clause-done : goal.returns-in-Err-clause-done
 returns-in-Err-clause-done c =
     left_by_stays (table_of c.args.held.now) c.args.v c.args.k c.in-Err.refusal c.reserve.new.self.items c.index_mut.result.now c.detach.new.self
     c.requires.0 c.index_mut.ensures.value c.in-Err.ensures.busy c.in-Err.ensures.same (search rules)
+
+pub returns-in-Err-clause-full : goal.returns-in-Err-clause-full
+returns-in-Err-clause-full c = λ is. asked_there c.reserve.new.self.items c.args.held.now.volumes.items c.args.v c.detach.new.self c.requires.0 (c.in-Err.ensures.full is)

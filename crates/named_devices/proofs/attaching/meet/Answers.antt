@@ -3,6 +3,7 @@ use Rattle.command_rules.proofs.AtPlace.{put_back}
 use Rattle.named_devices.proofs.Places.{placed}
 use Rattle.named_devices.proofs.Meeting.{made_ok, made_err, met_ok, met_err, busy_ok, busy_err, attached_named, put_back_named}
 use Rattle.named_devices.proofs.Ruled.{both_here}
+use Rattle.named_devices.proofs.Fills.{asked_there}
 use Rattle.named_devices.proofs.attaching.meet.Goals as goal
 
 pub returns-in-Ok : goal.returns-in-Ok
@@ -21,6 +22,7 @@ returns-in-Ok c = record {
   named = λ none room named.
       attached_named (table_of c.args.held.now) c.args.name c.args.overflow c.args.i c.args.v c.remove-stack.result c.index_mut.result.now c.attach.new.self c.remove-stack.new.self.items
       none room c.requires.stack c.remove-stack.ensures.value c.requires.volume c.index_mut.ensures.value c.remove-stack.ensures.items c.in-Ok.ensures.named named;
+  full = tt;
 }
 
 pub returns-in-Err : goal.returns-in-Err
@@ -50,4 +52,5 @@ returns-in-Err c = record {
       (placed c.args.held.now.stacks.items c.remove-stack.new.self.items c.put_stack_back.new.stacks.items c.args.i c.in-Err.stack c.requires.stack c.remove-stack.ensures.items c.put_stack_back.ensures)
       (put_back c.args.held.now.volumes.items c.args.v c.index_mut.result.now c.attach.new.self c.index_mut.ensures.value c.in-Err.ensures.same)
       c.in-Err.ensures.names named;
+  full = λ is. asked_there c.put_stack_back.new.stacks.items c.args.held.now.volumes.items c.args.v c.attach.new.self c.requires.volume (c.in-Err.ensures.full is);
 }

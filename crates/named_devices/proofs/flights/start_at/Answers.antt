@@ -3,6 +3,7 @@ use Rattle.command_rules.proofs.NamedFrames.{put_volume_named}
 use Rattle.named_devices.proofs.InVolume.{number_did, remains_in}
 use Rattle.named_devices.proofs.Starts.{unstarted}
 use Rattle.named_devices.specs.Flights.{IsStartedAs}
+use Rattle.named_devices.proofs.Fills.{full_in}
 use Rattle.named_devices.proofs.flights.start_at.Goals as goal
 
 pub returns-clause-named : goal.returns-clause-named
@@ -22,3 +23,6 @@ pub returns-clause-refused : goal.returns-clause-refused
 returns-clause-refused c =
     unstarted c.args.op c.start.result c.args.v c.args.role c.args.first c.args.count (table_of c.args.held.now) c.index_mut.result.now c.start.new.self c.requires.place.0 c.index_mut.ensures.value
     c.start.ensures.refused c.start.ensures.same c.start.ensures.still
+
+pub returns-clause-full : goal.returns-clause-full
+returns-clause-full c = full_in c.start.result c.args.v (table_of c.args.held.now) c.start.new.self c.requires.place.0 c.start.ensures.full

@@ -1,6 +1,7 @@
 use Rattle.named_volume.specs.Tables.{table_of}
 use Rattle.named_devices.proofs.Begins.{begins, begins_named, begun_in, not_begun, same_sound}
 use Rattle.named_devices.proofs.Ruled.{sound_here}
+use Rattle.named_devices.proofs.Fills.{full_in}
 use Rattle.named_devices.proofs.merging.begin_at.Goals as goal
 
 pub returns : goal.returns
@@ -17,4 +18,5 @@ returns c =
       begun = begun_in r c.args.v c.args.k table old new lt at c.begin_merge.ensures.named;
       sound = same_sound c.args.v table old new lt at c.begin_merge.ensures.sound c.begin_merge.ensures.quiet;
       named = begins_named r c.args.v c.args.k table old new lt at c.begin_merge.ensures.named c.begin_merge.ensures.err;
+      full = full_in r c.args.v table new lt c.begin_merge.ensures.full;
     }

@@ -3,6 +3,7 @@ use Rattle.settled.proofs.Starved.{other_full}
 use Rattle.named_volume.specs.Tables.{table_of}
 use Rattle.named_devices.proofs.Finishes.{finished_stays, left_named, left_sound, unfinished_in}
 use Rattle.named_devices.proofs.Ruled.{sound_here}
+use Rattle.named_devices.proofs.Fills.{asked_there}
 use Rattle.named_devices.proofs.merging.finish_at.Goals as goal
 
 pub returns-in-Ok-clause-sound : goal.returns-in-Ok-clause-sound
@@ -24,3 +25,6 @@ returns-in-Err-clause-done c = λ sound.
 pub returns-in-Err-clause-unfinished : goal.returns-in-Err-clause-unfinished
 returns-in-Err-clause-unfinished c = λ other.
     unfinished_in (table_of c.args.held.now) c.args.v c.in-Err.refusal c.index_mut.result.now c.requires c.index_mut.ensures.value (c.in-Err.ensures.unfinished (other_full c.in-Err.refusal other))
+
+pub returns-in-Err-clause-full : goal.returns-in-Err-clause-full
+returns-in-Err-clause-full c = λ is. asked_there c.reserve.new.self.items c.args.held.now.volumes.items c.args.v c.finish_merge.new.self c.requires (c.in-Err.ensures.full is)

@@ -1,6 +1,7 @@
 use Rattle.std.proofs.Common.{rules}
 use Rattle.named_volume.specs.Tables.{table_of}
 use Rattle.named_devices.proofs.Closing.{closed_is, closed_sound, stays}
+use Rattle.named_devices.proofs.Fills.{left_anyway}
 use Rattle.named_devices.proofs.origins.close.Goals as goal
 
 pub returns-in-Ok-clause-done : goal.returns-in-Ok-clause-done
@@ -17,3 +18,6 @@ pub returns-in-Err-clause-done : goal.returns-in-Err-clause-done
 returns-in-Err-clause-done c =
     stays (table_of c.args.held.now) c.args.v c.remove-volume.result c.in-Err.volume _ c.remove-volume.new.self.items c.put_volume_back.new.volumes.items c.in-Err.refusal
     c.requires c.remove-volume.ensures.value c.in-Err.ensures.err (search rules) c.remove-volume.ensures.items c.put_volume_back.ensures
+
+pub returns-in-Err-clause-room : goal.returns-in-Err-clause-room
+returns-in-Err-clause-room c = left_anyway c.in-Err.refusal _ _ _ _ c.in-Err.ensures.err.0

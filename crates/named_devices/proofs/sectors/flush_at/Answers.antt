@@ -10,6 +10,7 @@ use Rattle.named_devices.specs.Flights.{IsFlushedAmong}
 use Rattle.named_devices.proofs.Denied.{denied_in}
 use Rattle.named_devices.proofs.InVolume.{asked_did, asked_in, both_asked, changed_in, serves_in, stays_in}
 use Rattle.named_devices.proofs.Ruled.{quiet_here, sound_here}
+use Rattle.named_devices.proofs.Fills.{full_in}
 use Rattle.named_devices.proofs.sectors.flush_at.Goals as goal
 
 pub returns : goal.returns
@@ -34,4 +35,5 @@ returns c =
       named = λ named.
           put_volume_named table c.args.v old c.flush.new.self lt at
           c.flush.ensures.kept.origin c.flush.ensures.kept.under c.flush.ensures.kept.snaps c.flush.ensures.kept.merging named;
+      full = full_in c.flush.result c.args.v table c.flush.new.self lt c.flush.ensures.full;
     }

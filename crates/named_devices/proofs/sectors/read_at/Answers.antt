@@ -10,6 +10,7 @@ use Rattle.named_devices.specs.Flights.{IsReadAmong}
 use Rattle.named_devices.proofs.Denied.{denied_in}
 use Rattle.named_devices.proofs.InVolume.{asked_did, asked_in, both_asked, changed_in, serves_in, stays_in}
 use Rattle.named_devices.proofs.Ruled.{quiet_here, sound_here}
+use Rattle.named_devices.proofs.Fills.{full_in}
 use Rattle.named_devices.proofs.sectors.read_at.Goals as goal
 
 pub returns : goal.returns
@@ -34,4 +35,5 @@ returns c =
       named = λ named.
           put_volume_named table c.args.v old c.read.new.self lt at
           c.read.ensures.kept.origin c.read.ensures.kept.under c.read.ensures.kept.snaps c.read.ensures.kept.merging named;
+      full = full_in c.read.result c.args.v table c.read.new.self lt c.read.ensures.full;
     }

@@ -7,7 +7,7 @@ use Rattle.command_rules.specs.Stacks.{device_of}
 use Rattle.layers.specs.Stack.{stack_size}
 use Rattle.named_volume.proofs.StackSizes.{size_of}
 use Rattle.named_volume.specs.Held.{settled_in}
-use Rattle.named_volume.proofs.Asks.{no_serve, no_dev, no_range, no_more, asks, fits_known}
+use Rattle.named_volume.proofs.Asks.{no_serve, no_dev, no_range, no_more, asks, fits_anyway, fits_known}
 use Rattle.named_volume.proofs.sectors.ask.Goals as goal
 
 pub returns-in-Err-clause-err : goal.returns-in-Err-clause-err
@@ -19,6 +19,9 @@ returns-in-Err-range_in-clause-err c = λ v state asked. no_range c.args.role c.
 
 pub returns-in-Err-range_in-clause-known : goal.returns-in-Err-range_in-clause-known
 returns-in-Err-range_in-clause-known c = fits_known _ _ _ c.in-Err-range_in.refusal c.in-Err-range_in.ensures.value
+
+pub returns-in-Err-range_in-clause-room : goal.returns-in-Err-range_in-clause-room
+returns-in-Err-range_in-clause-room c = fits_anyway _ _ _ c.in-Err-range_in.refusal c.in-Err-range_in.ensures.value
 
 pub returns-in-Err-dev_of-clause-err : goal.returns-in-Err-dev_of-clause-err
 returns-in-Err-dev_of-clause-err c = λ v state asked. no_dev c.args.role c.args.first c.args.count v (settled_in c.args.volume.now.rested) state c.in-Err-dev_of.refusal (sym c.in-Ok.ensures.value)

@@ -15,6 +15,7 @@ use Rattle.runner.proofs.DeskLemmas.{may_ok, may_err}
 use Rattle.runner.proofs.ShownLemmas.{line_shown, refused_shown, silent_shown}
 use Rattle.runner.proofs.WellLemmas.{line_well}
 use Rattle.runner.specs.Starts.{AreStartReplies}
+use Rattle.runner.proofs.FullLemmas.{command_full, refused_full, silent_full}
 use Rattle.runner.proofs.step.answer.Goals as goal
 
 said : {rule : Result (Option Command) Refusal} {found says : Option Command} → rule ≡ Ok found → found ≡ says → rule ≡ Ok says
@@ -131,3 +132,15 @@ returns-in-Err-obey-clause-shows c = λ ruled.
 
 pub returns-in-Err-clause-shows : goal.returns-in-Err-clause-shows
 returns-in-Err-clause-shows c = λ ruled. refused_shown c.args.line.now (table_of c.args.held.now) c.in-Err.refusal c.in-Err.ensures
+
+pub returns-in-Ok-None-clause-full : goal.returns-in-Ok-None-clause-full
+returns-in-Ok-None-clause-full c = λ told. silent_full c.args.line.now (table_of c.args.held.now) (table_of c.args.held.now) (said c.in-Ok-None.ensures c.in-Ok-None.field-0-is)
+
+pub returns-in-Ok-clause-full : goal.returns-in-Ok-clause-full
+returns-in-Ok-clause-full c = λ told. command_full c.args.line.now c.in-Ok-Some.command (table_of c.args.held.now) (table_of c.obey.new.held) (said c.in-Ok-Some.ensures c.in-Ok-Some.field-0-is) (c.in-Ok.ensures.full told)
+
+pub returns-in-Err-obey-clause-full : goal.returns-in-Err-obey-clause-full
+returns-in-Err-obey-clause-full c = λ told. command_full c.args.line.now c.in-Ok-Some.command (table_of c.args.held.now) (table_of c.obey.new.held) (said c.in-Ok-Some.ensures c.in-Ok-Some.field-0-is) (c.in-Err-obey.ensures.full told)
+
+pub returns-in-Err-clause-full : goal.returns-in-Err-clause-full
+returns-in-Err-clause-full c = refused_full c.args.line.now (table_of c.args.held.now) (table_of c.args.held.now) c.in-Err.refusal c.in-Err.ensures

@@ -1,6 +1,6 @@
-use Rattle.std.proofs.Common.{◌≡◌, true, Some, refl, sym, subst}
+use Rattle.std.proofs.Common.{◌≡◌, [], ◌∷◌, true, Some, refl, sym, subst}
 use Rattle.std.specs.Prelude.{IfSome}
-use Rattle.command.specs.declared.command_reply.CommandReply.TheVariants.{Data, Done}
+use Rattle.command.specs.declared.command_reply.CommandReply.TheVariants.{Data, Done, Number, Refused}
 use Rattle.command.specs.declared.grammar.Command.{Command}
 use Rattle.named_volume.specs.Tables.{table_of}
 use Rattle.named_devices.specs.Ruled.{volume_for}
@@ -27,6 +27,10 @@ use Rattle.runner.proofs.AskingLemmas.{numbered_first}
 use Rattle.runner.proofs.StepLemmas.{serves_worded}
 use Rattle.runner.proofs.LeftLemmas.{asked_both, asked_still, refused_stays, worded_asked}
 use Rattle.runner.specs.Left.{IsLeft}
+use Rattle.sector.specs.declared.refusal.Refusal.TheVariants.{JournalFull}
+use Rattle.named_devices.specs.Asked.{IsAskedMuch}
+use Rattle.runner.specs.Full.{entered_by}
+use Rattle.runner.proofs.FullLemmas.{data_other, done_other, number_other, worded_full}
 use Rattle.runner.proofs.step.obey.Goals as goal
 
 pub returns-in-Tick-clause-sound : goal.returns-in-Tick-clause-sound
@@ -246,3 +250,48 @@ pub returns-in-Merge-clause-ordered : goal.returns-in-Merge-clause-ordered
 returns-in-Merge-clause-ordered c =
     let P : Command → Type 0 = λ command. IsLookedAt (table_of c.args.held.now) (changed_by command) in
     subst P (sym c.in-Merge.is) c.merge_device.ensures.ordered
+
+pub returns-in-Create-clause-full : goal.returns-in-Create-clause-full
+returns-in-Create-clause-full c =
+    let P : Command → Type 0 = λ command. told (reworded Some c.did-in-Create.result) ≡ Refused JournalFull ∷ [] → IsAskedMuch (entered_by command) (table_of c.args.held.now) (table_of c.create_device.new.held) in
+    subst P (sym c.in-Create.is) (worded_full (λ _. Done) _ c.create_device.result c.did-in-Create.result done_other c.create_device.ensures.full c.did-in-Create.ensures)
+
+pub returns-in-Remove-clause-full : goal.returns-in-Remove-clause-full
+returns-in-Remove-clause-full c =
+    let P : Command → Type 0 = λ command. told (reworded Some c.did-in-Remove.result) ≡ Refused JournalFull ∷ [] → IsAskedMuch (entered_by command) (table_of c.args.held.now) (table_of c.remove_device.new.held) in
+    subst P (sym c.in-Remove.is) (worded_full (λ _. Done) _ c.remove_device.result c.did-in-Remove.result done_other c.remove_device.ensures.full c.did-in-Remove.ensures)
+
+pub returns-in-Read-clause-full : goal.returns-in-Read-clause-full
+returns-in-Read-clause-full c =
+    let P : Command → Type 0 = λ command. told (reworded Some c.given-in-Read.result) ≡ Refused JournalFull ∷ [] → IsAskedMuch (entered_by command) (table_of c.args.held.now) (table_of c.read_device.new.held) in
+    subst P (sym c.in-Read.is) (worded_full Data _ c.read_device.result c.given-in-Read.result data_other c.read_device.ensures.full c.given-in-Read.ensures)
+
+pub returns-in-Write-clause-full : goal.returns-in-Write-clause-full
+returns-in-Write-clause-full c =
+    let P : Command → Type 0 = λ command. told (reworded Some c.did-in-Write.result) ≡ Refused JournalFull ∷ [] → IsAskedMuch (entered_by command) (table_of c.args.held.now) (table_of c.write_device.new.held) in
+    subst P (sym c.in-Write.is) (worded_full (λ _. Done) _ c.write_device.result c.did-in-Write.result done_other c.write_device.ensures.full c.did-in-Write.ensures)
+
+pub returns-in-Flush-clause-full : goal.returns-in-Flush-clause-full
+returns-in-Flush-clause-full c =
+    let P : Command → Type 0 = λ command. told (reworded Some c.did-in-Flush.result) ≡ Refused JournalFull ∷ [] → IsAskedMuch (entered_by command) (table_of c.args.held.now) (table_of c.flush_device.new.held) in
+    subst P (sym c.in-Flush.is) (worded_full (λ _. Done) _ c.flush_device.result c.did-in-Flush.result done_other c.flush_device.ensures.full c.did-in-Flush.ensures)
+
+pub returns-in-StartRead-clause-full : goal.returns-in-StartRead-clause-full
+returns-in-StartRead-clause-full c =
+    let P : Command → Type 0 = λ command. told (reworded Some c.number.result) ≡ Refused JournalFull ∷ [] → IsAskedMuch (entered_by command) (table_of c.args.held.now) (table_of c.start_read.new.held) in
+    subst P (sym c.in-StartRead.is) (worded_full Number _ c.start_read.result c.number.result number_other c.start_read.ensures.full c.number.ensures)
+
+pub returns-in-StartWrite-clause-full : goal.returns-in-StartWrite-clause-full
+returns-in-StartWrite-clause-full c =
+    let P : Command → Type 0 = λ command. told (reworded Some c.number-in-StartWrite.result) ≡ Refused JournalFull ∷ [] → IsAskedMuch (entered_by command) (table_of c.args.held.now) (table_of c.start_write.new.held) in
+    subst P (sym c.in-StartWrite.is) (worded_full Number _ c.start_write.result c.number-in-StartWrite.result number_other c.start_write.ensures.full c.number-in-StartWrite.ensures)
+
+pub returns-in-Merge-clause-full : goal.returns-in-Merge-clause-full
+returns-in-Merge-clause-full c =
+    let P : Command → Type 0 = λ command. told (reworded Some c.did-in-Merge.result) ≡ Refused JournalFull ∷ [] → IsAskedMuch (entered_by command) (table_of c.args.held.now) (table_of c.merge_device.new.held) in
+    subst P (sym c.in-Merge.is) (worded_full (λ _. Done) _ c.merge_device.result c.did-in-Merge.result done_other c.merge_device.ensures.full c.did-in-Merge.ensures)
+
+pub returns-in-Finish-clause-full : goal.returns-in-Finish-clause-full
+returns-in-Finish-clause-full c =
+    let P : Command → Type 0 = λ command. told (reworded Some c.did-in-Finish.result) ≡ Refused JournalFull ∷ [] → IsAskedMuch (entered_by command) (table_of c.args.held.now) (table_of c.finish_device.new.held) in
+    subst P (sym c.in-Finish.is) (worded_full (λ _. Done) _ c.finish_device.result c.did-in-Finish.result done_other c.finish_device.ensures.full c.did-in-Finish.ensures)

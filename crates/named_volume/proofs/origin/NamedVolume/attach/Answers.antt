@@ -1,5 +1,6 @@
-use Rattle.std.proofs.Common.{◌≡◌, ◌∙◌, ◌+◌, ◌++◌, ◌∷◌, [], ap, refl, sym, subst, true, false, inl, inr}
+use Rattle.std.proofs.Common.{◌≡◌, ◌∙◌, ◌+◌, ◌++◌, ◌∷◌, [], ap, refl, sym, subst, true, false, arith, inl, inr}
 use Rattle.std.specs.Prelude.{◌&&◌, Option, is_some}
+use Rattle.std.proofs.lemmas.Bool.{cases_Bool}
 use Rattle.device.specs.Layers.{is_loud}
 use Rattle.command_rules.specs.Stacks.{device_of}
 use Rattle.command_rules.specs.State.{Stacked, Volume}
@@ -15,6 +16,7 @@ use Rattle.named_volume.proofs.Meets.{met, unmet, busy_back, read_same}
 use Rattle.named_volume.proofs.Parts.{no_both}
 use Rattle.named_volume.proofs.Refused.{as_many, refused_seen}
 use Rattle.named_volume.proofs.origin.NamedVolume.attach.Goals.{then-self, else-self}
+use Rattle.named_volume.proofs.Filled.{asked_err}
 use Rattle.named_volume.proofs.origin.NamedVolume.attach.Goals as goal
 
 pub returns-after-self-clause-ok : goal.returns-after-self-clause-ok
@@ -93,3 +95,8 @@ returns-in-Err-attach-clause-same c =
       flying = flying_in m.volume.rested.events;
     } in
     rw c.reserve.ensures.items (refused_seen c.in-Err-attach.refusal m.volume.rested c.attach.new.self.rested c.in-Err-attach.ensures.seen.same held m.merging ∙ c.self.view_is)
+
+pub returns-in-Err-attach-clause-full : goal.returns-in-Err-attach-clause-full
+returns-in-Err-attach-clause-full c =
+    let was = c.self.inside.volume in
+    asked_err _ c.in-Err-attach.refusal was.taken was.rested.requests was.rested.attached c.self.inside.asked c.attach.new.self.rested.attached c.in-Err-attach.ensures.places.full (elim (cases_Bool c.args.overflow) [ inl does ↦ rw does (omega arith) | inr never ↦ rw never (omega arith) ]) c.look_at_places.ensures c.self.invariant.requests (ap (λ (x : Rested Stack). x.attached) c.in-Err-attach.ensures.seen.same.becomes)

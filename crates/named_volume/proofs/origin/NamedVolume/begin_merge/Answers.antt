@@ -1,4 +1,4 @@
-use Rattle.std.proofs.Common.{◌≡◌, length, false, Some, refl, sym, ap, ◌∙◌, arith, inl, inr}
+use Rattle.std.proofs.Common.{◌≡◌, length, true, false, Some, refl, sym, ap, ◌∙◌, subst, arith, inl, inr}
 use Rattle.std.specs.Prelude.{Option, is_some}
 use Rattle.std.specs.List.{remove}
 use Rattle.std.proofs.lemmas.List.Edits.{length-remove}
@@ -11,6 +11,9 @@ use Rattle.named_volume.proofs.Begins.{begun_once, begun_is, none_of, not_begun,
 use Rattle.named_volume.proofs.Merges.{begun_too, names_are}
 use Rattle.named_volume.proofs.Parts.{no_both}
 use Rattle.named_volume.proofs.Places.{here}
+use Rattle.command_rules.specs.State.{Volume}
+use Rattle.named_volume.specs.Asked.{has_asked_much}
+use Rattle.named_volume.proofs.Filled.{asked_err}
 use Rattle.named_volume.proofs.origin.NamedVolume.begin_merge.Goals as goal
 
 pub returns-then-is_some-clause-err : goal.returns-then-is_some-clause-err
@@ -92,3 +95,10 @@ returns-in-Err-clause-err c =
 
 pub returns-in-Err-clause-done : goal.returns-in-Err-clause-done
 returns-in-Err-clause-done c = λ sound. returns-in-Err-clause-err c
+
+pub returns-in-Err-clause-full : goal.returns-in-Err-clause-full
+returns-in-Err-clause-full c = λ is.
+    let was = c.self.inside.volume in
+    let P : Volume → Type 0 = λ v. has_asked_much v ≡ true in
+    subst P (sym (returns-in-Err-clause-err c).0)
+    (rw (← c.self.view_is) (asked_err 1 c.in-Err.refusal was.taken was.rested.requests was.rested.attached c.self.inside.asked was.rested.attached c.in-Err.ensures.places.full (omega arith) c.look_at_places.ensures c.self.invariant.requests refl is))

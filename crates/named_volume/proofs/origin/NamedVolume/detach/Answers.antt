@@ -6,6 +6,9 @@ use Rattle.command_rules.specs.Stacks.{device_of}
 use Rattle.named_volume.proofs.Merges.{begun_as_before, merging_as_before}
 use Rattle.named_volume.proofs.Places.{at_place, dev_there}
 use Rattle.named_volume.proofs.Parts.{no_both, parted_is, parted_not, given_loud}
+use Rattle.layers.specs.declared.stack.Stack.{Stack}
+use Rattle.volume_commands.specs.Rested.{Rested}
+use Rattle.named_volume.proofs.Filled.{asked_err}
 use Rattle.named_volume.proofs.origin.NamedVolume.detach.Goals as goal
 
 pub returns-in-Err-clause-busy : goal.returns-in-Err-clause-busy
@@ -54,3 +57,8 @@ pub returns-clause-loud : goal.returns-clause-loud
 returns-clause-loud c =
     rw (← c.self.view_is) (λ sound.
     rw c.of_parts.ensures (given_loud c.number-number.result c.in-Ok.given c.self.inside.volume.rested c.detach.new.self.rested c.in-Ok.ensures.seen.left (c.look.ensures c.in-Ok.ensures.seen.quiet.0 (c.self.invariant.loud sound))))
+
+pub returns-in-Err-clause-full : goal.returns-in-Err-clause-full
+returns-in-Err-clause-full c =
+    let was = c.self.inside.volume in
+    asked_err 1 c.in-Err.refusal was.taken was.rested.requests was.rested.attached c.self.inside.asked c.detach.new.self.rested.attached c.in-Err.ensures.places.full (omega arith) c.look_at_places.ensures c.self.invariant.requests (ap (λ (x : Rested Stack). x.attached) c.in-Err.ensures.seen.err.1)

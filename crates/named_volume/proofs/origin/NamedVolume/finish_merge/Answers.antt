@@ -1,4 +1,4 @@
-use Rattle.std.proofs.Common.{◌≡◌, Some, refl, sym, ap, ◌∙◌, inl, inr}
+use Rattle.std.proofs.Common.{◌≡◌, Some, refl, sym, ap, ◌∙◌, arith, inl, inr}
 use Rattle.std.specs.Prelude.{Option}
 use Rattle.volume.specs.Leaving.{is_quiet_of}
 use Rattle.command_rules.specs.State.{Names, Stacked, names_in}
@@ -6,6 +6,9 @@ use Rattle.named_volume.specs.Held.{merging_with}
 use Rattle.named_volume.proofs.Events.{behind}
 use Rattle.named_volume.proofs.Finishes.{finished_is, same_state, unfinished_is, unfinished_served}
 use Rattle.named_volume.proofs.Merges.{merge_is, names_are}
+use Rattle.layers.specs.declared.stack.Stack.{Stack}
+use Rattle.volume_commands.specs.Rested.{Rested}
+use Rattle.named_volume.proofs.Filled.{asked_err}
 use Rattle.named_volume.proofs.origin.NamedVolume.finish_merge.Goals as goal
 
 pub returns-in-Err-clause-refused : goal.returns-in-Err-clause-refused
@@ -53,3 +56,8 @@ returns-clause-named c =
       merging = ap (λ (o : Option Names). names_in (merging_with o c.finish_merge.new.self.rested)) c.take.ensures.after;
       given = out.attached;
     })
+
+pub returns-in-Err-clause-full : goal.returns-in-Err-clause-full
+returns-in-Err-clause-full c =
+    let was = c.self.inside.volume in
+    asked_err 1 c.in-Err.refusal was.taken was.rested.requests was.rested.attached c.self.inside.asked c.finish_merge.new.self.rested.attached c.in-Err.ensures.places.full (omega arith) c.look_at_places.ensures c.self.invariant.requests (ap (λ (x : Rested Stack). x.attached) c.in-Err.ensures.seen.same)

@@ -1,0 +1,44 @@
+-- Of which volume's journal a line says that it is full, and how much that volume was asked for. This project's own.
+use Rattle.std.specs.Prelude.{ℕ, List, Option, Some, None, Result, Ok, Err}
+use Rattle.sector.specs.declared.refusal.Refusal.{Refusal}
+use Rattle.command.specs.Line.{said_of}
+use Rattle.command.specs.declared.grammar.Command.{Command}
+use Rattle.command.specs.declared.grammar.Command.TheVariants as commands
+use Rattle.command_rules.specs.State.{Table}
+use Rattle.named_devices.specs.Asked.{IsAskedMuch}
+use Rattle.named_devices.specs.Order.{changed_under}
+
+-- the name of the device in whose volume's journal a command takes places
+abbrev pub entered_by : Command → Option (List ℕ)
+entered_by (commands.Create name line) = changed_under line.target
+entered_by (commands.Remove name) = Some name
+entered_by (commands.Read device first count) = Some device
+entered_by (commands.Write device first bytes) = Some device
+entered_by (commands.Flush device) = Some device
+entered_by (commands.StartRead device first count) = Some device
+entered_by (commands.StartWrite device first bytes) = Some device
+entered_by (commands.Merge name) = Some name
+entered_by (commands.Finish volume) = Some volume
+entered_by (commands.Disk name sectors) = None
+entered_by (commands.Load disk first bytes) = None
+entered_by (commands.Save disk first count) = None
+entered_by (commands.Message device message) = None
+entered_by (commands.Tick seconds) = None
+entered_by (commands.Step volume event) = None
+entered_by (commands.Settle volume) = None
+entered_by (commands.Resume volume) = None
+entered_by (commands.Checkpoint volume) = None
+entered_by (commands.Stop volume) = None
+entered_by (commands.StopLosing volume) = None
+entered_by (commands.Status device) = None
+entered_by (commands.Table device) = None
+
+-- by the end of such a command, its volume was asked for so much that its journal may be full
+abbrev pub IsAskedBySaid : Result (Option Command) Refusal → Table → Table → Type 0
+IsAskedBySaid (Ok None) old new = Unit {0}
+IsAskedBySaid (Ok (Some command)) old new = IsAskedMuch (entered_by command) old new
+IsAskedBySaid (Err refusal) old new = Unit {0}
+
+-- the same of a line
+unfoldable pub IsAskedByLine : List ℕ → Table → Table → Type 0
+IsAskedByLine line old new = IsAskedBySaid (said_of 65536 line) old new
