@@ -5,11 +5,12 @@ use Rattle.std.proofs.lemmas.Bool.{cases_Bool, cond-true, cond-false}
 use Rattle.plain.specs.declared.request.Reply.TheVariants.{Refused}
 use Rattle.plain.specs.declared.request.Failure.TheVariants.{Invalid}
 use Rattle.settled.specs.Devices.{Device}
-use Rattle.settled.specs.Snaps.{Snap}
-use Rattle.settled.specs.Pieces.{Answered, Served, in_snap}
+use Rattle.settled.specs.Snaps.{Snap, Volume}
+use Rattle.settled.specs.Pieces.{Answered, in_snap}
 use Rattle.event_machine.specs.Held.{SnapHeld}
 use Rattle.event_machine.specs.Stepping.{first_that}
 use Rattle.settled.proofs.Each.{Each}
+use Rattle.settled.specs.Saving.{Saving}
 
 pub record IsSplit {X : Type 0} (test : X → Bool) (xs : List X) : Type 0 where
   pub done : List X
@@ -36,16 +37,16 @@ pub none_that : {X : Type 0} (test : X → Bool) (xs : List X) → Each (λ x. t
 none_that test [] all = refl
 none_that test (x ∷ xs) all = cond-false _ _ _ all.0 ∙ none_that test xs all.1
 
-module _ (number : ℕ) (serve : Device → Snap → Served) (origin : Device) where
-  abbrev with_snaps : List Snap → Answered → Answered
-  with_snaps more a = record { volume = record { origin = a.volume.origin; snaps = more ++ a.volume.snaps }; reply = a.reply }
+module _ (number : ℕ) (serve : Device → Snap → Answered Saving) (origin : Device) where
+  abbrev with_snaps : List Snap → Answered Volume → Answered Volume
+  with_snaps more a = record { state = record { origin = a.state.origin; snaps = more ++ a.state.snaps }; reply = a.reply }
 
   -- the snapshot of a number is served
   pub served_here : (done rest : List SnapHeld) (h : SnapHeld) → Each (λ (d : SnapHeld). (d.snap.number == number) ≡ false) done → (h.snap.number == number) ≡ true →
-      in_snap number serve origin (map (λ (d : SnapHeld). d.snap) (done ++ h ∷ rest)) ≡ record { volume = record { origin = (serve origin h.snap).origin; snaps = map (λ (d : SnapHeld). d.snap) done ++ (serve origin h.snap).snap ∷ map (λ (d : SnapHeld). d.snap) rest }; reply = (serve origin h.snap).reply }
+      in_snap number serve origin (map (λ (d : SnapHeld). d.snap) (done ++ h ∷ rest)) ≡ record { state = record { origin = (serve origin h.snap).state.origin; snaps = map (λ (d : SnapHeld). d.snap) done ++ (serve origin h.snap).state.snap ∷ map (λ (d : SnapHeld). d.snap) rest }; reply = (serve origin h.snap).reply }
   served_here [] rest h before pass = cond-true _ _ _ pass
   served_here (d ∷ done) rest h before pass = cond-false _ _ _ before.0 ∙ ap (with_snaps (d.snap ∷ [])) (served_here done rest h before.1 pass)
 
-  pub served_nowhere : (snaps : List SnapHeld) → Each (λ (d : SnapHeld). (d.snap.number == number) ≡ false) snaps → in_snap number serve origin (map (λ (d : SnapHeld). d.snap) snaps) ≡ record { volume = record { origin = origin; snaps = map (λ (d : SnapHeld). d.snap) snaps }; reply = Refused Invalid }
+  pub served_nowhere : (snaps : List SnapHeld) → Each (λ (d : SnapHeld). (d.snap.number == number) ≡ false) snaps → in_snap number serve origin (map (λ (d : SnapHeld). d.snap) snaps) ≡ record { state = record { origin = origin; snaps = map (λ (d : SnapHeld). d.snap) snaps }; reply = Refused Invalid }
   served_nowhere [] none = refl
   served_nowhere (d ∷ snaps) none = cond-false _ _ _ none.0 ∙ ap (with_snaps (d.snap ∷ [])) (served_nowhere snaps none.1)

@@ -8,6 +8,7 @@ use Rattle.event_machine.specs.Stepping.{for_some, stepped}
 use Rattle.event_machine.specs.MergeDue.{due_all}
 use Rattle.event_machine.specs.MergeStepping.{stepped_all}
 use Rattle.event_machine.specs.Rest.{IsAtRest}
+use Rattle.settled.specs.Snaps.{Volume}
 
 -- after so many events at most, each chosen so, and each doing this
 abbrev pub settle_by : (Moving → Option Event) → (Event → Moving → Moving) → ℕ → Moving → Moving
@@ -23,12 +24,12 @@ settle_all fuel v = settle_by due_all stepped_all fuel v
 
 -- A volume of so many sectors settles to this answer: after so many events, and after any more, nothing is due, it is at
 -- rest, its devices and its snapshots are those of the answer, and so is the reply.
-pub record SettlesTo (sectors : ℕ) (v : Moving) (answer : Answered) : Type 0 where
+pub record SettlesTo (sectors : ℕ) (v : Moving) (answer : Answered Volume) : Type 0 where
   pub fuel : ℕ
   pub last : Moving
   pub ends : (more : ℕ) → settle (fuel + more) v ≡ last
   pub quiet : due last ≡ None
   pub rest : IsAtRest sectors last
-  pub origin : last.origin ≡ answer.volume.origin
-  pub snaps : map (λ (h : SnapHeld). h.snap) last.snaps ≡ answer.volume.snaps
+  pub origin : last.origin ≡ answer.state.origin
+  pub snaps : map (λ (h : SnapHeld). h.snap) last.snaps ≡ answer.state.snaps
   pub reply : last.replied ≡ Some answer.reply

@@ -14,7 +14,7 @@ use Rattle.store_bytes.specs.Picture.{place_of}
 use Rattle.settled.specs.Devices.{Device, answers}
 use Rattle.settled.specs.Snaps.{Snap, Volume}
 use Rattle.settled.specs.Saving.{Saving, next_place, is_full, has_chunk, save}
-use Rattle.settled.specs.Pieces.{Answered, Served, save_at, write_place, write_saved, shuts, write_snap, read_place, read_snap, flush_snap, in_snap}
+use Rattle.settled.specs.Pieces.{Answered, save_at, write_place, write_saved, shuts, write_snap, read_place, read_snap, flush_snap, in_snap}
 use Rattle.settled.specs.Commands.{piece_of}
 use Rattle.settled.specs.Requests.{answered_by}
 use Rattle.settled.proofs.Each.{Each, each_weaker}
@@ -48,54 +48,54 @@ module _ (P : ℕ → Type 0) where
       let here : Saving = save (wanted s) origin s in
       (stays s here.snap (save_chunk (wanted s) origin s) all.0, at_keep wanted here.origin snaps all.1)
 
-  snap_keep : (number : ℕ) (serve : Device → Snap → Served) → ((origin : Device) (s : Snap) → (serve origin s).snap.chunk ≡ s.chunk) → (origin : Device) (snaps : List Snap) → Each OfChunks snaps → Each OfChunks (in_snap number serve origin snaps).volume.snaps
+  snap_keep : (number : ℕ) (serve : Device → Snap → Answered Saving) → ((origin : Device) (s : Snap) → (serve origin s).state.snap.chunk ≡ s.chunk) → (origin : Device) (snaps : List Snap) → Each OfChunks snaps → Each OfChunks (in_snap number serve origin snaps).state.snaps
   snap_keep number serve keeps origin [] all = tt
   snap_keep number serve keeps origin (s ∷ snaps) all =
-      let here : Answered = (let a : Served = serve origin s in record { volume = record { origin = a.origin; snaps = a.snap ∷ snaps }; reply = a.reply }) in
-      let there : Answered = (let a : Answered = in_snap number serve origin snaps in record { volume = record { origin = a.volume.origin; snaps = s ∷ a.volume.snaps }; reply = a.reply }) in
+      let here : Answered Volume = (let a : Answered Saving = serve origin s in record { state = record { origin = a.state.origin; snaps = a.state.snap ∷ snaps }; reply = a.reply }) in
+      let there : Answered Volume = (let a : Answered Volume = in_snap number serve origin snaps in record { state = record { origin = a.state.origin; snaps = s ∷ a.state.snaps }; reply = a.reply }) in
       elim (cases_Bool (s.number == number)) [
-        | inl this ↦ subst_snaps _ here (cond-true _ _ _ this) (stays s (serve origin s).snap (keeps origin s) all.0, all.1)
+        | inl this ↦ subst_snaps _ here (cond-true _ _ _ this) (stays s (serve origin s).state.snap (keeps origin s) all.0, all.1)
         | inr other ↦ subst_snaps _ there (cond-false _ _ _ other) (all.0, snap_keep number serve keeps origin snaps all.1)
       ]
     where
-      subst_snaps : (a b : Answered) → a ≡ b → Each OfChunks b.volume.snaps → Each OfChunks a.volume.snaps
+      subst_snaps : (a b : Answered Volume) → a ≡ b → Each OfChunks b.state.snaps → Each OfChunks a.state.snaps
       subst_snaps a b same each = rw same each
 
-  place_keeps : (piece : Span) (bytes : List ℕ) (origin : Device) (s : Snap) (o : Option ℕ) → (write_place piece bytes origin s o).snap.chunk ≡ s.chunk
+  place_keeps : (piece : Span) (bytes : List ℕ) (origin : Device) (s : Snap) (o : Option ℕ) → (write_place piece bytes origin s o).state.snap.chunk ≡ s.chunk
   place_keeps piece bytes origin s None = refl
   place_keeps piece bytes origin s (Some n) = refl
 
-  saved_keeps : (piece : Span) (bytes : List ℕ) (origin : Device) (s : Snap) → (write_saved piece bytes (save (piece.first / s.chunk) origin s)).snap.chunk ≡ s.chunk
+  saved_keeps : (piece : Span) (bytes : List ℕ) (origin : Device) (s : Snap) → (write_saved piece bytes (save (piece.first / s.chunk) origin s)).state.snap.chunk ≡ s.chunk
   saved_keeps piece bytes origin s =
       let a : Saving = save (piece.first / s.chunk) origin s in
       elim (cases_Bool a.snap.live) [
-        | inl on ↦ ap (λ (x : Served). x.snap.chunk) (cond-true _ _ _ on) ∙ place_keeps piece bytes a.origin a.snap (place_of (pairs_of a.snap.chunk a.snap.store.bytes) (piece.first / a.snap.chunk)) ∙ save_chunk (piece.first / s.chunk) origin s
-        | inr out ↦ ap (λ (x : Served). x.snap.chunk) (cond-false _ _ _ out) ∙ save_chunk (piece.first / s.chunk) origin s
+        | inl on ↦ ap (λ (x : Answered Saving). x.state.snap.chunk) (cond-true _ _ _ on) ∙ place_keeps piece bytes a.origin a.snap (place_of (pairs_of a.snap.chunk a.snap.store.bytes) (piece.first / a.snap.chunk)) ∙ save_chunk (piece.first / s.chunk) origin s
+        | inr out ↦ ap (λ (x : Answered Saving). x.state.snap.chunk) (cond-false _ _ _ out) ∙ save_chunk (piece.first / s.chunk) origin s
       ]
 
-  write_keeps : (piece : Span) (bytes : List ℕ) (origin : Device) (s : Snap) → (write_snap piece bytes origin s).snap.chunk ≡ s.chunk
+  write_keeps : (piece : Span) (bytes : List ℕ) (origin : Device) (s : Snap) → (write_snap piece bytes origin s).state.snap.chunk ≡ s.chunk
   write_keeps piece bytes origin s = elim (cases_Bool (shuts (piece.first / s.chunk) s)) [
-    | inl shut ↦ ap (λ (x : Served). x.snap.chunk) (cond-true _ _ _ shut)
-    | inr takes ↦ ap (λ (x : Served). x.snap.chunk) (cond-false _ _ _ takes) ∙ saved_keeps piece bytes origin s
+    | inl shut ↦ ap (λ (x : Answered Saving). x.state.snap.chunk) (cond-true _ _ _ shut)
+    | inr takes ↦ ap (λ (x : Answered Saving). x.state.snap.chunk) (cond-false _ _ _ takes) ∙ saved_keeps piece bytes origin s
   ]
 
-  read_place_keeps : (piece : Span) (origin : Device) (s : Snap) (o : Option ℕ) → (read_place piece origin s o).snap.chunk ≡ s.chunk
+  read_place_keeps : (piece : Span) (origin : Device) (s : Snap) (o : Option ℕ) → (read_place piece origin s o).state.snap.chunk ≡ s.chunk
   read_place_keeps piece origin s None = refl
   read_place_keeps piece origin s (Some n) = refl
 
-  read_keeps : (piece : Span) (origin : Device) (s : Snap) → (read_snap piece origin s).snap.chunk ≡ s.chunk
+  read_keeps : (piece : Span) (origin : Device) (s : Snap) → (read_snap piece origin s).state.snap.chunk ≡ s.chunk
   read_keeps piece origin s = elim (cases_Bool s.live) [
-    | inl on ↦ ap (λ (x : Served). x.snap.chunk) (cond-true _ _ _ on) ∙ read_place_keeps piece origin s (place_of (pairs_of s.chunk s.store.bytes) (piece.first / s.chunk))
-    | inr out ↦ ap (λ (x : Served). x.snap.chunk) (cond-false _ _ _ out)
+    | inl on ↦ ap (λ (x : Answered Saving). x.state.snap.chunk) (cond-true _ _ _ on) ∙ read_place_keeps piece origin s (place_of (pairs_of s.chunk s.store.bytes) (piece.first / s.chunk))
+    | inr out ↦ ap (λ (x : Answered Saving). x.state.snap.chunk) (cond-false _ _ _ out)
   ]
 
-  flush_keeps : (origin : Device) (s : Snap) → (flush_snap origin s).snap.chunk ≡ s.chunk
+  flush_keeps : (origin : Device) (s : Snap) → (flush_snap origin s).state.snap.chunk ≡ s.chunk
   flush_keeps origin s = elim (cases_Bool s.live) [
-    | inl on ↦ ap (λ (x : Served). x.snap.chunk) (cond-true _ _ _ on)
-    | inr out ↦ ap (λ (x : Served). x.snap.chunk) (cond-false _ _ _ out)
+    | inl on ↦ ap (λ (x : Answered Saving). x.state.snap.chunk) (cond-true _ _ _ on)
+    | inr out ↦ ap (λ (x : Answered Saving). x.state.snap.chunk) (cond-false _ _ _ out)
   ]
 
-  pub chunks_keep : (dev : Dev) (op : Op) (piece : Span) (v : Volume) → Each OfChunks v.snaps → Each OfChunks (answered_by dev op piece v).volume.snaps
+  pub chunks_keep : (dev : Dev) (op : Op) (piece : Span) (v : Volume) → Each OfChunks v.snaps → Each OfChunks (answered_by dev op piece v).state.snaps
   chunks_keep Origin Read piece v all = all
   chunks_keep Origin (Write bytes) piece v all = at_keep (λ s. piece.first / s.chunk) v.origin v.snaps all
   chunks_keep Origin Flush piece v all = all
@@ -111,7 +111,7 @@ module _ (chunk : ℕ) where
   abbrev pub HasChunks : Snap → Type 0
   HasChunks s = (is_chunk s.chunk ≡ true) × (chunk ≤ s.chunk)
 
-  pub answer_keeps : (dev : Dev) (op : Op) (piece : Span) (v : Volume) → Each HasChunks v.snaps → Each HasChunks (answered_by dev op piece v).volume.snaps
+  pub answer_keeps : (dev : Dev) (op : Op) (piece : Span) (v : Volume) → Each HasChunks v.snaps → Each HasChunks (answered_by dev op piece v).state.snaps
   answer_keeps dev op piece v all = chunks_keep IsWide dev op piece v all
 
 -- the least of two sizes, or of those of all snapshots

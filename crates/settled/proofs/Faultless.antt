@@ -94,31 +94,31 @@ save_all_bare disk first (s ∷ ss) (t ∷ ts) are =
     )
 
 -- a piece of an origin write
-pub piece_bare : (piece : Span) (bytes : List ℕ) (v : Volume) (w : Settled) → IsBare v w → IsBare (write_origin piece bytes v).volume (settled_piece piece.first bytes w) × ((write_origin piece bytes v).reply ≡ Written)
+pub piece_bare : (piece : Span) (bytes : List ℕ) (v : Volume) (w : Settled) → IsBare v w → IsBare (write_origin piece bytes v).state (settled_piece piece.first bytes w) × ((write_origin piece bytes v).reply ≡ Written)
 piece_bare piece bytes v w is =
     let all : Volume = save_all piece.first v.origin v.snaps in
     let start : all ≡ save_all piece.first (plainly w.disk) v.snaps = ap (λ (o : Device). save_all piece.first o v.snaps) is.origin in
     let done = save_all_bare w.disk piece.first v.snaps w.snaps is.snaps in
     let origin : all.origin ≡ plainly w.disk = ap (λ (x : Volume). x.origin) start ∙ done.0 in
-    let written_on : Device → Answered = λ (o : Device). write_disk piece bytes (record { origin = o; snaps = all.snaps }) in
-    let whole : write_origin piece bytes v ≡ record { volume = record { origin = plainly (with_sectors w.disk piece.first bytes); snaps = all.snaps }; reply = Written } = ap written_on origin in (
+    let written_on : Device → Answered Volume = λ (o : Device). write_disk piece bytes (record { origin = o; snaps = all.snaps }) in
+    let whole : write_origin piece bytes v ≡ record { state = record { origin = plainly (with_sectors w.disk piece.first bytes); snaps = all.snaps }; reply = Written } = ap written_on origin in (
       record {
-        origin = ap (λ (x : Answered). x.volume.origin) whole;
-        snaps = subst (λ (x : Answered). AreBare x.volume.snaps (map (save_in w.disk piece.first) w.snaps)) (sym whole) (subst (λ (x : Volume). AreBare x.snaps (map (save_in w.disk piece.first) w.snaps)) (sym start) done.1);
+        origin = ap (λ (x : Answered Volume). x.state.origin) whole;
+        snaps = subst (λ (x : Answered Volume). AreBare x.state.snaps (map (save_in w.disk piece.first) w.snaps)) (sym whole) (subst (λ (x : Volume). AreBare x.snaps (map (save_in w.disk piece.first) w.snaps)) (sym start) done.1);
       },
-      ap (λ (x : Answered). x.reply) whole,
+      ap (λ (x : Answered Volume). x.reply) whole,
     )
 
-pieces_bare : (pieces : List Span) (bytes : List ℕ) (v : Volume) (w : Settled) → IsBare v w → IsBare (write_pieces ToOrigin pieces bytes v).volume (settled_pieces pieces bytes w) × ((write_pieces ToOrigin pieces bytes v).reply ≡ Written)
+pieces_bare : (pieces : List Span) (bytes : List ℕ) (v : Volume) (w : Settled) → IsBare v w → IsBare (write_pieces ToOrigin pieces bytes v).state (settled_pieces pieces bytes w) × ((write_pieces ToOrigin pieces bytes v).reply ≡ Written)
 pieces_bare [] bytes v w is = (is, refl)
 pieces_bare (piece ∷ pieces) bytes v w is =
-    let here : Answered = write_origin piece (take (512 * piece.count) bytes) v in
+    let here : Answered Volume = write_origin piece (take (512 * piece.count) bytes) v in
     let step = piece_bare piece (take (512 * piece.count) bytes) v w is in
-    let rest : Answered = write_pieces ToOrigin pieces (drop (512 * piece.count) bytes) here.volume in
+    let rest : Answered Volume = write_pieces ToOrigin pieces (drop (512 * piece.count) bytes) here.state in
     let goes : write_pieces ToOrigin (piece ∷ pieces) bytes v ≡ rest = ap (λ (r : Reply). go_on r here rest) step.1 in
-    let more = pieces_bare pieces (drop (512 * piece.count) bytes) here.volume (settled_piece piece.first (take (512 * piece.count) bytes) w) step.0 in (
-      subst (λ (x : Answered). IsBare x.volume (settled_pieces pieces (drop (512 * piece.count) bytes) (settled_piece piece.first (take (512 * piece.count) bytes) w))) (sym goes) more.0,
-      ap (λ (x : Answered). x.reply) goes ∙ more.1,
+    let more = pieces_bare pieces (drop (512 * piece.count) bytes) here.state (settled_piece piece.first (take (512 * piece.count) bytes) w) step.0 in (
+      subst (λ (x : Answered Volume). IsBare x.state (settled_pieces pieces (drop (512 * piece.count) bytes) (settled_piece piece.first (take (512 * piece.count) bytes) w))) (sym goes) more.0,
+      ap (λ (x : Answered Volume). x.reply) goes ∙ more.1,
     )
 
 piece_size : (ss : List Snap) (ts : List Plainly) → AreBare ss ts → piece_of ss ≡ settled_piece_of ts
@@ -128,8 +128,8 @@ piece_size (s ∷ ss) [] are = absurd are
 piece_size (s ∷ ss) (t ∷ ts) are = ap (λ (x : Snap). min x.chunk (piece_of ss)) are.0 ∙ ap (min t.chunk) (piece_size ss ts are.1)
 
 -- a settled write of the origin
-pub faultless : (span : Span) (bytes : List ℕ) (v : Volume) (w : Settled) → IsBare v w → IsBare (written ToOrigin span bytes v).volume (settled_written span bytes w) × ((written ToOrigin span bytes v).reply ≡ Written)
+pub faultless : (span : Span) (bytes : List ℕ) (v : Volume) (w : Settled) → IsBare v w → IsBare (written ToOrigin span bytes v).state (settled_written span bytes w) × ((written ToOrigin span bytes v).reply ≡ Written)
 unfolding written settled_written
 faultless span bytes v w is =
-    subst (λ (n : ℕ). IsBare (write_pieces ToOrigin (pieces_of (piece_of v.snaps) span) bytes v).volume (settled_pieces (pieces_of n span) bytes w) × ((write_pieces ToOrigin (pieces_of (piece_of v.snaps) span) bytes v).reply ≡ Written))
+    subst (λ (n : ℕ). IsBare (write_pieces ToOrigin (pieces_of (piece_of v.snaps) span) bytes v).state (settled_pieces (pieces_of n span) bytes w) × ((write_pieces ToOrigin (pieces_of (piece_of v.snaps) span) bytes v).reply ≡ Written))
     (piece_size v.snaps w.snaps is.snaps) (pieces_bare (pieces_of (piece_of v.snaps) span) bytes v w is)

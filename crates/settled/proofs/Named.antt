@@ -7,9 +7,9 @@ use Rattle.chunk.specs.Pieces.{Span}
 use Rattle.store_bytes.specs.Pairs.{pairs_of}
 use Rattle.store_bytes.specs.Picture.{place_of}
 use Rattle.settled.specs.Devices.{Device, answers}
-use Rattle.settled.specs.Snaps.{Snap, shown}
+use Rattle.settled.specs.Snaps.{Snap, shown, Volume}
 use Rattle.settled.specs.Saving.{Saving, next_place, is_full, has_chunk, save}
-use Rattle.settled.specs.Pieces.{Answered, Served, save_all, write_place, write_saved, shuts, write_snap, read_place, read_snap, flush_snap, in_snap}
+use Rattle.settled.specs.Pieces.{Answered, save_all, write_place, write_saved, shuts, write_snap, read_place, read_snap, flush_snap, in_snap}
 use Rattle.settled.specs.Shown.{ShowTheSame}
 use Rattle.settled.specs.Merges.{snap_named}
 use Rattle.settled.proofs.Saves.{saves_nothing, saves_full, saves_copy, chunk_read}
@@ -29,48 +29,48 @@ save_number c origin s = elim (cases_Bool (not s.live || has_chunk c s)) [
   ]
 ]
 
-place_number : (piece : Span) (bytes : List ℕ) (origin : Device) (s : Snap) (o : Option ℕ) → (write_place piece bytes origin s o).snap.number ≡ s.number
+place_number : (piece : Span) (bytes : List ℕ) (origin : Device) (s : Snap) (o : Option ℕ) → (write_place piece bytes origin s o).state.snap.number ≡ s.number
 place_number piece bytes origin s None = refl
 place_number piece bytes origin s (Some n) = refl
 
-place_bytes : (piece : Span) (bytes : List ℕ) (origin : Device) (s : Snap) (o : Option ℕ) → (write_place piece bytes origin s o).origin.bytes ≡ origin.bytes
+place_bytes : (piece : Span) (bytes : List ℕ) (origin : Device) (s : Snap) (o : Option ℕ) → (write_place piece bytes origin s o).state.origin.bytes ≡ origin.bytes
 place_bytes piece bytes origin s None = refl
 place_bytes piece bytes origin s (Some n) = refl
 
 -- a write that the snapshot takes, and any write
-saved_number : (piece : Span) (bytes : List ℕ) (origin : Device) (s : Snap) → (write_saved piece bytes (save (piece.first / s.chunk) origin s)).snap.number ≡ s.number
+saved_number : (piece : Span) (bytes : List ℕ) (origin : Device) (s : Snap) → (write_saved piece bytes (save (piece.first / s.chunk) origin s)).state.snap.number ≡ s.number
 saved_number piece bytes origin s =
     let a : Saving = save (piece.first / s.chunk) origin s in
     elim (cases_Bool a.snap.live) [
-      | inl on ↦ ap (λ (x : Served). x.snap.number) (cond-true _ _ _ on) ∙ place_number piece bytes a.origin a.snap (place_of (pairs_of a.snap.chunk a.snap.store.bytes) (piece.first / a.snap.chunk)) ∙ save_number (piece.first / s.chunk) origin s
-      | inr out ↦ ap (λ (x : Served). x.snap.number) (cond-false _ _ _ out) ∙ save_number (piece.first / s.chunk) origin s
+      | inl on ↦ ap (λ (x : Answered Saving). x.state.snap.number) (cond-true _ _ _ on) ∙ place_number piece bytes a.origin a.snap (place_of (pairs_of a.snap.chunk a.snap.store.bytes) (piece.first / a.snap.chunk)) ∙ save_number (piece.first / s.chunk) origin s
+      | inr out ↦ ap (λ (x : Answered Saving). x.state.snap.number) (cond-false _ _ _ out) ∙ save_number (piece.first / s.chunk) origin s
     ]
 
-pub write_number : (piece : Span) (bytes : List ℕ) (origin : Device) (s : Snap) → (write_snap piece bytes origin s).snap.number ≡ s.number
+pub write_number : (piece : Span) (bytes : List ℕ) (origin : Device) (s : Snap) → (write_snap piece bytes origin s).state.snap.number ≡ s.number
 write_number piece bytes origin s = elim (cases_Bool (shuts (piece.first / s.chunk) s)) [
-  | inl shut ↦ ap (λ (x : Served). x.snap.number) (cond-true _ _ _ shut)
-  | inr takes ↦ ap (λ (x : Served). x.snap.number) (cond-false _ _ _ takes) ∙ saved_number piece bytes origin s
+  | inl shut ↦ ap (λ (x : Answered Saving). x.state.snap.number) (cond-true _ _ _ shut)
+  | inr takes ↦ ap (λ (x : Answered Saving). x.state.snap.number) (cond-false _ _ _ takes) ∙ saved_number piece bytes origin s
 ]
 
-saved_bytes : (piece : Span) (bytes : List ℕ) (origin : Device) (s : Snap) → (write_saved piece bytes (save (piece.first / s.chunk) origin s)).origin.bytes ≡ origin.bytes
+saved_bytes : (piece : Span) (bytes : List ℕ) (origin : Device) (s : Snap) → (write_saved piece bytes (save (piece.first / s.chunk) origin s)).state.origin.bytes ≡ origin.bytes
 saved_bytes piece bytes origin s =
     let a : Saving = save (piece.first / s.chunk) origin s in
     elim (cases_Bool a.snap.live) [
-      | inl on ↦ ap (λ (x : Served). x.origin.bytes) (cond-true _ _ _ on) ∙ place_bytes piece bytes a.origin a.snap (place_of (pairs_of a.snap.chunk a.snap.store.bytes) (piece.first / a.snap.chunk)) ∙ save_bytes (piece.first / s.chunk) origin s
-      | inr out ↦ ap (λ (x : Served). x.origin.bytes) (cond-false _ _ _ out) ∙ save_bytes (piece.first / s.chunk) origin s
+      | inl on ↦ ap (λ (x : Answered Saving). x.state.origin.bytes) (cond-true _ _ _ on) ∙ place_bytes piece bytes a.origin a.snap (place_of (pairs_of a.snap.chunk a.snap.store.bytes) (piece.first / a.snap.chunk)) ∙ save_bytes (piece.first / s.chunk) origin s
+      | inr out ↦ ap (λ (x : Answered Saving). x.state.origin.bytes) (cond-false _ _ _ out) ∙ save_bytes (piece.first / s.chunk) origin s
     ]
 
-pub write_bytes : (piece : Span) (bytes : List ℕ) (origin : Device) (s : Snap) → (write_snap piece bytes origin s).origin.bytes ≡ origin.bytes
+pub write_bytes : (piece : Span) (bytes : List ℕ) (origin : Device) (s : Snap) → (write_snap piece bytes origin s).state.origin.bytes ≡ origin.bytes
 write_bytes piece bytes origin s = elim (cases_Bool (shuts (piece.first / s.chunk) s)) [
-  | inl shut ↦ ap (λ (x : Served). x.origin.bytes) (cond-true _ _ _ shut)
-  | inr takes ↦ ap (λ (x : Served). x.origin.bytes) (cond-false _ _ _ takes) ∙ saved_bytes piece bytes origin s
+  | inl shut ↦ ap (λ (x : Answered Saving). x.state.origin.bytes) (cond-true _ _ _ shut)
+  | inr takes ↦ ap (λ (x : Answered Saving). x.state.origin.bytes) (cond-false _ _ _ takes) ∙ saved_bytes piece bytes origin s
 ]
 
 -- a read or a flush changes nothing that is shown
-pub record IsRead (origin : Device) (s : Snap) (r : Served) : Type 0 where
-  pub number : r.snap.number ≡ s.number
-  pub shows : (disk : List ℕ) → shown disk r.snap ≡ shown disk s
-  pub bytes : r.origin.bytes ≡ origin.bytes
+pub record IsRead (origin : Device) (s : Snap) (r : Answered Saving) : Type 0 where
+  pub number : r.state.snap.number ≡ s.number
+  pub shows : (disk : List ℕ) → shown disk r.state.snap ≡ shown disk s
+  pub bytes : r.state.origin.bytes ≡ origin.bytes
 
 pub is_read : (piece : Span) (origin : Device) (s : Snap) → IsRead origin s (read_snap piece origin s)
 is_read piece origin s = elim (cases_Bool s.live) [
@@ -115,19 +115,19 @@ all_named number first origin (s ∷ snaps) before after t shows is =
     ]
 
 -- one snapshot was served: another, or by what does not change what it shows
-pub one_named : (number n : ℕ) (serve : Device → Snap → Served) → ((origin : Device) (s : Snap) → (serve origin s).snap.number ≡ s.number) → ((n == number) ≡ false) ⊎ ((origin : Device) (s : Snap) (disk : List ℕ) → shown disk (serve origin s).snap ≡ shown disk s) →
-    (origin : Device) (snaps : List Snap) (disk : List ℕ) (t : Snap) → snap_named number (in_snap n serve origin snaps).volume.snaps ≡ Some t → WasShown number disk disk snaps t
+pub one_named : (number n : ℕ) (serve : Device → Snap → Answered Saving) → ((origin : Device) (s : Snap) → (serve origin s).state.snap.number ≡ s.number) → ((n == number) ≡ false) ⊎ ((origin : Device) (s : Snap) (disk : List ℕ) → shown disk (serve origin s).state.snap ≡ shown disk s) →
+    (origin : Device) (snaps : List Snap) (disk : List ℕ) (t : Snap) → snap_named number (in_snap n serve origin snaps).state.snaps ≡ Some t → WasShown number disk disk snaps t
 one_named number n serve keeps spares origin [] disk t is = absurd (cc)
 one_named number n serve keeps spares origin (s ∷ snaps) disk t is =
-    let a : Served = serve origin s in
-    let later : Answered = in_snap n serve origin snaps in
-    let here : Answered = record { volume = record { origin = a.origin; snaps = a.snap ∷ snaps }; reply = a.reply } in
-    let there : Answered = record { volume = record { origin = later.volume.origin; snaps = s ∷ later.volume.snaps }; reply = later.reply } in
-    let number_is : (a.snap.number == number) ≡ (s.number == number) = ap (λ k. k == number) (keeps origin s) in
+    let a : Answered Saving = serve origin s in
+    let later : Answered Volume = in_snap n serve origin snaps in
+    let here : Answered Volume = record { state = record { origin = a.state.origin; snaps = a.state.snap ∷ snaps }; reply = a.reply } in
+    let there : Answered Volume = record { state = record { origin = later.state.origin; snaps = s ∷ later.state.snaps }; reply = later.reply } in
+    let number_is : (a.state.snap.number == number) ≡ (s.number == number) = ap (λ k. k == number) (keeps origin s) in
     elim (cases_Bool (s.number == n)) [
-      | inl served ↦ (let got : snap_named number (a.snap ∷ snaps) ≡ Some t = sym (ap (λ (x : Answered). snap_named number x.volume.snaps) (let e : in_snap n serve origin (s ∷ snaps) ≡ here = cond-true _ _ _ served in e)) ∙ is in
+      | inl served ↦ (let got : snap_named number (a.state.snap ∷ snaps) ≡ Some t = sym (ap (λ (x : Answered Volume). snap_named number x.state.snaps) (let e : in_snap n serve origin (s ∷ snaps) ≡ here = cond-true _ _ _ served in e)) ∙ is in
           elim (cases_Bool (s.number == number)) [
-            | inl this ↦ (let e : a.snap ≡ t = named_first number a.snap snaps t (number_is ∙ this) got in
+            | inl this ↦ (let e : a.state.snap ≡ t = named_first number a.state.snap snaps t (number_is ∙ this) got in
                 record {
                   was = s;
                   named = cond-true _ _ _ this;
@@ -138,17 +138,17 @@ one_named number n serve keeps spares origin (s ∷ snaps) disk t is =
                 })
             | inr other ↦ was_behind number disk disk s snaps t other (record { was = t; named = sym (cond-false _ _ _ (number_is ∙ other)) ∙ got; same = λ live. refl })
           ])
-      | inr not_served ↦ (let got : snap_named number (s ∷ later.volume.snaps) ≡ Some t = sym (ap (λ (x : Answered). snap_named number x.volume.snaps) (let e : in_snap n serve origin (s ∷ snaps) ≡ there = cond-false _ _ _ not_served in e)) ∙ is in
+      | inr not_served ↦ (let got : snap_named number (s ∷ later.state.snaps) ≡ Some t = sym (ap (λ (x : Answered Volume). snap_named number x.state.snaps) (let e : in_snap n serve origin (s ∷ snaps) ≡ there = cond-false _ _ _ not_served in e)) ∙ is in
           elim (cases_Bool (s.number == number)) [
-            | inl this ↦ (let e : s ≡ t = named_first number s later.volume.snaps t this got in
+            | inl this ↦ (let e : s ≡ t = named_first number s later.state.snaps t this got in
                 record { was = s; named = cond-true _ _ _ this; same = λ live. sym (ap (shown disk) e) })
             | inr other ↦ was_behind number disk disk s snaps t other (one_named number n serve keeps spares origin snaps disk t (sym (cond-false _ _ _ other) ∙ got))
           ])
     ]
 
-pub one_bytes : (n : ℕ) (serve : Device → Snap → Served) → ((origin : Device) (s : Snap) → (serve origin s).origin.bytes ≡ origin.bytes) → (origin : Device) (snaps : List Snap) → (in_snap n serve origin snaps).volume.origin.bytes ≡ origin.bytes
+pub one_bytes : (n : ℕ) (serve : Device → Snap → Answered Saving) → ((origin : Device) (s : Snap) → (serve origin s).state.origin.bytes ≡ origin.bytes) → (origin : Device) (snaps : List Snap) → (in_snap n serve origin snaps).state.origin.bytes ≡ origin.bytes
 one_bytes n serve keeps origin [] = refl
 one_bytes n serve keeps origin (s ∷ snaps) = elim (cases_Bool (s.number == n)) [
-  | inl served ↦ ap (λ (x : Answered). x.volume.origin.bytes) (cond-true _ _ _ served) ∙ keeps origin s
-  | inr not_served ↦ ap (λ (x : Answered). x.volume.origin.bytes) (cond-false _ _ _ not_served) ∙ one_bytes n serve keeps origin snaps
+  | inl served ↦ ap (λ (x : Answered Volume). x.state.origin.bytes) (cond-true _ _ _ served) ∙ keeps origin s
+  | inr not_served ↦ ap (λ (x : Answered Volume). x.state.origin.bytes) (cond-false _ _ _ not_served) ∙ one_bytes n serve keeps origin snaps
 ]

@@ -5,41 +5,35 @@
 use Rattle.std.specs.Prelude.{ℕ, List, [], length, take, Option, Some, None}
 use Rattle.chunk.specs.Pieces.{Span, pieces_of}
 use Rattle.plain.specs.declared.request.Dev.{Dev}
-use Rattle.plain.specs.declared.request.Reply.{Reply}
 use Rattle.settled.specs.Snaps.{Volume}
 use Rattle.settled.specs.Pieces.{Answered}
 use Rattle.settled.specs.Commands.{piece_of, written, read, flushed, written_first, read_first}
-use Rattle.settled.specs.Merges.{Merge, Merged, Merging, Replied, merged_of, least_chunk, write_parts, read_parts, written_through, read_through, flushed_through}
-
--- a volume after a command, with its merge if one is begun, and the reply
-pub record Served : Type 0 where
-  pub state : Merged
-  pub reply : Reply
+use Rattle.settled.specs.Merges.{Merge, Merged, Merging, merged_of, least_chunk, write_parts, read_parts, written_through, read_through, flushed_through}
 
 -- what is answered where no merge is begun, and beside one
-abbrev pub alone : Answered → Served
-alone a = record { state = record { volume = a.volume; merge = None }; reply = a.reply }
+abbrev pub alone : Answered Volume → Answered Merged
+alone a = record { state = record { volume = a.state; merge = None }; reply = a.reply }
 
-abbrev pub beside : Replied → Served
+abbrev pub beside : Answered Merging → Answered Merged
 beside r = record { state = merged_of r.state; reply = r.reply }
 
 -- one command as it is without a merge, and as it is with one
-abbrev pub served_by : (Volume → Answered) → (Merging → Replied) → Option Merge → Volume → Served
+abbrev pub served_by : (Volume → Answered Volume) → (Merging → Answered Merging) → Option Merge → Volume → Answered Merged
 served_by without through None v = alone (without v)
 served_by without through (Some g) v = beside (through (record { volume = v; merge = g }))
 
-abbrev pub served : (Volume → Answered) → (Merging → Replied) → Merged → Served
+abbrev pub served : (Volume → Answered Volume) → (Merging → Answered Merging) → Merged → Answered Merged
 served without through m = served_by without through m.merge m.volume
 
 -- a settled write, and a settled read
-unfoldable pub written_beside : Dev → Span → List ℕ → Merged → Served
+unfoldable pub written_beside : Dev → Span → List ℕ → Merged → Answered Merged
 written_beside dev span bytes m = served (written dev span bytes) (written_through dev span bytes) m
 
-unfoldable pub read_beside : Dev → Span → Merged → Served
+unfoldable pub read_beside : Dev → Span → Merged → Answered Merged
 read_beside dev span m = served (read dev span) (read_through dev span) m
 
 -- and a settled flush
-unfoldable pub flushed_beside : Dev → Merged → Served
+unfoldable pub flushed_beside : Dev → Merged → Answered Merged
 flushed_beside dev m = served (flushed dev) (flushed_through dev) m
 
 -- the chunk size that ranges are cut by, and the pieces of a range
@@ -57,14 +51,14 @@ abbrev pub count_beside : Span → Merged → ℕ
 count_beside span m = length (pieces_beside span m)
 
 -- the first pieces of a write, and those of a read
-abbrev pub written_first_through : ℕ → Dev → Span → List ℕ → Merging → Replied
+abbrev pub written_first_through : ℕ → Dev → Span → List ℕ → Merging → Answered Merging
 written_first_through count dev span bytes m = write_parts dev (take count (pieces_of (least_chunk m) span)) bytes m
 
-abbrev pub read_first_through : ℕ → Dev → Span → Merging → Replied
+abbrev pub read_first_through : ℕ → Dev → Span → Merging → Answered Merging
 read_first_through count dev span m = read_parts dev (take count (pieces_of (least_chunk m) span)) [] m
 
-abbrev pub written_first_beside : ℕ → Dev → Span → List ℕ → Merged → Served
+abbrev pub written_first_beside : ℕ → Dev → Span → List ℕ → Merged → Answered Merged
 written_first_beside count dev span bytes m = served (written_first count dev span bytes) (written_first_through count dev span bytes) m
 
-abbrev pub read_first_beside : ℕ → Dev → Span → Merged → Served
+abbrev pub read_first_beside : ℕ → Dev → Span → Merged → Answered Merged
 read_first_beside count dev span m = served (read_first count dev span) (read_first_through count dev span) m

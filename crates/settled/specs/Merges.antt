@@ -235,21 +235,16 @@ finished_by (Some g) v =
 abbrev pub finished : Merged → Finished
 finished m = finished_by m.merge m.volume
 
--- a volume with a merge after a request, and the reply
-pub record Replied : Type 0 where
-  pub state : Merging
-  pub reply : Reply
-
 -- a request that the merging store has no part in
-abbrev pub beside : Merge → Answered → Replied
-beside g a = record { state = record { volume = a.volume; merge = g }; reply = a.reply }
+abbrev pub beside : Merge → Answered Volume → Answered Merging
+beside g a = record { state = record { volume = a.state; merge = g }; reply = a.reply }
 
 -- the place of a sector of the origin in the store, where its chunk stands in chunk n
 abbrev pub sector_in : ℕ → Span → Merge → ℕ
 sector_in n piece g = g.chunk * n + piece.first % g.chunk
 
 -- a write of one piece of the origin, by the place of its chunk
-abbrev pub write_at : Option ℕ → Span → List ℕ → Merging → Replied
+abbrev pub write_at : Option ℕ → Span → List ℕ → Merging → Answered Merging
 write_at None piece bytes m = beside m.merge (write_origin piece bytes m.volume)
 write_at (Some n) piece bytes m =
     let store : Device = m.merge.store in
@@ -259,7 +254,7 @@ write_at (Some n) piece bytes m =
     }
 
 -- a read
-abbrev pub read_at : Option ℕ → Span → Merging → Replied
+abbrev pub read_at : Option ℕ → Span → Merging → Answered Merging
 read_at None piece m = beside m.merge (read_origin piece m.volume)
 read_at (Some n) piece m = record {
   state = with_store m (met m.merge.store (Reads (sector_in n piece m.merge) piece.count));
@@ -271,40 +266,40 @@ abbrev pub place_in : ℕ → Merge → Option ℕ
 place_in first g = place_of (pairs_in g) (first / g.chunk)
 
 -- one piece of the origin or of a snapshot is written, or read; the other snapshots are served as without a merge
-abbrev pub write_part : Dev → Span → List ℕ → Merging → Replied
+abbrev pub write_part : Dev → Span → List ℕ → Merging → Answered Merging
 write_part Origin piece bytes m = write_at (place_in piece.first m.merge) piece bytes m
 write_part (ToSnap number) piece bytes m = beside m.merge (write_piece (ToSnap number) piece bytes m.volume)
 
-abbrev pub read_part : Dev → Span → Merging → Replied
+abbrev pub read_part : Dev → Span → Merging → Answered Merging
 read_part Origin piece m = read_at (place_in piece.first m.merge) piece m
 read_part (ToSnap number) piece m = beside m.merge (read_piece (ToSnap number) piece m.volume)
 
 -- A flush of the origin: of the merging store, and then of the origin's device. That the store comes first, so that what was
 -- written to it is safe before what was copied from it, is this project's own rule.
-abbrev pub flush_through : Merging → Replied
+abbrev pub flush_through : Merging → Answered Merging
 flush_through m =
     let after : Merging = with_store m (met m.merge.store Flushes) in
     if answers m.merge.store Flushes then beside after.merge (flush_origin after.volume) else record { state = after; reply = Refused Io }
 
 -- a settled flush while a merge is begun
-abbrev pub flushed_through : Dev → Merging → Replied
+abbrev pub flushed_through : Dev → Merging → Answered Merging
 flushed_through Origin m = flush_through m
 flushed_through (ToSnap number) m = beside m.merge (flushed (ToSnap number) m.volume)
 
 -- a command goes on where its piece was done
-abbrev pub go_on : Reply → Replied → Replied → Replied
+abbrev pub go_on : Reply → Answered Merging → Answered Merging → Answered Merging
 go_on (Data bytes) here rest = rest
 go_on Written here rest = rest
 go_on Flushed here rest = rest
 go_on (Refused failure) here rest = here
 
-abbrev pub write_parts : Dev → List Span → List ℕ → Merging → Replied
+abbrev pub write_parts : Dev → List Span → List ℕ → Merging → Answered Merging
 write_parts dev [] bytes m = record { state = m; reply = Written }
 write_parts dev (piece ∷ pieces) bytes m =
     let here = write_part dev piece (take (512 * piece.count) bytes) m in
     go_on here.reply here (write_parts dev pieces (drop (512 * piece.count) bytes) here.state)
 
-abbrev pub read_parts : Dev → List Span → List ℕ → Merging → Replied
+abbrev pub read_parts : Dev → List Span → List ℕ → Merging → Answered Merging
 read_parts dev [] before m = record { state = m; reply = Data before }
 read_parts dev (piece ∷ pieces) before m =
     let here = read_part dev piece m in
@@ -315,8 +310,8 @@ abbrev pub least_chunk : Merging → ℕ
 least_chunk m = min m.merge.chunk (piece_of m.volume.snaps)
 
 -- a settled write and a settled read while a merge is begun
-unfoldable pub written_through : Dev → Span → List ℕ → Merging → Replied
+unfoldable pub written_through : Dev → Span → List ℕ → Merging → Answered Merging
 written_through dev span bytes m = write_parts dev (pieces_of (least_chunk m) span) bytes m
 
-unfoldable pub read_through : Dev → Span → Merging → Replied
+unfoldable pub read_through : Dev → Span → Merging → Answered Merging
 read_through dev span m = read_parts dev (pieces_of (least_chunk m) span) [] m

@@ -10,13 +10,13 @@ use Rattle.settled.specs.Pieces.{Answered}
 use Rattle.settled.specs.Commands.{write_piece, read_piece, flushed}
 
 -- what a device answers to an operation on one piece; a flush is of the whole device
-abbrev pub answered_by : Dev → Op → Span → Volume → Answered
+abbrev pub answered_by : Dev → Op → Span → Volume → Answered Volume
 answered_by dev Read piece v = read_piece dev piece v
 answered_by dev (Write bytes) piece v = write_piece dev piece bytes v
 answered_by dev Flush piece v = flushed dev v
 
 -- the big step of a request
-abbrev pub answer_of : Request → Volume → Answered
+abbrev pub answer_of : Request → Volume → Answered Volume
 answer_of request v = answered_by request.dev request.op (span_of request.range) v
 
 -- a write brings as many bytes as its range has

@@ -8,14 +8,18 @@ use Rattle.plain.specs.Plain.{Saved, Live, Invalid}
 use Rattle.settled.specs.Devices.{Device}
 
 -- Its number, the sectors of its chunks, whether it is live, what a write of it does that finds its store full, whether its
--- store is stale (it was spoiled, and the store could not be marked), and its store.
-pub record Snap : Type 0 where
+-- store is stale (it was spoiled, and the store could not be marked), and its store: a device of any kind.
+pub record SnapOn (D : Type 0) : Type 0 where
   pub number : ℕ
   pub chunk : ℕ
   pub live : Bool
   pub overflow : Overflowing
   pub stale : Bool
-  pub store : Device
+  pub store : D
+
+-- over a device's own bytes and layers
+abbrev pub Snap : Type 0
+Snap = SnapOn Device
 
 -- what it shows over an origin disk with these bytes: while it is live, the picture of the devices' own bytes
 abbrev pub shown : List ℕ → Snap → Saved

@@ -21,7 +21,7 @@ use Rattle.settled.specs.Devices.{answers}
 use Rattle.settled.specs.Commands.{bytes_in}
 use Rattle.settled.specs.Requests.{answered_by, FitsRange}
 use Rattle.settled.specs.Snaps.{Snap}
-use Rattle.settled.specs.Merges.{Merging, Replied, beside, place_in, read_at, go_on, write_part, write_parts, read_part, read_parts, least_chunk, written_through, read_through}
+use Rattle.settled.specs.Merges.{Merging, beside, place_in, read_at, go_on, write_part, write_parts, read_part, read_parts, least_chunk, written_through, read_through}
 use Rattle.settled.specs.MergeShown.{IsWell, IsMerging}
 use Rattle.settled.proofs.Chunks.{IsWide, HasChunks, answer_keeps, chunks_keep}
 use Rattle.settled.proofs.Each.{Each, each_from, all_from}
@@ -38,6 +38,7 @@ use Rattle.settling.proofs.MergeSaves.{IsInOne, HasLeast, has_least, one_wider}
 use Rattle.settling.proofs.MergeLaws.{snap_bytes}
 use Rattle.settling.proofs.MergeServes.{reads_through, writes_through, flushes_through, part_keeps}
 use Rattle.settling.proofs.PartsSettle.{part_settles}
+use Rattle.settled.specs.Pieces.{Answered}
 
 -- no chunk is less than this one, and all have sizes that are allowed
 pub record AreWide (chunk : ℕ) (m : Merging) : Type 0 where
@@ -45,7 +46,7 @@ pub record AreWide (chunk : ℕ) (m : Merging) : Type 0 where
   pub snaps : Each (HasChunks chunk) m.volume.snaps
 
 -- what a command has left of a volume with a merge
-pub record IsLeftBeside (sectors chunk : ℕ) (w : Moving) (reply : Reply) (answer : Replied) : Type 0 where
+pub record IsLeftBeside (sectors chunk : ℕ) (w : Moving) (reply : Reply) (answer : Answered Merging) : Type 0 where
   pub held : MergeHeld
   pub rest : IsMergedAtRest sectors held w
   pub is : in_big_steps held w ≡ answer.state
@@ -59,19 +60,19 @@ wells sectors [] rest = tt
 wells sectors (h ∷ snaps) rest = (λ live. (rest.0.live live).order, wells sectors snaps rest.1)
 
 -- a request of a piece leaves a merge that is under way
-record IsMergingStill (sectors : ℕ) (m : Merging) (r : Replied) : Type 0 where
+record IsMergingStill (sectors : ℕ) (m : Merging) (r : Answered Merging) : Type 0 where
   pub holds : IsMerging sectors r.state
   pub chunk : r.state.merge.chunk ≡ m.merge.chunk
 
 module _ (sectors : ℕ) (piece : Span) (m : Merging) (is : IsMerging sectors m) (some : 0 < piece.count) (inside : piece.first + piece.count ≤ sectors) (one : piece.first + piece.count ≤ m.merge.chunk * (piece.first / m.merge.chunk) + m.merge.chunk) (each : Each (IsInOne piece.first piece.count) m.volume.snaps) where
-  beside_still : (n : ℕ) (op : Op) → All (IsWell sectors) (answered_by (ToSnap n) op piece m.volume).volume.snaps → IsMergingStill sectors m (beside m.merge (answered_by (ToSnap n) op piece m.volume))
+  beside_still : (n : ℕ) (op : Op) → All (IsWell sectors) (answered_by (ToSnap n) op piece m.volume).state.snaps → IsMergingStill sectors m (beside m.merge (answered_by (ToSnap n) op piece m.volume))
   beside_still n op well = record {
     holds = record {
       whole = ap length (snap_bytes n op piece m.volume) ∙ is.whole;
       merge = is.merge;
       snaps = well;
       allowed = is.allowed;
-      chunks = all_from (λ (s : Snap). is_chunk s.chunk ≡ true) (answered_by (ToSnap n) op piece m.volume).volume.snaps (chunks_keep (λ x. is_chunk x ≡ true) (ToSnap n) op piece m.volume (each_from (λ (s : Snap). is_chunk s.chunk ≡ true) m.volume.snaps is.chunks));
+      chunks = all_from (λ (s : Snap). is_chunk s.chunk ≡ true) (answered_by (ToSnap n) op piece m.volume).state.snaps (chunks_keep (λ x. is_chunk x ≡ true) (ToSnap n) op piece m.volume (each_from (λ (s : Snap). is_chunk s.chunk ≡ true) m.volume.snaps is.chunks));
     };
     chunk = refl;
   }
@@ -93,8 +94,8 @@ still_wide chunk Origin Read piece m each = by_place (place_in piece.first m.mer
     by_place (Some n) = each
 still_wide chunk Origin (Write bytes) piece m each = part_keeps (IsWide chunk) piece bytes m each
 still_wide chunk Origin Flush piece m each = elim (cases_Bool (answers m.merge.store Flushes)) [
-  | inl ok ↦ subst (λ (r : Replied). Each (HasChunks chunk) r.state.volume.snaps) (sym (cond-true _ _ _ ok)) each
-  | inr failed ↦ subst (λ (r : Replied). Each (HasChunks chunk) r.state.volume.snaps) (sym (cond-false _ _ _ failed)) each
+  | inl ok ↦ subst (λ (r : Answered Merging). Each (HasChunks chunk) r.state.volume.snaps) (sym (cond-true _ _ _ ok)) each
+  | inr failed ↦ subst (λ (r : Answered Merging). Each (HasChunks chunk) r.state.volume.snaps) (sym (cond-false _ _ _ failed)) each
 ]
 still_wide chunk (ToSnap n) Read piece m each = answer_keeps chunk (ToSnap n) Read piece m.volume each
 still_wide chunk (ToSnap n) (Write bytes) piece m each = answer_keeps chunk (ToSnap n) (Write bytes) piece m.volume each
@@ -113,12 +114,12 @@ module _ (sectors chunk : ℕ) (allowed : is_chunk chunk ≡ true) where
       let chunks : Each (HasChunks chunk) (map snap_of v.snaps) = wide.snaps in
       let fit : IsFit sectors v.snaps request = record { some = one.some; inside = inside; bytes = len; chunks = all_from (IsInChunk request.range) v.snaps (fits_all sectors chunk allowed request.range v.snaps one chunks) } in
       let high : (p : Span) → IsInOneChunk chunk p → p.first + p.count ≤ h.merge.chunk * (p.first / h.merge.chunk) + h.merge.chunk = λ (p : Span) (o : IsInOneChunk chunk p). wider chunk h.merge.chunk p.first p.count allowed is.allowed wide.merge (piece_high chunk p.first p.count (is_chunk-some chunk allowed) o.some o.one) in
-      let big : Replied = part_of request.dev request.op (span_of request.range) m in
+      let big : Answered Merging = part_of request.dev request.op (span_of request.range) m in
       let to : SettlesToReplied sectors _ big = part_settles sectors number request v h rest is fit (high (span_of request.range) one) in
       let same : mid ≡ to.last = replied_one sectors done.fuel _ mid _ to done.ends done.quiet in
       let asks : big ≡ part_of dev op piece m =
       ap (λ d. part_of d request.op (span_of request.range) m) done.to_dev ∙ ap (λ o. part_of dev o (span_of request.range) m) done.asks ∙ ap (λ p. part_of dev op p m) done.on_piece in
-      let left : in_big_steps to.held to.last ≡ (part_of dev op piece m).state = to.is ∙ ap (λ (r : Replied). r.state) asks in
+      let left : in_big_steps to.held to.last ≡ (part_of dev op piece m).state = to.is ∙ ap (λ (r : Answered Merging). r.state) asks in
       let some_same : Some got ≡ Some big.reply = sym done.replied ∙ ap (λ (x : Moving). x.replied) same ∙ to.reply in
       let reply_same : got ≡ big.reply = cc in
       let well : All (IsWell sectors) (part_of dev op piece m).state.volume.snaps =
@@ -130,11 +131,11 @@ module _ (sectors chunk : ℕ) (allowed : is_chunk chunk ≡ true) where
         is = ap (in_big_steps to.held) same ∙ left;
         merging = still.holds;
         wide = record { merge = subst (λ (n : ℕ). chunk ≤ n) (sym still.chunk) wide.merge; snaps = still_wide chunk dev op piece m wide.snaps };
-        replied = reply_same ∙ ap (λ (r : Replied). r.reply) asks;
+        replied = reply_same ∙ ap (λ (r : Answered Merging). r.reply) asks;
       }
 
   -- a piece, and then the rest of the command or its end
-  goes_left : (w mid : Moving) (reply got : Reply) (here more : Replied) → IsLeftBeside sectors chunk mid got here → GoesOn got (IsLeftBeside sectors chunk w reply more) ((w ≡ mid) × (reply ≡ got)) → IsLeftBeside sectors chunk w reply (go_on here.reply here more)
+  goes_left : (w mid : Moving) (reply got : Reply) (here more : Answered Merging) → IsLeftBeside sectors chunk mid got here → GoesOn got (IsLeftBeside sectors chunk w reply more) ((w ≡ mid) × (reply ≡ got)) → IsLeftBeside sectors chunk w reply (go_on here.reply here more)
   goes_left w mid reply (Data bytes) here more left goes = subst (λ (r : Reply). IsLeftBeside sectors chunk w reply (go_on r here more)) left.replied goes
   goes_left w mid reply Written here more left goes = subst (λ (r : Reply). IsLeftBeside sectors chunk w reply (go_on r here more)) left.replied goes
   goes_left w mid reply Flushed here more left goes = subst (λ (r : Reply). IsLeftBeside sectors chunk w reply (go_on r here more)) left.replied goes
@@ -148,7 +149,7 @@ module _ (sectors chunk : ℕ) (allowed : is_chunk chunk ≡ true) where
       subst (λ (x : Moving). IsLeftBeside sectors chunk x reply (record { state = in_big_steps h v; reply = answer })) (sym same) (record { held = h; rest = rest; is = refl; merging = is; wide = wide; replied = replied })
 
   -- the rest, from what a piece left
-  next_left : (mid w : Moving) (got reply : Reply) (here : Replied) (rest_of : Merging → Replied) (left : IsLeftBeside sectors chunk mid got here) → IsLeftBeside sectors chunk w reply (rest_of (in_big_steps left.held mid)) → IsLeftBeside sectors chunk w reply (rest_of here.state)
+  next_left : (mid w : Moving) (got reply : Reply) (here : Answered Merging) (rest_of : Merging → Answered Merging) (left : IsLeftBeside sectors chunk mid got here) → IsLeftBeside sectors chunk w reply (rest_of (in_big_steps left.held mid)) → IsLeftBeside sectors chunk w reply (rest_of here.state)
   next_left mid w got reply here rest_of left goes = subst (λ (x : Merging). IsLeftBeside sectors chunk w reply (rest_of x)) left.is goes
 
   written_left : (pieces : List Span) (number : ℕ) (dev : Dev) (bytes : List ℕ) (v w : Moving) (reply : Reply) (h : MergeHeld) → IsMergedAtRest sectors h v → IsMerging sectors (in_big_steps h v) → AreWide chunk (in_big_steps h v) → Each (FitsPiece sectors chunk) pieces → length bytes ≡ 512 * counts_of pieces →
@@ -159,8 +160,8 @@ module _ (sectors chunk : ℕ) (allowed : is_chunk chunk ≡ true) where
       let got : Reply = done.1 in
       let front : length (take (512 * p.count) bytes) ≡ 512 * p.count = simp length-take (omega arith) in
       let back : length (drop (512 * p.count) bytes) ≡ 512 * counts_of pieces = simp length-drop (omega arith) in
-      let here : Replied = write_part dev p (take (512 * p.count) bytes) (in_big_steps h v) in
-      let rest_of : Merging → Replied = write_parts dev pieces (drop (512 * p.count) bytes) in
+      let here : Answered Merging = write_part dev p (take (512 * p.count) bytes) (in_big_steps h v) in
+      let rest_of : Merging → Answered Merging = write_parts dev pieces (drop (512 * p.count) bytes) in
       let left : IsLeftBeside sectors chunk mid got here = piece_left number dev (Write (take (512 * p.count) bytes)) p v mid got h rest is wide fits.0 front done.2 in
       goes_left w mid reply got here (rest_of here.state) left
       (goes_as sectors chunk allowed got _ _ ((w ≡ mid) × (reply ≡ got))
@@ -173,8 +174,8 @@ module _ (sectors chunk : ℕ) (allowed : is_chunk chunk ≡ true) where
   read_left (p ∷ pieces) number dev before v w reply h rest is wide fits done =
       let mid : Moving = done.0 in
       let got : Reply = done.1 in
-      let here : Replied = read_part dev p (in_big_steps h v) in
-      let rest_of : Merging → Replied = read_parts dev pieces (before ++ bytes_in here.reply) in
+      let here : Answered Merging = read_part dev p (in_big_steps h v) in
+      let rest_of : Merging → Answered Merging = read_parts dev pieces (before ++ bytes_in here.reply) in
       let left : IsLeftBeside sectors chunk mid got here = piece_left number dev Read p v mid got h rest is wide fits.0 tt done.2 in
       goes_left w mid reply got here (rest_of here.state) left
       (goes_as sectors chunk allowed got _ _ ((w ≡ mid) × (reply ≡ got))

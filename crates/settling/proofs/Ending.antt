@@ -1,7 +1,7 @@
 -- A volume settles to one thing alone, however its events are chosen.
 use Rattle.std.proofs.Common.{◌≡◌, ℕ, zero, suc, ◌+◌, Option, Some, None, arith, refl, ap, ◌∙◌, sym}
 use Rattle.plain.specs.declared.event.Event.{Event}
-use Rattle.settled.specs.Merges.{Merged, Replied}
+use Rattle.settled.specs.Merges.{Merged, Merging}
 use Rattle.event_machine.specs.Held.{Moving}
 use Rattle.event_machine.specs.Due.{due}
 use Rattle.event_machine.specs.MergeDue.{due_all}
@@ -9,6 +9,7 @@ use Rattle.event_machine.specs.MergeSettles.{SettlesToMerged, SettlesToReplied}
 use Rattle.event_machine.specs.MergeStepping.{stepped_all}
 use Rattle.event_machine.specs.Settles.{settle_by, settle, settle_all}
 use Rattle.event_machine.specs.Stepping.{for_some, stepped}
+use Rattle.settled.specs.Pieces.{Answered}
 
 module _ (choose : Moving → Option Event) (step : Event → Moving → Moving) where
   -- where nothing is due, no event changes anything
@@ -39,5 +40,5 @@ pub merged_one : (sectors fuel : ℕ) (u w : Moving) (answer : Merged) (to : Set
 merged_one sectors fuel u w answer to is quiet = by_one due_all stepped_all fuel to.fuel u w to.last to.ends is quiet
 
 -- beside one
-pub replied_one : (sectors fuel : ℕ) (u w : Moving) (answer : Replied) (to : SettlesToReplied sectors u answer) → settle fuel u ≡ w → due w ≡ None → w ≡ to.last
+pub replied_one : (sectors fuel : ℕ) (u w : Moving) (answer : Answered Merging) (to : SettlesToReplied sectors u answer) → settle fuel u ≡ w → due w ≡ None → w ≡ to.last
 replied_one sectors fuel u w answer to is quiet = by_one due stepped fuel to.fuel u w to.last to.ends is quiet

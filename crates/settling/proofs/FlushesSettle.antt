@@ -15,8 +15,8 @@ use Rattle.plain.specs.declared.request.Failure.TheVariants.{Invalid, Io}
 use Rattle.in_flight.specs.Flushed.{safe_mark}
 use Rattle.in_flight.specs.declared.flights.Route.TheVariants.{Origin, Whole}
 use Rattle.settled.specs.Devices.{Device, answers, met, flush_reply}
-use Rattle.settled.specs.Snaps.{Snap}
-use Rattle.settled.specs.Pieces.{Answered, Served, flush_origin, flush_snap, in_snap}
+use Rattle.settled.specs.Snaps.{Snap, Volume}
+use Rattle.settled.specs.Pieces.{Answered, flush_origin, flush_snap, in_snap}
 use Rattle.event_machine.specs.Held.{SnapHeld, Going, MergeHeld, Moving, with_store, flushed_copying, flushed_held}
 use Rattle.event_machine.specs.Stepping.{for_some, put, answer, flush_asked}
 use Rattle.event_machine.specs.Submitting.{submitted, declined, flush_snap as submit_flush}
@@ -32,6 +32,7 @@ use Rattle.event_machine.proofs.Found.{split_at, none_that, served_nowhere}
 use Rattle.settling.proofs.Issued.{mine_of, issued, answered_here, Serves, serves_there, serves_settles}
 use Rattle.settling.proofs.ReadsSettle.{goes_to, met_rests}
 use Rattle.settling.proofs.Served.{snap_of, each_here, served_by}
+use Rattle.settled.specs.Saving.{Saving}
 
 -- the request
 abbrev pub flush_request : Dev → Range → Request
@@ -40,7 +41,7 @@ flush_request dev range = record { dev = dev; op = Flush; range = range }
 -- of the origin, where no merge is begun
 pub origin_flush_settles : (sectors number : ℕ) (range : Range) (v : Moving) → IsAtRest sectors v → SettlesTo sectors (submitted number (flush_request ToOrigin range) v) (flush_origin (record { origin = v.origin; snaps = map snap_of v.snaps }))
 origin_flush_settles sectors number range v rest =
-    let answered : Answered = flush_origin (record { origin = v.origin; snaps = map snap_of v.snaps }) in
+    let answered : Answered Volume = flush_origin (record { origin = v.origin; snaps = map snap_of v.snaps }) in
     let Settles : Moving → Type 0 = λ (w : Moving). SettlesTo sectors (submitted number (flush_request ToOrigin range) w) answered in
     let all : Each (IsResting sectors) v.snaps = each_from (IsResting sectors) v.snaps rest.snaps in
     let r : Going = record { number = number; request = kept (flush_request ToOrigin range); route = Origin } in
@@ -112,7 +113,7 @@ module _ (g : Option MergeHeld) (sectors number n : ℕ) (range : Range) (origin
     -- its event leaves this of the snapshot, with this reply
     flush_met : h.snap.live ≡ true → (now : SnapHeld) (reply : Reply) → now.snap ≡ met_here.snap → flush_reply h.snap.store ≡ reply → IsResting sectors now → flush_asked (mine_of flying) is_this h in_flight ≡ answer (mine_of flying) reply (put is_this now in_flight) → FlushServes (done ++ h ∷ rest)
     flush_met on now reply snap same resting is =
-        let made : Snap → Reply → Served = λ (s : Snap) (r : Reply). record { origin = origin; snap = s; reply = r } in
+        let made : Snap → Reply → Answered Saving = λ (s : Snap) (r : Reply). record { state = record { origin = origin; snap = s }; reply = r } in
         served_by sectors g n flush_snap origin origin done rest h now reply k _ in_flight before pass all resting whole
         (cond-true _ _ _ on ∙ ap (made met_here.snap) same ∙ ap (λ s. made s reply) (sym snap))
         (begun ∙ cond-true _ _ _ on)
@@ -141,7 +142,7 @@ module _ (g : Option MergeHeld) (sectors number n : ℕ) (range : Range) (origin
 
 pub snap_flush_settles : (sectors number n : ℕ) (range : Range) (v : Moving) → IsAtRest sectors v → SettlesTo sectors (submitted number (flush_request (ToSnap n) range) v) (in_snap n flush_snap v.origin (map snap_of v.snaps))
 snap_flush_settles sectors number n range v rest =
-    let answered : Answered = in_snap n flush_snap v.origin (map snap_of v.snaps) in
+    let answered : Answered Volume = in_snap n flush_snap v.origin (map snap_of v.snaps) in
     let Settles : Moving → Type 0 = λ (w : Moving). SettlesTo sectors (submitted number (flush_request (ToSnap n) range) w) answered in
     subst Settles (sym (at_alone v rest.alone))
     (subst (λ (rs : List Going). Settles (at v.origin v.snaps rs v.replied v.started)) (sym rest.requests)

@@ -17,6 +17,7 @@ use Rattle.settled.proofs.Each.{Each, each_weaker, all_from}
 use Rattle.settling.proofs.Goes.{no_start, Goes, goes_by, settled_there}
 use Rattle.event_machine.proofs.Around.{at_with, IsIdle, due_request}
 use Rattle.settling.proofs.Primed.{resting_idle}
+use Rattle.settled.specs.Snaps.{Volume}
 
 abbrev pub mine_of : Going → Going → Bool
 mine_of r x = x.number == r.number
@@ -31,25 +32,25 @@ pub answered_here : (g : Option MergeHeld) (origin : Device) (snaps : List SnapH
 answered_here g origin snaps r reply a k = ap (λ rs. at_with g origin snaps rs (Some reply) k) (cond-true _ _ _ (eq-eqb r.number r.number refl))
 
 -- A volume beside a merge goes on to one at rest, whose devices, snapshots and reply are those of this answer.
-pub record Serves (sectors : ℕ) (g : Option MergeHeld) (u : Moving) (answered : Answered) : Type 0 where
+pub record Serves (sectors : ℕ) (g : Option MergeHeld) (u : Moving) (answered : Answered Volume) : Type 0 where
   pub snaps : List SnapHeld
   pub started : ℕ
-  pub goes : Goes no_start u (at_with g answered.volume.origin snaps [] (Some answered.reply) started)
-  pub whole : length answered.volume.origin.bytes ≡ 512 * sectors
+  pub goes : Goes no_start u (at_with g answered.state.origin snaps [] (Some answered.reply) started)
+  pub whole : length answered.state.origin.bytes ≡ 512 * sectors
   pub rest : Each (IsResting sectors) snaps
-  pub same : map (λ (h : SnapHeld). h.snap) snaps ≡ answered.volume.snaps
+  pub same : map (λ (h : SnapHeld). h.snap) snaps ≡ answered.state.snaps
 
-pub serves_there : (sectors : ℕ) (g : Option MergeHeld) (u v : Moving) (origin : Device) (snaps : List SnapHeld) (reply : Reply) (k : ℕ) (answered : Answered) → u ≡ v → Goes no_start v (at_with g origin snaps [] (Some reply) k) → length origin.bytes ≡ 512 * sectors → Each (IsResting sectors) snaps →
-    answered ≡ record { volume = record { origin = origin; snaps = map (λ (h : SnapHeld). h.snap) snaps }; reply = reply } → Serves sectors g u answered
+pub serves_there : (sectors : ℕ) (g : Option MergeHeld) (u v : Moving) (origin : Device) (snaps : List SnapHeld) (reply : Reply) (k : ℕ) (answered : Answered Volume) → u ≡ v → Goes no_start v (at_with g origin snaps [] (Some reply) k) → length origin.bytes ≡ 512 * sectors → Each (IsResting sectors) snaps →
+    answered ≡ record { state = record { origin = origin; snaps = map (λ (h : SnapHeld). h.snap) snaps }; reply = reply } → Serves sectors g u answered
 serves_there sectors g u v origin snaps reply k answered begun goes whole rest is =
     subst (Serves sectors g u) (sym is) (record { snaps = snaps; started = k; goes = subst (λ (x : Moving). Goes no_start x (at_with g origin snaps [] (Some reply) k)) (sym begun) goes; whole = whole; rest = rest; same = refl })
 
 -- without a merge it settles
-pub serves_settles : (sectors : ℕ) (u : Moving) (answered : Answered) → Serves sectors None u answered → SettlesTo sectors u answered
+pub serves_settles : (sectors : ℕ) (u : Moving) (answered : Answered Volume) → Serves sectors None u answered → SettlesTo sectors u answered
 serves_settles sectors u answered serves =
-    let last : Moving = at_with None answered.volume.origin serves.snaps [] (Some answered.reply) serves.started in
+    let last : Moving = at_with None answered.state.origin serves.snaps [] (Some answered.reply) serves.started in
     let idle : Each IsIdle serves.snaps = each_weaker (IsResting sectors) IsIdle serves.snaps (resting_idle sectors) serves.rest in
-    let quiet : due last ≡ None = due_request answered.volume.origin serves.snaps [] (Some answered.reply) serves.started idle None refl in
+    let quiet : due last ≡ None = due_request answered.state.origin serves.snaps [] (Some answered.reply) serves.started idle None refl in
     let there = settled_there u last serves.goes quiet in
     record {
       fuel = there.0;

@@ -15,12 +15,13 @@ use Rattle.chunk.proofs.Limits.{is_chunk-some}
 use Rattle.chunk.proofs.Wider.{wider}
 use Rattle.chunk.proofs.PiecePlaces.{join_le, piece_high}
 use Rattle.settled.specs.Shown.{ShowTheSame}
-use Rattle.settled.specs.Merges.{Merging, Replied, go_on, write_part, write_parts, written_through, least_chunk}
+use Rattle.settled.specs.Merges.{Merging, go_on, write_part, write_parts, written_through, least_chunk}
 use Rattle.settled.specs.MergeShown.{IsMerging, shown_through}
 use Rattle.settled.proofs.Each.{Each, each_from}
 use Rattle.settled.proofs.Chunks.{IsWide, HasChunks}
 use Rattle.settling.proofs.MergeSaves.{show_same, show_then, HasLeast, has_least, one_wider}
 use Rattle.settling.proofs.MergeServes.{WritesThrough, writes_through, part_keeps}
+use Rattle.settled.specs.Pieces.{Answered}
 
 -- nothing written, and two writes side by side
 wrote_none : (a : List ℕ) (first : ℕ) → with_sectors a first [] ≡ a
@@ -33,7 +34,7 @@ take_more : (n m : ℕ) (xs : List ℕ) → n ≤ length xs → take n xs ++ tak
 take_more n m xs le = same_lists _ _ (search (rules, places)) (λ k d h. grind (arith, places))
 
 -- A write of sectors from one on, of which so many were done: all of them, or the rest was refused with Io.
-pub record WritesRange (sectors first count : ℕ) (bytes : List ℕ) (m : Merging) (r : Replied) : Type 0 where
+pub record WritesRange (sectors first count : ℕ) (bytes : List ℕ) (m : Merging) (r : Answered Merging) : Type 0 where
   pub holds : IsMerging sectors r.state
   pub chunk : r.state.merge.chunk ≡ m.merge.chunk
   pub done : ℕ
@@ -47,9 +48,9 @@ module _ (sectors chunk : ℕ) (allowed : is_chunk chunk ≡ true) where
   range_refused : (first b : ℕ) (p : Span) (pieces : List Span) (bytes : List ℕ) (m : Merging) (w : WritesThrough sectors first (take (512 * p.count) bytes) m (write_part Origin p (take (512 * p.count) bytes) m)) → first ≤ b → w.wrote ≡ false →
       WritesRange sectors first (b - first) bytes m (write_parts Origin (p ∷ pieces) bytes m)
   range_refused first b p pieces bytes m w le lost =
-      let here : Replied = write_part Origin p (take (512 * p.count) bytes) m in
+      let here : Answered Merging = write_part Origin p (take (512 * p.count) bytes) m in
       let refused : here.reply ≡ Refused Io = w.reply ∙ cond-false _ _ _ lost in
-      let rest : Replied = write_parts Origin pieces (drop (512 * p.count) bytes) here.state in
+      let rest : Answered Merging = write_parts Origin pieces (drop (512 * p.count) bytes) here.state in
       subst (WritesRange sectors first (b - first) bytes m) (sym (ap (λ (r : Reply). go_on r here rest) refused)) (record {
         holds = w.holds;
         chunk = w.chunk;
@@ -77,8 +78,8 @@ module _ (sectors chunk : ℕ) (allowed : is_chunk chunk ≡ true) where
       let back : length (drop (512 * p.count) bytes) ≡ 512 * (b - (a + p.count)) = simp length-drop (omega arith) in
       let high : p.first + p.count ≤ chunk * (p.first / chunk) + chunk = piece_high chunk p.first p.count (is_chunk-some chunk allowed) one.0.some one.0.one in
       let fits : p.first + p.count ≤ m.merge.chunk * (p.first / m.merge.chunk) + m.merge.chunk = wider chunk m.merge.chunk p.first p.count allowed is.allowed wide high in
-      let here : Replied = write_part Origin p (take (512 * p.count) bytes) m in
-      let rest : Replied = write_parts Origin pieces (drop (512 * p.count) bytes) here.state in
+      let here : Answered Merging = write_part Origin p (take (512 * p.count) bytes) m in
+      let rest : Answered Merging = write_parts Origin pieces (drop (512 * p.count) bytes) here.state in
       let w : WritesThrough sectors a (take (512 * p.count) bytes) m here = subst (λ (n : ℕ). WritesThrough sectors n (take (512 * p.count) bytes) m here) start (writes_through sectors p m is one.0.some (omega arith) fits (one_wider chunk p.first p.count m.volume.snaps allowed high each) (take (512 * p.count) bytes) front) in
       elim (cases_Bool w.wrote) [
         | inr lost ↦ range_refused a b p pieces bytes m w le lost

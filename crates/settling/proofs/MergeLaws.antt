@@ -11,9 +11,9 @@ use Rattle.plain.specs.declared.request.Op.{Op}
 use Rattle.plain.specs.declared.request.Op.TheVariants.{Read, Write, Flush}
 use Rattle.volume_laws.proofs.Attaching.{picture_none}
 use Rattle.settled.specs.Snaps.{Snap, Volume}
-use Rattle.settled.specs.Pieces.{write_snap, read_snap, flush_snap}
+use Rattle.settled.specs.Pieces.{write_snap, read_snap, flush_snap, Answered}
 use Rattle.settled.specs.Requests.{answered_by}
-use Rattle.settled.specs.Merges.{Merging, merged_of, pairs_in, snap_named, least_chunk, merge_all, merged, resumed, Finished, finished, Replied, beside}
+use Rattle.settled.specs.Merges.{Merging, merged_of, pairs_in, snap_named, least_chunk, merge_all, merged, resumed, Finished, finished, beside}
 use Rattle.settled.specs.MergeShown.{IsMerging, IsUnseen, origin_shown, shown_through}
 use Rattle.settling.specs.Undone.{IsVolume, IsAsked, Spares}
 use Rattle.settled.proofs.Each.{each_from, all_from}
@@ -54,14 +54,14 @@ volume_well sectors m is =
     let fits : HasLeast m = has_least sectors m is in
     record { whole = is.whole; snaps = is.snaps; allowed = fits.allowed; chunks = all_from (HasChunks (least_chunk m)) m.volume.snaps fits.snaps }
 
-pub snap_bytes : (n : ℕ) (op : Op) (piece : Span) (v : Volume) → (answered_by (ToSnap n) op piece v).volume.origin.bytes ≡ v.origin.bytes
+pub snap_bytes : (n : ℕ) (op : Op) (piece : Span) (v : Volume) → (answered_by (ToSnap n) op piece v).state.origin.bytes ≡ v.origin.bytes
 snap_bytes n Read piece v = one_bytes n (read_snap piece) (λ origin s. (is_read piece origin s).bytes) v.origin v.snaps
 snap_bytes n (Write bytes) piece v = one_bytes n (write_snap piece bytes) (write_bytes piece bytes) v.origin v.snaps
 snap_bytes n Flush piece v = one_bytes n flush_snap (λ origin s. (is_flushed origin s).bytes) v.origin v.snaps
 
 -- A request of another snapshot while a merge is begun: the origin shows what it showed, and so does each snapshot that the
 -- request spares.
-pub record SnapServed (sectors : ℕ) (dev : Dev) (op : Op) (m : Merging) (r : Replied) : Type 0 where
+pub record SnapServed (sectors : ℕ) (dev : Dev) (op : Op) (m : Merging) (r : Answered Merging) : Type 0 where
   pub holds : IsMerging sectors r.state
   pub merge : r.state.merge ≡ m.merge
   pub origin : shown_through r.state ≡ shown_through m
@@ -70,7 +70,7 @@ pub record SnapServed (sectors : ℕ) (dev : Dev) (op : Op) (m : Merging) (r : R
 pub snap_served : (sectors n : ℕ) (op : Op) (piece : Span) (m : Merging) → IsMerging sectors m → IsAsked sectors (least_chunk m) (record { dev = ToSnap n; op = op; piece = piece }) → SnapServed sectors (ToSnap n) op m (beside m.merge (answered_by (ToSnap n) op piece m.volume))
 snap_served sectors n op piece m is fit =
     let well = volume_well sectors m is in
-    let left : List Snap = (answered_by (ToSnap n) op piece m.volume).volume.snaps in
+    let left : List Snap = (answered_by (ToSnap n) op piece m.volume).state.snaps in
     let HasSize : Snap → Type 0 = λ (s : Snap). is_chunk s.chunk ≡ true in
     let after = answer_well sectors (least_chunk m) (record { dev = ToSnap n; op = op; piece = piece }) m.volume well fit in
     record {

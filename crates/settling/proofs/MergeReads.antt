@@ -15,19 +15,20 @@ use Rattle.chunk.proofs.Limits.{is_chunk-some}
 use Rattle.chunk.proofs.Wider.{wider}
 use Rattle.chunk.proofs.PiecePlaces.{join_le, piece_high}
 use Rattle.settled.specs.Commands.{bytes_in}
-use Rattle.settled.specs.Merges.{Merging, Replied, go_on, read_part, read_parts, read_through, least_chunk}
+use Rattle.settled.specs.Merges.{Merging, go_on, read_part, read_parts, read_through, least_chunk}
 use Rattle.settled.specs.MergeShown.{IsMerging, IsUnseen, shown_through}
 use Rattle.settled.proofs.Each.{Each, each_from}
 use Rattle.settling.proofs.MergeShows.{unseen_then, unseen_still}
 use Rattle.settling.proofs.MergeServes.{ReadsThrough, reads_through}
 use Rattle.settling.proofs.MergeSaves.{HasLeast, has_least}
+use Rattle.settled.specs.Pieces.{Answered}
 
 -- two runs of sectors side by side
 sectors_join : (b : List ℕ) (first c d : ℕ) → 512 * (first + c + d) ≤ length b → sectors_at b first c ++ sectors_at b (first + c) d ≡ sectors_at b first (c + d)
 sectors_join b first c d fits = same_lists _ _ (search (rules, places)) (λ k e h. grind (arith, places))
 
 -- A read of sectors from one on, after these bytes.
-pub record ReadsRange (sectors first count : ℕ) (before : List ℕ) (m : Merging) (r : Replied) : Type 0 where
+pub record ReadsRange (sectors first count : ℕ) (before : List ℕ) (m : Merging) (r : Answered Merging) : Type 0 where
   pub unseen : IsUnseen sectors m r.state
   pub reply : (r.reply ≡ Data (before ++ sectors_at (shown_through m) first count)) ⊎ (r.reply ≡ Refused Io)
 
@@ -43,9 +44,9 @@ module _ (sectors chunk : ℕ) (allowed : is_chunk chunk ≡ true) where
       let end = join_le (a + p.count) b pieces join.1 in
       let high : p.first + p.count ≤ chunk * (p.first / chunk) + chunk = piece_high chunk p.first p.count (is_chunk-some chunk allowed) one.0.some one.0.one in
       let fits : p.first + p.count ≤ m.merge.chunk * (p.first / m.merge.chunk) + m.merge.chunk = wider chunk m.merge.chunk p.first p.count allowed is.allowed wide high in
-      let here : Replied = read_part Origin p m in
+      let here : Answered Merging = read_part Origin p m in
       let w : ReadsThrough sectors a p.count m here = subst (λ (n : ℕ). ReadsThrough sectors n p.count m here) start (reads_through sectors p m is one.0.some (omega arith) fits) in
-      let after : Reply → Replied = λ (r : Reply). go_on r here (read_parts Origin pieces (before ++ bytes_in r) here.state) in
+      let after : Reply → Answered Merging = λ (r : Reply). go_on r here (read_parts Origin pieces (before ++ bytes_in r) here.state) in
       let got : List ℕ = sectors_at (shown_through m) a p.count in
       elim (cases_Bool w.done) [
         | inr lost ↦ (let refused : here.reply ≡ Refused Io = w.reply ∙ cond-false _ _ _ lost in

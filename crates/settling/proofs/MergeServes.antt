@@ -23,9 +23,9 @@ use Rattle.volume_laws.proofs.Pairs.{place_of-All}
 use Rattle.volume_laws.proofs.PlaceWrites.{picture_placed, picture_disk}
 use Rattle.settled.specs.Devices.{answers, met, written_by}
 use Rattle.settled.specs.Snaps.{Snap, Volume}
-use Rattle.settled.specs.Pieces.{save_all}
+use Rattle.settled.specs.Pieces.{save_all, Answered}
 use Rattle.settled.specs.Shown.{ShowTheSame}
-use Rattle.settled.specs.Merges.{Merge, Merging, pairs_in, with_store, with_origin, Replied, sector_in, write_at, read_at, place_in, write_part, read_part, flush_through}
+use Rattle.settled.specs.Merges.{Merge, Merging, pairs_in, with_store, with_origin, sector_in, write_at, read_at, place_in, write_part, read_part, flush_through}
 use Rattle.settled.specs.MergeShown.{IsWell, IsMerging, IsUnseen, shown_through}
 use Rattle.settled.proofs.Each.{Each, each_from, all_from}
 use Rattle.settled.proofs.Chunks.{OfChunks, chunks_keep}
@@ -35,7 +35,7 @@ use Rattle.settling.proofs.MergeShows.{unseen_still}
 
 -- A write of the origin: where it is answered Written its bytes stand in what the origin shows, else nothing changes there;
 -- each snapshot shows what it showed, while it is live.
-pub record WritesThrough (sectors first : ℕ) (bytes : List ℕ) (m : Merging) (r : Replied) : Type 0 where
+pub record WritesThrough (sectors first : ℕ) (bytes : List ℕ) (m : Merging) (r : Answered Merging) : Type 0 where
   pub holds : IsMerging sectors r.state
   pub chunk : r.state.merge.chunk ≡ m.merge.chunk
   pub wrote : Bool
@@ -44,7 +44,7 @@ pub record WritesThrough (sectors first : ℕ) (bytes : List ℕ) (m : Merging) 
   pub snaps : ShowTheSame m.volume.origin.bytes r.state.volume.origin.bytes m.volume.snaps r.state.volume.snaps
 
 -- A read of the origin is not seen; it answers what the origin shows, or Io.
-pub record ReadsThrough (sectors first count : ℕ) (m : Merging) (r : Replied) : Type 0 where
+pub record ReadsThrough (sectors first count : ℕ) (m : Merging) (r : Answered Merging) : Type 0 where
   pub unseen : IsUnseen sectors m r.state
   pub done : Bool
   pub reply : r.reply ≡ (if done then Data (sectors_at (shown_through m) first count) else Refused Io)
@@ -165,7 +165,7 @@ module _ (sectors : ℕ) (piece : Span) (m : Merging) (is : IsMerging sectors m)
   writes_disk each bytes len =
       let whole = is.whole in
       let fits : 512 * piece.first + length bytes ≤ length m.volume.origin.bytes = omega arith in
-      let r : Replied = write_at None piece bytes m in
+      let r : Answered Merging = write_at None piece bytes m in
       let all : Volume = save_all piece.first m.volume.origin m.volume.snaps in
       let same : all.origin.bytes ≡ m.volume.origin.bytes = save_all_bytes piece.first m.volume.origin m.volume.snaps in
       let wrote : Bool = answers all.origin (Writes piece.first piece.count) in
@@ -213,8 +213,8 @@ flushes_through sectors m is =
     let after : Merging = with_store m (met m.merge.store Flushes) in
     let both : Merging = with_origin after (met m.volume.origin Flushes) in
     elim (cases_Bool (answers m.merge.store Flushes)) [
-      | inl ok ↦ subst (λ (r : Replied). IsUnseen sectors m r.state) (sym (cond-true _ _ _ ok)) (unseen_still sectors m both is refl refl refl refl refl)
-      | inr failed ↦ subst (λ (r : Replied). IsUnseen sectors m r.state) (sym (cond-false _ _ _ failed)) (unseen_still sectors m after is refl refl refl refl refl)
+      | inl ok ↦ subst (λ (r : Answered Merging). IsUnseen sectors m r.state) (sym (cond-true _ _ _ ok)) (unseen_still sectors m both is refl refl refl refl refl)
+      | inr failed ↦ subst (λ (r : Answered Merging). IsUnseen sectors m r.state) (sym (cond-false _ _ _ failed)) (unseen_still sectors m after is refl refl refl refl refl)
     ]
 
 -- a write keeps the sizes of chunks

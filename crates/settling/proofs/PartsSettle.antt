@@ -26,8 +26,8 @@ use Rattle.volume_laws.specs.Again.{has_chunk}
 use Rattle.settled.specs.Devices.{Device, answers, met, written_by, read_reply, flush_reply}
 use Rattle.settled.specs.Pieces.{Answered}
 use Rattle.settled.specs.Requests.{FitsRange}
-use Rattle.settled.specs.Snaps.{Snap}
-use Rattle.settled.specs.Merges.{Merging, Replied, pairs_in, beside, write_at, read_at, flush_through}
+use Rattle.settled.specs.Snaps.{Snap, Volume}
+use Rattle.settled.specs.Merges.{Merging, pairs_in, beside, write_at, read_at, flush_through}
 use Rattle.settled.specs.MergeShown.{IsMerging}
 use Rattle.event_machine.specs.Held.{SnapHeld, Going, MergeHeld, Moving, group_in, on_device}
 use Rattle.event_machine.specs.Again.{is_grouped, merged_place, write_route, is_clear}
@@ -51,7 +51,7 @@ use Rattle.settling.proofs.WritesSettle.{write_request, origin_write_serves}
 use Rattle.settling.proofs.MergeServes.{over_pairs}
 
 -- a volume goes on to one at rest with a merge
-replied_there : (sectors : ℕ) (u : Moving) (h : MergeHeld) (origin : Device) (snaps : List SnapHeld) (reply : Reply) (k : ℕ) (answer : Replied) → Goes no_start u (at_with (Some h) origin snaps [] (Some reply) k) → length origin.bytes ≡ 512 * sectors → Each (IsResting sectors) snaps → IsMergeResting h →
+replied_there : (sectors : ℕ) (u : Moving) (h : MergeHeld) (origin : Device) (snaps : List SnapHeld) (reply : Reply) (k : ℕ) (answer : Answered Merging) → Goes no_start u (at_with (Some h) origin snaps [] (Some reply) k) → length origin.bytes ≡ 512 * sectors → Each (IsResting sectors) snaps → IsMergeResting h →
     record { volume = record { origin = origin; snaps = map snap_of snaps }; merge = h.merge } ≡ answer.state → reply ≡ answer.reply → SettlesToReplied sectors u answer
 replied_there sectors u h origin snaps reply k answer goes whole rest free is same =
     let last : Moving = at_with (Some h) origin snaps [] (Some reply) k in
@@ -70,10 +70,10 @@ replied_there sectors u h origin snaps reply k answer goes whole rest free is sa
     }
 
 -- a request that the merging store has no part in
-served_beside : (sectors : ℕ) (u : Moving) (h : MergeHeld) (answered : Answered) → IsMergeResting h → Serves sectors (Some h) u answered → SettlesToReplied sectors u (beside h.merge answered)
+served_beside : (sectors : ℕ) (u : Moving) (h : MergeHeld) (answered : Answered Volume) → IsMergeResting h → Serves sectors (Some h) u answered → SettlesToReplied sectors u (beside h.merge answered)
 served_beside sectors u h answered free s =
-    replied_there sectors u h answered.volume.origin s.snaps answered.reply s.started (beside h.merge answered) s.goes s.whole s.rest free
-    (ap (λ (ss : List Snap). let m : Merging = record { volume = record { origin = answered.volume.origin; snaps = ss }; merge = h.merge } in m) s.same) refl
+    replied_there sectors u h answered.state.origin s.snaps answered.reply s.started (beside h.merge answered) s.goes s.whole s.rest free
+    (ap (λ (ss : List Snap). let m : Merging = record { volume = record { origin = answered.state.origin; snaps = ss }; merge = h.merge } in m) s.same) refl
 
 module _ (sectors number : ℕ) (h : MergeHeld) (origin : Device) (snaps : List SnapHeld) (a : Option Reply) (k : ℕ) (whole : length origin.bytes ≡ 512 * sectors) (resting : Each (IsResting sectors) snaps) (free : IsMergeResting h) where
   abbrev pub here : Moving

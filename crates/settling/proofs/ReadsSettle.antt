@@ -35,6 +35,7 @@ use Rattle.settling.proofs.Primed.{resting_idle}
 use Rattle.event_machine.proofs.Found.{split_at, none_that, served_nowhere}
 use Rattle.settling.proofs.Issued.{mine_of, issued, answered_here, Serves, serves_there, serves_settles}
 use Rattle.settling.proofs.Served.{snap_of, each_here, served_by}
+use Rattle.settled.specs.Snaps.{Volume}
 
 pub goes_to : {starts : Moving → Moving} → (u v w : Moving) → Goes starts u v → v ≡ w → Goes starts u w
 goes_to {starts} u v w goes same = subst (Goes starts u) same goes
@@ -59,7 +60,7 @@ origin_read_serves g sectors number range origin snaps a k unplaced whole restin
 
 pub origin_read_settles : (sectors number : ℕ) (range : Range) (v : Moving) → IsAtRest sectors v → SettlesTo sectors (submitted number (read_request range) v) (read_origin (span_of range) (record { origin = v.origin; snaps = map snap_of v.snaps }))
 origin_read_settles sectors number range v rest =
-    let answer : Answered = read_origin (span_of range) (record { origin = v.origin; snaps = map snap_of v.snaps }) in
+    let answer : Answered Volume = read_origin (span_of range) (record { origin = v.origin; snaps = map snap_of v.snaps }) in
     let Settles : Moving → Type 0 = λ (w : Moving). SettlesTo sectors (submitted number (read_request range) w) answer in
     subst Settles (sym (at_alone v rest.alone))
     (subst (λ (rs : List Going). Settles (at v.origin v.snaps rs v.replied v.started)) (sym rest.requests)
@@ -157,7 +158,7 @@ module _ (g : Option MergeHeld) (sectors number n : ℕ) (range : Range) (origin
 
 pub snap_read_settles : (sectors number n : ℕ) (range : Range) (v : Moving) → IsAtRest sectors v → SettlesTo sectors (submitted number (snap_read_request n range) v) (in_snap n (read_snap (span_of range)) v.origin (map snap_of v.snaps))
 snap_read_settles sectors number n range v rest =
-    let answer : Answered = in_snap n (read_snap (span_of range)) v.origin (map snap_of v.snaps) in
+    let answer : Answered Volume = in_snap n (read_snap (span_of range)) v.origin (map snap_of v.snaps) in
     let Settles : Moving → Type 0 = λ (w : Moving). SettlesTo sectors (submitted number (snap_read_request n range) w) answer in
     subst Settles (sym (at_alone v rest.alone))
     (subst (λ (rs : List Going). Settles (at v.origin v.snaps rs v.replied v.started)) (sym rest.requests)

@@ -22,6 +22,7 @@ use Rattle.settling.proofs.WritesSettle.{origin_write_settles}
 use Rattle.settling.proofs.ReadsSettle.{origin_read_settles, snap_read_settles}
 use Rattle.settling.proofs.FlushesSettle.{origin_flush_settles, snap_flush_settles}
 use Rattle.settling.proofs.SnapWritesSettle.{snap_write_settles}
+use Rattle.settled.specs.Snaps.{Volume}
 
 settles_by : (sectors number : ℕ) (dev : Dev) (op : Op) (range : Range) (v : Moving) → IsAtRest sectors v → 0 < range.count → range.first + range.count ≤ sectors → FitsRange op range.count → All (IsInChunk range) v.snaps →
     SettlesTo sectors (submitted number (record { dev = dev; op = op; range = range }) v) (answered_by dev op (span_of range) (volume_of v))
@@ -37,5 +38,5 @@ pub request_settles : (sectors number : ℕ) (request : Request) (v : Moving) �
 request_settles sectors number request v rest fit = settles_by sectors number request.dev request.op request.range v rest fit.some fit.inside fit.bytes fit.chunks
 
 -- what it settles to, in however many events
-pub settles_one : (sectors fuel : ℕ) (u w : Moving) (answer : Answered) (to : SettlesTo sectors u answer) → settle fuel u ≡ w → due w ≡ None → w ≡ to.last
+pub settles_one : (sectors fuel : ℕ) (u w : Moving) (answer : Answered Volume) (to : SettlesTo sectors u answer) → settle fuel u ≡ w → due w ≡ None → w ≡ to.last
 settles_one sectors fuel u w answer to is quiet = by_one due stepped fuel to.fuel u w to.last to.ends is quiet

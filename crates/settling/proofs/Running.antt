@@ -31,10 +31,10 @@ counts_of [] = 0
 counts_of (p ∷ pieces) = p.count + counts_of pieces
 
 -- what a command has left of a volume
-pub record IsLeft (sectors chunk : ℕ) (w : Moving) (reply : Reply) (answer : Answered) : Type 0 where
+pub record IsLeft (sectors chunk : ℕ) (w : Moving) (reply : Reply) (answer : Answered Volume) : Type 0 where
   pub rest : IsAtRest sectors w
   pub chunks : Each (HasChunks chunk) (map (λ (h : SnapHeld). h.snap) w.snaps)
-  pub volume : volume_of w ≡ answer.volume
+  pub volume : volume_of w ≡ answer.state
   pub replied : reply ≡ answer.reply
 
 -- a piece that lies inside the origin and inside one chunk
@@ -62,19 +62,19 @@ module _ (sectors chunk : ℕ) (allowed : is_chunk chunk ≡ true) where
       let is : answer_of request (volume_of v) ≡ answered_by dev op piece (volume_of v) =
       ap (λ d. answered_by d request.op (span_of request.range) (volume_of v)) done.to_dev ∙ ap (λ o. answered_by dev o (span_of request.range) (volume_of v)) done.asks ∙ ap (λ p. answered_by dev op p (volume_of v)) done.on_piece in
       let mk : _ → List Snap → Volume = λ o (ss : List Snap). record { origin = o; snaps = ss } in
-      let left : volume_of mid ≡ (answered_by dev op piece (volume_of v)).volume =
-      ap volume_of same ∙ ap (λ o. mk o (volume_of to.last).snaps) to.origin ∙ ap (mk (answer_of request (volume_of v)).volume.origin) to.snaps ∙ ap (λ (x : Answered). x.volume) is in
+      let left : volume_of mid ≡ (answered_by dev op piece (volume_of v)).state =
+      ap volume_of same ∙ ap (λ o. mk o (volume_of to.last).snaps) to.origin ∙ ap (mk (answer_of request (volume_of v)).state.origin) to.snaps ∙ ap (λ (x : Answered Volume). x.state) is in
       let some_same : Some got ≡ Some (answer_of request (volume_of v)).reply = sym done.replied ∙ ap (λ (x : Moving). x.replied) same ∙ to.reply in
       let reply_same : got ≡ (answer_of request (volume_of v)).reply = cc in
       record {
         rest = subst (IsAtRest sectors) (sym same) to.rest;
         chunks = subst (λ (x : Volume). Each (HasChunks chunk) x.snaps) (sym left) (answer_keeps chunk dev op piece (volume_of v) chunks);
         volume = left;
-        replied = reply_same ∙ ap (λ (x : Answered). x.reply) is;
+        replied = reply_same ∙ ap (λ (x : Answered Volume). x.reply) is;
       }
 
   -- a piece, and then the rest of the command or its end
-  goes_left : (w mid : Moving) (reply got : Reply) (here more : Answered) → IsLeft sectors chunk mid got here → GoesOn got (IsLeft sectors chunk w reply more) ((w ≡ mid) × (reply ≡ got)) → IsLeft sectors chunk w reply (go_on here.reply here more)
+  goes_left : (w mid : Moving) (reply got : Reply) (here more : Answered Volume) → IsLeft sectors chunk mid got here → GoesOn got (IsLeft sectors chunk w reply more) ((w ≡ mid) × (reply ≡ got)) → IsLeft sectors chunk w reply (go_on here.reply here more)
   goes_left w mid reply (Data bytes) here more left goes = subst (λ (r : Reply). IsLeft sectors chunk w reply (go_on r here more)) left.replied goes
   goes_left w mid reply Written here more left goes = subst (λ (r : Reply). IsLeft sectors chunk w reply (go_on r here more)) left.replied goes
   goes_left w mid reply Flushed here more left goes = subst (λ (r : Reply). IsLeft sectors chunk w reply (go_on r here more)) left.replied goes
@@ -97,7 +97,7 @@ module _ (sectors chunk : ℕ) (allowed : is_chunk chunk ≡ true) where
       let front : length (take (512 * p.count) bytes) ≡ 512 * p.count = simp length-take (omega arith) in
       let back : length (drop (512 * p.count) bytes) ≡ 512 * counts_of pieces = simp length-drop (omega arith) in
       let left : IsLeft sectors chunk mid got (write_piece dev p (take (512 * p.count) bytes) (volume_of v)) = piece_left number dev (Write (take (512 * p.count) bytes)) p v mid got rest chunks fits.0 front done.2 in
-      goes_left w mid reply got (write_piece dev p (take (512 * p.count) bytes) (volume_of v)) (write_pieces dev pieces (drop (512 * p.count) bytes) (write_piece dev p (take (512 * p.count) bytes) (volume_of v)).volume) left
+      goes_left w mid reply got (write_piece dev p (take (512 * p.count) bytes) (volume_of v)) (write_pieces dev pieces (drop (512 * p.count) bytes) (write_piece dev p (take (512 * p.count) bytes) (volume_of v)).state) left
       (goes_as got _ _ ((w ≡ mid) × (reply ≡ got))
       (λ more. subst (λ (x : Volume). IsLeft sectors chunk w reply (write_pieces dev pieces (drop (512 * p.count) bytes) x)) left.volume (written_left pieces (number + 1) dev (drop (512 * p.count) bytes) mid w reply left.rest left.chunks fits.1 back more)) done.3)
 
@@ -107,11 +107,11 @@ module _ (sectors chunk : ℕ) (allowed : is_chunk chunk ≡ true) where
   read_left (p ∷ pieces) number dev before v w reply rest chunks fits done =
       let mid : Moving = done.0 in
       let got : Reply = done.1 in
-      let here : Answered = read_piece dev p (volume_of v) in
+      let here : Answered Volume = read_piece dev p (volume_of v) in
       let left : IsLeft sectors chunk mid got (read_piece dev p (volume_of v)) = piece_left number dev Read p v mid got rest chunks fits.0 tt done.2 in
-      goes_left w mid reply got (read_piece dev p (volume_of v)) (read_pieces dev pieces (before ++ bytes_in (read_piece dev p (volume_of v)).reply) (read_piece dev p (volume_of v)).volume) left
+      goes_left w mid reply got (read_piece dev p (volume_of v)) (read_pieces dev pieces (before ++ bytes_in (read_piece dev p (volume_of v)).reply) (read_piece dev p (volume_of v)).state) left
       (goes_as got _ _ ((w ≡ mid) × (reply ≡ got))
-      (λ more. subst (λ (r : Reply). IsLeft sectors chunk w reply (read_pieces dev pieces (before ++ bytes_in r) (read_piece dev p (volume_of v)).volume)) left.replied
+      (λ more. subst (λ (r : Reply). IsLeft sectors chunk w reply (read_pieces dev pieces (before ++ bytes_in r) (read_piece dev p (volume_of v)).state)) left.replied
       (subst (λ (x : Volume). IsLeft sectors chunk w reply (read_pieces dev pieces (before ++ bytes_in got) x)) left.volume (read_left pieces (number + 1) dev (before ++ bytes_in got) mid w reply left.rest left.chunks fits.1 more))) done.3)
 
   -- pieces that join to a span fit

@@ -3,8 +3,8 @@ use Rattle.std.proofs.Common.{◌≡◌, ℕ, ◌*◌, true, false, List, [], �
 use Rattle.std.specs.Prelude.{◌==◌}
 use Rattle.plain.specs.declared.request.Reply.{Reply}
 use Rattle.settled.specs.Devices.{Device}
-use Rattle.settled.specs.Snaps.{Snap}
-use Rattle.settled.specs.Pieces.{Answered, Served, in_snap}
+use Rattle.settled.specs.Snaps.{Snap, Volume}
+use Rattle.settled.specs.Pieces.{Answered, in_snap}
 use Rattle.event_machine.specs.Held.{SnapHeld, MergeHeld, Moving}
 use Rattle.event_machine.specs.Rest.{IsResting}
 use Rattle.settled.proofs.Each.{Each}
@@ -12,6 +12,7 @@ use Rattle.settling.proofs.Goes.{no_start, Goes}
 use Rattle.event_machine.proofs.Around.{at_with}
 use Rattle.event_machine.proofs.Found.{served_here}
 use Rattle.settling.proofs.Issued.{Serves, serves_there}
+use Rattle.settled.specs.Saving.{Saving}
 
 abbrev pub snap_of : SnapHeld → Snap
 snap_of h = h.snap
@@ -37,12 +38,12 @@ module _ (P : SnapHeld → Type 0) where
   each_joined [] rest h before here later = (here, later)
   each_joined (d ∷ done) rest h before here later = (before.0, each_joined done rest h before.1 here later)
 
-pub served_by : (sectors : ℕ) (g : Option MergeHeld) (number : ℕ) (serve : Device → Snap → Served) (origin origin' : Device) (done rest : List SnapHeld) (h h' : SnapHeld) (reply : Reply) (k : ℕ) (u v : Moving) →
+pub served_by : (sectors : ℕ) (g : Option MergeHeld) (number : ℕ) (serve : Device → Snap → Answered Saving) (origin origin' : Device) (done rest : List SnapHeld) (h h' : SnapHeld) (reply : Reply) (k : ℕ) (u v : Moving) →
     Each (λ (d : SnapHeld). (d.snap.number == number) ≡ false) done → (h.snap.number == number) ≡ true → Each (IsResting sectors) (done ++ h ∷ rest) → IsResting sectors h' → length origin'.bytes ≡ 512 * sectors →
-    serve origin h.snap ≡ record { origin = origin'; snap = h'.snap; reply = reply } → u ≡ v → Goes no_start v (at_with g origin' (done ++ h' ∷ rest) [] (Some reply) k) → Serves sectors g u (in_snap number serve origin (map snap_of (done ++ h ∷ rest)))
+    serve origin h.snap ≡ record { state = record { origin = origin'; snap = h'.snap }; reply = reply } → u ≡ v → Goes no_start v (at_with g origin' (done ++ h' ∷ rest) [] (Some reply) k) → Serves sectors g u (in_snap number serve origin (map snap_of (done ++ h ∷ rest)))
 served_by sectors g number serve origin origin' done rest h h' reply k u v before pass all resting whole is begun goes =
-    let made : Served → Answered = λ (a : Served). record { volume = record { origin = a.origin; snaps = map snap_of done ++ a.snap ∷ map snap_of rest }; reply = a.reply } in
-    let put : List Snap → Answered = λ (ss : List Snap). record { volume = record { origin = origin'; snaps = ss }; reply = reply } in
+    let made : Answered Saving → Answered Volume = λ (a : Answered Saving). record { state = record { origin = a.state.origin; snaps = map snap_of done ++ a.state.snap ∷ map snap_of rest }; reply = a.reply } in
+    let put : List Snap → Answered Volume = λ (ss : List Snap). record { state = record { origin = origin'; snaps = ss }; reply = reply } in
     serves_there sectors g u v origin' (done ++ h' ∷ rest) reply k (in_snap number serve origin (map snap_of (done ++ h ∷ rest))) begun goes whole
     (each_joined (IsResting sectors) done rest h' (each_first (IsResting sectors) done rest h all) resting (each_last (IsResting sectors) done rest h all))
     (served_here number serve origin done rest h before pass ∙ ap made is ∙ ap put (sym (map_split done rest h')))

@@ -64,7 +64,7 @@ module _ (sectors : ℕ) (piece : Span) (bytes : List ℕ) (some : 0 < piece.cou
 
   -- a write of the origin
   pub origin_write_shows : (v : Moving) → IsAtRest sectors v → Each (λ h. piece.first + piece.count ≤ h.snap.chunk * (piece.first / h.snap.chunk) + h.snap.chunk) v.snaps →
-      ShowTheSame v.origin.bytes (write_origin piece bytes (volume_of v)).volume.origin.bytes (volume_of v).snaps (write_origin piece bytes (volume_of v)).volume.snaps
+      ShowTheSame v.origin.bytes (write_origin piece bytes (volume_of v)).state.origin.bytes (volume_of v).snaps (write_origin piece bytes (volume_of v)).state.snaps
   origin_write_shows v rest one =
       let all : Volume = save_all piece.first v.origin (map (λ h. h.snap) v.snaps) in
       let same : all.origin.bytes ≡ v.origin.bytes = save_all_bytes piece.first v.origin (map (λ h. h.snap) v.snaps) in

@@ -29,9 +29,9 @@ use Rattle.settled.proofs.Laws.{option_cases}
 use Rattle.chunk.proofs.PiecePlaces.{piece_low}
 use Rattle.volume_laws.specs.Again.{published_place}
 use Rattle.settled.specs.Devices.{Device, met, written_by}
-use Rattle.settled.specs.Snaps.{Snap}
+use Rattle.settled.specs.Snaps.{Snap, Volume}
 use Rattle.settled.specs.Saving.{Saving, spoilt, next_place, is_full, has_chunk, save}
-use Rattle.settled.specs.Pieces.{Answered, Served, shuts, write_snap, write_saved, write_place, in_snap}
+use Rattle.settled.specs.Pieces.{Answered, shuts, write_snap, write_saved, write_place, in_snap}
 use Rattle.event_machine.specs.Held.{SnapHeld, Going, MergeHeld, Moving, with_store, spoiled}
 use Rattle.event_machine.specs.Due.{copy_at, least_in}
 use Rattle.event_machine.specs.Again.{again}
@@ -95,10 +95,10 @@ module _ (g : Option MergeHeld) (sectors number n : ℕ) (range : Range) (bytes 
   saved_is : (origin : Device) (s : Snap) (x : Saving) → shuts (range.first / s.chunk) s ≡ false → save (range.first / s.chunk) origin s ≡ x → write_snap (span_of range) bytes origin s ≡ write_saved (span_of range) bytes x
   saved_is origin s x takes is = cond-false _ _ _ takes ∙ ap (write_saved (span_of range) bytes) is
 
-  saved_dead : (x : Saving) → x.snap.live ≡ false → write_saved (span_of range) bytes x ≡ record { origin = x.origin; snap = x.snap; reply = Declined Invalid }
+  saved_dead : (x : Saving) → x.snap.live ≡ false → write_saved (span_of range) bytes x ≡ record { state = x; reply = Declined Invalid }
   saved_dead x out = cond-false _ _ _ out
 
-  saved_there : (x : Saving) (h : SnapHeld) (place : ℕ) → h.snap ≡ x.snap → h.snap.live ≡ true → IsKept sectors h → place_of h.pairs (range.first / h.snap.chunk) ≡ Some place → write_saved (span_of range) bytes x ≡ record { origin = x.origin; snap = (after_place h place).snap; reply = place_reply h place }
+  saved_there : (x : Saving) (h : SnapHeld) (place : ℕ) → h.snap ≡ x.snap → h.snap.live ≡ true → IsKept sectors h → place_of h.pairs (range.first / h.snap.chunk) ≡ Some place → write_saved (span_of range) bytes x ≡ record { state = record { origin = x.origin; snap = (after_place h place).snap }; reply = place_reply h place }
   saved_there x h place same on kept some =
       let y : Saving = record { origin = x.origin; snap = h.snap } in
       let with_snap : Snap → Saving = λ (s : Snap). record { origin = x.origin; snap = s } in
@@ -290,7 +290,7 @@ module _ (g : Option MergeHeld) (sectors number n : ℕ) (range : Range) (bytes 
             let reply : Reply = Declined Invalid in
             let O : Device = met origin (chunk_read c origin h.snap) in
             let dead : saving.snap.live ≡ false = sym (ap (λ (t : Snap). t.live) e.snap) ∙ out in
-            let with_snap : Snap → Served = λ (t : Snap). record { origin = O; snap = t; reply = reply } in
+            let with_snap : Snap → Answered Saving = λ (t : Snap). record { state = record { origin = O; snap = t }; reply = reply } in
             served_by sectors g n (write_snap (span_of range) bytes) origin O done rest h e.held reply (k + 1) _ _ before pass all copied_rests whole
             (copied_saved ∙ saved_dead saving dead ∙ ap with_snap (sym e.snap)) copied_begun
             (goes_on _ _ _ (goes_routed Refused (routed_refused out)) (refused_goes O copied_after a (k + 1) copied_idle))
@@ -352,7 +352,7 @@ module _ (g : Option MergeHeld) (sectors number n : ℕ) (range : Range) (bytes 
 pub snap_write_settles : (sectors number n : ℕ) (range : Range) (bytes : List ℕ) (v : Moving) → IsAtRest sectors v → range.first < sectors → length bytes ≡ 512 * range.count → All (λ (h : SnapHeld). range.first + range.count ≤ h.snap.chunk * (range.first / h.snap.chunk) + h.snap.chunk) v.snaps →
     SettlesTo sectors (submitted number (snap_write_request n range bytes) v) (in_snap n (write_snap (span_of range) bytes) v.origin (map snap_of v.snaps))
 snap_write_settles sectors number n range bytes v rest inside len pieces =
-    let answer : Answered = in_snap n (write_snap (span_of range) bytes) v.origin (map snap_of v.snaps) in
+    let answer : Answered Volume = in_snap n (write_snap (span_of range) bytes) v.origin (map snap_of v.snaps) in
     let Settles : Moving → Type 0 = λ (w : Moving). SettlesTo sectors (submitted number (snap_write_request n range bytes) w) answer in
     subst Settles (sym (at_alone v rest.alone))
     (subst (λ (rs : List Going). Settles (at v.origin v.snaps rs v.replied v.started)) (sym rest.requests)

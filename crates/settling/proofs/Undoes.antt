@@ -65,7 +65,7 @@ each_in_chunk range [] all = tt
 each_in_chunk range (s ∷ snaps) all = (all.0, each_in_chunk range snaps all.1)
 
 -- a request leaves a volume that is well
-pub answer_well : (sectors chunk : ℕ) (a : Asked) (v : Volume) → IsVolume sectors chunk v → IsAsked sectors chunk a → IsVolume sectors chunk (answered_by a.dev a.op a.piece v).volume
+pub answer_well : (sectors chunk : ℕ) (a : Asked) (v : Volume) → IsVolume sectors chunk v → IsAsked sectors chunk a → IsVolume sectors chunk (answered_by a.dev a.op a.piece v).state
 answer_well sectors chunk a v is fit =
     let range : Range = record { first = a.piece.first; count = a.piece.count; size = a.piece.size; inside = fit.sized } in
     let chunks : Each (HasChunks chunk) v.snaps = each_from (HasChunks chunk) v.snaps is.chunks in
@@ -75,13 +75,13 @@ answer_well sectors chunk a v is fit =
       requests = refl;
       alone = refl;
     } in
-    let made : List Snap → Answered = λ (ss : List Snap). answered_by a.dev a.op a.piece (record { origin = v.origin; snaps = ss }) in
+    let made : List Snap → Answered Volume = λ (ss : List Snap). answered_by a.dev a.op a.piece (record { origin = v.origin; snaps = ss }) in
     let settles : SettlesTo sectors _ (made (map (λ (h : SnapHeld). h.snap) (map at_rest v.snaps))) = request_settles sectors 0 (record { dev = a.dev; op = a.op; range = range }) (volume_at_rest v) rest
     (record { some = fit.some; inside = fit.inside; bytes = fit.bytes; chunks = all_from (IsInChunk range) (map at_rest v.snaps) (each_in_chunk range v.snaps (one_wider chunk range.first range.count v.snaps is.allowed fit.one chunks)) }) in
     let same : made (map (λ (h : SnapHeld). h.snap) (map at_rest v.snaps)) ≡ answered_by a.dev a.op a.piece v = ap made (snaps_of v.snaps) in
-    let after : Volume = (answered_by a.dev a.op a.piece v).volume in
-    let origin : settles.last.origin ≡ after.origin = settles.origin ∙ ap (λ (x : Answered). x.volume.origin) same in
-    let snaps : map (λ (h : SnapHeld). h.snap) settles.last.snaps ≡ after.snaps = settles.snaps ∙ ap (λ (x : Answered). x.volume.snaps) same in
+    let after : Volume = (answered_by a.dev a.op a.piece v).state in
+    let origin : settles.last.origin ≡ after.origin = settles.origin ∙ ap (λ (x : Answered Volume). x.state.origin) same in
+    let snaps : map (λ (h : SnapHeld). h.snap) settles.last.snaps ≡ after.snaps = settles.snaps ∙ ap (λ (x : Answered Volume). x.state.snaps) same in
     record {
       whole = sym (ap (λ (d : Device). length d.bytes) origin) ∙ settles.rest.whole;
       snaps = all_from (IsWell sectors) after.snaps (subst (Each (IsWell sectors)) snaps (each_well sectors settles.last.snaps (each_from (IsResting sectors) settles.last.snaps settles.rest.snaps)));
@@ -91,18 +91,18 @@ answer_well sectors chunk a v is fit =
 
 -- What the snapshot of a number shows after a request that spares it, it showed before.
 module _ (sectors chunk number : ℕ) (piece : Span) (v : Volume) (is : IsVolume sectors chunk v) (some : 0 < piece.count) (inside : piece.first + piece.count ≤ sectors) (one : piece.first + piece.count ≤ chunk * (piece.first / chunk) + chunk) where
-  write_shows : (bytes : List ℕ) → length bytes ≡ 512 * piece.count → (t : Snap) → snap_named number (write_origin piece bytes v).volume.snaps ≡ Some t → WasShown number v.origin.bytes (write_origin piece bytes v).volume.origin.bytes v.snaps t
+  write_shows : (bytes : List ℕ) → length bytes ≡ 512 * piece.count → (t : Snap) → snap_named number (write_origin piece bytes v).state.snaps ≡ Some t → WasShown number v.origin.bytes (write_origin piece bytes v).state.origin.bytes v.snaps t
   write_shows bytes len t named =
       let all : Volume = save_all piece.first v.origin v.snaps in
       let wrote : Bool = answers all.origin (Writes piece.first piece.count) in
-      let after : List ℕ = (write_origin piece bytes v).volume.origin.bytes in
-      let disk : (write_origin piece bytes v).volume.origin.bytes ≡ (if wrote then with_sectors v.origin.bytes piece.first bytes else v.origin.bytes) =
+      let after : List ℕ = (write_origin piece bytes v).state.origin.bytes in
+      let disk : (write_origin piece bytes v).state.origin.bytes ≡ (if wrote then with_sectors v.origin.bytes piece.first bytes else v.origin.bytes) =
       ap (λ b. if wrote then with_sectors b piece.first bytes else b) (save_all_bytes piece.first v.origin v.snaps) in
       all_named number piece.first v.origin v.snaps v.origin.bytes after t
       (all_shown sectors piece.first piece.count bytes some inside len v.origin v.snaps after is.whole (each_from (IsWell sectors) v.snaps is.snaps)
       (one_wider chunk piece.first piece.count v.snaps is.allowed one (each_from (HasChunks chunk) v.snaps is.chunks)) wrote disk) named
 
-  pub one_shows : (dev : Dev) (op : Op) → FitsRange op piece.count → Spares number dev op → (t : Snap) → snap_named number (answered_by dev op piece v).volume.snaps ≡ Some t → WasShown number v.origin.bytes (answered_by dev op piece v).volume.origin.bytes v.snaps t
+  pub one_shows : (dev : Dev) (op : Op) → FitsRange op piece.count → Spares number dev op → (t : Snap) → snap_named number (answered_by dev op piece v).state.snaps ≡ Some t → WasShown number v.origin.bytes (answered_by dev op piece v).state.origin.bytes v.snaps t
   one_shows Origin Read fits spares t named = record { was = t; named = named; same = λ live. refl }
   one_shows Origin (Write bytes) fits spares t named = write_shows bytes fits t named
   one_shows Origin Flush fits spares t named = record { was = t; named = named; same = λ live. refl }
@@ -120,9 +120,9 @@ module _ (sectors chunk number : ℕ) (piece : Span) (v : Volume) (is : IsVolume
 abbrev pub ShowsAs : ℕ → List ℕ → Volume → Type 0
 ShowsAs number array v = (t : Snap) → snap_named number v.snaps ≡ Some t → t.live ≡ true → shown v.origin.bytes t ≡ Live array
 
-request_shows : (sectors chunk number : ℕ) (array : List ℕ) (a : Asked) (v : Volume) → IsVolume sectors chunk v → IsAsked sectors chunk a → Spares number a.dev a.op → ShowsAs number array v → ShowsAs number array (answered_by a.dev a.op a.piece v).volume
+request_shows : (sectors chunk number : ℕ) (array : List ℕ) (a : Asked) (v : Volume) → IsVolume sectors chunk v → IsAsked sectors chunk a → Spares number a.dev a.op → ShowsAs number array v → ShowsAs number array (answered_by a.dev a.op a.piece v).state
 request_shows sectors chunk number array a v is fit spares shows t named live =
-    let after : Volume = (answered_by a.dev a.op a.piece v).volume in
+    let after : Volume = (answered_by a.dev a.op a.piece v).state in
     let before = one_shows sectors chunk number a.piece v is fit.some fit.inside fit.one a.dev a.op fit.bytes spares t named in
     let same : shown after.origin.bytes t ≡ shown v.origin.bytes before.was = before.same live in
     let on : before.was.live ≡ true = shown_live v.origin.bytes before.was (picture t.chunk after.origin.bytes t.store.bytes) (sym same ∙ cond-true _ _ _ live) in
@@ -132,7 +132,7 @@ request_shows sectors chunk number array a v is fit spares shows t named live =
 asked_each : (sectors chunk number : ℕ) (array : List ℕ) (requests : List Asked) (v : Volume) → IsVolume sectors chunk v → Each (IsAsked sectors chunk) requests → Each (λ a. Spares number a.dev a.op) requests → ShowsAs number array v → IsVolume sectors chunk (asked requests v) × ShowsAs number array (asked requests v)
 asked_each sectors chunk number array [] v is fit spares shows = (is, shows)
 asked_each sectors chunk number array (a ∷ requests) v is fit spares shows =
-    asked_each sectors chunk number array requests (answered_by a.dev a.op a.piece v).volume (answer_well sectors chunk a v is fit.0) fit.1 spares.1 (request_shows sectors chunk number array a v is fit.0 spares.0 shows)
+    asked_each sectors chunk number array requests (answered_by a.dev a.op a.piece v).state (answer_well sectors chunk a v is fit.0) fit.1 spares.1 (request_shows sectors chunk number array a v is fit.0 spares.0 shows)
 
 -- A snapshot whose store has no pair shows what stands on the origin disk.
 fresh_shows : (number : ℕ) (v : Volume) (s : Snap) → snap_named number v.snaps ≡ Some s → pairs_of s.chunk s.store.bytes ≡ [] → ShowsAs number v.origin.bytes v

@@ -65,7 +65,7 @@ module _ (g : Option MergeHeld) (sectors number : ℕ) (range : Range) (ungroupe
       let room : 512 * (range.first + range.count) ≤ length all.origin.bytes = omega arith in
       let after : Device = written_by all.origin (Writes range.first range.count) (with_sectors all.origin.bytes range.first bytes) in
       let reply : Reply = write_reply all.origin range.first range.count in
-      let made : List Snap → Answered = λ (ss : List Snap). record { volume = record { origin = after; snaps = ss }; reply = reply } in
+      let made : List Snap → Answered Volume = λ (ss : List Snap). record { state = record { origin = after; snaps = ss }; reply = reply } in
       serves_there sectors g (submitted number (write_request range bytes) (at_with g origin snaps [] a k)) start after saved.finals reply k' _ (write_begins origin snaps k)
       (goes_on start _ _ saved.goes (issues g sectors number range ungrouped unplaced bytes a k' all.origin saved.finals idle saved.saved))
       (written_length all.origin range.first range.count bytes len room ∙ same ∙ whole) saved.rest (ap made (sym saved.same))
@@ -73,7 +73,7 @@ module _ (g : Option MergeHeld) (sectors number : ℕ) (range : Range) (ungroupe
 pub origin_write_settles : (sectors number : ℕ) (range : Range) (bytes : List ℕ) (v : Moving) → IsAtRest sectors v → 0 < range.count → range.first + range.count ≤ sectors → length bytes ≡ 512 * range.count →
     SettlesTo sectors (submitted number (write_request range bytes) v) (write_origin (span_of range) bytes (record { origin = v.origin; snaps = map (λ (h : SnapHeld). h.snap) v.snaps }))
 origin_write_settles sectors number range bytes v rest some fits len =
-    let answer : Answered = write_origin (span_of range) bytes (record { origin = v.origin; snaps = map snap_of v.snaps }) in
+    let answer : Answered Volume = write_origin (span_of range) bytes (record { origin = v.origin; snaps = map snap_of v.snaps }) in
     let Settles : Moving → Type 0 = λ (w : Moving). SettlesTo sectors (submitted number (write_request range bytes) w) answer in
     subst Settles (sym (at_alone v rest.alone))
     (subst (λ (rs : List Going). Settles (at v.origin v.snaps rs v.replied v.started)) (sym rest.requests)

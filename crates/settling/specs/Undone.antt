@@ -28,7 +28,7 @@ pub record Asked : Type 0 where
 -- these requests, one after the other
 abbrev pub asked : List Asked → Volume → Volume
 asked [] v = v
-asked (a ∷ more) v = asked more (answered_by a.dev a.op a.piece v).volume
+asked (a ∷ more) v = asked more (answered_by a.dev a.op a.piece v).state
 
 -- it has a sector, lies inside the origin and its own device, and inside one chunk
 pub record IsAsked (sectors chunk : ℕ) (a : Asked) : Type 0 where

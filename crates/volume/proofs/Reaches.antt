@@ -4,7 +4,7 @@ use Rattle.device.specs.Layers.{Layer}
 use Rattle.plain.specs.declared.event.Event.{Event}
 use Rattle.plain.specs.declared.event.Outcome.{Outcome}
 use Rattle.plain.specs.declared.request.Reply.{Reply}
-use Rattle.settled.specs.Merges.{Merged, Replied}
+use Rattle.settled.specs.Merges.{Merged, Merging}
 use Rattle.event_machine.specs.Held.{Moving}
 use Rattle.event_machine.specs.Due.{due}
 use Rattle.event_machine.specs.MergeDue.{due_all}
@@ -19,6 +19,7 @@ use Rattle.volume.specs.Volumed.{Volumed, is_loud_in_all}
 use Rattle.volume.specs.Moved.{moving_of}
 use Rattle.volume.specs.Exact.{IsExact}
 use Rattle.volume.specs.Reaching.{ReachesBy, Reaches, ReachesAll, IsRunAll, IsMergedTo}
+use Rattle.settled.specs.Snaps.{Volume}
 
 -- by events that are chosen in some way
 module _ (choose : Moving → Option Event) (step : Event → Moving → Moving) where
@@ -57,10 +58,10 @@ pub reaches_more_all : (m w u : Moving) (event : Event) → ReachesAll m w → d
 reaches_more_all m w u event r first step = more_by due_all stepped_all m w u event r first step
 
 -- until none is due
-pub reaches_end : (sectors : ℕ) (answer : Answered) (m w : Moving) (t : SettlesTo sectors m answer) → Reaches m w → due w ≡ None → w ≡ t.last
+pub reaches_end : (sectors : ℕ) (answer : Answered Volume) (m w : Moving) (t : SettlesTo sectors m answer) → Reaches m w → due w ≡ None → w ≡ t.last
 reaches_end sectors answer m w t r none = end_by due stepped m w t.last t.fuel t.ends r none
 
-pub reaches_replied : (sectors : ℕ) (answer : Replied) (m w : Moving) (t : SettlesToReplied sectors m answer) → Reaches m w → due w ≡ None → w ≡ t.last
+pub reaches_replied : (sectors : ℕ) (answer : Answered Merging) (m w : Moving) (t : SettlesToReplied sectors m answer) → Reaches m w → due w ≡ None → w ≡ t.last
 reaches_replied sectors answer m w t r none = end_by due stepped m w t.last t.fuel t.ends r none
 
 pub reaches_merged : (sectors : ℕ) (answer : Merged) (m w : Moving) (t : SettlesToMerged sectors m answer) → ReachesAll m w → due_all w ≡ None → w ≡ t.last
