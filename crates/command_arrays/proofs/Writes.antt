@@ -20,7 +20,7 @@ use Rattle.settled.specs.Snaps.{Snap}
 use Rattle.settled.specs.Merges.{Merge, Merged}
 use Rattle.settled.specs.MergeShown.{origin_shown}
 use Rattle.settled.proofs.Each.{Each}
-use Rattle.settled.specs.Beside.{Served, chunk_beside, written_beside, written_first_beside}
+use Rattle.settled.specs.Beside.{chunk_beside, written_beside, written_first_beside}
 use Rattle.command_rules.specs.Changes.{Did}
 use Rattle.command_rules.specs.Raw.{fits}
 use Rattle.command_rules.specs.Messages.{snap_at}
@@ -44,6 +44,7 @@ use Rattle.command_arrays.specs.Shown.{AreKept, IsOriginWritten, IsSnapshotChang
 use Rattle.command_arrays.specs.Well.{IsWell}
 use Rattle.command_arrays.proofs.Lists.{Rise, named_with, named_is, named_marked, numbers_are, entry_at, entries_kept, IsHere, is_here, snap_there}
 use Rattle.command_arrays.proofs.Resting.{rests}
+use Rattle.settled.specs.Pieces.{Answered}
 
 -- the arrays of a volume with other devices
 abbrev pub arrays_at : List ℕ → List Names → Merged → Arrays
@@ -175,7 +176,7 @@ module _ (volume : Volume) (well : IsWell volume) (first count : ℕ) (bytes : L
       let all : take (length pieces) pieces ≡ pieces = take_all (length pieces) pieces (omega arith) in
       let a : AreWritten dev first pieces bytes (arrays_with m) (arrays_with (parts_written dev pieces bytes m).state) (parts_written dev pieces bytes m).reply =
       subst (λ (ps : List Span). AreWritten dev first ps bytes (arrays_with m) (arrays_with (parts_written dev ps bytes m).state) (parts_written dev ps bytes m).reply) all (first_written dev (length pieces)) in
-      subst (λ (r : Served). AreWritten dev first pieces bytes (arrays_with m) (arrays_with r.state) r.reply) (sym (write_whole dev span bytes m)) a
+      subst (λ (r : Answered Merged). AreWritten dev first pieces bytes (arrays_with m) (arrays_with r.state) r.reply) (sym (write_whole dev span bytes m)) a
 
   abbrev before : Arrays
   before = arrays_at volume.origin volume.snaps m
@@ -283,7 +284,7 @@ write_shows role first count bytes volume well len some = by (asked_of role firs
     by (Err refusal) is = inl refl
     by (Ok asks) is =
         let (dev, fits, span) = asked_there role first count volume asks is in
-        let r : Served = written_beside asks.dev asks.span bytes (merged_in volume) in
+        let r : Answered Merged = written_beside asks.dev asks.span bytes (merged_in volume) in
         let law : AreWritten asks.dev first (pieces_of (chunk_beside (merged_in volume)) asks.span) bytes (arrays_with (merged_in volume)) (arrays_with r.state) r.reply =
         subst (λ (sp : Span). AreWritten asks.dev first (pieces_of (chunk_beside (merged_in volume)) sp) bytes (arrays_with (merged_in volume)) (arrays_with (written_beside asks.dev sp bytes (merged_in volume)).state) (written_beside asks.dev sp bytes (merged_in volume)).reply) (sym span)
         (whole_written volume well first count bytes len some fits asks.dev) in
@@ -302,7 +303,7 @@ module _ (volume : Volume) (well : IsWell volume) (first count : ℕ) (bytes : L
   abbrev Pieces : List Span
   Pieces = pieces_of (chunk_beside (merged_in volume)) (record { first = first; count = count; size = sectors_of volume.state.origin })
 
-  abbrev done_first : ℕ → Served
+  abbrev done_first : ℕ → Answered Merged
   done_first n = written_first_beside n dev (record { first = first; count = count; size = sectors_of volume.state.origin }) bytes (merged_in volume)
 
   -- none of them
@@ -321,7 +322,7 @@ module _ (volume : Volume) (well : IsWell volume) (first count : ℕ) (bytes : L
     where
       law : (n : ℕ) → (done_first n).reply ≡ Written → AreWritten dev first (take n Pieces) bytes (arrays_with (merged_in volume)) (arrays_with (done_first n).state) Written
       law n wrote = subst (AreWritten dev first (take n Pieces) bytes (arrays_with (merged_in volume)) (arrays_with (done_first n).state)) wrote
-          (subst (λ (r : Served). AreWritten dev first (take n Pieces) bytes (arrays_with (merged_in volume)) (arrays_with r.state) r.reply) (sym (write_first n dev (record { first = first; count = count; size = sectors_of volume.state.origin }) bytes (merged_in volume)))
+          (subst (λ (r : Answered Merged). AreWritten dev first (take n Pieces) bytes (arrays_with (merged_in volume)) (arrays_with r.state) r.reply) (sym (write_first n dev (record { first = first; count = count; size = sectors_of volume.state.origin }) bytes (merged_in volume)))
           (first_written volume well first count bytes len some fits dev n))
 
       by : (n : ℕ) → n < length Pieces → (done_first n).reply ≡ Written → IsWriteRefused role first bytes e (arrays_of volume) (arrays_at volume.origin volume.snaps (done_first n).state)

@@ -16,7 +16,7 @@ use Rattle.settled.specs.Devices.{sectors_of as size_of}
 use Rattle.settled.specs.Snaps.{Volume as Settled}
 use Rattle.settled.specs.Merges.{Merged}
 use Rattle.settled.specs.Commands.{bytes_in}
-use Rattle.settled.specs.Beside.{Served, written_beside, read_beside, flushed_beside, count_beside, written_first_beside}
+use Rattle.settled.specs.Beside.{written_beside, read_beside, flushed_beside, count_beside, written_first_beside}
 use Rattle.plain.specs.Failures.{refusal_of}
 use Rattle.command_rules.specs.declared.place.Role.{Role}
 use Rattle.command_rules.specs.declared.place.Role.TheVariants.{Origin, Under, Snapshot, Store, Merging, MergingStore}
@@ -27,6 +27,7 @@ use Rattle.command_rules.specs.Places.{place_of, found, volume_at}
 use Rattle.command_rules.specs.Changes.{Did, refused}
 use Rattle.command_rules.specs.Messages.{snap_at, put_volume}
 use Rattle.command_rules.specs.Raw.{fits, whole}
+use Rattle.settled.specs.Pieces.{Answered}
 
 -- disks and layers are neither read nor written by these commands
 abbrev pub serves : Role → Result (Unit {0}) Refusal
@@ -91,7 +92,7 @@ write_answer Written = Ok tt
 write_answer Flushed = Ok tt
 write_answer (Refused failure) = Err (refusal_of failure)
 
-abbrev pub written_as : ℕ → Served → Volume → Did (Unit {0}) Volume
+abbrev pub written_as : ℕ → Answered Merged → Volume → Did (Unit {0}) Volume
 written_as count done volume = record { answer = write_answer done.reply; left = after_asking count done.state volume }
 
 -- sectors that were asked for are written

@@ -12,7 +12,7 @@ use Rattle.plain.specs.declared.request.Reply.TheVariants.{Data, Written, Flushe
 use Rattle.plain.specs.declared.request.Failure.{Failure}
 use Rattle.plain.specs.declared.request.Failure.TheVariants.{Invalid, Io, Overflow}
 use Rattle.settled.specs.Merges.{Merged}
-use Rattle.settled.specs.Beside.{Served, read_beside, written_beside, flushed_beside, written_first_beside, count_beside}
+use Rattle.settled.specs.Beside.{read_beside, written_beside, flushed_beside, written_first_beside, count_beside}
 use Rattle.settled.specs.Refusals.{is_starved}
 use Rattle.volume_commands.specs.Rested.{Rested, has_dev}
 use Rattle.plain.specs.Failures.{refusal_of}
@@ -25,6 +25,7 @@ use Rattle.command_rules.specs.Sectors.{Asked, asked_of, after_asking, flush_by,
 use Rattle.named_volume.specs.Flights.{IsDenied}
 use Rattle.named_volume.specs.Held.{merged_inside, IsSettledIn}
 use Rattle.named_volume.proofs.Unflushed.{flush_leaves}
+use Rattle.settled.specs.Pieces.{Answered}
 
 -- the same answer, and the same left
 did : {A T : Type 0} (a b : Result A Refusal) (x y : T) → a ≡ b → x ≡ y → (let d : Did A T = record { answer = a; left = x } in d) ≡ record { answer = b; left = y }
@@ -65,7 +66,7 @@ module _ (role : Role) (first count : ℕ) (volume new : Volume) (dev : Dev) (sp
   read_by_reply reply answer done is =
       ap (read_by count volume) asked
       ∙ did (read_answer (read_beside dev span (merged_in volume)).reply) answer (after_asking count (merged_in volume) volume) new
-      (ap (λ (m : Merged). read_answer (read_beside dev span m).reply) state ∙ ap (λ (a : Served). read_answer a.reply) (done settled) ∙ is)
+      (ap (λ (m : Merged). read_answer (read_beside dev span m).reply) state ∙ ap (λ (a : Answered Merged). read_answer a.reply) (done settled) ∙ is)
       (read_left (read_leaves stack_contents stack_layers stack_reads dev span reply before after done settled))
 
   pub read_does : (result : Result (List ℕ) Refusal) → IfOk result (λ bytes. IsDoneBy stack_contents stack_layers (read_beside dev span) (Data bytes) before after) → IfErr result (λ refusal. IsReadRefused stack_contents stack_layers dev span refusal before after)
@@ -89,8 +90,8 @@ module _ (role : Role) (first count : ℕ) (volume new : Volume) (dev : Dev) (sp
       let here : written_beside dev span bytes (merged_in volume) ≡ record { state = merged_inside after; reply = reply } = ap (written_beside dev span bytes) state ∙ done settled in
       ap (write_by count bytes volume) asked
       ∙ did (write_answer (written_beside dev span bytes (merged_in volume)).reply) answer (after_asking count (written_beside dev span bytes (merged_in volume)).state volume) new
-      (ap (λ (a : Served). write_answer a.reply) here ∙ is)
-      (ap (λ (a : Served). after_asking count a.state volume) here ∙ sym left)
+      (ap (λ (a : Answered Merged). write_answer a.reply) here ∙ is)
+      (ap (λ (a : Answered Merged). after_asking count a.state volume) here ∙ sym left)
 
   part : (bytes : List ℕ) (pieces : ℕ) → pieces < count_beside span (merged_inside before) → IsDoneBy stack_contents stack_layers (written_first_beside pieces dev span bytes) Written before after → IsPartWritten role first count bytes volume new
   unfolding IsPartWritten
@@ -100,8 +101,8 @@ module _ (role : Role) (first count : ℕ) (volume new : Volume) (dev : Dev) (sp
       let some : ArePartWritten count bytes asks volume new = record {
         pieces = pieces;
         fewer = subst (λ (m : Merged). pieces < count_beside span m) (sym state) fewer;
-        done = ap (λ (a : Served). a.reply) here;
-        left = left ∙ ap (λ (a : Served). after_asking count a.state volume) (sym here);
+        done = ap (λ (a : Answered Merged). a.reply) here;
+        left = left ∙ ap (λ (a : Answered Merged). after_asking count a.state volume) (sym here);
       } in
       subst (λ (r : Result Asked Refusal). IsPartWrittenBy count bytes volume new r) (sym asked) some
 
@@ -127,7 +128,7 @@ module _ (role : Role) (volume new : Volume) (dev : Dev) (span : Span) (before a
   flush_by_reply reply answer done is =
       ap (flush_by volume) asked
       ∙ did (write_answer (flushed_beside dev (merged_in volume)).reply) answer (after_asking 1 (merged_in volume) volume) new
-      (ap (λ (m : Merged). write_answer (flushed_beside dev m).reply) state ∙ ap (λ (a : Served). write_answer a.reply) (done settled) ∙ is)
+      (ap (λ (m : Merged). write_answer (flushed_beside dev m).reply) state ∙ ap (λ (a : Answered Merged). write_answer a.reply) (done settled) ∙ is)
       (flush_left (flush_leaves dev reply before after done settled))
 
   pub flush_does : (result : Result (Unit {0}) Refusal) → OnOk result (IsDoneBy stack_contents stack_layers (flushed_beside dev) Flushed before after) → IfErr result (λ refusal. IsFlushRefused stack_contents stack_layers dev refusal before after)

@@ -10,7 +10,6 @@ use Rattle.settled.specs.Pieces.{Answered}
 use Rattle.settled.specs.Commands.{go_on as alone_on, bytes_in, read_piece, read_pieces}
 use Rattle.settled.specs.Merges.{Merge, Merged, Merging, merged_of, beside, place_in, read_at, go_on as beside_on, read_parts}
 use Rattle.settled.specs.MergeShown.{array_of}
-use Rattle.settled.specs.Beside.{Served}
 use Rattle.volume_commands.specs.Serving.{part_read}
 use Rattle.volume_commands.specs.Showing.{Arrays}
 use Rattle.volume_commands.proofs.Shown.{arrays_with}
@@ -32,7 +31,7 @@ part_by dev piece None v = piece_shown dev piece v
 part_by Origin piece (Some g) v = at_shown (place_in piece.first g) piece (record { volume = v; merge = g })
 part_by (ToSnap number) piece (Some g) v = ap (with_merge (Some g)) (piece_shown (ToSnap number) piece v)
 
-goes_shown : (r : Reply) (shows : Arrays) (here more : Served) → arrays_with here.state ≡ shows → arrays_with more.state ≡ shows → arrays_with (go_on r here more).state ≡ shows
+goes_shown : (r : Reply) (shows : Arrays) (here more : Answered Merged) → arrays_with here.state ≡ shows → arrays_with more.state ≡ shows → arrays_with (go_on r here more).state ≡ shows
 goes_shown (Data bytes) shows here more h m = m
 goes_shown Written shows here more h m = m
 goes_shown Flushed shows here more h m = m
@@ -42,11 +41,11 @@ goes_shown (Refused failure) shows here more h m = h
 pub parts_shown : (dev : Dev) (pieces : List Span) (before : List ℕ) (m : Merged) → arrays_with (parts_read dev pieces before m).state ≡ arrays_with m
 parts_shown dev [] before m = refl
 parts_shown dev (piece ∷ pieces) before m =
-    let here : Served = part_read dev piece m in
+    let here : Answered Merged = part_read dev piece m in
     let same : arrays_with here.state ≡ arrays_with m = part_by dev piece m.merge m.volume in
     goes_shown here.reply (arrays_with m) here (parts_read dev pieces (before ++ bytes_in here.reply) here.state) same (parts_shown dev pieces (before ++ bytes_in here.reply) here.state ∙ same)
 
-snap_goes : (g : Merge) (r : Reply) (here more : Answered) → beside_on r (beside g here) (beside g more) ≡ beside g (alone_on r here more)
+snap_goes : (g : Merge) (r : Reply) (here more : Answered Volume) → beside_on r (beside g here) (beside g more) ≡ beside g (alone_on r here more)
 snap_goes g (Data bytes) here more = refl
 snap_goes g Written here more = refl
 snap_goes g Flushed here more = refl
@@ -56,5 +55,5 @@ snap_goes g (Refused failure) here more = refl
 pub snap_parts : (number : ℕ) (pieces : List Span) (before : List ℕ) (g : Merge) (v : Volume) → read_parts (ToSnap number) pieces before (record { volume = v; merge = g }) ≡ beside g (read_pieces (ToSnap number) pieces before v)
 snap_parts number [] before g v = refl
 snap_parts number (p ∷ ps) before g v =
-    let here : Answered = read_piece (ToSnap number) p v in
-    ap (beside_on here.reply (beside g here)) (snap_parts number ps (before ++ bytes_in here.reply) g here.volume) ∙ snap_goes g here.reply here (read_pieces (ToSnap number) ps (before ++ bytes_in here.reply) here.volume)
+    let here : Answered Volume = read_piece (ToSnap number) p v in
+    ap (beside_on here.reply (beside g here)) (snap_parts number ps (before ++ bytes_in here.reply) g here.state) ∙ snap_goes g here.reply here (read_pieces (ToSnap number) ps (before ++ bytes_in here.reply) here.state)

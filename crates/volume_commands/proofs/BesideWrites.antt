@@ -27,12 +27,12 @@ use Rattle.settled.specs.Pieces.{Answered}
 use Rattle.settled.specs.Commands.{write_piece, write_pieces, go_on}
 use Rattle.settled.proofs.Chunks.{HasChunks, answer_keeps}
 use Rattle.settled.proofs.Each.{Each}
-use Rattle.settled.specs.Beside.{Served, chunk_beside, written_beside}
+use Rattle.settled.specs.Beside.{chunk_beside, written_beside}
 use Rattle.volume.specs.Volumed.{Volumed, piece_with}
 use Rattle.volume.specs.Moved.{moving_of}
 use Rattle.event_machine.specs.Held.{MergeHeld}
 use Rattle.event_machine.specs.MergeRest.{IsBetween, in_big_steps}
-use Rattle.settled.specs.Merges.{Merge, Merged, Merging, Replied, merged_of as in_one, beside, go_on as beside_on, write_at, write_part, write_parts, place_in}
+use Rattle.settled.specs.Merges.{Merge, Merged, Merging, merged_of as in_one, beside, go_on as beside_on, write_at, write_part, write_parts, place_in}
 use Rattle.settled.specs.MergeShown.{IsMerging, array_of, shown_through}
 use Rattle.volume_commands.specs.Rested.{rested_of, merged_of, IsSettled}
 use Rattle.plain.specs.Failures.{refusal_of}
@@ -59,7 +59,7 @@ written_starved dev span pieces bytes refusal old new starved part = elim (starv
 module _ (sectors chunk : ℕ) (ok : is_chunk chunk ≡ true) where
   -- one piece of the origin beside a merge
   module _ (piece : Span) (part : List ℕ) (m : Merging) (is : IsMerging sectors m) (wide : chunk ≤ m.merge.chunk) (each : Each (HasChunks chunk) m.volume.snaps) (fits : IsInside sectors chunk piece) (len : length part ≡ 512 * piece.count) where
-    abbrev Shows : Replied → Type 0
+    abbrev Shows : Answered Merging → Type 0
     Shows r = ShowTheSame m.volume.origin.bytes r.state.volume.origin.bytes m.volume.snaps r.state.volume.snaps
 
     kept_at : (o : Option ℕ) → Shows (write_at o piece part m) → AreKept (arrays_with (in_one m)).saved (arrays_with (in_one (write_at o piece part m).state)).saved
@@ -74,7 +74,7 @@ module _ (sectors chunk : ℕ) (ok : is_chunk chunk ≡ true) where
     one_shown : IsPieceShown Origin piece.first part (arrays_with (in_one m)) (arrays_with (in_one (write_part Origin piece part m).state)) (write_part Origin piece part m).reply
     one_shown =
         let w = one_through in
-        let r : Replied = write_part Origin piece part m in
+        let r : Answered Merging = write_part Origin piece part m in
         let kept : AreKept (arrays_with (in_one m)).saved (arrays_with (in_one r.state)).saved = kept_at (place_in piece.first m.merge) w.snaps in
         elim (cases_Bool w.wrote) [
           | inl ok ↦ subst (IsPieceShown Origin piece.first part (arrays_with (in_one m)) (arrays_with (in_one r.state))) (sym (w.reply ∙ cond-true _ _ _ ok)) ((shown_through m, refl), tt, (w.origin ∙ cond-true _ _ _ ok, kept))
@@ -90,7 +90,7 @@ module _ (sectors chunk : ℕ) (ok : is_chunk chunk ≡ true) where
       by None = answer_keeps chunk Origin (Write part) piece m.volume each
       by (Some n) = each
 
-  goes_through : (piece : Span) (pieces : List Span) (bytes : List ℕ) (old : Arrays) (r : Reply) (here more : Replied) → 512 * piece.count ≤ length bytes → ((array : List ℕ) → saved_of Origin old ≡ Live array → 512 * piece.first ≤ length array) → here.reply ≡ r
+  goes_through : (piece : Span) (pieces : List Span) (bytes : List ℕ) (old : Arrays) (r : Reply) (here more : Answered Merging) → 512 * piece.count ≤ length bytes → ((array : List ℕ) → saved_of Origin old ≡ Live array → 512 * piece.first ≤ length array) → here.reply ≡ r
       → IsPieceShown Origin piece.first (take (512 * piece.count) bytes) old (arrays_with (in_one here.state)) r → AreWritten Origin (piece.first + piece.count) pieces (drop (512 * piece.count) bytes) (arrays_with (in_one here.state)) (arrays_with (in_one more.state)) more.reply
       → AreWritten Origin piece.first (piece ∷ pieces) bytes old (arrays_with (in_one (beside_on r here more).state)) (beside_on r here more).reply
   goes_through piece pieces bytes old (Data all) here more room low is shows rest = absurd shows
@@ -107,7 +107,7 @@ module _ (sectors chunk : ℕ) (ok : is_chunk chunk ≡ true) where
   through_written first b (piece ∷ pieces) bytes m is wide each fits join room =
       let part : List ℕ = take (512 * piece.count) bytes in
       let tail : List ℕ = drop (512 * piece.count) bytes in
-      let here : Replied = write_part Origin piece part m in
+      let here : Answered Merging = write_part Origin piece part m in
       let len : length part ≡ 512 * piece.count = simp length-take (omega (arith, room)) in
       let back : 512 * sectors_in pieces ≤ length tail = simp length-drop (omega (arith, room)) in
       let w = one_through piece part m is wide each fits.0 len in
@@ -123,7 +123,7 @@ module _ (sectors chunk : ℕ) (ok : is_chunk chunk ≡ true) where
       saved_length (Live xs) = length xs
       saved_length Invalid = 0
 
-snap_goes : (g : Merge) (r : Reply) (here more : Answered) → beside_on r (beside g here) (beside g more) ≡ beside g (go_on r here more)
+snap_goes : (g : Merge) (r : Reply) (here more : Answered Volume) → beside_on r (beside g here) (beside g more) ≡ beside g (go_on r here more)
 snap_goes g (Data bytes) here more = refl
 snap_goes g Written here more = refl
 snap_goes g Flushed here more = refl
@@ -133,9 +133,9 @@ snap_goes g (Refused failure) here more = refl
 snap_parts : (number : ℕ) (pieces : List Span) (bytes : List ℕ) (g : Merge) (v : Volume) → write_parts (ToSnap number) pieces bytes (record { volume = v; merge = g }) ≡ beside g (write_pieces (ToSnap number) pieces bytes v)
 snap_parts number [] bytes g v = refl
 snap_parts number (p ∷ ps) bytes g v =
-    let here : Answered = write_piece (ToSnap number) p (take (512 * p.count) bytes) v in
+    let here : Answered Volume = write_piece (ToSnap number) p (take (512 * p.count) bytes) v in
     let tail : List ℕ = drop (512 * p.count) bytes in
-    ap (beside_on here.reply (beside g here)) (snap_parts number ps tail g here.volume) ∙ snap_goes g here.reply here (write_pieces (ToSnap number) ps tail here.volume)
+    ap (beside_on here.reply (beside g here)) (snap_parts number ps tail g here.state) ∙ snap_goes g here.reply here (write_pieces (ToSnap number) ps tail here.state)
 
 snap_written : (number first : ℕ) (pieces : List Span) (bytes : List ℕ) (g : Merge) (old new : Arrays) (reply : Reply) → AreWritten (ToSnap number) first pieces bytes old new reply → AreWritten (ToSnap number) first pieces bytes (with_merge (Some g) old) (with_merge (Some g) new) reply
 snap_written number first pieces bytes g old new (Data all) law = law
@@ -157,18 +157,18 @@ module _ (sectors chunk : ℕ) (ok : is_chunk chunk ≡ true) (first b : ℕ) (p
       → (let m : Merged = record { volume = v; merge = o } in AreWritten dev first pieces bytes (arrays_with m) (arrays_with (parts_written dev pieces bytes m).state) (parts_written dev pieces bytes m).reply)
   parts_shown dev None v well under =
       let m : Merged = record { volume = v; merge = None } in
-      subst (λ (a : Served). AreWritten dev first pieces bytes (arrays_with m) (arrays_with a.state) a.reply) (served_parts dev pieces bytes m) (pieces_written sectors chunk ok dev first b pieces bytes v well fits join room)
+      subst (λ (a : Answered Merged). AreWritten dev first pieces bytes (arrays_with m) (arrays_with a.state) a.reply) (served_parts dev pieces bytes m) (pieces_written sectors chunk ok dev first b pieces bytes v well fits join room)
   parts_shown Origin (Some g) v well under =
       let m : Merged = record { volume = v; merge = Some g } in
       let is = under g refl in
-      subst (λ (a : Served). AreWritten Origin first pieces bytes (arrays_with m) (arrays_with a.state) a.reply) (served_parts Origin pieces bytes m)
+      subst (λ (a : Answered Merged). AreWritten Origin first pieces bytes (arrays_with m) (arrays_with a.state) a.reply) (served_parts Origin pieces bytes m)
       (through_written sectors chunk ok first b pieces bytes (record { volume = v; merge = g }) is.0 is.1 well.chunks fits join room)
   parts_shown (ToSnap number) (Some g) v well under =
       let m : Merged = record { volume = v; merge = Some g } in
-      let a : Answered = write_pieces (ToSnap number) pieces bytes v in
-      subst (λ (a : Served). AreWritten (ToSnap number) first pieces bytes (arrays_with m) (arrays_with a.state) a.reply) (served_parts (ToSnap number) pieces bytes m)
-      (subst (λ (r : Replied). AreWritten (ToSnap number) first pieces bytes (arrays_with m) (arrays_with (in_one r.state)) r.reply) (sym (snap_parts number pieces bytes g v))
-      (snap_written number first pieces bytes g (arrays_of v) (arrays_of a.volume) a.reply (pieces_written sectors chunk ok (ToSnap number) first b pieces bytes v well fits join room)))
+      let a : Answered Volume = write_pieces (ToSnap number) pieces bytes v in
+      subst (λ (a : Answered Merged). AreWritten (ToSnap number) first pieces bytes (arrays_with m) (arrays_with a.state) a.reply) (served_parts (ToSnap number) pieces bytes m)
+      (subst (λ (r : Answered Merging). AreWritten (ToSnap number) first pieces bytes (arrays_with m) (arrays_with (in_one r.state)) r.reply) (sym (snap_parts number pieces bytes g v))
+      (snap_written number first pieces bytes g (arrays_of v) (arrays_of a.state) a.reply (pieces_written sectors chunk ok (ToSnap number) first b pieces bytes v well fits join room)))
 
 -- some first pieces
 pub join_take : (a b count : ℕ) (pieces : List Span) → Join a b pieces → (c : ℕ) × Join a c (take count pieces)
@@ -220,7 +220,7 @@ module _ {B : Type 0} (contents : B → List ℕ) (layers : B → List Layer) (s
       let few = fewer_in count pieces in
       let whole = count_all in
       let (end, join) = join_take range.first (range.first + range.count) count pieces cut.join in
-      subst (λ (a : Served). AreWritten dev range.first (take count pieces) bytes old (arrays_with a.state) a.reply) done
+      subst (λ (a : Answered Merged). AreWritten dev range.first (take count pieces) bytes old (arrays_with a.state) a.reply) done
       (parts_shown (size v.origin) chunk ok range.first end (take count pieces) bytes (each_take (IsInside (size v.origin) chunk) count pieces (span_inside (size v.origin) chunk range ok inside)) join (omega (arith, few, whole, len))
       dev start.merge start.volume (settled_well contents layers size chunk v all between) is_under)
 

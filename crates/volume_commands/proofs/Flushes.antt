@@ -22,12 +22,12 @@ use Rattle.plain.specs.declared.request.Replied.{Replied as Ended}
 use Rattle.plain.specs.declared.request.Request.{Request}
 use Rattle.settled.specs.Devices.{Device, answers, flush_reply}
 use Rattle.settled.specs.Snaps.{Snap, Volume}
-use Rattle.settled.specs.Pieces.{Answered, Served as One, flush_snap, in_snap}
+use Rattle.settled.specs.Pieces.{Answered, flush_snap, in_snap}
 use Rattle.settled.specs.Commands.{flushed}
-use Rattle.settled.specs.Merges.{Merge, Merged, Merging, Replied, merged_of as in_one, flush_through, flushed_through}
+use Rattle.settled.specs.Merges.{Merge, Merged, Merging, merged_of as in_one, flush_through, flushed_through}
 use Rattle.settled.specs.Requests.{FitsRange, answered_by}
 use Rattle.event_machine.specs.MergeSettles.{part_of}
-use Rattle.settled.specs.Beside.{Served, served, served_by, flushed_beside}
+use Rattle.settled.specs.Beside.{served, served_by, flushed_beside}
 use Rattle.volume.specs.Volumed.{Volumed, piece_with}
 use Rattle.volume_commands.specs.Rested.{Rested, rested_of, merged_of, IsSettled, has_dev}
 use Rattle.volume_commands.specs.Commands.{IsDoneBy, IsFlushRefused}
@@ -39,6 +39,7 @@ use Rattle.volume_commands.proofs.BesideReads.{with_merge}
 use Rattle.volume_commands.proofs.WriteRuns.{answer}
 use Rattle.volume_commands.proofs.ShownReads.{IsSame, either_same, IsKeptBy, either_kept, arrays_same}
 use Rattle.volume_commands.proofs.PlainReads.{missing_by, read_starved}
+use Rattle.settled.specs.Saving.{Saving}
 
 -- what a flush is answered, by what its device shows
 abbrev pub IsFlushBy : Saved → Reply → Type 0
@@ -61,19 +62,19 @@ at_flush number b origin [] = refl
 at_flush number b origin (s ∷ snaps) =
     let here : Saved = saved_at number (map (entry_of b) (s ∷ snaps)) in
     elim (cases_Bool (s.number == number)) [
-      | inl this ↦ subst (λ (a : Answered). IsFlushBy here a.reply) (sym (cond-true _ _ _ this)) (elim (cases_Bool s.live) [
-        | inl live ↦ subst (λ (a : One). IsFlushBy here a.reply) (sym (cond-true _ _ _ live)) (device_flush s.store here (picture s.chunk b s.store.bytes) (cond-true _ _ _ this ∙ cond-true _ _ _ live))
-        | inr dead ↦ subst (λ (a : One). IsFlushBy here a.reply) (sym (cond-false _ _ _ dead)) (cond-true _ _ _ this ∙ cond-false _ _ _ dead)
+      | inl this ↦ subst (λ (a : Answered Volume). IsFlushBy here a.reply) (sym (cond-true _ _ _ this)) (elim (cases_Bool s.live) [
+        | inl live ↦ subst (λ (a : Answered Saving). IsFlushBy here a.reply) (sym (cond-true _ _ _ live)) (device_flush s.store here (picture s.chunk b s.store.bytes) (cond-true _ _ _ this ∙ cond-true _ _ _ live))
+        | inr dead ↦ subst (λ (a : Answered Saving). IsFlushBy here a.reply) (sym (cond-false _ _ _ dead)) (cond-true _ _ _ this ∙ cond-false _ _ _ dead)
       ])
-      | inr other ↦ subst (λ (a : Answered). IsFlushBy here a.reply) (sym (cond-false _ _ _ other))
+      | inr other ↦ subst (λ (a : Answered Volume). IsFlushBy here a.reply) (sym (cond-false _ _ _ other))
           (subst (λ (x : Saved). IsFlushBy x (in_snap number flush_snap origin snaps).reply) (sym (cond-false _ _ _ other)) (at_flush number b origin snaps))
     ]
 
 -- the origin beside a merge: the merging store comes first
 through_flush : (m : Merging) (saved : Saved) (array : List ℕ) → saved ≡ Live array → IsFlushBy saved (flush_through m).reply
 through_flush m saved array live = elim (cases_Bool (answers m.merge.store Flushes)) [
-  | inl ok ↦ subst (λ (r : Replied). IsFlushBy saved r.reply) (sym (cond-true _ _ _ ok)) (device_flush m.volume.origin saved array live)
-  | inr failed ↦ subst (λ (r : Replied). IsFlushBy saved r.reply) (sym (cond-false _ _ _ failed)) (array, live)
+  | inl ok ↦ subst (λ (r : Answered Merging). IsFlushBy saved r.reply) (sym (cond-true _ _ _ ok)) (device_flush m.volume.origin saved array live)
+  | inr failed ↦ subst (λ (r : Answered Merging). IsFlushBy saved r.reply) (sym (cond-false _ _ _ failed)) (array, live)
 ]
 
 said_by : (dev : Dev) (o : Option Merge) (v : Volume) → (let m : Merged = record { volume = v; merge = o } in IsFlushBy (saved_of dev (arrays_with m)) (served_by (flushed dev) (flushed_through dev) o v).reply)
@@ -99,14 +100,14 @@ in_same number o (s ∷ snaps) =
     (here.origin, λ c. ap (λ (e : Entry). e ∷ map (entry_of c) snaps) (here.snap c))
     (later.0, λ c. ap (λ (es : List Entry). entry_of c s ∷ es) (later.1 c))
 
-alone_shown : (dev : Dev) (v : Volume) → arrays_of (flushed dev v).volume ≡ arrays_of v
+alone_shown : (dev : Dev) (v : Volume) → arrays_of (flushed dev v).state ≡ arrays_of v
 alone_shown Origin v = refl
 alone_shown (ToSnap number) v = arrays_same v (in_snap number flush_snap v.origin v.snaps) (in_same number v.origin v.snaps)
 
 through_shown : (m : Merging) → arrays_with (in_one (flush_through m).state) ≡ arrays_with (in_one m)
 through_shown m = elim (cases_Bool (answers m.merge.store Flushes)) [
-  | inl ok ↦ ap (λ (r : Replied). arrays_with (in_one r.state)) (cond-true _ _ _ ok)
-  | inr failed ↦ ap (λ (r : Replied). arrays_with (in_one r.state)) (cond-false _ _ _ failed)
+  | inl ok ↦ ap (λ (r : Answered Merging). arrays_with (in_one r.state)) (cond-true _ _ _ ok)
+  | inr failed ↦ ap (λ (r : Answered Merging). arrays_with (in_one r.state)) (cond-false _ _ _ failed)
 ]
 
 shown_by : (dev : Dev) (o : Option Merge) (v : Volume) → (let m : Merged = record { volume = v; merge = o } in arrays_with (served_by (flushed dev) (flushed_through dev) o v).state ≡ arrays_with m)
@@ -155,15 +156,15 @@ module _ {B : Type 0} (contents : B → List ℕ) (layers : B → List Layer) (d
 
   pub flush_good : (reply : Reply) → IsGood reply → IsDoneBy contents layers (flushed_beside dev) reply (rested_of v) (rested_of w) → IsDoneBy contents layers (flushed_beside dev) Flushed (rested_of v) (rested_of w)
   flush_good reply good done = λ settled.
-      let said : IsFlushBy (saved_of dev (arrays_with old)) reply = subst (λ (a : Served). IsFlushBy (saved_of dev (arrays_with old)) a.reply) (done settled) (flush_said dev old) in
+      let said : IsFlushBy (saved_of dev (arrays_with old)) reply = subst (λ (a : Answered Merged). IsFlushBy (saved_of dev (arrays_with old)) a.reply) (done settled) (flush_said dev old) in
       done settled ∙ ap (answer (merged_of contents layers (rested_of w))) (good_flushed (saved_of dev (arrays_with old)) reply good said)
 
   -- and in those of arrays
   done_flush : (reply : Reply) → IsDoneBy contents layers (flushed_beside dev) reply (rested_of v) (rested_of w) → IsSettled layers (rested_of v)
       → IsFlushBy (saved_of dev (arrays_by contents layers (rested_of v))) reply × (arrays_by contents layers (rested_of w) ≡ arrays_by contents layers (rested_of v))
   done_flush reply done settled = (
-    subst (λ (a : Served). IsFlushBy (saved_of dev (arrays_with old)) a.reply) (done settled) (flush_said dev old),
-    ap (λ (a : Served). arrays_with a.state) (sym (done settled)) ∙ flush_shown dev old,
+    subst (λ (a : Answered Merged). IsFlushBy (saved_of dev (arrays_with old)) a.reply) (done settled) (flush_said dev old),
+    ap (λ (a : Answered Merged). arrays_with a.state) (sym (done settled)) ∙ flush_shown dev old,
   )
 
   lost_by : (failure : Failure) (a : Arrays) → IsFlushBy (saved_of dev a) (Refused failure) → IsReadLost dev (refusal_of failure) a

@@ -14,7 +14,7 @@ use Rattle.plain.specs.declared.request.Overflowing.{Overflowing}
 use Rattle.settled.specs.Devices.{Device, answers}
 use Rattle.settled.specs.Snaps.{Snap, Volume}
 use Rattle.settled.specs.Saving.{Saving, next_place, is_full, has_chunk, save}
-use Rattle.settled.specs.Pieces.{Served, save_all, save_at, write_place, write_saved}
+use Rattle.settled.specs.Pieces.{save_all, save_at, write_place, write_saved, Answered}
 use Rattle.settled.specs.Merges.{Merge, Merging, sectors_in, write_disk, read_then, next_over, saved_round, saved_rounds, saved_over, copy_back, copy_all, group_of, flush, clear_slots, merge_group, read_before, in_area, merge_step, merge_steps, merge_all}
 use Rattle.settled.proofs.Saves.{saves_nothing, saves_full, saves_copy, chunk_read}
 use Rattle.settled.proofs.Keeps.{copy_keeps}
@@ -48,17 +48,17 @@ pub all_overflows : (first : ℕ) (origin : Device) (snaps : List Snap) → over
 all_overflows first origin snaps = at_overflows (λ (s : Snap). first / s.chunk) origin snaps
 
 -- nor a write that is taken
-place_overflow : (piece : Span) (part : List ℕ) (origin : Device) (s : Snap) (o : Option ℕ) → (write_place piece part origin s o).snap.overflow ≡ s.overflow
+place_overflow : (piece : Span) (part : List ℕ) (origin : Device) (s : Snap) (o : Option ℕ) → (write_place piece part origin s o).state.snap.overflow ≡ s.overflow
 place_overflow piece part origin s None = refl
 place_overflow piece part origin s (Some n) = refl
 
-pub taken_overflow : (piece : Span) (part : List ℕ) (c : ℕ) (origin : Device) (s : Snap) → (write_saved piece part (save c origin s)).snap.overflow ≡ s.overflow
+pub taken_overflow : (piece : Span) (part : List ℕ) (c : ℕ) (origin : Device) (s : Snap) → (write_saved piece part (save c origin s)).state.snap.overflow ≡ s.overflow
 taken_overflow piece part c origin s =
     let a : Saving = save c origin s in
     elim (cases_Bool a.snap.live) [
-      | inl live ↦ ap (λ (x : Served). x.snap.overflow) (cond-true _ _ _ live)
+      | inl live ↦ ap (λ (x : Answered Saving). x.state.snap.overflow) (cond-true _ _ _ live)
           ∙ place_overflow piece part a.origin a.snap (place_of (pairs_of a.snap.chunk a.snap.store.bytes) (piece.first / a.snap.chunk)) ∙ save_overflow c origin s
-      | inr out ↦ ap (λ (x : Served). x.snap.overflow) (cond-false _ _ _ out) ∙ save_overflow c origin s
+      | inr out ↦ ap (λ (x : Answered Saving). x.state.snap.overflow) (cond-false _ _ _ out) ∙ save_overflow c origin s
     ]
 
 -- Nor does a merge.

@@ -22,7 +22,7 @@ use Rattle.plain.specs.declared.request.Reply.TheVariants.{Data, Written, Flushe
 use Rattle.plain.specs.declared.request.Failure.TheVariants.{Invalid as Declined, Io, Overflow}
 use Rattle.settled.specs.Snaps.{Volume}
 use Rattle.settled.specs.Commands.{read_pieces}
-use Rattle.settled.specs.Merges.{Merge, Merged, Merging, Replied, merged_of as in_one, read_parts}
+use Rattle.settled.specs.Merges.{Merge, Merged, Merging, merged_of as in_one, read_parts}
 use Rattle.settled.specs.MergeShown.{IsMerging, shown_through}
 use Rattle.settling.proofs.MergeReads.{range_read}
 use Rattle.settled.proofs.Each.{Each, each_from}
@@ -31,7 +31,7 @@ use Rattle.snapshot.specs.Kept.{Kept}
 use Rattle.volume.specs.Volumed.{Volumed, piece_with}
 use Rattle.event_machine.specs.Held.{MergeHeld}
 use Rattle.event_machine.specs.MergeRest.{IsBetween, merge_in, in_big_steps}
-use Rattle.settled.specs.Beside.{Served, chunk_beside, read_beside}
+use Rattle.settled.specs.Beside.{chunk_beside, read_beside}
 use Rattle.volume.specs.Moved.{moving_of}
 use Rattle.volume_commands.specs.Rested.{Attached, Rested, attached_of, rested_of, snap_of, settled_of, merged_of, IsSettled, has_dev, has_number}
 use Rattle.plain.specs.Failures.{refusal_of}
@@ -47,6 +47,7 @@ use Rattle.volume_commands.proofs.Reading.{read_whole, read_first_parts}
 use Rattle.volume_commands.proofs.BesideReads.{parts_shown, snap_parts}
 use Rattle.volume_commands.proofs.Rests.{IsInside, IsWell, inside_joined}
 use Rattle.volume_commands.proofs.ShownReads.{IsReadTo, pieces_read, pieces_dead}
+use Rattle.settled.specs.Pieces.{Answered}
 
 pub saved_cases : (s : Saved) → (s ≡ Invalid) ⊎ ((array : List ℕ) × (s ≡ Live array))
 saved_cases Invalid = inl refl
@@ -156,15 +157,15 @@ module _ (sectors chunk : ℕ) (range : Range) (ok : is_chunk chunk ≡ true) (s
       → (let m : Merged = record { volume = v; merge = o } in IsPlainReply dev span (arrays_with m) (parts_read dev pieces [] m).reply)
   parts_plain dev None v well under =
       let m : Merged = record { volume = v; merge = None } in
-      subst (λ (a : Served). IsPlainReply dev span (arrays_with m) a.reply) (served_parts dev pieces [] m) (alone_plain dev v well)
+      subst (λ (a : Answered Merged). IsPlainReply dev span (arrays_with m) a.reply) (served_parts dev pieces [] m) (alone_plain dev v well)
   parts_plain Origin (Some g) v well under =
       let m : Merged = record { volume = v; merge = Some g } in
       let is = under g refl in
-      subst (λ (a : Served). IsPlainReply Origin span (arrays_with m) a.reply) (served_parts Origin pieces [] m) (through_plain (record { volume = v; merge = g }) is.0 is.1)
+      subst (λ (a : Answered Merged). IsPlainReply Origin span (arrays_with m) a.reply) (served_parts Origin pieces [] m) (through_plain (record { volume = v; merge = g }) is.0 is.1)
   parts_plain (ToSnap number) (Some g) v well under =
       let m : Merged = record { volume = v; merge = Some g } in
-      subst (λ (a : Served). IsPlainReply (ToSnap number) span (arrays_with m) a.reply) (served_parts (ToSnap number) pieces [] m)
-      (subst (λ (r : Replied). IsPlainReply (ToSnap number) span (arrays_with m) r.reply) (sym (snap_parts number pieces [] g v)) (snap_plain number g v (read_pieces (ToSnap number) pieces [] v).reply (alone_plain (ToSnap number) v well)))
+      subst (λ (a : Answered Merged). IsPlainReply (ToSnap number) span (arrays_with m) a.reply) (served_parts (ToSnap number) pieces [] m)
+      (subst (λ (r : Answered Merging). IsPlainReply (ToSnap number) span (arrays_with m) r.reply) (sym (snap_parts number pieces [] g v)) (snap_plain number g v (read_pieces (ToSnap number) pieces [] v).reply (alone_plain (ToSnap number) v well)))
     where
       -- a snapshot shows the same beside a merge
       snap_plain : (number : ℕ) (g : Merge) (v : Volume) (reply : Reply) → IsPlainReply (ToSnap number) span (arrays_of v) reply → (let m : Merged = record { volume = v; merge = Some g } in IsPlainReply (ToSnap number) span (arrays_with m) reply)
@@ -200,9 +201,9 @@ module _ {B : Type 0} (contents : B → List ℕ) (layers : B → List Layer) (s
       let pieces : List Span = pieces_of (piece_with v.merge v.snaps) (span_of range) in
       let did : parts_read dev pieces [] old ≡ answer (merged_of contents layers (rested_of w)) reply =
       sym (read_whole dev (span_of range) old ∙ ap (λ n. parts_read dev (pieces_of n (span_of range)) [] old) least) ∙ done settled in (
-        subst (λ (a : Served). IsPlainReply dev (span_of range) (arrays_with old) a.reply) did
+        subst (λ (a : Answered Merged). IsPlainReply dev (span_of range) (arrays_with old) a.reply) did
             (parts_plain (size v.origin) (piece_with v.merge v.snaps) range ok some inside dev old.merge old.volume (settled_well contents layers size (piece_with v.merge v.snaps) v all between) (under_by contents layers size v under (moving_of contents layers None v).merge refl)),
-        ap (λ (a : Served). arrays_with a.state) (sym did) ∙ parts_shown dev pieces [] old,
+        ap (λ (a : Answered Merged). arrays_with a.state) (sym did) ∙ parts_shown dev pieces [] old,
       )
 
   -- one that is done
@@ -222,7 +223,7 @@ module _ {B : Type 0} (contents : B → List ℕ) (layers : B → List Layer) (s
         | inl missing ↦ subst (λ (r : Refusal). IsPlainReadRefused dev r before after) (sym missing.0) (missing_by contents layers dev (rested_of v) missing.1, ap (arrays_by contents layers) missing.2)
         | inr there ↦ elim there [
           | inl failed ↦ subst (λ (r : Refusal). IsPlainReadRefused dev r before after) (sym failed.1.1) (done_plain (Refused failed.1.0) failed.1.2 settled)
-          | inr starved ↦ (read_starved dev refusal before starved.1, ap (λ (a : Served). arrays_with a.state) (sym (starved.2.3 settled)) ∙ ap (λ (a : Served). arrays_with a.state) (read_first_parts starved.2.0 dev (span_of range) old) ∙ parts_shown dev (take starved.2.0 (pieces_of (chunk_beside old) (span_of range))) [] old)
+          | inr starved ↦ (read_starved dev refusal before starved.1, ap (λ (a : Answered Merged). arrays_with a.state) (sym (starved.2.3 settled)) ∙ ap (λ (a : Answered Merged). arrays_with a.state) (read_first_parts starved.2.0 dev (span_of range) old) ∙ parts_shown dev (take starved.2.0 (pieces_of (chunk_beside old) (span_of range))) [] old)
         ]
       ]
 

@@ -86,22 +86,22 @@ dev_long Origin array v live = ap (λ (s : Saved). length (back s)) (sym live)
 dev_long (ToSnap number) array v live = array_long number v.origin.bytes array v.snaps live
 
 module _ (sectors chunk : ℕ) (ok : is_chunk chunk ≡ true) where
-  origin_shown : (piece : Span) (part : List ℕ) (v : Volume) → IsWell sectors chunk v → IsInside sectors chunk piece → length part ≡ 512 * piece.count → IsPieceShown Origin piece.first part (arrays_of v) (arrays_of (write_origin piece part v).volume) (write_origin piece part v).reply
+  origin_shown : (piece : Span) (part : List ℕ) (v : Volume) → IsWell sectors chunk v → IsInside sectors chunk piece → length part ≡ 512 * piece.count → IsPieceShown Origin piece.first part (arrays_of v) (arrays_of (write_origin piece part v).state) (write_origin piece part v).reply
   origin_shown piece part v well fits len =
       let range : Range = record { first = piece.first; count = piece.count; size = piece.size; inside = fits.ends } in
       let chunks : Each (HasChunks chunk) (map (λ (h : SnapHeld). h.snap) well.moving.snaps) = subst (λ (w : Volume). Each (HasChunks chunk) w.snaps) (sym well.is) well.chunks in
       let all : Volume = save_all piece.first v.origin v.snaps in
       let saved : all.origin.bytes ≡ v.origin.bytes = save_all_bytes piece.first v.origin v.snaps in
-      let after : List ℕ = (write_origin piece part v).volume.origin.bytes in
-      let same : ShowTheSame v.origin.bytes after v.snaps (write_origin piece part v).volume.snaps =
-      subst (λ (w : Volume). ShowTheSame w.origin.bytes (write_origin piece part w).volume.origin.bytes w.snaps (write_origin piece part w).volume.snaps) well.is
+      let after : List ℕ = (write_origin piece part v).state.origin.bytes in
+      let same : ShowTheSame v.origin.bytes after v.snaps (write_origin piece part v).state.snaps =
+      subst (λ (w : Volume). ShowTheSame w.origin.bytes (write_origin piece part w).state.origin.bytes w.snaps (write_origin piece part w).state.snaps) well.is
       (origin_write_shows sectors piece part fits.one.some fits.inside len well.moving well.rest (one_all sectors chunk ok range well.moving.snaps fits.one chunks)) in
-      let kept : AreKept (arrays_of v).saved (arrays_of (write_origin piece part v).volume).saved = kept_saved piece.first v.origin.bytes after v.origin v.snaps same in
+      let kept : AreKept (arrays_of v).saved (arrays_of (write_origin piece part v).state).saved = kept_saved piece.first v.origin.bytes after v.origin v.snaps same in
       elim (cases_Bool (answers all.origin (Writes piece.first piece.count))) [
         | inl ok ↦ (let now : after ≡ with_sectors v.origin.bytes piece.first part = cond-true _ _ _ ok ∙ ap (λ (b : List ℕ). with_sectors b piece.first part) saved in
-            subst (IsPieceShown Origin piece.first part (arrays_of v) (arrays_of (write_origin piece part v).volume)) (sym (cond-true _ _ _ ok)) ((v.origin.bytes, refl), tt, (now, kept)))
+            subst (IsPieceShown Origin piece.first part (arrays_of v) (arrays_of (write_origin piece part v).state)) (sym (cond-true _ _ _ ok)) ((v.origin.bytes, refl), tt, (now, kept)))
         | inr failed ↦ (let now : after ≡ v.origin.bytes = cond-false _ _ _ failed ∙ saved in
-            subst (IsPieceShown Origin piece.first part (arrays_of v) (arrays_of (write_origin piece part v).volume)) (sym (cond-false _ _ _ failed)) ((v.origin.bytes, refl), (now ∙ sym (with_sectors_none v.origin.bytes piece.first), kept)))
+            subst (IsPieceShown Origin piece.first part (arrays_of v) (arrays_of (write_origin piece part v).state)) (sym (cond-false _ _ _ failed)) ((v.origin.bytes, refl), (now ∙ sym (with_sectors_none v.origin.bytes piece.first), kept)))
       ]
 
   -- a piece of a snapshot, by what all of them show
@@ -113,13 +113,13 @@ module _ (sectors chunk : ℕ) (ok : is_chunk chunk ≡ true) where
   as_shown number piece part old new (Refused Io) same by = (by.0, (same, by.1 ∙ (written_none (ToSnap number) piece.first old).1))
   as_shown number piece part old new (Refused Overflow) same by = (by.0, (by.1, same, by.2))
 
-  piece_shown : (dev : Dev) (piece : Span) (part : List ℕ) (v : Volume) → IsWell sectors chunk v → IsInside sectors chunk piece → length part ≡ 512 * piece.count → IsPieceShown dev piece.first part (arrays_of v) (arrays_of (write_piece dev piece part v).volume) (write_piece dev piece part v).reply
+  piece_shown : (dev : Dev) (piece : Span) (part : List ℕ) (v : Volume) → IsWell sectors chunk v → IsInside sectors chunk piece → length part ≡ 512 * piece.count → IsPieceShown dev piece.first part (arrays_of v) (arrays_of (write_piece dev piece part v).state) (write_piece dev piece part v).reply
   piece_shown Origin piece part v well fits len = origin_shown piece part v well fits len
   piece_shown (ToSnap number) piece part v well fits len =
-      let a : Answered = in_snap number (write_snap piece part) v.origin v.snaps in
-      let same : a.volume.origin.bytes ≡ v.origin.bytes = in_stays number piece part v.origin v.snaps in
-      as_shown number piece part (arrays_of v) (arrays_of a.volume) a.reply same
-      (subst (λ (b : List ℕ). AreShownBy number piece part (map (entry_of v.origin.bytes) v.snaps) (map (entry_of b) a.volume.snaps) a.reply) (sym same)
+      let a : Answered Volume = in_snap number (write_snap piece part) v.origin v.snaps in
+      let same : a.state.origin.bytes ≡ v.origin.bytes = in_stays number piece part v.origin v.snaps in
+      as_shown number piece part (arrays_of v) (arrays_of a.state) a.reply same
+      (subst (λ (b : List ℕ). AreShownBy number piece part (map (entry_of v.origin.bytes) v.snaps) (map (entry_of b) a.state.snaps) a.reply) (sym same)
       (in_written sectors chunk ok number piece part fits len v.origin v.snaps (well_whole sectors chunk ok v well) well.chunks (well_orders sectors chunk ok v well)))
 
 -- what is shown after a write of pieces
@@ -176,31 +176,31 @@ module _ (dev : Dev) (piece : Span) (pieces : List Span) (bytes : List ℕ) (old
   write_more new (Refused Overflow) live free here more =
       (live, overflown_later dev piece.first (piece.first + piece.count) piece pieces (take (512 * piece.count) bytes) bytes (drop (512 * piece.count) bytes) old mid new free here (join_more here) more.1)
 
-goes_write : (dev : Dev) (piece : Span) (pieces : List Span) (bytes : List ℕ) (old : Arrays) (r : Reply) (here more : Answered) → 512 * piece.count ≤ length bytes → ((array : List ℕ) → saved_of dev old ≡ Live array → 512 * piece.first ≤ length array) → here.reply ≡ r
-    → IsPieceShown dev piece.first (take (512 * piece.count) bytes) old (arrays_of here.volume) r → AreWritten dev (piece.first + piece.count) pieces (drop (512 * piece.count) bytes) (arrays_of here.volume) (arrays_of more.volume) more.reply
-    → AreWritten dev piece.first (piece ∷ pieces) bytes old (arrays_of (go_on r here more).volume) (go_on r here more).reply
+goes_write : (dev : Dev) (piece : Span) (pieces : List Span) (bytes : List ℕ) (old : Arrays) (r : Reply) (here more : Answered Volume) → 512 * piece.count ≤ length bytes → ((array : List ℕ) → saved_of dev old ≡ Live array → 512 * piece.first ≤ length array) → here.reply ≡ r
+    → IsPieceShown dev piece.first (take (512 * piece.count) bytes) old (arrays_of here.state) r → AreWritten dev (piece.first + piece.count) pieces (drop (512 * piece.count) bytes) (arrays_of here.state) (arrays_of more.state) more.reply
+    → AreWritten dev piece.first (piece ∷ pieces) bytes old (arrays_of (go_on r here more).state) (go_on r here more).reply
 goes_write dev piece pieces bytes old (Data all) here more room fits is shows rest = absurd shows
 goes_write dev piece pieces bytes old Flushed here more room fits is shows rest = absurd shows
-goes_write dev piece pieces bytes old Written here more room fits is shows rest = write_more dev piece pieces bytes old (arrays_of here.volume) room fits (arrays_of more.volume) more.reply shows.0 shows.1 shows.2 rest
-goes_write dev piece pieces bytes old (Refused Declined) here more room fits is shows rest = subst (AreWritten dev piece.first (piece ∷ pieces) bytes old (arrays_of here.volume)) (sym is) shows
-goes_write dev piece pieces bytes old (Refused Io) here more room fits is shows rest = subst (AreWritten dev piece.first (piece ∷ pieces) bytes old (arrays_of here.volume)) (sym is) (shows.0, (0, omega arith, shows.1))
+goes_write dev piece pieces bytes old Written here more room fits is shows rest = write_more dev piece pieces bytes old (arrays_of here.state) room fits (arrays_of more.state) more.reply shows.0 shows.1 shows.2 rest
+goes_write dev piece pieces bytes old (Refused Declined) here more room fits is shows rest = subst (AreWritten dev piece.first (piece ∷ pieces) bytes old (arrays_of here.state)) (sym is) shows
+goes_write dev piece pieces bytes old (Refused Io) here more room fits is shows rest = subst (AreWritten dev piece.first (piece ∷ pieces) bytes old (arrays_of here.state)) (sym is) (shows.0, (0, omega arith, shows.1))
 goes_write dev piece pieces bytes old (Refused Overflow) here more room fits is shows rest =
-    subst (AreWritten dev piece.first (piece ∷ pieces) bytes old (arrays_of here.volume)) (sym is) (shows.0, overflown_first dev piece.first piece pieces bytes old (arrays_of here.volume) shows.1)
+    subst (AreWritten dev piece.first (piece ∷ pieces) bytes old (arrays_of here.state)) (sym is) (shows.0, overflown_first dev piece.first piece pieces bytes old (arrays_of here.state) shows.1)
 
 module _ (sectors chunk : ℕ) (ok : is_chunk chunk ≡ true) where
   pub pieces_written : (dev : Dev) (first b : ℕ) (pieces : List Span) (bytes : List ℕ) (v : Volume) → IsWell sectors chunk v → Each (IsInside sectors chunk) pieces → Join first b pieces → 512 * sectors_in pieces ≤ length bytes
-      → AreWritten dev first pieces bytes (arrays_of v) (arrays_of (write_pieces dev pieces bytes v).volume) (write_pieces dev pieces bytes v).reply
+      → AreWritten dev first pieces bytes (arrays_of v) (arrays_of (write_pieces dev pieces bytes v).state) (write_pieces dev pieces bytes v).reply
   pieces_written dev first b [] bytes v well fits join room = (λ some. absurd (omega arith), written_none dev first (arrays_of v))
   pieces_written dev first b (piece ∷ pieces) bytes v well fits join room =
       let part : List ℕ = take (512 * piece.count) bytes in
       let tail : List ℕ = drop (512 * piece.count) bytes in
-      let here : Answered = write_piece dev piece part v in
+      let here : Answered Volume = write_piece dev piece part v in
       let len : length part ≡ 512 * piece.count = simp length-take (omega (arith, room)) in
       let back : 512 * sectors_in pieces ≤ length tail = simp length-drop (omega (arith, room)) in
       let whole = well_whole sectors chunk ok v well in
       let low : (array : List ℕ) → saved_of dev (arrays_of v) ≡ Live array → 512 * piece.first ≤ length array =
       λ array live. (let long = dev_long dev array v live in let i = fits.0.inside in omega (arith, long, whole, i)) in
-      let rest = pieces_written dev (first + piece.count) b pieces tail here.volume (well_after sectors chunk ok dev (Write part) piece v well fits.0 len) fits.1 join.1 back in
-      subst (λ (x : ℕ). AreWritten dev x (piece ∷ pieces) bytes (arrays_of v) (arrays_of (write_pieces dev (piece ∷ pieces) bytes v).volume) (write_pieces dev (piece ∷ pieces) bytes v).reply) join.0
-      (goes_write dev piece pieces bytes (arrays_of v) here.reply here (write_pieces dev pieces tail here.volume) (omega (arith, room)) low refl (piece_shown sectors chunk ok dev piece part v well fits.0 len)
-      (subst (λ (x : ℕ). AreWritten dev (x + piece.count) pieces tail (arrays_of here.volume) (arrays_of (write_pieces dev pieces tail here.volume).volume) (write_pieces dev pieces tail here.volume).reply) (sym join.0) rest))
+      let rest = pieces_written dev (first + piece.count) b pieces tail here.state (well_after sectors chunk ok dev (Write part) piece v well fits.0 len) fits.1 join.1 back in
+      subst (λ (x : ℕ). AreWritten dev x (piece ∷ pieces) bytes (arrays_of v) (arrays_of (write_pieces dev (piece ∷ pieces) bytes v).state) (write_pieces dev (piece ∷ pieces) bytes v).reply) join.0
+      (goes_write dev piece pieces bytes (arrays_of v) here.reply here (write_pieces dev pieces tail here.state) (omega (arith, room)) low refl (piece_shown sectors chunk ok dev piece part v well fits.0 len)
+      (subst (λ (x : ℕ). AreWritten dev (x + piece.count) pieces tail (arrays_of here.state) (arrays_of (write_pieces dev pieces tail here.state).state) (write_pieces dev pieces tail here.state).reply) (sym join.0) rest))

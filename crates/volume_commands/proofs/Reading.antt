@@ -20,10 +20,10 @@ use Rattle.plain.specs.declared.request.Reply.{Reply}
 use Rattle.plain.specs.declared.request.Reply.TheVariants.{Data}
 use Rattle.settled.specs.Devices.{Device, answers, read_reply}
 use Rattle.settled.specs.Snaps.{Snap, Volume}
-use Rattle.settled.specs.Pieces.{Served, read_place, read_snap, in_snap}
+use Rattle.settled.specs.Pieces.{read_place, read_snap, in_snap, Answered}
 use Rattle.settled.specs.Commands.{bytes_in, read_piece, read_pieces, read}
 use Rattle.settled.specs.Merges.{Merge, Merged, Merging, place_in, read_at, read_parts, read_through}
-use Rattle.settled.specs.Beside.{Served as Beside, served_by, chunk_by, chunk_beside, read_beside, read_first_beside}
+use Rattle.settled.specs.Beside.{served_by, chunk_by, chunk_beside, read_beside, read_first_beside}
 use Rattle.chunk.proofs.Runs.{StandsAt}
 use Rattle.volume.specs.Volumed.{Volumed}
 use Rattle.volume_commands.specs.Rested.{rested_of, merged_of, IsSettled, has_dev}
@@ -32,6 +32,7 @@ use Rattle.volume_commands.specs.Serving.{CanAsk, part_read, IsPieceRead, IsPiec
 use Rattle.volume_commands.proofs.WriteRuns.{answer}
 use Rattle.volume_commands.proofs.Going.{GoesSo}
 use Rattle.volume_commands.proofs.ReadRuns.{parts_read, served_parts, ReadsTo, reads_more, reads_all, reads_failed, reads_first, reads_fewer}
+use Rattle.settled.specs.Saving.{Saving}
 
 -- a reply has at most so many bytes
 abbrev HasAtMost : ℕ → Reply → Type 0
@@ -52,8 +53,8 @@ place_short piece origin s (Some n) = reply_short s.store _ piece.count
 
 snap_short : (piece : Span) (origin : Device) (s : Snap) → HasAtMost piece.count (read_snap piece origin s).reply
 snap_short piece origin s = elim (cases_Bool s.live) [
-  | inl live ↦ subst (λ (a : Served). HasAtMost piece.count a.reply) (sym (cond-true _ _ _ live)) (place_short piece origin s (place_of (pairs_of s.chunk s.store.bytes) (piece.first / s.chunk)))
-  | inr dead ↦ subst (λ (a : Served). HasAtMost piece.count a.reply) (sym (cond-false _ _ _ dead)) (omega arith)
+  | inl live ↦ subst (λ (a : Answered Saving). HasAtMost piece.count a.reply) (sym (cond-true _ _ _ live)) (place_short piece origin s (place_of (pairs_of s.chunk s.store.bytes) (piece.first / s.chunk)))
+  | inr dead ↦ subst (λ (a : Answered Saving). HasAtMost piece.count a.reply) (sym (cond-false _ _ _ dead)) (omega arith)
 ]
 
 in_short : (number : ℕ) (piece : Span) (origin : Device) (snaps : List Snap) → HasAtMost piece.count (in_snap number (read_snap piece) origin snaps).reply
@@ -80,7 +81,7 @@ part_short (ToSnap number) piece (Some g) v = piece_short (ToSnap number) piece 
 
 -- all that was read
 pub all_taken : (dev : Dev) (piece : Span) (v w : Merged) (bytes : List ℕ) → part_read dev piece v ≡ answer w (Data bytes) → length bytes ≤ 512 * piece.count
-all_taken dev piece v w bytes e = subst (λ (a : Beside). HasAtMost piece.count a.reply) e (part_short dev piece v.merge v.volume)
+all_taken dev piece v w bytes e = subst (λ (a : Answered Merged). HasAtMost piece.count a.reply) e (part_short dev piece v.merge v.volume)
 
 -- a read, and its first pieces, by all their parts
 whole_by : (dev : Dev) (span : Span) (o : Option Merge) (v : Volume)

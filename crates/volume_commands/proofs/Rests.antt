@@ -68,7 +68,7 @@ module _ (sectors chunk : ℕ) (ok : is_chunk chunk ≡ true) where
       (one_chunk chunk h.snap.chunk (span_of range) ok all.0 one, one_all range snaps one all.1)
 
   -- after one piece it is at rest again
-  pub well_after : (dev : Dev) (op : Op) (piece : Span) (v : Volume) → IsWell sectors chunk v → IsInside sectors chunk piece → FitsRange op piece.count → IsWell sectors chunk (answered_by dev op piece v).volume
+  pub well_after : (dev : Dev) (op : Op) (piece : Span) (v : Volume) → IsWell sectors chunk v → IsInside sectors chunk piece → FitsRange op piece.count → IsWell sectors chunk (answered_by dev op piece v).state
   well_after dev op piece v well fits bytes =
       let range : Range = record { first = piece.first; count = piece.count; size = piece.size; inside = fits.ends } in
       let request : Request = record { dev = dev; op = op; range = range } in
@@ -76,11 +76,11 @@ module _ (sectors chunk : ℕ) (ok : is_chunk chunk ≡ true) where
       let fit : IsFit sectors well.moving.snaps request = record { some = fits.one.some; inside = fits.inside; bytes = bytes; chunks = all_from (IsInChunk range) well.moving.snaps (one_all range well.moving.snaps fits.one chunks) } in
       let to : SettlesTo sectors (submitted 0 request well.moving) (answer_of request (volume_of well.moving)) = request_settles sectors 0 request well.moving well.rest fit in
       let mk : _ → List Snap → Volume = λ o (ss : List Snap). record { origin = o; snaps = ss } in
-      let last : volume_of to.last ≡ (answered_by dev op piece (volume_of well.moving)).volume = ap (λ o. mk o (volume_of to.last).snaps) to.origin ∙ ap (mk (answer_of request (volume_of well.moving)).volume.origin) to.snaps in
+      let last : volume_of to.last ≡ (answered_by dev op piece (volume_of well.moving)).state = ap (λ o. mk o (volume_of to.last).snaps) to.origin ∙ ap (mk (answer_of request (volume_of well.moving)).state.origin) to.snaps in
       record {
         moving = to.last;
         rest = to.rest;
-        is = last ∙ ap (λ (w : Volume). (answered_by dev op piece w).volume) well.is;
+        is = last ∙ ap (λ (w : Volume). (answered_by dev op piece w).state) well.is;
         chunks = answer_keeps chunk dev op piece v well.chunks;
       }
 

@@ -9,12 +9,12 @@ use Rattle.plain.specs.declared.request.Request.{Request}
 use Rattle.plain.specs.declared.request.Reply.{Reply}
 use Rattle.chunk.specs.Sizes.{is_chunk}
 use Rattle.chunk.specs.Pieces.{span_of, IsInOneChunk}
-use Rattle.settled.specs.Merges.{Merged, Merging, Replied, merged_of as in_one}
+use Rattle.settled.specs.Merges.{Merged, Merging, merged_of as in_one}
 use Rattle.settled.specs.MergeShown.{IsMerging}
 use Rattle.settled.specs.Snaps.{Snap, Volume}
 use Rattle.settled.specs.Pieces.{Answered}
 use Rattle.settled.specs.Requests.{answer_of}
-use Rattle.settled.specs.Beside.{Served, served_by}
+use Rattle.settled.specs.Beside.{served_by}
 use Rattle.event_machine.specs.Held.{MergeHeld, Moving}
 use Rattle.event_machine.specs.Due.{due}
 use Rattle.event_machine.specs.MergeRest.{IsBetween, merge_in, in_big_steps}
@@ -74,13 +74,13 @@ module _ {B : Type 0} (contents : B → List ℕ) (layers : B → List Layer) wh
     abbrev Did : Type 0
     Did = part_done request (merged_of contents layers (rested_of old)) ≡ record { state = merged_of contents layers (rested_of new); reply = reply }
 
-    abbrev by_merge : Option MergeHeld → Volume → Served
+    abbrev by_merge : Option MergeHeld → Volume → Answered Merged
     by_merge o v = served_by (answer_of request) (part_of request.dev request.op (span_of request.range)) (merge_in o) v
 
     abbrev with_both : Option MergeHeld → Volume → Merged
     with_both o v = record { volume = v; merge = merge_in o }
 
-    abbrev replied_with : Reply → Merged → Served
+    abbrev replied_with : Reply → Merged → Answered Merged
     replied_with r m = record { state = m; reply = r }
 
     last_same : (w : Moving) → end ≡ w → (o : Option MergeHeld) → w.merge ≡ o → with_both o (volume_of w) ≡ merged_of contents layers (rested_of new)
@@ -92,21 +92,21 @@ module _ {B : Type 0} (contents : B → List ℕ) (layers : B → List Layer) wh
 
     alone_did : start.merge ≡ None → Did
     alone_did is =
-        let big : Answered = answer_of request (volume_of start) in
+        let big : Answered Volume = answer_of request (volume_of start) in
         let to : SettlesTo (size old.origin) (moving_of contents layers (Some before) mid) big = subst (λ (m : Moving). SettlesTo (size old.origin) m big) entered
         (request_settles (size old.origin) number request start (alone_between (size old.origin) start (between (Some before)) is) fits) in
         let there : end ≡ to.last = reaches_end (size old.origin) big (moving_of contents layers (Some before) mid) end to reaches none in
         let mk : _ → List Snap → Volume = λ o (ss : List Snap). record { origin = o; snaps = ss } in
-        let volume : volume_of to.last ≡ big.volume = ap (λ o. mk o (volume_of to.last).snaps) to.origin ∙ ap (mk big.volume.origin) to.snaps in
+        let volume : volume_of to.last ≡ big.state = ap (λ o. mk o (volume_of to.last).snaps) to.origin ∙ ap (mk big.state.origin) to.snaps in
         let replied : Some reply ≡ Some big.reply = ap (λ (x : Moving). x.replied) there ∙ to.reply in
         let same : reply ≡ big.reply = cc in
-        begins None is ∙ ap (λ r. replied_with r (with_both None big.volume)) (sym same) ∙ ap (λ v. replied_with reply (with_both None v)) (sym volume)
+        begins None is ∙ ap (λ r. replied_with r (with_both None big.state)) (sym same) ∙ ap (λ v. replied_with reply (with_both None v)) (sym volume)
         ∙ ap (replied_with reply) (last_same to.last there None to.rest.alone)
 
     beside_did : (h : MergeHeld) → start.merge ≡ Some h → Did
     beside_did h is =
         let m : Merging = in_big_steps h start in
-        let big : Replied = part_of request.dev request.op (span_of request.range) m in
+        let big : Answered Merging = part_of request.dev request.op (span_of request.range) m in
         let one : request.range.first + request.range.count ≤ h.merge.chunk * (request.range.first / h.merge.chunk) + h.merge.chunk =
         one_chunk (piece_with old.merge old.snaps) h.merge.chunk (span_of request.range) can.allowed ((under (Some before) h is).allowed, held_chunk old.merge old.snaps h is) in_piece in
         let to : SettlesToReplied (size old.origin) (moving_of contents layers (Some before) mid) big = subst (λ (x : Moving). SettlesToReplied (size old.origin) x big) entered

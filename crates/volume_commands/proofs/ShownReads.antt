@@ -21,12 +21,13 @@ use Rattle.settled.proofs.Laws.{option_cases}
 use Rattle.settled.proofs.PictureSectors.{shown_plain, shown_copied, place_inside}
 use Rattle.settled.specs.Devices.{Device, answers, read_reply}
 use Rattle.settled.specs.Snaps.{Snap, Volume, shown}
-use Rattle.settled.specs.Pieces.{Answered, Served, read_place, read_snap, in_snap}
+use Rattle.settled.specs.Pieces.{Answered, read_place, read_snap, in_snap}
 use Rattle.settled.specs.Commands.{read_piece, read_pieces, go_on, bytes_in}
 use Rattle.settled.proofs.Each.{Each}
 use Rattle.settled.proofs.Chunks.{HasChunks}
 use Rattle.volume_commands.specs.Showing.{Arrays, entry_of, arrays_of, saved_at, saved_of, sectors_in}
 use Rattle.volume_commands.proofs.Rests.{IsOrderly, IsInside, IsWell, room_in, well_orders, well_whole, well_after}
+use Rattle.settled.specs.Saving.{Saving}
 
 -- a read of an array: the bytes of these sectors, or a failure
 abbrev pub IsReadOf : List ℕ → Span → Reply → Type 0
@@ -52,7 +53,7 @@ module _ (sectors chunk : ℕ) (ok : is_chunk chunk ≡ true) where
       let room : piece.first % s.chunk + piece.count ≤ s.chunk = room_in chunk s.chunk piece ok has fits.one in
       let array : List ℕ = picture s.chunk origin.bytes s.store.bytes in
       let inside : 512 * (piece.first + piece.count) ≤ length origin.bytes = (let i = fits.inside in omega (arith, whole, i)) in
-      subst (λ (a : Served). IsReadOf array piece a.reply) (sym (cond-true _ _ _ live)) (elim (option_cases (place_of (pairs_of s.chunk s.store.bytes) (piece.first / s.chunk))) [
+      subst (λ (a : Answered Saving). IsReadOf array piece a.reply) (sym (cond-true _ _ _ live)) (elim (option_cases (place_of (pairs_of s.chunk s.store.bytes) (piece.first / s.chunk))) [
         | inl none ↦ subst (λ (o : Option ℕ). IsReadOf array piece (read_place piece origin s o).reply) (sym none)
             (reads_of origin piece.first array piece (shown_plain s.chunk piece.first piece.count origin.bytes s.store.bytes order.some none room inside))
         | inr (n, some) ↦ subst (λ (o : Option ℕ). IsReadOf array piece (read_place piece origin s o).reply) (sym some)
@@ -75,9 +76,9 @@ module _ (sectors chunk : ℕ) (ok : is_chunk chunk ≡ true) where
   at_read number piece array origin (s ∷ snaps) whole fits chunks orders live = elim (cases_Bool (s.number == number)) [
     | inl this ↦ (let here : shown origin.bytes s ≡ Live array = sym (cond-true _ _ _ this) ∙ live in
         let both = live_not s.live array (picture s.chunk origin.bytes s.store.bytes) here in
-        subst (λ (a : Answered). IsReadOf array piece a.reply) (sym (cond-true _ _ _ this))
+        subst (λ (a : Answered Volume). IsReadOf array piece a.reply) (sym (cond-true _ _ _ this))
         (subst (λ (b : List ℕ). IsReadOf b piece (read_snap piece origin s).reply) both.1 (live_read piece origin s whole fits chunks.0 orders.0 both.0)))
-    | inr other ↦ subst (λ (a : Answered). IsReadOf array piece a.reply) (sym (cond-false _ _ _ other))
+    | inr other ↦ subst (λ (a : Answered Volume). IsReadOf array piece a.reply) (sym (cond-false _ _ _ other))
         (at_read number piece array origin snaps whole fits chunks.1 orders.1 (sym (cond-false _ _ _ other) ∙ live))
   ]
 
@@ -86,8 +87,8 @@ at_dead number piece origin [] dead = refl
 at_dead number piece origin (s ∷ snaps) dead = elim (cases_Bool (s.number == number)) [
   | inl this ↦ (let here : shown origin.bytes s ≡ Invalid = sym (cond-true _ _ _ this) ∙ dead in
       let out : s.live ≡ false = not_live s.live (picture s.chunk origin.bytes s.store.bytes) here in
-      ap (λ (a : Answered). a.reply) (cond-true _ _ _ this) ∙ ap (λ (a : Served). a.reply) (cond-false _ _ _ out))
-  | inr other ↦ ap (λ (a : Answered). a.reply) (cond-false _ _ _ other) ∙ at_dead number piece origin snaps (sym (cond-false _ _ _ other) ∙ dead)
+      ap (λ (a : Answered Volume). a.reply) (cond-true _ _ _ this) ∙ ap (λ (a : Answered Saving). a.reply) (cond-false _ _ _ out))
+  | inr other ↦ ap (λ (a : Answered Volume). a.reply) (cond-false _ _ _ other) ∙ at_dead number piece origin snaps (sym (cond-false _ _ _ other) ∙ dead)
 ]
   where
     not_live : (b : Bool) (other : List ℕ) → (if b then Live other else Invalid) ≡ Invalid → b ≡ false
@@ -95,25 +96,25 @@ at_dead number piece origin (s ∷ snaps) dead = elim (cases_Bool (s.number == n
     not_live false other e = refl
 
 -- a device and a snapshot whose bytes are as they were
-pub record IsSame (o : Device) (s : Snap) (a : Served) : Type 0 where
-  pub origin : a.origin.bytes ≡ o.bytes
-  pub snap : (b : List ℕ) → entry_of b a.snap ≡ entry_of b s
+pub record IsSame (o : Device) (s : Snap) (a : Answered Saving) : Type 0 where
+  pub origin : a.state.origin.bytes ≡ o.bytes
+  pub snap : (b : List ℕ) → entry_of b a.state.snap ≡ entry_of b s
 
 place_same : (piece : Span) (o : Device) (s : Snap) (at : Option ℕ) → IsSame o s (read_place piece o s at)
 place_same piece o s None = record { origin = refl; snap = λ b. refl }
 place_same piece o s (Some n) = record { origin = refl; snap = λ b. refl }
 
-pub either_same : (b : Bool) (o : Device) (s : Snap) (x y : Served) → IsSame o s x → IsSame o s y → IsSame o s (if b then x else y)
+pub either_same : (b : Bool) (o : Device) (s : Snap) (x y : Answered Saving) → IsSame o s x → IsSame o s y → IsSame o s (if b then x else y)
 either_same true o s x y hx hy = hx
 either_same false o s x y hx hy = hy
 
 snap_same : (piece : Span) (o : Device) (s : Snap) → IsSame o s (read_snap piece o s)
 snap_same piece o s = either_same s.live o s _ _ (place_same piece o s (place_of (pairs_of s.chunk s.store.bytes) (piece.first / s.chunk))) (record { origin = refl; snap = λ b. refl })
 
-abbrev pub IsKeptBy : List ℕ → List Snap → Answered → Type 0
-IsKeptBy b snaps a = (a.volume.origin.bytes ≡ b) × ((c : List ℕ) → map (entry_of c) a.volume.snaps ≡ map (entry_of c) snaps)
+abbrev pub IsKeptBy : List ℕ → List Snap → Answered Volume → Type 0
+IsKeptBy b snaps a = (a.state.origin.bytes ≡ b) × ((c : List ℕ) → map (entry_of c) a.state.snaps ≡ map (entry_of c) snaps)
 
-pub either_kept : (t : Bool) (b : List ℕ) (snaps : List Snap) (x y : Answered) → IsKeptBy b snaps x → IsKeptBy b snaps y → IsKeptBy b snaps (if t then x else y)
+pub either_kept : (t : Bool) (b : List ℕ) (snaps : List Snap) (x y : Answered Volume) → IsKeptBy b snaps x → IsKeptBy b snaps y → IsKeptBy b snaps (if t then x else y)
 either_kept true b snaps x y hx hy = hx
 either_kept false b snaps x y hx hy = hy
 
@@ -126,13 +127,13 @@ in_same number piece o (s ∷ snaps) =
     (here.origin, λ c. ap (λ (e : Entry). e ∷ map (entry_of c) snaps) (here.snap c))
     (later.0, λ c. ap (λ (es : List Entry). entry_of c s ∷ es) (later.1 c))
 
-pub arrays_same : (v : Volume) (a : Answered) → IsKeptBy v.origin.bytes v.snaps a → arrays_of a.volume ≡ arrays_of v
+pub arrays_same : (v : Volume) (a : Answered Volume) → IsKeptBy v.origin.bytes v.snaps a → arrays_of a.state ≡ arrays_of v
 arrays_same v a kept =
     let mk : List ℕ → List Entry → Arrays = λ (o : List ℕ) (es : List Entry). record { origin = o; saved = es } in
-    ap (λ (o : List ℕ). mk o (map (entry_of o) a.volume.snaps)) kept.0 ∙ ap (mk v.origin.bytes) (kept.1 v.origin.bytes)
+    ap (λ (o : List ℕ). mk o (map (entry_of o) a.state.snaps)) kept.0 ∙ ap (mk v.origin.bytes) (kept.1 v.origin.bytes)
 
 -- a piece leaves what is shown
-pub piece_shown : (dev : Dev) (piece : Span) (v : Volume) → arrays_of (read_piece dev piece v).volume ≡ arrays_of v
+pub piece_shown : (dev : Dev) (piece : Span) (v : Volume) → arrays_of (read_piece dev piece v).state ≡ arrays_of v
 piece_shown Origin piece v = refl
 piece_shown (ToSnap number) piece v = arrays_same v (in_snap number (read_snap piece) v.origin v.snaps) (in_same number piece v.origin v.snaps)
 
@@ -165,7 +166,7 @@ read_more array first m n before bytes (Refused Declined) part more = more
 read_more array first m n before bytes (Refused Io) part more = tt
 read_more array first m n before bytes (Refused Overflow) part more = more
 
-goes_read : (array : List ℕ) (piece : Span) (n : ℕ) (before : List ℕ) (r : Reply) (here more : Answered) → here.reply ≡ r → IsReadOf array piece r → IsReadTo array (piece.first + piece.count) n (before ++ bytes_in r) more.reply → IsReadTo array piece.first (piece.count + n) before (go_on r here more).reply
+goes_read : (array : List ℕ) (piece : Span) (n : ℕ) (before : List ℕ) (r : Reply) (here more : Answered Volume) → here.reply ≡ r → IsReadOf array piece r → IsReadTo array (piece.first + piece.count) n (before ++ bytes_in r) more.reply → IsReadTo array piece.first (piece.count + n) before (go_on r here more).reply
 goes_read array piece n before (Data bytes) here more is read rest = read_more array piece.first piece.count n before bytes more.reply read rest
 goes_read array piece n before Written here more is read rest = absurd read
 goes_read array piece n before Flushed here more is read rest = absurd read
@@ -173,19 +174,19 @@ goes_read array piece n before (Refused Declined) here more is read rest = absur
 goes_read array piece n before (Refused Overflow) here more is read rest = absurd read
 goes_read array piece n before (Refused Io) here more is read rest = subst (IsReadTo array piece.first (piece.count + n) before) (sym is) tt
 
-goes_shown : (r : Reply) (shows : Arrays) (here more : Answered) → arrays_of here.volume ≡ shows → arrays_of more.volume ≡ shows → arrays_of (go_on r here more).volume ≡ shows
+goes_shown : (r : Reply) (shows : Arrays) (here more : Answered Volume) → arrays_of here.state ≡ shows → arrays_of more.state ≡ shows → arrays_of (go_on r here more).state ≡ shows
 goes_shown (Data bytes) shows here more h m = m
 goes_shown Written shows here more h m = m
 goes_shown Flushed shows here more h m = m
 goes_shown (Refused failure) shows here more h m = h
 
 -- pieces leave what is shown
-pub pieces_shown : (dev : Dev) (pieces : List Span) (before : List ℕ) (v : Volume) → arrays_of (read_pieces dev pieces before v).volume ≡ arrays_of v
+pub pieces_shown : (dev : Dev) (pieces : List Span) (before : List ℕ) (v : Volume) → arrays_of (read_pieces dev pieces before v).state ≡ arrays_of v
 pieces_shown dev [] before v = refl
 pieces_shown dev (piece ∷ pieces) before v =
-    let here : Answered = read_piece dev piece v in
-    let same : arrays_of here.volume ≡ arrays_of v = piece_shown dev piece v in
-    goes_shown here.reply (arrays_of v) here (read_pieces dev pieces (before ++ bytes_in here.reply) here.volume) same (pieces_shown dev pieces (before ++ bytes_in here.reply) here.volume ∙ same)
+    let here : Answered Volume = read_piece dev piece v in
+    let same : arrays_of here.state ≡ arrays_of v = piece_shown dev piece v in
+    goes_shown here.reply (arrays_of v) here (read_pieces dev pieces (before ++ bytes_in here.reply) here.state) same (pieces_shown dev pieces (before ++ bytes_in here.reply) here.state ∙ same)
 
 module _ (sectors chunk : ℕ) (ok : is_chunk chunk ≡ true) where
   -- a piece of a device that shows an array
@@ -200,8 +201,8 @@ module _ (sectors chunk : ℕ) (ok : is_chunk chunk ≡ true) where
   pub pieces_read : (dev : Dev) (first b : ℕ) (pieces : List Span) (before array : List ℕ) (v : Volume) → IsWell sectors chunk v → Each (IsInside sectors chunk) pieces → Join first b pieces → saved_of dev (arrays_of v) ≡ Live array → IsReadTo array first (sectors_in pieces) before (read_pieces dev pieces before v).reply
   pieces_read dev first b [] before array v well fits join live = sym (append-nil before)
   pieces_read dev first b (piece ∷ pieces) before array v well fits join live =
-      let here : Answered = read_piece dev piece v in
-      let next : Volume = here.volume in
+      let here : Answered Volume = read_piece dev piece v in
+      let next : Volume = here.state in
       let same : arrays_of next ≡ arrays_of v = piece_shown dev piece v in
       let rest = pieces_read dev (first + piece.count) b pieces (before ++ bytes_in here.reply) array next (well_after sectors chunk ok dev Read piece v well fits.0 tt) fits.1 join.1 (ap (saved_of dev) same ∙ live) in
       subst (λ (x : ℕ). IsReadTo array x (piece.count + sectors_in pieces) before (read_pieces dev (piece ∷ pieces) before v).reply) join.0
@@ -211,6 +212,6 @@ module _ (sectors chunk : ℕ) (ok : is_chunk chunk ≡ true) where
 pub pieces_dead : (dev : Dev) (pieces : List Span) (before : List ℕ) (v : Volume) → 0 < length pieces → saved_of dev (arrays_of v) ≡ Invalid → (read_pieces dev pieces before v).reply ≡ Refused Declined
 pieces_dead dev [] before v some dead = absurd (omega arith)
 pieces_dead dev (piece ∷ pieces) before v some dead =
-    let here : Answered = read_piece dev piece v in
+    let here : Answered Volume = read_piece dev piece v in
     let out : here.reply ≡ Refused Declined = piece_dead dev piece v dead in
-    ap (λ (r : Reply). (go_on r here (read_pieces dev pieces (before ++ bytes_in here.reply) here.volume)).reply) out ∙ out
+    ap (λ (r : Reply). (go_on r here (read_pieces dev pieces (before ++ bytes_in here.reply) here.state)).reply) out ∙ out

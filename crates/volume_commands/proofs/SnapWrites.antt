@@ -23,9 +23,9 @@ use Rattle.settled.proofs.Laws.{saving_law, option_cases}
 use Rattle.chunk.proofs.PiecePlaces.{piece_low}
 use Rattle.settled.proofs.PictureSectors.{place_inside}
 use Rattle.settled.specs.Devices.{Device, answers, written_by}
-use Rattle.settled.specs.Snaps.{Snap, shown}
+use Rattle.settled.specs.Snaps.{Snap, shown, Volume}
 use Rattle.settled.specs.Saving.{Saving, next_place, is_full, has_chunk, save}
-use Rattle.settled.specs.Pieces.{Answered, Served, shuts, write_place, write_saved, write_snap, in_snap}
+use Rattle.settled.specs.Pieces.{Answered, shuts, write_place, write_saved, write_snap, in_snap}
 use Rattle.event_machine.specs.Held.{SnapHeld}
 use Rattle.event_machine.specs.Rest.{IsResting}
 use Rattle.settled.proofs.Each.{Each}
@@ -101,7 +101,7 @@ open_not_did c s free live did = (let shut : shuts c s ≡ true = rw (live, did)
 module _ (sectors chunk : ℕ) (ok : is_chunk chunk ≡ true) (piece : Span) (part : List ℕ) (fits : IsInside sectors chunk piece) (len : length part ≡ 512 * piece.count) where
   -- at a copy's place
   placed : (o array : List ℕ) (origin : Device) (t : Snap) (size n : ℕ) (old : Saved) → length o ≡ 512 * sectors → HasChunks chunk t → t.live ≡ true → IsInOrder t.chunk sectors size t.store.bytes → place_of (pairs_of t.chunk t.store.bytes) (piece.first / t.chunk) ≡ Some n
-      → old ≡ Live array → picture t.chunk o t.store.bytes ≡ array → (let a = write_place piece part origin t (Some n) in IsShownBy piece part old (shown o a.snap) a.reply)
+      → old ≡ Live array → picture t.chunk o t.store.bytes ≡ array → (let a = write_place piece part origin t (Some n) in IsShownBy piece part old (shown o a.state.snap) a.reply)
   placed o array origin t size n old whole has live order some was is =
       let pos' : 0 < t.chunk = order.some in
       let off : ℕ = piece.first % t.chunk in
@@ -131,13 +131,13 @@ module _ (sectors chunk : ℕ) (ok : is_chunk chunk ≡ true) (piece : Span) (pa
 
   -- one snapshot that takes the write
   taken_written : (origin : Device) (s : Snap) → length origin.bytes ≡ 512 * sectors → HasChunks chunk s → IsOrderly sectors s
-      → (let a : Served = write_saved piece part (save (piece.first / s.chunk) origin s) in IsShownBy piece part (shown origin.bytes s) (shown origin.bytes a.snap) a.reply)
+      → (let a : Answered Saving = write_saved piece part (save (piece.first / s.chunk) origin s) in IsShownBy piece part (shown origin.bytes s) (shown origin.bytes a.state.snap) a.reply)
   taken_written origin s whole has orderly =
       let c : ℕ = piece.first / s.chunk in
       let a : Saving = save c origin s in
       let t : Snap = a.snap in
       let old : Saved = shown origin.bytes s in
-      let By : Served → Type 0 = λ (x : Served). IsShownBy piece part old (shown origin.bytes x.snap) x.reply in
+      let By : Answered Saving → Type 0 = λ (x : Answered Saving). IsShownBy piece part old (shown origin.bytes x.state.snap) x.reply in
       elim (cases_Bool t.live) [
         | inr out ↦ subst By (sym (cond-false _ _ _ out)) (cond-false _ _ _ out)
         | inl live ↦ (let both = live_saved c origin s live in
@@ -158,10 +158,10 @@ module _ (sectors chunk : ℕ) (ok : is_chunk chunk ≡ true) (piece : Span) (pa
       ]
 
   -- any snapshot
-  pub snap_written : (origin : Device) (s : Snap) → length origin.bytes ≡ 512 * sectors → HasChunks chunk s → IsOrderly sectors s → IsShownBy piece part (shown origin.bytes s) (shown origin.bytes (write_snap piece part origin s).snap) (write_snap piece part origin s).reply
+  pub snap_written : (origin : Device) (s : Snap) → length origin.bytes ≡ 512 * sectors → HasChunks chunk s → IsOrderly sectors s → IsShownBy piece part (shown origin.bytes s) (shown origin.bytes (write_snap piece part origin s).state.snap) (write_snap piece part origin s).reply
   snap_written origin s whole has orderly =
       let c : ℕ = piece.first / s.chunk in
-      let By : Served → Type 0 = λ (x : Served). IsShownBy piece part (shown origin.bytes s) (shown origin.bytes x.snap) x.reply in
+      let By : Answered Saving → Type 0 = λ (x : Answered Saving). IsShownBy piece part (shown origin.bytes s) (shown origin.bytes x.state.snap) x.reply in
       elim (cases_Bool (shuts c s)) [
         | inl shut ↦ subst By (sym (cond-true _ _ _ shut)) (picture s.chunk origin.bytes s.store.bytes, cond-true _ _ _ (and_first s.live _ shut), refl)
         | inr free ↦ subst By (sym (cond-false _ _ _ free)) (taken_written origin s whole has orderly)
@@ -175,7 +175,7 @@ module _ (piece : Span) (part : List ℕ) (origin : Device) (s : Snap) where
   abbrev after : Saving
   after = save chunk_at origin s
 
-  place_marked : s.overflow ≢ Did → (o : Option ℕ) → (let a : Served = write_place piece part after.origin after.snap o in IsMarkedBy s.overflow a.snap.overflow a.reply)
+  place_marked : s.overflow ≢ Did → (o : Option ℕ) → (let a : Answered Saving = write_place piece part after.origin after.snap o in IsMarkedBy s.overflow a.state.snap.overflow a.reply)
   place_marked free None = save_overflow chunk_at origin s
   place_marked free (Some n) =
       let kept : after.snap.overflow ≡ s.overflow = save_overflow chunk_at origin s in
@@ -184,33 +184,33 @@ module _ (piece : Span) (part : List ℕ) (origin : Device) (s : Snap) where
         | inr failed ↦ subst (IsMarkedBy s.overflow after.snap.overflow) (sym (cond-false _ _ _ failed)) kept
       ]
 
-  taken_marked : shuts chunk_at s ≡ false → (let a : Served = write_saved piece part after in IsMarkedBy s.overflow a.snap.overflow a.reply)
+  taken_marked : shuts chunk_at s ≡ false → (let a : Answered Saving = write_saved piece part after in IsMarkedBy s.overflow a.state.snap.overflow a.reply)
   taken_marked free =
-      let By : Served → Type 0 = λ (x : Served). IsMarkedBy s.overflow x.snap.overflow x.reply in
+      let By : Answered Saving → Type 0 = λ (x : Answered Saving). IsMarkedBy s.overflow x.state.snap.overflow x.reply in
       elim (cases_Bool after.snap.live) [
         | inl live ↦ (let was = live_saved chunk_at origin s live in
             subst By (sym (cond-true _ _ _ live)) (place_marked (open_not_did chunk_at s free was.0) (place_of (pairs_of after.snap.chunk after.snap.store.bytes) (piece.first / after.snap.chunk))))
         | inr out ↦ subst By (sym (cond-false _ _ _ out)) (save_overflow chunk_at origin s)
       ]
 
-  pub snap_marked : IsMarkedBy s.overflow (write_snap piece part origin s).snap.overflow (write_snap piece part origin s).reply
+  pub snap_marked : IsMarkedBy s.overflow (write_snap piece part origin s).state.snap.overflow (write_snap piece part origin s).reply
   snap_marked =
-      let By : Served → Type 0 = λ (x : Served). IsMarkedBy s.overflow x.snap.overflow x.reply in
+      let By : Answered Saving → Type 0 = λ (x : Answered Saving). IsMarkedBy s.overflow x.state.snap.overflow x.reply in
       elim (cases_Bool (shuts chunk_at s)) [
         | inl shut ↦ subst By (sym (cond-true _ _ _ shut)) (shut_not_never chunk_at s shut, refl)
         | inr free ↦ subst By (sym (cond-false _ _ _ free)) (taken_marked free)
       ]
 
 -- its number and the origin's bytes stay
-place_origin : (piece : Span) (part : List ℕ) (origin : Device) (s : Snap) (o : Option ℕ) → ((write_place piece part origin s o).origin.bytes ≡ origin.bytes) × ((write_place piece part origin s o).snap.number ≡ s.number)
+place_origin : (piece : Span) (part : List ℕ) (origin : Device) (s : Snap) (o : Option ℕ) → ((write_place piece part origin s o).state.origin.bytes ≡ origin.bytes) × ((write_place piece part origin s o).state.snap.number ≡ s.number)
 place_origin piece part origin s None = (refl, refl)
 place_origin piece part origin s (Some n) = (refl, refl)
 
-snap_stays : (piece : Span) (part : List ℕ) (origin : Device) (s : Snap) → ((write_snap piece part origin s).origin.bytes ≡ origin.bytes) × ((write_snap piece part origin s).snap.number ≡ s.number)
+snap_stays : (piece : Span) (part : List ℕ) (origin : Device) (s : Snap) → ((write_snap piece part origin s).state.origin.bytes ≡ origin.bytes) × ((write_snap piece part origin s).state.snap.number ≡ s.number)
 snap_stays piece part origin s =
     let c : ℕ = piece.first / s.chunk in
     let a : Saving = save c origin s in
-    let Stays : Served → Type 0 = λ (x : Served). (x.origin.bytes ≡ origin.bytes) × (x.snap.number ≡ s.number) in
+    let Stays : Answered Saving → Type 0 = λ (x : Answered Saving). (x.state.origin.bytes ≡ origin.bytes) × (x.state.snap.number ≡ s.number) in
     elim (cases_Bool (shuts c s)) [
       | inl shut ↦ subst Stays (sym (cond-true _ _ _ shut)) (refl, refl)
       | inr free ↦ subst Stays (sym (cond-false _ _ _ free)) (elim (cases_Bool a.snap.live) [
@@ -269,25 +269,25 @@ shown_later number piece part e old new (Refused Overflow) other by = (
   ap (λ (es : List Entry). e ∷ es) by.2 ∙ sym (cond-false _ _ _ other),
 )
 
-pub in_stays : (number : ℕ) (piece : Span) (part : List ℕ) (origin : Device) (snaps : List Snap) → (in_snap number (write_snap piece part) origin snaps).volume.origin.bytes ≡ origin.bytes
+pub in_stays : (number : ℕ) (piece : Span) (part : List ℕ) (origin : Device) (snaps : List Snap) → (in_snap number (write_snap piece part) origin snaps).state.origin.bytes ≡ origin.bytes
 in_stays number piece part origin [] = refl
 in_stays number piece part origin (s ∷ snaps) = elim (cases_Bool (s.number == number)) [
-  | inl this ↦ ap (λ (a : Answered). a.volume.origin.bytes) (cond-true _ _ _ this) ∙ (snap_stays piece part origin s).0
-  | inr other ↦ ap (λ (a : Answered). a.volume.origin.bytes) (cond-false _ _ _ other) ∙ in_stays number piece part origin snaps
+  | inl this ↦ ap (λ (a : Answered Volume). a.state.origin.bytes) (cond-true _ _ _ this) ∙ (snap_stays piece part origin s).0
+  | inr other ↦ ap (λ (a : Answered Volume). a.state.origin.bytes) (cond-false _ _ _ other) ∙ in_stays number piece part origin snaps
 ]
 
 -- the first with a number
 module _ (sectors chunk : ℕ) (ok : is_chunk chunk ≡ true) (number : ℕ) (piece : Span) (part : List ℕ) (fits : IsInside sectors chunk piece) (len : length part ≡ 512 * piece.count) where
   pub in_written : (origin : Device) (snaps : List Snap) → length origin.bytes ≡ 512 * sectors → Each (HasChunks chunk) snaps → Each (IsOrderly sectors) snaps
-      → AreShownBy number piece part (map (entry_of origin.bytes) snaps) (map (entry_of origin.bytes) (in_snap number (write_snap piece part) origin snaps).volume.snaps) (in_snap number (write_snap piece part) origin snaps).reply
+      → AreShownBy number piece part (map (entry_of origin.bytes) snaps) (map (entry_of origin.bytes) (in_snap number (write_snap piece part) origin snaps).state.snaps) (in_snap number (write_snap piece part) origin snaps).reply
   in_written origin [] whole chunks orders = refl
   in_written origin (s ∷ snaps) whole chunks orders =
-      let By : Answered → Type 0 = λ (a : Answered). AreShownBy number piece part (map (entry_of origin.bytes) (s ∷ snaps)) (map (entry_of origin.bytes) a.volume.snaps) a.reply in
+      let By : Answered Volume → Type 0 = λ (a : Answered Volume). AreShownBy number piece part (map (entry_of origin.bytes) (s ∷ snaps)) (map (entry_of origin.bytes) a.state.snaps) a.reply in
       elim (cases_Bool (s.number == number)) [
         | inl this ↦ subst By (sym (cond-true _ _ _ this))
-            (shown_first number piece part (entry_of origin.bytes s) (entry_of origin.bytes (write_snap piece part origin s).snap) (map (entry_of origin.bytes) snaps) (write_snap piece part origin s).reply this (snap_stays piece part origin s).1
+            (shown_first number piece part (entry_of origin.bytes s) (entry_of origin.bytes (write_snap piece part origin s).state.snap) (map (entry_of origin.bytes) snaps) (write_snap piece part origin s).reply this (snap_stays piece part origin s).1
             (snap_written sectors chunk ok piece part fits len origin s whole chunks.0 orders.0) (snap_marked piece part origin s))
         | inr other ↦ subst By (sym (cond-false _ _ _ other))
-            (shown_later number piece part (entry_of origin.bytes s) (map (entry_of origin.bytes) snaps) (map (entry_of origin.bytes) (in_snap number (write_snap piece part) origin snaps).volume.snaps) (in_snap number (write_snap piece part) origin snaps).reply other
+            (shown_later number piece part (entry_of origin.bytes s) (map (entry_of origin.bytes) snaps) (map (entry_of origin.bytes) (in_snap number (write_snap piece part) origin snaps).state.snaps) (in_snap number (write_snap piece part) origin snaps).reply other
             (in_written origin snaps whole chunks.1 orders.1))
       ]

@@ -14,25 +14,26 @@ use Rattle.plain.specs.declared.request.Reply.{Reply}
 use Rattle.plain.specs.declared.request.Reply.TheVariants.{Data, Written, Flushed, Refused}
 use Rattle.settled.specs.Devices.{Device, met}
 use Rattle.settled.specs.Snaps.{Snap, Volume}
-use Rattle.settled.specs.Pieces.{Answered, Served, read_place, read_snap, in_snap}
+use Rattle.settled.specs.Pieces.{Answered, read_place, read_snap, in_snap}
 use Rattle.settled.specs.Commands.{read_piece, read_pieces, go_on, bytes_in, read, read_first, pieces_first}
-use Rattle.settled.specs.Merges.{Merge, Merged, Merging, Replied, merged_of as with_merge, with_store, place_in, sector_in, read_at, read_part, read_parts, read_through, least_chunk, go_on as go_on_beside}
+use Rattle.settled.specs.Merges.{Merge, Merged, Merging, merged_of as with_merge, with_store, place_in, sector_in, read_at, read_part, read_parts, read_through, least_chunk, go_on as go_on_beside}
 use Rattle.event_machine.specs.MergeRest.{merge_in}
 use Rattle.event_machine.specs.MergeSeen.{held_in}
 use Rattle.merge.specs.Merging.{Merging as MergingStack}
 use Rattle.volume.specs.Moved.{merge_seen}
-use Rattle.settled.specs.Beside.{Served as Done, served_by, read_beside, read_first_beside, read_first_through}
+use Rattle.settled.specs.Beside.{served_by, read_beside, read_first_beside, read_first_through}
 use Rattle.volume_commands.specs.Rested.{Attached, Rested, snap_of, settled_of, merged_of, IsSettled}
 use Rattle.volume_commands.specs.Commands.{IsDoneBy, IsReadRefused}
 use Rattle.volume_commands.specs.Unread.{IsUnmoved, AreUnmoved}
+use Rattle.settled.specs.Saving.{Saving}
 
 met_same : (device : Device) (first count : ℕ) → IsUnmoved device → met device (Reads first count) ≡ device
 met_same device first count still = ap (λ (ls : List Layer). let d : Device = record { bytes = device.bytes; layers = ls } in d) (still first count)
 
 -- a device and a snapshot that were served are as before
-record IsSame (o : Device) (s : Snap) (a : Served) : Type 0 where
-  pub origin : a.origin ≡ o
-  pub snap : a.snap ≡ s
+record IsSame (o : Device) (s : Snap) (a : Answered Saving) : Type 0 where
+  pub origin : a.state.origin ≡ o
+  pub snap : a.state.snap ≡ s
 
 place_same : (piece : Span) (o : Device) (s : Snap) (at : Option ℕ) → IsUnmoved o → IsUnmoved s.store → IsSame o s (read_place piece o s at)
 place_same piece o s None ho hs = record { origin = met_same o piece.first piece.count ho; snap = refl }
@@ -41,57 +42,57 @@ place_same piece o s (Some n) ho hs = record {
   snap = ap (λ (d : Device). let t : Snap = record s { store = d } in t) (met_same s.store (s.chunk * n + piece.first % s.chunk) piece.count hs);
 }
 
-either_same : (b : Bool) (o : Device) (s : Snap) (x y : Served) → IsSame o s x → IsSame o s y → IsSame o s (if b then x else y)
+either_same : (b : Bool) (o : Device) (s : Snap) (x y : Answered Saving) → IsSame o s x → IsSame o s y → IsSame o s (if b then x else y)
 either_same true o s x y hx hy = hx
 either_same false o s x y hx hy = hy
 
 snap_same : (piece : Span) (o : Device) (s : Snap) → IsUnmoved o → IsUnmoved s.store → IsSame o s (read_snap piece o s)
 snap_same piece o s ho hs = either_same s.live o s _ _ (place_same piece o s (place_of (pairs_of s.chunk s.store.bytes) (piece.first / s.chunk)) ho hs) (record { origin = refl; snap = refl })
 
-here_same : (o : Device) (s : Snap) (ss : List Snap) (a : Served) → IsSame o s a → (let v : Volume = record { origin = a.origin; snaps = a.snap ∷ ss } in v) ≡ record { origin = o; snaps = s ∷ ss }
+here_same : (o : Device) (s : Snap) (ss : List Snap) (a : Answered Saving) → IsSame o s a → (let v : Volume = record { origin = a.state.origin; snaps = a.state.snap ∷ ss } in v) ≡ record { origin = o; snaps = s ∷ ss }
 here_same o s ss a h =
-    ap (λ (d : Device). let v : Volume = record { origin = d; snaps = a.snap ∷ ss } in v) h.origin
+    ap (λ (d : Device). let v : Volume = record { origin = d; snaps = a.state.snap ∷ ss } in v) h.origin
     ∙ ap (λ (t : Snap). let v : Volume = record { origin = o; snaps = t ∷ ss } in v) h.snap
 
 later_same : (o : Device) (s : Snap) (ss : List Snap) (v : Volume) → v ≡ record { origin = o; snaps = ss } → (let w : Volume = record { origin = v.origin; snaps = s ∷ v.snaps } in w) ≡ record { origin = o; snaps = s ∷ ss }
 later_same o s ss v h = ap (λ (u : Volume). let w : Volume = record { origin = u.origin; snaps = s ∷ u.snaps } in w) h
 
-either_volume : (b : Bool) (v : Volume) (x y : Answered) → x.volume ≡ v → y.volume ≡ v → (if b then x else y).volume ≡ v
+either_volume : (b : Bool) (v : Volume) (x y : Answered Volume) → x.state ≡ v → y.state ≡ v → (if b then x else y).state ≡ v
 either_volume true v x y hx hy = hx
 either_volume false v x y hx hy = hy
 
-in_same : (number : ℕ) (piece : Span) (o : Device) (ss : List Snap) → IsUnmoved o → All (λ (s : Snap). IsUnmoved s.store) ss → (in_snap number (read_snap piece) o ss).volume ≡ record { origin = o; snaps = ss }
+in_same : (number : ℕ) (piece : Span) (o : Device) (ss : List Snap) → IsUnmoved o → All (λ (s : Snap). IsUnmoved s.store) ss → (in_snap number (read_snap piece) o ss).state ≡ record { origin = o; snaps = ss }
 in_same number piece o [] ho hs = refl
 in_same number piece o (s ∷ ss) ho hs =
     either_volume (s.number == number) _ _ _
     (here_same o s ss (read_snap piece o s) (snap_same piece o s ho (All-head (λ (x : Snap). IsUnmoved x.store) s ss hs)))
-    (later_same o s ss (in_snap number (read_snap piece) o ss).volume (in_same number piece o ss ho (All-tail (λ (x : Snap). IsUnmoved x.store) s ss hs)))
+    (later_same o s ss (in_snap number (read_snap piece) o ss).state (in_same number piece o ss ho (All-tail (λ (x : Snap). IsUnmoved x.store) s ss hs)))
 
-piece_same : (dev : Dev) (piece : Span) (v : Volume) → AreUnmoved v → (read_piece dev piece v).volume ≡ v
+piece_same : (dev : Dev) (piece : Span) (v : Volume) → AreUnmoved v → (read_piece dev piece v).state ≡ v
 piece_same Origin piece v h = ap (λ (d : Device). let w : Volume = record { origin = d; snaps = v.snaps } in w) (met_same v.origin piece.first piece.count h.origin)
 piece_same (ToSnap number) piece v h = in_same number piece v.origin v.snaps h.origin h.snaps
 
-goes_on : (reply : Reply) (v : Volume) (here rest : Answered) → here.volume ≡ v → rest.volume ≡ v → (go_on reply here rest).volume ≡ v
+goes_on : (reply : Reply) (v : Volume) (here rest : Answered Volume) → here.state ≡ v → rest.state ≡ v → (go_on reply here rest).state ≡ v
 goes_on (Data bytes) v here rest h r = r
 goes_on Written v here rest h r = r
 goes_on Flushed v here rest h r = r
 goes_on (Refused failure) v here rest h r = h
 
-pieces_same : (dev : Dev) (pieces : List Span) (before : List ℕ) (v : Volume) → AreUnmoved v → (read_pieces dev pieces before v).volume ≡ v
+pieces_same : (dev : Dev) (pieces : List Span) (before : List ℕ) (v : Volume) → AreUnmoved v → (read_pieces dev pieces before v).state ≡ v
 pieces_same dev [] before v h = refl
 pieces_same dev (piece ∷ pieces) before v h =
-    let here : Answered = read_piece dev piece v in
-    let stays : here.volume ≡ v = piece_same dev piece v h in
-    let rest = pieces_same dev pieces (before ++ bytes_in here.reply) here.volume (subst AreUnmoved (sym stays) h) in
-    goes_on here.reply v here (read_pieces dev pieces (before ++ bytes_in here.reply) here.volume) stays (rest ∙ stays)
+    let here : Answered Volume = read_piece dev piece v in
+    let stays : here.state ≡ v = piece_same dev piece v h in
+    let rest = pieces_same dev pieces (before ++ bytes_in here.reply) here.state (subst AreUnmoved (sym stays) h) in
+    goes_on here.reply v here (read_pieces dev pieces (before ++ bytes_in here.reply) here.state) stays (rest ∙ stays)
 
 -- a read
-pub read_changes_nothing : (dev : Dev) (span : Span) (v : Volume) → AreUnmoved v → (read dev span v).volume ≡ v
+pub read_changes_nothing : (dev : Dev) (span : Span) (v : Volume) → AreUnmoved v → (read dev span v).state ≡ v
 unfolding read
 read_changes_nothing dev span v h = pieces_same dev _ [] v h
 
 -- and the first pieces of one
-pub read_first_changes_nothing : (count : ℕ) (dev : Dev) (span : Span) (v : Volume) → AreUnmoved v → (read_first count dev span v).volume ≡ v
+pub read_first_changes_nothing : (count : ℕ) (dev : Dev) (span : Span) (v : Volume) → AreUnmoved v → (read_first count dev span v).state ≡ v
 read_first_changes_nothing count dev span v h = pieces_same dev (pieces_first count span v) [] v h
 
 -- nor those of the merging store
@@ -108,7 +109,7 @@ part_same : (dev : Dev) (piece : Span) (m : Merging) → AreUnmoved m.volume →
 part_same Origin piece m hv hg = at_same (place_in piece.first m.merge) piece m hv hg
 part_same (ToSnap number) piece m hv hg = ap (λ (v : Volume). let n : Merging = record { volume = v; merge = m.merge } in n) (piece_same (ToSnap number) piece m.volume hv)
 
-goes_on_beside : (reply : Reply) (m : Merging) (here rest : Replied) → here.state ≡ m → rest.state ≡ m → (go_on_beside reply here rest).state ≡ m
+goes_on_beside : (reply : Reply) (m : Merging) (here rest : Answered Merging) → here.state ≡ m → rest.state ≡ m → (go_on_beside reply here rest).state ≡ m
 goes_on_beside (Data bytes) m here rest h r = r
 goes_on_beside Written m here rest h r = r
 goes_on_beside Flushed m here rest h r = r
@@ -117,7 +118,7 @@ goes_on_beside (Refused failure) m here rest h r = h
 parts_same : (dev : Dev) (pieces : List Span) (before : List ℕ) (m : Merging) → AreUnmoved m.volume → IsUnmoved m.merge.store → (read_parts dev pieces before m).state ≡ m
 parts_same dev [] before m hv hg = refl
 parts_same dev (piece ∷ pieces) before m hv hg =
-    let here : Replied = read_part dev piece m in
+    let here : Answered Merging = read_part dev piece m in
     let stays : here.state ≡ m = part_same dev piece m hv hg in
     let rest = parts_same dev pieces (before ++ bytes_in here.reply) here.state (subst (λ (n : Merging). AreUnmoved n.volume) (sym stays) hv) (subst (λ (n : Merging). IsUnmoved n.merge.store) (sym stays) hg) in
     goes_on_beside here.reply m here (read_parts dev pieces (before ++ bytes_in here.reply) here.state) stays (rest ∙ stays)
@@ -127,8 +128,8 @@ unfolding read_through
 through_same dev span m hv hg = parts_same dev (pieces_of (least_chunk m) span) [] m hv hg
 
 -- a command, by what it is without a merge and with one
-either_done : (without : Volume → Answered) (through : Merging → Replied) (o : Option Merge) (v : Volume)
-    → (without v).volume ≡ v → ((g : Merge) → o ≡ Some g → (through (record { volume = v; merge = g })).state ≡ record { volume = v; merge = g })
+either_done : (without : Volume → Answered Volume) (through : Merging → Answered Merging) (o : Option Merge) (v : Volume)
+    → (without v).state ≡ v → ((g : Merge) → o ≡ Some g → (through (record { volume = v; merge = g })).state ≡ record { volume = v; merge = g })
     → (served_by without through o v).state ≡ record { volume = v; merge = o }
 either_done without through None v alone beside = ap (λ (w : Volume). let m : Merged = record { volume = w; merge = None } in m) alone
 either_done without through (Some g) v alone beside = ap (λ (m : Merging). with_merge m) (beside g refl)
@@ -165,9 +166,9 @@ module _ {B : Type 0} (contents : B → List ℕ) (layers : B → List Layer) (r
   has_unmoved (Some m) = reads m.device
 
   -- a command that leaves the settled machine's volume and its merge as they are
-  by_command : (command : Merged → Done) (reply : Reply) (old new : Rested B) → ((m : Merged) → AreUnmoved m.volume → HasUnmoved m.merge → (command m).state ≡ m) → IsDoneBy contents layers command reply old new
+  by_command : (command : Merged → Answered Merged) (reply : Reply) (old new : Rested B) → ((m : Merged) → AreUnmoved m.volume → HasUnmoved m.merge → (command m).state ≡ m) → IsDoneBy contents layers command reply old new
       → IsSettled layers old → merged_of contents layers new ≡ merged_of contents layers old
-  by_command command reply old new still done settled = ap (λ (a : Done). a.state) (sym (done settled)) ∙ still (merged_of contents layers old) (are_unmoved old) (has_unmoved old.events.merge)
+  by_command command reply old new still done settled = ap (λ (a : Answered Merged). a.state) (sym (done settled)) ∙ still (merged_of contents layers old) (are_unmoved old) (has_unmoved old.events.merge)
 
   -- a read that is done
   pub read_leaves : (dev : Dev) (span : Span) (reply : Reply) (old new : Rested B) → IsDoneBy contents layers (read_beside dev span) reply old new → IsSettled layers old → merged_of contents layers new ≡ merged_of contents layers old

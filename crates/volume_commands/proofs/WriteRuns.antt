@@ -8,26 +8,26 @@ use Rattle.plain.specs.declared.request.Failure.{Failure}
 use Rattle.settled.specs.Snaps.{Volume}
 use Rattle.settled.specs.Pieces.{Answered}
 use Rattle.settled.specs.Commands.{go_on as alone_on, write_piece, write_pieces}
-use Rattle.settled.specs.Merges.{Merge, Merged, Merging, Replied, go_on as beside_on, write_part, write_parts}
-use Rattle.settled.specs.Beside.{Served, alone, beside, served, served_by}
+use Rattle.settled.specs.Merges.{Merge, Merged, Merging, go_on as beside_on, write_part, write_parts}
+use Rattle.settled.specs.Beside.{alone, beside, served, served_by}
 use Rattle.volume_commands.specs.Serving.{IsGood, part_written}
 
 abbrev pub counts_of : List Span → ℕ
 counts_of [] = 0
 counts_of (p ∷ pieces) = p.count + counts_of pieces
 
-abbrev pub answer : Merged → Reply → Served
+abbrev pub answer : Merged → Reply → Answered Merged
 answer v reply = record { state = v; reply = reply }
 
 -- a command goes on where its piece was done
-abbrev pub go_on : Reply → Served → Served → Served
+abbrev pub go_on : Reply → Answered Merged → Answered Merged → Answered Merged
 go_on (Data bytes) here rest = rest
 go_on Written here rest = rest
 go_on Flushed here rest = rest
 go_on (Refused failure) here rest = here
 
 -- the pieces of a write, each with its part of the bytes
-abbrev pub parts_written : Dev → List Span → List ℕ → Merged → Served
+abbrev pub parts_written : Dev → List Span → List ℕ → Merged → Answered Merged
 parts_written dev [] bytes m = answer m Written
 parts_written dev (piece ∷ pieces) bytes m =
     let here = part_written dev piece (take (512 * piece.count) bytes) m in
@@ -50,20 +50,20 @@ ends [] = refl
 ends (p ∷ ps) = ap (λ (xs : List Span). p ∷ xs) (ends ps)
 
 -- a piece that was done is followed by the rest
-goes_written : (r : Reply) (here rest rest' x : Served) (w : Merged) → here.reply ≡ r → (rest ≡ answer w Written → rest' ≡ x) → go_on r here rest ≡ answer w Written → go_on r here rest' ≡ x
+goes_written : (r : Reply) (here rest rest' x : Answered Merged) (w : Merged) → here.reply ≡ r → (rest ≡ answer w Written → rest' ≡ x) → go_on r here rest ≡ answer w Written → go_on r here rest' ≡ x
 goes_written (Data bytes) here rest rest' x w is f e = f e
 goes_written Written here rest rest' x w is f e = f e
 goes_written Flushed here rest rest' x w is f e = f e
-goes_written (Refused failure) here rest rest' x w is f e = let same : Refused failure ≡ Written = sym is ∙ ap (λ (a : Served). a.reply) e in absurd (cc)
+goes_written (Refused failure) here rest rest' x w is f e = let same : Refused failure ≡ Written = sym is ∙ ap (λ (a : Answered Merged). a.reply) e in absurd (cc)
 
 -- without a merge, and beside one
-pub alone_goes : (r : Reply) (here rest : Answered) → alone (alone_on r here rest) ≡ go_on r (alone here) (alone rest)
+pub alone_goes : (r : Reply) (here rest : Answered Volume) → alone (alone_on r here rest) ≡ go_on r (alone here) (alone rest)
 alone_goes (Data bytes) here rest = refl
 alone_goes Written here rest = refl
 alone_goes Flushed here rest = refl
 alone_goes (Refused failure) here rest = refl
 
-pub beside_goes : (r : Reply) (here rest : Replied) → beside (beside_on r here rest) ≡ go_on r (beside here) (beside rest)
+pub beside_goes : (r : Reply) (here rest : Answered Merging) → beside (beside_on r here rest) ≡ go_on r (beside here) (beside rest)
 beside_goes (Data bytes) here rest = refl
 beside_goes Written here rest = refl
 beside_goes Flushed here rest = refl
@@ -72,13 +72,13 @@ beside_goes (Refused failure) here rest = refl
 alone_parts : (dev : Dev) (ps : List Span) (bytes : List ℕ) (v : Volume) → alone (write_pieces dev ps bytes v) ≡ parts_written dev ps bytes (record { volume = v; merge = None })
 alone_parts dev [] bytes v = refl
 alone_parts dev (p ∷ ps) bytes v =
-    let here : Answered = write_piece dev p (take (512 * p.count) bytes) v in
-    alone_goes here.reply here (write_pieces dev ps (drop (512 * p.count) bytes) here.volume) ∙ ap (go_on here.reply (alone here)) (alone_parts dev ps (drop (512 * p.count) bytes) here.volume)
+    let here : Answered Volume = write_piece dev p (take (512 * p.count) bytes) v in
+    alone_goes here.reply here (write_pieces dev ps (drop (512 * p.count) bytes) here.state) ∙ ap (go_on here.reply (alone here)) (alone_parts dev ps (drop (512 * p.count) bytes) here.state)
 
 beside_parts : (dev : Dev) (ps : List Span) (bytes : List ℕ) (m : Merging) → beside (write_parts dev ps bytes m) ≡ parts_written dev ps bytes (record { volume = m.volume; merge = Some m.merge })
 beside_parts dev [] bytes m = refl
 beside_parts dev (p ∷ ps) bytes m =
-    let here : Replied = write_part dev p (take (512 * p.count) bytes) m in
+    let here : Answered Merging = write_part dev p (take (512 * p.count) bytes) m in
     beside_goes here.reply here (write_parts dev ps (drop (512 * p.count) bytes) here.state) ∙ ap (go_on here.reply (beside here)) (beside_parts dev ps (drop (512 * p.count) bytes) here.state)
 
 pub served_parts : (dev : Dev) (ps : List Span) (bytes : List ℕ) (m : Merged) → served (write_pieces dev ps bytes) (write_parts dev ps bytes) m ≡ parts_written dev ps bytes m
@@ -91,11 +91,11 @@ served_parts dev ps bytes m = by m.merge m.volume
 module _ (dev : Dev) where
   -- pieces that were written, and then the others
   pub write_join : (ps qs : List Span) (bytes : List ℕ) (v w : Merged) → parts_written dev ps bytes v ≡ answer w Written → parts_written dev (ps ++ qs) bytes v ≡ parts_written dev qs (drop (512 * counts_of ps) bytes) w
-  write_join [] qs bytes v w e = ap (λ (a : Served). parts_written dev qs bytes a.state) e
+  write_join [] qs bytes v w e = ap (λ (a : Answered Merged). parts_written dev qs bytes a.state) e
   write_join (p ∷ ps) qs bytes v w e =
       let part : List ℕ = take (512 * p.count) bytes in
       let rest : List ℕ = drop (512 * p.count) bytes in
-      let here : Served = part_written dev p part v in
+      let here : Answered Merged = part_written dev p part v in
       let later : drop (512 * counts_of ps) rest ≡ drop (512 * (p.count + counts_of ps)) bytes = drop-drop (512 * counts_of ps) (512 * p.count) bytes ∙ ap (λ n. drop n bytes) (omega arith) in
       goes_written here.reply here (parts_written dev ps rest here.state) (parts_written dev (ps ++ qs) rest here.state) (parts_written dev qs (drop (512 * (p.count + counts_of ps)) bytes) w) w refl
       (λ done. write_join ps qs rest here.state w done ∙ ap (λ bs. parts_written dev qs bs w) later) e
@@ -112,9 +112,9 @@ module _ (dev : Dev) where
 
   -- a piece that is done, by its reply
   done_one : (p : Span) (bytes : List ℕ) (w u : Merged) (got : Reply) → IsGood got → part_written dev p (take (512 * p.count) bytes) w ≡ answer u got → parts_written dev (p ∷ []) bytes w ≡ answer u Written
-  done_one p bytes w u (Data more) good e = ap (λ (a : Served). go_on a.reply a (answer a.state Written)) e
-  done_one p bytes w u Written good e = ap (λ (a : Served). go_on a.reply a (answer a.state Written)) e
-  done_one p bytes w u Flushed good e = ap (λ (a : Served). go_on a.reply a (answer a.state Written)) e
+  done_one p bytes w u (Data more) good e = ap (λ (a : Answered Merged). go_on a.reply a (answer a.state Written)) e
+  done_one p bytes w u Written good e = ap (λ (a : Answered Merged). go_on a.reply a (answer a.state Written)) e
+  done_one p bytes w u Flushed good e = ap (λ (a : Answered Merged). go_on a.reply a (answer a.state Written)) e
   done_one p bytes w u (Refused failure) good e = absurd good
 
   pub writes_more : (L : Type 0) (all rest rest' : List Span) (bytes : List ℕ) (from : ℕ) (p : Span) (v w u : Merged) (got : Reply) → WritesTo L all bytes from rest v w → rest ≡ p ∷ rest' → IsGood got
@@ -138,10 +138,10 @@ module _ (dev : Dev) where
       → (L → part_written dev p (take (512 * p.count) (drop from bytes)) w ≡ answer u (Refused failure)) → L → parts_written dev all bytes v ≡ answer u (Refused failure)
   writes_failed L all rest rest' bytes from p v w u failure so e one l =
       let at = so.at in
-      let here : Served = part_written dev p (take (512 * p.count) (drop from bytes)) w in
+      let here : Answered Merged = part_written dev p (take (512 * p.count) (drop from bytes)) w in
       ap (λ xs. parts_written dev xs bytes v) (sym (ap (λ (xs : List Span). so.passed ++ xs) (sym e) ∙ so.cut))
       ∙ write_join so.passed (p ∷ rest') bytes v w (so.did l) ∙ ap (λ n. parts_written dev (p ∷ rest') (drop n bytes) w) (sym at)
-      ∙ ap (λ (a : Served). go_on a.reply a (parts_written dev rest' (drop (512 * p.count) (drop from bytes)) a.state)) (one l)
+      ∙ ap (λ (a : Answered Merged). go_on a.reply a (parts_written dev rest' (drop (512 * p.count) (drop from bytes)) a.state)) (one l)
 
   -- fewer than all, where some are left
   pub writes_fewer : (L : Type 0) (all rest rest' : List Span) (bytes : List ℕ) (from : ℕ) (p : Span) (v w : Merged) (so : WritesTo L all bytes from rest v w) → rest ≡ p ∷ rest' → length so.passed < length all

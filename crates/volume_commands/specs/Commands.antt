@@ -10,13 +10,14 @@ use Rattle.plain.specs.declared.request.Reply.{Reply}
 use Rattle.plain.specs.declared.request.Reply.TheVariants.{Data, Written, Refused}
 use Rattle.plain.specs.declared.request.Failure.{Failure}
 use Rattle.settled.specs.Merges.{Merged}
-use Rattle.settled.specs.Beside.{Served, written_beside, read_beside, flushed_beside, written_first_beside, read_first_beside, count_beside}
+use Rattle.settled.specs.Beside.{written_beside, read_beside, flushed_beside, written_first_beside, read_first_beside, count_beside}
 use Rattle.settled.specs.Refusals.{is_starved}
 use Rattle.volume_commands.specs.Rested.{Rested, merged_of, IsSettled, has_dev}
 use Rattle.plain.specs.Failures.{refusal_of}
+use Rattle.settled.specs.Pieces.{Answered}
 
 -- where the volume is settled, this was done, with this reply
-abbrev pub IsDoneBy : {B : Type 0} → (B → List ℕ) → (B → List Layer) → (Merged → Served) → Reply → Rested B → Rested B → Type 0
+abbrev pub IsDoneBy : {B : Type 0} → (B → List ℕ) → (B → List Layer) → (Merged → Answered Merged) → Reply → Rested B → Rested B → Type 0
 IsDoneBy contents layers command reply old new =
     IsSettled layers old → command (merged_of contents layers old) ≡ record { state = merged_of contents layers new; reply = reply }
 

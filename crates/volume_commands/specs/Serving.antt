@@ -12,7 +12,7 @@ use Rattle.chunk.specs.Sizes.{is_chunk}
 use Rattle.chunk.specs.Pieces.{Span, span_of}
 use Rattle.settled.specs.Commands.{bytes_in, write_piece, read_piece}
 use Rattle.settled.specs.Merges.{Merged, write_part, read_part}
-use Rattle.settled.specs.Beside.{Served, served}
+use Rattle.settled.specs.Beside.{served}
 use Rattle.settled.specs.Refusals.{is_starved}
 use Rattle.plain.specs.declared.request.Op.{Op}
 use Rattle.plain.specs.declared.request.Request.{Request}
@@ -23,6 +23,7 @@ use Rattle.volume.specs.Volumed.{Volumed, piece_with}
 use Rattle.volume_commands.specs.Rested.{Rested, rested_of, merged_of, IsSettled, has_dev}
 use Rattle.plain.specs.Failures.{refusal_of}
 use Rattle.volume_commands.specs.Commands.{IsDoneBy}
+use Rattle.settled.specs.Pieces.{Answered}
 
 -- a snapshot's chunks have a size that is allowed, and are no smaller than a piece
 abbrev pub IsAsLarge : {B : Type 0} → ℕ → Kept B → Type 0
@@ -56,27 +57,27 @@ IsGood Flushed = Unit {0}
 IsGood (Refused failure) = ⊥
 
 -- one piece of a command, whether a merge is begun or not
-abbrev pub part_written : Dev → Span → List ℕ → Merged → Served
+abbrev pub part_written : Dev → Span → List ℕ → Merged → Answered Merged
 part_written dev piece bytes m = served (write_piece dev piece bytes) (write_part dev piece bytes) m
 
-abbrev pub part_read : Dev → Span → Merged → Served
+abbrev pub part_read : Dev → Span → Merged → Answered Merged
 part_read dev piece m = served (read_piece dev piece) (read_part dev piece) m
 
 -- the request of a piece
-abbrev pub part_done : Request → Merged → Served
+abbrev pub part_done : Request → Merged → Answered Merged
 part_done request m = served (answer_of request) (part_of request.dev request.op (span_of request.range)) m
 
 -- a piece was done
-abbrev pub IsPieceDone : {B : Type 0} → (B → List ℕ) → (B → List Layer) → (Merged → Served) → Rested B → Rested B → Type 0
+abbrev pub IsPieceDone : {B : Type 0} → (B → List ℕ) → (B → List Layer) → (Merged → Answered Merged) → Rested B → Rested B → Type 0
 IsPieceDone contents layers command old new = (got : Reply) × IsGood got × IsDoneBy contents layers command got old new
 
 -- or failed, or there was no room for it and nothing changed
-abbrev pub IsPieceRefused : {B : Type 0} → (B → List ℕ) → (B → List Layer) → (Merged → Served) → Refusal → Rested B → Rested B → Type 0
+abbrev pub IsPieceRefused : {B : Type 0} → (B → List ℕ) → (B → List Layer) → (Merged → Answered Merged) → Refusal → Rested B → Rested B → Type 0
 IsPieceRefused contents layers command refusal old new =
     ((failure : Failure) × (refusal ≡ refusal_of failure) × IsDoneBy contents layers command (Refused failure) old new)
     ⊎ ((is_starved refusal ≡ true) × (merged_of contents layers new ≡ merged_of contents layers old))
 
 -- what was read comes after these bytes
-abbrev pub IsPieceRead : {B : Type 0} → (B → List ℕ) → (B → List Layer) → (Merged → Served) → List ℕ → List ℕ → Rested B → Rested B → Type 0
+abbrev pub IsPieceRead : {B : Type 0} → (B → List ℕ) → (B → List Layer) → (Merged → Answered Merged) → List ℕ → List ℕ → Rested B → Rested B → Type 0
 IsPieceRead contents layers command before after old new =
     (got : Reply) × IsGood got × IsDoneBy contents layers command got old new × (IsSettled layers old → after ≡ before ++ bytes_in got)
