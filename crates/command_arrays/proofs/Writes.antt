@@ -9,7 +9,7 @@ use Rattle.sector.specs.declared.refusal.Refusal.TheVariants.{OutOfRange}
 use Rattle.chunk.specs.Pieces.{Span, AreCutFrom, pieces_of}
 use Rattle.chunk.proofs.Limits.{is_chunk-some}
 use Rattle.chunk.proofs.Whole.{cut_pieces}
-use Rattle.plain.specs.Plain.{Saved, Live, Invalid, marked_in}
+use Rattle.plain.specs.Plain.{Saved, Live, Invalid, marked_in, Shown as Plainly}
 use Rattle.plain.specs.declared.request.Dev.{Dev}
 use Rattle.plain.specs.declared.request.Dev.TheVariants as devs
 use Rattle.plain.specs.declared.request.Reply.{Reply}
@@ -31,7 +31,7 @@ use Rattle.command_rules.specs.State.{Names, Merging as Begun, Volume, merge_in,
 use Rattle.settled.specs.Refusals.{is_starved}
 use Rattle.command_rules.specs.declared.place.Role.{Role}
 use Rattle.command_rules.specs.declared.place.Role.TheVariants.{Origin, Under, Snapshot, Store, Merging as InMerging, MergingStore}
-use Rattle.volume_commands.specs.Showing.{Arrays as Plainly, entry_of, changed_at, saved_at, with_bytes, IsLive, IsWritten, IsLost, sectors_in}
+use Rattle.volume_commands.specs.Showing.{entry_of, changed_at, saved_at, with_bytes, IsLive, IsWritten, IsLost, sectors_in}
 use Rattle.volume_commands.proofs.Shown.{arrays_with}
 use Rattle.volume_commands.proofs.Rests.{IsInside}
 use Rattle.volume_commands.proofs.PlainReads.{span_inside, sectors_joined, has_pieces}

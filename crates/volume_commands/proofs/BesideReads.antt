@@ -11,11 +11,11 @@ use Rattle.settled.specs.Commands.{go_on as alone_on, bytes_in, read_piece, read
 use Rattle.settled.specs.Merges.{Merge, Merged, Merging, merged_of, beside, place_in, read_at, go_on as beside_on, read_parts}
 use Rattle.settled.specs.MergeShown.{array_of}
 use Rattle.volume_commands.specs.Serving.{part_read}
-use Rattle.volume_commands.specs.Showing.{Arrays}
-use Rattle.volume_commands.proofs.Shown.{arrays_with}
+use Rattle.volume_commands.proofs.Shown.{arrays_with, begun_with}
 use Rattle.volume_commands.proofs.WriteRuns.{go_on}
 use Rattle.volume_commands.proofs.ReadRuns.{parts_read}
 use Rattle.volume_commands.proofs.ShownReads.{piece_shown}
+use Rattle.plain.specs.Plain.{Shown}
 
 -- one piece of the origin beside a merge
 at_shown : (o : Option ℕ) (piece : Span) (m : Merging) → arrays_with (merged_of (read_at o piece m).state) ≡ arrays_with (merged_of m)
@@ -23,15 +23,15 @@ at_shown None piece m = refl
 at_shown (Some n) piece m = refl
 
 -- the arrays of a volume, as they are with a merge
-abbrev pub with_merge : Option Merge → Arrays → Arrays
-with_merge o a = record { origin = array_of a.origin o; saved = a.saved }
+abbrev pub with_merge : Option Merge → Shown → Shown
+with_merge o a = record { origin = array_of a.origin o; begun = begun_with o; saved = a.saved }
 
 part_by : (dev : Dev) (piece : Span) (o : Option Merge) (v : Volume) → (let m : Merged = record { volume = v; merge = o } in arrays_with (part_read dev piece m).state ≡ arrays_with m)
 part_by dev piece None v = piece_shown dev piece v
 part_by Origin piece (Some g) v = at_shown (place_in piece.first g) piece (record { volume = v; merge = g })
 part_by (ToSnap number) piece (Some g) v = ap (with_merge (Some g)) (piece_shown (ToSnap number) piece v)
 
-goes_shown : (r : Reply) (shows : Arrays) (here more : Answered Merged) → arrays_with here.state ≡ shows → arrays_with more.state ≡ shows → arrays_with (go_on r here more).state ≡ shows
+goes_shown : (r : Reply) (shows : Shown) (here more : Answered Merged) → arrays_with here.state ≡ shows → arrays_with more.state ≡ shows → arrays_with (go_on r here more).state ≡ shows
 goes_shown (Data bytes) shows here more h m = m
 goes_shown Written shows here more h m = m
 goes_shown Flushed shows here more h m = m

@@ -11,7 +11,7 @@ use Rattle.chunk.specs.Pieces.{Span, span_of, Join, AreCutFrom, pieces_of}
 use Rattle.chunk.proofs.Limits.{is_chunk-some}
 use Rattle.chunk.proofs.Whole.{cut_pieces}
 use Rattle.store_bytes.proofs.Pictures.{length-picture}
-use Rattle.plain.specs.Plain.{Saved, Live, Invalid}
+use Rattle.plain.specs.Plain.{Saved, Live, Invalid, Shown}
 use Rattle.plain.specs.declared.request.Dev.{Dev}
 use Rattle.plain.specs.declared.request.Dev.TheVariants.{Origin, Snap as ToSnap}
 use Rattle.settled.specs.Refusals.{is_starved}
@@ -38,7 +38,7 @@ use Rattle.volume_commands.specs.Rested.{rested_of, merged_of, IsSettled}
 use Rattle.plain.specs.Failures.{refusal_of}
 use Rattle.volume_commands.specs.Commands.{IsDoneBy, IsWriteRefused}
 use Rattle.volume_commands.specs.Serving.{IsAsLarge}
-use Rattle.volume_commands.specs.Showing.{Arrays, arrays_of, arrays_in, saved_of, AreKept, IsWritten, IsPlainWrite, IsPlainWriteRefused, IsWrittenInPart, pieces_for, sectors_in}
+use Rattle.volume_commands.specs.Showing.{arrays_of, arrays_in, saved_of, AreKept, IsWritten, IsPlainWrite, IsPlainWriteRefused, IsWrittenInPart, pieces_for, sectors_in}
 use Rattle.volume_commands.proofs.Shown.{arrays_by, arrays_with, seen}
 use Rattle.volume_commands.proofs.Rests.{IsInside, IsWell, one_chunk, one_each}
 use Rattle.volume_commands.proofs.Parts.{with_sectors_none, kept_none, written_none}
@@ -50,7 +50,7 @@ use Rattle.volume_commands.proofs.Writing.{write_whole, write_first}
 use Rattle.volume_commands.proofs.PlainWrites.{IsPieceShown, AreWritten, kept_saved, write_more, pieces_written}
 
 -- some first pieces stand, where there was no room for all
-written_starved : (dev : Dev) (span : Span) (pieces : List Span) (bytes : List ℕ) (refusal : Refusal) (old new : Arrays) → is_starved refusal ≡ true → IsWrittenInPart dev span.first pieces bytes old new → IsPlainWriteRefused dev span pieces bytes refusal old new
+written_starved : (dev : Dev) (span : Span) (pieces : List Span) (bytes : List ℕ) (refusal : Refusal) (old new : Shown) → is_starved refusal ≡ true → IsWrittenInPart dev span.first pieces bytes old new → IsPlainWriteRefused dev span pieces bytes refusal old new
 written_starved dev span pieces bytes refusal old new starved part = elim (starved_by refusal starved) [
   | inl memory ↦ subst (λ (r : Refusal). IsPlainWriteRefused dev span pieces bytes r old new) (sym memory) part
   | inr full ↦ subst (λ (r : Refusal). IsPlainWriteRefused dev span pieces bytes r old new) (sym full) part
@@ -66,6 +66,10 @@ module _ (sectors chunk : ℕ) (ok : is_chunk chunk ≡ true) where
     kept_at None shows = kept_saved piece.first m.volume.origin.bytes (write_at None piece part m).state.volume.origin.bytes m.volume.origin m.volume.snaps shows
     kept_at (Some n) shows = kept_none (arrays_with (in_one m)).saved
 
+    begun_at : (o : Option ℕ) → (arrays_with (in_one (write_at o piece part m).state)).begun ≡ (arrays_with (in_one m)).begun
+    begun_at None = refl
+    begun_at (Some n) = refl
+
     one_through : WritesThrough sectors piece.first part m (write_part Origin piece part m)
     one_through =
         let high : piece.first + piece.count ≤ m.merge.chunk * (piece.first / m.merge.chunk) + m.merge.chunk = one_chunk chunk m.merge.chunk piece ok (is.allowed, wide) fits.one in
@@ -76,10 +80,11 @@ module _ (sectors chunk : ℕ) (ok : is_chunk chunk ≡ true) where
         let w = one_through in
         let r : Answered Merging = write_part Origin piece part m in
         let kept : AreKept (arrays_with (in_one m)).saved (arrays_with (in_one r.state)).saved = kept_at (place_in piece.first m.merge) w.snaps in
+        let begun : (arrays_with (in_one r.state)).begun ≡ (arrays_with (in_one m)).begun = begun_at (place_in piece.first m.merge) in
         elim (cases_Bool w.wrote) [
-          | inl ok ↦ subst (IsPieceShown Origin piece.first part (arrays_with (in_one m)) (arrays_with (in_one r.state))) (sym (w.reply ∙ cond-true _ _ _ ok)) ((shown_through m, refl), tt, (w.origin ∙ cond-true _ _ _ ok, kept))
+          | inl ok ↦ subst (IsPieceShown Origin piece.first part (arrays_with (in_one m)) (arrays_with (in_one r.state))) (sym (w.reply ∙ cond-true _ _ _ ok)) ((shown_through m, refl), tt, (w.origin ∙ cond-true _ _ _ ok, kept, begun))
           | inr failed ↦ subst (IsPieceShown Origin piece.first part (arrays_with (in_one m)) (arrays_with (in_one r.state))) (sym (w.reply ∙ cond-false _ _ _ failed))
-              ((shown_through m, refl), (w.origin ∙ cond-false _ _ _ failed ∙ sym (with_sectors_none (shown_through m) piece.first), kept))
+              ((shown_through m, refl), (w.origin ∙ cond-false _ _ _ failed ∙ sym (with_sectors_none (shown_through m) piece.first), kept, begun))
         ]
 
   -- a piece keeps the sizes of chunks
@@ -90,7 +95,7 @@ module _ (sectors chunk : ℕ) (ok : is_chunk chunk ≡ true) where
       by None = answer_keeps chunk Origin (Write part) piece m.volume each
       by (Some n) = each
 
-  goes_through : (piece : Span) (pieces : List Span) (bytes : List ℕ) (old : Arrays) (r : Reply) (here more : Answered Merging) → 512 * piece.count ≤ length bytes → ((array : List ℕ) → saved_of Origin old ≡ Live array → 512 * piece.first ≤ length array) → here.reply ≡ r
+  goes_through : (piece : Span) (pieces : List Span) (bytes : List ℕ) (old : Shown) (r : Reply) (here more : Answered Merging) → 512 * piece.count ≤ length bytes → ((array : List ℕ) → saved_of Origin old ≡ Live array → 512 * piece.first ≤ length array) → here.reply ≡ r
       → IsPieceShown Origin piece.first (take (512 * piece.count) bytes) old (arrays_with (in_one here.state)) r → AreWritten Origin (piece.first + piece.count) pieces (drop (512 * piece.count) bytes) (arrays_with (in_one here.state)) (arrays_with (in_one more.state)) more.reply
       → AreWritten Origin piece.first (piece ∷ pieces) bytes old (arrays_with (in_one (beside_on r here more).state)) (beside_on r here more).reply
   goes_through piece pieces bytes old (Data all) here more room low is shows rest = absurd shows
@@ -137,17 +142,17 @@ snap_parts number (p ∷ ps) bytes g v =
     let tail : List ℕ = drop (512 * p.count) bytes in
     ap (beside_on here.reply (beside g here)) (snap_parts number ps tail g here.state) ∙ snap_goes g here.reply here (write_pieces (ToSnap number) ps tail here.state)
 
-snap_written : (number first : ℕ) (pieces : List Span) (bytes : List ℕ) (g : Merge) (old new : Arrays) (reply : Reply) → AreWritten (ToSnap number) first pieces bytes old new reply → AreWritten (ToSnap number) first pieces bytes (with_merge (Some g) old) (with_merge (Some g) new) reply
+snap_written : (number first : ℕ) (pieces : List Span) (bytes : List ℕ) (g : Merge) (old new : Shown) (reply : Reply) → AreWritten (ToSnap number) first pieces bytes old new reply → AreWritten (ToSnap number) first pieces bytes (with_merge (Some g) old) (with_merge (Some g) new) reply
 snap_written number first pieces bytes g old new (Data all) law = law
 snap_written number first pieces bytes g old new Flushed law = law
-snap_written number first pieces bytes g old new Written law = (law.0, (ap (λ x. array_of x (Some g)) law.1.0, law.1.1))
-snap_written number first pieces bytes g old new (Refused Declined) law = (ap (λ x. array_of x (Some g)) law.0, law.1)
-snap_written number first pieces bytes g old new (Refused Io) law = (law.0, (law.1.0, law.1.1, (ap (λ x. array_of x (Some g)) law.1.2.0, law.1.2.1)))
+snap_written number first pieces bytes g old new Written law = (law.0, (ap (λ x. array_of x (Some g)) law.1.0, law.1.1, refl))
+snap_written number first pieces bytes g old new (Refused Declined) law = (ap (λ x. array_of x (Some g)) law.0, law.1, refl)
+snap_written number first pieces bytes g old new (Refused Io) law = (law.0, (law.1.0, law.1.1, (ap (λ x. array_of x (Some g)) law.1.2.0, law.1.2.1, refl)))
 snap_written number first pieces bytes g old new (Refused Overflow) law = (
   law.0,
   elim law.1 [
     | inl did ↦ inl (did.0, ap (with_merge (Some g)) did.1)
-    | inr may ↦ inr (may.0, with_merge (Some g) may.1, (may.2.0, may.2.1, (ap (λ x. array_of x (Some g)) may.2.2.0, may.2.2.1)), ap (with_merge (Some g)) may.3)
+    | inr may ↦ inr (may.0, with_merge (Some g) may.1, (may.2.0, may.2.1, (ap (λ x. array_of x (Some g)) may.2.2.0, may.2.2.1, refl)), ap (with_merge (Some g)) may.3)
   ],
 )
 
@@ -192,10 +197,10 @@ module _ {B : Type 0} (contents : B → List ℕ) (layers : B → List Layer) (s
   abbrev start : Merged
   start = merged_of contents layers (rested_of v)
 
-  abbrev old : Arrays
+  abbrev old : Shown
   old = arrays_by contents layers (rested_of v)
 
-  abbrev new : Arrays
+  abbrev new : Shown
   new = arrays_by contents layers (rested_of w)
 
   abbrev pieces : List Span

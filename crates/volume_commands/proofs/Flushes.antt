@@ -10,7 +10,7 @@ use Rattle.chunk.specs.Sizes.{is_chunk}
 use Rattle.chunk.specs.Pieces.{Span}
 use Rattle.store_bytes.specs.Picture.{picture}
 use Rattle.plain.specs.Failures.{refusal_of}
-use Rattle.plain.specs.Plain.{Saved, Live, Invalid, Entry}
+use Rattle.plain.specs.Plain.{Saved, Live, Invalid, Entry, Shown}
 use Rattle.plain.specs.declared.request.Dev.{Dev}
 use Rattle.plain.specs.declared.request.Dev.TheVariants.{Origin, Snap as ToSnap}
 use Rattle.plain.specs.declared.request.Failure.{Failure}
@@ -33,7 +33,7 @@ use Rattle.volume_commands.specs.Rested.{Rested, rested_of, merged_of, IsSettled
 use Rattle.volume_commands.specs.Commands.{IsDoneBy, IsFlushRefused}
 use Rattle.volume_commands.specs.Serving.{CanServe, IsAsLarge, IsGood, part_done}
 use Rattle.volume_commands.specs.Among.{IsFlushRefusedAmong, IsPieceFailed, IsRequestOf, flush_piece}
-use Rattle.volume_commands.specs.Showing.{Arrays, entry_of, arrays_of, arrays_in, saved_at, saved_of, IsPlainFlush, IsReadLost, IsPlainReadRefused}
+use Rattle.volume_commands.specs.Showing.{entry_of, arrays_of, arrays_in, saved_at, saved_of, IsPlainFlush, IsReadLost, IsPlainReadRefused}
 use Rattle.volume_commands.proofs.Shown.{arrays_by, arrays_with, seen}
 use Rattle.volume_commands.proofs.BesideReads.{with_merge}
 use Rattle.volume_commands.proofs.WriteRuns.{answer}
@@ -167,7 +167,7 @@ module _ {B : Type 0} (contents : B → List ℕ) (layers : B → List Layer) (d
     ap (λ (a : Answered Merged). arrays_with a.state) (sym (done settled)) ∙ flush_shown dev old,
   )
 
-  lost_by : (failure : Failure) (a : Arrays) → IsFlushBy (saved_of dev a) (Refused failure) → IsReadLost dev (refusal_of failure) a
+  lost_by : (failure : Failure) (a : Shown) → IsFlushBy (saved_of dev a) (Refused failure) → IsReadLost dev (refusal_of failure) a
   lost_by Declined a is = is
   lost_by Io a is = is
   lost_by Overflow a is = absurd is
@@ -175,8 +175,8 @@ module _ {B : Type 0} (contents : B → List ℕ) (layers : B → List Layer) (d
   refused_by : (refusal : Refusal) → IsFlushRefused contents layers dev refusal (rested_of v) (rested_of w) → IsSettled layers (rested_of v)
       → IsPlainReadRefused dev refusal (arrays_by contents layers (rested_of v)) (arrays_by contents layers (rested_of w))
   refused_by refusal why settled =
-      let before : Arrays = arrays_by contents layers (rested_of v) in
-      let after : Arrays = arrays_by contents layers (rested_of w) in
+      let before : Shown = arrays_by contents layers (rested_of v) in
+      let after : Shown = arrays_by contents layers (rested_of w) in
       elim why [
         | inl missing ↦ subst (λ (r : Refusal). IsPlainReadRefused dev r before after) (sym missing.0) (missing_by contents layers dev (rested_of v) missing.1, ap (arrays_by contents layers) missing.2)
         | inr there ↦ elim there [

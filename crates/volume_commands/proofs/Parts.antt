@@ -5,12 +5,12 @@ use Rattle.std.proofs.Math.Seq.{take-append-add, drop-append-add, take-append_se
 use Rattle.std.proofs.lemmas.List.{drop-drop, append_assoc, take-append-drop}
 use Rattle.std.proofs.lemmas.Bool.{cases_Bool, cond-true, cond-false}
 use Rattle.sector.specs.Bytes.{with_sectors}
-use Rattle.plain.specs.Plain.{Saved, Live, Invalid, Entry, marked_in, overflow_under}
+use Rattle.plain.specs.Plain.{Saved, Live, Invalid, Entry, marked_in, overflow_under, Shown}
 use Rattle.plain.specs.declared.request.Dev.{Dev}
 use Rattle.plain.specs.declared.request.Dev.TheVariants.{Origin, Snap as ToSnap}
 use Rattle.plain.specs.declared.request.Overflowing.{Overflowing}
 use Rattle.plain.specs.declared.request.Overflowing.TheVariants.{Did}
-use Rattle.volume_commands.specs.Showing.{Arrays, saved_at, saved_of, with_bytes, changed_at, AreKept, IsWritten, IsLost}
+use Rattle.volume_commands.specs.Showing.{saved_at, saved_of, with_bytes, changed_at, AreKept, IsWritten, IsLost}
 
 -- runs of sectors that are written one after the other are one
 pub with_sectors_more : (a : List ℕ) (first m : ℕ) (x y : List ℕ) → length x ≡ 512 * m → 512 * first ≤ length a → with_sectors (with_sectors a first x) (first + m) y ≡ with_sectors a first (x ++ y)
@@ -77,27 +77,27 @@ kept_more (a ∷ es) (b ∷ fs) [] h k = k
 kept_more (a ∷ es) (b ∷ fs) (c ∷ hs) h k = (k.0 ∙ h.0, k.1 ∙ h.1, elim k.2 [ inl same ↦ elim h.2 [ inl was ↦ inl (same ∙ was) | inr lost ↦ inr (same ∙ lost) ] | inr lost ↦ inr lost ], kept_more es fs hs h.3 k.3)
 
 -- nothing was written
-pub written_none : (dev : Dev) (first : ℕ) (v : Arrays) → IsWritten dev first [] v v
-written_none Origin first v = (sym (with_sectors_none v.origin first), kept_none v.saved)
-written_none (ToSnap number) first v = (refl, sym (changed_none number (with_bytes first []) v.saved (λ saved at. same saved)))
+pub written_none : (dev : Dev) (first : ℕ) (v : Shown) → IsWritten dev first [] v v
+written_none Origin first v = (sym (with_sectors_none v.origin first), kept_none v.saved, refl)
+written_none (ToSnap number) first v = (refl, sym (changed_none number (with_bytes first []) v.saved (λ saved at. same saved)), refl)
   where
     same : (saved : Saved) → with_bytes first [] saved ≡ saved
     same (Live array) = ap Live (with_sectors_none array first)
     same Invalid = refl
 
 -- bytes were written, and then those after them
-pub written_more : (dev : Dev) (first m : ℕ) (x y : List ℕ) (old mid new : Arrays) → length x ≡ 512 * m → ((array : List ℕ) → saved_of dev old ≡ Live array → 512 * first ≤ length array) → IsWritten dev first x old mid → IsWritten dev (first + m) y mid new → IsWritten dev first (x ++ y) old new
+pub written_more : (dev : Dev) (first m : ℕ) (x y : List ℕ) (old mid new : Shown) → length x ≡ 512 * m → ((array : List ℕ) → saved_of dev old ≡ Live array → 512 * first ≤ length array) → IsWritten dev first x old mid → IsWritten dev (first + m) y mid new → IsWritten dev first (x ++ y) old new
 written_more Origin first m x y old mid new len fits here more =
-    (more.0 ∙ ap (λ (b : List ℕ). with_sectors b (first + m) y) here.0 ∙ with_sectors_more old.origin first m x y len (fits old.origin refl), kept_more old.saved mid.saved new.saved here.1 more.1)
+    (more.0 ∙ ap (λ (b : List ℕ). with_sectors b (first + m) y) here.0 ∙ with_sectors_more old.origin first m x y len (fits old.origin refl), kept_more old.saved mid.saved new.saved here.1 more.1, more.2 ∙ here.2)
 written_more (ToSnap number) first m x y old mid new len fits here more =
-    (more.0 ∙ here.0, more.1 ∙ ap (changed_at number (with_bytes (first + m) y)) here.1 ∙ changed_twice number (with_bytes first x) (with_bytes (first + m) y) (with_bytes first (x ++ y)) old.saved same)
+    (more.0 ∙ here.0, more.1 ∙ ap (changed_at number (with_bytes (first + m) y)) here.1 ∙ changed_twice number (with_bytes first x) (with_bytes (first + m) y) (with_bytes first (x ++ y)) old.saved same, more.2 ∙ here.2)
   where
     same : (saved : Saved) → saved_at number old.saved ≡ saved → with_bytes (first + m) y (with_bytes first x saved) ≡ with_bytes first (x ++ y) saved
     same (Live array) at = ap Live (with_sectors_more array first m x y len (fits array at))
     same Invalid at = refl
 
 -- and then the snapshot was lost
-pub lost_more : (dev : Dev) (first : ℕ) (x : List ℕ) (old mid new : Arrays) → IsWritten dev first x old mid → IsLost dev mid new → IsLost dev old new
+pub lost_more : (dev : Dev) (first : ℕ) (x : List ℕ) (old mid new : Shown) → IsWritten dev first x old mid → IsLost dev mid new → IsLost dev old new
 lost_more Origin first x old mid new here lost = lost
 lost_more (ToSnap number) first x old mid new here lost =
-    (lost.0 ∙ here.0, lost.1 ∙ ap (changed_at number (λ saved. Invalid)) here.1 ∙ changed_twice number (with_bytes first x) (λ saved. Invalid) (λ saved. Invalid) old.saved (λ saved at. refl))
+    (lost.0 ∙ here.0, lost.1 ∙ ap (changed_at number (λ saved. Invalid)) here.1 ∙ changed_twice number (with_bytes first x) (λ saved. Invalid) (λ saved. Invalid) old.saved (λ saved at. refl), lost.2 ∙ here.2)

@@ -12,7 +12,7 @@ use Rattle.chunk.specs.Sizes.{is_chunk}
 use Rattle.chunk.specs.Pieces.{Span, span_of, Join, IsInOneChunk, AreCutFrom, pieces_of}
 use Rattle.chunk.proofs.Limits.{is_chunk-some}
 use Rattle.chunk.proofs.Whole.{cut_pieces}
-use Rattle.plain.specs.Plain.{Saved, Live, Invalid}
+use Rattle.plain.specs.Plain.{Saved, Live, Invalid, Shown}
 use Rattle.plain.specs.declared.request.Dev.{Dev}
 use Rattle.plain.specs.declared.request.Dev.TheVariants.{Origin, Snap as ToSnap}
 use Rattle.settled.specs.Refusals.{is_starved}
@@ -37,7 +37,7 @@ use Rattle.volume_commands.specs.Rested.{Attached, Rested, attached_of, rested_o
 use Rattle.plain.specs.Failures.{refusal_of}
 use Rattle.volume_commands.specs.Commands.{IsDoneBy, IsReadRefused}
 use Rattle.volume_commands.specs.Serving.{IsAsLarge}
-use Rattle.volume_commands.specs.Showing.{Arrays, entry_of, arrays_of, arrays_in, saved_at, saved_of, IsPlainRead, IsReadLost, IsPlainReadRefused, sectors_in}
+use Rattle.volume_commands.specs.Showing.{entry_of, arrays_of, arrays_in, saved_at, saved_of, IsPlainRead, IsReadLost, IsPlainReadRefused, sectors_in}
 use Rattle.volume_commands.proofs.Shown.{arrays_by, arrays_with, seen, shown_by}
 use Rattle.volume_commands.proofs.Seen.{settled_same}
 use Rattle.volume_commands.proofs.Served.{held_chunk}
@@ -63,20 +63,20 @@ has_pieces a b [] join lt = absurd (omega arith)
 has_pieces a b (p ∷ pieces) join lt = omega arith
 
 -- what a read of pieces is of plain arrays
-abbrev IsPlainReply : Dev → Span → Arrays → Reply → Type 0
+abbrev IsPlainReply : Dev → Span → Shown → Reply → Type 0
 IsPlainReply dev span old (Data bytes) = (array : List ℕ) × (saved_of dev old ≡ Live array) × (bytes ≡ sectors_at array span.first span.count)
 IsPlainReply dev span old Written = ⊥
 IsPlainReply dev span old Flushed = ⊥
 IsPlainReply dev span old (Refused failure) = IsReadLost dev (refusal_of failure) old
 
 -- there was no room for it
-pub read_starved : (dev : Dev) (refusal : Refusal) (old : Arrays) → is_starved refusal ≡ true → IsReadLost dev refusal old
+pub read_starved : (dev : Dev) (refusal : Refusal) (old : Shown) → is_starved refusal ≡ true → IsReadLost dev refusal old
 read_starved dev refusal old starved = elim (starved_by refusal starved) [
   | inl memory ↦ subst (λ (r : Refusal). IsReadLost dev r old) (sym memory) tt
   | inr full ↦ subst (λ (r : Refusal). IsReadLost dev r old) (sym full) tt
 ]
 
-plain_reply : (dev : Dev) (span : Span) (old : Arrays) (array : List ℕ) (reply : Reply) → saved_of dev old ≡ Live array → IsReadTo array span.first span.count [] reply → IsPlainReply dev span old reply
+plain_reply : (dev : Dev) (span : Span) (old : Shown) (array : List ℕ) (reply : Reply) → saved_of dev old ≡ Live array → IsReadTo array span.first span.count [] reply → IsPlainReply dev span old reply
 plain_reply dev span old array (Data bytes) live read = (array, live, read)
 plain_reply dev span old array Written live read = read
 plain_reply dev span old array Flushed live read = read
@@ -217,8 +217,8 @@ module _ {B : Type 0} (contents : B → List ℕ) (layers : B → List Layer) (s
   refused_by : (refusal : Refusal) → IsReadRefused contents layers dev (span_of range) refusal (rested_of v) (rested_of w) → IsSettled layers (rested_of v)
       → IsPlainReadRefused dev refusal (arrays_by contents layers (rested_of v)) (arrays_by contents layers (rested_of w))
   refused_by refusal why settled =
-      let before : Arrays = arrays_by contents layers (rested_of v) in
-      let after : Arrays = arrays_by contents layers (rested_of w) in
+      let before : Shown = arrays_by contents layers (rested_of v) in
+      let after : Shown = arrays_by contents layers (rested_of w) in
       elim why [
         | inl missing ↦ subst (λ (r : Refusal). IsPlainReadRefused dev r before after) (sym missing.0) (missing_by contents layers dev (rested_of v) missing.1, ap (arrays_by contents layers) missing.2)
         | inr there ↦ elim there [

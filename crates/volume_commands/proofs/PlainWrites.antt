@@ -1,6 +1,6 @@
 -- A write of pieces of a volume at rest is one of plain arrays.
 use Rattle.std.proofs.Common.{◌≡◌, ◌≢◌, inl, inr, ℕ, suc, ◌+◌, ◌*◌, ◌/◌, ◌<◌, ◌≤◌, Bool, true, false, List, [], ◌∷◌, ◌++◌, length, take, drop, map, arith, refl, ap, ◌∙◌, sym, subst, length-take, length-drop}
-use Rattle.std.specs.Prelude.{◌==◌, if◌then◌else◌}
+use Rattle.std.specs.Prelude.{◌==◌, if◌then◌else◌, Option}
 use Rattle.std.proofs.Math.Seq.{take-add}
 use Rattle.std.proofs.lemmas.Bool.{cases_Bool, cond-true, cond-false}
 use Rattle.sector.specs.Bytes.{with_sectors}
@@ -10,7 +10,7 @@ use Rattle.chunk.specs.Sizes.{is_chunk}
 use Rattle.chunk.specs.Pieces.{Span, Join}
 use Rattle.store_bytes.specs.Picture.{picture}
 use Rattle.store_bytes.proofs.Pictures.{length-picture}
-use Rattle.plain.specs.Plain.{Saved, Live, Invalid, Entry, marked_in, overflow_under}
+use Rattle.plain.specs.Plain.{Saved, Live, Invalid, Entry, marked_in, overflow_under, Shown}
 use Rattle.plain.specs.declared.request.Dev.{Dev}
 use Rattle.plain.specs.declared.request.Dev.TheVariants.{Origin, Snap as ToSnap}
 use Rattle.plain.specs.declared.request.Overflowing.{Overflowing}
@@ -30,19 +30,19 @@ use Rattle.settled.proofs.Each.{Each}
 use Rattle.settled.proofs.Chunks.{HasChunks}
 use Rattle.settling.proofs.Shown.{origin_write_shows}
 use Rattle.settled.proofs.SavedBytes.{save_all_bytes}
-use Rattle.volume_commands.specs.Showing.{Arrays, entry_of, arrays_of, saved_at, saved_of, with_bytes, IsLive, IsOpen, AreKept, IsWritten, IsWrittenInPart, IsOverflown, IsLost, sectors_in}
+use Rattle.volume_commands.specs.Showing.{entry_of, arrays_of, saved_at, saved_of, with_bytes, IsLive, IsOpen, AreKept, IsWritten, IsWrittenInPart, IsOverflown, IsLost, sectors_in}
 use Rattle.volume_commands.proofs.Rests.{IsInside, IsWell, one_all, well_orders, well_whole, well_after}
 use Rattle.volume_commands.proofs.Overflows.{save_overflow}
 use Rattle.volume_commands.proofs.Parts.{with_sectors_none, overflow_changed, marked_again, written_none, written_more, lost_more}
 use Rattle.volume_commands.proofs.SnapWrites.{save_number, AreShownBy, in_stays, in_written}
 
 -- a write found the full store of its snapshot, which is marked: it may overflow, or did before
-abbrev pub IsMarked : Dev → Arrays → Arrays → Type 0
+abbrev pub IsMarked : Dev → Shown → Shown → Type 0
 IsMarked Origin old new = ⊥
-IsMarked (ToSnap number) old new = (overflow_under number old.saved ≢ Never) × (new.origin ≡ old.origin) × (new.saved ≡ marked_in number old.saved)
+IsMarked (ToSnap number) old new = (overflow_under number old.saved ≢ Never) × (new.origin ≡ old.origin) × (new.saved ≡ marked_in number old.saved) × (new.begun ≡ old.begun)
 
 -- what is shown after a write of one piece
-abbrev pub IsPieceShown : Dev → ℕ → List ℕ → Arrays → Arrays → Reply → Type 0
+abbrev pub IsPieceShown : Dev → ℕ → List ℕ → Shown → Shown → Reply → Type 0
 IsPieceShown dev first part old new (Data bytes) = ⊥
 IsPieceShown dev first part old new Flushed = ⊥
 IsPieceShown dev first part old new Written = IsLive dev old × IsOpen dev old × IsWritten dev first part old new
@@ -99,31 +99,31 @@ module _ (sectors chunk : ℕ) (ok : is_chunk chunk ≡ true) where
       let kept : AreKept (arrays_of v).saved (arrays_of (write_origin piece part v).state).saved = kept_saved piece.first v.origin.bytes after v.origin v.snaps same in
       elim (cases_Bool (answers all.origin (Writes piece.first piece.count))) [
         | inl ok ↦ (let now : after ≡ with_sectors v.origin.bytes piece.first part = cond-true _ _ _ ok ∙ ap (λ (b : List ℕ). with_sectors b piece.first part) saved in
-            subst (IsPieceShown Origin piece.first part (arrays_of v) (arrays_of (write_origin piece part v).state)) (sym (cond-true _ _ _ ok)) ((v.origin.bytes, refl), tt, (now, kept)))
+            subst (IsPieceShown Origin piece.first part (arrays_of v) (arrays_of (write_origin piece part v).state)) (sym (cond-true _ _ _ ok)) ((v.origin.bytes, refl), tt, (now, kept, refl)))
         | inr failed ↦ (let now : after ≡ v.origin.bytes = cond-false _ _ _ failed ∙ saved in
-            subst (IsPieceShown Origin piece.first part (arrays_of v) (arrays_of (write_origin piece part v).state)) (sym (cond-false _ _ _ failed)) ((v.origin.bytes, refl), (now ∙ sym (with_sectors_none v.origin.bytes piece.first), kept)))
+            subst (IsPieceShown Origin piece.first part (arrays_of v) (arrays_of (write_origin piece part v).state)) (sym (cond-false _ _ _ failed)) ((v.origin.bytes, refl), (now ∙ sym (with_sectors_none v.origin.bytes piece.first), kept, refl)))
       ]
 
   -- a piece of a snapshot, by what all of them show
-  as_shown : (number : ℕ) (piece : Span) (part : List ℕ) (old new : Arrays) (reply : Reply) → new.origin ≡ old.origin → AreShownBy number piece part old.saved new.saved reply → IsPieceShown (ToSnap number) piece.first part old new reply
-  as_shown number piece part old new (Data bytes) same by = by
-  as_shown number piece part old new Flushed same by = by
-  as_shown number piece part old new Written same by = (by.0, by.1, (same, by.2))
-  as_shown number piece part old new (Refused Declined) same by = (same, by)
-  as_shown number piece part old new (Refused Io) same by = (by.0, (same, by.1 ∙ (written_none (ToSnap number) piece.first old).1))
-  as_shown number piece part old new (Refused Overflow) same by = (by.0, (by.1, same, by.2))
+  as_shown : (number : ℕ) (piece : Span) (part : List ℕ) (old new : Shown) (reply : Reply) → new.origin ≡ old.origin → new.begun ≡ old.begun → AreShownBy number piece part old.saved new.saved reply → IsPieceShown (ToSnap number) piece.first part old new reply
+  as_shown number piece part old new (Data bytes) same begun by = by
+  as_shown number piece part old new Flushed same begun by = by
+  as_shown number piece part old new Written same begun by = (by.0, by.1, (same, by.2, begun))
+  as_shown number piece part old new (Refused Declined) same begun by = (same, by, begun)
+  as_shown number piece part old new (Refused Io) same begun by = (by.0, (same, by.1 ∙ (written_none (ToSnap number) piece.first old).1, begun))
+  as_shown number piece part old new (Refused Overflow) same begun by = (by.0, (by.1, same, by.2, begun))
 
   piece_shown : (dev : Dev) (piece : Span) (part : List ℕ) (v : Volume) → IsWell sectors chunk v → IsInside sectors chunk piece → length part ≡ 512 * piece.count → IsPieceShown dev piece.first part (arrays_of v) (arrays_of (write_piece dev piece part v).state) (write_piece dev piece part v).reply
   piece_shown Origin piece part v well fits len = origin_shown piece part v well fits len
   piece_shown (ToSnap number) piece part v well fits len =
       let a : Answered Volume = in_snap number (write_snap piece part) v.origin v.snaps in
       let same : a.state.origin.bytes ≡ v.origin.bytes = in_stays number piece part v.origin v.snaps in
-      as_shown number piece part (arrays_of v) (arrays_of a.state) a.reply same
+      as_shown number piece part (arrays_of v) (arrays_of a.state) a.reply same refl
       (subst (λ (b : List ℕ). AreShownBy number piece part (map (entry_of v.origin.bytes) v.snaps) (map (entry_of b) a.state.snaps) a.reply) (sym same)
       (in_written sectors chunk ok number piece part fits len v.origin v.snaps (well_whole sectors chunk ok v well) well.chunks (well_orders sectors chunk ok v well)))
 
 -- what is shown after a write of pieces
-abbrev pub AreWritten : Dev → ℕ → List Span → List ℕ → Arrays → Arrays → Reply → Type 0
+abbrev pub AreWritten : Dev → ℕ → List Span → List ℕ → Shown → Shown → Reply → Type 0
 AreWritten dev first pieces bytes old new (Data all) = ⊥
 AreWritten dev first pieces bytes old new Flushed = ⊥
 AreWritten dev first pieces bytes old new Written = (0 < length pieces → IsLive dev old × IsOpen dev old) × IsWritten dev first (take (512 * sectors_in pieces) bytes) old new
@@ -132,15 +132,15 @@ AreWritten dev first pieces bytes old new (Refused Io) = IsLive dev old × IsWri
 AreWritten dev first pieces bytes old new (Refused Overflow) = IsLive dev old × IsOverflown dev first pieces bytes old new
 
 -- the first of some pieces overflowed the store
-overflown_first : (dev : Dev) (first : ℕ) (piece : Span) (pieces : List Span) (bytes : List ℕ) (old new : Arrays) → IsMarked dev old new → IsOverflown dev first (piece ∷ pieces) bytes old new
+overflown_first : (dev : Dev) (first : ℕ) (piece : Span) (pieces : List Span) (bytes : List ℕ) (old new : Shown) → IsMarked dev old new → IsOverflown dev first (piece ∷ pieces) bytes old new
 overflown_first Origin first piece pieces bytes old new marked = absurd marked
 overflown_first (ToSnap number) first piece pieces bytes old new marked = by (overflow_under number old.saved) refl
   where
-    mk : List ℕ → List Entry → Arrays
-    mk origin saved = record { origin = origin; saved = saved }
+    mk : List ℕ → List Entry → Shown
+    mk origin saved = record { origin = origin; begun = old.begun; saved = saved }
 
     is : new ≡ mk old.origin (marked_in number old.saved)
-    is = ap (λ (o : List ℕ). mk o new.saved) marked.1 ∙ ap (mk old.origin) marked.2
+    is = ap (λ (b : Option ℕ). let a : Shown = record { origin = new.origin; begun = b; saved = new.saved } in a) marked.3 ∙ ap (λ (o : List ℕ). mk o new.saved) marked.1 ∙ ap (mk old.origin) marked.2
 
     by : (o : Overflowing) → overflow_under number old.saved ≡ o → IsOverflown (ToSnap number) first (piece ∷ pieces) bytes old new
     by Never so = absurd (marked.0 so)
@@ -148,8 +148,8 @@ overflown_first (ToSnap number) first piece pieces bytes old new marked = by (ov
     by Did so = inl (so, is ∙ ap (mk old.origin) (marked_again number old.saved so))
 
 -- or a later one, after the first was written
-overflown_later : (dev : Dev) (first next : ℕ) (piece : Span) (pieces : List Span) (part bytes tail : List ℕ) (old mid new : Arrays) → IsOpen dev old → IsWritten dev first part old mid
-    → ((end : Arrays) (n : ℕ) → IsWritten dev next (take (512 * n) tail) mid end → IsWritten dev first (take (512 * (piece.count + n)) bytes) old end) → IsOverflown dev next pieces tail mid new → IsOverflown dev first (piece ∷ pieces) bytes old new
+overflown_later : (dev : Dev) (first next : ℕ) (piece : Span) (pieces : List Span) (part bytes tail : List ℕ) (old mid new : Shown) → IsOpen dev old → IsWritten dev first part old mid
+    → ((end : Shown) (n : ℕ) → IsWritten dev next (take (512 * n) tail) mid end → IsWritten dev first (take (512 * (piece.count + n)) bytes) old end) → IsOverflown dev next pieces tail mid new → IsOverflown dev first (piece ∷ pieces) bytes old new
 overflown_later Origin first next piece pieces part bytes tail old mid new free here join later = absurd later
 overflown_later (ToSnap number) first next piece pieces part bytes tail old mid new free here join later =
     let same : overflow_under number mid.saved ≡ overflow_under number old.saved = ap (overflow_under number) here.1 ∙ overflow_changed number (with_bytes first part) old.saved in
@@ -158,15 +158,15 @@ overflown_later (ToSnap number) first next piece pieces part bytes tail old mid 
       | inr may ↦ inr (sym same ∙ may.0, may.1, (suc may.2.0, (let lt = may.2.1 in omega (arith, lt)), join may.1 (sectors_in (take may.2.0 pieces)) may.2.2), may.3)
     ]
 
-module _ (dev : Dev) (piece : Span) (pieces : List Span) (bytes : List ℕ) (old mid : Arrays) (room : 512 * piece.count ≤ length bytes) (fits : (array : List ℕ) → saved_of dev old ≡ Live array → 512 * piece.first ≤ length array) where
+module _ (dev : Dev) (piece : Span) (pieces : List Span) (bytes : List ℕ) (old mid : Shown) (room : 512 * piece.count ≤ length bytes) (fits : (array : List ℕ) → saved_of dev old ≡ Live array → 512 * piece.first ≤ length array) where
   -- these bytes, and then some of those after them
-  join_more : IsWritten dev piece.first (take (512 * piece.count) bytes) old mid → (end : Arrays) (n : ℕ) → IsWritten dev (piece.first + piece.count) (take (512 * n) (drop (512 * piece.count) bytes)) mid end → IsWritten dev piece.first (take (512 * (piece.count + n)) bytes) old end
+  join_more : IsWritten dev piece.first (take (512 * piece.count) bytes) old mid → (end : Shown) (n : ℕ) → IsWritten dev (piece.first + piece.count) (take (512 * n) (drop (512 * piece.count) bytes)) mid end → IsWritten dev piece.first (take (512 * (piece.count + n)) bytes) old end
   join_more here end n more =
       let len : length (take (512 * piece.count) bytes) ≡ 512 * piece.count = simp length-take (omega (arith, room)) in
       let is : take (512 * piece.count) bytes ++ take (512 * n) (drop (512 * piece.count) bytes) ≡ take (512 * (piece.count + n)) bytes = sym (take-add (512 * piece.count) (512 * n) bytes) ∙ ap (λ k. take k bytes) (omega arith) in
       subst (λ (b : List ℕ). IsWritten dev piece.first b old end) is (written_more dev piece.first piece.count (take (512 * piece.count) bytes) (take (512 * n) (drop (512 * piece.count) bytes)) old mid end len fits here more)
 
-  pub write_more : (new : Arrays) (reply : Reply) → IsLive dev old → IsOpen dev old → IsWritten dev piece.first (take (512 * piece.count) bytes) old mid
+  pub write_more : (new : Shown) (reply : Reply) → IsLive dev old → IsOpen dev old → IsWritten dev piece.first (take (512 * piece.count) bytes) old mid
       → AreWritten dev (piece.first + piece.count) pieces (drop (512 * piece.count) bytes) mid new reply → AreWritten dev piece.first (piece ∷ pieces) bytes old new reply
   write_more new (Data all) live free here more = more
   write_more new Flushed live free here more = more
@@ -176,7 +176,7 @@ module _ (dev : Dev) (piece : Span) (pieces : List Span) (bytes : List ℕ) (old
   write_more new (Refused Overflow) live free here more =
       (live, overflown_later dev piece.first (piece.first + piece.count) piece pieces (take (512 * piece.count) bytes) bytes (drop (512 * piece.count) bytes) old mid new free here (join_more here) more.1)
 
-goes_write : (dev : Dev) (piece : Span) (pieces : List Span) (bytes : List ℕ) (old : Arrays) (r : Reply) (here more : Answered Volume) → 512 * piece.count ≤ length bytes → ((array : List ℕ) → saved_of dev old ≡ Live array → 512 * piece.first ≤ length array) → here.reply ≡ r
+goes_write : (dev : Dev) (piece : Span) (pieces : List Span) (bytes : List ℕ) (old : Shown) (r : Reply) (here more : Answered Volume) → 512 * piece.count ≤ length bytes → ((array : List ℕ) → saved_of dev old ≡ Live array → 512 * piece.first ≤ length array) → here.reply ≡ r
     → IsPieceShown dev piece.first (take (512 * piece.count) bytes) old (arrays_of here.state) r → AreWritten dev (piece.first + piece.count) pieces (drop (512 * piece.count) bytes) (arrays_of here.state) (arrays_of more.state) more.reply
     → AreWritten dev piece.first (piece ∷ pieces) bytes old (arrays_of (go_on r here more).state) (go_on r here more).reply
 goes_write dev piece pieces bytes old (Data all) here more room fits is shows rest = absurd shows

@@ -10,7 +10,7 @@ use Rattle.chunk.specs.Sizes.{is_chunk}
 use Rattle.chunk.specs.Pieces.{Span, Join}
 use Rattle.store_bytes.specs.Pairs.{pairs_of}
 use Rattle.store_bytes.specs.Picture.{place_of, picture}
-use Rattle.plain.specs.Plain.{Saved, Live, Invalid, Entry}
+use Rattle.plain.specs.Plain.{Saved, Live, Invalid, Entry, Shown}
 use Rattle.plain.specs.declared.request.Dev.{Dev}
 use Rattle.plain.specs.declared.request.Dev.TheVariants.{Origin, Snap as ToSnap}
 use Rattle.plain.specs.declared.request.Op.TheVariants.{Read}
@@ -25,7 +25,7 @@ use Rattle.settled.specs.Pieces.{Answered, read_place, read_snap, in_snap}
 use Rattle.settled.specs.Commands.{read_piece, read_pieces, go_on, bytes_in}
 use Rattle.settled.proofs.Each.{Each}
 use Rattle.settled.proofs.Chunks.{HasChunks}
-use Rattle.volume_commands.specs.Showing.{Arrays, entry_of, arrays_of, saved_at, saved_of, sectors_in}
+use Rattle.volume_commands.specs.Showing.{entry_of, arrays_of, saved_at, saved_of, sectors_in}
 use Rattle.volume_commands.proofs.Rests.{IsOrderly, IsInside, IsWell, room_in, well_orders, well_whole, well_after}
 use Rattle.settled.specs.Saving.{Saving}
 
@@ -129,7 +129,7 @@ in_same number piece o (s ∷ snaps) =
 
 pub arrays_same : (v : Volume) (a : Answered Volume) → IsKeptBy v.origin.bytes v.snaps a → arrays_of a.state ≡ arrays_of v
 arrays_same v a kept =
-    let mk : List ℕ → List Entry → Arrays = λ (o : List ℕ) (es : List Entry). record { origin = o; saved = es } in
+    let mk : List ℕ → List Entry → Shown = λ (o : List ℕ) (es : List Entry). record { origin = o; begun = None; saved = es } in
     ap (λ (o : List ℕ). mk o (map (entry_of o) a.state.snaps)) kept.0 ∙ ap (mk v.origin.bytes) (kept.1 v.origin.bytes)
 
 -- a piece leaves what is shown
@@ -174,7 +174,7 @@ goes_read array piece n before (Refused Declined) here more is read rest = absur
 goes_read array piece n before (Refused Overflow) here more is read rest = absurd read
 goes_read array piece n before (Refused Io) here more is read rest = subst (IsReadTo array piece.first (piece.count + n) before) (sym is) tt
 
-goes_shown : (r : Reply) (shows : Arrays) (here more : Answered Volume) → arrays_of here.state ≡ shows → arrays_of more.state ≡ shows → arrays_of (go_on r here more).state ≡ shows
+goes_shown : (r : Reply) (shows : Shown) (here more : Answered Volume) → arrays_of here.state ≡ shows → arrays_of more.state ≡ shows → arrays_of (go_on r here more).state ≡ shows
 goes_shown (Data bytes) shows here more h m = m
 goes_shown Written shows here more h m = m
 goes_shown Flushed shows here more h m = m

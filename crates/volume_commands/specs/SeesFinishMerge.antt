@@ -1,6 +1,6 @@
 -- What callers of a volume by commands see of a call of `finish_merge`, beside what it does to the volume of events that it is
 -- (`DoesFinishMerge`).
-use Rattle.std.specs.Prelude.{◌≡◌, ℕ, true, false, List, IfErr, IfOk, OnErr, OnOk, Result, Some}
+use Rattle.std.specs.Prelude.{◌≡◌, ℕ, true, false, List, IfErr, IfOk, OnErr, OnOk, Result, Some, None}
 use Rattle.sector.specs.declared.refusal.Refusal.{Refusal}
 use Rattle.device.specs.Layers.{Layer}
 use Rattle.settled.specs.Merges.{finished}
@@ -20,7 +20,7 @@ pub record SeesFinishMerge {B : Type 0} (contents : B → List ℕ) (layers : B 
   pub taken : IfOk result (λ store. IsTakenOutAs store old new)
   pub merged : IfOk result (λ store. IsSettled layers old → finished (merged_of contents layers old) ≡ record { state = merged_of contents layers new; back = Some (store_of contents layers store) })
   pub disk : IfOk result (λ store. IsSettled layers old → origin_shown (merged_of contents layers old) ≡ contents new.origin)
-  pub shows : IfOk result (λ store. IsSettled layers old → (arrays_in contents layers new ≡ arrays_in contents layers old) × ((arrays_in contents layers old).origin ≡ contents new.origin))
+  pub shows : IfOk result (λ store. IsSettled layers old → (arrays_in contents layers new ≡ record (arrays_in contents layers old) { begun = None }) × ((arrays_in contents layers old).origin ≡ contents new.origin))
   pub settled : IsSettled layers old → IsSettled layers new
   pub quiet : OnOk result ((is_quiet_of old.events ≡ true) × (is_quiet_of new.events ≡ true))
   pub unfinished : IfErr result (λ refusal. is_starved refusal ≡ false → IsSettled layers old → IsUnfinished contents layers refusal old)

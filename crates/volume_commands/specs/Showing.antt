@@ -1,36 +1,36 @@
 -- What a settled volume shows, in words of saved arrays alone, and what reads and writes of many sectors do to that. This
 -- project's own; the kernel's admin-guide page on snapshots says in words what a snapshot keeps, and where reads and writes go.
-use Rattle.std.specs.Prelude.{◌≡◌, ◌≢◌, ◌⊎◌, ◌==◌, ℕ, ◌+◌, ◌*◌, ◌<◌, List, [], ◌∷◌, length, map, take, if◌then◌else◌}
+use Rattle.std.specs.Prelude.{◌≡◌, ◌≢◌, ◌⊎◌, ◌==◌, ℕ, ◌+◌, ◌*◌, ◌<◌, List, [], ◌∷◌, length, map, take, if◌then◌else◌, Some, None}
 use Rattle.sector.specs.Bytes.{sectors_at, with_sectors}
 use Rattle.sector.specs.declared.refusal.Refusal.{Refusal}
 use Rattle.sector.specs.declared.refusal.Refusal.TheVariants.{NoSuchDevice, NoMemory, JournalFull, Invalid as InvalidRefusal, Io as IoRefusal, Overflow as OverflowRefusal}
 use Rattle.chunk.specs.Pieces.{Span}
-use Rattle.plain.specs.Plain.{Saved, Live, Invalid, Entry, marked_in, overflow_under}
+use Rattle.plain.specs.Plain.{Saved, Live, Invalid, Entry, marked_in, overflow_under, Shown, without_saved}
 use Rattle.plain.specs.declared.request.Dev.{Dev}
 use Rattle.plain.specs.declared.request.Dev.TheVariants.{Origin, Snap as ToSnap}
 use Rattle.plain.specs.declared.request.Overflowing.TheVariants.{May, Did}
 use Rattle.device.specs.Layers.{Layer}
 use Rattle.settled.specs.Snaps.{Snap, Volume, shown}
 use Rattle.settled.specs.Beside.{pieces_beside}
-use Rattle.volume.specs.Shown.{shown_origin}
+use Rattle.volume.specs.Shown.{shown_origin, shown_begun}
 use Rattle.volume_commands.specs.Rested.{Rested, merged_of, settled_of}
 
--- the origin's array, and what each snapshot shows, in order of attaching
-pub record Arrays : Type 0 where
-  pub origin : List ℕ
-  pub saved : List Entry
-
--- those of a volume's own bytes
+-- what a snapshot of a volume's own bytes shows
 abbrev pub entry_of : List ℕ → Snap → Entry
 entry_of origin s = record { number = s.number; saved = shown origin s; overflow = s.overflow }
 
-abbrev pub arrays_of : Volume → Arrays
-arrays_of v = record { origin = v.origin.bytes; saved = map (entry_of v.origin.bytes) v.snaps }
+-- all that is shown where no merge is begun
+abbrev pub arrays_of : Volume → Shown
+arrays_of v = record { origin = v.origin.bytes; begun = None; saved = map (entry_of v.origin.bytes) v.snaps }
 
 -- While a merge is begun the origin's array is the origin disk with the chunks of the merging store in place: what the merged
 -- snapshot showed, with what was written since. The other snapshots show what they do without a merge.
-abbrev pub arrays_in : {B : Type 0} → (B → List ℕ) → (B → List Layer) → Rested B → Arrays
-arrays_in contents layers v = record { origin = shown_origin contents v.origin v.events.merge; saved = (arrays_of (settled_of contents layers v)).saved }
+abbrev pub arrays_in : {B : Type 0} → (B → List ℕ) → (B → List Layer) → Rested B → Shown
+arrays_in contents layers v = record {
+  origin = shown_origin contents v.origin v.events.merge;
+  begun = shown_begun v.events.merge;
+  saved = (arrays_of (settled_of contents layers v)).saved;
+}
 
 -- what the first snapshot with a number shows
 abbrev pub saved_at : ℕ → List Entry → Saved
@@ -38,33 +38,33 @@ saved_at number [] = Invalid
 saved_at number (entry ∷ entries) = if entry.number == number then entry.saved else saved_at number entries
 
 -- what a request's device shows
-abbrev pub saved_of : Dev → Arrays → Saved
+abbrev pub saved_of : Dev → Shown → Saved
 saved_of Origin a = Live a.origin
 saved_of (ToSnap number) a = saved_at number a.saved
 
 -- it has an array
-abbrev pub IsLive : Dev → Arrays → Type 0
+abbrev pub IsLive : Dev → Shown → Type 0
 IsLive dev a = (array : List ℕ) × (saved_of dev a ≡ Live array)
 
 -- it takes writes: the origin does, and a snapshot of which no write overflowed its store
-abbrev pub IsOpen : Dev → Arrays → Type 0
+abbrev pub IsOpen : Dev → Shown → Type 0
 IsOpen Origin a = Unit {0}
 IsOpen (ToSnap number) a = overflow_under number a.saved ≢ Did
 
 -- A read of these sectors gave these bytes: they are those of the device's array, and what is shown is as it was.
-pub record IsPlainRead (dev : Dev) (span : Span) (bytes : List ℕ) (old new : Arrays) : Type 0 where
+pub record IsPlainRead (dev : Dev) (span : Span) (bytes : List ℕ) (old new : Shown) : Type 0 where
   pub array : List ℕ
   pub live : saved_of dev old ≡ Live array
   pub read : bytes ≡ sectors_at array span.first span.count
   pub same : new ≡ old
 
 -- A flush was done: its device shows an array, and what is shown is as it was.
-abbrev pub IsPlainFlush : Dev → Arrays → Arrays → Type 0
+abbrev pub IsPlainFlush : Dev → Shown → Shown → Type 0
 IsPlainFlush dev old new = IsLive dev old × (new ≡ old)
 
 -- why a read or a flush is refused: its snapshot is not live, or a device failed, or there was no room for it, or its device is not
 -- there
-abbrev pub IsReadLost : Dev → Refusal → Arrays → Type 0
+abbrev pub IsReadLost : Dev → Refusal → Shown → Type 0
 IsReadLost dev InvalidRefusal old = saved_of dev old ≡ Invalid
 IsReadLost dev IoRefusal old = IsLive dev old
 IsReadLost dev NoMemory old = Unit {0}
@@ -73,7 +73,7 @@ IsReadLost dev NoSuchDevice old = saved_of dev old ≡ Invalid
 IsReadLost dev other old = ⊥
 
 -- what is shown is as it was
-abbrev pub IsPlainReadRefused : Dev → Refusal → Arrays → Arrays → Type 0
+abbrev pub IsPlainReadRefused : Dev → Refusal → Shown → Shown → Type 0
 IsPlainReadRefused dev refusal old new = IsReadLost dev refusal old × (new ≡ old)
 
 -- an array with these bytes from a sector on
@@ -95,23 +95,24 @@ AreKept (s ∷ ss) [] = ⊥
 AreKept (s ∷ ss) (t ∷ ts) = (t.number ≡ s.number) × (t.overflow ≡ s.overflow) × ((t.saved ≡ s.saved) ⊎ (t.saved ≡ Invalid)) × AreKept ss ts
 
 -- A merge goes on: nobody sees it, but that snapshots may be lost.
-pub record IsGoneOn (old new : Arrays) : Type 0 where
+pub record IsGoneOn (old new : Shown) : Type 0 where
   pub origin : new.origin ≡ old.origin
+  pub begun : new.begun ≡ old.begun
   pub saved : AreKept old.saved new.saved
 
 -- These bytes stand from this sector on. Of a write to the origin, snapshots may be lost; one to a snapshot changes what that
 -- shows alone.
-abbrev pub IsWritten : Dev → ℕ → List ℕ → Arrays → Arrays → Type 0
-IsWritten Origin first bytes old new = (new.origin ≡ with_sectors old.origin first bytes) × AreKept old.saved new.saved
-IsWritten (ToSnap number) first bytes old new = (new.origin ≡ old.origin) × (new.saved ≡ changed_at number (with_bytes first bytes) old.saved)
+abbrev pub IsWritten : Dev → ℕ → List ℕ → Shown → Shown → Type 0
+IsWritten Origin first bytes old new = (new.origin ≡ with_sectors old.origin first bytes) × AreKept old.saved new.saved × (new.begun ≡ old.begun)
+IsWritten (ToSnap number) first bytes old new = (new.origin ≡ old.origin) × (new.saved ≡ changed_at number (with_bytes first bytes) old.saved) × (new.begun ≡ old.begun)
 
 -- the snapshot is lost, and nothing else changed
-abbrev pub IsLost : Dev → Arrays → Arrays → Type 0
+abbrev pub IsLost : Dev → Shown → Shown → Type 0
 IsLost Origin old new = ⊥
-IsLost (ToSnap number) old new = (new.origin ≡ old.origin) × (new.saved ≡ changed_at number (λ saved. Invalid) old.saved)
+IsLost (ToSnap number) old new = (new.origin ≡ old.origin) × (new.saved ≡ changed_at number (λ saved. Invalid) old.saved) × (new.begun ≡ old.begun)
 
 -- a write of all these bytes
-abbrev pub IsPlainWrite : Dev → Span → List ℕ → Arrays → Arrays → Type 0
+abbrev pub IsPlainWrite : Dev → Span → List ℕ → Shown → Shown → Type 0
 IsPlainWrite dev span bytes old new = IsLive dev old × IsOpen dev old × IsWritten dev span.first bytes old new
 
 -- the pieces of a range, by the chunks of the snapshots and the merge
@@ -124,22 +125,22 @@ sectors_in [] = 0
 sectors_in (piece ∷ pieces) = piece.count + sectors_in pieces
 
 -- some first pieces stand, but not all
-abbrev pub IsWrittenInPart : Dev → ℕ → List Span → List ℕ → Arrays → Arrays → Type 0
+abbrev pub IsWrittenInPart : Dev → ℕ → List Span → List ℕ → Shown → Shown → Type 0
 IsWrittenInPart dev first pieces bytes old new =
     (count : ℕ) × (count < length pieces) × IsWritten dev first (take (512 * sectors_in (take count pieces)) bytes) old new
 
 -- A write overflowed a snapshot's store: one had before, and nothing changed; or its store may overflow, some first pieces
 -- stand, but not all, and the snapshot is marked.
-abbrev pub IsOverflown : Dev → ℕ → List Span → List ℕ → Arrays → Arrays → Type 0
+abbrev pub IsOverflown : Dev → ℕ → List Span → List ℕ → Shown → Shown → Type 0
 IsOverflown Origin first pieces bytes old new = ⊥
 IsOverflown (ToSnap number) first pieces bytes old new =
     ((overflow_under number old.saved ≡ Did) × (new ≡ old))
-    ⊎ ((overflow_under number old.saved ≡ May) × (mid : Arrays) × IsWrittenInPart (ToSnap number) first pieces bytes old mid × (new ≡ record mid { saved = marked_in number mid.saved }))
+    ⊎ ((overflow_under number old.saved ≡ May) × (mid : Shown) × IsWrittenInPart (ToSnap number) first pieces bytes old mid × (new ≡ record mid { saved = marked_in number mid.saved }))
 
 -- A write in these pieces is refused: its snapshot is lost; or a device failed, or there was no room for it, and some first
 -- pieces stand; or it overflowed its snapshot's store, which shows what it showed, with some first pieces; or its device is not
 -- there.
-abbrev pub IsPlainWriteRefused : Dev → Span → List Span → List ℕ → Refusal → Arrays → Arrays → Type 0
+abbrev pub IsPlainWriteRefused : Dev → Span → List Span → List ℕ → Refusal → Shown → Shown → Type 0
 IsPlainWriteRefused dev span pieces bytes InvalidRefusal old new = IsLost dev old new
 IsPlainWriteRefused dev span pieces bytes IoRefusal old new = IsLive dev old × IsWrittenInPart dev span.first pieces bytes old new
 IsPlainWriteRefused dev span pieces bytes OverflowRefusal old new = IsLive dev old × IsOverflown dev span.first pieces bytes old new
@@ -148,13 +149,10 @@ IsPlainWriteRefused dev span pieces bytes JournalFull old new = IsWrittenInPart 
 IsPlainWriteRefused dev span pieces bytes NoSuchDevice old new = (saved_of dev old ≡ Invalid) × (new ≡ old)
 IsPlainWriteRefused dev span pieces bytes other old new = ⊥
 
--- all but the first with a number
-abbrev pub entries_without : ℕ → List Entry → List Entry
-entries_without number [] = []
-entries_without number (entry ∷ entries) = if entry.number == number then entries else entry ∷ entries_without number entries
-
--- The origin's array becomes what the snapshot with a number showed, which is none of the saved ones any more; the others keep
--- theirs.
-pub record IsRolledBack (number : ℕ) (old new : Arrays) : Type 0 where
+-- The origin's array becomes what the snapshot with a number showed, which is being merged from then on, where none was, and none of
+-- the saved ones any more; the others keep theirs.
+pub record IsRolledBack (number : ℕ) (old new : Shown) : Type 0 where
+  pub alone : old.begun ≡ None
   pub origin : Live new.origin ≡ saved_at number old.saved
-  pub saved : new.saved ≡ entries_without number old.saved
+  pub begun : new.begun ≡ Some number
+  pub saved : new.saved ≡ without_saved number old.saved

@@ -72,7 +72,7 @@ returns-clause-kept g c = devices_kept g.B.Block.size g.B.Block.layers c.args.vo
 pub returns-clause-shows : goal.returns-clause-shows
 returns-clause-shows g c = λ settled.
     merged_gone_on g.B.Block.contents g.B.Block.layers g.B.Block.size c.args.volume.now.volume c.loop-event.volume.volume
-    (c.loop-event.invariant.quiet.looked.under settled.quiet (sym (loud_same g.B.Block.contents g.B.Block.layers c.args.volume.now.volume) ∙ settled.loud) None) (returns-clause-merged g c settled) (returns-clause-kept g c).numbers
+    (c.loop-event.invariant.quiet.looked.under settled.quiet (sym (loud_same g.B.Block.contents g.B.Block.layers c.args.volume.now.volume) ∙ settled.loud) None) (returns-clause-merged g c settled) (returns-clause-kept g c).numbers (returns-clause-kept g c).merging
 
 pub returns-clause-taken : goal.returns-clause-taken
 returns-clause-taken g c = c.loop-event.invariant.taken
