@@ -17,14 +17,14 @@ length-sectors_of : (b : List ℕ) (first count : ℕ) → 512 * (first + count)
 length-sectors_of b first count fits = simp (length-take, length-drop) (omega arith)
 
 -- two runs of as many sectors are one, by their bytes
-same_sectors : (a b : List ℕ) (f g count : ℕ) → 512 * (f + count) ≤ length a → 512 * (g + count) ≤ length b → ((k : ℕ) → k < 512 * count → get_or a (512 * f + k) 0 ≡ get_or b (512 * g + k) 0) → sectors_at a f count ≡ sectors_at b g count
+pub same_sectors : (a b : List ℕ) (f g count : ℕ) → 512 * (f + count) ≤ length a → 512 * (g + count) ≤ length b → ((k : ℕ) → k < 512 * count → get_or a (512 * f + k) 0 ≡ get_or b (512 * g + k) 0) → sectors_at a f count ≡ sectors_at b g count
 same_sectors a b f g count fits fits' same =
     let len = length-sectors_of a f count fits in
     let len' = length-sectors_of b g count fits' in
     ext_get_or 0 _ _ (len ∙ sym len') (λ k lt. let short : k < 512 * count = omega arith in byte_read a f count k short ∙ same k short ∙ sym (byte_read b g count k short))
 
 -- a sector's place in its chunk
-at_place : (chunk first : ℕ) → first ≡ chunk * (first / chunk) + first % chunk
+pub at_place : (chunk first : ℕ) → first ≡ chunk * (first / chunk) + first % chunk
 at_place chunk first = omega arith
 
 -- sectors of a chunk without a copy are read from the origin

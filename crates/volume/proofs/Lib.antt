@@ -74,6 +74,7 @@ pub mod Taken
 pub mod Told
 pub mod Ran
 pub mod Peeked
+pub mod Listed
 pub mod AtRest
 pub mod Quieted
 pub mod Asked

@@ -1,10 +1,9 @@
 // What a volume's devices show, by their own bytes: for tests and audits.
 ghost use Rattle.std.specs.Prelude.{◌≡◌, ℕ, ◌+◌, ◌-◌, ◌*◌, ◌/◌, ◌<◌, ◌≤◌, IfErr, List, None, OnOk, Some, length, true};
 ghost use Rattle.sector.specs.Bytes.{sectors_at};
-ghost use Rattle.store_bytes.specs.Pairs.{pairs_of};
-ghost use Rattle.store_bytes.specs.Picture.{picture, place_of as place_in};
+ghost use Rattle.store_bytes.specs.Picture.{place_of as place_in};
 ghost use Rattle.plain.specs.Serves.{Shows};
-ghost use Rattle.volume.specs.Peeking.{is_loud_merging, is_loud_under};
+ghost use Rattle.volume.specs.Peeking.{is_loud_merging, is_loud_under, listed_origin, picture_by, IsListed};
 ghost use Rattle.volume.specs.Volumed.{plain_of};
 ghost use Rattle.volume.specs.Submitting.{dev_refusal};
 
@@ -31,7 +30,7 @@ fn peek_piece<B: Layered>(
     requires one { (piece.first + piece.count - 1) / geometry.now.chunk ≡ piece.first / geometry.now.chunk }
     requires inside { piece.first + piece.count ≤ B.size origin.now }
     requires room { length out.old ≡ 512 * piece.count }
-    ensures { pairs_of snap.now.state.chunk (B.contents snap.now.device) ≡ snap.now.pairs → out.new ≡ sectors_at (picture snap.now.state.chunk (B.contents origin.now) (B.contents snap.now.device)) piece.first piece.count }
+    ensures { out.new ≡ sectors_at (picture_by snap.now.state.chunk (B.contents origin.now) (B.contents snap.now.device) snap.now.pairs) piece.first piece.count }
 {
     match snap.place_of(geometry.chunk_of(piece.first)) {
         None => origin.peek(piece, out),
@@ -59,7 +58,7 @@ fn peek_pieces<B: Layered>(
     requires places { (c n : ℕ) → place_in snap.now.pairs c ≡ Some n → snap.now.state.chunk * (n + 1) ≤ B.size snap.now.device }
     requires inside { range.first + range.count ≤ B.size origin.now }
     requires room { length out.old ≡ 512 * range.count }
-    ensures { pairs_of snap.now.state.chunk (B.contents snap.now.device) ≡ snap.now.pairs → out.new ≡ sectors_at (picture snap.now.state.chunk (B.contents origin.now) (B.contents snap.now.device)) range.first range.count }
+    ensures { out.new ≡ sectors_at (picture_by snap.now.state.chunk (B.contents origin.now) (B.contents snap.now.device) snap.now.pairs) range.first range.count }
 {
     let mut from = 0;
     for piece in geometry.pieces(range) {
@@ -84,7 +83,7 @@ fn peek_merged_piece<B: Layered>(
     requires one { (piece.first + piece.count - 1) / geometry.now.chunk ≡ piece.first / geometry.now.chunk }
     requires inside { piece.first + piece.count ≤ B.size origin.now }
     requires room { length out.old ≡ 512 * piece.count }
-    ensures { pairs_of merge.now.state.chunk (B.contents merge.now.device) ≡ merge.now.pairs → out.new ≡ sectors_at (picture merge.now.state.chunk (B.contents origin.now) (B.contents merge.now.device)) piece.first piece.count }
+    ensures { out.new ≡ sectors_at (picture_by merge.now.state.chunk (B.contents origin.now) (B.contents merge.now.device) merge.now.pairs) piece.first piece.count }
 {
     match merge.place_of(geometry.chunk_of(piece.first)) {
         None => origin.peek(piece, out),
@@ -112,7 +111,7 @@ fn peek_merged<B: Layered>(
     requires places { (c n : ℕ) → place_in merge.now.pairs c ≡ Some n → merge.now.state.chunk * (n + 1) ≤ B.size merge.now.device }
     requires inside { range.first + range.count ≤ B.size origin.now }
     requires room { length out.old ≡ 512 * range.count }
-    ensures { pairs_of merge.now.state.chunk (B.contents merge.now.device) ≡ merge.now.pairs → out.new ≡ sectors_at (picture merge.now.state.chunk (B.contents origin.now) (B.contents merge.now.device)) range.first range.count }
+    ensures { out.new ≡ sectors_at (picture_by merge.now.state.chunk (B.contents origin.now) (B.contents merge.now.device) merge.now.pairs) range.first range.count }
 {
     let mut from = 0;
     for piece in geometry.pieces(range) {
@@ -128,7 +127,8 @@ impl<B: Layered> Volume<B> {
         requires some { 0 < range.count }
         requires inside { range.first + range.count ≤ B.size self.now.origin }
         requires room { length out.old ≡ 512 * range.count }
-        ensures { is_loud_merging B.layers self.now.merge ≡ true → out.new ≡ sectors_at (plain_of B.contents B.layers self.now).origin range.first range.count }
+        ensures shown { is_loud_merging B.layers self.now.merge ≡ true → out.new ≡ sectors_at (plain_of B.contents B.layers self.now).origin range.first range.count }
+        ensures listed { out.new ≡ sectors_at (listed_origin B.contents self.now.origin self.now.merge) range.first range.count }
     {
         match &self.merge {
             None => self.origin.peek(range, out),
@@ -145,9 +145,9 @@ impl<B: Layered> Volume<B> {
     }
 
     /// Copies sectors of what the origin or a live snapshot shows into a buffer that is as long: the bytes on the devices,
-    /// whatever their layers would answer now; of the origin always, or beside a merge where no layer drops writes of the
-    /// merging store, and of a snapshot where no layer drops writes of its own store. No device fails at it, and no operation
-    /// is counted. `MergingSnapshot` for the one that is being merged, `NoSuchDevice` where there is no such snapshot,
+    /// whatever their layers would answer now, by the pairs that are in memory; these are what the devices show, of the origin
+    /// always, or beside a merge where no layer drops writes of the merging store, and of a snapshot where no layer drops writes
+    /// of its own store. No device fails at it, and no operation is counted. `MergingSnapshot` for the one that is being merged, `NoSuchDevice` where there is no such snapshot,
     /// `Invalid` where it is spoiled.
     pub fn peek(&self, dev: Dev, range: Range, out: &mut [u8]) -> Result<(), Refusal>
         requires some { 0 < range.count }
@@ -155,6 +155,7 @@ impl<B: Layered> Volume<B> {
         requires room { length out.old ≡ 512 * range.count }
         ensures there { OnOk result (dev_refusal dev self.now.merge self.now.snaps ≡ None) }
         ensures bytes { OnOk result (is_loud_under B.layers dev self.now.merge self.now.snaps ≡ true → (array : List ℕ) → Shows (plain_of B.contents B.layers self.now) dev array → out.new ≡ sectors_at array range.first range.count) }
+        ensures listed { OnOk result (IsListed B.contents dev range.first range.count self.now out.new) }
         ensures err { IfErr result (λ refusal. (dev_refusal dev self.now.merge self.now.snaps ≡ Some refusal) × (out.new ≡ out.old)) }
     {
         match dev {

@@ -1,15 +1,15 @@
 -- One piece after the other has its place in the buffer.
 use Rattle.std.proofs.Common.{◌≡◌, ◌*◌, length, arith}
 use Rattle.chunk.specs.Pieces.{span_of}
-use Rattle.store_bytes.proofs.Pictures.{length-picture}
 use Rattle.chunk.proofs.Runs.{first_piece, stands_first, stands_next, stands_last}
 use Rattle.settled.proofs.PictureSectors.{read_next, read_all}
+use Rattle.volume.proofs.Listed.{length-listed}
 use Rattle.volume.proofs.peeking.peek_pieces.Goals as goal
 
 pub loop-piece-init : goal.loop-piece-init
 loop-piece-init g c = record {
   stands = stands_first c.args.geometry.now.chunk (span_of c.args.range) _ _ c.pieces-piece-items.ensures.cut c.into_iter-piece-iterator.ensures.into_iter_gives;
-  bytes = λ stored k lt. absurd (omega (arith, lt));
+  bytes = λ k lt. absurd (omega (arith, lt));
 }
 
 pub overflow_add-to : goal.overflow_add-to
@@ -47,17 +47,17 @@ loop-piece-preserved g c =
     let part : length c.peek_piece.new.out ≡ c.in-Some.piece.count * 512 = omega (arith, c.peek_piece.auto.out) in
     record {
       stands = stands_next _ _ _ _ _ _ _ inv.stands c.in-Some.ensures.steps;
-      bytes = λ stored. read_next c.loop-piece.from c.args.range.first c.in-Some.piece.first c.in-Some.piece.count c.loop-piece.out c.peek_piece.new.out _ (omega arith)
-          (c.peek_piece.ensures stored) part place (inv.bytes stored);
+      bytes = read_next c.loop-piece.from c.args.range.first c.in-Some.piece.first c.in-Some.piece.count c.loop-piece.out c.peek_piece.new.out _ (omega arith)
+          c.peek_piece.ensures part place inv.bytes;
     }
 
 pub returns : goal.returns
-returns g c = λ stored.
+returns g c =
     let inv = c.loop-piece.invariant in
     let inside = c.requires.inside in
     let room = c.requires.room in
     let kept = c.loop-piece.auto.out in
     let whole = g.met.B.Block.whole c.args.origin.now in
-    let len = length-picture c.args.snap.now.state.chunk (g.B.Block.contents c.args.origin.now) (g.B.Block.contents c.args.snap.now.device) in
+    let len = length-listed c.args.snap.now.state.chunk (g.B.Block.contents c.args.origin.now) (g.B.Block.contents c.args.snap.now.device) c.args.snap.now.pairs in
     let end = stands_last _ _ _ _ _ inv.stands c.in-None.ensures.steps.0 (omega arith) in
-    read_all c.loop-piece.from c.args.range.first c.args.range.count c.loop-piece.out _ (omega arith) (omega arith) (omega arith) (inv.bytes stored)
+    read_all c.loop-piece.from c.args.range.first c.args.range.count c.loop-piece.out _ (omega arith) (omega arith) (omega arith) inv.bytes
