@@ -66,14 +66,6 @@ pub fn detach<B: Layered + Drop>(audit: &mut Audit<B>, number: SnapId) -> Result
     }
 }
 
-/// Takes a merge out.
-pub fn finish_merge<B: Layered + Drop>(audit: &mut Audit<B>) -> Result<(), Refusal> {
-    match audit.finish_merge() {
-        Ok(_) => Ok(()),
-        Err(refusal) => Err(refusal),
-    }
-}
-
 /// Submits a read of one sector for a seat.
 pub fn submit_read<B: Layered>(
     audit: &mut Audit<B>,
