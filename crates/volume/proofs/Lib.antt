@@ -129,3 +129,4 @@ pub mod AddedUp
 pub mod Limits
 pub mod Behind
 pub mod DueLooks
+pub mod Clear
