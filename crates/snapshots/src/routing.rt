@@ -55,7 +55,7 @@ pub fn is_clear<B: Block>(snaps: &[Snapshot<B>], first: u64) -> bool
     requires { All (λ s. 0 < s.state.chunk) snaps.now }
     ensures { result ≡ is_clear_in (map (books_of B.contents B.layers) snaps.now) first }
 {
-    !is_any_untried(snaps) && are_saved(snaps, first)
+    are_saved(snaps, first) && !is_any_untried(snaps)
 }
 
 /// The first chunk that a snapshot has not published, of those that so many sectors of the origin touch from this one on. It is

@@ -107,7 +107,7 @@ module _ {B : Type 0} (contents : B → List ℕ) (layers : B → List Layer) (s
     (at : AreSavedIn contents layers (own_of f.request.range.first) before after v.copies m v.flights gs) (few : sum_by count_in v.snaps + count_by (starts f.request.range.first) v.snaps ≤ 256)
     (number : f.number ≡ v.requests + 1) (asked : IsAsked (size v.origin) (piece_with v.merge v.snaps) f.request) (room : length f.room.items ≡ room_of f.request) (kind : kind_of f.request ≡ OriginWrite)
     (route : f.route ≡ write_route_of false None (is_clear (map (snap_books contents layers) after) f.request.range.first)) (space : length v.flights < 64) (unmerged : is_merged_at f.request.range.first v.merge ≡ false) where
-  abbrev roomy : Volumed B
+  abbrev pub roomy : Volumed B
   roomy = record v { snaps = before }
 
   abbrev saved : Volumed B
@@ -119,7 +119,7 @@ module _ {B : Type 0} (contents : B → List ℕ) (layers : B → List Layer) (s
   roomy_whole : IsWhole contents layers size roomy
   roomy_whole = whole_roomed contents layers size v before e h
 
-  abbrev which : List ℕ
+  abbrev pub which : List ℕ
   which = overflowing (own_of f.request.range.first) before
 
   done : AreDone contents layers size f.request.range.first (length {A = Kept B} [] + length before) which roomy saved
@@ -143,7 +143,7 @@ module _ {B : Type 0} (contents : B → List ℕ) (layers : B → List Layer) (s
       let all : length {A = Kept B} [] + length before ≡ length (map (snap_books contents layers) after) = (let none : ◌≡◌ {A = ℕ} (length {A = Kept B} []) 0 = refl in omega (arith, len, none, length-map after (snap_books contents layers))) in
       saving_asked f (map (snap_books contents layers) after) (subst (λ (i : ℕ). AreSavingAt f.request.range.first i (map (snap_books contents layers) after)) all done.saving)
 
-  taken : IsTakenIn which f.number f.request (books_of contents layers size roomy) (books_of contents layers size written)
+  pub taken : IsTakenIn which f.number f.request (books_of contents layers size roomy) (books_of contents layers size written)
   taken = origin_write_enters contents layers size roomy saved which done.prepared done.whole f number (subst (λ (n : ℕ). IsAsked (size v.origin) n f.request) (sym piece_same) asked) room kind
       (route ∙ sym (unmerged_route f.request.range.first v.merge unmerged (is_clear (map (snap_books contents layers) after) f.request.range.first))
       ∙ sym (route_is contents layers (is_loud (layers v.origin)) v.merge (is_clear (map (snap_books contents layers) after)) f))

@@ -130,3 +130,4 @@ pub mod AddedUp
 pub mod Limits
 pub mod Behind
 pub mod DueLooks
+pub mod Clear

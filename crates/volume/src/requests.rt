@@ -1,5 +1,5 @@
 // A request is accepted or refused: it is routed, and the copies that it waits for are started.
-ghost use Rattle.std.specs.Prelude.{◌≡◌, ◌*◌, ◌+◌, ◌<◌, ◌^◌, ◌≤◌, IfErr, IfOk, List, None, [], count_by, false, length, sum_by, ℕ};
+ghost use Rattle.std.specs.Prelude.{◌≡◌, ◌*◌, ◌+◌, ◌<◌, ◌^◌, ◌≤◌, IfErr, IfOk, List, None, [], count_by, false, length, map, sum_by, ℕ};
 ghost use Rattle.sector.specs.declared.refusal.Refusal.TheVariants.{NoMemory};
 ghost use Rattle.plain.specs.Kept.{kept_range};
 ghost use Rattle.plain.specs.declared.request.Op.TheVariants.{Write};
@@ -7,6 +7,8 @@ ghost use Rattle.in_flight.specs.Kinds.{kind_of, room_of};
 ghost use Rattle.in_flight.specs.declared.flights.Flight.{Flight};
 ghost use Rattle.in_flight.specs.declared.flights.Kind.TheVariants.{OriginFlush, OriginRead, OriginWrite};
 ghost use Rattle.volume_laws.specs.Accepting.{IsTakenIn};
+ghost use Rattle.volume_laws.specs.Published.{is_clear as is_clear_in};
+ghost use Rattle.snapshot.specs.Kept.{books_of as snap_books};
 ghost use Rattle.snapshots.specs.Numbers.{count_in};
 ghost use Rattle.snapshots.specs.Starting.{starts};
 ghost use Rattle.snapshots.specs.Routing.{is_merged_at as is_merged_in};
@@ -18,7 +20,7 @@ ghost use Rattle.volume.specs.Whole.{IsWhole};
 
 use crate::Volume;
 use device::Block;
-use in_flight::{Flight, Kind, Route, flush_route, read_route, request_kind, write_route};
+use in_flight::{Flight, Kind, Route, flush_route, read_route, request_kind};
 use plain::{ReqId, Request};
 use sector::Refusal;
 use snapshots::{is_clear, is_merged_at, merged_route, place_at, save_in_all, take_rooms};
@@ -145,14 +147,33 @@ impl<B: Block> Volume<B> {
             let route = merged_route(&self.merge, first);
             return self.enter(alloc, request, route);
         }
+        self.submit_unmerged(alloc, request)
+    }
+
+    /// Accepts a write of the origin whose chunk no merge has. One that waits for nothing starts no copies, and asks for no room.
+    fn submit_unmerged(&mut self, alloc: Global, request: Request) -> Result<ReqId, Refusal>
+        requires kind { kind_of request ≡ OriginWrite }
+        requires unmerged { is_merged_in request.range.first self.old.merge ≡ false }
+        requires asked { IsAsked (B.size self.old.origin) (piece_with self.old.merge self.old.snaps) request }
+        requires room { length self.old.flights < 64 }
+        requires numbers { self.old.requests + 1 < 2 ^ 64 }
+        requires copies { self.old.copies + 8 < 2 ^ 64 }
+        requires few { sum_by count_in self.old.snaps + count_by (starts request.range.first) self.old.snaps ≤ 256 }
+        ensures ok { IfOk result (λ number. IsAcceptedAs B.contents B.layers request number self.old self.new) }
+        ensures err { IfErr result (λ e. (e ≡ NoMemory) × SameButRoom self.old self.new) }
+    {
+        if is_clear(self.snaps.as_slice(), request.range.first) {
+            return self.enter(alloc, request, Route::Origin);
+        }
         self.save_and_enter(alloc, request)
     }
 
-    /// Accepts a write of the origin whose chunk no merge has: each live snapshot that lacks its chunk there starts a copy of
-    /// it, and the write is held until each has published its own. Snapshots whose stores are full are spoiled.
+    /// Accepts a write of the origin that waits: each live snapshot that lacks its chunk there starts a copy of it, and the
+    /// write is held until each has published its own. Snapshots whose stores are full are spoiled.
     fn save_and_enter(&mut self, alloc: Global, request: Request) -> Result<ReqId, Refusal>
         requires kind { kind_of request ≡ OriginWrite }
         requires unmerged { is_merged_in request.range.first self.old.merge ≡ false }
+        requires waits { is_clear_in (map (snap_books B.contents B.layers) self.old.snaps) request.range.first ≡ false }
         requires asked { IsAsked (B.size self.old.origin) (piece_with self.old.merge self.old.snaps) request }
         requires room { length self.old.flights < 64 }
         requires numbers { self.old.requests + 1 < 2 ^ 64 }
@@ -166,7 +187,7 @@ impl<B: Block> Volume<B> {
             Ok(rooms) => rooms,
             Err(refusal) => return Err(refusal),
         };
-        let Ok(mut flight) = Flight::new(alloc, self.requests + 1, request, Route::Held) else {
+        let Ok(flight) = Flight::new(alloc, self.requests + 1, request, Route::Held) else {
             return Err(Refusal::NoMemory);
         };
         match self.flights.reserve(1) {
@@ -180,7 +201,6 @@ impl<B: Block> Volume<B> {
             first,
             rooms,
         );
-        flight.route = write_route(false, None, is_clear(self.snaps.as_slice(), first));
         self.flights.push_reserved(flight);
         self.requests += 1;
         Ok(self.requests)

@@ -31,11 +31,11 @@ returns-then-is_merged_at-clause-ok g c =
 pub returns-then-is_merged_at-clause-err : goal.returns-then-is_merged_at-clause-err
 returns-then-is_merged_at-clause-err g c = if_err c.enter.result _ _ (λ e r. (r.0, same_roomed c.args.self.now c.enter.new.self r.1)) c.enter.ensures.err
 
-pub save_and_enter-requires-clause-unmerged : goal.save_and_enter-requires-clause-unmerged
-save_and_enter-requires-clause-unmerged g c = ap (λ (x : Volumed g.row.B.Denot). is_merged_at c.args.request.range.first x.merge) (sym c.self.view_is) ∙ sym c.if-is_merged_at.ensures
+pub submit_unmerged-requires-clause-unmerged : goal.submit_unmerged-requires-clause-unmerged
+submit_unmerged-requires-clause-unmerged g c = ap (λ (x : Volumed g.row.B.Denot). is_merged_at c.args.request.range.first x.merge) (sym c.self.view_is) ∙ sym c.if-is_merged_at.ensures
 
-pub save_and_enter-requires-clause-few : goal.save_and_enter-requires-clause-few
-save_and_enter-requires-clause-few g c =
+pub submit_unmerged-requires-clause-few : goal.submit_unmerged-requires-clause-few
+submit_unmerged-requires-clause-few g c =
     let unmerged : is_merged_at c.args.request.range.first c.args.self.now.merge ≡ false = ap (λ (x : Volumed g.row.B.Denot). is_merged_at c.args.request.range.first x.merge) (sym c.self.view_is) ∙ sym c.if-is_merged_at.ensures in
     let same = starting_unmerged c.args.request.range.first c.args.self.now unmerged in
     omega (arith, c.requires.few, same)
