@@ -44,6 +44,8 @@ pub mod Drained
 pub mod Freed
 pub mod Follows
 pub mod Carried
+pub mod Unmarked
+pub mod OnlyCopies
 pub mod Carrying
 pub mod Runs
 pub mod Shown

@@ -1,31 +1,44 @@
 -- Events that are done one after another until a volume is quiet: none of them is one of a merge.
-use Rattle.std.proofs.Common.{◌≡◌, ◌⊎◌, ℕ, inl, inr, true, false, List, [], ◌∷◌, Option, Some, None, refl, sym, ◌∙◌, ap, subst}
-use Rattle.std.proofs.lemmas.Bool.{cases_Bool, true≢false}
+use Rattle.std.proofs.Common.{◌≡◌, ◌⊎◌, ℕ, inl, inr, Bool, true, false, List, [], ◌∷◌, length, map, Option, Some, None, refl, sym, ◌∙◌, ap, subst}
+use Rattle.std.specs.Prelude.{◌==◌, ◌&&◌, ◌||◌}
+use Rattle.std.specs.List.{list_all, list_any}
+use Rattle.std.proofs.lemmas.Bool.{and_parts, cases_Bool, true≢false}
+use Rattle.std.proofs.lemmas.List.{length-map}
 use Rattle.device.specs.Layers.{Layer}
 use Rattle.plain.specs.declared.event.Event.{Event}
+use Rattle.plain.specs.declared.event.Event.TheVariants.{CopyRead}
 use Rattle.plain.specs.declared.event.Outcome.{Outcome}
 use Rattle.plain.specs.declared.event.Outcome.TheVariants.{Done}
+use Rattle.plain.specs.declared.request.Dev.{Dev}
+use Rattle.plain.specs.declared.request.Dev.TheVariants.{Origin, Snap}
 use Rattle.plain.specs.declared.request.Reply.{Reply}
+use Rattle.in_flight.specs.declared.copies.ChunkCopy.{ChunkCopy}
+use Rattle.in_flight.specs.declared.copies.Stage.TheVariants.{Read}
+use Rattle.in_flight.specs.declared.flights.Flight.{Flight}
+use Rattle.settled.proofs.Each.{Each}
 use Rattle.volume_laws.specs.MergeDue.{has_group}
 use Rattle.event_machine.specs.Held.{Moving}
 use Rattle.event_machine.specs.Due.{due}
 use Rattle.event_machine.specs.MergeDue.{due_all}
-use Rattle.event_machine.specs.Seen.{replied_by}
-use Rattle.event_machine.specs.Stepping.{stepped}
+use Rattle.event_machine.specs.Seen.{copying_of, going_of, replied_by}
+use Rattle.event_machine.specs.Stepping.{is_copy, stepped}
+use Rattle.snapshot.specs.Kept.{Kept}
+use Rattle.snapshots.specs.Finding.{has_copy_at, is_copy_of}
 use Rattle.merge.specs.Due.{has_group_of}
 use Rattle.merge.specs.Merging.{Merging, books_of as merging_books}
 use Rattle.volume.specs.EventKinds.{is_of_merge}
 use Rattle.volume.specs.Exact.{IsExact}
 use Rattle.volume.specs.Leaving.{has_group_in, is_quiet_of}
-use Rattle.volume.specs.Moved.{moving_of}
+use Rattle.volume.specs.Moved.{held_of, moving_of}
 use Rattle.volume.specs.Reaching.{IsRun, Reaches}
 use Rattle.volume.specs.Stepping.{KeepsAll}
 use Rattle.volume.specs.Volumed.{Volumed, is_loud_in_all}
 use Rattle.volume.proofs.Reaches.{reaches_none, reaches_more}
 use Rattle.volume_commands.proofs.Freed.{grouped, step_keeps, beside_steps, beside_due, freed, free_seen}
-use Rattle.volume_commands.specs.Following.{following, AreCarried, IsFollowed}
+use Rattle.volume_commands.specs.Following.{following, all_following, is_alone, is_of_origin, is_origin, AreCarried, IsAlone, IsFollowed}
 use Rattle.volume_commands.proofs.Follows.{Follows}
 use Rattle.volume_commands.proofs.Carried.{AllFollow, follows}
+use Rattle.volume_commands.proofs.Unmarked.{IsAloneIn, IsOrigins, all_follow, held_alone}
 use Rattle.volume_commands.proofs.Settled.{keeps_none, keeps_more}
 
 -- so far
@@ -69,6 +82,30 @@ module _ {B : Type 0} (contents : B → List ℕ) (layers : B → List Layer) (s
           let step : stepped event (moving_of contents layers None w) ≡ moving_of contents layers (replied_by outcome None) u = sym (beside_steps event (moving_of contents layers None w) (r.free all) (beside all)) ∙ e.step (r.run.loud ∙ all) None in
           ap (λ (x : Moving). grouped x.merge) (sym step) ∙ step_keeps [] event (moving_of contents layers None w) (r.free all);
     }
+
+-- a copy that is alone in a volume is so in the machine
+origin_dev : (dev : Dev) → is_origin dev ≡ true → dev ≡ Origin
+origin_dev Origin e = refl
+origin_dev (Snap n) e = absurd (true≢false (sym e))
+
+module _ {B : Type 0} (contents : B → List ℕ) (layers : B → List Layer) (n : ℕ) where
+  same_copy : (copies : List ChunkCopy) → list_any (is_copy Read n) (map copying_of copies) ≡ list_any (is_copy_of Read n) copies
+  same_copy [] = refl
+  same_copy (p ∷ copies) = ap (λ (b : Bool). is_copy_of Read n p || b) (same_copy copies)
+
+  same_alone : (s : Kept B) → held_alone n (held_of contents layers s) ≡ is_alone n s
+  same_alone s = ap (λ (b : Bool). b && (length (map copying_of s.copies) == 1)) (same_copy s.copies) ∙ ap (λ (k : ℕ). has_copy_at Read n s && (k == 1)) (length-map s.copies copying_of)
+
+  all_alone : (snaps : List (Kept B)) → list_any (held_alone n) (map (held_of contents layers) snaps) ≡ list_any (is_alone n) snaps
+  all_alone [] = refl
+  all_alone (s ∷ snaps) = ap (λ (b : Bool). b || list_any (held_alone n) (map (held_of contents layers) snaps)) (same_alone s) ∙ ap (λ (b : Bool). is_alone n s || b) (all_alone snaps)
+
+  all_origins : (flights : List Flight) → list_all is_of_origin flights ≡ true → Each IsOrigins (map going_of flights)
+  all_origins [] e = tt
+  all_origins (f ∷ flights) e = (let both = and_parts (is_of_origin f) (list_all is_of_origin flights) e in (origin_dev f.request.dev both.0, all_origins flights both.1))
+
+  seen_alone : (v : Volumed B) (replied : Option Reply) → IsAlone n v → IsAloneIn n (moving_of contents layers replied v)
+  seen_alone v replied a = record { copy = all_alone v.snaps ∙ a.copy; requests = all_origins v.flights a.requests }
 
 -- what is known to follow an event that was due first is done, or nothing is
 module _ {B : Type 0} (contents : B → List ℕ) (layers : B → List Layer) (size : B → ℕ) where
@@ -131,14 +168,23 @@ module _ {B : Type 0} (contents : B → List ℕ) (layers : B → List Layer) (s
     was_done all replied =
         sym (beside_steps event (moving_of contents layers replied w) (r.free all) (beside contents layers size (Some before) (Some after) v w u event Done r busy first calm seen all)) ∙ exact.step (r.run.loud ∙ all) replied
 
-    pub beside_followed : IsFollowed contents layers event after again u x → RunsBeside contents layers size (Some before) (Some again) v x
-    beside_followed (s, carried) =
-        let law : is_loud_in_all layers v ≡ true → (replied : Option Reply) → AllFollow (following event s) (moving_of contents layers replied u) =
-        λ all replied. subst (AllFollow (following event s)) (was_done all replied) (follows event s (moving_of contents layers replied w) (was_due all replied)) in
-        let on : IsOn before again v x = carried_on (following event s) before after again v u x (record { run = so_far.run; free = so_far.free }) law carried in
+    -- these events follow, and were done
+    followed : (events : List Event) → (is_loud_in_all layers v ≡ true → (replied : Option Reply) → AllFollow events (moving_of contents layers replied u)) → AreCarried contents layers events after again u x → RunsBeside contents layers size (Some before) (Some again) v x
+    followed events law carried =
+        let on : IsOn before again v x = carried_on events before after again v u x (record { run = so_far.run; free = so_far.free }) law carried in
         record {
           run = on.run;
           kept = keeps_more size v u x so_far.kept more_kept;
           requests = more_requests ∙ so_far.requests;
           free = on.free;
         }
+
+    pub beside_followed : IsFollowed contents layers event after again u x → RunsBeside contents layers size (Some before) (Some again) v x
+    beside_followed (inl (s, carried)) =
+        followed (following event s) (λ all replied. subst (AllFollow (following event s)) (was_done all replied) (follows event s (moving_of contents layers replied w) (was_due all replied))) carried
+    beside_followed (inr (n, s, is, alone, carried)) =
+        let law : is_loud_in_all layers v ≡ true → (replied : Option Reply) → AllFollow (all_following n s) (moving_of contents layers replied u) = λ all replied.
+        (let step : stepped (CopyRead n) (moving_of contents layers replied w) ≡ moving_of contents layers replied u = ap (λ (e : Event). stepped e (moving_of contents layers replied w)) (sym is) ∙ was_done all replied in
+        subst (AllFollow (all_following n s)) step
+        (all_follow n s (moving_of contents layers replied w) (was_due all replied ∙ ap Some is) (subst (IsAloneIn n) (sym step) (seen_alone contents layers n u replied alone)))) in
+        followed (all_following n s) law carried

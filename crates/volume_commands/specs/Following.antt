@@ -1,11 +1,18 @@
 -- Events that are known to follow another without a search. This project's own.
-use Rattle.std.specs.Prelude.{◌≡◌, ◌⊎◌, ℕ, List, [], ◌∷◌, Some}
+use Rattle.std.specs.Prelude.{◌≡◌, ◌⊎◌, ◌==◌, ◌&&◌, ℕ, Bool, true, false, List, [], ◌∷◌, length, Some}
+use Rattle.std.specs.List.{list_all, list_any}
 use Rattle.device.specs.Layers.{Layer}
 use Rattle.plain.specs.declared.event.Event.{Event}
-use Rattle.plain.specs.declared.event.Event.TheVariants.{CopyRead, CopyWrite, WriteArea, FlushStore}
+use Rattle.plain.specs.declared.event.Event.TheVariants.{CopyRead, CopyWrite, WriteArea, Publish, FlushStore}
 use Rattle.plain.specs.declared.event.Outcome.{Outcome}
 use Rattle.plain.specs.declared.event.Outcome.TheVariants.{Done}
+use Rattle.plain.specs.declared.request.Dev.{Dev}
+use Rattle.plain.specs.declared.request.Dev.TheVariants.{Origin, Snap}
 use Rattle.plain.specs.declared.request.Reply.{Reply}
+use Rattle.in_flight.specs.declared.copies.Stage.TheVariants.{Read}
+use Rattle.in_flight.specs.declared.flights.Flight.{Flight}
+use Rattle.snapshot.specs.Kept.{Kept}
+use Rattle.snapshots.specs.Finding.{has_copy_at}
 use Rattle.event_machine.specs.Seen.{replied_by}
 use Rattle.volume.specs.Exact.{IsExact}
 use Rattle.volume.specs.Volumed.{Volumed, is_loud_in_all}
@@ -17,6 +24,26 @@ following (CopyRead n) s = CopyWrite n ∷ FlushStore s ∷ WriteArea s ∷ Flus
 following (WriteArea t) s = FlushStore t ∷ []
 following event s = []
 
+-- and where the copy is alone in its snapshot, its mark is taken away then
+abbrev pub all_following : ℕ → ℕ → List Event
+all_following n s = CopyWrite n ∷ FlushStore s ∷ WriteArea s ∷ FlushStore s ∷ Publish n ∷ []
+
+-- a snapshot has the copy n, whose chunk was read, and no other
+abbrev pub is_alone : {B : Type 0} → ℕ → Kept B → Bool
+is_alone n s = has_copy_at Read n s && (length s.copies == 1)
+
+abbrev pub is_origin : Dev → Bool
+is_origin Origin = true
+is_origin (Snap n) = false
+
+abbrev pub is_of_origin : Flight → Bool
+is_of_origin f = is_origin f.request.dev
+
+-- The copy n, whose chunk was read, is alone in a snapshot, and all requests in flight are the origin's: none reads that chunk.
+pub record IsAlone {B : Type 0} (n : ℕ) (v : Volumed B) : Type 0 where
+  pub copy : list_any (is_alone n) v.snaps ≡ true
+  pub requests : list_all is_of_origin v.flights ≡ true
+
 -- Of these events some first ones were done, one after the other, and after them the last reply is this. One with another
 -- outcome than Done is the last.
 abbrev pub AreCarried : {B : Type 0} → (B → List ℕ) → (B → List Layer) → List Event → Reply → Reply → Volumed B → Volumed B → Type 0
@@ -26,6 +53,8 @@ AreCarried contents layers (next ∷ events) before after old new =
     ⊎ ((outcome : Outcome) × (mid : Volumed _) × IsExact contents layers next outcome old mid × (is_loud_in_all layers mid ≡ is_loud_in_all layers old)
     × (((new ≡ mid) × (Some after ≡ replied_by outcome (Some before))) ⊎ ((outcome ≡ Done) × AreCarried contents layers events before after mid new)))
 
--- the events that follow this one were done so, of some snapshot
+-- the events that follow this one were done so, of some snapshot; or, of a copy that is alone, all
 abbrev pub IsFollowed : {B : Type 0} → (B → List ℕ) → (B → List Layer) → Event → Reply → Reply → Volumed B → Volumed B → Type 0
-IsFollowed contents layers done before after old new = (s : ℕ) × AreCarried contents layers (following done s) before after old new
+IsFollowed contents layers done before after old new =
+    ((s : ℕ) × AreCarried contents layers (following done s) before after old new)
+    ⊎ ((n : ℕ) × (s : ℕ) × (done ≡ CopyRead n) × IsAlone n old × AreCarried contents layers (all_following n s) before after old new)
