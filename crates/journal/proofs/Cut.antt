@@ -243,4 +243,6 @@ cut_keeps w loud told p v base entries folded room h made none cut same = record
     inside = λ on. subst (AllInside base) (sym none) tt;
   };
   earned = omega (arith, h.earned, ap length none);
+  lives = h.lives;
+  may = h.may;
 }

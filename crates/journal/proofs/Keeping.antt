@@ -34,9 +34,10 @@ use Rattle.journal.specs.Replay.{plain_in, served, replay, IsLawful, AllLawful}
 use Rattle.journal.specs.Entries.{entries_by}
 use Rattle.journal.specs.Noted.{Noted, is_live, is_open, kept_count}
 use Rattle.journal.specs.Books.{Books, Counted, Replays, IsAudit, HeldFits, in_flight}
-use Rattle.journal.proofs.Lost.{all_noted, lives_now}
+use Rattle.journal.proofs.Lost.{all_noted, lives_now, were_live}
 use Rattle.journal.proofs.Mays.{any_shown, noted_may, open_spoiled, opens_served}
-use Rattle.journal.proofs.Replaying.{replay_then, lawful_then, replay_spoils, lawful_spoils, entries_by_spoils, entries_by_mine, entries_by_other, served_is, lawful_is, lives_served, IsFirst, asked_first, seated_first, without_first}
+use Rattle.journal.proofs.Spoils.{lawful_spoils}
+use Rattle.journal.proofs.Replaying.{replay_then, lawful_then, replay_spoils, entries_by_spoils, entries_by_mine, entries_by_other, served_is, lawful_is, lives_served, IsFirst, asked_first, seated_first, without_first}
 
 -- an event that is no Issue spoils, or is silent
 pub spoils_of : (old : Plain) (event : Event) (outcome : Outcome) (new : Plain) → ((n : ℕ) → event ≢ Issue n) → IsLegalStep old event outcome new → (which : List ℕ) × Spoils which old new
@@ -126,10 +127,11 @@ pub noted_replays : (p q : Plain) (v : Books) (which : List ℕ) (lives' : List 
     → Noted (length q.saved) q.saved v.lives lives' v.entries es' → Replays q (record v { entries = es'; lives = lives'; room = room' })
 noted_replays p q v which lives' es' room' h origin begun saved s =
     let noted : map (spoiled_entry s.which) p.saved ≡ q.saved = all_noted which p.saved q.saved v.lives lives' v.entries es' h.lives saved s in
+    let spoils : AllLawful (shown_of p) (map Spoiled s.which) = lawful_spoils (shown_of p) s.which (were_live which p.saved q.saved v.lives lives' v.entries es' h.lives saved s) s.apart in
     let last : record (shown_of p) { saved = map (spoiled_entry s.which) p.saved } ≡ shown_of q = (λ i. record { origin = sym origin i; begun = sym begun i; saved = noted i }) in record {
       replay_is = ap (replay v.base) s.entries_are ∙ replay_then v.base v.entries (map Spoiled s.which) ∙ replay_spoils (replay v.base v.entries) s.which
           ∙ ap (λ (x : Shown). record x { saved = map (spoiled_entry s.which) x.saved }) h.replay_is ∙ last;
-      lawful = subst (AllLawful v.base) (sym s.entries_are) (lawful_then v.base v.entries (map Spoiled s.which) h.lawful (lawful_spoils (replay v.base v.entries) s.which));
+      lawful = subst (AllLawful v.base) (sym s.entries_are) (lawful_then v.base v.entries (map Spoiled s.which) h.lawful (subst (λ (x : Shown). AllLawful x (map Spoiled s.which)) (sym h.replay_is) spoils));
       lives = lives_now which p.saved q.saved v.lives lives' v.entries es' h.lives saved s;
       may = h.may ∙ sym (open_spoiled which p.saved) ∙ ap (map is_open) (sym saved);
     }

@@ -1,3 +1,4 @@
+pub mod Spoils
 pub mod Lost
 pub mod Mays
 pub mod Marks
@@ -16,3 +17,4 @@ pub mod Undone
 pub mod Fresh
 pub mod Own
 pub mod Earning
+pub mod Lives

@@ -120,7 +120,7 @@ third_bit true true false all = absurd (false≢true all)
 third_bit true false c all = absurd (false≢true all)
 third_bit false b c all = absurd (false≢true all)
 
-all_bits : (a b c : Bool) → a ≡ true → b ≡ true → c ≡ true → (a && b && c) ≡ false → ⊥
+pub all_bits : (a b c : Bool) → a ≡ true → b ≡ true → c ≡ true → (a && b && c) ≡ false → ⊥
 all_bits true true true x y z none = false≢true (sym none)
 all_bits true true false x y z none = false≢true z
 all_bits true false c x y z none = false≢true y

@@ -1,9 +1,10 @@
 -- Where a snapshot stands among those that are shown, and that its mark is noted there.
-use Rattle.std.proofs.Common.{◌≡◌, inl, inr, ℕ, ◌+◌, ◌<◌, Bool, true, false, List, [], ◌∷◌, ◌++◌, length, get_or, set, map, Some, None, nat_lt, cond, refl, sym, ◌∙◌, ap, subst, arith}
+use Rattle.std.proofs.Common.{◌≡◌, ◌≢◌, inl, inr, ℕ, ◌+◌, ◌<◌, Bool, true, false, List, [], ◌∷◌, ◌++◌, length, get_or, set, map, Some, None, nat_lt, cond, refl, sym, ◌∙◌, ap, subst, arith}
 use Rattle.std.specs.Prelude.{◌==◌, ◌&&◌}
 use Rattle.std.specs.List.{position, position_or_len}
-use Rattle.std.proofs.lemmas.Bool.{cases_Bool}
+use Rattle.std.proofs.lemmas.Bool.{cases_Bool, eq-eqb, false≢true}
 use Rattle.std.proofs.lemmas.List.{get_or-map, get_or_default, length-map}
+use Rattle.std.proofs.lemmas.List.Sums.{fails_before_first}
 use Rattle.plain.specs.Plain.{Entry as ShownEntry, did_overflow}
 use Rattle.plain.specs.declared.request.Dev.{Dev}
 use Rattle.plain.specs.declared.request.Dev.TheVariants.{Snap}
@@ -13,6 +14,7 @@ use Rattle.volume.specs.Shown.{shown_entry}
 use Rattle.journal.specs.declared.entry.Entry.{Entry}
 use Rattle.journal.specs.declared.entry.Entry.TheVariants.{Overflowed}
 use Rattle.journal.specs.Marked.{IsMarkNoted, is_marked, is_new_mark}
+use Rattle.journal.proofs.Departed.{found_at}
 use Rattle.journal.proofs.Lost.{shown_at}
 
 snap_is : (m n : ℕ) → Snap m ≡ Snap n → m ≡ n
@@ -36,6 +38,13 @@ module _ {B : Type 0} (contents : B → List ℕ) (origin : List ℕ) where
   same_place number snaps =
       let long : length (shown snaps) ≡ length snaps = length-map snaps (shown_entry contents origin) in
       (λ i. cond (nat_lt (same_search number snaps i) (long i)) (Some (same_search number snaps i)) None)
+
+  -- no one before it has its number
+  pub none_before : (number : ℕ) (snaps : List (Kept B)) (k : ℕ) → place_of_snap number snaps ≡ Some k → (j : ℕ) (d : ShownEntry) → j < k → (get_or (shown snaps) j d).number ≢ number
+  none_before number snaps k found j d lt same =
+      let at : position_or_len (λ e. e.number == number) (shown snaps) ≡ k = same_search number snaps ∙ found_at (λ s. s.number == number) snaps k found in
+      let fails = fails_before_first (λ (e : ShownEntry). e.number == number) (shown snaps) j d (omega (arith, lt, at)) in
+      false≢true (sym fails ∙ eq-eqb (get_or (shown snaps) j d).number number same)
 
   marked_there : (snaps : List (Kept B)) (k : ℕ) (s : Kept B) → k < length snaps → s ≡ get_or snaps k s → get_or (map is_marked (shown snaps)) k false ≡ did_overflow s.overflow
   marked_there snaps k s within is =

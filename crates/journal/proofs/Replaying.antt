@@ -33,7 +33,7 @@ lawful_then s [] fs all more = more
 lawful_then s (e ∷ es) fs all more = (all.0, lawful_then (after s e) es fs all.1 more)
 
 -- spoils
-spoiled_none : (xs : List ShownEntry) → map (spoiled_entry []) xs ≡ xs
+pub spoiled_none : (xs : List ShownEntry) → map (spoiled_entry []) xs ≡ xs
 spoiled_none [] = refl
 spoiled_none (x ∷ xs) = ap (λ ys. x ∷ ys) (spoiled_none xs)
 
@@ -48,7 +48,7 @@ both_spoiled n ns x = by (n == x.number) refl
     by true e = rw e (same (is_in ns x.number) x)
     by false e = rw e refl
 
-spoiled_both : (n : ℕ) (ns : List ℕ) (xs : List ShownEntry) → map (spoiled_entry ns) (map (spoiled_entry (n ∷ [])) xs) ≡ map (spoiled_entry (n ∷ ns)) xs
+pub spoiled_both : (n : ℕ) (ns : List ℕ) (xs : List ShownEntry) → map (spoiled_entry ns) (map (spoiled_entry (n ∷ [])) xs) ≡ map (spoiled_entry (n ∷ ns)) xs
 spoiled_both n ns [] = refl
 spoiled_both n ns (x ∷ xs) = (λ i. both_spoiled n ns x i ∷ spoiled_both n ns xs i)
 
@@ -56,10 +56,6 @@ pub replay_spoils : (s : Shown) (ns : List ℕ) → replay s (map Spoiled ns) �
 replay_spoils s [] = ap (λ ys. record s { saved = ys }) (sym (spoiled_none s.saved))
 replay_spoils s (n ∷ ns) =
     replay_spoils (record s { saved = map (spoiled_entry (n ∷ [])) s.saved }) ns ∙ ap (λ ys. record s { saved = ys }) (spoiled_both n ns s.saved)
-
-pub lawful_spoils : (s : Shown) (ns : List ℕ) → AllLawful s (map Spoiled ns)
-lawful_spoils s [] = tt
-lawful_spoils s (n ∷ ns) = (tt, lawful_spoils (after s (Spoiled n)) ns)
 
 -- the entries of a seat
 pub entries_by_spoils : (seat : ℕ) (es : List Entry) (ns : List ℕ) → entries_by seat (es ++ map Spoiled ns) ≡ entries_by seat es

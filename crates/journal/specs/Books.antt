@@ -3,6 +3,7 @@ use Rattle.std.specs.Prelude.{◌≡◌, ℕ, ◌+◌, ◌<◌, ◌≤◌, Bool,
 use Rattle.std.specs.List.{All}
 use Rattle.in_flight.specs.Kinds.{room_of}
 use Rattle.plain.specs.Plain.{Plain, InFlight, Entry as ShownEntry, Saved as State, Live, Invalid, Shown, shown_of}
+use Rattle.volume.specs.Causes.{lives_of}
 use Rattle.volume.specs.Volumed.{Volumed}
 use Rattle.journal.specs.declared.entry.Base.{Base}
 use Rattle.journal.specs.declared.entry.Saved.{Saved}
@@ -12,7 +13,7 @@ use Rattle.journal.specs.Replay.{replay, AllLawful}
 use Rattle.journal.specs.Earned.{AreEarned}
 use Rattle.journal.specs.Entries.{entries_by}
 use Rattle.journal.specs.Inside.{IsAsked, AllInside}
-use Rattle.journal.specs.Noted.{is_live, is_open, kept_count}
+use Rattle.journal.specs.Noted.{is_live, is_open, kept_count, mays_of}
 use Rattle.journal.specs.Seats.{Seated}
 
 abbrev pub state_in : Option (List ℕ) → State
@@ -106,3 +107,5 @@ pub record IsKept {B : Type 0} (w : Volumed B) (loud told : Bool) (p : Plain) (v
   pub audit : IsAudit loud told p v
   pub bounded : IsBounded w.requests told p v
   pub earned : AreEarned (places_in v) w
+  pub lives : v.lives ≡ lives_of w
+  pub may : v.may ≡ mays_of w

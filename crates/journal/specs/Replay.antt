@@ -1,5 +1,5 @@
 -- Replay: the base arrays and states, then the entries in order, each by the plain machine's rule for it. This project's own.
-use Rattle.std.specs.Prelude.{◌≡◌, ◌≢◌, ℕ, false, true, List, [], ◌∷◌, ◌++◌, Option, Some, None, map}
+use Rattle.std.specs.Prelude.{◌≡◌, ◌≢◌, ℕ, false, true, Any, List, [], ◌∷◌, ◌++◌, Option, Some, None, map}
 use Rattle.std.specs.List.{All}
 use Rattle.sector.specs.Bytes.{with_sectors}
 use Rattle.plain.specs.declared.request.Dev.{Dev}
@@ -56,12 +56,13 @@ abbrev pub replay : Shown → List Entry → Shown
 replay s [] = s
 replay s (e ∷ es) = replay (after s e) es
 
--- An entry that the plain machine allows there: each reply is lawful, a store that overflowed is that of a live snapshot which
--- could, a snapshot that is taken has a number of its own, did not overflow, and shows the origin where its store was fresh, one
--- that is taken away is there, one that begins to be merged is live and alone in that, and a merge that is taken out was begun.
+-- An entry that the plain machine allows there: each reply is lawful, a snapshot that is spoiled is there and was not spoiled
+-- before, a store that overflowed is that of a live snapshot which could, a snapshot that is taken has a number of its own, did not
+-- overflow, and shows the origin where its store was fresh, one that is taken away is there, one that begins to be merged is live and
+-- alone in that, and a merge that is taken out was begun.
 abbrev pub IsLawful : Shown → Entry → Type 0
 IsLawful s (Answered a) = Serves (plain_in s) a.request.dev a.request.op a.request.range a.reply (plain_in (after s (Answered a)))
-IsLawful s (Spoiled number) = Unit {0}
+IsLawful s (Spoiled number) = Any (λ e. (e.number ≡ number) × (e.saved ≢ Invalid)) s.saved
 IsLawful s (Overflowed number) = Overflows number (plain_in s) (plain_in (after s (Overflowed number)))
 IsLawful s (Attached number array overflow fresh) = All (λ e. e.number ≢ number) s.saved × (did_overflow overflow ≡ false) × (fresh ≡ true → array ≡ s.origin)
 IsLawful s (Detached number) = (saved : Saved) × (saved_under number s.saved ≡ Some saved)

@@ -196,9 +196,12 @@ impl<B: Layered> Audit<B> {
         let _ = &self.held;
     }
 
-    /// A look at the places of the journal, which does nothing: what the volume was asked takes no more, and a few.
+    /// A look at the places of the journal, which does nothing: those that are kept for snapshots are for the volume's live ones,
+    /// and for its stores that may still overflow, whatever its devices do; and what the volume was asked takes no more, and a few.
     pub fn look_at_places(&self)
-        ensures { AreEarned (places_of self.now) self.now.volume }
+        ensures lives { self.now.lives ≡ lives_of self.now.volume }
+        ensures may { self.now.may ≡ mays_of self.now.volume }
+        ensures earned { AreEarned (places_of self.now) self.now.volume }
     {
         let _ = &self.held;
     }

@@ -1,5 +1,5 @@
 // Snapshots that a call spoiled are noted, each as one entry, and so is one whose store overflowed.
-ghost use Rattle.std.specs.Prelude.{◌≡◌, ◌+◌, ◌≤◌, length, ◌<◌, ◌&&◌, not, false, slice_index_or, vec_capacity, vec_len};
+ghost use Rattle.std.specs.Prelude.{◌≡◌, ◌≢◌, ◌+◌, ◌≤◌, ℕ, length, ◌<◌, ◌&&◌, not, false, slice_index_or, vec_capacity, vec_len};
 ghost use Rattle.plain.specs.Plain.{Entry as ShownEntry};
 ghost use Rattle.volume.specs.Volumed.{plain_of};
 ghost use Rattle.journal.specs.Marked.{IsMarkNoted};
@@ -22,10 +22,11 @@ fn is_lost<B: Block>(volume: &Volume<B>, lives: &[bool], k: usize) -> bool
     lives[k] && !snap.is_live()
 }
 
-/// Its number.
+/// Its number, which none before it has.
 fn number_at<B: Block>(volume: &Volume<B>, k: usize) -> SnapId
     requires { k < length volume.now.snaps }
-    ensures { (d : ShownEntry) → (slice_index_or (plain_of B.contents B.layers volume.now).saved k d).number ≡ result }
+    ensures number { (d : ShownEntry) → (slice_index_or (plain_of B.contents B.layers volume.now).saved k d).number ≡ result }
+    ensures first { (j : ℕ) (d : ShownEntry) → j < k → (slice_index_or (plain_of B.contents B.layers volume.now).saved j d).number ≢ result }
 {
     volume.snap(k).number()
 }

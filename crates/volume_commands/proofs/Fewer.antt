@@ -19,8 +19,6 @@ use Rattle.in_flight.specs.Routes.{refused_of}
 use Rattle.snapshot.specs.Kept.{Kept}
 use Rattle.snapshot.specs.declared.opening.StoreDev.{StoreDev}
 use Rattle.snapshots.specs.Starting.{spoilt_of, unroomed}
-use Rattle.snapshots.specs.Keeping.{kept_for, kept_back, unkept}
-use Rattle.volume_laws.proofs.Lists.{map-remove}
 use Rattle.volume.specs.Attached.{IsGained}
 use Rattle.volume.specs.Beginning.{IsMergeBegun, IsNotBegun, SameButKept}
 use Rattle.volume.specs.Causes.{HasCause, lives_of}
@@ -34,10 +32,11 @@ use Rattle.volume.proofs.FewerLives.{accepted_lives, caused_lives, roomed_lives,
 use Rattle.journal.specs.Books.{AuditShape}
 use Rattle.journal.specs.Earned.{AreEarned, merges_of}
 use Rattle.journal.specs.Journaled.{places_for, places_of}
-use Rattle.journal.specs.Noted.{is_live, is_open, kept_count, live_count, may_count, mays_of}
+use Rattle.journal.specs.Noted.{kept_count, live_count, may_count, mays_of}
 use Rattle.journal.specs.Seats.{Seated, flight_in}
-use Rattle.journal.proofs.Beginning.{lives_more, lives_shown, mays_more, mays_shown}
-use Rattle.journal.proofs.Mays.{IsFewer, bit, may_fewer, may_more, may_removed, wanted_may}
+use Rattle.journal.proofs.Beginning.{lives_more, mays_more}
+use Rattle.journal.proofs.Lives.{begun_lives, begun_mays, finished_lives, gained_lives, gained_mays, mays_by, roomed_map, unbegun_lives, unseen_lives, unseen_mays, without_lives, without_mays}
+use Rattle.journal.proofs.Mays.{IsFewer, bit, may_fewer, may_more, may_removed}
 use Rattle.volume_commands.specs.Places.{HasPlaces, kept_for_marks}
 use Rattle.volume_commands.proofs.Earns.{HasAsMany, accepted_many, begun_earned, finished_earned, gained_earned, left_earned, many_earned, merges_few, refused_many, unbegun_many, unseen_many}
 use Rattle.volume_commands.proofs.Flown.{fewer_fly}
@@ -66,49 +65,12 @@ one_more [] false = omega arith
 one_more (true ∷ bs) b = omega (arith, one_more bs b)
 one_more (false ∷ bs) b = one_more bs b
 
--- A change that nobody sees of a snapshot keeps what is live, and what may overflow.
-record IsAlike {B : Type 0} (f : Kept B → Kept B) : Type 0 where
-  pub live : (s : Kept B) → (f s).live ≡ s.live
-  pub overflow : (s : Kept B) → (f s).overflow ≡ s.overflow
-
-alike_lives : {B : Type 0} (f : Kept B → Kept B) → IsAlike f → (snaps : List (Kept B)) → map (λ s. s.live) (map f snaps) ≡ map (λ s. s.live) snaps
-alike_lives f is [] = refl
-alike_lives f is (s ∷ snaps) = (λ i. is.live s i ∷ alike_lives f is snaps i)
-
-alike_mays : {B : Type 0} (f : Kept B → Kept B) → IsAlike f → (snaps : List (Kept B)) → map (λ s. may_overflow s.overflow) (map f snaps) ≡ map (λ s. may_overflow s.overflow) snaps
-alike_mays f is [] = refl
-alike_mays f is (s ∷ snaps) = (λ i. may_overflow (is.overflow s i) ∷ alike_mays f is snaps i)
-
-alike_overflows : {B : Type 0} (f : Kept B → Kept B) → IsAlike f → (snaps : List (Kept B)) → map (λ s. s.overflow) (map f snaps) ≡ map (λ s. s.overflow) snaps
-alike_overflows f is [] = refl
-alike_overflows f is (s ∷ snaps) = (λ i. is.overflow s i ∷ alike_overflows f is snaps i)
-
-unroomed_alike : {B : Type 0} → IsAlike {B = B} unroomed
-unroomed_alike = record { live = λ s. refl; overflow = λ s. refl }
-
-unkept_alike : {B : Type 0} → IsAlike {B = B} unkept
-unkept_alike = record { live = λ s. refl; overflow = λ s. refl }
-
-kept_alike : {B : Type 0} (number count chunk : ℕ) → IsAlike {B = B} (kept_for number count chunk)
-kept_alike number count chunk = record { live = λ s. either_live (s.live && not (s.number == number)) _ s; overflow = λ s. either_overflow (s.live && not (s.number == number)) _ s }
-  where
-    either_live : {B : Type 0} (b : Bool) (count : ℕ) (s : Kept B) → (if b then kept_back count s else s).live ≡ s.live
-    either_live true count s = refl
-    either_live false count s = refl
-
-    either_overflow : {B : Type 0} (b : Bool) (count : ℕ) (s : Kept B) → (if b then kept_back count s else s).overflow ≡ s.overflow
-    either_overflow true count s = refl
-    either_overflow false count s = refl
-
+-- room for copies is not seen
 pub roomed_mays : {B : Type 0} (xs ys : List (Kept B)) → map unroomed xs ≡ map unroomed ys → map (λ s. may_overflow s.overflow) xs ≡ map (λ s. may_overflow s.overflow) ys
-roomed_mays xs ys same = sym (alike_mays unroomed unroomed_alike xs) ∙ ap (map (λ s. may_overflow s.overflow)) same ∙ alike_mays unroomed unroomed_alike ys
+roomed_mays xs ys same = roomed_map (λ (s : Kept _). may_overflow s.overflow) (λ s. refl) xs ys same
 
 pub roomed_overflows : {B : Type 0} (xs ys : List (Kept B)) → map unroomed xs ≡ map unroomed ys → map (λ s. s.overflow) xs ≡ map (λ s. s.overflow) ys
-roomed_overflows xs ys same = sym (alike_overflows unroomed unroomed_alike xs) ∙ ap (map (λ s. s.overflow)) same ∙ alike_overflows unroomed unroomed_alike ys
-
-overflow_mays : {B : Type 0} (snaps : List (Kept B)) → map (λ s. may_overflow s.overflow) snaps ≡ map may_overflow (map (λ s. s.overflow) snaps)
-overflow_mays [] = refl
-overflow_mays (s ∷ snaps) = ap (λ bs. may_overflow s.overflow ∷ bs) (overflow_mays snaps)
+roomed_overflows xs ys same = roomed_map (λ (s : Kept _). s.overflow) (λ s. refl) xs ys same
 
 -- of volumes: what keeps a place for each
 module _ {B : Type 0} (v w : Volumed B) where
@@ -135,7 +97,7 @@ module _ {B : Type 0} (v w : Volumed B) where
   alike_marks lives mays = (λ i. may_count (lives i) (mays i))
 
   same_mays : map (λ s. s.overflow) w.snaps ≡ map (λ s. s.overflow) v.snaps → IsFewer (mays_of w) (mays_of v)
-  same_mays same = same_fewer (mays_of w) (mays_of v) (overflow_mays w.snaps ∙ ap (map may_overflow) same ∙ sym (overflow_mays v.snaps))
+  same_mays same = same_fewer (mays_of w) (mays_of v) (mays_by v w same)
 
   set_mays : (place : ℕ) → mays_of w ≡ set (mays_of v) place false → IsFewer (mays_of w) (mays_of v)
   set_mays place is = then_fewer (mays_of w) (set (mays_of v) place false) (mays_of v) is (set_fewer (mays_of v) place)
@@ -201,28 +163,19 @@ module _ {B : Type 0} (v w : Volumed B) where
     refused_fewer_marks size request refusal is = (refused_fewer size request refusal is).1.marks
 
     -- what nobody sees
-    unseen_lives : plain_of contents layers w ≡ plain_of contents layers v → lives_of w ≡ lives_of v
-    unseen_lives same = lives_shown contents (contents w.origin) w.snaps ∙ ap (λ (p : Plain). map is_live p.saved) same ∙ sym (lives_shown contents (contents v.origin) v.snaps)
-
-    unseen_mays : plain_of contents layers w ≡ plain_of contents layers v → mays_of w ≡ mays_of v
-    unseen_mays same = mays_shown contents (contents w.origin) w.snaps ∙ ap (λ (p : Plain). map is_open p.saved) same ∙ sym (mays_shown contents (contents v.origin) v.snaps)
-
     pub unseen_have : (places : ℕ) → plain_of contents layers w ≡ plain_of contents layers v → (w.requests ≡ v.requests) × (w.attached ≡ v.attached) → HasPlaces v places → HasPlaces w places
     unseen_have places same given h =
         let e = ap (λ (p : Plain). length p.requests) same in
-        still_have places (omega (arith, e, length-map v.flights in_flight, length-map w.flights in_flight)) (alike_fewer (unseen_lives same) (unseen_mays same)) (unseen_many v w contents layers same given) h
+        still_have places (omega (arith, e, length-map v.flights in_flight, length-map w.flights in_flight)) (alike_fewer (unseen_lives v w contents layers same) (unseen_mays v w contents layers same)) (unseen_many v w contents layers same given) h
 
     pub unseen_marks : plain_of contents layers w ≡ plain_of contents layers v → kept_for_marks w ≡ kept_for_marks v
-    unseen_marks same = alike_marks (unseen_lives same) (unseen_mays same)
+    unseen_marks same = alike_marks (unseen_lives v w contents layers same) (unseen_mays v w contents layers same)
 
   -- a snapshot that is taken, in two places more, and one for its mark where it may overflow
-  pub gained_lives : (contents : B → List ℕ) (layers : B → List Layer) (size : B → ℕ) (number : ℕ) (wanted : Bool) (store : StoreDev B) → IsGained contents layers size number wanted store v w → lives_of w ≡ lives_of v ++ true ∷ []
-  gained_lives contents layers size number wanted store is = ap lives_of is.becomes ∙ map-append (λ (s : Kept B). s.live) v.snaps (is.snap ∷ []) ∙ ap (λ b. lives_of v ++ b ∷ []) is.live
-
   gained_bit : (contents : B → List ℕ) (layers : B → List Layer) (size : B → ℕ) (number : ℕ) (wanted : Bool) (store : StoreDev B) → IsGained contents layers size number wanted store v w → kept_for_marks w ≡ kept_for_marks v + bit wanted
   gained_bit contents layers size number wanted store is =
-      let lives = gained_lives contents layers size number wanted store is in
-      let mays : mays_of w ≡ mays_of v ++ wanted ∷ [] = ap mays_of is.becomes ∙ map-append (λ (s : Kept B). may_overflow s.overflow) v.snaps (is.snap ∷ []) ∙ ap (λ b. mays_of v ++ b ∷ []) (ap may_overflow is.overflow_is ∙ wanted_may wanted) in
+      let lives = gained_lives v w contents layers size number wanted store is in
+      let mays = gained_mays v w contents layers size number wanted store is in
       (λ i. may_count (lives i) (mays i)) ∙ may_more (lives_of v) (mays_of v) true wanted (length-map v.snaps (λ s. may_overflow s.overflow) ∙ sym (length-map v.snaps (λ s. s.live)))
 
   bit_for : (wanted : Bool) → bit wanted + 2 ≡ places_for wanted
@@ -235,7 +188,7 @@ module _ {B : Type 0} (v w : Volumed B) where
 
   pub gained_have : (contents : B → List ℕ) (layers : B → List Layer) (size : B → ℕ) (number : ℕ) (wanted : Bool) (store : StoreDev B) (places more : ℕ) → IsGained contents layers size number wanted store v w → number ≡ v.attached + 1 → more ≡ places_for wanted → places + kept_for_marks v + more ≤ 65_536 → HasPlaces v places → HasPlaces w (places + 2)
   gained_have contents layers size number wanted store places more is next for few h =
-      let live = ap live_count (gained_lives contents layers size number wanted store is) in
+      let live = ap live_count (gained_lives v w contents layers size number wanted store is) in
       let marks = gained_bit contents layers size number wanted store is in
       let e = ap (λ (x : Volumed B). length x.flights) is.becomes in
       record {
@@ -252,7 +205,7 @@ module _ {B : Type 0} (v w : Volumed B) where
 
   -- one that leaves
   left_less : (number : ℕ) (store : StoreDev B) → IsWithout number v w store → HasFewer
-  left_less number store is = left_lives is.place (ap lives_of is.becomes ∙ map-remove (λ (s : Kept B). s.live) v.snaps is.place) (ap mays_of is.becomes ∙ map-remove (λ (s : Kept B). may_overflow s.overflow) v.snaps is.place)
+  left_less number store is = left_lives is.place (without_lives v w number is.place is.found store is) (without_mays v w number is.place is.found store is)
 
   pub left_fewer : (number : ℕ) (store : StoreDev B) → IsWithout number v w store → live_count (lives_of w) ≤ live_count (lives_of v)
   left_fewer number store is = (left_less number store is).live
@@ -268,19 +221,8 @@ module _ {B : Type 0} (v w : Volumed B) where
       }
 
   -- a merge that begins, or does not, or is taken out
-  pub begun_lives : (number : ℕ) (is : IsMergeBegun number v w) → lives_of w ≡ remove (lives_of v) is.place
-  begun_lives number is =
-      let count : ℕ = length is.snap.pairs in
-      let chunk : ℕ = is.snap.state.chunk in
-      ap lives_of is.becomes ∙ alike_lives (kept_for number count chunk) (kept_alike number count chunk) (remove v.snaps is.place) ∙ map-remove (λ (s : Kept B). s.live) v.snaps is.place
-
   begun_less : (number : ℕ) → IsMergeBegun number v w → HasFewer
-  begun_less number is =
-      let count : ℕ = length is.snap.pairs in
-      let chunk : ℕ = is.snap.state.chunk in
-      let left : List (Kept B) = remove v.snaps is.place in
-      left_lives is.place (begun_lives number is)
-      (ap mays_of is.becomes ∙ alike_mays (kept_for number count chunk) (kept_alike number count chunk) left ∙ map-remove (λ (s : Kept B). may_overflow s.overflow) v.snaps is.place)
+  begun_less number is = left_lives is.place (begun_lives v w number is.place is.found is) (begun_mays v w number is.place is.found is)
 
   begun_have : (number places : ℕ) → IsMergeBegun number v w → HasPlaces v places → HasPlaces w places
   begun_have number places is h =
@@ -292,38 +234,23 @@ module _ {B : Type 0} (v w : Volumed B) where
   unbegun_flights number refusal (inl is) = ap (λ (x : Volumed B). length x.flights) is.1
   unbegun_flights number refusal (inr is) = (let kept : SameButKept v w = is.2 in ap (λ (x : Volumed B). length x.flights) kept.becomes)
 
-  unbegun_lives : (number : ℕ) (refusal : Refusal) → IsNotBegun number refusal v w → (lives_of w ≡ lives_of v) × (mays_of w ≡ mays_of v)
-  unbegun_lives number refusal (inl is) = (ap lives_of is.1, ap mays_of is.1)
-  unbegun_lives number refusal (inr is) =
-      let kept : SameButKept v w = is.2 in
-      elim kept.kept [
-        | inl same ↦ (ap (map (λ (s : Kept B). s.live)) same, ap (map (λ (s : Kept B). may_overflow s.overflow)) same)
-        | inr unkept_are ↦ (
-          ap (map (λ (s : Kept B). s.live)) unkept_are ∙ alike_lives unkept unkept_alike v.snaps,
-          ap (map (λ (s : Kept B). may_overflow s.overflow)) unkept_are ∙ alike_mays unkept unkept_alike v.snaps,
-        )
-      ]
-
   unbegun_have : (number : ℕ) (refusal : Refusal) (places : ℕ) → IsNotBegun number refusal v w → HasPlaces v places → HasPlaces w places
   unbegun_have number refusal places is h =
       let e = unbegun_flights number refusal is in
-      let alike = unbegun_lives number refusal is in
+      let alike = unbegun_lives v w number refusal is in
       still_have places (omega (arith, e)) (alike_fewer alike.0 alike.1) (unbegun_many v w number refusal is) h
 
   pub unbegun_marks : (number : ℕ) (refusal : Refusal) → IsNotBegun number refusal v w → kept_for_marks w ≡ kept_for_marks v
-  unbegun_marks number refusal is = (let alike = unbegun_lives number refusal is in alike_marks alike.0 alike.1)
+  unbegun_marks number refusal is = (let alike = unbegun_lives v w number refusal is in alike_marks alike.0 alike.1)
 
   pub begun_or_have : {A : Type 0} (number places : ℕ) (r : Result A Refusal) → OnOk r (IsMergeBegun number v w) → IfErr r (λ refusal. IsNotBegun number refusal v w) → HasPlaces v places → HasPlaces w places
   begun_or_have number places (Ok a) begun refused h = begun_have number places begun h
   begun_or_have number places (Err e) begun refused h = unbegun_have number e places refused h
 
-  pub finished_lives : (store : StoreDev B) → IsTakenOut v w store → (lives_of w ≡ lives_of v) × (mays_of w ≡ mays_of v)
-  finished_lives store is = (ap lives_of is.becomes ∙ alike_lives unkept unkept_alike v.snaps, ap mays_of is.becomes ∙ alike_mays unkept unkept_alike v.snaps)
-
   pub finished_have : (store : StoreDev B) (places : ℕ) → IsTakenOut v w store → places + kept_for_marks v + 1 ≤ 65_536 → HasPlaces v places → HasPlaces w (places + 1)
   finished_have store places is few h =
       let e = ap (λ (x : Volumed B). length x.flights) is.becomes in
-      let alike = finished_lives store is in
+      let alike = finished_lives v w store is in
       let marks = alike_marks alike.0 alike.1 in
       fewer_have places (places + 1) (omega (arith, e)) (alike_fewer alike.0 alike.1) (omega arith) (omega (arith, few))
       (finished_earned v w store (places + kept_for_marks v) (places + 1 + kept_for_marks w) is (omega (arith, marks)) h.earned) h

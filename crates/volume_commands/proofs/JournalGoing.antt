@@ -26,7 +26,8 @@ use Rattle.journal.proofs.Changes.{finished_does}
 use Rattle.journal.proofs.Departed.{begun_does, detached_does}
 use Rattle.journal.proofs.Gained.{attached_does}
 use Rattle.journal.proofs.Keeping.{spoils_of}
-use Rattle.journal.proofs.Replaying.{lawful_is, lawful_spoils, lawful_then, replay_spoils, replay_then, served_is}
+use Rattle.journal.proofs.Replaying.{lawful_is, lawful_then, replay_then, served_is}
+use Rattle.journal.proofs.Spoils.{lost_lawful, lost_of, replay_lost}
 use Rattle.volume_commands.specs.GoingOn.{ComesTo, GoesOn, IsSubmitNoted}
 
 goes_on : (p q : Plain) (es : List Entry) → AllLawful (shown_of p) es → replay (shown_of p) es ≡ shown_of q → GoesOn p es q
@@ -42,11 +43,12 @@ one_goes_on p q e lawful gives = goes_on p q (e ∷ []) (lawful, tt) gives
 pub none_goes_on : (request : Request) (refusal : Refusal) (p q : Plain) → q ≡ p → (entries : List Entry) × IsSubmitNoted request (Err refusal) entries × GoesOn p entries q
 none_goes_on request refusal p q same = ([], inl ([], refl), goes_on p q [] tt (ap shown_of (sym same)))
 
-spoils_go_on : (which : List ℕ) (p q : Plain) → q.origin ≡ p.origin → q.begun ≡ p.begun → q.saved ≡ map (spoiled_entry which) p.saved → GoesOn p (map Spoiled which) q
+-- of snapshots that may be spoiled those that are live
+spoils_go_on : (which : List ℕ) (p q : Plain) → q.origin ≡ p.origin → q.begun ≡ p.begun → q.saved ≡ map (spoiled_entry which) p.saved → GoesOn p (map Spoiled (lost_of which p.saved)) q
 spoils_go_on which p q origin begun saved =
-    goes_on p q (map Spoiled which) (lawful_spoils (shown_of p) which) (replay_spoils (shown_of p) which ∙ (λ i. record { origin = sym origin i; begun = sym begun i; saved = sym saved i }))
+    goes_on p q (map Spoiled (lost_of which p.saved)) (lost_lawful (shown_of p) which) (replay_lost (shown_of p) which ∙ (λ i. record { origin = sym origin i; begun = sym begun i; saved = sym saved i }))
 
-spoilt_goes_on : (which : List ℕ) (p q : Plain) → Spoils which p q → GoesOn p (map Spoiled which) q
+spoilt_goes_on : (which : List ℕ) (p q : Plain) → Spoils which p q → GoesOn p (map Spoiled (lost_of which p.saved)) q
 spoilt_goes_on which p q is = spoils_go_on which p q (ap (λ (x : Plain). x.origin) is) (ap (λ (x : Plain). x.begun) is) (ap (λ (x : Plain). x.saved) is)
 
 -- a store that overflowed
@@ -82,11 +84,11 @@ pub stepped_goes_on : (p : Plain) (event : Event) (outcome : Outcome) (q : Plain
 stepped_goes_on p event (Replied number reply) q legal = (Answered (record { seat = 1; request = legal.1.request; reply = reply }) ∷ [], (legal.1.request, legal.1.asked, refl), answered_goes_on number reply p q legal.1)
 stepped_goes_on p event Done q legal = elim (is_issue event) [
   | inl issue ↦ (let l = subst (λ (e : Event). IsLegalStep p e Done q) issue.1 legal in ([], ([], refl), goes_on p q [] tt (ap shown_of (sym l.0))))
-  | inr other ↦ (let s = spoils_of p event Done q other legal in (map Spoiled s.0, (s.0, refl), spoilt_goes_on s.0 p q s.1))
+  | inr other ↦ (let s = spoils_of p event Done q other legal in (map Spoiled (lost_of s.0 p.saved), (lost_of s.0 p.saved, refl), spoilt_goes_on s.0 p q s.1))
 ]
 stepped_goes_on p event Fault q legal = elim (is_issue event) [
   | inl issue ↦ absurd (subst (λ (e : Event). IsLegalStep p e Fault q) issue.1 legal)
-  | inr other ↦ (let s = spoils_of p event Fault q other legal in (map Spoiled s.0, (s.0, refl), spoilt_goes_on s.0 p q s.1))
+  | inr other ↦ (let s = spoils_of p event Fault q other legal in (map Spoiled (lost_of s.0 p.saved), (lost_of s.0 p.saved, refl), spoilt_goes_on s.0 p q s.1))
 ]
 
 -- a request
@@ -104,7 +106,7 @@ module _ {B : Type 0} (contents : B → List ℕ) (layers : B → List Layer) (v
 
   declined_goes_on : (request : Request) (refusal : Refusal) → IsDeclined request refusal p q → (entries : List Entry) × IsSubmitNoted request (Err refusal) entries × GoesOn p entries q
   declined_goes_on request refusal (inl same) = none_goes_on request refusal p q same
-  declined_goes_on request refusal (inr (number, bytes, dev, op, inl full)) = (map Spoiled (number ∷ []), inl (number ∷ [], refl), spoilt_goes_on (number ∷ []) p q full.2)
+  declined_goes_on request refusal (inr (number, bytes, dev, op, inl full)) = (map Spoiled (lost_of (number ∷ []) p.saved), inl (lost_of (number ∷ []) p.saved, refl), spoilt_goes_on (number ∷ []) p q full.2)
   declined_goes_on request refusal (inr (number, bytes, dev, op, inr marked)) = (Overflowed number ∷ [], inr (marked.0, (number, dev, refl)), marked_goes_on number p q marked.1)
 
   pub refused_goes_on : (size : B → ℕ) (request : Request) (refusal : Refusal) → IsRefusedAs contents layers size request refusal v w → is_loud_in_all layers v ≡ true → (entries : List Entry) × IsSubmitNoted request (Err refusal) entries × GoesOn p entries q

@@ -32,10 +32,11 @@ use Rattle.volume.proofs.FewerLives.{roomed_lives, set_own}
 use Rattle.volume.proofs.Named.{found_within}
 use Rattle.volume.proofs.Savings.{overflows_live}
 use Rattle.journal.specs.Noted.{live_count, may_count, mays_of}
+use Rattle.journal.proofs.Lives.{begun_lives, finished_lives, gained_lives, mays_by}
 use Rattle.journal.proofs.Mays.{may_marked}
 use Rattle.volume_commands.specs.Places.{Counted, counted_with, kept_for_marks, kept_for_snaps}
 use Rattle.volume_commands.specs.TakesPlaces.{TakesByRequests, TakesPlaces, did_count, places_of_marks}
-use Rattle.volume_commands.proofs.Fewer.{alike_marks, begun_lives, finished_lives, gained_lives, roomed_mays, roomed_overflows, unbegun_marks}
+use Rattle.volume_commands.proofs.Fewer.{alike_marks, roomed_mays, roomed_overflows, unbegun_marks}
 use Rattle.volume_commands.proofs.Full.{has_room, is_full, unbegun_other}
 use Rattle.volume_commands.proofs.Refusing.{refused_given}
 
@@ -112,7 +113,7 @@ module _ {B : Type 0} (v w : Volumed B) where
 
   pub begun_live : (number : ℕ) → IsMergeBegun number v w → begin_refusal number v ≡ None → live_count (lives_of w) + 1 ≡ live_count (lives_of v)
   begun_live number is free =
-      let e = ap live_count (begun_lives v w number is) in
+      let e = ap live_count (begun_lives v w number is.place is.found is) in
       let one = live_removed (lives_of v) is.place (begun_alone number is.place v.merge free is.found) in omega (arith, e, one)
 
   pub finished_live : (store : StoreDev B) → IsTakenOut v w store → live_count (lives_of w) ≡ live_count (lives_of v)
@@ -128,18 +129,11 @@ module _ {B : Type 0} (v w : Volumed B) where
       let within : full.place < length v.snaps = found_within number v.snaps full.place (sym full.found) in
       let overflows : map (λ s. s.overflow) w.snaps ≡ map (λ s. s.overflow) v.snaps = roomed_overflows w.snaps after full.spoilt ∙ map-set (λ (s : Kept B). s.overflow) v.snaps full.place (spoilt_of full.snap) ∙ own_overflow v.snaps full.place full.snap full.is in
       let lives : lives_of w ≡ set (lives_of v) full.place false = roomed_lives w.snaps after full.spoilt ∙ map-set (λ (s : Kept B). s.live) v.snaps full.place (spoilt_of full.snap) in
-      let mays : mays_of w ≡ mays_of v = mays_by overflows in
+      let mays : mays_of w ≡ mays_of v = mays_by v w overflows in
       let never : get_or (mays_of v) full.place false ≡ false = at_own (λ (s : Kept B). may_overflow s.overflow) v.snaps full.place full.snap false within full.is ∙ ap may_overflow full.strict in
       let marks : kept_for_marks w ≡ kept_for_marks v = (λ i. may_count (lives i) (mays i)) ∙ none_lost (lives_of v) (mays_of v) full.place never in
       let did = overflows_alike overflows in
       omega (arith, marks, did)
-    where
-      mays_map : (snaps : List (Kept B)) → map (λ s. may_overflow s.overflow) snaps ≡ map may_overflow (map (λ s. s.overflow) snaps)
-      mays_map [] = refl
-      mays_map (s ∷ snaps) = ap (λ bs. may_overflow s.overflow ∷ bs) (mays_map snaps)
-
-      mays_by : map (λ s. s.overflow) w.snaps ≡ map (λ s. s.overflow) v.snaps → mays_of w ≡ mays_of v
-      mays_by same = mays_map w.snaps ∙ ap (map may_overflow) same ∙ sym (mays_map v.snaps)
 
   overflown_marks : (contents : B → List ℕ) (layers : B → List Layer) (number first : ℕ) → IsOverflown contents layers number first v w → places_of_marks w ≡ places_of_marks v
   overflown_marks contents layers number first full =

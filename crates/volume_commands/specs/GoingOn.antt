@@ -17,7 +17,7 @@ pub record GoesOn (old : Plain) (entries : List Entry) (new : Plain) : Type 0 wh
   pub lawful : (base : Shown) (past : List Entry) → AllLawful base past → replay base past ≡ shown_of old → AllLawful base (past ++ entries)
   pub gives : (base : Shown) (past : List Entry) → replay base past ≡ shown_of old → replay base (past ++ entries) ≡ shown_of new
 
--- the entries of snapshots that were spoiled, and no others
+-- the entries of snapshots that were spoiled, and no others; that these were live is said of lawful entries
 abbrev pub AreSpoils : List Entry → Type 0
 AreSpoils entries = (which : List ℕ) × (entries ≡ map Spoiled which)
 

@@ -1,4 +1,4 @@
-use Rattle.std.proofs.Common.{rules, ◌≡◌, length, map, sym, ap, ◌∙◌, arith, inr}
+use Rattle.std.proofs.Common.{rules, ◌≡◌, ◌∷◌, ◌++◌, [], Bool, List, length, map, sym, ap, ◌∙◌, arith, inr, true}
 use Rattle.std.specs.Prelude.{◌&&◌, is_some}
 use Rattle.std.proofs.lemmas.Bool.{ltb-false}
 use Rattle.volume.specs.Leaving.{is_quiet_of}
@@ -16,6 +16,7 @@ use Rattle.journal.proofs.Bounds.{entry_bounds, long_kept}
 use Rattle.journal.proofs.Earning.{attached_earned}
 use Rattle.journal.proofs.Fresh.{fresh_taken}
 use Rattle.journal.proofs.Gained.{and_left, attached_keeps, taken_there, shows_last}
+use Rattle.journal.proofs.Lives.{gained_lives, gained_mays}
 use Rattle.journal.proofs.audit.Audit.attach.Goals as goal
 use Rattle.journal.proofs.audit.Audit.attach.Goals.{then-self, else-self}
 
@@ -46,6 +47,8 @@ invariant_of-self-in-Ok-attach g c =
       bounded = entry_bounds _ _ c.self.inside.loud c.if-self.self _ _ _ c.self.invariant.bounded (ap (λ (x : Volumed _). x.requests) c.in-Ok-attach.ensures.does.gained.becomes) (λ on. and_left c.self.inside.loud c.is_loud-loud.result (sym tells ∙ on))
           (long_kept g.B.Block.contents g.B.Block.layers g.B.Block.size g.met.B.Block.whole c.self.inside.volume c.attach.new.self c.in-Ok-attach.ensures.does.gained.origin.size_is) (ap (λ (x : Volumed _). map in_flight x.flights) c.in-Ok-attach.ensures.does.gained.becomes) (Attached c.in-Ok-attach.number c.from_vec-array.result (overflow_of c.args.overflow) c.looks_fresh-fresh.result) _ _ _ tt;
       earned = attached_earned w c.attach.new.self c.self.inside.taken (length c.self.inside.held.items) c.self.inside.entries.items c.self.inside.lives.items c.self.inside.may.items c.self.invariant.earned g.B.Block.contents g.B.Block.layers g.B.Block.size c.in-Ok-attach.number c.args.overflow c.args.store c.in-Ok-attach.ensures.does.gained c.in-Ok-attach.ensures.does.number (c.self.invariant.audit.counted.may ∙ sym c.self.invariant.audit.counted.lives) (Attached c.in-Ok-attach.number c.from_vec-array.result (overflow_of c.args.overflow) c.looks_fresh-fresh.result);
+      lives = ap (λ (bs : List Bool). bs ++ true ∷ []) c.self.invariant.lives ∙ sym (gained_lives w c.attach.new.self g.B.Block.contents g.B.Block.layers g.B.Block.size c.in-Ok-attach.number c.args.overflow c.args.store c.in-Ok-attach.ensures.does.gained);
+      may = ap (λ (bs : List Bool). bs ++ c.args.overflow ∷ []) c.self.invariant.may ∙ sym (gained_mays w c.attach.new.self g.B.Block.contents g.B.Block.layers g.B.Block.size c.in-Ok-attach.number c.args.overflow c.args.store c.in-Ok-attach.ensures.does.gained);
     })
 
 pub returns-after-self-clause-does : goal.returns-after-self-clause-does

@@ -1,4 +1,5 @@
-use Rattle.std.proofs.Common.{length, sym, ap, ◌∙◌, arith, map}
+use Rattle.std.proofs.Common.{Bool, List, length, sym, ap, ◌∙◌, arith, map}
+use Rattle.std.specs.List.{remove}
 use Rattle.std.proofs.lemmas.Bool.{ltb-false}
 use Rattle.journal.proofs.Mays.{kept_same}
 use Rattle.in_flight.specs.Kinds.{in_flight}
@@ -7,6 +8,7 @@ use Rattle.journal.specs.declared.entry.Entry.TheVariants.{Detached}
 use Rattle.journal.proofs.Bounds.{entry_bounds, long_kept}
 use Rattle.journal.proofs.Departed.{detached_keeps}
 use Rattle.journal.proofs.Earning.{detached_earned}
+use Rattle.journal.proofs.Lives.{without_lives, without_mays}
 use Rattle.journal.proofs.audit.Audit.detach.Goals as goal
 
 pub invariant_of-self : goal.invariant_of-self
@@ -19,6 +21,8 @@ invariant_of-self g c =
       bounded = entry_bounds _ _ c.self.inside.loud _ _ _ _ c.self.invariant.bounded (ap (λ (x : Volumed _). x.requests) c.in-Ok.ensures.does.taken.becomes) (λ on. on)
           (long_kept g.B.Block.contents g.B.Block.layers g.B.Block.size g.met.B.Block.whole c.self.inside.volume c.detach.new.self (ap (λ (x : Volumed _). g.B.Block.size x.origin) c.in-Ok.ensures.does.taken.becomes)) (ap (λ (x : Volumed _). map in_flight x.flights) c.in-Ok.ensures.does.taken.becomes) (Detached c.args.number) _ _ _ tt;
       earned = detached_earned c.self.inside.volume c.detach.new.self c.self.inside.taken (length c.self.inside.held.items) c.self.inside.entries.items c.self.inside.lives.items c.self.inside.may.items c.self.invariant.earned c.args.number c.in-Some.place (Detached c.args.number) c.in-Ok.store c.in-Ok.ensures.does.taken;
+      lives = ap (λ (bs : List Bool). remove bs c.in-Some.place) c.self.invariant.lives ∙ sym (without_lives c.self.inside.volume c.detach.new.self c.args.number c.in-Some.place (sym c.place_in-place.ensures ∙ c.in-Some.is) c.in-Ok.store c.in-Ok.ensures.does.taken);
+      may = ap (λ (bs : List Bool). remove bs c.in-Some.place) c.self.invariant.may ∙ sym (without_mays c.self.inside.volume c.detach.new.self c.args.number c.in-Some.place (sym c.place_in-place.ensures ∙ c.in-Some.is) c.in-Ok.store c.in-Ok.ensures.does.taken);
     })
 
 pub returns-in-Some-clause-does : goal.returns-in-Some-clause-does

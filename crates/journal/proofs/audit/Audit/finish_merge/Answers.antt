@@ -7,6 +7,7 @@ use Rattle.journal.specs.declared.entry.Entry.TheVariants.{Finished}
 use Rattle.journal.proofs.Bounds.{entry_bounds, long_kept}
 use Rattle.journal.proofs.Changes.{finished_keeps}
 use Rattle.journal.proofs.Earning.{finished_earned}
+use Rattle.journal.proofs.Lives.{finished_lives}
 use Rattle.journal.proofs.audit.Audit.finish_merge.Goals as goal
 
 pub invariant_of-self : goal.invariant_of-self
@@ -18,6 +19,8 @@ invariant_of-self g c =
       bounded = entry_bounds _ _ c.self.inside.loud _ _ _ _ c.self.invariant.bounded (ap (λ (x : Volumed _). x.requests) c.in-Ok.ensures.does.taken.becomes) (λ on. on)
           (long_kept g.B.Block.contents g.B.Block.layers g.B.Block.size g.met.B.Block.whole c.self.inside.volume c.finish_merge.new.self (ap (λ (x : Volumed _). g.B.Block.size x.origin) c.in-Ok.ensures.does.taken.becomes)) (ap (λ (x : Volumed _). map in_flight x.flights) c.in-Ok.ensures.does.taken.becomes) Finished _ _ _ tt;
       earned = finished_earned c.self.inside.volume c.finish_merge.new.self c.self.inside.taken (length c.self.inside.held.items) c.self.inside.entries.items c.self.inside.lives.items c.self.inside.may.items c.self.invariant.earned Finished c.in-Ok.store c.in-Ok.ensures.does.taken;
+      lives = c.self.invariant.lives ∙ sym (finished_lives c.self.inside.volume c.finish_merge.new.self c.in-Ok.store c.in-Ok.ensures.does.taken).0;
+      may = c.self.invariant.may ∙ sym (finished_lives c.self.inside.volume c.finish_merge.new.self c.in-Ok.store c.in-Ok.ensures.does.taken).1;
     })
 
 pub returns-in-Ok-clause-does : goal.returns-in-Ok-clause-does

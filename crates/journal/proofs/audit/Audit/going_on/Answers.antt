@@ -25,6 +25,8 @@ invariant_of-result g c =
           (c.in-Ok-mays_in.ensures ∙ mays_shown g.B.Block.contents (g.B.Block.contents w.origin) w.snaps) few c.in-Ok-with_capacity.ensures.capacity nought none;
       bounded = new_bounds w.requests c.is_loud_now-loud.result (plain_of g.B.Block.contents g.B.Block.layers w) _ quiet refl refl (λ s lt. none_yet c.in-Ok-vec.counts.items s nought);
       earned = omega (arith, c.requires.earned, kept_same _ _ _ _ c.in-Ok-lives_in.ensures.lives c.in-Ok-mays_in.ensures);
+      lives = c.in-Ok-lives_in.ensures.lives;
+      may = c.in-Ok-mays_in.ensures;
     })
 
 pub returns-clause-ok : goal.returns-clause-ok

@@ -12,6 +12,7 @@ use Rattle.journal.proofs.Beginning.{plain_long, shows_long}
 use Rattle.journal.proofs.Bounds.{count_low, issued_bounds, long_kept, quiet_bounds, size_kept}
 use Rattle.journal.proofs.Earning.{kept_earned}
 use Rattle.journal.proofs.Keeping.{first_of, held_at, fits_held, going_is, going_keeps, taken_here, number_same, issued_keeps, answer_of}
+use Rattle.journal.proofs.Lives.{mays_by, replied_alive}
 use Rattle.journal.proofs.Receipts.{base_kept, saved_same, mine_none, mine_other, mine_own, receipt_has}
 use Rattle.journal.proofs.audit.Audit.issue.Goals as goal
 
@@ -66,6 +67,8 @@ invariant_of-self g c =
       audit = kept;
       bounded = bounds;
       earned = kept_earned g.B.Block.size c.self.inside.volume c.step.new.self _ _ c.self.invariant.earned c.in-Ok-Reply.ensures.does.kept (omega (arith, c.in-Ok-Reply.ensures.does.counts.0, length-append c.self.inside.entries.items (Answered (answer_of c.remove-held.result c.args.seat c.in-Ok-Reply.reply) ∷ []), length-remove c.self.inside.held.items c.in-Some.place first.within));
+      lives = c.self.invariant.lives ∙ sym (replied_alive c.self.inside.volume c.step.new.self g.B.Block.fault_count c.in-Ok-Reply.which c.in-Ok-Reply.reply (rw c.in-Ok-Reply.field-0-is at c.in-Ok-Reply.ensures.does.cause));
+      may = c.self.invariant.may ∙ sym (mays_by c.self.inside.volume c.step.new.self c.in-Ok-Reply.ensures.does.overflows);
     })
 
 pub returns-in-Ok-Reply-clause-applied : goal.returns-in-Ok-Reply-clause-applied
@@ -96,6 +99,8 @@ invariant_of-self-in-Ok-Done g c =
       bounded = quiet_bounds _ _ c.self.inside.loud c.self.inside.loud (plain_of g.B.Block.contents g.B.Block.layers c.self.inside.volume) (plain_of g.B.Block.contents g.B.Block.layers c.step.new.self) _ c.self.invariant.bounded c.in-Ok-Done.ensures.does.counts.0 (λ on. on)
           (long_kept g.B.Block.contents g.B.Block.layers g.B.Block.size g.met.B.Block.whole c.self.inside.volume c.step.new.self (size_kept g.B.Block.size c.self.inside.volume c.step.new.self c.in-Ok-Done.ensures.does.kept.sizes)) flown.same;
       earned = kept_earned g.B.Block.size c.self.inside.volume c.step.new.self _ _ c.self.invariant.earned c.in-Ok-Done.ensures.does.kept (omega (arith, c.in-Ok-Done.ensures.does.counts.0));
+      lives = c.self.invariant.lives ∙ sym (rw c.in-Ok-Done.field-0-is at c.in-Ok-Done.ensures.does.cause).lives;
+      may = c.self.invariant.may ∙ sym (mays_by c.self.inside.volume c.step.new.self c.in-Ok-Done.ensures.does.overflows);
     }
 
 pub returns-in-Ok-Done-clause-applied : goal.returns-in-Ok-Done-clause-applied

@@ -1,9 +1,11 @@
 use Rattle.std.proofs.Common.{◌∙◌, ap, sym, refl, arith}
 use Rattle.volume.specs.Volumed.{plain_of}
+use Rattle.volume.proofs.FewerLives.{caused_lives}
 use Rattle.journal.specs.Books.{AuditShape}
 use Rattle.journal.proofs.Bounds.{long_kept, size_kept, spoilt_bounds}
 use Rattle.journal.proofs.Earning.{kept_earned, noted_places}
 use Rattle.journal.proofs.Keeping.{spoilt_keeps, spoils_of, flown_other}
+use Rattle.journal.proofs.Lives.{looked_lives, mays_by}
 use Rattle.journal.proofs.Receipts.{base_kept, saved_count, saved_same, snaps_same, noted_all, only_spoils, silent_noted}
 use Rattle.journal.proofs.audit.Audit.other.Goals as goal
 
@@ -19,6 +21,8 @@ invariant_of-self g c =
           (λ loud. spoils_of _ c.args.event c.in-Ok.outcome _ c.requires (c.in-Ok.ensures.does.legal loud)) (noted_all g.B.Block.contents g.B.Block.layers c.step.new.self _ _ _ _ c.note_spoils.ensures.noted) c.note_spoils.ensures.capacity;
       bounded = spoilt_bounds _ _ c.self.inside.loud _ _ _ _ c.self.invariant.bounded c.in-Ok.ensures.does.counts.0 (λ on. on) (long_kept g.B.Block.contents g.B.Block.layers g.B.Block.size g.met.B.Block.whole c.self.inside.volume c.step.new.self (size_kept g.B.Block.size c.self.inside.volume c.step.new.self c.in-Ok.ensures.does.kept.sizes)) flown c.note_spoils.ensures.noted.which _ _ _ c.note_spoils.ensures.noted.entries_are;
       earned = kept_earned g.B.Block.size c.self.inside.volume c.step.new.self _ _ c.self.invariant.earned c.in-Ok.ensures.does.kept (omega (arith, c.in-Ok.ensures.does.counts.0, noted_places _ _ _ _ c.self.inside.may.items _ _ c.note_spoils.ensures.noted));
+      lives = looked_lives c.self.inside.volume c.step.new.self g.B.Block.contents g.B.Block.layers _ _ _ _ c.note_spoils.ensures.noted c.self.invariant.lives c.in-Ok.ensures.does.kept.numbers (caused_lives c.self.inside.volume c.step.new.self g.B.Block.fault_count c.args.event c.in-Ok.outcome c.in-Ok.ensures.does.cause);
+      may = c.self.invariant.may ∙ sym (mays_by c.self.inside.volume c.step.new.self c.in-Ok.ensures.does.overflows);
     }
 
 pub returns-in-Ok-clause-applied : goal.returns-in-Ok-clause-applied

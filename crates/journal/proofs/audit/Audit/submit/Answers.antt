@@ -8,9 +8,11 @@ use Rattle.journal.specs.declared.entry.HeldRequest.{HeldRequest}
 use Rattle.journal.proofs.Mays.{kept_same}
 use Rattle.journal.specs.Seats.{seated}
 use Rattle.volume.proofs.Declines.{refused_declined}
+use Rattle.volume.proofs.FewerLives.{accepted_lives, refused_lives}
 use Rattle.journal.proofs.Bounds.{admitted_asked, long_kept, refused_given, spoilt_bounds, submitted_bounds}
 use Rattle.journal.proofs.Earning.{kept_earned, marked_places, noted_places}
 use Rattle.journal.proofs.Keeping.{kept_room, submitted_kept, submitted_keeps, spoilt_keeps, declined_spoils}
+use Rattle.journal.proofs.Lives.{looked_lives, marked_mays, mays_by, refused_alive, refused_mays}
 use Rattle.journal.proofs.Marks.{mark_noted, marked_bounds, marked_keeps, none_noted}
 use Rattle.journal.proofs.Receipts.{saved_count, saved_same, snaps_same, noted_all, only_spoils, refused_requests}
 use Rattle.journal.proofs.audit.Audit.submit.Goals as goal
@@ -41,6 +43,8 @@ invariant_of-self-in-Ok-submit g c =
       bounded = submitted_bounds _ _ c.self.inside.loud _ _ _ _ c.in-Ok-submit.number (kept c.args.request) c.note_spoils.ensures.noted.which _ _ _ c.self.invariant.bounded ok.given ok.next
           (long_kept g.B.Block.contents g.B.Block.layers g.B.Block.size g.met.B.Block.whole c.self.inside.volume c.submit.new.self (ap g.B.Block.size ok.origin)) ok.flown (admitted_asked g.B.Block.contents g.B.Block.layers g.B.Block.size g.met.B.Block.whole c.args.request c.self.inside.volume c.in-Ok-submit.ensures.does.admitted c.requires.bytes) c.note_spoils.ensures.noted.entries_are;
       earned = kept_earned g.B.Block.size c.self.inside.volume c.submit.new.self _ _ c.self.invariant.earned c.in-Ok-submit.ensures.does.kept (omega (arith, ok.given, ok.next, length-append {A = HeldRequest}, noted_places _ _ _ _ c.self.inside.may.items _ _ c.note_spoils.ensures.noted));
+      lives = looked_lives c.self.inside.volume c.submit.new.self g.B.Block.contents g.B.Block.layers _ _ _ _ c.note_spoils.ensures.noted c.self.invariant.lives c.in-Ok-submit.ensures.does.kept.numbers (accepted_lives c.self.inside.volume c.submit.new.self g.B.Block.contents g.B.Block.layers c.args.request c.in-Ok-submit.number ok);
+      may = c.self.invariant.may ∙ sym (mays_by c.self.inside.volume c.submit.new.self ok.overflows);
     })
 
 pub invariant_of-self-in-Err-submit : goal.invariant_of-self-in-Err-submit
@@ -58,6 +62,8 @@ invariant_of-self-in-Err-submit g c =
       bounded = spoilt_bounds _ _ c.self.inside.loud _ _ _ _ c.self.invariant.bounded (refused_given g.B.Block.contents g.B.Block.layers g.B.Block.size c.args.request c.in-Err.refusal _ _ refused) (λ on. on)
           (long_kept g.B.Block.contents g.B.Block.layers g.B.Block.size g.met.B.Block.whole c.self.inside.volume c.submit.new.self (ap g.B.Block.size c.in-Err.ensures.does.untouched.origin)) (refused_requests g.B.Block.contents g.B.Block.layers g.B.Block.size c.args.request c.in-Err.refusal c.self.inside.volume c.submit.new.self refused) c.note_spoils-in-Err.ensures.noted.which _ _ _ c.note_spoils-in-Err.ensures.noted.entries_are;
       earned = kept_earned g.B.Block.size c.self.inside.volume c.submit.new.self _ _ c.self.invariant.earned c.in-Err.ensures.does.kept (omega (arith, refused_given g.B.Block.contents g.B.Block.layers g.B.Block.size c.args.request c.in-Err.refusal _ _ refused, noted_places _ _ _ _ c.self.inside.may.items _ _ c.note_spoils-in-Err.ensures.noted));
+      lives = looked_lives c.self.inside.volume c.submit.new.self g.B.Block.contents g.B.Block.layers _ _ _ _ c.note_spoils-in-Err.ensures.noted c.self.invariant.lives c.in-Err.ensures.does.kept.numbers (refused_lives c.self.inside.volume c.submit.new.self g.B.Block.contents g.B.Block.layers g.B.Block.size c.args.request c.in-Err.refusal refused);
+      may = c.self.invariant.may ∙ sym (refused_mays c.self.inside.volume c.submit.new.self g.B.Block.contents g.B.Block.layers g.B.Block.size c.args.request c.in-Err.refusal other refused);
     })
 
 pub invariant_of-self-then-is_overflow : goal.invariant_of-self-then-is_overflow
@@ -76,6 +82,8 @@ invariant_of-self-then-is_overflow g c =
       bounded = marked_bounds _ _ c.self.inside.loud _ _ _ c.args.request.dev (plain_of g.B.Block.contents g.B.Block.layers c.submit.new.self).saved _ _ _ c.self.invariant.bounded (refused_given g.B.Block.contents g.B.Block.layers g.B.Block.size c.args.request c.in-Err.refusal _ _ refused)
           (long_kept g.B.Block.contents g.B.Block.layers g.B.Block.size g.met.B.Block.whole c.self.inside.volume c.submit.new.self (ap g.B.Block.size c.in-Err.ensures.does.untouched.origin)) requests noted;
       earned = kept_earned g.B.Block.size c.self.inside.volume c.submit.new.self _ _ c.self.invariant.earned c.in-Err.ensures.does.kept (omega (arith, refused_given g.B.Block.contents g.B.Block.layers g.B.Block.size c.args.request c.in-Err.refusal _ _ refused, marked_places _ _ _ _ _ _ _ noted));
+      lives = c.self.invariant.lives ∙ sym (refused_alive c.self.inside.volume c.submit.new.self g.B.Block.contents g.B.Block.layers g.B.Block.size c.args.request c.in-Err.refusal overflow refused);
+      may = marked_mays c.self.inside.volume c.submit.new.self g.B.Block.contents g.B.Block.layers g.B.Block.size c.args.request c.in-Err.refusal _ _ _ _ _ c.self.invariant.lives c.self.invariant.may overflow refused c.in-Err.ensures.does.kept.numbers noted;
     })
 
 pub returns-else-is_overflow-clause-noted : goal.returns-else-is_overflow-clause-noted

@@ -9,7 +9,7 @@ pub invariant_of-result : goal.invariant_of-result
 invariant_of-result g c =
     let counted = c.into_counted-volume.ensures in
     let few : length c.into_counted-volume.result.0.snaps ≤ 8 = omega (arith, c.len.ensures.len, c.len.ensures.few) in
-    let earned : AreEarned c.into_counted-volume.result.1 c.into_counted-volume.result.0 = rw counted.places (rw counted.volume c.look_at_places.ensures) in
+    let earned : AreEarned c.into_counted-volume.result.1 c.into_counted-volume.result.0 = rw counted.places (rw counted.volume c.look_at_places.ensures.earned) in
     rw c.max.ensures (quiet_have c.into_counted-volume.result.0 c.into_counted-volume.result.1 c.count_live-live.result c.count_may-may.result
     (ap (λ (v : Volumed _). v.flights) counted.volume ∙ none_flying c.args.audit.held c.args.audit.volume.flights c.look_at_requests.ensures c.requires.none) c.count_live-live.ensures.count c.count_live-live.ensures.few c.count_may-may.ensures.count c.count_may-may.ensures.few few counted.few earned)
 
