@@ -1,13 +1,12 @@
 -- The first line of a text, by where its end stands, and the lines that are printed one after another.
-use Rattle.std.proofs.Common.{◌≡◌, ℕ, suc, ◌+◌, ◌-◌, ◌<◌, ◌≤◌, Bool, true, false, List, [], ◌∷◌, ◌++◌, length, take, drop, eqb, refl, sym, ap, ◌∙◌, arith, Option, Some, None, subst}
+use Rattle.std.proofs.Common.{◌≡◌, ℕ, suc, ◌+◌, ◌-◌, ◌<◌, true, false, List, [], ◌∷◌, length, take, drop, eqb, refl, sym, ap, ◌∙◌, arith, Option, Some, None, subst}
 use Rattle.std.specs.Prelude.{position}
 use Rattle.std.specs.List.{after_first, before_first, flat_map, list_any, position_or_len}
 use Rattle.std.specs.Io.KnownBytes.{Appends}
 use Rattle.std.proofs.Math.Seq.{take-length}
-use Rattle.std.proofs.lemmas.List.{append-nil}
 use Rattle.words.specs.Lines.{begin_with, is_end, lines_of}
 use Rattle.words.proofs.LineParts.{after_some, any_none, any_some, before_some}
-use Rattle.words.proofs.Written.{WritesOn, ends, starts, writes_on}
+use Rattle.words.proofs.Written.{WritesOn, writes_on}
 use Rattle.runner.specs.Numbered.{numbered, numbered_line}
 use Rattle.runner.proofs.PartLemmas.{any_here, any_more, before_more}
 

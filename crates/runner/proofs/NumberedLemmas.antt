@@ -15,7 +15,7 @@ use Rattle.command.specs.declared.command_reply.CommandReply.{CommandReply}
 use Rattle.runner.specs.declared.summary.Summary.{Summary}
 use Rattle.runner.specs.Counts.{refuses_with, summary_of}
 use Rattle.runner.specs.Numbered.{AreDoneEach, IsTextAnswered, IsTextAnsweredTo, all_of, answers_from, numbered, numbered_from, numbered_output_of}
-use Rattle.runner.specs.Output.{MayBe, LineOutcome, Standing, counted, empty, followed, outcome_of, printed}
+use Rattle.runner.specs.Output.{MayBe, LineOutcome, Standing, counted, followed, outcome_of, printed}
 use Rattle.runner.specs.Runs.{AreDone, IsNext, IsTextDone, begun}
 use Rattle.runner.specs.Sessions.{IsEndedBy, Sitting}
 use Rattle.runner.specs.Sound.{are_sound_lines, is_alone_line, is_sound_line, is_sound_text}

@@ -1,5 +1,5 @@
 -- A line that is taken part by part: each part ahead of the reader, and then what the reader gives.
-use Rattle.std.proofs.Common.{◌≡◌, ℕ, suc, ◌+◌, ◌<◌, ◌≤◌, Bool, true, false, List, [], ◌∷◌, ◌++◌, length, take, eqb, ltb, refl, sym, ap, ◌∙◌, arith, Option, Some, None, subst}
+use Rattle.std.proofs.Common.{◌≡◌, ℕ, suc, ◌+◌, ◌<◌, ◌≤◌, Bool, true, false, List, [], ◌∷◌, ◌++◌, length, take, eqb, ltb, refl, sym, ap, ◌∙◌, arith, Option, subst}
 use Rattle.std.proofs.lemmas.Bool.{lt-ltb}
 use Rattle.std.proofs.lemmas.List.{append-nil, length-take, length-append}
 use Rattle.std.proofs.lemmas.Grind.{common_steps}

@@ -15,7 +15,7 @@ use Rattle.runner.specs.Sessions.{IsEndedBy, Sitting}
 use Rattle.runner.specs.Told.{AreToldEach, IsTextTold}
 use Rattle.runner.proofs.KeptLemmas.{next_kept}
 use Rattle.runner.proofs.NumberedLemmas.{all_push, push_printed}
-use Rattle.runner.proofs.RunLemmas.{appends_kept, none_ahead, nothing_written}
+use Rattle.runner.proofs.RunLemmas.{appends_kept, none_ahead}
 
 -- the lines so far were done, and told, where the bytes of the text are known
 abbrev pub IsOnTold : {X : Type 0} → (X → ℕ → Sitting → X → Type 0) → Option (List ℕ) → Option (List ℕ) → Sitting → List (List CommandReply) → X → X → Type 0

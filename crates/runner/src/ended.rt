@@ -37,6 +37,7 @@ fn ended_line(replied: Replied) -> CommandReply
 }
 
 /// Prints the lines of requests that ended, in the order in which they ended. The one error is the writer's own.
+#[inline(never)]
 fn print_ended<W: Write>(writer: &mut W, ended: Vec<Replied>) -> io::Result<()>
     ensures { OnOk result (Appends (W.contents writer.old) (W.contents writer.new) (printed (ended_lines ended.items))) }
 {

@@ -74,6 +74,7 @@ impl Session {
     }
 
     /// Opens a block by a line that begins with the word `par`, or answers why it opens none.
+    #[inline(never)]
     fn open<W: Write>(&mut self, line: &[u8], writer: &mut W) -> Result<(), RunError>
         requires { self.old.block ≡ None }
         ensures done { (done : LineOutcome) × IsOpenedBy (opening_of line.now) self.old.desk.table self.new.block done × (self.new.desk ≡ followed self.old.desk done)
@@ -91,6 +92,7 @@ impl Session {
     }
 
     /// Gives a line to the block that is open; where it ends that, the block is run.
+    #[inline(never)]
     fn take_line<R: Threads + Wait + Sync, W: Write>(
         &mut self,
         rt: &R,
