@@ -1,6 +1,5 @@
 -- How a run ended. It is this project's own.
 use Rattle.std.specs.Prelude.{◌==◌, ◌≢◌, ◌≤◌, ◌^◌, ◌-◌, ℕ, List, length, if◌then◌else◌, ⊤, Option, Result, Ok, Err, IfSome}
-use Rattle.std.specs.IoError.{error_kind}
 use Rattle.std.specs.Io.KnownBytes.{Keeps}
 use Rattle.std.specs.declared.io.ErrorKind.TheVariants.{Interrupted}
 use Rattle.words.specs.Lines.{lines_of}
@@ -30,7 +29,7 @@ IsMemory Endless = ⊥
 -- the reader or the writer failed; a reader's error is no interruption
 abbrev pub IsStreams : RunError → Type 0
 IsStreams Memory = ⊥
-IsStreams (Read error) = error_kind error ≢ Interrupted
+IsStreams (Read error) = error.kind ≢ Interrupted
 IsStreams (Write error) = ⊤
 IsStreams Endless = ⊥
 
@@ -38,6 +37,6 @@ IsStreams Endless = ⊥
 -- nothing was read or printed. The reader's error is no interruption. No run is too long but one of more lines than 2^64 - 2.
 abbrev pub IsEarly : Option (List ℕ) → Option (List ℕ) → Option (List ℕ) → Option (List ℕ) → RunError → Type 0
 IsEarly text left before now Memory = Keeps text left × Keeps before now
-IsEarly text left before now (Read error) = error_kind error ≢ Interrupted
+IsEarly text left before now (Read error) = error.kind ≢ Interrupted
 IsEarly text left before now (Write error) = ⊤
 IsEarly text left before now Endless = IfSome text (λ bytes. 2 ^ 64 - 1 ≤ length (lines_of bytes))

@@ -53,7 +53,7 @@ impl Desk {
         self.summary = self.summary.with(&own);
         match own.write_to(writer) {
             Ok(()) => Ok(()),
-            Err(error) => Err(RunError::Write(error)),
+            Err(error) => Err(RunError::of_writer(error)),
         }
     }
 
@@ -82,7 +82,7 @@ impl Desk {
         self.summary = self.summary.with_all(&replies).with(&CommandReply::Done);
         match print_done(writer, replies) {
             Ok(()) => Ok(()),
-            Err(error) => Err(RunError::Write(error)),
+            Err(error) => Err(RunError::of_writer(error)),
         }
     }
 }

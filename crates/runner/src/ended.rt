@@ -58,7 +58,7 @@ fn print_own<W: Write>(writer: &mut W, own: &Option<CommandReply>) -> Result<(),
         None => Ok(()),
         Some(reply) => {
             if let Err(error) = reply.write_to(writer) {
-                return Err(RunError::Write(error));
+                return Err(RunError::of_writer(error));
             }
             Ok(())
         }
@@ -84,7 +84,7 @@ pub fn print_all<W: Write>(
     }
     let ended = mem::replace(ended, Vec::new(alloc));
     if let Err(error) = print_ended(writer, ended) {
-        return Err(RunError::Write(error));
+        return Err(RunError::of_writer(error));
     }
     print_own(writer, own)
 }

@@ -1,10 +1,53 @@
 // How a run ended.
-ghost use Rattle.std.specs.Prelude.{◌≡◌};
-ghost use Rattle.runner.specs.Exit.{status_of};
+ghost use Rattle.std.specs.Prelude.{◌≡◌, ◌≢◌};
+ghost use Rattle.std.specs.IoError.{error_kind};
+ghost use Rattle.std.specs.declared.io.ErrorKind.TheVariants.{Interrupted};
+ghost use Rattle.runner.specs.Exit.{IsStreams, IsWriters, status_of};
 
 use crate::summary::Summary;
-use std::io;
+use std::fmt::{Display, Formatter};
+use std::io::ErrorKind;
+use std::{fmt, io};
 use thiserror::Error;
+
+/// Why a reader or a writer failed: by the system's number, where it gave one, and else by its kind. It is small, for each line
+/// hands on whether its answer could be written.
+#[derive(Clone, Copy, Debug)]
+pub struct StreamError {
+    pub kind: ErrorKind,
+    code: Option<i32>,
+}
+
+impl StreamError {
+    /// What a stream's error tells, without words of its own.
+    #[cold]
+    pub fn of(error: io::Error) -> StreamError
+        ensures { result.kind ≡ error_kind error }
+    {
+        StreamError {
+            kind: error.kind(),
+            code: error.raw_os_error(),
+        }
+    }
+
+    /// An error of this kind, which the system has no number of.
+    #[cold]
+    pub fn of_kind(kind: ErrorKind) -> StreamError
+        ensures { result.kind ≡ kind }
+    {
+        StreamError { kind, code: None }
+    }
+}
+
+impl Display for StreamError {
+    fn fmt<W: fmt::Write>(&self, f: &mut Formatter<W>) -> fmt::Result {
+        let error = match self.code {
+            Some(code) => io::Error::from_raw_os_error(code),
+            None => io::Error::from(self.kind),
+        };
+        write!(f, "{error}")
+    }
+}
 
 /// Why a run ended early.
 #[derive(Debug, Drop, Error)]
@@ -14,13 +57,32 @@ pub enum RunError {
     Memory,
     /// The reader failed. The lines before were done, and their answers printed.
     #[error("cannot read: {0}")]
-    Read(io::Error),
+    Read(StreamError),
     /// The writer failed. The line was done all the same, and part of its answer may be printed.
     #[error("cannot write: {0}")]
-    Write(io::Error),
+    Write(StreamError),
     /// There are more lines than any run has.
     #[error("too many lines")]
     Endless,
+}
+
+impl RunError {
+    /// The reader's error.
+    #[cold]
+    pub(crate) fn of_reader(error: io::Error) -> RunError
+        ensures { error_kind error ≢ Interrupted → IsStreams result }
+    {
+        RunError::Read(StreamError::of(error))
+    }
+
+    /// The writer's error.
+    #[cold]
+    pub(crate) fn of_writer(error: io::Error) -> RunError
+        ensures writers { IsWriters result }
+        ensures streams { IsStreams result }
+    {
+        RunError::Write(StreamError::of(error))
+    }
 }
 
 /// The exit status of a run: 0, 1 where a line that begins with `err` was printed, or 2 where it ended early.

@@ -38,7 +38,7 @@ mod tracing;
 mod undoing;
 
 pub use desk::Desk;
-pub use error::{RunError, exit_status};
+pub use error::{RunError, StreamError, exit_status};
 pub use numbered::run_numbered;
 pub use session::Session;
 pub use summary::Summary;

@@ -64,6 +64,6 @@ pub fn print_numbered<W: Write>(writer: &mut W, number: u64, text: &[u8]) -> Res
 {
     match print_lines(writer, number, text) {
         Ok(()) => Ok(()),
-        Err(error) => Err(RunError::Write(error)),
+        Err(error) => Err(RunError::of_writer(error)),
     }
 }

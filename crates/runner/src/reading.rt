@@ -4,9 +4,8 @@ ghost use Rattle.std.specs.Io.KnownBytes.{Keeps};
 ghost use Rattle.words.specs.Lines.{left, ReadsLine};
 ghost use Rattle.runner.specs.Exit.{IsStreams};
 
-use crate::error::RunError;
+use crate::error::{RunError, StreamError};
 use command::LINE_LIMIT;
-use std::io;
 use std::io::{ErrorKind, Read, Write};
 use words::LineBuffer;
 
@@ -34,10 +33,10 @@ pub fn next_line<R: Read, W: Write>(
         if buffer.ahead.take_line(&mut buffer.line, LINE_LIMIT) {
             return Ok(true);
         }
-        writer.flush().map_err(RunError::Write)?;
-        if !buffer.ahead.fill(reader).map_err(RunError::Read)? {
+        writer.flush().map_err(RunError::of_writer)?;
+        if !buffer.ahead.fill(reader).map_err(RunError::of_reader)? {
             return Ok(0 < buffer.line.len());
         }
     }
-    Err(RunError::Read(io::Error::from(ErrorKind::InvalidData)))
+    Err(RunError::Read(StreamError::of_kind(ErrorKind::InvalidData)))
 }

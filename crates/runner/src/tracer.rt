@@ -72,7 +72,7 @@ fn trace<X: Write>(tracer: &mut X, number: u64, session: &Session) -> Result<(),
 {
     let page = session.traced().map_err(|_| RunError::Memory)?;
     print_numbered(tracer, number, &page)?;
-    tracer.flush().map_err(RunError::Write)
+    tracer.flush().map_err(RunError::of_writer)
 }
 
 /// Writes out what a writer holds, where it can: what a line answers comes before what is told behind it. An error comes again

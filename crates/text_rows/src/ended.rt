@@ -1,6 +1,6 @@
 // What is said of a run that ended early.
 
-use runner::RunError;
+use runner::{RunError, StreamError};
 use std::io;
 use std::io::ErrorKind;
 use std::test::Fail;
@@ -13,13 +13,13 @@ fn says_why_a_run_ended_early(rt: HostRuntime) -> Result<(), Fail> {
     ] {
         assert_eq!(rt; format!(in rt.alloc(); "{error}")?.as_str(), words);
     }
-    let torn = RunError::Read(io::Error::from(ErrorKind::UnexpectedEof));
+    let torn = RunError::Read(StreamError::of(io::Error::from(ErrorKind::UnexpectedEof)));
     assert!(rt;
         format!(in rt.alloc(); "{torn}")?
             .as_str()
             .starts_with("cannot read: ")
     );
-    let full = RunError::Write(io::Error::from(ErrorKind::WriteZero));
+    let full = RunError::Write(StreamError::of(io::Error::from(ErrorKind::WriteZero)));
     assert!(rt;
         format!(in rt.alloc(); "{full}")?
             .as_str()
