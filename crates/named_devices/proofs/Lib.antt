@@ -13,3 +13,5 @@ pub mod Folds
 pub mod Starts
 pub mod Denied
 pub mod Fills
+pub mod NeverFull
+pub mod RulesNeverFull

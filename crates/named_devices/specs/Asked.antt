@@ -15,7 +15,8 @@ has_asked_much_in (Ok volume) = has_asked_much volume
 abbrev pub has_asked_much_for : List ℕ → Table → Table → Bool
 has_asked_much_for name old new = has_asked_much_in (volume_with new (found (place_of name old)))
 
--- if there is a name
+-- A command that takes places in the journal of the volume that has the device of a name may find that full only once that was asked for
+-- so much. One that takes none, and so has no such name, never does.
 abbrev pub IsAskedMuch : Option (List ℕ) → Table → Table → Type 0
-IsAskedMuch None old new = Unit {0}
+IsAskedMuch None old new = ⊥
 IsAskedMuch (Some name) old new = has_asked_much_for name old new ≡ true

@@ -1,5 +1,6 @@
 // Status lines.
-ghost use Rattle.std.specs.Prelude.{◌≡◌, true};
+ghost use Rattle.std.specs.Prelude.{◌≡◌, ◌≢◌, true, IfErr};
+ghost use Rattle.sector.specs.declared.refusal.Refusal.TheVariants.{JournalFull};
 ghost use Rattle.words.specs.Given.{Gives};
 ghost use Rattle.command_rules.specs.Places.{IsPlaceIn, volume_at};
 ghost use Rattle.command_rules.specs.Status.{status_at, status_text};
@@ -21,6 +22,7 @@ fn status_at(alloc: Global, held: &Devices, v: usize, role: Role) -> Result<Text
     ensures done { is_sound_in (volume_at v (table_of held.now)) ≡ true → Gives result (status_at (In v role) (table_of held.now)) }
     ensures among { IsStatusIn result role (volume_at v (table_of held.now)) }
     ensures held { IsStatusHeldIn result role (volume_at v (table_of held.now)) }
+    ensures room { IfErr result (λ e. e ≢ JournalFull) }
 {
     held.volumes[v].status(alloc, role)
 }
@@ -32,6 +34,7 @@ pub fn status_text(alloc: Global, held: &Devices, name: &Name) -> Result<Text, R
     ensures done { is_sound_in (volume_for name.now (table_of held.now)) ≡ true → Gives result (status_text name.now (table_of held.now)) }
     ensures among { IsStatusAmong result name.now (table_of held.now) }
     ensures held { IsStatusHeld result name.now (table_of held.now) }
+    ensures room { IfErr result (λ e. e ≢ JournalFull) }
 {
     match find_device(held, name)? {
         Place::Free(_, _) => Err(Refusal::BadTable),

@@ -6,6 +6,7 @@ pub mod EndedLemmas
 pub mod AskingLemmas
 pub mod RuledLemmas
 pub mod LeftLemmas
+pub mod WordsNeverFull
 pub mod FullLemmas
 pub mod ShownLemmas
 pub mod DeskLemmas

@@ -33,11 +33,12 @@ entered_by (commands.StopLosing volume) = None
 entered_by (commands.Status device) = None
 entered_by (commands.Table device) = None
 
--- by the end of such a command, its volume was asked for so much that its journal may be full
+-- By the end of such a command, its volume was asked for so much that its journal may be full. No other command is told that one is,
+-- and no line that says nothing or is refused for its words.
 abbrev pub IsAskedBySaid : Result (Option Command) Refusal → Table → Table → Type 0
-IsAskedBySaid (Ok None) old new = Unit {0}
+IsAskedBySaid (Ok None) old new = ⊥
 IsAskedBySaid (Ok (Some command)) old new = IsAskedMuch (entered_by command) old new
-IsAskedBySaid (Err refusal) old new = Unit {0}
+IsAskedBySaid (Err refusal) old new = ⊥
 
 -- the same of a line
 unfoldable pub IsAskedByLine : List ℕ → Table → Table → Type 0

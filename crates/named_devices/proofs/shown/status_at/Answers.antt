@@ -2,6 +2,7 @@ use Rattle.named_volume.specs.Tables.{table_of}
 use Rattle.named_devices.proofs.Denied.{held_in}
 use Rattle.named_devices.proofs.InVolume.{among_in, shown_in}
 use Rattle.named_devices.proofs.Ruled.{sound_here}
+use Rattle.named_devices.proofs.RulesNeverFull.{status_never}
 use Rattle.named_devices.proofs.shown.status_at.Goals as goal
 
 pub returns-clause-done : goal.returns-clause-done
@@ -18,3 +19,6 @@ returns-clause-among c =
 pub returns-clause-held : goal.returns-clause-held
 returns-clause-held c =
     held_in c.status.result c.args.role c.args.v (table_of c.args.held.now) c.index.result.now c.requires.0 c.index.ensures c.status.ensures.held
+
+pub returns-clause-room : goal.returns-clause-room
+returns-clause-room c = let never = status_never c.status.result c.args.role c.index.result.now c.status.ensures.held in never.other

@@ -134,7 +134,7 @@ pub returns-in-Err-clause-shows : goal.returns-in-Err-clause-shows
 returns-in-Err-clause-shows c = λ ruled. refused_shown c.args.line.now (table_of c.args.held.now) c.in-Err.refusal c.in-Err.ensures
 
 pub returns-in-Ok-None-clause-full : goal.returns-in-Ok-None-clause-full
-returns-in-Ok-None-clause-full c = λ told. silent_full c.args.line.now (table_of c.args.held.now) (table_of c.args.held.now) (said c.in-Ok-None.ensures c.in-Ok-None.field-0-is)
+returns-in-Ok-None-clause-full c = silent_full c.args.line.now (table_of c.args.held.now) (table_of c.args.held.now)
 
 pub returns-in-Ok-clause-full : goal.returns-in-Ok-clause-full
 returns-in-Ok-clause-full c = λ told. command_full c.args.line.now c.in-Ok-Some.command (table_of c.args.held.now) (table_of c.obey.new.held) (said c.in-Ok-Some.ensures c.in-Ok-Some.field-0-is) (c.in-Ok.ensures.full told)

@@ -1,6 +1,6 @@
 use Rattle.std.proofs.Common.{◌≡◌, [], ◌∷◌, Some, refl, sym, subst}
 use Rattle.std.specs.Prelude.{IfSome}
-use Rattle.command.specs.declared.command_reply.CommandReply.TheVariants.{Data, Done, Refused}
+use Rattle.command.specs.declared.command_reply.CommandReply.TheVariants.{Data, Done, Refused, Said}
 use Rattle.command.specs.declared.grammar.Command.{Command}
 use Rattle.named_volume.specs.Tables.{table_of}
 use Rattle.command_rules.specs.Starting.{read_asked, write_asked}
@@ -14,7 +14,7 @@ use Rattle.runner.specs.Left.{IsLeft}
 use Rattle.sector.specs.declared.refusal.Refusal.TheVariants.{JournalFull}
 use Rattle.named_devices.specs.Asked.{IsAskedMuch}
 use Rattle.runner.specs.Full.{entered_by}
-use Rattle.runner.proofs.FullLemmas.{data_other, done_other, worded_full}
+use Rattle.runner.proofs.FullLemmas.{data_other, done_other, said_other, worded_full, worded_never}
 use Rattle.runner.proofs.step.obey.Goals as goal
 
 pub returns-in-Read-clause-asks : goal.returns-in-Read-clause-asks
@@ -67,3 +67,8 @@ pub returns-in-Write-clause-full : goal.returns-in-Write-clause-full
 returns-in-Write-clause-full c =
     let P : Command → Type 0 = λ command. told (reworded Some c.did.result) ≡ Refused JournalFull ∷ [] → IsAskedMuch (entered_by command) (table_of c.args.held.now) (table_of c.write_device.new.held) in
     subst P (sym c.in-Write.is) (worded_full (λ _. Done) _ c.write_device.result c.did.result done_other c.write_device.ensures.full c.did.ensures)
+
+pub returns-in-Status-clause-full : goal.returns-in-Status-clause-full
+returns-in-Status-clause-full c =
+    let P : Command → Type 0 = λ command. told (reworded Some c.text.result) ≡ Refused JournalFull ∷ [] → IsAskedMuch (entered_by command) (table_of c.args.held.now) (table_of c.args.held.now) in
+    subst P (sym c.in-Status.is) (worded_never Said c.status_text.result c.text.result said_other (record { other = c.status_text.ensures.room }) c.text.ensures)

@@ -1,6 +1,6 @@
 use Rattle.std.proofs.Common.{◌≡◌, [], ◌∷◌, true, Some, refl, sym, subst}
-use Rattle.std.specs.Prelude.{IfSome}
-use Rattle.command.specs.declared.command_reply.CommandReply.TheVariants.{Data, Done, Number, Refused}
+use Rattle.std.specs.Prelude.{IfSome, Ok}
+use Rattle.command.specs.declared.command_reply.CommandReply.TheVariants.{Data, Done, Number, Refused, Said}
 use Rattle.command.specs.declared.grammar.Command.{Command}
 use Rattle.named_volume.specs.Tables.{table_of}
 use Rattle.named_devices.specs.Ruled.{volume_for}
@@ -30,7 +30,9 @@ use Rattle.runner.specs.Left.{IsLeft}
 use Rattle.sector.specs.declared.refusal.Refusal.TheVariants.{JournalFull}
 use Rattle.named_devices.specs.Asked.{IsAskedMuch}
 use Rattle.runner.specs.Full.{entered_by}
-use Rattle.runner.proofs.FullLemmas.{data_other, done_other, number_other, worded_full}
+use Rattle.named_devices.proofs.NeverFull.{answer_never}
+use Rattle.named_devices.proofs.RulesNeverFull.{changes_never, checkpointed_never, gives_never, line_text_never, load_never, make_never, merge_resumed_never, origin_by_never, save_never, stops_never, tell_never, volume_stopped_never}
+use Rattle.runner.proofs.FullLemmas.{data_other, done_other, number_other, said_other, settled_never, stepped_never, told_never, worded_full, worded_never}
 use Rattle.runner.proofs.step.obey_any.Goals as goal
 
 pub returns-in-Tick-clause-sound : goal.returns-in-Tick-clause-sound
@@ -295,3 +297,68 @@ pub returns-in-Finish-clause-full : goal.returns-in-Finish-clause-full
 returns-in-Finish-clause-full c =
     let P : Command → Type 0 = λ command. told (reworded Some c.did-in-Finish.result) ≡ Refused JournalFull ∷ [] → IsAskedMuch (entered_by command) (table_of c.args.held.now) (table_of c.finish_device.new.held) in
     subst P (sym c.in-Finish.is) (worded_full (λ _. Done) _ c.finish_device.result c.did-in-Finish.result done_other c.finish_device.ensures.full c.did-in-Finish.ensures)
+
+pub returns-in-Disk-clause-full : goal.returns-in-Disk-clause-full
+returns-in-Disk-clause-full c =
+    let P : Command → Type 0 = λ command. told (reworded Some c.did.result) ≡ Refused JournalFull ∷ [] → IsAskedMuch (entered_by command) (table_of c.args.held.now) (table_of c.make_disk.new.held) in
+    subst P (sym c.in-Disk.is) (worded_never (λ _. Done) c.make_disk.result c.did.result done_other (changes_never c.make_disk.result (table_of c.args.held.now) (table_of c.make_disk.new.held) _ c.make_disk.ensures.done (make_never c.in-Disk.name c.in-Disk.sectors (table_of c.args.held.now))) c.did.ensures)
+
+pub returns-in-Load-clause-full : goal.returns-in-Load-clause-full
+returns-in-Load-clause-full c =
+    let P : Command → Type 0 = λ command. told (reworded Some c.did-in-Load.result) ≡ Refused JournalFull ∷ [] → IsAskedMuch (entered_by command) (table_of c.args.held.now) (table_of c.load_disk.new.held) in
+    subst P (sym c.in-Load.is) (worded_never (λ _. Done) c.load_disk.result c.did-in-Load.result done_other (changes_never c.load_disk.result (table_of c.args.held.now) (table_of c.load_disk.new.held) _ c.load_disk.ensures.done (load_never c.in-Load.disk c.in-Load.first c.in-Load.bytes (table_of c.args.held.now))) c.did-in-Load.ensures)
+
+pub returns-in-Save-clause-full : goal.returns-in-Save-clause-full
+returns-in-Save-clause-full c =
+    let P : Command → Type 0 = λ command. told (reworded Some c.given.result) ≡ Refused JournalFull ∷ [] → IsAskedMuch (entered_by command) (table_of c.args.held.now) (table_of c.args.held.now) in
+    subst P (sym c.in-Save.is) (worded_never Data c.save_disk.result c.given.result data_other (gives_never c.save_disk.result _ c.save_disk.ensures (save_never c.in-Save.disk c.in-Save.first c.in-Save.count (table_of c.args.held.now))) c.given.ensures)
+
+pub returns-in-Message-clause-full : goal.returns-in-Message-clause-full
+returns-in-Message-clause-full c =
+    let P : Command → Type 0 = λ command. told (reworded Some c.tell_device.result) ≡ Refused JournalFull ∷ [] → IsAskedMuch (entered_by command) (table_of c.args.held.now) (table_of c.tell_device.new.held) in
+    subst P (sym c.in-Message.is) (told_never c.tell_device.result (table_of c.args.held.now) (table_of c.tell_device.new.held) _ _ c.tell_device.ensures.done (tell_never c.in-Message.name c.in-Message.message (table_of c.args.held.now)))
+
+pub returns-in-Step-clause-full : goal.returns-in-Step-clause-full
+returns-in-Step-clause-full c =
+    let P : Command → Type 0 = λ command. told (reworded Some c.step_volume.result) ≡ Refused JournalFull ∷ [] → IsAskedMuch (entered_by command) (table_of c.args.held.now) (table_of c.step_volume.new.held) in
+    subst P (sym c.in-Step.is) (stepped_never c.in-Step.volume c.in-Step.event c.step_volume.result (table_of c.args.held.now) (table_of c.step_volume.new.held) c.args.ended.now.items c.step_volume.new.ended.items c.step_volume.ensures.left)
+
+pub returns-in-Settle-clause-full : goal.returns-in-Settle-clause-full
+returns-in-Settle-clause-full c =
+    let P : Command → Type 0 = λ command. told (reworded Some c.did-in-Settle.result) ≡ Refused JournalFull ∷ [] → IsAskedMuch (entered_by command) (table_of c.args.held.now) (table_of c.settle_device.new.held) in
+    subst P (sym c.in-Settle.is) (worded_never (λ _. Done) c.settle_device.result c.did-in-Settle.result done_other (settled_never (origin_by c.in-Settle.volume (table_of c.args.held.now)) c.settle_device.result (origin_by_never c.in-Settle.volume (table_of c.args.held.now)) c.settle_device.ensures.asks c.settle_device.ensures.refused) c.did-in-Settle.ensures)
+
+pub returns-in-Resume-clause-full : goal.returns-in-Resume-clause-full
+returns-in-Resume-clause-full c =
+    let P : Command → Type 0 = λ command. told (reworded Some c.did-in-Resume.result) ≡ Refused JournalFull ∷ [] → IsAskedMuch (entered_by command) (table_of c.args.held.now) (table_of c.resume_device.new.held) in
+    subst P (sym c.in-Resume.is) (worded_never (λ _. Done) c.resume_device.result c.did-in-Resume.result done_other (changes_never c.resume_device.result (table_of c.args.held.now) (table_of c.resume_device.new.held) _ c.resume_device.ensures.done (merge_resumed_never c.in-Resume.volume (table_of c.args.held.now))) c.did-in-Resume.ensures)
+
+pub returns-in-Checkpoint-clause-full : goal.returns-in-Checkpoint-clause-full
+returns-in-Checkpoint-clause-full c =
+    let P : Command → Type 0 = λ command. told (reworded Some c.did-in-Checkpoint.result) ≡ Refused JournalFull ∷ [] → IsAskedMuch (entered_by command) (table_of c.args.held.now) (table_of c.checkpoint_device.new.held) in
+    subst P (sym c.in-Checkpoint.is) (worded_never (λ _. Done) c.checkpoint_device.result c.did-in-Checkpoint.result done_other (changes_never c.checkpoint_device.result (table_of c.args.held.now) (table_of c.checkpoint_device.new.held) _ c.checkpoint_device.ensures.done (checkpointed_never c.in-Checkpoint.volume (table_of c.args.held.now))) c.did-in-Checkpoint.ensures)
+
+pub returns-in-Stop-clause-full : goal.returns-in-Stop-clause-full
+returns-in-Stop-clause-full c =
+    let P : Command → Type 0 = λ command. told (reworded Some c.did-in-Stop.result) ≡ Refused JournalFull ∷ [] → IsAskedMuch (entered_by command) (table_of c.args.held.now) (table_of c.stop_device.new.held) in
+    subst P (sym c.in-Stop.is) (worded_never (λ _. Done) c.stop_device.result c.did-in-Stop.result done_other (changes_never c.stop_device.result (table_of c.args.held.now) (table_of c.stop_device.new.held) _ c.stop_device.ensures.done (volume_stopped_never c.in-Stop.volume (table_of c.args.held.now))) c.did-in-Stop.ensures)
+
+pub returns-in-StopLosing-clause-full : goal.returns-in-StopLosing-clause-full
+returns-in-StopLosing-clause-full c =
+    let P : Command → Type 0 = λ command. told (reworded Some c.did-in-StopLosing.result) ≡ Refused JournalFull ∷ [] → IsAskedMuch (entered_by command) (table_of c.args.held.now) (table_of c.stop_losing.new.held) in
+    subst P (sym c.in-StopLosing.is) (worded_never (λ _. Done) c.stop_losing.result c.did-in-StopLosing.result done_other (stops_never c.stop_losing.result c.in-StopLosing.volume (table_of c.args.held.now) (table_of c.stop_losing.new.held) c.stop_losing.ensures.done) c.did-in-StopLosing.ensures)
+
+pub returns-in-Status-clause-full : goal.returns-in-Status-clause-full
+returns-in-Status-clause-full c =
+    let P : Command → Type 0 = λ command. told (reworded Some c.text.result) ≡ Refused JournalFull ∷ [] → IsAskedMuch (entered_by command) (table_of c.args.held.now) (table_of c.args.held.now) in
+    subst P (sym c.in-Status.is) (worded_never Said c.status_text.result c.text.result said_other (record { other = c.status_text.ensures.room }) c.text.ensures)
+
+pub returns-in-Table-clause-full : goal.returns-in-Table-clause-full
+returns-in-Table-clause-full c =
+    let P : Command → Type 0 = λ command. told (reworded Some c.text-in-Table.result) ≡ Refused JournalFull ∷ [] → IsAskedMuch (entered_by command) (table_of c.args.held.now) (table_of c.args.held.now) in
+    subst P (sym c.in-Table.is) (worded_never Said c.line_text.result c.text-in-Table.result said_other (gives_never c.line_text.result _ c.line_text.ensures (line_text_never c.in-Table.name (table_of c.args.held.now))) c.text-in-Table.ensures)
+
+pub returns-in-Tick-clause-full : goal.returns-in-Tick-clause-full
+returns-in-Tick-clause-full c =
+    let P : Command → Type 0 = λ command. told (reworded Some c.did-in-Tick.result) ≡ Refused JournalFull ∷ [] → IsAskedMuch (entered_by command) (table_of c.args.held.now) (table_of c.tick.new.held) in
+    subst P (sym c.in-Tick.is) (worded_never (λ _. Done) (Ok tt) c.did-in-Tick.result done_other answer_never c.did-in-Tick.ensures)
