@@ -4,25 +4,18 @@ use Rattle.std.specs.List.{list_any, list_all}
 use Rattle.device.specs.Layers.{Layer, is_loud}
 use Rattle.plain.specs.declared.request.Dev.{Dev}
 use Rattle.plain.specs.declared.request.Dev.TheVariants.{Origin, Snap as ToSnap}
-use Rattle.plain.specs.declared.request.Overflowing.{Overflowing}
 use Rattle.event_machine.specs.MergeRest.{merge_in}
 use Rattle.settled.specs.Merges.{Merged}
-use Rattle.settled.specs.Snaps.{Snap, Volume}
+use Rattle.settled.specs.Snaps.{Snap, SnapOn, Volume}
 use Rattle.snapshot.specs.Kept.{Kept}
 use Rattle.volume.specs.Volumed.{Volumed, is_loud_with}
 use Rattle.volume.specs.Causes.{counts_with}
 use Rattle.volume.specs.Leaving.{is_quiet_of}
 use Rattle.volume.specs.Moved.{device_of, moving_of}
 
--- A snapshot: its number, the sectors of its chunks, whether it is live, whether its store is stale, whether that may overflow
--- and did, and its store's device.
-pub record Attached (B : Type 0) : Type 0 where
-  pub number : ℕ
-  pub chunk : ℕ
-  pub live : Bool
-  pub stale : Bool
-  pub overflow : Overflowing
-  pub store : B
+-- a snapshot, over its store's device
+abbrev pub Attached : Type 0 → Type 0
+Attached B = SnapOn B
 
 -- requests, copies, attached: how many numbers of each kind were given; events: the volume of events that it is, of which
 -- callers need to know no more than whether it is settled or quiet, and which of its events are due.

@@ -361,4 +361,4 @@ returns-in-Table-clause-full c =
 pub returns-in-Tick-clause-full : goal.returns-in-Tick-clause-full
 returns-in-Tick-clause-full c =
     let P : Command → Type 0 = λ command. told (reworded Some c.did-in-Tick.result) ≡ Refused JournalFull ∷ [] → IsAskedMuch (entered_by command) (table_of c.args.held.now) (table_of c.tick.new.held) in
-    subst P (sym c.in-Tick.is) (worded_never (λ _. Done) (Ok tt) c.did-in-Tick.result done_other answer_never c.did-in-Tick.ensures)
+    subst P (sym c.in-Tick.is) (worded_never (λ _. Done) (Ok (tt {0})) c.did-in-Tick.result done_other answer_never c.did-in-Tick.ensures)
