@@ -1,6 +1,6 @@
 // How a run ended.
-ghost use Rattle.std.specs.Prelude.{◌≡◌, ◌≢◌};
-ghost use Rattle.std.specs.IoError.{error_kind};
+ghost use Rattle.std.specs.Prelude.{◌≡◌, ◌≢◌, None};
+ghost use Rattle.std.specs.IoError.{error_kind, raw_os_error};
 ghost use Rattle.std.specs.declared.io.ErrorKind.TheVariants.{Interrupted};
 ghost use Rattle.runner.specs.Exit.{IsStreams, IsWriters, status_of};
 
@@ -15,14 +15,16 @@ use thiserror::Error;
 #[derive(Clone, Copy, Debug)]
 pub struct StreamError {
     pub kind: ErrorKind,
-    code: Option<i32>,
+    /// The system's number.
+    pub code: Option<i32>,
 }
 
 impl StreamError {
     /// What a stream's error tells, without words of its own.
     #[cold]
     pub fn of(error: io::Error) -> StreamError
-        ensures { result.kind ≡ error_kind error }
+        ensures kind { result.kind ≡ error_kind error }
+        ensures code { result.code ≡ raw_os_error error }
     {
         StreamError {
             kind: error.kind(),
@@ -33,7 +35,8 @@ impl StreamError {
     /// An error of this kind, which the system has no number of.
     #[cold]
     pub fn of_kind(kind: ErrorKind) -> StreamError
-        ensures { result.kind ≡ kind }
+        ensures kind { result.kind ≡ kind }
+        ensures code { result.code ≡ None }
     {
         StreamError { kind, code: None }
     }

@@ -24,7 +24,7 @@ flushed Origin v = flush_origin v
 flushed (ToSnap number) v = in_snap number flush_snap v.origin v.snaps
 
 -- a command goes on where its piece was done
-abbrev pub go_on : Reply → Answered Volume → Answered Volume → Answered Volume
+abbrev pub go_on : {S : Type 0} → Reply → Answered S → Answered S → Answered S
 go_on (Data bytes) here rest = rest
 go_on Written here rest = rest
 go_on Flushed here rest = rest

@@ -17,14 +17,13 @@ use Rattle.in_flight.specs.Copies.{count_of}
 use Rattle.in_flight.specs.Due.{first_by}
 use Rattle.plain.specs.declared.request.Dev.{Dev}
 use Rattle.plain.specs.declared.request.Dev.TheVariants.{Origin, Snap as ToSnap}
-use Rattle.plain.specs.declared.request.Reply.{Reply}
-use Rattle.plain.specs.declared.request.Reply.TheVariants.{Data, Written, Flushed, Refused}
+use Rattle.plain.specs.declared.request.Reply.TheVariants.{Data, Written, Refused}
 use Rattle.plain.specs.declared.request.Failure.TheVariants.{Io}
 use Rattle.settled.specs.Devices.{Device, sectors_of, answers, met, written_by, read_reply}
 use Rattle.settled.specs.Snaps.{Snap, Volume}
 use Rattle.settled.specs.Saving.{next_place, has_chunk}
 use Rattle.settled.specs.Pieces.{Answered, save_at, write_origin, read_origin, flush_origin}
-use Rattle.settled.specs.Commands.{write_piece, read_piece, flushed, bytes_in, piece_of}
+use Rattle.settled.specs.Commands.{write_piece, read_piece, flushed, go_on, bytes_in, piece_of}
 use Rattle.settled.specs.Attaching.{Store, last_area, detached}
 
 -- A snapshot that is merged: its number, the sectors of its chunks, whether an operation of the merge failed, the area that
@@ -286,13 +285,7 @@ abbrev pub flushed_through : Dev → Merging → Answered Merging
 flushed_through Origin m = flush_through m
 flushed_through (ToSnap number) m = beside m.merge (flushed (ToSnap number) m.volume)
 
--- a command goes on where its piece was done
-abbrev pub go_on : Reply → Answered Merging → Answered Merging → Answered Merging
-go_on (Data bytes) here rest = rest
-go_on Written here rest = rest
-go_on Flushed here rest = rest
-go_on (Refused failure) here rest = here
-
+-- the pieces of a write, each with its part of the bytes, and those of a read, after these bytes
 abbrev pub write_parts : Dev → List Span → List ℕ → Merging → Answered Merging
 write_parts dev [] bytes m = record { state = m; reply = Written }
 write_parts dev (piece ∷ pieces) bytes m =

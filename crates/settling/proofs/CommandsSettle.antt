@@ -18,10 +18,10 @@ use Rattle.plain.specs.declared.request.Reply.{Reply}
 use Rattle.plain.specs.declared.request.Reply.TheVariants.{Data, Written, Flushed, Refused}
 use Rattle.device.specs.declared.operation.Operation.TheVariants.{Flushes}
 use Rattle.settled.specs.Devices.{answers}
-use Rattle.settled.specs.Commands.{bytes_in}
+use Rattle.settled.specs.Commands.{go_on, bytes_in}
 use Rattle.settled.specs.Requests.{answered_by, FitsRange}
 use Rattle.settled.specs.Snaps.{Snap}
-use Rattle.settled.specs.Merges.{Merging, beside, place_in, read_at, go_on, write_part, write_parts, read_part, read_parts, least_chunk, written_through, read_through}
+use Rattle.settled.specs.Merges.{Merging, beside, place_in, read_at, write_part, write_parts, read_part, read_parts, least_chunk, written_through, read_through}
 use Rattle.settled.specs.MergeShown.{IsWell, IsMerging}
 use Rattle.settled.proofs.Chunks.{IsWide, HasChunks, answer_keeps, chunks_keep}
 use Rattle.settled.proofs.Each.{Each, each_from, all_from}

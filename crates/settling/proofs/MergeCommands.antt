@@ -15,7 +15,8 @@ use Rattle.chunk.proofs.Limits.{is_chunk-some}
 use Rattle.chunk.proofs.Wider.{wider}
 use Rattle.chunk.proofs.PiecePlaces.{join_le, piece_high}
 use Rattle.settled.specs.Shown.{ShowTheSame}
-use Rattle.settled.specs.Merges.{Merging, go_on, write_part, write_parts, written_through, least_chunk}
+use Rattle.settled.specs.Commands.{go_on}
+use Rattle.settled.specs.Merges.{Merging, write_part, write_parts, written_through, least_chunk}
 use Rattle.settled.specs.MergeShown.{IsMerging, shown_through}
 use Rattle.settled.proofs.Each.{Each, each_from}
 use Rattle.settled.proofs.Chunks.{IsWide, HasChunks}

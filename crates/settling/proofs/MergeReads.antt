@@ -14,8 +14,8 @@ use Rattle.chunk.specs.Sizes.{is_chunk}
 use Rattle.chunk.proofs.Limits.{is_chunk-some}
 use Rattle.chunk.proofs.Wider.{wider}
 use Rattle.chunk.proofs.PiecePlaces.{join_le, piece_high}
-use Rattle.settled.specs.Commands.{bytes_in}
-use Rattle.settled.specs.Merges.{Merging, go_on, read_part, read_parts, read_through, least_chunk}
+use Rattle.settled.specs.Commands.{go_on, bytes_in}
+use Rattle.settled.specs.Merges.{Merging, read_part, read_parts, read_through, least_chunk}
 use Rattle.settled.specs.MergeShown.{IsMerging, IsUnseen, shown_through}
 use Rattle.settled.proofs.Each.{Each, each_from}
 use Rattle.settling.proofs.MergeShows.{unseen_then, unseen_still}

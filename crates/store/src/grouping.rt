@@ -8,9 +8,9 @@ use device::Block;
 use exception_arena::Exceptions;
 use sector::Pair;
 
-/// Pairs whose chunks both rise by one.
+/// Pairs whose chunks both rise by one: what a merge takes at once.
 #[derive(Clone, Copy, PartialEq, Eq)]
-pub struct Run {
+pub struct Consecutive {
     pub first: Pair,
     /// How many they are.
     pub count: u32,
@@ -26,7 +26,7 @@ fn follows(before: Pair, after: Pair) -> bool
 impl<B: Block> Store<B> {
     /// The group that a merge takes next: the last pair of the current area, and those before it in that area while both
     /// chunks fall by one. `None` where that area has no slot in use.
-    pub fn merge_group(&self) -> Option<Run>
+    pub fn merge_group(&self) -> Option<Consecutive>
         ensures { MatchOption result (self.now.state.filled ≡ 0) (λ run. IsGroup self.now.state.filled (committed self.now.exceptions) run.first run.count) }
     {
         let filled = self.state.filled;
@@ -38,11 +38,11 @@ impl<B: Block> Store<B> {
         for count in 1..filled {
             let before = self.exceptions.committed_at(len - 1 - count as usize);
             if !follows(before, first) {
-                return Some(Run { first, count });
+                return Some(Consecutive { first, count });
             }
             first = before;
         }
-        Some(Run {
+        Some(Consecutive {
             first,
             count: filled,
         })

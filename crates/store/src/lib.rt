@@ -22,7 +22,7 @@ mod preparing;
 mod state;
 mod store;
 
-pub use grouping::Run;
+pub use grouping::Consecutive;
 pub use opening::{Loaded, open};
 pub use state::{Left, State};
 pub use store::Store;

@@ -3,7 +3,7 @@
 use Rattle.std.proofs.Common.{◌≡◌, ◌≢◌, inl, inr, ℕ, ◌+◌, ◌<◌, ◌≤◌, Bool, true, false, List, [], ◌∷◌, length, map, refl, sym, ◌∙◌, ap, subst}
 use Rattle.std.specs.Prelude.{◌&&◌, ◌||◌, not, None, sum_by, count_by, if◌then◌else◌}
 use Rattle.std.specs.List.{list_all, list_any}
-use Rattle.std.proofs.lemmas.Bool.{cases_Bool, MatchBool-at_true, MatchBool-at_false, and_parts, and_from, not-false, or_parts, true≢false}
+use Rattle.std.proofs.lemmas.Bool.{cases_Bool, MatchBool-at_true, MatchBool-at_false, and_parts, and_from, or_parts, true≢false}
 use Rattle.device.specs.Layers.{Layer}
 use Rattle.plain.specs.declared.request.Request.{Request}
 use Rattle.in_flight.specs.Kinds.{kind_of, room_of}

@@ -1,4 +1,5 @@
--- Of which devices the bytes say what callers see, whatever the others drop. This project's own.
+-- What a look past the layers gives, by the pairs that are in memory; and of which devices the bytes say what callers see,
+-- whatever the others drop. This project's own.
 use Rattle.std.specs.Prelude.{◌≡◌, ℕ, Bool, true, List, length, Option, Some, None, map, slice_get, slice_index_or}
 use Rattle.std.specs.List.{range_with_len}
 use Rattle.sector.specs.Bytes.{sectors_at}

@@ -147,8 +147,8 @@ impl<B: Layered> Volume<B> {
     /// Copies sectors of what the origin or a live snapshot shows into a buffer that is as long: the bytes on the devices,
     /// whatever their layers would answer now, by the pairs that are in memory; these are what the devices show, of the origin
     /// always, or beside a merge where no layer drops writes of the merging store, and of a snapshot where no layer drops writes
-    /// of its own store. No device fails at it, and no operation is counted. `MergingSnapshot` for the one that is being merged, `NoSuchDevice` where there is no such snapshot,
-    /// `Invalid` where it is spoiled.
+    /// of its own store. No device fails at it, and no operation is counted. `MergingSnapshot` for the one that is being merged,
+    /// `NoSuchDevice` where there is no such snapshot, `Invalid` where it is spoiled.
     pub fn peek(&self, dev: Dev, range: Range, out: &mut [u8]) -> Result<(), Refusal>
         requires some { 0 < range.count }
         requires inside { range.first + range.count ≤ B.size self.now.origin }

@@ -7,12 +7,11 @@ use Rattle.plain.specs.declared.request.Reply.{Reply}
 use Rattle.plain.specs.declared.request.Reply.TheVariants.{Data, Written, Flushed, Refused}
 use Rattle.settled.specs.Snaps.{Volume}
 use Rattle.settled.specs.Pieces.{Answered}
-use Rattle.settled.specs.Commands.{go_on as alone_on, bytes_in, read_piece, read_pieces}
-use Rattle.settled.specs.Merges.{Merge, Merged, Merging, merged_of, beside, place_in, read_at, go_on as beside_on, read_parts}
+use Rattle.settled.specs.Commands.{go_on, bytes_in, read_piece, read_pieces}
+use Rattle.settled.specs.Merges.{Merge, Merged, Merging, merged_of, beside, place_in, read_at, read_parts}
 use Rattle.settled.specs.MergeShown.{array_of}
 use Rattle.volume_commands.specs.Serving.{part_read}
 use Rattle.volume_commands.proofs.Shown.{arrays_with, begun_with}
-use Rattle.volume_commands.proofs.WriteRuns.{go_on}
 use Rattle.volume_commands.proofs.ReadRuns.{parts_read}
 use Rattle.volume_commands.proofs.ShownReads.{piece_shown}
 use Rattle.plain.specs.Plain.{Shown}
@@ -45,7 +44,7 @@ parts_shown dev (piece ∷ pieces) before m =
     let same : arrays_with here.state ≡ arrays_with m = part_by dev piece m.merge m.volume in
     goes_shown here.reply (arrays_with m) here (parts_read dev pieces (before ++ bytes_in here.reply) here.state) same (parts_shown dev pieces (before ++ bytes_in here.reply) here.state ∙ same)
 
-snap_goes : (g : Merge) (r : Reply) (here more : Answered Volume) → beside_on r (beside g here) (beside g more) ≡ beside g (alone_on r here more)
+snap_goes : (g : Merge) (r : Reply) (here more : Answered Volume) → go_on r (beside g here) (beside g more) ≡ beside g (go_on r here more)
 snap_goes g (Data bytes) here more = refl
 snap_goes g Written here more = refl
 snap_goes g Flushed here more = refl
@@ -56,4 +55,4 @@ pub snap_parts : (number : ℕ) (pieces : List Span) (before : List ℕ) (g : Me
 snap_parts number [] before g v = refl
 snap_parts number (p ∷ ps) before g v =
     let here : Answered Volume = read_piece (ToSnap number) p v in
-    ap (beside_on here.reply (beside g here)) (snap_parts number ps (before ++ bytes_in here.reply) g here.state) ∙ snap_goes g here.reply here (read_pieces (ToSnap number) ps (before ++ bytes_in here.reply) here.state)
+    ap (go_on here.reply (beside g here)) (snap_parts number ps (before ++ bytes_in here.reply) g here.state) ∙ snap_goes g here.reply here (read_pieces (ToSnap number) ps (before ++ bytes_in here.reply) here.state)

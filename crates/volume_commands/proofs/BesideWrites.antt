@@ -32,7 +32,7 @@ use Rattle.volume.specs.Volumed.{Volumed, piece_with}
 use Rattle.volume.specs.Moved.{moving_of}
 use Rattle.event_machine.specs.Held.{MergeHeld}
 use Rattle.event_machine.specs.MergeRest.{IsBetween, in_big_steps}
-use Rattle.settled.specs.Merges.{Merge, Merged, Merging, merged_of as in_one, beside, go_on as beside_on, write_at, write_part, write_parts, place_in}
+use Rattle.settled.specs.Merges.{Merge, Merged, Merging, merged_of as in_one, beside, write_at, write_part, write_parts, place_in}
 use Rattle.settled.specs.MergeShown.{IsMerging, array_of, shown_through}
 use Rattle.volume_commands.specs.Rested.{rested_of, merged_of, IsSettled}
 use Rattle.plain.specs.Failures.{refusal_of}
@@ -97,7 +97,7 @@ module _ (sectors chunk : ℕ) (ok : is_chunk chunk ≡ true) where
 
   goes_through : (piece : Span) (pieces : List Span) (bytes : List ℕ) (old : Shown) (r : Reply) (here more : Answered Merging) → 512 * piece.count ≤ length bytes → ((array : List ℕ) → saved_of Origin old ≡ Live array → 512 * piece.first ≤ length array) → here.reply ≡ r
       → IsPieceShown Origin piece.first (take (512 * piece.count) bytes) old (arrays_with (in_one here.state)) r → AreWritten Origin (piece.first + piece.count) pieces (drop (512 * piece.count) bytes) (arrays_with (in_one here.state)) (arrays_with (in_one more.state)) more.reply
-      → AreWritten Origin piece.first (piece ∷ pieces) bytes old (arrays_with (in_one (beside_on r here more).state)) (beside_on r here more).reply
+      → AreWritten Origin piece.first (piece ∷ pieces) bytes old (arrays_with (in_one (go_on r here more).state)) (go_on r here more).reply
   goes_through piece pieces bytes old (Data all) here more room low is shows rest = absurd shows
   goes_through piece pieces bytes old Flushed here more room low is shows rest = absurd shows
   goes_through piece pieces bytes old Written here more room low is shows rest = write_more Origin piece pieces bytes old (arrays_with (in_one here.state)) room low (arrays_with (in_one more.state)) more.reply shows.0 shows.1 shows.2 rest
@@ -128,7 +128,7 @@ module _ (sectors chunk : ℕ) (ok : is_chunk chunk ≡ true) where
       saved_length (Live xs) = length xs
       saved_length Invalid = 0
 
-snap_goes : (g : Merge) (r : Reply) (here more : Answered Volume) → beside_on r (beside g here) (beside g more) ≡ beside g (go_on r here more)
+snap_goes : (g : Merge) (r : Reply) (here more : Answered Volume) → go_on r (beside g here) (beside g more) ≡ beside g (go_on r here more)
 snap_goes g (Data bytes) here more = refl
 snap_goes g Written here more = refl
 snap_goes g Flushed here more = refl
@@ -140,7 +140,7 @@ snap_parts number [] bytes g v = refl
 snap_parts number (p ∷ ps) bytes g v =
     let here : Answered Volume = write_piece (ToSnap number) p (take (512 * p.count) bytes) v in
     let tail : List ℕ = drop (512 * p.count) bytes in
-    ap (beside_on here.reply (beside g here)) (snap_parts number ps tail g here.state) ∙ snap_goes g here.reply here (write_pieces (ToSnap number) ps tail here.state)
+    ap (go_on here.reply (beside g here)) (snap_parts number ps tail g here.state) ∙ snap_goes g here.reply here (write_pieces (ToSnap number) ps tail here.state)
 
 snap_written : (number first : ℕ) (pieces : List Span) (bytes : List ℕ) (g : Merge) (old new : Shown) (reply : Reply) → AreWritten (ToSnap number) first pieces bytes old new reply → AreWritten (ToSnap number) first pieces bytes (with_merge (Some g) old) (with_merge (Some g) new) reply
 snap_written number first pieces bytes g old new (Data all) law = law

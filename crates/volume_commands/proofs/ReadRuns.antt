@@ -7,11 +7,11 @@ use Rattle.plain.specs.declared.request.Reply.TheVariants.{Data, Written, Flushe
 use Rattle.plain.specs.declared.request.Failure.{Failure}
 use Rattle.settled.specs.Snaps.{Volume}
 use Rattle.settled.specs.Pieces.{Answered}
-use Rattle.settled.specs.Commands.{bytes_in, read_piece, read_pieces}
+use Rattle.settled.specs.Commands.{go_on, bytes_in, read_piece, read_pieces}
 use Rattle.settled.specs.Merges.{Merge, Merged, Merging, read_part, read_parts}
 use Rattle.settled.specs.Beside.{alone, beside, served, served_by}
 use Rattle.volume_commands.specs.Serving.{IsGood, part_read}
-use Rattle.volume_commands.proofs.WriteRuns.{answer, go_on, alone_goes, beside_goes, take_front, joined, ends}
+use Rattle.volume_commands.proofs.WriteRuns.{answer, alone_goes, beside_goes, take_front, joined, ends}
 
 -- the pieces of a read, after these bytes
 abbrev pub parts_read : Dev → List Span → List ℕ → Merged → Answered Merged

@@ -16,7 +16,7 @@ use Rattle.settled.specs.Devices.{Device, met}
 use Rattle.settled.specs.Snaps.{Snap, Volume}
 use Rattle.settled.specs.Pieces.{Answered, read_place, read_snap, in_snap}
 use Rattle.settled.specs.Commands.{read_piece, read_pieces, go_on, bytes_in, read, read_first, pieces_first}
-use Rattle.settled.specs.Merges.{Merge, Merged, Merging, merged_of as with_merge, with_store, place_in, sector_in, read_at, read_part, read_parts, read_through, least_chunk, go_on as go_on_beside}
+use Rattle.settled.specs.Merges.{Merge, Merged, Merging, merged_of as with_merge, with_store, place_in, sector_in, read_at, read_part, read_parts, read_through, least_chunk}
 use Rattle.event_machine.specs.MergeRest.{merge_in}
 use Rattle.event_machine.specs.MergeSeen.{held_in}
 use Rattle.merge.specs.Merging.{Merging as MergingStack}
@@ -109,7 +109,7 @@ part_same : (dev : Dev) (piece : Span) (m : Merging) → AreUnmoved m.volume →
 part_same Origin piece m hv hg = at_same (place_in piece.first m.merge) piece m hv hg
 part_same (ToSnap number) piece m hv hg = ap (λ (v : Volume). let n : Merging = record { volume = v; merge = m.merge } in n) (piece_same (ToSnap number) piece m.volume hv)
 
-goes_on_beside : (reply : Reply) (m : Merging) (here rest : Answered Merging) → here.state ≡ m → rest.state ≡ m → (go_on_beside reply here rest).state ≡ m
+goes_on_beside : (reply : Reply) (m : Merging) (here rest : Answered Merging) → here.state ≡ m → rest.state ≡ m → (go_on reply here rest).state ≡ m
 goes_on_beside (Data bytes) m here rest h r = r
 goes_on_beside Written m here rest h r = r
 goes_on_beside Flushed m here rest h r = r

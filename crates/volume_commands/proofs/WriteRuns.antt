@@ -7,8 +7,8 @@ use Rattle.plain.specs.declared.request.Reply.TheVariants.{Data, Written, Flushe
 use Rattle.plain.specs.declared.request.Failure.{Failure}
 use Rattle.settled.specs.Snaps.{Volume}
 use Rattle.settled.specs.Pieces.{Answered}
-use Rattle.settled.specs.Commands.{go_on as alone_on, write_piece, write_pieces}
-use Rattle.settled.specs.Merges.{Merge, Merged, Merging, go_on as beside_on, write_part, write_parts}
+use Rattle.settled.specs.Commands.{go_on, write_piece, write_pieces}
+use Rattle.settled.specs.Merges.{Merge, Merged, Merging, write_part, write_parts}
 use Rattle.settled.specs.Beside.{alone, beside, served, served_by}
 use Rattle.volume_commands.specs.Serving.{IsGood, part_written}
 
@@ -18,13 +18,6 @@ counts_of (p ∷ pieces) = p.count + counts_of pieces
 
 abbrev pub answer : Merged → Reply → Answered Merged
 answer v reply = record { state = v; reply = reply }
-
--- a command goes on where its piece was done
-abbrev pub go_on : Reply → Answered Merged → Answered Merged → Answered Merged
-go_on (Data bytes) here rest = rest
-go_on Written here rest = rest
-go_on Flushed here rest = rest
-go_on (Refused failure) here rest = here
 
 -- the pieces of a write, each with its part of the bytes
 abbrev pub parts_written : Dev → List Span → List ℕ → Merged → Answered Merged
@@ -57,13 +50,13 @@ goes_written Flushed here rest rest' x w is f e = f e
 goes_written (Refused failure) here rest rest' x w is f e = let same : Refused failure ≡ Written = sym is ∙ ap (λ (a : Answered Merged). a.reply) e in absurd (cc)
 
 -- without a merge, and beside one
-pub alone_goes : (r : Reply) (here rest : Answered Volume) → alone (alone_on r here rest) ≡ go_on r (alone here) (alone rest)
+pub alone_goes : (r : Reply) (here rest : Answered Volume) → alone (go_on r here rest) ≡ go_on r (alone here) (alone rest)
 alone_goes (Data bytes) here rest = refl
 alone_goes Written here rest = refl
 alone_goes Flushed here rest = refl
 alone_goes (Refused failure) here rest = refl
 
-pub beside_goes : (r : Reply) (here rest : Answered Merging) → beside (beside_on r here rest) ≡ go_on r (beside here) (beside rest)
+pub beside_goes : (r : Reply) (here rest : Answered Merging) → beside (go_on r here rest) ≡ go_on r (beside here) (beside rest)
 beside_goes (Data bytes) here rest = refl
 beside_goes Written here rest = refl
 beside_goes Flushed here rest = refl

@@ -1,5 +1,5 @@
 -- A write that waits for nothing is put in flight, and starts nothing; for any other the copies are started.
-use Rattle.std.proofs.Common.{◌≡◌, ◌+◌, ◌<◌, ◌≤◌, ℕ, true, false, List, length, map, sym, ◌∙◌, ap, subst, arith}
+use Rattle.std.proofs.Common.{◌≡◌, ◌+◌, ◌<◌, ◌≤◌, true, List, map, sym, ◌∙◌, ap, subst}
 use Rattle.std.specs.Prelude.{sum_by, count_by}
 use Rattle.std.specs.List.{All}
 use Rattle.in_flight.specs.Kinds.{kind_of, room_of}
