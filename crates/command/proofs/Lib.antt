@@ -11,4 +11,3 @@ pub mod WordsAgain
 pub mod RunsAgain
 pub mod DataAgain
 pub mod RunLine
-pub mod SaidLine

@@ -1,5 +1,5 @@
 // What a command answers, and the line that prints it.
-ghost use Rattle.std.specs.Prelude.{◌≡◌, ◌≤◌, ◌<◌, ◌++◌, OnOk, codes, decimal, length, take};
+ghost use Rattle.std.specs.Prelude.{◌≡◌, ◌≤◌, ◌<◌, ◌++◌, OnOk, codes, decimal, drop, length};
 ghost use Rattle.std.specs.Io.KnownBytes.{Appends};
 ghost use Rattle.command.specs.Refusals.{refusal_text};
 ghost use Rattle.command.specs.Texts.{text_of};
@@ -11,6 +11,7 @@ use itoa::Buffer;
 use sector::{Buf, Refusal};
 use std::io;
 use std::io::Write;
+use table::put;
 use words::Text;
 
 /// What a command answers.
@@ -48,19 +49,15 @@ pub(crate) fn write_refusal<W: Write>(writer: &mut W, refusal: Refusal) -> io::R
     writer.write_all(refusal.name().as_bytes())
 }
 
-/// Puts the line of a text that was asked for at the front of a room, and tells how many bytes that are.
+/// Puts the line of a text that was asked for at the end of a room, and tells where it begins.
 fn put_said(room: &mut [u8; LINE_ROOM], text: &[u8]) -> usize
     requires { length text.now ≤ 92 }
-    ensures within { result ≤ 96 }
-    ensures line { take result room.new ≡ codes "ok " ++ text.now ++ codes "\n" }
+    ensures within { result < 96 }
+    ensures line { drop result room.new ≡ codes "ok " ++ text.now ++ codes "\n" }
 {
-    let end = text.len() + 3;
-    room[0] = b'o';
-    room[1] = b'k';
-    room[2] = b' ';
-    room[3..end].copy_from_slice(text);
-    room[end] = b'\n';
-    end + 1
+    let end = put(room, LINE_ROOM, b"\n");
+    let end = put(room, end, text);
+    put(room, end, b"ok ")
 }
 
 /// Prints the line of a text that was asked for. The one error is the writer's own.
@@ -94,12 +91,12 @@ fn write_refused<W: Write>(writer: &mut W, refusal: Refusal) -> io::Result<()>
 }
 
 impl CommandReply {
-    /// Puts the line of a text or of one run of data at the front of a room where it has room there, and tells how many bytes that
-    /// are; 0 for any other, which is to be printed by its parts.
+    /// Puts the line of a text or of one run of data at the end of a room where it has room there, and tells where it begins; the
+    /// room's end for any other, which is to be printed by its parts.
     #[inline(always)]
     fn put_short(&self, room: &mut [u8; LINE_ROOM]) -> usize
         ensures within { result ≤ 96 }
-        ensures line { 0 < result → take result room.new ≡ text_of self.now }
+        ensures line { result < 96 → drop result room.new ≡ text_of self.now }
     {
         match self {
             CommandReply::Data(bytes) => {
@@ -107,21 +104,22 @@ impl CommandReply {
                 if is_one_run(bytes) {
                     put_line(room, bytes.len(), bytes[0])
                 } else {
-                    0
+                    LINE_ROOM
                 }
             }
             CommandReply::Said(text) => {
                 if text.len() <= LINE_ROOM - 4 {
                     put_said(room, text.as_slice())
                 } else {
-                    0
+                    LINE_ROOM
                 }
             }
-            _ => 0,
+            _ => LINE_ROOM,
         }
     }
 
     /// Prints the line of a reply by its parts.
+    #[inline(never)]
     #[tactic(auto, using(words::proofs::Written::appends_more))]
     fn write_parts<W: Write>(&self, writer: &mut W) -> io::Result<()>
         ensures { OnOk result (Appends (W.contents writer.old) (W.contents writer.new) (text_of self.now)) }
@@ -148,9 +146,9 @@ impl CommandReply {
             return writer.write_all(b"ok\n");
         }
         let mut room = [b' '; LINE_ROOM];
-        let end = self.put_short(&mut room);
-        if end > 0 {
-            return writer.write_all(&room[..end]);
+        let start = self.put_short(&mut room);
+        if start < LINE_ROOM {
+            return writer.write_all(&room[start..]);
         }
         self.write_parts(writer)
     }

@@ -163,6 +163,7 @@ fn even_payload(alloc: Global, word: &[u8]) -> Result<Buf, Refusal>
 
 /// The bytes of the sectors that the data words of a text say, of which there are several. Refused as `payload_size` is; then
 /// `NoMemory`.
+#[inline(never)]
 fn uneven_payload(alloc: Global, text: &[u8]) -> Result<Buf, Refusal>
     requires { length text.now ≤ 65536 }
     ensures { Gives result (payload_of (words_of text.now)) }

@@ -39,6 +39,7 @@ fn is_text(line: &[u8]) -> bool
 }
 
 // What a line says that holds more than spaces, by looking at each byte first.
+#[inline(never)]
 fn any_said(alloc: Global, line: &[u8]) -> Result<Option<Command>, Refusal>
     requires { length line.now ≤ 65536 }
     ensures { Gives result (if list_all is_printable line.now then line_saying (command_of (words_of line.now)) else Err BadTable) }

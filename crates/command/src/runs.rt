@@ -3,11 +3,11 @@ ghost use Rattle.std.specs.Prelude.{◌≡◌, ◌≤◌, ◌<◌, ◌+◌, ◌�
 ghost use Rattle.std.specs.Io.KnownBytes.{Appends};
 ghost use Rattle.command.specs.Runs.{runs_of, hex_char, run_word, data_words};
 
-use itoa::Buffer;
 use std::alloc::{AllocError, Global};
 use std::io;
 use std::io::Write;
 use std::simd::prelude::*;
+use table::{put, put_number};
 use words::Text;
 
 /// So many bytes are compared at once.
@@ -27,21 +27,22 @@ fn hex_digit(d: u8) -> u8
     if d < 10 { b'0' + d } else { b'a' - 10 + d }
 }
 
-/// Puts a space and a run at the front of a room, and tells how many bytes that are.
-#[tactic(auto, using(crate::proofs::RunWord::short_digits))]
-fn put_run(room: &mut [u8; RUN_ROOM], count: usize, byte: u8) -> usize
-    ensures within { result ≤ 24 }
-    ensures word { take result room.new ≡ run_word (count, byte) }
+/// Puts a space and a run before a place, and tells where they begin.
+#[tactic(auto, using(crate::proofs::RunWord::run_short))]
+fn put_run(room: &mut [u8], end: usize, count: usize, byte: u8) -> usize
+    requires within { end ≤ length room.old }
+    requires space { 24 ≤ end }
+    ensures start { result + length (run_word (count, byte)) ≡ end }
+    ensures written { drop result room.new ≡ run_word (count, byte) ++ drop end room.old }
+    ensures short { length (run_word (count, byte)) ≤ 24 }
 {
-    let mut buffer = Buffer::new();
-    let digits = buffer.format(count).as_bytes();
-    let end = digits.len() + 1;
-    room[0] = b' ';
-    room[1..end].copy_from_slice(digits);
-    room[end] = b'*';
-    room[end + 1] = hex_digit(byte / 16);
-    room[end + 2] = hex_digit(byte % 16);
-    end + 3
+    let end = put(
+        room,
+        end,
+        &[b'*', hex_digit(byte / 16), hex_digit(byte % 16)],
+    );
+    let end = put_number(room, end, count as u64);
+    put(room, end, b" ")
 }
 
 /// Prints a space and a run, in one write.
@@ -49,8 +50,8 @@ fn write_run<W: Write>(writer: &mut W, count: usize, byte: u8) -> io::Result<()>
     ensures { OnOk result (Appends (W.contents writer.old) (W.contents writer.new) (run_word (count, byte))) }
 {
     let mut room = [b' '; RUN_ROOM];
-    let end = put_run(&mut room, count, byte);
-    writer.write_all(&room[..end])
+    let start = put_run(&mut room, RUN_ROOM, count, byte);
+    writer.write_all(&room[start..])
 }
 
 /// Whether the 64 bytes from a place on are all this one.
@@ -112,18 +113,14 @@ pub fn is_one_run(bytes: &[u8]) -> bool
     !bytes.is_empty() && run_len(bytes) == bytes.len()
 }
 
-/// Puts the line of one run at the front of a room, and tells how many bytes that are.
+/// Puts the line of one run at the end of a room, and tells where it begins.
 pub fn put_line(room: &mut [u8; LINE_ROOM], count: usize, byte: u8) -> usize
-    ensures within { result ≤ 96 }
-    ensures line { take result room.new ≡ codes "ok" ++ run_word (count, byte) ++ codes "\n" }
+    ensures within { result < 96 }
+    ensures line { drop result room.new ≡ codes "ok" ++ run_word (count, byte) ++ codes "\n" }
 {
-    let mut run = [b' '; RUN_ROOM];
-    let end = put_run(&mut run, count, byte) + 2;
-    room[0] = b'o';
-    room[1] = b'k';
-    room[2..26].copy_from_slice(&run);
-    room[end] = b'\n';
-    end + 1
+    let end = put(room, LINE_ROOM, b"\n");
+    let end = put_run(room, end, count, byte);
+    put(room, end, b"ok")
 }
 
 /// Prints the line of data that was asked for: `ok`, and longest runs. The one error is the writer's own.

@@ -66,7 +66,7 @@ pub fn run_numbered<T: Threads + Wait + Sync, R: Read, W: Write, X: Tracer>(
             print_numbered(writer, number, &page)?;
             return Ok(session.summary());
         }
-        session.line(rt, &buffer.line, &mut page)?;
+        session.line(rt, buffer.as_slice(), &mut page)?;
         print_numbered(writer, number, &page)?;
         tracer.behind(number, &session, writer);
     }

@@ -80,7 +80,7 @@ pub fn run<T: Threads + Wait + Sync, R: Read, W: Write, X: Tracer>(
             session.end(rt, writer)?;
             return Ok(session.summary());
         }
-        session.line(rt, &buffer.line, writer)?;
+        session.line(rt, buffer.as_slice(), writer)?;
         tracer.behind(lines + 1, &session, writer);
     }
     Err(RunError::Endless)

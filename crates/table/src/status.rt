@@ -1,9 +1,9 @@
 // Status lines of origins, snapshots and merges, as the kernel's admin-guide page on snapshots has them. What the numbers of a
 // line are is the caller's; only want of memory keeps a line from being made.
-ghost use Rattle.std.specs.Prelude.{◌≡◌, ◌+◌, ◌≤◌, ◌++◌, drop, length, IfOk, decimal};
+ghost use Rattle.std.specs.Prelude.{◌≡◌, ◌≤◌, drop, length, IfOk};
 ghost use Rattle.table.specs.Lines.{origin_text, snapshot_text, merge_text, stated_text, state_text};
 
-use itoa::Buffer;
+use crate::putting::{put, put_number};
 use std::alloc::{AllocError, Global};
 use words::Text;
 
@@ -26,32 +26,6 @@ pub enum StatusState {
 
 /// Room for the longest line: of numbers of 20 digits each.
 const LINE_ROOM: usize = 100;
-
-/// Puts some bytes before a place, and tells where they begin.
-#[inline(always)]
-fn put(room: &mut [u8; LINE_ROOM], end: usize, bytes: &[u8]) -> usize
-    requires room { end ≤ 100 }
-    requires space { length bytes.now ≤ end }
-    ensures start { result + length bytes.now ≡ end }
-    ensures written { drop result room.new ≡ bytes.now ++ drop end room.old }
-{
-    let start = end - bytes.len();
-    room[start..end].copy_from_slice(bytes);
-    start
-}
-
-/// Puts the digits of a number before a place, and tells where they begin.
-#[tactic(auto, using(crate::proofs::Digits::short_digits))]
-fn put_number(room: &mut [u8; LINE_ROOM], end: usize, number: u64) -> usize
-    requires room { end ≤ 100 }
-    requires space { 20 ≤ end }
-    ensures start { result + length (decimal number) ≡ end }
-    ensures written { drop result room.new ≡ decimal number ++ drop end room.old }
-    ensures short { length (decimal number) ≤ 20 }
-{
-    let mut buffer = Buffer::new();
-    put(room, end, buffer.format(number).as_bytes())
-}
 
 /// Puts what a status line says of a snapshot, or of one that is being merged, at the end of a room, and tells where it begins.
 #[inline(always)]

@@ -5,3 +5,4 @@ pub mod Word
 pub mod Numbers
 pub mod Names
 pub mod Lines
+pub mod Buffered

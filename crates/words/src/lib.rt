@@ -13,9 +13,8 @@ mod texts;
 mod wide;
 mod word;
 
-pub use ahead::Ahead;
 pub use line::words_in;
-pub use lines::{LineBuffer, read_line};
+pub use lines::LineBuffer;
 pub use names::{Name, is_a_name};
 pub use numbers::{number, numeral};
 pub use texts::Text;

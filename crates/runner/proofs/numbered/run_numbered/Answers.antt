@@ -25,53 +25,53 @@ loop-lines-init g c =
 pub loop-lines-preserved : goal.loop-lines-preserved
 loop-lines-preserved g c =
     let d = c.in_ok-line.ensures.done in
-    let over : ReadsLine 65536 (left c.loop-lines.buffer.ahead (g.R.Read.remaining c.loop-lines.reader)) (left c.next_line.new.buffer.ahead (g.R.Read.remaining c.next_line.new.reader)) true c.deref-in-loop-lines.result.now = search rules in
-    let more : Appends (g.W.Write.contents c.next_line.new.writer) (g.W.Write.contents c.print_numbered-in-loop-lines.new.writer) (numbered (c.loop-lines.lines + 1) c.deref-in-loop-lines-2.result.now) = search rules in
+    let over : ReadsLine 65536 (left c.loop-lines.buffer.ahead (g.R.Read.remaining c.loop-lines.reader)) (left c.next_line.new.buffer.ahead (g.R.Read.remaining c.next_line.new.reader)) true c.as_slice.result.now = search rules in
+    let more : Appends (g.W.Write.contents c.next_line.new.writer) (g.W.Write.contents c.print_numbered-in-loop-lines.new.writer) (numbered (c.loop-lines.lines + 1) c.deref-in-loop-lines.result.now) = search rules in
     record {
       room = search rules;
       follows = written_each _ _ _ _ (g.W.Write.contents c.behind.new.writer) c.line.new.self (c.loop-lines.lines + 1)
-          (goes_on_each _ _ _ _ _ _ c.deref-in-loop-lines.result.now c.deref-in-loop-lines-2.result.now c.loop-lines.session c.line.new.self d.0 c.loop-lines.lines (c.loop-lines.lines + 1)
+          (goes_on_each _ _ _ _ _ _ c.as_slice.result.now c.deref-in-loop-lines.result.now c.loop-lines.session c.line.new.self d.0 c.loop-lines.lines (c.loop-lines.lines + 1)
           (written_each _ _ _ _ (g.W.Write.contents c.next_line.new.writer) c.loop-lines.session c.loop-lines.lines c.loop-lines.invariant.follows c.next_line.ensures.kept)
           over (record { did = d.1; desk = d.2; sound = c.in_ok-line.ensures.sound }) refl
-          (c.deref-in-loop-lines-2.ensures.value ∙ d.3 ∙ ap (λ xs. xs ++ printed d.0.replies) c.clear.ensures.items) more)
+          (c.deref-in-loop-lines.ensures.value ∙ d.3 ∙ ap (λ xs. xs ++ printed d.0.replies) c.clear.ensures.items) more)
           c.behind.ensures.kept;
       told = written_told (numbered_from 1) g.X.Tracer.tells _ _ _ _ (g.W.Write.contents c.behind.new.writer) c.line.new.self (c.loop-lines.lines + 1) c.args.tracer.now c.behind.new.self
-          (goes_on_told (numbered_from 1) g.X.Tracer.tells _ _ _ _ _ _ c.deref-in-loop-lines.result.now c.loop-lines.session c.line.new.self d.0 c.loop-lines.lines c.args.tracer.now c.loop-lines.tracer c.behind.new.self
+          (goes_on_told (numbered_from 1) g.X.Tracer.tells _ _ _ _ _ _ c.as_slice.result.now c.loop-lines.session c.line.new.self d.0 c.loop-lines.lines c.args.tracer.now c.loop-lines.tracer c.behind.new.self
           (written_told (numbered_from 1) g.X.Tracer.tells _ _ _ _ (g.W.Write.contents c.next_line.new.writer) c.loop-lines.session c.loop-lines.lines c.args.tracer.now c.loop-lines.tracer c.loop-lines.invariant.told c.next_line.ensures.kept)
           over (record { did = d.1; desk = d.2; sound = c.in_ok-line.ensures.sound })
-          (prints_numbered _ _ _ d.0.replies c.loop-lines.lines c.deref-in-loop-lines-2.result.now (c.deref-in-loop-lines-2.ensures.value ∙ d.3 ∙ ap (λ xs. xs ++ printed d.0.replies) c.clear.ensures.items) more) c.behind.ensures.tells)
+          (prints_numbered _ _ _ d.0.replies c.loop-lines.lines c.deref-in-loop-lines.result.now (c.deref-in-loop-lines.ensures.value ∙ d.3 ∙ ap (λ xs. xs ++ printed d.0.replies) c.clear.ensures.items) more) c.behind.ensures.tells)
           c.behind.ensures.kept;
-      taken = line_taken (g.R.Read.remaining c.args.reader.now) (left c.loop-lines.buffer.ahead (g.R.Read.remaining c.loop-lines.reader)) (left c.next_line.new.buffer.ahead (g.R.Read.remaining c.next_line.new.reader)) c.deref-in-loop-lines.result.now c.loop-lines.lines c.loop-lines.invariant.taken over;
+      taken = line_taken (g.R.Read.remaining c.args.reader.now) (left c.loop-lines.buffer.ahead (g.R.Read.remaining c.loop-lines.reader)) (left c.next_line.new.buffer.ahead (g.R.Read.remaining c.next_line.new.reader)) c.as_slice.result.now c.loop-lines.lines c.loop-lines.invariant.taken over;
     }
 
 pub returns-then-not-branch-clause-exact : goal.returns-then-not-branch-clause-exact
 returns-then-not-branch-clause-exact g c =
-    let over : ReadsLine 65536 (left c.loop-lines.buffer.ahead (g.R.Read.remaining c.loop-lines.reader)) (left c.next_line.new.buffer.ahead (g.R.Read.remaining c.next_line.new.reader)) false c.next_line.new.buffer.line.items = search rules in
+    let over : ReadsLine 65536 (left c.loop-lines.buffer.ahead (g.R.Read.remaining c.loop-lines.reader)) (left c.next_line.new.buffer.ahead (g.R.Read.remaining c.next_line.new.reader)) false c.next_line.new.buffer.line = search rules in
     let d = c.in_ok-end.ensures.done in
     let same : c.summary.result ≡ c.end.new.self.desk.summary = search rules in
     let more : Appends (g.W.Write.contents c.next_line.new.writer) (g.W.Write.contents c.print_numbered.new.writer) (numbered (c.loop-lines.lines + 1) c.deref.result.now) = search rules in
     ends_exactly _ (g.W.Write.contents c.args.writer.now) (g.W.Write.contents c.print_numbered.new.writer) c.summary.result
-    (ends_each _ _ _ _ _ _ c.next_line.new.buffer.line.items c.deref.result.now c.loop-lines.session c.end.new.self d.0 c.summary.result c.loop-lines.lines (c.loop-lines.lines + 1)
+    (ends_each _ _ _ _ _ _ c.next_line.new.buffer.line c.deref.result.now c.loop-lines.session c.end.new.self d.0 c.summary.result c.loop-lines.lines (c.loop-lines.lines + 1)
     (written_each _ _ _ _ (g.W.Write.contents c.next_line.new.writer) c.loop-lines.session c.loop-lines.lines c.loop-lines.invariant.follows c.next_line.ensures.kept)
     over d.1 d.2 refl (c.deref.ensures.value ∙ d.3 ∙ ap (λ xs. xs ++ printed d.0.replies) c.clear.ensures.items) more same)
 
 pub returns-then-not-branch-clause-lines : goal.returns-then-not-branch-clause-lines
 returns-then-not-branch-clause-lines g c =
-    let over : ReadsLine 65536 (left c.loop-lines.buffer.ahead (g.R.Read.remaining c.loop-lines.reader)) (left c.next_line.new.buffer.ahead (g.R.Read.remaining c.next_line.new.reader)) false c.next_line.new.buffer.line.items = search rules in
+    let over : ReadsLine 65536 (left c.loop-lines.buffer.ahead (g.R.Read.remaining c.loop-lines.reader)) (left c.next_line.new.buffer.ahead (g.R.Read.remaining c.next_line.new.reader)) false c.next_line.new.buffer.line = search rules in
     let d = c.in_ok-end.ensures.done in
     let same : c.summary.result ≡ c.end.new.self.desk.summary = search rules in
     let more : Appends (g.W.Write.contents c.next_line.new.writer) (g.W.Write.contents c.print_numbered.new.writer) (numbered (c.loop-lines.lines + 1) c.deref.result.now) = search rules in
     ends_lines _ (g.W.Write.contents c.args.writer.now) (g.W.Write.contents c.print_numbered.new.writer) c.summary.result
-    (ends_each _ _ _ _ _ _ c.next_line.new.buffer.line.items c.deref.result.now c.loop-lines.session c.end.new.self d.0 c.summary.result c.loop-lines.lines (c.loop-lines.lines + 1)
+    (ends_each _ _ _ _ _ _ c.next_line.new.buffer.line c.deref.result.now c.loop-lines.session c.end.new.self d.0 c.summary.result c.loop-lines.lines (c.loop-lines.lines + 1)
     (written_each _ _ _ _ (g.W.Write.contents c.next_line.new.writer) c.loop-lines.session c.loop-lines.lines c.loop-lines.invariant.follows c.next_line.ensures.kept)
     over d.1 d.2 refl (c.deref.ensures.value ∙ d.3 ∙ ap (λ xs. xs ++ printed d.0.replies) c.clear.ensures.items) more same)
 
 pub returns-then-not-branch-clause-traced : goal.returns-then-not-branch-clause-traced
 returns-then-not-branch-clause-traced g c =
-    let over : ReadsLine 65536 (left c.loop-lines.buffer.ahead (g.R.Read.remaining c.loop-lines.reader)) (left c.next_line.new.buffer.ahead (g.R.Read.remaining c.next_line.new.reader)) false c.next_line.new.buffer.line.items = search rules in
+    let over : ReadsLine 65536 (left c.loop-lines.buffer.ahead (g.R.Read.remaining c.loop-lines.reader)) (left c.next_line.new.buffer.ahead (g.R.Read.remaining c.next_line.new.reader)) false c.next_line.new.buffer.line = search rules in
     let d = c.in_ok-end.ensures.done in
     let more : Appends (g.W.Write.contents c.next_line.new.writer) (g.W.Write.contents c.print_numbered.new.writer) (numbered (c.loop-lines.lines + 1) c.deref.result.now) = search rules in
-    ends_told (numbered_from 1) g.X.Tracer.tells _ _ _ _ _ _ c.next_line.new.buffer.line.items c.loop-lines.session d.0 c.loop-lines.lines c.args.tracer.now c.loop-lines.tracer
+    ends_told (numbered_from 1) g.X.Tracer.tells _ _ _ _ _ _ c.next_line.new.buffer.line c.loop-lines.session d.0 c.loop-lines.lines c.args.tracer.now c.loop-lines.tracer
     (written_told (numbered_from 1) g.X.Tracer.tells _ _ _ _ (g.W.Write.contents c.next_line.new.writer) c.loop-lines.session c.loop-lines.lines c.args.tracer.now c.loop-lines.tracer c.loop-lines.invariant.told c.next_line.ensures.kept)
     over d.1 (prints_numbered _ _ _ d.0.replies c.loop-lines.lines c.deref.result.now (c.deref.ensures.value ∙ d.3 ∙ ap (λ xs. xs ++ printed d.0.replies) c.clear.ensures.items) more)
 

@@ -1,4 +1,4 @@
-use Rattle.std.proofs.Common.{ℕ, length}
+use Rattle.std.proofs.Common.{length}
 use Rattle.words.proofs.Written.{WritesOn}
 use Rattle.runner.specs.Numbered.{numbered}
 use Rattle.runner.proofs.numbering.print_lines.Given as goal

@@ -9,5 +9,5 @@ pub returns-in-Some-clause-rest : goal.returns-in-Some-clause-rest
 returns-in-Some-clause-rest c =
     let place : position is_end (take (c.self.inside.to - c.self.inside.from) (drop c.self.inside.from c.self.inside.bytes.items)) ≡ Some c.in-Some.end = search rules in
     let within : c.in-Some.end < length (take (c.self.inside.to - c.self.inside.from) (drop c.self.inside.from c.self.inside.bytes.items)) = search rules in
-    let same : c.args.self.now ≡ take (c.self.inside.to - c.self.inside.from) (drop c.self.inside.from c.self.inside.bytes.items) = search rules in
+    let same : c.args.self.now.rest ≡ take (c.self.inside.to - c.self.inside.from) (drop c.self.inside.from c.self.inside.bytes.items) = search rules in
     after_some c.self.inside.bytes.items c.self.inside.from c.self.inside.to c.in-Some.end (c.self.inside.from + (c.in-Some.end + 1)) refl within place ∙ ap (after_first is_end) (sym same)
