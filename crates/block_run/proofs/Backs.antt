@@ -1,5 +1,5 @@
 -- A volume that was taken out is put back.
-use Rattle.std.proofs.Common.{◌≡◌, ◌⊎◌, ℕ, suc, ◌<◌, true, false, [], length, get_or, Option, Some, None, refl, sym, ap, ◌∙◌, subst, inl, inr, arith}
+use Rattle.std.proofs.Common.{◌≡◌, ◌⊎◌, ℕ, suc, ◌<◌, ◌≤◌, true, false, [], length, get_or, Option, Some, None, refl, sym, ap, ◌∙◌, subst, inl, inr, arith}
 use Rattle.std.specs.Prelude.{is_some, slice_get, ◌&&◌}
 use Rattle.std.proofs.lemmas.List.{length-map}
 use Rattle.std.proofs.lemmas.List.Edits.{length-remove}
@@ -129,11 +129,11 @@ is_run before p audit old new result back kept quiet sound now all begun = recor
 
 -- The volume of events behind it.
 
-stands : (p : Parts) (v : Volumed Stack) → is_some p.merging ≡ is_some v.merge → IsBehind v (named_with p (rested_of v))
-stands p v begun = record { state = refl; merge = merge_is p.merging (rested_of v) begun; quiet = refl; flying = refl }
+stands : (p : Parts) (v : Volumed Stack) → is_some p.merging ≡ is_some v.merge → v.requests ≤ p.asked → IsBehind v (named_with p (rested_of v))
+stands p v begun few = record { state = refl; merge = merge_is p.merging (rested_of v) begun; quiet = refl; flying = refl; requests = few }
 
 pub stood : (before : AuditShape Stack) (p : Parts) (audit : AuditShape Stack) (old : Volume) → IsBack before p audit old → IsBehind before.volume old
-stood before p audit old back = subst (λ (o : Volume). IsBehind before.volume o) (sym back.out.named) (stands p before.volume back.out.parted.all.begun)
+stood before p audit old back = subst (λ (o : Volume). IsBehind before.volume o) (sym back.out.named) (stands p before.volume back.out.parted.all.begun back.out.parted.requests)
 
 -- the snapshot that is merged has a name
 begun_named : (p : Parts) (new : Rested Stack) → HasBegun p new → is_some (slice_get p.snaps (place_begun new)) ≡ is_some new.events.merge
@@ -146,6 +146,6 @@ begun_named p new begun =
 pub stands_now : (before : AuditShape Stack) (p : Parts) (audit : AuditShape Stack) (old : Volume) (v : Volumed Stack) (result : Volume) → IsBack before p audit old → KeepsDevices stack_layers stack_size (rested_of audit.volume) (rested_of v)
     → (HasAll p (rested_of v) → result ≡ named_with (with_requests v.requests p) (rested_of v)) → (HasBegun p (rested_of v) → result ≡ named_with (with_requests v.requests (with_begun (place_begun (rested_of v)) p)) (rested_of v)) → IsBehind v result
 stands_now before p audit old v result back kept all begun = elim (fits before p audit old (rested_of v) back kept) [
-  | inl one ↦ subst (λ (r : Volume). IsBehind v r) (sym (all one)) (stands (with_requests v.requests p) v one.begun)
-  | inr one ↦ subst (λ (r : Volume). IsBehind v r) (sym (begun one)) (stands (with_requests v.requests (with_begun (place_begun (rested_of v)) p)) v (begun_named p (rested_of v) one))
+  | inl one ↦ subst (λ (r : Volume). IsBehind v r) (sym (all one)) (stands (with_requests v.requests p) v one.begun (omega arith))
+  | inr one ↦ subst (λ (r : Volume). IsBehind v r) (sym (begun one)) (stands (with_requests v.requests (with_begun (place_begun (rested_of v)) p)) v (begun_named p (rested_of v) one) (omega arith))
 ]

@@ -1,5 +1,5 @@
 -- The entries that seats made at a volume lead from what it showed to what it shows.
-use Rattle.std.proofs.Common.{◌≡◌, inl, inr, ℕ, Bool, true, false, List, [], ◌∷◌, ◌++◌, map, sym, ap, ◌∙◌, subst, refl}
+use Rattle.std.proofs.Common.{◌≡◌, inl, inr, ℕ, ◌+◌, Bool, true, false, List, [], ◌∷◌, ◌++◌, length, map, sym, ap, ◌∙◌, subst, refl, arith, length-append}
 use Rattle.std.specs.Prelude.{◌==◌, if◌then◌else◌}
 use Rattle.std.specs.List.{All}
 use Rattle.std.proofs.lemmas.List.{append_assoc, append_cancel_left}
@@ -28,7 +28,7 @@ use Rattle.sector.specs.declared.refusal.Refusal.{Refusal}
 use Rattle.snapshots.specs.Numbers.{number_of_snap}
 use Rattle.volume.specs.Stepping.{merged_of}
 use Rattle.volume.specs.Volumed.{is_loud_in_all}
-use Rattle.locked_volume.specs.Denying.{IsClosed, IsDenied, IsLost, IsOpen, IsShut, WasDenied, Wish, Serve, Begin}
+use Rattle.locked_volume.specs.Denying.{IsClosed, IsCrowded, IsDenied, IsLost, IsOpen, IsShut, WasDenied, Wish, Serve, Begin}
 use Rattle.locked_volume.specs.Fixed.{Fixed, fixed_of}
 use Rattle.block_run.specs.Played.{IsPlayedIn, Story, shown_by}
 use Rattle.block_run.specs.Running.{IsRun}
@@ -65,37 +65,42 @@ stood_of a = record {
   sound = is_loud_in_all stack_layers a.volume;
   loud = a.loud;
   base = shown_by a.volume;
+  taken = a.taken + length a.entries;
   folded = [];
 }
 
--- What is denied by one list of entries is denied by another that shows the same.
-module _ (g : Fixed) (base s t : Shown) (same : g.loud ≡ true → t ≡ s) where
-  still_lost : (number : ℕ) → IsLost g s number → IsLost (record g { base = base; folded = [] }) t number
+-- What is denied by one list of entries is denied by another that shows the same, where the entries in front of it count as places
+-- that were taken before.
+module _ (g : Fixed) (base s t : Shown) (more : ℕ) (same : g.loud ≡ true → t ≡ s) where
+  still_lost : (number : ℕ) → IsLost g s number → IsLost (record g { base = base; taken = g.taken + more; folded = [] }) t number
   still_lost number h = (h.0, h.1, λ loud. ap (λ (x : Shown). saved_under number x.saved) (same loud) ∙ h.2 loud)
 
-  still_closed : (dev : Dev) (refusal : Refusal) → IsClosed g s dev refusal → IsClosed (record g { base = base; folded = [] }) t dev refusal
+  still_closed : (dev : Dev) (refusal : Refusal) → IsClosed g s dev refusal → IsClosed (record g { base = base; taken = g.taken + more; folded = [] }) t dev refusal
   still_closed Origin refusal h = absurd h
   still_closed (Snap number) refusal (inl merging) = inl merging
   still_closed (Snap number) refusal (inr (inl missing)) = inr (inl missing)
   still_closed (Snap number) refusal (inr (inr lost)) = inr (inr (lost.0, still_lost number lost.1))
 
-  still_open : (dev : Dev) → IsOpen g s dev → IsOpen (record g { base = base; folded = [] }) t dev
+  still_open : (dev : Dev) → IsOpen g s dev → IsOpen (record g { base = base; taken = g.taken + more; folded = [] }) t dev
   still_open Origin h = tt
   still_open (Snap number) h = (h.0, h.1, λ loud lost. h.2 loud (ap (λ (x : Shown). saved_under number x.saved) (sym (same loud)) ∙ lost))
 
-  still_shut : (request : Request) → IsShut g s request → IsShut (record g { base = base; folded = [] }) t request
+  still_shut : (request : Request) → IsShut g s request → IsShut (record g { base = base; taken = g.taken + more; folded = [] }) t request
   still_shut request h = (h.0, h.1, h.2, h.3, h.4, h.5, λ loud. ap (λ (x : Shown). overflow_under h.0 x.saved) (same loud) ∙ h.6 loud)
 
-  still_denied : (wish : Wish) (refusal : Refusal) → IsDenied g s wish refusal → IsDenied (record g { base = base; folded = [] }) t wish refusal
-  still_denied (Serve request) refusal (inl closed) = inl (still_closed request.dev refusal closed)
-  still_denied (Serve request) refusal (inr (inl shut)) = inr (inl (shut.0, still_shut request shut.1))
-  still_denied (Serve request) refusal (inr (inr (inl out))) = inr (inr (inl (out.0, still_open request.dev out.1, out.2)))
-  still_denied (Serve request) refusal (inr (inr (inr (inl many)))) = inr (inr (inr (inl (many.0, still_open request.dev many.1, many.2))))
-  still_denied (Serve request) refusal (inr (inr (inr (inr full)))) = inr (inr (inr (inr full)))
-  still_denied (Begin number) refusal (inl begun) = inl begun
-  still_denied (Begin number) refusal (inr (inl missing)) = inr (inl missing)
-  still_denied (Begin number) refusal (inr (inr (inl lost))) = inr (inr (inl (lost.0, still_lost number lost.1)))
-  still_denied (Begin number) refusal (inr (inr (inr full))) = inr (inr (inr full))
+  still_crowded : (count : ℕ) → IsCrowded g (more + count) → IsCrowded (record g { base = base; taken = g.taken + more; folded = [] }) count
+  still_crowded count full = omega (arith, full)
+
+  still_denied : (count : ℕ) (wish : Wish) (refusal : Refusal) → IsDenied g s (more + count) wish refusal → IsDenied (record g { base = base; taken = g.taken + more; folded = [] }) t count wish refusal
+  still_denied count (Serve request) refusal (inl closed) = inl (still_closed request.dev refusal closed)
+  still_denied count (Serve request) refusal (inr (inl shut)) = inr (inl (shut.0, still_shut request shut.1))
+  still_denied count (Serve request) refusal (inr (inr (inl out))) = inr (inr (inl (out.0, still_open request.dev out.1, out.2)))
+  still_denied count (Serve request) refusal (inr (inr (inr (inl many)))) = inr (inr (inr (inl (many.0, still_open request.dev many.1, many.2))))
+  still_denied count (Serve request) refusal (inr (inr (inr (inr full)))) = inr (inr (inr (inr (full.0, still_crowded count full.1))))
+  still_denied count (Begin number) refusal (inl begun) = inl begun
+  still_denied count (Begin number) refusal (inr (inl missing)) = inr (inl missing)
+  still_denied count (Begin number) refusal (inr (inr (inl lost))) = inr (inr (inl (lost.0, lost.1, still_lost number lost.2)))
+  still_denied count (Begin number) refusal (inr (inr (inr full))) = inr (inr (inr (full.0, still_crowded count full.1)))
 
 denied_so : (before : AuditShape Stack) → IsTrue before → (seen : List Entry) (wish : Wish) (refusal : Refusal) → WasDenied before.entries (fixed_of stack_size stack_layers before) seen wish refusal
     → WasDenied [] (stood_of before) seen wish refusal
@@ -104,10 +109,21 @@ denied_so before truth seen wish refusal (inr (g, stays, agrees, denied)) =
     let same : g.loud ≡ true → replay (shown_by before.volume) seen ≡ replay g.base (before.entries ++ seen) =
     λ loud. ap (λ (x : Shown). replay x seen) (sym (truth.gives (sym stays.loud ∙ loud))) ∙ sym (replay_then before.base before.entries seen) ∙ ap (λ (x : Shown). replay x (before.entries ++ seen)) (sym stays.base) in
     inr (
-      record g { base = shown_by before.volume; folded = [] },
-      record { attached = stays.attached; sectors = stays.sectors; snaps = stays.snaps; sound = stays.sound; loud = stays.loud; base = refl; folded = refl; piece = stays.piece },
+      record g { base = shown_by before.volume; taken = g.taken + length before.entries; folded = [] },
+      record {
+        attached = stays.attached;
+        sectors = stays.sectors;
+        snaps = stays.snaps;
+        sound = stays.sound;
+        loud = stays.loud;
+        base = refl;
+        taken = ap (λ (n : ℕ). n + length before.entries) stays.taken;
+        folded = refl;
+        piece = stays.piece;
+      },
       (λ loud. ap (λ (x : Shown). x.begun) (same loud) ∙ agrees loud),
-      still_denied g (shown_by before.volume) (replay g.base (before.entries ++ seen)) (replay (shown_by before.volume) seen) same wish refusal denied,
+      still_denied g (shown_by before.volume) (replay g.base (before.entries ++ seen)) (replay (shown_by before.volume) seen) (length before.entries) same (length seen) wish refusal
+          (subst (λ (n : ℕ). IsDenied g (replay g.base (before.entries ++ seen)) n wish refusal) (length-append before.entries seen) denied),
     )
 
 -- what is said of them
@@ -138,8 +154,10 @@ plays before p audit rested old new back done truth is sound =
           sound = is_loud_in_all stack_layers before.volume;
           loud = was_loud i;
           base = shown_by before.volume;
+          taken = before.taken + length before.entries;
           folded = [];
         };
+        earned = back.out.earned;
         lawful = rest;
         own = meets_own (shown_by before.volume) entries rest (subst (λ (s : Shown). AllInside s entries) shown (inside_rest before.base before.entries entries inside));
         gives = ap (λ (s : Shown). replay s entries) (sym shown) ∙ sym (replay_then before.base before.entries entries) ∙ ap (λ (l : List Entry). replay before.base l) (sym all) ∙ ap (λ (s : Shown). replay s rested.entries) (sym base) ∙ truth.gives loud;

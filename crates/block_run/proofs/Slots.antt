@@ -69,7 +69,7 @@ none_held (used ∷ uses) slots audits (old ∷ olds) (first, Out parts, others,
 -- Seats ran at them, or none did.
 
 still : (f : Fixed) → StaysFrom f f
-still f = record { attached = refl; sectors = refl; snaps = inl (refl, refl, refl); sound = refl; loud = refl; base = refl; folded = refl; piece = refl }
+still f = record { attached = refl; sectors = refl; snaps = inl (refl, refl, refl); sound = refl; loud = refl; base = refl; taken = refl; folded = refl; piece = refl }
 
 pub none_ran : (audits : List (AuditShape Stack)) → All (λ (a : AuditShape Stack). a.held ≡ []) audits → AllZip IsLeft audits audits
 none_ran [] none = tt

@@ -2,6 +2,7 @@
 use Rattle.std.specs.Prelude.{◌≡◌, ◌<◌, ℕ, Bool, true, false, List, [], length, map, slice_index_or}
 use Rattle.std.specs.List.{count_by}
 use Rattle.journal.specs.declared.entry.Entry.{Entry}
+use Rattle.journal.specs.Earned.{AreEarned}
 use Rattle.journal.specs.Entries.{answered_of, entries_by}
 use Rattle.journal.specs.Own.{MeetsOwn}
 use Rattle.journal.specs.Replay.{AllLawful, replay}
@@ -35,9 +36,10 @@ no_story = record { stood = nothing_fixed; entries = [] }
 abbrev pub shown_by : Volumed Stack → Shown
 shown_by events = shown_of (plain_of stack_contents stack_layers events)
 
--- how a volume stands, no device of which ever dropped writes, where no entries are counted yet
-abbrev pub standing_of : Volumed Stack → Fixed
-standing_of v = record {
+-- how a volume stands, no device of which ever dropped writes, where no entries are counted yet, and so many places of its journal
+-- are taken
+abbrev pub standing_of : ℕ → Volumed Stack → Fixed
+standing_of taken v = record {
   attached = v.attached;
   sectors = stack_size v.origin;
   numbers = map number_of_snap v.snaps;
@@ -46,13 +48,16 @@ standing_of v = record {
   sound = is_loud_in_all stack_layers v;
   loud = true;
   base = shown_by v;
+  taken = taken;
   folded = [];
 }
 
 -- Entries that were made at a volume that stood so: each is lawful after those before it, and all of them give what the volume
--- shows; and a seat that reads a byte behind a write of its own gets what it wrote, or an entry between the two changed that.
+-- shows; and a seat that reads a byte behind a write of its own gets what it wrote, or an entry between the two changed that. No more
+-- places of its journal were taken before than the requests that it was asked and the snapshots that it took had taken.
 pub record IsPlayed (story : Story) (before after : Volumed Stack) : Type 0 where
-  pub stood : story.stood ≡ standing_of before
+  pub stood : story.stood ≡ standing_of story.stood.taken before
+  pub earned : AreEarned story.stood.taken before
   pub lawful : AllLawful (shown_by before) story.entries
   pub gives : replay (shown_by before) story.entries ≡ shown_by after
   pub own : (seat : ℕ) → MeetsOwn seat story.entries

@@ -1,10 +1,11 @@
 -- Volumes that are taken out of the table while their seats run. This project's own.
-use Rattle.std.specs.Prelude.{◌≡◌, Bool, true, ℕ, List, [], ◌∷◌, ◌++◌}
+use Rattle.std.specs.Prelude.{◌≡◌, ◌+◌, Bool, true, ℕ, List, [], ◌∷◌, ◌++◌, length}
 use Rattle.std.specs.List.{All}
 use Rattle.layers.specs.declared.stack.Stack.{Stack}
 use Rattle.layers.specs.Stack.{stack_layers, stack_size}
 use Rattle.journal.specs.declared.entry.Entry.{Entry}
 use Rattle.journal.specs.Books.{AuditShape}
+use Rattle.journal.specs.Earned.{AreEarned}
 use Rattle.journal.specs.Entries.{entries_by}
 use Rattle.journal.specs.Inside.{AllInside}
 use Rattle.journal.specs.Journaled.{KeepsBase, OnlySpoils}
@@ -35,6 +36,7 @@ pub record IsOut (parts : Parts) (audit : AuditShape Stack) (old : Volume) : Typ
   pub named : old ≡ named_with parts (rested_of audit.volume)
   pub parted : IsParted parts (rested_of audit.volume)
   pub held : audit.held ≡ []
+  pub earned : AreEarned (audit.taken + length audit.entries) audit.volume
   pub truth : IsTrue audit
   pub loud : parts.sound ≡ true → audit.loud ≡ true
 

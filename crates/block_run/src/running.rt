@@ -164,7 +164,7 @@ fn tell_gate(replies: &mut Vec<CommandReply>, ticket: Option<u32>, opened: bool)
     }
 }
 
-/// Runs what the lines of a block ask. The one error is `NoMemory`: then no line was run.
+/// Runs what the lines of a block ask. The one error is `NoMemory`: then no request of a seat was made.
 fn run_plan<R: Threads + Wait + Sync>(
     rt: &R,
     alloc: Global,
@@ -202,7 +202,8 @@ fn run_plan<R: Threads + Wait + Sync>(
 ///
 /// In this order, before anything runs: `BadTable` for a line of another form, or for a device of another kind than its line
 /// asks for; `NoSuchDevice` for a name that no device has; `NotQuiet` for a volume in which something is left to do; `NoMemory`
-/// may stand in place of each; then no device changed. `NoMemory` too where a worker can't be started, and then no line was run.
+/// may stand in place of each; then no device changed. `NoMemory` too where a worker can't be started, and then no request of a
+/// seat was made, though a merge that a line asks for may have begun.
 pub fn run_block<R: Threads + Wait + Sync>(
     rt: &R,
     alloc: Global,

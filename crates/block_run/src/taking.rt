@@ -34,8 +34,9 @@ fn take_out(volume: NamedVolume, audits: &mut Vec<Audit<Stack>>) -> Slot
     let (parts, resting) = volume.into_parts();
     match resting.into_audit() {
         Ok(audit) => {
-            // A look: what its entries say.
+            // Looks: what its entries say, and how many places of its journal are taken.
             let _ = audit.entries();
+            audit.look_at_places();
             audits.push_reserved(audit);
             Slot::Out(parts)
         }

@@ -1,8 +1,8 @@
 -- Why a volume takes no request and begins no merge, by what its journal says that it shows.
-use Rattle.std.proofs.Common.{◌≡◌, inl, inr, ℕ, zero, suc, ◌+◌, ◌<◌, ◌≤◌, Bool, true, false, List, [], ◌∷◌, ◌++◌, length, map, set, get_or, cond, Option, Some, None, refl, sym, ap, ◌∙◌, subst, arith, nat_lt}
+use Rattle.std.proofs.Common.{◌≡◌, inl, inr, ℕ, zero, suc, ◌+◌, ◌*◌, ◌<◌, ◌≤◌, Bool, true, false, List, [], ◌∷◌, ◌++◌, length, map, set, get_or, cond, Option, Some, None, refl, sym, ap, ◌∙◌, subst, arith, nat_lt}
 use Rattle.std.specs.Prelude.{◌==◌, ◌≢◌, if◌then◌else◌, min}
 use Rattle.std.specs.List.{list_any, position_or_len}
-use Rattle.std.proofs.lemmas.Bool.{cases_Bool, cases_lt}
+use Rattle.std.proofs.lemmas.Bool.{cases_Bool, cases_lt, true≢false}
 use Rattle.std.proofs.lemmas.List.{length-map}
 use Rattle.device.specs.Layers.{Layer}
 use Rattle.store_bytes.specs.Picture.{picture}
@@ -35,9 +35,10 @@ use Rattle.volume.specs.Submitting.{IsFoundFull, IsOverflown, are_too_many, dev_
 use Rattle.volume.specs.Volumed.{Volumed, piece_of, piece_with, plain_of}
 use Rattle.journal.specs.declared.entry.Entry.{Entry}
 use Rattle.journal.specs.Books.{AuditShape}
-use Rattle.journal.specs.Journaled.{IsNotMerged, IsNotSubmitted}
+use Rattle.journal.specs.Journaled.{IsNotMerged, IsNotSubmitted, is_full_by, places_of}
+use Rattle.journal.specs.Noted.{kept_count, live_count, may_count}
 use Rattle.journal.specs.Replay.{replay}
-use Rattle.locked_volume.specs.Denying.{Agrees, merged_number, IsClosed, IsDenied, IsLost, IsOpen, IsShut, Begin, Serve, WasDenied, is_merged}
+use Rattle.locked_volume.specs.Denying.{Agrees, merged_number, IsClosed, IsCrowded, IsDenied, IsLost, IsMissing, IsOpen, IsShut, Begin, Serve, WasDenied, is_merged}
 use Rattle.locked_volume.specs.Fixed.{Fixed, StaysFrom, fixed_of, least_of, piece_at, piece_in}
 
 no_some : {A C : Type 0} (x : A) → None ≡ Some x → C
@@ -61,6 +62,12 @@ lt-true m n lt = search (arith)
 
 ge-false : (m n : ℕ) → n ≤ m → nat_lt m n ≡ false
 ge-false m n le = search (arith)
+
+lt-from : (m n : ℕ) → nat_lt m n ≡ true → m < n
+lt-from m n e = elim (cases_lt m n) [
+  | inl lt ↦ lt
+  | inr ge ↦ absurd (true≢false (sym e ∙ ge-false m n ge))
+]
 
 get_next : {X : Type 0} (x : X) (xs : List X) (n : ℕ) (d : X) → get_or (x ∷ xs) (1 + n) d ≡ get_or xs n d
 get_next x xs n d = ap (λ k. get_or (x ∷ xs) k d) (next n)
@@ -167,6 +174,22 @@ module _ {B : Type 0} where
   dead_set (x ∷ snaps) zero s dead = dead
   dead_set (x ∷ snaps) (suc k) s dead = dead_set snaps k s dead
 
+-- two places at most are kept for each snapshot
+live_few : (lives : List Bool) → live_count lives ≤ length lives
+live_few [] = omega arith
+live_few (true ∷ lives) = let h = live_few lives in omega arith
+live_few (false ∷ lives) = let h = live_few lives in omega arith
+
+may_few : (lives may : List Bool) → may_count lives may ≤ length lives
+may_few [] may = omega arith
+may_few (b ∷ lives) [] = omega arith
+may_few (true ∷ lives) (true ∷ may) = let h = may_few lives may in omega arith
+may_few (true ∷ lives) (false ∷ may) = let h = may_few lives may in omega arith
+may_few (false ∷ lives) (m ∷ may) = let h = may_few lives may in omega arith
+
+kept_few : (lives may : List Bool) → kept_count lives may ≤ 2 * length lives
+kept_few lives may = omega (arith, live_few lives, may_few lives may)
+
 begun_is : {B : Type 0} (merge : Option (Merging B)) → shown_begun merge ≡ merged_number (merged_of merge)
 begun_is None = refl
 begun_is (Some m) = refl
@@ -180,6 +203,24 @@ module _ {B : Type 0} (contents : B → List ℕ) (size : B → ℕ) (layers : B
 
   abbrev shown_in : AuditShape B → List Entry → Shown
   shown_in a seen = replay a.base (start ++ seen)
+
+  abbrev count_in : List Entry → ℕ
+  count_in seen = length (start ++ seen)
+
+  -- at most so many requests are in flight, and so many snapshots are there that it keeps places for
+  pub record IsBounded (a : AuditShape B) : Type 0 where
+    pub held : length a.held ≤ 64
+    pub lives : length a.lives ≤ 8
+
+  -- so a journal that is full is crowded
+  crowded : (seen : List Entry) (a : AuditShape B) → IsSeen seen a → IsBounded a → is_full_by 1 a ≡ true → IsCrowded (fixed_of size layers a) (count_in seen)
+  crowded seen a is few full =
+      let more : 65_536 < places_of a + 1 = lt-from 65_536 (places_of a + 1) full in
+      let entries : length a.entries ≡ count_in seen = ap length is.entries in
+      let kept : kept_count a.lives a.may ≤ 2 * length a.lives = kept_few a.lives a.may in
+      let held = few.held in
+      let lives = few.lives in
+      omega (arith, more, entries, kept, held, lives)
 
   agrees : (seen : List Entry) (a : AuditShape B) → IsSeen seen a → Agrees (fixed_of size layers a) (shown_in a seen)
   agrees seen a is loud = ap (λ (s : Shown). s.begun) (ap (replay a.base) (sym is.entries) ∙ is.truth loud) ∙ begun_is a.volume.merge
@@ -291,7 +332,7 @@ module _ {B : Type 0} (contents : B → List ℕ) (size : B → ℕ) (layers : B
       )
 
   -- the first reason of a volume
-  refused : (seen : List Entry) (a : AuditShape B) (request : Request) (refusal : Refusal) → IsSeen seen a → submit_refusal size request a.volume ≡ Some refusal → IsDenied (fixed_of size layers a) (shown_in a seen) (Serve request) refusal
+  refused : (seen : List Entry) (a : AuditShape B) (request : Request) (refusal : Refusal) → IsSeen seen a → submit_refusal size request a.volume ≡ Some refusal → IsDenied (fixed_of size layers a) (shown_in a seen) (count_in seen) (Serve request) refusal
   refused seen a request refusal is e = by_dev (dev_refusal request.dev v.merge v.snaps) refl e
     where
       v : Volumed B
@@ -301,7 +342,7 @@ module _ {B : Type 0} (contents : B → List ℕ) (size : B → ℕ) (layers : B
       many = are_too_many (starting (kind_of request) request.range.first v.merge v.snaps) v
 
       Denied : Type 0
-      Denied = IsDenied (fixed_of size layers a) (shown_in a seen) (Serve request) refusal
+      Denied = IsDenied (fixed_of size layers a) (shown_in a seen) (count_in seen) (Serve request) refusal
 
       Opened : Type 0
       Opened = IsOpen (fixed_of size layers a) (shown_in a seen) request.dev
@@ -347,7 +388,7 @@ module _ {B : Type 0} (contents : B → List ℕ) (size : B → ℕ) (layers : B
 
       by_dev : (d : Option Refusal) → dev_refusal request.dev v.merge v.snaps ≡ d
           → first_of_two d (first_of_two (shut_refusal (kind_of request) v.snaps) rest) ≡ Some refusal
-          → IsDenied (fixed_of size layers a) (shown_in a seen) (Serve request) refusal
+          → IsDenied (fixed_of size layers a) (shown_in a seen) (count_in seen) (Serve request) refusal
       by_dev (Some r) at e = inl (closed seen a refusal request.dev is (at ∙ e))
       by_dev None at e = by_kind (kind_of request) (opened seen a request.dev is at) refl at e
 
@@ -398,15 +439,16 @@ module _ {B : Type 0} (contents : B → List ℕ) (size : B → ℕ) (layers : B
       ap (λ b. cond b (Some (position_or_len test w.snaps)) None) (lt-true (position_or_len test w.snaps) (length w.snaps) (omega (arith, at, low, long))) ∙ ap Some at in
       shut seen b request number found.place is kind (ap (is_merging number) same ∙ alone) here (ap (λ (l : List Overflowing). did_overflow (get_or l found.place Never)) marked ∙ marked_set v.snaps found.place snap low refl)
 
-  pub denied : (seen : List Entry) (a b : AuditShape B) (request : Request) (refusal : Refusal) → IsSeen seen b → KeepsAll size a.volume b.volume
+  pub denied : (seen : List Entry) (a b : AuditShape B) (request : Request) (refusal : Refusal) → IsSeen seen b → IsBounded b → KeepsAll size a.volume b.volume
       → IsNotSubmitted contents layers size request refusal a b → WasDenied start fixed seen (Serve request) refusal
-  denied seen a b request refusal is kept (inl (inl full, same)) = inr (fixed_of size layers b, is.stays, agrees seen b is, inr (inr (inr (inr full.1))))
-  denied seen a b request refusal is kept (inl (inr starved, same)) = inl starved.1
-  denied seen a b request refusal is kept (inr (free, inl told)) = inr (fixed_of size layers b, is.stays, agrees seen b is, refused seen b request refusal is (ap (submit_refusal size request) told.1 ∙ told.0))
-  denied seen a b request refusal is kept (inr (free, inr (inl starved))) = inl starved.1
-  denied seen a b request refusal is kept (inr (free, inr (inr (inr marked)))) =
+  denied seen a b request refusal is few kept (inl (inl full, same)) =
+      inr (fixed_of size layers b, is.stays, agrees seen b is, inr (inr (inr (inr (full.1, crowded seen b is few (ap (is_full_by 1) same ∙ full.0))))))
+  denied seen a b request refusal is few kept (inl (inr starved, same)) = inl starved.1
+  denied seen a b request refusal is few kept (inr (free, inl told)) = inr (fixed_of size layers b, is.stays, agrees seen b is, refused seen b request refusal is (ap (submit_refusal size request) told.1 ∙ told.0))
+  denied seen a b request refusal is few kept (inr (free, inr (inl starved))) = inl starved.1
+  denied seen a b request refusal is few kept (inr (free, inr (inr (inr marked)))) =
       inr (fixed_of size layers b, is.stays, agrees seen b is, inr (inl (marked.1, overflown seen a b request marked.2.0 is kept marked.0 marked.2.1 marked.2.2)))
-  denied seen a b request refusal is kept (inr (free, inr (inr (inl lost)))) =
+  denied seen a b request refusal is few kept (inr (free, inr (inr (inl lost)))) =
       let number = lost.2.0 in
       let dev = snap_of request.dev request.op number lost.2.1 in
       inr (
@@ -418,14 +460,14 @@ module _ {B : Type 0} (contents : B → List ℕ) (size : B → ℕ) (layers : B
 
   -- why no merge begins
   not_begun : (seen : List Entry) (a : AuditShape B) (number : ℕ) (refusal : Refusal) → IsSeen seen a → refusal ≢ NotQuiet → begin_refusal number a.volume ≡ Some refusal
-      → IsDenied (fixed_of size layers a) (shown_in a seen) (Begin number) refusal
+      → IsDenied (fixed_of size layers a) (shown_in a seen) (count_in seen) (Begin number) refusal
   not_begun seen a number refusal is calm e = by_merge v.merge refl e
     where
       v : Volumed B
       v = a.volume
 
       Denied : Type 0
-      Denied = IsDenied (fixed_of size layers a) (shown_in a seen) (Begin number) refusal
+      Denied = IsDenied (fixed_of size layers a) (shown_in a seen) (count_in seen) (Begin number) refusal
 
       by_quiet : (q : Bool) → (if q then None else Some NotQuiet) ≡ Some refusal → Denied
       by_quiet true e = no_some refusal e
@@ -435,19 +477,21 @@ module _ {B : Type 0} (contents : B → List ℕ) (size : B → ℕ) (layers : B
           → (if b then (if quiet then None else Some NotQuiet) else Some IsInvalid) ≡ Some refusal → Denied
       by_life quiet k true none found live e = by_quiet quiet e
       by_life quiet k false none found dead e =
-          inr (inr (inl (sym (some_is IsInvalid refusal e), lost seen a number k is (ap (is_merging number) none) found dead)))
+          inr (inr (inl (sym (some_is IsInvalid refusal e), ap merged_of none, lost seen a number k is (ap (is_merging number) none) found dead)))
 
       by_place : (quiet : Bool) (p : Option ℕ) → v.merge ≡ None → place_of_snap number v.snaps ≡ p → place_refusal (map (λ (s : Kept B). s.live) v.snaps) quiet p ≡ Some refusal → Denied
       by_place quiet None none missed e =
           inr (inl (sym (some_is NoSuchDevice refusal e), (merged_is number v.merge ∙ ap (is_merging number) none, missing number v.snaps missed)))
       by_place quiet (Some k) none found e = by_life quiet k (get_or (map (λ (s : Kept B). s.live) v.snaps) k false) none found refl e
 
-      in_progress : (m : Merging B) → v.merge ≡ Some m → MergeInProgress ≡ refusal → Denied
-      in_progress m begun same = inl (sym same, λ none. some_none (m.number, m.state.chunk) (sym (ap merged_of begun) ∙ none))
+      in_progress : (m : Merging B) → v.merge ≡ Some m → (IsMissing (fixed_of size layers a) number → ⊥) → MergeInProgress ≡ refusal → Denied
+      in_progress m begun here same = inl (sym same, (λ none. some_none (m.number, m.state.chunk) (sym (ap merged_of begun) ∙ none)), here)
 
       by_mine : (m : Merging B) (mine : Bool) (p : Option ℕ) → v.merge ≡ Some m → (m.number == number) ≡ mine → place_of_snap number v.snaps ≡ p → Some (beside_refusal mine p) ≡ Some refusal → Denied
-      by_mine m mine (Some k) begun own found e = in_progress m begun (some_is MergeInProgress refusal e)
-      by_mine m true None begun own missed e = in_progress m begun (some_is MergeInProgress refusal e)
+      by_mine m mine (Some k) begun own found e =
+          in_progress m begun (λ missing. true≢false (sym (there number k v.snaps found) ∙ missing.1)) (some_is MergeInProgress refusal e)
+      by_mine m true None begun own missed e =
+          in_progress m begun (λ missing. true≢false (sym (merged_is number v.merge ∙ ap (is_merging number) begun ∙ own) ∙ missing.0)) (some_is MergeInProgress refusal e)
       by_mine m false None begun other missed e =
           inr (inl (sym (some_is NoSuchDevice refusal e), (merged_is number v.merge ∙ ap (is_merging number) begun ∙ other, missing number v.snaps missed)))
 
@@ -455,10 +499,10 @@ module _ {B : Type 0} (contents : B → List ℕ) (size : B → ℕ) (layers : B
       by_merge None none e = by_place _ (place_of_snap number v.snaps) none refl e
       by_merge (Some m) begun e = by_mine m (m.number == number) (place_of_snap number v.snaps) begun refl refl e
 
-  pub merge_denied : (seen : List Entry) (a b : AuditShape B) (number : ℕ) (refusal : Refusal) → IsSeen seen a → IsNotMerged number refusal a b → refusal ≢ NotQuiet → WasDenied start fixed seen (Begin number) refusal
-  merge_denied seen a b number refusal is (inl full) calm = inr (fixed_of size layers a, is.stays, agrees seen a is, inr (inr (inr full.1)))
-  merge_denied seen a b number refusal is (inr (free, inl told, kept)) calm = inr (fixed_of size layers a, is.stays, agrees seen a is, not_begun seen a number refusal is calm told.0)
-  merge_denied seen a b number refusal is (inr (free, inr starved, kept)) calm = inl starved.1
+  pub merge_denied : (seen : List Entry) (a b : AuditShape B) (number : ℕ) (refusal : Refusal) → IsSeen seen a → IsBounded a → IsNotMerged number refusal a b → refusal ≢ NotQuiet → WasDenied start fixed seen (Begin number) refusal
+  merge_denied seen a b number refusal is few (inl full) calm = inr (fixed_of size layers a, is.stays, agrees seen a is, inr (inr (inr (full.1, crowded seen a is few full.0))))
+  merge_denied seen a b number refusal is few (inr (free, inl told, kept)) calm = inr (fixed_of size layers a, is.stays, agrees seen a is, not_begun seen a number refusal is calm told.0)
+  merge_denied seen a b number refusal is few (inr (free, inr starved, kept)) calm = inl starved.1
 
 -- a merge is told to wait only where the volume is not quiet
 busy_place : (lives : List Bool) (quiet : Bool) (p : Option ℕ) → place_refusal lives quiet p ≡ Some NotQuiet → quiet ≡ false

@@ -39,6 +39,7 @@ stays_same size layers f a b stays kept sound base =
       sound = sym sound i;
       loud = sym base.loud i;
       base = sym base.base i;
+      taken = sym base.taken i;
       folded = sym base.folded i;
     } in
     subst (StaysFrom f) same stays
@@ -81,9 +82,9 @@ least_without (c ∷ chunks) zero low = refl
 least_without (c ∷ chunks) (suc k) low = min_swap (get_or chunks k 0) c (least_of (remove chunks k)) ∙ ap (min c) (least_without chunks k (omega (arith, low)))
 
 pub stays_begun : {B : Type 0} (size : B → ℕ) (layers : B → List Layer) (f : Fixed) (a b : AuditShape B) (number : ℕ) → StaysFrom f (fixed_of size layers a)
-    → begin_refusal number a.volume ≡ None → IsMergeBegun number a.volume b.volume → is_loud_in_all layers b.volume ≡ is_loud_in_all layers a.volume → b.loud ≡ a.loud → b.base ≡ a.base → b.folded ≡ a.folded
+    → begin_refusal number a.volume ≡ None → IsMergeBegun number a.volume b.volume → is_loud_in_all layers b.volume ≡ is_loud_in_all layers a.volume → b.loud ≡ a.loud → b.base ≡ a.base → b.taken ≡ a.taken → b.folded ≡ a.folded
     → StaysFrom f (fixed_of size layers b)
-stays_begun {B} size layers f a b number stays admitted begun sound loud base folded =
+stays_begun {B} size layers f a b number stays admitted begun sound loud base taken folded =
     let k = begun.place in
     let s = begun.snap in
     let alone : a.volume.merge ≡ None = none_merged a.volume.merge number a.volume admitted in
@@ -117,6 +118,7 @@ stays_begun {B} size layers f a b number stays admitted begun sound loud base fo
       sound = sound ∙ stays.sound;
       loud = loud ∙ stays.loud;
       base = base ∙ stays.base;
+      taken = taken ∙ stays.taken;
       folded = folded ∙ stays.folded;
       piece = piece_now ∙ stays.piece;
     }
@@ -147,6 +149,7 @@ kept_same size layers a snaps (inr freed) =
       sound = is_loud_with layers a.volume.merge (is_loud (layers a.volume.origin) && unkept_devices layers a.volume.snaps i);
       loud = a.loud;
       base = a.base;
+      taken = a.taken;
       folded = a.folded;
     })
 

@@ -1,7 +1,7 @@
 -- Why a volume with a journal takes no request, and why it begins no merge, by what its entries say that it shows and by what stays
 -- of it. The limits and the order of the refusals are this project's own; that a lost snapshot is Invalid, and that one whose store
 -- overflowed takes no write, is the kernel's rule, of its admin-guide page on snapshots.
-use Rattle.std.specs.Prelude.{◌≡◌, ◌≢◌, ◌⊎◌, ◌==◌, ℕ, Bool, true, false, List, [], ◌∷◌, ◌++◌, Option, Some, None}
+use Rattle.std.specs.Prelude.{◌≡◌, ◌≢◌, ◌⊎◌, ◌==◌, ◌≤◌, ℕ, ◌+◌, Bool, true, false, List, [], ◌∷◌, ◌++◌, length, Option, Some, None}
 use Rattle.sector.specs.declared.refusal.Refusal.{Refusal}
 use Rattle.sector.specs.declared.refusal.Refusal.TheVariants.{Invalid as IsInvalid, JournalFull, MergeInProgress, MergingSnapshot, NoMemory, NoSuchDevice, OutOfRange, Overflow, TooMany}
 use Rattle.plain.specs.Kept.{kept_range}
@@ -63,25 +63,32 @@ IsOpen g shown Origin = Unit {0}
 IsOpen g shown (Snap number) =
     (is_merged number g.merged ≡ false) × (is_in g.numbers number ≡ true) × (g.loud ≡ true → saved_under number shown.saved ≢ Some Invalid)
 
--- What is asked of a volume is denied, as it stands: by the first of its reasons. (TooMany: 64 requests are in flight, or more than
--- 256 copies would be pending. JournalFull comes before all of them, where the journal has no place.)
-abbrev pub IsDenied : Fixed → Shown → Wish → Refusal → Type 0
-IsDenied g shown (Serve request) refusal =
+-- A journal of so many entries may take none: of its 65,536 places those that were taken before it began, its entries, at most 64
+-- requests in flight, and at most two that are kept for each of eight snapshots, leave none.
+abbrev pub IsCrowded : Fixed → ℕ → Type 0
+IsCrowded g count = 65_536 ≤ g.taken + count + 80
+
+-- What is asked of a volume is denied, as it stands, by a reason that holds, with so many entries in its journal. (TooMany: 64
+-- requests are in flight, or more than 256 copies would be pending.) Which reason comes first is said where the volume is asked.
+abbrev pub IsDenied : Fixed → Shown → ℕ → Wish → Refusal → Type 0
+IsDenied g shown count (Serve request) refusal =
     IsClosed g shown request.dev refusal
     ⊎ ((refusal ≡ Overflow) × IsShut g shown request)
     ⊎ ((refusal ≡ OutOfRange) × IsOpen g shown request.dev × (is_piece_of (piece_at g) g.sectors (kept_range request.op request.range) ≡ false))
     ⊎ ((refusal ≡ TooMany) × IsOpen g shown request.dev × (is_piece_of (piece_at g) g.sectors (kept_range request.op request.range) ≡ true))
-    ⊎ (refusal ≡ JournalFull)
-IsDenied g shown (Begin number) refusal =
-    ((refusal ≡ MergeInProgress) × (g.merged ≢ None))
+    ⊎ ((refusal ≡ JournalFull) × IsCrowded g count)
+IsDenied g shown count (Begin number) refusal =
+    ((refusal ≡ MergeInProgress) × (g.merged ≢ None) × (IsMissing g number → ⊥))
     ⊎ ((refusal ≡ NoSuchDevice) × IsMissing g number)
-    ⊎ ((refusal ≡ IsInvalid) × IsLost g shown number)
-    ⊎ (refusal ≡ JournalFull)
+    ⊎ ((refusal ≡ IsInvalid) × (g.merged ≡ None) × IsLost g shown number)
+    ⊎ ((refusal ≡ JournalFull) × IsCrowded g count)
 
 -- It was denied when the journal had these entries after those of the start, which are what its seat had seen then; or memory was
 -- refused.
 abbrev pub WasDenied : List Entry → Fixed → List Entry → Wish → Refusal → Type 0
-WasDenied start fixed seen wish refusal = (refusal ≡ NoMemory) ⊎ ((g : Fixed) × StaysFrom fixed g × Agrees g (replay g.base (start ++ seen)) × IsDenied g (replay g.base (start ++ seen)) wish refusal)
+WasDenied start fixed seen wish refusal =
+    (refusal ≡ NoMemory)
+    ⊎ ((g : Fixed) × StaysFrom fixed g × Agrees g (replay g.base (start ++ seen)) × IsDenied g (replay g.base (start ++ seen)) (length (start ++ seen)) wish refusal)
 
 -- The merge of the snapshot with a number began, after all that its seat had seen before.
 abbrev pub WasBegun : ℕ → List Entry → List Entry → Type 0

@@ -12,8 +12,8 @@ use Rattle.journal.specs.Entries.{entries_by}
 
 -- attached: how many snapshots were ever attached; sectors: of the origin; numbers, chunks: of the snapshots in order of
 -- attaching, but for the one that is being merged, and merged: of that one; sound: whether no device drops writes; loud:
--- whether none did since the journal began; base: what its entries are replayed on; folded: of each seat, how many of its request
--- entries checkpoints folded into that.
+-- whether none did since the journal began; base: what its entries are replayed on; taken: how many places of the journal were taken
+-- before it began; folded: of each seat, how many of its request entries checkpoints folded into the base.
 pub record Fixed : Type 0 where
   pub attached : ℕ
   pub sectors : ℕ
@@ -23,6 +23,7 @@ pub record Fixed : Type 0 where
   pub sound : Bool
   pub loud : Bool
   pub base : Shown
+  pub taken : ℕ
   pub folded : List ℕ
 
 abbrev pub fixed_of : {B : Type 0} → (B → ℕ) → (B → List Layer) → AuditShape B → Fixed
@@ -35,6 +36,7 @@ fixed_of size layers a = record {
   sound = is_loud_in_all layers a.volume;
   loud = a.loud;
   base = a.base;
+  taken = a.taken;
   folded = a.folded;
 }
 
@@ -73,5 +75,6 @@ pub record StaysFrom (f g : Fixed) : Type 0 where
   pub sound : g.sound ≡ f.sound
   pub loud : g.loud ≡ f.loud
   pub base : g.base ≡ f.base
+  pub taken : g.taken ≡ f.taken
   pub folded : g.folded ≡ f.folded
   pub piece : piece_at g ≡ piece_at f

@@ -11,4 +11,4 @@ abbrev pub no_queue : Queue
 no_queue = record { table = no_table; key = record { marker = record {}; table_id = no_table; id = 0; views = [] } }
 
 abbrev pub nothing_fixed : Fixed
-nothing_fixed = record { attached = 0; sectors = 0; numbers = []; chunks = []; merged = None; sound = false; loud = false; base = record { origin = []; begun = None; saved = [] }; folded = [] }
+nothing_fixed = record { attached = 0; sectors = 0; numbers = []; chunks = []; merged = None; sound = false; loud = false; base = record { origin = []; begun = None; saved = [] }; taken = 0; folded = [] }

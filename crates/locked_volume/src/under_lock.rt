@@ -1,6 +1,6 @@
 // What threads do with an audit while they hold its lock: each call tells the history what is new in the journal, and publishes
 // each usage that changed.
-ghost use Rattle.std.specs.Prelude.{◌≡◌, ◌≢◌, ◌&&◌, ◌||◌, false, is_some, ◌*◌, ◌<◌, ◌++◌, ◌∷◌, [], ℕ, List, length, IfErr, IfNone, IfSome, MatchOption, MatchResult, OnOk, Some, None, true};
+ghost use Rattle.std.specs.Prelude.{◌≡◌, ◌≢◌, ◌&&◌, ◌||◌, false, is_some, ◌*◌, ◌<◌, ◌≤◌, ◌++◌, ◌∷◌, [], ℕ, List, length, IfErr, IfNone, IfSome, MatchOption, MatchResult, OnOk, Some, None, true};
 ghost use Rattle.chunk.specs.Sizes.{is_chunk};
 ghost use Rattle.plain.specs.declared.event.Outcome.{Outcome as OutcomeShape};
 ghost use Rattle.volume.specs.Asking.{is_finished_in};
@@ -38,6 +38,17 @@ use sector::Refusal;
 use std::marker::PhantomData;
 use std::snapshot::Snapshot;
 use std::sync::Wait;
+
+/// A look at what a journal may keep places for, which does nothing: 64 requests in flight, and eight snapshots, at most.
+fn look_at_bounds<B: Layered>(audit: &Audit<B>)
+    ensures held { length audit.now.held ≤ 64 }
+    ensures lives { length audit.now.lives ≤ 8 }
+{
+    audit.look_at_requests();
+    audit.look_at_places();
+    let volume = audit.volume();
+    let _ = (volume.flying(), volume.len());
+}
 
 /// The last entry of a journal that has one.
 fn last_of(entries: &[Entry]) -> &Entry
@@ -102,6 +113,7 @@ impl<B: Layered, J: Room> Post<B, J> {
                 (me, Ok(number))
             }
             Err(refusal) => {
+                look_at_bounds(&self.audit);
                 beside.note(&mut self.keeper, &self.audit.entries()[from..]);
                 let me = beside.history.look(&mut self.keeper, me);
                 beside.keep_up(&mut self.publishers, &self.audit);
@@ -232,6 +244,7 @@ impl<B: Layered, J: Room> Post<B, J> {
         ensures does { DoesBeginMerge B.may_hold B.contents B.layers B.size number result.1 self.old.audit.volume self.new.audit.volume }
         ensures told { AreKeptUp self.new.audit.volume self.old.told self.new.told }
     {
+        look_at_bounds(&self.audit);
         let me = beside.history.look(&mut self.keeper, me);
         let from = self.audit.entries().len();
         match self.audit.begin_merge(number) {

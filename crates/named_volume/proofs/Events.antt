@@ -1,5 +1,5 @@
 -- What a call did to the volume of events, as the volume with names shows it.
-use Rattle.std.proofs.Common.{◌≡◌, ◌⊎◌, ℕ, true, List, refl, sym, ap, ◌∙◌, inl, inr, subst}
+use Rattle.std.proofs.Common.{◌≡◌, ◌⊎◌, ◌≤◌, ℕ, true, List, refl, sym, ap, ◌∙◌, inl, inr, subst}
 use Rattle.std.specs.Prelude.{Result, Ok, Err, IfOk, IfErr, OnOk, is_ok}
 use Rattle.sector.specs.declared.range.Range.{Range}
 use Rattle.sector.specs.declared.refusal.Refusal.{Refusal}
@@ -29,8 +29,15 @@ use Rattle.named_volume.specs.Held.{flying_in, merged_inside, settled_in}
 use Rattle.named_volume.specs.Flights.{IsBehind, IsStarted, IsNotStarted, IsStepped, IsFlushServed, IsFlushedAtRest, IsReadAtRest, IsReadServed, IsWriteServed, IsWrittenAtRest}
 
 -- the volume of events that stands behind
-pub behind : (before : Rested Stack) (volume : Volume) → IsWhole before → volume.state ≡ settled_in before → merge_in volume.merging ≡ (merged_inside before).merge → volume.quiet ≡ is_quiet_of before.events → volume.flying ≡ flying_in before.events → IsBehind before.events volume
-behind before volume whole state merge quiet flying = record { state = state ∙ ap settled_in whole; merge = merge ∙ ap (λ (v : Rested Stack). (merged_inside v).merge) whole; quiet = quiet; flying = flying }
+pub behind : (before : Rested Stack) (volume : Volume) → IsWhole before → volume.state ≡ settled_in before → merge_in volume.merging ≡ (merged_inside before).merge → volume.quiet ≡ is_quiet_of before.events → volume.flying ≡ flying_in before.events → before.requests ≤ volume.asked
+    → IsBehind before.events volume
+behind before volume whole state merge quiet flying few = record {
+  state = state ∙ ap settled_in whole;
+  merge = merge ∙ ap (λ (v : Rested Stack). (merged_inside v).merge) whole;
+  quiet = quiet;
+  flying = flying;
+  requests = subst (λ (n : ℕ). n ≤ volume.asked) (ap (λ (v : Rested Stack). v.requests) whole) few;
+}
 
 -- an event that was due is done
 pub stepped : (event : Event) (before after : Rested Stack) (old new : Volume) → IsBehind before.events old → IsBehind after.events new → (r : Result Outcome NotDue) → is_ok r ≡ is_due_of stack_contents stack_layers before.events event

@@ -1,5 +1,5 @@
 -- What calls do to a volume whatever is in flight in it: that of the volume of events behind its names.
-use Rattle.std.specs.Prelude.{◌≡◌, ◌≢◌, ◌⊎◌, ℕ, true, List, Some, MatchResult, Result}
+use Rattle.std.specs.Prelude.{◌≡◌, ◌≢◌, ◌⊎◌, ◌≤◌, ℕ, true, List, Some, MatchResult, Result}
 use Rattle.sector.specs.declared.refusal.Refusal.{Refusal}
 use Rattle.chunk.specs.Pieces.{pieces_of}
 use Rattle.layers.specs.declared.stack.Stack.{Stack}
@@ -27,12 +27,14 @@ use Rattle.command_rules.specs.State.{Volume, merge_in}
 use Rattle.command_rules.specs.Sectors.{Asked}
 use Rattle.named_volume.specs.Held.{flying_in, merged_inside, settled_in}
 
--- A volume of events that stands behind a volume with names: the same devices, and the same in flight.
+-- A volume of events that stands behind a volume with names: the same devices, and the same in flight, and no more requests than
+-- sectors that were asked for.
 pub record IsBehind (events : Volumed Stack) (volume : Volume) : Type 0 where
   pub state : volume.state ≡ settled_in (rested_of events)
   pub merge : merge_in volume.merging ≡ (merged_inside (rested_of events)).merge
   pub quiet : volume.quiet ≡ is_quiet_of events
   pub flying : volume.flying ≡ flying_in events
+  pub requests : events.requests ≤ volume.asked
 
 -- this was done to the volume of events
 pub record InEvents (holds : Volumed Stack → Volumed Stack → Type 0) (old new : Volume) : Type 0 where

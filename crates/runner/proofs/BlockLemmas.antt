@@ -8,6 +8,7 @@ use Rattle.sector.specs.declared.refusal.Refusal.TheVariants.{NoMemory}
 use Rattle.command_rules.specs.State.{Table}
 use Rattle.block_run.specs.Answering.{AreAnswered}
 use Rattle.block_run.specs.Running.{IsOfBlock, IsTableRun, all_told, seat_in}
+use Rattle.block_run.specs.Spared.{AreSpared}
 use Rattle.command.specs.declared.command_reply.CommandReply.{CommandReply}
 use Rattle.command.specs.declared.command_reply.CommandReply.TheVariants.{Done, Refused}
 use Rattle.command.specs.Texts.{text_of}
@@ -25,14 +26,14 @@ pub reply_printed : (before mid after : Option (List ℕ)) (replies : List Comma
 reply_printed before mid after replies reply was is = both_printed before mid after replies (reply ∷ []) was (one_printed mid after reply is)
 
 -- a block that is refused
-pub refused_block : (block : Lines) (first : Option Refusal) (old new : Table) (e : Refusal) → (e ≢ NoMemory → first ≡ Some e) → IfSome first (λ _. new ≡ old) → IsTableRun block.lines old new → IsBlockBy block first old (refuses e new)
-refused_block block first old new e why stays run = elim (memory_or_not e) [
+pub refused_block : (block : Lines) (first : Option Refusal) (old new : Table) (e : Refusal) → (e ≢ NoMemory → first ≡ Some e) → IfSome first (λ _. new ≡ old) → IsTableRun block.lines old new → AreSpared old.volumes new.volumes → IsBlockBy block first old (refuses e new)
+refused_block block first old new e why stays run spared = elim (memory_or_not e) [
   | inl memory ↦ starved first stays memory
   | inr other ↦ told first stays (why other)
 ]
   where
     starved : (first : Option Refusal) → IfSome first (λ _. new ≡ old) → e ≡ NoMemory → IsBlockBy block first old (refuses e new)
-    starved None stays memory = record { told = inr (ap (λ r. Refused r ∷ []) memory); table = run }
+    starved None stays memory = record { told = inr (ap (λ r. Refused r ∷ []) memory, spared); table = run }
     starved (Some f) stays memory = inr (ap (λ r. refuses r new) memory ∙ ap (refuses NoMemory) stays)
 
     told : (first : Option Refusal) → IfSome first (λ _. new ≡ old) → first ≡ Some e → IsBlockBy block first old (refuses e new)
@@ -50,12 +51,12 @@ pub run_counted : (told : List CommandReply) (s : Summary) → with_reply Done (
 run_counted told s = sym (counted_append told (Done ∷ []) s)
 
 -- what a block that is refused did, as its desk shows it
-pub block_refused : (block : Lines) (old now : Standing) (was new : Table) (summary : Summary) (e : Refusal) (P : List CommandReply → Type 0) → old ≡ record { table = was; summary = summary } → (e ≢ NoMemory → block_refusal block was ≡ Some e) → IfSome (block_refusal block was) (λ _. new ≡ was) → IsTableRun block.lines was new → now ≡ followed (record { table = new; summary = summary }) (refuses e new) → P (Refused e ∷ [])
+pub block_refused : (block : Lines) (old now : Standing) (was new : Table) (summary : Summary) (e : Refusal) (P : List CommandReply → Type 0) → old ≡ record { table = was; summary = summary } → (e ≢ NoMemory → block_refusal block was ≡ Some e) → IfSome (block_refusal block was) (λ _. new ≡ was) → IsTableRun block.lines was new → AreSpared was.volumes new.volumes → now ≡ followed (record { table = new; summary = summary }) (refuses e new) → P (Refused e ∷ [])
     → (done : LineOutcome) × IsBlockDone block old.table done × (now ≡ followed old done) × P done.replies
-block_refused block old now was new summary e P view why stays run is last =
+block_refused block old now was new summary e P view why stays run spared is last =
     let D : Table → Type 0 = λ t. IsBlockDone block t (refuses e new) in (
       refuses e new,
-      subst D (sym (ap (λ (s : Standing). s.table) view)) (refused_block block (block_refusal block was) was new e why stays run),
+      subst D (sym (ap (λ (s : Standing). s.table) view)) (refused_block block (block_refusal block was) was new e why stays run spared),
       is ∙ ap (λ (s : Standing). record { table = new; summary = counted (Refused e ∷ []) s.summary }) (sym view),
       last,
     )

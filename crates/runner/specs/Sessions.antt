@@ -10,6 +10,7 @@ use Rattle.command_rules.specs.State.{Table}
 use Rattle.block_run.specs.Answering.{AreAnswered}
 use Rattle.block_run.specs.Looking.{block_refusal}
 use Rattle.block_run.specs.Running.{IsOfBlock, IsTableRun, all_told, seat_in}
+use Rattle.block_run.specs.Spared.{AreSpared}
 use Rattle.command.specs.declared.command_reply.CommandReply.{CommandReply}
 use Rattle.command.specs.declared.command_reply.CommandReply.TheVariants.{Done, Refused}
 use Rattle.runner.specs.Done.{IsLineDone}
@@ -37,9 +38,13 @@ abbrev pub IsTold : Lines → Table → Table → List CommandReply → Type 0
 IsTold block old new replies =
     (told : List CommandReply) × All IsOfBlock told × (map seat_in told ≡ all_told block) × AreAnswered block old new told × (replies ≡ told ++ Done ∷ [])
 
--- A block that nothing refuses was run, or memory ran out for it. What no line names is as it was.
+-- want of memory is told alone; each volume is as it was, or what was done in it answers no request of a seat
+abbrev pub IsNotRun : Table → LineOutcome → Type 0
+IsNotRun old done = (done.replies ≡ Refused NoMemory ∷ []) × AreSpared old.volumes done.table.volumes
+
+-- A block that nothing refuses was run, or memory ran out before any seat made a request. What no line names is as it was.
 pub record IsBlockRun (block : Lines) (old : Table) (done : LineOutcome) : Type 0 where
-  pub told : IsTold block old done.table done.replies ⊎ (done.replies ≡ Refused NoMemory ∷ [])
+  pub told : IsTold block old done.table done.replies ⊎ IsNotRun old done
   pub table : IsTableRun block.lines old done.table
 
 -- a block that is refused before anything runs changes nothing

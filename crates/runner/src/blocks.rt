@@ -58,8 +58,8 @@ impl Desk {
     }
 
     /// Runs a block with so many copy workers, and prints the answers of its seats, how its gate ended where it has one, and
-    /// `ok`; or its refusal alone, and then no device changed. The one error is `RunError::Write`, the writer's own; then the
-    /// block was run all the same.
+    /// `ok`; or its refusal alone, and then no device changed. `NoMemory` may also come where nothing else refuses the block:
+    /// then no seat made a request. The one error is `RunError::Write`, the writer's own; then the block was run all the same.
     pub(crate) fn run_block<R: Threads + Wait + Sync, W: Write>(
         &mut self,
         rt: &R,

@@ -13,7 +13,7 @@ use Rattle.volume_threads.specs.declared.task.Task.{Task}
 use Rattle.volume_threads.specs.Left.{AreLeft, NothingRan}
 
 still : (f : Fixed) → StaysFrom f f
-still f = record { attached = refl; sectors = refl; snaps = inl (refl, refl, refl); sound = refl; loud = refl; base = refl; folded = refl; piece = refl }
+still f = record { attached = refl; sectors = refl; snaps = inl (refl, refl, refl); sound = refl; loud = refl; base = refl; taken = refl; folded = refl; piece = refl }
 
 -- Volumes at which nothing ran.
 pub none_ran : {B : Type 0} (size : B → ℕ) (layers : B → List Layer) (audits : List (AuditShape B)) → ((k : ℕ) (d : AuditShape B) → k < length audits → (get_or audits k d).held ≡ []) → AreLeft size layers audits audits

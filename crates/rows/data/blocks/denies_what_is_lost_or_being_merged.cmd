@@ -27,3 +27,6 @@ par
 3 merge lost
 4 read vol 5 1
 end
+
+# The block's end does no event of a merge: its two pairs are left, in the places behind the header and the area.
+status vol

@@ -1,5 +1,5 @@
 -- It is what it was where it is not taken out.
-use Rattle.std.proofs.Common.{◌≡◌, ◌∙◌, ap, inl, refl, subst, sym}
+use Rattle.std.proofs.Common.{◌≡◌, ◌∙◌, ap, arith, inl, refl, subst, sym}
 use Rattle.layers.specs.declared.stack.Stack.{Stack}
 use Rattle.layers.specs.Stack.{stack_layers}
 use Rattle.volume.specs.Volumed.{Volumed}
@@ -34,6 +34,7 @@ returns-in-Ok-clause-slot c =
         named = c.into_parts-parts.ensures.named ∙ ap (λ (v : Rested Stack). named_with c.into_parts-parts.result.0 v) (sym is);
         parted = subst (IsParted c.into_parts-parts.result.0) (sym is) c.into_parts-parts.ensures.parted;
         held = c.in-Ok.ensures.idle;
+        earned = (let earned = c.look_at_places.ensures.earned in omega (arith, earned));
         truth = record { lawful = c.entries.ensures.lawful; inside = c.entries.ensures.inside; gives = c.entries.ensures.replay };
         loud = λ sound. c.in-Ok.ensures.loud ∙ sym (loud_is all.events) ∙ ap (λ (v : Rested Stack). is_loud_in stack_layers v) (sym c.in-Ok.ensures.whole) ∙ c.into_parts-parts.ensures.parted.loud sound;
       },

@@ -30,6 +30,7 @@ returns-in-Err-clause-denied g c =
     λ calm. subst (λ p. WasDenied (g.J.Room.start p.volume) (g.J.Room.fixed p.volume) seen (Begin c.args.number) c.in-Err.refusal) c.self.view_is
     (merge_denied g.B.Block.contents g.B.Block.size g.B.Block.layers start (g.J.Room.fixed c.self.inside.volume) seen c.self.inside.audit c.begin_merge.new.self c.args.number c.in-Err.refusal
     (record { entries = c.self.invariant.0.knows ∙ ap (λ v. start ++ v.seen) (sym c.look-me.ensures.seat.1); stays = c.self.invariant.0.stays; truth = c.entries-from.ensures.replay })
+    (record { held = c.look_at_bounds.ensures.held; lives = c.look_at_bounds.ensures.lives })
     c.in-Err.ensures.refused calm)
 
 pub invariant_of-self : goal.invariant_of-self
@@ -47,7 +48,7 @@ invariant_of-self g c =
     c.note.ensures.is c.entries.ensures.value c.entries-from.ensures.value
     (ap (λ a. a.entries) left.becomes) (ap (λ a. a.held) left.becomes)
     (stays_begun g.B.Block.size g.B.Block.layers _ c.self.inside.audit c.begin_merge.new.self c.args.number c.self.invariant.0.stays
-    c.in-Ok.ensures.does.admitted c.in-Ok.ensures.does.begun c.in-Ok.ensures.does.loud (ap (λ a. a.loud) left.becomes) (ap (λ a. a.base) left.becomes) (ap (λ a. a.folded) left.becomes)) in
+    c.in-Ok.ensures.does.admitted c.in-Ok.ensures.does.begun c.in-Ok.ensures.does.loud (ap (λ a. a.loud) left.becomes) (ap (λ a. a.base) left.becomes) (ap (λ a. a.taken) left.becomes) (ap (λ a. a.folded) left.becomes)) in
     let merges = g.J.Room.merges c.self.inside.volume in
     let asked = more_asked merges c.look-me.new.keeper.me.0 c.note.new.keeper.me.0 c.entries.result.now c.entries-from.result.now c.self.inside.audit.entries c.begin_merge.new.self.entries (Begun c.args.number ∷ [])
     c.note.ensures.is c.entries.ensures.value c.entries-from.ensures.value (ap (λ a. a.entries) left.becomes)

@@ -39,6 +39,7 @@ returns-in-Err-clause-denied g c =
     subst (λ p. WasDenied (g.J.Room.start p.volume) (g.J.Room.fixed p.volume) seen (Serve c.args.request) c.in-Err.refusal) c.self.view_is
     (denied g.B.Block.contents g.B.Block.size g.B.Block.layers start (g.J.Room.fixed c.self.inside.volume) seen a b c.args.request c.in-Err.refusal
     (record { entries = holds.knows ∙ ap (λ v. start ++ v.seen) (sym c.look-me.ensures.seat.1); stays = stays; truth = c.entries-in-Err.ensures.replay })
+    (record { held = c.look_at_bounds.ensures.held; lives = c.look_at_bounds.ensures.lives })
     c.submit.ensures.does.kept c.in-Err.ensures.refused)
 
 pub invariant_of-self : goal.invariant_of-self

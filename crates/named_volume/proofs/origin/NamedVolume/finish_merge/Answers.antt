@@ -24,7 +24,7 @@ pub returns-in-Err-clause-unfinished : goal.returns-in-Err-clause-unfinished
 returns-in-Err-clause-unfinished c =
     rw (← c.self.view_is) (λ other.
     elim c.in-Err.ensures.refused [
-      | inl first ↦ (c.self.inside.volume.rested.events, behind c.self.inside.volume.rested _ c.finish_merge.ensures.whole.0 refl (merge_is _ c.self.inside.volume.rested c.self.invariant.begun) refl refl, first)
+      | inl first ↦ (c.self.inside.volume.rested.events, behind c.self.inside.volume.rested _ c.finish_merge.ensures.whole.0 refl (merge_is _ c.self.inside.volume.rested c.self.invariant.begun) refl refl c.self.invariant.requests, first)
       | inr full ↦ absurd (other full)
     ])
 

@@ -19,8 +19,12 @@ returns-then-is_quiet-clause-done c =
 
 pub returns-clause-among : goal.returns-clause-among
 returns-clause-among c =
+    let requests = c.self.invariant.requests in
+    let more = c.in-Ok.ensures.more.0 in
+    let taken = c.flush_among-did.ensures.requests in
+    let fewer : c.flush_among-did.new.self.rested.requests ≤ c.ask.new.asked = omega (arith, requests, more, taken) in
     rw (← c.self.view_is) (λ busy.
-    flush_served c.self.inside.volume.rested c.flush_among-did.new.self.rested _ _ (behind c.self.inside.volume.rested _ c.flush_among-did.ensures.whole.0 refl (merge_is _ c.self.inside.volume.rested c.self.invariant.begun) refl refl) (behind c.flush_among-did.new.self.rested _ c.flush_among-did.ensures.whole.1 refl (merge_is _ c.flush_among-did.new.self.rested (c.self.invariant.begun ∙ still_begun c.self.inside.volume.rested c.flush_among-did.new.self.rested c.flush_among-did.ensures.kept.merging)) refl refl) c.in-Ok.asks.0 c.in-Ok.asks.1 _ (c.in-Ok.ensures.ok _ refl refl)
+    flush_served c.self.inside.volume.rested c.flush_among-did.new.self.rested _ _ (behind c.self.inside.volume.rested _ c.flush_among-did.ensures.whole.0 refl (merge_is _ c.self.inside.volume.rested c.self.invariant.begun) refl refl c.self.invariant.requests) (behind c.flush_among-did.new.self.rested _ c.flush_among-did.ensures.whole.1 refl (merge_is _ c.flush_among-did.new.self.rested (c.self.invariant.begun ∙ still_begun c.self.inside.volume.rested c.flush_among-did.new.self.rested c.flush_among-did.ensures.kept.merging)) refl refl fewer) c.in-Ok.asks.0 c.in-Ok.asks.1 _ (c.in-Ok.ensures.ok _ refl refl)
     c.flush_among-did.ensures.whole.0 c.flush_among-did.ensures.whole.1 c.args.ended.now.items c.flush_among-did.new.ended.items c.flush_among-did.result c.flush_among-did.ensures.flushed c.flush_among-did.ensures.refused)
 
 pub returns-then-is_quiet-clause-denied : goal.returns-then-is_quiet-clause-denied
@@ -29,8 +33,12 @@ returns-then-is_quiet-clause-denied c =
 
 pub returns-then-is_quiet-clause-at_rest : goal.returns-then-is_quiet-clause-at_rest
 returns-then-is_quiet-clause-at_rest c =
+    let requests = c.self.invariant.requests in
+    let more = c.in-Ok.ensures.more.0 in
+    let taken = c.flush-did.ensures.requests in
+    let fewer : c.flush-did.new.self.rested.requests ≤ c.ask.new.asked = omega (arith, requests, more, taken) in
     rw (← c.self.view_is) (λ quiet.
-    flush_rested c.self.inside.volume.rested c.flush-did.new.self.rested _ _ (behind c.self.inside.volume.rested _ c.flush-did.ensures.whole.0 refl (merge_is _ c.self.inside.volume.rested c.self.invariant.begun) refl refl) (behind c.flush-did.new.self.rested _ c.flush-did.ensures.whole.1 refl (merge_is _ c.flush-did.new.self.rested (c.self.invariant.begun ∙ still_begun c.self.inside.volume.rested c.flush-did.new.self.rested c.flush-did.ensures.kept.merging)) refl refl) c.in-Ok.asks.0 c.in-Ok.asks.1 _ (c.in-Ok.ensures.ok _ refl refl)
+    flush_rested c.self.inside.volume.rested c.flush-did.new.self.rested _ _ (behind c.self.inside.volume.rested _ c.flush-did.ensures.whole.0 refl (merge_is _ c.self.inside.volume.rested c.self.invariant.begun) refl refl c.self.invariant.requests) (behind c.flush-did.new.self.rested _ c.flush-did.ensures.whole.1 refl (merge_is _ c.flush-did.new.self.rested (c.self.invariant.begun ∙ still_begun c.self.inside.volume.rested c.flush-did.new.self.rested c.flush-did.ensures.kept.merging)) refl refl fewer) c.in-Ok.asks.0 c.in-Ok.asks.1 _ (c.in-Ok.ensures.ok _ refl refl)
     c.flush-did.result c.flush-did.ensures.answered (c.flush-did.ensures.undone c.in-Ok.ensures.there))
 
 pub returns-then-is_quiet-clause-full : goal.returns-then-is_quiet-clause-full

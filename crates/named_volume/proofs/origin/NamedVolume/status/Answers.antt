@@ -58,7 +58,7 @@ returns-in-Ok-clause-held c =
           let there = kept_there c.self.inside.volume.rested whole w.in-Snapshot.k (omega (arith, lt, many)) in
           rw w.in-Snapshot.is (
             c.self.inside.volume.rested.events,
-            behind c.self.inside.volume.rested _ whole refl (merge_is _ c.self.inside.volume.rested c.self.invariant.begun) refl refl,
+            behind c.self.inside.volume.rested _ whole refl (merge_is _ c.self.inside.volume.rested c.self.invariant.begun) refl refl c.self.invariant.requests,
             held_says c.self.inside.volume.rested whole w.in-Snapshot.k (omega (arith, lt, many)) c.from-sectors.result w.state_at.result c.in-Ok.text _ w.snapshot_line-text-in-Snapshot.result refl (w.state_at.ensures.held there.0 ∙ ap state_kept (there.1 there.0)) (sym w.text-is ∙ c.in-Ok.is) w.snapshot_line-text-in-Snapshot.ensures size,
           ))
     ])
@@ -71,7 +71,7 @@ returns-in-Err-clause-held c =
       | in-Merging w ↦ rw w.in-Merging.is (λ other. absurd (other refl))
       | in-Snapshot w ↦ rw w.in-Snapshot.is (
         c.self.inside.volume.rested.events,
-        behind c.self.inside.volume.rested _ w.state_at.ensures.whole refl (merge_is _ c.self.inside.volume.rested c.self.invariant.begun) refl refl,
+        behind c.self.inside.volume.rested _ w.state_at.ensures.whole refl (merge_is _ c.self.inside.volume.rested c.self.invariant.begun) refl refl c.self.invariant.requests,
         λ other. absurd (other refl),
       )
     ])

@@ -31,4 +31,4 @@ returns c =
     (ap (λ (ns : List Names). dues_text ns c.snaps-snaps.result.now c.deref.result.now) named ∙ ap (λ (ss : List (Kept Stack)). dues_text names ss c.deref.result.now) snaps ∙ ap (λ (es : List Event). dues_text names v.snaps es) c.deref.ensures.value) in
     let are = added (flights_text origin names v.snaps v.flights) (copied_text names v.snaps v.snaps) (dues_text names v.snaps due) c.new-items.result.items c.add_flights.new.out.items c.add_snaps.new.out.items c.add_dues.new.out.items c.new-items.ensures.items flights copies dues in
     rw (← c.self.view_is)
-    (traced v _ due c.add_dues.new.out.items (behind c.self.inside.volume.rested _ c.snaps-snaps.ensures.whole refl (merge_is _ c.self.inside.volume.rested c.self.invariant.begun) refl refl) c.in_ok-due.ensures.all are c.line_of.result c.line_of.ensures)
+    (traced v _ due c.add_dues.new.out.items (behind c.self.inside.volume.rested _ c.snaps-snaps.ensures.whole refl (merge_is _ c.self.inside.volume.rested c.self.invariant.begun) refl refl c.self.invariant.requests) c.in_ok-due.ensures.all are c.line_of.result c.line_of.ensures)

@@ -19,8 +19,13 @@ returns-then-is_quiet-clause-done c =
 
 pub returns-clause-among : goal.returns-clause-among
 returns-clause-among c =
+    let requests = c.self.invariant.requests in
+    let more = c.in-Ok.ensures.more.0 in
+    let count = c.in-Ok.ensures.count in
+    let taken = c.write_among-did.ensures.requests in
+    let fewer : c.write_among-did.new.self.rested.requests ≤ c.ask.new.asked = omega (arith, requests, more, count, taken) in
     rw (← c.self.view_is) (λ busy.
-    write_served c.self.inside.volume.rested c.write_among-did.new.self.rested _ _ (behind c.self.inside.volume.rested _ c.write_among-did.ensures.whole.0 refl (merge_is _ c.self.inside.volume.rested c.self.invariant.begun) refl refl) (behind c.write_among-did.new.self.rested _ c.write_among-did.ensures.whole.1 refl (merge_is _ c.write_among-did.new.self.rested (c.self.invariant.begun ∙ still_begun c.self.inside.volume.rested c.write_among-did.new.self.rested c.write_among-did.ensures.kept.merging)) refl refl) c.in-Ok.asks.0 c.in-Ok.asks.1 _ (c.in-Ok.ensures.ok _ refl refl)
+    write_served c.self.inside.volume.rested c.write_among-did.new.self.rested _ _ (behind c.self.inside.volume.rested _ c.write_among-did.ensures.whole.0 refl (merge_is _ c.self.inside.volume.rested c.self.invariant.begun) refl refl c.self.invariant.requests) (behind c.write_among-did.new.self.rested _ c.write_among-did.ensures.whole.1 refl (merge_is _ c.write_among-did.new.self.rested (c.self.invariant.begun ∙ still_begun c.self.inside.volume.rested c.write_among-did.new.self.rested c.write_among-did.ensures.kept.merging)) refl refl fewer) c.in-Ok.asks.0 c.in-Ok.asks.1 _ (c.in-Ok.ensures.ok _ refl refl)
     c.write_among-did.ensures.whole.0 c.write_among-did.ensures.whole.1 c.args.ended.now.items c.write_among-did.new.ended.items c.args.bytes c.write_among-did.result c.write_among-did.ensures.written c.write_among-did.ensures.refused)
 
 pub returns-then-is_quiet-clause-denied : goal.returns-then-is_quiet-clause-denied
@@ -29,8 +34,13 @@ returns-then-is_quiet-clause-denied c =
 
 pub returns-then-is_quiet-clause-at_rest : goal.returns-then-is_quiet-clause-at_rest
 returns-then-is_quiet-clause-at_rest c =
+    let requests = c.self.invariant.requests in
+    let more = c.in-Ok.ensures.more.0 in
+    let count = c.in-Ok.ensures.count in
+    let taken = c.write-did.ensures.requests in
+    let fewer : c.write-did.new.self.rested.requests ≤ c.ask.new.asked = omega (arith, requests, more, count, taken) in
     rw (← c.self.view_is) (λ quiet.
-    write_rested c.self.inside.volume.rested c.write-did.new.self.rested _ _ (behind c.self.inside.volume.rested _ c.write-did.ensures.whole.0 refl (merge_is _ c.self.inside.volume.rested c.self.invariant.begun) refl refl) (behind c.write-did.new.self.rested _ c.write-did.ensures.whole.1 refl (merge_is _ c.write-did.new.self.rested (c.self.invariant.begun ∙ still_begun c.self.inside.volume.rested c.write-did.new.self.rested c.write-did.ensures.kept.merging)) refl refl) c.in-Ok.asks.0 c.in-Ok.asks.1 _ (c.in-Ok.ensures.ok _ refl refl)
+    write_rested c.self.inside.volume.rested c.write-did.new.self.rested _ _ (behind c.self.inside.volume.rested _ c.write-did.ensures.whole.0 refl (merge_is _ c.self.inside.volume.rested c.self.invariant.begun) refl refl c.self.invariant.requests) (behind c.write-did.new.self.rested _ c.write-did.ensures.whole.1 refl (merge_is _ c.write-did.new.self.rested (c.self.invariant.begun ∙ still_begun c.self.inside.volume.rested c.write-did.new.self.rested c.write-did.ensures.kept.merging)) refl refl fewer) c.in-Ok.asks.0 c.in-Ok.asks.1 _ (c.in-Ok.ensures.ok _ refl refl)
     c.args.bytes c.write-did.result c.write-did.ensures.answered (c.write-did.ensures.undone c.in-Ok.ensures.there))
 
 pub returns-then-is_quiet-clause-full : goal.returns-then-is_quiet-clause-full

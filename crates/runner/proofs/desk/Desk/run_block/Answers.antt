@@ -13,7 +13,7 @@ use Rattle.runner.proofs.desk.Desk.run_block.Goals as goal
 pub returns-in-Err-clause-done : goal.returns-in-Err-clause-done
 returns-in-Err-clause-done g c =
     let P : List CommandReply → Type 0 = λ rs. OnOk c.refuse.result (Appends (g.W.Write.contents c.args.writer.now) (g.W.Write.contents c.refuse.new.writer) (printed rs)) in
-    block_refused c.args.block c.args.self.now c.refuse.new.self (table_of c.self.inside.held) (table_of c.run_block.new.held) c.self.inside.summary c.in-Err.refusal P (sym c.self.view_is) c.in-Err.ensures.refused c.in-Err.ensures.stays c.in-Err.ensures.run c.refuse.ensures.done c.refuse.ensures.printed
+    block_refused c.args.block c.args.self.now c.refuse.new.self (table_of c.self.inside.held) (table_of c.run_block.new.held) c.self.inside.summary c.in-Err.refusal P (sym c.self.view_is) c.in-Err.ensures.refused c.in-Err.ensures.stays c.in-Err.ensures.run c.in-Err.ensures.spared c.refuse.ensures.done c.refuse.ensures.printed
 
 pub returns-clause-done : goal.returns-clause-done
 returns-clause-done g c =
