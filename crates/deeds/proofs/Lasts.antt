@@ -41,9 +41,10 @@ use Rattle.deeds.specs.declared.deed.Deed.{Deed}
 use Rattle.deeds.specs.declared.deed.Deed.TheVariants.{Submit, Step, Tick, Tell, Attach, Detach, BeginMerge, ResumeMerge, FinishMerge}
 use Rattle.deeds.specs.declared.deed.Done.{Done}
 use Rattle.deeds.specs.declared.deed.Done.TheVariants.{Submitted, Stepped, Ticked, Told, Attached, Detached, Begun, Resumed, Finished}
+use Rattle.deeds.specs.Answered.{AreAnswered, IsDone}
 use Rattle.deeds.specs.Lasted.{IsLasting, LastAll, LastsTaken, OpensByDeed, TakesAs}
-use Rattle.deeds.specs.Lived.{IsDone, IsLoudDeed, IsSeen, Sees, Taken, remembered}
-use Rattle.deeds.proofs.Lives.{AreDone, seen_keeps}
+use Rattle.deeds.specs.Lived.{IsLoudDeed, IsSeen, Sees, Taken, remembered}
+use Rattle.deeds.proofs.Lives.{seen_keeps}
 use Rattle.deeds.proofs.Plains.{AreKept, IsKept, apart}
 
 -- a fact of each of some
@@ -253,11 +254,11 @@ module _ {B : Type 0} (holds : B → ℕ → List ℕ → Type 0) (m : Measures 
     refused_opens done refusal is = before_deed (Attach store chunk overflow) done v w is.origin.size_is less (same_snaps holds m.contents layers m.size v w (ap (λ (y : Volumed B). y.snaps) is.becomes))
 
     pub attached_opens : (result : Result ℕ (Refusal × StoreDev B)) → ((d : B) → length (m.contents d) ≡ 512 * m.size d) → ((d : B) (s : ℕ) → s < m.size d → holds d s (sector_at (m.contents d) s)) → is_loud_in_all layers v ≡ true → is_loud (layers store.device) ≡ true
-        → IsDone m layers (Attach store chunk overflow) (Attached result) v w → OnOk result (is_loud (layers v.origin) ≡ true → IsFirm (holds w.origin) (m.contents w.origin) (m.size w.origin))
+        → IsDone holds m layers (Attach store chunk overflow) (Attached result) v w → OnOk result (is_loud (layers v.origin) ≡ true → IsFirm (holds w.origin) (m.contents w.origin) (m.size w.origin))
         → IfOk result (λ _. is_loud (layers store.device) ≡ true → (s : Kept B) → s ≡ get_or w.snaps (length v.snaps) s → IsFirm (holds s.device) (m.contents s.device) (m.size s.device)) → OpensByDeed holds m layers (Attach store chunk overflow) (Attached result) v w
-    attached_opens (Err refused) whole here loud brought done firm_origin firm = refused_opens (Attached (Err refused)) refused.0 done.answered.1.1
+    attached_opens (Err refused) whole here loud brought done firm_origin firm = refused_opens (Attached (Err refused)) refused.0 done.answered.0.same
     attached_opens (Ok number) whole here loud brought done firm_origin firm =
-        let gained : IsGained m.contents layers m.size number overflow store v w = done.answered.0.1 in
+        let gained : IsGained m.contents layers m.size number overflow store v w = done.answered.0.gained in
         let taken = (done.seen loud brought).sees.2 in
         let at : gained.snap ≡ get_or w.snaps (length v.snaps) gained.snap = sym (ap (λ l. get_or l (length v.snaps) gained.snap) (grown number gained) ∙ get_or_push v.snaps gained.snap gained.snap (length v.snaps) refl) in
         attach_opens number gained (shown_array (plain v).origin (m.contents store.device)) taken whole here (firm_origin (loud_books m.contents layers m.size v loud).origin) (firm brought gained.snap at) refl
@@ -297,31 +298,31 @@ module _ {B : Type 0} (holds : B → ℕ → List ℕ → Type 0) (m : Measures 
   still_each deed done v w (t ∷ taken) sees opens kept all = (still_shows deed done v w t sees opens kept.0 all.0, still_each deed done v w taken sees opens kept.1 all.1)
 
   -- and of the one that it takes
-  new_one : (store : StoreDev B) (chunk : ℕ) (overflow : Bool) (number : ℕ) (v w : Volumed B) → is_fresh (m.contents store.device) ≡ true → IsDone m layers (Attach store chunk overflow) (Attached (Ok number)) v w → Sees m.contents (Attach store chunk overflow) (Attached (Ok number)) (plain v) (plain w)
+  new_one : (store : StoreDev B) (chunk : ℕ) (overflow : Bool) (number : ℕ) (v w : Volumed B) → is_fresh (m.contents store.device) ≡ true → IsDone holds m layers (Attach store chunk overflow) (Attached (Ok number)) v w → Sees m.contents (Attach store chunk overflow) (Attached (Ok number)) (plain v) (plain w)
       → OpensByDeed holds m layers (Attach store chunk overflow) (Attached (Ok number)) v w → OnlyShows w (record { number = number; array = (plain v).origin })
   new_one store chunk overflow number v w fresh done sees opens s x may = by (opens number s x may)
     where
       by : IsOpenIn holds m.size v (Some number) s x ⊎ (IsSomeOf (GivesAsked (Some number) s x) (map in_flight v.flights) ⊎ ((array : List ℕ) × TakesAs m.contents (Attach store chunk overflow) (Attached (Ok number)) (plain v) number array × (x ≡ sector_at array s))) → x ≡ sector_at (plain v).origin s
-      by (inl before) = (let o = before.1 in absurd (done.answered.0.1.fresh o.place o.snap o.at.within (ap (λ (y : Kept B). y.number) (sym o.at.is) ∙ o.mine)))
+      by (inl before) = (let o = before.1 in absurd (done.answered.0.gained.fresh o.place o.snap o.at.within (ap (λ (y : Kept B). y.number) (sym o.at.is) ∙ o.mine)))
       by (inr (inl asked)) = absurd (subst (λ rs. IsSomeOf (GivesAsked (Some number) s x) rs) sees.1 asked)
       by (inr (inr (array, takes, is))) =
           let same : store ≡ takes.store = same_attach store takes.store chunk takes.chunk overflow takes.overflow takes.attach in
           is ∙ ap (λ b. sector_at b s) (takes.shown ∙ ap (λ (d : StoreDev B). shown_array (plain v).origin (m.contents d.device)) (sym same) ∙ fresh_shown (plain v).origin (m.contents store.device) fresh)
 
-  shows_after : (deed : Deed B) (done : Done B) (v w : Volumed B) (taken : List Taken) → IsDone m layers deed done v w → Sees m.contents deed done (plain v) (plain w) → OpensByDeed holds m layers deed done v w → AreKept (plain v) taken → Each (OnlyShows v) taken
+  shows_after : (deed : Deed B) (done : Done B) (v w : Volumed B) (taken : List Taken) → IsDone holds m layers deed done v w → Sees m.contents deed done (plain v) (plain w) → OpensByDeed holds m layers deed done v w → AreKept (plain v) taken → Each (OnlyShows v) taken
       → Each (OnlyShows w) (remembered m.contents deed done (plain v) taken)
   shows_after deed done v w taken is sees opens kept all =
       each_remembered m.contents (OnlyShows w) deed done (plain v) taken new (still_each deed done v w taken sees opens kept all)
     where
       new : (store : StoreDev B) (chunk : ℕ) (overflow : Bool) (number : ℕ) → deed ≡ Attach store chunk overflow → done ≡ Attached (Ok number) → is_fresh (m.contents store.device) ≡ true → OnlyShows w (record { number = number; array = (plain v).origin })
       new store chunk overflow number attach attached fresh =
-          new_one store chunk overflow number v w fresh (subst (λ a. IsDone m layers (Attach store chunk overflow) a v w) attached (subst (λ a. IsDone m layers a done v w) attach is))
+          new_one store chunk overflow number v w fresh (subst (λ a. IsDone holds m layers (Attach store chunk overflow) a v w) attached (subst (λ a. IsDone holds m layers a done v w) attach is))
           (subst (λ a. Sees m.contents (Attach store chunk overflow) a (plain v) (plain w)) attached (subst (λ a. Sees m.contents a done (plain v) (plain w)) attach sees))
           (subst (λ a. OpensByDeed holds m layers (Attach store chunk overflow) a v w) attached (subst (λ a. OpensByDeed holds m layers a done v w) attach opens))
 
   -- One deed of a path, and a list of them: what it promises, what it opens, and what a look at the stores says behind it.
   pub record IsPassed (deed : Deed B) (done : Done B) (v w : Volumed B) : Type 0 where
-    pub done_is : IsDone m layers deed done v w
+    pub done_is : IsDone holds m layers deed done v w
     pub opens : is_loud_in_all layers v ≡ true → IsLoudDeed layers deed → OpensByDeed holds m layers deed done v w
     pub stops : is_loud_in_all layers w ≡ true → StopsVolume holds m.size None w w
 
@@ -340,11 +341,11 @@ module _ {B : Type 0} (holds : B → ℕ → List ℕ → Type 0) (m : Measures 
   pub all_passed : (seen ds : List (Deed B)) (answers : List (Done B)) (v w : Volumed B) → map (λ d. d) seen ≡ ds → ArePassed seen answers v w → ArePassed ds answers v w
   all_passed seen ds answers v w all e = subst (λ (x : List (Deed B)). ArePassed x answers v w) (sym (map-id seen) ∙ all) e
 
-  pub passed_done : (ds : List (Deed B)) (answers : List (Done B)) (v w : Volumed B) → ArePassed ds answers v w → AreDone m layers ds answers v w
-  passed_done [] [] v w e = e
-  passed_done [] (a ∷ answers) v w e = absurd e
-  passed_done (d ∷ ds) [] v w e = absurd e
-  passed_done (d ∷ ds) (a ∷ answers) v w (mid, one, rest) = (mid, one.done_is, passed_done ds answers mid w rest)
+  pub passed_answered : (ds : List (Deed B)) (answers : List (Done B)) (v w : Volumed B) → ArePassed ds answers v w → AreAnswered holds m layers ds answers v w
+  passed_answered [] [] v w e = e
+  passed_answered [] (a ∷ answers) v w e = absurd e
+  passed_answered (d ∷ ds) [] v w e = absurd e
+  passed_answered (d ∷ ds) (a ∷ answers) v w (mid, one, rest) = (mid, one.done_is, passed_answered ds answers mid w rest)
 
   lasting_from : (ds : List (Deed B)) (answers : List (Done B)) (v w : Volumed B) (taken : List Taken) → is_loud_in_all layers v ≡ true → All (IsLoudDeed layers) ds → AreKept (plain v) taken → Each (OnlyShows v) taken → ArePassed ds answers v w → IsLasting holds m layers taken ds answers v w
   lasting_from [] [] v w taken loud brings kept shows e = e

@@ -1,10 +1,9 @@
 -- Each deed does what it promises, by the volume's own contracts; and deeds one after another.
-use Rattle.std.proofs.Common.{◌≡◌, ◌≢◌, inl, inr, ℕ, Bool, true, false, List, [], ◌∷◌, ◌++◌, map, length, None, Some, refl, sym, ◌∙◌, ap, subst, if◌then◌else◌}
-use Rattle.std.specs.Prelude.{◌==◌, ◌&&◌, IfErr, IfOk, Result, Ok, Err}
+use Rattle.std.proofs.Common.{◌≡◌, ◌≢◌, inl, inr, ℕ, Bool, true, false, List, [], ◌∷◌, map, length, None, Some, refl, sym, ◌∙◌, ap, subst, if◌then◌else◌}
+use Rattle.std.specs.Prelude.{◌==◌, ◌&&◌, IfErr, Result, Ok, Err}
 use Rattle.std.specs.List.{All}
 use Rattle.std.specs.Option.{is_some}
 use Rattle.std.proofs.lemmas.Bool.{cases_Bool, ne_eqb}
-use Rattle.std.proofs.lemmas.List.{map-id}
 use Rattle.std.proofs.lemmas.List.Elements.{All-head, All-tail}
 use Rattle.sector.specs.declared.refusal.Refusal.{Refusal}
 use Rattle.device.specs.Layers.{Layer, is_loud}
@@ -31,25 +30,29 @@ use Rattle.volume.specs.DoesFinishMerge.{DoesFinishMerge}
 use Rattle.volume.specs.DoesMessage.{DoesMessage}
 use Rattle.volume.specs.DoesResumeMerge.{DoesResumeMerge}
 use Rattle.volume.specs.DoesStep.{DoesStep}
+use Rattle.volume.specs.DoesSubmit.{DoesSubmit}
 use Rattle.volume.specs.DoesTick.{DoesTick}
 use Rattle.volume.specs.Layering.{Measures}
 use Rattle.volume.specs.Finishing.{finish_refusal}
 use Rattle.volume.specs.Leaving.{detach_refusal, is_quiet_of}
-use Rattle.volume.specs.Submitting.{IsAcceptedAs, IsRefusedAs, submit_refusal}
+use Rattle.volume.specs.Submitting.{IsRefusedAs}
 use Rattle.volume.specs.Taking.{IsNotTaken, attach_refusal}
 use Rattle.volume.specs.Volumed.{Volumed, is_loud_in_all, plain_of}
 use Rattle.volume.proofs.Attaches.{none_begun, taking_none}
+use Rattle.volume.proofs.Between.{begin_returned, resume_returned}
 use Rattle.volume.proofs.Fresh.{fresh_shown}
-use Rattle.volume.proofs.Declines.{refused_declined, refused_loud}
+use Rattle.volume.proofs.Declines.{refused_declined}
 use Rattle.volume.proofs.Quieted.{quiet_flights}
-use Rattle.volume.proofs.Ran.{unbegun_same}
+use Rattle.volume.proofs.Ran.{message_returned, unbegun_same}
 use Rattle.volume.proofs.Shown.{and_left}
+use Rattle.volume.proofs.Stepped.{step_returned}
+use Rattle.volume.proofs.Submits.{submit_returned}
 use Rattle.deeds.specs.declared.deed.Deed.{Deed}
 use Rattle.deeds.specs.declared.deed.Deed.TheVariants.{Submit, Step, Tick, Tell, Attach, Detach, BeginMerge, ResumeMerge, FinishMerge}
 use Rattle.deeds.specs.declared.deed.Done.{Done}
 use Rattle.deeds.specs.declared.deed.Done.TheVariants.{Submitted, Stepped, Ticked, Told, Attached, Detached, Begun, Resumed, Finished}
-use Rattle.deeds.specs.Answered.{AreAnswered}
-use Rattle.deeds.specs.Lived.{IsDone, IsLived, IsLoudDeed, IsSeen, Sees, Taken, Undoes, remembered}
+use Rattle.deeds.specs.Answered.{AreAnswered, IsDone}
+use Rattle.deeds.specs.Lived.{IsLived, IsLoudDeed, IsSeen, Sees, Taken, Undoes, remembered}
 use Rattle.deeds.proofs.Plains.{AreKept, begun_shows, finished_keeps, less_keeps, refused_keeps, same_all, stepped_keeps, submitted_keeps, taken_kept, taken_keeps}
 
 both : (a b : Bool) → a ≡ true → b ≡ true → (a && b) ≡ true
@@ -63,90 +66,89 @@ none_under contents origin number (s ∷ snaps) fresh =
     let other : (s.number == number) ≡ false = ne_eqb s.number number (All-head (λ (x : Kept _). x.number ≢ number) s snaps fresh) in
     rw other (none_under contents origin number snaps (All-tail (λ (x : Kept _). x.number ≢ number) s snaps fresh))
 
-module _ {B : Type 0} (m : Measures B) (layers : B → List Layer) where
+module _ {B : Type 0} (holds : B → ℕ → List ℕ → Type 0) (m : Measures B) (layers : B → List Layer) where
   abbrev plain : Volumed B → Plain
   plain v = plain_of m.contents layers v
 
-  pub submit_done : (request : Request) (result : Result ℕ Refusal) (v w : Volumed B) → IfOk result (λ number. IsAcceptedAs m.contents layers request number v w) → IfErr result (λ refusal. IsRefusedAs m.contents layers m.size request refusal v w) → IfOk result (λ number. submit_refusal m.size request v ≡ None) → IsDone m layers (Submit request) (Submitted result) v w
-  submit_done request (Ok number) v w e r a = record {
-    loud = λ l brought. e.loud ∙ l;
-    seen = λ l brought. record { sees = (_, e.legal l); reason = (e.lives, e.kept); disk = tt };
-    answered = (a, r);
+  pub submit_done : (request : Request) (result : Result ℕ Refusal) (v w : Volumed B) → DoesSubmit m.contents layers m.size request result v w → IfErr result (λ refusal. IsRefusedAs m.contents layers m.size request refusal v w) → IsDone holds m layers (Submit request) (Submitted result) v w
+  submit_done request (Ok number) v w does refused = record {
+    loud = λ l brought. does.loud ∙ l;
+    seen = λ l brought. record { sees = (_, does.ok.legal l); reason = (does.ok.lives, does.ok.kept); disk = tt };
+    answered = submit_returned m layers request (Ok number) v w does refused;
   }
-  submit_done request (Err refusal) v w e r a = record {
-    loud = λ l brought. refused_loud m.contents layers m.size v w request refusal r ∙ l;
-    seen = λ l brought. record { sees = refused_declined m.contents layers m.size v w request refusal r l; reason = tt; disk = tt };
-    answered = (a, r);
+  submit_done request (Err refusal) v w does refused = record {
+    loud = λ l brought. does.loud ∙ l;
+    seen = λ l brought. record { sees = refused_declined m.contents layers m.size v w request refusal refused l; reason = tt; disk = tt };
+    answered = submit_returned m layers request (Err refusal) v w does refused;
   }
 
-  pub step_done : (holds : B → ℕ → List ℕ → Type 0) (event : Event) (result : Result Outcome NotDue) (v w : Volumed B)
-      → DoesStep holds m.contents layers m.size m.faults m.done true event result v w → IsDone m layers (Step event) (Stepped result) v w
-  step_done holds event (Ok outcome) v w does = record {
+  pub step_done : (event : Event) (result : Result Outcome NotDue) (v w : Volumed B) → DoesStep holds m.contents layers m.size m.faults m.done true event result v w → IsDone holds m layers (Step event) (Stepped result) v w
+  step_done event (Ok outcome) v w does = record {
     loud = λ l brought. does.loud ∙ l;
     seen = λ l brought. record { sees = does.legal l; reason = (does.cause, does.one); disk = tt };
-    answered = does.due;
+    answered = step_returned holds m layers event (Ok outcome) v w does;
   }
-  step_done holds event (Err early) v w does = record {
+  step_done event (Err early) v w does = record {
     loud = λ l brought. does.loud ∙ l;
     seen = λ l brought. record { sees = ap plain does.same; reason = tt; disk = tt };
-    answered = does.due;
+    answered = step_returned holds m layers event (Err early) v w does;
   }
 
-  pub tick_done : (holds : B → ℕ → List ℕ → Type 0) (seconds : ℕ) (v w : Volumed B) → DoesTick holds m layers seconds v w → IsDone m layers (Tick seconds) Ticked v w
-  tick_done holds seconds v w does = record {
+  pub tick_done : (seconds : ℕ) (v w : Volumed B) → DoesTick holds m layers seconds v w → IsDone holds m layers (Tick seconds) Ticked v w
+  tick_done seconds v w does = record {
     loud = λ l brought. does.loud ∙ l;
     seen = λ l brought. record { sees = does.plain; reason = tt; disk = tt };
     answered = does.ticked;
   }
 
-  pub tell_done : (holds : B → ℕ → List ℕ → Type 0) (dev : Dev) (depth : ℕ) (message : Message) (result : Result Answer Refusal) (v w : Volumed B) → DoesMessage holds m layers dev depth message result v w → IsDone m layers (Tell dev depth message) (Told result) v w
-  tell_done holds dev depth message result v w does = record {
+  pub tell_done : (dev : Dev) (depth : ℕ) (message : Message) (result : Result Answer Refusal) (v w : Volumed B) → DoesMessage holds m layers dev depth message result v w → IsDone holds m layers (Tell dev depth message) (Told result) v w
+  tell_done dev depth message result v w does = record {
     loud = λ l brought. does.loud ∙ l;
     seen = λ l brought. record { sees = does.plain; reason = tt; disk = tt };
-    answered = (does.ok, does.err);
+    answered = message_returned m layers dev depth message result v w does.ok does.err;
   }
 
-  pub detach_done : (holds : B → ℕ → List ℕ → Type 0) (number : ℕ) (result : Result (StoreDev B) Refusal) (v w : Volumed B) → DoesDetach holds m.contents layers m.size number result v w → IfErr result (λ refusal. (detach_refusal number v ≡ Some refusal) × (w ≡ v))
-      → IsDone m layers (Detach number) (Detached result) v w
-  detach_done holds number (Ok store) v w does refused = record {
+  pub detach_done : (number : ℕ) (result : Result (StoreDev B) Refusal) (v w : Volumed B) → DoesDetach holds m.contents layers m.size number result v w → IfErr result (λ refusal. (detach_refusal number v ≡ Some refusal) × (w ≡ v))
+      → IsDone holds m layers (Detach number) (Detached result) v w
+  detach_done number (Ok store) v w does refused = record {
     loud = λ l brought. and_left (is_loud_in_all layers w) (is_loud (layers store.device)) (sym does.loud ∙ l);
     seen = λ l brought. record { sees = does.plain l; reason = tt; disk = tt };
     answered = (does.taken, refused);
   }
-  detach_done holds number (Err refusal) v w does refused = record {
+  detach_done number (Err refusal) v w does refused = record {
     loud = λ l brought. ap (is_loud_in_all layers) refused.1 ∙ l;
     seen = λ l brought. record { sees = ap plain refused.1; reason = tt; disk = tt };
     answered = (tt, refused);
   }
 
-  pub begin_done : (holds : B → ℕ → List ℕ → Type 0) (number : ℕ) (result : Result (Unit {0}) Refusal) (v w : Volumed B) → DoesBeginMerge holds m.contents layers m.size number result v w → IfErr result (λ refusal. IsNotBegun number refusal v w)
-      → IsDone m layers (BeginMerge number) (Begun result) v w
-  begin_done holds number (Ok done) v w does refused = record {
+  pub begin_done : (number : ℕ) (result : Result (Unit {0}) Refusal) (v w : Volumed B) → DoesBeginMerge holds m.contents layers m.size number result v w → IfErr result (λ refusal. IsNotBegun number refusal v w)
+      → IsDone holds m layers (BeginMerge number) (Begun result) v w
+  begin_done number (Ok done) v w does refused = record {
     loud = λ l brought. does.loud ∙ l;
     seen = λ l brought. record { sees = does.legal l; reason = tt; disk = tt };
-    answered = ((does.admitted, does.begun), refused);
+    answered = begin_returned holds m layers number (Ok done) v w does refused;
   }
-  begin_done holds number (Err refusal) v w does refused = record {
+  begin_done number (Err refusal) v w does refused = record {
     loud = λ l brought. does.loud ∙ l;
     seen = λ l brought. record { sees = unbegun_same m.contents layers number refusal v w refused; reason = tt; disk = tt };
-    answered = (tt, refused);
+    answered = begin_returned holds m layers number (Err refusal) v w does refused;
   }
 
-  pub resume_done : (result : Result (Unit {0}) Refusal) (v w : Volumed B) → DoesResumeMerge m.contents layers result v w → IsDone m layers ResumeMerge (Resumed result) v w
+  pub resume_done : (result : Result (Unit {0}) Refusal) (v w : Volumed B) → DoesResumeMerge m.contents layers result v w → IsDone holds m layers ResumeMerge (Resumed result) v w
   resume_done result v w does = record {
     loud = λ l brought. does.loud ∙ l;
     seen = λ l brought. record { sees = does.plain; reason = tt; disk = tt };
-    answered = (does.resumed, does.err);
+    answered = resume_returned m layers result v w does;
   }
 
-  pub finish_done : (holds : B → ℕ → List ℕ → Type 0) (result : Result (StoreDev B) Refusal) (v w : Volumed B) → DoesFinishMerge holds m.contents layers m.size result v w → IfErr result (λ refusal. (finish_refusal v ≡ Some refusal) × (w ≡ v))
-      → IsDone m layers FinishMerge (Finished result) v w
-  finish_done holds (Ok store) v w does refused = record {
+  pub finish_done : (result : Result (StoreDev B) Refusal) (v w : Volumed B) → DoesFinishMerge holds m.contents layers m.size result v w → IfErr result (λ refusal. (finish_refusal v ≡ Some refusal) × (w ≡ v))
+      → IsDone holds m layers FinishMerge (Finished result) v w
+  finish_done (Ok store) v w does refused = record {
     loud = λ l brought. and_left (is_loud_in_all layers w) (is_loud (layers store.device)) (sym does.loud ∙ l);
     seen = λ l brought. record { sees = does.legal l; reason = tt; disk = sym (ap (λ (p : Plain). p.origin) (does.legal l).becomes ∙ does.disk l) };
     answered = (does.taken, refused);
   }
-  finish_done holds (Err refusal) v w does refused = record {
+  finish_done (Err refusal) v w does refused = record {
     loud = λ l brought. ap (is_loud_in_all layers) refused.1 ∙ l;
     seen = λ l brought. record { sees = ap plain refused.1; reason = tt; disk = tt };
     answered = (tt, refused);
@@ -164,18 +166,18 @@ module _ {B : Type 0} (m : Measures B) (layers : B → List Layer) where
           subst (λ o. IsTaken (plain v) number (shown_array o (m.contents store.device)) (overflow_of overflow) (plain w)) origin taken,
         )
 
-    pub attach_done : (holds : B → ℕ → List ℕ → Type 0) (result : Result ℕ (Refusal × StoreDev B)) → DoesAttach holds m layers store chunk overflow result v w
+    pub attach_done : (result : Result ℕ (Refusal × StoreDev B)) → DoesAttach holds m layers store chunk overflow result v w
         → IfErr result (λ e. IsNotTaken store.stale chunk (m.size v.origin) (m.size store.device) (m.contents store.device) v e.0)
-        → IsDone m layers (Attach store chunk overflow) (Attached result) v w
-    attach_done holds (Ok number) does why = record {
+        → IsDone holds m layers (Attach store chunk overflow) (Attached result) v w
+    attach_done (Ok number) does why = record {
       loud = λ l brought. does.loud ∙ both (is_loud_in_all layers v) (is_loud (layers store.device)) l brought;
       seen = λ l brought. record { sees = quiet_taken number does.admitted does.gained (does.taken l brought); reason = tt; disk = tt };
-      answered = ((does.admitted, does.gained), why);
+      answered = (does, why);
     }
-    attach_done holds (Err refused) does why = record {
+    attach_done (Err refused) does why = record {
       loud = λ l brought. does.same.loud ∙ l;
       seen = λ l brought. record { sees = does.same.shown; reason = tt; disk = tt };
-      answered = (tt, (why, does.same));
+      answered = (does, why);
     }
 
 attached_keeps : (number : ℕ) (bytes : List ℕ) (overflow : Bool) (p q : Plain) (taken : List Taken) → saved_under number p.saved ≡ None → p.requests ≡ [] → IsTaken p number (shown_array p.origin bytes) (overflow_of overflow) q → AreKept p taken
@@ -372,25 +374,8 @@ module _ {B : Type 0} (m : Measures B) (layers : B → List Layer) where
   seen_undoes FinishMerge (Begun result) v w taken e all = absurd e
   seen_undoes FinishMerge (Resumed result) v w taken e all = absurd e
 
-  -- deeds one after another
-  abbrev pub AreDone : List (Deed B) → List (Done B) → Volumed B → Volumed B → Type 0
-  AreDone [] [] v w = w ≡ v
-  AreDone [] (a ∷ answers) v w = ⊥
-  AreDone (d ∷ ds) [] v w = ⊥
-  AreDone (d ∷ ds) (a ∷ answers) v w = (mid : Volumed B) × IsDone m layers d a v mid × AreDone ds answers mid w
-
-  -- one more
-  pub done_more : (ds : List (Deed B)) (answers : List (Done B)) (d : Deed B) (a : Done B) (v w x : Volumed B) → AreDone ds answers v w → IsDone m layers d a w x → AreDone (ds ++ d ∷ []) (answers ++ a ∷ []) v x
-  done_more [] [] d a v w x e one = (x, subst (λ (y : Volumed B). IsDone m layers d a y x) e one, refl)
-  done_more [] (b ∷ answers) d a v w x e one = absurd e
-  done_more (c ∷ ds) [] d a v w x e one = absurd e
-  done_more (c ∷ ds) (b ∷ answers) d a v w x (mid, first, rest) one = (mid, first, done_more ds answers d a mid w x rest one)
-
-  -- those that a loop went over are all of them
-  pub all_done : (seen ds : List (Deed B)) (answers : List (Done B)) (v w : Volumed B) → map (λ d. d) seen ≡ ds → AreDone seen answers v w → AreDone ds answers v w
-  all_done seen ds answers v w all e = subst (λ (x : List (Deed B)). AreDone x answers v w) (sym (map-id seen) ∙ all) e
-
-  lived_from : (ds : List (Deed B)) (answers : List (Done B)) (v w : Volumed B) (taken : List Taken) → is_loud_in_all layers v ≡ true → All (IsLoudDeed layers) ds → AreKept (plain_of m.contents layers v) taken → AreDone ds answers v w → IsLived m layers taken ds answers v w
+module _ {B : Type 0} (holds : B → ℕ → List ℕ → Type 0) (m : Measures B) (layers : B → List Layer) where
+  lived_from : (ds : List (Deed B)) (answers : List (Done B)) (v w : Volumed B) (taken : List Taken) → is_loud_in_all layers v ≡ true → All (IsLoudDeed layers) ds → AreKept (plain_of m.contents layers v) taken → AreAnswered holds m layers ds answers v w → IsLived m layers taken ds answers v w
   lived_from [] [] v w taken loud brings kept e = e
   lived_from [] (a ∷ answers) v w taken loud brings kept e = absurd e
   lived_from (d ∷ ds) [] v w taken loud brings kept e = absurd e
@@ -399,15 +384,10 @@ module _ {B : Type 0} (m : Measures B) (layers : B → List Layer) where
       let seen : IsSeen m layers d a v mid = one.seen loud brought in (
         mid,
         seen,
-        seen_undoes d a v mid taken seen.sees kept,
+        seen_undoes m layers d a v mid taken seen.sees kept,
         lived_from ds answers mid w (remembered m.contents d a (plain_of m.contents layers v) taken) (one.loud loud brought) (All-tail (IsLoudDeed layers) d ds brings) (seen_keeps m.contents d a (plain_of m.contents layers v) (plain_of m.contents layers mid) taken seen.sees kept) rest,
       )
 
-  pub all_lived : (ds : List (Deed B)) (answers : List (Done B)) (v w : Volumed B) → AreDone ds answers v w → is_loud_in_all layers v ≡ true → All (IsLoudDeed layers) ds → IsLived m layers [] ds answers v w
+  -- what callers see of deeds that are answered
+  pub all_lived : (ds : List (Deed B)) (answers : List (Done B)) (v w : Volumed B) → AreAnswered holds m layers ds answers v w → is_loud_in_all layers v ≡ true → All (IsLoudDeed layers) ds → IsLived m layers [] ds answers v w
   all_lived ds answers v w e loud brings = lived_from ds answers v w [] loud brings tt e
-
-  pub all_answered : (ds : List (Deed B)) (answers : List (Done B)) (v w : Volumed B) → AreDone ds answers v w → AreAnswered m layers ds answers v w
-  all_answered [] [] v w e = e
-  all_answered [] (a ∷ answers) v w e = absurd e
-  all_answered (d ∷ ds) [] v w e = absurd e
-  all_answered (d ∷ ds) (a ∷ answers) v w (mid, one, rest) = (mid, one.answered, all_answered ds answers mid w rest)

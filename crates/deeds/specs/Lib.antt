@@ -1,3 +1,3 @@
-pub mod Answered
 pub mod Lived
+pub mod Answered
 pub mod Lasted

@@ -14,12 +14,11 @@ use Rattle.volume.specs.Fresh.{is_fresh}
 use Rattle.volume.specs.Layering.{Measures}
 use Rattle.volume.specs.Stepping.{KeepsDevices}
 use Rattle.volume.specs.Submitting.{lives_after}
-use Rattle.volume.specs.Volumed.{Volumed, plain_of, is_loud_in_all}
+use Rattle.volume.specs.Volumed.{Volumed, plain_of}
 use Rattle.deeds.specs.declared.deed.Deed.{Deed}
 use Rattle.deeds.specs.declared.deed.Deed.TheVariants.{Submit, Step, Tick, Tell, Attach, Detach, BeginMerge, ResumeMerge, FinishMerge}
 use Rattle.deeds.specs.declared.deed.Done.{Done}
 use Rattle.deeds.specs.declared.deed.Done.TheVariants.{Submitted, Stepped, Ticked, Told, Attached, Detached, Begun, Resumed, Finished}
-use Rattle.deeds.specs.Answered.{IsAnswered}
 
 -- what is asked of a deed: a write brings as many bytes as its range has
 abbrev pub IsFitDeed : {B : Type 0} → Deed B → Type 0
@@ -69,13 +68,6 @@ pub record IsSeen {B : Type 0} (m : Measures B) (layers : B → List Layer) (dee
   pub sees : Sees m.contents deed done (plain_of m.contents layers old) (plain_of m.contents layers new)
   pub reason : HasReason m deed done old new
   pub disk : StandsOnDisk m layers deed done new
-
--- What one deed promises: with it the volume has no device that drops writes, if it had none and the deed brings none; what is
--- seen of it then; and its answer, whatever devices do.
-pub record IsDone {B : Type 0} (m : Measures B) (layers : B → List Layer) (deed : Deed B) (done : Done B) (old new : Volumed B) : Type 0 where
-  pub loud : is_loud_in_all layers old ≡ true → IsLoudDeed layers deed → is_loud_in_all layers new ≡ true
-  pub seen : is_loud_in_all layers old ≡ true → IsLoudDeed layers deed → IsSeen m layers deed done old new
-  pub answered : IsAnswered m layers deed done old new
 
 -- a snapshot that was taken over a fresh store and not written since, and what the origin showed when it was taken
 pub record Taken : Type 0 where

@@ -4,9 +4,9 @@ ghost use Rattle.std.specs.List.{All};
 ghost use Rattle.sector.specs.declared.refusal.Refusal.TheVariants.{NoMemory};
 ghost use Rattle.volume.specs.Layering.{Measures};
 ghost use Rattle.volume.specs.Volumed.{is_loud_in_all};
-ghost use Rattle.deeds.specs.Answered.{AreAnswered};
+ghost use Rattle.deeds.specs.Answered.{AreAnswered, IsDone};
 ghost use Rattle.deeds.specs.Lasted.{IsLasting, OpensByDeed};
-ghost use Rattle.deeds.specs.Lived.{IsDone, IsFitDeed, IsLived, IsLoudDeed};
+ghost use Rattle.deeds.specs.Lived.{IsFitDeed, IsLived, IsLoudDeed};
 
 use crate::{Deed, Done};
 use layers::Layered;
@@ -18,7 +18,7 @@ use volume::Volume;
 /// a snapshot that was taken shows.
 fn one<B: Layered>(alloc: Global, volume: &mut Volume<B>, deed: Deed<B>) -> Done<B>
     requires fits { IsFitDeed deed }
-    ensures done { IsDone (record { contents = B.contents; durable = B.durable; size = B.size; faults = B.fault_count; done = B.done_count }) B.layers deed result volume.old volume.new }
+    ensures done { IsDone B.may_hold (record { contents = B.contents; durable = B.durable; size = B.size; faults = B.fault_count; done = B.done_count }) B.layers deed result volume.old volume.new }
     ensures opens { is_loud_in_all B.layers volume.old ≡ true → IsLoudDeed B.layers deed → OpensByDeed B.may_hold (record { contents = B.contents; durable = B.durable; size = B.size; faults = B.fault_count; done = B.done_count }) B.layers deed result volume.old volume.new }
 {
     match deed {
@@ -45,8 +45,9 @@ fn one<B: Layered>(alloc: Global, volume: &mut Volume<B>, deed: Deed<B>) -> Done
 /// merge of a snapshot over a fresh store that nobody wrote undoes all that was written to the origin since it was taken, and
 /// once it is taken out that stands on the disk itself. On disks with caches, whatever a stop behind a deed leaves, the store of each live
 /// snapshot that was taken over a fresh one and not written since is loaded again, and shows in each sector what the origin showed
-/// when that was taken. Whatever devices do, each answer is the volume's own. The room for the
-/// answers is taken first: where it is refused (`NoMemory`), nothing is done, and the deeds are given back.
+/// when that was taken. Whatever devices do, each deed begins with the volume that the one before it left, and each answer is that
+/// volume's own. The room for the answers is taken first: where it is refused (`NoMemory`), nothing is done, and the deeds are given
+/// back.
 pub fn live<B: Layered + Drop>(
     alloc: Global,
     volume: &mut Volume<B>,
@@ -55,7 +56,7 @@ pub fn live<B: Layered + Drop>(
     requires fits { All IsFitDeed deeds.items }
     ensures lived { IfOk result (λ done. is_loud_in_all B.layers volume.old ≡ true → All (IsLoudDeed B.layers) deeds.items → IsLived (record { contents = B.contents; durable = B.durable; size = B.size; faults = B.fault_count; done = B.done_count }) B.layers [] deeds.items done.items volume.old volume.new) }
     ensures lasts { IfOk result (λ done. is_loud_in_all B.layers volume.old ≡ true → All (IsLoudDeed B.layers) deeds.items → IsLasting B.may_hold (record { contents = B.contents; durable = B.durable; size = B.size; faults = B.fault_count; done = B.done_count }) B.layers [] deeds.items done.items volume.old volume.new) }
-    ensures answered { IfOk result (λ done. AreAnswered (record { contents = B.contents; durable = B.durable; size = B.size; faults = B.fault_count; done = B.done_count }) B.layers deeds.items done.items volume.old volume.new) }
+    ensures answered { IfOk result (λ done. AreAnswered B.may_hold (record { contents = B.contents; durable = B.durable; size = B.size; faults = B.fault_count; done = B.done_count }) B.layers deeds.items done.items volume.old volume.new) }
     ensures err { IfErr result (λ e. (e.0 ≡ NoMemory) × (e.1 ≡ deeds) × (volume.new ≡ volume.old)) }
 {
     let Ok(mut answers) = Vec::with_capacity(alloc, deeds.len()) else {

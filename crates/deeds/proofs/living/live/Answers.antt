@@ -4,8 +4,8 @@ use Rattle.std.proofs.lemmas.Iterator.Adapters.{YieldsList-from_vec}
 use Rattle.std.proofs.lemmas.Iterator.Consumers.{YieldsList-turn, YieldsList-end}
 use Rattle.std.proofs.lemmas.List.{length-append}
 use Rattle.volume.specs.Layering.{Measures}
-use Rattle.deeds.proofs.Lasts.{ArePassed, IsPassed, all_lasting, all_passed, passed_done, passed_more}
-use Rattle.deeds.proofs.Lives.{all_answered, all_lived}
+use Rattle.deeds.proofs.Lasts.{ArePassed, IsPassed, all_lasting, all_passed, passed_answered, passed_more}
+use Rattle.deeds.proofs.Lives.{all_lived}
 use Rattle.deeds.proofs.living.live.Goals as goal
 
 pub loop-deed-init : goal.loop-deed-init
@@ -37,15 +37,15 @@ pub returns-clause-lived : goal.returns-clause-lived
 returns-clause-lived g c = λ loud brings.
     let m : Measures g.row.B.Denot = record { contents = g.B.Block.contents; durable = g.B.Block.durable; size = g.B.Block.size; faults = g.B.Block.fault_count; done = g.B.Block.done_count } in
     let end = YieldsList-end (YieldsList-from_vec {s = c.into_iter-deed-iterator.result} c.args.deeds.items (search rules) (search rules)) c.loop-deed.yielded c.loop-deed.deed-iterator c.loop-deed.yielded_by c.next.result c.next.new.self c.in-None.is c.next.ensures.steps in
-    all_lived m g.B.Block.layers c.args.deeds.items c.loop-deed.answers.items c.args.volume.now c.loop-deed.volume
-    (passed_done g.B.Block.may_hold m g.B.Block.layers c.args.deeds.items c.loop-deed.answers.items c.args.volume.now c.loop-deed.volume (all_passed g.B.Block.may_hold m g.B.Block.layers c.loop-deed.yielded c.args.deeds.items c.loop-deed.answers.items c.args.volume.now c.loop-deed.volume end.0 c.loop-deed.invariant.passed)) loud brings
+    all_lived g.B.Block.may_hold m g.B.Block.layers c.args.deeds.items c.loop-deed.answers.items c.args.volume.now c.loop-deed.volume
+    (passed_answered g.B.Block.may_hold m g.B.Block.layers c.args.deeds.items c.loop-deed.answers.items c.args.volume.now c.loop-deed.volume (all_passed g.B.Block.may_hold m g.B.Block.layers c.loop-deed.yielded c.args.deeds.items c.loop-deed.answers.items c.args.volume.now c.loop-deed.volume end.0 c.loop-deed.invariant.passed)) loud brings
 
 pub returns-clause-answered : goal.returns-clause-answered
 returns-clause-answered g c =
     let m : Measures g.row.B.Denot = record { contents = g.B.Block.contents; durable = g.B.Block.durable; size = g.B.Block.size; faults = g.B.Block.fault_count; done = g.B.Block.done_count } in
     let end = YieldsList-end (YieldsList-from_vec {s = c.into_iter-deed-iterator.result} c.args.deeds.items (search rules) (search rules)) c.loop-deed.yielded c.loop-deed.deed-iterator c.loop-deed.yielded_by c.next.result c.next.new.self c.in-None.is c.next.ensures.steps in
-    all_answered m g.B.Block.layers c.args.deeds.items c.loop-deed.answers.items c.args.volume.now c.loop-deed.volume
-    (passed_done g.B.Block.may_hold m g.B.Block.layers c.args.deeds.items c.loop-deed.answers.items c.args.volume.now c.loop-deed.volume (all_passed g.B.Block.may_hold m g.B.Block.layers c.loop-deed.yielded c.args.deeds.items c.loop-deed.answers.items c.args.volume.now c.loop-deed.volume end.0 c.loop-deed.invariant.passed))
+    passed_answered g.B.Block.may_hold m g.B.Block.layers c.args.deeds.items c.loop-deed.answers.items c.args.volume.now c.loop-deed.volume
+    (all_passed g.B.Block.may_hold m g.B.Block.layers c.loop-deed.yielded c.args.deeds.items c.loop-deed.answers.items c.args.volume.now c.loop-deed.volume end.0 c.loop-deed.invariant.passed)
 
 pub returns-clause-lasts : goal.returns-clause-lasts
 returns-clause-lasts g c = λ loud brings.

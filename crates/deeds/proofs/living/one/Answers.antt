@@ -6,8 +6,9 @@ use Rattle.deeds.specs.declared.deed.Deed.TheVariants.{Submit, Step, Tick, Tell,
 use Rattle.deeds.specs.declared.deed.Done.TheVariants.{Submitted, Stepped, Ticked, Told, Attached, Detached, Begun, Resumed, Finished}
 use Rattle.volume.proofs.OpenedCalls.{opens_alike, opens_begin, opens_resume, opens_stepped, opens_submitted, opens_told}
 use Rattle.volume.proofs.Relayered.{ticked_alike}
+use Rattle.deeds.specs.Answered.{IsDone}
 use Rattle.deeds.specs.Lasted.{OpensByDeed}
-use Rattle.deeds.specs.Lived.{IsDone, IsLoudDeed}
+use Rattle.deeds.specs.Lived.{IsLoudDeed}
 use Rattle.deeds.proofs.Lasts.{attached_opens, begin_opens, by_calls, detached_opens, finished_opens}
 use Rattle.deeds.proofs.Lives.{attach_done, begin_done, detach_done, finish_done, resume_done, step_done, submit_done, tell_done, tick_done}
 use Rattle.deeds.proofs.living.one.Goals as goal
@@ -15,20 +16,20 @@ use Rattle.deeds.proofs.living.one.Goals as goal
 pub returns-in-Submit-clause-done : goal.returns-in-Submit-clause-done
 returns-in-Submit-clause-done g c =
     let m : Measures g.row.B.Denot = record { contents = g.B.Block.contents; durable = g.B.Block.durable; size = g.B.Block.size; faults = g.B.Block.fault_count; done = g.B.Block.done_count } in
-    subst (λ (d : Deed g.row.B.Denot). IsDone m g.B.Block.layers d (Submitted c.submit.result) c.args.volume.now c.submit.new.self) (sym c.in-Submit.is)
-    (submit_done m g.B.Block.layers c.in-Submit.request c.submit.result c.args.volume.now c.submit.new.self c.submit.ensures.does.ok c.submit.ensures.refused c.submit.ensures.does.admitted)
+    subst (λ (d : Deed g.row.B.Denot). IsDone g.B.Block.may_hold m g.B.Block.layers d (Submitted c.submit.result) c.args.volume.now c.submit.new.self) (sym c.in-Submit.is)
+    (submit_done g.B.Block.may_hold m g.B.Block.layers c.in-Submit.request c.submit.result c.args.volume.now c.submit.new.self c.submit.ensures.does c.submit.ensures.refused)
 
 pub returns-in-Attach-clause-done : goal.returns-in-Attach-clause-done
 returns-in-Attach-clause-done g c =
     let m : Measures g.row.B.Denot = record { contents = g.B.Block.contents; durable = g.B.Block.durable; size = g.B.Block.size; faults = g.B.Block.fault_count; done = g.B.Block.done_count } in
-    subst (λ (d : Deed g.row.B.Denot). IsDone m g.B.Block.layers d (Attached c.attach.result) c.args.volume.now c.attach.new.self) (sym c.in-Attach.is)
-    (attach_done m g.B.Block.layers c.in-Attach.store c.in-Attach.chunk c.in-Attach.overflow c.args.volume.now c.attach.new.self g.B.Block.may_hold c.attach.result c.attach.ensures.does c.attach.ensures.refused)
+    subst (λ (d : Deed g.row.B.Denot). IsDone g.B.Block.may_hold m g.B.Block.layers d (Attached c.attach.result) c.args.volume.now c.attach.new.self) (sym c.in-Attach.is)
+    (attach_done g.B.Block.may_hold m g.B.Block.layers c.in-Attach.store c.in-Attach.chunk c.in-Attach.overflow c.args.volume.now c.attach.new.self c.attach.result c.attach.ensures.does c.attach.ensures.refused)
 
 pub returns-in-BeginMerge-clause-done : goal.returns-in-BeginMerge-clause-done
 returns-in-BeginMerge-clause-done g c =
     let m : Measures g.row.B.Denot = record { contents = g.B.Block.contents; durable = g.B.Block.durable; size = g.B.Block.size; faults = g.B.Block.fault_count; done = g.B.Block.done_count } in
-    subst (λ (d : Deed g.row.B.Denot). IsDone m g.B.Block.layers d (Begun c.begin_merge.result) c.args.volume.now c.begin_merge.new.self) (sym c.in-BeginMerge.is)
-    (begin_done m g.B.Block.layers g.B.Block.may_hold c.in-BeginMerge.number c.begin_merge.result c.args.volume.now c.begin_merge.new.self c.begin_merge.ensures.does c.begin_merge.ensures.refused)
+    subst (λ (d : Deed g.row.B.Denot). IsDone g.B.Block.may_hold m g.B.Block.layers d (Begun c.begin_merge.result) c.args.volume.now c.begin_merge.new.self) (sym c.in-BeginMerge.is)
+    (begin_done g.B.Block.may_hold m g.B.Block.layers c.in-BeginMerge.number c.begin_merge.result c.args.volume.now c.begin_merge.new.self c.begin_merge.ensures.does c.begin_merge.ensures.refused)
 
 pub returns-in-Submit-clause-opens : goal.returns-in-Submit-clause-opens
 returns-in-Submit-clause-opens g c = λ loud brought.
@@ -38,8 +39,8 @@ returns-in-Submit-clause-opens g c = λ loud brought.
 pub returns-in-Step-clause-done : goal.returns-in-Step-clause-done
 returns-in-Step-clause-done g c =
     let m : Measures g.row.B.Denot = record { contents = g.B.Block.contents; durable = g.B.Block.durable; size = g.B.Block.size; faults = g.B.Block.fault_count; done = g.B.Block.done_count } in
-    subst (λ (d : Deed g.row.B.Denot). IsDone m g.B.Block.layers d (Stepped c.step.result) c.args.volume.now c.step.new.self) (sym c.in-Step.is)
-    (step_done m g.B.Block.layers g.B.Block.may_hold c.in-Step.event c.step.result c.args.volume.now c.step.new.self c.step.ensures.does)
+    subst (λ (d : Deed g.row.B.Denot). IsDone g.B.Block.may_hold m g.B.Block.layers d (Stepped c.step.result) c.args.volume.now c.step.new.self) (sym c.in-Step.is)
+    (step_done g.B.Block.may_hold m g.B.Block.layers c.in-Step.event c.step.result c.args.volume.now c.step.new.self c.step.ensures.does)
 
 pub returns-in-Step-clause-opens : goal.returns-in-Step-clause-opens
 returns-in-Step-clause-opens g c = λ loud brought.
@@ -49,8 +50,8 @@ returns-in-Step-clause-opens g c = λ loud brought.
 pub returns-in-Tick-clause-done : goal.returns-in-Tick-clause-done
 returns-in-Tick-clause-done g c =
     let m : Measures g.row.B.Denot = record { contents = g.B.Block.contents; durable = g.B.Block.durable; size = g.B.Block.size; faults = g.B.Block.fault_count; done = g.B.Block.done_count } in
-    subst (λ (d : Deed g.row.B.Denot). IsDone m g.B.Block.layers d Ticked c.args.volume.now c.tick.new.self) (sym c.in-Tick.is)
-    (tick_done m g.B.Block.layers g.B.Block.may_hold c.in-Tick.seconds c.args.volume.now c.tick.new.self c.tick.ensures.does)
+    subst (λ (d : Deed g.row.B.Denot). IsDone g.B.Block.may_hold m g.B.Block.layers d Ticked c.args.volume.now c.tick.new.self) (sym c.in-Tick.is)
+    (tick_done g.B.Block.may_hold m g.B.Block.layers c.in-Tick.seconds c.args.volume.now c.tick.new.self c.tick.ensures.does)
 
 pub returns-in-Tick-clause-opens : goal.returns-in-Tick-clause-opens
 returns-in-Tick-clause-opens g c = λ loud brought.
@@ -60,8 +61,8 @@ returns-in-Tick-clause-opens g c = λ loud brought.
 pub returns-in-Tell-clause-done : goal.returns-in-Tell-clause-done
 returns-in-Tell-clause-done g c =
     let m : Measures g.row.B.Denot = record { contents = g.B.Block.contents; durable = g.B.Block.durable; size = g.B.Block.size; faults = g.B.Block.fault_count; done = g.B.Block.done_count } in
-    subst (λ (d : Deed g.row.B.Denot). IsDone m g.B.Block.layers d (Told c.message.result) c.args.volume.now c.message.new.self) (sym c.in-Tell.is)
-    (tell_done m g.B.Block.layers g.B.Block.may_hold c.in-Tell.dev c.in-Tell.depth c.in-Tell.message c.message.result c.args.volume.now c.message.new.self c.message.ensures.does)
+    subst (λ (d : Deed g.row.B.Denot). IsDone g.B.Block.may_hold m g.B.Block.layers d (Told c.message.result) c.args.volume.now c.message.new.self) (sym c.in-Tell.is)
+    (tell_done g.B.Block.may_hold m g.B.Block.layers c.in-Tell.dev c.in-Tell.depth c.in-Tell.message c.message.result c.args.volume.now c.message.new.self c.message.ensures.does)
 
 pub returns-in-Tell-clause-opens : goal.returns-in-Tell-clause-opens
 returns-in-Tell-clause-opens g c = λ loud brought.
@@ -72,7 +73,7 @@ pub returns-in-Attach-clause-opens : goal.returns-in-Attach-clause-opens
 returns-in-Attach-clause-opens g c = λ loud brought.
     let m : Measures g.row.B.Denot = record { contents = g.B.Block.contents; durable = g.B.Block.durable; size = g.B.Block.size; faults = g.B.Block.fault_count; done = g.B.Block.done_count } in
     let deed : Deed g.row.B.Denot = Attach c.in-Attach.store c.in-Attach.chunk c.in-Attach.overflow in
-    let done = attach_done m g.B.Block.layers c.in-Attach.store c.in-Attach.chunk c.in-Attach.overflow c.args.volume.now c.attach.new.self g.B.Block.may_hold c.attach.result c.attach.ensures.does c.attach.ensures.refused in
+    let done = attach_done g.B.Block.may_hold m g.B.Block.layers c.in-Attach.store c.in-Attach.chunk c.in-Attach.overflow c.args.volume.now c.attach.new.self c.attach.result c.attach.ensures.does c.attach.ensures.refused in
     let fits : IsLoudDeed g.B.Block.layers deed = subst (IsLoudDeed g.B.Block.layers) c.in-Attach.is brought in
     subst (λ (d : Deed g.row.B.Denot). OpensByDeed g.B.Block.may_hold m g.B.Block.layers d (Attached c.attach.result) c.args.volume.now c.attach.new.self) (sym c.in-Attach.is)
     (attached_opens g.B.Block.may_hold m g.B.Block.layers c.in-Attach.store c.in-Attach.chunk c.in-Attach.overflow c.args.volume.now c.attach.new.self c.attach.ensures.does.origin_kept c.attach.result g.met.B.Block.whole g.met.B.Block.holds_now loud fits done c.attach.ensures.does.origin_firm c.attach.ensures.does.firm)
@@ -80,8 +81,8 @@ returns-in-Attach-clause-opens g c = λ loud brought.
 pub returns-in-Detach-clause-done : goal.returns-in-Detach-clause-done
 returns-in-Detach-clause-done g c =
     let m : Measures g.row.B.Denot = record { contents = g.B.Block.contents; durable = g.B.Block.durable; size = g.B.Block.size; faults = g.B.Block.fault_count; done = g.B.Block.done_count } in
-    subst (λ (d : Deed g.row.B.Denot). IsDone m g.B.Block.layers d (Detached c.detach.result) c.args.volume.now c.detach.new.self) (sym c.in-Detach.is)
-    (detach_done m g.B.Block.layers g.B.Block.may_hold c.in-Detach.number c.detach.result c.args.volume.now c.detach.new.self c.detach.ensures.does c.detach.ensures.err)
+    subst (λ (d : Deed g.row.B.Denot). IsDone g.B.Block.may_hold m g.B.Block.layers d (Detached c.detach.result) c.args.volume.now c.detach.new.self) (sym c.in-Detach.is)
+    (detach_done g.B.Block.may_hold m g.B.Block.layers c.in-Detach.number c.detach.result c.args.volume.now c.detach.new.self c.detach.ensures.does c.detach.ensures.err)
 
 pub returns-in-Detach-clause-opens : goal.returns-in-Detach-clause-opens
 returns-in-Detach-clause-opens g c = λ loud brought.
@@ -96,8 +97,8 @@ returns-in-BeginMerge-clause-opens g c = λ loud brought.
 pub returns-in-ResumeMerge-clause-done : goal.returns-in-ResumeMerge-clause-done
 returns-in-ResumeMerge-clause-done g c =
     let m : Measures g.row.B.Denot = record { contents = g.B.Block.contents; durable = g.B.Block.durable; size = g.B.Block.size; faults = g.B.Block.fault_count; done = g.B.Block.done_count } in
-    subst (λ (d : Deed g.row.B.Denot). IsDone m g.B.Block.layers d (Resumed c.resume_merge.result) c.args.volume.now c.resume_merge.new.self) (sym c.in-ResumeMerge.is)
-    (resume_done m g.B.Block.layers c.resume_merge.result c.args.volume.now c.resume_merge.new.self c.resume_merge.ensures.does)
+    subst (λ (d : Deed g.row.B.Denot). IsDone g.B.Block.may_hold m g.B.Block.layers d (Resumed c.resume_merge.result) c.args.volume.now c.resume_merge.new.self) (sym c.in-ResumeMerge.is)
+    (resume_done g.B.Block.may_hold m g.B.Block.layers c.resume_merge.result c.args.volume.now c.resume_merge.new.self c.resume_merge.ensures.does)
 
 pub returns-in-ResumeMerge-clause-opens : goal.returns-in-ResumeMerge-clause-opens
 returns-in-ResumeMerge-clause-opens g c = λ loud brought.
@@ -107,8 +108,8 @@ returns-in-ResumeMerge-clause-opens g c = λ loud brought.
 pub returns-in-FinishMerge-clause-done : goal.returns-in-FinishMerge-clause-done
 returns-in-FinishMerge-clause-done g c =
     let m : Measures g.row.B.Denot = record { contents = g.B.Block.contents; durable = g.B.Block.durable; size = g.B.Block.size; faults = g.B.Block.fault_count; done = g.B.Block.done_count } in
-    subst (λ (d : Deed g.row.B.Denot). IsDone m g.B.Block.layers d (Finished c.finish_merge.result) c.args.volume.now c.finish_merge.new.self) (sym c.in-FinishMerge.is)
-    (finish_done m g.B.Block.layers g.B.Block.may_hold c.finish_merge.result c.args.volume.now c.finish_merge.new.self c.finish_merge.ensures.does c.finish_merge.ensures.err)
+    subst (λ (d : Deed g.row.B.Denot). IsDone g.B.Block.may_hold m g.B.Block.layers d (Finished c.finish_merge.result) c.args.volume.now c.finish_merge.new.self) (sym c.in-FinishMerge.is)
+    (finish_done g.B.Block.may_hold m g.B.Block.layers c.finish_merge.result c.args.volume.now c.finish_merge.new.self c.finish_merge.ensures.does c.finish_merge.ensures.err)
 
 pub returns-in-FinishMerge-clause-opens : goal.returns-in-FinishMerge-clause-opens
 returns-in-FinishMerge-clause-opens g c = λ loud brought.
