@@ -54,8 +54,8 @@ impl<B: Block> Snapshot<B> {
 
     /// Commits the copies that started first, so many of them, all of them written and flushed: their pairs are written into
     /// the current area. Each bears a mark from then on, until it is published, which is safe once the store is flushed
-    /// again. The one that a merge started gives its buffer back. At `Io` nothing changed but the device's counts and
-    /// layers.
+    /// again. The one that a merge started gives its buffer back, and of the others the last one's is kept for the next copy.
+    /// At `Io` nothing changed but the device's counts and layers.
     pub fn write_area(&mut self, count: u32) -> Result<(), Io>
         requires live { self.old.live ≡ true }
         requires few { count ≤ length self.old.copies }
@@ -82,6 +82,7 @@ impl<B: Block> Snapshot<B> {
                     &mut self.copies,
                     &mut self.marks,
                     &mut self.spare,
+                    &mut self.idle,
                     self.merging,
                     count,
                 );
@@ -114,11 +115,12 @@ fn still_merging(merging: Option<CopyId>, published: CopyId) -> Option<CopyId>
 }
 
 /// Takes the first copies away, so many of them, and marks them, in their order. The buffer of the first one that a merge
-/// started is the spare one then, where there is none.
+/// started is the spare one then, where there is none; of the others that of the last is the idle one.
 fn mark_first(
     copies: &mut Vec<ChunkCopy>,
     marks: &mut Vec<Mark>,
     spare: &mut Option<Vec<u8>>,
+    idle: &mut Vec<u8>,
     merging: Option<CopyId>,
     count: u32,
 )
@@ -132,15 +134,17 @@ fn mark_first(
     ensures marks_capacity { vec_capacity marks.new ≡ vec_capacity marks.old }
 {
     for _i in 0..count {
-        mark_one(copies, marks, spare, merging);
+        mark_one(copies, marks, spare, idle, merging);
     }
 }
 
-/// Takes the first copy away, and marks it. Its buffer is the spare one then, where a merge started it and there is none.
+/// Takes the first copy away, and marks it. Its buffer is the spare one then, where a merge started it and there is none,
+/// and else the idle one.
 fn mark_one(
     copies: &mut Vec<ChunkCopy>,
     marks: &mut Vec<Mark>,
     spare: &mut Option<Vec<u8>>,
+    idle: &mut Vec<u8>,
     merging: Option<CopyId>,
 )
     requires some { 0 < length copies.old.items }
@@ -164,9 +168,12 @@ fn mark_one(
         safe: false,
     });
     let Some(own) = merging else {
+        *idle = buffer;
         return;
     };
     if spare.is_none() && number == own {
         *spare = Some(buffer);
+    } else {
+        *idle = buffer;
     }
 }

@@ -129,6 +129,7 @@ impl<B: Block> Snapshot<B> {
             left: _,
             spare: _,
             merging: _,
+            idle: _,
         } = self;
         store
     }

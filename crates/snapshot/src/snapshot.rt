@@ -19,7 +19,8 @@ use std::marker::Model;
 use store::Store;
 
 /// One snapshot of a volume. Contracts see its number, its flags, what a full store does to it, the device of its store with
-/// the store's state, its pairs, its copies, its marks, for how many copies it has room, and what it keeps for a merge.
+/// the store's state, its pairs, its copies, its marks, for how many copies it has room, and what it keeps for a merge. From
+/// its first commit on it may also keep the buffer of a committed copy, at most a chunk long, which contracts do not see.
 #[derive(Drop)]
 pub struct Snapshot<B: Block> {
     pub(crate) number: SnapId,
@@ -44,6 +45,9 @@ pub struct Snapshot<B: Block> {
     pub(crate) spare: Option<Vec<u8>>,
     /// The copy that a merge started, until it is published.
     pub(crate) merging: Option<CopyId>,
+    /// The buffer of the copy that was committed last, for the next one; empty where there is none. Its bytes and its length
+    /// may be anything.
+    pub(crate) idle: Vec<u8>,
 }
 
 impl<B: Block> Model for Snapshot<B> {

@@ -1,5 +1,5 @@
 // A snapshot begins over its store, and ends; room is made for a copy, and a copy is started.
-ghost use Rattle.std.specs.Prelude.{◌≡◌, ◌==◌, ℕ, ◌+◌, ◌-◌, ◌*◌, ◌<◌, ◌≤◌, List, [], ◌∷◌, ◌++◌, length, max, OnOk, OnErr, IfErr, IsOk, MatchBool, None, vec_capacity, true, false};
+ghost use Rattle.std.specs.Prelude.{◌≡◌, ◌==◌, ℕ, ◌+◌, ◌-◌, ◌*◌, ◌<◌, ◌≤◌, List, [], ◌∷◌, ◌++◌, length, max, OnOk, OnErr, IfOk, IfErr, IsOk, MatchBool, None, vec_capacity, true, false};
 ghost use Rattle.std.specs.List.{list_any};
 ghost use Rattle.sector.specs.declared.refusal.Refusal.TheVariants.{NoMemory};
 ghost use Rattle.chunk.specs.Sizes.{is_chunk};
@@ -21,6 +21,7 @@ use in_flight::{ChunkCopy, Mark, Stage};
 use plain::{CopyId, SnapId};
 use sector::{Chunk, Refusal};
 use std::alloc::Global;
+use std::mem;
 use store::Store;
 
 impl<B: Block> Snapshot<B> {
@@ -57,6 +58,7 @@ impl<B: Block> Snapshot<B> {
             left: 0,
             spare: None,
             merging: None,
+            idle: Vec::new(alloc),
         }
     }
 
@@ -79,6 +81,7 @@ impl<B: Block> Snapshot<B> {
             left: _,
             spare: _,
             merging: _,
+            idle: _,
         } = self;
         store.into_device()
     }
@@ -103,6 +106,23 @@ impl<B: Block> Snapshot<B> {
                 Ok(())
             }
             Err(refusal) => Err(refusal),
+        }
+    }
+
+    /// A buffer for a copy, so many bytes long, whatever they are: the one that it kept of the copy that was committed last,
+    /// where that is as long, and else a new one. `NoMemory` where a new one is refused, and nothing else. Nothing changes
+    /// that contracts see.
+    pub fn take_buffer(&mut self, alloc: Global, bytes: usize) -> Result<Vec<u8>, Refusal>
+        ensures same { self.new ≡ self.old }
+        ensures ok { IfOk result (λ buffer. length buffer.items ≡ bytes) }
+        ensures refusal { IfErr result (λ e. e ≡ NoMemory) }
+    {
+        if self.idle.len() == bytes {
+            return Ok(mem::replace(&mut self.idle, Vec::new(alloc)));
+        }
+        match vec![in alloc; 0u8; bytes] {
+            Ok(buffer) => Ok(buffer),
+            Err(_) => Err(Refusal::NoMemory),
         }
     }
 

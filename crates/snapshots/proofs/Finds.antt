@@ -3,7 +3,7 @@ use Rattle.std.proofs.Common.{◌≡◌, ℕ, zero, suc, ◌+◌, ◌<◌, Bool,
 use Rattle.std.specs.Prelude.{◌==◌, ◌&&◌, ◌||◌}
 use Rattle.std.specs.List.{list_all, list_any, position, position_or_len}
 use Rattle.std.proofs.lemmas.Bool.{and_right, cases_Bool, cases_lt, eqb-true, false≢true}
-use Rattle.std.proofs.lemmas.List.{drop_more}
+use Rattle.std.proofs.lemmas.List.{drop_more, get_or_read_under}
 use Rattle.std.proofs.lemmas.List.Folds.{list_any-from_Any}
 
 lt-true : (m n : ℕ) → m < n → nat_lt m n ≡ true
@@ -57,6 +57,10 @@ position_any test xs j found = elim (cases_lt (position_or_len test xs) (length 
 -- one that passes
 pub any_passes : {X : Type 0} (test : X → Bool) (xs : List X) (k : ℕ) (x : X) → k < length xs → x ≡ get_or xs k x → test x ≡ true → list_any test xs ≡ true
 any_passes test xs k x within is passes = list_any-from_Any test xs (k, x, within, sym is, passes)
+
+-- what is found at a place passes there, whatever is read past the end
+pub passes_at : {X : Type 0} (test : X → Bool) (xs : List X) (k : ℕ) (x d : X) → k < length xs → x ≡ get_or xs k x → test x ≡ true → test (get_or xs k d) ≡ true
+passes_at test xs k x d within is pass = ap test (sym (get_or_read_under xs k (length xs) x d is within refl)) ∙ pass
 
 -- a test of what elements become
 pub any_of : {X Y : Type 0} (test : Y → Bool) (f : X → Y) (xs : List X) → list_any test (map f xs) ≡ list_any (λ x. test (f x)) xs

@@ -51,6 +51,7 @@ fn is_any_untried<B: Block>(snaps: &[Snapshot<B>]) -> bool
 
 /// Whether an origin write at this sector may go to the origin disk: every live snapshot has published its chunk of it, and
 /// no header is left to be marked invalid.
+#[inline(always)]
 pub fn is_clear<B: Block>(snaps: &[Snapshot<B>], first: u64) -> bool
     requires { All (λ s. 0 < s.state.chunk) snaps.now }
     ensures { result ≡ is_clear_in (map (books_of B.contents B.layers) snaps.now) first }

@@ -36,6 +36,7 @@ pub fn is_lacking<B: Block>(snap: &Snapshot<B>, first: u64) -> bool
 
 /// Makes room for the copy of a snapshot's chunk of a sector, where it lacks it: the buffer is as long as the chunk, or
 /// empty where none is needed. Nothing else of the snapshot changes. `NoMemory` where room is refused, and nothing else.
+#[inline(always)]
 pub fn take_room<B: Block>(
     alloc: Global,
     snap: &mut Snapshot<B>,
@@ -53,10 +54,7 @@ pub fn take_room<B: Block>(
         Ok(()) => {}
         Err(refusal) => return Err(refusal),
     }
-    match vec![in alloc; 0u8; 512 * sectors as usize] {
-        Ok(room) => Ok(room),
-        Err(_) => Err(Refusal::NoMemory),
-    }
+    snap.take_buffer(alloc, 512 * sectors as usize)
 }
 
 /// Makes the room for the copies of the chunks of a sector, in all snapshots: a buffer for each, in their order.
@@ -85,6 +83,7 @@ pub fn take_rooms<B: Block>(
 
 /// Starts the copy of a snapshot's chunk of a sector, where it lacks it, under the next number, and tells how many numbers
 /// were given then. A snapshot whose store is full is spoiled, and its requests are refused.
+#[inline(always)]
 pub fn save_in<B: Block>(
     snap: &mut Snapshot<B>,
     flights: &mut [Flight],

@@ -1,5 +1,5 @@
 -- A part of a chunk that is written with its chunk.
-use Rattle.std.proofs.Common.{◌≡◌, ◌≢◌, inl, inr, ℕ, ◌+◌, ◌*◌, ◌-◌, ◌<◌, ◌≤◌, List, [], ◌∷◌, ◌++◌, length, arith, rules, refl, ap, ◌∙◌, sym, append_assoc, append-nil, length-append, replicate}
+use Rattle.std.proofs.Common.{◌≡◌, ◌≢◌, inl, inr, ℕ, ◌+◌, ◌*◌, ◌-◌, ◌<◌, ◌≤◌, List, [], ◌∷◌, ◌++◌, length, take, drop, arith, rules, refl, ap, ◌∙◌, sym, append_assoc, append-nil, length-append, replicate}
 use Rattle.std.proofs.lemmas.List.{places, same_lists, length_push, get_or_push, get_or_append_left}
 use Rattle.std.proofs.lemmas.Bool.{cases_eq}
 use Rattle.sector.specs.Bytes.{sectors_at, with_part, with_sectors}
@@ -18,6 +18,10 @@ part-through b first count at part fits inside = same_lists _ _ (search (rules, 
 -- a part after a part
 pub part-more : (a : List ℕ) (at : ℕ) (xs ys : List ℕ) → at + length xs + length ys ≤ length a → with_part (with_part a at xs) (at + length xs) ys ≡ with_part a at (xs ++ ys)
 part-more a at xs ys fits = same_lists _ _ (search (rules, places)) (λ k d h. grind (arith, places))
+
+-- a part that was kept in another list and written over is put back
+pub part-back : (a b part : List ℕ) (at count : ℕ) → length part ≡ count → at + count ≤ length a → length b ≡ length a → with_part (with_part a at part) at (take count (drop at (with_part b at (take count (drop at a))))) ≡ a
+part-back a b part at count len fits same = same_lists _ _ (search (rules, places)) (λ k d h. grind (arith, places))
 
 -- a pair has 16 bytes
 pub length-pair_bytes : (p : Pair) → length (pair_bytes p) ≡ 16
@@ -61,6 +65,14 @@ put_none area slot fits = record {
   here = λ i d lt. absurd (omega arith);
   others = λ k out. refl;
 }
+
+-- slots of an area that were kept in another before pairs were put there are put back
+pub slots-back : (count slot : ℕ) (qs : List Pair) (area x spare kept back : List ℕ) → IsPut area slot qs x → length qs ≡ count → 16 * (slot + count) ≤ length area → length spare ≡ length area → kept ≡ with_part spare (16 * slot) (take (16 * count) (drop (16 * slot) area)) → back ≡ with_part x (16 * slot) (take (16 * count) (drop (16 * slot) kept)) → back ≡ area
+slots-back count slot qs area x spare kept back put n fits same keeps backs =
+    backs
+    ∙ ap (λ y. with_part y (16 * slot) (take (16 * count) (drop (16 * slot) kept))) put.all
+    ∙ ap (λ y. with_part (with_part area (16 * slot) (pairs_bytes qs)) (16 * slot) (take (16 * count) (drop (16 * slot) y))) keeps
+    ∙ part-back area spare (pairs_bytes qs) (16 * slot) (16 * count) (length-pairs_bytes qs ∙ ap (λ k. 16 * k) n) (omega arith) same
 
 -- the store's bytes after an area was written into which pairs were put
 pub put-written : (size chunk n slot : ℕ) (qs : List Pair) (area x old : List ℕ) → IsPut area slot qs x → chunk_at chunk old n ≡ area → length old ≡ 512 * size → chunk * (n + 1) ≤ size → slot + length qs ≤ 32 * chunk → with_sectors old (chunk * n) x ≡ with_part old (512 * (chunk * n) + 16 * slot) (pairs_bytes qs)

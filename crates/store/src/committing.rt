@@ -18,7 +18,9 @@ use crate::chunks::write_whole;
 use device::{Block, Io};
 use exception_arena::{Exceptions, finish_first};
 use metadata_area::Area;
-use std::mem::swap;
+
+/// The bytes of a slot: those of a pair.
+const SLOT_BYTES: usize = 16;
 
 impl<B: Block> Store<B> {
     /// Whether so many pairs, if they are committed next, fill the current area, so that the next area has to be zeroed
@@ -82,7 +84,8 @@ impl<B: Block> Store<B> {
 
     /// Commits the pairs of the copies that began first, so many of them: they are written into the current area, from its
     /// first empty slot on. Where they fill it the next area, which is zeroed and was flushed since, becomes the current
-    /// one.
+    /// one. The pairs are put into the area in memory before it is written, and where that fails its slots are put back as
+    /// they were.
     pub fn write_area(&mut self, count: u32) -> Result<(), Io>
         requires ready { self.old.state.left ≡ Nothing }
         requires pending { count ≤ length (pending self.old.exceptions) }
@@ -105,17 +108,17 @@ impl<B: Block> Store<B> {
         ensures kept { OnErr result ((self.new.state ≡ self.old.state) × (self.new.exceptions ≡ self.old.exceptions)) }
     {
         let place = self.state.current * (32 * self.state.chunk as u64 + 1) + 1;
-        copy_area(&mut self.spare, &self.area);
-        put_first(&mut self.spare, &self.exceptions, self.state.filled, count);
+        let filled = self.state.filled;
+        copy_slots(&mut self.spare, &self.area, filled, count);
+        put_first(&mut self.area, &self.exceptions, filled, count);
         match write_whole(
             &mut self.device,
             self.state.chunk,
             place,
-            self.spare.encode(),
+            self.area.encode(),
         ) {
             Ok(()) => {
                 finish_first(&mut self.exceptions, count as usize);
-                swap(&mut self.area, &mut self.spare);
                 self.state.filled += count;
                 if self.state.filled == 32 * self.state.chunk {
                     self.state.current += 1;
@@ -126,7 +129,10 @@ impl<B: Block> Store<B> {
                 }
                 Ok(())
             }
-            Err(io) => Err(io),
+            Err(io) => {
+                copy_slots(&mut self.area, &self.spare, filled, count);
+                Err(io)
+            }
         }
     }
 }
@@ -138,6 +144,19 @@ pub fn copy_area(area: &mut Area, from: &Area)
     ensures bytes { area.new.bytes.items ≡ from.now.bytes.items }
 {
     area.bytes.copy_from_slice(from.bytes.as_slice());
+}
+
+/// Takes over so many slots, from one on, of an area that is as long. All their bytes are taken: those of an empty slot
+/// need not be zeros.
+fn copy_slots(area: &mut Area, from: &Area, slot: u32, count: u32)
+    requires chunk { area.old.chunk ≡ from.now.chunk }
+    requires fits { slot + count ≤ 32 * area.old.chunk }
+    ensures chunk { area.new.chunk ≡ area.old.chunk }
+    ensures bytes { area.new.bytes.items ≡ with_part area.old.bytes.items (16 * slot) (take (16 * count) (drop (16 * slot) from.now.bytes.items)) }
+{
+    let start = SLOT_BYTES * slot as usize;
+    let end = start + SLOT_BYTES * count as usize;
+    area.bytes[start..end].copy_from_slice(&from.bytes[start..end]);
 }
 
 /// Puts the pairs of the copies that began first into an area, so many of them, from a slot on.

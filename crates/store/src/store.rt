@@ -24,7 +24,8 @@ pub struct Store<B: Block> {
     pub exceptions: Arena,
     /// The current area.
     pub area: Area,
-    /// A chunk of room, in which the next text of a chunk is put together.
+    /// A chunk of room, in which the next text of a chunk is put together, or slots of the area are kept while a commit
+    /// writes over them.
     pub spare: Area,
     /// The places that are left.
     pub places: Alloc,

@@ -2,7 +2,9 @@
 use Rattle.std.proofs.Common.{◌∙◌, ◌≡◌, ap, sym, false}
 use Rattle.std.specs.Prelude.{◌==◌}
 use Rattle.snapshots.specs.Finding.{is_flushing, waits_for_flush}
-use Rattle.snapshots.proofs.Finds.{any_fails, number_fails, second_fails}
+use Rattle.std.proofs.lemmas.Bool.{eq-eqb}
+use Rattle.std.specs.Cmp.Derive.{both_true}
+use Rattle.snapshots.proofs.Finds.{any_fails, number_fails, passes_at, second_fails}
 use Rattle.snapshots.proofs.finding.flushing_at.Goals as goal
 use Rattle.snapshots.proofs.finding.flushing_at.Goals.{else-number-via-then-number+else-can_flush_store, else-number-via-else-number}
 
@@ -14,3 +16,11 @@ loop-place-preserved g c =
       | else-number-via-else-number w ↦ number_fails s.number c.args.number (waits_for_flush s) (λ same. w.if-number.false (c.number.ensures ∙ same))
     ] in
     c.loop-place.invariant ∙ any_fails (is_flushing c.args.number) c.args.snaps.now c.loop-place.place s c.loop-place-test.true (ap (is_flushing c.args.number) (sym c.index-snaps-place.is) ∙ fails)
+
+-- the one that is told passes
+pub returns-then-can_flush_store-clause-found : goal.returns-then-can_flush_store-clause-found
+returns-then-can_flush_store-clause-found g c = (
+  c.loop-place-test.true,
+  λ s. passes_at (is_flushing c.args.number) c.args.snaps.now c.loop-place.place c.index-snaps-place.result s c.loop-place-test.true c.index-snaps-place.is
+      (both_true (eq-eqb _ _ (sym c.number.ensures ∙ c.if-number.true)) (sym c.can_flush_store.ensures ∙ c.if-can_flush_store.true)),
+)
