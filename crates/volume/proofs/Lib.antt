@@ -131,3 +131,6 @@ pub mod Limits
 pub mod Behind
 pub mod DueLooks
 pub mod Clear
+mod DueAlone
+mod AtOnce
+mod AtDisk

@@ -31,6 +31,8 @@ pub mod Adding
 pub mod Closing
 pub mod DoesStep
 pub mod DoesSubmit
+pub mod DoesServe
+pub mod AtDisk
 pub mod DoesTick
 pub mod DoesMessage
 pub mod DoesAttach

@@ -43,6 +43,7 @@ fn chunk_at(marks: &[Mark], index: usize) -> Chunk
 
 impl<B: Block> Volume<B> {
     /// Reads a copy's chunk from the origin disk. Where that fails, the copy's snapshot is spoiled.
+    #[inline(always)]
     pub(crate) fn copy_read(&mut self, number: CopyId) -> Result<Outcome, NotDue>
         ensures step { IfOk result (λ outcome. IsStepped B.contents B.layers B.size B.fault_count B.done_count (CopyRead number) outcome self.old self.new) }
         ensures exact { IfOk result (λ outcome. IsExact B.contents B.layers (CopyRead number) outcome self.old self.new) }
@@ -67,6 +68,7 @@ impl<B: Block> Volume<B> {
     }
 
     /// Writes a copy that was read to its place. Where that fails, its snapshot is spoiled.
+    #[inline(always)]
     pub(crate) fn copy_write(&mut self, number: CopyId) -> Result<Outcome, NotDue>
         ensures step { IfOk result (λ outcome. IsStepped B.contents B.layers B.size B.fault_count B.done_count (CopyWrite number) outcome self.old self.new) }
         ensures exact { IfOk result (λ outcome. IsExact B.contents B.layers (CopyWrite number) outcome self.old self.new) }
@@ -121,6 +123,7 @@ impl<B: Block> Volume<B> {
 
     /// Commits the first copies of a snapshot, those that are written, up to the first that is not and up to the end of the
     /// area. Where that fails, the snapshot is spoiled.
+    #[inline(always)]
     pub(crate) fn write_area(&mut self, number: SnapId) -> Result<Outcome, NotDue>
         ensures step { IfOk result (λ outcome. IsStepped B.contents B.layers B.size B.fault_count B.done_count (WriteArea number) outcome self.old self.new) }
         ensures exact { IfOk result (λ outcome. IsExact B.contents B.layers (WriteArea number) outcome self.old self.new) }
@@ -149,6 +152,7 @@ impl<B: Block> Volume<B> {
     /// held origin writes are routed again. Where a merge has a group, the copy that it waits for next is started: a
     /// snapshot copies the chunks that a merged chunk touches one after the other. One whose store is full is spoiled, and
     /// its requests are refused.
+    #[inline(always)]
     pub(crate) fn publish(&mut self, number: CopyId) -> Result<Outcome, NotDue>
         ensures step { IfOk result (λ outcome. IsStepped B.contents B.layers B.size B.fault_count B.done_count (Publish number) outcome self.old self.new) }
         ensures exact { IfOk result (λ outcome. IsExact B.contents B.layers (Publish number) outcome self.old self.new) }
@@ -207,6 +211,7 @@ impl<B: Block> Volume<B> {
     /// be published, and a zeroed area may be the next one; where the flush fails, the snapshot is spoiled. Of one whose mark
     /// was written the mark is tried, whatever became of the flush, and held origin writes are routed again; where it fails,
     /// the store is stale.
+    #[inline(always)]
     pub(crate) fn flush_store(&mut self, number: SnapId) -> Result<Outcome, NotDue>
         ensures step { IfOk result (λ outcome. IsStepped B.contents B.layers B.size B.fault_count B.done_count (FlushStore number) outcome self.old self.new) }
         ensures exact { IfOk result (λ outcome. IsExact B.contents B.layers (FlushStore number) outcome self.old self.new) }

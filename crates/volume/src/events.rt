@@ -19,6 +19,7 @@ use plain::{Event, NotDue, Outcome};
 
 impl<B: Block> Volume<B> {
     /// Does an event by its kind.
+    #[inline(always)]
     fn step_by_kind(&mut self, event: Event) -> Result<Outcome, NotDue>
         ensures step { IfOk result (λ outcome. IsStepped B.contents B.layers B.size B.fault_count B.done_count event outcome self.old self.new) }
         ensures exact { IfOk result (λ outcome. IsExact B.contents B.layers event outcome self.old self.new) }
@@ -60,6 +61,7 @@ impl<B: Block> Volume<B> {
     /// write gives; a spoiled snapshot's store whose mark is untried may be refused instead, and one whose mark was tried is.
     /// An Issue that answers a flush closes, in the sectors that every such content takes from the flushed device, all values
     /// but the present one. Where an event is not due, nothing changes at all.
+    #[inline(always)]
     pub fn step(&mut self, event: Event) -> Result<Outcome, NotDue>
         ensures does { DoesStep B.may_hold B.contents B.layers B.size B.fault_count B.done_count true event result self.old self.new }
     {

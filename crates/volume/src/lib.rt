@@ -19,6 +19,7 @@
 //! stop loses, the stores are loaded again, and a call opens no value of an array but those that it writes.
 #![tactic(auto)]
 
+mod at_once;
 mod attach;
 mod calls;
 mod close;
@@ -44,6 +45,7 @@ mod time;
 mod trace;
 mod volume;
 
+pub use at_once::Served;
 pub use calls::{Call, Returned};
 pub use event_kinds::is_of_merge;
 pub use stopping::Stopped;

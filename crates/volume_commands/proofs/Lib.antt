@@ -61,3 +61,4 @@ pub mod JournalGoing
 pub mod DueTold
 pub mod CallsSeen
 pub mod LayersChanged
+mod AtOnce

@@ -1,6 +1,6 @@
 -- A read, a write or a flush of a volume in which nothing is in flight, whichever device drops writes: the request of each piece is
 -- submitted, and events that are due are done until nothing is left to do, before the next. This project's own.
-use Rattle.std.specs.Prelude.{◌≡◌, ◌⊎◌, ℕ, ◌*◌, true, List, [], ◌∷◌, ◌++◌, map, take, drop}
+use Rattle.std.specs.Prelude.{◌≡◌, ◌⊎◌, ℕ, ◌*◌, true, List, [], ◌∷◌, ◌++◌, Some, map, take, drop}
 use Rattle.sector.specs.declared.refusal.Refusal.{Refusal}
 use Rattle.sector.specs.declared.refusal.Refusal.TheVariants.{NoMemory}
 use Rattle.device.specs.Layers.{Layer}
@@ -19,12 +19,15 @@ use Rattle.plain.specs.declared.request.Request.{Request}
 use Rattle.plain.specs.Failures.{refusal_of}
 use Rattle.plain.specs.Legal.{IsLegalStep}
 use Rattle.in_flight.specs.Kinds.{in_flight}
+use Rattle.event_machine.specs.Submitting.{submitted}
 use Rattle.settled.specs.Commands.{bytes_in}
 use Rattle.settled.specs.Refusals.{IsStarved, is_starved}
 use Rattle.volume.specs.Causes.{HasCause}
 use Rattle.volume.specs.Exact.{IsExact}
 use Rattle.volume.specs.Flying.{Fits, IsFlown}
 use Rattle.volume.specs.Leaving.{is_quiet_of}
+use Rattle.volume.specs.Moved.{moving_of}
+use Rattle.volume.specs.Reaching.{IsRun}
 use Rattle.volume.specs.Submitting.{IsAcceptedAs, IsRefusedAs}
 use Rattle.volume.specs.Volumed.{Volumed, is_due_of, is_loud_in_all, plain_of}
 use Rattle.volume_commands.specs.Among.{IsRequestOf, flush_piece, sectors_of}
@@ -65,6 +68,19 @@ pub record AreDone {B : Type 0} (contents : B → List ℕ) (layers : B → List
 abbrev pub IsEntered : {B : Type 0} → (B → List ℕ) → (B → List Layer) → (B → ℕ) → Request → Failure → Volumed B → Volumed B → Type 0
 IsEntered contents layers size request failure old new =
     ((number : ℕ) × (failure ≡ Invalid) × IsAcceptedAs contents layers request number old new) ⊎ IsRefusedAs contents layers size request (refusal_of failure) old new
+
+-- A request was begun with: it was accepted, and where it waits for nothing answered at once; or it was refused as one that failed.
+-- What stands for its reply is then its failure, or what it was answered.
+pub record IsBegun {B : Type 0} (contents : B → List ℕ) (layers : B → List Layer) (faults size : B → ℕ) (request : Request) (reply : Reply) (old new : Volumed B) : Type 0 where
+  pub failure : Failure
+  pub number : ℕ
+  pub mid : Volumed B
+  pub entered : IsEntered contents layers size request failure old mid
+  pub exact : submitted number request (moving_of contents layers (Some (Refused failure)) old) ≡ moving_of contents layers (Some (Refused failure)) mid
+  pub did : AreDone contents layers faults (Refused failure) reply mid new
+  pub run : IsRun contents layers (Some (Refused failure)) (Some reply) mid new
+  pub still : is_quiet_of mid ≡ true → new ≡ mid
+  pub loud : is_loud_in_all layers mid ≡ is_loud_in_all layers old
 
 -- A request was answered: accepted, and then by an event; or refused. All that was due then was done.
 pub record IsAnswered {B : Type 0} (contents : B → List ℕ) (layers : B → List Layer) (faults size : B → ℕ) (request : Request) (reply : Reply) (old new : Volumed B) : Type 0 where

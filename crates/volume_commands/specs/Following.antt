@@ -1,5 +1,5 @@
 -- Events that are known to follow another without a search. This project's own.
-use Rattle.std.specs.Prelude.{◌≡◌, ◌⊎◌, ◌==◌, ◌&&◌, ℕ, Bool, true, false, List, [], ◌∷◌, length, Some}
+use Rattle.std.specs.Prelude.{◌≡◌, ◌⊎◌, ◌==◌, ◌&&◌, ◌≤◌, ℕ, Bool, true, false, List, [], ◌∷◌, length, Some}
 use Rattle.std.specs.List.{list_all, list_any}
 use Rattle.device.specs.Layers.{Layer}
 use Rattle.plain.specs.declared.event.Event.{Event}
@@ -15,7 +15,11 @@ use Rattle.snapshot.specs.Kept.{Kept}
 use Rattle.snapshots.specs.Finding.{has_copy_at}
 use Rattle.event_machine.specs.Seen.{replied_by}
 use Rattle.volume.specs.Exact.{IsExact}
-use Rattle.volume.specs.Volumed.{Volumed, is_loud_in_all}
+use Rattle.volume.specs.Stepping.{KeepsAll}
+use Rattle.volume.specs.Volumed.{Volumed, is_loud_in_all, left_in_all}
+use Rattle.volume_commands.specs.AtRest.{AreDone}
+use Rattle.volume_commands.specs.Places.{Counted}
+use Rattle.volume_commands.specs.TakesPlaces.{TakesByRequests}
 
 -- After a chunk was read it is written, the store of a snapshot is flushed, its area written, and its store flushed again; after
 -- an area was written its store is flushed; after any other event it is not known. s: the snapshot that has the copy.
@@ -58,3 +62,18 @@ abbrev pub IsFollowed : {B : Type 0} → (B → List ℕ) → (B → List Layer)
 IsFollowed contents layers done before after old new =
     ((s : ℕ) × AreCarried contents layers (following done s) before after old new)
     ⊎ ((n : ℕ) × (s : ℕ) × (done ≡ CopyRead n) × IsAlone n old × AreCarried contents layers (all_following n s) before after old new)
+
+-- Events were done, each where it was due, and this is the last reply of them, or the one before. `which` says which events.
+pub record AreDoneSo {B : Type 0} (contents : B → List ℕ) (layers : B → List Layer) (faults size : B → ℕ) (which : Type 0) (before after : Reply) (old new : Counted B) : Type 0 where
+  pub so : which
+  pub did : AreDone contents layers faults before after old.volume new.volume
+  pub loud : is_loud_in_all layers new.volume ≡ is_loud_in_all layers old.volume
+  pub kept : KeepsAll size old.volume new.volume
+  pub requests : new.volume.requests ≡ old.volume.requests
+  pub left : left_in_all contents layers new.volume ≤ left_in_all contents layers old.volume
+  pub taken : TakesByRequests old new
+
+-- One event was done, or was not due. Where they `go` on, it was done, nothing failed, and nothing was answered.
+pub record IsCarried {B : Type 0} (contents : B → List ℕ) (layers : B → List Layer) (faults size : B → ℕ) (event : Event) (go : Bool) (before after : Reply) (old new : Counted B) : Type 0 where
+  pub ends : AreDoneSo contents layers faults size (AreCarried contents layers (event ∷ []) before after old.volume new.volume) before after old new
+  pub goes_on : go ≡ true → (after ≡ before) × IsExact contents layers event Done old.volume new.volume

@@ -2,6 +2,7 @@
 ghost use Rattle.std.specs.Prelude.{◌≡◌, ◌*◌, IfErr, IfOk, List, length, true, ℕ};
 ghost use Rattle.plain.specs.declared.request.Op.TheVariants.{Write};
 ghost use Rattle.plain.specs.declared.request.Reply.TheVariants.{Refused};
+ghost use Rattle.volume.specs.DoesServe.{DoesServe};
 ghost use Rattle.volume.specs.DoesStep.{DoesStep};
 ghost use Rattle.volume.specs.DoesSubmit.{DoesSubmit};
 ghost use Rattle.volume.specs.Volumed.{is_loud_in_all, plain_of};
@@ -17,6 +18,7 @@ use journal::MAX_ENTRIES;
 use layers::Layered;
 use plain::{Event, NotDue, Outcome, ReqId, Request};
 use sector::Refusal;
+use volume::Served;
 
 impl<B: Layered> Journaled<B> {
     /// Accepts a request, and tells its number: it takes a place of the journal, which its reply's entry has then. Refused first of
@@ -46,12 +48,49 @@ impl<B: Layered> Journaled<B> {
         }
     }
 
+    /// Accepts a request as `submit` does, and answers it at once where it waits for nothing: one that is answered has the place of
+    /// its reply's entry.
+    #[inline(always)]
+    pub fn serve(&mut self, request: Request) -> Result<Served, Refusal>
+        requires bytes { (bytes : List ℕ) → request.op ≡ Write bytes → length bytes ≡ 512 * request.range.count }
+        ensures does { DoesServe B.may_hold B.contents B.layers B.size B.fault_count B.done_count request result self.old.volume self.new.volume }
+        ensures refused { IfErr result (λ refusal. IsUnsent B.contents B.layers B.size request refusal self.old.volume self.new.volume) }
+        ensures places { TakesPlaces 1 kept_for_marks result self.old self.new }
+        ensures taken { TakesByRequests self.old self.new }
+    {
+        let may = count_may(&self.volume);
+        if self.places + may + 1 > MAX_ENTRIES {
+            return Err(Refusal::JournalFull);
+        }
+        match self.volume.serve(self.alloc, request) {
+            Ok(served) => {
+                self.places += 1;
+                Ok(served)
+            }
+            Err(refusal) => {
+                // The entry of a mark has the place that was kept free for it.
+                self.places += may - count_may(&self.volume);
+                Err(refusal)
+            }
+        }
+    }
+
     /// Does one event, where it is due. Where it is not, nothing changes. It takes no place of the journal: a reply's entry has
     /// that of its request, and a spoiled snapshot's entry that of the snapshot.
+    #[inline(never)]
     pub fn step(&mut self, event: Event) -> Result<Outcome, NotDue>
         ensures does { DoesStep B.may_hold B.contents B.layers B.size B.fault_count B.done_count true event result self.old.volume self.new.volume }
         ensures taken { TakesByRequests self.old self.new }
         ensures goes_on { IfOk result (λ outcome. is_loud_in_all B.layers self.old.volume ≡ true → (entries : List Entry) × ComesTo (plain_of B.contents B.layers self.old.volume) outcome entries × GoesOn (plain_of B.contents B.layers self.old.volume) entries (plain_of B.contents B.layers self.new.volume)) }
+    {
+        self.volume.step(event)
+    }
+
+    /// Does one event as `step` does, in the caller's own code: for one that knows the event's kind.
+    #[inline(always)]
+    pub(crate) fn step_here(&mut self, event: Event) -> Result<Outcome, NotDue>
+        ensures does { DoesStep B.may_hold B.contents B.layers B.size B.fault_count B.done_count true event result self.old.volume self.new.volume }
+        ensures taken { TakesByRequests self.old self.new }
     {
         self.volume.step(event)
     }

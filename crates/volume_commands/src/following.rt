@@ -7,7 +7,7 @@ ghost use Rattle.snapshots.specs.Finding.{has_copy_at};
 ghost use Rattle.volume.specs.Stepping.{KeepsAll};
 ghost use Rattle.volume.specs.Volumed.{is_loud_in_all, left_in_all};
 ghost use Rattle.volume_commands.specs.AtRest.{AreDone};
-ghost use Rattle.volume_commands.specs.Following.{AreCarried, IsAlone, IsFollowed, is_of_origin};
+ghost use Rattle.volume_commands.specs.Following.{AreDoneSo, IsAlone, IsCarried, IsFollowed, is_of_origin};
 ghost use Rattle.volume_commands.specs.TakesPlaces.{TakesByRequests};
 
 use crate::Journaled;
@@ -42,6 +42,7 @@ fn is_only(copies: &[ChunkCopy], flights: &[Flight]) -> bool
 
 /// The number of a snapshot that has a copy of this number whose chunk was read, if one has, and whether that is alone there and
 /// no request reads its chunk.
+#[inline(always)]
 fn holder<B: Layered>(volume: &Journaled<B>, number: CopyId) -> Option<(SnapId, bool)>
     ensures none { IfNone result (list_any (has_copy_at Read number) volume.now.volume.snaps ≡ false) }
     ensures alone { IfSome result (λ p. p.1 ≡ true → IsAlone number volume.now.volume) }
@@ -57,64 +58,57 @@ fn holder<B: Layered>(volume: &Journaled<B>, number: CopyId) -> Option<(SnapId, 
     }
 }
 
-/// Does these events one after the other, as long as each is due and nothing fails. Tells the last reply, and the one that was
-/// given before where there is none.
-fn carry<B: Layered>(volume: &mut Journaled<B>, events: &[Event], reply: Reply) -> Reply
-    ensures carried { AreCarried B.contents B.layers events.now reply result volume.old.volume volume.new.volume }
-    ensures did { AreDone B.contents B.layers B.fault_count reply result volume.old.volume volume.new.volume }
-    ensures loud { is_loud_in_all B.layers volume.new.volume ≡ is_loud_in_all B.layers volume.old.volume }
-    ensures kept { KeepsAll B.size volume.old.volume volume.new.volume }
-    ensures requests { volume.new.volume.requests ≡ volume.old.volume.requests }
-    ensures left { left_in_all B.contents B.layers volume.new.volume ≤ left_in_all B.contents B.layers volume.old.volume }
-    ensures taken { TakesByRequests volume.old volume.new }
+/// Does one event where it is due, and tells whether to go on: nothing failed, and nothing was answered. `reply` is the last reply
+/// then.
+#[inline(always)]
+fn carry_one<B: Layered>(volume: &mut Journaled<B>, event: Event, reply: &mut Reply) -> bool
+    ensures { IsCarried B.contents B.layers B.fault_count B.size event result reply.old reply.new volume.old volume.new }
 {
-    for event in events {
-        match volume.step(*event) {
-            Ok(Outcome::Reply(_, given)) => return given,
-            Ok(Outcome::Done) => {}
-            Ok(Outcome::Fault) => return reply,
-            Err(NotDue) => return reply,
+    match volume.step_here(event) {
+        Ok(Outcome::Reply(_, given)) => {
+            *reply = given;
+            false
         }
+        Ok(Outcome::Done) => true,
+        Ok(Outcome::Fault) => false,
+        Err(NotDue) => false,
     }
-    reply
 }
 
 /// Does the events that follow the read of a copy's chunk: the chunk is written, and its pair with it, the store being flushed
 /// after each; and where the copy is alone in its snapshot, and nothing reads the chunk, it is published. The copy's snapshot is
-/// told by the copy: where it has another number, its events are not due.
+/// told by the copy: where it has another number, its events are not due. One after the other, so that the kind of each is known
+/// where it is done.
+#[inline(always)]
 fn follow_read<B: Layered>(volume: &mut Journaled<B>, number: CopyId, reply: Reply) -> Reply
-    ensures follows { IsFollowed B.contents B.layers (CopyRead number) reply result volume.old.volume volume.new.volume }
-    ensures did { AreDone B.contents B.layers B.fault_count reply result volume.old.volume volume.new.volume }
-    ensures loud { is_loud_in_all B.layers volume.new.volume ≡ is_loud_in_all B.layers volume.old.volume }
-    ensures kept { KeepsAll B.size volume.old.volume volume.new.volume }
-    ensures requests { volume.new.volume.requests ≡ volume.old.volume.requests }
-    ensures left { left_in_all B.contents B.layers volume.new.volume ≤ left_in_all B.contents B.layers volume.old.volume }
-    ensures taken { TakesByRequests volume.old volume.new }
+    ensures { AreDoneSo B.contents B.layers B.fault_count B.size (IsFollowed B.contents B.layers (CopyRead number) reply result volume.old.volume volume.new.volume) reply result volume.old volume.new }
 {
     let Some((snap, alone)) = holder(volume, number) else {
         return reply;
     };
-    if alone {
-        let events = [
-            Event::CopyWrite(number),
-            Event::FlushStore(snap),
-            Event::WriteArea(snap),
-            Event::FlushStore(snap),
-            Event::Publish(number),
-        ];
-        return carry(volume, &events, reply);
+    let mut reply = reply;
+    if !carry_one(volume, Event::CopyWrite(number), &mut reply) {
+        return reply;
     }
-    let events = [
-        Event::CopyWrite(number),
-        Event::FlushStore(snap),
-        Event::WriteArea(snap),
-        Event::FlushStore(snap),
-    ];
-    carry(volume, &events, reply)
+    if !carry_one(volume, Event::FlushStore(snap), &mut reply) {
+        return reply;
+    }
+    if !carry_one(volume, Event::WriteArea(snap), &mut reply) {
+        return reply;
+    }
+    if !carry_one(volume, Event::FlushStore(snap), &mut reply) {
+        return reply;
+    }
+    if !alone {
+        return reply;
+    }
+    let _ = carry_one(volume, Event::Publish(number), &mut reply);
+    reply
 }
 
 /// Does the events that are known to follow one that was due first and was done, as long as each is due and nothing fails: each
 /// is then due first. Tells the last reply, and the one that was given before where there is none.
+#[inline(always)]
 pub(crate) fn follow<B: Layered>(volume: &mut Journaled<B>, done: Event, reply: Reply) -> Reply
     ensures follows { IsFollowed B.contents B.layers done reply result volume.old.volume volume.new.volume }
     ensures did { AreDone B.contents B.layers B.fault_count reply result volume.old.volume volume.new.volume }
@@ -126,7 +120,11 @@ pub(crate) fn follow<B: Layered>(volume: &mut Journaled<B>, done: Event, reply: 
 {
     match done {
         Event::CopyRead(number) => follow_read(volume, number, reply),
-        Event::WriteArea(snap) => carry(volume, &[Event::FlushStore(snap)], reply),
+        Event::WriteArea(snap) => {
+            let mut reply = reply;
+            let _ = carry_one(volume, Event::FlushStore(snap), &mut reply);
+            reply
+        }
         _ => reply,
     }
 }

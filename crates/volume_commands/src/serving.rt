@@ -1,10 +1,8 @@
-// One piece of a command: it is submitted, and the events that are due are done until none is.
+// One piece of a command: it is served, and the events that are due are done until none is.
 ghost use Rattle.std.specs.Prelude.{◌≡◌, ℕ, ◌+◌, ◌≤◌, length, Option, None, Some, IfOk, IfErr, true, false};
 ghost use Rattle.plain.specs.declared.request.Reply.{Reply};
-ghost use Rattle.plain.specs.declared.request.Reply.TheVariants.{Refused};
 ghost use Rattle.settled.specs.Refusals.{is_starved};
 ghost use Rattle.event_machine.specs.Due.{due};
-ghost use Rattle.event_machine.specs.Submitting.{submitted};
 ghost use Rattle.volume.specs.Volumed.{is_loud_in_all, piece_with};
 ghost use Rattle.volume.specs.Moved.{moving_of};
 ghost use Rattle.volume.specs.Reaching.{IsRun};
@@ -14,7 +12,7 @@ ghost use Rattle.volume_commands.specs.Declined.{IsUnsent};
 ghost use Rattle.volume_commands.specs.Rested.{rested_of, merged_of, IsSettled, has_dev};
 ghost use Rattle.volume_commands.specs.Kept.{KeepsDevices};
 ghost use Rattle.volume_commands.specs.Between.{IsBetween};
-ghost use Rattle.volume_commands.specs.AtRest.{AreDone, IsAnswered, IsEntered};
+ghost use Rattle.volume_commands.specs.AtRest.{AreDone, IsAnswered, IsBegun};
 ghost use Rattle.volume_commands.specs.Commands.{IsDoneBy};
 ghost use Rattle.volume_commands.specs.Serving.{CanServe, part_done};
 ghost use Rattle.volume.specs.Stepping.{KeepsAll};
@@ -27,6 +25,7 @@ use crate::following::follow;
 use layers::Layered;
 use plain::{Dev, Failure, NotDue, Outcome, Reply, Request};
 use sector::Refusal;
+use volume::Served;
 
 /// Does the events that are due, each time the one that is due first, until the volume is quiet: none is then due but one of a
 /// merge. Tells the last reply, and the one that was given before where there is none. What is known to follow an event is
@@ -56,15 +55,14 @@ fn settle<B: Layered>(volume: &mut Journaled<B>, mut reply: Reply) -> Reply
     reply
 }
 
-/// Submits the request of a piece, and tells what it is answered where no event answers it. One that its snapshot refuses is
-/// answered `Invalid` or `Overflow` at once, and may have spoiled or marked that snapshot; any other will be answered. Where
-/// memory is refused nothing changed.
-fn enter<B: Layered>(volume: &mut Journaled<B>, request: Request) -> Result<Failure, Refusal>
+/// Begins with the request of a piece, and tells its reply where it is answered at once: one that waits for nothing, and one that
+/// its snapshot refuses, with `Invalid` or `Overflow`, which may have spoiled or marked that snapshot. Any other will be answered,
+/// and `Invalid` stands for its reply until then. Where memory is refused nothing changed.
+fn begin<B: Layered>(volume: &mut Journaled<B>, request: Request) -> Result<Reply, Refusal>
     requires quiet { is_quiet_of volume.old.volume ≡ true }
     requires few { length volume.old.volume.snaps ≤ 8 }
     requires can { CanServe B.size request.dev request.op request.range volume.old.volume }
-    ensures ok { IfOk result (λ failure. (number : ℕ) × (submitted number request (moving_of B.contents B.layers (Some (Refused failure)) volume.old.volume) ≡ moving_of B.contents B.layers (Some (Refused failure)) volume.new.volume)) }
-    ensures entered { IfOk result (λ failure. IsEntered B.contents B.layers B.size request failure volume.old.volume volume.new.volume) }
+    ensures begun { IfOk result (λ reply. IsBegun B.contents B.layers B.fault_count B.size request reply volume.old.volume volume.new.volume) }
     ensures starved { IfErr result (λ refusal. (is_starved refusal ≡ true) × SameButRoom volume.old.volume volume.new.volume × (moving_of B.contents B.layers None volume.new.volume ≡ moving_of B.contents B.layers None volume.old.volume)) }
     ensures untaken { IfErr result (λ refusal. IsUnsent B.contents B.layers B.size request refusal volume.old.volume volume.new.volume) }
     ensures free { has_group_in volume.new.volume.merge ≡ false }
@@ -76,17 +74,19 @@ fn enter<B: Layered>(volume: &mut Journaled<B>, request: Request) -> Result<Fail
 {
     // Of the snapshots that a request may go to, none is the one that is being merged.
     let _ = volume.merging();
-    match volume.submit(request) {
-        Ok(_) => Ok(Failure::Invalid),
+    match volume.serve(request) {
+        Ok(Served::Answered(_, reply)) => Ok(reply),
+        Ok(Served::InFlight(_)) => Ok(Reply::Refused(Failure::Invalid)),
         Err(refusal) => match refusal {
-            Refusal::Invalid => Ok(Failure::Invalid),
-            Refusal::Overflow => Ok(Failure::Overflow),
+            Refusal::Invalid => Ok(Reply::Refused(Failure::Invalid)),
+            Refusal::Overflow => Ok(Reply::Refused(Failure::Overflow)),
             _ => Err(refusal),
         },
     }
 }
 
-/// Submits the request of a piece, and does all that is due then. Tells its reply; where memory is refused nothing changed.
+/// Serves the request of a piece, and does all that is due then. Tells its reply; where memory is refused nothing changed.
+#[inline(always)]
 pub(crate) fn serve<B: Layered>(
     volume: &mut Journaled<B>,
     request: Request,
@@ -107,8 +107,8 @@ pub(crate) fn serve<B: Layered>(
 {
     // A quiet volume, no device of which drops writes, is at rest.
     let _ = volume.is_quiet();
-    match enter(volume, request) {
-        Ok(failure) => Ok(settle(volume, Reply::Refused(failure))),
+    match begin(volume, request) {
+        Ok(reply) => Ok(settle(volume, reply)),
         Err(refusal) => Err(refusal),
     }
 }

@@ -1,11 +1,11 @@
 -- A chunk is written to the origin disk, and the copies of the chunk that is copied next are started.
-use Rattle.std.proofs.Common.{◌≡◌, ◌<◌, ◌*◌, ℕ, length, map, refl, ap, sym, subst, ◌∙◌, true, false, Some, arith}
+use Rattle.std.proofs.Common.{◌≡◌, ◌<◌, ◌*◌, ℕ, length, map, refl, ap, sym, subst, ◌∙◌, true, false, Some, None, arith}
 use Rattle.std.specs.List.{All}
 use Rattle.device.specs.Layers.{is_loud}
 use Rattle.plain.specs.declared.event.Event.TheVariants.{MergeWrite}
 use Rattle.in_flight.specs.Copies.{count_of}
 use Rattle.volume_laws.specs.Again.{again_of}
-use Rattle.volume_laws.specs.MergeDue.{can_write}
+use Rattle.volume_laws.specs.MergeDue.{can_write, is_writable}
 use Rattle.volume_laws.specs.Published.{is_clear}
 use Rattle.snapshot.specs.Kept.{Kept, books_of as snap_books}
 use Rattle.merge.specs.Due.{full_of}
@@ -253,3 +253,16 @@ returns-in-Ok-clause-stops_origin g c =
     let beside = merged_beside g.B.Block.may_hold g.B.Block.contents g.B.Block.layers g.B.Block.size g.met.B.Block.whole g.met.B.Block.holds_now v c.self.invariant.whole c.self.invariant.lasting.snaps (c.in-Some.merge.state.chunk * c.in-Some-full.pair.old) (count_of c.in-Some.merge.state.chunk c.in-Some.merge.state.origin c.in-Some-full.pair.old) (g.B.Block.contents c.write_chunk.new.origin) step.1.disk saved in
     let goes = written_both g.B.Block.may_hold g.B.Block.contents g.B.Block.layers g.B.Block.size g.met.B.Block.whole g.met.B.Block.holds_now v c.self.invariant.whole c.self.invariant.lasting w c.write_chunk.new.self refl c.in-Some.merge c.in-Some.is left c.in-Some-full.pair (record { adds = c.in-Ok.ensures.adds; sectors = c.in-Ok.ensures.size; loud = c.in-Ok.ensures.loud }) reading (λ _. step.1.disk) (count_few c.in-Some.merge.state.chunk c.in-Some.merge.state.origin c.in-Some-full.pair.old) (ap (λ x. x.device) fields) (ap (λ x. x.state.chunk) fields) (ap (λ x. x.pairs) fields) step.0.flushed beside in
     rw (← c.self.view_is) goes.stops_origin
+
+pub returns-in_default-clause-due : goal.returns-in_default-clause-due
+returns-in_default-clause-due g c =
+    let v : Volumed g.row.B.Denot = record { origin = c.self.inside.origin; snaps = c.self.inside.snaps.items; merge = c.self.inside.merge; flights = c.self.inside.flights.items; requests = c.self.inside.requests; copies = c.self.inside.copies; attached = c.self.inside.attached } in
+    let snaps = map (snap_books g.B.Block.contents g.B.Block.layers) v.snaps in
+    let none : full_of c.in-Some.merge.group ≡ None = sym c.full.ensures ∙ c.in_default.is in
+    let looks = c.has_group.ensures.looks true in
+    rw (← c.self.view_is) (sym (write_due g.B.Block.contents g.B.Block.layers g.B.Block.size v c.self.invariant.whole c.in-Some.merge c.in-Some.is ∙ looks.write snaps ∙ ap (λ o. is_writable snaps c.in-Some.merge.state.chunk c.in-Some.merge.state.origin (option_pairs o)) none))
+
+pub save_waiting-self-inside-requires-clause-few : goal.save_waiting-self-inside-requires-clause-few
+save_waiting-self-inside-requires-clause-few g c =
+    let whole = c.self.invariant.whole in
+    omega (arith, whole.numbers_left, whole.few, c.self.ranges)

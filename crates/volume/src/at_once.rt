@@ -1,0 +1,121 @@
+// A request that waits for nothing is answered at once, and is never in flight.
+ghost use Rattle.std.specs.Prelude.{◌≡◌, ◌≢◌, ◌*◌, ◌+◌, ◌^◌, ◌<◌, IfErr, List, None, Ok, [], length, true, ℕ};
+ghost use Rattle.plain.specs.declared.event.Event.TheVariants.{Issue};
+ghost use Rattle.plain.specs.declared.event.Outcome.TheVariants.{Reply as Replied};
+ghost use Rattle.plain.specs.declared.request.Op.TheVariants.{Flush as IsFlush, Write};
+ghost use Rattle.in_flight.specs.declared.flights.Route.TheVariants.{Origin};
+ghost use Rattle.volume.specs.AtDisk.{GoesToDisk};
+ghost use Rattle.volume.specs.DoesServe.{DoesServe};
+ghost use Rattle.volume.specs.DoesStep.{DoesStep};
+ghost use Rattle.volume.specs.Leaving.{is_quiet_of};
+ghost use Rattle.volume.specs.Submitting.{IsRefusedAs, entered_of};
+ghost use Rattle.volume.specs.Whole.{IsWhole};
+
+use crate::Volume;
+use device::{Block, Io};
+use in_flight::{Flight, Kind, Route, request_kind};
+use plain::{Failure, Op, Reply, ReqId, Request};
+use sector::{Buf, Refusal};
+use snapshots::is_clear;
+use std::alloc::Global;
+
+/// What became of a request that was accepted.
+#[derive(Drop)]
+pub enum Served {
+    /// It is in flight, by its number.
+    InFlight(ReqId),
+    /// It was answered at once: its number, and its reply.
+    Answered(ReqId, Reply),
+}
+
+impl<B: Block> Volume<B> {
+    /// Accepts a request, and answers it at once where it waits for nothing: where the volume is quiet and no merge is begun, a read
+    /// of the origin, and a write of it whose chunk each live snapshot has published. What is done then is just what `submit` and the
+    /// Issue do that is due first. Any other request is in flight afterwards. It is refused as by `submit`.
+    #[inline(always)]
+    pub fn serve(&mut self, alloc: Global, request: Request) -> Result<Served, Refusal>
+        requires bytes { (bytes : List ℕ) → request.op ≡ Write bytes → length bytes ≡ 512 * request.range.count }
+        ensures does { DoesServe B.may_hold B.contents B.layers B.size B.fault_count B.done_count request result self.old self.new }
+        ensures refused { IfErr result (λ refusal. IsRefusedAs B.contents B.layers B.size request refusal self.old self.new) }
+    {
+        if self.goes_to_disk(&request) {
+            return self.serve_at_disk(alloc, request);
+        }
+        match self.submit(alloc, request) {
+            Ok(number) => Ok(Served::InFlight(number)),
+            Err(refusal) => Err(refusal),
+        }
+    }
+
+    /// Whether a request waits for nothing, and goes to the origin disk.
+    fn goes_to_disk(&self, request: &Request) -> bool
+        ensures quiet { result ≡ true → is_quiet_of self.now ≡ true }
+        ensures alone { result ≡ true → self.now.merge ≡ None }
+        ensures goes { result ≡ true → GoesToDisk B.contents B.layers request.now self.now.snaps }
+    {
+        if self.merge.is_some() || !self.is_quiet() {
+            return false;
+        }
+        match request_kind(request) {
+            Kind::OriginRead => true,
+            Kind::OriginWrite => is_clear(self.snaps.as_slice(), request.range.first),
+            Kind::OriginFlush => false,
+            Kind::SnapRead(_) | Kind::SnapWrite(_) | Kind::SnapFlush(_) => false,
+        }
+    }
+
+    /// Serves a request that waits for nothing, and goes to the origin disk.
+    fn serve_at_disk(&mut self, alloc: Global, request: Request) -> Result<Served, Refusal>
+        requires quiet { is_quiet_of self.old ≡ true }
+        requires alone { self.old.merge ≡ None }
+        requires goes { GoesToDisk B.contents B.layers request self.old.snaps }
+        requires bytes { (bytes : List ℕ) → request.op ≡ Write bytes → length bytes ≡ 512 * request.range.count }
+        ensures does { DoesServe B.may_hold B.contents B.layers B.size B.fault_count B.done_count request result self.old self.new }
+        ensures refused { IfErr result (λ refusal. IsRefusedAs B.contents B.layers B.size request refusal self.old self.new) }
+    {
+        // A look at a field: what the type keeps is known from here on.
+        let _ = &self.flights;
+        match self.submit_refused(&request) {
+            Some(refusal) => return Err(refusal),
+            None => {}
+        }
+        let Ok(flight) = Flight::new(alloc, self.requests + 1, request, Route::Origin) else {
+            return Err(Refusal::NoMemory);
+        };
+        let number = flight.number;
+        Ok(Served::Answered(number, self.answer_at_disk(flight)))
+    }
+
+    /// Answers a read or a write of the origin disk, as if it had been put in flight there and then issued.
+    fn answer_at_disk(&mut self, flight: Flight) -> Reply
+        requires still { self.old.flights ≡ [] }
+        requires alone { self.old.merge ≡ None }
+        requires next { flight.number ≡ self.old.requests + 1 }
+        requires left { self.old.requests + 1 < 2 ^ 64 }
+        requires route { flight.route ≡ Origin }
+        requires moves { flight.request.op ≢ IsFlush }
+        requires whole { IsWhole B.contents B.layers B.size (entered_of flight self.old) }
+        ensures does { DoesStep B.may_hold B.contents B.layers B.size B.fault_count B.done_count true (Issue flight.number) (Ok (Replied flight.number result)) (entered_of flight self.old) self.new }
+        ensures quiet { is_quiet_of self.new ≡ is_quiet_of self.old }
+    {
+        let Flight {
+            number: _,
+            request,
+            route: _,
+            mut room,
+        } = flight;
+        let Request { dev: _, op, range } = request;
+        self.requests += 1;
+        match op {
+            Op::Read => match self.origin.read(range, room.as_mut_slice()) {
+                Ok(()) => Reply::Data(Buf::from_vec(room)),
+                Err(Io) => Reply::Refused(Failure::Io),
+            },
+            Op::Write(bytes) => match self.origin.write(range, bytes.as_slice()) {
+                Ok(()) => Reply::Written,
+                Err(Io) => Reply::Refused(Failure::Io),
+            },
+            Op::Flush => unreachable!(),
+        }
+    }
+}
