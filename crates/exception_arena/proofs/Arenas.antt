@@ -24,13 +24,14 @@ lists_are nodes heads slots free queue frees waiting a = (
   walked nodes queue.first waiting (length nodes) a.queued.chain (omega (arith, a.one.all)),
 )
 
-pub sound_of : (nodes : List Node) (heads : List Link) (slots : List ℕ) (free : Link) (queue : Queue) (count reserved nodes_capacity slots_capacity : ℕ) (frees waiting : List ℕ) → IsArena nodes heads slots free queue frees waiting → HasRoom heads slots queue count reserved nodes_capacity slots_capacity → HoldsRuns nodes slots waiting count → IsSound nodes heads slots free queue count reserved nodes_capacity slots_capacity
-sound_of nodes heads slots free queue count reserved nodes_capacity slots_capacity frees waiting a room held =
+pub sound_of : (nodes : List Node) (heads : List Link) (slots : List ℕ) (free : Link) (queue : Queue) (count reserved nodes_capacity slots_capacity : ℕ) (frees waiting : List ℕ) → IsArena nodes heads slots free queue frees waiting → HasRoom heads slots queue count reserved nodes_capacity slots_capacity → HoldsRuns nodes slots waiting count → length nodes ≤ 2 ^ 32 → IsSound nodes heads slots free queue count reserved nodes_capacity slots_capacity
+sound_of nodes heads slots free queue count reserved nodes_capacity slots_capacity frees waiting a room held small =
     let (f, w) = lists_are nodes heads slots free queue frees waiting a in
     record {
       arena = subst (λ x. IsArena nodes heads slots free queue x (list_from nodes queue.first)) (sym f) (subst (λ x. IsArena nodes heads slots free queue frees x) (sym w) a);
       room = room;
       held = subst (λ x. HoldsRuns nodes slots x count) (sym w) held;
+      small = small;
     }
 
 -- the runs are as they were, and no node more is pending
@@ -237,13 +238,15 @@ abandoned_sound nodes nodes1 nodes2 heads slots free queue queue1 count reserved
     let a : IsArena nodes2 heads slots (To j) queue1 (j ∷ frees) (omit j waiting) = subst (λ x. IsArena x heads slots (To j) queue1 (j ∷ frees) (omit j waiting)) (sym last) (abandoned nodes nodes1 heads slots free queue queue1 frees waiting j sound.arena some q others len) in
     let lt : j < length nodes1 = let h = sound.arena.queued.inside j some in omega arith in
     let pairs2 : (i : ℕ) → run_at nodes2 i ≡ run_at nodes i = λ i. ap (λ x. run_at x i) last ∙ led_run nodes1 j i free lt ∙ pairs i in
+    let long : length nodes2 ≡ length nodes = ap length last ∙ length-set nodes1 j _ ∙ len in
     let less : queue1.count + 1 ≡ queue.count = omega (arith, q.many, omit_length j waiting some, sound.arena.queued.many) in (
       sound_of nodes2 heads slots (To j) queue1 count reserved nodes_capacity1 slots_capacity (j ∷ frees) (omit j waiting) a (record {
         nodes_room = let r = sound.room.nodes_room in omega arith;
         slots_room = let r = sound.room.slots_room in omega arith;
         buckets = let r = sound.room.buckets in omega arith;
+        places = let r = sound.room.places in omega arith;
         numbers = let r = sound.room.numbers in omega arith;
-      }) (held_kept nodes nodes2 slots waiting (omit j waiting) count (λ i s. pairs2 i) (λ i s. pairs2 i) (λ i. omega (arith, omit_count j waiting i some)) sound.held),
+      }) (held_kept nodes nodes2 slots waiting (omit j waiting) count (λ i s. pairs2 i) (λ i s. pairs2 i) (λ i. omega (arith, omit_count j waiting i some)) sound.held) (omega (arith, sound.small)),
       (
         pairs_kept nodes nodes2 slots (λ i s. pairs2 i),
         ap (map (begun_at nodes2)) (lists_are nodes2 heads slots (To j) queue1 (j ∷ frees) (omit j waiting) a).1 ∙ begun_kept nodes nodes2 (omit j waiting) (λ i s. pairs2 i),
@@ -262,6 +265,7 @@ finished_sound nodes nodes1 nodes2 heads heads1 slots slots1 free queue queue1 c
     let a : IsArena nodes2 heads1 slots1 free queue1 frees (omit j waiting) = subst (λ x. IsArena x heads1 slots1 free queue1 frees (omit j waiting)) (sym last) (subst (λ x. IsArena (led nodes1 j (head_at heads k)) x slots1 free queue1 frees (omit j waiting)) (sym heads_are) (subst (λ x. IsArena (led nodes1 j (head_at heads k)) (set heads k (To j)) x free queue1 frees (omit j waiting)) (sym slots_are) f)) in
     let lt : j < length nodes1 = let h = sound.arena.queued.inside j some in omega arith in
     let pairs2 : (i : ℕ) → run_at nodes2 i ≡ run_at nodes i = λ i. ap (λ x. run_at x i) last ∙ led_run nodes1 j i (head_at heads k) lt ∙ pairs i in
+    let long : length nodes2 ≡ length nodes = ap length last ∙ length-set nodes1 j _ ∙ len in
     let less : queue1.count + 1 ≡ queue.count = omega (arith, q.many, omit_length j waiting some, sound.arena.queued.many) in
     let more : length slots1 ≡ length slots + 1 = ap length slots_are ∙ length-append slots (j ∷ []) in
     let wide : length heads1 ≡ length heads = ap length heads_are ∙ length-set heads k (To j) in
@@ -282,8 +286,9 @@ finished_sound nodes nodes1 nodes2 heads heads1 slots slots1 free queue queue1 c
         nodes_room = let r = sound.room.nodes_room in omega arith;
         slots_room = let r = sound.room.slots_room in omega arith;
         buckets = let r = sound.room.buckets in omega arith;
+        places = let r = sound.room.places in omega arith;
         numbers = let r = sound.room.numbers in omega arith;
-      }) held,
+      }) held (omega (arith, sound.small)),
       (
         p,
         ap (map (begun_at nodes2)) (lists_are nodes2 heads1 slots1 free queue1 frees (omit j waiting) a).1 ∙ begun_kept nodes nodes2 (omit j waiting) (λ i s. pairs2 i),
@@ -300,6 +305,7 @@ removed_sound nodes nodes1 heads heads1 slots slots1 free queue count reserved n
     let (lt, f) = removed nodes heads slots slots1 free queue frees waiting j k sound.arena last refl in
     let a : IsArena nodes1 heads1 slots1 (To j) queue (j ∷ frees) waiting = subst (λ x. IsArena x heads1 slots1 (To j) queue (j ∷ frees) waiting) (sym nodes_are) (subst (λ x. IsArena (led nodes j free) x slots1 (To j) queue (j ∷ frees) waiting) (sym heads_are) f) in
     let pairs : (i : ℕ) → run_at nodes1 i ≡ run_at nodes i = λ i. ap (λ x. run_at x i) nodes_are ∙ led_run nodes j i free lt in
+    let long : length nodes1 ≡ length nodes = ap length nodes_are ∙ length-set nodes j _ in
     let less : length slots ≡ length slots1 + 1 = ap length last ∙ length-append slots1 (j ∷ []) in
     let wide : length heads1 ≡ length heads = ap length heads_are ∙ length-set heads k (node_at nodes j).next in
     let on : 0 < count_of j slots = omega (arith, ap (count_of j) last, count-append j slots1 (j ∷ []), count_here j j [] refl) in
@@ -318,8 +324,9 @@ removed_sound nodes nodes1 heads heads1 slots slots1 free queue count reserved n
         nodes_room = let r = sound.room.nodes_room in omega arith;
         slots_room = let r = sound.room.slots_room in omega arith;
         buckets = let r = sound.room.buckets in omega arith;
+        places = let r = sound.room.places in omega arith;
         numbers = let r = sound.room.numbers in omega arith;
-      }) held,
+      }) held (omega (arith, sound.small)),
       (
         p ∙ sym (take-append_seam (pairs_on nodes slots1) ((run_at nodes j).first ∷ [])) ∙ ap (λ x. take x (pairs_on nodes slots1 ++ (run_at nodes j).first ∷ [])) n ∙ ap (take (length (pairs_on nodes slots) - 1)) (sym parts),
         ap (map (begun_at nodes1)) (lists_are nodes1 heads1 slots1 (To j) queue (j ∷ frees) waiting a).1 ∙ begun_kept nodes nodes1 waiting (λ i s. pairs i),
@@ -341,6 +348,15 @@ begun_ready nodes nodes1 heads slots free queue frees waiting j a taken others =
     let q : IsQueue nodes1 queue waiting = queue_kept nodes nodes1 queue waiting on off.1.1 a.queued in
     ((on, on_slots), ((q, walked nodes1 queue.first waiting (length nodes1) q.chain (omega (arith, a.one.all, off.1.1))), (omega (arith, off.0), off.1.0)))
 
+-- an arena that has room for a pair more has few nodes after one is taken: a new one is made only where none is free
+few_taken : (n n1 more : ℕ) (frees waiting slots : List ℕ) (j : ℕ) → StandsOnOne n frees waiting slots → IsTaken frees n j n1 → 0 < more → length waiting + (length slots + more) ≤ 2 ^ 32 → n ≤ 2 ^ 32 → n1 ≤ 2 ^ 32
+few_taken n n1 more [] waiting slots j one (is, new) some places small = omega (arith, one.all)
+few_taken n n1 more (f ∷ frees) waiting slots j one (is, new) some places small = omega arith
+
+pub taken_small : (nodes nodes1 : List Node) (heads : List Link) (slots : List ℕ) (free : Link) (queue : Queue) (count reserved nodes_capacity slots_capacity j : ℕ) → IsSound nodes heads slots free queue count reserved nodes_capacity slots_capacity → IsTaken (list_from nodes free) (length nodes) j (length nodes1) → 0 < reserved → length nodes1 ≤ 2 ^ 32
+taken_small nodes nodes1 heads slots free queue count reserved nodes_capacity slots_capacity j sound taken some =
+    few_taken (length nodes) (length nodes1) reserved (list_from nodes free) (list_from nodes queue.first) slots j sound.arena.one taken some (omega (arith, sound.room.places, sound.arena.queued.many)) sound.small
+
 pub begun_sound : (nodes nodes1 nodes2 : List Node) (heads : List Link) (slots : List ℕ) (free free1 : Link) (queue queue2 : Queue) (count reserved reserved1 nodes_capacity nodes_capacity1 slots_capacity j : ℕ) (pair : Pair) → IsSound nodes heads slots free queue count reserved nodes_capacity slots_capacity
     → Leads nodes1 free1 (drop 1 (list_from nodes free)) → IsTaken (list_from nodes free) (length nodes) j (length nodes1) → ((i : ℕ) → i ≢ j → i < length nodes → node_at nodes1 i ≡ node_at nodes i) → node_at nodes1 j ≡ record { run = record { first = pair; count = 1 }; next = Nowhere } → IsRun (record { first = pair; count = 1 })
     → IsQueue nodes2 queue2 (list_from nodes1 queue.first ++ j ∷ []) → ((i : ℕ) → run_at nodes2 i ≡ run_at nodes1 i) → ((i : ℕ) → count_of i (list_from nodes1 queue.first) ≡ 0 → node_at nodes2 i ≡ node_at nodes1 i) → length nodes2 ≡ length nodes1 → nodes_capacity1 ≡ nodes_capacity → reserved1 + 1 ≡ reserved
@@ -353,6 +369,7 @@ begun_sound nodes nodes1 nodes2 heads slots free free1 queue queue2 count reserv
     let q : IsQueue nodes2 queue2 (waiting ++ j ∷ []) = subst (λ x. IsQueue nodes2 queue2 (x ++ j ∷ [])) e queued in
     let o : (i : ℕ) → count_of i waiting ≡ 0 → node_at nodes2 i ≡ node_at nodes1 i = subst (λ x. (i : ℕ) → count_of i x ≡ 0 → node_at nodes2 i ≡ node_at nodes1 i) e others2 in
     let a : IsArena nodes2 heads slots free1 queue2 (drop 1 frees) (waiting ++ j ∷ []) = begun nodes nodes1 nodes2 heads slots free free1 queue queue2 frees waiting j sound.arena freed taken others q o len in
+    let small : length nodes1 ≤ 2 ^ 32 = taken_small nodes nodes1 heads slots free queue count reserved nodes_capacity slots_capacity j sound taken (omega arith) in
     let more : queue2.count ≡ queue.count + 1 = omega (arith, q.many, sound.arena.queued.many, length-append waiting (j ∷ [])) in
     let own : run_at nodes2 j ≡ record { first = pair; count = 1 } = pairs2 j ∙ ap (λ (n : Node). n.run) node in
     let held : HoldsRuns nodes2 slots (waiting ++ j ∷ []) count = record {
@@ -375,8 +392,9 @@ begun_sound nodes nodes1 nodes2 heads slots free free1 queue queue2 count reserv
         nodes_room = let r = sound.room.nodes_room in omega arith;
         slots_room = let r = sound.room.slots_room in omega arith;
         buckets = let r = sound.room.buckets in omega arith;
+        places = let r = sound.room.places in omega arith;
         numbers = let r = sound.room.numbers in omega arith;
-      }) held,
+      }) held (omega (arith, small)),
       (
         pairs_kept nodes nodes2 slots (λ i s. pairs2 i ∙ ap (λ (n : Node). n.run) (ready.0.1.same i s)),
         ap (map (begun_at nodes2)) (lists_are nodes2 heads slots free1 queue2 (drop 1 frees) (waiting ++ j ∷ []) a).1 ∙ map-append (begun_at nodes2) waiting (j ∷ [])
@@ -428,12 +446,12 @@ reserved_lists nodes nodes0 nodes1 heads heads1 slots slots0 free queue count re
 
 pub reserved_sound : (nodes nodes0 nodes1 : List Node) (heads heads1 : List Link) (slots slots0 slots1 : List ℕ) (free : Link) (queue : Queue) (count reserved reserved1 nodes_capacity nodes_capacity1 slots_capacity slots_capacity1 : ℕ) → IsSound nodes heads slots free queue count reserved nodes_capacity slots_capacity
     → nodes0 ≡ nodes → slots0 ≡ slots → slots1 ≡ slots → (AreHung nodes0 heads (reverse slots0) → AreHung nodes1 heads1 (reverse slots0)) → ((i : ℕ) → run_at nodes1 i ≡ run_at nodes0 i) → ((i : ℕ) → count_of i slots0 ≡ 0 → node_at nodes1 i ≡ node_at nodes0 i) → length nodes1 ≡ length nodes0
-    → queue.count + (length slots + reserved1) ≤ nodes_capacity1 → queue.count + (length slots + reserved1) ≤ slots_capacity1 → queue.count + (length slots + reserved1) ≤ length heads1 → queue.count + (count + reserved1) < 2 ^ 64
+    → queue.count + (length slots + reserved1) ≤ nodes_capacity1 → queue.count + (length slots + reserved1) ≤ slots_capacity1 → queue.count + (length slots + reserved1) ≤ length heads1 → queue.count + (count + reserved1) < 2 ^ 64 → queue.count + (length slots + reserved1) ≤ 2 ^ 32
     → IsSound nodes1 heads1 slots1 free queue count reserved1 nodes_capacity1 slots_capacity1
-reserved_sound nodes nodes0 nodes1 heads heads1 slots slots0 slots1 free queue count reserved reserved1 nodes_capacity nodes_capacity1 slots_capacity slots_capacity1 sound e0 s0 s1 hung pairs others len in_nodes in_slots in_heads in_numbers =
+reserved_sound nodes nodes0 nodes1 heads heads1 slots slots0 slots1 free queue count reserved reserved1 nodes_capacity nodes_capacity1 slots_capacity slots_capacity1 sound e0 s0 s1 hung pairs others len in_nodes in_slots in_heads in_numbers in_places =
     let a = (reserved_lists nodes nodes0 nodes1 heads heads1 slots slots0 free queue count reserved nodes_capacity slots_capacity sound e0 s0 hung pairs others len).0 in
     let same : (i : ℕ) → run_at nodes1 i ≡ run_at nodes i = λ i. pairs i ∙ ap (λ n. run_at n i) e0 in
-    let s : IsSound nodes1 heads1 slots free queue count reserved1 nodes_capacity1 slots_capacity1 = sound_of nodes1 heads1 slots free queue count reserved1 nodes_capacity1 slots_capacity1 (list_from nodes free) (list_from nodes queue.first) a (record { nodes_room = in_nodes; slots_room = in_slots; buckets = in_heads; numbers = in_numbers }) (held_kept nodes nodes1 slots (list_from nodes queue.first) (list_from nodes queue.first) count (λ i s. same i) (λ i s. same i) (λ i. omega arith) sound.held) in
+    let s : IsSound nodes1 heads1 slots free queue count reserved1 nodes_capacity1 slots_capacity1 = sound_of nodes1 heads1 slots free queue count reserved1 nodes_capacity1 slots_capacity1 (list_from nodes free) (list_from nodes queue.first) a (record { nodes_room = in_nodes; slots_room = in_slots; buckets = in_heads; places = in_places; numbers = in_numbers }) (held_kept nodes nodes1 slots (list_from nodes queue.first) (list_from nodes queue.first) count (λ i s. same i) (λ i s. same i) (λ i. omega arith) sound.held) (omega (arith, sound.small, ap length e0)) in
     subst (λ s. IsSound nodes1 heads1 s free queue count reserved1 nodes_capacity1 slots_capacity1) (sym s1) s
 
 -- the last run is of another length
@@ -491,8 +509,9 @@ recounted_sound nodes nodes1 heads slots slots0 free queue count count1 reserved
         nodes_room = let r = sound.room.nodes_room in omega arith;
         slots_room = sound.room.slots_room;
         buckets = sound.room.buckets;
+        places = sound.room.places;
         numbers = numbers;
-      }) held,
+      }) held (omega (arith, sound.small)),
       (p, ap (map (begun_at nodes1)) (lists_are nodes1 heads slots free queue frees waiting a).1 ∙ begun_kept nodes nodes1 waiting (λ i s. other i (apart1 i s))),
     )
 

@@ -6,3 +6,4 @@ pub mod Hung
 pub mod Queues
 pub mod Arenas
 pub mod SlotOrder
+pub mod Masks

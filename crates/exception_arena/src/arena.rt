@@ -14,14 +14,18 @@ use sector::{Chunk, Pair, Refusal};
 use std::alloc::Global;
 use std::marker::Model;
 
+// So many nodes an arena has at most: places have 32 bits.
+const MOST_NODES: usize = 1 << 32;
+
 /// The pairs, in nodes that lead to one another. A node stands on the free list, on the pending list, where it holds one
 /// pair, or on the chain of the bucket of its old chunks, where it holds a run of committed pairs. The nodes of the runs
-/// are also kept in the order of their slots. The number of a pending pair is the place of its node.
+/// are also kept in the order of their slots. The number of a pending pair is the place of its node, and
+/// each list keeps places in 32 bits.
 #[derive(Drop)]
 pub struct Arena {
     nodes: Vec<Node>,
     heads: Vec<Link>,
-    slots: Vec<usize>,
+    slots: Vec<u32>,
     free: Link,
     queue: Queue,
     count: usize,
@@ -61,6 +65,7 @@ impl Exceptions for Arena {
         }
     }
 
+    #[inline(always)]
     fn reserve(&mut self, count: usize) -> Result<(), Refusal> {
         let Some(more) = self.reserved.checked_add(count) else {
             return Err(Refusal::NoMemory);
@@ -71,6 +76,9 @@ impl Exceptions for Arena {
         let Some(wanted) = used.checked_add(more) else {
             return Err(Refusal::NoMemory);
         };
+        if wanted > MOST_NODES {
+            return Err(Refusal::NoMemory);
+        }
         let Some(_) = wanted.checked_add(self.count) else {
             return Err(Refusal::NoMemory);
         };
@@ -105,6 +113,7 @@ impl Exceptions for Arena {
         place as u64
     }
 
+    #[inline(always)]
     fn finish(&mut self, id: Id) {
         let place = id as usize;
         take_out(&mut self.nodes, &mut self.queue, place);
@@ -117,7 +126,7 @@ impl Exceptions for Arena {
             return;
         }
         hang(&mut self.nodes, &mut self.heads, place);
-        self.slots.push_reserved(place);
+        self.slots.push_reserved(place as u32);
     }
 
     fn abandon(&mut self, id: Id) {
@@ -142,9 +151,10 @@ impl Exceptions for Arena {
             shorten(&mut self.nodes, last);
             return;
         }
-        let Some(place) = self.slots.pop() else {
+        let Some(at) = self.slots.pop() else {
             unreachable!()
         };
+        let place = at as usize;
         take_down(self.nodes.as_slice(), &mut self.heads, place);
         put_back(&mut self.nodes, &mut self.free, place);
     }

@@ -1,6 +1,6 @@
 // The committed list: a chain of nodes for each bucket, and the buckets' heads. A run stands in the bucket of the block of
 // its old chunks, and the newest node of a bucket comes first.
-ghost use Rattle.std.specs.Prelude.{◌≡◌, ℕ, ◌<◌, ◌≤◌, ◌/◌, ◌%◌, IsOk, IfErr, OnErr, OnOk, length, replicate, reverse, vec_capacity, slice_set};
+ghost use Rattle.std.specs.Prelude.{◌≡◌, ℕ, ◌<◌, ◌≤◌, ◌/◌, ◌%◌, ◌^◌, IsOk, IfErr, OnErr, OnOk, length, replicate, reverse, vec_capacity, slice_set};
 ghost use Rattle.store_bytes.specs.Picture.{place_of};
 ghost use Rattle.exception_arena.specs.Links.{node_at, run_at, pairs_on, led, head_at, AreHung, count_of};
 ghost use Rattle.exception_arena.specs.Runs.{block, IsRun};
@@ -17,12 +17,26 @@ fn bucket_of(old_chunk: Chunk, buckets: usize) -> usize
     ensures within { result < buckets }
     ensures is { result ≡ old_chunk / block % buckets }
 {
-    (old_chunk / BLOCK % buckets as u64) as usize
+    rest_of(old_chunk / BLOCK, buckets as u64) as usize
+}
+
+/// The rest of a number that is divided by so many buckets. Where they are a power of two, as `make_buckets` makes them, a mask
+/// gives it without a division.
+fn rest_of(number: u64, buckets: u64) -> u64
+    requires { 0 < buckets }
+    ensures { result ≡ number % buckets }
+{
+    if buckets.is_power_of_two() {
+        number & (buckets - 1)
+    } else {
+        number % buckets
+    }
 }
 
 /// Hangs a node into its bucket, before the others there.
 pub fn hang(nodes: &mut Vec<Node>, heads: &mut Vec<Link>, place: usize)
     requires inside { place < length nodes.old.items }
+    requires small { length nodes.old.items ≤ 2 ^ 32 }
     requires some { 0 < length heads.old.items }
     ensures nodes { nodes.new.items ≡ led nodes.old.items place (head_at heads.old.items ((run_at nodes.old.items place).first.old / block % length heads.old.items)) }
     ensures heads { heads.new.items ≡ slice_set heads.old.items ((run_at nodes.old.items place).first.old / block % length heads.old.items) (To place) }
@@ -31,14 +45,15 @@ pub fn hang(nodes: &mut Vec<Node>, heads: &mut Vec<Link>, place: usize)
 {
     let bucket = bucket_of(nodes[place].run.first.old, heads.len());
     lead(nodes, place, heads[bucket]);
-    heads[bucket] = Link::To(place);
+    heads[bucket] = Link::To(place as u32);
 }
 
 /// Makes so many buckets, for which there is room, and hangs the nodes of the slots into them, the oldest first.
-pub fn hang_all(nodes: &mut Vec<Node>, heads: &mut Vec<Link>, slots: &[usize], buckets: usize)
+pub fn hang_all(nodes: &mut Vec<Node>, heads: &mut Vec<Link>, slots: &[u32], buckets: usize)
     requires some { 0 < buckets }
     requires room { buckets ≤ vec_capacity heads.old }
     requires inside { (i : ℕ) → 0 < count_of i slots.now → i < length nodes.old.items }
+    requires small { length nodes.old.items ≤ 2 ^ 32 }
     requires once { (i : ℕ) → count_of i slots.now ≤ 1 }
     ensures hung { AreHung nodes.new.items heads.new.items (reverse slots.now) }
     ensures buckets { length heads.new.items ≡ buckets }
@@ -50,19 +65,21 @@ pub fn hang_all(nodes: &mut Vec<Node>, heads: &mut Vec<Link>, slots: &[usize], b
     heads.clear();
     let _ = heads.resize(buckets, Link::Nowhere);
     for slot in 0..slots.len() {
-        hang(nodes, heads, slots[slot]);
+        hang(nodes, heads, slots[slot] as usize);
     }
 }
 
 /// Makes so many buckets at least, a power of two, where there are less; `NoMemory` where that is refused, and then
 /// nothing changed.
+#[inline(always)]
 pub fn make_buckets(
     nodes: &mut Vec<Node>,
     heads: &mut Vec<Link>,
-    slots: &[usize],
+    slots: &[u32],
     wanted: usize,
 ) -> Result<(), Refusal>
     requires inside { (i : ℕ) → 0 < count_of i slots.now → i < length nodes.old.items }
+    requires small { length nodes.old.items ≤ 2 ^ 32 }
     requires once { (i : ℕ) → count_of i slots.now ≤ 1 }
     ensures hung { AreHung nodes.old.items heads.old.items (reverse slots.now) → AreHung nodes.new.items heads.new.items (reverse slots.now) }
     ensures enough { OnOk result (wanted ≤ length heads.new.items) }
@@ -106,7 +123,7 @@ pub fn take_down(nodes: &[Node], heads: &mut Vec<Link>, place: usize)
 
 /// The place of a chunk's copy, by the chain of its bucket: by the last node there that names the chunk, which is the
 /// oldest.
-pub fn find(nodes: &[Node], heads: &[Link], slots: &[usize], old_chunk: Chunk) -> Option<Chunk>
+pub fn find(nodes: &[Node], heads: &[Link], slots: &[u32], old_chunk: Chunk) -> Option<Chunk>
     requires hung { AreHung nodes.now heads.now (reverse slots.now) }
     requires some { length slots.now ≤ length heads.now }
     requires inside { (i : ℕ) → 0 < count_of i slots.now → i < length nodes.now }
@@ -121,7 +138,7 @@ pub fn find(nodes: &[Node], heads: &[Link], slots: &[usize], old_chunk: Chunk) -
     for _step in 0..slots.len() {
         let at = match link {
             Link::Nowhere => return found,
-            Link::To(at) => at,
+            Link::To(at) => at as usize,
         };
         let node = read(nodes, at);
         found = copy_of(node.run, old_chunk, found);

@@ -5,11 +5,12 @@ ghost use Rattle.exception_arena.specs.Runs.{block};
 
 use crate::run::Run;
 
-/// Where a node leads to: to the node at a place of the arena, or nowhere.
+/// Where a node leads to: to the node at a place of the arena, or nowhere. Places take 32 bits, so that a link takes 8 bytes
+/// and a node 32: an arena has 2^32 nodes at most.
 #[derive(Clone, Copy, PartialEq, Eq)]
 pub enum Link {
     Nowhere,
-    To(usize),
+    To(u32),
 }
 
 /// A run of pairs, and the next node of the list that it stands on.

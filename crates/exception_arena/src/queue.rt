@@ -1,5 +1,5 @@
 // The pending list: the nodes of the pairs that are begun, in the order in which they began.
-ghost use Rattle.std.specs.Prelude.{◌≡◌, ℕ, ◌<◌, ◌++◌, [], ◌∷◌, length, vec_capacity, slice_index_or, ◌≢◌};
+ghost use Rattle.std.specs.Prelude.{◌≡◌, ℕ, ◌<◌, ◌≤◌, ◌^◌, ◌++◌, [], ◌∷◌, length, vec_capacity, slice_index_or, ◌≢◌};
 ghost use Rattle.exception_arena.specs.Links.{node_at, run_at, list_from, count_of, before_of, omit, relink, first_after, IsInside};
 ghost use Rattle.exception_arena.specs.Arenas.{IsQueue};
 ghost use Rattle.exception_arena.specs.declared.node.Link.TheVariants.{Nowhere};
@@ -24,7 +24,7 @@ fn node_before(nodes: &[Node], queue: Queue, place: usize) -> Link
     for _step in 0..queue.count {
         let at = match link {
             Link::Nowhere => return before,
-            Link::To(at) => at,
+            Link::To(at) => at as usize,
         };
         if at == place {
             return before;
@@ -46,7 +46,7 @@ fn lead_from(nodes: &mut Vec<Node>, first: Link, before: Link, next: Link) -> Li
     match before {
         Link::Nowhere => next,
         Link::To(at) => {
-            lead(nodes, at, next);
+            lead(nodes, at as usize, next);
             first
         }
     }
@@ -85,6 +85,7 @@ pub fn take_out(nodes: &mut Vec<Node>, queue: &mut Queue, place: usize)
 pub fn put_last(nodes: &mut Vec<Node>, queue: &mut Queue, place: usize)
     requires queue { IsQueue nodes.old.items queue.old (list_from nodes.old.items queue.old.first) }
     requires inside { place < length nodes.old.items }
+    requires small { length nodes.old.items ≤ 2 ^ 32 }
     requires fits { queue.old.count < length nodes.old.items }
     requires off { count_of place (list_from nodes.old.items queue.old.first) ≡ 0 }
     requires ends { (node_at nodes.old.items place).next ≡ Nowhere }
@@ -94,8 +95,8 @@ pub fn put_last(nodes: &mut Vec<Node>, queue: &mut Queue, place: usize)
     ensures len { length nodes.new.items ≡ length nodes.old.items }
     ensures capacity { vec_capacity nodes.new ≡ vec_capacity nodes.old }
 {
-    queue.first = lead_from(nodes, queue.first, queue.last, Link::To(place));
-    queue.last = Link::To(place);
+    queue.first = lead_from(nodes, queue.first, queue.last, Link::To(place as u32));
+    queue.last = Link::To(place as u32);
     queue.count += 1;
 }
 
@@ -109,12 +110,12 @@ pub fn place_in(nodes: &[Node], queue: Queue, index: usize) -> usize
     for _step in 0..index {
         let at = match link {
             Link::Nowhere => unreachable!(),
-            Link::To(at) => at,
+            Link::To(at) => at as usize,
         };
         link = read(nodes, at).next;
     }
     match link {
-        Link::To(at) => at,
+        Link::To(at) => at as usize,
         Link::Nowhere => unreachable!(),
     }
 }

@@ -14,7 +14,7 @@ pub const BLOCK: u64 = 2;
 #[derive(Clone, Copy, PartialEq, Eq)]
 pub struct Run {
     pub first: Pair,
-    pub count: u64,
+    pub count: u32,
 }
 
 /// Whether a pair comes next after a run, in one block with it.
@@ -22,8 +22,8 @@ pub fn goes_on(run: Run, pair: Pair) -> bool
     ensures { MatchBool result (GoesOn run pair) (GoesOn run pair → ⊥) }
 {
     !pair.old.is_multiple_of(BLOCK)
-        && run.first.old.checked_add(run.count) == Some(pair.old)
-        && run.first.new.checked_add(run.count) == Some(pair.new)
+        && run.first.old.checked_add(run.count as u64) == Some(pair.old)
+        && run.first.new.checked_add(run.count as u64) == Some(pair.new)
 }
 
 /// A pair of a run, counted from 0.
@@ -44,7 +44,7 @@ pub fn copy_of(run: Run, old_chunk: Chunk, found: Option<Chunk>) -> Option<Chunk
     ensures { result ≡ or_else (place_of (pairs_in run) old_chunk) found }
 {
     match old_chunk.checked_sub(run.first.old) {
-        Some(after) if after < run.count => Some(run.first.new + after),
+        Some(after) if after < run.count as u64 => Some(run.first.new + after),
         _ => found,
     }
 }

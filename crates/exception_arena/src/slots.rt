@@ -9,15 +9,15 @@ use crate::run::{goes_on, pair_in};
 use sector::Pair;
 
 /// The node of the last run.
-pub fn last_of(slots: &[usize]) -> usize
+pub fn last_of(slots: &[u32]) -> usize
     requires { 0 < length slots.now }
     ensures { slots.now ≡ take (length slots.now - 1) slots.now ++ result ∷ [] }
 {
-    slots[slots.len() - 1]
+    slots[slots.len() - 1] as usize
 }
 
 /// The node of the last run, where a pair goes on it.
-pub fn run_before(nodes: &[Node], slots: &[usize], pair: Pair) -> Option<usize>
+pub fn run_before(nodes: &[Node], slots: &[u32], pair: Pair) -> Option<usize>
     requires { (i : ℕ) → 0 < count_of i slots.now → i < length nodes.now }
     ensures last { IfSome result (λ place. slots.now ≡ take (length slots.now - 1) slots.now ++ place ∷ []) }
     ensures goes_on { IfSome result (λ place. GoesOn (run_at nodes.now place) pair) }
@@ -34,7 +34,7 @@ pub fn run_before(nodes: &[Node], slots: &[usize], pair: Pair) -> Option<usize>
 }
 
 /// The pair in a slot, of so many: the runs are passed from the last one back.
-pub fn pair_at(nodes: &[Node], slots: &[usize], count: usize, slot: usize) -> Pair
+pub fn pair_at(nodes: &[Node], slots: &[u32], count: usize, slot: usize) -> Pair
     requires inside { (i : ℕ) → 0 < count_of i slots.now → i < length nodes.now }
     requires runs { (i : ℕ) → 0 < count_of i slots.now → IsRun (run_at nodes.now i) }
     requires count { length (pairs_on nodes.now slots.now) ≡ count }
@@ -43,8 +43,8 @@ pub fn pair_at(nodes: &[Node], slots: &[usize], count: usize, slot: usize) -> Pa
 {
     let mut end = count as u64;
     for passed in 0..slots.len() {
-        let run = read(nodes, slots[slots.len() - 1 - passed]).run;
-        end -= run.count;
+        let run = read(nodes, slots[slots.len() - 1 - passed] as usize).run;
+        end -= run.count as u64;
         if end <= slot as u64 {
             return pair_in(run, slot as u64 - end);
         }

@@ -1,5 +1,5 @@
 // The free list: the nodes that no pair holds.
-ghost use Rattle.std.specs.Prelude.{◌≡◌, ◌≢◌, ℕ, ◌<◌, ◌≤◌, length, drop, vec_capacity};
+ghost use Rattle.std.specs.Prelude.{◌≡◌, ◌≢◌, ℕ, ◌<◌, ◌≤◌, ◌^◌, length, drop, vec_capacity};
 ghost use Rattle.exception_arena.specs.Links.{node_at, led, list_from, Leads, count_of};
 ghost use Rattle.exception_arena.specs.Arenas.{IsTaken};
 ghost use Rattle.exception_arena.specs.declared.node.Link.TheVariants.{Nowhere, To};
@@ -29,7 +29,8 @@ pub fn take_node(nodes: &mut Vec<Node>, free: &mut Link, run: Run) -> usize
             nodes.push_reserved(node);
             nodes.len() - 1
         }
-        Link::To(place) => {
+        Link::To(at) => {
+            let place = at as usize;
             *free = read(nodes.as_slice(), place).next;
             nodes[place] = node;
             place
@@ -39,11 +40,12 @@ pub fn take_node(nodes: &mut Vec<Node>, free: &mut Link, run: Run) -> usize
 
 /// Puts a node that stands on no other list at the front of the free list.
 pub fn put_back(nodes: &mut Vec<Node>, free: &mut Link, place: usize)
-    requires { place < length nodes.old.items }
+    requires inside { place < length nodes.old.items }
+    requires small { length nodes.old.items ≤ 2 ^ 32 }
     ensures nodes { nodes.new.items ≡ led nodes.old.items place free.old }
     ensures free { free.new ≡ To place }
     ensures capacity { vec_capacity nodes.new ≡ vec_capacity nodes.old }
 {
     lead(nodes, place, *free);
-    *free = Link::To(place);
+    *free = Link::To(place as u32);
 }

@@ -1,5 +1,5 @@
 -- A merge's writes and reads of areas.
-use Rattle.std.proofs.Common.{◌≡◌, ◌⊎◌, inl, inr, ℕ, zero, ◌+◌, ◌*◌, ◌-◌, ◌/◌, ◌<◌, ◌≤◌, List, [], ◌++◌, length, take, get_or, arith, ap, ◌∙◌, sym, subst, Bool, false, replicate, length-append}
+use Rattle.std.proofs.Common.{◌≡◌, ◌⊎◌, inl, inr, ℕ, zero, ◌+◌, ◌*◌, ◌-◌, ◌/◌, ◌<◌, ◌≤◌, List, [], ◌++◌, length, take, drop, get_or, arith, ap, ◌∙◌, sym, subst, Bool, false, replicate, length-append}
 use Rattle.std.proofs.lemmas.Bool.{cases_lt, false≢true, true≢false}
 use Rattle.std.proofs.lemmas.List.{get_or-take, length-take-le, length-replicate, get_or_append_left}
 use Rattle.sector.specs.Bytes.{with_part, with_sectors}
@@ -18,7 +18,7 @@ use Rattle.store.proofs.Heads.{area_past, head_kept}
 use Rattle.store.proofs.Areas.{slot_listed, chunk-written, chunk_only}
 use Rattle.store.proofs.Given.{given_dropped}
 use Rattle.store.proofs.Loads.{areas_rise}
-use Rattle.store.proofs.Parts.{part-through}
+use Rattle.store.proofs.Parts.{part-through, part-back}
 
 -- an area without the pairs of so many slots, from one on
 pub record IsCut (area : List ℕ) (slot count : ℕ) (x : List ℕ) : Type 0 where
@@ -69,6 +69,14 @@ stored_less count n ps s area x old new is stored cut some le ready whole writte
       tail = λ e. (let no : Nothing ≡ Tail = sym ready ∙ e in absurd (cc));
       next = λ z. only.rest _ (places_apart s.chunk (s.current + 1) s.current (omega arith)) ∙ stored.next z;
     }
+
+-- slots of an area that were kept in another before they were cleared are put back
+pub cut-back : (slot count : ℕ) (area x spare kept back : List ℕ) → x ≡ zero_slots area slot count → 16 * (slot + count) ≤ length area → length spare ≡ length area → kept ≡ with_part spare (16 * slot) (take (16 * count) (drop (16 * slot) area)) → back ≡ with_part x (16 * slot) (take (16 * count) (drop (16 * slot) kept)) → back ≡ area
+cut-back slot count area x spare kept back cut fits same keeps backs =
+    backs
+    ∙ ap (λ y. with_part y (16 * slot) (take (16 * count) (drop (16 * slot) kept))) cut
+    ∙ ap (λ y. with_part (zero_slots area slot count) (16 * slot) (take (16 * count) (drop (16 * slot) y))) keeps
+    ∙ part-back area spare (replicate (16 * count) 0) (16 * slot) (16 * count) (length-replicate (16 * count) zero) (omega arith) same
 
 -- the store's bytes after an area was written without some pairs
 pub cut-written : (size chunk n slot count : ℕ) (area x old : List ℕ) → IsCut area slot count x → chunk_at chunk old n ≡ area → length old ≡ 512 * size → chunk * (n + 1) ≤ size → slot + count ≤ 32 * chunk → with_sectors old (chunk * n) x ≡ with_part old (512 * (chunk * n) + 16 * slot) (replicate (16 * count) 0)

@@ -137,18 +137,9 @@ impl<B: Block> Store<B> {
     }
 }
 
-/// Takes over the bytes of an area that is as long.
-pub fn copy_area(area: &mut Area, from: &Area)
-    requires { area.old.chunk ≡ from.now.chunk }
-    ensures chunk { area.new.chunk ≡ area.old.chunk }
-    ensures bytes { area.new.bytes.items ≡ from.now.bytes.items }
-{
-    area.bytes.copy_from_slice(from.bytes.as_slice());
-}
-
 /// Takes over so many slots, from one on, of an area that is as long. All their bytes are taken: those of an empty slot
 /// need not be zeros.
-fn copy_slots(area: &mut Area, from: &Area, slot: u32, count: u32)
+pub fn copy_slots(area: &mut Area, from: &Area, slot: u32, count: u32)
     requires chunk { area.old.chunk ≡ from.now.chunk }
     requires fits { slot + count ≤ 32 * area.old.chunk }
     ensures chunk { area.new.chunk ≡ area.old.chunk }

@@ -45,6 +45,7 @@ impl<B: Block> Store<B> {
 
     /// Starts the copy of a chunk of the origin that has none: its pair takes the next place. `None` where that place is
     /// not wholly inside the store, and then nothing changed.
+    #[inline(always)]
     pub fn start(&mut self, old: Chunk) -> Option<Begun>
         requires copying { self.old.state.copying ≡ true }
         requires reserved { 0 < reserved self.old.exceptions }

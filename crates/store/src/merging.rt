@@ -13,16 +13,16 @@ ghost use Rattle.stop_laws.specs.Firm.{AddsNow};
 
 use crate::Store;
 use crate::chunks::{read_area, write_whole};
-use crate::committing::copy_area;
+use crate::committing::copy_slots;
 use device::{Block, Io};
 use exception_arena::{Exceptions, remove_last};
 use sector::Chunk;
-use std::mem::swap;
 
 impl<B: Block> Store<B> {
     /// Takes the last pairs away, so many of the current area, whose old chunks fall by one from `old`, that of the last
     /// pair: their slots are zeroed on the store. From then on no copy starts, and the status counts the places up to the
-    /// pairs that are left.
+    /// pairs that are left. The slots are zeroed in the area in memory before it is written, and where that fails they are
+    /// put back as they were.
     pub fn merge_commit(&mut self, old: Chunk, count: u32) -> Result<(), Io>
         requires ready { self.old.state.left ≡ Nothing }
         requires idle { length (pending self.old.exceptions) ≡ 0 }
@@ -46,24 +46,26 @@ impl<B: Block> Store<B> {
     {
         let place = self.state.current * (32 * self.state.chunk as u64 + 1) + 1;
         let slot = self.state.filled - count;
-        copy_area(&mut self.spare, &self.area);
-        self.spare.clear(slot, count);
+        copy_slots(&mut self.spare, &self.area, slot, count);
+        self.area.clear(slot, count);
         match write_whole(
             &mut self.device,
             self.state.chunk,
             place,
-            self.spare.encode(),
+            self.area.encode(),
         ) {
             Ok(()) => {
                 remove_last(&mut self.exceptions, old, count as usize);
-                swap(&mut self.area, &mut self.spare);
                 self.places.after_merge(self.state.current, slot);
                 self.state.filled = slot;
                 self.state.sure = self.exceptions.len() as u64;
                 self.state.copying = false;
                 Ok(())
             }
-            Err(io) => Err(io),
+            Err(io) => {
+                copy_slots(&mut self.area, &self.spare, slot, count);
+                Err(io)
+            }
         }
     }
 

@@ -25,7 +25,7 @@ pub struct Store<B: Block> {
     /// The current area.
     pub area: Area,
     /// A chunk of room, in which the next text of a chunk is put together, or slots of the area are kept while a commit
-    /// writes over them.
+    /// writes over them or a merge clears them.
     pub spare: Area,
     /// The places that are left.
     pub places: Alloc,

@@ -9,8 +9,8 @@ use Rattle.exception_arena.proofs.arena.ArenaExceptions.abandon.Goals as goal
 pub take_out-requires-clause-here : goal.take_out-requires-clause-here
 take_out-requires-clause-here c = (under_some c.self.inside.nodes.items c.args.id (list_from c.self.inside.nodes.items c.self.inside.queue.first) (rw (← c.self.view_is) at c.requires)).0
 
-pub put_back-requires : goal.put_back-requires
-put_back-requires c =
+pub put_back-requires-clause-inside : goal.put_back-requires-clause-inside
+put_back-requires-clause-inside c =
     let some = (under_some c.self.inside.nodes.items c.args.id (list_from c.self.inside.nodes.items c.self.inside.queue.first) (rw (← c.self.view_is) at c.requires)).0 in
     omega (arith, c.take_out.ensures.len, c.self.invariant.arena.queued.inside c.args.id some)
 

@@ -2,7 +2,7 @@ use Rattle.std.proofs.Common.{◌∙◌, ◌-◌, ◌++◌, ◌∷◌, [], ap, r
 use Rattle.exception_arena.specs.Kept.{Kept}
 use Rattle.exception_arena.specs.Links.{list_from}
 use Rattle.exception_arena.proofs.Queues.{under_none}
-use Rattle.exception_arena.proofs.Arenas.{begun_ready, begun_sound, same_memory}
+use Rattle.exception_arena.proofs.Arenas.{begun_ready, begun_sound, taken_small, same_memory}
 use Rattle.exception_arena.proofs.Runs.{run_single}
 use Rattle.exception_arena.proofs.arena.ArenaExceptions.begin.Goals as goal
 
@@ -15,6 +15,11 @@ pub put_last-requires-clause-inside : goal.put_last-requires-clause-inside
 put_last-requires-clause-inside c =
     let r = begun_ready c.self.inside.nodes.items c.take_node-place.new.nodes.items c.self.inside.heads.items c.self.inside.slots.items c.self.inside.free c.self.inside.queue _ _ c.take_node-place.result c.self.invariant.arena c.take_node-place.ensures.taken c.take_node-place.ensures.others in
     r.1.1.1
+
+pub put_last-requires-clause-small : goal.put_last-requires-clause-small
+put_last-requires-clause-small c =
+    let some = rw (← c.self.view_is) at c.requires in
+    taken_small c.self.inside.nodes.items c.take_node-place.new.nodes.items c.self.inside.heads.items c.self.inside.slots.items c.self.inside.free c.self.inside.queue c.self.inside.count c.self.inside.reserved _ _ c.take_node-place.result c.self.invariant c.take_node-place.ensures.taken (omega arith)
 
 pub put_last-requires-clause-off : goal.put_last-requires-clause-off
 put_last-requires-clause-off c =

@@ -24,6 +24,11 @@ hang-requires-clause-inside c =
     let some = (under_some c.self.inside.nodes.items c.args.id (list_from c.self.inside.nodes.items c.self.inside.queue.first) (rw (← c.self.view_is) at c.requires)).0 in
     omega (arith, c.take_out.ensures.len, c.self.invariant.arena.queued.inside c.args.id some)
 
+pub overflow_cast-place : goal.overflow_cast-place
+overflow_cast-place c =
+    let some = (under_some c.self.inside.nodes.items c.args.id (list_from c.self.inside.nodes.items c.self.inside.queue.first) (rw (← c.self.view_is) at c.requires)).0 in
+    record { fits = omega (arith, c.self.invariant.small, c.self.invariant.arena.queued.inside c.args.id some) }
+
 pub lengthen-requires-clause-room : goal.lengthen-requires-clause-room
 lengthen-requires-clause-room c =
     let some = (under_some c.self.inside.nodes.items c.args.id (list_from c.self.inside.nodes.items c.self.inside.queue.first) (rw (← c.self.view_is) at c.requires)).0 in

@@ -31,17 +31,17 @@ invariant_of-self c =
 pub take_down-requires-clause-inside : goal.take_down-requires-clause-inside
 take_down-requires-clause-inside c = rw c.as_slice-3.ensures.value (slot_inside _ _ _ c.self.inside.slots.items c.self.invariant.arena.one _ (ends_on c.self.inside.slots.items _ _ c.in-Some.ensures.items))
 
-pub put_back-requires : goal.put_back-requires
-put_back-requires c = slot_inside _ _ _ c.self.inside.slots.items c.self.invariant.arena.one _ (ends_on c.self.inside.slots.items _ _ c.in-Some.ensures.items)
+pub put_back-requires-clause-inside : goal.put_back-requires-clause-inside
+put_back-requires-clause-inside c = slot_inside _ _ _ c.self.inside.slots.items c.self.invariant.arena.one _ (ends_on c.self.inside.slots.items _ _ c.in-Some.ensures.items)
 
 pub invariant_of-self-2 : goal.invariant_of-self-2
 invariant_of-self-2 c =
     let ends = rw c.as_slice.ensures.value at c.last_of-last.ensures in
     let r = rw c.as_slice-2.ensures.value at c.read.ensures in
     let h = rw c.as_slice-3.ensures.value at c.take_down.ensures.heads in
-    let same = same_last c.self.inside.slots.items _ _ c.in-Some.place c.last_of-last.result c.in-Some.ensures.items ends in
-    let one : (run_at c.self.inside.nodes.items c.in-Some.place).count ≤ 1 = rw same (omega (arith, ap (λ (n : Node). n.run.count) r, c.if-read-gt1.false)) in
-    rw c.put_back.ensures.free (removed_sound c.self.inside.nodes.items _ c.self.inside.heads.items _ c.self.inside.slots.items _ c.self.inside.free c.self.inside.queue c.self.inside.count _ _ _ _ _ c.in-Some.place c.self.invariant c.in-Some.ensures.items one c.put_back.ensures.nodes h c.put_back.ensures.capacity c.in-Some.ensures.capacity).0
+    let same = same_last c.self.inside.slots.items _ _ c.in-Some.at c.last_of-last.result c.in-Some.ensures.items ends in
+    let one : (run_at c.self.inside.nodes.items c.in-Some.at).count ≤ 1 = rw same (omega (arith, ap (λ (n : Node). n.run.count) r, c.if-read-gt1.false)) in
+    rw c.put_back.ensures.free (removed_sound c.self.inside.nodes.items _ c.self.inside.heads.items _ c.self.inside.slots.items _ c.self.inside.free c.self.inside.queue c.self.inside.count _ _ _ _ _ c.in-Some.at c.self.invariant c.in-Some.ensures.items one c.put_back.ensures.nodes h c.put_back.ensures.capacity c.in-Some.ensures.capacity).0
 
 pub returns-then-read-gt1 : goal.returns-then-read-gt1
 returns-then-read-gt1 c =
@@ -61,9 +61,9 @@ returns c =
     let ends = rw c.as_slice.ensures.value at c.last_of-last.ensures in
     let r = rw c.as_slice-2.ensures.value at c.read.ensures in
     let h = rw c.as_slice-3.ensures.value at c.take_down.ensures.heads in
-    let same = same_last c.self.inside.slots.items _ _ c.in-Some.place c.last_of-last.result c.in-Some.ensures.items ends in
-    let one : (run_at c.self.inside.nodes.items c.in-Some.place).count ≤ 1 = rw same (omega (arith, ap (λ (n : Node). n.run.count) r, c.if-read-gt1.false)) in
-    let s = (removed_sound c.self.inside.nodes.items _ c.self.inside.heads.items _ c.self.inside.slots.items _ c.self.inside.free c.self.inside.queue c.self.inside.count _ _ _ _ _ c.in-Some.place c.self.invariant c.in-Some.ensures.items one c.put_back.ensures.nodes h c.put_back.ensures.capacity c.in-Some.ensures.capacity).1 in
+    let same = same_last c.self.inside.slots.items _ _ c.in-Some.at c.last_of-last.result c.in-Some.ensures.items ends in
+    let one : (run_at c.self.inside.nodes.items c.in-Some.at).count ≤ 1 = rw same (omega (arith, ap (λ (n : Node). n.run.count) r, c.if-read-gt1.false)) in
+    let s = (removed_sound c.self.inside.nodes.items _ c.self.inside.heads.items _ c.self.inside.slots.items _ c.self.inside.free c.self.inside.queue c.self.inside.count _ _ _ _ _ c.in-Some.at c.self.invariant c.in-Some.ensures.items one c.put_back.ensures.nodes h c.put_back.ensures.capacity c.in-Some.ensures.capacity).1 in
     record {
       committed = s.0 ∙ ap (λ (k : Kept). take (length k.committed - 1) k.committed) c.self.view_is;
       pending = s.1 ∙ ap (λ (k : Kept). k.pending) c.self.view_is;
