@@ -9,3 +9,5 @@ pub mod Using
 pub mod Unkept
 pub mod NextStarts
 pub mod Sought
+pub mod Shifts
+pub mod Drained

@@ -20,7 +20,7 @@ fn is_saved<B: Block>(snap: &Snapshot<B>, first: u64) -> bool
     requires { 0 < snap.now.state.chunk }
     ensures { result ≡ is_saved_in first (books_of B.contents B.layers snap.now) }
 {
-    !snap.is_live() || snap.is_published(first / snap.chunk() as u64)
+    !snap.is_live() || snap.is_published(own_chunk(snap, first))
 }
 
 /// Whether every live snapshot has published the chunk of this sector of the origin. The last are asked first: their copies
@@ -183,7 +183,7 @@ fn placed_for<B: Block>(snap: &Snapshot<B>, flight: &Flight) -> Route
     if !waits_for(snap.number(), kind, flight.route) {
         return flight.route;
     }
-    let place = published_place(snap, flight.request.range.first / snap.chunk() as u64);
+    let place = published_place(snap, own_chunk(snap, flight.request.range.first));
     placed_route(snap.number(), kind, flight.route, place)
 }
 

@@ -1,6 +1,6 @@
 // Which copies a write at a sector of the origin needs, each snapshot of its own chunk: the room for them is taken, and then
 // they are started.
-ghost use Rattle.std.specs.Prelude.{◌≡◌, ◌==◌, ◌&&◌, ◌+◌, ◌*◌, ◌/◌, ◌^◌, ◌<◌, ◌≤◌, IfErr, IfOk, count_by, length, map, sum_by};
+ghost use Rattle.std.specs.Prelude.{◌≡◌, ◌==◌, ◌&&◌, ◌+◌, ◌*◌, ◌/◌, ◌^◌, ◌<◌, ◌≤◌, [], IfErr, IfOk, OnErr, OnOk, count_by, length, map, sum_by};
 ghost use Rattle.std.specs.List.{All};
 ghost use Rattle.sector.specs.declared.refusal.Refusal.TheVariants.{NoMemory};
 ghost use Rattle.snapshots.specs.Numbers.{count_in};
@@ -13,11 +13,25 @@ use sector::{Chunk, Refusal};
 use snapshot::Snapshot;
 use std::alloc::Global;
 
+/// How many whole chunks so many sectors are. Chunks are powers of two: a shift is several times as fast as a division.
+#[inline(always)]
+pub(crate) fn whole_chunks(sectors: u64, chunk: u32) -> u64
+    requires { 0 < chunk }
+    ensures { result ≡ sectors / chunk }
+{
+    if chunk.is_power_of_two() {
+        sectors >> chunk.trailing_zeros()
+    } else {
+        sectors / chunk as u64
+    }
+}
+
 /// A snapshot's chunk of a sector of the origin.
+#[inline(always)]
 pub fn own_chunk<B: Block>(snap: &Snapshot<B>, first: u64) -> Chunk
     ensures { result ≡ first / snap.now.state.chunk }
 {
-    first / snap.chunk() as u64
+    whole_chunks(first, snap.chunk())
 }
 
 /// Whether a snapshot is live, and has neither a chunk nor a copy of it under way.
@@ -57,28 +71,34 @@ pub fn take_room<B: Block>(
     snap.take_buffer(alloc, 512 * sectors as usize)
 }
 
-/// Makes the room for the copies of the chunks of a sector, in all snapshots: a buffer for each, in their order.
-/// `NoMemory` where room is refused; the snapshots before may then have more room, and nothing else changed.
+/// Makes the room for the copies of the chunks of a sector, in all snapshots: a buffer for each, in their order, and nothing
+/// else is left in the list. `NoMemory` where room is refused, and nothing else: the list is then empty, and the snapshots before
+/// may have more room.
 pub fn take_rooms<B: Block>(
     alloc: Global,
     snaps: &mut [Snapshot<B>],
     first: u64,
-) -> Result<Vec<Vec<u8>>, Refusal>
+    rooms: &mut Vec<Vec<u8>>,
+) -> Result<(), Refusal>
     ensures same { map unroomed snaps.new ≡ map unroomed snaps.old }
-    ensures ok { IfOk result (λ rooms. HaveRooms first snaps.new rooms.items) }
+    ensures ok { OnOk result (HaveRooms first snaps.new rooms.new.items) }
     ensures refusal { IfErr result (λ e. e ≡ NoMemory) }
+    ensures emptied { OnErr result (rooms.new.items ≡ []) }
 {
-    let Ok(mut rooms) = Vec::with_capacity(alloc, snaps.len()) else {
+    rooms.clear();
+    let Ok(()) = rooms.reserve(snaps.len()) else {
         return Err(Refusal::NoMemory);
     };
     for k in 0..snaps.len() {
-        let room = match take_room(alloc, &mut snaps[k], first) {
-            Ok(room) => room,
-            Err(refusal) => return Err(refusal),
-        };
-        rooms.push_reserved(room);
+        match take_room(alloc, &mut snaps[k], first) {
+            Ok(room) => rooms.push_reserved(room),
+            Err(refusal) => {
+                rooms.clear();
+                return Err(refusal);
+            }
+        }
     }
-    Ok(rooms)
+    Ok(())
 }
 
 /// Starts the copy of a snapshot's chunk of a sector, where it lacks it, under the next number, and tells how many numbers
@@ -113,22 +133,22 @@ pub fn save_in<B: Block>(
 }
 
 /// Starts the copies of the chunks of a sector in all snapshots that lack theirs, in their order, and tells how many numbers
-/// were given then.
+/// were given then. The rooms are handed over, and the list is left empty.
 pub fn save_in_all<B: Block>(
     snaps: &mut [Snapshot<B>],
     flights: &mut [Flight],
     copies: u64,
     first: u64,
-    rooms: Vec<Vec<u8>>,
+    rooms: &mut Vec<Vec<u8>>,
 ) -> u64
     requires begins { All (λ s. first < s.state.origin) snaps.old }
-    requires rooms { HaveRooms first snaps.old rooms.items }
+    requires rooms { HaveRooms first snaps.old rooms.old.items }
     requires few { copies + length snaps.old < 2 ^ 64 }
     ensures saved { AreSavedIn B.contents B.layers (own_of first) snaps.old snaps.new copies result flights.old flights.new }
 {
     let mut given = copies;
     let mut place = 0;
-    for room in rooms {
+    for room in rooms.drain(..) {
         given = save_in(&mut snaps[place], flights, given, first, room);
         place += 1;
     }

@@ -1,45 +1,56 @@
 -- A request that waits for nothing is answered at once: the volume that it would be in flight in is whole, its Issue is due
 -- first there, and the operation that is done is that Issue.
-use Rattle.std.proofs.Common.{◌≡◌, ◌⊎◌, ℕ, ◌+◌, ◌-◌, ◌*◌, ◌<◌, ◌≤◌, Bool, true, false, List, [], ◌∷◌, ◌++◌, Option, Some, None, length, get_or, map, refl, sym, ◌∙◌, ap, subst, nat_eq}
-use Rattle.std.specs.Prelude.{Ok, if◌then◌else◌}
+use Rattle.std.proofs.Common.{◌≡◌, ◌⊎◌, ℕ, ◌+◌, ◌-◌, ◌*◌, ◌%◌, ◌<◌, ◌≤◌, true, false, List, [], ◌∷◌, ◌++◌, Some, None, length, get_or, set, map, refl, sym, ◌∙◌, ap, subst, nat_eq}
+use Rattle.std.specs.Prelude.{Ok, ◌==◌, ◌&&◌, not}
 use Rattle.std.specs.List.{list_all, position, remove}
 use Rattle.std.proofs.lemmas.Bool.{eq-eqb}
+use Rattle.std.proofs.Math.Seq.{map-set_same}
 use Rattle.sector.specs.Bytes.{sector_at, sectors_at, with_sectors, next_count}
 use Rattle.device.specs.Layers.{Layer, is_loud}
 use Rattle.device.specs.declared.operation.Operation.TheVariants.{Reads, Writes}
 use Rattle.plain.specs.declared.event.Event.TheVariants.{Issue}
 use Rattle.plain.specs.declared.event.Outcome.TheVariants.{Reply as Replied}
+use Rattle.plain.specs.declared.request.Dev.TheVariants.{Snap}
 use Rattle.plain.specs.declared.request.Failure.TheVariants.{Io}
+use Rattle.plain.specs.declared.request.Op.{Op}
 use Rattle.plain.specs.declared.request.Op.TheVariants.{Read, Write}
 use Rattle.plain.specs.declared.request.Reply.{Reply}
 use Rattle.plain.specs.declared.request.Reply.TheVariants.{Data, Written as IsWritten, Refused as IsRefused}
-use Rattle.in_flight.specs.Due.{first_by, is_issuable, is_routed, least, number_of_flight, number_of_mark}
-use Rattle.in_flight.specs.Kinds.{in_flight}
+use Rattle.in_flight.specs.Due.{is_routed}
+use Rattle.in_flight.specs.Kinds.{in_flight, room_at}
 use Rattle.in_flight.specs.declared.flights.Flight.{Flight}
-use Rattle.in_flight.specs.declared.flights.Route.TheVariants.{Origin}
+use Rattle.in_flight.specs.declared.flights.Route.TheVariants.{Origin, Store}
 use Rattle.stop_laws.proofs.Firm.{adds_none}
 use Rattle.store.specs.Operations.{IsOneOperation}
 use Rattle.snapshots.proofs.Finds.{position_within}
 use Rattle.volume_laws.specs.Held.{RequestHolds}
 use Rattle.volume_laws.specs.Steps.{WritesDisk}
+use Rattle.snapshot.specs.Kept.{Kept}
+use Rattle.volume.specs.AtDisk.{IsReadOf}
 use Rattle.volume.specs.Closing.{ClosesBy}
 use Rattle.volume.specs.DoesStep.{DoesStep}
 use Rattle.volume.specs.Exact.{IsExact}
 use Rattle.volume.specs.Lasting.{IsKept, IsLasting}
+use Rattle.volume.specs.Leaving.{has_group_in, is_done_of, is_quiet_of}
 use Rattle.volume.specs.Asking.{is_finished_in}
 use Rattle.volume.specs.Stored.{is_finished_on}
 use Rattle.volume.specs.Stopping.{given_by}
 use Rattle.volume.specs.Submitting.{entered_of}
 use Rattle.volume.specs.Volumed.{Volumed, dues_of, is_due_by, is_due_of, merge_due}
 use Rattle.volume.specs.Whole.{IsWhole}
+use Rattle.volume.proofs.AtDisk.{op_of_read}
+use Rattle.volume.proofs.Changing.{changed}
 use Rattle.volume.proofs.DiskIssues.{disk_read, disk_read_io, disk_write, disk_write_io}
-use Rattle.volume.proofs.ExactIssues.{origin_read_exact, origin_write_exact}
+use Rattle.volume.proofs.ExactIssues.{origin_read_exact, origin_write_exact, store_read_exact}
 use Rattle.volume.proofs.Good.{IsGood}
 use Rattle.volume.proofs.IssueEvents.{request_at}
 use Rattle.volume.proofs.Issued.{issued_at}
-use Rattle.volume.proofs.LastBoth.{GoesBoth, disk_both, met_both, volume_stops}
-use Rattle.volume.proofs.LastMoves.{met_moves}
+use Rattle.volume.proofs.LastBoth.{GoesBoth, beside_both, disk_both, met_both, volume_stops}
+use Rattle.volume.proofs.LastMoves.{device_moves, met_moves}
 use Rattle.volume.proofs.LastOne.{IsSameDevice}
+use Rattle.volume.proofs.Leaves.{found_place}
+use Rattle.volume.proofs.Named.{dev_of_read, found_within}
+use Rattle.volume.proofs.StoreIssues.{read_part, store_read, store_read_io}
 use Rattle.volume.proofs.Stepped.{stepped_by}
 
 -- the request alone is found first, and nothing is in flight without it
@@ -142,3 +153,60 @@ module _ {B : Type 0} (holds : B → ℕ → List ℕ → Type 0) (contents : B 
           (disk_write_io contents layers size faults done mid h f.number 0 f found was to o' same_size same_loud bytes op counted same faulty)
           (origin_write_exact contents layers size mid h f.number 0 f found was false (faults u.origin) (faults o') (done u.origin) (done o') (IsRefused Io) to o' bytes op one (λ lo. same) refl)
           (met stop same) tt
+
+  -- at its place on the store of the snapshot that it reads
+  module _ (at k : ℕ) (s s' : Kept B) (to : f.route ≡ Store at) (read : IsReadOf f.request k (Some at) u.snaps) (is : s ≡ get_or u.snaps k s) where
+    within : k < length u.snaps
+    within = found_within read.id u.snaps k (sym read.found)
+
+    op : f.request.op ≡ Read
+    op = op_of_read f.request read.id read.kind
+
+    dev : f.request.dev ≡ Snap s.number
+    dev = dev_of_read f.request read.id read.kind ∙ ap Snap (sym (ap (λ (x : Kept B). x.number) is ∙ (found_place read.id u.snaps k s (sym read.found)).1))
+
+    -- what is asked of the read
+    pub part_at_once : f.request.range.first % s.state.chunk + f.request.range.count ≤ s.state.chunk
+    part_at_once = read_part contents layers size faults done mid h f.number 0 f found was at k s to within is dev op
+
+    pub room_at_once : length f.room.items ≡ 512 * f.request.range.count
+    room_at_once = asked_alone.room ∙ ap (λ (o : Op). room_at o f.request.range.count) op
+
+    module _ (fields : s' ≡ record s { device = s'.device }) (store : IsSameDevice holds contents layers size s.device s'.device) (counted : done s'.device ≡ next_count (done s.device)) where
+      abbrev into : List Flight → Volumed B
+      into fs = changed mid mid.origin k s' fs
+
+      -- nothing is in flight then, as before
+      both : GoesBoth holds contents layers size whole here (given_by (Issue f.number) (map in_flight mid.flights)) mid (into u.flights)
+      both = beside_both holds contents layers size whole here mid h lasts (given_by (Issue f.number) (map in_flight mid.flights)) (into u.flights)
+          (device_moves holds contents layers size whole here mid h lasts.snaps (given_by (Issue f.number) (map in_flight mid.flights)) k s s' u.flights within is fields store) refl refl
+
+      at_store : (reply : Reply) → IsGood contents layers size faults done (Issue f.number) (Replied f.number reply) mid (into (remove mid.flights 0)) → IsExact contents layers (Issue f.number) (Replied f.number reply) mid (into (remove mid.flights 0))
+          → ClosesBy holds contents layers size (Issue f.number) (Replied f.number reply) (map in_flight mid.flights) (into u.flights) → IsAnsweredBy holds contents layers size faults done f reply mid (into u.flights)
+      at_store reply good exact closes = answered_by reply (into u.flights) refl
+          (subst (λ fs. IsGood contents layers size faults done (Issue f.number) (Replied f.number reply) mid (into fs)) (alone_gone u.flights f none) good)
+          (subst (λ fs. IsExact contents layers (Issue f.number) (Replied f.number reply) mid (into fs)) (alone_gone u.flights f none) exact) both closes
+
+      pub store_read_at_once : (bytes : List ℕ) → length bytes ≡ 512 * f.request.range.count → bytes ≡ sectors_at (contents s.device) (s.state.chunk * at + f.request.range.first % s.state.chunk) f.request.range.count → faults s'.device ≡ faults s.device
+          → IsOneOperation (Reads (s.state.chunk * at + f.request.range.first % s.state.chunk) f.request.range.count) true (layers s.device) (layers s'.device) (faults s.device) (faults s'.device) (done s.device) (done s'.device)
+          → IsAnsweredBy holds contents layers size faults done f (Data bytes) mid (into u.flights)
+      store_read_at_once bytes len got faulty one = at_store (Data bytes)
+          (store_read contents layers size faults done mid h f.number 0 f found was at k s to within is dev s' s'.device fields store.loud store.sectors counted op bytes len store.bytes got faulty)
+          (store_read_exact contents layers size mid h f.number 0 f found was true (faults s.device) (faults s'.device) (done s.device) (done s'.device) (Data bytes) at s.number k to dev s s' within is refl fields op one store.bytes (ap Data got)) tt
+
+      pub store_read_io_at_once : faults s'.device ≡ next_count (faults s.device)
+          → IsOneOperation (Reads (s.state.chunk * at + f.request.range.first % s.state.chunk) f.request.range.count) false (layers s.device) (layers s'.device) (faults s.device) (faults s'.device) (done s.device) (done s'.device)
+          → IsAnsweredBy holds contents layers size faults done f (IsRefused Io) mid (into u.flights)
+      store_read_io_at_once faulty one = at_store (IsRefused Io)
+          (store_read_io contents layers size faults done mid h f.number 0 f found was at k s to within is dev s' s'.device fields store.loud store.sectors counted op store.bytes faulty)
+          (store_read_exact contents layers size mid h f.number 0 f found was false (faults s.device) (faults s'.device) (done s.device) (done s'.device) (IsRefused Io) at s.number k to dev s s' within is refl fields op one store.bytes refl) tt
+
+-- a snapshot whose store was read is done as before
+all_done : {B : Type 0} (ss : List (Kept B)) → list_all is_done_of ss ≡ list_all (λ b. b) (map is_done_of ss)
+all_done [] = refl
+all_done (s ∷ ss) = ap (λ b. is_done_of s && b) (all_done ss)
+
+pub quiet_at_store : {B : Type 0} (u : Volumed B) (k : ℕ) (s s' : Kept B) → s ≡ get_or u.snaps k s → s' ≡ record s { device = s'.device } → is_quiet_of (record u { snaps = set u.snaps k s'; requests = u.requests + 1 }) ≡ is_quiet_of u
+quiet_at_store u k s s' is fields =
+    let same : map is_done_of (set u.snaps k s') ≡ map is_done_of u.snaps = map-set_same is_done_of u.snaps k s' s (ap is_done_of fields ∙ ap is_done_of is) in
+    ap (λ b. (length u.flights == 0) && (not (has_group_in u.merge) && b)) (all_done (set u.snaps k s') ∙ ap (list_all (λ b. b)) same ∙ sym (all_done u.snaps))

@@ -87,6 +87,7 @@ pub mod Removed
 pub mod Begun
 pub mod NextSaved
 pub mod OneNext
+pub mod OnlyMerging
 pub mod Filled
 pub mod NextFit
 pub mod MergeSaves

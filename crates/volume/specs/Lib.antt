@@ -33,6 +33,8 @@ pub mod DoesStep
 pub mod DoesSubmit
 pub mod DoesServe
 pub mod AtDisk
+pub mod OnlyMerging
+pub mod Ways
 pub mod DoesTick
 pub mod DoesMessage
 pub mod DoesAttach

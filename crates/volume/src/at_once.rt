@@ -1,22 +1,27 @@
 // A request that waits for nothing is answered at once, and is never in flight.
-ghost use Rattle.std.specs.Prelude.{◌≡◌, ◌≢◌, ◌*◌, ◌+◌, ◌^◌, ◌<◌, IfErr, List, None, Ok, [], length, true, ℕ};
+ghost use Rattle.std.specs.Prelude.{◌≡◌, ◌≢◌, ◌*◌, ◌+◌, ◌^◌, ◌<◌, IfErr, List, None, Ok, [], false, length, map, true, ℕ};
 ghost use Rattle.plain.specs.declared.event.Event.TheVariants.{Issue};
 ghost use Rattle.plain.specs.declared.event.Outcome.TheVariants.{Reply as Replied};
 ghost use Rattle.plain.specs.declared.request.Op.TheVariants.{Flush as IsFlush, Write};
 ghost use Rattle.in_flight.specs.declared.flights.Route.TheVariants.{Origin};
+ghost use Rattle.in_flight.specs.Kinds.{kind_of};
+ghost use Rattle.in_flight.specs.declared.flights.Kind.TheVariants.{OriginWrite};
+ghost use Rattle.volume_laws.specs.Published.{is_clear as is_clear_in};
+ghost use Rattle.snapshot.specs.Kept.{books_of as snap_books};
 ghost use Rattle.volume.specs.AtDisk.{GoesToDisk};
 ghost use Rattle.volume.specs.DoesServe.{DoesServe};
 ghost use Rattle.volume.specs.DoesStep.{DoesStep};
+ghost use Rattle.volume.specs.DoesSubmit.{DoesSubmit};
 ghost use Rattle.volume.specs.Leaving.{is_quiet_of};
 ghost use Rattle.volume.specs.Submitting.{IsRefusedAs, entered_of};
 ghost use Rattle.volume.specs.Whole.{IsWhole};
 
 use crate::Volume;
+use crate::ways::Way;
 use device::{Block, Io};
-use in_flight::{Flight, Kind, Route, request_kind};
+use in_flight::{Flight, Route};
 use plain::{Failure, Op, Reply, ReqId, Request};
 use sector::{Buf, Refusal};
-use snapshots::is_clear;
 use std::alloc::Global;
 
 /// What became of a request that was accepted.
@@ -30,38 +35,45 @@ pub enum Served {
 
 impl<B: Block> Volume<B> {
     /// Accepts a request, and answers it at once where it waits for nothing: where the volume is quiet and no merge is begun, a read
-    /// of the origin, and a write of it whose chunk each live snapshot has published. What is done then is just what `submit` and the
-    /// Issue do that is due first. Any other request is in flight afterwards. It is refused as by `submit`.
+    /// of the origin, a write of it whose chunk each live snapshot has published, and a read of a live snapshot. What is done then
+    /// is just what `submit` and the Issue do that is due first. Any other request is in flight afterwards. It is refused as by
+    /// `submit`.
     #[inline(always)]
     pub fn serve(&mut self, alloc: Global, request: Request) -> Result<Served, Refusal>
         requires bytes { (bytes : List ℕ) → request.op ≡ Write bytes → length bytes ≡ 512 * request.range.count }
         ensures does { DoesServe B.may_hold B.contents B.layers B.size B.fault_count B.done_count request result self.old self.new }
         ensures refused { IfErr result (λ refusal. IsRefusedAs B.contents B.layers B.size request refusal self.old self.new) }
     {
-        if self.goes_to_disk(&request) {
-            return self.serve_at_disk(alloc, request);
-        }
-        match self.submit(alloc, request) {
-            Ok(number) => Ok(Served::InFlight(number)),
-            Err(refusal) => Err(refusal),
+        match self.way_of(&request) {
+            Way::Disk => self.serve_at_disk(alloc, request),
+            Way::Store(k, at) => self.serve_at_store(alloc, request, k, at),
+            Way::Copies => match self.submit_waiting(alloc, request) {
+                Ok(number) => Ok(Served::InFlight(number)),
+                Err(refusal) => Err(refusal),
+            },
+            Way::Other => match self.submit(alloc, request) {
+                Ok(number) => Ok(Served::InFlight(number)),
+                Err(refusal) => Err(refusal),
+            },
         }
     }
 
-    /// Whether a request waits for nothing, and goes to the origin disk.
-    fn goes_to_disk(&self, request: &Request) -> bool
-        ensures quiet { result ≡ true → is_quiet_of self.now ≡ true }
-        ensures alone { result ≡ true → self.now.merge ≡ None }
-        ensures goes { result ≡ true → GoesToDisk B.contents B.layers request.now self.now.snaps }
+    /// Accepts a write of the origin that waits, where no merge is begun.
+    fn submit_waiting(&mut self, alloc: Global, request: Request) -> Result<ReqId, Refusal>
+        requires alone { self.old.merge ≡ None }
+        requires kind { kind_of request ≡ OriginWrite }
+        requires waits { is_clear_in (map (snap_books B.contents B.layers) self.old.snaps) request.range.first ≡ false }
+        requires bytes { (bytes : List ℕ) → request.op ≡ Write bytes → length bytes ≡ 512 * request.range.count }
+        ensures does { DoesSubmit B.contents B.layers B.size request result self.old self.new }
+        ensures refused { IfErr result (λ refusal. IsRefusedAs B.contents B.layers B.size request refusal self.old self.new) }
     {
-        if self.merge.is_some() || !self.is_quiet() {
-            return false;
+        // A look at a field: what the type keeps is known from here on.
+        let _ = &self.flights;
+        match self.submit_refused(&request) {
+            Some(refusal) => return Err(refusal),
+            None => {}
         }
-        match request_kind(request) {
-            Kind::OriginRead => true,
-            Kind::OriginWrite => is_clear(self.snaps.as_slice(), request.range.first),
-            Kind::OriginFlush => false,
-            Kind::SnapRead(_) | Kind::SnapWrite(_) | Kind::SnapFlush(_) => false,
-        }
+        self.save_and_enter(alloc, request)
     }
 
     /// Serves a request that waits for nothing, and goes to the origin disk.

@@ -27,6 +27,7 @@ impl<B: Block + Drop> Volume<B> {
             snaps: _,
             merge: _,
             flights: _,
+            rooms: _,
             requests: _,
             copies: _,
             attached: _,

@@ -20,6 +20,7 @@
 #![tactic(auto)]
 
 mod at_once;
+mod at_store;
 mod attach;
 mod calls;
 mod close;
@@ -44,6 +45,7 @@ mod stores;
 mod time;
 mod trace;
 mod volume;
+mod ways;
 
 pub use at_once::Served;
 pub use calls::{Call, Returned};

@@ -42,6 +42,7 @@ impl<B: Block> Volume<B> {
     /// Writes the chunk in the merge's buffer to the origin disk, where each other snapshot has published all of its chunks
     /// that this one touches, and starts the copies that the next chunk waits for, if one waits. Where the write fails, the
     /// merge stops, and held origin writes are routed again.
+    #[inline(always)]
     pub(crate) fn merge_write(&mut self) -> Result<Outcome, NotDue>
         ensures step { IfOk result (λ outcome. IsStepped B.contents B.layers B.size B.fault_count B.done_count MergeWrite outcome self.old self.new) }
         ensures exact { IfOk result (λ outcome. IsExact B.contents B.layers MergeWrite outcome self.old self.new) }

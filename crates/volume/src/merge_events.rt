@@ -46,6 +46,7 @@ impl<B: Block> Volume<B> {
 
     /// Reads the chunk of the last pair that waits from its place on the merging store into the buffer, where no write in
     /// flight goes to that place. Where that fails, the merge stops.
+    #[inline(always)]
     pub(crate) fn merge_read(&mut self) -> Result<Outcome, NotDue>
         ensures step { IfOk result (λ outcome. IsStepped B.contents B.layers B.size B.fault_count B.done_count MergeRead outcome self.old self.new) }
         ensures exact { IfOk result (λ outcome. IsExact B.contents B.layers MergeRead outcome self.old self.new) }
@@ -74,6 +75,7 @@ impl<B: Block> Volume<B> {
     }
 
     /// Flushes the origin disk, to which all chunks of the merge's group are copied. Where that fails, the merge stops.
+    #[inline(always)]
     pub(crate) fn merge_flush(&mut self) -> Result<Outcome, NotDue>
         ensures step { IfOk result (λ outcome. IsStepped B.contents B.layers B.size B.fault_count B.done_count MergeFlush outcome self.old self.new) }
         ensures exact { IfOk result (λ outcome. IsExact B.contents B.layers MergeFlush outcome self.old self.new) }
@@ -103,6 +105,7 @@ impl<B: Block> Volume<B> {
 
     /// Writes the area of the merging store without the slots of the group, all of whose chunks are copied, and the origin
     /// disk flushed. Where that fails, the merge stops.
+    #[inline(always)]
     pub(crate) fn merge_commit(&mut self) -> Result<Outcome, NotDue>
         ensures step { IfOk result (λ outcome. IsStepped B.contents B.layers B.size B.fault_count B.done_count MergeCommit outcome self.old self.new) }
         ensures exact { IfOk result (λ outcome. IsExact B.contents B.layers MergeCommit outcome self.old self.new) }
@@ -134,6 +137,7 @@ impl<B: Block> Volume<B> {
 
     /// Ends the group, whose slots are cleared, where no origin request in flight goes to a place of it, and routes held
     /// origin writes again.
+    #[inline(always)]
     pub(crate) fn merge_release(&mut self) -> Result<Outcome, NotDue>
         ensures step { IfOk result (λ outcome. IsStepped B.contents B.layers B.size B.fault_count B.done_count MergeRelease outcome self.old self.new) }
         ensures exact { IfOk result (λ outcome. IsExact B.contents B.layers MergeRelease outcome self.old self.new) }

@@ -1,5 +1,5 @@
 // Why a request is refused, memory and full stores aside.
-ghost use Rattle.std.specs.Prelude.{◌≡◌};
+ghost use Rattle.std.specs.Prelude.{◌≡◌, ◌%◌, ◌<◌};
 ghost use Rattle.plain.specs.Kept.{kept_range};
 ghost use Rattle.in_flight.specs.Kinds.{kind_of};
 ghost use Rattle.volume.specs.Volumed.{piece_with};
@@ -12,6 +12,20 @@ use in_flight::{Kind, MAX_COPIES, MAX_REQUESTS, request_kind};
 use plain::{Dev, Overflowing, Request, SnapId};
 use sector::{Range, Refusal};
 use snapshots::{is_merged_at, pending_count, snap_at, starting_count, starting_count_of};
+
+/// The rest of so many sectors that are divided by a piece. Pieces are powers of two: a mask is several times as fast as a
+/// division.
+#[inline(always)]
+fn rest_of(sectors: u64, piece: u32) -> u64
+    requires { 0 < piece }
+    ensures { result ≡ sectors % piece }
+{
+    if piece.is_power_of_two() {
+        sectors & (piece as u64 - 1)
+    } else {
+        sectors % piece as u64
+    }
+}
 
 impl<B: Block> Volume<B> {
     /// Why a request is refused, memory and full stores aside: there is no such snapshot (`NoSuchDevice`), it is being merged
@@ -105,11 +119,11 @@ impl<B: Block> Volume<B> {
     fn is_piece(&self, range: &Range) -> bool
         ensures { result ≡ is_piece_of (piece_with self.now.merge self.now.snaps) (B.size self.now.origin) range.now }
     {
-        let piece = self.piece() as u64;
+        let piece = self.piece();
         let count = range.count as u64;
         0 < count
             && range.first + count <= self.origin.sectors()
-            && range.first % piece + count <= piece
+            && rest_of(range.first, piece) + count <= piece as u64
     }
 
     /// How many copies a request starts.

@@ -170,7 +170,11 @@ impl<B: Block> Volume<B> {
 
     /// Accepts a write of the origin that waits: each live snapshot that lacks its chunk there starts a copy of it, and the
     /// write is held until each has published its own. Snapshots whose stores are full are spoiled.
-    fn save_and_enter(&mut self, alloc: Global, request: Request) -> Result<ReqId, Refusal>
+    pub(crate) fn save_and_enter(
+        &mut self,
+        alloc: Global,
+        request: Request,
+    ) -> Result<ReqId, Refusal>
         requires kind { kind_of request ≡ OriginWrite }
         requires unmerged { is_merged_in request.range.first self.old.merge ≡ false }
         requires waits { is_clear_in (map (snap_books B.contents B.layers) self.old.snaps) request.range.first ≡ false }
@@ -183,23 +187,27 @@ impl<B: Block> Volume<B> {
         ensures err { IfErr result (λ e. (e ≡ NoMemory) × SameButRoom self.old self.new) }
     {
         let first = request.range.first;
-        let rooms = match take_rooms(alloc, self.snaps.as_mut_slice(), first) {
-            Ok(rooms) => rooms,
+        match take_rooms(alloc, self.snaps.as_mut_slice(), first, &mut self.rooms) {
+            Ok(()) => {}
             Err(refusal) => return Err(refusal),
-        };
+        }
         let Ok(flight) = Flight::new(alloc, self.requests + 1, request, Route::Held) else {
+            self.rooms.clear();
             return Err(Refusal::NoMemory);
         };
         match self.flights.reserve(1) {
             Ok(()) => {}
-            Err(_) => return Err(Refusal::NoMemory),
+            Err(_) => {
+                self.rooms.clear();
+                return Err(Refusal::NoMemory);
+            }
         }
         self.copies = save_in_all(
             self.snaps.as_mut_slice(),
             self.flights.as_mut_slice(),
             self.copies,
             first,
-            rooms,
+            &mut self.rooms,
         );
         self.flights.push_reserved(flight);
         self.requests += 1;

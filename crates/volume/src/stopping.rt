@@ -79,6 +79,7 @@ impl<B: Block> Volume<B> {
             snaps,
             merge,
             flights: _,
+            rooms: _,
             requests: _,
             copies: _,
             attached: _,

@@ -2,6 +2,7 @@
 ghost use Rattle.std.specs.Prelude.{◌≡◌, ◌≤◌, [], None, IfErr, IfNone, IfOk, IfSome, Option, Some, false, length, true};
 ghost use Rattle.chunk.specs.Sizes.{is_chunk};
 ghost use Rattle.std.specs.List.{All};
+ghost use Rattle.plain.specs.declared.event.Event.{Event};
 ghost use Rattle.plain.specs.declared.request.Reply.{Reply};
 ghost use Rattle.event_machine.specs.MergeDue.{due_all};
 ghost use Rattle.volume.specs.Moved.{moving_of};
@@ -13,7 +14,8 @@ ghost use Rattle.volume_laws.specs.Waits.{IsQuiet};
 ghost use Rattle.volume.specs.Asking.{IsMergeStill};
 ghost use Rattle.volume.specs.EventKinds.{is_of_merge};
 ghost use Rattle.volume.specs.Leaving.{has_group_in, is_quiet_of};
-ghost use Rattle.volume.specs.Volumed.{books_of, next_of, piece_of, piece_with};
+ghost use Rattle.volume.specs.OnlyMerging.{is_only_merging_of};
+ghost use Rattle.volume.specs.Volumed.{books_of, is_due_of, next_of, piece_of, piece_with};
 
 use device::Block;
 use in_flight::{Flight, MAX_REQUESTS};
@@ -40,6 +42,8 @@ pub struct Volume<B: Block> {
     /// The snapshot that is being merged, which is none of these.
     pub(crate) merge: Option<Merge<B>>,
     pub(crate) flights: Vec<Flight>,
+    /// The rooms of the copies that a write starts, while they are handed over; empty between calls, and its memory is kept.
+    pub(crate) rooms: Vec<Vec<u8>>,
     /// How many numbers of requests, of copies and of snapshots were given.
     pub(crate) requests: u64,
     pub(crate) copies: u64,
@@ -89,6 +93,7 @@ impl<B: Block> Volume<B> {
             snaps,
             merge: None,
             flights,
+            rooms: Vec::new(alloc),
             requests: 0,
             copies: 0,
             attached: 0,
@@ -145,6 +150,24 @@ impl<B: Block> Volume<B> {
                 }
                 None => None,
             },
+        }
+    }
+
+    /// Whether no request is in flight, and no snapshot is there but one that is being merged. An event of the merge that is due
+    /// is due first then.
+    #[inline(always)]
+    pub fn is_only_merging(&self) -> bool
+        ensures value { result ≡ is_only_merging_of self.now }
+        ensures event { result ≡ true → (event : Event) → is_of_merge event ≡ true → is_due_of B.contents B.layers self.now event ≡ true → next_of B.contents B.layers self.now ≡ Some event }
+        ensures machine { result ≡ true → (event : Event) → is_of_merge event ≡ true → is_due_of B.contents B.layers self.now event ≡ true → (replied : Option Reply) → due_all (moving_of B.contents B.layers replied self.now) ≡ Some event }
+    {
+        match &self.merge {
+            Some(merge) => {
+                // A look: what the merge's looks say of its books is known from here on.
+                let _ = merge.has_group();
+                self.snaps.is_empty() && self.flights.is_empty()
+            }
+            None => false,
         }
     }
 }

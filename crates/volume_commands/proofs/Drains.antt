@@ -23,6 +23,7 @@ use Rattle.volume.specs.Stepping.{KeepsAll}
 use Rattle.plain.specs.declared.request.Replied.{Replied}
 use Rattle.plain.specs.Replies.{reply_in}
 use Rattle.volume_commands.specs.Draining.{IsDoneFirst, IsChain, IsDrained, IsDrainedApart, IsAnsweredAmong, replied_in, others, reply_to, tells, is_lazy, are_apart}
+use Rattle.volume_commands.specs.Following.{IsStep}
 use Rattle.volume_commands.proofs.Settled.{keeps_none, keeps_more}
 use Rattle.volume_commands.proofs.Rooms.{room_left}
 
@@ -117,20 +118,11 @@ module _ {B : Type 0} (contents : B → List ℕ) (layers : B → List Layer) (f
   chain_more [] old mid new event outcome same next = (new, subst (λ (v : Volumed B). IsDoneFirst contents layers faults event outcome v new) same next, refl)
   chain_more (x ∷ done) old mid new event outcome chain next = (chain.0, chain.1, chain_more done chain.0 mid new event outcome chain.2 next)
 
-  -- the event that was due first was done
-  pub record IsStep (event : Event) (outcome : Outcome) (v w : Volumed B) : Type 0 where
-    pub done : IsDoneFirst contents layers faults event outcome v w
-    pub due : (replied : Option Reply) → due_all (moving_of contents layers replied v) ≡ Some event
-    pub kept : KeepsAll size v w
-    pub loud : is_loud_in_all layers w ≡ is_loud_in_all layers v
-    pub requests : w.requests ≡ v.requests
-    pub flown : IsFlown event outcome (map in_flight v.flights) (map in_flight w.flights)
-
   pub step_is : (event : Event) (outcome told : Outcome) (v w : Volumed B) → Some event ≡ next_of contents layers v → ((replied : Option Reply) → due_all (moving_of contents layers replied v) ≡ Some event) → outcome ≡ told
       → IsExact contents layers event outcome v w → (is_loud_in_all layers v ≡ true → IsLegalStep (plain_of contents layers v) event outcome (plain_of contents layers w))
-      → KeepsAll size v w → is_loud_in_all layers w ≡ is_loud_in_all layers v → w.requests ≡ v.requests → IsFlown event outcome (map in_flight v.flights) (map in_flight w.flights) → HasCause faults event outcome v w → IsStep event told v w
+      → KeepsAll size v w → is_loud_in_all layers w ≡ is_loud_in_all layers v → w.requests ≡ v.requests → IsFlown event outcome (map in_flight v.flights) (map in_flight w.flights) → HasCause faults event outcome v w → IsStep contents layers faults size event told v w
   step_is event outcome told v w first due is exact legal kept loud requests flown cause =
-      subst (λ (o : Outcome). IsStep event o v w) is (record { done = record { first = sym first; exact = exact; legal = legal; flown = flown; cause = cause }; due = due; kept = kept; loud = loud; requests = requests; flown = flown })
+      subst (λ (o : Outcome). IsStep contents layers faults size event o v w) is (record { done = record { first = sym first; exact = exact; legal = legal; flown = flown; cause = cause }; due = due; kept = kept; loud = loud; requests = requests; flown = flown })
 
   -- what events leave as it is
   pub record KeepsCounts (old new : Volumed B) : Type 0 where
@@ -141,7 +133,7 @@ module _ {B : Type 0} (contents : B → List ℕ) (layers : B → List Layer) (f
   pub counts_none : (v : Volumed B) → KeepsCounts v v
   counts_none v = record { kept = keeps_none size v; loud = refl; requests = refl }
 
-  counts_more : (u v w : Volumed B) (event : Event) (outcome : Outcome) → KeepsCounts u v → IsStep event outcome v w → KeepsCounts u w
+  counts_more : (u v w : Volumed B) (event : Event) (outcome : Outcome) → KeepsCounts u v → IsStep contents layers faults size event outcome v w → KeepsCounts u w
   counts_more u v w event outcome h step = record { kept = keeps_more size u v w h.kept step.kept; loud = step.loud ∙ h.loud; requests = step.requests ∙ h.requests }
 
   pub drained_none : (v : Volumed B) (replies : List Replied) → IsDrained contents layers faults v v replies replies
@@ -171,7 +163,7 @@ module _ {B : Type 0} (contents : B → List ℕ) (layers : B → List Layer) (f
     room = room;
   }
 
-  pub drains_more : (len len' cap cap' : ℕ) (u v w : Volumed B) (event : Event) (outcome : Outcome) (before now after : List Replied) → DrainsSo len cap u v before now → IsStep event outcome v w → after ≡ now ++ reply_in outcome
+  pub drains_more : (len len' cap cap' : ℕ) (u v w : Volumed B) (event : Event) (outcome : Outcome) (before now after : List Replied) → DrainsSo len cap u v before now → IsStep contents layers faults size event outcome v w → after ≡ now ++ reply_in outcome
       → len' ≡ len + length (reply_in outcome) → cap' ≡ cap → DrainsSo len' cap' u w before after
   drains_more len len' cap cap' u v w event outcome before now after so step more longer same = record {
     so = drained_more u v w event outcome before now after so.so step.done more;
@@ -188,7 +180,7 @@ module _ {B : Type 0} (contents : B → List ℕ) (layers : B → List Layer) (f
   pub apart_start : (len cap : ℕ) (v : Volumed B) (before : List Replied) → len + length v.flights ≤ cap → DrainsApart len cap v v before before
   apart_start len cap v before room = record { so = apart_none v before; counts = counts_none v; room = room }
 
-  pub apart_next : (len len' cap cap' : ℕ) (u v w : Volumed B) (event : Event) (outcome : Outcome) (before now after : List Replied) → DrainsApart len cap u v before now → is_of_merge event ≡ false → IsStep event outcome v w → after ≡ now ++ reply_in outcome
+  pub apart_next : (len len' cap cap' : ℕ) (u v w : Volumed B) (event : Event) (outcome : Outcome) (before now after : List Replied) → DrainsApart len cap u v before now → is_of_merge event ≡ false → IsStep contents layers faults size event outcome v w → after ≡ now ++ reply_in outcome
       → len' ≡ len + length (reply_in outcome) → cap' ≡ cap → DrainsApart len' cap' u w before after
   unfolding drained_more
   apart_next len len' cap cap' u v w event outcome before now after so other step more longer same =
@@ -215,7 +207,7 @@ module _ {B : Type 0} (contents : B → List ℕ) (layers : B → List Layer) (f
   }
 
   pub for_next : (number : ℕ) (reply reply' : Reply) (told told' : Bool) (len len' cap cap' : ℕ) (u v w : Volumed B) (event : Event) (outcome : Outcome) (before now after : List Replied) → DrainsFor number reply told len cap u v before now → told && is_of_merge event ≡ false
-      → IsStep event outcome v w → after ≡ now ++ others number (reply_in outcome) → reply' ≡ reply_to number reply (reply_in outcome) → told' ≡ told || tells number outcome → len' ≤ len + length (reply_in outcome) → cap' ≡ cap
+      → IsStep contents layers faults size event outcome v w → after ≡ now ++ others number (reply_in outcome) → reply' ≡ reply_to number reply (reply_in outcome) → told' ≡ told || tells number outcome → len' ≤ len + length (reply_in outcome) → cap' ≡ cap
       → DrainsFor number reply' told' len' cap' u w before after
   for_next number reply reply' told told' len len' cap cap' u v w event outcome before now after so apart step more new later longer same =
       let all : replied_in (so.so.done ++ (event, outcome) ∷ []) ≡ replied_in so.so.done ++ reply_in outcome = replied_more so.so.done event outcome in

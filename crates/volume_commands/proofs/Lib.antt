@@ -41,6 +41,7 @@ pub mod Flying
 pub mod Others
 pub mod Rooms
 pub mod Drained
+pub mod MergeFollows
 pub mod Freed
 pub mod Follows
 pub mod Carried

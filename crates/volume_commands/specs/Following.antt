@@ -1,5 +1,5 @@
 -- Events that are known to follow another without a search. This project's own.
-use Rattle.std.specs.Prelude.{◌≡◌, ◌⊎◌, ◌==◌, ◌&&◌, ◌≤◌, ℕ, Bool, true, false, List, [], ◌∷◌, length, Some}
+use Rattle.std.specs.Prelude.{◌≡◌, ◌⊎◌, ◌==◌, ◌&&◌, ◌≤◌, ℕ, Bool, true, false, List, [], ◌∷◌, length, map, Option, Some}
 use Rattle.std.specs.List.{list_all, list_any}
 use Rattle.device.specs.Layers.{Layer}
 use Rattle.plain.specs.declared.event.Event.{Event}
@@ -10,14 +10,21 @@ use Rattle.plain.specs.declared.request.Dev.{Dev}
 use Rattle.plain.specs.declared.request.Dev.TheVariants.{Origin, Snap}
 use Rattle.plain.specs.declared.request.Reply.{Reply}
 use Rattle.in_flight.specs.declared.copies.Stage.TheVariants.{Read}
+use Rattle.plain.specs.Replies.{reply_in}
+use Rattle.in_flight.specs.Kinds.{in_flight}
 use Rattle.in_flight.specs.declared.flights.Flight.{Flight}
 use Rattle.snapshot.specs.Kept.{Kept}
 use Rattle.snapshots.specs.Finding.{has_copy_at}
+use Rattle.event_machine.specs.MergeDue.{due_all}
 use Rattle.event_machine.specs.Seen.{replied_by}
+use Rattle.volume.specs.EventKinds.{is_of_merge}
 use Rattle.volume.specs.Exact.{IsExact}
+use Rattle.volume.specs.Flying.{IsFlown}
+use Rattle.volume.specs.Moved.{moving_of}
 use Rattle.volume.specs.Stepping.{KeepsAll}
 use Rattle.volume.specs.Volumed.{Volumed, is_loud_in_all, left_in_all}
 use Rattle.volume_commands.specs.AtRest.{AreDone}
+use Rattle.volume_commands.specs.Draining.{IsDoneFirst}
 use Rattle.volume_commands.specs.Places.{Counted}
 use Rattle.volume_commands.specs.TakesPlaces.{TakesByRequests}
 
@@ -77,3 +84,25 @@ pub record AreDoneSo {B : Type 0} (contents : B → List ℕ) (layers : B → Li
 pub record IsCarried {B : Type 0} (contents : B → List ℕ) (layers : B → List Layer) (faults size : B → ℕ) (event : Event) (go : Bool) (before after : Reply) (old new : Counted B) : Type 0 where
   pub ends : AreDoneSo contents layers faults size (AreCarried contents layers (event ∷ []) before after old.volume new.volume) before after old new
   pub goes_on : go ≡ true → (after ≡ before) × IsExact contents layers event Done old.volume new.volume
+
+-- The event that was due first was done, and that was the machine's too.
+pub record IsStep {B : Type 0} (contents : B → List ℕ) (layers : B → List Layer) (faults size : B → ℕ) (event : Event) (outcome : Outcome) (old new : Volumed B) : Type 0 where
+  pub done : IsDoneFirst contents layers faults event outcome old new
+  pub due : (replied : Option Reply) → due_all (moving_of contents layers replied old) ≡ Some event
+  pub kept : KeepsAll size old new
+  pub loud : is_loud_in_all layers new ≡ is_loud_in_all layers old
+  pub requests : new.requests ≡ old.requests
+  pub flown : IsFlown event outcome (map in_flight old.flights) (map in_flight new.flights)
+
+-- these events were done so, in this order: each is one of a merge, and nothing was answered
+abbrev pub AreSteps : {B : Type 0} → (B → List ℕ) → (B → List Layer) → (B → ℕ) → (B → ℕ) → List (Event × Outcome) → Volumed B → Volumed B → Type 0
+AreSteps contents layers faults size [] old new = new ≡ old
+AreSteps contents layers faults size (x ∷ xs) old new =
+    (mid : Volumed _) × IsStep contents layers faults size x.0 x.1 old mid × (is_of_merge x.0 ≡ true) × (reply_in x.1 ≡ []) × AreSteps contents layers faults size xs mid new
+
+-- Events of a merge were done, and nothing was answered.
+pub record AreMerged {B : Type 0} (contents : B → List ℕ) (layers : B → List Layer) (faults size : B → ℕ) (old new : Counted B) : Type 0 where
+  pub steps : List (Event × Outcome)
+  pub chain : AreSteps contents layers faults size steps old.volume new.volume
+  pub left : left_in_all contents layers new.volume ≤ left_in_all contents layers old.volume
+  pub taken : TakesByRequests old new

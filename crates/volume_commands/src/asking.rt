@@ -3,6 +3,7 @@ ghost use Rattle.std.specs.Prelude.{◌≡◌, ◌<◌, ◌≤◌, AllPairs, IfE
 ghost use Rattle.std.specs.List.{All};
 ghost use Rattle.sector.specs.declared.refusal.Refusal.TheVariants.{NoSuchDevice};
 ghost use Rattle.chunk.specs.Sizes.{is_chunk};
+ghost use Rattle.plain.specs.declared.event.Event.{Event};
 ghost use Rattle.plain.specs.declared.request.Reply.{Reply};
 ghost use Rattle.settled.specs.MergeShown.{IsMerging};
 ghost use Rattle.snapshot.specs.Kept.{Kept};
@@ -19,10 +20,11 @@ ghost use Rattle.snapshots.specs.Numbers.{number_of_snap};
 ghost use Rattle.volume.specs.Asking.{HasNone, HoldsOf, IsMergeStill, merging_chunk_of, merging_number, merging_usage};
 ghost use Rattle.volume.specs.EventKinds.{is_of_merge};
 ghost use Rattle.volume.specs.Leaving.{has_group_in, is_quiet_of, usage_of};
+ghost use Rattle.volume.specs.OnlyMerging.{is_only_merging_of};
 ghost use Rattle.volume.specs.Moved.{moving_of};
 ghost use Rattle.volume.specs.Stepping.{has_failed};
 ghost use Rattle.volume.specs.Submitting.{is_merging};
-ghost use Rattle.volume.specs.Volumed.{books_of, is_loud_in_all, next_of, piece_with};
+ghost use Rattle.volume.specs.Volumed.{books_of, is_due_of, is_loud_in_all, next_of, piece_with};
 ghost use Rattle.volume.specs.Whole.{IsCounted};
 
 use crate::Journaled;
@@ -67,6 +69,17 @@ impl<B: Layered> Journaled<B> {
         ensures quiet { IfNone result (IsQuiet (books_of B.contents B.layers B.size self.now.volume) × IsMergeStill self.now.volume.merge) }
     {
         self.volume.due()
+    }
+
+    /// Whether no request is in flight, and no snapshot is there but one that is being merged. An event of the merge that is due
+    /// is due first then.
+    #[inline(always)]
+    pub(crate) fn is_only_merging(&self) -> bool
+        ensures value { result ≡ is_only_merging_of self.now.volume }
+        ensures event { result ≡ true → (event : Event) → is_of_merge event ≡ true → is_due_of B.contents B.layers self.now.volume event ≡ true → next_of B.contents B.layers self.now.volume ≡ Some event }
+        ensures machine { result ≡ true → (event : Event) → is_of_merge event ≡ true → is_due_of B.contents B.layers self.now.volume event ≡ true → (replied : Option Reply) → due_all (moving_of B.contents B.layers replied self.now.volume) ≡ Some event }
+    {
+        self.volume.is_only_merging()
     }
 
     /// The number of the snapshot that is being merged, if one is. It is none of the others.

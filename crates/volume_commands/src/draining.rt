@@ -11,6 +11,7 @@ ghost use Rattle.volume_commands.specs.Draining.{IsDrained, IsDrainedApart, IsAn
 ghost use Rattle.volume_commands.specs.Recorded.{counted_in};
 ghost use Rattle.volume_commands.specs.TakesPlaces.{TakesByRequests};
 
+use crate::following_merge::follow_merge;
 use crate::{Journaled, Replied, Resting};
 use layers::Layered;
 use plain::{Failure, NotDue, Outcome, Reply, ReqId};
@@ -53,7 +54,7 @@ fn drain<B: Layered>(volume: &mut Journaled<B>, ended: &mut Vec<Replied>) -> Res
     while let Some(event) = volume.due() {
         match volume.step(event) {
             Ok(Outcome::Reply(number, reply)) => ended.push_reserved(Replied { number, reply }),
-            Ok(Outcome::Done) => {}
+            Ok(Outcome::Done) => follow_merge(volume, event),
             Ok(Outcome::Fault) => {}
             Err(NotDue) => unreachable!(),
         }

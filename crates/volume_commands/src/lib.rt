@@ -30,6 +30,7 @@ mod events;
 mod flights;
 mod flushing;
 mod following;
+mod following_merge;
 mod journaled;
 mod journaled_changing;
 mod layering;

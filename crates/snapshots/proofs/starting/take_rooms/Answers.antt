@@ -5,7 +5,7 @@ use Rattle.snapshots.proofs.Starts.{unroomed_set, rooms_none, rooms_more, rooms_
 use Rattle.snapshots.proofs.starting.take_rooms.Goals as goal
 
 pub loop-k-init : goal.loop-k-init
-loop-k-init g c = (refl, rw c.in-Ok.ensures.items (rooms_none c.args.first c.args.snaps.now), omega (arith, c.in-Ok.ensures.capacity))
+loop-k-init g c = (refl, rw (c.reserve.ensures.items, c.clear.ensures.items) (rooms_none c.args.first c.args.snaps.now), omega (arith, c.in-Ok.ensures.ok, c.reserve.ensures.len, c.clear.ensures.len))
 
 pub returns-in-Err-clause-same : goal.returns-in-Err-clause-same
 returns-in-Err-clause-same g c =

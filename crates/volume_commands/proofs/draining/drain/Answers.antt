@@ -4,6 +4,7 @@ use Rattle.std.proofs.lemmas.List.{append-nil}
 use Rattle.plain.specs.declared.event.Outcome.TheVariants.{Done, Fault, Reply as Answered}
 use Rattle.volume_commands.proofs.Drained.{drained_merged, quiet_more, quiet_start}
 use Rattle.volume_commands.proofs.Drains.{drains_more, drains_start, step_is}
+use Rattle.volume_commands.proofs.MergeFollows.{drains_on, quiet_on}
 use Rattle.volume_commands.proofs.MergeGoes.{merged_gone_on}
 use Rattle.volume_commands.proofs.Quiet.{free_quiet, still_free}
 use Rattle.volume_commands.proofs.Seen.{devices_kept, loud_same}
@@ -40,12 +41,15 @@ pub loop-event-preserved-in-Ok-Done : goal.loop-event-preserved-in-Ok-Done
 loop-event-preserved-in-Ok-Done g c =
     let step = step_is g.B.Block.contents g.B.Block.layers g.B.Block.fault_count g.B.Block.size c.in-Some.event _ Done c.loop-event.volume.volume c.step.new.self.volume c.in-Some.ensures.event c.in-Some.ensures.machine c.in-Ok-Done.field-0-is
     c.in-Ok-Done.ensures.does.exact c.in-Ok-Done.ensures.does.legal c.in-Ok-Done.ensures.does.kept c.in-Ok-Done.ensures.does.loud c.in-Ok-Done.ensures.does.counts.0 c.in-Ok-Done.ensures.does.flown c.in-Ok-Done.ensures.does.cause in
+    let follows = c.follow_merge.ensures in
+    let so = drains_more g.B.Block.contents g.B.Block.layers g.B.Block.fault_count g.B.Block.size _ _ _ _ c.args.volume.now.volume c.loop-event.volume.volume c.step.new.self.volume c.in-Some.event Done c.args.ended.now.items c.loop-event.ended.items c.loop-event.ended.items
+    c.loop-event.invariant.so step (sym (append-nil c.loop-event.ended.items)) (omega arith) refl in
+    let quiet = quiet_more g.B.Block.contents g.B.Block.layers g.B.Block.size g.B.Block.fault_count c.args.volume.now.volume c.loop-event.volume.volume c.step.new.self.volume c.in-Some.event Done c.args.ended.now.items c.loop-event.ended.items c.loop-event.ended.items
+    c.loop-event.invariant.quiet step (sym (append-nil c.loop-event.ended.items)) in
     record {
-      so = drains_more g.B.Block.contents g.B.Block.layers g.B.Block.fault_count g.B.Block.size _ _ _ _ c.args.volume.now.volume c.loop-event.volume.volume c.step.new.self.volume c.in-Some.event Done c.args.ended.now.items c.loop-event.ended.items c.loop-event.ended.items
-          c.loop-event.invariant.so step (sym (append-nil c.loop-event.ended.items)) (omega arith) refl;
-      quiet = quiet_more g.B.Block.contents g.B.Block.layers g.B.Block.size g.B.Block.fault_count c.args.volume.now.volume c.loop-event.volume.volume c.step.new.self.volume c.in-Some.event Done c.args.ended.now.items c.loop-event.ended.items c.loop-event.ended.items
-          c.loop-event.invariant.quiet step (sym (append-nil c.loop-event.ended.items));
-      taken = takes_then _ _ _ c.loop-event.invariant.taken c.in-Ok-Done.ensures.taken;
+      so = drains_on g.B.Block.contents g.B.Block.layers g.B.Block.fault_count g.B.Block.size follows.steps _ _ c.args.volume.now.volume c.step.new.self.volume c.follow_merge.new.volume.volume c.args.ended.now.items c.loop-event.ended.items so follows.chain;
+      quiet = quiet_on g.B.Block.contents g.B.Block.layers g.B.Block.fault_count g.B.Block.size follows.steps c.args.volume.now.volume c.step.new.self.volume c.follow_merge.new.volume.volume c.args.ended.now.items c.loop-event.ended.items quiet follows.chain;
+      taken = takes_then _ _ _ c.loop-event.invariant.taken (takes_then _ _ _ c.in-Ok-Done.ensures.taken follows.taken);
     }
 
 pub loop-event-preserved : goal.loop-event-preserved

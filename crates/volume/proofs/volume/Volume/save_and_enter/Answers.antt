@@ -90,7 +90,7 @@ save_in_all-self-inside-requires-clause-rooms g c =
     let back_rooms = back c.self.inside.snaps.len c.take_rooms.new.snaps c.self.inside.snaps.items (c.take_rooms.auto.snaps ∙ c.as_mut_slice.ensures.len) in
     let now2 = c.as_mut_slice-2.ensures.value ∙ back_rooms in
     let asked : IsAsked (g.B.Block.size c.self.inside.origin) (piece_with c.self.inside.merge c.self.inside.snaps.items) c.args.request = subst (λ (x : Volumed g.row.B.Denot). IsAsked (g.B.Block.size x.origin) (piece_with x.merge x.snaps) c.args.request) (sym c.self.view_is) c.requires.asked in
-    subst (λ (x : List (Kept g.row.B.Denot)). HaveRooms c.args.request.range.first x c.in-Ok.rooms.items) (sym now2) c.in-Ok.ensures.ok
+    subst (λ (x : List (Kept g.row.B.Denot)). HaveRooms c.args.request.range.first x c.take_rooms.new.rooms.items) (sym now2) c.in-Ok.ensures.ok
 
 pub invariant_of-self-2 : goal.invariant_of-self-2
 invariant_of-self-2 g c = record {

@@ -11,7 +11,7 @@ use Rattle.volume.specs.Submitting.{submit_refusal}
 use Rattle.volume.specs.Volumed.{Volumed}
 use Rattle.volume.specs.Whole.{IsWhole}
 use Rattle.volume.proofs.Admits.{admitted}
-use Rattle.volume.proofs.AtDisk.{moves_goes, plain_goes, served_alone, whole_alone}
+use Rattle.volume.proofs.AtDisk.{goes_disk, moves_goes, plain_goes, served_alone, whole_alone}
 use Rattle.volume.proofs.Submits.{submitted_by}
 use Rattle.volume.proofs.volume.Volume.serve_at_disk.Goals as goal
 
@@ -41,7 +41,7 @@ answer_at_disk-requires-clause-whole g c =
     let fits = subst (λ (r : Request). (bytes : List ℕ) → r.op ≡ Write bytes → length bytes ≡ 512 * r.range.count) (sym is) c.requires.bytes in
     let goes = subst (λ (r : Request). GoesToDisk g.B.Block.contents g.B.Block.layers r now.snaps) (sym is) c.requires.goes in
     let free = subst (λ (r : Request). submit_refusal g.B.Block.size r now ≡ None) (sym is) (sym c.in-None.ensures) in
-    whole_alone g.B.Block.contents g.B.Block.layers g.B.Block.size now h c.requires.quiet c.requires.alone f number c.in-Ok.ensures.route room fits goes free
+    whole_alone g.B.Block.contents g.B.Block.layers g.B.Block.size now h c.requires.quiet c.requires.alone f number room fits (goes_disk g.B.Block.contents g.B.Block.layers f now.snaps c.in-Ok.ensures.route goes) free
 
 pub answer_at_disk-requires-clause-moves : goal.answer_at_disk-requires-clause-moves
 answer_at_disk-requires-clause-moves g c =
@@ -62,4 +62,4 @@ returns-clause-does g c =
     let w = c.answer_at_disk.new.self in
     let reply = c.answer_at_disk.result in
     subst (λ (r : Request). IsServedAtOnce g.B.Block.may_hold g.B.Block.contents g.B.Block.layers g.B.Block.size g.B.Block.fault_count g.B.Block.done_count r f.number reply now w) is
-    (served_alone g.B.Block.contents g.B.Block.layers g.B.Block.size now h c.requires.quiet c.requires.alone f number c.in-Ok.ensures.route room fits goes free g.B.Block.may_hold g.B.Block.fault_count g.B.Block.done_count reply w c.answer_at_disk.ensures.does (c.answer_at_disk.ensures.quiet ∙ c.requires.quiet))
+    (served_alone g.B.Block.contents g.B.Block.layers g.B.Block.size now h c.requires.quiet c.requires.alone f number room fits (goes_disk g.B.Block.contents g.B.Block.layers f now.snaps c.in-Ok.ensures.route goes) free g.B.Block.may_hold g.B.Block.fault_count g.B.Block.done_count reply w c.answer_at_disk.ensures.does (c.answer_at_disk.ensures.quiet ∙ c.requires.quiet))

@@ -1,0 +1,65 @@
+-- A read of a snapshot that waits for nothing is refused as any is, or answered at its store.
+use Rattle.std.proofs.Common.{◌≡◌, ◌+◌, ◌*◌, ◌∙◌, ℕ, List, None, Some, arith, ap, inl, length, refl, subst, sym}
+use Rattle.std.specs.Prelude.{Err}
+use Rattle.plain.specs.declared.request.Op.TheVariants.{Write}
+use Rattle.plain.specs.declared.request.Request.{Request}
+use Rattle.in_flight.specs.Kinds.{room_of}
+use Rattle.in_flight.specs.declared.flights.Flight.{Flight}
+use Rattle.volume.specs.AtDisk.{IsReadOf}
+use Rattle.volume.specs.DoesServe.{IsServedAtOnce}
+use Rattle.volume.specs.Submitting.{submit_refusal}
+use Rattle.volume.specs.Volumed.{Volumed}
+use Rattle.volume.specs.Whole.{IsWhole}
+use Rattle.volume.proofs.Admits.{admitted}
+use Rattle.volume.proofs.AtDisk.{goes_store, plain_read, served_alone, whole_alone}
+use Rattle.volume.proofs.Submits.{submitted_by}
+use Rattle.volume.proofs.volume.Volume.serve_at_store.Goals as goal
+
+pub submit_refused-requires : goal.submit_refused-requires
+submit_refused-requires g c = record { whole = plain_read c.args.request c.args.k (Some c.args.at) c.args.self.now.snaps c.requires.read }
+
+pub returns-in-Some-clause-does : goal.returns-in-Some-clause-does
+returns-in-Some-clause-does g c =
+    let now = c.args.self.now in
+    let h : IsWhole g.B.Block.contents g.B.Block.layers g.B.Block.size now = subst (IsWhole g.B.Block.contents g.B.Block.layers g.B.Block.size) c.self.view_is c.self.invariant.whole in
+    submitted_by g.B.Block.contents g.B.Block.layers g.B.Block.size now now h c.args.request (Err c.in-Some.refusal) tt tt (inl (sym c.in-Some.ensures, refl))
+
+pub overflow_add-self-inside : goal.overflow_add-self-inside
+overflow_add-self-inside g c =
+    let a = admitted g.B.Block.size c.args.request c.args.self.now (plain_read c.args.request c.args.k (Some c.args.at) c.args.self.now.snaps c.requires.read) (sym c.in-None.ensures) in
+    let same : c.self.inside.requests ≡ c.args.self.now.requests = ap (λ (x : Volumed g.row.B.Denot). x.requests) c.self.view_is in
+    omega (arith, a.requests, same)
+
+pub answer_at_store-requires-clause-whole : goal.answer_at_store-requires-clause-whole
+answer_at_store-requires-clause-whole g c =
+    let now = c.args.self.now in
+    let h : IsWhole g.B.Block.contents g.B.Block.layers g.B.Block.size now = subst (IsWhole g.B.Block.contents g.B.Block.layers g.B.Block.size) c.self.view_is c.self.invariant.whole in
+    let f : Flight = c.in-Ok.flight in
+    let is : f.request ≡ c.args.request = c.in-Ok.ensures.request in
+    let number : f.number ≡ now.requests + 1 = c.in-Ok.ensures.number ∙ ap (λ (x : Volumed g.row.B.Denot). x.requests + 1) c.self.view_is in
+    let room : length f.room.items ≡ room_of f.request = c.in-Ok.ensures.room ∙ ap room_of (sym is) in
+    let fits = subst (λ (r : Request). (bytes : List ℕ) → r.op ≡ Write bytes → length bytes ≡ 512 * r.range.count) (sym is) c.requires.bytes in
+    let read = subst (λ (r : Request). IsReadOf r c.args.k (Some c.args.at) now.snaps) (sym is) c.requires.read in
+    let free = subst (λ (r : Request). submit_refusal g.B.Block.size r now ≡ None) (sym is) (sym c.in-None.ensures) in
+    whole_alone g.B.Block.contents g.B.Block.layers g.B.Block.size now h c.requires.quiet c.requires.alone f number room fits (goes_store g.B.Block.contents g.B.Block.layers f now.snaps c.args.k c.args.at c.in-Ok.ensures.route read) free
+
+pub answer_at_store-requires-clause-read : goal.answer_at_store-requires-clause-read
+answer_at_store-requires-clause-read g c =
+    let is : c.in-Ok.flight.request ≡ c.args.request = c.in-Ok.ensures.request in
+    subst (λ (r : Request). IsReadOf r c.args.k (Some c.args.at) c.args.self.now.snaps) (sym is) c.requires.read
+
+pub returns-clause-does : goal.returns-clause-does
+returns-clause-does g c =
+    let now = c.args.self.now in
+    let h : IsWhole g.B.Block.contents g.B.Block.layers g.B.Block.size now = subst (IsWhole g.B.Block.contents g.B.Block.layers g.B.Block.size) c.self.view_is c.self.invariant.whole in
+    let f : Flight = c.in-Ok.flight in
+    let is : f.request ≡ c.args.request = c.in-Ok.ensures.request in
+    let number : f.number ≡ now.requests + 1 = c.in-Ok.ensures.number ∙ ap (λ (x : Volumed g.row.B.Denot). x.requests + 1) c.self.view_is in
+    let room : length f.room.items ≡ room_of f.request = c.in-Ok.ensures.room ∙ ap room_of (sym is) in
+    let fits = subst (λ (r : Request). (bytes : List ℕ) → r.op ≡ Write bytes → length bytes ≡ 512 * r.range.count) (sym is) c.requires.bytes in
+    let read = subst (λ (r : Request). IsReadOf r c.args.k (Some c.args.at) now.snaps) (sym is) c.requires.read in
+    let free = subst (λ (r : Request). submit_refusal g.B.Block.size r now ≡ None) (sym is) (sym c.in-None.ensures) in
+    let w = c.answer_at_store.new.self in
+    let reply = c.answer_at_store.result in
+    subst (λ (r : Request). IsServedAtOnce g.B.Block.may_hold g.B.Block.contents g.B.Block.layers g.B.Block.size g.B.Block.fault_count g.B.Block.done_count r f.number reply now w) is
+    (served_alone g.B.Block.contents g.B.Block.layers g.B.Block.size now h c.requires.quiet c.requires.alone f number room fits (goes_store g.B.Block.contents g.B.Block.layers f now.snaps c.args.k c.args.at c.in-Ok.ensures.route read) free g.B.Block.may_hold g.B.Block.fault_count g.B.Block.done_count reply w c.answer_at_store.ensures.does (c.answer_at_store.ensures.quiet ∙ c.requires.quiet))
