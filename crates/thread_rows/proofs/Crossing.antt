@@ -33,10 +33,10 @@ tickets_sync : IsSync Tickets.the_row
 tickets_sync = search crossing fits 50000 depth 40
 
 audit_send : (B : RattleType) (b : Block.Ghosts B.Denot) → IsSend B → IsSend (Audit.the_row B b)
-audit_send B b s = search crossing fits 50000 depth 60
+audit_send B b s = search (sendable, crosses) fits 50000 depth 60
 
 audit_sync : (B : RattleType) (b : Block.Ghosts B.Denot) → IsSync B → IsSync (Audit.the_row B b)
-audit_sync B b y = search crossing fits 50000 depth 60
+audit_sync B b y = search (sendable, crosses) fits 50000 depth 60
 
 pub rig_sync : (B G Q : RattleType) (b : Block.Ghosts B.Denot) (j : Room.Ghosts Q.Denot) → IsSend B → IsSync B → IsSync G → IsSend Q → IsSync Q → IsSync (Rig.the_row B G Q b j)
 rig_sync B G Q b j send_b sync_b sync_g send_j sync_j =
