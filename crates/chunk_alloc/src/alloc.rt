@@ -1,5 +1,5 @@
 // The next place of a store.
-ghost use Rattle.std.specs.Prelude.{◌≡◌, ℕ, ◌+◌, ◌*◌, ◌^◌, ◌<◌, ◌≤◌, List, [], ◌∷◌, ◌++◌, MatchOption, MatchBool, false};
+ghost use Rattle.std.specs.Prelude.{◌≡◌, ℕ, ◌+◌, ◌*◌, ◌^◌, ◌<◌, ◌≤◌, List, [], ◌∷◌, ◌++◌, MatchOption, MatchBool, false, true};
 ghost use Rattle.store_bytes.specs.NextPlace.{IsNextPlace, IsFull, stepped};
 ghost use Rattle.store_bytes.specs.Places.{area_place, is_area_place as is_place};
 ghost use Rattle.chunk_alloc.specs.Greatest.{IsGreatest};
@@ -14,10 +14,15 @@ pub struct Alloc {
     pub chunk: u32,
     pub sectors: u64,
     pub next: Chunk,
+    /// The place of the first area after `next`.
+    pub area: Chunk,
     pub ghost some: { 0 < chunk },
     pub ghost allowed: { chunk ≤ 1024 },
     pub ghost small: { sectors ≤ 16_777_216 },
     pub ghost near: { next ≤ 33_554_432 },
+    pub ghost whole: { is_place chunk area ≡ true },
+    pub ghost after: { next < area },
+    pub ghost first: { area ≤ next + 32 * chunk },
 }
 
 impl Alloc {
@@ -35,6 +40,7 @@ impl Alloc {
             chunk,
             sectors,
             next: 2,
+            area: 32 * chunk as u64 + 2,
         }
     }
 
@@ -49,10 +55,12 @@ impl Alloc {
         ensures next { result.next ≡ stepped chunk (greatest + 1) }
         ensures least { (taken : List ℕ) → IsGreatest taken greatest → IsNextPlace chunk taken result.next }
     {
+        let span = 32 * chunk as u64 + 1;
         Alloc {
             chunk,
             sectors,
             next: step(chunk, greatest + 1),
+            area: (greatest / span + 1) * span + 1,
         }
     }
 
@@ -65,8 +73,10 @@ impl Alloc {
         ensures next { self.new.next ≡ area_place self.old.chunk area + slots + 1 }
         ensures free { is_place self.old.chunk self.new.next ≡ false }
     {
-        let place = area * (32 * self.chunk as u64 + 1) + 1;
+        let span = 32 * self.chunk as u64 + 1;
+        let place = area * span + 1;
         self.next = place + slots as u64 + 1;
+        self.area = place + span;
     }
 
     /// Hands out the next place, where it lies wholly inside the store; where it does not, the store is full and
@@ -81,7 +91,11 @@ impl Alloc {
             return None;
         }
         let place = self.next;
-        self.next = step(self.chunk, place + 1);
+        self.next = place + 1;
+        if self.next == self.area {
+            self.next += 1;
+            self.area += 32 * self.chunk as u64 + 1;
+        }
         Some(place)
     }
 

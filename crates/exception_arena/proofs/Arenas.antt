@@ -7,10 +7,9 @@ use Rattle.sector.specs.declared.pair.Pair.{Pair}
 use Rattle.exception_arena.specs.declared.run.Run.{Run}
 use Rattle.exception_arena.specs.Runs.{block, pair_after, pairs_from, pairs_in, IsRun, GoesOn}
 use Rattle.exception_arena.proofs.Runs.{run_one, run_length, run_more, run_less}
-use Rattle.exception_arena.specs.Links.{node_at, run_at, begun_at, pairs_on, led, recount, list_from, Leads, count_of, omit, head_at, AreHung}
+use Rattle.exception_arena.specs.Links.{nowhere, to, node_at, run_of, run_at, begun_at, pairs_on, led, recount, list_from, Leads, count_of, omit, head_at, AreHung}
 use Rattle.exception_arena.specs.Arenas.{IsQueue, StandsOnOne, IsArena, HasRoom, HoldsRuns, IsSound, IsTaken}
-use Rattle.exception_arena.specs.declared.node.Link.{Link}
-use Rattle.exception_arena.specs.declared.node.Link.TheVariants.{Nowhere, To}
+use Rattle.exception_arena.specs.declared.link.Link.{Link}
 use Rattle.exception_arena.specs.declared.node.Node.{Node}
 use Rattle.exception_arena.specs.declared.queue.Queue.{Queue}
 use Rattle.exception_arena.proofs.Places.{SameOn, recount_same, recount_other, recount_next, recount_first, leads_alike, pairs-last, leads_kept, leads_some, walked, led_same, led_other, led_run, led_apart, count_here, count_there, count-append, count-reverse, count-drop, pairs_kept, begun_kept}
@@ -24,7 +23,7 @@ lists_are nodes heads slots free queue frees waiting a = (
   walked nodes queue.first waiting (length nodes) a.queued.chain (omega (arith, a.one.all)),
 )
 
-pub sound_of : (nodes : List Node) (heads : List Link) (slots : List ℕ) (free : Link) (queue : Queue) (count reserved nodes_capacity slots_capacity : ℕ) (frees waiting : List ℕ) → IsArena nodes heads slots free queue frees waiting → HasRoom heads slots queue count reserved nodes_capacity slots_capacity → HoldsRuns nodes slots waiting count → length nodes ≤ 2 ^ 32 → IsSound nodes heads slots free queue count reserved nodes_capacity slots_capacity
+pub sound_of : (nodes : List Node) (heads : List Link) (slots : List ℕ) (free : Link) (queue : Queue) (count reserved nodes_capacity slots_capacity : ℕ) (frees waiting : List ℕ) → IsArena nodes heads slots free queue frees waiting → HasRoom heads slots queue count reserved nodes_capacity slots_capacity → HoldsRuns nodes slots waiting count → length nodes < 2 ^ 32 → IsSound nodes heads slots free queue count reserved nodes_capacity slots_capacity
 sound_of nodes heads slots free queue count reserved nodes_capacity slots_capacity frees waiting a room held small =
     let (f, w) = lists_are nodes heads slots free queue frees waiting a in
     record {
@@ -77,7 +76,7 @@ free_kept nodes nodes1 free frees waiting slots j next l one others off =
 
 -- a pending pair is dropped: its node goes to the free list
 pub abandoned : (nodes nodes1 : List Node) (heads : List Link) (slots : List ℕ) (free : Link) (queue queue1 : Queue) (frees waiting : List ℕ) (j : ℕ) → IsArena nodes heads slots free queue frees waiting → 0 < count_of j waiting → IsQueue nodes1 queue1 (omit j waiting) → ((i : ℕ) → count_of i waiting ≡ 0 → node_at nodes1 i ≡ node_at nodes i) → length nodes1 ≡ length nodes
-    → IsArena (led nodes1 j free) heads slots (To j) queue1 (j ∷ frees) (omit j waiting)
+    → IsArena (led nodes1 j free) heads slots (to j) queue1 (j ∷ frees) (omit j waiting)
 abandoned nodes nodes1 heads slots free queue queue1 frees waiting j a some q others len =
     let nodes2 : List Node = led nodes1 j free in
     let lt : j < length nodes = a.queued.inside j some in
@@ -98,7 +97,7 @@ abandoned nodes nodes1 heads slots free queue queue1 frees waiting j a some q ot
 
 -- a pending pair is committed: its node goes to its bucket, and to the end of the slots
 pub finished : (nodes nodes1 : List Node) (heads : List Link) (slots : List ℕ) (free : Link) (queue queue1 : Queue) (frees waiting : List ℕ) (j k : ℕ) → IsArena nodes heads slots free queue frees waiting → 0 < count_of j waiting → IsQueue nodes1 queue1 (omit j waiting) → ((i : ℕ) → count_of i waiting ≡ 0 → node_at nodes1 i ≡ node_at nodes i) → length nodes1 ≡ length nodes → k ≡ (run_at nodes1 j).first.old / block % length heads
-    → IsArena (led nodes1 j (head_at heads k)) (set heads k (To j)) (slots ++ j ∷ []) free queue1 frees (omit j waiting)
+    → IsArena (led nodes1 j (head_at heads k)) (set heads k (to j)) (slots ++ j ∷ []) free queue1 frees (omit j waiting)
 finished nodes nodes1 heads slots free queue queue1 frees waiting j k a some q others len at =
     let next : Link = head_at heads k in
     let nodes2 : List Node = led nodes1 j next in
@@ -111,7 +110,7 @@ finished nodes nodes1 heads slots free queue queue1 frees waiting j k a some q o
     record {
       freed = free_kept nodes nodes1 free frees waiting slots j next a.freed a.one others (omega arith);
       queued = queue_kept nodes1 nodes2 queue1 (omit j waiting) (led_apart nodes1 j next (omit j waiting) (omega (arith, a.queued.once j, omit_count j waiting j some, count_here j j [] refl))) (omega arith) q;
-      hung = subst (AreHung nodes2 (set heads k (To j))) (sym order) (hung_more nodes1 heads (reverse slots) j k lt1 (omega (arith, count-reverse j slots)) at (hung_kept nodes nodes1 heads (reverse slots) same a.hung));
+      hung = subst (AreHung nodes2 (set heads k (to j))) (sym order) (hung_more nodes1 heads (reverse slots) j k lt1 (omega (arith, count-reverse j slots)) at (hung_kept nodes nodes1 heads (reverse slots) same a.hung));
       one = record {
         once = λ i lt. omega (arith, a.one.once i (omega arith), omit_count j waiting i some, count-append i slots (j ∷ []));
         inside = λ i le. omega (arith, a.one.inside i (omega arith), omit_count j waiting i some, count-append i slots (j ∷ []));
@@ -121,7 +120,7 @@ finished nodes nodes1 heads slots free queue queue1 frees waiting j k a some q o
 
 -- the last committed pair is taken away: its node goes to the free list
 pub removed : (nodes : List Node) (heads : List Link) (slots slots1 : List ℕ) (free : Link) (queue : Queue) (frees waiting : List ℕ) (j k : ℕ) → IsArena nodes heads slots free queue frees waiting → slots ≡ slots1 ++ j ∷ [] → k ≡ (run_at nodes j).first.old / block % length heads
-    → (j < length nodes) × IsArena (led nodes j free) (set heads k (node_at nodes j).next) slots1 (To j) queue (j ∷ frees) waiting
+    → (j < length nodes) × IsArena (led nodes j free) (set heads k (node_at nodes j).next) slots1 (to j) queue (j ∷ frees) waiting
 removed nodes heads slots slots1 free queue frees waiting j k a last at =
     let nodes1 : List Node = led nodes j free in
     let counts = λ (i : ℕ). count-append i slots1 (j ∷ []) in
@@ -214,33 +213,33 @@ hung_anew nodes nodes1 heads heads1 slots free queue frees waiting a hung others
     }
 
 -- no chain yet
-pub hung_none : (nodes : List Node) (n : ℕ) → AreHung nodes (replicate n Nowhere) []
-hung_none nodes n b lt = get_or-replicate n b Nowhere Nowhere (omega (arith, length-replicate n Nowhere))
+pub hung_none : (nodes : List Node) (n : ℕ) → AreHung nodes (replicate n nowhere) []
+hung_none nodes n b lt = get_or-replicate n b nowhere nowhere (omega (arith, length-replicate n nowhere))
 
 -- one slot more
 pub hung_slot : (nodes nodes1 : List Node) (heads : List Link) (slots : List ℕ) (i j k : ℕ) → i < length slots → j ≡ get_or slots i 0 → ((x : ℕ) → count_of x slots ≤ 1) → j < length nodes → k ≡ (run_at nodes j).first.old / block % length heads → AreHung nodes heads (reverse (take i slots)) → nodes1 ≡ led nodes j (head_at heads k)
-    → AreHung nodes1 (set heads k (To j)) (reverse (take (i + 1) slots))
+    → AreHung nodes1 (set heads k (to j)) (reverse (take (i + 1) slots))
 hung_slot nodes nodes1 heads slots i j k lt is once inside at hung led1 =
     let order : reverse (take (i + 1) slots) ≡ j ∷ reverse (take i slots) = ap reverse (take_more slots i 0 lt ∙ ap (λ x. take i slots ++ x ∷ []) (sym is)) ∙ reverse-append (take i slots) (j ∷ []) in
     let parts : count_of j slots ≡ count_of j (take i slots) + count_of j (drop i slots) = ap (count_of j) (sym (take-append-drop i slots)) ∙ count-append j (take i slots) (drop i slots) in
     let front : count_of j (drop i slots) ≡ count_of j (get_or slots i 0 ∷ drop (suc i) slots) = ap (count_of j) (drop-cons slots i 0 lt) in
     let off : count_of j (reverse (take i slots)) ≡ 0 = omega (arith, once j, count-reverse j (take i slots), count_here j (get_or slots i 0) (drop (suc i) slots) (sym is)) in
-    subst (λ x. AreHung x (set heads k (To j)) (reverse (take (i + 1) slots))) (sym led1) (subst (AreHung (led nodes j (head_at heads k)) (set heads k (To j))) (sym order) (hung_more nodes heads (reverse (take i slots)) j k inside off at hung))
+    subst (λ x. AreHung x (set heads k (to j)) (reverse (take (i + 1) slots))) (sym led1) (subst (AreHung (led nodes j (head_at heads k)) (set heads k (to j))) (sym order) (hung_more nodes heads (reverse (take i slots)) j k inside off at hung))
 
 -- as whole: what the arena stands for, after each call
 
 pub abandoned_sound : (nodes nodes1 nodes2 : List Node) (heads : List Link) (slots : List ℕ) (free : Link) (queue queue1 : Queue) (count reserved nodes_capacity nodes_capacity1 slots_capacity j : ℕ) → IsSound nodes heads slots free queue count reserved nodes_capacity slots_capacity → 0 < count_of j (list_from nodes queue.first)
     → IsQueue nodes1 queue1 (omit j (list_from nodes queue.first)) → ((i : ℕ) → run_at nodes1 i ≡ run_at nodes i) → ((i : ℕ) → count_of i (list_from nodes queue.first) ≡ 0 → node_at nodes1 i ≡ node_at nodes i) → length nodes1 ≡ length nodes → nodes2 ≡ led nodes1 j free → nodes_capacity1 ≡ nodes_capacity
-    → IsSound nodes2 heads slots (To j) queue1 count reserved nodes_capacity1 slots_capacity × ((pairs_on nodes2 slots ≡ pairs_on nodes slots) × (map (begun_at nodes2) (list_from nodes2 queue1.first) ≡ map (begun_at nodes) (omit j (list_from nodes queue.first))))
+    → IsSound nodes2 heads slots (to j) queue1 count reserved nodes_capacity1 slots_capacity × ((pairs_on nodes2 slots ≡ pairs_on nodes slots) × (map (begun_at nodes2) (list_from nodes2 queue1.first) ≡ map (begun_at nodes) (omit j (list_from nodes queue.first))))
 abandoned_sound nodes nodes1 nodes2 heads slots free queue queue1 count reserved nodes_capacity nodes_capacity1 slots_capacity j sound some q pairs others len last same =
     let frees : List ℕ = list_from nodes free in
     let waiting : List ℕ = list_from nodes queue.first in
-    let a : IsArena nodes2 heads slots (To j) queue1 (j ∷ frees) (omit j waiting) = subst (λ x. IsArena x heads slots (To j) queue1 (j ∷ frees) (omit j waiting)) (sym last) (abandoned nodes nodes1 heads slots free queue queue1 frees waiting j sound.arena some q others len) in
+    let a : IsArena nodes2 heads slots (to j) queue1 (j ∷ frees) (omit j waiting) = subst (λ x. IsArena x heads slots (to j) queue1 (j ∷ frees) (omit j waiting)) (sym last) (abandoned nodes nodes1 heads slots free queue queue1 frees waiting j sound.arena some q others len) in
     let lt : j < length nodes1 = let h = sound.arena.queued.inside j some in omega arith in
     let pairs2 : (i : ℕ) → run_at nodes2 i ≡ run_at nodes i = λ i. ap (λ x. run_at x i) last ∙ led_run nodes1 j i free lt ∙ pairs i in
     let long : length nodes2 ≡ length nodes = ap length last ∙ length-set nodes1 j _ ∙ len in
     let less : queue1.count + 1 ≡ queue.count = omega (arith, q.many, omit_length j waiting some, sound.arena.queued.many) in (
-      sound_of nodes2 heads slots (To j) queue1 count reserved nodes_capacity1 slots_capacity (j ∷ frees) (omit j waiting) a (record {
+      sound_of nodes2 heads slots (to j) queue1 count reserved nodes_capacity1 slots_capacity (j ∷ frees) (omit j waiting) a (record {
         nodes_room = let r = sound.room.nodes_room in omega arith;
         slots_room = let r = sound.room.slots_room in omega arith;
         buckets = let r = sound.room.buckets in omega arith;
@@ -249,26 +248,26 @@ abandoned_sound nodes nodes1 nodes2 heads slots free queue queue1 count reserved
       }) (held_kept nodes nodes2 slots waiting (omit j waiting) count (λ i s. pairs2 i) (λ i s. pairs2 i) (λ i. omega (arith, omit_count j waiting i some)) sound.held) (omega (arith, sound.small)),
       (
         pairs_kept nodes nodes2 slots (λ i s. pairs2 i),
-        ap (map (begun_at nodes2)) (lists_are nodes2 heads slots (To j) queue1 (j ∷ frees) (omit j waiting) a).1 ∙ begun_kept nodes nodes2 (omit j waiting) (λ i s. pairs2 i),
+        ap (map (begun_at nodes2)) (lists_are nodes2 heads slots (to j) queue1 (j ∷ frees) (omit j waiting) a).1 ∙ begun_kept nodes nodes2 (omit j waiting) (λ i s. pairs2 i),
       ),
     )
 
 pub finished_sound : (nodes nodes1 nodes2 : List Node) (heads heads1 : List Link) (slots slots1 : List ℕ) (free : Link) (queue queue1 : Queue) (count reserved nodes_capacity nodes_capacity1 slots_capacity slots_capacity1 j : ℕ) → IsSound nodes heads slots free queue count reserved nodes_capacity slots_capacity → 0 < count_of j (list_from nodes queue.first)
     → IsQueue nodes1 queue1 (omit j (list_from nodes queue.first)) → ((i : ℕ) → run_at nodes1 i ≡ run_at nodes i) → ((i : ℕ) → count_of i (list_from nodes queue.first) ≡ 0 → node_at nodes1 i ≡ node_at nodes i) → length nodes1 ≡ length nodes
-    → nodes2 ≡ led nodes1 j (head_at heads ((run_at nodes1 j).first.old / block % length heads)) → heads1 ≡ set heads ((run_at nodes1 j).first.old / block % length heads) (To j) → slots1 ≡ slots ++ j ∷ [] → nodes_capacity1 ≡ nodes_capacity → slots_capacity1 ≡ slots_capacity
+    → nodes2 ≡ led nodes1 j (head_at heads ((run_at nodes1 j).first.old / block % length heads)) → heads1 ≡ set heads ((run_at nodes1 j).first.old / block % length heads) (to j) → slots1 ≡ slots ++ j ∷ [] → nodes_capacity1 ≡ nodes_capacity → slots_capacity1 ≡ slots_capacity
     → IsSound nodes2 heads1 slots1 free queue1 (count + 1) reserved nodes_capacity1 slots_capacity1 × ((pairs_on nodes2 slots1 ≡ pairs_on nodes slots ++ (run_at nodes j).first ∷ []) × (map (begun_at nodes2) (list_from nodes2 queue1.first) ≡ map (begun_at nodes) (omit j (list_from nodes queue.first))))
 finished_sound nodes nodes1 nodes2 heads heads1 slots slots1 free queue queue1 count reserved nodes_capacity nodes_capacity1 slots_capacity slots_capacity1 j sound some q pairs others len last heads_are slots_are same same1 =
     let frees : List ℕ = list_from nodes free in
     let waiting : List ℕ = list_from nodes queue.first in
     let k : ℕ = (run_at nodes1 j).first.old / block % length heads in
     let f = finished nodes nodes1 heads slots free queue queue1 frees waiting j k sound.arena some q others len refl in
-    let a : IsArena nodes2 heads1 slots1 free queue1 frees (omit j waiting) = subst (λ x. IsArena x heads1 slots1 free queue1 frees (omit j waiting)) (sym last) (subst (λ x. IsArena (led nodes1 j (head_at heads k)) x slots1 free queue1 frees (omit j waiting)) (sym heads_are) (subst (λ x. IsArena (led nodes1 j (head_at heads k)) (set heads k (To j)) x free queue1 frees (omit j waiting)) (sym slots_are) f)) in
+    let a : IsArena nodes2 heads1 slots1 free queue1 frees (omit j waiting) = subst (λ x. IsArena x heads1 slots1 free queue1 frees (omit j waiting)) (sym last) (subst (λ x. IsArena (led nodes1 j (head_at heads k)) x slots1 free queue1 frees (omit j waiting)) (sym heads_are) (subst (λ x. IsArena (led nodes1 j (head_at heads k)) (set heads k (to j)) x free queue1 frees (omit j waiting)) (sym slots_are) f)) in
     let lt : j < length nodes1 = let h = sound.arena.queued.inside j some in omega arith in
     let pairs2 : (i : ℕ) → run_at nodes2 i ≡ run_at nodes i = λ i. ap (λ x. run_at x i) last ∙ led_run nodes1 j i (head_at heads k) lt ∙ pairs i in
     let long : length nodes2 ≡ length nodes = ap length last ∙ length-set nodes1 j _ ∙ len in
     let less : queue1.count + 1 ≡ queue.count = omega (arith, q.many, omit_length j waiting some, sound.arena.queued.many) in
     let more : length slots1 ≡ length slots + 1 = ap length slots_are ∙ length-append slots (j ∷ []) in
-    let wide : length heads1 ≡ length heads = ap length heads_are ∙ length-set heads k (To j) in
+    let wide : length heads1 ≡ length heads = ap length heads_are ∙ length-set heads k (to j) in
     let one : (run_at nodes j).count ≡ 1 = sound.held.single j some in
     let p : pairs_on nodes2 slots1 ≡ pairs_on nodes slots ++ (run_at nodes j).first ∷ [] =
     pairs_kept nodes nodes2 slots1 (λ i s. pairs2 i) ∙ ap (pairs_on nodes) slots_are ∙ pairs-last nodes slots j
@@ -297,13 +296,13 @@ finished_sound nodes nodes1 nodes2 heads heads1 slots slots1 free queue queue1 c
 
 pub removed_sound : (nodes nodes1 : List Node) (heads heads1 : List Link) (slots slots1 : List ℕ) (free : Link) (queue : Queue) (count reserved nodes_capacity nodes_capacity1 slots_capacity slots_capacity1 j : ℕ) → IsSound nodes heads slots free queue count reserved nodes_capacity slots_capacity → slots ≡ slots1 ++ j ∷ [] → (run_at nodes j).count ≤ 1
     → nodes1 ≡ led nodes j free → heads1 ≡ set heads ((run_at nodes j).first.old / block % length heads) (node_at nodes j).next → nodes_capacity1 ≡ nodes_capacity → slots_capacity1 ≡ slots_capacity
-    → IsSound nodes1 heads1 slots1 (To j) queue (count - 1) reserved nodes_capacity1 slots_capacity1 × ((pairs_on nodes1 slots1 ≡ take (length (pairs_on nodes slots) - 1) (pairs_on nodes slots)) × (map (begun_at nodes1) (list_from nodes1 queue.first) ≡ map (begun_at nodes) (list_from nodes queue.first)))
+    → IsSound nodes1 heads1 slots1 (to j) queue (count - 1) reserved nodes_capacity1 slots_capacity1 × ((pairs_on nodes1 slots1 ≡ take (length (pairs_on nodes slots) - 1) (pairs_on nodes slots)) × (map (begun_at nodes1) (list_from nodes1 queue.first) ≡ map (begun_at nodes) (list_from nodes queue.first)))
 removed_sound nodes nodes1 heads heads1 slots slots1 free queue count reserved nodes_capacity nodes_capacity1 slots_capacity slots_capacity1 j sound last short nodes_are heads_are same same1 =
     let frees : List ℕ = list_from nodes free in
     let waiting : List ℕ = list_from nodes queue.first in
     let k : ℕ = (run_at nodes j).first.old / block % length heads in
     let (lt, f) = removed nodes heads slots slots1 free queue frees waiting j k sound.arena last refl in
-    let a : IsArena nodes1 heads1 slots1 (To j) queue (j ∷ frees) waiting = subst (λ x. IsArena x heads1 slots1 (To j) queue (j ∷ frees) waiting) (sym nodes_are) (subst (λ x. IsArena (led nodes j free) x slots1 (To j) queue (j ∷ frees) waiting) (sym heads_are) f) in
+    let a : IsArena nodes1 heads1 slots1 (to j) queue (j ∷ frees) waiting = subst (λ x. IsArena x heads1 slots1 (to j) queue (j ∷ frees) waiting) (sym nodes_are) (subst (λ x. IsArena (led nodes j free) x slots1 (to j) queue (j ∷ frees) waiting) (sym heads_are) f) in
     let pairs : (i : ℕ) → run_at nodes1 i ≡ run_at nodes i = λ i. ap (λ x. run_at x i) nodes_are ∙ led_run nodes j i free lt in
     let long : length nodes1 ≡ length nodes = ap length nodes_are ∙ length-set nodes j _ in
     let less : length slots ≡ length slots1 + 1 = ap length last ∙ length-append slots1 (j ∷ []) in
@@ -320,7 +319,7 @@ removed_sound nodes nodes1 heads heads1 slots slots1 free queue count reserved n
       single = λ i s. ap (λ (r : Run). r.count) (pairs i) ∙ sound.held.single i s;
       many = ap length p ∙ n ∙ ap (λ x. x - 1) sound.held.many;
     } in (
-      sound_of nodes1 heads1 slots1 (To j) queue (count - 1) reserved nodes_capacity1 slots_capacity1 (j ∷ frees) waiting a (record {
+      sound_of nodes1 heads1 slots1 (to j) queue (count - 1) reserved nodes_capacity1 slots_capacity1 (j ∷ frees) waiting a (record {
         nodes_room = let r = sound.room.nodes_room in omega arith;
         slots_room = let r = sound.room.slots_room in omega arith;
         buckets = let r = sound.room.buckets in omega arith;
@@ -329,7 +328,7 @@ removed_sound nodes nodes1 heads heads1 slots slots1 free queue count reserved n
       }) held (omega (arith, sound.small)),
       (
         p ∙ sym (take-append_seam (pairs_on nodes slots1) ((run_at nodes j).first ∷ [])) ∙ ap (λ x. take x (pairs_on nodes slots1 ++ (run_at nodes j).first ∷ [])) n ∙ ap (take (length (pairs_on nodes slots) - 1)) (sym parts),
-        ap (map (begun_at nodes1)) (lists_are nodes1 heads1 slots1 (To j) queue (j ∷ frees) waiting a).1 ∙ begun_kept nodes nodes1 waiting (λ i s. pairs i),
+        ap (map (begun_at nodes1)) (lists_are nodes1 heads1 slots1 (to j) queue (j ∷ frees) waiting a).1 ∙ begun_kept nodes nodes1 waiting (λ i s. pairs i),
       ),
     )
 
@@ -349,16 +348,16 @@ begun_ready nodes nodes1 heads slots free queue frees waiting j a taken others =
     ((on, on_slots), ((q, walked nodes1 queue.first waiting (length nodes1) q.chain (omega (arith, a.one.all, off.1.1))), (omega (arith, off.0), off.1.0)))
 
 -- an arena that has room for a pair more has few nodes after one is taken: a new one is made only where none is free
-few_taken : (n n1 more : ℕ) (frees waiting slots : List ℕ) (j : ℕ) → StandsOnOne n frees waiting slots → IsTaken frees n j n1 → 0 < more → length waiting + (length slots + more) ≤ 2 ^ 32 → n ≤ 2 ^ 32 → n1 ≤ 2 ^ 32
+few_taken : (n n1 more : ℕ) (frees waiting slots : List ℕ) (j : ℕ) → StandsOnOne n frees waiting slots → IsTaken frees n j n1 → 0 < more → length waiting + (length slots + more) < 2 ^ 32 → n < 2 ^ 32 → n1 < 2 ^ 32
 few_taken n n1 more [] waiting slots j one (is, new) some places small = omega (arith, one.all)
 few_taken n n1 more (f ∷ frees) waiting slots j one (is, new) some places small = omega arith
 
-pub taken_small : (nodes nodes1 : List Node) (heads : List Link) (slots : List ℕ) (free : Link) (queue : Queue) (count reserved nodes_capacity slots_capacity j : ℕ) → IsSound nodes heads slots free queue count reserved nodes_capacity slots_capacity → IsTaken (list_from nodes free) (length nodes) j (length nodes1) → 0 < reserved → length nodes1 ≤ 2 ^ 32
+pub taken_small : (nodes nodes1 : List Node) (heads : List Link) (slots : List ℕ) (free : Link) (queue : Queue) (count reserved nodes_capacity slots_capacity j : ℕ) → IsSound nodes heads slots free queue count reserved nodes_capacity slots_capacity → IsTaken (list_from nodes free) (length nodes) j (length nodes1) → 0 < reserved → length nodes1 < 2 ^ 32
 taken_small nodes nodes1 heads slots free queue count reserved nodes_capacity slots_capacity j sound taken some =
     few_taken (length nodes) (length nodes1) reserved (list_from nodes free) (list_from nodes queue.first) slots j sound.arena.one taken some (omega (arith, sound.room.places, sound.arena.queued.many)) sound.small
 
 pub begun_sound : (nodes nodes1 nodes2 : List Node) (heads : List Link) (slots : List ℕ) (free free1 : Link) (queue queue2 : Queue) (count reserved reserved1 nodes_capacity nodes_capacity1 slots_capacity j : ℕ) (pair : Pair) → IsSound nodes heads slots free queue count reserved nodes_capacity slots_capacity
-    → Leads nodes1 free1 (drop 1 (list_from nodes free)) → IsTaken (list_from nodes free) (length nodes) j (length nodes1) → ((i : ℕ) → i ≢ j → i < length nodes → node_at nodes1 i ≡ node_at nodes i) → node_at nodes1 j ≡ record { run = record { first = pair; count = 1 }; next = Nowhere } → IsRun (record { first = pair; count = 1 })
+    → Leads nodes1 free1 (drop 1 (list_from nodes free)) → IsTaken (list_from nodes free) (length nodes) j (length nodes1) → ((i : ℕ) → i ≢ j → i < length nodes → node_at nodes1 i ≡ node_at nodes i) → node_at nodes1 j ≡ record { first = pair; count = 1; next = nowhere } → IsRun (record { first = pair; count = 1 })
     → IsQueue nodes2 queue2 (list_from nodes1 queue.first ++ j ∷ []) → ((i : ℕ) → run_at nodes2 i ≡ run_at nodes1 i) → ((i : ℕ) → count_of i (list_from nodes1 queue.first) ≡ 0 → node_at nodes2 i ≡ node_at nodes1 i) → length nodes2 ≡ length nodes1 → nodes_capacity1 ≡ nodes_capacity → reserved1 + 1 ≡ reserved
     → IsSound nodes2 heads slots free1 queue2 count reserved1 nodes_capacity1 slots_capacity × ((pairs_on nodes2 slots ≡ pairs_on nodes slots) × (map (begun_at nodes2) (list_from nodes2 queue2.first) ≡ map (begun_at nodes) (list_from nodes queue.first) ++ record { id = j; pair = pair } ∷ []))
 begun_sound nodes nodes1 nodes2 heads slots free free1 queue queue2 count reserved reserved1 nodes_capacity nodes_capacity1 slots_capacity j pair sound freed taken others node fits queued pairs2 others2 len same less =
@@ -369,24 +368,24 @@ begun_sound nodes nodes1 nodes2 heads slots free free1 queue queue2 count reserv
     let q : IsQueue nodes2 queue2 (waiting ++ j ∷ []) = subst (λ x. IsQueue nodes2 queue2 (x ++ j ∷ [])) e queued in
     let o : (i : ℕ) → count_of i waiting ≡ 0 → node_at nodes2 i ≡ node_at nodes1 i = subst (λ x. (i : ℕ) → count_of i x ≡ 0 → node_at nodes2 i ≡ node_at nodes1 i) e others2 in
     let a : IsArena nodes2 heads slots free1 queue2 (drop 1 frees) (waiting ++ j ∷ []) = begun nodes nodes1 nodes2 heads slots free free1 queue queue2 frees waiting j sound.arena freed taken others q o len in
-    let small : length nodes1 ≤ 2 ^ 32 = taken_small nodes nodes1 heads slots free queue count reserved nodes_capacity slots_capacity j sound taken (omega arith) in
+    let small : length nodes1 < 2 ^ 32 = taken_small nodes nodes1 heads slots free queue count reserved nodes_capacity slots_capacity j sound taken (omega arith) in
     let more : queue2.count ≡ queue.count + 1 = omega (arith, q.many, sound.arena.queued.many, length-append waiting (j ∷ [])) in
-    let own : run_at nodes2 j ≡ record { first = pair; count = 1 } = pairs2 j ∙ ap (λ (n : Node). n.run) node in
+    let own : run_at nodes2 j ≡ record { first = pair; count = 1 } = pairs2 j ∙ ap run_of node in
     let held : HoldsRuns nodes2 slots (waiting ++ j ∷ []) count = record {
-      runs = λ i s. subst IsRun (sym (pairs2 i ∙ ap (λ (n : Node). n.run) (ready.0.1.same i s))) (sound.held.runs i s);
+      runs = λ i s. subst IsRun (sym (pairs2 i ∙ ap run_of (ready.0.1.same i s))) (sound.held.runs i s);
       begun = λ i s. elim (cases_eq j i) [
         | inl e ↦ subst (λ x. IsRun (run_at nodes2 x)) e (subst IsRun (sym own) fits)
         | inr ne ↦ (
             let on : 0 < count_of i waiting = omega (arith, count-append i waiting (j ∷ []), count_there i j [] ne) in
-            subst IsRun (sym (pairs2 i ∙ ap (λ (n : Node). n.run) (ready.0.0.same i on))) (sound.held.begun i on))
+            subst IsRun (sym (pairs2 i ∙ ap run_of (ready.0.0.same i on))) (sound.held.begun i on))
       ];
       single = λ i s. elim (cases_eq j i) [
         | inl e ↦ subst (λ x. (run_at nodes2 x).count ≡ 1) e (ap (λ (r : Run). r.count) own)
         | inr ne ↦ (
             let on : 0 < count_of i waiting = omega (arith, count-append i waiting (j ∷ []), count_there i j [] ne) in
-            ap (λ (r : Run). r.count) (pairs2 i ∙ ap (λ (n : Node). n.run) (ready.0.0.same i on)) ∙ sound.held.single i on)
+            ap (λ (r : Run). r.count) (pairs2 i ∙ ap run_of (ready.0.0.same i on)) ∙ sound.held.single i on)
       ];
-      many = ap length (pairs_kept nodes nodes2 slots (λ i s. pairs2 i ∙ ap (λ (n : Node). n.run) (ready.0.1.same i s))) ∙ sound.held.many;
+      many = ap length (pairs_kept nodes nodes2 slots (λ i s. pairs2 i ∙ ap run_of (ready.0.1.same i s))) ∙ sound.held.many;
     } in (
       sound_of nodes2 heads slots free1 queue2 count reserved1 nodes_capacity1 slots_capacity (drop 1 frees) (waiting ++ j ∷ []) a (record {
         nodes_room = let r = sound.room.nodes_room in omega arith;
@@ -396,9 +395,9 @@ begun_sound nodes nodes1 nodes2 heads slots free free1 queue queue2 count reserv
         numbers = let r = sound.room.numbers in omega arith;
       }) held (omega (arith, small)),
       (
-        pairs_kept nodes nodes2 slots (λ i s. pairs2 i ∙ ap (λ (n : Node). n.run) (ready.0.1.same i s)),
+        pairs_kept nodes nodes2 slots (λ i s. pairs2 i ∙ ap run_of (ready.0.1.same i s)),
         ap (map (begun_at nodes2)) (lists_are nodes2 heads slots free1 queue2 (drop 1 frees) (waiting ++ j ∷ []) a).1 ∙ map-append (begun_at nodes2) waiting (j ∷ [])
-            ∙ ap (λ x. x ++ begun_at nodes2 j ∷ []) (begun_kept nodes nodes2 waiting (λ i s. pairs2 i ∙ ap (λ (n : Node). n.run) (ready.0.0.same i s)))
+            ∙ ap (λ x. x ++ begun_at nodes2 j ∷ []) (begun_kept nodes nodes2 waiting (λ i s. pairs2 i ∙ ap run_of (ready.0.0.same i s)))
             ∙ ap (λ (r : Run). map (begun_at nodes) waiting ++ record { id = j; pair = r.first } ∷ []) own,
       ),
     )
@@ -427,7 +426,7 @@ pub slot_others : (nodes nodes1 : List Node) (next : Link) (slots : List ℕ) (j
 slot_others nodes nodes1 next slots j i e some none = ap (λ x. node_at x i) e ∙ led_other nodes j i next (λ s. let h : count_of i slots ≡ count_of j slots = ap (λ x. count_of x slots) s in omega arith)
 
 -- the first free node is taken
-pub taken_list : (nodes : List Node) (free : Link) (frees : List ℕ) (at : ℕ) (node : Node) → free ≡ To at → Leads nodes free frees → ((i : ℕ) → count_of i frees ≤ 1) → (0 < count_of at frees) × ((frees ≡ at ∷ drop 1 frees) × Leads (set nodes at node) (node_at nodes at).next (drop 1 frees))
+pub taken_list : (nodes : List Node) (free : Link) (frees : List ℕ) (at : ℕ) (node : Node) → free ≡ to at → Leads nodes free frees → ((i : ℕ) → count_of i frees ≤ 1) → (0 < count_of at frees) × ((frees ≡ at ∷ drop 1 frees) × Leads (set nodes at node) (node_at nodes at).next (drop 1 frees))
 taken_list nodes free frees at node is l once =
     let (front, rest) = leads_some nodes at frees (subst (λ x. Leads nodes x frees) is l) in
     let own : count_of at frees ≡ 1 + count_of at (drop 1 frees) = ap (count_of at) front ∙ count_here at at (drop 1 frees) refl in
@@ -446,7 +445,7 @@ reserved_lists nodes nodes0 nodes1 heads heads1 slots slots0 free queue count re
 
 pub reserved_sound : (nodes nodes0 nodes1 : List Node) (heads heads1 : List Link) (slots slots0 slots1 : List ℕ) (free : Link) (queue : Queue) (count reserved reserved1 nodes_capacity nodes_capacity1 slots_capacity slots_capacity1 : ℕ) → IsSound nodes heads slots free queue count reserved nodes_capacity slots_capacity
     → nodes0 ≡ nodes → slots0 ≡ slots → slots1 ≡ slots → (AreHung nodes0 heads (reverse slots0) → AreHung nodes1 heads1 (reverse slots0)) → ((i : ℕ) → run_at nodes1 i ≡ run_at nodes0 i) → ((i : ℕ) → count_of i slots0 ≡ 0 → node_at nodes1 i ≡ node_at nodes0 i) → length nodes1 ≡ length nodes0
-    → queue.count + (length slots + reserved1) ≤ nodes_capacity1 → queue.count + (length slots + reserved1) ≤ slots_capacity1 → queue.count + (length slots + reserved1) ≤ length heads1 → queue.count + (count + reserved1) < 2 ^ 64 → queue.count + (length slots + reserved1) ≤ 2 ^ 32
+    → queue.count + (length slots + reserved1) ≤ nodes_capacity1 → queue.count + (length slots + reserved1) ≤ slots_capacity1 → queue.count + (length slots + reserved1) ≤ length heads1 → queue.count + (count + reserved1) < 2 ^ 64 → queue.count + (length slots + reserved1) < 2 ^ 32
     → IsSound nodes1 heads1 slots1 free queue count reserved1 nodes_capacity1 slots_capacity1
 reserved_sound nodes nodes0 nodes1 heads heads1 slots slots0 slots1 free queue count reserved reserved1 nodes_capacity nodes_capacity1 slots_capacity slots_capacity1 sound e0 s0 s1 hung pairs others len in_nodes in_slots in_heads in_numbers in_places =
     let a = (reserved_lists nodes nodes0 nodes1 heads heads1 slots slots0 free queue count reserved nodes_capacity slots_capacity sound e0 s0 hung pairs others len).0 in
@@ -475,8 +474,8 @@ recounted_sound nodes nodes1 heads slots slots0 free queue count count1 reserved
     let len : length nodes1 ≡ length nodes = ap length is ∙ length-set nodes last _ in
     let next : (i : ℕ) → (node_at nodes1 i).next ≡ (node_at nodes i).next = λ i. ap (λ x. (node_at x i).next) is ∙ recount_next nodes last i n inside in
     let first : (i : ℕ) → (run_at nodes1 i).first ≡ (run_at nodes i).first = λ i. ap (λ x. (run_at x i).first) is ∙ recount_first nodes last i n inside in
-    let other : (i : ℕ) → i ≢ last → run_at nodes1 i ≡ run_at nodes i = λ i ne. ap (λ x. run_at x i) is ∙ ap (λ (x : Node). x.run) (recount_other nodes last i n ne) in
-    let self : run_at nodes1 last ≡ record { first = (run_at nodes last).first; count = n } = ap (λ x. run_at x last) is ∙ ap (λ (x : Node). x.run) (recount_same nodes last n inside) in
+    let other : (i : ℕ) → i ≢ last → run_at nodes1 i ≡ run_at nodes i = λ i ne. ap (λ x. run_at x i) is ∙ ap run_of (recount_other nodes last i n ne) in
+    let self : run_at nodes1 last ≡ record { first = (run_at nodes last).first; count = n } = ap (λ x. run_at x last) is ∙ ap run_of (recount_same nodes last n inside) in
     let apart0 : (i : ℕ) → 0 < count_of i slots0 → i ≢ last = λ i s e. (let h : count_of i slots0 ≡ count_of last slots0 = ap (λ x. count_of x slots0) e in omega arith) in
     let apart1 : (i : ℕ) → 0 < count_of i waiting → i ≢ last = λ i s e. (let h : count_of i waiting ≡ count_of last waiting = ap (λ x. count_of x waiting) e in omega arith) in
     let q : IsQueue nodes queue waiting = sound.arena.queued in
@@ -519,7 +518,7 @@ recounted_sound nodes nodes1 heads slots slots0 free queue count count1 reserved
 pub joined_sound : (nodes nodes1 nodes2 nodes3 : List Node) (heads : List Link) (slots slots0 : List ℕ) (free : Link) (queue queue1 : Queue) (count reserved nodes_capacity nodes_capacity1 nodes_capacity2 slots_capacity j last : ℕ) → IsSound nodes heads slots free queue count reserved nodes_capacity slots_capacity → 0 < count_of j (list_from nodes queue.first)
     → IsQueue nodes1 queue1 (omit j (list_from nodes queue.first)) → ((i : ℕ) → run_at nodes1 i ≡ run_at nodes i) → ((i : ℕ) → count_of i (list_from nodes queue.first) ≡ 0 → node_at nodes1 i ≡ node_at nodes i) → length nodes1 ≡ length nodes → nodes2 ≡ led nodes1 j free → nodes_capacity1 ≡ nodes_capacity
     → slots ≡ slots0 ++ last ∷ [] → GoesOn (run_at nodes1 last) (run_at nodes1 j).first → nodes3 ≡ recount nodes2 last ((run_at nodes2 last).count + 1) → nodes_capacity2 ≡ nodes_capacity1
-    → IsSound nodes3 heads slots (To j) queue1 (count + 1) reserved nodes_capacity2 slots_capacity × ((pairs_on nodes3 slots ≡ pairs_on nodes slots ++ (run_at nodes j).first ∷ []) × (map (begun_at nodes3) (list_from nodes3 queue1.first) ≡ map (begun_at nodes) (omit j (list_from nodes queue.first))))
+    → IsSound nodes3 heads slots (to j) queue1 (count + 1) reserved nodes_capacity2 slots_capacity × ((pairs_on nodes3 slots ≡ pairs_on nodes slots ++ (run_at nodes j).first ∷ []) × (map (begun_at nodes3) (list_from nodes3 queue1.first) ≡ map (begun_at nodes) (omit j (list_from nodes queue.first))))
 joined_sound nodes nodes1 nodes2 nodes3 heads slots slots0 free queue queue1 count reserved nodes_capacity nodes_capacity1 nodes_capacity2 slots_capacity j last sound some q pairs others len back same ends on longer same2 =
     let waiting : List ℕ = list_from nodes queue.first in
     let s = abandoned_sound nodes nodes1 nodes2 heads slots free queue queue1 count reserved nodes_capacity nodes_capacity1 slots_capacity j sound some q pairs others len back same in
@@ -531,7 +530,7 @@ joined_sound nodes nodes1 nodes2 nodes3 heads slots slots0 free queue queue1 cou
     let run : Run = run_at nodes2 last in
     let one : (run_at nodes1 j).count ≡ 1 = ap (λ (x : Run). x.count) (pairs j) ∙ sound.held.single j some in
     let fits : IsRun (run_at nodes1 j) = subst IsRun (sym (pairs j)) (sound.held.begun j some) in
-    let r = recounted_sound nodes2 nodes3 heads slots slots0 (To j) queue1 count (count + 1) reserved nodes_capacity1 nodes_capacity2 slots_capacity last (run.count + 1) s.0 ends
+    let r = recounted_sound nodes2 nodes3 heads slots slots0 (to j) queue1 count (count + 1) reserved nodes_capacity1 nodes_capacity2 slots_capacity last (run.count + 1) s.0 ends
     (run_more run (run_at nodes1 j).first (s.0.held.runs last here) on2 (omega (arith, fits.old_fits)) (omega (arith, fits.new_fits))) longer same2
     (omega (arith, length_last nodes2 slots slots0 last ends, s.0.held.many)) (omega (arith, sound.room.numbers)) in
     let step : run.count + 1 ≡ suc run.count = omega arith in

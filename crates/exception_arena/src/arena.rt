@@ -4,9 +4,9 @@ ghost use Rattle.exception_arena.specs.Kept.{Kept};
 ghost use Rattle.exception_arena.specs.Arenas.{IsSound, kept};
 
 use crate::chains::{find, hang, make_buckets, take_down};
-use crate::node::{Link, Node, lengthen, read, shorten};
+use crate::link::Link;
+use crate::node::{Node, lengthen, read, shorten};
 use crate::queue::{Queue, place_in, put_last, take_out};
-use crate::run::Run;
 use crate::slots::{last_of, pair_at, run_before};
 use crate::spare::{put_back, take_node};
 use crate::{Begun, Exceptions, Id};
@@ -14,13 +14,13 @@ use sector::{Chunk, Pair, Refusal};
 use std::alloc::Global;
 use std::marker::Model;
 
-// So many nodes an arena has at most: places have 32 bits.
-const MOST_NODES: usize = 1 << 32;
+// So many nodes an arena has at most: links have 32 bits, and one of them leads nowhere.
+const MOST_NODES: usize = 0xffff_ffff;
 
 /// The pairs, in nodes that lead to one another. A node stands on the free list, on the pending list, where it holds one
 /// pair, or on the chain of the bucket of its old chunks, where it holds a run of committed pairs. The nodes of the runs
-/// are also kept in the order of their slots. The number of a pending pair is the place of its node, and
-/// each list keeps places in 32 bits.
+/// are also kept in the order of their slots. The number of a pending pair is the place of its node. A node
+/// takes 24 bytes, and a slot and the head of a bucket 4 each.
 #[derive(Drop)]
 pub struct Arena {
     nodes: Vec<Node>,
@@ -54,10 +54,10 @@ impl Exceptions for Arena {
             nodes: Vec::new(alloc),
             heads: Vec::new(alloc),
             slots: Vec::new(alloc),
-            free: Link::Nowhere,
+            free: Link::NOWHERE,
             queue: Queue {
-                first: Link::Nowhere,
-                last: Link::Nowhere,
+                first: Link::NOWHERE,
+                last: Link::NOWHERE,
                 count: 0,
             },
             count: 0,
@@ -106,8 +106,7 @@ impl Exceptions for Arena {
             old: old_chunk,
             new: new_chunk,
         };
-        let run = Run { first, count: 1 };
-        let place = take_node(&mut self.nodes, &mut self.free, run);
+        let place = take_node(&mut self.nodes, &mut self.free, first);
         put_last(&mut self.nodes, &mut self.queue, place);
         self.reserved -= 1;
         place as u64
@@ -118,7 +117,7 @@ impl Exceptions for Arena {
         let place = id as usize;
         take_out(&mut self.nodes, &mut self.queue, place);
         let listed = self.nodes.as_slice();
-        let pair = read(listed, place).run.first;
+        let pair = read(listed, place).first;
         self.count += 1;
         if let Some(last) = run_before(listed, self.slots.as_slice(), pair) {
             put_back(&mut self.nodes, &mut self.free, place);
@@ -147,7 +146,7 @@ impl Exceptions for Arena {
     fn remove(&mut self, _old_chunk: Chunk) {
         self.count -= 1;
         let last = last_of(self.slots.as_slice());
-        if read(self.nodes.as_slice(), last).run.count > 1 {
+        if read(self.nodes.as_slice(), last).count > 1 {
             shorten(&mut self.nodes, last);
             return;
         }
@@ -171,7 +170,7 @@ impl Exceptions for Arena {
         let place = place_in(self.nodes.as_slice(), self.queue, index);
         Begun {
             id: place as u64,
-            pair: read(self.nodes.as_slice(), place).run.first,
+            pair: read(self.nodes.as_slice(), place).first,
         }
     }
 

@@ -2,12 +2,12 @@
 // its old chunks, and the newest node of a bucket comes first.
 ghost use Rattle.std.specs.Prelude.{◌≡◌, ℕ, ◌<◌, ◌≤◌, ◌/◌, ◌%◌, ◌^◌, IsOk, IfErr, OnErr, OnOk, length, replicate, reverse, vec_capacity, slice_set};
 ghost use Rattle.store_bytes.specs.Picture.{place_of};
-ghost use Rattle.exception_arena.specs.Links.{node_at, run_at, pairs_on, led, head_at, AreHung, count_of};
+ghost use Rattle.exception_arena.specs.Links.{to, node_at, run_at, pairs_on, led, head_at, AreHung, count_of};
 ghost use Rattle.exception_arena.specs.Runs.{block, IsRun};
 ghost use Rattle.sector.specs.declared.refusal.Refusal.TheVariants.{NoMemory};
-ghost use Rattle.exception_arena.specs.declared.node.Link.TheVariants.{Nowhere, To};
 
-use crate::node::{Link, Node, lead, read};
+use crate::link::Link;
+use crate::node::{Node, lead, read};
 use crate::run::{BLOCK, copy_of};
 use sector::{Chunk, Refusal};
 
@@ -36,16 +36,16 @@ fn rest_of(number: u64, buckets: u64) -> u64
 /// Hangs a node into its bucket, before the others there.
 pub fn hang(nodes: &mut Vec<Node>, heads: &mut Vec<Link>, place: usize)
     requires inside { place < length nodes.old.items }
-    requires small { length nodes.old.items ≤ 2 ^ 32 }
+    requires small { length nodes.old.items < 2 ^ 32 }
     requires some { 0 < length heads.old.items }
     ensures nodes { nodes.new.items ≡ led nodes.old.items place (head_at heads.old.items ((run_at nodes.old.items place).first.old / block % length heads.old.items)) }
-    ensures heads { heads.new.items ≡ slice_set heads.old.items ((run_at nodes.old.items place).first.old / block % length heads.old.items) (To place) }
+    ensures heads { heads.new.items ≡ slice_set heads.old.items ((run_at nodes.old.items place).first.old / block % length heads.old.items) (to place) }
     ensures capacity { vec_capacity nodes.new ≡ vec_capacity nodes.old }
     ensures heads_capacity { vec_capacity heads.new ≡ vec_capacity heads.old }
 {
-    let bucket = bucket_of(nodes[place].run.first.old, heads.len());
+    let bucket = bucket_of(nodes[place].first.old, heads.len());
     lead(nodes, place, heads[bucket]);
-    heads[bucket] = Link::To(place as u32);
+    heads[bucket] = Link::to(place);
 }
 
 /// Makes so many buckets, for which there is room, and hangs the nodes of the slots into them, the oldest first.
@@ -53,7 +53,7 @@ pub fn hang_all(nodes: &mut Vec<Node>, heads: &mut Vec<Link>, slots: &[u32], buc
     requires some { 0 < buckets }
     requires room { buckets ≤ vec_capacity heads.old }
     requires inside { (i : ℕ) → 0 < count_of i slots.now → i < length nodes.old.items }
-    requires small { length nodes.old.items ≤ 2 ^ 32 }
+    requires small { length nodes.old.items < 2 ^ 32 }
     requires once { (i : ℕ) → count_of i slots.now ≤ 1 }
     ensures hung { AreHung nodes.new.items heads.new.items (reverse slots.now) }
     ensures buckets { length heads.new.items ≡ buckets }
@@ -63,7 +63,7 @@ pub fn hang_all(nodes: &mut Vec<Node>, heads: &mut Vec<Link>, slots: &[u32], buc
     ensures capacity { vec_capacity nodes.new ≡ vec_capacity nodes.old }
 {
     heads.clear();
-    let _ = heads.resize(buckets, Link::Nowhere);
+    let _ = heads.resize(buckets, Link::NOWHERE);
     for slot in 0..slots.len() {
         hang(nodes, heads, slots[slot] as usize);
     }
@@ -79,8 +79,9 @@ pub fn make_buckets(
     wanted: usize,
 ) -> Result<(), Refusal>
     requires inside { (i : ℕ) → 0 < count_of i slots.now → i < length nodes.old.items }
-    requires small { length nodes.old.items ≤ 2 ^ 32 }
+    requires small { length nodes.old.items < 2 ^ 32 }
     requires once { (i : ℕ) → count_of i slots.now ≤ 1 }
+    requires few { wanted < 2 ^ 32 }
     ensures hung { AreHung nodes.old.items heads.old.items (reverse slots.now) → AreHung nodes.new.items heads.new.items (reverse slots.now) }
     ensures enough { OnOk result (wanted ≤ length heads.new.items) }
     ensures more { length heads.old.items ≤ length heads.new.items }
@@ -95,9 +96,6 @@ pub fn make_buckets(
     if wanted <= heads.len() {
         return Ok(());
     }
-    if wanted > MOST_BUCKETS {
-        return Err(Refusal::NoMemory);
-    }
     let buckets = wanted.next_power_of_two();
     let Ok(()) = heads.reserve(buckets - heads.len()) else {
         return Err(Refusal::NoMemory);
@@ -105,9 +103,6 @@ pub fn make_buckets(
     hang_all(nodes, heads, slots, buckets);
     Ok(())
 }
-
-// So many buckets may be asked for.
-const MOST_BUCKETS: usize = 0x4000_0000_0000_0000;
 
 /// Takes the first node of its bucket off the chain.
 pub fn take_down(nodes: &[Node], heads: &mut Vec<Link>, place: usize)
@@ -117,7 +112,7 @@ pub fn take_down(nodes: &[Node], heads: &mut Vec<Link>, place: usize)
     ensures capacity { vec_capacity heads.new ≡ vec_capacity heads.old }
 {
     let node = nodes[place];
-    let bucket = bucket_of(node.run.first.old, heads.len());
+    let bucket = bucket_of(node.first.old, heads.len());
     heads[bucket] = node.next;
 }
 
@@ -136,12 +131,11 @@ pub fn find(nodes: &[Node], heads: &[Link], slots: &[u32], old_chunk: Chunk) -> 
     let mut found = None;
     let mut link = heads[bucket_of(old_chunk, heads.len())];
     for _step in 0..slots.len() {
-        let at = match link {
-            Link::Nowhere => return found,
-            Link::To(at) => at as usize,
+        let Some(at) = link.target() else {
+            return found;
         };
         let node = read(nodes, at);
-        found = copy_of(node.run, old_chunk, found);
+        found = copy_of(node.run(), old_chunk, found);
         link = node.next;
     }
     found

@@ -1,23 +1,30 @@
-// The nodes of the arena, and what leads from one to the next.
+// The nodes of the arena.
 ghost use Rattle.std.specs.Prelude.{◌≡◌, ◌+◌, ◌-◌, ◌<◌, vec_capacity, length};
-ghost use Rattle.exception_arena.specs.Links.{led, recount, node_at, run_at};
+ghost use Rattle.exception_arena.specs.Links.{led, recount, node_at, run_of, run_at};
 ghost use Rattle.exception_arena.specs.Runs.{block};
 
+use crate::link::Link;
 use crate::run::Run;
+use sector::Pair;
 
-/// Where a node leads to: to the node at a place of the arena, or nowhere. Places take 32 bits, so that a link takes 8 bytes
-/// and a node 32: an arena has 2^32 nodes at most.
-#[derive(Clone, Copy, PartialEq, Eq)]
-pub enum Link {
-    Nowhere,
-    To(u32),
-}
-
-/// A run of pairs, and the next node of the list that it stands on.
+/// A run of pairs, and the next node of the list that it stands on. It takes 24 bytes.
 #[derive(Clone, Copy, PartialEq, Eq)]
 pub struct Node {
-    pub run: Run,
+    pub first: Pair,
+    pub count: u32,
     pub next: Link,
+}
+
+impl Node {
+    /// Its run.
+    pub fn run(self) -> Run
+        ensures { result ≡ run_of self }
+    {
+        Run {
+            first: self.first,
+            count: self.count,
+        }
+    }
 }
 
 /// The node at a place.
@@ -34,8 +41,7 @@ pub fn lead(nodes: &mut Vec<Node>, place: usize, next: Link)
     ensures nodes { nodes.new.items ≡ led nodes.old.items place next }
     ensures capacity { vec_capacity nodes.new ≡ vec_capacity nodes.old }
 {
-    let run = nodes[place].run;
-    nodes[place] = Node { run, next };
+    nodes[place].next = next;
 }
 
 /// Makes the run of a node one pair longer.
@@ -45,13 +51,7 @@ pub fn lengthen(nodes: &mut Vec<Node>, place: usize)
     ensures nodes { nodes.new.items ≡ recount nodes.old.items place ((run_at nodes.old.items place).count + 1) }
     ensures capacity { vec_capacity nodes.new ≡ vec_capacity nodes.old }
 {
-    let node = nodes[place];
-    let first = node.run.first;
-    let count = node.run.count + 1;
-    nodes[place] = Node {
-        run: Run { first, count },
-        next: node.next,
-    };
+    nodes[place].count += 1;
 }
 
 /// Makes the run of a node one pair shorter.
@@ -61,11 +61,5 @@ pub fn shorten(nodes: &mut Vec<Node>, place: usize)
     ensures nodes { nodes.new.items ≡ recount nodes.old.items place ((run_at nodes.old.items place).count - 1) }
     ensures capacity { vec_capacity nodes.new ≡ vec_capacity nodes.old }
 {
-    let node = nodes[place];
-    let first = node.run.first;
-    let count = node.run.count - 1;
-    nodes[place] = Node {
-        run: Run { first, count },
-        next: node.next,
-    };
+    nodes[place].count -= 1;
 }

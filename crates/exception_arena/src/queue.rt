@@ -1,10 +1,10 @@
 // The pending list: the nodes of the pairs that are begun, in the order in which they began.
 ghost use Rattle.std.specs.Prelude.{◌≡◌, ℕ, ◌<◌, ◌≤◌, ◌^◌, ◌++◌, [], ◌∷◌, length, vec_capacity, slice_index_or, ◌≢◌};
-ghost use Rattle.exception_arena.specs.Links.{node_at, run_at, list_from, count_of, before_of, omit, relink, first_after, IsInside};
+ghost use Rattle.exception_arena.specs.Links.{nowhere, node_at, run_at, list_from, count_of, before_of, omit, relink, first_after, IsInside};
 ghost use Rattle.exception_arena.specs.Arenas.{IsQueue};
-ghost use Rattle.exception_arena.specs.declared.node.Link.TheVariants.{Nowhere};
 
-use crate::node::{Link, Node, lead, read};
+use crate::link::Link;
+use crate::node::{Node, lead, read};
 
 /// The first and the last node of the list, and how many there are.
 #[derive(Clone, Copy, PartialEq, Eq)]
@@ -17,14 +17,13 @@ pub struct Queue {
 /// The link to the node before a place, or nowhere where it is the first.
 fn node_before(nodes: &[Node], queue: Queue, place: usize) -> Link
     requires { IsQueue nodes.now queue (list_from nodes.now queue.first) }
-    ensures { result ≡ before_of place Nowhere (list_from nodes.now queue.first) }
+    ensures { result ≡ before_of place nowhere (list_from nodes.now queue.first) }
 {
-    let mut before = Link::Nowhere;
+    let mut before = Link::NOWHERE;
     let mut link = queue.first;
     for _step in 0..queue.count {
-        let at = match link {
-            Link::Nowhere => return before,
-            Link::To(at) => at as usize,
+        let Some(at) = link.target() else {
+            return before;
         };
         if at == place {
             return before;
@@ -43,10 +42,10 @@ fn lead_from(nodes: &mut Vec<Node>, first: Link, before: Link, next: Link) -> Li
     ensures first { result ≡ first_after before first next }
     ensures capacity { vec_capacity nodes.new ≡ vec_capacity nodes.old }
 {
-    match before {
-        Link::Nowhere => next,
-        Link::To(at) => {
-            lead(nodes, at as usize, next);
+    match before.target() {
+        None => next,
+        Some(at) => {
+            lead(nodes, at, next);
             first
         }
     }
@@ -54,12 +53,12 @@ fn lead_from(nodes: &mut Vec<Node>, first: Link, before: Link, next: Link) -> Li
 
 /// The last node of the list after one is taken out that led on by `next`.
 fn last_after(last: Link, before: Link, next: Link) -> Link
-    ensures ends { next ≡ Nowhere → result ≡ before }
-    ensures goes_on { next ≢ Nowhere → result ≡ last }
+    ensures ends { next ≡ nowhere → result ≡ before }
+    ensures goes_on { next ≢ nowhere → result ≡ last }
 {
-    match next {
-        Link::Nowhere => before,
-        Link::To(_) => last,
+    match next.target() {
+        None => before,
+        Some(_) => last,
     }
 }
 
@@ -85,18 +84,19 @@ pub fn take_out(nodes: &mut Vec<Node>, queue: &mut Queue, place: usize)
 pub fn put_last(nodes: &mut Vec<Node>, queue: &mut Queue, place: usize)
     requires queue { IsQueue nodes.old.items queue.old (list_from nodes.old.items queue.old.first) }
     requires inside { place < length nodes.old.items }
-    requires small { length nodes.old.items ≤ 2 ^ 32 }
+    requires small { length nodes.old.items < 2 ^ 32 }
     requires fits { queue.old.count < length nodes.old.items }
     requires off { count_of place (list_from nodes.old.items queue.old.first) ≡ 0 }
-    requires ends { (node_at nodes.old.items place).next ≡ Nowhere }
+    requires ends { (node_at nodes.old.items place).next ≡ nowhere }
     ensures queue { IsQueue nodes.new.items queue.new (list_from nodes.old.items queue.old.first ++ place ∷ []) }
     ensures pairs { (i : ℕ) → run_at nodes.new.items i ≡ run_at nodes.old.items i }
     ensures others { (i : ℕ) → count_of i (list_from nodes.old.items queue.old.first) ≡ 0 → node_at nodes.new.items i ≡ node_at nodes.old.items i }
     ensures len { length nodes.new.items ≡ length nodes.old.items }
     ensures capacity { vec_capacity nodes.new ≡ vec_capacity nodes.old }
 {
-    queue.first = lead_from(nodes, queue.first, queue.last, Link::To(place as u32));
-    queue.last = Link::To(place as u32);
+    let link = Link::to(place);
+    queue.first = lead_from(nodes, queue.first, queue.last, link);
+    queue.last = link;
     queue.count += 1;
 }
 
@@ -108,14 +108,13 @@ pub fn place_in(nodes: &[Node], queue: Queue, index: usize) -> usize
 {
     let mut link = queue.first;
     for _step in 0..index {
-        let at = match link {
-            Link::Nowhere => unreachable!(),
-            Link::To(at) => at as usize,
+        let Some(at) = link.target() else {
+            unreachable!()
         };
         link = read(nodes, at).next;
     }
-    match link {
-        Link::To(at) => at as usize,
-        Link::Nowhere => unreachable!(),
-    }
+    let Some(at) = link.target() else {
+        unreachable!()
+    };
+    at
 }

@@ -26,7 +26,7 @@ pub fn run_before(nodes: &[Node], slots: &[u32], pair: Pair) -> Option<usize>
         return None;
     }
     let place = last_of(slots);
-    if goes_on(read(nodes, place).run, pair) {
+    if goes_on(read(nodes, place).run(), pair) {
         Some(place)
     } else {
         None
@@ -43,7 +43,7 @@ pub fn pair_at(nodes: &[Node], slots: &[u32], count: usize, slot: usize) -> Pair
 {
     let mut end = count as u64;
     for passed in 0..slots.len() {
-        let run = read(nodes, slots[slots.len() - 1 - passed] as usize).run;
+        let run = read(nodes, slots[slots.len() - 1 - passed] as usize).run();
         end -= run.count as u64;
         if end <= slot as u64 {
             return pair_in(run, slot as u64 - end);

@@ -42,14 +42,12 @@ impl Block for Stack {
 
     ghost may_hold = { stack_may_hold };
 
+    #[inline(always)]
     fn sectors(&self) -> u64 {
-        match self {
-            Stack::Disk(disk) => disk.sectors(),
-            Stack::Flakey(flakey, below) => flakey
-                .sectors
-                .min(below.sectors().saturating_sub(flakey.offset)),
-            Stack::Dust(dust, below) => dust.sectors.min(below.sectors()),
-            Stack::Error(error) => error.sectors,
+        if let Stack::Disk(disk) = self {
+            disk.sectors()
+        } else {
+            self.sectors_under_layers()
         }
     }
 
@@ -239,6 +237,20 @@ impl Stack {
     ghost use Rattle.layers.specs.Stack.{below_of, stack_size, stack_contents, stack_durable, stack_layers, stack_faults, stack_done};
     ghost use Rattle.layers.specs.Beneath.{IsOver};
     ghost use Rattle.layers.specs.Windows.{beside, layers_below, without_windows};
+
+    // How many sectors it has, where layers may stand above the disk.
+    fn sectors_under_layers(&self) -> u64
+        ensures { result ≡ stack_size self.now }
+    {
+        match self {
+            Stack::Disk(disk) => disk.sectors(),
+            Stack::Flakey(flakey, below) => flakey
+                .sectors
+                .min(below.sectors_under_layers().saturating_sub(flakey.offset)),
+            Stack::Dust(dust, below) => dust.sectors.min(below.sectors_under_layers()),
+            Stack::Error(error) => error.sectors,
+        }
+    }
 
     /// The stack under a flakey layer, whose sectors lie inside it. `NoMemory` where the allocator refuses room; the stack
     /// is then given back.

@@ -40,10 +40,7 @@ impl<B: Block> Merge<B> {
         let last = group.first.old + (group.copied - 1) as u64;
         match self.store.merge_commit(last, group.copied) {
             Ok(()) => {
-                self.group = Some(Group {
-                    progress: Progress::Committed,
-                    ..group
-                });
+                mark_committed(&mut self.group);
                 Ok(())
             }
             Err(io) => Err(io),
@@ -71,5 +68,14 @@ impl<B: Block> Merge<B> {
             Err(io) => return Err(io),
         }
         Ok(())
+    }
+}
+
+/// Counts the group's area as written without its slots.
+fn mark_committed(group: &mut Option<Group>)
+    ensures { group.new ≡ changed committed_in group.old }
+{
+    if let Some(present) = group {
+        present.progress = Progress::Committed;
     }
 }

@@ -73,8 +73,9 @@ impl<B: Block> Merge<B> {
         let Some(pair) = self.full() else {
             unreachable!()
         };
+        let size = self.store.state.origin;
         let chunk = self.store.state.chunk;
-        match put_back(origin, chunk, pair.old, self.buffer.as_slice()) {
+        match put_back(origin, size, chunk, pair.old, self.buffer.as_slice()) {
             Ok(()) => {
                 count_copied(&mut self.group);
                 Ok(())
@@ -154,8 +155,16 @@ fn fetch<B: Block>(store: &mut Store<B>, buffer: &mut [u8], pair: Pair) -> Resul
     )
 }
 
-/// Writes the front of a buffer of a chunk to its place on the origin disk, as many sectors as that has there.
-fn put_back<B: Block>(origin: &mut B, chunk: u32, old: Chunk, buffer: &[u8]) -> Result<(), Io>
+/// Writes the front of a buffer of a chunk to its place on the origin disk, which has so many sectors: as many as it has
+/// there.
+fn put_back<B: Block>(
+    origin: &mut B,
+    size: u64,
+    chunk: u32,
+    old: Chunk,
+    buffer: &[u8],
+) -> Result<(), Io>
+    requires size { size ≡ B.size origin.old }
     requires some { 0 < chunk }
     requires begins { chunk * old < B.size origin.old }
     requires room { length buffer.now ≡ 512 * chunk }
@@ -169,7 +178,6 @@ fn put_back<B: Block>(origin: &mut B, chunk: u32, old: Chunk, buffer: &[u8]) -> 
     ensures adds { IsTrue (is_loud (B.layers origin.old)) → AddsNow (B.may_hold origin.old) (B.may_hold origin.new) (B.contents origin.new) }
     ensures size { B.size origin.new ≡ B.size origin.old }
 {
-    let size = origin.sectors();
     let count = sectors_of(chunk, size, old);
     let range = Range {
         first: chunk as u64 * old,

@@ -72,5 +72,10 @@ fn zero_bytes(bytes: &mut [u8], at: usize, count: usize)
     ensures len { length bytes.new ≡ length bytes.old }
     ensures bytes { bytes.new ≡ with_part bytes.old at (replicate count 0) }
 {
+    // Those of one slot, the usual number, need no loop.
+    if count == PAIR_BYTES {
+        bytes[at..at + PAIR_BYTES].fill(0);
+        return;
+    }
     bytes[at..at + count].fill(0);
 }

@@ -48,7 +48,7 @@ marks_kept true None = 1
 marks_kept true (Some n) = 0
 marks_kept false merging = 0
 
--- Its room: the store has reserved the pairs of requests and of a merge, and those that a merge left; no list grows where
+-- Its room: the store has reserved the pairs of requests and of a merge, and those beside them; no list grows where
 -- a copy starts or is committed.
 pub record HasRoom (room kept_back left reserved copies marks copies_capacity marks_capacity : ℕ) (spare : Bool) (merging : Option ℕ) : Type 0 where
   pub for_pairs : room + (kept_back + left) ≡ reserved

@@ -32,9 +32,10 @@ impl<B: Block> Snapshot<B> {
         ensures read { OnOk result ((p : ChunkCopy) × (q : ChunkCopy) × ReadsAt B.contents B.layers (B.contents origin.old) index p q self.old self.new) }
         ensures kept { OnErr result ((p : ChunkCopy) × (q : ChunkCopy) × StaysAt index p q self.old self.new) }
     {
+        let size = self.store.state.origin;
         let chunk = self.store.state.chunk;
         let copy = &mut self.copies[index];
-        match fill(origin, chunk, copy) {
+        match fill(origin, size, chunk, copy) {
             Ok(()) => {}
             Err(io) => return Err(io),
         }
@@ -77,8 +78,10 @@ impl<B: Block> Snapshot<B> {
     }
 }
 
-/// Reads the chunk of a copy from the origin disk into its buffer. At `Io` the copy is as it was.
-fn fill<B: Block>(origin: &mut B, chunk: u32, copy: &mut ChunkCopy) -> Result<(), Io>
+/// Reads the chunk of a copy from the origin disk, which has so many sectors, into its buffer. At `Io` the copy is
+/// as it was.
+fn fill<B: Block>(origin: &mut B, size: u64, chunk: u32, copy: &mut ChunkCopy) -> Result<(), Io>
+    requires size { size ≡ B.size origin.old }
     requires some { 0 < chunk }
     requires begins { chunk * copy.old.pair.old < B.size origin.old }
     requires whole { length copy.old.buffer.items ≡ 512 * count_of chunk (B.size origin.old) copy.old.pair.old }
@@ -94,7 +97,6 @@ fn fill<B: Block>(origin: &mut B, chunk: u32, copy: &mut ChunkCopy) -> Result<()
     ensures read { OnOk result (GoesTo Read (sectors_at (B.contents origin.old) (chunk * copy.old.pair.old) (count_of chunk (B.size origin.old) copy.old.pair.old)) copy.old copy.new) }
     ensures kept { OnErr result (GoesTo copy.old.stage copy.old.buffer.items copy.old copy.new) }
 {
-    let size = origin.sectors();
     let count = sectors_of(chunk, size, copy.pair.old);
     let range = Range {
         first: chunk as u64 * copy.pair.old,

@@ -39,7 +39,7 @@ pub struct Snapshot<B: Block> {
     pub(crate) room: usize,
     /// For how many copies of a merge it has room, which requests do not take.
     pub(crate) kept_back: usize,
-    /// How much of such room a merge left.
+    /// For how many pairs more the store has room: a merge left it, or it was made ahead.
     pub(crate) left: usize,
     /// A chunk of room, for the next copy that a merge starts.
     pub(crate) spare: Option<Vec<u8>>,

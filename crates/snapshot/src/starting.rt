@@ -24,6 +24,9 @@ use std::alloc::Global;
 use std::mem;
 use store::Store;
 
+/// So many pairs more than the one that is asked for find room at once, for the next copies.
+const MORE_PAIRS: usize = 15;
+
 impl<B: Block> Snapshot<B> {
     /// A live snapshot over a store that was opened, and which the load's writes have left ready; whether it may overflow is
     /// asked for. It takes no memory.
@@ -100,8 +103,17 @@ impl<B: Block> Snapshot<B> {
             Ok(()) => {}
             Err(refusal) => return Err(refusal),
         }
-        match self.store.reserve(1) {
+        if 0 < self.left {
+            self.left -= 1;
+            self.room = 1;
+            return Ok(());
+        }
+        let Some(_) = self.kept_back.checked_add(MORE_PAIRS) else {
+            return Err(Refusal::NoMemory);
+        };
+        match self.store.reserve(MORE_PAIRS + 1) {
             Ok(()) => {
+                self.left = MORE_PAIRS;
                 self.room = 1;
                 Ok(())
             }
@@ -155,6 +167,7 @@ impl<B: Block> Snapshot<B> {
 }
 
 /// Makes room in both lists for so many more copies. Where that is refused the lists may have more room.
+#[inline(always)]
 pub(crate) fn reserve_slots(
     copies: &mut Vec<ChunkCopy>,
     marks: &mut Vec<Mark>,

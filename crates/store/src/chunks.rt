@@ -1,4 +1,4 @@
-// One operation on a chunk of a device.
+// One operation on a chunk of a device, whose size in sectors is told with it.
 ghost use Rattle.std.specs.Prelude.{◌≡◌, ◌⊎◌, ℕ, ◌+◌, ◌*◌, ◌<◌, ◌≤◌, List, length, slice_index, is_ok, if◌then◌else◌, OnOk, OnErr, IsTrue};
 ghost use Rattle.sector.specs.Bytes.{sectors_at, with_sectors, next_count};
 ghost use Rattle.device.specs.declared.operation.Operation.TheVariants.{Reads, Writes};
@@ -14,12 +14,14 @@ use sector::{Chunk, Range};
 /// Writes so many sectors of a chunk, from one of its sectors on.
 pub fn write_part<B: Block>(
     device: &mut B,
+    size: u64,
     chunk: u32,
     place: Chunk,
     first: u32,
     count: u32,
     bytes: &[u8],
 ) -> Result<(), Io>
+    requires size { size ≡ B.size device.old }
     requires some { 0 < count }
     requires part { first + count ≤ chunk }
     requires inside { chunk * (place + 1) ≤ B.size device.old }
@@ -36,7 +38,7 @@ pub fn write_part<B: Block>(
     let range = Range {
         first: chunk as u64 * place + first as u64,
         count,
-        size: device.sectors(),
+        size,
     };
     device.write(range, bytes)
 }
@@ -44,12 +46,14 @@ pub fn write_part<B: Block>(
 /// Reads so many sectors of a chunk, from one of its sectors on. At `Io` the buffer is as it was.
 pub fn read_part<B: Block>(
     device: &mut B,
+    size: u64,
     chunk: u32,
     place: Chunk,
     first: u32,
     count: u32,
     out: &mut [u8],
 ) -> Result<(), Io>
+    requires size { size ≡ B.size device.old }
     requires some { 0 < count }
     requires part { first + count ≤ chunk }
     requires inside { chunk * (place + 1) ≤ B.size device.old }
@@ -66,7 +70,7 @@ pub fn read_part<B: Block>(
     let range = Range {
         first: chunk as u64 * place + first as u64,
         count,
-        size: device.sectors(),
+        size,
     };
     device.read(range, out)
 }
@@ -74,10 +78,12 @@ pub fn read_part<B: Block>(
 /// Writes a whole chunk.
 pub fn write_whole<B: Block>(
     device: &mut B,
+    size: u64,
     chunk: u32,
     place: Chunk,
     bytes: &[u8],
 ) -> Result<(), Io>
+    requires size { size ≡ B.size device.old }
     requires some { 0 < chunk }
     requires inside { chunk * (place + 1) ≤ B.size device.old }
     requires room { length bytes.now ≡ 512 * chunk }
@@ -90,16 +96,18 @@ pub fn write_whole<B: Block>(
     ensures adds { IsTrue (is_loud (B.layers device.old)) → AddsNow (B.may_hold device.old) (B.may_hold device.new) (B.contents device.new) }
     ensures size { B.size device.new ≡ B.size device.old }
 {
-    write_part(device, chunk, place, 0, chunk, bytes)
+    write_part(device, size, chunk, place, 0, chunk, bytes)
 }
 
 /// Reads a whole chunk. At `Io` the buffer is as it was.
 pub fn read_whole<B: Block>(
     device: &mut B,
+    size: u64,
     chunk: u32,
     place: Chunk,
     out: &mut [u8],
 ) -> Result<(), Io>
+    requires size { size ≡ B.size device.old }
     requires some { 0 < chunk }
     requires inside { chunk * (place + 1) ≤ B.size device.old }
     requires room { length out.old ≡ 512 * chunk }
@@ -112,13 +120,19 @@ pub fn read_whole<B: Block>(
     ensures adds { AddsNow (B.may_hold device.old) (B.may_hold device.new) (B.contents device.new) }
     ensures size { B.size device.new ≡ B.size device.old }
 {
-    read_part(device, chunk, place, 0, chunk, out)
+    read_part(device, size, chunk, place, 0, chunk, out)
 }
 
 /// Reads a chunk into an area, which has as many sectors. At `Io` the area's bytes are as they were.
 #[tactic(auto, using(sector::proofs::Sectors::written_back))]
-pub fn read_area<B: Block>(device: &mut B, area: &mut Area, place: Chunk) -> Result<(), Io>
-    requires { area.old.chunk * (place + 1) ≤ B.size device.old }
+pub fn read_area<B: Block>(
+    device: &mut B,
+    size: u64,
+    area: &mut Area,
+    place: Chunk,
+) -> Result<(), Io>
+    requires size { size ≡ B.size device.old }
+    requires inside { area.old.chunk * (place + 1) ≤ B.size device.old }
     ensures operation { IsOneOperation (Reads (area.old.chunk * place) area.old.chunk) (is_ok result) (B.layers device.old) (B.layers device.new) (B.fault_count device.old) (B.fault_count device.new) (B.done_count device.old) (B.done_count device.new) }
     ensures loud { is_loud (B.layers device.new) ≡ is_loud (B.layers device.old) }
     ensures chunk { area.new.chunk ≡ area.old.chunk }
@@ -130,7 +144,7 @@ pub fn read_area<B: Block>(device: &mut B, area: &mut Area, place: Chunk) -> Res
     ensures size { B.size device.new ≡ B.size device.old }
     ensures faults { B.fault_count device.new ≡ (if is_ok result then B.fault_count device.old else next_count (B.fault_count device.old)) }
 {
-    match read_whole(device, area.chunk, place, area.bytes.as_mut_slice()) {
+    match read_whole(device, size, area.chunk, place, area.bytes.as_mut_slice()) {
         Ok(()) => Ok(()),
         Err(io) => Err(io),
     }

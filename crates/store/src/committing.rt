@@ -69,6 +69,7 @@ impl<B: Block> Store<B> {
         self.spare.clear_from(0);
         match write_whole(
             &mut self.device,
+            self.state.size,
             self.state.chunk,
             place,
             self.spare.encode(),
@@ -113,6 +114,7 @@ impl<B: Block> Store<B> {
         put_first(&mut self.area, &self.exceptions, filled, count);
         match write_whole(
             &mut self.device,
+            self.state.size,
             self.state.chunk,
             place,
             self.area.encode(),
@@ -146,6 +148,12 @@ pub fn copy_slots(area: &mut Area, from: &Area, slot: u32, count: u32)
     ensures bytes { area.new.bytes.items ≡ with_part area.old.bytes.items (16 * slot) (take (16 * count) (drop (16 * slot) from.now.bytes.items)) }
 {
     let start = SLOT_BYTES * slot as usize;
+    // The bytes of one slot, the usual number, need no loop.
+    if count == 1 {
+        let end = start + SLOT_BYTES;
+        area.bytes[start..end].copy_from_slice(&from.bytes[start..end]);
+        return;
+    }
     let end = start + SLOT_BYTES * count as usize;
     area.bytes[start..end].copy_from_slice(&from.bytes[start..end]);
 }

@@ -121,6 +121,7 @@ impl<B: Block> Store<B> {
     {
         write_part(
             &mut self.device,
+            self.state.size,
             self.state.chunk,
             place,
             first,
@@ -155,6 +156,8 @@ impl<B: Block> Store<B> {
         ensures places { self.new.places ≡ self.old.places }
         ensures state { self.new.state ≡ self.old.state }
     {
-        read_part(&mut self.device, self.state.chunk, place, first, count, out)
+        let size = self.state.size;
+        let chunk = self.state.chunk;
+        read_part(&mut self.device, size, chunk, place, first, count, out)
     }
 }

@@ -14,7 +14,7 @@ ghost use Rattle.stop_laws.specs.Firm.{AddsNow};
 
 use crate::chunks::read_area;
 use device::Block;
-use exception_arena::{Arena, Exceptions};
+use exception_arena::{Arena, Exceptions, nodes_for};
 use metadata_area::Area;
 use sector::{Pair, Refusal};
 
@@ -47,7 +47,7 @@ pub fn read_areas<B: Block>(
         if size < chunk as u64 * (place + 1) {
             return Err(Refusal::Damaged);
         }
-        let Ok(()) = read_area(device, area, place) else {
+        let Ok(()) = read_area(device, size, area, place) else {
             return Err(Refusal::Io);
         };
         if take_slots(area, pairs)? < 32 * chunk {
@@ -71,7 +71,8 @@ fn take_slots(area: &Area, pairs: &mut Vec<Pair>) -> Result<u32, Refusal>
     Ok(count)
 }
 
-// Room is asked for so many pairs at once. For all of them at once it would be as much as for pairs in no order.
+// Room is asked for so many pairs at once, the first time for the nodes of all besides, so that no list grows and is moved.
+// For all pairs at once it would be as much as for pairs in no order.
 const AT_ONCE: usize = 64;
 
 /// Holds these pairs as committed ones, in a list that holds none. `NoMemory` where memory for them is refused.
@@ -83,12 +84,14 @@ pub fn hold_pairs(exceptions: &mut Arena, pairs: &[Pair]) -> Result<(), Refusal>
     ensures reserved { OnOk result (reserved exceptions.new ≡ reserved exceptions.old) }
     ensures refusal { IfErr result (λ e. e ≡ NoMemory) }
 {
+    let mut at_once = nodes_for(pairs).saturating_add(AT_ONCE);
     let mut until = 0;
     for (index, pair) in pairs.iter().enumerate() {
         if index == until {
-            let more = (pairs.len() - index).min(AT_ONCE);
+            let more = (pairs.len() - index).min(at_once);
             exceptions.reserve(more)?;
             until = index + more;
+            at_once = AT_ONCE;
         }
         let id = exceptions.begin(pair.old, pair.new);
         exceptions.finish(id);

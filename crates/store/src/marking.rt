@@ -32,7 +32,7 @@ impl<B: Block> Store<B> {
         ensures state { OnOk result (self.new.state ≡ record self.old.state { valid = false }) }
         ensures kept { OnErr result (self.new.state ≡ self.old.state) }
     {
-        match write_header(&mut self.device, &mut self.spare, false) {
+        match write_header(&mut self.device, self.state.size, &mut self.spare, false) {
             Ok(()) => {
                 self.state.valid = false;
                 Ok(())
@@ -57,7 +57,7 @@ impl<B: Block> Store<B> {
         ensures state { OnOk result (self.new.state ≡ record self.old.state { left = Nothing; awaits = true }) }
         ensures kept { OnErr result (self.new.state ≡ self.old.state) }
     {
-        match write_header(&mut self.device, &mut self.spare, true) {
+        match write_header(&mut self.device, self.state.size, &mut self.spare, true) {
             Ok(()) => {
                 self.state.left = Left::Nothing;
                 self.state.awaits = true;
@@ -70,7 +70,8 @@ impl<B: Block> Store<B> {
 
 /// Writes a header over the first chunk of a device, with one of the two marks, the rest of its chunk zero. The text is put
 /// together in an area that is room for a chunk.
-fn write_header<B: Block>(device: &mut B, room: &mut Area, valid: bool) -> Result<(), Io>
+fn write_header<B: Block>(device: &mut B, size: u64, room: &mut Area, valid: bool) -> Result<(), Io>
+    requires size { size ≡ B.size device.old }
     requires inside { room.old.chunk ≤ B.size device.old }
     ensures chunk { room.new.chunk ≡ room.old.chunk }
     ensures operation { IsOneOperation (Writes 0 room.old.chunk) (is_ok result) (B.layers device.old) (B.layers device.new) (B.fault_count device.old) (B.fault_count device.new) (B.done_count device.old) (B.done_count device.new) }
@@ -83,7 +84,7 @@ fn write_header<B: Block>(device: &mut B, room: &mut Area, valid: bool) -> Resul
     ensures size { B.size device.new ≡ B.size device.old }
 {
     put_header(room, valid);
-    match write_whole(device, room.chunk, 0, room.encode()) {
+    match write_whole(device, size, room.chunk, 0, room.encode()) {
         Ok(()) => Ok(()),
         Err(io) => Err(io),
     }

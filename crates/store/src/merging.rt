@@ -50,6 +50,7 @@ impl<B: Block> Store<B> {
         self.area.clear(slot, count);
         match write_whole(
             &mut self.device,
+            self.state.size,
             self.state.chunk,
             place,
             self.area.encode(),
@@ -85,7 +86,7 @@ impl<B: Block> Store<B> {
         ensures kept { OnErr result (self.new.state ≡ self.old.state) }
     {
         let place = (self.state.current - 1) * (32 * self.state.chunk as u64 + 1) + 1;
-        match read_area(&mut self.device, &mut self.area, place) {
+        match read_area(&mut self.device, self.state.size, &mut self.area, place) {
             Ok(()) => {
                 self.state.current -= 1;
                 self.state.filled = 32 * self.state.chunk;

@@ -112,6 +112,7 @@ impl<B: Block> Store<B> {
         let place = self.state.current * (32 * self.state.chunk as u64 + 1) + 1;
         match write_whole(
             &mut self.device,
+            self.state.size,
             self.state.chunk,
             place,
             self.area.encode(),

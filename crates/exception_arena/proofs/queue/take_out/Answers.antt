@@ -1,5 +1,6 @@
-use Rattle.std.proofs.Common.{◌∙◌, arith}
+use Rattle.std.proofs.Common.{ap, arith}
 use Rattle.exception_arena.specs.Links.{list_from}
+use Rattle.exception_arena.specs.declared.node.Node.{Node}
 use Rattle.exception_arena.proofs.Queues.{taken_out, on_inside, before_on, relink_others, omit_length}
 use Rattle.exception_arena.proofs.queue.take_out.Goals as goal
 
@@ -11,8 +12,8 @@ lead_from-queue-requires c =
 pub returns-clause-queue : goal.returns-clause-queue
 returns-clause-queue c =
     let b = rw c.as_slice-listed.ensures.value at c.node_before-before.ensures in
-    let n = rw c.as_slice-listed.ensures.value at c.read-next.ensures in
-    rw (c.lead_from-queue.ensures.nodes, c.lead_from-queue.ensures.first, b, n) (taken_out c.args.nodes.now.items c.args.queue.now (list_from c.args.nodes.now.items c.args.queue.now.first) c.args.place _ _ c.requires.queue c.requires.here (λ e. c.last_after-queue.ensures.ends (rw n e) ∙ b) (λ ne. c.last_after-queue.ensures.goes_on (λ e. ne (rw n at e))) (omega (arith, c.requires.queue.many, omit_length c.args.place (list_from c.args.nodes.now.items c.args.queue.now.first) c.requires.here)))
+    let n = rw c.as_slice-listed.ensures.value at c.read.ensures in
+    rw (c.lead_from-queue.ensures.nodes, c.lead_from-queue.ensures.first) (taken_out c.args.nodes.now.items c.args.queue.now (list_from c.args.nodes.now.items c.args.queue.now.first) c.args.place _ _ _ _ c.requires.queue c.requires.here b (ap (λ (x : Node). x.next) n) c.last_after-queue.ensures.ends c.last_after-queue.ensures.goes_on (omega (arith, c.requires.queue.many, omit_length c.args.place (list_from c.args.nodes.now.items c.args.queue.now.first) c.requires.here)))
 
 pub returns-clause-others : goal.returns-clause-others
 returns-clause-others c =

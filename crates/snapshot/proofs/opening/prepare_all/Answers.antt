@@ -49,6 +49,16 @@ returns-in-Err-prepare_next-clause-only g c =
     front_more s.state.chunk s.state.current old mid new (front_of s.state.left s.state old mid c.prepare_next.ensures.only)
     (front_like s.state n.state _ mid new c.in-Ok.ensures.state (front_of n.state.left n.state mid new c.prepare_next-2.ensures.only))
 
+pub returns-then-not-again-clause-only : goal.returns-then-not-again-clause-only
+returns-then-not-again-clause-only g c =
+    let s = c.args.store.now in
+    let n = c.prepare_next.new.store in
+    let old = g.B.Block.contents s.device in
+    let mid = g.B.Block.contents n.device in
+    let new = g.B.Block.contents c.prepare_next-2.new.store.device in
+    front_more s.state.chunk s.state.current old mid new (front_of s.state.left s.state old mid c.prepare_next.ensures.only)
+    (front_like s.state n.state _ mid new c.in-Ok.ensures.state (front_of n.state.left n.state mid new c.prepare_next-2.ensures.only))
+
 pub returns-then-not-again-clause-operations : goal.returns-then-not-again-clause-operations
 returns-then-not-again-clause-operations g c = λ loud origin.
     let s = c.args.store.now in

@@ -1,9 +1,10 @@
-use Rattle.std.proofs.Common.{◌∙◌, ap, sym, subst, refl, arith}
+use Rattle.std.proofs.Common.{◌<◌, ◌∙◌, ap, sym, subst, refl, arith}
 use Rattle.exception_arena.specs.declared.node.Node.{Node}
 use Rattle.exception_arena.specs.Kept.{Kept}
 use Rattle.exception_arena.specs.Pending.{without}
 use Rattle.exception_arena.specs.Links.{list_from, run_at}
-use Rattle.exception_arena.specs.Runs.{GoesOn}
+use Rattle.exception_arena.specs.Runs.{block, GoesOn}
+use Rattle.exception_arena.specs.declared.run.Run.{Run}
 use Rattle.exception_arena.proofs.Runs.{room_more}
 use Rattle.exception_arena.proofs.Places.{led_run}
 use Rattle.exception_arena.proofs.Queues.{under_some, without_omit}
@@ -37,15 +38,15 @@ lengthen-requires-clause-room c =
     let ends = rw c.as_slice.ensures.value at c.in-Some.ensures.last in
     let same = ap (λ x. run_at x c.in-Some.last) c.put_back.ensures.nodes ∙ led_run c.take_out.new.nodes.items c.args.id c.in-Some.last c.self.inside.free (omega (arith, c.take_out.ensures.len)) in
     let is = c.self.invariant.held.runs c.in-Some.last (ends_on c.self.inside.slots.items _ _ ends) in
-    let less = room_more (run_at c.self.inside.nodes.items c.in-Some.last) _ is (subst (λ x. GoesOn x c.read.result.run.first) (c.take_out.ensures.pairs c.in-Some.last) on) in
-    rw (same ∙ c.take_out.ensures.pairs c.in-Some.last) less
+    let less = room_more (run_at c.self.inside.nodes.items c.in-Some.last) _ is (subst (λ x. GoesOn x c.read.result.first) (c.take_out.ensures.pairs c.in-Some.last) on) in
+    subst (λ (run : Run). run.count < block) (sym (same ∙ c.take_out.ensures.pairs c.in-Some.last)) less
 
 pub invariant_of-self : goal.invariant_of-self
 invariant_of-self c =
     let some = (under_some c.self.inside.nodes.items c.args.id (list_from c.self.inside.nodes.items c.self.inside.queue.first) (rw (← c.self.view_is) at c.requires)).0 in
     let node = rw c.as_slice-listed.ensures.value at c.read.ensures in
     let on = rw c.as_slice-listed.ensures.value at c.in-Some.ensures.goes_on in
-    let on' = subst (λ x. GoesOn (run_at c.take_out.new.nodes.items c.in-Some.last) x) (ap (λ (n : Node). n.run.first) node) on in
+    let on' = subst (λ x. GoesOn (run_at c.take_out.new.nodes.items c.in-Some.last) x) (ap (λ (n : Node). n.first) node) on in
     let ends = rw c.as_slice.ensures.value at c.in-Some.ensures.last in
     rw c.put_back.ensures.free (joined_sound c.self.inside.nodes.items _ _ _ c.self.inside.heads.items c.self.inside.slots.items _ c.self.inside.free c.self.inside.queue _ c.self.inside.count _ _ _ _ _ c.args.id c.in-Some.last c.self.invariant some c.take_out.ensures.queue c.take_out.ensures.pairs c.take_out.ensures.others c.take_out.ensures.len c.put_back.ensures.nodes (c.put_back.ensures.capacity ∙ c.take_out.ensures.capacity) ends on' c.lengthen.ensures.nodes c.lengthen.ensures.capacity).0
 
@@ -54,7 +55,7 @@ returns-in-Some c =
     let u = under_some c.self.inside.nodes.items c.args.id (list_from c.self.inside.nodes.items c.self.inside.queue.first) (rw (← c.self.view_is) at c.requires) in
     let node = rw c.as_slice-listed.ensures.value at c.read.ensures in
     let on = rw c.as_slice-listed.ensures.value at c.in-Some.ensures.goes_on in
-    let on' = subst (λ x. GoesOn (run_at c.take_out.new.nodes.items c.in-Some.last) x) (ap (λ (n : Node). n.run.first) node) on in
+    let on' = subst (λ x. GoesOn (run_at c.take_out.new.nodes.items c.in-Some.last) x) (ap (λ (n : Node). n.first) node) on in
     let ends = rw c.as_slice.ensures.value at c.in-Some.ensures.last in
     let h = (joined_sound c.self.inside.nodes.items _ _ _ c.self.inside.heads.items c.self.inside.slots.items _ c.self.inside.free c.self.inside.queue _ c.self.inside.count _ _ _ _ _ c.args.id c.in-Some.last c.self.invariant u.0 c.take_out.ensures.queue c.take_out.ensures.pairs c.take_out.ensures.others c.take_out.ensures.len c.put_back.ensures.nodes (c.put_back.ensures.capacity ∙ c.take_out.ensures.capacity) ends on' c.lengthen.ensures.nodes c.lengthen.ensures.capacity).1 in
     record {

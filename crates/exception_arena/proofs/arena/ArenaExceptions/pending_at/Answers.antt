@@ -19,4 +19,4 @@ returns c d =
     let lt : c.args.index < length (list_from c.self.inside.nodes.items c.self.inside.queue.first) = omega (arith, length-map (list_from c.self.inside.nodes.items c.self.inside.queue.first) (begun_at c.self.inside.nodes.items)) in
     let e = rw c.as_slice.ensures.value at (c.place_in-place.ensures 0) in
     let r : c.read.result ≡ node_at c.self.inside.nodes.items c.place_in-place.result = rw c.as_slice-2.ensures.value at c.read.ensures in
-    ap (λ (n : Node). record { id = c.place_in-place.result; pair = n.run.first }) r ∙ ap (begun_at c.self.inside.nodes.items) e ∙ sym (get_or-map (begun_at c.self.inside.nodes.items) (list_from c.self.inside.nodes.items c.self.inside.queue.first) c.args.index 0 d lt) ∙ ap (λ (k : Kept). get_or k.pending c.args.index d) c.self.view_is
+    ap (λ (n : Node). record { id = c.place_in-place.result; pair = n.first }) r ∙ ap (begun_at c.self.inside.nodes.items) e ∙ sym (get_or-map (begun_at c.self.inside.nodes.items) (list_from c.self.inside.nodes.items c.self.inside.queue.first) c.args.index 0 d lt) ∙ ap (λ (k : Kept). get_or k.pending c.args.index d) c.self.view_is

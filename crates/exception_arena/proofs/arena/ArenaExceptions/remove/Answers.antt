@@ -25,7 +25,7 @@ pub invariant_of-self : goal.invariant_of-self
 invariant_of-self c =
     let ends = rw c.as_slice.ensures.value at c.last_of-last.ensures in
     let r = rw c.as_slice-2.ensures.value at c.read.ensures in
-    let more : 1 < (run_at c.self.inside.nodes.items c.last_of-last.result).count = omega (arith, ap (λ (n : Node). n.run.count) r, c.if-read-gt1.true) in
+    let more : 1 < (run_at c.self.inside.nodes.items c.last_of-last.result).count = omega (arith, ap (λ (n : Node). n.count) r, c.if-read-gt1.true) in
     (shortened_sound c.self.inside.nodes.items _ c.self.inside.heads.items c.self.inside.slots.items _ c.self.inside.free c.self.inside.queue c.self.inside.count _ _ _ _ _ c.self.invariant ends more c.shorten.ensures.nodes c.shorten.ensures.capacity).0
 
 pub take_down-requires-clause-inside : goal.take_down-requires-clause-inside
@@ -40,14 +40,14 @@ invariant_of-self-2 c =
     let r = rw c.as_slice-2.ensures.value at c.read.ensures in
     let h = rw c.as_slice-3.ensures.value at c.take_down.ensures.heads in
     let same = same_last c.self.inside.slots.items _ _ c.in-Some.at c.last_of-last.result c.in-Some.ensures.items ends in
-    let one : (run_at c.self.inside.nodes.items c.in-Some.at).count ≤ 1 = rw same (omega (arith, ap (λ (n : Node). n.run.count) r, c.if-read-gt1.false)) in
+    let one : (run_at c.self.inside.nodes.items c.in-Some.at).count ≤ 1 = rw same (omega (arith, ap (λ (n : Node). n.count) r, c.if-read-gt1.false)) in
     rw c.put_back.ensures.free (removed_sound c.self.inside.nodes.items _ c.self.inside.heads.items _ c.self.inside.slots.items _ c.self.inside.free c.self.inside.queue c.self.inside.count _ _ _ _ _ c.in-Some.at c.self.invariant c.in-Some.ensures.items one c.put_back.ensures.nodes h c.put_back.ensures.capacity c.in-Some.ensures.capacity).0
 
 pub returns-then-read-gt1 : goal.returns-then-read-gt1
 returns-then-read-gt1 c =
     let ends = rw c.as_slice.ensures.value at c.last_of-last.ensures in
     let r = rw c.as_slice-2.ensures.value at c.read.ensures in
-    let more : 1 < (run_at c.self.inside.nodes.items c.last_of-last.result).count = omega (arith, ap (λ (n : Node). n.run.count) r, c.if-read-gt1.true) in
+    let more : 1 < (run_at c.self.inside.nodes.items c.last_of-last.result).count = omega (arith, ap (λ (n : Node). n.count) r, c.if-read-gt1.true) in
     let s = (shortened_sound c.self.inside.nodes.items _ c.self.inside.heads.items c.self.inside.slots.items _ c.self.inside.free c.self.inside.queue c.self.inside.count _ _ _ _ _ c.self.invariant ends more c.shorten.ensures.nodes c.shorten.ensures.capacity).1 in
     record {
       committed = s.0 ∙ ap (λ (k : Kept). take (length k.committed - 1) k.committed) c.self.view_is;
@@ -62,7 +62,7 @@ returns c =
     let r = rw c.as_slice-2.ensures.value at c.read.ensures in
     let h = rw c.as_slice-3.ensures.value at c.take_down.ensures.heads in
     let same = same_last c.self.inside.slots.items _ _ c.in-Some.at c.last_of-last.result c.in-Some.ensures.items ends in
-    let one : (run_at c.self.inside.nodes.items c.in-Some.at).count ≤ 1 = rw same (omega (arith, ap (λ (n : Node). n.run.count) r, c.if-read-gt1.false)) in
+    let one : (run_at c.self.inside.nodes.items c.in-Some.at).count ≤ 1 = rw same (omega (arith, ap (λ (n : Node). n.count) r, c.if-read-gt1.false)) in
     let s = (removed_sound c.self.inside.nodes.items _ c.self.inside.heads.items _ c.self.inside.slots.items _ c.self.inside.free c.self.inside.queue c.self.inside.count _ _ _ _ _ c.in-Some.at c.self.invariant c.in-Some.ensures.items one c.put_back.ensures.nodes h c.put_back.ensures.capacity c.in-Some.ensures.capacity).1 in
     record {
       committed = s.0 ∙ ap (λ (k : Kept). take (length k.committed - 1) k.committed) c.self.view_is;

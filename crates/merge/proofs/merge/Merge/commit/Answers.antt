@@ -66,7 +66,7 @@ invariant_of-self g c =
       ready = ap (λ (x : State). x.left) state ∙ m.ready;
       idle = ap length c.merge_commit.ensures.pending ∙ m.idle;
       room = m.room ∙ ap (λ n. 512 * n) (sym chunk);
-      present = λ h same. present_committed s.state t.state (committed s.exceptions) (committed t.exceptions) c.self.inside.group m.present due chunk origin size h (ap (changed committed_in) c.in-Some.is ∙ same);
+      present = λ h same. present_committed s.state t.state (committed s.exceptions) (committed t.exceptions) c.self.inside.group m.present due chunk origin size h (sym c.mark_committed.ensures ∙ same);
       alone = λ f. (let none : Some c.in-Some.group ≡ None = sym c.in-Some.is ∙ m.alone f in absurd (cc));
       unfinished = λ f. (let none : Some c.in-Some.group ≡ None = sym c.in-Some.is ∙ m.alone f in absurd (cc));
       valid = ap (λ (x : State). x.valid) state ∙ m.valid;
@@ -87,8 +87,8 @@ returns-in-Ok-clause-step g c =
     let current : t.state.current ≡ s.state.current = ap (λ (x : State). x.current) e.state in
     let ready = ap (λ (x : State). x.left) e.state ∙ c.self.invariant.ready in
     let pairs : committed t.exceptions ≡ take (length v.pairs - copied_count m.group) v.pairs = e.committed ∙ ap (λ k. take (length v.pairs - k) v.pairs) (sym (ap copied_count c.in-Some.is)) in
-    let fields = same_merging m.number t.device m.failed t.state t.state t.places.next t.places.next (committed t.exceptions) (take (length v.pairs - copied_count m.group) v.pairs) (Some (committed_in c.in-Some.group)) (changed committed_in m.group)
-    m.buffer.items m.buffer.items refl refl pairs (sym (ap (changed committed_in) c.in-Some.is)) refl in
+    let fields = same_merging m.number t.device m.failed t.state t.state t.places.next t.places.next (committed t.exceptions) (take (length v.pairs - copied_count m.group) v.pairs) c.mark_committed.new.group (changed committed_in m.group)
+    m.buffer.items m.buffer.items refl refl pairs c.mark_committed.ensures refl in
     rw (← c.self.view_is) (λ loud louder.
     subst (λ (x : Merging g.row.B.Denot). CommitStep g.B.Block.contents loud v x) (sym fields)
     (clears g.B.Block.contents loud v t.device t.state t.places.next c.self.invariant.present c.self.invariant.alone due filled current chunk origin size c.merge_commit.ensures.only

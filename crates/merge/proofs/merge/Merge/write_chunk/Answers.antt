@@ -12,6 +12,9 @@ use Rattle.merge.proofs.Stages.{full_inside, full_room, present_written, wrote_b
 use Rattle.merge.proofs.Changes.{merging, same_merging, writes, WriteStep}
 use Rattle.merge.proofs.merge.Merge.write_chunk.Goals as goal
 
+pub put_back-requires-clause-size : goal.put_back-requires-clause-size
+put_back-requires-clause-size g c = omega (arith, c.requires.sectors, ap (λ (m : Merging g.row.B.Denot). m.state.origin) c.self.view_is)
+
 pub put_back-requires-clause-begins : goal.put_back-requires-clause-begins
 put_back-requires-clause-begins g c =
     let s = c.self.inside.store in

@@ -7,6 +7,9 @@ use Rattle.snapshot.proofs.Events.{reads_at}
 use Rattle.snapshot.proofs.Spared.{spared_set}
 use Rattle.snapshot.proofs.snapshot.Snapshot.read_copy.Goals as goal
 
+pub fill-requires-clause-size : goal.fill-requires-clause-size
+fill-requires-clause-size g c = omega (arith, c.requires.sectors, ap (λ v. v.state.origin) c.self.view_is)
+
 pub fill-requires-clause-begins : goal.fill-requires-clause-begins
 fill-requires-clause-begins g c =
     let s = c.self.inside.store in
