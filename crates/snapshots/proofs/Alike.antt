@@ -1,5 +1,5 @@
 -- Snapshots that only wait are left out, at the front and at the back: what is due first, but reads of chunks, stays the same.
-use Rattle.std.proofs.Common.{◌≡◌, ℕ, ◌+◌, ◌<◌, Bool, false, List, [], ◌∷◌, ◌++◌, Option, Some, None, length, get_or, map, take, drop, refl, sym, ◌∙◌, ap, subst}
+use Rattle.std.proofs.Common.{◌≡◌, ℕ, ◌+◌, ◌<◌, ◌≤◌, arith, Bool, false, List, [], ◌∷◌, ◌++◌, Option, Some, None, length, get_or, map, take, drop, refl, sym, ◌∙◌, ap, subst}
 use Rattle.std.specs.Prelude.{◌==◌, ◌&&◌, ◌||◌, not, if◌then◌else◌}
 use Rattle.std.specs.List.{list_any}
 use Rattle.std.proofs.lemmas.Bool.{eqb-true, not-false, or_parts, true≢false}
@@ -48,6 +48,13 @@ waiting_read [] e = refl
 waiting_read (c ∷ cs) e =
     let parts = or_parts (is_begun c) (list_any is_begun cs) e in
     ap (λ b. if b then Some (number_of_copy c) else first_by (is_copy_at Read) number_of_copy cs) (not_read c.stage parts.0) ∙ waiting_read cs parts.1
+
+-- and the first of them is the first that waits
+waiting_first : (cs : List ChunkCopy) (p : ChunkCopy) → 1 ≤ length cs → p ≡ get_or cs 0 p → list_any is_begun cs ≡ false → first_by (is_copy_at Waiting) number_of_copy cs ≡ Some p.number
+waiting_first [] p some is e = absurd (omega (arith, some))
+waiting_first (c ∷ cs) p some is e =
+    ap (λ b. if b then Some (number_of_copy c) else first_by (is_copy_at Waiting) number_of_copy cs) (not-false (is_stage Waiting c.stage) (or_parts (is_begun c) (list_any is_begun cs) e).0)
+    ∙ ap (λ (x : ChunkCopy). Some x.number) (sym is)
 
 none_unsafe : (ms : List Mark) → ms ≡ [] → list_any is_unsafe ms ≡ false
 none_unsafe ms e = ap (list_any is_unsafe) e
@@ -136,6 +143,15 @@ cut s ss idle = record {
   zeroing = first_cut can_zero s ss idle.zeroing;
   writing = least_cut (copy_of Read) s ss idle.writing;
 }
+
+-- what waits of a snapshot that only waits is its first copy, or nothing
+pub idle_first : (s : DueSnap) (cs : List ChunkCopy) (p : ChunkCopy) → is_busy s ≡ false → cs ≡ s.books.copies → 1 ≤ length cs → p ≡ get_or cs 0 p → copy_of Waiting s ≡ Some p.number
+idle_first s cs p e same some is =
+    let parts = or_parts (s.books.untried || not (length s.books.marks == 0)) (list_any is_begun s.books.copies) e in
+    ap (first_by (is_copy_at Waiting) number_of_copy) (sym same) ∙ waiting_first cs p some is (ap (list_any is_begun) same ∙ parts.1)
+
+pub idle_none : (s : DueSnap) (cs : List ChunkCopy) → cs ≡ s.books.copies → length cs < 1 → copy_of Waiting s ≡ None
+idle_none s cs same none = ap (first_by (is_copy_at Waiting) number_of_copy) (sym same ∙ nil_from_length cs (omega (arith, none)))
 
 map_end : {X Y : Type 0} (f : X → Y) (xs : List X) (x : X) → map f (xs ++ x ∷ []) ≡ map f xs ++ f x ∷ []
 map_end f [] x = refl

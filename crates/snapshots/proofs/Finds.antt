@@ -1,9 +1,9 @@
 -- What a search finds, and what is so where it finds nothing.
-use Rattle.std.proofs.Common.{◌≡◌, ℕ, zero, suc, ◌+◌, ◌<◌, Bool, true, false, List, [], ◌∷◌, Some, None, length, get_or, map, drop, nat_lt, refl, sym, ◌∙◌, ap, inl, inr, arith, cond, ◌≤◌}
+use Rattle.std.proofs.Common.{◌≡◌, ℕ, zero, suc, ◌+◌, ◌<◌, Bool, true, false, List, [], ◌∷◌, Some, None, length, get_or, map, drop, nat_lt, refl, sym, ◌∙◌, ap, inl, inr, arith, cond, ◌≤◌, ◌-◌, take}
 use Rattle.std.specs.Prelude.{◌==◌, ◌&&◌, ◌||◌}
 use Rattle.std.specs.List.{list_all, list_any, position, position_or_len}
 use Rattle.std.proofs.lemmas.Bool.{and_right, cases_Bool, cases_lt, eqb-true, false≢true}
-use Rattle.std.proofs.lemmas.List.{drop_more, get_or_read_under}
+use Rattle.std.proofs.lemmas.List.{drop_more, get_or-drop, get_or_read_under, length-drop, take_all}
 use Rattle.std.proofs.lemmas.List.Folds.{list_any-from_Any}
 
 lt-true : (m n : ℕ) → m < n → nat_lt m n ≡ true
@@ -83,3 +83,14 @@ number_fails m n b other = elim (cases_Bool (m == n)) [
   | inl same ↦ absurd (other (eqb-true m n same))
   | inr fails ↦ ap (λ a. a && b) fails
 ]
+
+-- What is sought from a place on: all from there are taken. A place that is found there lies inside of all, and holds the same.
+module _ {X : Type 0} (xs : List X) (from : ℕ) where
+  tail : take (length xs - from) (drop from xs) ≡ drop from xs
+  tail = take_all (length xs - from) (drop from xs) (omega (arith, length-drop from xs))
+
+  pub within_tail : (k : ℕ) → k < length (take (length xs - from) (drop from xs)) → from + k < length xs
+  within_tail k lt = omega (arith, lt, ap length tail, length-drop from xs)
+
+  pub at_tail : (k : ℕ) (d : X) → get_or xs (from + k) d ≡ get_or (take (length xs - from) (drop from xs)) k d
+  at_tail k d = sym (ap (λ ys. get_or ys k d) tail ∙ get_or-drop from xs k d)

@@ -144,12 +144,14 @@ fn from_busy<B: Block>(snaps: &[Snapshot<B>]) -> (&[Snapshot<B>], Option<CopyId>
     ensures waiting { least_of (copy_of Waiting) (map (due_of_kept B.contents B.layers) snaps.now) ≡ lesser result.1 (least_of (copy_of Waiting) (map (due_of_kept B.contents B.layers) result.0.now)) }
 {
     let mut waiting = None;
-    for k in 0..snaps.len() {
-        let snap = &snaps[k];
+    for (k, snap) in snaps.iter().enumerate() {
         if is_busy(snap) {
             return (&snaps[k..], waiting);
         }
-        waiting = least(waiting, first_copy(snap.copies(), Stage::Waiting));
+        match snap.copies() {
+            [] => {}
+            [first, ..] => waiting = least(waiting, Some(first.number)),
+        }
     }
     (&snaps[snaps.len()..], waiting)
 }
@@ -167,6 +169,7 @@ fn to_busy<B: Block>(snaps: &[Snapshot<B>]) -> &[Snapshot<B>]
 }
 
 /// The event that is due first, but for reads of chunks and requests.
+#[inline(never)]
 fn first_busy<B: Block>(snaps: &[Snapshot<B>], flights: &[Flight]) -> Option<Event>
     ensures { result ≡ busy_due (map (due_of_kept B.contents B.layers) snaps.now) flights.now }
 {

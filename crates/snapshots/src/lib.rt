@@ -1,6 +1,7 @@
 //! The snapshots of an origin as a list: what the kernel's `snapshot_map` and `origin_map` decide for a request. Which copies
 //! a write needs, each snapshot of its own chunk, and how they are started; which a merge waits for first; where held
-//! requests may go; which event is due first; and where an event that names a snapshot, a copy or a mark finds it. Beside a
+//! requests may go; which event is due first; and where an event that names a snapshot, a copy or a mark finds it, where a
+//! place may be looked at first (`finding_near`). Beside a
 //! merge: where origin requests go while one is begun (`routing_in_merge`), which event of it is due (`due_in_merge`), and what
 //! each other snapshot keeps back for it and starts for it (`keeping`, `saving_next`; where that is sought: `seeking`). Nothing
 //! here knows a volume, its origin disk or its numbers.
@@ -15,6 +16,7 @@
 mod due;
 mod due_in_merge;
 mod finding;
+mod finding_near;
 mod keeping;
 mod routing;
 mod routing_in_merge;
@@ -29,6 +31,9 @@ pub use due_in_merge::{
 };
 pub use finding::{
     committing_at, find_copy, find_mark, flushing_at, snap_at, trying_at, zeroing_at,
+};
+pub use finding_near::{
+    committing_near, find_copy_from, find_copy_near, find_mark_near, flushing_near,
 };
 pub use keeping::{keep_back_all, let_go_all};
 pub use routing::{is_clear, is_clear_over, next_chunk, route_placed};

@@ -1,7 +1,8 @@
 // Which copies a write at a sector of the origin needs, each snapshot of its own chunk: the room for them is taken, and then
 // they are started.
-ghost use Rattle.std.specs.Prelude.{◌≡◌, ◌==◌, ◌&&◌, ◌+◌, ◌*◌, ◌/◌, ◌^◌, ◌<◌, ◌≤◌, [], IfErr, IfOk, OnErr, OnOk, count_by, length, map, sum_by};
+ghost use Rattle.std.specs.Prelude.{◌≡◌, ◌==◌, ◌&&◌, ◌+◌, ◌*◌, ◌/◌, ◌^◌, ◌<◌, ◌≤◌, [], IfErr, IfOk, OnErr, OnOk, count_by, length, map, sum_by, true};
 ghost use Rattle.std.specs.List.{All};
+ghost use Rattle.chunk.specs.Sizes.{is_chunk};
 ghost use Rattle.sector.specs.declared.refusal.Refusal.TheVariants.{NoMemory};
 ghost use Rattle.snapshots.specs.Numbers.{count_in};
 ghost use Rattle.snapshots.specs.Starting.{AreSavedIn, HasRoomFor, HaveRooms, IsSavedIn, lacks, lacks_chunk, own_of, starts, unroomed};
@@ -16,14 +17,10 @@ use std::alloc::Global;
 /// How many whole chunks so many sectors are. Chunks are powers of two: a shift is several times as fast as a division.
 #[inline(always)]
 pub(crate) fn whole_chunks(sectors: u64, chunk: u32) -> u64
-    requires { 0 < chunk }
+    requires { is_chunk chunk ≡ true }
     ensures { result ≡ sectors / chunk }
 {
-    if chunk.is_power_of_two() {
-        sectors >> chunk.trailing_zeros()
-    } else {
-        sectors / chunk as u64
-    }
+    sectors >> chunk.trailing_zeros()
 }
 
 /// A snapshot's chunk of a sector of the origin.

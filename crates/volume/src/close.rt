@@ -28,6 +28,7 @@ impl<B: Block + Drop> Volume<B> {
             merge: _,
             flights: _,
             rooms: _,
+            last: _,
             requests: _,
             copies: _,
             attached: _,

@@ -1,10 +1,13 @@
 // The events of copies, stores and marks, each a call of its own.
-ghost use Rattle.std.specs.Prelude.{◌≡◌, [], ◌∷◌, ◌<◌, false, IfOk, OnErr, is_ok, length, map, slice_index_or, true, OnOk, None};
+ghost use Rattle.std.specs.Prelude.{◌≡◌, [], ◌∷◌, ◌<◌, false, IfNone, IfOk, IfSome, OnErr, is_ok, length, map, slice_index_or, Some, true, OnOk, None};
+ghost use Rattle.std.specs.List.{list_any, position};
+ghost use Rattle.in_flight.specs.declared.copies.Stage.TheVariants.{Read};
 ghost use Rattle.plain.specs.declared.event.Event.TheVariants.{CopyRead, CopyWrite, FlushStore, Publish, WriteArea, WriteInvalid, ZeroNext};
 ghost use Rattle.in_flight.specs.Routes.{refused_of};
 ghost use Rattle.volume_laws.specs.Due.{is_due};
 ghost use Rattle.volume_laws.specs.Steps.{SpoilsSnap};
-ghost use Rattle.snapshot.specs.Kept.{books_of};
+ghost use Rattle.snapshot.specs.Kept.{books_of, Kept};
+ghost use Rattle.snapshots.specs.Finding.{has_copy_at, is_copy_of};
 ghost use Rattle.volume.specs.Volumed.{dues_of, is_loud_in_all};
 ghost use Rattle.volume.specs.Stepping.{IsStepped};
 ghost use Rattle.volume.specs.Exact.{IsExact};
@@ -18,8 +21,8 @@ use plain::{CopyId, NotDue, Outcome, SnapId};
 use sector::Chunk;
 use snapshot::Snapshot;
 use snapshots::{
-    committing_at, find_copy, find_mark, flushing_at, route_again, route_placed, save_next_pair,
-    trying_at, zeroing_at,
+    committing_near, find_copy_from, find_copy_near, find_mark_near, flushing_near, route_again,
+    route_placed, save_next_pair, trying_at, zeroing_at,
 };
 
 /// Spoils a snapshot whose device failed, and refuses its requests.
@@ -42,6 +45,15 @@ fn chunk_at(marks: &[Mark], index: usize) -> Chunk
 }
 
 impl<B: Block> Volume<B> {
+    /// The place of a snapshot that has a copy with this number whose chunk was read, and the copy's place in it.
+    #[inline(always)]
+    pub fn find_read(&self, number: CopyId) -> Option<(usize, usize)>
+        ensures found { IfSome result (λ p. (p.0 < length self.now.snaps) × ((s : Kept B) → position (is_copy_of Read number) (slice_index_or self.now.snaps p.0 s).copies ≡ Some p.1)) }
+        ensures none { IfNone result (list_any (has_copy_at Read number) self.now.snaps ≡ false) }
+    {
+        find_copy_near(&self.snaps, self.last, Stage::Read, number)
+    }
+
     /// Reads a copy's chunk from the origin disk. Where that fails, the copy's snapshot is spoiled.
     #[inline(always)]
     pub(crate) fn copy_read(&mut self, number: CopyId) -> Result<Outcome, NotDue>
@@ -52,8 +64,9 @@ impl<B: Block> Volume<B> {
         ensures due { is_ok result ≡ is_due (dues_of B.contents B.layers self.old) self.old.flights (CopyRead number) }
         ensures same { OnErr result (self.new ≡ self.old) }
     {
-        match find_copy(&self.snaps, Stage::Waiting, number) {
+        match find_copy_from(&self.snaps, self.last, Stage::Waiting, number) {
             Some((place, index)) => {
+                self.last = place;
                 let snap = &mut self.snaps[place];
                 match snap.read_copy(&mut self.origin, index) {
                     Ok(()) => Ok(Outcome::Done),
@@ -77,7 +90,7 @@ impl<B: Block> Volume<B> {
         ensures due { is_ok result ≡ is_due (dues_of B.contents B.layers self.old) self.old.flights (CopyWrite number) }
         ensures same { OnErr result (self.new ≡ self.old) }
     {
-        match find_copy(&self.snaps, Stage::Read, number) {
+        match find_copy_near(&self.snaps, self.last, Stage::Read, number) {
             Some((place, index)) => {
                 let snap = &mut self.snaps[place];
                 match snap.write_copy(index) {
@@ -132,7 +145,7 @@ impl<B: Block> Volume<B> {
         ensures due { is_ok result ≡ is_due (dues_of B.contents B.layers self.old) self.old.flights (WriteArea number) }
         ensures same { OnErr result (self.new ≡ self.old) }
     {
-        match committing_at(&self.snaps, number) {
+        match committing_near(&self.snaps, self.last, number) {
             Some(place) => {
                 let snap = &mut self.snaps[place];
                 let count = snap.batch();
@@ -161,7 +174,7 @@ impl<B: Block> Volume<B> {
         ensures due { is_ok result ≡ is_due (dues_of B.contents B.layers self.old) self.old.flights (Publish number) }
         ensures same { OnErr result (self.new ≡ self.old) }
     {
-        match find_mark(&self.snaps, &self.flights, number) {
+        match find_mark_near(&self.snaps, self.last, &self.flights, number) {
             Some((place, index)) => {
                 let snap = &mut self.snaps[place];
                 let chunk = chunk_at(snap.marks(), index);
@@ -220,7 +233,7 @@ impl<B: Block> Volume<B> {
         ensures due { is_ok result ≡ is_due (dues_of B.contents B.layers self.old) self.old.flights (FlushStore number) }
         ensures same { OnErr result (self.new ≡ self.old) }
     {
-        match flushing_at(&self.snaps, number) {
+        match flushing_near(&self.snaps, self.last, number) {
             Some(place) => {
                 let snap = &mut self.snaps[place];
                 if snap.is_live() {

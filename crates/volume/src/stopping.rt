@@ -80,6 +80,7 @@ impl<B: Block> Volume<B> {
             merge,
             flights: _,
             rooms: _,
+            last: _,
             requests: _,
             copies: _,
             attached: _,

@@ -44,6 +44,8 @@ pub struct Volume<B: Block> {
     pub(crate) flights: Vec<Flight>,
     /// The rooms of the copies that a write starts, while they are handed over; empty between calls, and its memory is kept.
     pub(crate) rooms: Vec<Vec<u8>>,
+    /// The place of the snapshot whose copy was read last: the events that follow are mostly that one's, and are sought there first.
+    pub(crate) last: usize,
     /// How many numbers of requests, of copies and of snapshots were given.
     pub(crate) requests: u64,
     pub(crate) copies: u64,
@@ -94,6 +96,7 @@ impl<B: Block> Volume<B> {
             merge: None,
             flights,
             rooms: Vec::new(alloc),
+            last: 0,
             requests: 0,
             copies: 0,
             attached: 0,

@@ -11,10 +11,9 @@ ghost use Rattle.volume_commands.specs.Following.{AreDoneSo, IsAlone, IsCarried,
 ghost use Rattle.volume_commands.specs.TakesPlaces.{TakesByRequests};
 
 use crate::Journaled;
-use in_flight::{ChunkCopy, Flight, Stage};
+use in_flight::{ChunkCopy, Flight};
 use layers::Layered;
 use plain::{CopyId, Dev, Event, NotDue, Outcome, Reply, SnapId};
-use snapshots::find_copy;
 
 /// Whether a request is the origin's.
 fn is_origins(flight: &Flight) -> bool
@@ -48,7 +47,7 @@ fn holder<B: Layered>(volume: &Journaled<B>, number: CopyId) -> Option<(SnapId, 
     ensures alone { IfSome result (λ p. p.1 ≡ true → IsAlone number volume.now.volume) }
 {
     let snaps = volume.volume.snaps();
-    match find_copy(snaps, Stage::Read, number) {
+    match volume.volume.find_read(number) {
         Some((place, _)) => {
             let snap = &snaps[place];
             let alone = is_only(snap.copies(), volume.volume.flights());

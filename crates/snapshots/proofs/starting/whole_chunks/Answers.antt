@@ -1,7 +1,10 @@
 -- A shift by the place of the only bit that is set divides by the number.
-use Rattle.std.proofs.Common.{◌/◌, sym, ◌∙◌, ap}
+use Rattle.std.proofs.Common.{◌/◌, sym, ap}
+use Rattle.std.specs.Prelude.{nat_le}
+use Rattle.std.specs.Int.{is_power_of_two}
+use Rattle.std.proofs.lemmas.Bool.{and_parts}
 use Rattle.snapshots.proofs.Shifts.{power_is}
 use Rattle.snapshots.proofs.starting.whole_chunks.Goals as goal
 
-pub returns-then-is_power_of_two : goal.returns-then-is_power_of_two
-returns-then-is_power_of_two c = ap (λ n. c.args.sectors / n) (sym (power_is c.args.chunk c.ranges.chunk.fits (sym c.is_power_of_two.ensures ∙ c.if-is_power_of_two.true)))
+pub returns : goal.returns
+returns c = ap (λ n. c.args.sectors / n) (sym (power_is c.args.chunk c.ranges.chunk.fits (and_parts (is_power_of_two c.args.chunk) (nat_le c.args.chunk 1024) c.requires).0))

@@ -1,5 +1,5 @@
 -- The copy that was found stands in its snapshot.
-use Rattle.std.proofs.Common.{◌≡◌, ◌∙◌, length, sym, ap, true}
+use Rattle.std.proofs.Common.{◌≡◌, ◌<◌, ◌∙◌, List, arith, get_or, length, sym, ap, true}
 use Rattle.std.specs.Prelude.{◌==◌}
 use Rattle.std.specs.List.{list_all, list_any, position}
 use Rattle.std.proofs.lemmas.Bool.{and_parts}
@@ -16,8 +16,11 @@ returns-in-Some-clause-alone g c = λ yes.
     let s = c.index-snaps-place.result in
     let both = and_parts (length c.copies.result.now == 1) (list_all is_of_origin c.flights.result.now) (sym c.is_only-alone.ensures ∙ yes) in
     let one : (length s.copies == 1) ≡ true = ap (λ cs. length cs == 1) (sym c.copies.ensures) ∙ both.0 in
-    let alone = alone_at c.args.number c.in-Some.place c.in-Some.field-0-1 c.snaps-snaps.result.now s c.in-Some.ensures.found.0 c.index-snaps-place.is
-    (ap (λ (x : Kept g.row.B.Denot). position (is_copy_of Read c.args.number) x.copies) c.index-snaps-place.is ∙ c.in-Some.ensures.found.1 s) one in
+    let k = c.in-Some.place in
+    let within : k < length c.snaps-snaps.result.now = omega (arith, c.in-Some.ensures.found.0, ap length c.snaps-snaps.ensures) in
+    let found = ap (λ (xs : List (Kept g.row.B.Denot)). position (is_copy_of Read c.args.number) (get_or xs k s).copies) c.snaps-snaps.ensures ∙ c.in-Some.ensures.found.1 s in
+    let alone = alone_at c.args.number k c.in-Some.field-0-1 c.snaps-snaps.result.now s within c.index-snaps-place.is
+    (ap (λ (x : Kept g.row.B.Denot). position (is_copy_of Read c.args.number) x.copies) c.index-snaps-place.is ∙ found) one in
     record {
       copy = ap (λ (x : Counted g.row.B.Denot). list_any (is_alone c.args.number) x.volume.snaps) (sym c.volume.view_is) ∙ ap (list_any (is_alone c.args.number)) (sym c.snaps-snaps.ensures) ∙ alone;
       requests = ap (λ (x : Counted g.row.B.Denot). list_all is_of_origin x.volume.flights) (sym c.volume.view_is) ∙ ap (list_all is_of_origin) (sym c.flights.ensures.is) ∙ both.1;

@@ -25,8 +25,8 @@ use Rattle.std.proofs.Common.{List, get_or}
 use Rattle.volume.proofs.volume.Volume.publish.Goals as goal
 use Rattle.snapshots.specs.Rooms.{merge_books}
 
-pub find_mark-requires : goal.find_mark-requires
-find_mark-requires g c =
+pub find_mark_near-requires : goal.find_mark_near-requires
+find_mark_near-requires g c =
     subst (All (λ (x : Kept _). 0 < x.state.chunk)) (sym c.deref.ensures.value) (chunks_all g.B.Block.contents g.B.Block.layers g.B.Block.size _ c.self.invariant.whole)
 
 pub chunk_at-chunk-requires : goal.chunk_at-chunk-requires
