@@ -139,6 +139,7 @@ impl CommandReply {
 
     /// Prints the line of a reply, its end included, straight into the writer; a short one in one write. The one error is the
     /// writer's own; then part of the line may stand in it.
+    #[inline(always)]
     pub fn write_to<W: Write>(&self, writer: &mut W) -> io::Result<()>
         ensures { OnOk result (Appends (W.contents writer.old) (W.contents writer.new) (text_of self.now)) }
     {

@@ -95,7 +95,9 @@ fn read_said(text: &[u8]) -> Result<Option<Command>, Refusal>
     let Some((first, rest)) = next_word(rest) else {
         return Err(Refusal::BadTable);
     };
-    let name = Name::new(name)?;
+    let Some(name) = Name::read(name) else {
+        return Err(Refusal::BadTable);
+    };
     let first = numeral(first)?;
     let count = amount(rest)?;
     Ok(Some(Command::Read { name, first, count }))
@@ -111,7 +113,9 @@ fn write_said(alloc: Global, text: &[u8]) -> Result<Option<Command>, Refusal>
     let Some((first, rest)) = next_word(rest) else {
         return Err(Refusal::BadTable);
     };
-    let name = Name::new(name)?;
+    let Some(name) = Name::read(name) else {
+        return Err(Refusal::BadTable);
+    };
     let first = numeral(first)?;
     let bytes = payload(alloc, rest)?;
     Ok(Some(Command::Write { name, first, bytes }))
@@ -126,7 +130,9 @@ fn status_said(text: &[u8]) -> Result<Option<Command>, Refusal>
     if next_word(rest).is_some() {
         return Err(Refusal::BadTable);
     }
-    let name = Name::new(name)?;
+    let Some(name) = Name::read(name) else {
+        return Err(Refusal::BadTable);
+    };
     Ok(Some(Command::Status { name }))
 }
 

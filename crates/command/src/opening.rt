@@ -48,6 +48,7 @@ fn has_par(line: &[u8]) -> bool
 }
 
 /// Whether a line of at most `max` bytes, given without its end, begins with the word `par`. No other line opens a block.
+#[inline(always)]
 pub fn is_par(line: &[u8], max: usize) -> bool
     ensures { result ≡ is_par max line.now }
 {

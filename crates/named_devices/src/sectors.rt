@@ -79,10 +79,10 @@ pub fn read_device(
     ensures full { IfErr result (λ e. e ≡ JournalFull → has_asked_much_for name.now (table_of held.old) (table_of held.new) ≡ true) }
 {
     let count = some_sectors(count)?;
-    match find_device(held, name)? {
-        Place::Free(_, _) => Err(Refusal::BadTable),
-        Place::In(v, role) => read_at(alloc, held, v, role, first, count, ended),
-    }
+    let Place::In(v, role) = find_device(held, name)? else {
+        return Err(Refusal::BadTable);
+    };
+    read_at(alloc, held, v, role, first, count, ended)
 }
 
 /// Writes sectors of a device of a volume.

@@ -36,8 +36,8 @@ pub fn status_text(alloc: Global, held: &Devices, name: &Name) -> Result<Text, R
     ensures held { IsStatusHeld result name.now (table_of held.now) }
     ensures room { IfErr result (λ e. e ≢ JournalFull) }
 {
-    match find_device(held, name)? {
-        Place::Free(_, _) => Err(Refusal::BadTable),
-        Place::In(v, role) => status_at(alloc, held, v, role),
-    }
+    let Place::In(v, role) = find_device(held, name)? else {
+        return Err(Refusal::BadTable);
+    };
+    status_at(alloc, held, v, role)
 }

@@ -65,10 +65,30 @@ fn print_own<W: Write>(writer: &mut W, own: &Option<CommandReply>) -> Result<(),
     }
 }
 
+/// Prints the lines of requests that ended, of which none is left, and then a command's own. The one error is
+/// `RunError::Write`, the writer's own; then part of them may be printed.
+#[inline(never)]
+#[tactic(auto, using(crate::proofs::EndedLemmas::both_printed))]
+fn print_both<W: Write>(
+    alloc: Global,
+    writer: &mut W,
+    ended: &mut Vec<Replied>,
+    own: &Option<CommandReply>,
+) -> Result<(), RunError>
+    ensures printed { OnOk result (Appends (W.contents writer.old) (W.contents writer.new) (printed (line_replies ended.old.items own.now))) }
+    ensures error { IfErr result IsWriters }
+{
+    let ended = mem::replace(ended, Vec::new(alloc));
+    if let Err(error) = print_ended(writer, ended) {
+        return Err(RunError::of_writer(error));
+    }
+    print_own(writer, own)
+}
+
 /// Prints all that a line answers: the lines of requests that ended, and then its command's own. The one error is
 /// `RunError::Write`, the writer's own; then part of them may be printed.
 #[inline(always)]
-#[tactic(auto, using(crate::proofs::EndedLemmas::own_alone, crate::proofs::EndedLemmas::both_printed))]
+#[tactic(auto, using(crate::proofs::EndedLemmas::own_alone))]
 pub fn print_all<W: Write>(
     alloc: Global,
     writer: &mut W,
@@ -82,9 +102,5 @@ pub fn print_all<W: Write>(
     if ended.is_empty() {
         return print_own(writer, own);
     }
-    let ended = mem::replace(ended, Vec::new(alloc));
-    if let Err(error) = print_ended(writer, ended) {
-        return Err(RunError::of_writer(error));
-    }
-    print_own(writer, own)
+    print_both(alloc, writer, ended, own)
 }

@@ -46,40 +46,32 @@ use words::{Name, Text};
 fn did(call: Result<(), Refusal>) -> Result<CommandReply, Refusal>
     ensures { result ≡ reworded (λ _. Done) call }
 {
-    match call {
-        Ok(()) => Ok(CommandReply::Done),
-        Err(refusal) => Err(refusal),
-    }
+    call?;
+    Ok(CommandReply::Done)
 }
 
 /// Bytes that were asked for.
 fn given(call: Result<Buf, Refusal>) -> Result<CommandReply, Refusal>
     ensures { result ≡ reworded Data call }
 {
-    match call {
-        Ok(bytes) => Ok(CommandReply::Data(bytes)),
-        Err(refusal) => Err(refusal),
-    }
+    let bytes = call?;
+    Ok(CommandReply::Data(bytes))
 }
 
 /// A text that was asked for.
 fn text(call: Result<Text, Refusal>) -> Result<CommandReply, Refusal>
     ensures { result ≡ reworded Said call }
 {
-    match call {
-        Ok(text) => Ok(CommandReply::Said(text)),
-        Err(refusal) => Err(refusal),
-    }
+    let text = call?;
+    Ok(CommandReply::Said(text))
 }
 
 /// The number of a request that was started.
 fn number(call: Result<ReqId, Refusal>) -> Result<CommandReply, Refusal>
     ensures { result ≡ reworded Number call }
 {
-    match call {
-        Ok(number) => Ok(CommandReply::Number(number)),
-        Err(refusal) => Err(refusal),
-    }
+    let number = call?;
+    Ok(CommandReply::Number(number))
 }
 
 /// The reply to a message that was answered. The one error is `NoMemory`, for the words of an answer that has some.
@@ -205,14 +197,13 @@ pub fn answer(
     ensures sound { is_sound (table_of held.old) ≡ true → is_sound_line line.now ≡ true → is_sound (table_of held.new) ≡ true }
     ensures named { AreNamed (table_of held.old) → AreNamed (table_of held.new) }
 {
-    match said(alloc, line, LINE_LIMIT) {
-        Ok(None) => Ok(None),
-        Ok(Some(command)) => {
-            match obey(alloc, held, command, ended) {
-                Ok(reply) => Ok(Some(reply)),
-                Err(refusal) => Err(refusal),
-            }
-        }
+    let command = match said(alloc, line, LINE_LIMIT) {
+        Ok(Some(command)) => command,
+        Ok(None) => return Ok(None),
+        Err(refusal) => return Err(refusal),
+    };
+    match obey(alloc, held, command, ended) {
+        Ok(reply) => Ok(Some(reply)),
         Err(refusal) => Err(refusal),
     }
 }

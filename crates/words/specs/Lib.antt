@@ -6,3 +6,4 @@ pub mod Numbers
 pub mod Names
 pub mod Lines
 pub mod Buffered
+pub mod TextBytes

@@ -9,6 +9,7 @@ mod line;
 mod lines;
 mod names;
 mod numbers;
+mod short;
 mod texts;
 mod wide;
 mod word;

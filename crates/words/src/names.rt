@@ -78,19 +78,28 @@ fn are_same(one: &[u8; 16], other: &[u8; 16]) -> bool
 }
 
 impl Name {
+    /// The name that a word says; `None` for a word that is no name.
+    #[inline(always)]
+    pub fn read(word: &[u8]) -> Option<Name>
+        ensures { MatchOption result (is_name word.now ≡ false) (λ name. (is_name word.now ≡ true) × (name ≡ word.now)) }
+    {
+        if word.is_empty() || word.len() > 16 || !word[0].is_ascii_lowercase() {
+            return None;
+        }
+        let bytes = padded(word)?;
+        let len = word.len() as u8;
+        Some(Name { bytes, len })
+    }
+
     /// The name that a word says. `BadTable` for a word that is no name.
     pub fn new(word: &[u8]) -> Result<Name, Refusal>
         ensures name { result ≡ name_of word.now }
         ensures form { IfOk result (λ name. is_name name ≡ true) }
     {
-        if word.is_empty() || word.len() > 16 || !word[0].is_ascii_lowercase() {
-            return Err(Refusal::BadTable);
+        match Name::read(word) {
+            Some(name) => Ok(name),
+            None => Err(Refusal::BadTable),
         }
-        let Some(bytes) = padded(word) else {
-            return Err(Refusal::BadTable);
-        };
-        let len = word.len() as u8;
-        Ok(Name { bytes, len })
     }
 
     /// Another with the same bytes.
