@@ -1,2 +1,5 @@
+pub mod Aside
 pub mod Flushed
+pub mod Listed
 pub mod Marked
+pub mod Spans

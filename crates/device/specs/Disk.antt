@@ -2,6 +2,7 @@
 use Rattle.std.specs.Prelude.{◌≡◌, ◌⊎◌, ℕ, List}
 use Rattle.sector.specs.Bytes.{sector_at}
 use Rattle.device.specs.Marks.{flushed_from}
+use Rattle.device.specs.Listed.{listed}
 use Rattle.device.specs.declared.mem_disk.MemDisk.{MemDisk}
 
 -- how many sectors it has
@@ -14,7 +15,7 @@ disk_contents d = d.present.items
 
 -- its bytes at the last flush, which last through a loss of power: of each sector what its mark says
 abbrev pub disk_durable : MemDisk → List ℕ
-disk_durable d = flushed_from d.present.items d.undo.aside.items 0 d.undo.marks.items
+disk_durable d = flushed_from d.present.items (listed d.undo.kept.items) d.undo.aside.items 0 d.undo.marks.items
 
 -- how many operations it has done, modulo 2 ^ 64
 abbrev pub disk_done : MemDisk → ℕ

@@ -1,3 +1,4 @@
 pub mod Disk
 pub mod Layers
+pub mod Listed
 pub mod Marks

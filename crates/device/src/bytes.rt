@@ -1,16 +1,16 @@
 // Whole sectors of bytes.
 ghost use Rattle.std.specs.Prelude.{◌≡◌, ◌⊎◌, ℕ, ◌+◌, ◌*◌, ◌<◌, ◌≤◌, length, slice_index};
-ghost use Rattle.sector.specs.Bytes.{sector_at, with_sectors};
+ghost use Rattle.sector.specs.Bytes.{sectors_at, with_sectors};
 
 use sector::SECTOR_BYTES;
 
-/// The bytes of a sector.
-pub fn sector_of(all: &[u8], s: usize) -> &[u8]
-    requires { 512 * (s + 1) ≤ length all.now }
-    ensures { result.now ≡ sector_at all.now s }
+/// The bytes of sectors.
+pub fn sectors_of(all: &[u8], first: usize, count: usize) -> &[u8]
+    requires { 512 * (first + count) ≤ length all.now }
+    ensures { result.now ≡ sectors_at all.now first count }
 {
-    let from = s * SECTOR_BYTES;
-    &all[from..from + SECTOR_BYTES]
+    let from = first * SECTOR_BYTES;
+    &all[from..from + count * SECTOR_BYTES]
 }
 
 /// Writes whole sectors from sector `first` on.

@@ -8,10 +8,15 @@ mod block;
 mod bytes;
 mod fail_at;
 mod io;
+mod kept;
+mod listing;
 mod mark;
+mod marking;
 mod mem_disk;
 mod operation;
+mod span;
 mod undo;
+mod zeroed;
 
 pub use block::Block;
 pub use fail_at::FailAt;

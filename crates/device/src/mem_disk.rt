@@ -33,9 +33,9 @@ pub struct MemDisk {
 impl MemDisk {
     ghost use Rattle.device.specs.Disk.{disk_size, disk_contents, disk_durable, disk_done};
 
-    /// A disk of so many sectors, all zero and flushed. `NoMemory` where the allocator refuses the room: twice as many
-    /// bytes, of which half are not written before there is something to keep, and 12 bytes a sector. No later call takes
-    /// memory.
+    /// A disk of so many sectors, all zero and flushed. `NoMemory` where the allocator refuses the room: 1041 bytes a
+    /// sector, of which 513, its value and its mark, are written, and the others stay untouched before there is something
+    /// to keep. No later call takes memory.
     pub fn new(alloc: Global, sectors: u64) -> Result<MemDisk, Refusal>
         requires some { 1 ≤ sectors }
         requires small { sectors ≤ MAX_SECTORS }
@@ -78,8 +78,7 @@ impl MemDisk {
         ensures done { disk_done self.new ≡ disk_done self.old }
     {
         write_sectors(&mut self.present, range.first as usize, bytes);
-        self.undo
-            .put(&self.present, range.first as usize, range.count as usize);
+        self.undo.put(range.first as usize, range.count as usize);
     }
 
     /// Loses what was not flushed: each sector goes back to its value at the last flush. It counts no operation.
@@ -110,6 +109,7 @@ impl Block for MemDisk {
 
     ghost may_hold = { disk_may_hold };
 
+    #[inline(always)]
     fn sectors(&self) -> u64 {
         self.sectors
     }

@@ -2,6 +2,7 @@ use Rattle.std.proofs.Common.{◌≡◌, inl, inr, ◌+◌, ◌*◌, ◌≤◌, 
 use Rattle.sector.specs.Bytes.{sector_at, with_sectors}
 use Rattle.sector.proofs.Sectors.{kept_or_written, written_back}
 use Rattle.device.specs.Marks.{flushed_at}
+use Rattle.device.specs.Listed.{listed}
 use Rattle.device.proofs.Flushed.{fresh_zero, long_back, write_flushed, write_fresh}
 use Rattle.device.proofs.mem_disk.MemDiskBlock.write.Goals as goal
 
@@ -21,13 +22,13 @@ invariant_of-self-clause-fresh c = write_fresh c.args.self.now.present.items _ c
     c.args.self.now.fresh
 
 pub returns-clause-durable : goal.returns-clause-durable
-returns-clause-durable c = write_flushed c.args.self.now.present.items _ c.args.bytes.now c.args.self.now.undo.aside.items c.keep.new.self.aside.items c.args.range.first c.args.range.count c.args.self.now.undo.marks.items c.keep.new.self.marks.items
+returns-clause-durable c = write_flushed c.args.self.now.present.items _ c.args.bytes.now (listed c.args.self.now.undo.kept.items) c.args.self.now.undo.aside.items (listed c.keep.new.self.kept.items) c.keep.new.self.aside.items c.args.range.first c.args.range.count c.args.self.now.undo.marks.items c.keep.new.self.marks.items
     c.keep.ensures.len
     (written_back _ _ _ (search rules) ∙ c.write_sectors.ensures.all ∙ ap (λ x. with_sectors x c.args.range.first c.args.bytes.now) c.deref_mut.ensures.value)
     c.requires.room
     (omega (arith, c.requires.inside, c.args.self.now.whole))
     c.keep.ensures.kept
-    (λ t. subst (λ (b : List ℕ). flushed_at b c.keep.new.self.aside.items c.keep.new.self.marks.items t ≡ flushed_at b c.args.self.now.undo.aside.items c.args.self.now.undo.marks.items t) c.deref.ensures.value (c.keep.ensures.flushed t))
+    (λ t. subst (λ (b : List ℕ). flushed_at b (listed c.keep.new.self.kept.items) c.keep.new.self.aside.items c.keep.new.self.marks.items t ≡ flushed_at b (listed c.args.self.now.undo.kept.items) c.args.self.now.undo.aside.items c.args.self.now.undo.marks.items t) c.deref.ensures.value (c.keep.ensures.flushed t))
 
 pub returns-clause-stop : goal.returns-clause-stop
 returns-clause-stop c s v (inl now) =

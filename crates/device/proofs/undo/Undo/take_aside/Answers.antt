@@ -1,46 +1,28 @@
-use Rattle.std.proofs.Common.{◌≡◌, ◌+◌, ◌≤◌, inr, length, arith, ap, refl, rules}
-use Rattle.std.specs.List.{sum_by}
-use Rattle.std.proofs.lemmas.Grind.{common_steps}
-use Rattle.device.specs.Marks.{mark_at, is_settled, places_left, bytes_left}
-use Rattle.device.proofs.Marked.{place_there, one_of, listed_same, inside_same, small_set, aside_room_set, list_room_set, few_listed_set, few_kept_set, apart_set, there_set, place_new}
+use Rattle.std.proofs.Common.{◌≡◌, ◌*◌, length, arith, ap, sym, subst, length-append}
+use Rattle.std.specs.List.{range_with_len}
+use Rattle.std.proofs.lemmas.List.FromFn.{length-range_with_len}
+use Rattle.device.specs.Listed.{listed}
+use Rattle.device.specs.Marks.{AreKept}
+use Rattle.device.proofs.Spans.{spans_few}
+use Rattle.device.proofs.Marked.{kept_room, kept_more}
+use Rattle.device.proofs.Aside.{zeroed_beside}
 use Rattle.device.proofs.undo.Undo.take_aside.Goals as goal
 
-pub invariant_of-self-clause-small : goal.invariant_of-self-clause-small
-invariant_of-self-clause-small c = small_set c.args.self.now.marks.items c.args.s _ c.args.self.now.small
+pub append-requires : goal.append-requires
+append-requires c =
+    omega (arith, c.requires.whole, c.args.self.now.whole, c.args.self.now.aside_room, kept_room c.args.self.now.marks.items (listed c.args.self.now.kept.items) c.args.first c.args.count c.args.self.now.are_kept c.requires.inside c.requires.same)
 
-pub invariant_of-self-clause-aside_room : goal.invariant_of-self-clause-aside_room
-invariant_of-self-clause-aside_room c = aside_room_set c.args.self.now.marks.items c.args.s _ _ _ c.args.self.now.aside_room c.extend_from_slice.ensures.capacity
+pub list-requires-clause-room : goal.list-requires-clause-room
+list-requires-clause-room c =
+    omega (arith, c.requires.some, spans_few c.args.self.now.kept.items, c.args.self.now.kept_room, kept_room c.args.self.now.marks.items (listed c.args.self.now.kept.items) c.args.first c.args.count c.args.self.now.are_kept c.requires.inside c.requires.same)
 
-pub invariant_of-self-clause-list_room : goal.invariant_of-self-clause-list_room
-invariant_of-self-clause-list_room c = list_room_set c.args.self.now.marks.items c.args.s _ _ _ c.args.self.now.list_room (omega arith)
+pub invariant_of-self-clause-whole : goal.invariant_of-self-clause-whole
+invariant_of-self-clause-whole c =
+    let g : length c.append.new.aside.items ≡ 512 * length (listed c.list.new.spans.items) = omega (arith, ap length c.append.ensures.items, length-append c.args.self.now.aside.items c.args.values.now, c.requires.whole, c.args.self.now.whole, ap length c.list.ensures.listed, length-append (listed c.args.self.now.kept.items) (range_with_len c.args.first c.args.count), length-range_with_len c.args.first c.args.count) in g
 
-pub invariant_of-self-clause-inside : goal.invariant_of-self-clause-inside
-invariant_of-self-clause-inside c = inside_same c.args.self.now.written.items c.args.self.now.marks.items c.args.s _ c.args.self.now.inside
+pub invariant_of-self-clause-are_zeroed : goal.invariant_of-self-clause-are_zeroed
+invariant_of-self-clause-are_zeroed c = zeroed_beside c.args.self.now.marks.items c.mark_all.new.marks.items (listed c.args.self.now.zeroed.items) c.args.first c.args.count c.mark_all.ensures.len c.mark_all.ensures.set c.mark_all.ensures.others c.args.self.now.are_zeroed
 
-pub invariant_of-self-clause-listed : goal.invariant_of-self-clause-listed
-invariant_of-self-clause-listed c = listed_same c.args.self.now.written.items c.args.self.now.marks.items c.args.s _ c.requires.inside c.args.self.now.listed (inr (ap is_settled c.requires.zero))
-
-pub invariant_of-self-clause-apart : goal.invariant_of-self-clause-apart
-invariant_of-self-clause-apart c =
-    let same : c.len-place.result ≡ length c.args.self.now.aside.items = search rules in
-    apart_set c.args.self.now.marks.items c.args.s _ c.requires.inside c.args.self.now.apart (place_new c.args.self.now.marks.items c.len-place.result (length c.args.self.now.aside.items) same c.args.self.now.there c.args.self.now.whole)
-
-pub invariant_of-self-clause-there : goal.invariant_of-self-clause-there
-invariant_of-self-clause-there c =
-    let same : c.len-place.result ≡ length c.args.self.now.aside.items = search rules in
-    let room : bytes_left (mark_at c.args.self.now.marks.items c.args.s) ≤ sum_by bytes_left c.args.self.now.marks.items = one_of bytes_left c.args.self.now.marks.items c.args.s c.requires.inside refl in
-    let zero : bytes_left (mark_at c.args.self.now.marks.items c.args.s) ≡ 512 = ap bytes_left c.requires.zero in
-    let more : length c.extend_from_slice.new.self.items ≡ length c.args.self.now.aside.items + 512 = grind (arith, common_steps) in
-    there_set c.args.self.now.marks.items c.args.s _ _ _ c.requires.inside (omega arith) c.args.self.now.there (place_there c.len-place.result (length c.args.self.now.aside.items) _ same more c.args.self.now.whole)
-
-pub invariant_of-self-clause-few_listed : goal.invariant_of-self-clause-few_listed
-invariant_of-self-clause-few_listed c =
-    let none = ap places_left c.requires.zero in
-    few_listed_set c.args.self.now.marks.items c.args.s _ _ _ c.requires.inside c.args.self.now.few_listed (omega arith)
-
-pub invariant_of-self-clause-few_kept : goal.invariant_of-self-clause-few_kept
-invariant_of-self-clause-few_kept c =
-    let room : bytes_left (mark_at c.args.self.now.marks.items c.args.s) ≤ sum_by bytes_left c.args.self.now.marks.items = one_of bytes_left c.args.self.now.marks.items c.args.s c.requires.inside refl in
-    let zero : bytes_left (mark_at c.args.self.now.marks.items c.args.s) ≡ 512 = ap bytes_left c.requires.zero in
-    let more : length c.extend_from_slice.new.self.items ≡ length c.args.self.now.aside.items + 512 = grind (arith, common_steps) in
-    few_kept_set c.args.self.now.marks.items c.args.s _ _ _ c.requires.inside c.args.self.now.few_kept (omega arith)
+pub invariant_of-self-clause-are_kept : goal.invariant_of-self-clause-are_kept
+invariant_of-self-clause-are_kept c =
+    subst (AreKept c.mark_all.new.marks.items) (sym c.list.ensures.listed) (kept_more c.args.self.now.marks.items c.mark_all.new.marks.items (listed c.args.self.now.kept.items) c.args.first c.args.count c.args.self.now.are_kept c.requires.same c.mark_all.ensures.set c.mark_all.ensures.others)

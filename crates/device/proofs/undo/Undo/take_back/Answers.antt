@@ -1,29 +1,21 @@
-use Rattle.std.proofs.Common.{◌+◌, ◌*◌, ◌≤◌, length, vec_capacity, ap, arith}
-use Rattle.std.specs.List.{sum_by}
-use Rattle.device.specs.Marks.{places_left, bytes_left}
-use Rattle.device.proofs.Marked.{none_kept, places_few, bytes_few}
+use Rattle.std.proofs.Common.{◌<◌, ◌≤◌, List, length, ap, ◌∙◌, sym, subst}
+use Rattle.sector.specs.Bytes.{sector_at}
+use Rattle.device.specs.declared.span.Span.{Span}
+use Rattle.device.specs.Listed.{listed, place_in}
+use Rattle.device.specs.Marks.{mark_at}
+use Rattle.device.proofs.Marked.{kept_few}
+use Rattle.device.proofs.Aside.{taken_back}
 use Rattle.device.proofs.undo.Undo.take_back.Goals as goal
 
-pub invariant_of-self-clause-small : goal.invariant_of-self-clause-small
-invariant_of-self-clause-small c = let g : length c.restore_all.new.marks.items ≤ 16_777_216 = omega (arith, c.restore_all.ensures.len, c.args.self.now.small) in g
+pub restore_all-requires-clause-small : goal.restore_all-requires-clause-small
+restore_all-requires-clause-small c =
+    subst (λ (z : List Span). length (listed z) ≤ 16_777_216) (sym c.deref-5.ensures.value) (kept_few c.args.self.now.marks.items (listed c.args.self.now.kept.items) c.args.self.now.are_kept c.args.self.now.small)
 
-pub invariant_of-self-clause-aside_room : goal.invariant_of-self-clause-aside_room
-invariant_of-self-clause-aside_room c = let g : 512 * length c.restore_all.new.marks.items ≤ vec_capacity c.clear-2.new.self = omega (arith, c.restore_all.ensures.len, c.args.self.now.aside_room, c.clear-2.ensures.capacity) in g
-
-pub invariant_of-self-clause-list_room : goal.invariant_of-self-clause-list_room
-invariant_of-self-clause-list_room c = let g : length c.restore_all.new.marks.items ≤ vec_capacity c.clear.new.self = omega (arith, c.restore_all.ensures.len, c.args.self.now.list_room, c.clear.ensures.capacity) in g
-
-pub invariant_of-self-clause-listed : goal.invariant_of-self-clause-listed
-invariant_of-self-clause-listed c s out = c.restore_all.ensures.settled s
-
-pub invariant_of-self-clause-apart : goal.invariant_of-self-clause-apart
-invariant_of-self-clause-apart c s t k at at' = absurd (none_kept _ k (c.restore_all.ensures.settled s) at)
-
-pub invariant_of-self-clause-there : goal.invariant_of-self-clause-there
-invariant_of-self-clause-there c s k at = absurd (none_kept _ k (c.restore_all.ensures.settled s) at)
-
-pub invariant_of-self-clause-few_listed : goal.invariant_of-self-clause-few_listed
-invariant_of-self-clause-few_listed c = let g : length c.clear.new.self.items + sum_by places_left c.restore_all.new.marks.items ≤ length c.restore_all.new.marks.items = omega (arith, ap length c.clear.ensures.items, places_few c.restore_all.new.marks.items) in g
-
-pub invariant_of-self-clause-few_kept : goal.invariant_of-self-clause-few_kept
-invariant_of-self-clause-few_kept c = let g : length c.clear-2.new.self.items + sum_by bytes_left c.restore_all.new.marks.items ≤ 512 * length c.restore_all.new.marks.items = omega (arith, ap length c.clear-2.ensures.items, bytes_few c.restore_all.new.marks.items) in g
+pub returns-clause-back : goal.returns-clause-back
+returns-clause-back c =
+    let kept = listed c.args.self.now.kept.items in
+    taken_back c.args.now.now c.zero_all.new.now c.restore_all.new.now kept c.args.self.now.aside.items (listed c.args.self.now.zeroed.items) c.args.self.now.marks.items c.args.self.now.are_zeroed c.args.self.now.are_kept
+    (λ t is at. c.zero_all.ensures.zero t (ap (λ ms. mark_at ms t) c.deref.ensures.value ∙ is) (subst (λ (z : List Span). place_in (listed z) t < length (listed z)) (sym c.deref-2.ensures.value) at))
+    (λ t ne. c.zero_all.ensures.others t (λ is. ne (sym (ap (λ ms. mark_at ms t) c.deref.ensures.value) ∙ is)))
+    (λ t is at. c.restore_all.ensures.back t (ap (λ ms. mark_at ms t) c.deref-3.ensures.value ∙ is) (subst (λ (z : List Span). place_in (listed z) t < length (listed z)) (sym c.deref-5.ensures.value) at) ∙ ap (λ z. sector_at c.deref-4.result.now (place_in (listed z) t)) c.deref-5.ensures.value ∙ ap (λ a. sector_at a (place_in kept t)) c.deref-4.ensures.value)
+    (λ t ne. c.restore_all.ensures.others t (λ is. ne (sym (ap (λ ms. mark_at ms t) c.deref-3.ensures.value) ∙ is)))
