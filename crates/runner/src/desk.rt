@@ -73,9 +73,10 @@ fn outcome(
     ensures sound { is_sound (table_of held.old) ≡ true → is_sound_line line.now ≡ true → is_sound (table_of held.new) ≡ true }
     ensures named { AreNamed (table_of held.old) → AreNamed (table_of held.new) }
 {
+    // What is answered is returned where it is made, as in `step`.
     match answer(alloc, held, line, ended) {
-        Ok(reply) => reply,
-        Err(refusal) => Some(CommandReply::Refused(refusal)),
+        Ok(reply) => return reply,
+        Err(refusal) => return Some(CommandReply::Refused(refusal)),
     }
 }
 

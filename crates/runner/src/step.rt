@@ -149,6 +149,8 @@ fn obey_any(
 }
 
 /// Does a command, as `obey_any` does. The three that most lines say are done here, where little room is needed for their names.
+/// What is answered is returned where it is made: the value of a `match` is put aside first, and then copied.
+#[inline(always)]
 #[tactic(auto, unfolding(crate::specs::Steps::step))]
 fn obey(
     alloc: Global,
@@ -170,10 +172,14 @@ fn obey(
     ensures named { AreNamed (table_of held.old) → AreNamed (table_of held.new) }
 {
     match command {
-        Read { name, first, count } => given(read_device(alloc, held, &name, first, count, ended)),
-        Write { name, first, bytes } => did(write_device(alloc, held, &name, first, bytes, ended)),
-        Status { name } => text(status_text(alloc, held, &name)),
-        other => obey_any(alloc, held, other, ended),
+        Read { name, first, count } => {
+            return given(read_device(alloc, held, &name, first, count, ended));
+        }
+        Write { name, first, bytes } => {
+            return did(write_device(alloc, held, &name, first, bytes, ended));
+        }
+        Status { name } => return text(status_text(alloc, held, &name)),
+        other => return obey_any(alloc, held, other, ended),
     }
 }
 
@@ -202,8 +208,9 @@ pub fn answer(
         Ok(None) => return Ok(None),
         Err(refusal) => return Err(refusal),
     };
+    // As in `obey`, what is answered is not put aside first.
     match obey(alloc, held, command, ended) {
-        Ok(reply) => Ok(Some(reply)),
-        Err(refusal) => Err(refusal),
+        Ok(reply) => return Ok(Some(reply)),
+        Err(refusal) => return Err(refusal),
     }
 }
