@@ -69,7 +69,106 @@ impl Block for Stack {
         }
     }
 
+    #[inline(always)]
     fn read(&mut self, range: Range, out: &mut [u8]) -> Result<(), Io>
+        requires some { 0 < range.count }
+        requires inside { range.first + range.count ≤ stack_size self.old }
+        requires room { length out.old ≡ 512 * range.count }
+        ensures answer { is_ok result ≡ is_answered (fate (stack_layers self.old) (Reads range.first range.count)) }
+        ensures layers { stack_layers self.new ≡ layers_after (stack_layers self.old) (Reads range.first range.count) }
+        ensures loud { is_loud (stack_layers self.new) ≡ is_loud (stack_layers self.old) }
+        ensures data { OnOk result (out.new ≡ sectors_at (stack_contents self.old) range.first range.count) }
+        ensures data_err { OnErr result (out.new ≡ out.old) }
+        ensures contents { stack_contents self.new ≡ stack_contents self.old }
+        ensures durable { stack_durable self.new ≡ stack_durable self.old }
+        ensures size { stack_size self.new ≡ stack_size self.old }
+        ensures faults { stack_faults self.new ≡ (if is_ok result then stack_faults self.old else next_count (stack_faults self.old)) }
+        ensures done { stack_done self.new ≡ next_count (stack_done self.old) }
+        ensures stop { (s : ℕ) (v : List ℕ) → stack_may_hold self.new s v → stack_may_hold self.old s v }
+        ensures counts { counts_of self.new ≡ counts_after self.old (Reads range.first range.count) }
+    {
+        if let Stack::Disk(disk) = self {
+            disk.read(range, out)
+        } else {
+            self.read_under_layers(range, out)
+        }
+    }
+
+    #[inline(always)]
+    fn write(&mut self, range: Range, bytes: &[u8]) -> Result<(), Io>
+        requires some { 0 < range.count }
+        requires inside { range.first + range.count ≤ stack_size self.old }
+        requires room { length bytes.now ≡ 512 * range.count }
+        ensures answer { is_ok result ≡ is_answered (fate (stack_layers self.old) (Writes range.first range.count)) }
+        ensures layers { stack_layers self.new ≡ layers_after (stack_layers self.old) (Writes range.first range.count) }
+        ensures loud { is_loud (stack_layers self.new) ≡ is_loud (stack_layers self.old) }
+        ensures passed { fate (stack_layers self.old) (Writes range.first range.count) ≡ Pass → stack_contents self.new ≡ with_sectors (stack_contents self.old) range.first bytes.now }
+        ensures written { OnOk result (IsTrue (is_loud (stack_layers self.old)) → stack_contents self.new ≡ with_sectors (stack_contents self.old) range.first bytes.now) }
+        ensures dropped { fate (stack_layers self.old) (Writes range.first range.count) ≡ Drop → stack_contents self.new ≡ stack_contents self.old }
+        ensures err { OnErr result (stack_contents self.new ≡ stack_contents self.old) }
+        ensures rest { (i : ℕ) → (i < 512 * range.first) ⊎ (512 * (range.first + range.count) ≤ i) → slice_index (stack_contents self.new) i ≡ slice_index (stack_contents self.old) i }
+        ensures durable { stack_durable self.new ≡ stack_durable self.old }
+        ensures size { stack_size self.new ≡ stack_size self.old }
+        ensures faults { stack_faults self.new ≡ (if is_ok result then stack_faults self.old else next_count (stack_faults self.old)) }
+        ensures done { stack_done self.new ≡ next_count (stack_done self.old) }
+        ensures stop { (s : ℕ) (v : List ℕ) → stack_may_hold self.new s v → stack_may_hold self.old s v ⊎ ((range.first ≤ s) × (s < range.first + range.count) × (v ≡ sector_at bytes.now (s - range.first))) }
+        ensures stop_err { OnErr result ((s : ℕ) (v : List ℕ) → stack_may_hold self.new s v → stack_may_hold self.old s v) }
+        ensures counts { counts_of self.new ≡ counts_after self.old (Writes range.first range.count) }
+    {
+        if let Stack::Disk(disk) = self {
+            disk.write(range, bytes)
+        } else {
+            self.write_under_layers(range, bytes)
+        }
+    }
+
+    #[inline(always)]
+    fn flush(&mut self) -> Result<(), Io>
+        ensures answer { is_ok result ≡ is_answered (fate (stack_layers self.old) Flushes) }
+        ensures layers { stack_layers self.new ≡ layers_after (stack_layers self.old) Flushes }
+        ensures loud { is_loud (stack_layers self.new) ≡ is_loud (stack_layers self.old) }
+        ensures contents { stack_contents self.new ≡ stack_contents self.old }
+        ensures durable { stack_durable self.new ≡ (if is_passed (fate (stack_layers self.old) Flushes) then stack_contents self.old else stack_durable self.old) }
+        ensures size { stack_size self.new ≡ stack_size self.old }
+        ensures faults { stack_faults self.new ≡ (if is_ok result then stack_faults self.old else next_count (stack_faults self.old)) }
+        ensures done { stack_done self.new ≡ next_count (stack_done self.old) }
+        ensures stop { (s : ℕ) (v : List ℕ) → stack_may_hold self.new s v → stack_may_hold self.old s v }
+        ensures flushed { OnOk result (IsTrue (is_loud (stack_layers self.old)) → (s : ℕ) (v : List ℕ) → s < stack_size self.new → stack_may_hold self.new s v → v ≡ sector_at (stack_contents self.new) s) }
+        ensures counts { counts_of self.new ≡ counts_after self.old Flushes }
+    {
+        if let Stack::Disk(disk) = self {
+            disk.flush()
+        } else {
+            self.flush_under_layers()
+        }
+    }
+
+    ghost whole = { stack_whole };
+
+    ghost small = { stack_small };
+
+    ghost holds_now = { stack_holds_now };
+
+    ghost holds_durable = { stack_holds_durable };
+}
+
+impl Stack {
+    ghost use Rattle.std.specs.Prelude.{◌≡◌, ◌⊎◌, ◌<◌, ◌≤◌, ◌+◌, ◌*◌, ◌-◌, [], ◌∷◌, ℕ, List, Some, length, None, IfOk, IfErr, IfSome, IfNone, IsTrue, OnOk, OnErr, if◌then◌else◌, is_ok, slice_index};
+    ghost use Rattle.std.specs.Option.{option_copied};
+    ghost use Rattle.sector.specs.Bytes.{next_count, sector_at, sectors_at, with_sectors};
+    ghost use Rattle.sector.specs.declared.refusal.Refusal.TheVariants.{NoMemory};
+    ghost use Rattle.device.specs.declared.operation.Operation.TheVariants.{Reads, Writes, Flushes};
+    ghost use Rattle.device.specs.declared.operation.Fate.TheVariants.{Pass, Drop};
+    ghost use Rattle.device.specs.Layers.{Window, fate, is_answered, is_loud, is_passed, layers_after};
+    ghost use Rattle.layers.specs.Counts.{counts_after, counts_of};
+    ghost use Rattle.layers.specs.Disk.{disk_of, with_disk, HasSectors, IsLoaded, IsLost};
+    ghost use Rattle.layers.specs.Layer.{flakey_layer, dust_layer};
+    ghost use Rattle.layers.specs.Stack.{below_of, stack_size, stack_contents, stack_durable, stack_layers, stack_faults, stack_done, stack_may_hold};
+    ghost use Rattle.layers.specs.Beneath.{IsOver};
+    ghost use Rattle.layers.specs.Windows.{beside, layers_below, without_windows};
+
+    // The same of a stack in which layers may stand above the disk.
+    fn read_under_layers(&mut self, range: Range, out: &mut [u8]) -> Result<(), Io>
         requires some { 0 < range.count }
         requires inside { range.first + range.count ≤ stack_size self.old }
         requires room { length out.old ≡ 512 * range.count }
@@ -91,7 +190,7 @@ impl Block for Stack {
             Stack::Flakey(flakey, below) => {
                 flakey.done = flakey.done.wrapping_add(1);
                 if flakey.passes_read(range) {
-                    if let Ok(()) = below.read(range.shifted(flakey.offset), out) {
+                    if let Ok(()) = below.read_under_layers(range.shifted(flakey.offset), out) {
                         return Ok(());
                     }
                 }
@@ -101,7 +200,7 @@ impl Block for Stack {
             Stack::Dust(dust, below) => {
                 dust.done = dust.done.wrapping_add(1);
                 if dust.passes_read(range) {
-                    if let Ok(()) = below.read(range, out) {
+                    if let Ok(()) = below.read_under_layers(range, out) {
                         return Ok(());
                     }
                 }
@@ -116,7 +215,8 @@ impl Block for Stack {
         }
     }
 
-    fn write(&mut self, range: Range, bytes: &[u8]) -> Result<(), Io>
+    // The same of a stack in which layers may stand above the disk.
+    fn write_under_layers(&mut self, range: Range, bytes: &[u8]) -> Result<(), Io>
         requires some { 0 < range.count }
         requires inside { range.first + range.count ≤ stack_size self.old }
         requires room { length bytes.now ≡ 512 * range.count }
@@ -144,7 +244,10 @@ impl Block for Stack {
                     Fate::Drop => return Ok(()),
                     Fate::Fail => {}
                     Fate::Pass => {
-                        if let Ok(()) = below.write(range.shifted(flakey.offset), bytes) {
+                        if let Ok(()) = below.write_under_layers(
+                            range.shifted(flakey.offset),
+                            bytes,
+                        ) {
                             return Ok(());
                         }
                     }
@@ -154,7 +257,7 @@ impl Block for Stack {
             }
             Stack::Dust(dust, below) => {
                 dust.done = dust.done.wrapping_add(1);
-                if let Ok(()) = below.write(range, bytes) {
+                if let Ok(()) = below.write_under_layers(range, bytes) {
                     dust.written(range);
                     return Ok(());
                 }
@@ -169,7 +272,8 @@ impl Block for Stack {
         }
     }
 
-    fn flush(&mut self) -> Result<(), Io>
+    // The same of a stack in which layers may stand above the disk.
+    fn flush_under_layers(&mut self) -> Result<(), Io>
         ensures answer { is_ok result ≡ is_answered (fate (stack_layers self.old) Flushes) }
         ensures layers { stack_layers self.new ≡ layers_after (stack_layers self.old) Flushes }
         ensures loud { is_loud (stack_layers self.new) ≡ is_loud (stack_layers self.old) }
@@ -193,7 +297,7 @@ impl Block for Stack {
                     Fate::Drop => return Ok(()),
                     Fate::Fail => {}
                     Fate::Pass => {
-                        if let Ok(()) = below.flush() {
+                        if let Ok(()) = below.flush_under_layers() {
                             return Ok(());
                         }
                     }
@@ -203,7 +307,7 @@ impl Block for Stack {
             }
             Stack::Dust(dust, below) => {
                 dust.done = dust.done.wrapping_add(1);
-                if let Ok(()) = below.flush() {
+                if let Ok(()) = below.flush_under_layers() {
                     return Ok(());
                 }
                 dust.faults = dust.faults.wrapping_add(1);
@@ -216,27 +320,6 @@ impl Block for Stack {
             }
         }
     }
-
-    ghost whole = { stack_whole };
-
-    ghost small = { stack_small };
-
-    ghost holds_now = { stack_holds_now };
-
-    ghost holds_durable = { stack_holds_durable };
-}
-
-impl Stack {
-    ghost use Rattle.std.specs.Prelude.{◌≡◌, ◌≤◌, ◌+◌, ◌*◌, [], ◌∷◌, ℕ, List, Some, length, None, IfOk, IfErr, IfSome, IfNone};
-    ghost use Rattle.std.specs.Option.{option_copied};
-    ghost use Rattle.sector.specs.Bytes.{sectors_at, with_sectors};
-    ghost use Rattle.sector.specs.declared.refusal.Refusal.TheVariants.{NoMemory};
-    ghost use Rattle.device.specs.Layers.{Window};
-    ghost use Rattle.layers.specs.Disk.{disk_of, with_disk, HasSectors, IsLoaded, IsLost};
-    ghost use Rattle.layers.specs.Layer.{flakey_layer, dust_layer};
-    ghost use Rattle.layers.specs.Stack.{below_of, stack_size, stack_contents, stack_durable, stack_layers, stack_faults, stack_done};
-    ghost use Rattle.layers.specs.Beneath.{IsOver};
-    ghost use Rattle.layers.specs.Windows.{beside, layers_below, without_windows};
 
     // How many sectors it has, where layers may stand above the disk.
     fn sectors_under_layers(&self) -> u64
