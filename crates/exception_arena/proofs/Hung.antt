@@ -1,153 +1,189 @@
 -- The chains of the buckets.
-use Rattle.std.proofs.Common.{◌≡◌, ◌≢◌, inl, inr, ℕ, ◌+◌, ◌/◌, ◌%◌, ◌<◌, ◌≤◌, List, [], ◌∷◌, ◌++◌, Option, None, length, drop, set, reverse, arith, refl, ap, ◌∙◌, sym, subst, cond}
+use Rattle.std.proofs.Common.{◌≡◌, ◌≢◌, inl, inr, ℕ, zero, suc, ◌+◌, ◌-◌, ◌%◌, ◌<◌, ◌≤◌, List, [], ◌∷◌, ◌++◌, Option, None, Some, length, take, drop, set, map, arith, refl, ap, ◌∙◌, sym, subst, cond, drop-cons}
 use lib.Dec.{eqb}
-use Rattle.std.proofs.lemmas.Bool.{cases_eq, cond-true, cond-false, eq-eqb, ne_eqb}
-use Rattle.std.proofs.lemmas.List.{reverse-append, get_or-set_same, get_or-set_other, length-set, length-reverse, drop_all}
+use Rattle.std.proofs.lemmas.Bool.{cases_eq, cases_lt, cond-true, cond-false, eq-eqb, ne_eqb}
+use Rattle.std.proofs.lemmas.List.{get_or-set_same, get_or-set_other, get_or_append_left, get_or_at, get_or-map, length-set, length-append, length-map, drop_all}
 use Rattle.sector.specs.declared.pair.Pair.{Pair}
 use Rattle.store_bytes.specs.Picture.{place_of}
-use Rattle.exception_arena.specs.Runs.{block, pairs_in, IsRun, or_else}
-use Rattle.exception_arena.specs.Links.{nowhere, to, node_at, run_at, pairs_on, led, Leads, count_of, in_bucket, head_at, AreHung}
+use Rattle.exception_arena.specs.Links.{nowhere, to, node_at, pair_of, pairs_on, head_at, newest, AreHung}
 use Rattle.exception_arena.specs.declared.link.Link.{Link}
 use Rattle.exception_arena.specs.declared.node.Node.{Node}
-use Rattle.exception_arena.proofs.Runs.{place-append, run_apart}
-use Rattle.exception_arena.proofs.Places.{SameOn, same_head, same_rest, leads_kept, leads_alike, led_same, led_apart, count_here, count-reverse, leads_none, come_on, come_front, come_more}
 
-bucket_in : (nodes : List Node) (n b i : ℕ) (is : List ℕ) → (node_at nodes i).first.old / block % n ≡ b → in_bucket nodes n b (i ∷ is) ≡ i ∷ in_bucket nodes n b is
-bucket_in nodes n b i is e = cond-true _ _ _ (eq-eqb _ _ e)
+newest_here : (nodes : List Node) (n b k : ℕ) → (node_at nodes k).old % n ≡ b → newest nodes n b (suc k) ≡ to k
+newest_here nodes n b k e = cond-true _ _ _ (eq-eqb _ _ e)
 
-bucket_out : (nodes : List Node) (n b i : ℕ) (is : List ℕ) → (node_at nodes i).first.old / block % n ≢ b → in_bucket nodes n b (i ∷ is) ≡ in_bucket nodes n b is
-bucket_out nodes n b i is ne = cond-false _ _ _ (ne_eqb _ _ ne)
+newest_there : (nodes : List Node) (n b k : ℕ) → (node_at nodes k).old % n ≢ b → newest nodes n b (suc k) ≡ newest nodes n b k
+newest_there nodes n b k ne = cond-false _ _ _ (ne_eqb _ _ ne)
 
--- a bucket has no more of a place than the list
-pub bucket_count : (nodes : List Node) (n b : ℕ) (is : List ℕ) (j : ℕ) → count_of j (in_bucket nodes n b is) ≤ count_of j is
-bucket_count nodes n b [] j = omega arith
-bucket_count nodes n b (i ∷ is) j = let h = bucket_count nodes n b is j in elim (cases_eq ((node_at nodes i).first.old / block % n) b) [
-  | inl e ↦ rw (bucket_in nodes n b i is e) (omega arith)
-  | inr ne ↦ rw (bucket_out nodes n b i is ne) (omega arith)
-]
+-- nodes of the same old chunks
+newest_same : (nodes nodes' : List Node) (n b k : ℕ) → ((i : ℕ) → i < k → (node_at nodes' i).old ≡ (node_at nodes i).old) → newest nodes' n b k ≡ newest nodes n b k
+newest_same nodes nodes' n b zero same = refl
+newest_same nodes nodes' n b (suc k) same =
+    ap (λ (old : ℕ). cond (eqb (old % n) b) (to k) (newest nodes' n b k)) (same k (omega arith))
+    ∙ ap (λ x. cond (eqb ((node_at nodes k).old % n) b) (to k) x) (newest_same nodes nodes' n b k (λ i lt. same i (omega arith)))
 
-pub bucket_long : (nodes : List Node) (n b : ℕ) (is : List ℕ) → length (in_bucket nodes n b is) ≤ length is
-bucket_long nodes n b [] = omega arith
-bucket_long nodes n b (i ∷ is) = let h = bucket_long nodes n b is in elim (cases_eq ((node_at nodes i).first.old / block % n) b) [
-  | inl e ↦ rw (bucket_in nodes n b i is e) (omega arith)
-  | inr ne ↦ rw (bucket_out nodes n b i is ne) (omega arith)
-]
+-- nodes after the first k change
+pub hung_same : (nodes nodes' : List Node) (heads : List Link) (k : ℕ) → ((i : ℕ) → i < k → node_at nodes' i ≡ node_at nodes i) → AreHung nodes heads k → AreHung nodes' heads k
+hung_same nodes nodes' heads k same hung =
+    let olds : (i : ℕ) → i < k → (node_at nodes' i).old ≡ (node_at nodes i).old = λ i lt. ap (λ (n : Node). n.old) (same i lt) in
+    record {
+      starts = λ b lt. hung.starts b lt ∙ sym (newest_same nodes nodes' (length heads) b k olds);
+      nexts = λ i lt. ap (λ (n : Node). n.next) (same i lt) ∙ hung.nexts i lt ∙ sym (newest_same nodes nodes' (length heads) ((node_at nodes i).old % length heads) i (λ j l. olds j (omega arith)))
+          ∙ ap (λ (old : ℕ). newest nodes' (length heads) (old % length heads) i) (sym (olds i lt));
+    }
 
-bucket_kept : (nodes nodes' : List Node) (n b : ℕ) (is : List ℕ) → SameOn nodes nodes' is → in_bucket nodes' n b is ≡ in_bucket nodes n b is
-bucket_kept nodes nodes' n b [] s = refl
-bucket_kept nodes nodes' n b (i ∷ is) s =
-    ap (λ (node : Node). cond (eqb (node.first.old / block % n) b) (i ∷ in_bucket nodes' n b is) (in_bucket nodes' n b is)) (same_head nodes nodes' i is s)
-    ∙ ap (λ x. cond (eqb ((node_at nodes i).first.old / block % n) b) (i ∷ x) x) (bucket_kept nodes nodes' n b is (same_rest nodes nodes' i is s))
-
--- a chain whose nodes are as they were
-chain_kept : (nodes nodes' : List Node) (n b : ℕ) (link : Link) (is : List ℕ) → SameOn nodes nodes' is → Leads nodes link (in_bucket nodes n b is) → Leads nodes' link (in_bucket nodes' n b is)
-chain_kept nodes nodes' n b link is s l =
-    let on : SameOn nodes nodes' (in_bucket nodes n b is) = record { same = λ j lt. s.same j (omega (arith, bucket_count nodes n b is j)) } in
-    subst (Leads nodes' link) (sym (bucket_kept nodes nodes' n b is s)) (leads_kept nodes nodes' link (in_bucket nodes n b is) on l)
-
--- nodes of other lists change
-pub hung_kept : (nodes nodes' : List Node) (heads : List Link) (is : List ℕ) → SameOn nodes nodes' is → AreHung nodes heads is → AreHung nodes' heads is
-hung_kept nodes nodes' heads is s hung b lt = chain_kept nodes nodes' (length heads) b (head_at heads b) is s (hung b lt)
-
--- nodes that lead where they led, and whose runs begin as they did
-bucket_alike : (nodes nodes' : List Node) (n b : ℕ) (is : List ℕ) → ((i : ℕ) → (run_at nodes' i).first ≡ (run_at nodes i).first) → in_bucket nodes' n b is ≡ in_bucket nodes n b is
-bucket_alike nodes nodes' n b [] same = refl
-bucket_alike nodes nodes' n b (i ∷ is) same =
-    ap (λ (pair : Pair). cond (eqb (pair.old / block % n) b) (i ∷ in_bucket nodes' n b is) (in_bucket nodes' n b is)) (same i)
-    ∙ ap (λ x. cond (eqb ((run_at nodes i).first.old / block % n) b) (i ∷ x) x) (bucket_alike nodes nodes' n b is same)
-
-pub hung_alike : (nodes nodes' : List Node) (heads : List Link) (is : List ℕ) → ((i : ℕ) → (node_at nodes' i).next ≡ (node_at nodes i).next) → ((i : ℕ) → (run_at nodes' i).first ≡ (run_at nodes i).first) → AreHung nodes heads is → AreHung nodes' heads is
-hung_alike nodes nodes' heads is next first hung b lt =
-    subst (Leads nodes' (head_at heads b)) (sym (bucket_alike nodes nodes' (length heads) b is first)) (leads_alike nodes nodes' (head_at heads b) (in_bucket nodes (length heads) b is) next (hung b lt))
-
--- a node more, before the others of its bucket
-pub hung_more : (nodes : List Node) (heads : List Link) (is : List ℕ) (i k : ℕ) → i < length nodes → count_of i is ≡ 0 → k ≡ (run_at nodes i).first.old / block % length heads → AreHung nodes heads is → AreHung (led nodes i (head_at heads k)) (set heads k (to i)) (i ∷ is)
-hung_more nodes heads is i k lt off at hung b within =
-    let nodes' : List Node = led nodes i (head_at heads k) in
+-- one node more hangs in its bucket
+pub hung_more : (nodes : List Node) (heads : List Link) (i k : ℕ) (node : Node) → i < length nodes → k < length heads → k ≡ (node_at nodes i).old % length heads → node.old ≡ (node_at nodes i).old → node.next ≡ head_at heads k → AreHung nodes heads i → AreHung (set nodes i node) (set heads k (to i)) (i + 1)
+hung_more nodes heads i k node lt inside at old next hung =
+    let n : ℕ = length heads in
+    let nodes' : List Node = set nodes i node in
     let heads' : List Link = set heads k (to i) in
-    let len : length heads' ≡ length heads = length-set heads k (to i) in
-    let inside : b < length heads = omega arith in
-    let same : SameOn nodes nodes' is = led_apart nodes i (head_at heads k) is off in
-    let self : node_at nodes' i ≡ record (node_at nodes i) { next = head_at heads k } = led_same nodes i (head_at heads k) lt in
-    subst (λ n. Leads nodes' (head_at heads' b) (in_bucket nodes' n b (i ∷ is))) (sym len) (elim (cases_eq ((node_at nodes' i).first.old / block % length heads) b) [
-      | inl e ↦ (
-          let here : k ≡ b = at ∙ sym (ap (λ (n : Node). n.first.old / block % length heads) self) ∙ e in
-          subst (Leads nodes' (head_at heads' b)) (sym (bucket_in nodes' (length heads) b i is e)) (
-            ap (head_at heads') (sym here) ∙ get_or-set_same heads k (to i) nowhere (omega arith),
-            subst (λ x. Leads nodes' x (in_bucket nodes' (length heads) b is)) (ap (head_at heads) (sym here) ∙ sym (ap (λ (n : Node). n.next) self)) (chain_kept nodes nodes' (length heads) b (head_at heads b) is same (hung b inside)),
-          ))
-      | inr ne ↦ (
-          let there : b ≢ k = λ x. ne (ap (λ (n : Node). n.first.old / block % length heads) self ∙ sym at ∙ sym x) in
-          subst (Leads nodes' (head_at heads' b)) (sym (bucket_out nodes' (length heads) b i is ne)) (
-          subst (λ x. Leads nodes' x (in_bucket nodes' (length heads) b is)) (sym (get_or-set_other heads k b (to i) nowhere there)) (chain_kept nodes nodes' (length heads) b (head_at heads b) is same (hung b inside))
-          ))
-    ])
+    let len : length heads' ≡ n = length-set heads k (to i) in
+    let self : node_at nodes' i ≡ node = get_or-set_same nodes i _ _ lt in
+    let others : (j : ℕ) → j < i → node_at nodes' j ≡ node_at nodes j = λ j l. get_or-set_other nodes i j _ _ (λ e. absurd (omega (arith, e))) in
+    let before : AreHung nodes' heads i = hung_same nodes nodes' heads i others hung in
+    let own : (node_at nodes' i).old % n ≡ k = ap (λ (x : Node). x.old % n) self ∙ ap (λ x. x % n) old ∙ sym at in
+    let starts : (b : ℕ) → b < n → head_at heads' b ≡ newest nodes' n b (suc i) = λ b l. elim (cases_eq b k) [
+      | inl e ↦ ap (head_at heads') e ∙ get_or-set_same heads k (to i) nowhere inside ∙ sym (newest_here nodes' n b i (own ∙ sym e))
+      | inr ne ↦ get_or-set_other heads k b (to i) nowhere ne ∙ before.starts b l ∙ sym (newest_there nodes' n b i (λ e. ne (sym e ∙ own)))
+    ] in
+    let nexts : (j : ℕ) → j < i + 1 → (node_at nodes' j).next ≡ newest nodes' n ((node_at nodes' j).old % n) j = λ j l. elim (cases_lt j i) [
+      | inl less ↦ before.nexts j less
+      | inr le ↦ (let e : j ≡ i = omega arith in
+          subst (λ x. (node_at nodes' x).next ≡ newest nodes' n ((node_at nodes' x).old % n) x) (sym e)
+          (ap (λ (x : Node). x.next) self ∙ next ∙ before.starts k inside ∙ ap (λ b. newest nodes' n b i) (sym own)))
+    ] in
+    let s : suc i ≡ i + 1 = omega arith in
+    record {
+      starts = λ b l. subst (λ m. head_at heads' b ≡ newest nodes' m b (i + 1)) (sym len) (subst (λ m. head_at heads' b ≡ newest nodes' n b m) s (starts b (omega arith)));
+      nexts = λ j l. subst (λ m. (node_at nodes' j).next ≡ newest nodes' m ((node_at nodes' j).old % m) j) (sym len) (nexts j l);
+    }
 
--- the newest node less
-pub hung_less : (nodes nodes' : List Node) (heads : List Link) (is : List ℕ) (i k : ℕ) → SameOn nodes nodes' is → k ≡ (run_at nodes i).first.old / block % length heads → AreHung nodes heads (i ∷ is) → AreHung nodes' (set heads k (node_at nodes i).next) is
-hung_less nodes nodes' heads is i k same at hung b within =
-    let heads' : List Link = set heads k (node_at nodes i).next in
-    let len : length heads' ≡ length heads = length-set heads k (node_at nodes i).next in
-    let inside : b < length heads = omega arith in
-    subst (λ n. Leads nodes' (head_at heads' b) (in_bucket nodes' n b is)) (sym len) (elim (cases_eq ((node_at nodes i).first.old / block % length heads) b) [
-      | inl e ↦ (
-          let here : k ≡ b = at ∙ e in
-          let l : Leads nodes (head_at heads b) (i ∷ in_bucket nodes (length heads) b is) = subst (Leads nodes (head_at heads b)) (bucket_in nodes (length heads) b i is e) (hung b inside) in
-          let head : head_at heads' b ≡ (node_at nodes i).next = ap (head_at heads') (sym here) ∙ get_or-set_same heads k (node_at nodes i).next nowhere (omega arith) in
-          subst (λ x. Leads nodes' x (in_bucket nodes' (length heads) b is)) (sym head) (chain_kept nodes nodes' (length heads) b (node_at nodes i).next is same l.1))
-      | inr ne ↦ (
-          let there : b ≢ k = λ x. ne (sym at ∙ sym x) in
-          let l : Leads nodes (head_at heads b) (in_bucket nodes (length heads) b is) = subst (Leads nodes (head_at heads b)) (bucket_out nodes (length heads) b i is ne) (hung b inside) in
-          subst (λ x. Leads nodes' x (in_bucket nodes' (length heads) b is)) (sym (get_or-set_other heads k b (node_at nodes i).next nowhere there)) (chain_kept nodes nodes' (length heads) b (head_at heads b) is same l))
-    ])
+-- the pairs are as they were
+pub more_pairs : (nodes : List Node) (i : ℕ) (node : Node) → i < length nodes → pair_of node ≡ pair_of (node_at nodes i) → pairs_on (set nodes i node) ≡ pairs_on nodes
+more_pairs [] i node lt is = absurd (omega arith)
+more_pairs (n ∷ nodes) zero node lt is = ap (λ x. x ∷ pairs_on nodes) is
+more_pairs (n ∷ nodes) (suc i) node lt is = ap (λ x. pair_of n ∷ x) (more_pairs nodes i node (omega arith) is)
 
--- the last node of a chain whose run names a chunk; the given chunk where none does
-abbrev pub latest : List Node → ℕ → List ℕ → Option ℕ → Option ℕ
-latest nodes c [] found = found
-latest nodes c (i ∷ is) found = latest nodes c is (or_else (place_of (pairs_in (run_at nodes i)) c) found)
+-- the last node less
+pub hung_less : (nodes nodes' : List Node) (heads : List Link) (node : Node) (k : ℕ) → nodes ≡ nodes' ++ node ∷ [] → k < length heads → k ≡ node.old % length heads → AreHung nodes heads (length nodes) → AreHung nodes' (set heads k node.next) (length nodes')
+hung_less nodes nodes' heads node k is inside at hung =
+    let n : ℕ = length heads in
+    let i : ℕ = length nodes' in
+    let heads' : List Link = set heads k node.next in
+    let len : length heads' ≡ n = length-set heads k node.next in
+    let s : length nodes ≡ suc i = ap length is ∙ length-append nodes' (node ∷ []) ∙ omega arith in
+    let last : node_at nodes i ≡ node = ap (λ x. node_at x i) is ∙ get_or_at nodes' node [] _ i refl in
+    let own : (node_at nodes i).old % n ≡ k = ap (λ (x : Node). x.old % n) last ∙ sym at in
+    let same : (j : ℕ) → j < i → node_at nodes' j ≡ node_at nodes j = λ j l. sym (ap (λ x. node_at x j) is ∙ get_or_append_left nodes' (node ∷ []) _ j l) in
+    let before : AreHung nodes heads' i = record {
+      starts = λ b l. subst (λ m. head_at heads' b ≡ newest nodes m b i) (sym len) (elim (cases_eq b k) [
+        | inl e ↦ ap (head_at heads') e ∙ get_or-set_same heads k node.next nowhere inside ∙ ap (λ (x : Node). x.next) (sym last) ∙ hung.nexts i (omega arith) ∙ ap (λ x. newest nodes n x i) (own ∙ sym e)
+        | inr ne ↦ get_or-set_other heads k b node.next nowhere ne ∙ hung.starts b (omega arith) ∙ ap (newest nodes n b) s ∙ newest_there nodes n b i (λ e. ne (sym e ∙ own))
+      ]);
+      nexts = λ j l. subst (λ m. (node_at nodes j).next ≡ newest nodes m ((node_at nodes j).old % m) j) (sym len) (hung.nexts j (omega arith));
+    } in
+    hung_same nodes nodes' heads' i same before
 
-pub latest_bucket : (nodes : List Node) (n b c : ℕ) (is : List ℕ) (found : Option ℕ) → ((i : ℕ) → 0 < count_of i is → IsRun (run_at nodes i)) → c / block % n ≡ b → latest nodes c (in_bucket nodes n b is) found ≡ latest nodes c is found
-latest_bucket nodes n b c [] found runs at = refl
-latest_bucket nodes n b c (i ∷ is) found runs at =
-    let rest : (j : ℕ) → 0 < count_of j is → IsRun (run_at nodes j) = λ j lt. runs j (omega arith) in
-    elim (cases_eq ((node_at nodes i).first.old / block % n) b) [
-      | inl e ↦ ap (λ x. latest nodes c x found) (bucket_in nodes n b i is e) ∙ latest_bucket nodes n b c is (or_else (place_of (pairs_in (run_at nodes i)) c) found) rest at
-      | inr ne ↦ (
-          let miss : place_of (pairs_in (run_at nodes i)) c ≡ None = run_apart (run_at nodes i) c (runs i (omega (arith, count_here i i is refl))) (λ e. ne (ap (λ x. x % n) e ∙ at)) in
-          ap (λ x. latest nodes c x found) (bucket_out nodes n b i is ne) ∙ latest_bucket nodes n b c is found rest at ∙ ap (λ x. latest nodes c is (or_else x found)) (sym miss))
-    ]
+-- what the newest one's link leads to
+pub newest_on : (nodes : List Node) (n b k : ℕ) → ((newest nodes n b k).code ≤ k) × (newest nodes n b (newest nodes n b k).code ≡ newest nodes n b k)
+newest_on nodes n b zero = (omega arith, refl)
+newest_on nodes n b (suc k) = elim (cases_eq ((node_at nodes k).old % n) b) [
+  | inl e ↦ (
+      let h = newest_here nodes n b k e in
+      subst (λ (x : Link). (x.code ≤ suc k) × (newest nodes n b x.code ≡ x)) (sym h) (omega arith, h))
+  | inr ne ↦ (
+      let h = newest_there nodes n b k ne in
+      let (le, on) = newest_on nodes n b k in
+      subst (λ (x : Link). (x.code ≤ suc k) × (newest nodes n b x.code ≡ x)) (sym h) (omega arith, on))
+]
 
-latest-last : (nodes : List Node) (c : ℕ) (is : List ℕ) (i : ℕ) (found : Option ℕ) → latest nodes c (is ++ i ∷ []) found ≡ or_else (place_of (pairs_in (run_at nodes i)) c) (latest nodes c is found)
-latest-last nodes c [] i found = refl
-latest-last nodes c (j ∷ is) i found = latest-last nodes c is i (or_else (place_of (pairs_in (run_at nodes j)) c) found)
+pair_front : (nodes : List Node) (k : ℕ) → k < length nodes → drop k (pairs_on nodes) ≡ pair_of (node_at nodes k) ∷ drop (suc k) (pairs_on nodes)
+pair_front (n ∷ nodes) zero lt = refl
+pair_front (n ∷ nodes) (suc k) lt = pair_front nodes k (omega arith)
+pair_front [] k lt = absurd (omega arith)
 
-pub latest-reverse : (nodes : List Node) (c : ℕ) (is : List ℕ) → latest nodes c (reverse is) None ≡ place_of (pairs_on nodes is) c
-latest-reverse nodes c [] = refl
-latest-reverse nodes c (i ∷ is) =
-    ap (λ x. latest nodes c x None) (reverse-append (i ∷ []) is) ∙ latest-last nodes c (reverse is) i None
-    ∙ ap (λ x. or_else (place_of (pairs_in (run_at nodes i)) c) x) (latest-reverse nodes c is)
-    ∙ sym (place-append (pairs_in (run_at nodes i)) (pairs_on nodes is) c)
+-- no node between the newest one and the first k names the chunk
+pub passed : (nodes : List Node) (n c k : ℕ) → k ≤ length nodes → place_of (drop (newest nodes n (c % n) k).code (pairs_on nodes)) c ≡ place_of (drop k (pairs_on nodes)) c
+passed nodes n c zero le = refl
+passed nodes n c (suc k) le = elim (cases_eq ((node_at nodes k).old % n) (c % n)) [
+  | inl e ↦ ap (λ (x : Link). place_of (drop x.code (pairs_on nodes)) c) (newest_here nodes n (c % n) k e)
+  | inr ne ↦ ap (λ (x : Link). place_of (drop x.code (pairs_on nodes)) c) (newest_there nodes n (c % n) k ne) ∙ passed nodes n c k (omega arith)
+      ∙ ap (λ x. place_of x c) (pair_front nodes k (omega arith)) ∙ cond-false _ _ _ (ne_eqb _ _ (λ e. ne (ap (λ x. x % n) e)))
+]
 
--- the look-up by a chain
-abbrev pub chain : List Node → ℕ → ℕ → List ℕ → List ℕ
-chain nodes n c slots = in_bucket nodes n (c / block % n) (reverse slots)
+-- a look-up that has come to a link
+pub record IsOn (nodes : List Node) (n c : ℕ) (link : Link) (found : Option ℕ) (left : ℕ) : Type 0 where
+  pub on : newest nodes n (c % n) link.code ≡ link
+  pub within : link.code ≤ left
+  pub inside : left ≤ length nodes
+  pub rest : place_of (drop link.code (pairs_on nodes)) c ≡ found
 
-chain_found : (nodes : List Node) (n c : ℕ) (slots : List ℕ) (found : Option ℕ) (i : ℕ) → ((j : ℕ) → 0 < count_of j slots → IsRun (run_at nodes j)) → drop i (chain nodes n c slots) ≡ [] → latest nodes c (drop i (chain nodes n c slots)) found ≡ latest nodes c (chain nodes n c slots) None → found ≡ place_of (pairs_on nodes slots) c
-chain_found nodes n c slots found i runs none e = sym (ap (λ x. latest nodes c x found) none) ∙ e ∙ latest_bucket nodes n (c / block % n) c (reverse slots) None (λ j lt. runs j (omega (arith, count-reverse j slots))) refl ∙ latest-reverse nodes c slots
+pub on_first : (nodes : List Node) (heads : List Link) (c b : ℕ) → b ≡ c % length heads → b < length heads → AreHung nodes heads (length nodes) → IsOn nodes (length heads) c (head_at heads b) None (length nodes)
+on_first nodes heads c b at lt hung =
+    let n : ℕ = length heads in
+    let e : newest nodes n (c % n) (length nodes) ≡ head_at heads b = ap (λ x. newest nodes n x (length nodes)) (sym at) ∙ sym (hung.starts b lt) in
+    let (le, on) = newest_on nodes n (c % n) (length nodes) in
+    subst (λ x. IsOn nodes n c x None (length nodes)) e (record {
+      on = on;
+      within = le;
+      inside = omega arith;
+      rest = passed nodes n c (length nodes) (omega arith) ∙ ap (λ x. place_of x c) (drop_all (length nodes) (pairs_on nodes) (omega (arith, length-map nodes pair_of)));
+    })
 
-pub chain_end : (nodes : List Node) (n c : ℕ) (slots : List ℕ) (found : Option ℕ) (i : ℕ) (link : Link) → ((j : ℕ) → 0 < count_of j slots → IsRun (run_at nodes j)) → link ≡ nowhere → Leads nodes link (drop i (chain nodes n c slots)) → latest nodes c (drop i (chain nodes n c slots)) found ≡ latest nodes c (chain nodes n c slots) None → found ≡ place_of (pairs_on nodes slots) c
-chain_end nodes n c slots found i link runs is l e = chain_found nodes n c slots found i runs (leads_none nodes _ (subst (λ x. Leads nodes x (drop i (chain nodes n c slots))) is l)) e
+-- the node that a link of the chain leads to
+pub on_node : (nodes : List Node) (n c at : ℕ) (link : Link) (found : Option ℕ) (left : ℕ) → IsOn nodes n c link found left → link ≡ to at → (at < left) × ((node_at nodes at).old % n ≡ c % n)
+on_node nodes n c at link found left is to_at =
+    let code : link.code ≡ suc at = ap (λ (x : Link). x.code) to_at in
+    let w = is.within in
+    let e : newest nodes n (c % n) (suc at) ≡ to at = ap (newest nodes n (c % n)) (sym code) ∙ is.on ∙ to_at in (
+      omega arith,
+      elim (cases_eq ((node_at nodes at).old % n) (c % n)) [
+        | inl same ↦ same
+        | inr ne ↦ (
+            let h : newest nodes n (c % n) at ≡ to at = sym (newest_there nodes n (c % n) at ne) ∙ e in
+            let (le, on) = newest_on nodes n (c % n) at in
+            absurd (omega (arith, ap (λ (x : Link). x.code) h)))
+      ],
+    )
 
-pub chain_over : (nodes : List Node) (n c : ℕ) (slots : List ℕ) (found : Option ℕ) (i : ℕ) → ((j : ℕ) → 0 < count_of j slots → IsRun (run_at nodes j)) → length slots ≤ i → latest nodes c (drop i (chain nodes n c slots)) found ≡ latest nodes c (chain nodes n c slots) None → found ≡ place_of (pairs_on nodes slots) c
-chain_over nodes n c slots found i runs le e = chain_found nodes n c slots found i runs (drop_all i (chain nodes n c slots) (omega (arith, bucket_long nodes n (c / block % n) (reverse slots), length-reverse slots))) e
+pub on_next : (nodes : List Node) (heads : List Link) (c at : ℕ) (link : Link) (found : Option ℕ) (left : ℕ) → AreHung nodes heads (length nodes) → IsOn nodes (length heads) c link found left → link ≡ to at
+    → IsOn nodes (length heads) c (node_at nodes at).next (cond (eqb (node_at nodes at).old c) (Some (node_at nodes at).new) found) (left - 1)
+on_next nodes heads c at link found left hung is to_at =
+    let n : ℕ = length heads in
+    let (lt, own) = on_node nodes n c at link found left is to_at in
+    let inside = is.inside in
+    let code : link.code ≡ suc at = ap (λ (x : Link). x.code) to_at in
+    let e : newest nodes n (c % n) at ≡ (node_at nodes at).next = sym (hung.nexts at (omega arith) ∙ ap (λ x. newest nodes n x at) own) in
+    let (le, on) = newest_on nodes n (c % n) at in
+    let rest : place_of (drop (suc at) (pairs_on nodes)) c ≡ found = ap (λ x. place_of (drop x (pairs_on nodes)) c) (sym code) ∙ is.rest in
+    subst (λ x. IsOn nodes n c x (cond (eqb (node_at nodes at).old c) (Some (node_at nodes at).new) found) (left - 1)) e (record {
+      on = on;
+      within = omega arith;
+      inside = omega arith;
+      rest = passed nodes n c at (omega arith) ∙ ap (λ x. place_of x c) (pair_front nodes at (omega arith)) ∙ ap (λ x. cond (eqb (node_at nodes at).old c) (Some (node_at nodes at).new) x) rest;
+    })
 
-pub chain_node : (nodes : List Node) (n c : ℕ) (slots : List ℕ) (i at : ℕ) (link : Link) → link ≡ to at → Leads nodes link (drop i (chain nodes n c slots)) → 0 < count_of at slots
-chain_node nodes n c slots i at link is l =
-    let h = come_on nodes at i (chain nodes n c slots) (subst (λ x. Leads nodes x (drop i (chain nodes n c slots))) is l) in
-    omega (arith, bucket_count nodes n (c / block % n) (reverse slots) at, count-reverse at slots)
+pub on_here : (nodes : List Node) (heads : List Link) (c at : ℕ) (link : Link) (found : Option ℕ) (left : ℕ) → AreHung nodes heads (length nodes) → IsOn nodes (length heads) c link found left → link ≡ to at → (node_at nodes at).old ≡ c
+    → IsOn nodes (length heads) c (node_at nodes at).next (Some (node_at nodes at).new) (left - 1)
+on_here nodes heads c at link found left hung is to_at e = subst (λ x. IsOn nodes (length heads) c (node_at nodes at).next x (left - 1)) (cond-true _ _ _ (eq-eqb _ _ e)) (on_next nodes heads c at link found left hung is to_at)
 
-pub chain_more : (nodes : List Node) (n c : ℕ) (slots : List ℕ) (found : Option ℕ) (i at : ℕ) (link : Link) → link ≡ to at → Leads nodes link (drop i (chain nodes n c slots)) → latest nodes c (drop i (chain nodes n c slots)) found ≡ latest nodes c (chain nodes n c slots) None
-    → Leads nodes (node_at nodes at).next (drop (i + 1) (chain nodes n c slots)) × (latest nodes c (drop (i + 1) (chain nodes n c slots)) (or_else (place_of (pairs_in (run_at nodes at)) c) found) ≡ latest nodes c (chain nodes n c slots) None)
-chain_more nodes n c slots found i at link is l e =
-    let l' = subst (λ x. Leads nodes x (drop i (chain nodes n c slots))) is l in
-    (come_more nodes at i (chain nodes n c slots) l', sym (ap (λ x. latest nodes c x found) (come_front nodes at i (chain nodes n c slots) l')) ∙ e)
+pub on_over : (nodes : List Node) (heads : List Link) (c at : ℕ) (link : Link) (found : Option ℕ) (left : ℕ) → AreHung nodes heads (length nodes) → IsOn nodes (length heads) c link found left → link ≡ to at → (node_at nodes at).old ≢ c
+    → IsOn nodes (length heads) c (node_at nodes at).next found (left - 1)
+on_over nodes heads c at link found left hung is to_at ne = subst (λ x. IsOn nodes (length heads) c (node_at nodes at).next x (left - 1)) (cond-false _ _ _ (ne_eqb _ _ ne)) (on_next nodes heads c at link found left hung is to_at)
+
+pub on_end : (nodes : List Node) (n c : ℕ) (link : Link) (found : Option ℕ) (left : ℕ) → IsOn nodes n c link found left → link.code ≡ 0 → found ≡ place_of (pairs_on nodes) c
+on_end nodes n c link found left is none = sym is.rest ∙ ap (λ x. place_of (drop x (pairs_on nodes)) c) none
+
+map-take : (k : ℕ) (nodes : List Node) → pairs_on (take k nodes) ≡ take k (pairs_on nodes)
+map-take zero nodes = refl
+map-take (suc k) [] = refl
+map-take (suc k) (n ∷ nodes) = ap (λ x. pair_of n ∷ x) (map-take k nodes)
+
+-- the last pair less
+pub pairs_less : (nodes : List Node) → pairs_on (take (length nodes - 1) nodes) ≡ take (length (pairs_on nodes) - 1) (pairs_on nodes)
+pairs_less nodes = map-take (length nodes - 1) nodes ∙ ap (λ n. take (n - 1) (pairs_on nodes)) (sym (length-map nodes pair_of))
+
+-- a node more at the end
+pub hung_put : (nodes nodes' : List Node) (heads : List Link) (node : Node) → nodes' ≡ nodes ++ node ∷ [] → AreHung nodes heads (length nodes) → AreHung nodes' heads (length nodes)
+hung_put nodes nodes' heads node is hung = hung_same nodes nodes' heads (length nodes) (λ i lt. ap (λ x. node_at x i) is ∙ get_or_append_left nodes (node ∷ []) _ i lt) hung

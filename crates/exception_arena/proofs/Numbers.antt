@@ -1,10 +1,13 @@
 -- Pending pairs, by their numbers.
-use Rattle.std.proofs.Common.{◌≡◌, ◌≢◌, inl, inr, ℕ, zero, suc, ◌+◌, ◌<◌, List, [], ◌∷◌, ◌++◌, length, get_or, take, drop, Some, None, IsSome, refl, ap, ◌∙◌, sym, subst, arith, append_assoc, drop-cons}
+use Rattle.std.proofs.Common.{◌≡◌, ◌≢◌, inl, inr, ℕ, zero, suc, ◌+◌, ◌<◌, List, [], ◌∷◌, ◌++◌, length, get_or, take, drop, Some, None, IsSome, IfSome, refl, ap, ◌∙◌, sym, subst, arith, append_assoc, drop-cons}
 use Rattle.std.specs.List.{All}
 use Rattle.std.proofs.lemmas.List.{take_more}
-use Rattle.std.proofs.lemmas.Bool.{cases_eq, cond-true, cond-false, eq-eqb, ne_eqb}
+use Rattle.std.proofs.lemmas.Bool.{false≢true, cases_eq, cond-true, cond-false, eq-eqb, ne_eqb}
 use Rattle.exception_arena.specs.declared.begun.Begun.{Begun}
 use Rattle.exception_arena.specs.Pending.{begun_under, without}
+use Rattle.exception_arena.specs.Links.{IsSmall}
+use Rattle.exception_arena.specs.Arenas.{ArePending}
+use Rattle.sector.specs.declared.pair.Pair.{Pair}
 
 -- a number that is greater than each one in use is in no use
 pub begun_none : (next : ℕ) (all : List Begun) → All (λ begun. begun.id < next) all → begun_under next all ≡ None
@@ -58,3 +61,53 @@ found_under (first ∷ others) (suc k) begun lt is = elim (cases_eq first.id beg
   | inl e ↦ subst IsSome (sym (cond-true _ _ _ (eq-eqb _ _ e))) refl
   | inr ne ↦ subst IsSome (sym (cond-false _ _ _ (ne_eqb _ _ ne))) (found_under others k begun (omega arith) is)
 ]
+
+all_front : (Q : Begun → Type 0) (first : Begun) (others : List Begun) → Q first → All Q others → All Q (first ∷ others)
+all_front Q first others here rest zero d lt = here
+all_front Q first others here rest (suc k) d lt = rest k d (omega arith)
+
+-- one pair less is pending
+pub without_less : (id : ℕ) (all : List Begun) → IsSome (begun_under id all) → length (without id all) + 1 ≡ length all
+without_less id [] some = absurd (false≢true some)
+without_less id (first ∷ others) some = elim (cases_eq first.id id) [
+  | inl e ↦ ap (λ x. length x + 1) (cond-true _ _ _ (eq-eqb _ _ e)) ∙ omega arith
+  | inr ne ↦ (
+      let rest : IsSome (begun_under id others) = subst IsSome (cond-false _ _ _ (ne_eqb _ _ ne)) some in
+      ap (λ x. length x + 1) (cond-false _ _ _ (ne_eqb _ _ ne)) ∙ omega (arith, without_less id others rest))
+]
+
+-- what is true of all that are pending is true of the others
+pub without_all : (Q : Begun → Type 0) (id : ℕ) (all : List Begun) → All Q all → All Q (without id all)
+without_all Q id [] each = each
+without_all Q id (first ∷ others) each =
+    let rest : All Q others = λ k d lt. each (suc k) d (omega arith) in
+    elim (cases_eq first.id id) [
+      | inl e ↦ subst (All Q) (sym (cond-true _ _ _ (eq-eqb _ _ e))) rest
+      | inr ne ↦ subst (All Q) (sym (cond-false _ _ _ (ne_eqb _ _ ne))) (all_front Q first (without id others) (each 0 first (omega arith)) (without_all Q id others rest))
+    ]
+
+-- and of the one that leaves
+pub under_all : (Q : Pair → Type 0) (id : ℕ) (all : List Begun) (pair : Pair) → All (λ begun. Q begun.pair) all → IsSome (begun_under id all) → IfSome (begun_under id all) (λ under. pair ≡ under) → Q pair
+under_all Q id [] pair each some is = absurd (false≢true some)
+under_all Q id (first ∷ others) pair each some is = elim (cases_eq first.id id) [
+  | inl e ↦ (
+      let h = cond-true _ _ _ (eq-eqb _ _ e) in
+      let same : pair ≡ first.pair = subst (λ x. IfSome x (λ under. pair ≡ under)) h is in
+      subst Q (sym same) (each 0 first (omega arith)))
+  | inr ne ↦ (
+      let h = cond-false _ _ _ (ne_eqb _ _ ne) in
+      under_all Q id others pair (λ k d lt. each (suc k) d (omega arith)) (subst IsSome h some) (subst (λ x. IfSome x (λ under. pair ≡ under)) h is))
+]
+
+-- the queue after one leaves
+pub pending_less : (pending pending' : List Begun) (id next reserved capacity capacity' : ℕ) → IsSome (begun_under id pending) → pending' ≡ without id pending → capacity' ≡ capacity → ArePending pending next reserved capacity → ArePending pending' next reserved capacity' × (length pending' + 1 ≡ length pending)
+pending_less pending pending' id next reserved capacity capacity' some is same are =
+    let less : length pending' + 1 ≡ length pending = ap (λ x. length x + 1) is ∙ without_less id pending some in (
+      record {
+        room = omega (arith, are.room);
+        numbers = are.numbers;
+        given = subst (All (λ begun. begun.id < next)) (sym is) (without_all (λ begun. begun.id < next) id pending are.given);
+        small = subst (All (λ begun. IsSmall begun.pair)) (sym is) (without_all (λ begun. IsSmall begun.pair) id pending are.small);
+      },
+      less,
+    )

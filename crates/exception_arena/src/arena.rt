@@ -1,43 +1,67 @@
-// The arena: the lasting form. Its nodes stand in one vector, each on one of three kinds of list.
-ghost use Rattle.std.specs.Prelude.{◌≡◌, ℕ, List, [], ◌∷◌, vec_capacity};
+// The arena: the lasting form. Its committed pairs stand in one vector of nodes, and chains lead through them.
+ghost use Rattle.std.specs.Prelude.{◌≡◌, ℕ, ◌<◌, ◌^◌, [], ◌∷◌, ◌++◌, vec_capacity, OnOk, OnErr, IfErr};
+ghost use Rattle.std.specs.List.{All};
+ghost use Rattle.std.specs.VecDeque.{deque_capacity};
+ghost use Rattle.sector.specs.declared.refusal.Refusal.TheVariants.{NoMemory};
 ghost use Rattle.exception_arena.specs.Kept.{Kept};
+ghost use Rattle.exception_arena.specs.Links.{IsSmall};
 ghost use Rattle.exception_arena.specs.Arenas.{IsSound, kept};
 
-use crate::chains::{find, hang, make_buckets, take_down};
+use crate::chains::{find, make_room, pop, push};
 use crate::link::Link;
-use crate::node::{Node, lengthen, read, shorten};
-use crate::queue::{Queue, place_in, put_last, take_out};
-use crate::slots::{last_of, pair_at, run_before};
-use crate::spare::{put_back, take_node};
+use crate::node::Node;
+use crate::pending::take_out;
 use crate::{Begun, Exceptions, Id};
 use sector::{Chunk, Pair, Refusal};
 use std::alloc::Global;
+use std::collections::VecDeque;
 use std::marker::Model;
 
-// So many nodes an arena has at most: links have 32 bits, and one of them leads nowhere.
-const MOST_NODES: usize = 0xffff_ffff;
-
-/// The pairs, in nodes that lead to one another. A node stands on the free list, on the pending list, where it holds one
-/// pair, or on the chain of the bucket of its old chunks, where it holds a run of committed pairs. The nodes of the runs
-/// are also kept in the order of their slots. The number of a pending pair is the place of its node. A node
-/// takes 24 bytes, and a slot and the head of a bucket 4 each.
+/// The pairs. The committed ones stand in nodes, in the order of their slots, each on the chain of its bucket; the pending
+/// ones in a queue, in the order in which they began. A number is given once. A node takes 12 bytes, and the head of a
+/// bucket 4.
 #[derive(Drop)]
 pub struct Arena {
     nodes: Vec<Node>,
     heads: Vec<Link>,
-    slots: Vec<u32>,
-    free: Link,
-    queue: Queue,
-    count: usize,
+    pending: VecDeque<Begun>,
+    next: Id,
     reserved: usize,
 }
 
 impl Model for Arena {
     ghost Value = { Kept };
 
-    ghost view = { λ a. kept a.nodes.items a.slots.items a.queue a.reserved (vec_capacity a.nodes ∷ vec_capacity a.heads ∷ vec_capacity a.slots ∷ []) };
+    ghost view = { λ a. kept a.nodes.items a.pending.items a.reserved (vec_capacity a.nodes ∷ vec_capacity a.heads ∷ deque_capacity a.pending ∷ []) };
 
-    ghost invariant = { λ a. IsSound a.nodes.items a.heads.items a.slots.items a.free a.queue a.count a.reserved (vec_capacity a.nodes) (vec_capacity a.slots) };
+    ghost invariant = { λ a. IsSound a.nodes.items a.heads.items a.pending.items a.next a.reserved (vec_capacity a.nodes) (deque_capacity a.pending) };
+}
+
+impl Arena {
+    /// Holds these pairs as committed ones, behind the others; `NoMemory` where memory for them is refused, and then nothing
+    /// changed.
+    pub fn hold(&mut self, pairs: &[Pair]) -> Result<(), Refusal>
+        requires small { All IsSmall pairs.now }
+        ensures committed { OnOk result (self.new.committed ≡ self.old.committed ++ pairs.now) }
+        ensures err { OnErr result (self.new.committed ≡ self.old.committed) }
+        ensures pending { self.new.pending ≡ self.old.pending }
+        ensures reserved { self.new.reserved ≡ self.old.reserved }
+        ensures refusal { IfErr result (λ e. e ≡ NoMemory) }
+    {
+        let Some(begun) = self.pending.len().checked_add(self.reserved) else {
+            return Err(Refusal::NoMemory);
+        };
+        let Some(more) = begun.checked_add(pairs.len()) else {
+            return Err(Refusal::NoMemory);
+        };
+        let Ok(()) = make_room(&mut self.nodes, &mut self.heads, more) else {
+            return Err(Refusal::NoMemory);
+        };
+        for pair in pairs {
+            push(&mut self.nodes, &mut self.heads, *pair);
+        }
+        Ok(())
+    }
 }
 
 impl Exceptions for Arena {
@@ -53,14 +77,8 @@ impl Exceptions for Arena {
         Arena {
             nodes: Vec::new(alloc),
             heads: Vec::new(alloc),
-            slots: Vec::new(alloc),
-            free: Link::NOWHERE,
-            queue: Queue {
-                first: Link::NOWHERE,
-                last: Link::NOWHERE,
-                count: 0,
-            },
-            count: 0,
+            pending: VecDeque::new(alloc),
+            next: 0,
             reserved: 0,
         }
     }
@@ -70,116 +88,65 @@ impl Exceptions for Arena {
         let Some(more) = self.reserved.checked_add(count) else {
             return Err(Refusal::NoMemory);
         };
-        let Some(used) = self.queue.count.checked_add(self.slots.len()) else {
+        let Some(wanted) = self.pending.len().checked_add(more) else {
             return Err(Refusal::NoMemory);
         };
-        let Some(wanted) = used.checked_add(more) else {
-            return Err(Refusal::NoMemory);
-        };
-        if wanted > MOST_NODES {
+        if self.next.checked_add(more as u64).is_none() {
             return Err(Refusal::NoMemory);
         }
-        let Some(_) = wanted.checked_add(self.count) else {
+        let Ok(()) = self.pending.reserve(more) else {
             return Err(Refusal::NoMemory);
         };
-        let Ok(()) = self.nodes.reserve(wanted.saturating_sub(self.nodes.len())) else {
+        let Ok(()) = make_room(&mut self.nodes, &mut self.heads, wanted) else {
             return Err(Refusal::NoMemory);
         };
-        let Ok(()) = self.slots.reserve(wanted - self.slots.len()) else {
-            return Err(Refusal::NoMemory);
-        };
-        match make_buckets(
-            &mut self.nodes,
-            &mut self.heads,
-            self.slots.as_slice(),
-            wanted,
-        ) {
-            Ok(()) => {}
-            Err(refusal) => return Err(refusal),
-        }
         self.reserved = more;
         Ok(())
     }
 
     fn begin(&mut self, old_chunk: Chunk, new_chunk: Chunk) -> Id {
-        let first = Pair {
+        let id = self.next;
+        let pair = Pair {
             old: old_chunk,
             new: new_chunk,
         };
-        let place = take_node(&mut self.nodes, &mut self.free, first);
-        put_last(&mut self.nodes, &mut self.queue, place);
+        self.pending.push_back_reserved(Begun { id, pair });
         self.reserved -= 1;
-        place as u64
+        self.next += 1;
+        id
     }
 
     #[inline(always)]
     fn finish(&mut self, id: Id) {
-        let place = id as usize;
-        take_out(&mut self.nodes, &mut self.queue, place);
-        let listed = self.nodes.as_slice();
-        let pair = read(listed, place).first;
-        self.count += 1;
-        if let Some(last) = run_before(listed, self.slots.as_slice(), pair) {
-            put_back(&mut self.nodes, &mut self.free, place);
-            lengthen(&mut self.nodes, last);
-            return;
-        }
-        hang(&mut self.nodes, &mut self.heads, place);
-        self.slots.push_reserved(place as u32);
+        let begun = take_out(&mut self.pending, id);
+        push(&mut self.nodes, &mut self.heads, begun.pair);
     }
 
     fn abandon(&mut self, id: Id) {
-        let place = id as usize;
-        take_out(&mut self.nodes, &mut self.queue, place);
-        put_back(&mut self.nodes, &mut self.free, place);
+        take_out(&mut self.pending, id);
     }
 
     fn get(&self, old_chunk: Chunk) -> Option<Chunk> {
-        find(
-            self.nodes.as_slice(),
-            self.heads.as_slice(),
-            self.slots.as_slice(),
-            old_chunk,
-        )
+        find(self.nodes.as_slice(), self.heads.as_slice(), old_chunk)
     }
 
     fn remove(&mut self, _old_chunk: Chunk) {
-        self.count -= 1;
-        let last = last_of(self.slots.as_slice());
-        if read(self.nodes.as_slice(), last).count > 1 {
-            shorten(&mut self.nodes, last);
-            return;
-        }
-        let Some(at) = self.slots.pop() else {
-            unreachable!()
-        };
-        let place = at as usize;
-        take_down(self.nodes.as_slice(), &mut self.heads, place);
-        put_back(&mut self.nodes, &mut self.free, place);
+        pop(&mut self.nodes, &mut self.heads);
     }
 
     fn len(&self) -> usize {
-        self.count
+        self.nodes.len()
     }
 
     fn pending_len(&self) -> usize {
-        self.queue.count
+        self.pending.len()
     }
 
     fn pending_at(&self, index: usize) -> Begun {
-        let place = place_in(self.nodes.as_slice(), self.queue, index);
-        Begun {
-            id: place as u64,
-            pair: read(self.nodes.as_slice(), place).first,
-        }
+        self.pending[index]
     }
 
     fn committed_at(&self, index: usize) -> Pair {
-        pair_at(
-            self.nodes.as_slice(),
-            self.slots.as_slice(),
-            self.count,
-            index,
-        )
+        self.nodes[index].pair()
     }
 }

@@ -1,5 +1,5 @@
 // What every form of the list of pairs promises.
-ghost use Rattle.std.specs.Prelude.{◌≡◌, ℕ, ◌+◌, ◌-◌, ◌<◌, ◌≤◌, List, [], ◌∷◌, ◌++◌, length, take, IfErr, IfSome, IsSome, None, OnOk, OnErr, slice_index_or};
+ghost use Rattle.std.specs.Prelude.{◌≡◌, ℕ, ◌+◌, ◌-◌, ◌<◌, ◌≤◌, ◌^◌, List, [], ◌∷◌, ◌++◌, length, take, IfErr, IfSome, IsSome, None, OnOk, OnErr, slice_index_or};
 ghost use Rattle.sector.specs.declared.pair.Pair.{Pair};
 ghost use Rattle.sector.specs.declared.refusal.Refusal.TheVariants.{NoMemory};
 ghost use Rattle.store_bytes.specs.Picture.{place_of};
@@ -38,9 +38,11 @@ pub trait Exceptions: Drop {
         ensures err { OnErr result (reserved self.new ≡ reserved self.old) }
         ensures refusal { IfErr result (λ e. e ≡ NoMemory) };
 
-    /// Begins a pair, in one of the reserved places, and answers its number.
+    /// Begins a pair of chunks below 2^32, in one of the reserved places, and answers its number.
     fn begin(&mut self, old_chunk: Chunk, new_chunk: Chunk) -> Id
-        requires { 0 < reserved self.old }
+        requires reserved { 0 < reserved self.old }
+        requires old { old_chunk < 2 ^ 32 }
+        requires new { new_chunk < 2 ^ 32 }
         ensures committed { committed self.new ≡ committed self.old }
         ensures pending { pending self.new ≡ pending self.old ++ (record { id = result; pair = record { old = old_chunk; new = new_chunk } }) ∷ [] }
         ensures own { begun_under result (pending self.old) ≡ None }

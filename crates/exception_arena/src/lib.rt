@@ -1,9 +1,9 @@
 //! The pairs of a store in memory: the committed ones, in the order of their slots, and the pending ones, whose copies
 //! are on their way. It stands on `sector` and `store_bytes`. The trait `Exceptions` is what every form of the list promises
-//! by two lists and a count. `Arena` is the lasting form: its nodes stand in one vector, on a free list, a pending list
-//! and a chain for each bucket, so that a look-up walks one short chain. A committed node holds a run of up to two
-//! pairs, so that a chain is short whatever the order is, and pairs that are copied in order take half as many nodes.
-//! `PlainExceptions` is the plain form, with which tests compare it. Whatever is not `reserve` needs no memory, and so cannot fail for want of it.
+//! by two lists and a count. `Arena` is the lasting form: its committed pairs stand in one vector, in the order of their
+//! slots, and a chain for each bucket leads through them, so that a look-up walks one short chain. `PlainExceptions` is
+//! the plain form, with which tests compare it. Whatever is not `reserve` or `hold` needs no memory, and so cannot fail
+//! for want of it.
 #![tactic(auto)]
 
 mod arena;
@@ -12,15 +12,12 @@ mod chains;
 mod exceptions;
 mod link;
 mod node;
+mod pending;
 mod plain;
-mod queue;
-mod run;
 mod several;
-mod slots;
-mod spare;
 
 pub use arena::Arena;
 pub use begun::{Begun, Id};
 pub use exceptions::Exceptions;
 pub use plain::PlainExceptions;
-pub use several::{abandon_all, finish_first, nodes_for, remove_last};
+pub use several::{abandon_all, finish_first, remove_last};

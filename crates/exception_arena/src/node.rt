@@ -1,65 +1,27 @@
 // The nodes of the arena.
-ghost use Rattle.std.specs.Prelude.{◌≡◌, ◌+◌, ◌-◌, ◌<◌, vec_capacity, length};
-ghost use Rattle.exception_arena.specs.Links.{led, recount, node_at, run_of, run_at};
-ghost use Rattle.exception_arena.specs.Runs.{block};
+ghost use Rattle.std.specs.Prelude.{◌≡◌};
+ghost use Rattle.exception_arena.specs.Links.{pair_of};
 
 use crate::link::Link;
-use crate::run::Run;
 use sector::Pair;
 
-/// A run of pairs, and the next node of the list that it stands on. It takes 24 bytes.
+/// A committed pair, and the newest node before it whose old chunk belongs into the same bucket. Chunks are below 2^32, so
+/// that it takes 12 bytes.
 #[derive(Clone, Copy, PartialEq, Eq)]
 pub struct Node {
-    pub first: Pair,
-    pub count: u32,
+    pub old: u32,
+    pub new: u32,
     pub next: Link,
 }
 
 impl Node {
-    /// Its run.
-    pub fn run(self) -> Run
-        ensures { result ≡ run_of self }
+    /// Its pair.
+    pub fn pair(self) -> Pair
+        ensures { result ≡ pair_of self }
     {
-        Run {
-            first: self.first,
-            count: self.count,
+        Pair {
+            old: self.old as u64,
+            new: self.new as u64,
         }
     }
-}
-
-/// The node at a place.
-pub fn read(nodes: &[Node], place: usize) -> Node
-    requires { place < length nodes.now }
-    ensures { result ≡ node_at nodes.now place }
-{
-    nodes[place]
-}
-
-/// Leads a node elsewhere.
-pub fn lead(nodes: &mut Vec<Node>, place: usize, next: Link)
-    requires { place < length nodes.old.items }
-    ensures nodes { nodes.new.items ≡ led nodes.old.items place next }
-    ensures capacity { vec_capacity nodes.new ≡ vec_capacity nodes.old }
-{
-    nodes[place].next = next;
-}
-
-/// Makes the run of a node one pair longer.
-pub fn lengthen(nodes: &mut Vec<Node>, place: usize)
-    requires inside { place < length nodes.old.items }
-    requires room { (run_at nodes.old.items place).count < block }
-    ensures nodes { nodes.new.items ≡ recount nodes.old.items place ((run_at nodes.old.items place).count + 1) }
-    ensures capacity { vec_capacity nodes.new ≡ vec_capacity nodes.old }
-{
-    nodes[place].count += 1;
-}
-
-/// Makes the run of a node one pair shorter.
-pub fn shorten(nodes: &mut Vec<Node>, place: usize)
-    requires inside { place < length nodes.old.items }
-    requires some { 0 < (run_at nodes.old.items place).count }
-    ensures nodes { nodes.new.items ≡ recount nodes.old.items place ((run_at nodes.old.items place).count - 1) }
-    ensures capacity { vec_capacity nodes.new ≡ vec_capacity nodes.old }
-{
-    nodes[place].count -= 1;
 }

@@ -4,8 +4,7 @@ ghost use Rattle.sector.specs.declared.pair.Pair.{Pair};
 ghost use Rattle.exception_arena.specs.Pending.{pairs};
 
 use crate::Exceptions;
-use crate::run::{Run, goes_on};
-use sector::{Chunk, Pair};
+use sector::Chunk;
 
 /// Commits the pairs that began first, so many of them, in the order in which they began.
 pub fn finish_first<E: Exceptions>(exceptions: &mut E, count: usize)
@@ -48,27 +47,4 @@ pub fn remove_last<E: Exceptions>(exceptions: &mut E, old_chunk: Chunk, count: u
     for i in 0..count {
         exceptions.remove(old_chunk - i as u64);
     }
-}
-
-/// How many nodes pairs take at most, where they are begun and committed one after another in a list that holds none. Room
-/// that is asked for with so many in mind needs not grow.
-pub fn nodes_for(pairs: &[Pair]) -> usize
-    ensures { result ≤ length pairs.now }
-{
-    let mut nodes = 0;
-    for (index, pair) in pairs.iter().enumerate() {
-        if index == 0 || !comes_next(pairs[index - 1], *pair) {
-            nodes += 1;
-        }
-    }
-    nodes
-}
-
-// Whether a pair stands in one node with the one before.
-fn comes_next(before: Pair, pair: Pair) -> bool {
-    let run = Run {
-        first: before,
-        count: 1,
-    };
-    goes_on(run, pair)
 }

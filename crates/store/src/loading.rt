@@ -6,15 +6,12 @@ ghost use Rattle.store.specs.Reading.{all_read, read_pairs, IsEnded};
 ghost use Rattle.store.specs.Starved.{ArePartRead};
 ghost use Rattle.store_bytes.specs.Places.{area_place, chunk_at};
 ghost use Rattle.store_bytes.specs.Pairs.{pairs_of};
-ghost use Rattle.exception_arena.specs.Pending.{begun_under};
-ghost use Rattle.store.specs.Held.{committed, pending, reserved};
 ghost use Rattle.store.specs.Opening.{faults_after};
 ghost use Rattle.store.specs.Loaded.{IsLoaded, IsPrefix, IsRead};
 ghost use Rattle.stop_laws.specs.Firm.{AddsNow};
 
 use crate::chunks::read_area;
 use device::Block;
-use exception_arena::{Arena, Exceptions, nodes_for};
 use metadata_area::Area;
 use sector::{Pair, Refusal};
 
@@ -69,32 +66,4 @@ fn take_slots(area: &Area, pairs: &mut Vec<Pair>) -> Result<u32, Refusal>
         };
     }
     Ok(count)
-}
-
-// Room is asked for so many pairs at once, the first time for the nodes of all besides, so that no list grows and is moved.
-// For all pairs at once it would be as much as for pairs in no order.
-const AT_ONCE: usize = 64;
-
-/// Holds these pairs as committed ones, in a list that holds none. `NoMemory` where memory for them is refused.
-pub fn hold_pairs(exceptions: &mut Arena, pairs: &[Pair]) -> Result<(), Refusal>
-    requires none { length (committed exceptions.old) ≡ 0 }
-    requires idle { length (pending exceptions.old) ≡ 0 }
-    ensures committed { OnOk result (committed exceptions.new ≡ pairs.now) }
-    ensures pending { OnOk result (length (pending exceptions.new) ≡ 0) }
-    ensures reserved { OnOk result (reserved exceptions.new ≡ reserved exceptions.old) }
-    ensures refusal { IfErr result (λ e. e ≡ NoMemory) }
-{
-    let mut at_once = nodes_for(pairs).saturating_add(AT_ONCE);
-    let mut until = 0;
-    for (index, pair) in pairs.iter().enumerate() {
-        if index == until {
-            let more = (pairs.len() - index).min(at_once);
-            exceptions.reserve(more)?;
-            until = index + more;
-            at_once = AT_ONCE;
-        }
-        let id = exceptions.begin(pair.old, pair.new);
-        exceptions.finish(id);
-    }
-    Ok(())
 }

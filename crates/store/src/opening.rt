@@ -20,7 +20,7 @@ ghost use Rattle.store.specs.Starved.{ArePartRead, IsStarved};
 ghost use Rattle.stop_laws.specs.Firm.{AddsNow};
 
 use crate::judging::{are_formed, greatest_new};
-use crate::loading::{hold_pairs, read_areas};
+use crate::loading::read_areas;
 use crate::{Left, State, Store};
 use chunk_alloc::Alloc;
 use cow_header::{Found, decode};
@@ -75,7 +75,7 @@ pub enum Loaded {
     Written,
 }
 
-/// Opens a store, for an origin of so many sectors: a fresh one with chunks of so many sectors, a written one with those
+/// Opens a store, for an origin of so many sectors, 2^24 at most as any device has: a fresh one with chunks of so many sectors, a written one with those
 /// of its header. It only reads, and takes the room for two chunks and for the pairs. `prepare` does the flushes and
 /// writes that a load leaves.
 ///
@@ -89,7 +89,8 @@ pub fn open<B: Block>(
     chunk: u32,
     origin: u64,
 ) -> Result<(Store<B>, Loaded), (Refusal, B)>
-    requires { is_chunk chunk ≡ true }
+    requires chunk { is_chunk chunk ≡ true }
+    requires near { origin ≤ 16_777_216 }
     ensures opened { IfOk result (λ opened. MatchLoaded opened.1 (IsOpenedFresh chunk origin (B.size device) (B.contents device) opened.0.state (committed opened.0.exceptions)) (IsOpenedWritten origin (B.size device) (B.contents device) opened.0.state (committed opened.0.exceptions))) }
     ensures pending { IfOk result (λ opened. length (pending opened.0.exceptions) ≡ 0) }
     ensures reserved { IfOk result (λ opened. reserved opened.0.exceptions ≡ 0) }
@@ -140,6 +141,7 @@ fn open_fresh<B: Block>(
     requires size { is_chunk chunk ≡ true }
     requires some { 0 < chunk }
     requires allowed { chunk ≤ 1024 }
+    requires near { origin ≤ 16_777_216 }
     requires large { 2 * chunk ≤ B.size device }
     requires found { found_in (sector_at (B.contents device) 0) ≡ Ok FoundFresh }
     ensures device { IfOk result (λ store. store.device ≡ device) }
@@ -191,6 +193,7 @@ fn open_written<B: Block>(
     requires size { is_chunk chunk ≡ true }
     requires some { 0 < chunk }
     requires allowed { chunk ≤ 1024 }
+    requires near { origin ≤ 16_777_216 }
     requires large { 2 * chunk ≤ B.size device }
     requires found { found_in (sector_at (B.contents device) 0) ≡ Ok (FoundHeader chunk) }
     ensures chunk { IfOk result (λ store. store.state.chunk ≡ chunk) }
@@ -267,6 +270,7 @@ fn hold_formed(
 ) -> Result<Arena, Refusal>
     requires some { 0 < chunk }
     requires allowed { chunk ≤ 1024 }
+    requires near { origin ≤ 16_777_216 }
     requires small { size ≤ 16_777_216 }
     ensures inside { IfOk result (λ _. All (IsInside chunk origin size) pairs.now) }
     ensures apart { IfOk result (λ _. AllPairs IsApart pairs.now) }
@@ -279,7 +283,7 @@ fn hold_formed(
     match are_formed(alloc, chunk, origin, size, pairs) {
         Ok(true) => {
             let mut exceptions = Arena::new(alloc);
-            match hold_pairs(&mut exceptions, pairs) {
+            match exceptions.hold(pairs) {
                 Ok(()) => Ok(exceptions),
                 Err(refusal) => Err(refusal),
             }

@@ -1,20 +1,21 @@
-use Rattle.std.proofs.Common.{length}
-use Rattle.exception_arena.proofs.Hung.{chain_end, chain_over, chain_node, chain_more}
+use Rattle.std.proofs.Common.{◌≡◌, ◌≢◌, ◌+◌, ◌-◌, ℕ, length, subst, sym, arith}
+use Rattle.exception_arena.specs.Links.{node_at, head_at}
+use Rattle.std.proofs.Common.{None}
+use Rattle.exception_arena.proofs.Hung.{IsOn, on_first, on_here, on_over, on_node, on_end}
 use Rattle.exception_arena.proofs.chains.find.Goals as goal
+use Rattle.exception_arena.proofs.chains.find.Goals.{then-node-old_chunk, else-node-old_chunk}
 
-pub returns-in_default : goal.returns-in_default
-returns-in_default c = chain_end c.args.nodes.now (length c.args.heads.now) c.args.old_chunk c.args.slots.now c.loop-step.found c.loop-step._step c.loop-step.link c.requires.runs c.in_default.ensures c.loop-step.invariant.chain c.loop-step.invariant.last
-
-pub read-node-requires : goal.read-node-requires
-read-node-requires c = c.requires.inside _ (chain_node c.args.nodes.now (length c.args.heads.now) c.args.old_chunk c.args.slots.now c.loop-step._step c.in-Some.at c.loop-step.link c.in-Some.ensures c.loop-step.invariant.chain)
-
-pub copy_of-found-requires : goal.copy_of-found-requires
-copy_of-found-requires c = rw (c.run.ensures, c.read-node.ensures) (c.requires.runs _ (chain_node c.args.nodes.now (length c.args.heads.now) c.args.old_chunk c.args.slots.now c.loop-step._step c.in-Some.at c.loop-step.link c.in-Some.ensures c.loop-step.invariant.chain))
+pub loop-step-init : goal.loop-step-init
+loop-step-init c =
+    let all : length c.args.nodes.now ≡ length c.args.nodes.now - 0 = omega arith in
+    subst (λ left. IsOn c.args.nodes.now (length c.args.heads.now) c.args.old_chunk (head_at c.args.heads.now c.bucket_of.result) None left) all
+    (on_first c.args.nodes.now c.args.heads.now c.args.old_chunk (c.bucket_of.result) c.bucket_of.ensures.is c.bucket_of.ensures.within c.requires.hung)
 
 pub loop-step-preserved : goal.loop-step-preserved
 loop-step-preserved c =
-    let h = chain_more c.args.nodes.now (length c.args.heads.now) c.args.old_chunk c.args.slots.now c.loop-step.found c.loop-step._step c.in-Some.at c.loop-step.link c.in-Some.ensures c.loop-step.invariant.chain c.loop-step.invariant.last in
-    record { chain = rw c.read-node.ensures h.0; last = rw (c.copy_of-found.ensures, c.run.ensures, c.read-node.ensures) h.1 }
-
-pub returns : goal.returns
-returns c = chain_over c.args.nodes.now (length c.args.heads.now) c.args.old_chunk c.args.slots.now c.loop-step.found c.loop-step._step c.requires.runs c.loop-step-test.false c.loop-step.invariant.last
+    let left : length c.args.nodes.now - c.loop-step._step - 1 ≡ length c.args.nodes.now - (c.loop-step._step + 1) = omega arith in
+    subst (λ left. IsOn c.args.nodes.now (length c.args.heads.now) c.args.old_chunk (node_at c.args.nodes.now c.in-Some.place).next c.if-node-old_chunk.found left) left
+    (elim c.if-node-old_chunk.branch [
+      | then-node-old_chunk w ↦ rw w.found-is (on_here c.args.nodes.now c.args.heads.now c.args.old_chunk c.in-Some.place c.loop-step.link c.loop-step.found (length c.args.nodes.now - c.loop-step._step) c.requires.hung c.loop-step.invariant c.in-Some.ensures w.if-node-old_chunk.true)
+      | else-node-old_chunk w ↦ rw w.found-is (on_over c.args.nodes.now c.args.heads.now c.args.old_chunk c.in-Some.place c.loop-step.link c.loop-step.found (length c.args.nodes.now - c.loop-step._step) c.requires.hung c.loop-step.invariant c.in-Some.ensures w.if-node-old_chunk.false)
+    ])

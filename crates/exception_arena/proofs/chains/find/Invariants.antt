@@ -1,11 +1,6 @@
-use Rattle.std.proofs.Common.{◌≡◌, ◌/◌, ◌%◌, None, drop, length, reverse}
-use Rattle.exception_arena.specs.Runs.{block}
-use Rattle.exception_arena.specs.Links.{in_bucket, Leads}
-use Rattle.exception_arena.proofs.Hung.{latest}
+use Rattle.std.proofs.Common.{length, ◌-◌}
+use Rattle.exception_arena.proofs.Hung.{IsOn}
 use Rattle.exception_arena.proofs.chains.find.Given as goal
 
 abbrev pub invariant-loop-step : goal.invariant-loop-step
-invariant-loop-step l = record {
-  chain : Leads l.nodes l.link (drop l._step (in_bucket l.nodes (length l.heads) (l.old_chunk / block % length l.heads) (reverse l.slots)));
-  last : latest l.nodes l.old_chunk (drop l._step (in_bucket l.nodes (length l.heads) (l.old_chunk / block % length l.heads) (reverse l.slots))) l.found ≡ latest l.nodes l.old_chunk (in_bucket l.nodes (length l.heads) (l.old_chunk / block % length l.heads) (reverse l.slots)) None;
-}
+invariant-loop-step l = IsOn l.nodes (length l.heads) l.old_chunk l.link l.found (length l.nodes - l._step)

@@ -10,6 +10,9 @@ use Rattle.snapshot.proofs.Openings.{opened_by}
 use Rattle.snapshot.proofs.Tries.{back_by, goes_by}
 use Rattle.snapshot.proofs.opening.open_unwritten.Goals as goal
 
+pub open-requires-clause-near : goal.open-requires-clause-near
+open-requires-clause-near g c = rw c.sectors.ensures (g.met.B.Block.small c.args.origin.now)
+
 pub returns-in-Err-clause-refused : goal.returns-in-Err-clause-refused
 returns-in-Err-clause-refused g c = subst (λ n. IsRefused c.args.chunk n (g.B.Block.size c.args.device) (g.B.Block.contents c.args.device) c.in-Err.refused.0) c.sectors.ensures c.in-Err.ensures.refused
 
