@@ -81,7 +81,7 @@ fn commit_first<E: Exceptions>(exceptions: &mut E) {
 
 // Pairs whose chunks rise by one, so many, from chunk 200 of the origin and 1000 of the store on.
 fn commit_in_order<E: Exceptions>(exceptions: &mut E, count: u64) -> Result<(), Refusal>
-    requires { count < 2 ^ 32 }
+    requires { count < 2 ^ 31 }
 {
     for i in 0..count {
         exceptions.reserve(1)?;
@@ -101,8 +101,8 @@ fn remove_one<E: Exceptions>(exceptions: &mut E) {
     exceptions.remove(last.old);
 }
 
-// Whether the runs of an arena are found by their first and last pairs, and none beside them.
-fn has_runs(arena: &Arena) -> bool {
+// Whether the pairs of an arena are found, and none beside them.
+fn has_all(arena: &Arena) -> bool {
     arena.len() == 600
         && arena.get(199).is_none()
         && arena.get(200) == Some(1_000)
@@ -116,10 +116,33 @@ fn has_runs(arena: &Arena) -> bool {
 fn pairs_in_a_row_are_found_and_taken_away(rt: HostRuntime) -> Result<(), Fail> {
     let mut arena = Arena::new(rt.alloc());
     commit_in_order(&mut arena, 600)?;
-    assert!(rt; has_runs(&arena));
+    assert!(rt; has_all(&arena));
     for _i in 0..545 {
         remove_one(&mut arena);
     }
     assert!(rt; arena.len() == 55 && arena.get(254) == Some(1_054) && arena.get(255).is_none());
+    Ok(())
+}
+
+// Pairs of chunks 1, 5 and 9, which share one bucket of four.
+fn commit_three<E: Exceptions>(exceptions: &mut E) -> Result<(), Refusal>
+    requires { E.pending exceptions.old ≡ [] }
+{
+    exceptions.reserve(3)?;
+    exceptions.begin(1, 2);
+    exceptions.begin(5, 3);
+    exceptions.begin(9, 4);
+    finish_first(exceptions, 3);
+    Ok(())
+}
+
+#[test]
+fn chunks_of_one_bucket_are_told_apart(rt: HostRuntime) -> Result<(), Fail> {
+    let mut arena = Arena::new(rt.alloc());
+    commit_three(&mut arena)?;
+    assert!(rt; arena.get(1) == Some(2) && arena.get(5) == Some(3) && arena.get(9) == Some(4));
+    assert!(rt; arena.get(13).is_none());
+    remove_one(&mut arena);
+    assert!(rt; arena.get(9).is_none() && arena.get(5) == Some(3) && arena.get(1) == Some(2));
     Ok(())
 }
