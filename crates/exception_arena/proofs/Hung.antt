@@ -1,9 +1,8 @@
 -- The chains of the buckets.
-use Rattle.std.proofs.Common.{◌≡◌, ◌≢◌, inl, inr, ℕ, zero, suc, ◌+◌, ◌-◌, ◌%◌, ◌<◌, ◌≤◌, List, [], ◌∷◌, ◌++◌, Option, None, Some, length, take, drop, set, map, arith, refl, ap, ◌∙◌, sym, subst, cond, drop-cons}
+use Rattle.std.proofs.Common.{◌≡◌, ◌≢◌, inl, inr, ℕ, zero, suc, ◌+◌, ◌-◌, ◌%◌, ◌<◌, ◌≤◌, List, [], ◌∷◌, ◌++◌, Option, None, Some, length, take, drop, set, arith, refl, ap, ◌∙◌, sym, subst, cond}
 use lib.Dec.{eqb}
 use Rattle.std.proofs.lemmas.Bool.{cases_eq, cases_lt, cond-true, cond-false, eq-eqb, ne_eqb}
-use Rattle.std.proofs.lemmas.List.{get_or-set_same, get_or-set_other, get_or_append_left, get_or_at, get_or-map, length-set, length-append, length-map, drop_all}
-use Rattle.sector.specs.declared.pair.Pair.{Pair}
+use Rattle.std.proofs.lemmas.List.{get_or-set_same, get_or-set_other, get_or_append_left, get_or_at, length-set, length-append, length-map, drop_all, take-map}
 use Rattle.store_bytes.specs.Picture.{place_of}
 use Rattle.exception_arena.specs.Links.{nowhere, to, node_at, pair_of, pairs_on, head_at, newest, AreHung}
 use Rattle.exception_arena.specs.declared.link.Link.{Link}
@@ -175,14 +174,9 @@ on_over nodes heads c at link found left hung is to_at ne = subst (λ x. IsOn no
 pub on_end : (nodes : List Node) (n c : ℕ) (link : Link) (found : Option ℕ) (left : ℕ) → IsOn nodes n c link found left → link.code ≡ 0 → found ≡ place_of (pairs_on nodes) c
 on_end nodes n c link found left is none = sym is.rest ∙ ap (λ x. place_of (drop x (pairs_on nodes)) c) none
 
-map-take : (k : ℕ) (nodes : List Node) → pairs_on (take k nodes) ≡ take k (pairs_on nodes)
-map-take zero nodes = refl
-map-take (suc k) [] = refl
-map-take (suc k) (n ∷ nodes) = ap (λ x. pair_of n ∷ x) (map-take k nodes)
-
 -- the last pair less
 pub pairs_less : (nodes : List Node) → pairs_on (take (length nodes - 1) nodes) ≡ take (length (pairs_on nodes) - 1) (pairs_on nodes)
-pairs_less nodes = map-take (length nodes - 1) nodes ∙ ap (λ n. take (n - 1) (pairs_on nodes)) (sym (length-map nodes pair_of))
+pairs_less nodes = sym (take-map pair_of (length nodes - 1) nodes) ∙ ap (λ n. take (n - 1) (pairs_on nodes)) (sym (length-map nodes pair_of))
 
 -- a node more at the end
 pub hung_put : (nodes nodes' : List Node) (heads : List Link) (node : Node) → nodes' ≡ nodes ++ node ∷ [] → AreHung nodes heads (length nodes) → AreHung nodes' heads (length nodes)

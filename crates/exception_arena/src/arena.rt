@@ -1,5 +1,5 @@
 // The arena: the lasting form. Its committed pairs stand in one vector of nodes, and chains lead through them.
-ghost use Rattle.std.specs.Prelude.{◌≡◌, ℕ, ◌<◌, ◌^◌, [], ◌∷◌, ◌++◌, vec_capacity, OnOk, OnErr, IfErr};
+ghost use Rattle.std.specs.Prelude.{◌≡◌, ◌<◌, [], ◌∷◌, ◌++◌, vec_capacity, slice_index_or, OnOk, OnErr, IfOk, IfErr};
 ghost use Rattle.std.specs.List.{All};
 ghost use Rattle.std.specs.VecDeque.{deque_capacity};
 ghost use Rattle.sector.specs.declared.refusal.Refusal.TheVariants.{NoMemory};
@@ -38,6 +38,33 @@ impl Model for Arena {
 }
 
 impl Arena {
+    /// No pairs, and memory for so many committed ones, taken at once and untouched until they come; `NoMemory` where it is
+    /// refused.
+    pub fn with_room(alloc: Global, pairs: usize) -> Result<Arena, Refusal>
+        ensures committed { IfOk result (λ arena. arena.committed ≡ []) }
+        ensures pending { IfOk result (λ arena. arena.pending ≡ []) }
+        ensures reserved { IfOk result (λ arena. arena.reserved ≡ 0) }
+        ensures room { IfOk result (λ arena. slice_index_or arena.memory 0 0 ≡ pairs) }
+        ensures refusal { IfErr result (λ e. e ≡ NoMemory) }
+    {
+        let Some(buckets) = pairs.checked_next_power_of_two() else {
+            return Err(Refusal::NoMemory);
+        };
+        let Ok(nodes) = Vec::with_capacity(alloc, pairs) else {
+            return Err(Refusal::NoMemory);
+        };
+        let Ok(heads) = Vec::with_capacity(alloc, buckets) else {
+            return Err(Refusal::NoMemory);
+        };
+        Ok(Arena {
+            nodes,
+            heads,
+            pending: VecDeque::new(alloc),
+            next: 0,
+            reserved: 0,
+        })
+    }
+
     /// Holds these pairs as committed ones, behind the others; `NoMemory` where memory for them is refused, and then nothing
     /// changed.
     pub fn hold(&mut self, pairs: &[Pair]) -> Result<(), Refusal>

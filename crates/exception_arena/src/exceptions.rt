@@ -21,7 +21,8 @@ pub trait Exceptions: Drop {
     /// How many more may begin.
     ghost reserved: { Self → ℕ };
 
-    /// For how many elements each of its lists in memory has room. Only `reserve` changes it, so nothing else takes memory.
+    /// For how many elements each of its lists in memory has room. Of the methods here only `reserve` changes it, and of an
+    /// arena's own only `hold`, so nothing else takes memory.
     ghost memory: { Self → List ℕ };
 
     /// No pairs, and room for none. It takes no memory.

@@ -2,8 +2,8 @@
 //! are on their way. It stands on `sector` and `store_bytes`. The trait `Exceptions` is what every form of the list promises
 //! by two lists and a count. `Arena` is the lasting form: its committed pairs stand in one vector, in the order of their
 //! slots, and a chain for each bucket leads through them, so that a look-up walks one short chain. `PlainExceptions` is
-//! the plain form, with which tests compare it. Whatever is not `reserve` or `hold` needs no memory, and so cannot fail
-//! for want of it.
+//! the plain form, with which tests compare it. Whatever is not `with_room`, `reserve` or `hold` needs no memory, and
+//! so cannot fail for want of it.
 #![tactic(auto)]
 
 mod arena;

@@ -1,5 +1,5 @@
 // The pending pairs of the arena, in the order in which they began, and how one of them leaves.
-ghost use Rattle.std.specs.Prelude.{◌≡◌, ℕ, ◌<◌, length, IsSome, IfSome, slice_index_or};
+ghost use Rattle.std.specs.Prelude.{◌≡◌, ◌<◌, length, IsSome, IfSome, slice_index_or};
 ghost use Rattle.std.specs.List.{remove};
 ghost use Rattle.std.specs.VecDeque.{deque_capacity};
 ghost use Rattle.exception_arena.specs.Pending.{begun_under, without};

@@ -1,5 +1,5 @@
 // Several pairs at once, for every form of the list.
-ghost use Rattle.std.specs.Prelude.{◌≡◌, ℕ, ◌+◌, ◌-◌, ◌<◌, ◌≤◌, List, [], ◌∷◌, ◌++◌, length, take, drop, slice_index_or};
+ghost use Rattle.std.specs.Prelude.{◌≡◌, ℕ, ◌+◌, ◌-◌, ◌<◌, ◌≤◌, [], ◌++◌, length, take, drop, slice_index_or};
 ghost use Rattle.sector.specs.declared.pair.Pair.{Pair};
 ghost use Rattle.exception_arena.specs.Pending.{pairs};
 

@@ -1,5 +1,5 @@
 // A store is opened: its first sector says whether it is fresh, and a written one gives its pairs. Nothing is written.
-ghost use Rattle.std.specs.Prelude.{◌≡◌, ◌⊎◌, ℕ, ◌+◌, ◌*◌, ◌<◌, ◌≤◌, List, [], length, is_ok, OnOk, OnErr, IfOk, IfErr, MatchResult, IsTrue, Ok, Err, true, false, AllPairs};
+ghost use Rattle.std.specs.Prelude.{◌≡◌, ◌⊎◌, ℕ, ◌+◌, ◌*◌, ◌/◌, ◌<◌, ◌≤◌, List, [], length, replicate, is_ok, OnOk, OnErr, IfOk, IfErr, MatchResult, IsTrue, Ok, Err, true, false, AllPairs};
 ghost use Rattle.sector.specs.Bytes.{sector_at};
 ghost use Rattle.sector.specs.declared.refusal.Refusal.TheVariants.{NoMemory, Io as IoRefusal, StoreTooSmall, Damaged};
 ghost use Rattle.std.specs.List.{All};
@@ -25,7 +25,7 @@ use crate::{Left, State, Store};
 use chunk_alloc::Alloc;
 use cow_header::{Found, decode};
 use device::Block;
-use exception_arena::{Arena, Exceptions};
+use exception_arena::Arena;
 use metadata_area::Area;
 use sector::{Pair, Range, Refusal, SECTOR_BYTES};
 use std::alloc::Global;
@@ -76,8 +76,8 @@ pub enum Loaded {
 }
 
 /// Opens a store, for an origin of so many sectors, 2^24 at most as any device has: a fresh one with chunks of so many sectors, a written one with those
-/// of its header. It only reads, and takes the room for two chunks and for the pairs. `prepare` does the flushes and
-/// writes that a load leaves.
+/// of its header. It only reads, and takes the room for two chunks and for a pair to each chunk of the device. `prepare`
+/// does the flushes and writes that a load leaves.
 ///
 /// The refusals, in this order: `Io` where the first sector cannot be read; `BadHeader`, `BadVersion`, `BadChunk` and
 /// `Invalid` by that sector; `StoreTooSmall` for less than two chunks; `Io` where an area cannot be read, up to the one of
@@ -131,7 +131,7 @@ pub fn open<B: Block>(
 }
 
 /// A store over a device that is fresh: no pairs, and area 0, which is to be zeroed, as the current one. `NoMemory` where
-/// memory for two chunks is refused.
+/// memory for two chunks, or for a pair to each chunk of the device, is refused.
 fn open_fresh<B: Block>(
     alloc: Global,
     device: B,
@@ -152,13 +152,13 @@ fn open_fresh<B: Block>(
     ensures next { IfOk result (λ store. store.places.next ≡ 2) }
     ensures refused { IfErr result (λ e. (e.0 ≡ NoMemory) × (e.1 ≡ device)) }
 {
-    let Ok(area) = Area::new(alloc, chunk) else {
-        return Err((Refusal::NoMemory, device));
-    };
-    let Ok(spare) = Area::new(alloc, chunk) else {
+    let Ok((area, spare)) = two_areas(alloc, chunk) else {
         return Err((Refusal::NoMemory, device));
     };
     let size = device.sectors();
+    let Ok(exceptions) = Arena::with_room(alloc, chunks_of(size, chunk)) else {
+        return Err((Refusal::NoMemory, device));
+    };
     let state = State {
         chunk,
         origin,
@@ -175,12 +175,34 @@ fn open_fresh<B: Block>(
     };
     Ok(Store {
         device,
-        exceptions: Arena::new(alloc),
+        exceptions,
         area,
         spare,
         places: Alloc::new(chunk, size),
         state,
     })
+}
+
+/// How many chunks a device has, and so how many pairs a store on it has at most. Memory for so many is taken at once and
+/// untouched until they come, since lists that grow by being moved leave holes in memory.
+fn chunks_of(size: u64, chunk: u32) -> usize
+    requires { 0 < chunk }
+    ensures { result ≡ size / chunk }
+{
+    (size / chunk as u64) as usize
+}
+
+/// Two areas of zeros; `NoMemory` where memory for them is refused.
+fn two_areas(alloc: Global, chunk: u32) -> Result<(Area, Area), Refusal>
+    requires some { 0 < chunk }
+    requires allowed { chunk ≤ 1024 }
+    ensures first { IfOk result (λ areas. areas.0.chunk ≡ chunk) }
+    ensures second { IfOk result (λ areas. areas.1.chunk ≡ chunk) }
+    ensures first_zero { IfOk result (λ areas. areas.0.bytes.items ≡ replicate (512 * chunk) 0) }
+    ensures second_zero { IfOk result (λ areas. areas.1.bytes.items ≡ replicate (512 * chunk) 0) }
+    ensures refusal { IfErr result (λ e. e ≡ NoMemory) }
+{
+    Ok((Area::new(alloc, chunk)?, Area::new(alloc, chunk)?))
 }
 
 /// A store over a device that has a header with this chunk size: its pairs, if they are well formed.
@@ -217,18 +239,17 @@ fn open_written<B: Block>(
     ensures layers { MatchResult result (λ store. read_pairs chunk (B.size device) (B.contents device) (B.layers device) ≡ all_read (B.layers store.device)) (λ refused. IsEnded (read_pairs chunk (B.size device) (B.contents device) (B.layers device)) refused.0 (B.layers device) (B.layers refused.1)) }
     ensures faults { MatchResult result (λ store. B.fault_count store.device ≡ B.fault_count device) (λ refused. B.fault_count refused.1 ≡ faults_after refused.0 (B.fault_count device)) }
 {
-    let Ok(mut area) = Area::new(alloc, chunk) else {
+    let Ok((mut area, spare)) = two_areas(alloc, chunk) else {
         return Err((Refusal::NoMemory, device));
     };
-    let Ok(spare) = Area::new(alloc, chunk) else {
+    let size = device.sectors();
+    let Ok(mut pairs) = Vec::with_capacity(alloc, chunks_of(size, chunk)) else {
         return Err((Refusal::NoMemory, device));
     };
-    let mut pairs: Vec<Pair> = Vec::new(alloc);
     let current = match read_areas(&mut device, &mut area, &mut pairs) {
         Ok(current) => current,
         Err(refusal) => return Err((refusal, device)),
     };
-    let size = device.sectors();
     let exceptions = match hold_formed(alloc, chunk, origin, size, pairs.as_slice()) {
         Ok(exceptions) => exceptions,
         Err(refusal) => return Err((refusal, device)),
@@ -260,7 +281,8 @@ fn open_written<B: Block>(
     })
 }
 
-/// Holds these pairs as committed ones, where they are well formed; else `Damaged`. `NoMemory` where memory is refused.
+/// Holds these pairs as committed ones, where they are well formed; else `Damaged`. `NoMemory` where memory is refused: it is
+/// taken for a pair to each chunk of the device.
 fn hold_formed(
     alloc: Global,
     chunk: u32,
@@ -282,11 +304,9 @@ fn hold_formed(
 {
     match are_formed(alloc, chunk, origin, size, pairs) {
         Ok(true) => {
-            let mut exceptions = Arena::new(alloc);
-            match exceptions.hold(pairs) {
-                Ok(()) => Ok(exceptions),
-                Err(refusal) => Err(refusal),
-            }
+            let mut exceptions = Arena::with_room(alloc, chunks_of(size, chunk))?;
+            exceptions.hold(pairs)?;
+            Ok(exceptions)
         }
         Ok(false) => Err(Refusal::Damaged),
         Err(refusal) => Err(refusal),

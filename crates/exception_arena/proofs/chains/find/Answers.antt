@@ -1,7 +1,6 @@
-use Rattle.std.proofs.Common.{◌≡◌, ◌≢◌, ◌+◌, ◌-◌, ℕ, length, subst, sym, arith}
+use Rattle.std.proofs.Common.{◌≡◌, ◌+◌, ◌-◌, length, subst, arith, None}
 use Rattle.exception_arena.specs.Links.{node_at, head_at}
-use Rattle.std.proofs.Common.{None}
-use Rattle.exception_arena.proofs.Hung.{IsOn, on_first, on_here, on_over, on_node, on_end}
+use Rattle.exception_arena.proofs.Hung.{IsOn, on_first, on_here, on_over}
 use Rattle.exception_arena.proofs.chains.find.Goals as goal
 use Rattle.exception_arena.proofs.chains.find.Goals.{then-node-old_chunk, else-node-old_chunk}
 

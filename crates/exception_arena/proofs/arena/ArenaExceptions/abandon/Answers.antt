@@ -1,4 +1,4 @@
-use Rattle.std.proofs.Common.{length, arith}
+use Rattle.std.proofs.Common.{arith}
 use Rattle.exception_arena.proofs.Numbers.{pending_less}
 use Rattle.exception_arena.proofs.arena.ArenaExceptions.abandon.Goals as goal
 

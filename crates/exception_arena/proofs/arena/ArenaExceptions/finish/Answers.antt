@@ -1,4 +1,4 @@
-use Rattle.std.proofs.Common.{refl, length, arith}
+use Rattle.std.proofs.Common.{refl, arith}
 use Rattle.exception_arena.specs.Links.{pairs_on, IsSmall}
 use Rattle.exception_arena.specs.Pending.{begun_under}
 use Rattle.exception_arena.proofs.Numbers.{pending_less, under_all}
