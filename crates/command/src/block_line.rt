@@ -78,7 +78,8 @@ fn outside(rest: &[u8]) -> Result<Work, Refusal>
 fn work(alloc: Global, rest: &[u8]) -> Result<Work, Refusal>
     ensures { Gives result (work_of rest.now) }
 {
-    match crate::said(alloc, rest, LINE_LIMIT) {
+    let mut room = Vec::new(alloc);
+    match crate::said(alloc, &mut room, rest, LINE_LIMIT) {
         Ok(Some(Command::Read { name, first, count })) => Ok(Work::Read { name, first, count }),
         Ok(Some(Command::Write { name, first, bytes })) => Ok(Work::Write { name, first, bytes }),
         Ok(Some(Command::Merge { name })) => Ok(Work::Merge { name }),

@@ -7,6 +7,7 @@ ghost use Rattle.command.specs.DataWords.{is_hex, hex_value, run_of, are_runs, t
 
 use sector::{Buf, Refusal, SECTOR_BYTES};
 use std::alloc::{AllocError, Global};
+use std::mem;
 use words::{next_word, number};
 
 /// The greatest count of a data word.
@@ -14,6 +15,10 @@ const LONGEST_RUN: u32 = 1_048_576;
 
 /// The most sectors that one command reads or writes.
 const MOST_SECTORS: u32 = 2048;
+
+/// So many bytes of a line have memory of their own at most. More stand in a room that is used again, so that the lines of a
+/// run that have many take no more memory than the longest.
+pub const MANY_BYTES: usize = 65_536;
 
 /// Equal bytes.
 #[derive(Clone, Copy)]
@@ -90,13 +95,14 @@ fn push_run(out: &mut Vec<u8>, run: DataRun) -> Result<(), AllocError>
     Ok(())
 }
 
-/// The bytes that the runs of a text say, in a vector made with room for `size` of them.
+/// The bytes that the runs of a text say, `size` of them, in a vector that is given and the place of what it holds.
 #[tactic(auto, using(crate::proofs::Cut::one_data, crate::proofs::Cut::none_data))]
-fn data_in(alloc: Global, text: &[u8], size: usize) -> Result<Vec<u8>, AllocError>
+fn data_in(mut out: Vec<u8>, text: &[u8], size: usize) -> Result<Vec<u8>, AllocError>
     requires { length text.now ≤ 65536 }
     ensures { IfOk result (λ v. v.items ≡ data_of (words_of text.now)) }
 {
-    let mut out = Vec::with_capacity(alloc, size)?;
+    out.clear();
+    out.reserve(size)?;
     let mut rest = text;
     while let Some((word, left)) = next_word(rest) {
         if let Some(run) = run_in(word) {
@@ -164,22 +170,27 @@ fn even_payload(alloc: Global, word: &[u8]) -> Result<Buf, Refusal>
 /// The bytes of the sectors that the data words of a text say, of which there are several. Refused as `payload_size` is; then
 /// `NoMemory`.
 #[inline(never)]
-fn uneven_payload(alloc: Global, text: &[u8]) -> Result<Buf, Refusal>
+fn uneven_payload(alloc: Global, room: &mut Vec<u8>, text: &[u8]) -> Result<Buf, Refusal>
     requires { length text.now ≤ 65536 }
     ensures { Gives result (payload_of (words_of text.now)) }
 {
     let size = payload_size(text)?;
-    let bytes = data_in(alloc, text, size).map_err(|_| Refusal::NoMemory)?;
+    let mut held = Vec::new(alloc);
+    if size > MANY_BYTES {
+        mem::swap(&mut held, room);
+    }
+    let bytes = data_in(held, text, size).map_err(|_| Refusal::NoMemory)?;
     Ok(Buf::from_vec(bytes))
 }
 
-/// The bytes of the sectors that the data words of a text say. Refused as `payload_size` is; then `NoMemory`.
-pub fn payload(alloc: Global, text: &[u8]) -> Result<Buf, Refusal>
+/// The bytes of the sectors that the data words of a text say. More than `MANY_BYTES` that several words say stand in the memory
+/// of the room, and leave it empty. Refused as `payload_size` is; then `NoMemory`.
+pub fn payload(alloc: Global, room: &mut Vec<u8>, text: &[u8]) -> Result<Buf, Refusal>
     requires { length text.now ≤ 65536 }
     ensures { Gives result (payload_of (words_of text.now)) }
 {
     if let Some(word) = only_word(text) {
         return even_payload(alloc, word);
     }
-    uneven_payload(alloc, text)
+    uneven_payload(alloc, room, text)
 }

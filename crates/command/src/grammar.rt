@@ -114,7 +114,8 @@ fn patch_at(alloc: Global, name: &[u8], text: &[u8]) -> Result<(Name, u32, Buf),
         return Err(Refusal::BadTable);
     };
     let (name, first) = place(name, first)?;
-    let bytes = payload(alloc, rest)?;
+    let mut room = Vec::new(alloc);
+    let bytes = payload(alloc, &mut room, rest)?;
     Ok((name, first, bytes))
 }
 

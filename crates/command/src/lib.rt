@@ -32,7 +32,7 @@ mod seated;
 pub use block::LineBlock;
 pub use block_line::{Said, said_by};
 pub use command_reply::CommandReply;
-pub use data_words::{DataRun, run_in};
+pub use data_words::{DataRun, MANY_BYTES, run_in};
 pub use ended::{Ended, Ending};
 pub use events::EventWords;
 pub use found::{NameFound, refusal_among};

@@ -103,7 +103,7 @@ fn read_said(text: &[u8]) -> Result<Option<Command>, Refusal>
     Ok(Some(Command::Read { name, first, count }))
 }
 
-fn write_said(alloc: Global, text: &[u8]) -> Result<Option<Command>, Refusal>
+fn write_said(alloc: Global, room: &mut Vec<u8>, text: &[u8]) -> Result<Option<Command>, Refusal>
     requires { length text.now ≤ 65536 }
     ensures { Gives result (line_saying (write_of (words_of text.now))) }
 {
@@ -117,7 +117,7 @@ fn write_said(alloc: Global, text: &[u8]) -> Result<Option<Command>, Refusal>
         return Err(Refusal::BadTable);
     };
     let first = numeral(first)?;
-    let bytes = payload(alloc, rest)?;
+    let bytes = payload(alloc, room, rest)?;
     Ok(Some(Command::Write { name, first, bytes }))
 }
 
@@ -145,7 +145,12 @@ fn status_said(text: &[u8]) -> Result<Option<Command>, Refusal>
 /// of sectors outside 1 to 2048 (`OutOfRange`). `NoMemory` may stand in place of any of these; only the words of a
 /// table line and the data of a command take memory.
 #[tactic(auto, using(crate::proofs::Kept::said_long, crate::proofs::LineSaid::said_nothing))]
-pub fn said(alloc: Global, line: &[u8], max: usize) -> Result<Option<Command>, Refusal>
+pub fn said(
+    alloc: Global,
+    room: &mut Vec<u8>,
+    line: &[u8],
+    max: usize,
+) -> Result<Option<Command>, Refusal>
     requires { max ≤ 65536 }
     ensures { Gives result (said_of max line.now) }
 {
@@ -156,7 +161,7 @@ pub fn said(alloc: Global, line: &[u8], max: usize) -> Result<Option<Command>, R
         return Ok(None);
     }
     if let Some(rest) = after_write(line) {
-        return write_said(alloc, rest);
+        return write_said(alloc, room, rest);
     }
     if let Some(rest) = after_read(line) {
         return read_said(rest);

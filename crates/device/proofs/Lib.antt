@@ -3,3 +3,4 @@ pub mod Flushed
 pub mod Listed
 pub mod Marked
 pub mod Spans
+pub mod Waiting

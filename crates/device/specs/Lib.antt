@@ -1,4 +1,6 @@
 pub mod Disk
+pub mod Laws
 pub mod Layers
 pub mod Listed
 pub mod Marks
+pub mod Sectors

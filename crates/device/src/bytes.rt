@@ -1,5 +1,5 @@
 // Whole sectors of bytes.
-ghost use Rattle.std.specs.Prelude.{◌≡◌, ◌⊎◌, ℕ, ◌+◌, ◌*◌, ◌<◌, ◌≤◌, length, slice_index};
+ghost use Rattle.std.specs.Prelude.{◌≡◌, ◌⊎◌, ℕ, ◌+◌, ◌*◌, ◌<◌, ◌≤◌, ◌++◌, length, slice_index, vec_capacity};
 ghost use Rattle.sector.specs.Bytes.{sectors_at, with_sectors};
 
 use sector::SECTOR_BYTES;
@@ -22,4 +22,14 @@ pub fn write_sectors(all: &mut [u8], first: usize, bytes: &[u8])
 {
     let from = first * SECTOR_BYTES;
     all[from..from + bytes.len()].copy_from_slice(bytes);
+}
+
+/// Adds bytes at the end, where there is room for them. It takes no memory.
+#[inline(always)]
+pub fn append(all: &mut Vec<u8>, bytes: &[u8])
+    requires { length all.old.items + length bytes.now ≤ vec_capacity all.old }
+    ensures items { all.new.items ≡ all.old.items ++ bytes.now }
+    ensures room { vec_capacity all.old ≤ vec_capacity all.new }
+{
+    let _ = all.extend_from_slice(bytes);
 }

@@ -6,9 +6,11 @@
 
 mod block;
 mod bytes;
+mod disk_sectors;
 mod fail_at;
 mod io;
 mod kept;
+mod late;
 mod listing;
 mod mark;
 mod marking;

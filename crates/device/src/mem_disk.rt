@@ -1,15 +1,13 @@
-// A disk in memory, with a volatile cache: values that a loss of power would bring back are kept aside.
-ghost use Rattle.std.specs.Prelude.{◌≡◌, ℕ, ◌+◌, ◌*◌, ◌<◌, ◌≤◌, [], length, slice_index, replicate, IfOk, IfErr, refl};
+// A disk in memory, with a volatile cache.
+ghost use Rattle.std.specs.Prelude.{◌≡◌, ℕ, ◌+◌, ◌*◌, ◌<◌, ◌≤◌, [], length, replicate, IfOk, IfErr, refl};
 ghost use Rattle.std.proofs.Common.{inl, inr};
 ghost use Rattle.sector.specs.declared.refusal.Refusal.TheVariants.{NoMemory};
 ghost use Rattle.sector.specs.Bytes.{sectors_at, with_sectors};
-ghost use Rattle.device.specs.declared.mark.Mark.TheVariants.{Fresh};
-ghost use Rattle.device.specs.Marks.{mark_at};
 
-use crate::bytes::write_sectors;
-use crate::undo::Undo;
+use crate::disk_sectors::DiskSectors;
+use crate::late::{Late, MOST_LATE};
 use crate::{Block, Io};
-use sector::{Range, Refusal, SECTOR_BYTES};
+use sector::{Range, Refusal};
 use std::alloc::Global;
 
 /// The most sectors that a disk may have: 2^24.
@@ -18,24 +16,25 @@ pub const MAX_SECTORS: u64 = 16_777_216;
 /// A disk in memory. It never fails.
 ///
 /// Contracts see its size, its bytes now, its bytes at the last flush and its count of operations.
+///
+/// The first write after a flush waits beside the sectors, if it is small: where a flush comes next, no value of the last flush
+/// need be kept aside. Whatever else comes next, it is written first, and then none waits until the next flush.
 #[derive(Drop)]
 pub struct MemDisk {
-    present: Vec<u8>,
-    undo: Undo,
-    sectors: u64,
+    sectors: DiskSectors,
+    late: Late,
+    waits: bool,
     done: u64,
-    ghost small: { sectors ≤ 16_777_216 },
-    ghost whole: { length present.items ≡ 512 * sectors },
-    ghost marked: { length undo.marks.items ≡ sectors },
-    ghost fresh: { (s i : ℕ) → mark_at undo.marks.items s ≡ Fresh → i < 512 → slice_index present.items (512 * s + i) ≡ 0 },
+    ghost inside: { late.range.first + late.range.count ≤ sectors.count },
 }
 
 impl MemDisk {
     ghost use Rattle.device.specs.Disk.{disk_size, disk_contents, disk_durable, disk_done};
+    ghost use Rattle.device.specs.Sectors.{now_in};
 
     /// A disk of so many sectors, all zero and flushed. `NoMemory` where the allocator refuses the room: 1041 bytes a
     /// sector, of which 513, its value and its mark, are written, and the others stay untouched before there is something
-    /// to keep. No later call takes memory.
+    /// to keep, and 8 KiB. No later call takes memory.
     pub fn new(alloc: Global, sectors: u64) -> Result<MemDisk, Refusal>
         requires some { 1 ≤ sectors }
         requires small { sectors ≤ MAX_SECTORS }
@@ -45,15 +44,12 @@ impl MemDisk {
         ensures done { IfOk result (λ d. disk_done d ≡ 0) }
         ensures err { IfErr result (λ e. e ≡ NoMemory) }
     {
-        let len = sectors as usize * SECTOR_BYTES;
-        let Ok(present) = vec![in alloc; 0u8; len] else {
-            return Err(Refusal::NoMemory);
-        };
-        let undo = Undo::new(alloc, sectors as usize)?;
+        let sectors = DiskSectors::new(alloc, sectors)?;
+        let late = Late::new(alloc)?;
         Ok(MemDisk {
-            present,
-            undo,
             sectors,
+            late,
+            waits: false,
             done: 0,
         })
     }
@@ -64,8 +60,8 @@ impl MemDisk {
         requires room { length out.old ≡ 512 * range.count }
         ensures { out.new ≡ sectors_at (disk_contents self.now) range.first range.count }
     {
-        let from = range.first as usize * SECTOR_BYTES;
-        out.copy_from_slice(&self.present[from..from + range.count as usize * SECTOR_BYTES]);
+        self.sectors.read(range, out);
+        self.late.put_over(range.first, range.count, out);
     }
 
     /// Puts bytes in the place of sectors, which then count as flushed, and counts no operation.
@@ -77,8 +73,8 @@ impl MemDisk {
         ensures size { disk_size self.new ≡ disk_size self.old }
         ensures done { disk_done self.new ≡ disk_done self.old }
     {
-        write_sectors(&mut self.present, range.first as usize, bytes);
-        self.undo.put(range.first as usize, range.count as usize);
+        self.write_late();
+        self.sectors.load(range, bytes);
     }
 
     /// Loses what was not flushed: each sector goes back to its value at the last flush. It counts no operation.
@@ -88,7 +84,60 @@ impl MemDisk {
         ensures size { disk_size self.new ≡ disk_size self.old }
         ensures done { disk_done self.new ≡ disk_done self.old }
     {
-        self.undo.take_back(&mut self.present);
+        self.late.clear();
+        self.sectors.lose();
+    }
+
+    // Writes what waits.
+    #[inline(always)]
+    fn write_late(&mut self)
+        ensures none { self.new.late.bytes.items ≡ [] }
+        ensures now { now_in self.new.sectors ≡ disk_contents self.old }
+        ensures contents { disk_contents self.new ≡ disk_contents self.old }
+        ensures durable { disk_durable self.new ≡ disk_durable self.old }
+        ensures size { disk_size self.new ≡ disk_size self.old }
+        ensures done { disk_done self.new ≡ disk_done self.old }
+    {
+        if !self.late.is_none() {
+            self.sectors.write(self.late.range, &self.late.bytes);
+            self.late.clear();
+            self.waits = false;
+        }
+    }
+
+    // Makes all that was written last, what waits too.
+    #[inline(always)]
+    fn flush_all(&mut self)
+        ensures contents { disk_contents self.new ≡ disk_contents self.old }
+        ensures durable { disk_durable self.new ≡ disk_contents self.old }
+        ensures size { disk_size self.new ≡ disk_size self.old }
+        ensures done { disk_done self.new ≡ disk_done self.old }
+    {
+        if self.late.is_none() {
+            self.sectors.flush();
+        } else {
+            self.sectors
+                .write_flushed(self.late.range, &self.late.bytes);
+            self.late.clear();
+        }
+    }
+
+    // Writes sectors where nothing waits, or lets the write wait.
+    #[inline(always)]
+    fn write_or_wait(&mut self, range: Range, bytes: &[u8])
+        requires none { self.old.late.bytes.items ≡ [] }
+        requires inside { range.first + range.count ≤ disk_size self.old }
+        requires room { length bytes.now ≡ 512 * range.count }
+        ensures contents { disk_contents self.new ≡ with_sectors (now_in self.old.sectors) range.first bytes.now }
+        ensures durable { disk_durable self.new ≡ disk_durable self.old }
+        ensures size { disk_size self.new ≡ disk_size self.old }
+        ensures done { disk_done self.new ≡ disk_done self.old }
+    {
+        if self.waits && range.count <= MOST_LATE {
+            self.late.take(range, bytes);
+        } else {
+            self.sectors.write(range, bytes);
+        }
     }
 }
 
@@ -111,7 +160,7 @@ impl Block for MemDisk {
 
     #[inline(always)]
     fn sectors(&self) -> u64 {
-        self.sectors
+        self.sectors.count()
     }
 
     fn faults(&self) -> u64 {
@@ -123,28 +172,31 @@ impl Block for MemDisk {
     }
 
     fn read(&mut self, range: Range, out: &mut [u8]) -> Result<(), Io> {
-        self.raw(range, out);
+        self.write_late();
+        self.sectors.read(range, out);
         self.done = self.done.wrapping_add(1);
         Ok(())
     }
 
     fn write(&mut self, range: Range, bytes: &[u8]) -> Result<(), Io> {
-        self.undo
-            .keep(&self.present, range.first as usize, range.count as usize);
-        write_sectors(&mut self.present, range.first as usize, bytes);
+        self.write_late();
+        self.write_or_wait(range, bytes);
         self.done = self.done.wrapping_add(1);
         Ok(())
     }
 
     fn flush(&mut self) -> Result<(), Io> {
-        self.undo.forget();
+        self.flush_all();
+        self.waits = true;
         self.done = self.done.wrapping_add(1);
         Ok(())
     }
 
-    ghost whole = { λ d. d.whole };
+    ghost use Rattle.device.specs.Laws.{disk_whole};
 
-    ghost small = { λ d. d.small };
+    ghost whole = { disk_whole };
+
+    ghost small = { λ d. d.sectors.small };
 
     ghost holds_now = { λ d s lt. inl refl };
 

@@ -7,7 +7,7 @@ ghost use Rattle.device.specs.declared.mark.Mark.TheVariants.{Fresh, Same, Zero,
 ghost use Rattle.device.specs.Listed.{listed};
 ghost use Rattle.device.specs.Marks.{mark_at, flushed_at, is_settled, AreKept, AreZeroed};
 
-use crate::bytes::sectors_of;
+use crate::bytes::{append, sectors_of};
 use crate::kept::{replace_all, restore_all};
 use crate::listing::list;
 use crate::mark::Mark;
@@ -198,6 +198,21 @@ impl Undo {
         self.aside.clear();
     }
 
+    /// Makes the values that all sectors have now those of the last flush, some of which were just written.
+    #[inline(always)]
+    pub fn forget_written(&mut self, first: usize, count: usize)
+        requires some { 1 ≤ count }
+        requires inside { first + count ≤ length self.old.marks.items }
+        ensures len { length self.new.marks.items ≡ length self.old.marks.items }
+        ensures settled { (t : ℕ) → is_settled (mark_at self.new.marks.items t) ≡ true }
+        ensures fresh { (t : ℕ) → mark_at self.new.marks.items t ≡ Fresh → (mark_at self.old.marks.items t ≡ Fresh) × ((t < first) ⊎ (first + count ≤ t)) }
+    {
+        settle(&mut self.marks, &mut self.zeroed);
+        settle(&mut self.marks, &mut self.kept);
+        self.aside.clear();
+        mark_all(&mut self.marks, first, count, Mark::Same);
+    }
+
     /// Puts the values of the last flush back into the bytes of the disk.
     pub fn take_back(&mut self, now: &mut [u8])
         requires whole { length now.old ≡ 512 * length self.old.marks.items }
@@ -210,14 +225,4 @@ impl Undo {
         restore_all(now, &self.marks, &self.aside, &self.kept);
         self.forget();
     }
-}
-
-// Adds values to those that are kept aside. It takes no memory.
-#[inline(always)]
-fn append(aside: &mut Vec<u8>, values: &[u8])
-    requires { length aside.old.items + length values.now ≤ vec_capacity aside.old }
-    ensures items { aside.new.items ≡ aside.old.items ++ values.now }
-    ensures room { vec_capacity aside.old ≤ vec_capacity aside.new }
-{
-    let _ = aside.extend_from_slice(values);
 }

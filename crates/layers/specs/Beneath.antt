@@ -1,5 +1,5 @@
 -- Laws of what lies beneath layers: the disk at the bottom by the layers and what they show, and the stack below the top.
-use Rattle.std.specs.Prelude.{◌≡◌, ℕ, ◌+◌, Bool, true, false, List, [], ◌∷◌, Some, None, refl, if◌then◌else◌}
+use Rattle.std.specs.Prelude.{◌≡◌, ℕ, ◌+◌, Bool, true, false, List, [], ◌∷◌, Option, Some, None, refl, if◌then◌else◌}
 use Rattle.std.specs.Option.{is_some}
 use Rattle.std.proofs.Common.{arith, rules, ap, sym, ◌∙◌, min}
 use Rattle.std.proofs.lemmas.List.{places, same_lists}
@@ -22,9 +22,14 @@ use Rattle.layers.specs.Ticks.{ticked, layers_ticked}
 pub beside_all : (b : List ℕ) (first count : ℕ) → all_of (beside b first count) (sectors_at b first count) ≡ b
 beside_all b first count = same_lists _ _ (search (rules, places)) (λ k d h. grind (arith, places))
 
+-- the bytes of a disk, if there is one
+abbrev contents_in : Option MemDisk → List ℕ
+contents_in (Some disk) = disk_contents disk
+contents_in None = []
+
 -- the bytes of the disk at the bottom
 pub stack_raw : (s : Stack) {disk : MemDisk} → disk_of s ≡ Some disk → raw_of (stack_layers s) (stack_contents s) ≡ disk_contents disk
-stack_raw (Disk d) {disk} is = let same : d ≡ disk = cc in ap disk_contents same
+stack_raw (Disk d) is = ap contents_in is
 stack_raw (Flakey' f p below) is = ap (raw_of (stack_layers below)) (beside_all (stack_contents below) f.offset _) ∙ stack_raw below is
 stack_raw (Dust' d p below) is = ap (raw_of (stack_layers below)) (beside_all (stack_contents below) 0 (min d.sectors (stack_size below))) ∙ stack_raw below is
 stack_raw (Error e) is = cc

@@ -1,6 +1,6 @@
 -- Laws: neither the time nor a message makes a stack drop writes, nor stops one that does.
-use Rattle.std.specs.Prelude.{◌≡◌, ℕ, ◌-◌, ◌==◌, Bool, true, false, ◌&&◌, not, Option, Some, None, List, [], ◌∷◌, if◌then◌else◌, refl}
-use Rattle.std.proofs.Common.{ap, ◌∙◌, sym, subst}
+use Rattle.std.specs.Prelude.{◌≡◌, ℕ, ◌-◌, ◌==◌, Bool, true, false, ◌&&◌, List, [], ◌∷◌, if◌then◌else◌, refl}
+use Rattle.std.proofs.Common.{ap, ◌∙◌, subst}
 use Rattle.device.specs.Layers.{Layer, Flaky, Dusty, Broken, Counted, Fused, Window, is_loud, is_loud_layer}
 use Rattle.layers.specs.declared.message.Message.{Message}
 use Rattle.layers.specs.declared.message.Message.TheVariants.{AddBadBlock, RemoveBadBlock, QueryBlock, CountBadBlocks, ClearBadBlocks, Enable, Disable}

@@ -3,6 +3,7 @@ use Rattle.std.specs.Prelude.{◌≡◌, ℕ, ◌+◌, ◌-◌, ◌*◌, ◌<◌
 use Rattle.std.proofs.Common.{arith, rules, inl, inr, length-take, length-drop, ap, ◌∙◌, sym, subst}
 use Rattle.std.proofs.lemmas.List.{places, same_lists, length-replicate, drop-take, drop-drop, take-take}
 use Rattle.sector.specs.Bytes.{sectors_at, with_sectors, sector_at}
+use Rattle.device.specs.Laws.{disk_whole}
 use Rattle.layers.specs.declared.stack.Stack.{Stack, Disk, Flakey', Dust', Error}
 use Rattle.layers.specs.Stack.{stack_size, stack_contents, stack_durable, stack_may_hold}
 
@@ -12,14 +13,14 @@ length-sectors b first count size whole inside = simp (length-take, length-drop)
 
 -- a stack has whole sectors
 pub stack_whole : (d : Stack) → length (stack_contents d) ≡ 512 * stack_size d
-stack_whole (Disk d) = d.whole
+stack_whole (Disk d) = disk_whole d
 stack_whole (Flakey' f p below) = length-sectors (stack_contents below) f.offset _ (stack_size below) (stack_whole below) (omega arith)
 stack_whole (Dust' d p below) = length-sectors (stack_contents below) 0 _ (stack_size below) (stack_whole below) (omega arith)
 stack_whole (Error e) = length-replicate (512 * e.sectors) 0
 
 -- no stack is larger than the largest disk
 pub stack_small : (d : Stack) → stack_size d ≤ 16777216
-stack_small (Disk d) = d.small
+stack_small (Disk d) = d.sectors.small
 stack_small (Flakey' f p below) = omega (arith, stack_small below)
 stack_small (Dust' d p below) = omega (arith, stack_small below)
 stack_small (Error e) = e.small

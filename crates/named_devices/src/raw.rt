@@ -30,6 +30,7 @@ fn disk_at(held: &Devices, place: Place) -> Result<&MemDisk, Refusal>
 }
 
 /// Raw sectors of a disk. `OutOfRange` where they don't lie inside it.
+#[tactic(auto, using(device::specs::Laws::disk_whole))]
 fn raw_sectors(alloc: Global, disk: &MemDisk, first: u32, count: u32) -> Result<Buf, Refusal>
     ensures { Gives result (cut (disk_contents disk.now) first count) }
 {
@@ -77,7 +78,7 @@ fn load_free(
 }
 
 /// Refuses to write raw sectors of a device of a volume.
-#[tactic(auto, unfolding(command_rules::specs::Raw::in_use))]
+#[tactic(auto, using(device::specs::Laws::disk_whole), unfolding(command_rules::specs::Raw::in_use))]
 fn refuse_load(volume: &NamedVolume, role: Role, first: u32, count: u32) -> Refusal
     requires { IsRoleIn role volume.now }
     ensures { in_use role first count volume.now ≡ Err result }

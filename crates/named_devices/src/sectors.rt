@@ -93,18 +93,18 @@ fn write_at(
     role: Role,
     first: u32,
     count: u32,
-    bytes: Buf,
+    bytes: &mut Buf,
     ended: &mut Vec<Replied>,
 ) -> Result<(), Refusal>
     requires place { IsPlaceIn (In v role) (table_of held.old) }
     requires some { 0 < count }
     requires few { count ≤ 2048 }
-    requires room { length bytes ≡ 512 * count }
-    ensures done { is_sound_in (volume_at v (table_of held.old)) ≡ true → Serves result (table_of held.new) (λ t. (t ≡ table_of held.old) ⊎ IsInVolume (IsPartWritten role first count bytes) v (table_of held.old) t (volume_at v (table_of held.old))) (in_volume v (table_of held.old) (written_in role first count bytes) (volume_at v (table_of held.old))) }
+    requires room { length bytes.old ≡ 512 * count }
+    ensures done { is_sound_in (volume_at v (table_of held.old)) ≡ true → Serves result (table_of held.new) (λ t. (t ≡ table_of held.old) ⊎ IsInVolume (IsPartWritten role first count bytes.old) v (table_of held.old) t (volume_at v (table_of held.old))) (in_volume v (table_of held.old) (written_in role first count bytes.old) (volume_at v (table_of held.old))) }
     ensures told { is_quiet_in (volume_at v (table_of held.old)) ≡ true → ended.new.items ≡ ended.old.items }
     ensures asks { IfErr (asked_at (In v role) first count (table_of held.old)) (λ e. result ≡ Err e) }
     ensures stays { IfErr (asked_at (In v role) first count (table_of held.old)) (λ _. (table_of held.new ≡ table_of held.old) × (ended.new.items ≡ ended.old.items)) }
-    ensures among { IfOk (asked_at (In v role) first count (table_of held.old)) (λ asks. IsInVolume (IsWrittenAmong bytes result ended.old.items ended.new.items asks) v (table_of held.old) (table_of held.new) (volume_at v (table_of held.old))) }
+    ensures among { IfOk (asked_at (In v role) first count (table_of held.old)) (λ asks. IsInVolume (IsWrittenAmong bytes.old result ended.old.items ended.new.items asks) v (table_of held.old) (table_of held.new) (volume_at v (table_of held.old))) }
     ensures denied { is_quiet_in (volume_at v (table_of held.old)) ≡ true → IfErr result (λ e. IfOk (asked_at (In v role) first count (table_of held.old)) (λ _. IsDenied e)) }
     ensures one { IsInVolume KeepsNames v (table_of held.old) (table_of held.new) (volume_at v (table_of held.old)) }
     ensures sound { is_sound (table_of held.old) ≡ true → is_sound (table_of held.new) ≡ true }
@@ -118,22 +118,23 @@ fn write_at(
 /// sectors, `OutOfRange` where they are not 1 to 2048, `NoSuchDevice` for a name that no device has, `BadTable` for a disk
 /// or a layer, `OutOfRange` where the sectors don't lie inside the origin, `MergingSnapshot` for a snapshot that is being
 /// merged, `TooMany` where the volume has taken too many, then what its devices answer. `NoMemory` and `JournalFull` may come
-/// where some first pieces were written. Requests that are in flight may end in it: their replies go to the end of `ended`.
+/// where some first pieces were written. Requests that are in flight may end in it: their replies go to the end of `ended`. The
+/// bytes are lent: many of them leave their memory to the caller.
 #[tactic(auto, unfolding(command_rules::specs::Starting::write_asked, command_rules::specs::Starting::asked_by, command_rules::specs::Sectors::write, command_rules::specs::Sectors::IsWriteStarved, crate::specs::Devices::KeepsOthers))]
 pub fn write_device(
     alloc: Global,
     held: &mut Devices,
     name: &Name,
     first: u32,
-    bytes: Buf,
+    bytes: &mut Buf,
     ended: &mut Vec<Replied>,
 ) -> Result<(), Refusal>
-    ensures done { is_sound_in (volume_for name.now (table_of held.old)) ≡ true → Serves result (table_of held.new) (λ t. (t ≡ table_of held.old) ⊎ IsWriteStarved name.now first bytes (table_of held.old) t) (write name.now first bytes (table_of held.old)) }
+    ensures done { is_sound_in (volume_for name.now (table_of held.old)) ≡ true → Serves result (table_of held.new) (λ t. (t ≡ table_of held.old) ⊎ IsWriteStarved name.now first bytes.old (table_of held.old) t) (write name.now first bytes.old (table_of held.old)) }
     ensures told { is_quiet_in (volume_for name.now (table_of held.old)) ≡ true → ended.new.items ≡ ended.old.items }
-    ensures asks { IfErr (write_asked name.now first bytes (table_of held.old)) (λ e. result ≡ Err e) }
-    ensures stays { IfErr (write_asked name.now first bytes (table_of held.old)) (λ _. (table_of held.new ≡ table_of held.old) × (ended.new.items ≡ ended.old.items)) }
-    ensures among { IfOk (write_asked name.now first bytes (table_of held.old)) (λ asks. IsDoneFor name.now (IsWrittenAmong bytes result ended.old.items ended.new.items asks) (table_of held.old) (table_of held.new)) }
-    ensures denied { is_quiet_in (volume_for name.now (table_of held.old)) ≡ true → IfErr result (λ e. IfOk (write_asked name.now first bytes (table_of held.old)) (λ _. IsDenied e)) }
+    ensures asks { IfErr (write_asked name.now first bytes.old (table_of held.old)) (λ e. result ≡ Err e) }
+    ensures stays { IfErr (write_asked name.now first bytes.old (table_of held.old)) (λ _. (table_of held.new ≡ table_of held.old) × (ended.new.items ≡ ended.old.items)) }
+    ensures among { IfOk (write_asked name.now first bytes.old (table_of held.old)) (λ asks. IsDoneFor name.now (IsWrittenAmong bytes.old result ended.old.items ended.new.items asks) (table_of held.old) (table_of held.new)) }
+    ensures denied { is_quiet_in (volume_for name.now (table_of held.old)) ≡ true → IfErr result (λ e. IfOk (write_asked name.now first bytes.old (table_of held.old)) (λ _. IsDenied e)) }
     ensures one { KeepsOthers name.now (table_of held.old) (table_of held.new) }
     ensures ordered { IsInOrderFor name.now (table_of held.old) }
     ensures sound { is_sound (table_of held.old) ≡ true → is_sound (table_of held.new) ≡ true }

@@ -3,6 +3,7 @@ use Rattle.std.proofs.Common.{◌≡◌, ℕ, ◌+◌, Bool, true, false, List, 
 use Rattle.std.specs.Prelude.{Some, None, Result, Ok, Err, if◌then◌else◌, is_some, ◌==◌, ◌&&◌}
 use Rattle.device.specs.declared.mem_disk.MemDisk.{MemDisk}
 use Rattle.device.specs.Disk.{disk_contents, disk_size}
+use Rattle.device.specs.Laws.{disk_whole}
 use Rattle.sector.specs.declared.refusal.Refusal.TheVariants.{BadTable}
 use Rattle.sector.specs.declared.refusal.Refusal.{Refusal}
 use Rattle.layers.specs.declared.stack.Stack.{Stack, Disk}
@@ -41,7 +42,7 @@ last_of true raw bytes h = ap bytes_in h
 last_of false raw bytes h = absurd (cc)
 
 same_sectors : (a b : MemDisk) → disk_contents a ≡ disk_contents b → disk_size a ≡ disk_size b
-same_sectors a b same = let x = a.whole in let y = b.whole in let z = ap length same in omega (arith, x, y, z)
+same_sectors a b same = let x = disk_whole a in let y = disk_whole b in let z = ap length same in omega (arith, x, y, z)
 
 -- the disk of a bare stack has the sectors of the disk at the bottom
 pub bare_fits : (s : Stack) (d disk : MemDisk) (depth : ℕ) (names : List (List ℕ)) (size n : ℕ) → s ≡ Disk d → raw_in depth names (device_of s) ≡ Ok (disk_contents disk) → size ≡ disk_size disk → n ≤ size → n ≤ disk_size d

@@ -151,23 +151,23 @@ impl NamedVolume {
     }
 
     /// Writes sectors of the origin or of a snapshot, from `first` on. Refused as a read is, and with `Overflow` where the
-    /// snapshot's store overflows, or did before.
+    /// snapshot's store overflows, or did before. The bytes are lent, as `volume_commands::Resting::write` says.
     pub fn write(
         &mut self,
         alloc: Global,
         role: Role,
         first: u32,
         count: u32,
-        bytes: Buf,
+        bytes: &mut Buf,
         ended: &mut Vec<Replied>,
     ) -> Result<(), Refusal>
         requires role { IsRoleIn role self.old }
         requires some { 0 < count }
         requires few { count ≤ 2048 }
-        requires room { length bytes ≡ 512 * count }
-        ensures done { self.old.sound ≡ true → self.old.quiet ≡ true → Serves result self.new (λ v. (v ≡ self.old) ⊎ IsPartWritten role first count bytes self.old v) (written_in role first count bytes self.old) }
-        ensures among { self.old.quiet ≡ false → IfOk (asked_of role first count self.old) (IsWriteServed bytes result ended.old.items ended.new.items self.old self.new) }
-        ensures at_rest { self.old.quiet ≡ true → IfOk (asked_of role first count self.old) (IsWrittenAtRest bytes result self.old self.new) }
+        requires room { length bytes.old ≡ 512 * count }
+        ensures done { self.old.sound ≡ true → self.old.quiet ≡ true → Serves result self.new (λ v. (v ≡ self.old) ⊎ IsPartWritten role first count bytes.old self.old v) (written_in role first count bytes.old self.old) }
+        ensures among { self.old.quiet ≡ false → IfOk (asked_of role first count self.old) (IsWriteServed bytes.old result ended.old.items ended.new.items self.old self.new) }
+        ensures at_rest { self.old.quiet ≡ true → IfOk (asked_of role first count self.old) (IsWrittenAtRest bytes.old result self.old self.new) }
         ensures counts { IfOk (asked_of role first count self.old) (λ _. self.new.asked ≡ self.old.asked + count) }
         ensures told { self.old.quiet ≡ true → ended.new.items ≡ ended.old.items }
         ensures asks { IfErr (asked_of role first count self.old) (λ e. result ≡ Err e) }

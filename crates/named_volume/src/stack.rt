@@ -207,7 +207,7 @@ impl NamedStack {
 
     /// Writes raw sectors of the disk at a depth, which then count as flushed. In this order: `BadTable` for another
     /// device, `OutOfRange` where they don't lie inside it, `Busy` where a layer stands on it.
-    #[tactic(auto, unfolding(command_rules::specs::Raw::loaded_free))]
+    #[tactic(auto, using(device::specs::Laws::disk_whole), unfolding(command_rules::specs::Raw::loaded_free))]
     pub fn load(
         &mut self,
         depth: usize,

@@ -75,6 +75,8 @@ impl Desk {
         ensures error { IfErr result IsWriters }
         ensures named { AreNamed self.new.table }
     {
+        // A block has rooms of its own.
+        self.room = Vec::new(self.alloc);
         let replies = match run_block(rt, self.alloc, &mut self.held, block, workers) {
             Ok(replies) => replies,
             Err(refusal) => return self.refuse(refusal, writer),

@@ -31,11 +31,13 @@ use std::alloc::Global;
 use std::io::Write;
 use std::marker::Model;
 
-/// The devices that the lines so far made, and a count of the lines that were printed.
+/// The devices that the lines so far made, a count of the lines that were printed, and the memory of the last bytes that were
+/// many.
 #[derive(Drop)]
 pub struct Desk {
     pub(crate) alloc: Global,
     pub(crate) held: Devices,
+    pub(crate) room: Vec<u8>,
     pub(crate) summary: Summary,
 }
 
@@ -58,6 +60,7 @@ impl Model for Desk {
 fn outcome(
     alloc: Global,
     held: &mut Devices,
+    room: &mut Vec<u8>,
     line: &[u8],
     ended: &mut Vec<Replied>,
 ) -> Option<CommandReply>
@@ -74,7 +77,7 @@ fn outcome(
     ensures named { AreNamed (table_of held.old) → AreNamed (table_of held.new) }
 {
     // What is answered is returned where it is made, as in `step`.
-    match answer(alloc, held, line, ended) {
+    match answer(alloc, held, room, line, ended) {
         Ok(reply) => return reply,
         Err(refusal) => return Some(CommandReply::Refused(refusal)),
     }
@@ -89,6 +92,7 @@ impl Desk {
         Ok(Desk {
             alloc,
             held: Devices::new(alloc).map_err(|_| RunError::Memory)?,
+            room: Vec::new(alloc),
             summary: Summary::of_nothing(),
         })
     }
@@ -118,7 +122,7 @@ impl Desk {
         ensures named { AreNamed self.new.table }
     {
         let mut ended = Vec::new(self.alloc);
-        let own = outcome(self.alloc, &mut self.held, line, &mut ended);
+        let own = outcome(self.alloc, &mut self.held, &mut self.room, line, &mut ended);
         self.summary = self.summary.with_lines(ended.len()).with_own(&own);
         print_all(self.alloc, writer, &mut ended, &own)
     }

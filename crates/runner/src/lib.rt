@@ -29,6 +29,7 @@ mod events;
 mod numbered;
 mod numbering;
 mod reading;
+mod room;
 mod session;
 mod step;
 mod summary;

@@ -25,6 +25,7 @@ ghost use Rattle.runner.specs.Steps.{reworded, told_as, step, answer_of};
 ghost use Rattle.runner.specs.Wants.{enters, enters_line};
 
 use crate::events::step_volume;
+use crate::room::{ends_writes, take_back};
 use command::Command::{
     Checkpoint, Create, Disk, Finish, Flush, Load, Merge, Read, Remove, Resume, Save, Settle,
     StartRead, StartWrite, Status, Step, Stop, StopLosing, Table, Tick, Write,
@@ -131,7 +132,11 @@ fn obey_any(
         Command::Message { name, message } => tell_device(alloc, held, &name, &message),
         Tick { seconds } => did(Ok(tick(held, seconds))),
         Read { name, first, count } => given(read_device(alloc, held, &name, first, count, ended)),
-        Write { name, first, bytes } => did(write_device(alloc, held, &name, first, bytes, ended)),
+        Write {
+            name,
+            first,
+            mut bytes,
+        } => did(write_device(alloc, held, &name, first, &mut bytes, ended)),
         Flush { name } => did(flush_device(held, &name, ended)),
         StartRead { name, first, count } => number(start_read(alloc, held, &name, first, count)),
         StartWrite { name, first, bytes } => number(start_write(alloc, held, &name, first, bytes)),
@@ -155,6 +160,7 @@ fn obey_any(
 fn obey(
     alloc: Global,
     held: &mut Devices,
+    room: &mut Vec<u8>,
     command: Command,
     ended: &mut Vec<Replied>,
 ) -> Result<CommandReply, Refusal>
@@ -175,8 +181,14 @@ fn obey(
         Read { name, first, count } => {
             return given(read_device(alloc, held, &name, first, count, ended));
         }
-        Write { name, first, bytes } => {
-            return did(write_device(alloc, held, &name, first, bytes, ended));
+        Write {
+            name,
+            first,
+            mut bytes,
+        } => {
+            let call = write_device(alloc, held, &name, first, &mut bytes, ended);
+            take_back(room, bytes);
+            return did(call);
         }
         Status { name } => return text(status_text(alloc, held, &name)),
         other => return obey_any(alloc, held, other, ended),
@@ -184,10 +196,11 @@ fn obey(
 }
 
 /// Does what a line says, and gives its own answer; `None` for a line that says nothing. Requests that end in it go to the
-/// end of `ended`.
+/// end of `ended`. The many bytes of a write stand in the room, which is theirs again afterwards.
 pub fn answer(
     alloc: Global,
     held: &mut Devices,
+    room: &mut Vec<u8>,
     line: &[u8],
     ended: &mut Vec<Replied>,
 ) -> Result<Option<CommandReply>, Refusal>
@@ -203,13 +216,17 @@ pub fn answer(
     ensures sound { is_sound (table_of held.old) ≡ true → is_sound_line line.now ≡ true → is_sound (table_of held.new) ≡ true }
     ensures named { AreNamed (table_of held.old) → AreNamed (table_of held.new) }
 {
-    let command = match said(alloc, line, LINE_LIMIT) {
+    let command = match said(alloc, room, line, LINE_LIMIT) {
         Ok(Some(command)) => command,
         Ok(None) => return Ok(None),
         Err(refusal) => return Err(refusal),
     };
+    if ends_writes(&command) {
+        // What the command needs itself may take the place.
+        *room = Vec::new(alloc);
+    }
     // As in `obey`, what is answered is not put aside first.
-    match obey(alloc, held, command, ended) {
+    match obey(alloc, held, room, command, ended) {
         Ok(reply) => return Ok(Some(reply)),
         Err(refusal) => return Err(refusal),
     }

@@ -34,6 +34,13 @@ impl Buf {
         Buf { bytes }
     }
 
+    /// The vector of the bytes, which is not copied.
+    pub fn into_vec(self) -> Vec<u8>
+        ensures { result.items ≡ self }
+    {
+        self.bytes
+    }
+
     /// So many bytes, all zero.
     pub fn zeroed(alloc: Global, count: usize) -> Result<Buf, AllocError>
         ensures { IfOk result (λ b. b ≡ replicate count 0) }

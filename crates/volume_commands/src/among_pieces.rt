@@ -103,18 +103,18 @@ fn read_piece_among<B: Layered>(
     }
 }
 
-/// Writes a range, piece after piece.
+/// Writes a range, piece after piece. The bytes are lent, as to a volume at rest.
 fn write_pieces_among<B: Layered>(
     volume: &mut Journaled<B>,
     alloc: Global,
     dev: Dev,
     range: Range,
-    mut bytes: Buf,
+    bytes: &mut Buf,
     ended: &mut Vec<Replied>,
 ) -> Result<(), Refusal>
-    requires room { length bytes ≡ 512 * range.count }
-    ensures written { OnOk result (AreWrittenAmong B.contents B.layers B.fault_count dev (pieces_of (piece_with volume.old.volume.merge volume.old.volume.snaps) (span_of range)) bytes volume.old.volume volume.new.volume ended.old.items ended.new.items) }
-    ensures stopped { IfErr result (λ refusal. IsWriteStopped B.contents B.layers B.fault_count B.size dev (pieces_of (piece_with volume.old.volume.merge volume.old.volume.snaps) (span_of range)) bytes refusal volume.old.volume volume.new.volume ended.old.items ended.new.items) }
+    requires room { length bytes.old ≡ 512 * range.count }
+    ensures written { OnOk result (AreWrittenAmong B.contents B.layers B.fault_count dev (pieces_of (piece_with volume.old.volume.merge volume.old.volume.snaps) (span_of range)) bytes.old volume.old.volume volume.new.volume ended.old.items ended.new.items) }
+    ensures stopped { IfErr result (λ refusal. IsWriteStopped B.contents B.layers B.fault_count B.size dev (pieces_of (piece_with volume.old.volume.merge volume.old.volume.snaps) (span_of range)) bytes.old refusal volume.old.volume volume.new.volume ended.old.items ended.new.items) }
     ensures kept { KeepsDevices B.layers B.size (rested_of volume.old.volume) (rested_of volume.new.volume) }
     ensures requests { volume.new.volume.requests ≤ volume.old.volume.requests + range.count }
     ensures taken { TakesByRequests volume.old volume.new }
@@ -127,7 +127,7 @@ fn write_pieces_among<B: Layered>(
     let mut from = 0;
     for piece in geometry.pieces(range) {
         let to = from + piece.count as usize * SECTOR_BYTES;
-        match write_piece_among(volume, alloc, dev, piece, &mut bytes, from, to, ended) {
+        match write_piece_among(volume, alloc, dev, piece, bytes, from, to, ended) {
             Ok(()) => {}
             Err(refusal) => return Err(refusal),
         }
@@ -205,7 +205,8 @@ impl<B: Layered> Resting<B> {
         }
     }
 
-    /// Writes sectors of the origin or of a snapshot, while requests may be in flight, piece after piece likewise.
+    /// Writes sectors of the origin or of a snapshot, while requests may be in flight, piece after piece likewise. The bytes are lent,
+    /// as `write` says.
     ///
     /// Refused: there is no such snapshot (`NoSuchDevice`), and then nothing changed; a piece's request is refused, as
     /// `start` says, or answered `Invalid` or `Io`, and the pieces before it stand; or memory is refused (`NoMemory`).
@@ -214,15 +215,15 @@ impl<B: Layered> Resting<B> {
         alloc: Global,
         dev: Dev,
         range: Range,
-        bytes: Buf,
+        bytes: &mut Buf,
         ended: &mut Vec<Replied>,
     ) -> Result<(), Refusal>
         requires some { 0 < range.count }
         requires inside { range.first + range.count ≤ B.size self.old.rested.origin }
-        requires room { length bytes ≡ 512 * range.count }
+        requires room { length bytes.old ≡ 512 * range.count }
         requires requests { self.old.rested.requests + range.count < 9_223_372_036_854_775_808 }
-        ensures written { OnOk result (AreWrittenAmong B.contents B.layers B.fault_count dev (pieces_among (span_of range) self.old.rested) bytes self.old.rested.events self.new.rested.events ended.old.items ended.new.items) }
-        ensures refused { IfErr result (λ refusal. IsWriteRefusedAmong B.contents B.layers B.fault_count B.size dev (pieces_among (span_of range) self.old.rested) bytes refusal self.old.rested self.new.rested ended.old.items ended.new.items) }
+        ensures written { OnOk result (AreWrittenAmong B.contents B.layers B.fault_count dev (pieces_among (span_of range) self.old.rested) bytes.old self.old.rested.events self.new.rested.events ended.old.items ended.new.items) }
+        ensures refused { IfErr result (λ refusal. IsWriteRefusedAmong B.contents B.layers B.fault_count B.size dev (pieces_among (span_of range) self.old.rested) bytes.old refusal self.old.rested self.new.rested ended.old.items ended.new.items) }
         ensures there { OnOk result (has_dev dev self.old.rested ≡ true) }
         ensures whole { IsWhole self.old.rested × IsWhole self.new.rested }
         ensures kept { KeepsDevices B.layers B.size self.old.rested self.new.rested }

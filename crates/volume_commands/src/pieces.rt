@@ -181,25 +181,26 @@ fn read_alone<B: Layered>(
     }
 }
 
-/// Writes a range, piece after piece. A piece that is not done ends it, and those before it stand.
+/// Writes a range, piece after piece. A piece that is not done ends it, and those before it stand. The bytes are lent: where
+/// there is one piece they are taken, else each piece is a copy of its part.
 pub(crate) fn write_pieces<B: Layered>(
     volume: &mut Journaled<B>,
     alloc: Global,
     dev: Dev,
     range: Range,
-    mut bytes: Buf,
+    bytes: &mut Buf,
 ) -> Result<(), Refusal>
     requires between { IsBetween volume.old.volume }
     requires can { CanAsk B.size dev range volume.old.volume }
-    requires room { length bytes ≡ 512 * range.count }
+    requires room { length bytes.old ≡ 512 * range.count }
     ensures between { IsBetween volume.new.volume }
     ensures settled { IsSettled B.layers (rested_of volume.old.volume) → IsSettled B.layers (rested_of volume.new.volume) }
-    ensures done { OnOk result (IsDoneBy B.contents B.layers (written_beside dev (span_of range) bytes) Written (rested_of volume.old.volume) (rested_of volume.new.volume)) }
-    ensures refused { IfErr result (λ refusal. IsWriteRefused B.contents B.layers dev (span_of range) bytes refusal (rested_of volume.old.volume) (rested_of volume.new.volume)) }
-    ensures answered { OnOk result (AreWrittenAtRest B.contents B.layers B.fault_count B.size dev (pieces_of (piece_with volume.old.volume.merge volume.old.volume.snaps) (span_of range)) bytes volume.old.volume volume.new.volume) }
-    ensures undone { IfErr result (λ refusal. IsWriteCut B.contents B.layers B.fault_count B.size dev (pieces_of (piece_with volume.old.volume.merge volume.old.volume.snaps) (span_of range)) bytes refusal volume.old.volume volume.new.volume) }
-    ensures shows { OnOk result (IsSettled B.layers (rested_of volume.old.volume) → IsPlainWrite dev (span_of range) bytes (arrays_in B.contents B.layers (rested_of volume.old.volume)) (arrays_in B.contents B.layers (rested_of volume.new.volume))) }
-    ensures loses { IfErr result (λ refusal. IsSettled B.layers (rested_of volume.old.volume) → IsPlainWriteRefused dev (span_of range) (pieces_for B.contents B.layers (span_of range) (rested_of volume.old.volume)) bytes refusal (arrays_in B.contents B.layers (rested_of volume.old.volume)) (arrays_in B.contents B.layers (rested_of volume.new.volume))) }
+    ensures done { OnOk result (IsDoneBy B.contents B.layers (written_beside dev (span_of range) bytes.old) Written (rested_of volume.old.volume) (rested_of volume.new.volume)) }
+    ensures refused { IfErr result (λ refusal. IsWriteRefused B.contents B.layers dev (span_of range) bytes.old refusal (rested_of volume.old.volume) (rested_of volume.new.volume)) }
+    ensures answered { OnOk result (AreWrittenAtRest B.contents B.layers B.fault_count B.size dev (pieces_of (piece_with volume.old.volume.merge volume.old.volume.snaps) (span_of range)) bytes.old volume.old.volume volume.new.volume) }
+    ensures undone { IfErr result (λ refusal. IsWriteCut B.contents B.layers B.fault_count B.size dev (pieces_of (piece_with volume.old.volume.merge volume.old.volume.snaps) (span_of range)) bytes.old refusal volume.old.volume volume.new.volume) }
+    ensures shows { OnOk result (IsSettled B.layers (rested_of volume.old.volume) → IsPlainWrite dev (span_of range) bytes.old (arrays_in B.contents B.layers (rested_of volume.old.volume)) (arrays_in B.contents B.layers (rested_of volume.new.volume))) }
+    ensures loses { IfErr result (λ refusal. IsSettled B.layers (rested_of volume.old.volume) → IsPlainWriteRefused dev (span_of range) (pieces_for B.contents B.layers (span_of range) (rested_of volume.old.volume)) bytes.old refusal (arrays_in B.contents B.layers (rested_of volume.old.volume)) (arrays_in B.contents B.layers (rested_of volume.new.volume))) }
     ensures kept { KeepsDevices B.layers B.size (rested_of volume.old.volume) (rested_of volume.new.volume) }
     ensures requests { volume.new.volume.requests ≤ volume.old.volume.requests + range.count }
     ensures taken { TakesByRequests volume.old volume.new }
@@ -214,7 +215,7 @@ pub(crate) fn write_pieces<B: Layered>(
     let mut from = 0;
     for piece in geometry.pieces(range) {
         let to = from + piece.count as usize * SECTOR_BYTES;
-        match write_piece(volume, alloc, dev, piece, &mut bytes, from, to) {
+        match write_piece(volume, alloc, dev, piece, bytes, from, to) {
             Ok(()) => {}
             Err(refusal) => return Err(refusal),
         }

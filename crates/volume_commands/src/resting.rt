@@ -114,7 +114,7 @@ impl<B: Layered> Resting<B> {
     /// size, which are written in order. Where the volume is settled, it is the settled machine's write: the bytes stand in
     /// the array of its device, also while a merge is begun. Of a write to the origin, each snapshot shows what it showed, or
     /// is spoiled; one to a snapshot changes what that shows alone. Whichever device drops writes, each piece is answered by an
-    /// event that was due.
+    /// event that was due. The bytes are lent: where there is one piece they are taken, else their memory stays the caller's.
     ///
     /// Refused: there is no such snapshot (`NoSuchDevice`), and then nothing changed; the snapshot is spoiled (`Invalid`), or
     /// the device of a piece failed (`Io`), and the pieces before it stand; the snapshot's store overflowed before
@@ -125,23 +125,23 @@ impl<B: Layered> Resting<B> {
         alloc: Global,
         dev: Dev,
         range: Range,
-        bytes: Buf,
+        bytes: &mut Buf,
     ) -> Result<(), Refusal>
         requires quiet { is_quiet_of self.old.rested.events ≡ true }
         requires some { 0 < range.count }
         requires inside { range.first + range.count ≤ B.size self.old.rested.origin }
-        requires room { length bytes ≡ 512 * range.count }
+        requires room { length bytes.old ≡ 512 * range.count }
         requires requests { self.old.rested.requests + range.count < 9_223_372_036_854_775_808 }
         ensures quiet { is_quiet_of self.new.rested.events ≡ true }
         ensures settled { IsSettled B.layers self.old.rested → IsSettled B.layers self.new.rested }
-        ensures done { OnOk result (IsDoneBy B.contents B.layers (written_beside dev (span_of range) bytes) Written self.old.rested self.new.rested) }
+        ensures done { OnOk result (IsDoneBy B.contents B.layers (written_beside dev (span_of range) bytes.old) Written self.old.rested self.new.rested) }
         ensures there { OnOk result (has_dev dev self.old.rested ≡ true) }
-        ensures refused { IfErr result (λ refusal. IsWriteRefused B.contents B.layers dev (span_of range) bytes refusal self.old.rested self.new.rested) }
-        ensures answered { OnOk result (AreWrittenAtRest B.contents B.layers B.fault_count B.size dev (pieces_among (span_of range) self.old.rested) bytes self.old.rested.events self.new.rested.events) }
-        ensures undone { has_dev dev self.old.rested ≡ true → IfErr result (λ refusal. IsWriteCut B.contents B.layers B.fault_count B.size dev (pieces_among (span_of range) self.old.rested) bytes refusal self.old.rested.events self.new.rested.events) }
+        ensures refused { IfErr result (λ refusal. IsWriteRefused B.contents B.layers dev (span_of range) bytes.old refusal self.old.rested self.new.rested) }
+        ensures answered { OnOk result (AreWrittenAtRest B.contents B.layers B.fault_count B.size dev (pieces_among (span_of range) self.old.rested) bytes.old self.old.rested.events self.new.rested.events) }
+        ensures undone { has_dev dev self.old.rested ≡ true → IfErr result (λ refusal. IsWriteCut B.contents B.layers B.fault_count B.size dev (pieces_among (span_of range) self.old.rested) bytes.old refusal self.old.rested.events self.new.rested.events) }
         ensures whole { IsWhole self.old.rested × IsWhole self.new.rested }
-        ensures shows { OnOk result (IsSettled B.layers self.old.rested → IsPlainWrite dev (span_of range) bytes (arrays_in B.contents B.layers self.old.rested) (arrays_in B.contents B.layers self.new.rested)) }
-        ensures loses { IfErr result (λ refusal. IsSettled B.layers self.old.rested → IsPlainWriteRefused dev (span_of range) (pieces_for B.contents B.layers (span_of range) self.old.rested) bytes refusal (arrays_in B.contents B.layers self.old.rested) (arrays_in B.contents B.layers self.new.rested)) }
+        ensures shows { OnOk result (IsSettled B.layers self.old.rested → IsPlainWrite dev (span_of range) bytes.old (arrays_in B.contents B.layers self.old.rested) (arrays_in B.contents B.layers self.new.rested)) }
+        ensures loses { IfErr result (λ refusal. IsSettled B.layers self.old.rested → IsPlainWriteRefused dev (span_of range) (pieces_for B.contents B.layers (span_of range) self.old.rested) bytes.old refusal (arrays_in B.contents B.layers self.old.rested) (arrays_in B.contents B.layers self.new.rested)) }
         ensures kept { KeepsDevices B.layers B.size self.old.rested self.new.rested }
         ensures requests { self.new.rested.requests ≤ self.old.rested.requests + range.count }
         ensures taken { TakesByRequests (counted_in self.old) (counted_in self.new) }

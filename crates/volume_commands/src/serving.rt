@@ -30,6 +30,7 @@ use volume::Served;
 /// Does the events that are due, each time the one that is due first, until the volume is quiet: none is then due but one of a
 /// merge. Tells the last reply, and the one that was given before where there is none. What is known to follow an event is
 /// done without a search for what is due.
+#[inline(always)]
 fn settle<B: Layered>(volume: &mut Journaled<B>, mut reply: Reply) -> Reply
     requires free { has_group_in volume.old.volume.merge ≡ false }
     ensures run { IsRun B.contents B.layers (Some reply) (Some result) volume.old.volume volume.new.volume }
@@ -58,6 +59,7 @@ fn settle<B: Layered>(volume: &mut Journaled<B>, mut reply: Reply) -> Reply
 /// Begins with the request of a piece, and tells its reply where it is answered at once: one that waits for nothing, and one that
 /// its snapshot refuses, with `Invalid` or `Overflow`, which may have spoiled or marked that snapshot. Any other will be answered,
 /// and `Invalid` stands for its reply until then. Where memory is refused nothing changed.
+#[inline(always)]
 fn begin<B: Layered>(volume: &mut Journaled<B>, request: Request) -> Result<Reply, Refusal>
     requires quiet { is_quiet_of volume.old.volume ≡ true }
     requires few { length volume.old.volume.snaps ≤ 8 }

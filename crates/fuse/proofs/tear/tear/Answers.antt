@@ -1,6 +1,7 @@
 use Rattle.std.proofs.Common.{◌≡◌, ◌+◌, ◌*◌, ◌≤◌, ◌<◌, length, true, false, sym, subst, ◌∙◌, arith}
 use Rattle.sector.specs.Bytes.{sector_at}
 use Rattle.device.specs.Disk.{disk_contents}
+use Rattle.device.specs.Laws.{disk_whole}
 use Rattle.fuse.specs.Torn.{IsTornBy, is_new}
 use Rattle.fuse.proofs.Torn.{torn_old, torn_new, one_sector}
 use Rattle.fuse.proofs.tear.tear.Goals.{then-reaches, else-reaches}
@@ -10,7 +11,7 @@ pub loop-i-preserved : goal.loop-i-preserved
 loop-i-preserved c =
     let lt : c.loop-i.i < c.args.range.count = omega arith in
     let whole : length (sector_at c.args.bytes.now c.loop-i.i) ≡ 512 = one_sector c.args.bytes.now c.args.range.count c.loop-i.i c.requires.room lt in
-    let fits : 512 * (c.args.range.first + c.loop-i.i) + length (sector_at c.args.bytes.now c.loop-i.i) ≤ length (disk_contents c.loop-i.disk) = omega (arith, c.loop-i.disk.whole, c.loop-i.invariant.size, c.requires.inside) in
+    let fits : 512 * (c.args.range.first + c.loop-i.i) + length (sector_at c.args.bytes.now c.loop-i.i) ≤ length (disk_contents c.loop-i.disk) = omega (arith, disk_whole c.loop-i.disk, c.loop-i.invariant.size, c.requires.inside) in
     elim c.if-reaches.branch [
       | then-reaches w ↦
           (let is : is_new c.args.new.now c.loop-i.i ≡ true = sym c.reaches.ensures ∙ w.if-reaches.true in

@@ -21,12 +21,12 @@ returns c =
     let at = c.index_mut.ensures.value in
     record {
       done = λ sound.
-          serves_in c.write.result (IsPartWritten c.args.role c.args.first c.args.count c.args.bytes) (written_in c.args.role c.args.first c.args.count c.args.bytes) c.args.v table old c.write.new.self
+          serves_in c.write.result (IsPartWritten c.args.role c.args.first c.args.count c.args.bytes.now) (written_in c.args.role c.args.first c.args.count c.args.bytes.now) c.args.v table old c.write.new.self
           lt at (c.write.ensures.done (sound_here table c.args.v old sound lt at).0 (sound_here table c.args.v old sound lt at).1);
       told = λ quiet. c.write.ensures.told (quiet_here table c.args.v old quiet lt at);
       asks = asked_in (λ e. c.write.result ≡ Err e) c.args.v c.args.role c.args.first c.args.count table old lt at c.write.ensures.asks;
       stays = stays_in (c.write.new.ended.items ≡ c.args.ended.now.items) c.args.v c.args.role c.args.first c.args.count table old c.write.new.self lt at c.write.ensures.stays;
-      among = asked_did (IsWrittenAmong c.args.bytes c.write.result c.args.ended.now.items c.write.new.ended.items) c.args.v c.args.role c.args.first c.args.count table old c.write.new.self lt at (both_asked (IsWriteServed c.args.bytes c.write.result c.args.ended.now.items c.write.new.ended.items old c.write.new.self) (IsWrittenAtRest c.args.bytes c.write.result old c.write.new.self) (old.quiet ≡ false) (old.quiet ≡ true) (asked_of c.args.role c.args.first c.args.count old) c.write.ensures.among c.write.ensures.at_rest);
+      among = asked_did (IsWrittenAmong c.args.bytes.now c.write.result c.args.ended.now.items c.write.new.ended.items) c.args.v c.args.role c.args.first c.args.count table old c.write.new.self lt at (both_asked (IsWriteServed c.args.bytes.now c.write.result c.args.ended.now.items c.write.new.ended.items old c.write.new.self) (IsWrittenAtRest c.args.bytes.now c.write.result old c.write.new.self) (old.quiet ≡ false) (old.quiet ≡ true) (asked_of c.args.role c.args.first c.args.count old) c.write.ensures.among c.write.ensures.at_rest);
       denied = denied_in c.write.result c.args.v c.args.role c.args.first c.args.count table old lt at c.write.ensures.denied;
       one = changed_in KeepsNames c.args.v table old c.write.new.self lt at c.write.ensures.kept;
       sound = λ sound.

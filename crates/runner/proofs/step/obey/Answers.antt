@@ -35,17 +35,17 @@ returns-in-Read-clause-left c =
 pub returns-in-Write-clause-asks : goal.returns-in-Write-clause-asks
 returns-in-Write-clause-asks c =
     let P : Command → Type 0 = λ command. IsFirst (first_refusal command (table_of c.args.held.now)) (told (reworded Some c.did.result)) in
-    subst P (sym c.in-Write.is) (worded_asked (λ _. Done) (write_asked c.in-Write.name c.in-Write.first c.in-Write.bytes (table_of c.args.held.now)) c.write_device.result c.did.result c.write_device.ensures.asks c.did.ensures)
+    subst P (sym c.in-Write.is) (worded_asked (λ _. Done) (write_asked c.in-Write.name c.in-Write.first c.in-Write.bytes (table_of c.args.held.now)) c.write_device-call.result c.did.result c.write_device-call.ensures.asks c.did.ensures)
 
 pub returns-in-Write-clause-still : goal.returns-in-Write-clause-still
 returns-in-Write-clause-still c =
-    let P : Command → Type 0 = λ command. IfSome (first_refusal command (table_of c.args.held.now)) (λ _. (table_of c.write_device.new.held ≡ table_of c.args.held.now) × (c.write_device.new.ended.items ≡ c.args.ended.now.items)) in
-    subst P (sym c.in-Write.is) (asked_still _ (write_asked c.in-Write.name c.in-Write.first c.in-Write.bytes (table_of c.args.held.now)) c.write_device.ensures.stays)
+    let P : Command → Type 0 = λ command. IfSome (first_refusal command (table_of c.args.held.now)) (λ _. (table_of c.write_device-call.new.held ≡ table_of c.args.held.now) × (c.write_device-call.new.ended.items ≡ c.args.ended.now.items)) in
+    subst P (sym c.in-Write.is) (asked_still _ (write_asked c.in-Write.name c.in-Write.first c.in-Write.bytes (table_of c.args.held.now)) c.write_device-call.ensures.stays)
 
 pub returns-in-Write-clause-left : goal.returns-in-Write-clause-left
 returns-in-Write-clause-left c =
-    let P : Command → Type 0 = λ command. IsLeft command c.did.result (table_of c.args.held.now) (table_of c.write_device.new.held) c.args.ended.now.items c.write_device.new.ended.items in
-    subst P (sym c.in-Write.is) (record { did = c.write_device.result; answer_is = c.did.ensures; others = c.write_device.ensures.one; among = c.write_device.ensures.among; denied = c.write_device.ensures.denied })
+    let P : Command → Type 0 = λ command. IsLeft command c.did.result (table_of c.args.held.now) (table_of c.write_device-call.new.held) c.args.ended.now.items c.write_device-call.new.ended.items in
+    subst P (sym c.in-Write.is) (record { did = c.write_device-call.result; answer_is = c.did.ensures; others = c.write_device-call.ensures.one; among = c.write_device-call.ensures.among; denied = c.write_device-call.ensures.denied })
 
 pub returns-in-Status-clause-left : goal.returns-in-Status-clause-left
 returns-in-Status-clause-left c =
@@ -56,7 +56,7 @@ returns-in-Status-clause-left c =
 pub returns-in-Write-clause-ordered : goal.returns-in-Write-clause-ordered
 returns-in-Write-clause-ordered c =
     let P : Command → Type 0 = λ command. IsLookedAt (table_of c.args.held.now) (changed_by command) in
-    subst P (sym c.in-Write.is) c.write_device.ensures.ordered
+    subst P (sym c.in-Write.is) c.write_device-call.ensures.ordered
 
 pub returns-in-Read-clause-full : goal.returns-in-Read-clause-full
 returns-in-Read-clause-full c =
@@ -65,8 +65,8 @@ returns-in-Read-clause-full c =
 
 pub returns-in-Write-clause-full : goal.returns-in-Write-clause-full
 returns-in-Write-clause-full c =
-    let P : Command → Type 0 = λ command. told (reworded Some c.did.result) ≡ Refused JournalFull ∷ [] → IsAskedMuch (entered_by command) (table_of c.args.held.now) (table_of c.write_device.new.held) in
-    subst P (sym c.in-Write.is) (worded_full (λ _. Done) _ c.write_device.result c.did.result done_other c.write_device.ensures.full c.did.ensures)
+    let P : Command → Type 0 = λ command. told (reworded Some c.did.result) ≡ Refused JournalFull ∷ [] → IsAskedMuch (entered_by command) (table_of c.args.held.now) (table_of c.write_device-call.new.held) in
+    subst P (sym c.in-Write.is) (worded_full (λ _. Done) _ c.write_device-call.result c.did.result done_other c.write_device-call.ensures.full c.did.ensures)
 
 pub returns-in-Status-clause-full : goal.returns-in-Status-clause-full
 returns-in-Status-clause-full c =

@@ -22,7 +22,7 @@ loop-piece-init g c = record {
       (stands_first c.piece.result (span_of c.args.range) _ _ c.pieces-piece-items.ensures.cut c.into_iter-piece-iterator.ensures.into_iter_gives);
   same = refl;
   so = among_start g.B.Block.layers g.B.Block.size c.args.volume.now.volume;
-  did = writes_start g.B.Block.contents g.B.Block.layers g.B.Block.fault_count g.B.Block.size c.args.dev (pieces_of (piece_with c.args.volume.now.volume.merge c.args.volume.now.volume.snaps) (span_of c.args.range)) c.into_iter-piece-iterator.result c.args.bytes c.args.volume.now.volume c.args.ended.now.items
+  did = writes_start g.B.Block.contents g.B.Block.layers g.B.Block.fault_count g.B.Block.size c.args.dev (pieces_of (piece_with c.args.volume.now.volume.merge c.args.volume.now.volume.snaps) (span_of c.args.range)) c.into_iter-piece-iterator.result c.args.bytes.now c.args.volume.now.volume c.args.ended.now.items
       (c.into_iter-piece-iterator.ensures.into_iter_gives ∙ c.pieces-piece-items.ensures.pieces ∙ ap (λ n. pieces_of n (span_of c.args.range)) c.piece.ensures.piece);
   taken = takes_none _;
 }
@@ -40,20 +40,20 @@ write_piece_among-requires-clause-inside g c =
     let bytes = is.bytes in
     let some = is.some in
     let room = c.requires.room in
-    left_inside c.loop-piece.from (c.loop-piece.from + c.in-Some.piece.count * 512) c.loop-piece.bytes c.args.bytes c.loop-piece.invariant.same (omega arith) (omega arith)
+    left_inside c.loop-piece.from (c.loop-piece.from + c.in-Some.piece.count * 512) c.loop-piece.bytes c.args.bytes.now c.loop-piece.invariant.same (omega arith) (omega arith)
 
 pub write_piece_among-requires-clause-room : goal.write_piece_among-requires-clause-room
 write_piece_among-requires-clause-room g c =
     let is = first_piece _ _ _ _ _ _ _ c.loop-piece.invariant.stands c.in-Some.ensures.steps in
     let bytes = is.bytes in
-    ap length (left_part c.loop-piece.from (c.loop-piece.from + c.in-Some.piece.count * 512) c.loop-piece.bytes c.args.bytes c.loop-piece.invariant.same)
-    ∙ part_fits c.loop-piece.from c.in-Some.piece.count c.args.range.count c.args.bytes c.requires.room (omega arith)
+    ap length (left_part c.loop-piece.from (c.loop-piece.from + c.in-Some.piece.count * 512) c.loop-piece.bytes c.args.bytes.now c.loop-piece.invariant.same)
+    ∙ part_fits c.loop-piece.from c.in-Some.piece.count c.args.range.count c.args.bytes.now c.requires.room (omega arith)
 
 pub returns-in-Err-clause-stopped : goal.returns-in-Err-clause-stopped
 returns-in-Err-clause-stopped g c =
-    writes_stop g.B.Block.contents g.B.Block.layers g.B.Block.fault_count g.B.Block.size c.args.dev (pieces_of (piece_with c.args.volume.now.volume.merge c.args.volume.now.volume.snaps) (span_of c.args.range)) c.loop-piece.piece-iterator c.next.new.self (span_of c.in-Some.piece) c.loop-piece.from c.args.bytes
+    writes_stop g.B.Block.contents g.B.Block.layers g.B.Block.fault_count g.B.Block.size c.args.dev (pieces_of (piece_with c.args.volume.now.volume.merge c.args.volume.now.volume.snaps) (span_of c.args.range)) c.loop-piece.piece-iterator c.next.new.self (span_of c.in-Some.piece) c.loop-piece.from c.args.bytes.now
     (take (c.loop-piece.from + c.in-Some.piece.count * 512 - c.loop-piece.from) (drop c.loop-piece.from c.loop-piece.bytes)) c.in-Err.refusal
-    c.args.volume.now.volume c.loop-piece.volume.volume c.write_piece_among.new.volume.volume c.args.ended.now.items c.loop-piece.ended.items c.write_piece_among.new.ended.items c.loop-piece.invariant.did c.in-Some.ensures.steps (left_part c.loop-piece.from (c.loop-piece.from + c.in-Some.piece.count * 512) c.loop-piece.bytes c.args.bytes c.loop-piece.invariant.same) c.in-Err.ensures.failed
+    c.args.volume.now.volume c.loop-piece.volume.volume c.write_piece_among.new.volume.volume c.args.ended.now.items c.loop-piece.ended.items c.write_piece_among.new.ended.items c.loop-piece.invariant.did c.in-Some.ensures.steps (left_part c.loop-piece.from (c.loop-piece.from + c.in-Some.piece.count * 512) c.loop-piece.bytes c.args.bytes.now c.loop-piece.invariant.same) c.in-Err.ensures.failed
 
 pub returns-in-Err-clause-kept : goal.returns-in-Err-clause-kept
 returns-in-Err-clause-kept g c =
@@ -74,17 +74,17 @@ loop-piece-preserved g c =
       can = tt;
       finite = tt;
       stands = stands_next _ _ _ _ _ _ _ c.loop-piece.invariant.stands c.in-Some.ensures.steps;
-      same = left_behind c.loop-piece.from (c.in-Some.piece.count * 512) c.loop-piece.bytes c.args.bytes c.write_piece_among.new.bytes c.loop-piece.invariant.same c.write_piece_among.ensures.left;
+      same = left_behind c.loop-piece.from (c.in-Some.piece.count * 512) c.loop-piece.bytes c.args.bytes.now c.write_piece_among.new.bytes c.loop-piece.invariant.same c.write_piece_among.ensures.left;
       so = among_next g.B.Block.layers g.B.Block.size c.loop-piece.from c.in-Some.piece.count c.args.volume.now.volume c.loop-piece.volume.volume c.write_piece_among.new.volume.volume c.loop-piece.invariant.so c.in-Ok.ensures.kept c.in-Ok.ensures.requests is.some;
-      did = writes_next g.B.Block.contents g.B.Block.layers g.B.Block.fault_count g.B.Block.size c.args.dev (pieces_of (piece_with c.args.volume.now.volume.merge c.args.volume.now.volume.snaps) (span_of c.args.range)) c.loop-piece.piece-iterator c.next.new.self (span_of c.in-Some.piece) c.loop-piece.from c.args.bytes
+      did = writes_next g.B.Block.contents g.B.Block.layers g.B.Block.fault_count g.B.Block.size c.args.dev (pieces_of (piece_with c.args.volume.now.volume.merge c.args.volume.now.volume.snaps) (span_of c.args.range)) c.loop-piece.piece-iterator c.next.new.self (span_of c.in-Some.piece) c.loop-piece.from c.args.bytes.now
           (take (c.loop-piece.from + c.in-Some.piece.count * 512 - c.loop-piece.from) (drop c.loop-piece.from c.loop-piece.bytes)) c.in-Ok.ensures.written.0
-          c.args.volume.now.volume c.loop-piece.volume.volume c.write_piece_among.new.volume.volume c.args.ended.now.items c.loop-piece.ended.items c.write_piece_among.new.ended.items c.loop-piece.invariant.did c.in-Some.ensures.steps (left_part c.loop-piece.from (c.loop-piece.from + c.in-Some.piece.count * 512) c.loop-piece.bytes c.args.bytes c.loop-piece.invariant.same) c.in-Ok.ensures.written.1;
+          c.args.volume.now.volume c.loop-piece.volume.volume c.write_piece_among.new.volume.volume c.args.ended.now.items c.loop-piece.ended.items c.write_piece_among.new.ended.items c.loop-piece.invariant.did c.in-Some.ensures.steps (left_part c.loop-piece.from (c.loop-piece.from + c.in-Some.piece.count * 512) c.loop-piece.bytes c.args.bytes.now c.loop-piece.invariant.same) c.in-Ok.ensures.written.1;
       taken = takes_then _ _ _ c.loop-piece.invariant.taken c.in-Ok.ensures.taken;
     }
 
 pub returns-clause-written : goal.returns-clause-written
 returns-clause-written g c =
-    writes_end g.B.Block.contents g.B.Block.layers g.B.Block.fault_count g.B.Block.size c.args.dev (pieces_of (piece_with c.args.volume.now.volume.merge c.args.volume.now.volume.snaps) (span_of c.args.range)) c.loop-piece.piece-iterator c.loop-piece.from c.args.bytes c.args.volume.now.volume c.loop-piece.volume.volume c.args.ended.now.items c.loop-piece.ended.items
+    writes_end g.B.Block.contents g.B.Block.layers g.B.Block.fault_count g.B.Block.size c.args.dev (pieces_of (piece_with c.args.volume.now.volume.merge c.args.volume.now.volume.snaps) (span_of c.args.range)) c.loop-piece.piece-iterator c.loop-piece.from c.args.bytes.now c.args.volume.now.volume c.loop-piece.volume.volume c.args.ended.now.items c.loop-piece.ended.items
     c.loop-piece.invariant.did c.in-None.ensures.steps.0
 
 pub returns-clause-kept : goal.returns-clause-kept

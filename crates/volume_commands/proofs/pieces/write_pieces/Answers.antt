@@ -29,9 +29,9 @@ loop-piece-init g c = record {
       (stands_first c.piece.result (span_of c.args.range) _ _ c.pieces-piece-items.ensures.cut c.into_iter-piece-iterator.ensures.into_iter_gives);
   same = refl;
   so = goes_none g.B.Block.contents g.B.Block.layers g.B.Block.size c.args.volume.now.volume c.requires.between;
-  did = writes_none c.args.dev _ (pieces_of (piece_with c.args.volume.now.volume.merge c.args.volume.now.volume.snaps) (span_of c.args.range)) c.into_iter-piece-iterator.result c.args.bytes (merged_of g.B.Block.contents g.B.Block.layers (rested_of c.args.volume.now.volume))
+  did = writes_none c.args.dev _ (pieces_of (piece_with c.args.volume.now.volume.merge c.args.volume.now.volume.snaps) (span_of c.args.range)) c.into_iter-piece-iterator.result c.args.bytes.now (merged_of g.B.Block.contents g.B.Block.layers (rested_of c.args.volume.now.volume))
       (c.into_iter-piece-iterator.ensures.into_iter_gives ∙ c.pieces-piece-items.ensures.pieces ∙ ap (λ n. pieces_of n (span_of c.args.range)) c.piece.ensures.piece);
-  met = wrote_start g.B.Block.contents g.B.Block.layers g.B.Block.fault_count g.B.Block.size c.args.dev (pieces_of (piece_with c.args.volume.now.volume.merge c.args.volume.now.volume.snaps) (span_of c.args.range)) c.into_iter-piece-iterator.result c.args.bytes c.args.volume.now.volume
+  met = wrote_start g.B.Block.contents g.B.Block.layers g.B.Block.fault_count g.B.Block.size c.args.dev (pieces_of (piece_with c.args.volume.now.volume.merge c.args.volume.now.volume.snaps) (span_of c.args.range)) c.into_iter-piece-iterator.result c.args.bytes.now c.args.volume.now.volume
       (c.into_iter-piece-iterator.ensures.into_iter_gives ∙ c.pieces-piece-items.ensures.pieces ∙ ap (λ n. pieces_of n (span_of c.args.range)) c.piece.ensures.piece);
   taken = takes_none _;
 }
@@ -49,7 +49,7 @@ write_piece-requires-clause-inside g c =
     let bytes = is.bytes in
     let some = is.some in
     let room = c.requires.room in
-    left_inside c.loop-piece.from (c.loop-piece.from + c.in-Some.piece.count * 512) c.loop-piece.bytes c.args.bytes c.loop-piece.invariant.same (omega arith) (omega arith)
+    left_inside c.loop-piece.from (c.loop-piece.from + c.in-Some.piece.count * 512) c.loop-piece.bytes c.args.bytes.now c.loop-piece.invariant.same (omega arith) (omega arith)
 
 pub write_piece-requires-clause-between : goal.write_piece-requires-clause-between
 write_piece-requires-clause-between g c = c.loop-piece.invariant.so.between
@@ -60,16 +60,16 @@ write_piece-requires-clause-can g c =
     let bytes = is.bytes in
     let chunk = chunks_by c.args.volume.now.volume c.piece.result c.piece.ensures.piece c.piece.ensures.within c.piece.ensures.allowed in
     subst (λ (part : List ℕ). CanServe g.B.Block.size c.args.dev (Write part) c.in-Some.piece c.loop-piece.volume.volume)
-    (sym (left_part c.loop-piece.from (c.loop-piece.from + c.in-Some.piece.count * 512) c.loop-piece.bytes c.args.bytes c.loop-piece.invariant.same))
-    (goes_can g.B.Block.contents g.B.Block.layers g.B.Block.size c.args.dev (Write (take (c.loop-piece.from + c.in-Some.piece.count * 512 - c.loop-piece.from) (drop c.loop-piece.from c.args.bytes))) c.args.range c.in-Some.piece c.loop-piece.from
+    (sym (left_part c.loop-piece.from (c.loop-piece.from + c.in-Some.piece.count * 512) c.loop-piece.bytes c.args.bytes.now c.loop-piece.invariant.same))
+    (goes_can g.B.Block.contents g.B.Block.layers g.B.Block.size c.args.dev (Write (take (c.loop-piece.from + c.in-Some.piece.count * 512 - c.loop-piece.from) (drop c.loop-piece.from c.args.bytes.now))) c.args.range c.in-Some.piece c.loop-piece.from
     c.args.volume.now.volume c.loop-piece.volume.volume c.requires.can c.loop-piece.invariant.so chunk.1 chunk.0 is
-    (part_fits c.loop-piece.from c.in-Some.piece.count c.args.range.count c.args.bytes c.requires.room (omega arith)))
+    (part_fits c.loop-piece.from c.in-Some.piece.count c.args.range.count c.args.bytes.now c.requires.room (omega arith)))
 
 pub returns-in-Err-clause-refused : goal.returns-in-Err-clause-refused
 returns-in-Err-clause-refused g c =
-    wrote_refused g.B.Block.contents g.B.Block.layers g.B.Block.size c.args.dev c.args.range (piece_with c.args.volume.now.volume.merge c.args.volume.now.volume.snaps) c.args.bytes c.loop-piece.from c.loop-piece.piece-iterator c.next.new.self c.in-Some.piece
+    wrote_refused g.B.Block.contents g.B.Block.layers g.B.Block.size c.args.dev c.args.range (piece_with c.args.volume.now.volume.merge c.args.volume.now.volume.snaps) c.args.bytes.now c.loop-piece.from c.loop-piece.piece-iterator c.next.new.self c.in-Some.piece
     c.args.volume.now.volume c.loop-piece.volume.volume c.write_piece.new.volume.volume c.loop-piece.invariant.did c.in-Some.ensures.steps c.loop-piece.invariant.so.settled
-    (take (c.loop-piece.from + c.in-Some.piece.count * 512 - c.loop-piece.from) (drop c.loop-piece.from c.loop-piece.bytes)) c.in-Err.refusal (left_part c.loop-piece.from (c.loop-piece.from + c.in-Some.piece.count * 512) c.loop-piece.bytes c.args.bytes c.loop-piece.invariant.same ∙ part_is c.loop-piece.from c.in-Some.piece.count c.args.bytes)
+    (take (c.loop-piece.from + c.in-Some.piece.count * 512 - c.loop-piece.from) (drop c.loop-piece.from c.loop-piece.bytes)) c.in-Err.refusal (left_part c.loop-piece.from (c.loop-piece.from + c.in-Some.piece.count * 512) c.loop-piece.bytes c.args.bytes.now c.loop-piece.invariant.same ∙ part_is c.loop-piece.from c.in-Some.piece.count c.args.bytes.now)
     c.requires.can.there (chunk_least g.B.Block.contents g.B.Block.layers c.args.volume.now.volume) c.in-Err.ensures.refused
 
 pub returns-in-Err-clause-settled : goal.returns-in-Err-clause-settled
@@ -96,15 +96,15 @@ loop-piece-preserved g c =
       can = tt;
       finite = tt;
       stands = stands_next _ _ _ _ _ _ _ c.loop-piece.invariant.stands c.in-Some.ensures.steps;
-      same = left_behind c.loop-piece.from (c.in-Some.piece.count * 512) c.loop-piece.bytes c.args.bytes c.write_piece.new.bytes c.loop-piece.invariant.same c.write_piece.ensures.left;
+      same = left_behind c.loop-piece.from (c.in-Some.piece.count * 512) c.loop-piece.bytes c.args.bytes.now c.write_piece.new.bytes c.loop-piece.invariant.same c.write_piece.ensures.left;
       so = goes_more g.B.Block.contents g.B.Block.layers g.B.Block.size c.loop-piece.from c.in-Some.piece.count c.args.volume.now.volume c.loop-piece.volume.volume c.write_piece.new.volume.volume c.loop-piece.invariant.so
           c.in-Ok.ensures.between c.in-Ok.ensures.kept c.in-Ok.ensures.settled c.in-Ok.ensures.piece c.in-Ok.ensures.requests is.some;
-      did = wrote_more g.B.Block.contents g.B.Block.layers g.B.Block.size c.args.dev c.args.range (piece_with c.args.volume.now.volume.merge c.args.volume.now.volume.snaps) c.args.bytes c.loop-piece.from c.loop-piece.piece-iterator c.next.new.self c.in-Some.piece
+      did = wrote_more g.B.Block.contents g.B.Block.layers g.B.Block.size c.args.dev c.args.range (piece_with c.args.volume.now.volume.merge c.args.volume.now.volume.snaps) c.args.bytes.now c.loop-piece.from c.loop-piece.piece-iterator c.next.new.self c.in-Some.piece
           c.args.volume.now.volume c.loop-piece.volume.volume c.write_piece.new.volume.volume c.loop-piece.invariant.did c.in-Some.ensures.steps c.loop-piece.invariant.so.settled
-          (take (c.loop-piece.from + c.in-Some.piece.count * 512 - c.loop-piece.from) (drop c.loop-piece.from c.loop-piece.bytes)) (left_part c.loop-piece.from (c.loop-piece.from + c.in-Some.piece.count * 512) c.loop-piece.bytes c.args.bytes c.loop-piece.invariant.same ∙ part_is c.loop-piece.from c.in-Some.piece.count c.args.bytes) c.in-Ok.ensures.done;
-      met = wrote_next g.B.Block.contents g.B.Block.layers g.B.Block.fault_count g.B.Block.size c.args.dev (pieces_of (piece_with c.args.volume.now.volume.merge c.args.volume.now.volume.snaps) (span_of c.args.range)) c.loop-piece.piece-iterator c.next.new.self (span_of c.in-Some.piece) c.loop-piece.from c.args.bytes
+          (take (c.loop-piece.from + c.in-Some.piece.count * 512 - c.loop-piece.from) (drop c.loop-piece.from c.loop-piece.bytes)) (left_part c.loop-piece.from (c.loop-piece.from + c.in-Some.piece.count * 512) c.loop-piece.bytes c.args.bytes.now c.loop-piece.invariant.same ∙ part_is c.loop-piece.from c.in-Some.piece.count c.args.bytes.now) c.in-Ok.ensures.done;
+      met = wrote_next g.B.Block.contents g.B.Block.layers g.B.Block.fault_count g.B.Block.size c.args.dev (pieces_of (piece_with c.args.volume.now.volume.merge c.args.volume.now.volume.snaps) (span_of c.args.range)) c.loop-piece.piece-iterator c.next.new.self (span_of c.in-Some.piece) c.loop-piece.from c.args.bytes.now
           (take (c.loop-piece.from + c.in-Some.piece.count * 512 - c.loop-piece.from) (drop c.loop-piece.from c.loop-piece.bytes)) c.in-Ok.ensures.answered.0
-          c.args.volume.now.volume c.loop-piece.volume.volume c.write_piece.new.volume.volume c.loop-piece.invariant.met c.in-Some.ensures.steps (left_part c.loop-piece.from (c.loop-piece.from + c.in-Some.piece.count * 512) c.loop-piece.bytes c.args.bytes c.loop-piece.invariant.same) c.in-Ok.ensures.answered.1;
+          c.args.volume.now.volume c.loop-piece.volume.volume c.write_piece.new.volume.volume c.loop-piece.invariant.met c.in-Some.ensures.steps (left_part c.loop-piece.from (c.loop-piece.from + c.in-Some.piece.count * 512) c.loop-piece.bytes c.args.bytes.now c.loop-piece.invariant.same) c.in-Ok.ensures.answered.1;
       taken = takes_then _ _ _ c.loop-piece.invariant.taken c.in-Ok.ensures.taken;
     }
 
@@ -113,7 +113,7 @@ returns-clause-between g c = c.loop-piece.invariant.so.between
 
 pub returns-clause-done : goal.returns-clause-done
 returns-clause-done g c =
-    wrote_all g.B.Block.contents g.B.Block.layers g.B.Block.size c.args.dev c.args.range (piece_with c.args.volume.now.volume.merge c.args.volume.now.volume.snaps) c.args.bytes c.loop-piece.from c.loop-piece.piece-iterator c.loop-piece.piece-iterator c.args.range
+    wrote_all g.B.Block.contents g.B.Block.layers g.B.Block.size c.args.dev c.args.range (piece_with c.args.volume.now.volume.merge c.args.volume.now.volume.snaps) c.args.bytes.now c.loop-piece.from c.loop-piece.piece-iterator c.loop-piece.piece-iterator c.args.range
     c.args.volume.now.volume c.loop-piece.volume.volume c.loop-piece.volume.volume c.loop-piece.invariant.did c.in-None.ensures.steps.0 (chunk_least g.B.Block.contents g.B.Block.layers c.args.volume.now.volume)
 
 pub returns-clause-settled : goal.returns-clause-settled
@@ -133,7 +133,7 @@ returns-clause-shows g c = λ settled.
     let loud = loud_in_all g.B.Block.contents g.B.Block.layers g.B.Block.size c.args.volume.now.volume settled in
     let quiet = c.is_quiet.ensures.value ∙ c.requires.between.quiet in
     let size = piece_with c.args.volume.now.volume.merge c.args.volume.now.volume.snaps in
-    plain_write g.B.Block.contents g.B.Block.layers g.B.Block.size c.args.dev c.args.range size c.args.bytes c.args.volume.now.volume c.loop-piece.volume.volume chunk.1 c.requires.can.some c.requires.can.inside c.requires.room chunk.0
+    plain_write g.B.Block.contents g.B.Block.layers g.B.Block.size c.args.dev c.args.range size c.args.bytes.now c.args.volume.now.volume c.loop-piece.volume.volume chunk.1 c.requires.can.some c.requires.can.inside c.requires.room chunk.0
     (chunk_least g.B.Block.contents g.B.Block.layers c.args.volume.now.volume) refl (c.is_quiet.ensures.between quiet loud None) (c.is_quiet.ensures.under quiet loud None) (returns-clause-done g c) settled
 
 pub returns-in-Err-clause-loses : goal.returns-in-Err-clause-loses
@@ -142,18 +142,18 @@ returns-in-Err-clause-loses g c = λ settled.
     let loud = loud_in_all g.B.Block.contents g.B.Block.layers g.B.Block.size c.args.volume.now.volume settled in
     let quiet = c.is_quiet.ensures.value ∙ c.requires.between.quiet in
     let size = piece_with c.args.volume.now.volume.merge c.args.volume.now.volume.snaps in
-    plain_write_lost g.B.Block.contents g.B.Block.layers g.B.Block.size c.args.dev c.args.range size c.args.bytes c.args.volume.now.volume c.write_piece.new.volume.volume chunk.1 c.requires.can.some c.requires.can.inside c.requires.room chunk.0
+    plain_write_lost g.B.Block.contents g.B.Block.layers g.B.Block.size c.args.dev c.args.range size c.args.bytes.now c.args.volume.now.volume c.write_piece.new.volume.volume chunk.1 c.requires.can.some c.requires.can.inside c.requires.room chunk.0
     (chunk_least g.B.Block.contents g.B.Block.layers c.args.volume.now.volume) refl (c.is_quiet.ensures.between quiet loud None) (c.is_quiet.ensures.under quiet loud None) c.in-Err.refusal (returns-in-Err-clause-refused g c) settled
 
 pub returns-in-Err-clause-undone : goal.returns-in-Err-clause-undone
 returns-in-Err-clause-undone g c =
-    wrote_stop g.B.Block.contents g.B.Block.layers g.B.Block.fault_count g.B.Block.size c.args.dev (pieces_of (piece_with c.args.volume.now.volume.merge c.args.volume.now.volume.snaps) (span_of c.args.range)) c.loop-piece.piece-iterator c.next.new.self (span_of c.in-Some.piece) c.loop-piece.from c.args.bytes
+    wrote_stop g.B.Block.contents g.B.Block.layers g.B.Block.fault_count g.B.Block.size c.args.dev (pieces_of (piece_with c.args.volume.now.volume.merge c.args.volume.now.volume.snaps) (span_of c.args.range)) c.loop-piece.piece-iterator c.next.new.self (span_of c.in-Some.piece) c.loop-piece.from c.args.bytes.now
     (take (c.loop-piece.from + c.in-Some.piece.count * 512 - c.loop-piece.from) (drop c.loop-piece.from c.loop-piece.bytes)) c.in-Err.refusal
-    c.args.volume.now.volume c.loop-piece.volume.volume c.write_piece.new.volume.volume c.loop-piece.invariant.met c.in-Some.ensures.steps (left_part c.loop-piece.from (c.loop-piece.from + c.in-Some.piece.count * 512) c.loop-piece.bytes c.args.bytes c.loop-piece.invariant.same) c.in-Err.ensures.undone
+    c.args.volume.now.volume c.loop-piece.volume.volume c.write_piece.new.volume.volume c.loop-piece.invariant.met c.in-Some.ensures.steps (left_part c.loop-piece.from (c.loop-piece.from + c.in-Some.piece.count * 512) c.loop-piece.bytes c.args.bytes.now c.loop-piece.invariant.same) c.in-Err.ensures.undone
 
 pub returns-clause-answered : goal.returns-clause-answered
 returns-clause-answered g c =
-    wrote_end g.B.Block.contents g.B.Block.layers g.B.Block.fault_count g.B.Block.size c.args.dev (pieces_of (piece_with c.args.volume.now.volume.merge c.args.volume.now.volume.snaps) (span_of c.args.range)) c.loop-piece.piece-iterator c.loop-piece.from c.args.bytes c.args.volume.now.volume c.loop-piece.volume.volume c.loop-piece.invariant.met c.in-None.ensures.steps.0
+    wrote_end g.B.Block.contents g.B.Block.layers g.B.Block.fault_count g.B.Block.size c.args.dev (pieces_of (piece_with c.args.volume.now.volume.merge c.args.volume.now.volume.snaps) (span_of c.args.range)) c.loop-piece.piece-iterator c.loop-piece.from c.args.bytes.now c.args.volume.now.volume c.loop-piece.volume.volume c.loop-piece.invariant.met c.in-None.ensures.steps.0
 
 pub returns-in-Err-clause-taken : goal.returns-in-Err-clause-taken
 returns-in-Err-clause-taken g c = takes_then _ _ _ c.loop-piece.invariant.taken c.in-Err.ensures.taken

@@ -1,41 +1,33 @@
-use Rattle.std.proofs.Common.{◌≡◌, inl, inr, ◌+◌, ◌*◌, ◌≤◌, ◌∙◌, List, ℕ, length, ap, subst, arith, rules}
+use Rattle.std.proofs.Common.{inl, inr, ◌+◌, ◌*◌, ◌≤◌, ◌∙◌, length, get_or, ap, sym, arith}
 use Rattle.sector.specs.Bytes.{sector_at, with_sectors}
-use Rattle.sector.proofs.Sectors.{kept_or_written, written_back}
-use Rattle.device.specs.Marks.{flushed_at}
-use Rattle.device.specs.Listed.{listed}
-use Rattle.device.proofs.Flushed.{fresh_zero, long_back, write_flushed, write_fresh}
+use Rattle.sector.proofs.Sectors.{byte_outside, kept_or_written}
+use Rattle.device.specs.Disk.{contents_are, disk_contents}
+use Rattle.device.specs.Laws.{disk_whole}
 use Rattle.device.proofs.mem_disk.MemDiskBlock.write.Goals as goal
 
-pub keep-requires-clause-fresh : goal.keep-requires-clause-fresh
-keep-requires-clause-fresh c t at = ap (λ b. sector_at b t) c.deref.ensures.value ∙ fresh_zero c.args.self.now.present.items c.args.self.now.undo.marks.items (omega (arith, c.args.self.now.whole, c.args.self.now.marked)) c.args.self.now.fresh t at
+pub returns-clause-passed : goal.returns-clause-passed
+returns-clause-passed c passes =
+    contents_are _ ∙ sym (contents_are c.write_or_wait.new.self) ∙ c.write_or_wait.ensures.contents ∙ ap (λ b. with_sectors b c.args.range.first c.args.bytes.now) c.write_late.ensures.now
 
-pub invariant_of-self-clause-whole : goal.invariant_of-self-clause-whole
-invariant_of-self-clause-whole c = long_back _ _ c.write_sectors.new.all c.args.self.now.present.items (search rules) (search rules)
+pub returns-clause-written : goal.returns-clause-written
+returns-clause-written c loud =
+    contents_are _ ∙ sym (contents_are c.write_or_wait.new.self) ∙ c.write_or_wait.ensures.contents ∙ ap (λ b. with_sectors b c.args.range.first c.args.bytes.now) c.write_late.ensures.now
 
-pub invariant_of-self-clause-fresh : goal.invariant_of-self-clause-fresh
-invariant_of-self-clause-fresh c = write_fresh c.args.self.now.present.items _ c.args.bytes.now c.args.range.first c.args.range.count c.args.self.now.undo.marks.items c.keep.new.self.marks.items
-    (written_back _ _ _ (search rules) ∙ c.write_sectors.ensures.all ∙ ap (λ x. with_sectors x c.args.range.first c.args.bytes.now) c.deref_mut.ensures.value)
-    c.requires.room
-    (omega (arith, c.requires.inside, c.args.self.now.whole))
-    c.keep.ensures.kept
-    c.keep.ensures.others
-    c.args.self.now.fresh
-
-pub returns-clause-durable : goal.returns-clause-durable
-returns-clause-durable c = write_flushed c.args.self.now.present.items _ c.args.bytes.now (listed c.args.self.now.undo.kept.items) c.args.self.now.undo.aside.items (listed c.keep.new.self.kept.items) c.keep.new.self.aside.items c.args.range.first c.args.range.count c.args.self.now.undo.marks.items c.keep.new.self.marks.items
-    c.keep.ensures.len
-    (written_back _ _ _ (search rules) ∙ c.write_sectors.ensures.all ∙ ap (λ x. with_sectors x c.args.range.first c.args.bytes.now) c.deref_mut.ensures.value)
-    c.requires.room
-    (omega (arith, c.requires.inside, c.args.self.now.whole))
-    c.keep.ensures.kept
-    (λ t. subst (λ (b : List ℕ). flushed_at b (listed c.keep.new.self.kept.items) c.keep.new.self.aside.items c.keep.new.self.marks.items t ≡ flushed_at b (listed c.args.self.now.undo.kept.items) c.args.self.now.undo.aside.items c.args.self.now.undo.marks.items t) c.deref.ensures.value (c.keep.ensures.flushed t))
+pub returns-clause-rest : goal.returns-clause-rest
+returns-clause-rest c i (inl below) =
+    let fits : 512 * c.args.range.first + length c.args.bytes.now ≤ length (disk_contents c.args.self.now) = omega (arith, disk_whole c.args.self.now, c.requires.inside, c.requires.room) in
+    ap (λ b. get_or b i 0) (contents_are _ ∙ sym (contents_are c.write_or_wait.new.self) ∙ c.write_or_wait.ensures.contents ∙ ap (λ b. with_sectors b c.args.range.first c.args.bytes.now) c.write_late.ensures.now)
+    ∙ byte_outside (disk_contents c.args.self.now) c.args.range.first c.args.bytes.now i fits (inl below)
+returns-clause-rest c i (inr past) =
+    let fits : 512 * c.args.range.first + length c.args.bytes.now ≤ length (disk_contents c.args.self.now) = omega (arith, disk_whole c.args.self.now, c.requires.inside, c.requires.room) in
+    ap (λ b. get_or b i 0) (contents_are _ ∙ sym (contents_are c.write_or_wait.new.self) ∙ c.write_or_wait.ensures.contents ∙ ap (λ b. with_sectors b c.args.range.first c.args.bytes.now) c.write_late.ensures.now)
+    ∙ byte_outside (disk_contents c.args.self.now) c.args.range.first c.args.bytes.now i fits (inr (omega (arith, c.requires.room)))
 
 pub returns-clause-stop : goal.returns-clause-stop
 returns-clause-stop c s v (inl now) =
-    let fits : 512 * c.args.range.first + length c.args.bytes.now ≤ length c.args.self.now.present.items = omega (arith, c.args.self.now.whole, c.requires.inside, c.requires.room) in
-    let is : c.write_sectors.new.all ≡ with_sectors c.args.self.now.present.items c.args.range.first c.args.bytes.now = c.write_sectors.ensures.all ∙ ap (λ x. with_sectors x c.args.range.first c.args.bytes.now) c.deref_mut.ensures.value in
-    elim (kept_or_written _ _ _ c.args.range.count _ s v (written_back _ _ _ (search rules) ∙ is) fits c.requires.room now) [
+    let fits : 512 * c.args.range.first + length c.args.bytes.now ≤ length (disk_contents c.args.self.now) = omega (arith, disk_whole c.args.self.now, c.requires.inside, c.requires.room) in
+    elim (kept_or_written _ (disk_contents c.args.self.now) c.args.range.first c.args.range.count c.args.bytes.now s v (contents_are _ ∙ sym (contents_are c.write_or_wait.new.self) ∙ c.write_or_wait.ensures.contents ∙ ap (λ b. with_sectors b c.args.range.first c.args.bytes.now) c.write_late.ensures.now) fits c.requires.room now) [
       | inl same ↦ inl (inl same)
       | inr written ↦ inr written
     ]
-returns-clause-stop c s v (inr kept) = inl (inr (kept ∙ ap (λ b. sector_at b s) (returns-clause-durable c)))
+returns-clause-stop c s v (inr kept) = inl (inr (kept ∙ ap (λ b. sector_at b s) (c.write_or_wait.ensures.durable ∙ c.write_late.ensures.durable)))

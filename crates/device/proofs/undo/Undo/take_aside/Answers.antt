@@ -18,7 +18,7 @@ list-requires-clause-room c =
 
 pub invariant_of-self-clause-whole : goal.invariant_of-self-clause-whole
 invariant_of-self-clause-whole c =
-    let g : length c.append.new.aside.items ≡ 512 * length (listed c.list.new.spans.items) = omega (arith, ap length c.append.ensures.items, length-append c.args.self.now.aside.items c.args.values.now, c.requires.whole, c.args.self.now.whole, ap length c.list.ensures.listed, length-append (listed c.args.self.now.kept.items) (range_with_len c.args.first c.args.count), length-range_with_len c.args.first c.args.count) in g
+    let g : length c.append.new.all.items ≡ 512 * length (listed c.list.new.spans.items) = omega (arith, ap length c.append.ensures.items, length-append c.args.self.now.aside.items c.args.values.now, c.requires.whole, c.args.self.now.whole, ap length c.list.ensures.listed, length-append (listed c.args.self.now.kept.items) (range_with_len c.args.first c.args.count), length-range_with_len c.args.first c.args.count) in g
 
 pub invariant_of-self-clause-are_zeroed : goal.invariant_of-self-clause-are_zeroed
 invariant_of-self-clause-are_zeroed c = zeroed_beside c.args.self.now.marks.items c.mark_all.new.marks.items (listed c.args.self.now.zeroed.items) c.args.first c.args.count c.mark_all.ensures.len c.mark_all.ensures.set c.mark_all.ensures.others c.args.self.now.are_zeroed
