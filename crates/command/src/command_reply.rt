@@ -50,13 +50,13 @@ pub(crate) fn write_refusal<W: Write>(writer: &mut W, refusal: Refusal) -> io::R
 }
 
 /// Puts the line of a text that was asked for at the end of a room, and tells where it begins.
-fn put_said(room: &mut [u8; LINE_ROOM], text: &[u8]) -> usize
+fn put_said(room: &mut [u8; LINE_ROOM], text: &Text) -> usize
     requires { length text.now ≤ 92 }
     ensures within { result < 96 }
     ensures line { drop result room.new ≡ codes "ok " ++ text.now ++ codes "\n" }
 {
     let end = put(room, LINE_ROOM, b"\n");
-    let end = put(room, end, text);
+    let end = text.put(room, end);
     put(room, end, b"ok ")
 }
 
@@ -109,7 +109,7 @@ impl CommandReply {
             }
             CommandReply::Said(text) => {
                 if text.len() <= LINE_ROOM - 4 {
-                    put_said(room, text.as_slice())
+                    put_said(room, text)
                 } else {
                     LINE_ROOM
                 }

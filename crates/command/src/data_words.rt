@@ -95,7 +95,7 @@ fn push_run(out: &mut Vec<u8>, run: DataRun) -> Result<(), AllocError>
     Ok(())
 }
 
-/// The bytes that the runs of a text say, `size` of them, in a vector that is given and the place of what it holds.
+/// The bytes that the runs of a text say, `size` of them, in a vector that is given, in the place of what it holds.
 #[tactic(auto, using(crate::proofs::Cut::one_data, crate::proofs::Cut::none_data))]
 fn data_in(mut out: Vec<u8>, text: &[u8], size: usize) -> Result<Vec<u8>, AllocError>
     requires { length text.now ≤ 65536 }
@@ -192,5 +192,7 @@ pub fn payload(alloc: Global, room: &mut Vec<u8>, text: &[u8]) -> Result<Buf, Re
     if let Some(word) = only_word(text) {
         return even_payload(alloc, word);
     }
-    uneven_payload(alloc, room, text)
+    // Taken and given again: a result in whose place a call out of line answers is kept in memory, also above.
+    let bytes = uneven_payload(alloc, room, text)?;
+    Ok(bytes)
 }

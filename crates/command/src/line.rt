@@ -169,5 +169,7 @@ pub fn said(
     if let Some(rest) = after_status(line) {
         return status_said(rest);
     }
-    any_said(alloc, line)
+    // Taken and given again: a result in whose place a call out of line answers is kept in memory, also above.
+    let said = any_said(alloc, line)?;
+    Ok(said)
 }

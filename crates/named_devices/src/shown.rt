@@ -16,6 +16,7 @@ use std::alloc::Global;
 use words::{Name, Text};
 
 /// The status line of a device of a volume.
+#[inline(always)]
 #[tactic(auto, unfolding(command_rules::specs::Status::status_at))]
 fn status_at(alloc: Global, held: &Devices, v: usize, role: Role) -> Result<Text, Refusal>
     requires { IsPlaceIn (In v role) (table_of held.now) }
@@ -29,6 +30,7 @@ fn status_at(alloc: Global, held: &Devices, v: usize, role: Role) -> Result<Text
 
 /// `status DEV`: the status line of an origin or of a snapshot, whatever is in flight. In this order: `NoSuchDevice` for a
 /// name that no device has, `BadTable` for a disk or a layer, `NoMemory` where the allocator refuses the bytes.
+#[inline(always)]
 #[tactic(auto, unfolding(command_rules::specs::Status::status_text, command_rules::specs::Status::status_at))]
 pub fn status_text(alloc: Global, held: &Devices, name: &Name) -> Result<Text, Refusal>
     ensures done { is_sound_in (volume_for name.now (table_of held.now)) ≡ true → Gives result (status_text name.now (table_of held.now)) }

@@ -184,6 +184,7 @@ impl NamedVolume {
 
     /// The status line of a device of this role. Where something is in flight, that of a snapshot is by what is in memory of
     /// it. In this order: `BadTable` for disks and layers, `NoMemory` where the allocator refuses room.
+    #[inline(never)]
     #[tactic(auto, unfolding(command_rules::specs::Status::status_in, crate::specs::Status::status_flying))]
     pub fn status(&self, alloc: Global, role: Role) -> Result<Text, Refusal>
         requires { IsRoleIn role self.now }

@@ -1,6 +1,6 @@
 -- One line of a desk.
 use Rattle.std.proofs.Common.{◌≡◌, ℕ, List, [], ◌∷◌, Option, Some, refl, sym, ap, ◌∙◌, inl, inr, subst, arith, true, false, ◌<◌, ◌^◌, length}
-use Rattle.std.specs.Prelude.{Bool, Ok, Err, IfSome}
+use Rattle.std.specs.Prelude.{Bool, Result, Ok, Err, IfSome}
 use Rattle.std.proofs.lemmas.Bool.{cases_Bool}
 use Rattle.sector.specs.declared.refusal.Refusal.{Refusal}
 use Rattle.command.specs.declared.command_reply.CommandReply.{CommandReply}
@@ -17,7 +17,7 @@ use Rattle.runner.specs.Wants.{enters_line}
 use Rattle.runner.specs.Starts.{AreStartReplies, starts_line}
 use Rattle.runner.specs.Counts.{with_lines}
 use Rattle.runner.specs.Ended.{line_replies}
-use Rattle.runner.specs.Output.{LineOutcome, Standing, answered, counted, empty, outcome, outcome_of, IsStarved, MayBe, followed}
+use Rattle.runner.specs.Output.{LineOutcome, Standing, answered, counted, empty, outcome, outcome_of, IsStarved, MayBe, followed, told}
 use Rattle.runner.specs.Done.{IsLineDone, IsToldFor}
 use Rattle.runner.specs.Ruled.{is_ruled_line}
 use Rattle.runner.specs.Shown.{IsLineShown}
@@ -54,6 +54,11 @@ may_err line old new e is = by (enters_line line) refl is
       | inl memory ↦ inr (inl (ap (λ r. Refused r ∷ []) memory, is.1 memory))
       | inr other ↦ inl (sym (ap outcome (is.0 other)))
     ]
+
+-- and so what is told of either
+pub may_told : (line : List ℕ) (old new : Table) (answer : Result (Option CommandReply) Refusal) → ServesIf (enters_line line) answer new (IsStarved line old) (answer_of line old) → MayBe line old (record { replies = told answer; table = new })
+may_told line old new (Ok reply) is = may_ok line old new reply is
+may_told line old new (Err e) is = may_err line old new e is
 
 -- what a line answers where no request ended in it
 none_ended : (P : List CommandReply → Type 0) (ended : List Replied) (own : Option CommandReply) → ended ≡ [] → P (answered own) → P (line_replies ended own)

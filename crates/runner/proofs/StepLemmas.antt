@@ -1,6 +1,6 @@
 -- What a line does beside what its command does.
 use Rattle.std.proofs.Common.{◌≡◌, ◌≢◌, ℕ, true, false, List, Option, Some, None, refl, sym, ap, ◌∙◌, inl, subst}
-use Rattle.std.specs.Prelude.{Bool, MatchResult, Result, Ok, Err}
+use Rattle.std.specs.Prelude.{Bool, IfOk, MatchResult, Result, Ok, Err, is_some}
 use Rattle.sector.specs.declared.refusal.Refusal.{Refusal}
 use Rattle.sector.specs.declared.refusal.Refusal.TheVariants.{NoMemory}
 use Rattle.layers.specs.declared.message.Message.{Message}
@@ -18,9 +18,15 @@ use Rattle.settled.proofs.Starved.{other_memory}
 use Rattle.runner.specs.Steps.{reworded, told_as, step, obeyed, answer_of}
 use Rattle.runner.specs.Sound.{is_sound_command, is_sound_said, is_sound_line}
 use Rattle.runner.specs.Starts.{starts, starts_said, starts_line}
-use Rattle.runner.specs.Output.{IsPartDone, IsPartSaid, IsStarved}
+use Rattle.runner.specs.Output.{IsPartDone, IsPartSaid, IsStarved, placed, replied}
 use Rattle.runner.specs.Wants.{enters, enters_said, enters_line}
 use Rattle.runner.proofs.Quiet.{tell_quiet}
+
+-- what stands in the place of a command's answer stands in that of its line's
+pub placed_is : (call : Result (Unit {0}) Refusal) (own : Option CommandReply) → IfOk call (λ _. is_some own ≡ true) → placed call own ≡ reworded Some (replied call own)
+placed_is (Ok _) (Some reply) some = refl
+placed_is (Ok _) None some = absurd cc
+placed_is (Err e) own some = refl
 
 -- a message that was answered, and its answer put into words
 pub told_done : (call : Result CommandReply Refusal) (name : List ℕ) (message : Message) (old new : Table) (answer : Answer) → tell name message old ≡ Ok (answer, new) → MatchResult call (λ reply. reply ≡ reply_to answer) (λ e. (e ≡ NoMemory) × (answer ≢ Done)) → Does call new (λ t. t ≡ old) (told_as reply_to (kept old (tell name message old)))

@@ -9,7 +9,7 @@ use Rattle.command.specs.Line.{said_of}
 use Rattle.command.specs.declared.grammar.Command.{Command}
 use Rattle.command.specs.declared.grammar.Command.TheVariants as commands
 use Rattle.command.specs.declared.command_reply.CommandReply.{CommandReply}
-use Rattle.command.specs.declared.command_reply.CommandReply.TheVariants.{Refused}
+use Rattle.command.specs.declared.command_reply.CommandReply.TheVariants.{Done, Refused}
 use Rattle.command.specs.Texts.{text_of}
 use Rattle.command_rules.specs.State.{Table}
 use Rattle.command_rules.specs.Changes.{Did}
@@ -33,6 +33,17 @@ answered (Some reply) = reply ∷ []
 abbrev pub told : Result (Option CommandReply) Refusal → List CommandReply
 told (Ok reply) = answered reply
 told (Err refusal) = Refused refusal ∷ []
+
+-- a command is answered in a place, unless it is refused
+abbrev pub replied : Result (Unit {0}) Refusal → Option CommandReply → Result CommandReply Refusal
+replied (Ok _) (Some reply) = Ok reply
+replied (Ok _) None = Ok Done
+replied (Err refusal) own = Err refusal
+
+-- a line is, where it says something
+abbrev pub placed : Result (Unit {0}) Refusal → Option CommandReply → Result (Option CommandReply) Refusal
+placed (Ok _) own = Ok own
+placed (Err refusal) own = Err refusal
 
 -- a line that is refused may leave other devices all the same: those that failed were met
 abbrev pub outcome : Did (Option CommandReply) Table → LineOutcome

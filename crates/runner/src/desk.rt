@@ -1,5 +1,5 @@
 // Lines in, lines out.
-ghost use Rattle.std.specs.Prelude.{◌≡◌, [], ◌∷◌, true, MatchResult, IfErr, IfSome, OnOk, Option, Result};
+ghost use Rattle.std.specs.Prelude.{◌≡◌, [], ◌∷◌, true, None, MatchResult, IfErr, IfSome, OnOk, Option, Result};
 ghost use Rattle.std.specs.Io.KnownBytes.{Appends};
 ghost use Rattle.sector.specs.declared.refusal.Refusal.{Refusal as AnyRefusal};
 ghost use Rattle.sector.specs.declared.refusal.Refusal.TheVariants.{JournalFull};
@@ -54,7 +54,7 @@ impl Model for Desk {
     ghost invariant = { λ d. AreNamed (table_of d.held) };
 }
 
-/// Does what a line says, and gives what it prints: its answer, or its refusal. Requests that end in it go to the end of
+/// Does what a line says, and puts what it prints in its place: its answer, or its refusal. Requests that end in it go to the end of
 /// `ended`.
 #[inline(always)]
 fn outcome(
@@ -63,23 +63,23 @@ fn outcome(
     room: &mut Vec<u8>,
     line: &[u8],
     ended: &mut Vec<Replied>,
-) -> Option<CommandReply>
-    ensures done { is_ruled_line line.now (table_of held.old) ≡ true → MayBe line.now (table_of held.old) (record { replies = answered result; table = table_of held.new }) }
-    ensures shows { is_ruled_line line.now (table_of held.old) ≡ true → IsLineShown line.now (table_of held.old) (record { replies = answered result; table = table_of held.new }) }
-    ensures asks { IsFirst (line_first line.now (table_of held.old)) (answered result) }
-    ensures number { starts_line line.now ≡ true → AreStartReplies (answered result) }
+    own: &mut Option<CommandReply>,
+)
+    requires { own.old ≡ None }
+    ensures done { is_ruled_line line.now (table_of held.old) ≡ true → MayBe line.now (table_of held.old) (record { replies = answered own.new; table = table_of held.new }) }
+    ensures shows { is_ruled_line line.now (table_of held.old) ≡ true → IsLineShown line.now (table_of held.old) (record { replies = answered own.new; table = table_of held.new }) }
+    ensures asks { IsFirst (line_first line.now (table_of held.old)) (answered own.new) }
+    ensures number { starts_line line.now ≡ true → AreStartReplies (answered own.new) }
     ensures alone { starts_line line.now ≡ true → ended.new.items ≡ ended.old.items }
     ensures still { IfSome (line_first line.now (table_of held.old)) (λ _. (table_of held.new ≡ table_of held.old) × (ended.new.items ≡ ended.old.items)) }
     ensures told { is_ruled_line line.now (table_of held.old) ≡ true → ended.new.items ≡ ended.old.items }
-    ensures left { (own : Result (Option AnyReply) AnyRefusal) × (answered result ≡ told own) × IsLineLeft line.now own (table_of held.old) (table_of held.new) ended.old.items ended.new.items }
-    ensures full { answered result ≡ Refused JournalFull ∷ [] → IsAskedByLine line.now (table_of held.old) (table_of held.new) }
+    ensures left { (answer : Result (Option AnyReply) AnyRefusal) × (answered own.new ≡ told answer) × IsLineLeft line.now answer (table_of held.old) (table_of held.new) ended.old.items ended.new.items }
+    ensures full { answered own.new ≡ Refused JournalFull ∷ [] → IsAskedByLine line.now (table_of held.old) (table_of held.new) }
     ensures sound { is_sound (table_of held.old) ≡ true → is_sound_line line.now ≡ true → is_sound (table_of held.new) ≡ true }
     ensures named { AreNamed (table_of held.old) → AreNamed (table_of held.new) }
 {
-    // What is answered is returned where it is made, as in `step`.
-    match answer(alloc, held, room, line, ended) {
-        Ok(reply) => return reply,
-        Err(refusal) => return Some(CommandReply::Refused(refusal)),
+    if let Err(refusal) = answer(alloc, held, room, line, ended, own) {
+        *own = Some(CommandReply::Refused(refusal));
     }
 }
 
@@ -122,7 +122,15 @@ impl Desk {
         ensures named { AreNamed self.new.table }
     {
         let mut ended = Vec::new(self.alloc);
-        let own = outcome(self.alloc, &mut self.held, &mut self.room, line, &mut ended);
+        let mut own = None;
+        outcome(
+            self.alloc,
+            &mut self.held,
+            &mut self.room,
+            line,
+            &mut ended,
+            &mut own,
+        );
         self.summary = self.summary.with_lines(ended.len()).with_own(&own);
         print_all(self.alloc, writer, &mut ended, &own)
     }

@@ -2,11 +2,13 @@
 
 use command::{Command, MANY_BYTES};
 use sector::{Buf, SECTOR_BYTES};
+use std::alloc::Global;
+use std::mem;
 
-/// Takes the memory of bytes back that are many, and frees that of fewer.
-pub fn take_back(room: &mut Vec<u8>, bytes: Buf) {
+/// Takes the memory of bytes back that are many, and leaves none of them; that of fewer stays theirs.
+pub fn take_back(alloc: Global, room: &mut Vec<u8>, bytes: &mut Buf) {
     if bytes.len() > MANY_BYTES {
-        *room = bytes.into_vec();
+        *room = mem::replace(bytes, Buf::from_vec(Vec::new(alloc))).into_vec();
     }
 }
 

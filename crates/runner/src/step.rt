@@ -1,5 +1,5 @@
 // What each line does.
-ghost use Rattle.std.specs.Prelude.{◌≡◌, ◌≢◌, [], ◌∷◌, true, Some, IfSome, MatchResult};
+ghost use Rattle.std.specs.Prelude.{◌≡◌, ◌≢◌, [], ◌∷◌, true, None, Some, is_some, IfOk, IfSome, MatchResult};
 ghost use Rattle.sector.specs.declared.refusal.Refusal.TheVariants.{JournalFull, NoMemory};
 ghost use Rattle.layers.specs.declared.message.Answer.TheVariants as answers;
 ghost use Rattle.command.specs.declared.command_reply.CommandReply.TheVariants.{Done, Data, Said, Number, Refused};
@@ -16,7 +16,7 @@ ghost use Rattle.runner.specs.Changed.{changed_by};
 ghost use Rattle.runner.specs.Full.{IsAskedByLine, entered_by};
 ghost use Rattle.runner.specs.Lawful.{is_lawful};
 ghost use Rattle.runner.specs.Left.{IsLeft, IsLineLeft};
-ghost use Rattle.runner.specs.Output.{IsPartDone, IsStarved, told};
+ghost use Rattle.runner.specs.Output.{IsPartDone, IsStarved, placed, replied, told};
 ghost use Rattle.runner.specs.Ruled.{is_ruled, is_ruled_line};
 ghost use Rattle.runner.specs.Shown.{IsLineShown};
 ghost use Rattle.runner.specs.Sound.{is_sound_command, is_sound_line};
@@ -41,6 +41,7 @@ use named_volume::Devices;
 use plain::{Replied, ReqId};
 use sector::{Buf, Refusal};
 use std::alloc::Global;
+use std::mem;
 use words::{Name, Text};
 
 /// What was to be done is done.
@@ -153,81 +154,143 @@ fn obey_any(
     }
 }
 
-/// Does a command, as `obey_any` does. The three that most lines say are done here, where little room is needed for their names.
-/// What is answered is returned where it is made: the value of a `match` is put aside first, and then copied.
+/// Puts what a call did in its place.
+#[inline(always)]
+fn put_done(own: &mut Option<CommandReply>, call: Result<(), Refusal>) -> Result<(), Refusal>
+    ensures own { IfOk result (λ _. is_some own.new ≡ true) }
+    ensures put { replied result own.new ≡ reworded (λ _. Done) call }
+{
+    call?;
+    *own = Some(CommandReply::Done);
+    Ok(())
+}
+
+/// Puts the bytes that were asked for in their place.
+#[inline(never)]
+fn put_given(own: &mut Option<CommandReply>, call: Result<Buf, Refusal>) -> Result<(), Refusal>
+    ensures own { IfOk result (λ _. is_some own.new ≡ true) }
+    ensures put { replied result own.new ≡ reworded Data call }
+{
+    let bytes = call?;
+    *own = Some(CommandReply::Data(bytes));
+    Ok(())
+}
+
+/// Puts the text that was asked for in its place.
+#[inline(never)]
+fn put_text(own: &mut Option<CommandReply>, call: Result<Text, Refusal>) -> Result<(), Refusal>
+    ensures own { IfOk result (λ _. is_some own.new ≡ true) }
+    ensures put { replied result own.new ≡ reworded Said call }
+{
+    let text = call?;
+    *own = Some(CommandReply::Said(text));
+    Ok(())
+}
+
+/// Does any command, as `obey_any` does, and puts what is answered in its place.
+#[inline(never)]
+fn obey_other(
+    alloc: Global,
+    held: &mut Devices,
+    command: &mut Command,
+    ended: &mut Vec<Replied>,
+    own: &mut Option<CommandReply>,
+) -> Result<(), Refusal>
+    requires { is_lawful command.old ≡ true }
+    ensures own { IfOk result (λ _. is_some own.new ≡ true) }
+    ensures done { is_ruled command.old (table_of held.old) ≡ true → ServesIf (enters command.old) (replied result own.new) (table_of held.new) (IsPartDone command.old (table_of held.old)) (step command.old (table_of held.old)) }
+    ensures asks { IsFirst (first_refusal command.old (table_of held.old)) (told (reworded Some (replied result own.new))) }
+    ensures number { starts command.old ≡ true → AreStartReplies (told (reworded Some (replied result own.new))) }
+    ensures alone { starts command.old ≡ true → ended.new.items ≡ ended.old.items }
+    ensures still { IfSome (first_refusal command.old (table_of held.old)) (λ _. (table_of held.new ≡ table_of held.old) × (ended.new.items ≡ ended.old.items)) }
+    ensures told { is_ruled command.old (table_of held.old) ≡ true → ended.new.items ≡ ended.old.items }
+    ensures ordered { IsLookedAt (table_of held.old) (changed_by command.old) }
+    ensures left { IsLeft command.old (replied result own.new) (table_of held.old) (table_of held.new) ended.old.items ended.new.items }
+    ensures full { told (reworded Some (replied result own.new)) ≡ Refused JournalFull ∷ [] → IsAskedMuch (entered_by command.old) (table_of held.old) (table_of held.new) }
+    ensures sound { is_sound (table_of held.old) ≡ true → is_sound_command command.old ≡ true → is_sound (table_of held.new) ≡ true }
+    ensures named { AreNamed (table_of held.old) → AreNamed (table_of held.new) }
+{
+    let command = mem::replace(command, Command::Tick { seconds: 0 });
+    let reply = obey_any(alloc, held, command, ended)?;
+    *own = Some(reply);
+    Ok(())
+}
+
+/// Does a command, as `obey_any` does, and puts what is answered in its place, where it is not copied from call to call. The three
+/// that most lines say are done here, with their words where they stand.
 #[inline(always)]
 #[tactic(auto, unfolding(crate::specs::Steps::step))]
 fn obey(
     alloc: Global,
     held: &mut Devices,
     room: &mut Vec<u8>,
-    command: Command,
+    command: &mut Command,
     ended: &mut Vec<Replied>,
-) -> Result<CommandReply, Refusal>
-    requires { is_lawful command ≡ true }
-    ensures done { is_ruled command (table_of held.old) ≡ true → ServesIf (enters command) result (table_of held.new) (IsPartDone command (table_of held.old)) (step command (table_of held.old)) }
-    ensures asks { IsFirst (first_refusal command (table_of held.old)) (told (reworded Some result)) }
-    ensures number { starts command ≡ true → AreStartReplies (told (reworded Some result)) }
-    ensures alone { starts command ≡ true → ended.new.items ≡ ended.old.items }
-    ensures still { IfSome (first_refusal command (table_of held.old)) (λ _. (table_of held.new ≡ table_of held.old) × (ended.new.items ≡ ended.old.items)) }
-    ensures told { is_ruled command (table_of held.old) ≡ true → ended.new.items ≡ ended.old.items }
-    ensures ordered { IsLookedAt (table_of held.old) (changed_by command) }
-    ensures left { IsLeft command result (table_of held.old) (table_of held.new) ended.old.items ended.new.items }
-    ensures full { told (reworded Some result) ≡ Refused JournalFull ∷ [] → IsAskedMuch (entered_by command) (table_of held.old) (table_of held.new) }
-    ensures sound { is_sound (table_of held.old) ≡ true → is_sound_command command ≡ true → is_sound (table_of held.new) ≡ true }
+    own: &mut Option<CommandReply>,
+) -> Result<(), Refusal>
+    requires { is_lawful command.old ≡ true }
+    ensures own { IfOk result (λ _. is_some own.new ≡ true) }
+    ensures done { is_ruled command.old (table_of held.old) ≡ true → ServesIf (enters command.old) (replied result own.new) (table_of held.new) (IsPartDone command.old (table_of held.old)) (step command.old (table_of held.old)) }
+    ensures asks { IsFirst (first_refusal command.old (table_of held.old)) (told (reworded Some (replied result own.new))) }
+    ensures number { starts command.old ≡ true → AreStartReplies (told (reworded Some (replied result own.new))) }
+    ensures alone { starts command.old ≡ true → ended.new.items ≡ ended.old.items }
+    ensures still { IfSome (first_refusal command.old (table_of held.old)) (λ _. (table_of held.new ≡ table_of held.old) × (ended.new.items ≡ ended.old.items)) }
+    ensures told { is_ruled command.old (table_of held.old) ≡ true → ended.new.items ≡ ended.old.items }
+    ensures ordered { IsLookedAt (table_of held.old) (changed_by command.old) }
+    ensures left { IsLeft command.old (replied result own.new) (table_of held.old) (table_of held.new) ended.old.items ended.new.items }
+    ensures full { told (reworded Some (replied result own.new)) ≡ Refused JournalFull ∷ [] → IsAskedMuch (entered_by command.old) (table_of held.old) (table_of held.new) }
+    ensures sound { is_sound (table_of held.old) ≡ true → is_sound_command command.old ≡ true → is_sound (table_of held.new) ≡ true }
     ensures named { AreNamed (table_of held.old) → AreNamed (table_of held.new) }
 {
     match command {
         Read { name, first, count } => {
-            return given(read_device(alloc, held, &name, first, count, ended));
+            let call = read_device(alloc, held, name, *first, *count, ended);
+            put_given(own, call)
         }
-        Write {
-            name,
-            first,
-            mut bytes,
-        } => {
-            let call = write_device(alloc, held, &name, first, &mut bytes, ended);
-            take_back(room, bytes);
-            return did(call);
+        Write { name, first, bytes } => {
+            let call = write_device(alloc, held, name, *first, bytes, ended);
+            take_back(alloc, room, bytes);
+            put_done(own, call)
         }
-        Status { name } => return text(status_text(alloc, held, &name)),
-        other => return obey_any(alloc, held, other, ended),
+        Status { name } => put_text(own, status_text(alloc, held, name)),
+        _ => obey_other(alloc, held, command, ended, own),
     }
 }
 
-/// Does what a line says, and gives its own answer; `None` for a line that says nothing. Requests that end in it go to the
-/// end of `ended`. The many bytes of a write stand in the room, which is theirs again afterwards.
+/// Does what a line says, and puts its own answer in its place, which stays empty for a line that says nothing. Requests that end in
+/// it go to the end of `ended`. The many bytes of a write stand in the room, which has that memory again afterwards.
+#[inline(always)]
 pub fn answer(
     alloc: Global,
     held: &mut Devices,
     room: &mut Vec<u8>,
     line: &[u8],
     ended: &mut Vec<Replied>,
-) -> Result<Option<CommandReply>, Refusal>
-    ensures done { is_ruled_line line.now (table_of held.old) ≡ true → ServesIf (enters_line line.now) result (table_of held.new) (IsStarved line.now (table_of held.old)) (answer_of line.now (table_of held.old)) }
-    ensures shows { is_ruled_line line.now (table_of held.old) ≡ true → IsLineShown line.now (table_of held.old) (record { replies = told result; table = table_of held.new }) }
-    ensures asks { IsFirst (line_first line.now (table_of held.old)) (told result) }
-    ensures number { starts_line line.now ≡ true → AreStartReplies (told result) }
+    own: &mut Option<CommandReply>,
+) -> Result<(), Refusal>
+    requires { own.old ≡ None }
+    ensures done { is_ruled_line line.now (table_of held.old) ≡ true → ServesIf (enters_line line.now) (placed result own.new) (table_of held.new) (IsStarved line.now (table_of held.old)) (answer_of line.now (table_of held.old)) }
+    ensures shows { is_ruled_line line.now (table_of held.old) ≡ true → IsLineShown line.now (table_of held.old) (record { replies = told (placed result own.new); table = table_of held.new }) }
+    ensures asks { IsFirst (line_first line.now (table_of held.old)) (told (placed result own.new)) }
+    ensures number { starts_line line.now ≡ true → AreStartReplies (told (placed result own.new)) }
     ensures alone { starts_line line.now ≡ true → ended.new.items ≡ ended.old.items }
     ensures still { IfSome (line_first line.now (table_of held.old)) (λ _. (table_of held.new ≡ table_of held.old) × (ended.new.items ≡ ended.old.items)) }
     ensures told { is_ruled_line line.now (table_of held.old) ≡ true → ended.new.items ≡ ended.old.items }
-    ensures left { IsLineLeft line.now result (table_of held.old) (table_of held.new) ended.old.items ended.new.items }
-    ensures full { told result ≡ Refused JournalFull ∷ [] → IsAskedByLine line.now (table_of held.old) (table_of held.new) }
+    ensures left { IsLineLeft line.now (placed result own.new) (table_of held.old) (table_of held.new) ended.old.items ended.new.items }
+    ensures full { told (placed result own.new) ≡ Refused JournalFull ∷ [] → IsAskedByLine line.now (table_of held.old) (table_of held.new) }
     ensures sound { is_sound (table_of held.old) ≡ true → is_sound_line line.now ≡ true → is_sound (table_of held.new) ≡ true }
     ensures named { AreNamed (table_of held.old) → AreNamed (table_of held.new) }
 {
-    let command = match said(alloc, room, line, LINE_LIMIT) {
-        Ok(Some(command)) => command,
-        Ok(None) => return Ok(None),
-        Err(refusal) => return Err(refusal),
-    };
-    if ends_writes(&command) {
-        // What the command needs itself may take the place.
-        *room = Vec::new(alloc);
-    }
-    // As in `obey`, what is answered is not put aside first.
-    match obey(alloc, held, room, command, ended) {
-        Ok(reply) => return Ok(Some(reply)),
-        Err(refusal) => return Err(refusal),
+    let mut words = said(alloc, room, line, LINE_LIMIT);
+    match &mut words {
+        Ok(Some(command)) => {
+            if ends_writes(command) {
+                // What the command needs itself may take the place.
+                *room = Vec::new(alloc);
+            }
+            obey(alloc, held, room, command, ended, own)
+        }
+        Ok(None) => Ok(()),
+        Err(refusal) => Err(*refusal),
     }
 }

@@ -53,6 +53,7 @@ fn put_state(room: &mut [u8; LINE_ROOM], state: StatusState) -> usize
 }
 
 /// The status line of an origin of so many sectors, without a line end.
+#[inline(always)]
 pub fn origin_line(alloc: Global, sectors: u64) -> Result<Text, AllocError>
     ensures { IfOk result (λ text. text ≡ origin_text sectors) }
 {
@@ -60,7 +61,7 @@ pub fn origin_line(alloc: Global, sectors: u64) -> Result<Text, AllocError>
     let end = put(&mut room, LINE_ROOM, b" snapshot-origin");
     let end = put_number(&mut room, end, sectors);
     let start = put(&mut room, end, b"0 ");
-    Text::from_slice(alloc, &room[start..])
+    Text::ending(alloc, &room, start)
 }
 
 /// The line of a device of so many sectors whose target, with a space on either side, has a state. It is made from its end to its
@@ -80,10 +81,11 @@ fn stated_line(
     let end = put(&mut room, end, target);
     let end = put_number(&mut room, end, sectors);
     let start = put(&mut room, end, b"0 ");
-    Text::from_slice(alloc, &room[start..])
+    Text::ending(alloc, &room, start)
 }
 
 /// The status line of a snapshot of so many sectors, without a line end.
+#[inline(always)]
 pub fn snapshot_line(alloc: Global, sectors: u64, state: StatusState) -> Result<Text, AllocError>
     ensures { IfOk result (λ text. text ≡ snapshot_text sectors state) }
 {
@@ -91,6 +93,7 @@ pub fn snapshot_line(alloc: Global, sectors: u64, state: StatusState) -> Result<
 }
 
 /// The status line of an origin of so many sectors that a snapshot is merged into, without a line end.
+#[inline(always)]
 pub fn merge_line(alloc: Global, sectors: u64, state: StatusState) -> Result<Text, AllocError>
     ensures { IfOk result (λ text. text ≡ merge_text sectors state) }
 {

@@ -1,8 +1,6 @@
 -- The bytes of a text, wherever they stand.
-use Rattle.std.specs.Prelude.{ℕ, List}
-use Rattle.words.specs.declared.texts.TextBytes.{TextBytes}
-use Rattle.words.specs.declared.texts.TextBytes.TheVariants as places
+use Rattle.std.specs.Prelude.{ℕ, List, [], ◌∷◌}
 
-abbrev pub bytes_in : TextBytes → List ℕ
-bytes_in (places.Short bytes) = bytes
-bytes_in (places.Long bytes) = bytes.items
+abbrev pub bytes_in : List ℕ → List ℕ → List ℕ
+bytes_in short [] = short
+bytes_in short (byte ∷ more) = byte ∷ more

@@ -1,25 +1,18 @@
 // Texts of any bytes.
-ghost use Rattle.std.specs.Prelude.{◌≡◌, length, IfOk};
+ghost use Rattle.std.specs.Prelude.{◌≡◌, ◌≤◌, ◌+◌, ◌++◌, drop, length, IfOk};
 ghost use Rattle.std.specs.Str.{bytes_eq};
 
 use crate::short::{SHORT_ROOM, ShortText};
 use std::alloc::{AllocError, Global};
 use std::marker::Model;
 
-/// Where the bytes of a text stand.
-#[derive(Drop)]
-enum TextBytes {
-    /// In the text itself.
-    Short(ShortText),
-    /// In memory of the allocator.
-    Long(Vec<u8>),
-}
-
 /// Bytes to be printed, as a table line or a status line. Contracts see the list of the bytes. One made of at most 32 bytes
 /// takes no memory of the allocator.
 #[derive(Drop)]
 pub struct Text {
-    bytes: TextBytes,
+    /// All of them, where there are none in memory of the allocator.
+    short: ShortText,
+    long: Vec<u8>,
 }
 
 impl Model for Text {
@@ -28,7 +21,7 @@ impl Model for Text {
 
     ghost Value = { List ℕ };
 
-    ghost view = { λ t. bytes_in t.bytes };
+    ghost view = { λ t. bytes_in t.short t.long.items };
 }
 
 impl Text {
@@ -38,11 +31,29 @@ impl Text {
     {
         if bytes.len() <= SHORT_ROOM {
             return Ok(Text {
-                bytes: TextBytes::Short(ShortText::new(bytes)),
+                short: ShortText::new(bytes),
+                long: Vec::new(alloc),
             });
         }
         let bytes = Vec::from_slice(alloc, bytes)?;
         Ok(Text::from_vec(bytes))
+    }
+
+    /// The bytes of a room from a place on, as they are put there from their end. An error says that the allocator refused memory
+    /// for them.
+    #[inline(always)]
+    pub fn ending(alloc: Global, room: &[u8], start: usize) -> Result<Text, AllocError>
+        requires { start ≤ length room.now }
+        ensures { IfOk result (λ t. t ≡ drop start room.now) }
+    {
+        if room.len() >= SHORT_ROOM && room.len() - start <= SHORT_ROOM {
+            return Ok(Text {
+                short: ShortText::ending(room, start),
+                long: Vec::new(alloc),
+            });
+        }
+        let text = Text::from_slice(alloc, &room[start..])?;
+        Ok(text)
     }
 
     /// The bytes of a vector, which is not copied.
@@ -50,7 +61,8 @@ impl Text {
         ensures { result ≡ bytes.items }
     {
         Text {
-            bytes: TextBytes::Long(bytes),
+            short: ShortText::none(),
+            long: bytes,
         }
     }
 
@@ -58,10 +70,28 @@ impl Text {
     pub fn as_slice(&self) -> &[u8]
         ensures { result.now ≡ self.now }
     {
-        match &self.bytes {
-            TextBytes::Short(bytes) => bytes.as_slice(),
-            TextBytes::Long(bytes) => bytes.as_slice(),
+        if self.long.is_empty() {
+            self.short.as_slice()
+        } else {
+            self.long.as_slice()
         }
+    }
+
+    /// Puts its bytes before a place of a room, and tells where they begin. What stands before them there is lost.
+    #[inline(always)]
+    pub fn put(&self, room: &mut [u8], end: usize) -> usize
+        requires within { end ≤ length room.old }
+        requires room { 32 ≤ end }
+        requires space { length self.now ≤ end }
+        ensures start { result + length self.now ≡ end }
+        ensures written { drop result room.new ≡ self.now ++ drop end room.old }
+    {
+        if self.long.is_empty() {
+            return self.short.put(room, end);
+        }
+        let start = end - self.long.len();
+        room[start..end].copy_from_slice(self.long.as_slice());
+        start
     }
 
     /// How many bytes it has.

@@ -7,7 +7,7 @@ use Rattle.command_rules.specs.Starting.{read_asked, write_asked}
 use Rattle.named_devices.specs.Order.{IsLookedAt}
 use Rattle.runner.specs.Asking.{IsFirst, first_refusal}
 use Rattle.runner.specs.Changed.{changed_by}
-use Rattle.runner.specs.Output.{told}
+use Rattle.runner.specs.Output.{replied, told}
 use Rattle.runner.specs.Steps.{reworded}
 use Rattle.runner.proofs.LeftLemmas.{asked_still, worded_asked}
 use Rattle.runner.specs.Left.{IsLeft}
@@ -19,23 +19,23 @@ use Rattle.runner.proofs.step.obey.Goals as goal
 
 pub returns-in-Read-clause-asks : goal.returns-in-Read-clause-asks
 returns-in-Read-clause-asks c =
-    let P : Command → Type 0 = λ command. IsFirst (first_refusal command (table_of c.args.held.now)) (told (reworded Some c.given.result)) in
-    subst P (sym c.in-Read.is) (worded_asked Data (read_asked c.in-Read.name c.in-Read.first c.in-Read.count (table_of c.args.held.now)) c.read_device.result c.given.result c.read_device.ensures.asks c.given.ensures)
+    let P : Command → Type 0 = λ command. IsFirst (first_refusal command (table_of c.args.held.now)) (told (reworded Some (replied c.put_given.result c.put_given.new.own))) in
+    subst P (sym c.in-Read.is) (worded_asked Data (read_asked c.in-Read.name c.in-Read.first c.in-Read.count (table_of c.args.held.now)) c.read_device-call.result (replied c.put_given.result c.put_given.new.own) c.read_device-call.ensures.asks c.put_given.ensures.put)
 
 pub returns-in-Read-clause-still : goal.returns-in-Read-clause-still
 returns-in-Read-clause-still c =
-    let P : Command → Type 0 = λ command. IfSome (first_refusal command (table_of c.args.held.now)) (λ _. (table_of c.read_device.new.held ≡ table_of c.args.held.now) × (c.read_device.new.ended.items ≡ c.args.ended.now.items)) in
-    subst P (sym c.in-Read.is) (asked_still _ (read_asked c.in-Read.name c.in-Read.first c.in-Read.count (table_of c.args.held.now)) c.read_device.ensures.stays)
+    let P : Command → Type 0 = λ command. IfSome (first_refusal command (table_of c.args.held.now)) (λ _. (table_of c.read_device-call.new.held ≡ table_of c.args.held.now) × (c.read_device-call.new.ended.items ≡ c.args.ended.now.items)) in
+    subst P (sym c.in-Read.is) (asked_still _ (read_asked c.in-Read.name c.in-Read.first c.in-Read.count (table_of c.args.held.now)) c.read_device-call.ensures.stays)
 
 pub returns-in-Read-clause-left : goal.returns-in-Read-clause-left
 returns-in-Read-clause-left c =
-    let P : Command → Type 0 = λ command. IsLeft command c.given.result (table_of c.args.held.now) (table_of c.read_device.new.held) c.args.ended.now.items c.read_device.new.ended.items in
-    subst P (sym c.in-Read.is) (record { got = c.read_device.result; answer_is = c.given.ensures; others = c.read_device.ensures.one; among = c.read_device.ensures.among; denied = c.read_device.ensures.denied })
+    let P : Command → Type 0 = λ command. IsLeft command (replied c.put_given.result c.put_given.new.own) (table_of c.args.held.now) (table_of c.read_device-call.new.held) c.args.ended.now.items c.read_device-call.new.ended.items in
+    subst P (sym c.in-Read.is) (record { got = c.read_device-call.result; answer_is = c.put_given.ensures.put; others = c.read_device-call.ensures.one; among = c.read_device-call.ensures.among; denied = c.read_device-call.ensures.denied })
 
 pub returns-in-Write-clause-asks : goal.returns-in-Write-clause-asks
 returns-in-Write-clause-asks c =
-    let P : Command → Type 0 = λ command. IsFirst (first_refusal command (table_of c.args.held.now)) (told (reworded Some c.did.result)) in
-    subst P (sym c.in-Write.is) (worded_asked (λ _. Done) (write_asked c.in-Write.name c.in-Write.first c.in-Write.bytes (table_of c.args.held.now)) c.write_device-call.result c.did.result c.write_device-call.ensures.asks c.did.ensures)
+    let P : Command → Type 0 = λ command. IsFirst (first_refusal command (table_of c.args.held.now)) (told (reworded Some (replied c.put_done.result c.put_done.new.own))) in
+    subst P (sym c.in-Write.is) (worded_asked (λ _. Done) (write_asked c.in-Write.name c.in-Write.first c.in-Write.bytes (table_of c.args.held.now)) c.write_device-call.result (replied c.put_done.result c.put_done.new.own) c.write_device-call.ensures.asks c.put_done.ensures.put)
 
 pub returns-in-Write-clause-still : goal.returns-in-Write-clause-still
 returns-in-Write-clause-still c =
@@ -44,14 +44,14 @@ returns-in-Write-clause-still c =
 
 pub returns-in-Write-clause-left : goal.returns-in-Write-clause-left
 returns-in-Write-clause-left c =
-    let P : Command → Type 0 = λ command. IsLeft command c.did.result (table_of c.args.held.now) (table_of c.write_device-call.new.held) c.args.ended.now.items c.write_device-call.new.ended.items in
-    subst P (sym c.in-Write.is) (record { did = c.write_device-call.result; answer_is = c.did.ensures; others = c.write_device-call.ensures.one; among = c.write_device-call.ensures.among; denied = c.write_device-call.ensures.denied })
+    let P : Command → Type 0 = λ command. IsLeft command (replied c.put_done.result c.put_done.new.own) (table_of c.args.held.now) (table_of c.write_device-call.new.held) c.args.ended.now.items c.write_device-call.new.ended.items in
+    subst P (sym c.in-Write.is) (record { did = c.write_device-call.result; answer_is = c.put_done.ensures.put; others = c.write_device-call.ensures.one; among = c.write_device-call.ensures.among; denied = c.write_device-call.ensures.denied })
 
 pub returns-in-Status-clause-left : goal.returns-in-Status-clause-left
 returns-in-Status-clause-left c =
     let table = table_of c.args.held.now in
-    let P : Command → Type 0 = λ command. IsLeft command c.text.result table table c.args.ended.now.items c.args.ended.now.items in
-    subst P (sym c.in-Status.is) (record { text = c.status_text.result; answer_is = c.text.ensures; among = c.status_text.ensures.among; held = c.status_text.ensures.held; stays = refl; alone = refl })
+    let P : Command → Type 0 = λ command. IsLeft command (replied c.put_text.result c.put_text.new.own) table table c.args.ended.now.items c.args.ended.now.items in
+    subst P (sym c.in-Status.is) (record { text = c.status_text.result; answer_is = c.put_text.ensures.put; among = c.status_text.ensures.among; held = c.status_text.ensures.held; stays = refl; alone = refl })
 
 pub returns-in-Write-clause-ordered : goal.returns-in-Write-clause-ordered
 returns-in-Write-clause-ordered c =
@@ -60,15 +60,15 @@ returns-in-Write-clause-ordered c =
 
 pub returns-in-Read-clause-full : goal.returns-in-Read-clause-full
 returns-in-Read-clause-full c =
-    let P : Command → Type 0 = λ command. told (reworded Some c.given.result) ≡ Refused JournalFull ∷ [] → IsAskedMuch (entered_by command) (table_of c.args.held.now) (table_of c.read_device.new.held) in
-    subst P (sym c.in-Read.is) (worded_full Data _ c.read_device.result c.given.result data_other c.read_device.ensures.full c.given.ensures)
+    let P : Command → Type 0 = λ command. told (reworded Some (replied c.put_given.result c.put_given.new.own)) ≡ Refused JournalFull ∷ [] → IsAskedMuch (entered_by command) (table_of c.args.held.now) (table_of c.read_device-call.new.held) in
+    subst P (sym c.in-Read.is) (worded_full Data _ c.read_device-call.result (replied c.put_given.result c.put_given.new.own) data_other c.read_device-call.ensures.full c.put_given.ensures.put)
 
 pub returns-in-Write-clause-full : goal.returns-in-Write-clause-full
 returns-in-Write-clause-full c =
-    let P : Command → Type 0 = λ command. told (reworded Some c.did.result) ≡ Refused JournalFull ∷ [] → IsAskedMuch (entered_by command) (table_of c.args.held.now) (table_of c.write_device-call.new.held) in
-    subst P (sym c.in-Write.is) (worded_full (λ _. Done) _ c.write_device-call.result c.did.result done_other c.write_device-call.ensures.full c.did.ensures)
+    let P : Command → Type 0 = λ command. told (reworded Some (replied c.put_done.result c.put_done.new.own)) ≡ Refused JournalFull ∷ [] → IsAskedMuch (entered_by command) (table_of c.args.held.now) (table_of c.write_device-call.new.held) in
+    subst P (sym c.in-Write.is) (worded_full (λ _. Done) _ c.write_device-call.result (replied c.put_done.result c.put_done.new.own) done_other c.write_device-call.ensures.full c.put_done.ensures.put)
 
 pub returns-in-Status-clause-full : goal.returns-in-Status-clause-full
 returns-in-Status-clause-full c =
-    let P : Command → Type 0 = λ command. told (reworded Some c.text.result) ≡ Refused JournalFull ∷ [] → IsAskedMuch (entered_by command) (table_of c.args.held.now) (table_of c.args.held.now) in
-    subst P (sym c.in-Status.is) (worded_never Said c.status_text.result c.text.result said_other (record { other = c.status_text.ensures.room }) c.text.ensures)
+    let P : Command → Type 0 = λ command. told (reworded Some (replied c.put_text.result c.put_text.new.own)) ≡ Refused JournalFull ∷ [] → IsAskedMuch (entered_by command) (table_of c.args.held.now) (table_of c.args.held.now) in
+    subst P (sym c.in-Status.is) (worded_never Said c.status_text.result (replied c.put_text.result c.put_text.new.own) said_other (record { other = c.status_text.ensures.room }) c.put_text.ensures.put)
