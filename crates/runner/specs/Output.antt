@@ -34,13 +34,14 @@ abbrev pub told : Result (Option CommandReply) Refusal → List CommandReply
 told (Ok reply) = answered reply
 told (Err refusal) = Refused refusal ∷ []
 
--- a command is answered in a place, unless it is refused
+-- a command is answered in a place, unless it is refused; what is said here of an empty place is a filler, for each call that
+-- refuses nothing fills it
 abbrev pub replied : Result (Unit {0}) Refusal → Option CommandReply → Result CommandReply Refusal
 replied (Ok _) (Some reply) = Ok reply
 replied (Ok _) None = Ok Done
 replied (Err refusal) own = Err refusal
 
--- a line is, where it says something
+-- so is a line; one that says nothing leaves the place empty
 abbrev pub placed : Result (Unit {0}) Refusal → Option CommandReply → Result (Option CommandReply) Refusal
 placed (Ok _) own = Ok own
 placed (Err refusal) own = Err refusal

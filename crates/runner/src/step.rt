@@ -217,8 +217,7 @@ fn obey_other(
 }
 
 /// Does a command, as `obey_any` does, and puts what is answered in its place, where it is not copied from call to call. The three
-/// that most lines say are done here, with their words where they stand. A call of its own: what it needs beside is made for no
-/// line that is refused, and each line's own room stays small.
+/// that most lines say are done here, with their words where they stand. It is a call of its own, so that each line's room stays small.
 #[inline(never)]
 #[tactic(auto, unfolding(crate::specs::Steps::step))]
 fn obey(

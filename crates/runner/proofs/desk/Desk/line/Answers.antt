@@ -3,6 +3,7 @@ use Rattle.std.proofs.Common.{rules, ◌≡◌, ◌<◌, ◌^◌, List, [], leng
 use Rattle.std.specs.Prelude.{OnOk, IfSome}
 use Rattle.std.specs.Io.KnownBytes.{Appends}
 use Rattle.named_volume.specs.Tables.{table_of}
+use Rattle.plain.specs.declared.request.Replied.{Replied}
 use Rattle.command.specs.declared.command_reply.CommandReply.{CommandReply}
 use Rattle.runner.specs.Asking.{line_first}
 use Rattle.runner.specs.Ended.{line_replies}
@@ -11,6 +12,10 @@ use Rattle.runner.proofs.AskingLemmas.{first_lines, first_none, first_stays}
 use Rattle.runner.proofs.LeftLemmas.{told_for}
 use Rattle.runner.proofs.DeskLemmas.{line_done, line_counted, start_alone}
 use Rattle.runner.proofs.desk.Desk.line.Goals as goal
+
+-- where none had ended and none was added, none has ended
+none_ended : {before after : List Replied} → after ≡ before → before ≡ [] → after ≡ []
+none_ended same none = same ∙ none
 
 pub returns-clause-done : goal.returns-clause-done
 returns-clause-done g c =
@@ -25,8 +30,8 @@ returns-clause-done g c =
     let none = first_none (table_of c.outcome.new.held ≡ table_of c.self.inside.held) first c.new-ended.result.items ended [] both c.new-ended.ensures.items in
     let stays = first_stays (table_of c.outcome.new.held ≡ table_of c.self.inside.held) (ended ≡ c.new-ended.result.items) first both in
     let asks = first_lines first ended own c.outcome.ensures.asks none in
-    let number = start_alone c.args.line.now ended own c.outcome.ensures.number (λ does. c.outcome.ensures.alone does ∙ c.new-ended.ensures.items) in
+    let number = start_alone c.args.line.now ended own c.outcome.ensures.number (λ does. none_ended (c.outcome.ensures.alone does) c.new-ended.ensures.items) in
     let counts = line_counted c.self.inside.summary c.with_lines.result c.with_own-self-inside.result c.len.result ended own small size c.with_lines.ensures c.with_own-self-inside.ensures in
     let left = c.outcome.ensures.left in
     let told = told_for c.args.line.now (table_of c.self.inside.held) (table_of c.outcome.new.held) c.new-ended.result.items ended own left.0 c.new-ended.ensures.items left.1 left.2 c.outcome.ensures.full in
-    line_done c.args.line.now c.args.self.now (table_of c.self.inside.held) (table_of c.outcome.new.held) c.self.inside.summary c.with_own-self-inside.result ended own P (sym c.self.view_is) c.outcome.ensures.done c.outcome.ensures.shows (λ ruled. c.outcome.ensures.told ruled ∙ c.new-ended.ensures.items) asks stays number told counts last
+    line_done c.args.line.now c.args.self.now (table_of c.self.inside.held) (table_of c.outcome.new.held) c.self.inside.summary c.with_own-self-inside.result ended own P (sym c.self.view_is) c.outcome.ensures.done c.outcome.ensures.shows (λ ruled. none_ended (c.outcome.ensures.told ruled) c.new-ended.ensures.items) asks stays number told counts last
