@@ -1,9 +1,9 @@
 -- What a call of a volume does to the requests in flight and to the live snapshots, so that there is a place for each.
 use Rattle.std.proofs.Common.{◌≡◌, inl, inr, ℕ, zero, suc, ◌+◌, ◌<◌, ◌≤◌, Bool, true, false, List, [], ◌∷◌, ◌++◌, length, get_or, set, map, max, take, Option, None, refl, sym, ◌∙◌, ap, arith}
-use Rattle.std.specs.Prelude.{◌-◌, ◌&&◌, ◌==◌, Err, IfErr, Ok, OnOk, Result, not, if◌then◌else◌}
+use Rattle.std.specs.Prelude.{◌-◌, ◌&&◌, Err, IfErr, Ok, OnOk, Result}
 use Rattle.std.specs.List.{remove}
 use Rattle.std.proofs.lemmas.Bool.{false≢true}
-use Rattle.std.proofs.lemmas.List.{length-map, map-append, map-set}
+use Rattle.std.proofs.lemmas.List.{length-map, map-set}
 use Rattle.device.specs.Layers.{Layer}
 use Rattle.sector.specs.declared.refusal.Refusal.{Refusal}
 use Rattle.merge.specs.Merging.{Merging}

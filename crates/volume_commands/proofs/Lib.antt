@@ -59,6 +59,7 @@ pub mod Fewer
 pub mod Full
 pub mod Takings
 pub mod JournalGoing
+pub mod Doing
 pub mod DueTold
 pub mod CallsSeen
 pub mod LayersChanged

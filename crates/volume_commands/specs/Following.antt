@@ -1,5 +1,5 @@
 -- Events that are known to follow another without a search. This project's own.
-use Rattle.std.specs.Prelude.{◌≡◌, ◌⊎◌, ◌==◌, ◌&&◌, ◌≤◌, ℕ, Bool, true, false, List, [], ◌∷◌, length, map, Option, Some}
+use Rattle.std.specs.Prelude.{◌≡◌, ◌⊎◌, ◌==◌, ◌&&◌, ◌<◌, ◌≤◌, ℕ, Bool, true, false, List, [], ◌∷◌, length, map, Option, Some}
 use Rattle.std.specs.List.{list_all, list_any}
 use Rattle.device.specs.Layers.{Layer}
 use Rattle.plain.specs.declared.event.Event.{Event}
@@ -23,7 +23,7 @@ use Rattle.volume.specs.Flying.{IsFlown}
 use Rattle.volume.specs.Moved.{moving_of}
 use Rattle.volume.specs.Stepping.{KeepsAll}
 use Rattle.volume.specs.Volumed.{Volumed, is_loud_in_all, left_in_all}
-use Rattle.volume_commands.specs.AtRest.{AreDone}
+use Rattle.volume_commands.specs.AtRest.{AreDone, IsDoneDue, told_by}
 use Rattle.volume_commands.specs.Draining.{IsDoneFirst}
 use Rattle.volume_commands.specs.Places.{Counted}
 use Rattle.volume_commands.specs.TakesPlaces.{TakesByRequests}
@@ -84,6 +84,18 @@ pub record AreDoneSo {B : Type 0} (contents : B → List ℕ) (layers : B → Li
 pub record IsCarried {B : Type 0} (contents : B → List ℕ) (layers : B → List Layer) (faults size : B → ℕ) (event : Event) (go : Bool) (before after : Reply) (old new : Counted B) : Type 0 where
   pub ends : AreDoneSo contents layers faults size (AreCarried contents layers (event ∷ []) before after old.volume new.volume) before after old new
   pub goes_on : go ≡ true → (after ≡ before) × IsExact contents layers event Done old.volume new.volume
+
+-- An event that was due was done: the last reply is its own then, or the one before. Where they `go` on, nothing failed, and nothing was
+-- answered.
+pub record IsDoneHere {B : Type 0} (contents : B → List ℕ) (layers : B → List Layer) (faults size : B → ℕ) (event : Event) (go : Bool) (before after : Reply) (old new : Counted B) : Type 0 where
+  pub outcome : Outcome
+  pub done : IsDoneDue contents layers faults event outcome old.volume new.volume
+  pub told : after ≡ told_by outcome before
+  pub goes_on : go ≡ true → outcome ≡ Done
+  pub loud : is_loud_in_all layers new.volume ≡ is_loud_in_all layers old.volume
+  pub kept : KeepsAll size old.volume new.volume
+  pub lower : left_in_all contents layers new.volume < left_in_all contents layers old.volume
+  pub taken : TakesByRequests old new
 
 -- The event that was due first was done, and that was the machine's too.
 pub record IsStep {B : Type 0} (contents : B → List ℕ) (layers : B → List Layer) (faults size : B → ℕ) (event : Event) (outcome : Outcome) (old new : Volumed B) : Type 0 where

@@ -79,34 +79,33 @@ fn carry_one<B: Layered>(volume: &mut Journaled<B>, event: Event, reply: &mut Re
 /// told by the copy: where it has another number, its events are not due. One after the other, so that the kind of each is known
 /// where it is done.
 #[inline(always)]
-fn follow_read<B: Layered>(volume: &mut Journaled<B>, number: CopyId, reply: Reply) -> Reply
-    ensures { AreDoneSo B.contents B.layers B.fault_count B.size (IsFollowed B.contents B.layers (CopyRead number) reply result volume.old.volume volume.new.volume) reply result volume.old volume.new }
+pub(crate) fn follow_read<B: Layered>(volume: &mut Journaled<B>, number: CopyId, reply: &mut Reply)
+    ensures { AreDoneSo B.contents B.layers B.fault_count B.size (IsFollowed B.contents B.layers (CopyRead number) reply.old reply.new volume.old.volume volume.new.volume) reply.old reply.new volume.old volume.new }
 {
     let Some((snap, alone)) = holder(volume, number) else {
-        return reply;
+        return;
     };
-    let mut reply = reply;
-    if !carry_one(volume, Event::CopyWrite(number), &mut reply) {
-        return reply;
+    if !carry_one(volume, Event::CopyWrite(number), reply) {
+        return;
     }
-    if !carry_one(volume, Event::FlushStore(snap), &mut reply) {
-        return reply;
+    if !carry_one(volume, Event::FlushStore(snap), reply) {
+        return;
     }
-    if !carry_one(volume, Event::WriteArea(snap), &mut reply) {
-        return reply;
+    if !carry_one(volume, Event::WriteArea(snap), reply) {
+        return;
     }
-    if !carry_one(volume, Event::FlushStore(snap), &mut reply) {
-        return reply;
+    if !carry_one(volume, Event::FlushStore(snap), reply) {
+        return;
     }
     if !alone {
-        return reply;
+        return;
     }
-    let _ = carry_one(volume, Event::Publish(number), &mut reply);
-    reply
+    let _ = carry_one(volume, Event::Publish(number), reply);
 }
 
 /// Does the events that are known to follow one that was due first and was done, as long as each is due and nothing fails: each
-/// is then due first. Tells the last reply, and the one that was given before where there is none.
+/// is then due first. Those that follow the read of a chunk are done by `follow_read`. Tells the last reply, and the one that was
+/// given before where there is none.
 #[inline(always)]
 pub(crate) fn follow<B: Layered>(volume: &mut Journaled<B>, done: Event, reply: Reply) -> Reply
     ensures follows { IsFollowed B.contents B.layers done reply result volume.old.volume volume.new.volume }
@@ -118,7 +117,6 @@ pub(crate) fn follow<B: Layered>(volume: &mut Journaled<B>, done: Event, reply: 
     ensures taken { TakesByRequests volume.old volume.new }
 {
     match done {
-        Event::CopyRead(number) => follow_read(volume, number, reply),
         Event::WriteArea(snap) => {
             let mut reply = reply;
             let _ = carry_one(volume, Event::FlushStore(snap), &mut reply);

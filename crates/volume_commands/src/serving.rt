@@ -3,7 +3,7 @@ ghost use Rattle.std.specs.Prelude.{◌≡◌, ℕ, ◌+◌, ◌≤◌, length, 
 ghost use Rattle.plain.specs.declared.request.Reply.{Reply};
 ghost use Rattle.settled.specs.Refusals.{is_starved};
 ghost use Rattle.event_machine.specs.Due.{due};
-ghost use Rattle.volume.specs.Volumed.{is_loud_in_all, piece_with};
+ghost use Rattle.volume.specs.Volumed.{is_loud_in_all, next_of, piece_with};
 ghost use Rattle.volume.specs.Moved.{moving_of};
 ghost use Rattle.volume.specs.Reaching.{IsRun};
 ghost use Rattle.volume.specs.Leaving.{has_group_in, is_quiet_of};
@@ -14,6 +14,7 @@ ghost use Rattle.volume_commands.specs.Kept.{KeepsDevices};
 ghost use Rattle.volume_commands.specs.Between.{IsBetween};
 ghost use Rattle.volume_commands.specs.AtRest.{AreDone, IsAnswered, IsBegun};
 ghost use Rattle.volume_commands.specs.Commands.{IsDoneBy};
+ghost use Rattle.volume_commands.specs.Following.{IsDoneHere};
 ghost use Rattle.volume_commands.specs.Serving.{CanServe, part_done};
 ghost use Rattle.volume.specs.Stepping.{KeepsAll};
 ghost use Rattle.sector.specs.declared.refusal.Refusal.TheVariants.{JournalFull};
@@ -21,11 +22,29 @@ ghost use Rattle.volume_commands.specs.Places.{is_full_for};
 ghost use Rattle.volume_commands.specs.TakesPlaces.{TakesByRequests};
 
 use crate::Journaled;
-use crate::following::follow;
+use crate::following::{follow, follow_read};
 use layers::Layered;
-use plain::{Dev, Failure, NotDue, Outcome, Reply, Request};
+use plain::{Dev, Event, Failure, NotDue, Outcome, Reply, Request};
 use sector::Refusal;
 use volume::Served;
+
+/// Does the event that is due first, in the caller's own code, and tells whether to go on: nothing failed, and nothing was answered.
+/// `reply` is the last reply then.
+#[inline(always)]
+fn do_first<B: Layered>(volume: &mut Journaled<B>, event: Event, reply: &mut Reply) -> bool
+    requires first { next_of B.contents B.layers volume.old.volume ≡ Some event }
+    ensures { IsDoneHere B.contents B.layers B.fault_count B.size event result reply.old reply.new volume.old volume.new }
+{
+    match volume.step_here(event) {
+        Ok(Outcome::Reply(_, given)) => {
+            *reply = given;
+            false
+        }
+        Ok(Outcome::Done) => true,
+        Ok(Outcome::Fault) => false,
+        Err(NotDue) => unreachable!(),
+    }
+}
 
 /// Does the events that are due, each time the one that is due first, until the volume is quiet: none is then due but one of a
 /// merge. Tells the last reply, and the one that was given before where there is none. What is known to follow an event is
@@ -46,11 +65,22 @@ fn settle<B: Layered>(volume: &mut Journaled<B>, mut reply: Reply) -> Reply
         let Some(event) = volume.due() else {
             unreachable!()
         };
-        match volume.step(event) {
-            Ok(Outcome::Reply(_, given)) => reply = given,
-            Ok(Outcome::Done) => reply = follow(volume, event, reply),
-            Ok(Outcome::Fault) => {}
-            Err(NotDue) => unreachable!(),
+        // Those that most requests come to are done here: what a call out of line answers is moved as a whole.
+        match event {
+            Event::CopyRead(number) => {
+                if do_first(volume, Event::CopyRead(number), &mut reply) {
+                    follow_read(volume, number, &mut reply);
+                }
+            }
+            Event::Issue(number) => {
+                let _ = do_first(volume, Event::Issue(number), &mut reply);
+            }
+            _ => match volume.step(event) {
+                Ok(Outcome::Reply(_, given)) => reply = given,
+                Ok(Outcome::Done) => reply = follow(volume, event, reply),
+                Ok(Outcome::Fault) => {}
+                Err(NotDue) => unreachable!(),
+            },
         }
     }
     reply
@@ -59,7 +89,7 @@ fn settle<B: Layered>(volume: &mut Journaled<B>, mut reply: Reply) -> Reply
 /// Begins with the request of a piece, and tells its reply where it is answered at once: one that waits for nothing, and one that
 /// its snapshot refuses, with `Invalid` or `Overflow`, which may have spoiled or marked that snapshot. Any other will be answered,
 /// and `Invalid` stands for its reply until then. Where memory is refused nothing changed.
-#[inline(always)]
+#[inline(never)]
 fn begin<B: Layered>(volume: &mut Journaled<B>, request: Request) -> Result<Reply, Refusal>
     requires quiet { is_quiet_of volume.old.volume ≡ true }
     requires few { length volume.old.volume.snaps ≤ 8 }

@@ -14,7 +14,7 @@ use std::io::{ErrorKind, Read};
 use std::marker::Model;
 
 /// So many bytes are asked for at once.
-const MOST_AHEAD: usize = 65_536;
+const MOST_AHEAD: usize = 16_384;
 
 /// Bytes that were read and are not yet taken, and those that were lent last. Contracts see the lists of both.
 #[derive(Drop)]

@@ -5,9 +5,6 @@ use Rattle.volume_commands.proofs.AtRest.{done_none}
 use Rattle.volume_commands.proofs.Carrying.{none_carried}
 use Rattle.volume_commands.proofs.following.follow.Goals as goal
 
-pub returns-in-CopyRead-clause-follows : goal.returns-in-CopyRead-clause-follows
-returns-in-CopyRead-clause-follows g c = rw c.in-CopyRead.is c.follow_read.ensures.so
-
 pub returns-in-WriteArea-clause-follows : goal.returns-in-WriteArea-clause-follows
 returns-in-WriteArea-clause-follows g c = rw c.in-WriteArea.is (inl (0, c.carry_one.ensures.ends.so))
 

@@ -1,0 +1,51 @@
+-- An event that was due first was done in the caller's own code.
+use Rattle.std.proofs.Common.{◌≡◌, ℕ, Bool, true, false, List, Option, Some, refl, sym, ◌∙◌, ap, subst}
+use Rattle.device.specs.Layers.{Layer}
+use Rattle.plain.specs.declared.event.Event.{Event}
+use Rattle.plain.specs.declared.event.Outcome.{Outcome}
+use Rattle.plain.specs.declared.event.Outcome.TheVariants.{Done, Fault, Reply as Answered}
+use Rattle.plain.specs.declared.request.Reply.{Reply}
+use Rattle.volume_laws.specs.MergeDue.{has_group}
+use Rattle.event_machine.specs.MergeDue.{due_all}
+use Rattle.event_machine.specs.Seen.{replied_by}
+use Rattle.merge.specs.Due.{has_group_of}
+use Rattle.merge.specs.Merging.{Merging, books_of as merging_books}
+use Rattle.volume.specs.EventKinds.{is_of_merge}
+use Rattle.volume.specs.Exact.{IsExact}
+use Rattle.volume.specs.Leaving.{has_group_in, is_quiet_of}
+use Rattle.volume.specs.Moved.{moving_of}
+use Rattle.volume.specs.Stepping.{KeepsAll}
+use Rattle.volume.specs.Volumed.{Volumed, is_loud_in_all}
+use Rattle.volume_commands.specs.AtRest.{AreDone, told_by}
+use Rattle.volume_commands.specs.Following.{IsDoneHere, IsFollowed}
+use Rattle.volume_commands.specs.Places.{Counted}
+use Rattle.volume_commands.proofs.AtRest.{done_one}
+use Rattle.volume_commands.proofs.Runs.{RunsBeside, beside_more, beside_followed}
+
+-- the last reply is told in two ways
+told_replied : (outcome : Outcome) (before : Reply) → replied_by outcome (Some before) ≡ Some (told_by outcome before)
+told_replied (Answered number reply) before = refl
+told_replied Done before = refl
+told_replied Fault before = refl
+
+module _ {B : Type 0} (contents : B → List ℕ) (layers : B → List Layer) (faults size : B → ℕ) (before after : Reply) (w u : Counted B) (event : Event) (go : Bool) (d : IsDoneHere contents layers faults size event go before after w u) where
+  pub here_done : AreDone contents layers faults before after w.volume u.volume
+  here_done = subst (λ (r : Reply). AreDone contents layers faults before r w.volume u.volume) (sym d.told) (done_one contents layers faults size before event d.outcome w.volume u.volume d.done)
+
+  module _ (reply : Reply) (v : Volumed B) (so : RunsBeside contents layers size (Some reply) (Some before) v w.volume) (busy : is_quiet_of w.volume ≡ false)
+      (first : (replied : Option Reply) → due_all (moving_of contents layers replied w.volume) ≡ Some event)
+      (calm : is_of_merge event ≡ true → has_group_in w.volume.merge ≡ false → is_quiet_of w.volume ≡ true)
+      (seen : is_of_merge event ≡ true → (m : Merging B) → w.volume.merge ≡ Some m → has_group_of m.group ≡ has_group (merging_books contents true m)) where
+    pub here_beside : RunsBeside contents layers size (Some reply) (Some after) v u.volume
+    here_beside =
+        subst (λ (r : Option Reply). RunsBeside contents layers size (Some reply) r v u.volume) (told_replied d.outcome before ∙ ap Some (sym d.told))
+        (beside_more contents layers size (Some reply) (Some before) v w.volume u.volume event d.outcome so busy first calm seen d.done.exact d.loud d.kept d.done.requests)
+
+    -- and what is known to follow it, where it answered nothing
+    pub here_followed : (again : Reply) (x : Volumed B) → go ≡ true → is_loud_in_all layers x ≡ is_loud_in_all layers u.volume → KeepsAll size u.volume x → x.requests ≡ u.volume.requests → IsFollowed contents layers event after again u.volume x
+        → RunsBeside contents layers size (Some reply) (Some again) v x
+    here_followed again x on loud kept requests followed =
+        let none : d.outcome ≡ Done = d.goes_on on in
+        let same : after ≡ before = d.told ∙ ap (λ (o : Outcome). told_by o before) none in
+        beside_followed contents layers size reply before again v w.volume u.volume x event so busy first calm seen (subst (λ (o : Outcome). IsExact contents layers event o w.volume u.volume) none d.done.exact) d.loud d.kept d.done.requests
+        loud kept requests (subst (λ (r : Reply). IsFollowed contents layers event r again u.volume x) same followed)
