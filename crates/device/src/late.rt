@@ -9,13 +9,20 @@ use std::alloc::Global;
 /// So many sectors wait at most.
 pub const MOST_LATE: u32 = 16;
 
+/// Of no sectors.
+const NOWHERE: Range = Range {
+    first: 0,
+    count: 0,
+    size: 0,
+};
+
 /// The sectors of a write that waits, and their bytes; no sectors where none does.
 #[derive(Drop)]
 pub struct Late {
     pub range: Range,
     pub bytes: Vec<u8>,
     ghost whole: { length bytes.items ≡ 512 * range.count },
-    ghost room: { 8192 ≤ vec_capacity bytes },
+    ghost room: { 512 * 16 ≤ vec_capacity bytes },
 }
 
 impl Late {
@@ -28,12 +35,10 @@ impl Late {
         let Ok(bytes) = Vec::with_capacity(alloc, MOST_LATE as usize * SECTOR_BYTES) else {
             return Err(Refusal::NoMemory);
         };
-        let range = Range {
-            first: 0,
-            count: 0,
-            size: 0,
-        };
-        Ok(Late { range, bytes })
+        Ok(Late {
+            range: NOWHERE,
+            bytes,
+        })
     }
 
     /// Whether none waits.
@@ -48,7 +53,7 @@ impl Late {
     #[inline(always)]
     pub fn take(&mut self, range: Range, bytes: &[u8])
         requires none { self.old.bytes.items ≡ [] }
-        requires few { range.count ≤ 16 }
+        requires few { range.count ≤ MOST_LATE }
         requires room { length bytes.now ≡ 512 * range.count }
         ensures range { self.new.range ≡ range }
         ensures bytes { self.new.bytes.items ≡ bytes.now }
@@ -64,11 +69,7 @@ impl Late {
         ensures count { self.new.range.first + self.new.range.count ≡ 0 }
     {
         self.bytes.clear();
-        self.range = Range {
-            first: 0,
-            count: 0,
-            size: 0,
-        };
+        self.range = NOWHERE;
     }
 
     /// Puts what waits over bytes of so many sectors from `first` on.

@@ -192,6 +192,9 @@ impl Undo {
         ensures len { length self.new.marks.items ≡ length self.old.marks.items }
         ensures settled { (t : ℕ) → is_settled (mark_at self.new.marks.items t) ≡ true }
         ensures fresh { (t : ℕ) → mark_at self.new.marks.items t ≡ Fresh → mark_at self.old.marks.items t ≡ Fresh }
+        ensures zeroed { self.new.zeroed.items ≡ [] }
+        ensures kept { self.new.kept.items ≡ [] }
+        ensures aside { self.new.aside.items ≡ [] }
     {
         settle(&mut self.marks, &mut self.zeroed);
         settle(&mut self.marks, &mut self.kept);
@@ -207,9 +210,7 @@ impl Undo {
         ensures settled { (t : ℕ) → is_settled (mark_at self.new.marks.items t) ≡ true }
         ensures fresh { (t : ℕ) → mark_at self.new.marks.items t ≡ Fresh → (mark_at self.old.marks.items t ≡ Fresh) × ((t < first) ⊎ (first + count ≤ t)) }
     {
-        settle(&mut self.marks, &mut self.zeroed);
-        settle(&mut self.marks, &mut self.kept);
-        self.aside.clear();
+        self.forget();
         mark_all(&mut self.marks, first, count, Mark::Same);
     }
 

@@ -24,6 +24,7 @@ fn place_under(pending: &VecDeque<Begun>, id: Id) -> usize
 }
 
 /// Takes the first pending pair that has a number out of the queue.
+#[inline(always)]
 pub fn take_out(pending: &mut VecDeque<Begun>, id: Id) -> Begun
     requires { IsSome (begun_under id pending.old.items) }
     ensures taken { IfSome (begun_under id pending.old.items) (λ pair. result.pair ≡ pair) }

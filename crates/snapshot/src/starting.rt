@@ -90,6 +90,7 @@ impl<B: Block> Snapshot<B> {
     }
 
     /// Makes room for one more copy, where there is none; `NoMemory` where that is refused, and then nothing changed.
+    #[inline(always)]
     pub fn reserve(&mut self) -> Result<(), Refusal>
         ensures ok { OnOk result (self.new ≡ record self.old { room = max self.old.room 1 }) }
         ensures err { OnErr result (self.new ≡ self.old) }
@@ -141,6 +142,7 @@ impl<B: Block> Snapshot<B> {
     /// Starts the copy of a chunk of the origin that has none, and tells whether it could: it takes the store's next
     /// place, and the buffer, which is as long as the chunk. Where that place is not wholly inside the store, nothing
     /// changed.
+    #[inline(always)]
     pub fn start(&mut self, number: CopyId, chunk: Chunk, buffer: Vec<u8>) -> bool
         requires live { self.old.live ≡ true }
         requires room { 0 < self.old.room }

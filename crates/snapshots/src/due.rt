@@ -25,6 +25,7 @@ pub(crate) fn can_mark<B: Block>(snap: &Snapshot<B>) -> bool
 
 /// Whether something of a snapshot waits for a flush of its store: the mark of a spoiled one, its first copy, the area that is
 /// zeroed for the first copies, or a publication.
+#[inline(always)]
 pub(crate) fn can_flush_store<B: Block>(snap: &Snapshot<B>) -> bool
     ensures { result ≡ can_be_flushed (due_of_kept B.contents B.layers snap.now) }
 {

@@ -6,6 +6,7 @@ use Rattle.std.specs.List.{list_all, position, remove}
 use Rattle.std.proofs.lemmas.Bool.{eq-eqb}
 use Rattle.std.proofs.Math.Seq.{map-set_same}
 use Rattle.sector.specs.Bytes.{sector_at, sectors_at, with_sectors, next_count}
+use Rattle.sector.specs.declared.range.Range.{Range}
 use Rattle.device.specs.Layers.{Layer, is_loud}
 use Rattle.device.specs.declared.operation.Operation.TheVariants.{Reads, Writes}
 use Rattle.plain.specs.declared.event.Event.TheVariants.{Issue}
@@ -139,7 +140,7 @@ module _ {B : Type 0} (holds : B → ℕ → List ℕ → Type 0) (contents : B 
           (met stop same) tt
 
     module _ (bytes : List ℕ) (op : f.request.op ≡ Write bytes) where
-      pub write_at_once : WritesDisk f.request.range.first f.request.range.count (contents u.origin) (contents o') → (is_loud (layers u.origin) ≡ true → contents o' ≡ with_sectors (contents u.origin) f.request.range.first bytes) → faults o' ≡ faults u.origin
+      write_at_once : WritesDisk f.request.range.first f.request.range.count (contents u.origin) (contents o') → (is_loud (layers u.origin) ≡ true → contents o' ≡ with_sectors (contents u.origin) f.request.range.first bytes) → faults o' ≡ faults u.origin
           → ((s : ℕ) (x : List ℕ) → holds o' s x → holds u.origin s x ⊎ ((f.request.range.first ≤ s) × (s < f.request.range.first + f.request.range.count) × (x ≡ sector_at bytes (s - f.request.range.first))))
           → IsOneOperation (Writes f.request.range.first f.request.range.count) true (layers u.origin) (layers o') (faults u.origin) (faults o') (done u.origin) (done o') → IsAnsweredBy holds contents layers size faults done f IsWritten mid after
       write_at_once disk written faulty stop one = at_disk IsWritten
@@ -147,12 +148,26 @@ module _ {B : Type 0} (holds : B → ℕ → List ℕ → Type 0) (contents : B 
           (origin_write_exact contents layers size mid h f.number 0 f found was true (faults u.origin) (faults o') (done u.origin) (done o') IsWritten to o' bytes op one written refl)
           (disk_both holds contents layers size whole here mid h lasts f.number 0 f found was bytes op to o' u.flights written disk stop same_size same_loud) tt
 
-      pub write_io_at_once : contents o' ≡ contents u.origin → faults o' ≡ next_count (faults u.origin) → ((s : ℕ) (x : List ℕ) → holds o' s x → holds u.origin s x)
+      write_io_at_once : contents o' ≡ contents u.origin → faults o' ≡ next_count (faults u.origin) → ((s : ℕ) (x : List ℕ) → holds o' s x → holds u.origin s x)
           → IsOneOperation (Writes f.request.range.first f.request.range.count) false (layers u.origin) (layers o') (faults u.origin) (faults o') (done u.origin) (done o') → IsAnsweredBy holds contents layers size faults done f (IsRefused Io) mid after
       write_io_at_once same faulty stop one = at_disk (IsRefused Io)
           (disk_write_io contents layers size faults done mid h f.number 0 f found was to o' same_size same_loud bytes op counted same faulty)
           (origin_write_exact contents layers size mid h f.number 0 f found was false (faults u.origin) (faults o') (done u.origin) (done o') (IsRefused Io) to o' bytes op one (λ lo. same) refl)
           (met stop same) tt
+
+    -- the same of a range that is the request's
+    module _ (bytes : List ℕ) (op : f.request.op ≡ Write bytes) (range : Range) (is : f.request.range ≡ range) where
+      pub written_at_once : WritesDisk range.first range.count (contents u.origin) (contents o') → (is_loud (layers u.origin) ≡ true → contents o' ≡ with_sectors (contents u.origin) range.first bytes) → faults o' ≡ faults u.origin
+          → ((s : ℕ) (x : List ℕ) → holds o' s x → holds u.origin s x ⊎ ((range.first ≤ s) × (s < range.first + range.count) × (x ≡ sector_at bytes (s - range.first))))
+          → IsOneOperation (Writes range.first range.count) true (layers u.origin) (layers o') (faults u.origin) (faults o') (done u.origin) (done o') → IsAnsweredBy holds contents layers size faults done f IsWritten mid after
+      written_at_once = subst (λ (r : Range). WritesDisk r.first r.count (contents u.origin) (contents o') → (is_loud (layers u.origin) ≡ true → contents o' ≡ with_sectors (contents u.origin) r.first bytes) → faults o' ≡ faults u.origin
+          → ((s : ℕ) (x : List ℕ) → holds o' s x → holds u.origin s x ⊎ ((r.first ≤ s) × (s < r.first + r.count) × (x ≡ sector_at bytes (s - r.first))))
+          → IsOneOperation (Writes r.first r.count) true (layers u.origin) (layers o') (faults u.origin) (faults o') (done u.origin) (done o') → IsAnsweredBy holds contents layers size faults done f IsWritten mid after) is (write_at_once bytes op)
+
+      pub unwritten_at_once : contents o' ≡ contents u.origin → faults o' ≡ next_count (faults u.origin) → ((s : ℕ) (x : List ℕ) → holds o' s x → holds u.origin s x)
+          → IsOneOperation (Writes range.first range.count) false (layers u.origin) (layers o') (faults u.origin) (faults o') (done u.origin) (done o') → IsAnsweredBy holds contents layers size faults done f (IsRefused Io) mid after
+      unwritten_at_once = subst (λ (r : Range). contents o' ≡ contents u.origin → faults o' ≡ next_count (faults u.origin) → ((s : ℕ) (x : List ℕ) → holds o' s x → holds u.origin s x)
+          → IsOneOperation (Writes r.first r.count) false (layers u.origin) (layers o') (faults u.origin) (faults o') (done u.origin) (done o') → IsAnsweredBy holds contents layers size faults done f (IsRefused Io) mid after) is (write_io_at_once bytes op)
 
   -- at its place on the store of the snapshot that it reads
   module _ (at k : ℕ) (s s' : Kept B) (to : f.route ≡ Store at) (read : IsReadOf f.request k (Some at) u.snaps) (is : s ≡ get_or u.snaps k s) where

@@ -55,6 +55,7 @@ pub mod Begins
 pub mod Savings
 pub mod Enters
 pub mod ByKind
+pub mod Bare
 pub mod Roomed
 pub mod Admits
 pub mod Keeping

@@ -10,6 +10,7 @@ pub mod EventKinds
 pub mod Exact
 pub mod Reaching
 pub mod Leaving
+pub mod Lent
 pub mod Taking
 pub mod Asking
 pub mod Attached

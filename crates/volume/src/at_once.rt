@@ -5,6 +5,7 @@ ghost use Rattle.plain.specs.declared.event.Outcome.TheVariants.{Reply as Replie
 ghost use Rattle.plain.specs.declared.request.Op.TheVariants.{Flush as IsFlush, Write};
 ghost use Rattle.in_flight.specs.declared.flights.Route.TheVariants.{Origin};
 ghost use Rattle.in_flight.specs.Kinds.{kind_of};
+ghost use Rattle.in_flight.specs.declared.flights.Flight.{Flight};
 ghost use Rattle.in_flight.specs.declared.flights.Kind.TheVariants.{OriginWrite};
 ghost use Rattle.volume_laws.specs.Published.{is_clear as is_clear_in};
 ghost use Rattle.snapshot.specs.Kept.{books_of as snap_books};
@@ -13,6 +14,7 @@ ghost use Rattle.volume.specs.DoesServe.{DoesServe};
 ghost use Rattle.volume.specs.DoesStep.{DoesStep};
 ghost use Rattle.volume.specs.DoesSubmit.{DoesSubmit};
 ghost use Rattle.volume.specs.Leaving.{is_quiet_of};
+ghost use Rattle.volume.specs.Lent.{IsNextWrite};
 ghost use Rattle.volume.specs.Submitting.{IsRefusedAs, entered_of};
 ghost use Rattle.volume.specs.Whole.{IsWhole};
 
@@ -21,7 +23,7 @@ use crate::ways::Way;
 use device::{Block, Io};
 use in_flight::{Flight, Route};
 use plain::{Failure, Op, Reply, ReqId, Request};
-use sector::{Buf, Refusal};
+use sector::{Buf, Range, Refusal};
 use std::alloc::Global;
 
 /// What became of a request that was accepted.
@@ -117,17 +119,33 @@ impl<B: Block> Volume<B> {
             mut room,
         } = flight;
         let Request { dev: _, op, range } = request;
-        self.requests += 1;
         match op {
-            Op::Read => match self.origin.read(range, room.as_mut_slice()) {
-                Ok(()) => Reply::Data(Buf::from_vec(room)),
-                Err(Io) => Reply::Refused(Failure::Io),
-            },
-            Op::Write(bytes) => match self.origin.write(range, bytes.as_slice()) {
-                Ok(()) => Reply::Written,
-                Err(Io) => Reply::Refused(Failure::Io),
-            },
+            Op::Read => {
+                self.requests += 1;
+                match self.origin.read(range, room.as_mut_slice()) {
+                    Ok(()) => Reply::Data(Buf::from_vec(room)),
+                    Err(Io) => Reply::Refused(Failure::Io),
+                }
+            }
+            Op::Write(bytes) => self.write_at_disk(range, bytes.as_slice()),
             Op::Flush => unreachable!(),
+        }
+    }
+
+    /// Answers a write of the origin disk, as if it had been put in flight there and then issued.
+    #[inline(always)]
+    pub(crate) fn write_at_disk(&mut self, range: Range, bytes: &[u8]) -> Reply
+        requires still { self.old.flights ≡ [] }
+        requires alone { self.old.merge ≡ None }
+        requires left { self.old.requests + 1 < 2 ^ 64 }
+        requires next { (f : Flight) × IsNextWrite B.contents B.layers B.size range bytes.now f self.old }
+        ensures does { (f : Flight) → IsNextWrite B.contents B.layers B.size range bytes.now f self.old → DoesStep B.may_hold B.contents B.layers B.size B.fault_count B.done_count true (Issue f.number) (Ok (Replied f.number result)) (entered_of f self.old) self.new }
+        ensures quiet { is_quiet_of self.new ≡ is_quiet_of self.old }
+    {
+        self.requests += 1;
+        match self.origin.write(range, bytes) {
+            Ok(()) => Reply::Written,
+            Err(Io) => Reply::Refused(Failure::Io),
         }
     }
 }

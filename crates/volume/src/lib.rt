@@ -31,6 +31,7 @@ mod events;
 mod finishing;
 mod issue;
 mod issue_merging;
+mod lent;
 mod merge_copies;
 mod merge_events;
 mod merging;

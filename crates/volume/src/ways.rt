@@ -27,6 +27,7 @@ pub(crate) enum Way {
 
 impl<B: Block> Volume<B> {
     /// Which way a request goes. Beside a merge each is any other.
+    #[inline(always)]
     pub(crate) fn way_of(&self, request: &Request) -> Way
         ensures { IsWayOf B.contents B.layers request.now result self.now }
     {

@@ -1,5 +1,6 @@
 -- An event that was due first was done in the caller's own code.
 use Rattle.std.proofs.Common.{◌≡◌, ℕ, Bool, true, false, List, Option, Some, refl, sym, ◌∙◌, ap, subst}
+use Rattle.std.proofs.lemmas.Bool.{true≢false}
 use Rattle.device.specs.Layers.{Layer}
 use Rattle.plain.specs.declared.event.Event.{Event}
 use Rattle.plain.specs.declared.event.Outcome.{Outcome}
@@ -17,16 +18,31 @@ use Rattle.volume.specs.Moved.{moving_of}
 use Rattle.volume.specs.Stepping.{KeepsAll}
 use Rattle.volume.specs.Volumed.{Volumed, is_loud_in_all}
 use Rattle.volume_commands.specs.AtRest.{AreDone, told_by}
-use Rattle.volume_commands.specs.Following.{IsDoneHere, IsFollowed}
+use Rattle.volume_commands.specs.Following.{IsDoneHere, IsFollowed, is_done}
 use Rattle.volume_commands.specs.Places.{Counted}
-use Rattle.volume_commands.proofs.AtRest.{done_one}
+use Rattle.volume_commands.specs.TakesPlaces.{TakesByRequests}
+use Rattle.volume_commands.proofs.AtRest.{done_one, done_then, still_never}
 use Rattle.volume_commands.proofs.Runs.{RunsBeside, beside_more, beside_followed}
+use Rattle.volume_commands.proofs.Takings.{takes_then}
 
 -- the last reply is told in two ways
 told_replied : (outcome : Outcome) (before : Reply) → replied_by outcome (Some before) ≡ Some (told_by outcome before)
 told_replied (Answered number reply) before = refl
 told_replied Done before = refl
 told_replied Fault before = refl
+
+-- they go on where it was done
+done_by : (outcome : Outcome) → is_done outcome ≡ true → outcome ≡ Done
+done_by (Answered number reply) e = absurd (true≢false (sym e))
+done_by Done e = refl
+done_by Fault e = absurd (true≢false (sym e))
+
+-- what is left of events so far, each done where it was due first
+pub record IsSettling {B : Type 0} (contents : B → List ℕ) (layers : B → List Layer) (faults size : B → ℕ) (reply last : Reply) (start now : Counted B) : Type 0 where
+  pub so : RunsBeside contents layers size (Some reply) (Some last) start.volume now.volume
+  pub did : AreDone contents layers faults reply last start.volume now.volume
+  pub taken : TakesByRequests start now
+  pub still : is_quiet_of start.volume ≡ true → now.volume ≡ start.volume
 
 module _ {B : Type 0} (contents : B → List ℕ) (layers : B → List Layer) (faults size : B → ℕ) (before after : Reply) (w u : Counted B) (event : Event) (go : Bool) (d : IsDoneHere contents layers faults size event go before after w u) where
   pub here_done : AreDone contents layers faults before after w.volume u.volume
@@ -45,7 +61,18 @@ module _ {B : Type 0} (contents : B → List ℕ) (layers : B → List Layer) (f
     pub here_followed : (again : Reply) (x : Volumed B) → go ≡ true → is_loud_in_all layers x ≡ is_loud_in_all layers u.volume → KeepsAll size u.volume x → x.requests ≡ u.volume.requests → IsFollowed contents layers event after again u.volume x
         → RunsBeside contents layers size (Some reply) (Some again) v x
     here_followed again x on loud kept requests followed =
-        let none : d.outcome ≡ Done = d.goes_on on in
+        let none : d.outcome ≡ Done = done_by d.outcome (sym d.goes_on ∙ on) in
         let same : after ≡ before = d.told ∙ ap (λ (o : Outcome). told_by o before) none in
         beside_followed contents layers size reply before again v w.volume u.volume x event so busy first calm seen (subst (λ (o : Outcome). IsExact contents layers event o w.volume u.volume) none d.done.exact) d.loud d.kept d.done.requests
         loud kept requests (subst (λ (r : Reply). IsFollowed contents layers event r again u.volume x) same followed)
+
+  -- with this one
+  pub here_settling : (reply : Reply) (start : Counted B) → IsSettling contents layers faults size reply before start w → is_quiet_of w.volume ≡ false → ((replied : Option Reply) → due_all (moving_of contents layers replied w.volume) ≡ Some event)
+      → (is_of_merge event ≡ true → has_group_in w.volume.merge ≡ false → is_quiet_of w.volume ≡ true) → (is_of_merge event ≡ true → (m : Merging B) → w.volume.merge ≡ Some m → has_group_of m.group ≡ has_group (merging_books contents true m))
+      → IsSettling contents layers faults size reply after start u
+  here_settling reply start was busy first calm seen = record {
+    so = here_beside reply start.volume was.so busy first calm seen;
+    did = done_then contents layers faults size reply before after start.volume w.volume u.volume was.did here_done;
+    taken = takes_then start w u was.taken d.taken;
+    still = still_never start.volume w.volume u.volume was.still busy;
+  }

@@ -25,6 +25,7 @@ pub mod Takes
 pub mod Closes
 pub mod Alike
 pub mod Lends
+pub mod Lent
 pub mod Unread
 pub mod Tells
 pub mod Rests

@@ -166,11 +166,12 @@ module _ {B : Type 0} (size : B → ℕ) (request : Request) (v : Volumed B) (ca
       let many : are_too_many new v ≡ false = rw (a, b, c) refl in
       rw many refl
 
+  pub later_none : first_of_two (range_refusal (piece_with v.merge v.snaps) (size v.origin) (kept_range request.op request.range)) (limit_refusal (starting (kind_of request) request.range.first v.merge v.snaps) v) ≡ None
+  later_none = rw range_none limit_none
+
   -- its snapshot is spoiled, or shut
   pub only_its_snap : (refusal : Refusal) → submit_refusal size request v ≡ Some refusal → (refusal ≡ Invalid) ⊎ (refusal ≡ Overflow)
-  only_its_snap refusal e =
-      let later : first_of_two (range_refusal (piece_with v.merge v.snaps) (size v.origin) (kept_range request.op request.range)) (limit_refusal (starting (kind_of request) request.range.first v.merge v.snaps) v) ≡ None = rw range_none limit_none in
-      elim (first_either (dev_refusal request.dev v.merge v.snaps) (shut_refusal (kind_of request) v.snaps) _ refusal later e) [
-        | inl dev ↦ inl (dev_refused request.dev v refusal apart can.there dev)
-        | inr shut ↦ inr (shut_refused (kind_of request) v.snaps refusal shut)
-      ]
+  only_its_snap refusal e = elim (first_either (dev_refusal request.dev v.merge v.snaps) (shut_refusal (kind_of request) v.snaps) _ refusal later_none e) [
+    | inl dev ↦ inl (dev_refused request.dev v refusal apart can.there dev)
+    | inr shut ↦ inr (shut_refused (kind_of request) v.snaps refusal shut)
+  ]

@@ -5,7 +5,7 @@ use Rattle.device.specs.Layers.{Layer}
 use Rattle.plain.specs.declared.event.Event.{Event}
 use Rattle.plain.specs.declared.event.Event.TheVariants.{CopyRead, CopyWrite, WriteArea, Publish, FlushStore}
 use Rattle.plain.specs.declared.event.Outcome.{Outcome}
-use Rattle.plain.specs.declared.event.Outcome.TheVariants.{Done}
+use Rattle.plain.specs.declared.event.Outcome.TheVariants.{Done, Fault, Reply as Replies}
 use Rattle.plain.specs.declared.request.Dev.{Dev}
 use Rattle.plain.specs.declared.request.Dev.TheVariants.{Origin, Snap}
 use Rattle.plain.specs.declared.request.Reply.{Reply}
@@ -85,13 +85,19 @@ pub record IsCarried {B : Type 0} (contents : B → List ℕ) (layers : B → Li
   pub ends : AreDoneSo contents layers faults size (AreCarried contents layers (event ∷ []) before after old.volume new.volume) before after old new
   pub goes_on : go ≡ true → (after ≡ before) × IsExact contents layers event Done old.volume new.volume
 
--- An event that was due was done: the last reply is its own then, or the one before. Where they `go` on, nothing failed, and nothing was
--- answered.
+-- nothing failed, and nothing was answered
+abbrev pub is_done : Outcome → Bool
+is_done (Replies number reply) = false
+is_done Done = true
+is_done Fault = false
+
+-- An event that was due was done: the last reply is its own then, or the one before. They `go` on just where nothing failed, and nothing
+-- was answered.
 pub record IsDoneHere {B : Type 0} (contents : B → List ℕ) (layers : B → List Layer) (faults size : B → ℕ) (event : Event) (go : Bool) (before after : Reply) (old new : Counted B) : Type 0 where
   pub outcome : Outcome
   pub done : IsDoneDue contents layers faults event outcome old.volume new.volume
   pub told : after ≡ told_by outcome before
-  pub goes_on : go ≡ true → outcome ≡ Done
+  pub goes_on : go ≡ is_done outcome
   pub loud : is_loud_in_all layers new.volume ≡ is_loud_in_all layers old.volume
   pub kept : KeepsAll size old.volume new.volume
   pub lower : left_in_all contents layers new.volume < left_in_all contents layers old.volume

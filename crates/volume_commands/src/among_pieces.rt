@@ -103,7 +103,7 @@ fn read_piece_among<B: Layered>(
     }
 }
 
-/// Writes a range, piece after piece. The bytes are lent, as to a volume at rest.
+/// Writes a range, piece after piece. The bytes are lent: one piece is handed all of them, and of more each is a copy.
 fn write_pieces_among<B: Layered>(
     volume: &mut Journaled<B>,
     alloc: Global,

@@ -20,6 +20,7 @@ ghost use Rattle.snapshots.specs.Numbers.{number_of_snap};
 ghost use Rattle.volume.specs.Asking.{HasNone, HoldsOf, IsMergeStill, merging_chunk_of, merging_number, merging_usage};
 ghost use Rattle.volume.specs.EventKinds.{is_of_merge};
 ghost use Rattle.volume.specs.Leaving.{has_group_in, is_quiet_of, usage_of};
+ghost use Rattle.volume.specs.Lent.{is_bare};
 ghost use Rattle.volume.specs.OnlyMerging.{is_only_merging_of};
 ghost use Rattle.volume.specs.Moved.{moving_of};
 ghost use Rattle.volume.specs.Stepping.{has_failed};
@@ -115,6 +116,13 @@ impl<B: Layered> Journaled<B> {
         ensures numbers { AllPairs (λ m n. m < n) (map number_of_snap self.now.volume.snaps) }
     {
         self.volume.is_quiet()
+    }
+
+    /// Whether `write_lent` may be called: there is no snapshot and no merge, and the volume is quiet.
+    pub(crate) fn is_bare(&self) -> bool
+        ensures { result ≡ is_bare self.now.volume }
+    {
+        self.volume.is_bare()
     }
 
     /// How many requests are in flight: 64 at most.

@@ -1,10 +1,11 @@
 // Requests and events.
-ghost use Rattle.std.specs.Prelude.{◌≡◌, ◌*◌, IfErr, IfOk, List, length, true, ℕ};
+ghost use Rattle.std.specs.Prelude.{◌≡◌, ◌*◌, ◌+◌, IfErr, IfOk, List, OnErr, length, true, ℕ};
 ghost use Rattle.plain.specs.declared.request.Op.TheVariants.{Write};
 ghost use Rattle.plain.specs.declared.request.Reply.TheVariants.{Refused};
-ghost use Rattle.volume.specs.DoesServe.{DoesServe};
+ghost use Rattle.volume.specs.DoesServe.{DoesServe, IsServedAtOnce};
 ghost use Rattle.volume.specs.DoesStep.{DoesStep};
 ghost use Rattle.volume.specs.DoesSubmit.{DoesSubmit};
+ghost use Rattle.volume.specs.Lent.{is_bare, origin_write};
 ghost use Rattle.volume.specs.Volumed.{is_loud_in_all, plain_of};
 ghost use Rattle.journal.specs.declared.entry.Entry.{Entry};
 ghost use Rattle.volume_commands.specs.Declined.{IsUnsent};
@@ -16,8 +17,8 @@ use crate::Journaled;
 use crate::journaled::count_may;
 use journal::MAX_ENTRIES;
 use layers::Layered;
-use plain::{Event, NotDue, Outcome, ReqId, Request};
-use sector::Refusal;
+use plain::{Event, NotDue, Outcome, Reply, ReqId, Request};
+use sector::{Range, Refusal};
 use volume::Served;
 
 impl<B: Layered> Journaled<B> {
@@ -72,6 +73,29 @@ impl<B: Layered> Journaled<B> {
                 self.places += may - count_may(&self.volume);
                 Err(refusal)
             }
+        }
+    }
+
+    /// Writes sectors of the origin of a bare volume by bytes that are lent, as `serve` does of such a request.
+    pub(crate) fn write_lent(&mut self, range: Range, bytes: &[u8]) -> Result<Reply, Refusal>
+        requires bare { is_bare self.old.volume ≡ true }
+        requires bytes { length bytes.now ≡ 512 * range.count }
+        ensures does { IfOk result (λ reply. IsServedAtOnce B.may_hold B.contents B.layers B.size B.fault_count B.done_count (origin_write range bytes.now) (self.old.volume.requests + 1) reply self.old.volume self.new.volume) }
+        ensures refused { IfErr result (λ refusal. IsUnsent B.contents B.layers B.size (origin_write range bytes.now) refusal self.old.volume self.new.volume) }
+        ensures same { OnErr result (self.new.volume ≡ self.old.volume) }
+        ensures places { TakesPlaces 1 kept_for_marks result self.old self.new }
+        ensures taken { TakesByRequests self.old self.new }
+    {
+        // There is no snapshot, for whose mark a place is kept.
+        if self.places + 1 > MAX_ENTRIES {
+            return Err(Refusal::JournalFull);
+        }
+        match self.volume.write_lent(self.alloc, range, bytes) {
+            Ok(reply) => {
+                self.places += 1;
+                Ok(reply)
+            }
+            Err(refusal) => Err(refusal),
         }
     }
 

@@ -2,8 +2,10 @@
 ghost use Rattle.std.specs.Prelude.{◌≡◌, ◌⊎◌, ℕ, ◌+◌, ◌-◌, ◌*◌, ◌≤◌, ◌<◌, ◌∷◌, ◌++◌, [], take, drop, length, vec_capacity, vec_len, Option, None, Some, IfOk, IfErr, OnOk, OnErr, true};
 ghost use Rattle.plain.specs.declared.request.Reply.{Reply as AnyReply};
 ghost use Rattle.plain.specs.declared.request.Reply.TheVariants.{Data, Refused, Written};
+ghost use Rattle.plain.specs.declared.request.Dev.TheVariants.{Origin};
 ghost use Rattle.plain.specs.declared.request.Op.TheVariants.{Read, Write};
 ghost use Rattle.chunk.specs.Pieces.{pieces_of, span_of};
+ghost use Rattle.volume.specs.Lent.{is_bare};
 ghost use Rattle.volume.specs.Volumed.{piece_with};
 ghost use Rattle.settled.specs.Beside.{written_beside, read_beside};
 ghost use Rattle.settled.specs.Commands.{bytes_in};
@@ -20,7 +22,7 @@ ghost use Rattle.volume_commands.specs.Places.{is_full_for};
 ghost use Rattle.volume_commands.specs.TakesPlaces.{TakesByRequests};
 
 use crate::Journaled;
-use crate::serving::serve;
+use crate::serving::{serve, serve_lent};
 use chunk::Geometry;
 use layers::Layered;
 use plain::{Dev, Op, Reply, Request, refusal_for};
@@ -47,7 +49,40 @@ pub(crate) fn part_of(
     Buf::from_slice(alloc, &bytes.as_slice()[from..to])
 }
 
-/// Writes one piece: the bytes from `from` up to `to`. At `NoMemory` nothing of the volume changed.
+/// Writes one piece of a bare volume's origin by bytes that are lent.
+fn write_piece_lent<B: Layered>(
+    volume: &mut Journaled<B>,
+    dev: Dev,
+    piece: Range,
+    bytes: &[u8],
+) -> Result<(), Refusal>
+    requires between { IsBetween volume.old.volume }
+    requires bare { is_bare volume.old.volume ≡ true }
+    requires origin { dev ≡ Origin }
+    requires can { CanServe B.size dev (Write bytes.now) piece volume.old.volume }
+    ensures between { IsBetween volume.new.volume }
+    ensures settled { IsSettled B.layers (rested_of volume.old.volume) → IsSettled B.layers (rested_of volume.new.volume) }
+    ensures done { OnOk result (IsPieceDone B.contents B.layers (part_written dev (span_of piece) bytes.now) (rested_of volume.old.volume) (rested_of volume.new.volume)) }
+    ensures refused { IfErr result (λ refusal. IsPieceRefused B.contents B.layers (part_written dev (span_of piece) bytes.now) refusal (rested_of volume.old.volume) (rested_of volume.new.volume)) }
+    ensures answered { OnOk result ((reply : AnyReply) × IsPieceAnswered B.contents B.layers B.fault_count B.size dev (Write bytes.now) (span_of piece) reply volume.old.volume volume.new.volume) }
+    ensures undone { IfErr result (λ refusal. IsPieceUndone B.contents B.layers B.fault_count B.size dev (Write bytes.now) (span_of piece) refusal volume.old.volume volume.new.volume) }
+    ensures kept { KeepsDevices B.layers B.size (rested_of volume.old.volume) (rested_of volume.new.volume) }
+    ensures piece { piece_with volume.new.volume.merge volume.new.volume.snaps ≡ piece_with volume.old.volume.merge volume.old.volume.snaps }
+    ensures requests { volume.new.volume.requests ≤ volume.old.volume.requests + 1 }
+    ensures taken { TakesByRequests volume.old volume.new }
+    ensures full { IfErr result (λ refusal. refusal ≡ JournalFull → is_full_for 1 volume.new.taken ≡ true) }
+{
+    match serve_lent(volume, piece, bytes) {
+        Ok(Reply::Refused(failure)) => Err(refusal_for(failure)),
+        Ok(Reply::Written) => Ok(()),
+        Ok(Reply::Flushed) => Ok(()),
+        Ok(Reply::Data(_)) => Ok(()),
+        Err(refusal) => Err(refusal),
+    }
+}
+
+/// Writes one piece: the bytes from `from` up to `to`, which a bare volume's origin is lent, and of which any other is given a
+/// copy. At `NoMemory` nothing of the volume changed.
 fn write_piece<B: Layered>(
     volume: &mut Journaled<B>,
     alloc: Global,
@@ -74,6 +109,9 @@ fn write_piece<B: Layered>(
     ensures taken { TakesByRequests volume.old volume.new }
     ensures full { IfErr result (λ refusal. refusal ≡ JournalFull → is_full_for 1 volume.new.taken ≡ true) }
 {
+    if dev == Dev::Origin && volume.is_bare() {
+        return write_piece_lent(volume, dev, piece, &bytes.as_slice()[from..to]);
+    }
     let Ok(part) = part_of(alloc, bytes, from, to) else {
         return Err(Refusal::NoMemory);
     };
@@ -181,8 +219,8 @@ fn read_alone<B: Layered>(
     }
 }
 
-/// Writes a range, piece after piece. A piece that is not done ends it, and those before it stand. The bytes are lent: where
-/// there is one piece they are taken, else each piece is a copy of its part.
+/// Writes a range, piece after piece. A piece that is not done ends it, and those before it stand. The bytes are lent, to each piece of
+/// a bare volume's origin too; of any other, where there is one piece they are taken, else each piece is a copy of its part.
 pub(crate) fn write_pieces<B: Layered>(
     volume: &mut Journaled<B>,
     alloc: Global,

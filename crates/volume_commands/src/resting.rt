@@ -114,7 +114,7 @@ impl<B: Layered> Resting<B> {
     /// size, which are written in order. Where the volume is settled, it is the settled machine's write: the bytes stand in
     /// the array of its device, also while a merge is begun. Of a write to the origin, each snapshot shows what it showed, or
     /// is spoiled; one to a snapshot changes what that shows alone. Whichever device drops writes, each piece is answered by an
-    /// event that was due. The bytes are lent: where there is one piece they are taken, else their memory stays the caller's.
+    /// event that was due. The bytes are lent: where there is one piece they may be taken, else their memory stays the caller's.
     ///
     /// Refused: there is no such snapshot (`NoSuchDevice`), and then nothing changed; the snapshot is spoiled (`Invalid`), or
     /// the device of a piece failed (`Io`), and the pieces before it stand; the snapshot's store overflowed before

@@ -1,5 +1,7 @@
 // One piece of a command: it is served, and the events that are due are done until none is.
 ghost use Rattle.std.specs.Prelude.{◌≡◌, ℕ, ◌+◌, ◌≤◌, length, Option, None, Some, IfOk, IfErr, true, false};
+ghost use Rattle.plain.specs.declared.request.Dev.TheVariants.{Origin};
+ghost use Rattle.plain.specs.declared.request.Op.TheVariants.{Write};
 ghost use Rattle.plain.specs.declared.request.Reply.{Reply};
 ghost use Rattle.settled.specs.Refusals.{is_starved};
 ghost use Rattle.event_machine.specs.Due.{due};
@@ -7,6 +9,7 @@ ghost use Rattle.volume.specs.Volumed.{is_loud_in_all, next_of, piece_with};
 ghost use Rattle.volume.specs.Moved.{moving_of};
 ghost use Rattle.volume.specs.Reaching.{IsRun};
 ghost use Rattle.volume.specs.Leaving.{has_group_in, is_quiet_of};
+ghost use Rattle.volume.specs.Lent.{is_bare, origin_write};
 ghost use Rattle.volume.specs.Submitting.{SameButRoom};
 ghost use Rattle.volume_commands.specs.Declined.{IsUnsent};
 ghost use Rattle.volume_commands.specs.Rested.{rested_of, merged_of, IsSettled, has_dev};
@@ -25,7 +28,7 @@ use crate::Journaled;
 use crate::following::{follow, follow_read};
 use layers::Layered;
 use plain::{Dev, Event, Failure, NotDue, Outcome, Reply, Request};
-use sector::Refusal;
+use sector::{Range, Refusal};
 use volume::Served;
 
 /// Does the event that is due first, in the caller's own code, and tells whether to go on: nothing failed, and nothing was answered.
@@ -141,6 +144,39 @@ pub(crate) fn serve<B: Layered>(
     let _ = volume.is_quiet();
     match begin(volume, request) {
         Ok(reply) => Ok(settle(volume, reply)),
+        Err(refusal) => Err(refusal),
+    }
+}
+
+/// Serves a write of a bare volume's origin by bytes that are lent, as `serve` does of such a request. Nothing is due then.
+pub(crate) fn serve_lent<B: Layered>(
+    volume: &mut Journaled<B>,
+    piece: Range,
+    bytes: &[u8],
+) -> Result<Reply, Refusal>
+    requires between { IsBetween volume.old.volume }
+    requires bare { is_bare volume.old.volume ≡ true }
+    requires can { CanServe B.size Origin (Write bytes.now) piece volume.old.volume }
+    ensures between { IsBetween volume.new.volume }
+    ensures settled { IsSettled B.layers (rested_of volume.old.volume) → IsSettled B.layers (rested_of volume.new.volume) }
+    ensures answer { IfOk result (λ reply. IsDoneBy B.contents B.layers (part_done (origin_write piece bytes.now)) reply (rested_of volume.old.volume) (rested_of volume.new.volume)) }
+    ensures answered { IfOk result (λ reply. IsAnswered B.contents B.layers B.fault_count B.size (origin_write piece bytes.now) reply volume.old.volume volume.new.volume) }
+    ensures starved { IfErr result (λ refusal. (is_starved refusal ≡ true) × (merged_of B.contents B.layers (rested_of volume.new.volume) ≡ merged_of B.contents B.layers (rested_of volume.old.volume))) }
+    ensures untaken { IfErr result (λ refusal. IsUnsent B.contents B.layers B.size (origin_write piece bytes.now) refusal volume.old.volume volume.new.volume) }
+    ensures kept { KeepsDevices B.layers B.size (rested_of volume.old.volume) (rested_of volume.new.volume) }
+    ensures piece { piece_with volume.new.volume.merge volume.new.volume.snaps ≡ piece_with volume.old.volume.merge volume.old.volume.snaps }
+    ensures requests { volume.new.volume.requests ≤ volume.old.volume.requests + 1 }
+    ensures taken { TakesByRequests volume.old volume.new }
+    ensures full { IfErr result (λ refusal. refusal ≡ JournalFull → is_full_for 1 volume.new.taken ≡ true) }
+{
+    // A quiet volume, no device of which drops writes, is at rest.
+    let _ = volume.is_quiet();
+    match volume.write_lent(piece, bytes) {
+        Ok(reply) => {
+            // None of its events is due.
+            let _ = volume.is_quiet();
+            Ok(reply)
+        }
         Err(refusal) => Err(refusal),
     }
 }

@@ -1,8 +1,14 @@
 -- The piece was written, or was not.
-use Rattle.std.proofs.Common.{◌-◌, take, drop, refl, ap, sym, ◌∙◌}
+use Rattle.std.proofs.Common.{◌-◌, inl, ℕ, List, take, drop, refl, ap, sym, subst, ◌∙◌}
+use Rattle.std.specs.Prelude.{IfErr}
 use Rattle.chunk.specs.Pieces.{span_of}
 use Rattle.plain.specs.declared.request.Op.TheVariants.{Write}
-use Rattle.plain.specs.declared.request.Reply.TheVariants.{Written, Flushed}
+use Rattle.plain.specs.declared.request.Reply.{Reply}
+use Rattle.plain.specs.declared.request.Reply.TheVariants.{Written, Flushed, Refused}
+use Rattle.volume_commands.specs.AtRest.{IsPieceUndone}
+use Rattle.volume_commands.specs.Commands.{IsDoneBy}
+use Rattle.volume_commands.specs.Rested.{rested_of}
+use Rattle.volume_commands.specs.Serving.{part_written}
 use Rattle.volume_commands.proofs.AtRest.{piece_answered, piece_failed, piece_untaken}
 use Rattle.volume.proofs.Submits.{not_full}
 use Rattle.volume_commands.proofs.pieces.write_piece.Goals as goal
@@ -45,3 +51,15 @@ returns-clause-undone g c =
 
 pub returns-in-Ok-Refused-clause-full : goal.returns-in-Ok-Refused-clause-full
 returns-in-Ok-Refused-clause-full g c = λ is. absurd (not_full c.in-Ok-Refused.failure (sym is ∙ c.refusal_for.ensures))
+
+pub returns-in-Ok-Refused-clause-refused : goal.returns-in-Ok-Refused-clause-refused
+returns-in-Ok-Refused-clause-refused g c =
+    let done : Reply → List ℕ → Type 0 = λ reply bytes. IsDoneBy g.B.Block.contents g.B.Block.layers (part_written c.args.dev (span_of c.args.piece) bytes) reply (rested_of c.args.volume.now.volume) (rested_of c.serve.new.volume.volume) in
+    inl (c.in-Ok-Refused.failure, c.refusal_for.ensures, subst (done (Refused c.in-Ok-Refused.failure)) c.in-Ok.ensures.part (subst (λ (reply : Reply). done reply c.in-Ok.part) c.in-Ok-Refused.field-0-is c.in-Ok-Refused.ensures.answer))
+
+pub returns-then-is_bare-clause-undone : goal.returns-then-is_bare-clause-undone
+returns-then-is_bare-clause-undone g c =
+    subst
+    (λ (bytes : List ℕ). IfErr c.write_piece_lent.result
+    (λ refusal. IsPieceUndone g.B.Block.contents g.B.Block.layers g.B.Block.fault_count g.B.Block.size c.args.dev (Write (take (c.args.to - c.args.from) (drop c.args.from bytes))) (span_of c.args.piece) refusal c.args.volume.now.volume c.write_piece_lent.new.volume.volume))
+    c.as_slice.ensures c.write_piece_lent.ensures.undone

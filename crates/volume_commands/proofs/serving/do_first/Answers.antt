@@ -1,6 +1,5 @@
 -- The event that is due first is due, and was done.
-use Rattle.std.proofs.Common.{refl, sym}
-use Rattle.std.proofs.lemmas.Bool.{true≢false}
+use Rattle.std.proofs.Common.{refl}
 use Rattle.plain.specs.declared.event.Outcome.TheVariants.{Done, Fault, Reply as Answered}
 use Rattle.volume_commands.proofs.AtRest.{due_is}
 use Rattle.volume_commands.proofs.serving.do_first.Goals as goal
@@ -11,7 +10,7 @@ returns-in-Ok-Reply g c = record {
   done = due_is g.B.Block.contents g.B.Block.layers g.B.Block.fault_count g.B.Block.size c.args.event _ (Answered _ c.in-Ok-Reply.given) c.args.volume.now.volume c.step_here.new.self.volume c.in-Ok-Reply.ensures.does.due c.in-Ok-Reply.field-0-is
       c.in-Ok-Reply.ensures.does.exact c.in-Ok-Reply.ensures.does.legal c.in-Ok-Reply.ensures.does.flown c.in-Ok-Reply.ensures.does.cause c.in-Ok-Reply.ensures.does.counts.0;
   told = refl;
-  goes_on = λ go. absurd (true≢false (sym go));
+  goes_on = refl;
   loud = c.in-Ok-Reply.ensures.does.loud;
   kept = c.in-Ok-Reply.ensures.does.kept;
   lower = c.in-Ok-Reply.ensures.does.lower;
@@ -24,7 +23,7 @@ returns-in-Ok-Done g c = record {
   done = due_is g.B.Block.contents g.B.Block.layers g.B.Block.fault_count g.B.Block.size c.args.event _ Done c.args.volume.now.volume c.step_here.new.self.volume c.in-Ok-Done.ensures.does.due c.in-Ok-Done.field-0-is
       c.in-Ok-Done.ensures.does.exact c.in-Ok-Done.ensures.does.legal c.in-Ok-Done.ensures.does.flown c.in-Ok-Done.ensures.does.cause c.in-Ok-Done.ensures.does.counts.0;
   told = refl;
-  goes_on = λ go. refl;
+  goes_on = refl;
   loud = c.in-Ok-Done.ensures.does.loud;
   kept = c.in-Ok-Done.ensures.does.kept;
   lower = c.in-Ok-Done.ensures.does.lower;
@@ -37,7 +36,7 @@ returns-in-Ok-Fault g c = record {
   done = due_is g.B.Block.contents g.B.Block.layers g.B.Block.fault_count g.B.Block.size c.args.event _ Fault c.args.volume.now.volume c.step_here.new.self.volume c.in-Ok-Fault.ensures.does.due c.in-Ok-Fault.field-0-is
       c.in-Ok-Fault.ensures.does.exact c.in-Ok-Fault.ensures.does.legal c.in-Ok-Fault.ensures.does.flown c.in-Ok-Fault.ensures.does.cause c.in-Ok-Fault.ensures.does.counts.0;
   told = refl;
-  goes_on = λ go. absurd (true≢false (sym go));
+  goes_on = refl;
   loud = c.in-Ok-Fault.ensures.does.loud;
   kept = c.in-Ok-Fault.ensures.does.kept;
   lower = c.in-Ok-Fault.ensures.does.lower;

@@ -7,7 +7,7 @@ use Rattle.volume.specs.Exact.{IsExact}
 use Rattle.volume_commands.specs.Following.{IsDoneHere, IsFollowed}
 use Rattle.volume_commands.proofs.AtRest.{done_none, done_one, done_then, due_is, still_never}
 use Rattle.volume_commands.proofs.Runs.{beside_none, beside_more, beside_followed}
-use Rattle.volume_commands.proofs.Doing.{here_beside, here_done, here_followed}
+use Rattle.volume_commands.proofs.Doing.{here_done, here_followed, here_settling}
 use Rattle.volume_commands.proofs.Quiet.{still_free, free_quiet}
 use Rattle.volume_commands.proofs.Takings.{takes_none, takes_then}
 use Rattle.volume_commands.proofs.serving.settle.Goals as goal
@@ -92,26 +92,20 @@ loop-volume-preserved-then-do_first g c =
 pub loop-volume-preserved-else-do_first : goal.loop-volume-preserved-else-do_first
 loop-volume-preserved-else-do_first g c =
     let d = subst (λ (e : Event). IsDoneHere g.B.Block.contents g.B.Block.layers g.B.Block.fault_count g.B.Block.size e c.do_first.result c.loop-volume.reply c.do_first.new.reply c.loop-volume.volume c.do_first.new.volume) (sym c.in-CopyRead.is) c.do_first.ensures in
-    record {
-      so = here_beside g.B.Block.contents g.B.Block.layers g.B.Block.fault_count g.B.Block.size c.loop-volume.reply c.do_first.new.reply c.loop-volume.volume c.do_first.new.volume c.in-Some.event c.do_first.result d c.args.reply c.args.volume.now.volume c.loop-volume.invariant.so
-          (sym c.is_quiet.ensures.value ∙ c.loop-volume-test.true) c.in-Some.ensures.machine c.in-Some.ensures.calm c.in-Some.ensures.seen;
-      did = done_then g.B.Block.contents g.B.Block.layers g.B.Block.fault_count g.B.Block.size c.args.reply c.loop-volume.reply c.do_first.new.reply c.args.volume.now.volume c.loop-volume.volume.volume c.do_first.new.volume.volume c.loop-volume.invariant.did
-          (here_done g.B.Block.contents g.B.Block.layers g.B.Block.fault_count g.B.Block.size c.loop-volume.reply c.do_first.new.reply c.loop-volume.volume c.do_first.new.volume c.in-Some.event c.do_first.result d);
-      taken = takes_then _ _ _ c.loop-volume.invariant.taken d.taken;
-      still = still_never c.args.volume.now.volume c.loop-volume.volume.volume c.do_first.new.volume.volume c.loop-volume.invariant.still (sym c.is_quiet.ensures.value ∙ c.loop-volume-test.true);
-    }
+    let was = c.loop-volume.invariant in
+    let now =
+    here_settling g.B.Block.contents g.B.Block.layers g.B.Block.fault_count g.B.Block.size c.loop-volume.reply c.do_first.new.reply c.loop-volume.volume c.do_first.new.volume c.in-Some.event c.do_first.result d c.args.reply c.args.volume.now (record { so = was.so; did = was.did; taken = was.taken; still = was.still })
+    (sym c.is_quiet.ensures.value ∙ c.loop-volume-test.true) c.in-Some.ensures.machine c.in-Some.ensures.calm c.in-Some.ensures.seen in
+    record { so = now.so; did = now.did; taken = now.taken; still = now.still }
 
 pub loop-volume-preserved-in-Issue : goal.loop-volume-preserved-in-Issue
 loop-volume-preserved-in-Issue g c =
     let d = subst (λ (e : Event). IsDoneHere g.B.Block.contents g.B.Block.layers g.B.Block.fault_count g.B.Block.size e c.do_first-in-Issue.result c.loop-volume.reply c.do_first-in-Issue.new.reply c.loop-volume.volume c.do_first-in-Issue.new.volume) (sym c.in-Issue.is) c.do_first-in-Issue.ensures in
-    record {
-      so = here_beside g.B.Block.contents g.B.Block.layers g.B.Block.fault_count g.B.Block.size c.loop-volume.reply c.do_first-in-Issue.new.reply c.loop-volume.volume c.do_first-in-Issue.new.volume c.in-Some.event c.do_first-in-Issue.result d c.args.reply c.args.volume.now.volume c.loop-volume.invariant.so
-          (sym c.is_quiet.ensures.value ∙ c.loop-volume-test.true) c.in-Some.ensures.machine c.in-Some.ensures.calm c.in-Some.ensures.seen;
-      did = done_then g.B.Block.contents g.B.Block.layers g.B.Block.fault_count g.B.Block.size c.args.reply c.loop-volume.reply c.do_first-in-Issue.new.reply c.args.volume.now.volume c.loop-volume.volume.volume c.do_first-in-Issue.new.volume.volume c.loop-volume.invariant.did
-          (here_done g.B.Block.contents g.B.Block.layers g.B.Block.fault_count g.B.Block.size c.loop-volume.reply c.do_first-in-Issue.new.reply c.loop-volume.volume c.do_first-in-Issue.new.volume c.in-Some.event c.do_first-in-Issue.result d);
-      taken = takes_then _ _ _ c.loop-volume.invariant.taken d.taken;
-      still = still_never c.args.volume.now.volume c.loop-volume.volume.volume c.do_first-in-Issue.new.volume.volume c.loop-volume.invariant.still (sym c.is_quiet.ensures.value ∙ c.loop-volume-test.true);
-    }
+    let was = c.loop-volume.invariant in
+    let now =
+    here_settling g.B.Block.contents g.B.Block.layers g.B.Block.fault_count g.B.Block.size c.loop-volume.reply c.do_first-in-Issue.new.reply c.loop-volume.volume c.do_first-in-Issue.new.volume c.in-Some.event c.do_first-in-Issue.result d c.args.reply c.args.volume.now (record { so = was.so; did = was.did; taken = was.taken; still = was.still })
+    (sym c.is_quiet.ensures.value ∙ c.loop-volume-test.true) c.in-Some.ensures.machine c.in-Some.ensures.calm c.in-Some.ensures.seen in
+    record { so = now.so; did = now.did; taken = now.taken; still = now.still }
 
 pub returns-clause-none : goal.returns-clause-none
 returns-clause-none g c = c.is_quiet.ensures.calm c.loop-volume-test.false
