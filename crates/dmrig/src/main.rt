@@ -10,50 +10,42 @@ ghost use Rattle.std.specs.Prelude.{◌≡◌, ◌≤◌};
 ghost use Rattle.dmrig.specs.Ended.{ended};
 
 mod asking;
+mod source;
 
 use crate::asking::{Asked, words_ask};
-use runner::{RunError, Summary, TraceTo, Tracer, Untraced, exit_status, run, run_numbered};
-use std::io::{BufReader, BufWriter, Read, Write};
+use crate::source::Source;
+use runner::{RunError, Summary, TraceTo, exit_status, run, run_numbered};
+use std::io::{BufWriter, Read, Write};
 use std::process::ExitCode;
 use std::rt::{Files, Stderr};
 use std::sync::Wait;
 use std::thread::Threads;
 use std::{fs, io};
 
-/// Runs the lines of a reader into a writer, and tells a tracer what is in flight, if that is asked for.
-fn ran<R: Read, W: Write, X: Tracer>(
-    rt: &(impl AllocGlobal + Threads + Wait + Sync),
-    reader: &mut R,
-    writer: &mut W,
-    tracer: &mut X,
-    asked: Asked<'_>,
-) -> Result<Summary, RunError>
-    requires some { 1 ≤ asked.workers }
-    requires few { asked.workers ≤ 4 }
-{
-    let workers = asked.workers;
-    match (asked.numbers, asked.trace) {
-        (false, false) => run(rt, rt.alloc(), reader, writer, &mut Untraced, workers),
-        (true, false) => run_numbered(rt, rt.alloc(), reader, writer, &mut Untraced, workers),
-        (false, true) => run(rt, rt.alloc(), reader, writer, tracer, workers),
-        (true, true) => run_numbered(rt, rt.alloc(), reader, writer, tracer, workers),
-    }
-}
-
-/// Runs the lines of a reader into standard output, and its trace into standard error. An error is the writer's own.
+/// Runs the lines of a reader into standard output, and its trace, if that is asked for, into standard error. An error is the
+/// writer's own. The reader is asked for thousands of bytes at once (`words`), so that none need be kept for it.
 fn printed<R: Read + Drop>(
     rt: &(impl Print + AllocGlobal + Threads + Wait + Sync),
-    reader: R,
+    mut reader: R,
     errors: &Stderr,
     asked: Asked<'_>,
 ) -> io::Result<Result<Summary, RunError>>
     requires some { 1 ≤ asked.workers }
     requires few { asked.workers ≤ 4 }
 {
-    let mut reader = BufReader::new(rt.alloc(), reader)?;
-    let mut writer = BufWriter::new(rt.alloc(), io::writer(rt))?;
-    let mut tracer = TraceTo::new(BufWriter::new(rt.alloc(), errors)?);
-    let ran = ran(rt, &mut reader, &mut writer, &mut tracer, asked);
+    let alloc = rt.alloc();
+    let mut writer = BufWriter::new(alloc, io::writer(rt))?;
+    let mut tracer = if asked.trace {
+        Some(TraceTo::new(BufWriter::new(alloc, errors)?))
+    } else {
+        None
+    };
+    let workers = asked.workers;
+    let ran = if asked.numbers {
+        run_numbered(rt, alloc, &mut reader, &mut writer, &mut tracer, workers)
+    } else {
+        run(rt, alloc, &mut reader, &mut writer, &mut tracer, workers)
+    };
     writer.flush()?;
     Ok(ran)
 }
@@ -87,16 +79,21 @@ fn done(
     requires some { 1 ≤ asked.workers }
     requires few { asked.workers ≤ 4 }
 {
-    match asked.file {
-        None | Some("-") => finished(rt, "-", printed(rt, rt.reader(), errors, asked)),
+    let source = match asked.file {
+        None | Some("-") => Source::Input(rt.reader()),
         Some(name) => match fs::open(rt, name) {
-            Ok(file) => finished(rt, name, printed(rt, file, errors, asked)),
+            Ok(file) => Source::File(file),
             Err(_) => {
                 let _ = eprintln!(rt; "dmrig: cannot read {name}");
-                2
+                return 2;
             }
         },
-    }
+    };
+    finished(
+        rt,
+        asked.file.unwrap_or("-"),
+        printed(rt, source, errors, asked),
+    )
 }
 
 /// The words of the command line. `None`, once that is told, where they could not be had.

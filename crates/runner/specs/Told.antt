@@ -1,10 +1,15 @@
 -- A run of a text, and what is told behind each of its lines. This project's own.
-use Rattle.std.specs.Prelude.{◌≡◌, ℕ, ◌+◌, List, [], ◌∷◌, ◌++◌}
+use Rattle.std.specs.Prelude.{◌≡◌, ℕ, ◌+◌, List, [], ◌∷◌, ◌++◌, Option, None, Some}
 use Rattle.words.specs.Lines.{lines_of}
 use Rattle.command.specs.declared.command_reply.CommandReply.{CommandReply}
 use Rattle.runner.specs.Output.{LineOutcome}
 use Rattle.runner.specs.Runs.{IsNext, begun}
 use Rattle.runner.specs.Sessions.{IsEndedBy, Sitting}
+
+-- a tracer that may not be there: it says what it says alone, and stays there or not
+abbrev pub TellsIfThere : {X : Type 0} → (X → ℕ → Sitting → X → Type 0) → Option X → ℕ → Sitting → Option X → Type 0
+TellsIfThere tells None number sitting after = after ≡ None
+TellsIfThere {X} tells (Some before) number sitting after = (now : X) × (after ≡ Some now) × tells before number sitting now
 
 -- Lines were done, one after the other, these are the replies of each, and behind each, by its number, a tracer was told of what
 -- stood then: `tells` is what it says of that.

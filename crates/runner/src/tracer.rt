@@ -3,6 +3,7 @@ ghost use Rattle.std.specs.Prelude.{◌≡◌, OnOk, List, ℕ, true, ⊤};
 ghost use Rattle.std.specs.Io.KnownBytes.{Appends, Keeps};
 ghost use Rattle.runner.specs.Numbered.{numbered};
 ghost use Rattle.runner.specs.Sessions.{Sitting};
+ghost use Rattle.runner.specs.Told.{TellsIfThere};
 ghost use Rattle.runner.specs.Traced.{AreTraced};
 
 use crate::error::RunError;
@@ -32,6 +33,18 @@ impl Tracer for Untraced {
     fn behind<W: Write>(&mut self, _number: u64, _session: &Session, _writer: &mut W) {}
 }
 
+/// Who may not be there: then nobody is told.
+impl<X: Tracer> Tracer for Option<X> {
+    ghost tells = { TellsIfThere X.tells };
+
+    #[inline(always)]
+    fn behind<W: Write>(&mut self, number: u64, session: &Session, writer: &mut W) {
+        if let Some(tracer) = self {
+            tracer.behind(number, session, writer);
+        }
+    }
+}
+
 /// A writer is told what is in flight in each volume and which events are due (`trace`), behind what the line answers.
 #[derive(Drop)]
 pub struct TraceTo<X: Write> {
@@ -56,6 +69,7 @@ impl<X: Write> Tracer for TraceTo<X> {
     // Where it is whole then, it was before, and these are the lines of all volumes, one after the other, each with the number.
     ghost tells = { λ before number sitting after. after.is_whole ≡ true → (before.is_whole ≡ true) × ((page : List ℕ) × AreTraced page sitting.desk.table.volumes × Appends (X.contents before.writer) (X.contents after.writer) (numbered number page)) };
 
+    #[inline(never)]
     fn behind<W: Write>(&mut self, number: u64, session: &Session, writer: &mut W) {
         write_out(writer);
         match trace(&mut self.writer, number, session) {

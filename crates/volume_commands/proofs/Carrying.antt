@@ -56,10 +56,11 @@ module _ {B : Type 0} (contents : B → List ℕ) (layers : B → List Layer) (f
   not_carried event reply v w same taken = record { ends = none_so _ reply v w same taken (inl (same, refl)); goes_on = λ on. absurd (true≢false (sym on)) }
 
   -- and one that was done
-  goes_done : (event : Event) (outcome : Outcome) (reply : Reply) (v w : Volumed B) → IsExact contents layers event outcome v w → goes_after outcome ≡ true → (told_by outcome reply ≡ reply) × IsExact contents layers event Done v w
-  goes_done event (Answered n given) reply v w exact on = absurd (true≢false (sym on))
-  goes_done event Done reply v w exact on = (refl, exact)
-  goes_done event Fault reply v w exact on = absurd (true≢false (sym on))
+  goes_done : (event : Event) (outcome : Outcome) (reply : Reply) (v w : Volumed B) → IsExact contents layers event outcome v w → left_in_all contents layers w < left_in_all contents layers v → goes_after outcome ≡ true
+      → (told_by outcome reply ≡ reply) × IsExact contents layers event Done v w × (left_in_all contents layers w < left_in_all contents layers v)
+  goes_done event (Answered n given) reply v w exact lower on = absurd (true≢false (sym on))
+  goes_done event Done reply v w exact lower on = (refl, exact, lower)
+  goes_done event Fault reply v w exact lower on = absurd (true≢false (sym on))
 
   pub done_carried : (event : Event) (outcome : Outcome) (reply : Reply) (v w : Counted B) → is_loud_in_all layers w.volume ≡ is_loud_in_all layers v.volume → KeepsAll size v.volume w.volume
       → left_in_all contents layers w.volume < left_in_all contents layers v.volume → TakesByRequests v w → IsDoneDue contents layers faults event outcome v.volume w.volume
@@ -74,7 +75,7 @@ module _ {B : Type 0} (contents : B → List ℕ) (layers : B → List Layer) (f
       left = omega (arith, lower);
       taken = taken;
     };
-    goes_on = goes_done event outcome reply v.volume w.volume due.exact;
+    goes_on = goes_done event outcome reply v.volume w.volume due.exact lower;
   }
 
   -- more events may come after one
@@ -100,6 +101,19 @@ module _ {B : Type 0} {contents : B → List ℕ} {layers : B → List Layer} {f
     requests = all.requests ∙ one.ends.requests;
     left = (let here = one.ends.left in let later = all.left in omega (arith, here, later));
     taken = takes_then u v w one.ends.taken all.taken;
+  }
+
+  -- those that were done after others
+  pub so_then : {some more : Type 0} (which : Type 0) {before mid after : Reply} {u v w : Counted B} → AreDoneSo contents layers faults size some before mid u v → AreDoneSo contents layers faults size more mid after v w → which
+      → AreDoneSo contents layers faults size which before after u w
+  so_then which {before} {mid} {after} {u} {v} {w} one all is = record {
+    so = is;
+    did = done_then contents layers faults size before mid after u.volume v.volume w.volume one.did all.did;
+    loud = all.loud ∙ one.loud;
+    kept = keeps_more size u.volume v.volume w.volume one.kept all.kept;
+    requests = all.requests ∙ one.requests;
+    left = (let here = one.left in let later = all.left in omega (arith, here, later));
+    taken = takes_then u v w one.taken all.taken;
   }
 
   -- and they follow the read of a copy's chunk

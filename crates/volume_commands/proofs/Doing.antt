@@ -1,12 +1,14 @@
 -- An event that was due first was done in the caller's own code.
-use Rattle.std.proofs.Common.{◌≡◌, ℕ, Bool, true, false, List, Option, Some, refl, sym, ◌∙◌, ap, subst}
+use Rattle.std.proofs.Common.{◌≡◌, ℕ, Bool, true, false, List, [], Option, Some, refl, sym, ◌∙◌, ap, subst}
 use Rattle.std.proofs.lemmas.Bool.{true≢false}
 use Rattle.device.specs.Layers.{Layer}
 use Rattle.plain.specs.declared.event.Event.{Event}
+use Rattle.plain.specs.declared.event.Event.TheVariants.{CopyRead}
 use Rattle.plain.specs.declared.event.Outcome.{Outcome}
 use Rattle.plain.specs.declared.event.Outcome.TheVariants.{Done, Fault, Reply as Answered}
 use Rattle.plain.specs.declared.request.Reply.{Reply}
 use Rattle.volume_laws.specs.MergeDue.{has_group}
+use Rattle.event_machine.specs.Held.{Moving}
 use Rattle.event_machine.specs.MergeDue.{due_all}
 use Rattle.event_machine.specs.Seen.{replied_by}
 use Rattle.merge.specs.Due.{has_group_of}
@@ -18,11 +20,13 @@ use Rattle.volume.specs.Moved.{moving_of}
 use Rattle.volume.specs.Stepping.{KeepsAll}
 use Rattle.volume.specs.Volumed.{Volumed, is_loud_in_all}
 use Rattle.volume_commands.specs.AtRest.{AreDone, told_by}
-use Rattle.volume_commands.specs.Following.{IsDoneHere, IsFollowed, is_done}
+use Rattle.volume_commands.specs.Following.{GoesOn, IsDoneHere, IsReadFirst, grouped, is_done}
 use Rattle.volume_commands.specs.Places.{Counted}
 use Rattle.volume_commands.specs.TakesPlaces.{TakesByRequests}
 use Rattle.volume_commands.proofs.AtRest.{done_one, done_then, still_never}
-use Rattle.volume_commands.proofs.Runs.{RunsBeside, beside_more, beside_followed}
+use Rattle.volume_commands.proofs.Freed.{beside_due, beside_steps}
+use Rattle.volume_commands.proofs.Runs.{RunsBeside, beside_more}
+use Rattle.volume_commands.proofs.Settled.{keeps_more}
 use Rattle.volume_commands.proofs.Takings.{takes_then}
 
 -- the last reply is told in two ways
@@ -57,14 +61,27 @@ module _ {B : Type 0} (contents : B → List ℕ) (layers : B → List Layer) (f
         subst (λ (r : Option Reply). RunsBeside contents layers size (Some reply) r v u.volume) (told_replied d.outcome before ∙ ap Some (sym d.told))
         (beside_more contents layers size (Some reply) (Some before) v w.volume u.volume event d.outcome so busy first calm seen d.done.exact d.loud d.kept d.done.requests)
 
-    -- and what is known to follow it, where it answered nothing
-    pub here_followed : (again : Reply) (x : Volumed B) → go ≡ true → is_loud_in_all layers x ≡ is_loud_in_all layers u.volume → KeepsAll size u.volume x → x.requests ≡ u.volume.requests → IsFollowed contents layers event after again u.volume x
-        → RunsBeside contents layers size (Some reply) (Some again) v x
-    here_followed again x on loud kept requests followed =
-        let none : d.outcome ≡ Done = done_by d.outcome (sym d.goes_on ∙ on) in
-        let same : after ≡ before = d.told ∙ ap (λ (o : Outcome). told_by o before) none in
-        beside_followed contents layers size reply before again v w.volume u.volume x event so busy first calm seen (subst (λ (o : Outcome). IsExact contents layers event o w.volume u.volume) none d.done.exact) d.loud d.kept d.done.requests
-        loud kept requests (subst (λ (r : Reply). IsFollowed contents layers event r again u.volume x) same followed)
+    -- it was the read of a copy
+    pub here_read : (n : ℕ) → event ≡ CopyRead n → go ≡ true → IsReadFirst contents layers n u.volume
+    here_read n is on =
+        let done : IsExact contents layers event Done w.volume u.volume = subst (λ (o : Outcome). IsExact contents layers event o w.volume u.volume) (done_by d.outcome (sym d.goes_on ∙ on)) d.done.exact in
+        let exact : IsExact contents layers (CopyRead n) Done w.volume u.volume = subst (λ (e : Event). IsExact contents layers e Done w.volume u.volume) is done in
+        record {
+          first = λ all replied.
+              let loud : is_loud_in_all layers w.volume ≡ true = sym d.loud ∙ all in
+              let m : Moving = moving_of contents layers replied w.volume in
+              (m, beside_due (CopyRead n) m (first replied ∙ ap Some is) refl, sym (beside_steps (CopyRead n) m (step_free loud replied) refl) ∙ exact.step loud replied);
+          free = λ all. here_beside.free (sym so.run.loud ∙ sym d.loud ∙ all);
+        }
+      where
+        step_free : is_loud_in_all layers w.volume ≡ true → (replied : Option Reply) → grouped (moving_of contents layers replied w.volume).merge ≡ []
+        step_free loud replied = so.free (sym so.run.loud ∙ loud)
+
+    -- and what was done after it goes on from there
+    pub here_goes : (again : Reply) (x : Volumed B) → KeepsAll size u.volume x → x.requests ≡ u.volume.requests → GoesOn contents layers after again u.volume x → RunsBeside contents layers size (Some reply) (Some again) v x
+    here_goes again x kept requests goes =
+        let on = goes reply v (record { run = here_beside.run; free = here_beside.free }) in
+        record { run = on.run; kept = keeps_more size v u.volume x here_beside.kept kept; requests = requests ∙ here_beside.requests; free = on.free }
 
   -- with this one
   pub here_settling : (reply : Reply) (start : Counted B) → IsSettling contents layers faults size reply before start w → is_quiet_of w.volume ≡ false → ((replied : Option Reply) → due_all (moving_of contents layers replied w.volume) ≡ Some event)

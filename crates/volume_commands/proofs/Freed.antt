@@ -30,11 +30,7 @@ use Rattle.volume.specs.EventKinds.{is_of_merge}
 use Rattle.volume.specs.Leaving.{has_group_in}
 use Rattle.volume.specs.Moved.{merge_seen}
 use Rattle.volume.proofs.Quieted.{no_group}
-
--- the pairs of the present group
-abbrev pub grouped : Option MergeHeld → List Pair
-grouped None = []
-grouped (Some m) = group_in m
+use Rattle.volume_commands.specs.Following.{grouped}
 
 module _ (ps : List Pair) where
   abbrev Keeps : Moving → Type 0

@@ -47,6 +47,7 @@ pub mod Freed
 pub mod Follows
 pub mod Carried
 pub mod Unmarked
+pub mod NextRead
 pub mod OnlyCopies
 pub mod Carrying
 pub mod Runs

@@ -10,7 +10,8 @@ use Rattle.snapshot.specs.Kept.{Kept}
 use Rattle.snapshots.specs.Finding.{has_copy_at, is_copy_of}
 use Rattle.volume_commands.specs.Following.{is_alone}
 
-position_any : {X : Type 0} (test : X → Bool) (xs : List X) (j : ℕ) → position test xs ≡ Some j → list_any test xs ≡ true
+-- what is found is there
+pub position_any : {X : Type 0} (test : X → Bool) (xs : List X) (j : ℕ) → position test xs ≡ Some j → list_any test xs ≡ true
 position_any test [] j found = (let e : None ≡ Some j = found in absurd (cc))
 position_any test (x ∷ xs) j found = (let p = position-Some test (x ∷ xs) j x found in list_any_at test (x ∷ xs) j x p.0 p.1)
 

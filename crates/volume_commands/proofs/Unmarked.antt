@@ -25,8 +25,8 @@ use Rattle.volume_laws.specs.Due.{is_unsafe}
 use Rattle.settled.specs.Devices.{sectors_of, answers, met, written_by}
 use Rattle.settled.proofs.Each.{Each, each_weaker}
 use Rattle.event_machine.specs.Held.{Copying, SnapHeld, Going, Moving, number_of, with_store, spoiled, flushed_copying, flushed_held}
-use Rattle.event_machine.specs.Due.{batch_of, filled_of, can_mark, can_flush_store, can_commit, is_front_ready, is_front_unflushed, needs_area, waits_for_area, is_reading, publishable_in, is_publishable, least_in, due}
-use Rattle.event_machine.specs.Stepping.{for_some, first_that, with_first, put, spoil, store_write, read_copy, write_copy, pair_of, mark_of, all_paired, commit, flush_store, publish, publishes, is_copy, stepped}
+use Rattle.event_machine.specs.Due.{batch_of, filled_of, can_mark, can_flush_store, can_commit, can_zero, copy_at, is_front_ready, is_front_unflushed, needs_area, waits_for_area, is_reading, publishable_in, is_publishable, least_in, due}
+use Rattle.event_machine.specs.Stepping.{for_some, first_that, with_first, without_first, put, spoil, store_write, read_copy, write_copy, pair_of, mark_of, all_paired, commit, flush_store, publish, publishes, is_copy, stepped}
 use Rattle.event_machine.specs.Again.{again, refused, rerouted}
 use Rattle.event_machine.proofs.Found.{IsSplit, split_at, none_that}
 use Rattle.event_machine.proofs.Lists.{here_that, here_with, nowhere_by, only_least}
@@ -64,12 +64,24 @@ no_marks rs h (m ∷ ms) all none safe =
     let e : Some (number_of_mark m) ≡ None = sym (cond-true _ _ _ (publishable_by rs h m all own)) ∙ none in
     absurd (cc)
 
--- of a snapshot nothing is to be done, and it has no marks
-record IsDull (h : SnapHeld) : Type 0 where
+-- of a snapshot nothing is to be done but reads of chunks, and it has no marks
+pub record IsDull (h : SnapHeld) : Type 0 where
   pub marks : h.marks ≡ []
   pub mark : can_mark h ≡ false
   pub flush : can_flush_store h ≡ false
   pub commit : can_commit h ≡ false
+  pub zero : can_zero h ≡ false
+  pub read : copy_at Read h ≡ None
+
+-- all snapshots are dull but the one at this place
+pub record AreDullBut (k : ℕ) (m : Moving) : Type 0 where
+  pub done : List SnapHeld
+  pub here : SnapHeld
+  pub rest : List SnapHeld
+  pub is : m.snaps ≡ done ++ here ∷ rest
+  pub place : length done ≡ k
+  pub before : Each IsDull done
+  pub later : Each IsDull rest
 
 -- the flags of a snapshot whose store need not be flushed
 flush_parts : (a b c d : Bool) → (a || b || c || d) ≡ false → (a ≡ false) × (d ≡ false)
@@ -77,7 +89,7 @@ flush_parts a b c d e =
     let most = or_parts (a || b || c) d e in
     ((or_parts a b (or_parts (a || b) c most.0).0).0, most.1)
 
-flush_none : (untried marked unflushed ready rest unsafe : Bool) → untried ≡ false → unflushed ≡ false → ready ≡ false → unsafe ≡ false → ((untried && marked) || unflushed || (ready && rest) || unsafe) ≡ false
+pub flush_none : (untried marked unflushed ready rest unsafe : Bool) → untried ≡ false → unflushed ≡ false → ready ≡ false → unsafe ≡ false → ((untried && marked) || unflushed || (ready && rest) || unsafe) ≡ false
 flush_none untried marked unflushed ready rest unsafe a b c d = rw (a, b, c, d) refl
 
 is_tried : (untried marked : Bool) → (untried && not marked) ≡ false → (untried && marked) ≡ false → untried ≡ false
@@ -101,38 +113,39 @@ one_only (d ∷ e ∷ done) rest x same = absurd (cc)
 
 module _ (n : ℕ) where
   -- The snapshot of the copy n: it has that copy alone and no mark; or that copy's mark alone; or neither.
-  record HasOne (h : SnapHeld) : Type 0 where
+  pub record HasOne (h : SnapHeld) : Type 0 where
     pub copy : Copying
     pub copies : h.copies ≡ copy ∷ []
     pub number : copy.number ≡ n
     pub marks : h.marks ≡ []
     pub tried : h.untried ≡ false
 
-  record HasMark (h : SnapHeld) : Type 0 where
+  pub record HasMark (h : SnapHeld) : Type 0 where
     pub mark : Mark
     pub number : mark.number ≡ n
     pub copies : h.copies ≡ []
     pub marks : h.marks ≡ mark ∷ []
     pub tried : h.untried ≡ false
 
-  abbrev HasNone : SnapHeld → Type 0
+  abbrev pub HasNone : SnapHeld → Type 0
   HasNone h = (h.copies ≡ []) × (h.marks ≡ [])
 
-  abbrev Own : SnapHeld → Type 0
+  abbrev pub Own : SnapHeld → Type 0
   Own h = HasOne h ⊎ HasMark h ⊎ HasNone h
 
-  -- all others are dull, and all requests the origin's
-  record IsApart (m : Moving) : Type 0 where
+  -- it stands at this place, all others are dull, and all requests the origin's
+  pub record IsApart (k : ℕ) (m : Moving) : Type 0 where
     pub done : List SnapHeld
     pub here : SnapHeld
     pub rest : List SnapHeld
     pub is : m.snaps ≡ done ++ here ∷ rest
+    pub place : length done ≡ k
     pub before : Each IsDull done
     pub later : Each IsDull rest
     pub own : Own here
     pub requests : Each IsOrigins m.requests
 
-  module _ (m : Moving) (a : IsApart m) where
+  module _ (k : ℕ) (m : Moving) (a : IsApart k m) where
     -- the test of one event: it fails for the others
     module _ (test : SnapHeld → Bool) (before : Each (λ h. test h ≡ false) a.done) (later : Each (λ h. test h ≡ false) a.rest) where
       nowhere : test a.here ≡ false → Each (λ h. test h ≡ false) m.snaps
@@ -145,39 +158,41 @@ module _ (n : ℕ) where
         put_is : (h : SnapHeld) → with_first test h m.snaps ≡ a.done ++ h ∷ a.rest
         put_is h = ap (with_first test h) a.is ∙ here_with test h a.done a.rest a.here before pass
 
-        put_apart : (h : SnapHeld) → Own h → IsApart (put test h m)
-        put_apart h own = record { done = a.done; here = h; rest = a.rest; is = put_is h; before = a.before; later = a.later; own = own; requests = a.requests }
+        put_apart : (h : SnapHeld) → Own h → IsApart k (put test h m)
+        put_apart h own = record { done = a.done; here = h; rest = a.rest; is = put_is h; place = a.place; before = a.before; later = a.later; own = own; requests = a.requests }
 
-        spoil_apart : (h : SnapHeld) → IsApart (spoil test h m)
+        spoil_apart : (h : SnapHeld) → IsApart k (spoil test h m)
         spoil_apart h = record {
           done = a.done;
           here = spoiled h;
           rest = a.rest;
           is = put_is (spoiled h);
+          place = a.place;
           before = a.before;
           later = a.later;
           own = inr (inr (refl, refl));
           requests = origins_map (refused h.snap.number) (λ r. refl) m.requests a.requests;
         }
 
-        reroute_apart : (h : SnapHeld) → Own h → IsApart (rerouted (put test h m))
+        reroute_apart : (h : SnapHeld) → Own h → IsApart k (rerouted (put test h m))
         reroute_apart h own = record {
           done = a.done;
           here = h;
           rest = a.rest;
           is = put_is h;
+          place = a.place;
           before = a.before;
           later = a.later;
           own = own;
           requests = origins_map (again m.merge (with_first test h m.snaps)) (λ r. refl) m.requests a.requests;
         }
 
-        store_apart : (op : Operation) (bytes : List ℕ) (next : SnapHeld → SnapHeld) → Own (next (with_store a.here (written_by a.here.snap.store op bytes))) → IsApart (store_write test a.here op bytes next m)
+        store_apart : (op : Operation) (bytes : List ℕ) (next : SnapHeld → SnapHeld) → Own (next (with_store a.here (written_by a.here.snap.store op bytes))) → IsApart k (store_write test a.here op bytes next m)
         store_apart op bytes next own =
             let after : SnapHeld = with_store a.here (written_by a.here.snap.store op bytes) in
             elim (cases_Bool (answers a.here.snap.store op)) [
-              | inl ok ↦ subst IsApart (sym (cond-true _ _ _ ok)) (put_apart (next after) own)
-              | inr failed ↦ subst IsApart (sym (cond-false _ _ _ failed)) (spoil_apart after)
+              | inl ok ↦ subst (IsApart k) (sym (cond-true _ _ _ ok)) (put_apart (next after) own)
+              | inr failed ↦ subst (IsApart k) (sym (cond-false _ _ _ failed)) (spoil_apart after)
             ]
 
     -- the copy is written
@@ -185,14 +200,14 @@ module _ (n : ℕ) where
       abbrev act : Copying → Moving
       act p = write_copy (has_read n) (is_copy Read n) a.here p m
 
-      write_one : has_read n a.here ≡ true → HasOne a.here → IsApart (for_some (first_that (is_copy Read n) a.here.copies) act m)
+      write_one : has_read n a.here ≡ true → HasOne a.here → IsApart k (for_some (first_that (is_copy Read n) a.here.copies) act m)
       write_one pass one =
           let p : Copying = one.copy in
           let mine : is_copy Read n p ≡ true = sym (or_nothing (is_copy Read n p)) ∙ sym (ap (list_any (is_copy Read n)) one.copies) ∙ pass in
           let first : first_that (is_copy Read n) a.here.copies ≡ Some p = ap (first_that (is_copy Read n)) one.copies ∙ cond-true _ _ _ mine in
           let q : Copying = record p { stage = Written } in
           let left : with_first (is_copy Read n) q a.here.copies ≡ q ∷ [] = ap (with_first (is_copy Read n) q) one.copies ∙ cond-true _ _ _ mine in
-          subst IsApart (sym (ap (λ o. for_some o act m) first))
+          subst (IsApart k) (sym (ap (λ o. for_some o act m) first))
           (store_apart (has_read n) before later pass (Writes (a.here.snap.chunk * p.pair.new) (count_of a.here.snap.chunk (sectors_of m.origin) p.pair.old)) (with_sectors a.here.snap.store.bytes (a.here.snap.chunk * p.pair.new) p.bytes)
           (λ after. record after { copies = with_first (is_copy Read n) q after.copies }) (inl (record { copy = q; copies = left; number = one.number; marks = one.marks; tried = one.tried })))
         where
@@ -200,7 +215,7 @@ module _ (n : ℕ) where
           or_nothing true = refl
           or_nothing false = refl
 
-      write_found : has_read n a.here ≡ true → IsApart (for_some (first_that (is_copy Read n) a.here.copies) act m)
+      write_found : has_read n a.here ≡ true → IsApart k (for_some (first_that (is_copy Read n) a.here.copies) act m)
       write_found pass = elim a.own [
         | inl one ↦ write_one pass one
         | inr other ↦ elim other [
@@ -209,10 +224,10 @@ module _ (n : ℕ) where
         ]
       ]
 
-      write_apart : IsApart (stepped (CopyWrite n) m)
+      write_apart : IsApart k (stepped (CopyWrite n) m)
       write_apart = elim (cases_Bool (has_read n a.here)) [
-        | inl pass ↦ subst IsApart (sym (ap (λ o. for_some o (λ h. for_some (first_that (is_copy Read n) h.copies) (λ p. write_copy (has_read n) (is_copy Read n) h p m) m) m) (found (has_read n) before later pass))) (write_found pass)
-        | inr fail ↦ subst IsApart (sym (write_nowhere n m (nowhere (has_read n) before later fail))) a
+        | inl pass ↦ subst (IsApart k) (sym (ap (λ o. for_some o (λ h. for_some (first_that (is_copy Read n) h.copies) (λ p. write_copy (has_read n) (is_copy Read n) h p m) m) m) (found (has_read n) before later pass))) (write_found pass)
+        | inr fail ↦ subst (IsApart k) (sym (write_nowhere n m (nowhere (has_read n) before later fail))) a
       ]
 
     module _ (s : ℕ) where
@@ -241,28 +256,28 @@ module _ (n : ℕ) where
         ]
       ]
 
-      flush_found : (pass : flush_test s a.here ≡ true) → IsApart (flush_store (flush_test s) a.here m)
+      flush_found : (pass : flush_test s a.here ≡ true) → IsApart k (flush_store (flush_test s) a.here m)
       flush_found pass =
           let before = unflushed a.done a.before in
           let later = unflushed a.rest a.later in
           let after : SnapHeld = with_store a.here (met a.here.snap.store Flushes) in
           elim (cases_Bool a.here.marked) [
-            | inl marked ↦ subst IsApart (sym (cond-true _ _ _ marked))
+            | inl marked ↦ subst (IsApart k) (sym (cond-true _ _ _ marked))
                 (reroute_apart (flush_test s) before later pass (record after { snap = record after.snap { stale = not (answers a.here.snap.store Flushes) }; untried = false })
                 (tried_own (record after { snap = record after.snap { stale = not (answers a.here.snap.store Flushes) }; untried = false }) refl refl refl))
-            | inr unmarked ↦ subst IsApart (sym (cond-false _ _ _ unmarked)) (elim (cases_Bool (answers a.here.snap.store Flushes)) [
-              | inl ok ↦ subst IsApart (sym (cond-true _ _ _ ok)) (put_apart (flush_test s) before later pass (flushed_held after) flushed_own)
-              | inr failed ↦ subst IsApart (sym (cond-false _ _ _ failed)) (spoil_apart (flush_test s) before later pass after)
+            | inr unmarked ↦ subst (IsApart k) (sym (cond-false _ _ _ unmarked)) (elim (cases_Bool (answers a.here.snap.store Flushes)) [
+              | inl ok ↦ subst (IsApart k) (sym (cond-true _ _ _ ok)) (put_apart (flush_test s) before later pass (flushed_held after) flushed_own)
+              | inr failed ↦ subst (IsApart k) (sym (cond-false _ _ _ failed)) (spoil_apart (flush_test s) before later pass after)
             ])
           ]
 
-      flush_apart : IsApart (stepped (FlushStore s) m)
+      flush_apart : IsApart k (stepped (FlushStore s) m)
       flush_apart =
           let before = unflushed a.done a.before in
           let later = unflushed a.rest a.later in
           elim (cases_Bool (flush_test s a.here)) [
-            | inl pass ↦ subst IsApart (sym (ap (λ o. for_some o (λ h. flush_store (flush_test s) h m) m) (found (flush_test s) before later pass))) (flush_found pass)
-            | inr fail ↦ subst IsApart (sym (flush_nowhere s m (nowhere (flush_test s) before later fail))) a
+            | inl pass ↦ subst (IsApart k) (sym (ap (λ o. for_some o (λ h. flush_store (flush_test s) h m) m) (found (flush_test s) before later pass))) (flush_found pass)
+            | inr fail ↦ subst (IsApart k) (sym (flush_nowhere s m (nowhere (flush_test s) before later fail))) a
           ]
 
       -- its area is written, or that of no snapshot
@@ -292,7 +307,7 @@ module _ (n : ℕ) where
           tried = tried ∙ one.tried;
         }))
 
-        area_found : HasOne a.here → IsApart (commit (batch_of a.here) area_test a.here m)
+        area_found : HasOne a.here → IsApart k (commit (batch_of a.here) area_test a.here m)
         area_found one =
             let h : SnapHeld = a.here in
             let k : ℕ = length h.pairs in
@@ -302,7 +317,7 @@ module _ (n : ℕ) where
             (λ after. record after { pairs = after.pairs ++ map pair_of now; copies = drop (batch_of h) after.copies; marks = after.marks ++ map mark_of now; zeroed = after.zeroed && room; firm = after.firm && room })
             (area_one one (batch_of h) _ refl refl refl)
 
-        area_any : IsApart (commit (batch_of a.here) area_test a.here m)
+        area_any : IsApart k (commit (batch_of a.here) area_test a.here m)
         area_any = elim a.own [
           | inl one ↦ area_found one
           | inr other ↦ elim other [
@@ -311,13 +326,13 @@ module _ (n : ℕ) where
           ]
         ]
 
-      area_apart : IsApart (stepped (WriteArea s) m)
+      area_apart : IsApart k (stepped (WriteArea s) m)
       area_apart =
           let before = uncommitted a.done a.before in
           let later = uncommitted a.rest a.later in
           elim (cases_Bool (area_test a.here)) [
-            | inl pass ↦ subst IsApart (sym (ap (λ o. for_some o (λ h. commit (batch_of h) area_test h m) m) (found area_test before later pass))) (area_any pass)
-            | inr fail ↦ subst IsApart (sym (ap (λ o. for_some o (λ h. commit (batch_of h) area_test h m) m) (none_that area_test m.snaps (nowhere area_test before later fail)))) a
+            | inl pass ↦ subst (IsApart k) (sym (ap (λ o. for_some o (λ h. commit (batch_of h) area_test h m) m) (found area_test before later pass))) (area_any pass)
+            | inr fail ↦ subst (IsApart k) (sym (ap (λ o. for_some o (λ h. commit (batch_of h) area_test h m) m) (none_that area_test m.snaps (nowhere area_test before later fail)))) a
           ]
 
     -- and its mark is taken away, or none
@@ -367,6 +382,20 @@ module _ (n : ℕ) where
       ]
     ]
 
+    -- after that all others are dull still
+    publish_rest : AreDullBut k (stepped (Publish n) m)
+    publish_rest =
+        let act : SnapHeld → Moving = λ h. publish mark_test (λ x. x.number == n) h m in
+        let before = unmarked a.done a.before in
+        let later = unmarked a.rest a.later in
+        elim (cases_Bool (mark_test a.here)) [
+          | inl pass ↦ subst (AreDullBut k) (sym (ap (λ o. for_some o act m) (found mark_test before later pass)))
+              (let after : SnapHeld = record a.here { marks = without_first (λ x. x.number == n) a.here.marks } in
+              record { done = a.done; here = after; rest = a.rest; is = put_is mark_test before later pass after; place = a.place; before = a.before; later = a.later })
+          | inr fail ↦ subst (AreDullBut k) (sym (ap (λ o. for_some o act m) (none_that mark_test m.snaps (nowhere mark_test before later fail))))
+              (record { done = a.done; here = a.here; rest = a.rest; is = a.is; place = a.place; before = a.before; later = a.later })
+        ]
+
   -- a snapshot has the copy that was read, and no other
   abbrev pub held_alone : SnapHeld → Bool
   held_alone h = has_read n h && (length h.copies == 1)
@@ -391,35 +420,50 @@ module _ (n : ℕ) where
   abbrev Five : ℕ → Moving → Type 0
   Five s m = Follows (Publish n) (stepped (FlushStore s) (stepped (WriteArea s) (stepped (FlushStore s) (stepped (CopyWrite n) m))))
 
-  five : (s : ℕ) (m : Moving) (a : IsApart m) → Each (λ h. has_read n h ≡ false) a.done → Each (λ h. has_read n h ≡ false) a.rest → Five s m
-  five s m a before later =
-      let written = write_apart m a before later in
-      let flushed = flush_apart (stepped (CopyWrite n) m) written s in
-      let paired = area_apart (stepped (FlushStore s) (stepped (CopyWrite n) m)) flushed s in
-      let firm = flush_apart (stepped (WriteArea s) (stepped (FlushStore s) (stepped (CopyWrite n) m))) paired s in
-      publish_follows (stepped (FlushStore s) (stepped (WriteArea s) (stepped (FlushStore s) (stepped (CopyWrite n) m)))) firm
+  -- a snapshot stands apart, and no other has the copy that was read
+  abbrev pub Stands : Moving → Type 0
+  Stands m = (k : ℕ) × (a : IsApart k m) × Each (λ h. has_read n h ≡ false) a.done × Each (λ h. has_read n h ≡ false) a.rest
 
-  module _ (s : ℕ) (m : Moving) (c : Chosen m) where
+  four_apart : (s : ℕ) (m : Moving) (t : Stands m) → IsApart t.0 (stepped (FlushStore s) (stepped (WriteArea s) (stepped (FlushStore s) (stepped (CopyWrite n) m))))
+  four_apart s m t =
+      let written = write_apart t.0 m t.1 t.2 t.3 in
+      let flushed = flush_apart t.0 (stepped (CopyWrite n) m) written s in
+      let paired = area_apart t.0 (stepped (FlushStore s) (stepped (CopyWrite n) m)) flushed s in
+      flush_apart t.0 (stepped (WriteArea s) (stepped (FlushStore s) (stepped (CopyWrite n) m))) paired s
+
+  five : (s : ℕ) (m : Moving) → Stands m → Five s m
+  five s m t = publish_follows t.0 (stepped (FlushStore s) (stepped (WriteArea s) (stepped (FlushStore s) (stepped (CopyWrite n) m)))) (four_apart s m t)
+
+  -- and after all five that snapshot alone may not be dull
+  pub five_rest : (s : ℕ) (m : Moving) (t : Stands m) → AreDullBut t.0 (stepped (Publish n) (stepped (FlushStore s) (stepped (WriteArea s) (stepped (FlushStore s) (stepped (CopyWrite n) m)))))
+  five_rest s m t = publish_rest t.0 (stepped (FlushStore s) (stepped (WriteArea s) (stepped (FlushStore s) (stepped (CopyWrite n) m)))) (four_apart s m t)
+
+  module _ (m : Moving) (c : Chosen m) where
     unread_all : Each (λ h. has_read n h ≡ false) m.snaps
     unread_all = unread n m.snaps (all_unread n m c)
 
     -- nothing was read
-    same_five : IsAloneIn m → Five s m
-    same_five alone = absurd (true≢false (sym alone.copy ∙ alone_nowhere m.snaps unread_all))
+    same_stands : IsAloneIn m → Stands m
+    same_stands alone = absurd (true≢false (sym alone.copy ∙ alone_nowhere m.snaps unread_all))
 
     dull_by : Each IsOrigins m.requests → Each IsDull m.snaps
-    dull_by origins = by m.snaps (fails_by can_mark number_of m.snaps c.marks) (fails_by can_flush_store number_of m.snaps c.flushes) (fails_by can_commit number_of m.snaps c.commits) (lacks_by (publishable_in m.requests) m.snaps c.publishes)
+    dull_by origins =
+        by m.snaps (fails_by can_mark number_of m.snaps c.marks) (fails_by can_flush_store number_of m.snaps c.flushes) (fails_by can_commit number_of m.snaps c.commits) (lacks_by (publishable_in m.requests) m.snaps c.publishes)
+        (fails_by can_zero number_of m.snaps c.zeroes) (lacks_by (copy_at Read) m.snaps c.reads)
       where
-        by : (snaps : List SnapHeld) → Each (λ h. can_mark h ≡ false) snaps → Each (λ h. can_flush_store h ≡ false) snaps → Each (λ h. can_commit h ≡ false) snaps → Each (λ h. publishable_in m.requests h ≡ None) snaps → Each IsDull snaps
-        by [] marks flushes commits held = tt
-        by (h ∷ snaps) marks flushes commits held = (
+        by : (snaps : List SnapHeld) → Each (λ h. can_mark h ≡ false) snaps → Each (λ h. can_flush_store h ≡ false) snaps → Each (λ h. can_commit h ≡ false) snaps → Each (λ h. publishable_in m.requests h ≡ None) snaps
+            → Each (λ h. can_zero h ≡ false) snaps → Each (λ h. copy_at Read h ≡ None) snaps → Each IsDull snaps
+        by [] marks flushes commits held zeroes reads = tt
+        by (h ∷ snaps) marks flushes commits held zeroes reads = (
           record {
             marks = no_marks m.requests h h.marks origins held.0 (flush_parts (h.untried && h.marked) (is_front_unflushed h.copies) (is_front_ready h.copies && (waits_for_area h && not (needs_area h))) (list_any is_unsafe h.marks) flushes.0).1;
             mark = marks.0;
             flush = flushes.0;
             commit = commits.0;
+            zero = zeroes.0;
+            read = reads.0;
           },
-          by snaps marks.1 flushes.1 commits.1 held.1,
+          by snaps marks.1 flushes.1 commits.1 held.1 zeroes.1 reads.1,
         )
 
     abbrev waits : SnapHeld → Bool
@@ -444,8 +488,8 @@ module _ (n : ℕ) where
       after_is : (put waits after w).snaps ≡ split.done ++ after ∷ split.rest
       after_is = snaps_now n m c split copy bytes w same alike
 
-      read_five : IsAloneIn (put waits after w) → Five s (put waits after w)
-      read_five alone =
+      read_stands : IsAloneIn (put waits after w) → Stands (put waits after w)
+      read_stands alone =
           let mine : held_alone after ≡ true = alone_here split.done split.rest after unread_done unread_rest (sym (ap (list_any held_alone) after_is) ∙ alone.copy) in
           let count : length after.copies ≡ 1 = eqb-true (length after.copies) 1 (and_right (has_read n after) (length after.copies == 1) mine) in
           let copies : after.copies ≡ copy.done ++ was_read ∷ copy.rest = ap (with_first (is_copy Waiting n) was_read) copy.is ∙ here_with (is_copy Waiting n) was_read copy.done copy.rest copy.here copy.before copy.pass in
@@ -454,48 +498,49 @@ module _ (n : ℕ) where
           let dull : Each IsDull (split.done ++ split.here ∷ split.rest) = subst (Each IsDull) split.is (dull_by origins) in
           let own : IsDull split.here = each_here IsDull split.done split.rest split.here dull in
           let parts = flush_parts (split.here.untried && split.here.marked) (is_front_unflushed split.here.copies) (is_front_ready split.here.copies && (waits_for_area split.here && not (needs_area split.here))) (list_any is_unsafe split.here.marks) own.flush in
-          let a : IsApart (put waits after w) = record {
+          let a : IsApart (length split.done) (put waits after w) = record {
             done = split.done;
             here = after;
             rest = split.rest;
             is = after_is;
+            place = refl;
             before = each_done IsDull split.done split.rest split.here dull;
             later = each_rest IsDull split.done split.rest split.here dull;
             own = inl (record { copy = was_read; copies = only; number = eqb-true copy.here.number n (and_left _ _ copy.pass); marks = own.marks; tried = is_tried split.here.untried split.here.marked own.mark parts.0 });
             requests = alone.requests;
           } in
-          five s (put waits after w) a unread_done unread_rest
+          (length split.done, a, unread_done, unread_rest)
 
-      spoilt_five : IsAloneIn (spoil waits split.here w) → Five s (spoil waits split.here w)
-      spoilt_five alone =
+      spoilt_stands : IsAloneIn (spoil waits split.here w) → Stands (spoil waits split.here w)
+      spoilt_stands alone =
           let is : with_first waits (spoiled split.here) w.snaps ≡ split.done ++ spoiled split.here ∷ split.rest = ap (with_first waits (spoiled split.here)) (alike ∙ split.is) ∙ here_with waits (spoiled split.here) split.done split.rest split.here split.before split.pass in
           let none : Each (λ h. has_read n h ≡ false) (split.done ++ spoiled split.here ∷ split.rest) = each_join (λ h. has_read n h ≡ false) split.done split.rest (spoiled split.here) unread_done refl unread_rest in
           absurd (true≢false (sym alone.copy ∙ alone_nowhere (with_first waits (spoiled split.here) w.snaps) (subst (Each (λ h. has_read n h ≡ false)) (sym is) none)))
 
     abbrev Then : Moving → Type 0
-    Then x = IsAloneIn x → Five s x
+    Then x = IsAloneIn x → Stands x
 
-    found_five : (split : IsSplit (λ h. list_any (is_copy Waiting n) h.copies) m.snaps) → Then (for_some (first_that (is_copy Waiting n) split.here.copies) (λ p. read_copy waits (is_copy Waiting n) split.here p m) m)
-    found_five split =
+    found_stands : (split : IsSplit (λ h. list_any (is_copy Waiting n) h.copies) m.snaps) → Then (for_some (first_that (is_copy Waiting n) split.here.copies) (λ p. read_copy waits (is_copy Waiting n) split.here p m) m)
+    found_stands split =
         let act : Copying → Moving = λ p. read_copy waits (is_copy Waiting n) split.here p m in
         elim (split_at (is_copy Waiting n) split.here.copies) [
-          | inl none ↦ subst Then (sym (ap (λ o. for_some o act m) (none_that (is_copy Waiting n) split.here.copies none))) same_five
+          | inl none ↦ subst Then (sym (ap (λ o. for_some o act m) (none_that (is_copy Waiting n) split.here.copies none))) same_stands
           | inr copy ↦ subst Then (sym (ap (λ o. for_some o act m) (ap (first_that (is_copy Waiting n)) copy.is ∙ here_that (is_copy Waiting n) copy.done copy.rest copy.here copy.before copy.pass)))
               (let first : ℕ = split.here.snap.chunk * copy.here.pair.old in
               let count : ℕ = count_of split.here.snap.chunk (sectors_of m.origin) copy.here.pair.old in
               let w : Moving = record m { origin = met m.origin (Reads first count) } in
               elim (cases_Bool (answers m.origin (Reads first count))) [
-                | inl ok ↦ subst Then (sym (cond-true _ _ _ ok)) (read_five split copy (sectors_at m.origin.bytes first count) w refl refl)
-                | inr failed ↦ subst Then (sym (cond-false _ _ _ failed)) (spoilt_five split copy [] w refl refl)
+                | inl ok ↦ subst Then (sym (cond-true _ _ _ ok)) (read_stands split copy (sectors_at m.origin.bytes first count) w refl refl)
+                | inr failed ↦ subst Then (sym (cond-false _ _ _ failed)) (spoilt_stands split copy [] w refl refl)
               ])
         ]
 
-    stepped_five : Then (stepped (CopyRead n) m)
-    stepped_five =
+    pub stepped_stands : Then (stepped (CopyRead n) m)
+    stepped_stands =
         let act : SnapHeld → Moving = λ h. for_some (first_that (is_copy Waiting n) h.copies) (λ p. read_copy waits (is_copy Waiting n) h p m) m in
         elim (split_at waits m.snaps) [
-          | inl none ↦ subst Then (sym (ap (λ o. for_some o act m) (none_that waits m.snaps none))) same_five
-          | inr split ↦ subst Then (sym (ap (λ o. for_some o act m) (ap (first_that waits) split.is ∙ here_that waits split.done split.rest split.here split.before split.pass))) (found_five split)
+          | inl none ↦ subst Then (sym (ap (λ o. for_some o act m) (none_that waits m.snaps none))) same_stands
+          | inr split ↦ subst Then (sym (ap (λ o. for_some o act m) (ap (first_that waits) split.is ∙ here_that waits split.done split.rest split.here split.before split.pass))) (found_stands split)
         ]
 
 -- all five events, after the read of a copy that is alone then
@@ -503,5 +548,5 @@ pub all_follow : (n s : ℕ) (m : Moving) → due m ≡ Some (CopyRead n) → Is
 all_follow n s m is alone =
     let four = follows (CopyRead n) s m is in
     let last : Follows (Publish n) (stepped (FlushStore s) (stepped (WriteArea s) (stepped (FlushStore s) (stepped (CopyWrite n) (stepped (CopyRead n) m))))) =
-    stepped_five n s m (read_chosen n _ _ _ _ _ _ _ _ is) alone in
+    five n s (stepped (CopyRead n) m) (stepped_stands n m (read_chosen n _ _ _ _ _ _ _ _ is) alone) in
     (four.0, refl, (four.2.0, refl, (four.2.2.0, refl, (four.2.2.2.0, refl, (last, refl, tt)))))

@@ -1,26 +1,34 @@
 -- Events that are known to follow another without a search. This project's own.
-use Rattle.std.specs.Prelude.{◌≡◌, ◌⊎◌, ◌==◌, ◌&&◌, ◌<◌, ◌≤◌, ℕ, Bool, true, false, List, [], ◌∷◌, length, map, Option, Some}
+use Rattle.std.specs.Prelude.{◌≡◌, ◌⊎◌, ◌==◌, ◌&&◌, not, ◌<◌, ◌≤◌, ℕ, Bool, true, false, List, [], ◌∷◌, length, map, slice_index_or, Option, None, Some}
 use Rattle.std.specs.List.{list_all, list_any}
+use Rattle.sector.specs.declared.pair.Pair.{Pair}
 use Rattle.device.specs.Layers.{Layer}
 use Rattle.plain.specs.declared.event.Event.{Event}
-use Rattle.plain.specs.declared.event.Event.TheVariants.{CopyRead, CopyWrite, WriteArea, Publish, FlushStore}
+use Rattle.plain.specs.declared.event.Event.TheVariants.{Issue, CopyRead, CopyWrite, WriteArea, Publish, FlushStore}
 use Rattle.plain.specs.declared.event.Outcome.{Outcome}
 use Rattle.plain.specs.declared.event.Outcome.TheVariants.{Done, Fault, Reply as Replies}
 use Rattle.plain.specs.declared.request.Dev.{Dev}
 use Rattle.plain.specs.declared.request.Dev.TheVariants.{Origin, Snap}
 use Rattle.plain.specs.declared.request.Reply.{Reply}
-use Rattle.in_flight.specs.declared.copies.Stage.TheVariants.{Read}
+use Rattle.in_flight.specs.declared.copies.Stage.TheVariants.{Waiting, Read}
+use Rattle.in_flight.specs.Due.{first_by, is_copy_at, is_issuable, least, number_of_copy, number_of_flight}
 use Rattle.plain.specs.Replies.{reply_in}
 use Rattle.in_flight.specs.Kinds.{in_flight}
 use Rattle.in_flight.specs.declared.flights.Flight.{Flight}
+use Rattle.volume_laws.specs.Due.{event_or}
 use Rattle.snapshot.specs.Kept.{Kept}
+use Rattle.snapshots.specs.Busy.{is_begun}
 use Rattle.snapshots.specs.Finding.{has_copy_at}
+use Rattle.event_machine.specs.Held.{MergeHeld, Moving, group_in}
+use Rattle.event_machine.specs.Due.{due}
 use Rattle.event_machine.specs.MergeDue.{due_all}
 use Rattle.event_machine.specs.Seen.{replied_by}
+use Rattle.event_machine.specs.Stepping.{stepped}
 use Rattle.volume.specs.EventKinds.{is_of_merge}
 use Rattle.volume.specs.Exact.{IsExact}
 use Rattle.volume.specs.Flying.{IsFlown}
 use Rattle.volume.specs.Moved.{moving_of}
+use Rattle.volume.specs.Reaching.{IsRun}
 use Rattle.volume.specs.Stepping.{KeepsAll}
 use Rattle.volume.specs.Volumed.{Volumed, is_loud_in_all, left_in_all}
 use Rattle.volume_commands.specs.AtRest.{AreDone, IsDoneDue, told_by}
@@ -70,6 +78,59 @@ IsFollowed contents layers done before after old new =
     ((s : ℕ) × AreCarried contents layers (following done s) before after old new)
     ⊎ ((n : ℕ) × (s : ℕ) × (done ≡ CopyRead n) × IsAlone n old × AreCarried contents layers (all_following n s) before after old new)
 
+-- these events were all done, one after the other
+abbrev pub AreAllDone : {B : Type 0} → (B → List ℕ) → (B → List Layer) → List Event → Volumed B → Volumed B → Type 0
+AreAllDone contents layers [] old new = new ≡ old
+AreAllDone contents layers (next ∷ events) old new = (mid : Volumed _) × IsExact contents layers next Done old mid × (is_loud_in_all layers mid ≡ is_loud_in_all layers old) × AreAllDone contents layers events mid new
+
+-- an element stands at this place
+abbrev pub StandsAt : {X : Type 0} → ℕ → List X → X → Type 0
+StandsAt k xs x = (k < length xs) × (x ≡ slice_index_or xs k x)
+
+-- nothing more is due of a snapshot than reads of chunks
+abbrev pub only_waits : {B : Type 0} → Kept B → Bool
+only_waits s = not s.untried && (length s.marks == 0) && not (list_any is_begun s.copies)
+
+-- the least number of a copy that waits to be read, of each snapshot's first
+abbrev pub least_waiting : {B : Type 0} → List (Kept B) → Option ℕ
+least_waiting [] = None
+least_waiting (s ∷ snaps) = least (first_by (is_copy_at Waiting) number_of_copy s.copies) (least_waiting snaps)
+
+-- the read of the chunk of that copy, and where none waits the first request that goes somewhere
+abbrev pub next_waiting : {B : Type 0} → List (Kept B) → List Flight → Option Event
+next_waiting snaps flights = event_or (least_waiting snaps) CopyRead (event_or (first_by is_issuable number_of_flight flights) Issue None)
+
+-- The copy n, whose chunk was read, was alone, and all that follows was done; of its snapshot, which stands at this place, no more is due
+-- than reads of chunks; and of those and of requests this comes first.
+pub record IsNextDue {B : Type 0} (contents : B → List ℕ) (layers : B → List Layer) (n : ℕ) (next : Event) (old new : Volumed B) : Type 0 where
+  pub snap : ℕ
+  pub place : ℕ
+  pub alone : IsAlone n old
+  pub here : (s : Kept B) × StandsAt place old.snaps s × (has_copy_at Read n s ≡ true)
+  pub done : AreAllDone contents layers (all_following n snap) old new
+  pub there : (s : Kept B) × StandsAt place new.snaps s × (only_waits s ≡ true)
+  pub waiting : next_waiting new.snaps new.flights ≡ Some next
+
+-- the pairs of the present group of a merge
+abbrev pub grouped : Option MergeHeld → List Pair
+grouped None = []
+grouped (Some m) = group_in m
+
+-- a volume was reached from another by events that were due first, and where no device drops writes its merge has no group
+pub record IsOn {B : Type 0} (contents : B → List ℕ) (layers : B → List Layer) (first last : Reply) (start now : Volumed B) : Type 0 where
+  pub run : IsRun contents layers (Some first) (Some last) start now
+  pub free : is_loud_in_all layers start ≡ true → grouped (moving_of contents layers None now).merge ≡ []
+
+-- what was reached before is so after
+abbrev pub GoesOn : {B : Type 0} → (B → List ℕ) → (B → List Layer) → Reply → Reply → Volumed B → Volumed B → Type 0
+GoesOn contents layers before after old new = (first : Reply) (start : Volumed _) → IsOn contents layers first before start old → IsOn contents layers first after start new
+
+-- The read of the copy n was due first and was done, and this is the volume after it, where no device drops writes; its merge has no
+-- group.
+pub record IsReadFirst {B : Type 0} (contents : B → List ℕ) (layers : B → List Layer) (n : ℕ) (v : Volumed B) : Type 0 where
+  pub first : is_loud_in_all layers v ≡ true → (replied : Option Reply) → (m : Moving) × (due m ≡ Some (CopyRead n)) × (stepped (CopyRead n) m ≡ moving_of contents layers replied v)
+  pub free : is_loud_in_all layers v ≡ true → grouped (moving_of contents layers None v).merge ≡ []
+
 -- Events were done, each where it was due, and this is the last reply of them, or the one before. `which` says which events.
 pub record AreDoneSo {B : Type 0} (contents : B → List ℕ) (layers : B → List Layer) (faults size : B → ℕ) (which : Type 0) (before after : Reply) (old new : Counted B) : Type 0 where
   pub so : which
@@ -80,10 +141,10 @@ pub record AreDoneSo {B : Type 0} (contents : B → List ℕ) (layers : B → Li
   pub left : left_in_all contents layers new.volume ≤ left_in_all contents layers old.volume
   pub taken : TakesByRequests old new
 
--- One event was done, or was not due. Where they `go` on, it was done, nothing failed, and nothing was answered.
+-- One event was done, or was not due. Where they `go` on, it was done, nothing failed, nothing was answered, and less is left.
 pub record IsCarried {B : Type 0} (contents : B → List ℕ) (layers : B → List Layer) (faults size : B → ℕ) (event : Event) (go : Bool) (before after : Reply) (old new : Counted B) : Type 0 where
   pub ends : AreDoneSo contents layers faults size (AreCarried contents layers (event ∷ []) before after old.volume new.volume) before after old new
-  pub goes_on : go ≡ true → (after ≡ before) × IsExact contents layers event Done old.volume new.volume
+  pub goes_on : go ≡ true → (after ≡ before) × IsExact contents layers event Done old.volume new.volume × (left_in_all contents layers new.volume < left_in_all contents layers old.volume)
 
 -- nothing failed, and nothing was answered
 abbrev pub is_done : Outcome → Bool

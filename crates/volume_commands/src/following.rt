@@ -1,19 +1,22 @@
 // Which events are due after one that was done, one after the other, where that is known without a search.
-ghost use Rattle.std.specs.Prelude.{◌≡◌, ◌==◌, ◌&&◌, ◌≤◌, IfNone, IfSome, false, length, true};
+ghost use Rattle.std.specs.Prelude.{◌≡◌, ◌==◌, ◌&&◌, ◌≤◌, IfNone, IfSome, Some, false, length, true};
 ghost use Rattle.std.specs.List.{list_all, list_any};
 ghost use Rattle.in_flight.specs.declared.copies.Stage.TheVariants.{Read};
 ghost use Rattle.plain.specs.declared.event.Event.TheVariants.{CopyRead};
+ghost use Rattle.snapshot.specs.Kept.{Kept};
+ghost use Rattle.snapshots.specs.Busy.{is_begun};
 ghost use Rattle.snapshots.specs.Finding.{has_copy_at};
 ghost use Rattle.volume.specs.Stepping.{KeepsAll};
 ghost use Rattle.volume.specs.Volumed.{is_loud_in_all, left_in_all};
 ghost use Rattle.volume_commands.specs.AtRest.{AreDone};
-ghost use Rattle.volume_commands.specs.Following.{AreDoneSo, IsAlone, IsCarried, IsFollowed, is_of_origin};
+ghost use Rattle.volume_commands.specs.Following.{AreDoneSo, GoesOn, IsAlone, IsCarried, IsFollowed, IsNextDue, IsReadFirst, StandsAt, is_of_origin, least_waiting, next_waiting, only_waits as waits_only};
 ghost use Rattle.volume_commands.specs.TakesPlaces.{TakesByRequests};
 
 use crate::Journaled;
-use in_flight::{ChunkCopy, Flight};
+use in_flight::{ChunkCopy, Flight, Stage, first_copy, first_routed, is_at, least};
 use layers::Layered;
 use plain::{CopyId, Dev, Event, NotDue, Outcome, Reply, SnapId};
+use snapshot::Snapshot;
 
 /// Whether a request is the origin's.
 fn is_origins(flight: &Flight) -> bool
@@ -39,21 +42,74 @@ fn is_only(copies: &[ChunkCopy], flights: &[Flight]) -> bool
     copies.len() == 1 && are_origins(flights)
 }
 
-/// The number of a snapshot that has a copy of this number whose chunk was read, if one has, and whether that is alone there and
-/// no request reads its chunk.
+/// The number and the place of a snapshot that has a copy of this number whose chunk was read, if one has, and whether that is
+/// alone there and no request reads its chunk.
 #[inline(always)]
-fn holder<B: Layered>(volume: &Journaled<B>, number: CopyId) -> Option<(SnapId, bool)>
+fn holder<B: Layered>(volume: &Journaled<B>, number: CopyId) -> Option<(SnapId, usize, bool)>
     ensures none { IfNone result (list_any (has_copy_at Read number) volume.now.volume.snaps ≡ false) }
-    ensures alone { IfSome result (λ p. p.1 ≡ true → IsAlone number volume.now.volume) }
+    ensures here { IfSome result (λ p. (s : Kept B) × StandsAt p.1 volume.now.volume.snaps s × (has_copy_at Read number s ≡ true)) }
+    ensures alone { IfSome result (λ p. p.2 ≡ true → IsAlone number volume.now.volume) }
 {
     let snaps = volume.volume.snaps();
     match volume.volume.find_read(number) {
         Some((place, _)) => {
             let snap = &snaps[place];
             let alone = is_only(snap.copies(), volume.volume.flights());
-            Some((snap.number(), alone))
+            Some((snap.number(), place, alone))
         }
         None => None,
+    }
+}
+
+/// Whether one of these copies does not wait to be read any more.
+fn has_begun(copies: &[ChunkCopy]) -> bool
+    ensures { result ≡ list_any is_begun copies.now }
+{
+    copies.iter().any(|c| !is_at(Stage::Waiting, c.stage))
+}
+
+/// Whether nothing more is due of a snapshot than reads of chunks.
+fn only_waits<B: Layered>(snap: &Snapshot<B>) -> bool
+    ensures { result ≡ waits_only snap.now }
+{
+    !snap.is_untried() && snap.marks().is_empty() && !has_begun(snap.copies())
+}
+
+/// The least number of a copy that waits to be read, of each snapshot's first.
+fn least_read<B: Layered>(snaps: &[Snapshot<B>]) -> Option<CopyId>
+    ensures { result ≡ least_waiting snaps.now }
+{
+    let mut found = None;
+    for k in (0..snaps.len()).rev() {
+        found = least(first_copy(snaps[k].copies(), Stage::Waiting), found);
+    }
+    found
+}
+
+/// The event that is due first where no more is than reads of chunks and requests.
+fn first_waiting<B: Layered>(snaps: &[Snapshot<B>], flights: &[Flight]) -> Option<Event>
+    ensures { result ≡ next_waiting snaps.now flights.now }
+{
+    if let Some(number) = least_read(snaps) {
+        return Some(Event::CopyRead(number));
+    }
+    match first_routed(flights) {
+        Some(number) => Some(Event::Issue(number)),
+        None => None,
+    }
+}
+
+/// That event, where nothing more is due of the snapshot at a place than reads of chunks.
+#[inline(always)]
+fn next_due<B: Layered>(volume: &Journaled<B>, place: usize) -> Option<Event>
+    ensures there { IfSome result (λ _. (s : Kept B) × StandsAt place volume.now.volume.snaps s × (waits_only s ≡ true)) }
+    ensures waiting { IfSome result (λ next. next_waiting volume.now.volume.snaps volume.now.volume.flights ≡ Some next) }
+{
+    let snaps = volume.volume.snaps();
+    if place < snaps.len() && only_waits(&snaps[place]) {
+        first_waiting(snaps, volume.volume.flights())
+    } else {
+        None
     }
 }
 
@@ -77,34 +133,68 @@ fn carry_one<B: Layered>(volume: &mut Journaled<B>, event: Event, reply: &mut Re
 /// Does the events that follow the read of a copy's chunk: the chunk is written, and its pair with it, the store being flushed
 /// after each; and where the copy is alone in its snapshot, and nothing reads the chunk, it is published. The copy's snapshot is
 /// told by the copy: where it has another number, its events are not due. One after the other, so that the kind of each is known
-/// where it is done.
+/// where it is done. Tells what is due next, where all was done and that is known: the read of a chunk, or a request.
 #[inline(always)]
-pub(crate) fn follow_read<B: Layered>(volume: &mut Journaled<B>, number: CopyId, reply: &mut Reply)
-    ensures { AreDoneSo B.contents B.layers B.fault_count B.size (IsFollowed B.contents B.layers (CopyRead number) reply.old reply.new volume.old.volume volume.new.volume) reply.old reply.new volume.old volume.new }
+fn follow_read<B: Layered>(
+    volume: &mut Journaled<B>,
+    number: CopyId,
+    reply: &mut Reply,
+) -> Option<Event>
+    ensures did { AreDoneSo B.contents B.layers B.fault_count B.size (IsFollowed B.contents B.layers (CopyRead number) reply.old reply.new volume.old.volume volume.new.volume) reply.old reply.new volume.old volume.new }
+    ensures next { IfSome result (λ next. IsNextDue B.contents B.layers number next volume.old.volume volume.new.volume) }
 {
-    let Some((snap, alone)) = holder(volume, number) else {
-        return;
+    let Some((snap, place, alone)) = holder(volume, number) else {
+        return None;
     };
     if !carry_one(volume, Event::CopyWrite(number), reply) {
-        return;
+        return None;
     }
     if !carry_one(volume, Event::FlushStore(snap), reply) {
-        return;
+        return None;
     }
     if !carry_one(volume, Event::WriteArea(snap), reply) {
-        return;
+        return None;
     }
     if !carry_one(volume, Event::FlushStore(snap), reply) {
-        return;
+        return None;
     }
     if !alone {
-        return;
+        return None;
     }
-    let _ = carry_one(volume, Event::Publish(number), reply);
+    if !carry_one(volume, Event::Publish(number), reply) {
+        return None;
+    }
+    next_due(volume, place)
+}
+
+/// Does the events that follow the read of a copy's chunk, which was due first, and then the reads that are known to be due
+/// next, each with what follows it, as long as nothing fails; and where no copy waits any more, the request that is due then.
+/// The copies of one write come so one after the other, and the write itself, with no search for what is due between them.
+#[inline(always)]
+pub(crate) fn follow_reads<B: Layered>(volume: &mut Journaled<B>, number: CopyId, reply: &mut Reply)
+    requires first { IsReadFirst B.contents B.layers number volume.old.volume }
+    ensures { AreDoneSo B.contents B.layers B.fault_count B.size (GoesOn B.contents B.layers reply.old reply.new volume.old.volume volume.new.volume) reply.old reply.new volume.old volume.new }
+{
+    let mut number = number;
+    while let Some(next) = follow_read(volume, number, reply) {
+        match next {
+            Event::CopyRead(read) => {
+                if !carry_one(volume, Event::CopyRead(read), reply) {
+                    return;
+                }
+                number = read;
+            }
+            Event::Issue(request) => {
+                let _ = carry_one(volume, Event::Issue(request), reply);
+                return;
+            }
+            _ => return,
+        }
+    }
 }
 
 /// Does the events that are known to follow one that was due first and was done, as long as each is due and nothing fails: each
-/// is then due first. Those that follow the read of a chunk are done by `follow_read`. Tells the last reply, and the one that was
+/// is then due first. Those that follow the read of a chunk are done by `follow_reads`. Tells the last reply, and the one that was
 /// given before where there is none.
 #[inline(always)]
 pub(crate) fn follow<B: Layered>(volume: &mut Journaled<B>, done: Event, reply: Reply) -> Reply

@@ -83,6 +83,7 @@ impl<B: Layered> Resting<B> {
     /// Refused: there is no such snapshot (`NoSuchDevice`), and then nothing changed; the snapshot is spoiled (`Invalid`), or
     /// the device of a piece failed (`Io`), after the pieces before it were read; or memory is refused (`NoMemory`), after
     /// some first pieces were read, but not all.
+    #[inline(always)]
     pub fn read(&mut self, alloc: Global, dev: Dev, range: Range) -> Result<Buf, Refusal>
         requires quiet { is_quiet_of self.old.rested.events ≡ true }
         requires some { 0 < range.count }

@@ -25,7 +25,7 @@ ghost use Rattle.volume_commands.specs.Places.{is_full_for};
 ghost use Rattle.volume_commands.specs.TakesPlaces.{TakesByRequests};
 
 use crate::Journaled;
-use crate::following::{follow, follow_read};
+use crate::following::{follow, follow_reads};
 use layers::Layered;
 use plain::{Dev, Event, Failure, NotDue, Outcome, Reply, Request};
 use sector::{Range, Refusal};
@@ -72,7 +72,7 @@ fn settle<B: Layered>(volume: &mut Journaled<B>, mut reply: Reply) -> Reply
         match event {
             Event::CopyRead(number) => {
                 if do_first(volume, Event::CopyRead(number), &mut reply) {
-                    follow_read(volume, number, &mut reply);
+                    follow_reads(volume, number, &mut reply);
                 }
             }
             Event::Issue(number) => {

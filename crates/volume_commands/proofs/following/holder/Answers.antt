@@ -1,15 +1,28 @@
 -- The copy that was found stands in its snapshot.
-use Rattle.std.proofs.Common.{◌≡◌, ◌<◌, ◌∙◌, List, arith, get_or, length, sym, ap, true}
+use Rattle.std.proofs.Common.{◌≡◌, ◌<◌, ◌∙◌, List, arith, get_or, length, sym, ap, subst, true}
 use Rattle.std.specs.Prelude.{◌==◌}
 use Rattle.std.specs.List.{list_all, list_any, position}
 use Rattle.std.proofs.lemmas.Bool.{and_parts}
 use Rattle.in_flight.specs.declared.copies.Stage.TheVariants.{Read}
 use Rattle.snapshot.specs.Kept.{Kept}
 use Rattle.snapshots.specs.Finding.{is_copy_of}
-use Rattle.volume_commands.specs.Following.{is_alone, is_of_origin}
+use Rattle.volume_commands.specs.Following.{StandsAt, is_alone, is_of_origin}
 use Rattle.volume_commands.specs.Places.{Counted}
-use Rattle.volume_commands.proofs.OnlyCopies.{alone_at}
+use Rattle.volume_commands.proofs.OnlyCopies.{alone_at, position_any}
 use Rattle.volume_commands.proofs.following.holder.Goals as goal
+
+pub returns-in-Some-clause-here : goal.returns-in-Some-clause-here
+returns-in-Some-clause-here g c =
+    let s = c.index-snaps-place.result in
+    let k = c.in-Some.place in
+    let snaps = c.snaps-snaps.result.now in
+    let within : k < length snaps = omega (arith, c.in-Some.ensures.found.0, ap length c.snaps-snaps.ensures) in
+    let same = ap (λ (x : Counted g.row.B.Denot). x.volume.snaps) (sym c.volume.view_is) ∙ sym c.snaps-snaps.ensures in
+    let found = ap (λ (xs : List (Kept g.row.B.Denot)). position (is_copy_of Read c.args.number) (get_or xs k s).copies) c.snaps-snaps.ensures ∙ c.in-Some.ensures.found.1 s in (
+      s,
+      subst (λ (xs : List (Kept g.row.B.Denot)). StandsAt k xs s) (sym same) (within, c.index-snaps-place.is),
+      position_any (is_copy_of Read c.args.number) s.copies c.in-Some.field-0-1 (ap (λ (x : Kept g.row.B.Denot). position (is_copy_of Read c.args.number) x.copies) c.index-snaps-place.is ∙ found),
+    )
 
 pub returns-in-Some-clause-alone : goal.returns-in-Some-clause-alone
 returns-in-Some-clause-alone g c = λ yes.

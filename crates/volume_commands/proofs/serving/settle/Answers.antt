@@ -4,10 +4,10 @@ use Rattle.std.proofs.lemmas.Bool.{true≢false}
 use Rattle.plain.specs.declared.event.Event.{Event}
 use Rattle.plain.specs.declared.event.Outcome.TheVariants.{Done, Fault, Reply as Answered}
 use Rattle.volume.specs.Exact.{IsExact}
-use Rattle.volume_commands.specs.Following.{IsDoneHere, IsFollowed}
+use Rattle.volume_commands.specs.Following.{IsDoneHere}
 use Rattle.volume_commands.proofs.AtRest.{done_none, done_one, done_then, due_is, still_never}
 use Rattle.volume_commands.proofs.Runs.{beside_none, beside_more, beside_followed}
-use Rattle.volume_commands.proofs.Doing.{here_done, here_followed, here_settling}
+use Rattle.volume_commands.proofs.Doing.{here_done, here_goes, here_read, here_settling}
 use Rattle.volume_commands.proofs.Quiet.{still_free, free_quiet}
 use Rattle.volume_commands.proofs.Takings.{takes_none, takes_then}
 use Rattle.volume_commands.proofs.serving.settle.Goals as goal
@@ -74,19 +74,26 @@ loop-volume-preserved g c =
       still = still_never c.args.volume.now.volume c.loop-volume.volume.volume c.step.new.self.volume c.loop-volume.invariant.still (sym c.is_quiet.ensures.value ∙ c.loop-volume-test.true);
     }
 
+pub follow_reads-requires : goal.follow_reads-requires
+follow_reads-requires g c =
+    let d = subst (λ (e : Event). IsDoneHere g.B.Block.contents g.B.Block.layers g.B.Block.fault_count g.B.Block.size e c.do_first.result c.loop-volume.reply c.do_first.new.reply c.loop-volume.volume c.do_first.new.volume) (sym c.in-CopyRead.is) c.do_first.ensures in
+    record {
+      first = here_read g.B.Block.contents g.B.Block.layers g.B.Block.fault_count g.B.Block.size c.loop-volume.reply c.do_first.new.reply c.loop-volume.volume c.do_first.new.volume c.in-Some.event c.do_first.result d c.args.reply c.args.volume.now.volume c.loop-volume.invariant.so
+          (sym c.is_quiet.ensures.value ∙ c.loop-volume-test.true) c.in-Some.ensures.machine c.in-Some.ensures.calm c.in-Some.ensures.seen c.in-CopyRead.number c.in-CopyRead.is c.if-do_first.true;
+    }
+
 pub loop-volume-preserved-then-do_first : goal.loop-volume-preserved-then-do_first
 loop-volume-preserved-then-do_first g c =
     let d = subst (λ (e : Event). IsDoneHere g.B.Block.contents g.B.Block.layers g.B.Block.fault_count g.B.Block.size e c.do_first.result c.loop-volume.reply c.do_first.new.reply c.loop-volume.volume c.do_first.new.volume) (sym c.in-CopyRead.is) c.do_first.ensures in
     let more = done_then g.B.Block.contents g.B.Block.layers g.B.Block.fault_count g.B.Block.size c.args.reply c.loop-volume.reply c.do_first.new.reply c.args.volume.now.volume c.loop-volume.volume.volume c.do_first.new.volume.volume c.loop-volume.invariant.did
     (here_done g.B.Block.contents g.B.Block.layers g.B.Block.fault_count g.B.Block.size c.loop-volume.reply c.do_first.new.reply c.loop-volume.volume c.do_first.new.volume c.in-Some.event c.do_first.result d) in
     record {
-      so = here_followed g.B.Block.contents g.B.Block.layers g.B.Block.fault_count g.B.Block.size c.loop-volume.reply c.do_first.new.reply c.loop-volume.volume c.do_first.new.volume c.in-Some.event c.do_first.result d c.args.reply c.args.volume.now.volume c.loop-volume.invariant.so
+      so = here_goes g.B.Block.contents g.B.Block.layers g.B.Block.fault_count g.B.Block.size c.loop-volume.reply c.do_first.new.reply c.loop-volume.volume c.do_first.new.volume c.in-Some.event c.do_first.result d c.args.reply c.args.volume.now.volume c.loop-volume.invariant.so
           (sym c.is_quiet.ensures.value ∙ c.loop-volume-test.true) c.in-Some.ensures.machine c.in-Some.ensures.calm c.in-Some.ensures.seen
-          c.follow_read.new.reply c.follow_read.new.volume.volume c.if-do_first.true c.follow_read.ensures.loud c.follow_read.ensures.kept c.follow_read.ensures.requests
-          (subst (λ (e : Event). IsFollowed g.B.Block.contents g.B.Block.layers e c.do_first.new.reply c.follow_read.new.reply c.do_first.new.volume.volume c.follow_read.new.volume.volume) (sym c.in-CopyRead.is) c.follow_read.ensures.so);
-      did = done_then g.B.Block.contents g.B.Block.layers g.B.Block.fault_count g.B.Block.size c.args.reply c.do_first.new.reply c.follow_read.new.reply c.args.volume.now.volume c.do_first.new.volume.volume c.follow_read.new.volume.volume more c.follow_read.ensures.did;
-      taken = takes_then _ _ _ (takes_then _ _ _ c.loop-volume.invariant.taken d.taken) c.follow_read.ensures.taken;
-      still = still_never c.args.volume.now.volume c.loop-volume.volume.volume c.follow_read.new.volume.volume c.loop-volume.invariant.still (sym c.is_quiet.ensures.value ∙ c.loop-volume-test.true);
+          c.follow_reads.new.reply c.follow_reads.new.volume.volume c.follow_reads.ensures.kept c.follow_reads.ensures.requests c.follow_reads.ensures.so;
+      did = done_then g.B.Block.contents g.B.Block.layers g.B.Block.fault_count g.B.Block.size c.args.reply c.do_first.new.reply c.follow_reads.new.reply c.args.volume.now.volume c.do_first.new.volume.volume c.follow_reads.new.volume.volume more c.follow_reads.ensures.did;
+      taken = takes_then _ _ _ (takes_then _ _ _ c.loop-volume.invariant.taken d.taken) c.follow_reads.ensures.taken;
+      still = still_never c.args.volume.now.volume c.loop-volume.volume.volume c.follow_reads.new.volume.volume c.loop-volume.invariant.still (sym c.is_quiet.ensures.value ∙ c.loop-volume-test.true);
     }
 
 pub loop-volume-preserved-else-do_first : goal.loop-volume-preserved-else-do_first
