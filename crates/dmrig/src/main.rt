@@ -89,11 +89,8 @@ fn done(
             }
         },
     };
-    finished(
-        rt,
-        asked.file.unwrap_or("-"),
-        printed(rt, source, errors, asked),
-    )
+    let name = asked.file.unwrap_or("-");
+    finished(rt, name, printed(rt, source, errors, asked))
 }
 
 /// The words of the command line. `None`, once that is told, where they could not be had.

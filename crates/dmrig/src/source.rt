@@ -5,7 +5,9 @@ use std::io::Read;
 /// Where lines come from: standard input or a file. The loop over the lines stands in the program once for both.
 #[derive(Drop)]
 pub enum Source<I: Read, F: Read> {
+    /// Standard input.
     Input(I),
+    /// The file that the words name.
     File(F),
 }
 
