@@ -59,7 +59,11 @@ impl Late {
         ensures bytes { self.new.bytes.items ≡ bytes.now }
     {
         append(&mut self.bytes, bytes);
-        self.range = range;
+        self.range = Range {
+            first: range.first,
+            count: range.count,
+            size: range.size,
+        };
     }
 
     /// Forgets what waits.

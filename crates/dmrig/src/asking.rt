@@ -37,6 +37,7 @@ fn workers_of(word: Option<&str>) -> u32
 
 /// What the words ask for, the first of which is the program's own name. An error says what is wrong with them and with which,
 /// or is the help or the version.
+#[inline(never)]
 pub fn words_ask<'a>(alloc: Global, words: &'a [String]) -> Result<Asked<'a>, Error>
     ensures some { IfOk result (λ asked. 1 ≤ asked.workers) }
     ensures few { IfOk result (λ asked. asked.workers ≤ 4) }

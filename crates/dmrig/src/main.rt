@@ -94,6 +94,7 @@ fn done(
 }
 
 /// The words of the command line. `None`, once that is told, where they could not be had.
+#[inline(never)]
 fn given(rt: &HostRuntime) -> Option<Vec<String>> {
     match std::env::args(rt) {
         Ok(args) => match args.collect(rt.alloc()) {

@@ -78,6 +78,7 @@ fn is_merge(target: &Target) -> bool
 /// `create NAME LINE`: makes the device of a table line. In this order: `BadTable` for `snapshot-merge`, `Busy` for a name
 /// that a device has, `TooMany` where there are 64 devices, then by the target: `JournalFull` only for a snapshot, where the
 /// journal of its origin's volume has no room.
+#[inline(never)]
 #[tactic(auto, unfolding(command_rules::specs::Creating::create, crate::specs::Meeting::IsCreated))]
 pub fn create_device(
     alloc: Global,

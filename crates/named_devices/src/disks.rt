@@ -14,6 +14,7 @@ use words::Name;
 
 /// `disk NAME N`: a disk of N zero sectors. In this order: `Busy` for a name that a device has, `OutOfRange` for a number of
 /// sectors outside 1 to 2^24, `TooMany` where there are 64 devices, `NoMemory` where the allocator refuses room.
+#[inline(never)]
 #[tactic(auto, unfolding(command_rules::specs::Disks::make))]
 pub fn make_disk(alloc: Global, held: &mut Devices, name: Name, sectors: u32) -> Result<(), Refusal>
     ensures done { Changes result (table_of held.old) (table_of held.new) (make name sectors (table_of held.old)) }

@@ -280,6 +280,7 @@ fn settle_at(held: &mut Devices, v: usize, ended: &mut Vec<Replied>) -> Result<(
 /// or to the first operation of it that fails. The replies to requests that end in it go to the end of `ended`. In this order:
 /// `NoSuchDevice` for a name that no device has, `BadTable` for a device that is no origin, `NoMemory` where something is in flight
 /// and the allocator refuses room for the replies. A refusal changes nothing.
+#[inline(never)]
 #[tactic(auto, unfolding(command_rules::specs::Events::origin_by, command_rules::specs::Events::rested, command_rules::specs::Events::settle, crate::specs::Devices::KeepsOthers))]
 pub fn settle_device(
     held: &mut Devices,

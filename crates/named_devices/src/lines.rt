@@ -26,6 +26,7 @@ fn line_at(held: &Devices, place: Place) -> Result<Line, Refusal>
 
 /// `table DEV`: the line of a device, as it is printed. In this order: `NoSuchDevice` for a name that no device has,
 /// `BadTable` for a disk, `NoMemory` where the allocator refuses the bytes.
+#[inline(never)]
 #[tactic(auto, unfolding(command_rules::specs::Lines::line_text))]
 pub fn line_text(alloc: Global, held: &Devices, name: &Name) -> Result<Text, Refusal>
     ensures { Gives result (line_text name.now (table_of held.now)) }

@@ -60,6 +60,7 @@ fn begin_at(alloc: Global, held: &mut Devices, v: usize, k: usize) -> Result<(),
 /// device than a snapshot, `MergeInProgress` where another snapshot of the volume is being merged, `Invalid` for a spoiled one,
 /// `NotQuiet` where its volume has something left to do, `NoMemory` where the allocator refuses what the merge will need. Where
 /// the journal of its volume has no room, `JournalFull` may stand in place of the last three.
+#[inline(never)]
 #[tactic(auto, unfolding(command_rules::specs::Merging::merge_begun))]
 pub fn merge_device(alloc: Global, held: &mut Devices, name: &Name) -> Result<(), Refusal>
     ensures done { is_sound_in (volume_for name.now (table_of held.old)) ≡ true → Enters result (table_of held.old) (table_of held.new) (merge_begun name.now (table_of held.old)) }
@@ -125,6 +126,7 @@ fn finish_at(held: &mut Devices, v: usize) -> Result<(), Refusal>
 /// `NotFinished` where no merge is begun or something of it is left, `NotQuiet` where its volume has something else left to do,
 /// `NoMemory` where the allocator refuses room for what is left, `JournalFull` where the journal has none; these may come before
 /// those two. A refusal changes nothing.
+#[inline(never)]
 #[tactic(auto, unfolding(command_rules::specs::Events::origin_by, command_rules::specs::Merging::merge_finished))]
 pub fn finish_device(held: &mut Devices, name: &Name) -> Result<(), Refusal>
     ensures asks { IfErr (origin_by name.now (table_of held.old)) (λ e. result ≡ Err e) }

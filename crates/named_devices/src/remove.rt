@@ -36,6 +36,7 @@ fn take_top(held: &mut Devices, i: usize)
 /// is being merged, `NotQuiet` for an origin or a snapshot whose volume has something left to do, `NoMemory` where the
 /// allocator refuses room for what is left, `JournalFull` for a snapshot where the journal of its volume has none; these two may
 /// come before `NotQuiet`.
+#[inline(never)]
 #[tactic(auto, unfolding(command_rules::specs::Removing::take_away), using(command_rules::proofs::Starving::changes_enter))]
 pub fn remove_device(held: &mut Devices, name: &Name) -> Result<(), Refusal>
     ensures done { Enters result (table_of held.old) (table_of held.new) (take_away name.now (table_of held.old)) }

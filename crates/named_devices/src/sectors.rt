@@ -176,6 +176,7 @@ fn flush_at(
 /// layer, `OutOfRange` where the origin has no sector, `MergingSnapshot` for a snapshot that is being merged, `TooMany` where
 /// the volume has taken too many, then `JournalFull` and what its devices answer; `NoMemory` may come before that, where
 /// something is in flight. Requests that are in flight may end in it: their replies go to the end of `ended`.
+#[inline(never)]
 #[tactic(auto, unfolding(command_rules::specs::Starting::flush_asked, command_rules::specs::Starting::asked_by, command_rules::specs::Sectors::flush, command_rules::specs::Sectors::IsFlushStarved, crate::specs::Devices::KeepsOthers))]
 pub fn flush_device(
     held: &mut Devices,

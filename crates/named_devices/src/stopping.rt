@@ -71,6 +71,7 @@ fn lose_from(stacks: &mut [NamedStack], first: usize)
 
 /// `stop VOL lose`: the volume is stopped as by `stop VOL`, with the same refusals, and then its disks lose what was not flushed:
 /// each of their sectors goes back to its value at its disk's last flush. All other disks stay as they are.
+#[inline(never)]
 pub fn stop_losing(held: &mut Devices, name: &Name) -> Result<(), Refusal>
     ensures asks { IfErr (origin_by name.now (table_of held.old)) (λ e. result ≡ Err e) }
     ensures done { StopsLosing result name.now (table_of held.old) (table_of held.new) }

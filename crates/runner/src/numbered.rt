@@ -26,6 +26,7 @@ use words::LineBuffer;
 /// Comments and empty lines count. A block's answers have the number of the line that ends it; where the text's end does, that
 /// of the line that would come next. A line's answers are kept until they are printed: where memory for that is refused, the run
 /// ends as if the writer had failed.
+#[inline(never)]
 pub fn run_numbered<T: Threads + Wait + Sync, R: Read, W: Write, X: Tracer>(
     rt: &T,
     alloc: Global,

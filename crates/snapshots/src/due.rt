@@ -6,7 +6,7 @@ ghost use Rattle.in_flight.specs.Due.{first_by, is_issuable, least as lesser, nu
 ghost use Rattle.in_flight.specs.declared.copies.Stage.TheVariants.{Waiting};
 ghost use Rattle.volume_laws.specs.Due.{can_commit as can_be_committed, can_flush_store as can_be_flushed, can_mark as can_be_marked, can_zero as can_be_zeroed, copy_of, due_of, event_or, least_of, publishable_of, snap_number};
 ghost use Rattle.snapshot.specs.Kept.{due_of_kept};
-ghost use Rattle.snapshots.specs.Busy.{AreAlike, busy_due, is_begun, is_busy as is_busy_in};
+ghost use Rattle.snapshots.specs.Busy.{AreAlike, busy_due, is_begun, is_busy as is_busy_in, waiting_due as due_of_waiting};
 
 use device::Block;
 use in_flight::{
@@ -132,7 +132,7 @@ fn has_begun(copies: &[ChunkCopy]) -> bool
 
 /// Whether more may be due of a snapshot than reads of chunks: it has a mark, or a copy whose chunk was read, or the header of
 /// its store is to be marked invalid.
-fn is_busy<B: Block>(snap: &Snapshot<B>) -> bool
+pub fn is_busy<B: Block>(snap: &Snapshot<B>) -> bool
     ensures { result ≡ is_busy_in (due_of_kept B.contents B.layers snap.now) }
 {
     snap.is_untried() || !snap.marks().is_empty() || has_begun(snap.copies())
@@ -206,6 +206,13 @@ fn first_waiting(waiting: Option<CopyId>, flights: &[Flight]) -> Option<Event>
         Some(number) => Some(Event::Issue(number)),
         None => None,
     }
+}
+
+/// What is due first where no more is than reads of chunks and requests.
+pub fn waiting_due<B: Block>(snaps: &[Snapshot<B>], flights: &[Flight]) -> Option<Event>
+    ensures { result ≡ due_of_waiting (map (due_of_kept B.contents B.layers) snaps.now) flights.now }
+{
+    first_waiting(least_copy(snaps, Stage::Waiting), flights)
 }
 
 /// The event that is due first: a mark of a spoiled snapshot, a flush of a store, a publication, a commit, a zeroed area, a

@@ -24,7 +24,7 @@ mod saving_next;
 mod seeking;
 mod starting;
 
-pub use due::first_due;
+pub use due::{first_due, is_busy, waiting_due};
 pub use due_in_merge::{
     is_area_due, is_commit_due, is_flush_due, is_group_due, is_read_due, is_release_due,
     is_write_due, merge_due,

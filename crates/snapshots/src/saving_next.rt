@@ -268,6 +268,7 @@ fn save_beside<B: Block>(
 /// Where a pair of the merge's group waits: starts the copies of the chunks that the last one's chunk touches, the first in
 /// each snapshot that it has not published, where it lacks that, and tells how many numbers were given then. Snapshots whose
 /// stores are full are spoiled, and their requests refused.
+#[inline(always)]
 pub fn save_waiting<B: Block>(
     merge: &Merge<B>,
     snaps: &mut Vec<Snapshot<B>>,
@@ -278,6 +279,9 @@ pub fn save_waiting<B: Block>(
     requires few { copies + length snaps.old.items < 2 ^ 64 }
     ensures saved { IsNextSaved B.contents B.layers merge.now.state.chunk merge.now.state.origin (last_of (waiting_of merge.now.group)) snaps.old.items snaps.new.items copies result flights.old.items flights.new.items }
 {
+    if snaps.is_empty() {
+        return copies;
+    }
     save_last(merge, snaps, flights, copies)
 }
 

@@ -26,6 +26,7 @@ use snapshots::{
 };
 
 /// Spoils a snapshot whose device failed, and refuses its requests.
+#[inline(never)]
 fn spoil<B: Block>(snap: &mut Snapshot<B>, flights: &mut Vec<Flight>)
     requires { snap.old.live ≡ true }
     ensures fields { snap.new ≡ record snap.old { live = false; untried = true; state = record snap.old.state { copying = false }; begun = []; copies = []; marks = []; kept_back = 0; spare = false; merging = None } }

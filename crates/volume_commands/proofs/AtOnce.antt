@@ -1,11 +1,9 @@
 -- A request that its volume served: the places of a journal that it takes, and what was begun with it.
-use Rattle.std.proofs.Common.{◌≡◌, ◌≢◌, ◌⊎◌, inl, inr, ℕ, ◌+◌, ◌≤◌, true, List, [], ◌∷◌, ◌++◌, length, map, Option, Some, refl, sym, ◌∙◌, ap, arith, length-append, subst}
+use Rattle.std.proofs.Common.{◌≡◌, inl, ℕ, ◌+◌, ◌≤◌, true, List, [], ◌∷◌, length, map, Some, refl, ◌∙◌, ap, arith, length-append, subst}
 use Rattle.std.specs.Prelude.{Ok}
 use Rattle.device.specs.Layers.{Layer}
-use Rattle.plain.specs.Failures.{refusal_of}
 use Rattle.plain.specs.Kept.{kept}
 use Rattle.plain.specs.Plain.{InFlight}
-use Rattle.plain.specs.declared.event.Event.{Event}
 use Rattle.plain.specs.declared.event.Event.TheVariants.{Issue}
 use Rattle.plain.specs.declared.event.Outcome.TheVariants.{Reply as Replied}
 use Rattle.plain.specs.declared.request.Failure.{Failure}
@@ -24,14 +22,14 @@ use Rattle.volume.specs.DoesServe.{DoesServe, IsServedAtOnce}
 use Rattle.volume.specs.DoesSubmit.{DoesSubmit}
 use Rattle.volume.specs.Leaving.{is_quiet_of}
 use Rattle.volume.specs.Moved.{moving_of}
-use Rattle.volume.specs.Reaching.{IsRun, Reaches}
+use Rattle.volume.specs.Reaching.{Reaches}
 use Rattle.volume.specs.Submitting.{IsAcceptedAs}
 use Rattle.volume.specs.Volumed.{Volumed, is_loud_in_all}
 use Rattle.volume.specs.declared.at_once.Served.{Served}
 use Rattle.volume.specs.declared.at_once.Served.TheVariants.{Answered, InFlight as IsInFlight}
 use Rattle.volume.proofs.Quieted.{quiet_flights}
 use Rattle.volume.proofs.Reaches.{reaches_more, reaches_none}
-use Rattle.volume_commands.specs.AtRest.{AreDone, IsBegun, IsEntered}
+use Rattle.volume_commands.specs.AtRest.{IsBegun, IsEntered}
 use Rattle.volume_commands.specs.Places.{HasPlaces, counted_with, kept_for_marks}
 use Rattle.volume_commands.specs.TakesPlaces.{TakesByRequests}
 use Rattle.volume_commands.proofs.AtRest.{done_none, done_one, due_is}

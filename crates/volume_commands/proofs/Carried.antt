@@ -79,7 +79,7 @@ no_flush a b c d e =
     let two = or_parts (a || b) c most.0 in
     ((or_parts a b two.0).0, most.1)
 
-tried_by : (untried marked : Bool) → (untried && not marked) ≡ false → (untried && marked) ≡ false → untried ≡ false
+pub tried_by : (untried marked : Bool) → (untried && not marked) ≡ false → (untried && marked) ≡ false → untried ≡ false
 tried_by false marked a b = refl
 tried_by true false a b = absurd (true≢false a)
 tried_by true true a b = absurd (true≢false b)

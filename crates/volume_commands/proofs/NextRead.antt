@@ -1,9 +1,9 @@
 -- After the copy that was read first is done, its mark taken away, the read of the copy with the least number is due first, or a request.
-use Rattle.std.proofs.Common.{◌≡◌, ℕ, zero, suc, ◌+◌, ◌<◌, Bool, true, false, List, [], ◌∷◌, ◌++◌, length, map, drop, get_or, Option, Some, None, refl, ap, ◌∙◌, sym, subst, arith}
+use Rattle.std.proofs.Common.{◌≡◌, ℕ, zero, suc, ◌+◌, Bool, true, false, List, [], ◌∷◌, ◌++◌, length, map, get_or, Option, Some, None, refl, ap, ◌∙◌, sym, subst, arith}
 use Rattle.std.specs.Prelude.{◌==◌, ◌&&◌, ◌||◌, not, if◌then◌else◌, IfSome}
 use Rattle.std.specs.List.{list_any}
-use Rattle.std.proofs.lemmas.Bool.{and_parts, cond-false, eqb-true, not-true, or_parts, true≢false}
-use Rattle.std.proofs.lemmas.List.{drop_more, length-map}
+use Rattle.std.proofs.lemmas.Bool.{cond-false, eqb-true, not-false, or_parts, true≢false}
+use Rattle.std.proofs.lemmas.List.{length-map}
 use Rattle.device.specs.Layers.{Layer}
 use Rattle.plain.specs.declared.event.Event.{Event}
 use Rattle.plain.specs.declared.event.Event.TheVariants.{Issue, CopyRead, CopyWrite, WriteArea, Publish, FlushStore}
@@ -13,18 +13,18 @@ use Rattle.in_flight.specs.declared.copies.Stage.{Stage}
 use Rattle.in_flight.specs.declared.copies.Stage.TheVariants.{Waiting, Read, Written, Flushed}
 use Rattle.in_flight.specs.declared.flights.Flight.{Flight}
 use Rattle.in_flight.specs.Due.{first_by, is_copy_at, is_issuable as is_issuable_in, is_stage, least, number_of_copy, number_of_flight, number_of_mark}
-use Rattle.volume_laws.specs.Due.{event_or, is_unsafe}
+use Rattle.volume_laws.specs.Due.{copy_of, event_or, is_unsafe, least_of}
 use Rattle.settled.proofs.Each.{Each, each_weaker}
 use Rattle.event_machine.specs.Held.{Copying, SnapHeld, Moving, number_of}
 use Rattle.event_machine.specs.Due.{can_mark, can_flush_store, can_commit, can_zero, copy_at, is_at, is_front_ready, is_front_unflushed, needs_area, waits_for_area, publishable_in, is_issuable, is_publishable, least_in, number_of_copying, number_of_going, due}
 use Rattle.event_machine.specs.Seen.{copying_of, going_of}
 use Rattle.event_machine.specs.Stepping.{stepped}
 use Rattle.event_machine.proofs.Lists.{nowhere_by, nowhere_least}
-use Rattle.snapshot.specs.Kept.{Kept}
-use Rattle.snapshots.specs.Busy.{is_begun}
+use Rattle.snapshot.specs.Kept.{Kept, due_of_kept}
+use Rattle.snapshots.specs.Busy.{is_begun, is_busy, waiting_due}
 use Rattle.volume.specs.EventKinds.{is_of_merge}
 use Rattle.volume.specs.Moved.{held_of}
-use Rattle.volume_commands.specs.Following.{StandsAt, least_waiting, next_waiting, only_waits}
+use Rattle.volume_commands.specs.Following.{StandsAt}
 use Rattle.volume_commands.proofs.Follows.{has_read, read_chosen}
 use Rattle.volume_commands.proofs.Unmarked.{AreDullBut, IsAloneIn, IsDull, flush_none, five_rest, stepped_stands}
 
@@ -121,10 +121,6 @@ dull_after n s k m h is alone at has =
     let place : length t.1.done ≡ k = stands_place (has_read n) t.1.done t.1.rest t.1.here h k t.2 t.3 (subst (λ (xs : List SnapHeld). StandsAt k xs h) t.1.is at) has in
     subst (λ (j : ℕ). AreDullBut j (stepped (Publish n) (stepped (FlushStore s) (stepped (WriteArea s) (stepped (FlushStore s) (stepped (CopyWrite n) u)))))) (sym t.1.place ∙ place) (five_rest n s u t)
 
--- the least number of a copy that waits, with one snapshot more
-pub least_more : {B : Type 0} (snaps : List (Kept B)) (k : ℕ) (s : Kept B) → k < length snaps → s ≡ get_or snaps k s → least_waiting (drop k snaps) ≡ least (first_by (is_copy_at Waiting) number_of_copy s.copies) (least_waiting (drop (k + 1) snaps))
-least_more snaps k s within is = ap least_waiting (drop_more snaps k s within) ∙ ap (λ (x : Kept _). least (first_by (is_copy_at Waiting) number_of_copy x.copies) (least_waiting (drop (k + 1) snaps))) (sym is)
-
 -- what the volume's lists say is so in the machine
 module _ {B : Type 0} (contents : B → List ℕ) (layers : B → List Layer) where
   same_begun : (cs : List ChunkCopy) → list_any begun (map copying_of cs) ≡ list_any is_begun cs
@@ -135,29 +131,29 @@ module _ {B : Type 0} (contents : B → List ℕ) (layers : B → List Layer) wh
   same_waiting [] = refl
   same_waiting (c ∷ cs) = ap (λ (o : Option ℕ). if is_copy_at Waiting c then Some c.number else o) (same_waiting cs)
 
-  least_seen : (snaps : List (Kept B)) → least_in (copy_at Waiting) (map (held_of contents layers) snaps) ≡ least_waiting snaps
+  least_seen : (snaps : List (Kept B)) → least_in (copy_at Waiting) (map (held_of contents layers) snaps) ≡ least_of (copy_of Waiting) (map (due_of_kept contents layers) snaps)
   least_seen [] = refl
   least_seen (s ∷ snaps) = ap (λ (o : Option ℕ). least o (least_in (copy_at Waiting) (map (held_of contents layers) snaps))) (same_waiting s.copies) ∙ ap (least (first_by (is_copy_at Waiting) number_of_copy s.copies)) (least_seen snaps)
 
-  no_marks : (marks : List Mark) → (length marks == 0) ≡ true → marks ≡ []
+  no_marks : (marks : List Mark) → not (length marks == 0) ≡ false → marks ≡ []
   no_marks [] e = refl
-  no_marks (m ∷ marks) e = (let z : length (m ∷ marks) ≡ 0 = eqb-true (length (m ∷ marks)) 0 e in absurd (omega (arith, z)))
+  no_marks (m ∷ marks) e = (let z : length (m ∷ marks) ≡ 0 = eqb-true (length (m ∷ marks)) 0 (not-false _ e) in absurd (omega (arith, z)))
 
   same_routed : (fs : List Flight) → first_by is_issuable number_of_going (map going_of fs) ≡ first_by is_issuable_in number_of_flight fs
   same_routed [] = refl
   same_routed (f ∷ fs) = ap (λ (o : Option ℕ). if is_issuable_in f then Some f.number else o) (same_routed fs)
 
   -- so what comes first of those that wait is due first
-  pub next_first : (k : ℕ) (next : Event) (m : Moving) (snaps : List (Kept B)) (fs : List Flight) (s : Kept B) → m.snaps ≡ map (held_of contents layers) snaps → m.requests ≡ map going_of fs → AreDullBut k m → StandsAt k snaps s → only_waits s ≡ true
-      → next_waiting snaps fs ≡ Some next → due m ≡ Some next
+  pub next_first : (k : ℕ) (next : Event) (m : Moving) (snaps : List (Kept B)) (fs : List Flight) (s : Kept B) → m.snaps ≡ map (held_of contents layers) snaps → m.requests ≡ map going_of fs → AreDullBut k m → StandsAt k snaps s → is_busy (due_of_kept contents layers s) ≡ false
+      → waiting_due (map (due_of_kept contents layers) snaps) fs ≡ Some next → due m ≡ Some next
   next_first k next m snaps fs s is requests d at only waiting =
-      let most = and_parts (not s.untried && (length s.marks == 0)) (not (list_any is_begun s.copies)) only in
-      let parts = and_parts (not s.untried) (length s.marks == 0) most.0 in
+      let most = or_parts (s.untried || not (length s.marks == 0)) (list_any is_begun s.copies) only in
+      let parts = or_parts s.untried (not (length s.marks == 0)) most.0 in
       let here : held_of contents layers s ≡ d.here = stands_here d.done d.rest d.here (held_of contents layers s) k d.place (subst (λ (xs : List SnapHeld). StandsAt k xs (held_of contents layers s)) (sym is ∙ d.is) (stands_map (held_of contents layers) snaps k s at)) in
-      waiting_first k m d (ap (λ (h : SnapHeld). h.untried) (sym here) ∙ not-true s.untried parts.0) (ap (λ (h : SnapHeld). h.marks) (sym here) ∙ no_marks s.marks parts.1)
-      (ap (λ (h : SnapHeld). list_any begun h.copies) (sym here) ∙ same_begun s.copies ∙ not-true (list_any is_begun s.copies) most.1)
+      waiting_first k m d (ap (λ (h : SnapHeld). h.untried) (sym here) ∙ parts.0) (ap (λ (h : SnapHeld). h.marks) (sym here) ∙ no_marks s.marks parts.1)
+      (ap (λ (h : SnapHeld). list_any begun h.copies) (sym here) ∙ same_begun s.copies ∙ most.1)
       ∙ ap (λ (o : Option ℕ). event_or o CopyRead (event_or (first_by is_issuable number_of_going m.requests) Issue None)) (ap (least_in (copy_at Waiting)) is ∙ least_seen snaps)
-      ∙ ap (λ (o : Option ℕ). event_or (least_waiting snaps) CopyRead (event_or o Issue None)) (ap (first_by is_issuable number_of_going) requests ∙ same_routed fs)
+      ∙ ap (λ (o : Option ℕ). event_or (least_of (copy_of Waiting) (map (due_of_kept contents layers) snaps)) CopyRead (event_or o Issue None)) (ap (first_by is_issuable number_of_going) requests ∙ same_routed fs)
       ∙ waiting
 
 -- and it is none of the merge

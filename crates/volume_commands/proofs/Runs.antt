@@ -13,9 +13,10 @@ use Rattle.plain.specs.declared.request.Dev.{Dev}
 use Rattle.plain.specs.declared.request.Dev.TheVariants.{Origin, Snap}
 use Rattle.plain.specs.declared.request.Reply.{Reply}
 use Rattle.in_flight.specs.declared.copies.ChunkCopy.{ChunkCopy}
-use Rattle.in_flight.specs.declared.copies.Stage.TheVariants.{Read}
+use Rattle.in_flight.specs.declared.copies.Stage.TheVariants.{Read, Waiting}
 use Rattle.in_flight.specs.declared.flights.Flight.{Flight}
 use Rattle.in_flight.specs.Due.{first_by, is_issuable, number_of_flight}
+use Rattle.volume_laws.specs.Due.{copy_of, least_of}
 use Rattle.settled.proofs.Each.{Each}
 use Rattle.volume_laws.specs.MergeDue.{has_group}
 use Rattle.event_machine.specs.Held.{SnapHeld, Moving}
@@ -23,7 +24,7 @@ use Rattle.event_machine.specs.Due.{due}
 use Rattle.event_machine.specs.MergeDue.{due_all}
 use Rattle.event_machine.specs.Seen.{copying_of, going_of, replied_by}
 use Rattle.event_machine.specs.Stepping.{is_copy, stepped}
-use Rattle.snapshot.specs.Kept.{Kept}
+use Rattle.snapshot.specs.Kept.{Kept, due_of_kept}
 use Rattle.snapshots.specs.Finding.{has_copy_at, is_copy_of}
 use Rattle.merge.specs.Due.{has_group_of}
 use Rattle.merge.specs.Merging.{Merging, books_of as merging_books}
@@ -36,7 +37,7 @@ use Rattle.volume.specs.Stepping.{KeepsAll}
 use Rattle.volume.specs.Volumed.{Volumed, is_loud_in_all}
 use Rattle.volume.proofs.Reaches.{reaches_none, reaches_more}
 use Rattle.volume_commands.proofs.Freed.{step_keeps, beside_steps, beside_due, freed, free_seen}
-use Rattle.volume_commands.specs.Following.{following, all_following, grouped, is_alone, is_of_origin, is_origin, AreAllDone, AreCarried, GoesOn, IsAlone, IsFollowed, IsNextDue, IsOn, IsReadFirst, StandsAt, least_waiting}
+use Rattle.volume_commands.specs.Following.{following, all_following, grouped, is_alone, is_of_origin, is_origin, AreAllDone, AreCarried, GoesOn, IsAlone, IsFollowed, IsNextDue, IsOn, IsReadFirst, StandsAt}
 use Rattle.volume_commands.proofs.Follows.{Follows}
 use Rattle.volume_commands.proofs.Carried.{AllFollow, follows}
 use Rattle.volume_commands.proofs.NextRead.{dull_after, next_first, no_merge, stands_map}
@@ -195,7 +196,7 @@ module _ {B : Type 0} (contents : B → List ℕ) (layers : B → List Layer) (s
           next_first contents layers r.place next (moving_of contents layers replied x) x.snaps x.flights r.there.0 refl refl (subst (AreDullBut r.place) ends dull) r.there.1 r.there.2 r.waiting
 
       none_merges : is_of_merge next ≡ false
-      none_merges = no_merge (least_waiting x.snaps) (first_by is_issuable number_of_flight x.flights) next r.waiting
+      none_merges = no_merge (least_of (copy_of Waiting) (map (due_of_kept contents layers) x.snaps)) (first_by is_issuable number_of_flight x.flights) next r.waiting
 
       pub next_goes : (before mid after : Reply) (y : Volumed B) → IsFollowed contents layers (CopyRead n) before mid u x → AreCarried contents layers (next ∷ []) mid after x y → GoesOn contents layers before after u y
       next_goes before mid after y followed carried first v on =

@@ -32,7 +32,7 @@ use Rattle.event_machine.proofs.Found.{IsSplit, split_at, none_that}
 use Rattle.event_machine.proofs.Lists.{here_that, here_with, nowhere_by, only_least}
 use Rattle.volume_commands.specs.Following.{all_following}
 use Rattle.volume_commands.proofs.Follows.{Follows, Chosen, all_unread, and_no, and_left, and_right, each_done, each_here, each_join, each_rest, fails_by, flush_nowhere, flush_test, has_read, lacks_by, now, read_chosen, snaps_now, unread, write_nowhere}
-use Rattle.volume_commands.proofs.Carried.{AllFollow, follows}
+use Rattle.volume_commands.proofs.Carried.{AllFollow, follows, tried_by}
 
 -- Requests of the origin read no snapshot.
 abbrev pub IsOrigins : Going → Type 0
@@ -91,11 +91,6 @@ flush_parts a b c d e =
 
 pub flush_none : (untried marked unflushed ready rest unsafe : Bool) → untried ≡ false → unflushed ≡ false → ready ≡ false → unsafe ≡ false → ((untried && marked) || unflushed || (ready && rest) || unsafe) ≡ false
 flush_none untried marked unflushed ready rest unsafe a b c d = rw (a, b, c, d) refl
-
-is_tried : (untried marked : Bool) → (untried && not marked) ≡ false → (untried && marked) ≡ false → untried ≡ false
-is_tried false marked a b = refl
-is_tried true false a b = absurd (true≢false a)
-is_tried true true a b = absurd (true≢false b)
 
 take_none : {X : Type 0} (k : ℕ) → take {A = X} k [] ≡ []
 take_none zero = refl
@@ -506,7 +501,7 @@ module _ (n : ℕ) where
             place = refl;
             before = each_done IsDull split.done split.rest split.here dull;
             later = each_rest IsDull split.done split.rest split.here dull;
-            own = inl (record { copy = was_read; copies = only; number = eqb-true copy.here.number n (and_left _ _ copy.pass); marks = own.marks; tried = is_tried split.here.untried split.here.marked own.mark parts.0 });
+            own = inl (record { copy = was_read; copies = only; number = eqb-true copy.here.number n (and_left _ _ copy.pass); marks = own.marks; tried = tried_by split.here.untried split.here.marked own.mark parts.0 });
             requests = alone.requests;
           } in
           (length split.done, a, unread_done, unread_rest)

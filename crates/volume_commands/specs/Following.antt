@@ -4,20 +4,18 @@ use Rattle.std.specs.List.{list_all, list_any}
 use Rattle.sector.specs.declared.pair.Pair.{Pair}
 use Rattle.device.specs.Layers.{Layer}
 use Rattle.plain.specs.declared.event.Event.{Event}
-use Rattle.plain.specs.declared.event.Event.TheVariants.{Issue, CopyRead, CopyWrite, WriteArea, Publish, FlushStore}
+use Rattle.plain.specs.declared.event.Event.TheVariants.{CopyRead, CopyWrite, WriteArea, Publish, FlushStore}
 use Rattle.plain.specs.declared.event.Outcome.{Outcome}
 use Rattle.plain.specs.declared.event.Outcome.TheVariants.{Done, Fault, Reply as Replies}
 use Rattle.plain.specs.declared.request.Dev.{Dev}
 use Rattle.plain.specs.declared.request.Dev.TheVariants.{Origin, Snap}
 use Rattle.plain.specs.declared.request.Reply.{Reply}
-use Rattle.in_flight.specs.declared.copies.Stage.TheVariants.{Waiting, Read}
-use Rattle.in_flight.specs.Due.{first_by, is_copy_at, is_issuable, least, number_of_copy, number_of_flight}
+use Rattle.in_flight.specs.declared.copies.Stage.TheVariants.{Read}
 use Rattle.plain.specs.Replies.{reply_in}
 use Rattle.in_flight.specs.Kinds.{in_flight}
 use Rattle.in_flight.specs.declared.flights.Flight.{Flight}
-use Rattle.volume_laws.specs.Due.{event_or}
-use Rattle.snapshot.specs.Kept.{Kept}
-use Rattle.snapshots.specs.Busy.{is_begun}
+use Rattle.snapshot.specs.Kept.{Kept, due_of_kept}
+use Rattle.snapshots.specs.Busy.{is_busy, waiting_due}
 use Rattle.snapshots.specs.Finding.{has_copy_at}
 use Rattle.event_machine.specs.Held.{MergeHeld, Moving, group_in}
 use Rattle.event_machine.specs.Due.{due}
@@ -87,19 +85,6 @@ AreAllDone contents layers (next ∷ events) old new = (mid : Volumed _) × IsEx
 abbrev pub StandsAt : {X : Type 0} → ℕ → List X → X → Type 0
 StandsAt k xs x = (k < length xs) × (x ≡ slice_index_or xs k x)
 
--- nothing more is due of a snapshot than reads of chunks
-abbrev pub only_waits : {B : Type 0} → Kept B → Bool
-only_waits s = not s.untried && (length s.marks == 0) && not (list_any is_begun s.copies)
-
--- the least number of a copy that waits to be read, of each snapshot's first
-abbrev pub least_waiting : {B : Type 0} → List (Kept B) → Option ℕ
-least_waiting [] = None
-least_waiting (s ∷ snaps) = least (first_by (is_copy_at Waiting) number_of_copy s.copies) (least_waiting snaps)
-
--- the read of the chunk of that copy, and where none waits the first request that goes somewhere
-abbrev pub next_waiting : {B : Type 0} → List (Kept B) → List Flight → Option Event
-next_waiting snaps flights = event_or (least_waiting snaps) CopyRead (event_or (first_by is_issuable number_of_flight flights) Issue None)
-
 -- The copy n, whose chunk was read, was alone, and all that follows was done; of its snapshot, which stands at this place, no more is due
 -- than reads of chunks; and of those and of requests this comes first.
 pub record IsNextDue {B : Type 0} (contents : B → List ℕ) (layers : B → List Layer) (n : ℕ) (next : Event) (old new : Volumed B) : Type 0 where
@@ -108,8 +93,8 @@ pub record IsNextDue {B : Type 0} (contents : B → List ℕ) (layers : B → Li
   pub alone : IsAlone n old
   pub here : (s : Kept B) × StandsAt place old.snaps s × (has_copy_at Read n s ≡ true)
   pub done : AreAllDone contents layers (all_following n snap) old new
-  pub there : (s : Kept B) × StandsAt place new.snaps s × (only_waits s ≡ true)
-  pub waiting : next_waiting new.snaps new.flights ≡ Some next
+  pub there : (s : Kept B) × StandsAt place new.snaps s × (is_busy (due_of_kept contents layers s) ≡ false)
+  pub waiting : waiting_due (map (due_of_kept contents layers) new.snaps) new.flights ≡ Some next
 
 -- the pairs of the present group of a merge
 abbrev pub grouped : Option MergeHeld → List Pair

@@ -1,22 +1,22 @@
 // Which events are due after one that was done, one after the other, where that is known without a search.
-ghost use Rattle.std.specs.Prelude.{◌≡◌, ◌==◌, ◌&&◌, ◌≤◌, IfNone, IfSome, Some, false, length, true};
+ghost use Rattle.std.specs.Prelude.{◌≡◌, ◌==◌, ◌&&◌, ◌≤◌, IfNone, IfSome, Some, false, length, map, true};
 ghost use Rattle.std.specs.List.{list_all, list_any};
 ghost use Rattle.in_flight.specs.declared.copies.Stage.TheVariants.{Read};
 ghost use Rattle.plain.specs.declared.event.Event.TheVariants.{CopyRead};
-ghost use Rattle.snapshot.specs.Kept.{Kept};
-ghost use Rattle.snapshots.specs.Busy.{is_begun};
+ghost use Rattle.snapshot.specs.Kept.{Kept, due_of_kept};
+ghost use Rattle.snapshots.specs.Busy.{is_busy as is_busy_in, waiting_due as due_of_waiting};
 ghost use Rattle.snapshots.specs.Finding.{has_copy_at};
 ghost use Rattle.volume.specs.Stepping.{KeepsAll};
 ghost use Rattle.volume.specs.Volumed.{is_loud_in_all, left_in_all};
 ghost use Rattle.volume_commands.specs.AtRest.{AreDone};
-ghost use Rattle.volume_commands.specs.Following.{AreDoneSo, GoesOn, IsAlone, IsCarried, IsFollowed, IsNextDue, IsReadFirst, StandsAt, is_of_origin, least_waiting, next_waiting, only_waits as waits_only};
+ghost use Rattle.volume_commands.specs.Following.{AreDoneSo, GoesOn, IsAlone, IsCarried, IsFollowed, IsNextDue, IsReadFirst, StandsAt, is_of_origin};
 ghost use Rattle.volume_commands.specs.TakesPlaces.{TakesByRequests};
 
 use crate::Journaled;
-use in_flight::{ChunkCopy, Flight, Stage, first_copy, first_routed, is_at, least};
+use in_flight::{ChunkCopy, Flight};
 use layers::Layered;
 use plain::{CopyId, Dev, Event, NotDue, Outcome, Reply, SnapId};
-use snapshot::Snapshot;
+use snapshots::{is_busy, waiting_due};
 
 /// Whether a request is the origin's.
 fn is_origins(flight: &Flight) -> bool
@@ -61,53 +61,15 @@ fn holder<B: Layered>(volume: &Journaled<B>, number: CopyId) -> Option<(SnapId, 
     }
 }
 
-/// Whether one of these copies does not wait to be read any more.
-fn has_begun(copies: &[ChunkCopy]) -> bool
-    ensures { result ≡ list_any is_begun copies.now }
-{
-    copies.iter().any(|c| !is_at(Stage::Waiting, c.stage))
-}
-
-/// Whether nothing more is due of a snapshot than reads of chunks.
-fn only_waits<B: Layered>(snap: &Snapshot<B>) -> bool
-    ensures { result ≡ waits_only snap.now }
-{
-    !snap.is_untried() && snap.marks().is_empty() && !has_begun(snap.copies())
-}
-
-/// The least number of a copy that waits to be read, of each snapshot's first.
-fn least_read<B: Layered>(snaps: &[Snapshot<B>]) -> Option<CopyId>
-    ensures { result ≡ least_waiting snaps.now }
-{
-    let mut found = None;
-    for k in (0..snaps.len()).rev() {
-        found = least(first_copy(snaps[k].copies(), Stage::Waiting), found);
-    }
-    found
-}
-
-/// The event that is due first where no more is than reads of chunks and requests.
-fn first_waiting<B: Layered>(snaps: &[Snapshot<B>], flights: &[Flight]) -> Option<Event>
-    ensures { result ≡ next_waiting snaps.now flights.now }
-{
-    if let Some(number) = least_read(snaps) {
-        return Some(Event::CopyRead(number));
-    }
-    match first_routed(flights) {
-        Some(number) => Some(Event::Issue(number)),
-        None => None,
-    }
-}
-
-/// That event, where nothing more is due of the snapshot at a place than reads of chunks.
+/// What is due first where no more is due of any snapshot than reads of chunks, if that is so of the one at a place.
 #[inline(always)]
 fn next_due<B: Layered>(volume: &Journaled<B>, place: usize) -> Option<Event>
-    ensures there { IfSome result (λ _. (s : Kept B) × StandsAt place volume.now.volume.snaps s × (waits_only s ≡ true)) }
-    ensures waiting { IfSome result (λ next. next_waiting volume.now.volume.snaps volume.now.volume.flights ≡ Some next) }
+    ensures there { IfSome result (λ _. (s : Kept B) × StandsAt place volume.now.volume.snaps s × (is_busy_in (due_of_kept B.contents B.layers s) ≡ false)) }
+    ensures waiting { IfSome result (λ next. due_of_waiting (map (due_of_kept B.contents B.layers) volume.now.volume.snaps) volume.now.volume.flights ≡ Some next) }
 {
     let snaps = volume.volume.snaps();
-    if place < snaps.len() && only_waits(&snaps[place]) {
-        first_waiting(snaps, volume.volume.flights())
+    if place < snaps.len() && !is_busy(&snaps[place]) {
+        waiting_due(snaps, volume.volume.flights())
     } else {
         None
     }
