@@ -2,7 +2,7 @@
 use Rattle.std.proofs.Common.{◌≡◌, ℕ, ◌+◌, List, [], ◌∷◌, map, refl, sym, ap, ◌∙◌, arith}
 use Rattle.std.specs.List.{sum_by}
 use Rattle.std.proofs.lemmas.List.Sums.{sum_by-cons}
-use Rattle.command_rules.specs.State.{Stacked, Volume, Table}
+use Rattle.command_rules.specs.State.{Stacked, Table}
 use Rattle.command_rules.specs.Naming.{stack_sum, volume_sum, AreNamed}
 use Rattle.command_rules.specs.Losing.{Lasting, lasting, HaveLost}
 use Rattle.command_rules.proofs.NamedFrames.{no_more_named}

@@ -1,5 +1,5 @@
 -- What is tried of a store leaves the bytes of the origin, which at most is flushed.
-use Rattle.std.proofs.Common.{◌≡◌, ℕ, zero, suc, ◌+◌, ◌*◌, Bool, true, false, List, refl}
+use Rattle.std.proofs.Common.{◌≡◌, ℕ, zero, suc, ◌+◌, ◌*◌, Bool, true, false, List}
 use Rattle.std.specs.Prelude.{not, if◌then◌else◌, Result, Ok, Err}
 use Rattle.sector.specs.Bytes.{with_part, sector_at}
 use Rattle.sector.specs.declared.refusal.Refusal.{Refusal}

@@ -1,5 +1,7 @@
 // The words of the command line.
-ghost use Rattle.std.specs.Prelude.{◌≤◌, IfOk};
+ghost use Rattle.std.specs.Prelude.{◌≡◌, ◌≤◌, IfOk, IfSome, map, option_map};
+ghost use Rattle.std.specs.String.{string_bytes};
+ghost use Rattle.dmrig.specs.Wanted.{wanted_of, workers_by, is_name as is_name_by, file_wanted};
 
 use clap::{Arg, ArgAction, Command, Error};
 use std::alloc::Global;
@@ -22,22 +24,68 @@ const NOTES: &str = "\
     Each answer is written out before more input is waited for, so that a program, or a person, can talk with dmrig line by line.\n\
     Exit status: 0; 1 where an answer began with err; 2 where words, file or output were wrong.";
 
+/// The number of workers that a word says.
+fn workers_in(word: &str) -> Option<u32>
+    ensures workers { result ≡ workers_by word.now }
+    ensures some { IfSome result (λ workers. 1 ≤ workers) }
+    ensures few { IfSome result (λ workers. workers ≤ 4) }
+{
+    match word {
+        "1" => Some(1),
+        "2" => Some(2),
+        "3" => Some(3),
+        "4" => Some(4),
+        _ => None,
+    }
+}
+
 /// The number of workers that a word says; 1 where there is none.
 fn workers_of(word: Option<&str>) -> u32
     ensures some { 1 ≤ result }
     ensures few { result ≤ 4 }
 {
     match word {
-        Some("2") => 2,
-        Some("3") => 3,
-        Some("4") => 4,
-        _ => 1,
+        Some(word) => workers_in(word).unwrap_or(1),
+        None => 1,
     }
 }
 
-/// What the words ask for, the first of which is the program's own name. An error says what is wrong with them and with which,
+/// Whether a word is a name: no option, nor the one that stands for standard input.
+fn is_name(word: &str) -> bool
+    ensures { result ≡ is_name_by word.now }
+{
+    match word.as_bytes().first() {
+        Some(first) => *first != b'-',
+        None => false,
+    }
+}
+
+/// What a file's name asks for, alone or with the number of workers behind it, as most callers give them: `clap`, a quarter of the
+/// program's code, need not be asked then. The first word is the program's own name. `None` where there are other words, which
+/// `words_ask` reads.
+pub fn file_asks<'a>(words: &'a [String]) -> Option<Asked<'a>>
+    ensures asked { option_map wanted_of result ≡ file_wanted (map string_bytes words.now) }
+    ensures some { IfSome result (λ asked. 1 ≤ asked.workers) }
+    ensures few { IfSome result (λ asked. asked.workers ≤ 4) }
+{
+    let (file, workers) = match words {
+        [_, file] => (file.as_str(), 1),
+        [_, file, word] => (file.as_str(), workers_in(word.as_str())?),
+        _ => return None,
+    };
+    if !is_name(file) {
+        return None;
+    }
+    Some(Asked {
+        file: Some(file),
+        workers,
+        numbers: false,
+        trace: false,
+    })
+}
+
+/// What any words ask for, the first of which is the program's own name. An error says what is wrong with them and with which,
 /// or is the help or the version.
-#[inline(never)]
 pub fn words_ask<'a>(alloc: Global, words: &'a [String]) -> Result<Asked<'a>, Error>
     ensures some { IfOk result (λ asked. 1 ≤ asked.workers) }
     ensures few { IfOk result (λ asked. asked.workers ≤ 4) }
@@ -89,6 +137,47 @@ mod tests {
             line.push(String::from_str(alloc, word)?)?;
         }
         Ok(line)
+    }
+
+    #[test]
+    fn takes_a_name_as_clap_does(rt: HostRuntime) -> Result<(), Fail> {
+        for (words, workers) in [
+            (["a.cmd"].as_slice(), 1),
+            (["a.cmd", "1"].as_slice(), 1),
+            (["a.cmd", "3"].as_slice(), 3),
+            (["4", "4"].as_slice(), 4),
+        ] {
+            let line = line_of(rt.alloc(), words)?;
+            match (file_asks(&line), words_ask(rt.alloc(), &line)) {
+                (Some(named), Ok(asked)) => {
+                    assert_eq!(rt; named.file, Some(words[0]));
+                    assert_eq!(rt; asked.file, Some(words[0]));
+                    assert_eq!(rt; (named.workers, asked.workers), (workers, workers));
+                    assert!(rt; !named.numbers && !named.trace && !asked.numbers && !asked.trace);
+                }
+                _ => assert!(rt; false, "{workers} workers are not taken"),
+            }
+        }
+        Ok(())
+    }
+
+    #[test]
+    fn leaves_all_other_words_to_clap(rt: HostRuntime) -> Result<(), Fail> {
+        for (words, what) in [
+            ([].as_slice(), "no word"),
+            ([""].as_slice(), "an empty name"),
+            (["-"].as_slice(), "standard input"),
+            (["-", "2"].as_slice(), "standard input with workers"),
+            (["--help"].as_slice(), "an option"),
+            (["a.cmd", "5"].as_slice(), "too many workers"),
+            (["a.cmd", "--trace"].as_slice(), "an option behind a name"),
+            (["--", "a.cmd"].as_slice(), "a name behind --"),
+            (["a.cmd", "2", "--numbers"].as_slice(), "three words"),
+        ] {
+            let line = line_of(rt.alloc(), words)?;
+            assert!(rt; file_asks(&line).is_none(), "{what}");
+        }
+        Ok(())
     }
 
     #[test]

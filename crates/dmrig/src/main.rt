@@ -12,7 +12,7 @@ ghost use Rattle.dmrig.specs.Ended.{ended};
 mod asking;
 mod source;
 
-use crate::asking::{Asked, words_ask};
+use crate::asking::{Asked, file_asks, words_ask};
 use crate::source::Source;
 use runner::{RunError, Summary, TraceTo, exit_status, run, run_numbered};
 use std::io::{BufWriter, Read, Write};
@@ -71,6 +71,7 @@ fn finished(rt: &impl Eprint, name: &str, ran: io::Result<Result<Summary, RunErr
 }
 
 /// Does what is asked for, and gives the exit status.
+#[inline(never)]
 fn done(
     rt: &(impl Files + Input + Print + Eprint + AllocGlobal + Threads + Wait + Sync),
     errors: &Stderr,
@@ -117,15 +118,28 @@ fn given(rt: &HostRuntime) -> Option<Vec<String>> {
     }
 }
 
+/// Does what any words ask for, the first of which is the program's own name, or tells what is wrong with them.
+#[inline(never)]
+fn asked_by_words(
+    rt: &(impl Files + Input + Print + Eprint + AllocGlobal + Threads + Wait + Sync),
+    errors: &Stderr,
+    words: &[String],
+) -> ExitCode {
+    match words_ask(rt.alloc(), words) {
+        Ok(asked) => ExitCode::from(done(rt, errors, asked)),
+        Err(error) => match error.print(rt) {
+            Ok(()) if !error.use_stderr() => ExitCode::SUCCESS,
+            _ => ExitCode::from(2),
+        },
+    }
+}
+
 fn main(rt: HostRuntime) -> ExitCode {
     let Some(words) = given(&rt) else {
         return ExitCode::from(2);
     };
-    match words_ask(rt.alloc(), &words) {
-        Ok(asked) => ExitCode::from(done(&rt, &rt.stderr(), asked)),
-        Err(error) => match error.print(&rt) {
-            Ok(()) if !error.use_stderr() => ExitCode::SUCCESS,
-            _ => ExitCode::from(2),
-        },
+    match file_asks(&words) {
+        Some(asked) => ExitCode::from(done(&rt, &rt.stderr(), asked)),
+        None => asked_by_words(&rt, &rt.stderr(), &words),
     }
 }

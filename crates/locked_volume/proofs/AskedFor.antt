@@ -1,11 +1,10 @@
 -- Which entries of a journal are new, and that they were asked for.
-use Rattle.std.proofs.Common.{◌≡◌, ◌⊎◌, inl, inr, ℕ, Bool, true, ◌<◌, List, [], ◌∷◌, ◌++◌, map, refl, sym, ap, ◌∙◌, subst}
+use Rattle.std.proofs.Common.{◌≡◌, ◌⊎◌, inl, inr, ℕ, Bool, List, [], ◌∷◌, ◌++◌, map, sym, ap, ◌∙◌}
 use Rattle.std.specs.List.{All}
 use Rattle.std.proofs.lemmas.List.{append_cancel_left}
 use Rattle.std.proofs.lemmas.List.Elements.{All-append, All-map, All-nil, All-push, All-same}
-use Rattle.journal.specs.declared.entry.Answered.{Answered as AnsweredEntry}
 use Rattle.journal.specs.declared.entry.Entry.{Entry}
-use Rattle.journal.specs.declared.entry.Entry.TheVariants.{Answered, Begun, Overflowed, Spoiled}
+use Rattle.journal.specs.declared.entry.Entry.TheVariants.{Overflowed, Spoiled}
 use Rattle.journal.specs.Books.{AuditShape}
 use Rattle.journal.specs.Journaled.{HasOverflowed, OnlySpoils}
 use Rattle.plain.specs.declared.request.Request.{Request}

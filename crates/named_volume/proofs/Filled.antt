@@ -1,5 +1,5 @@
 -- How much a volume was asked for whose journal is full.
-use Rattle.std.proofs.Common.{◌≡◌, ◌≢◌, ◌⊎◌, ℕ, ◌+◌, ◌*◌, ◌≤◌, ◌<◌, Bool, true, false, inl, inr, sym, ◌∙◌, ap, arith}
+use Rattle.std.proofs.Common.{◌≡◌, ◌≢◌, ◌⊎◌, ℕ, ◌+◌, ◌*◌, ◌≤◌, ◌<◌, Bool, true, false, inl, inr, ◌∙◌, ap, arith}
 use Rattle.std.specs.Prelude.{nat_le, Result, Ok, Err, IfErr}
 use Rattle.std.proofs.lemmas.Bool.{le-leb, ltb-true}
 use Rattle.sector.specs.declared.refusal.Refusal.{Refusal}

@@ -7,7 +7,6 @@ use Rattle.device.specs.Layers.{is_loud}
 use Rattle.sector.specs.declared.refusal.Refusal.{Refusal}
 use Rattle.settled.specs.Devices.{Device}
 use Rattle.settled.specs.Snaps.{Volume as Settled}
-use Rattle.event_machine.specs.Held.{Moving}
 use Rattle.layers.specs.declared.stack.Stack.{Stack}
 use Rattle.layers.specs.Stack.{stack_contents, stack_layers, stack_size}
 use Rattle.layers.specs.Beneath.{stack_flushes}

@@ -1,7 +1,6 @@
 -- What a status line says of a snapshot of a volume in which something is in flight.
 use Rattle.std.proofs.Common.{◌≡◌, ℕ, ◌<◌, Bool, true, false, List, length, get_or, map, refl, sym, ap, ◌∙◌, subst, arith}
-use Rattle.std.specs.Prelude.{Option, Some, None, Result, Ok, IfOk, slice_get, if◌then◌else◌}
-use Rattle.std.proofs.lemmas.Bool.{cond-false, cond-true}
+use Rattle.std.specs.Prelude.{Some, None, Result, Ok, IfOk, slice_get, if◌then◌else◌}
 use Rattle.std.proofs.lemmas.List.{length-map, get_or-map}
 use Rattle.std.proofs.lemmas.Option.{slice_get_read}
 use Rattle.std.proofs.lemmas.Result.{IfOk-at_ok}
@@ -14,7 +13,6 @@ use Rattle.table.specs.declared.status.StatusState.{StatusState}
 use Rattle.table.specs.declared.status.StatusState.TheVariants.{Invalid, Overflow, Used}
 use Rattle.table.specs.Lines.{snapshot_text}
 use Rattle.settled.specs.Devices.{sectors_of as size_of}
-use Rattle.settled.specs.Snaps.{Snap}
 use Rattle.event_machine.specs.Held.{SnapHeld, Moving}
 use Rattle.snapshot.specs.Kept.{Kept}
 use Rattle.volume.specs.Leaving.{is_quiet_of}
@@ -23,7 +21,6 @@ use Rattle.volume_commands.specs.Flying.{IsWhole, flying_of, without_store}
 use Rattle.volume_commands.specs.Rested.{Attached, Rested, attached_of}
 use Rattle.volume_commands.specs.Using.{IsInUse}
 use Rattle.command_rules.specs.declared.place.Role.TheVariants.{Origin, Merging, Snapshot}
-use Rattle.command_rules.specs.Stacks.{device_of}
 use Rattle.command_rules.specs.State.{Volume}
 use Rattle.command_rules.specs.Messages.{snap_at}
 use Rattle.command_rules.specs.Status.{status_in}

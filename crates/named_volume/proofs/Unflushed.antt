@@ -1,5 +1,5 @@
 -- A flush leaves volumes over stacks as they are: no flush changes the layers of a stack.
-use Rattle.std.proofs.Common.{◌≡◌, inl, inr, ℕ, Bool, true, false, List, [], ◌∷◌, map, Option, Some, None, refl, sym, ◌∙◌, ap, subst}
+use Rattle.std.proofs.Common.{◌≡◌, ℕ, Bool, true, false, List, [], ◌∷◌, map, Option, Some, None, refl, sym, ◌∙◌, ap, subst}
 use Rattle.std.specs.Prelude.{◌==◌, if◌then◌else◌}
 use Rattle.std.specs.List.{All}
 use Rattle.std.proofs.lemmas.List.Elements.{All-nil, All-cons, All-head, All-tail}
@@ -13,15 +13,15 @@ use Rattle.plain.specs.declared.request.Dev.TheVariants.{Origin, Snap as ToSnap}
 use Rattle.plain.specs.declared.request.Reply.{Reply}
 use Rattle.settled.specs.Devices.{Device, answers, met}
 use Rattle.settled.specs.Snaps.{Snap, Volume}
-use Rattle.settled.specs.Pieces.{Answered, flush_origin, flush_snap, in_snap}
+use Rattle.settled.specs.Pieces.{Answered, flush_snap, in_snap}
 use Rattle.settled.specs.Commands.{flushed}
-use Rattle.settled.specs.Merges.{Merge, Merged, Merging, merged_of as with_merge, with_store, flush_through, flushed_through}
+use Rattle.settled.specs.Merges.{Merge, Merged, Merging, merged_of as with_merge, with_store, flushed_through}
 use Rattle.event_machine.specs.MergeRest.{merge_in}
 use Rattle.event_machine.specs.MergeSeen.{held_in}
 use Rattle.merge.specs.Merging.{Merging as MergingStack}
 use Rattle.volume.specs.Moved.{merge_seen}
 use Rattle.settled.specs.Beside.{served_by, flushed_beside}
-use Rattle.volume_commands.specs.Rested.{Attached, Rested, snap_of, settled_of, merged_of, IsSettled}
+use Rattle.volume_commands.specs.Rested.{Attached, Rested, snap_of, merged_of, IsSettled}
 use Rattle.volume_commands.specs.Commands.{IsDoneBy}
 use Rattle.settled.specs.Saving.{Saving}
 

@@ -1,5 +1,5 @@
 -- A volume with the names of its devices, taken apart into the names and the volume, and made of both again. This project's own.
-use Rattle.std.specs.Prelude.{◌≡◌, ◌+◌, ◌≤◌, ℕ, suc, sum_by, max, Bool, true, List, length, slice_get, Option, Some, None, is_some}
+use Rattle.std.specs.Prelude.{◌≡◌, ◌+◌, ◌≤◌, ℕ, suc, sum_by, max, Bool, true, List, length, slice_get, Option, None, is_some}
 use Rattle.std.specs.List.{remove}
 use Rattle.layers.specs.declared.stack.Stack.{Stack}
 use Rattle.layers.specs.Stack.{stack_layers}

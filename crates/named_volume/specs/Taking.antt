@@ -1,6 +1,6 @@
 -- Why a stack is not taken as the store of a snapshot, whatever is in flight and whichever device drops writes. The reasons and
 -- their order are those of the volume of events behind (`volume/specs/Taking`), and of the store's load (`store/specs/Opening`).
-use Rattle.std.specs.Prelude.{◌≡◌, ◌⊎◌, ℕ, Bool, true, is_some, length}
+use Rattle.std.specs.Prelude.{◌≡◌, ◌⊎◌, ℕ, true, is_some, length}
 use Rattle.sector.specs.declared.refusal.Refusal.{Refusal}
 use Rattle.layers.specs.declared.stack.Stack.{Stack}
 use Rattle.layers.specs.Stack.{stack_contents, stack_size}

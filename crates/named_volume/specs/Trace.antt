@@ -1,6 +1,6 @@
 -- What a trace says of a volume: what is in flight in it, and which events are due. The form is this project's own; the words of
 -- events are those of `step`.
-use Rattle.std.specs.Prelude.{◌≡◌, ℕ, Bool, List, [], ◌∷◌, ◌++◌, Option, Some, None, codes, decimal, slice_get}
+use Rattle.std.specs.Prelude.{◌≡◌, ℕ, List, [], ◌∷◌, ◌++◌, Option, Some, None, codes, decimal, slice_get}
 use Rattle.std.specs.List.{flat_map}
 use Rattle.words.specs.Words.{spaced}
 use Rattle.layers.specs.declared.stack.Stack.{Stack}

@@ -1,4 +1,4 @@
-use Rattle.std.proofs.Common.{◌≡◌, ◌≤◌, length, map, take}
+use Rattle.std.proofs.Common.{◌≡◌, ◌≤◌, map, take}
 use Rattle.command_rules.specs.Losing.{lasting}
 use Rattle.named_devices.proofs.stopping.lose_from.Given as goal
 

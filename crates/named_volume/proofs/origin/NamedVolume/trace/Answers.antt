@@ -1,12 +1,10 @@
-use Rattle.std.proofs.Common.{◌≡◌, List, ℕ, [], ◌++◌, refl, sym, ap, ◌∙◌, subst}
-use Rattle.layers.specs.Stack.{stack_contents, stack_layers}
+use Rattle.std.proofs.Common.{◌≡◌, List, ℕ, ◌++◌, refl, ap, ◌∙◌}
 use Rattle.layers.specs.declared.stack.Stack.{Stack}
 use Rattle.plain.specs.declared.event.Event.{Event}
 use Rattle.in_flight.specs.declared.flights.Flight.{Flight}
 use Rattle.snapshot.specs.Kept.{Kept}
 use Rattle.command_rules.specs.State.{Names}
-use Rattle.volume_commands.specs.Trace.{IsAllDue}
-use Rattle.named_volume.specs.Trace.{copied_text, dues_text, flights_text, items_of}
+use Rattle.named_volume.specs.Trace.{copied_text, dues_text, flights_text}
 use Rattle.named_volume.proofs.Events.{behind}
 use Rattle.named_volume.proofs.Merges.{merge_is}
 use Rattle.named_volume.proofs.Traces.{added, traced}

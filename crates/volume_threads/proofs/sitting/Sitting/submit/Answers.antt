@@ -1,5 +1,5 @@
 -- A request that is accepted is the one that the seat waits for.
-use Rattle.std.proofs.Common.{refl, sym, ap, ◌∙◌, subst}
+use Rattle.std.proofs.Common.{sym, ap, ◌∙◌, subst}
 use Rattle.std.specs.Prelude.{IfErr}
 use Rattle.locked_volume.specs.Denying.{Serve, WasDenied}
 use Rattle.volume_threads.specs.Sittings.{seen_of, waits_of}
