@@ -22,6 +22,9 @@ use std::sync::Wait;
 use std::thread::Threads;
 use std::{fs, io};
 
+/// The bytes of the room for short texts.
+const SHORT_TEXTS: usize = 4096;
+
 /// Runs the lines of a reader into standard output, and its trace, if that is asked for, into standard error. An error is the
 /// writer's own. The reader is asked for thousands of bytes at once (`words`), so that none need be kept for it.
 fn printed<R: Read + Drop>(
@@ -34,7 +37,11 @@ fn printed<R: Read + Drop>(
     requires few { asked.workers ≤ 4 }
 {
     let alloc = rt.alloc();
+    // Given back behind the writer's room, it stays between others: short texts come and go there, and not at the front of a large
+    // room that is free, where one of them would keep the next that is as large out.
+    let short = Vec::<u8>::with_capacity(alloc, SHORT_TEXTS).ok();
     let mut writer = BufWriter::new(alloc, io::writer(rt))?;
+    drop(short);
     let mut tracer = if asked.trace {
         Some(TraceTo::new(BufWriter::new(alloc, errors)?))
     } else {
