@@ -1,3 +1,4 @@
+pub mod Bare
 pub mod Disk
 pub mod Laws
 pub mod Layers

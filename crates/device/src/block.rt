@@ -1,12 +1,13 @@
 // A device of sectors: what every layer, disk and test device is to the code above it.
-ghost use Rattle.std.specs.Prelude.{◌≡◌, ◌⊎◌, ℕ, ◌+◌, ◌*◌, ◌-◌, ◌<◌, ◌≤◌, List, length, slice_index, if◌then◌else◌, is_ok, OnOk, OnErr, IsTrue};
+ghost use Rattle.std.specs.Prelude.{◌≡◌, ◌⊎◌, ℕ, ◌+◌, ◌*◌, ◌-◌, ◌^◌, ◌<◌, ◌≤◌, ◌&&◌, true, false, List, [], length, slice_index, if◌then◌else◌, is_ok, OnOk, OnErr, IsTrue};
 ghost use Rattle.sector.specs.Bytes.{sectors_at, with_sectors, sector_at, next_count};
 ghost use Rattle.device.specs.declared.operation.Operation.TheVariants.{Reads, Writes, Flushes};
 ghost use Rattle.device.specs.declared.operation.Fate.TheVariants.{Pass, Drop};
+ghost use Rattle.device.specs.Bare.{HasLike, HoldsTwo, count_after, is_bare};
 ghost use Rattle.device.specs.Layers.{Layer, fate, is_answered, is_passed, layers_after, is_loud};
 
 use crate::Io;
-use sector::Range;
+use sector::{Range, Sector};
 
 /// A device of sectors of 512 bytes, with a volatile cache.
 ///
@@ -108,6 +109,34 @@ pub trait Block {
         ensures stop { (s : ℕ) (v : List ℕ) → may_hold self.new s v → may_hold self.old s v }
         ensures flushed { OnOk result (IsTrue (is_loud (layers self.old)) → (s : ℕ) (v : List ℕ) → s < size self.new → may_hold self.new s v → v ≡ sector_at (contents self.new) s) };
 
+    /// Copies sectors of another device over as many of its own, from `to` on, as reads there and writes here would, one after
+    /// another: so many of each, which together are of all these sectors. It does so where no layer stands above either device,
+    /// so that none of them can fail; else it does nothing, and answers `false`.
+    fn copy_sectors(
+        &mut self,
+        to: Range,
+        from: &mut Self,
+        first: Sector,
+        reads: u32,
+        writes: u32,
+    ) -> bool
+        requires some { 0 < to.count }
+        requires inside { to.first + to.count ≤ size self.old }
+        requires there { first + to.count ≤ size from.old }
+
+        ensures answer { result ≡ (is_bare (layers self.old) && is_bare (layers from.old)) }
+        ensures undone { result ≡ false → (self.new ≡ self.old) × (from.new ≡ from.old) }
+        ensures layers { (layers self.new ≡ layers self.old) × (layers from.new ≡ layers from.old) }
+
+        ensures copied { result ≡ true → contents self.new ≡ with_sectors (contents self.old) to.first (sectors_at (contents from.old) first to.count) }
+        ensures contents { contents from.new ≡ contents from.old }
+        ensures durable { (durable self.new ≡ durable self.old) × (durable from.new ≡ durable from.old) }
+        ensures size { (size self.new ≡ size self.old) × (size from.new ≡ size from.old) }
+        ensures faults { (fault_count self.new ≡ fault_count self.old) × (fault_count from.new ≡ fault_count from.old) }
+        ensures done { result ≡ true → (done_count self.new ≡ count_after (done_count self.old) writes) × (done_count from.new ≡ count_after (done_count from.old) reads) }
+        ensures stop { (s : ℕ) (v : List ℕ) → may_hold self.new s v → may_hold self.old s v ⊎ (v ≡ sector_at (contents self.new) s) }
+        ensures stop_there { (s : ℕ) (v : List ℕ) → may_hold from.new s v → may_hold from.old s v };
+
     /// A device has whole sectors.
     ghost whole: { (d : Self) → length (contents d) ≡ 512 * size d };
 
@@ -119,4 +148,10 @@ pub trait Block {
 
     /// A stop may leave what was there at the last flush.
     ghost holds_durable: { (d : Self) (s : ℕ) → s < size d → may_hold d s (sector_at (durable d) s) };
+
+    /// A stop may leave no more than these two in a sector of a device without layers.
+    ghost holds_two: { (d : Self) → layers d ≡ [] → HoldsTwo (may_hold d) (contents d) (durable d) };
+
+    /// A device without layers may have any bytes, and have done any number of operations, whatever it had at the last flush.
+    ghost has_like: { (d : Self) (bytes : List ℕ) (count : ℕ) → layers d ≡ [] → length bytes ≡ 512 * size d → count < 2 ^ 64 → HasLike size contents durable layers fault_count done_count d bytes count };
 }

@@ -5,7 +5,7 @@ ghost use Rattle.sector.specs.Bytes.{sectors_at, with_sectors};
 ghost use Rattle.device.specs.declared.mark.Mark.TheVariants.{Fresh};
 ghost use Rattle.device.specs.Marks.{mark_at};
 
-use crate::bytes::write_sectors;
+use crate::bytes::{sectors_of, write_sectors};
 use crate::undo::Undo;
 use sector::{Range, Refusal, SECTOR_BYTES};
 use std::alloc::Global;
@@ -79,6 +79,20 @@ impl DiskSectors {
         self.undo
             .keep(&self.present, range.first as usize, range.count as usize);
         write_sectors(&mut self.present, range.first as usize, bytes);
+    }
+
+    /// Copies some of another disk, from `first` on, over some.
+    pub fn copy(&mut self, to: Range, from: &DiskSectors, first: u64)
+        requires inside { to.first + to.count ≤ self.old.count }
+        requires there { first + to.count ≤ from.now.count }
+        ensures now { now_in self.new ≡ with_sectors (now_in self.old) to.first (sectors_at (now_in from.now) first to.count) }
+        ensures flushed { flushed_in self.new ≡ flushed_in self.old }
+        ensures count { self.new.count ≡ self.old.count }
+    {
+        self.write(
+            to,
+            sectors_of(&from.present, first as usize, to.count as usize),
+        );
     }
 
     /// Puts bytes in the place of some, which then count as flushed.

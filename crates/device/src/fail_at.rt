@@ -4,7 +4,7 @@ ghost use Rattle.sector.specs.Bytes.{next_count};
 ghost use Rattle.device.specs.Layers.{Counted, counted_passes, counted_after};
 
 use crate::{Block, Io};
-use sector::Range;
+use sector::{Range, Sector};
 
 /// Passes some operations to the device inside, answers the next with a counted fault that changes nothing, and passes
 /// all others.
@@ -110,6 +110,17 @@ impl<B: Block> Block for FailAt<B> {
         Err(Io)
     }
 
+    fn copy_sectors(
+        &mut self,
+        _to: Range,
+        _from: &mut FailAt<B>,
+        _first: Sector,
+        _reads: u32,
+        _writes: u32,
+    ) -> bool {
+        false
+    }
+
     ghost whole = { λ d. B.whole d.inner };
 
     ghost small = { λ d. B.small d.inner };
@@ -117,4 +128,8 @@ impl<B: Block> Block for FailAt<B> {
     ghost holds_now = { λ d. B.holds_now d.inner };
 
     ghost holds_durable = { λ d. B.holds_durable d.inner };
+
+    ghost holds_two = { λ d bare. cc };
+
+    ghost has_like = { λ d bytes count bare whole few. cc };
 }

@@ -7,7 +7,7 @@ ghost use Rattle.sector.specs.Bytes.{sectors_at, with_sectors};
 use crate::disk_sectors::DiskSectors;
 use crate::late::{Late, MOST_LATE};
 use crate::{Block, Io};
-use sector::{Range, Refusal};
+use sector::{Range, Refusal, Sector};
 use std::alloc::Global;
 
 /// The most sectors that a disk may have: 2^24.
@@ -192,7 +192,23 @@ impl Block for MemDisk {
         Ok(())
     }
 
-    ghost use Rattle.device.specs.Laws.{disk_whole};
+    fn copy_sectors(
+        &mut self,
+        to: Range,
+        from: &mut MemDisk,
+        first: Sector,
+        reads: u32,
+        writes: u32,
+    ) -> bool {
+        self.write_late();
+        from.write_late();
+        self.sectors.copy(to, &from.sectors, first);
+        self.done = self.done.wrapping_add(writes as u64);
+        from.done = from.done.wrapping_add(reads as u64);
+        true
+    }
+
+    ghost use Rattle.device.specs.Laws.{disk_like, disk_whole};
 
     ghost whole = { disk_whole };
 
@@ -201,4 +217,8 @@ impl Block for MemDisk {
     ghost holds_now = { λ d s lt. inl refl };
 
     ghost holds_durable = { λ d s lt. inr refl };
+
+    ghost holds_two = { λ d bare. record { only = λ s v held. held; holds_now = λ s. inl refl; holds_flushed = λ s. inr refl } };
+
+    ghost has_like = { λ d bytes count bare whole few. disk_like d bytes count whole few };
 }

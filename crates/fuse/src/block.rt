@@ -13,7 +13,7 @@ ghost use Rattle.fuse.specs.Torn.{IsTornBy};
 
 use crate::fuse::Fuse;
 use device::{Block, Io};
-use sector::Range;
+use sector::{Range, Sector};
 
 impl Block for Fuse {
     ghost size = { fuse_size };
@@ -139,6 +139,17 @@ impl Block for Fuse {
         }
     }
 
+    fn copy_sectors(
+        &mut self,
+        _to: Range,
+        _from: &mut Fuse,
+        _first: Sector,
+        _reads: u32,
+        _writes: u32,
+    ) -> bool {
+        false
+    }
+
     ghost whole = { fuse_whole };
 
     ghost small = { fuse_small };
@@ -146,4 +157,8 @@ impl Block for Fuse {
     ghost holds_now = { λ f s lt. inl refl };
 
     ghost holds_durable = { λ f s lt. inr refl };
+
+    ghost holds_two = { λ f bare. cc };
+
+    ghost has_like = { λ f bytes count bare whole few. cc };
 }

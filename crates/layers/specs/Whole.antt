@@ -1,11 +1,12 @@
 -- Laws of what a stack contains.
-use Rattle.std.specs.Prelude.{◌≡◌, ℕ, ◌+◌, ◌-◌, ◌*◌, ◌<◌, ◌≤◌, List, length, take, drop, refl}
+use Rattle.std.specs.Prelude.{◌≡◌, ℕ, ◌+◌, ◌-◌, ◌*◌, ◌^◌, ◌<◌, ◌≤◌, List, [], length, take, drop, refl}
 use Rattle.std.proofs.Common.{arith, rules, inl, inr, length-take, length-drop, ap, ◌∙◌, sym, subst}
 use Rattle.std.proofs.lemmas.List.{places, same_lists, length-replicate, drop-take, drop-drop, take-take}
 use Rattle.sector.specs.Bytes.{sectors_at, with_sectors, sector_at}
-use Rattle.device.specs.Laws.{disk_whole}
+use Rattle.device.specs.Bare.{HasLike, HoldsTwo}
+use Rattle.device.specs.Laws.{disk_like, disk_whole}
 use Rattle.layers.specs.declared.stack.Stack.{Stack, Disk, Flakey', Dust', Error}
-use Rattle.layers.specs.Stack.{stack_size, stack_contents, stack_durable, stack_may_hold}
+use Rattle.layers.specs.Stack.{stack_size, stack_contents, stack_durable, stack_layers, stack_faults, stack_done, stack_may_hold}
 
 -- sectors of whole sectors are whole
 length-sectors : (b : List ℕ) (first count size : ℕ) → length b ≡ 512 * size → count ≤ size - first → length (sectors_at b first count) ≡ 512 * count
@@ -62,3 +63,19 @@ stack_holds_durable (Flakey' f p below) s lt =
 stack_holds_durable (Dust' d p below) s lt =
     subst (stack_may_hold below s) (ap (λ n. sector_at (stack_durable below) n) (omega arith) ∙ sym (sectors_of_sectors (stack_durable below) 0 _ s 1 (omega arith))) (stack_holds_durable below s (omega arith))
 stack_holds_durable (Error e) s lt = refl
+
+-- and of a stack without layers it leaves no more than these two
+pub stack_holds_two : (d : Stack) → stack_layers d ≡ [] → HoldsTwo (stack_may_hold d) (stack_contents d) (stack_durable d)
+stack_holds_two (Disk d) bare = record { only = λ s v held. held; holds_now = λ s. inl refl; holds_flushed = λ s. inr refl }
+stack_holds_two (Flakey' f p below) bare = cc
+stack_holds_two (Dust' d p below) bare = cc
+stack_holds_two (Error e) bare = cc
+
+-- one without layers may have any bytes
+pub stack_has_like : (d : Stack) (bytes : List ℕ) (count : ℕ) → stack_layers d ≡ [] → length bytes ≡ 512 * stack_size d → count < 2 ^ 64 → HasLike stack_size stack_contents stack_durable stack_layers stack_faults stack_done d bytes count
+stack_has_like (Disk d) bytes count bare whole few =
+    let e = disk_like d bytes count whole few in
+    record { like = Disk e.like; bytes_are = e.bytes_are; flushed = e.flushed; bare = refl; sized = e.sized; faulty = refl; counted = e.counted }
+stack_has_like (Flakey' f p below) bytes count bare whole few = cc
+stack_has_like (Dust' d p below) bytes count bare whole few = cc
+stack_has_like (Error e) bytes count bare whole few = cc

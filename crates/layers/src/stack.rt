@@ -3,7 +3,7 @@ ghost use Rattle.std.specs.Prelude.{◌≡◌};
 
 use crate::{Broken, Dust, Flakey};
 use device::{Block, Fate, Io, MemDisk, Operation};
-use sector::{Range, Refusal};
+use sector::{Range, Refusal, Sector};
 use std::alloc::Global;
 
 /// A disk under layers, or an error layer, perhaps under others. The top layer comes first.
@@ -20,7 +20,7 @@ pub enum Stack {
 
 impl Block for Stack {
     ghost use Rattle.layers.specs.Stack.{stack_size, stack_contents, stack_durable, stack_layers, stack_faults, stack_done, stack_may_hold};
-    ghost use Rattle.layers.specs.Whole.{stack_whole, stack_small, stack_holds_now, stack_holds_durable};
+    ghost use Rattle.layers.specs.Whole.{stack_whole, stack_small, stack_holds_now, stack_holds_durable, stack_holds_two, stack_has_like};
     ghost use Rattle.std.specs.Prelude.{◌≡◌, ◌⊎◌, ℕ, ◌+◌, ◌*◌, ◌-◌, ◌<◌, ◌≤◌, List, length, slice_index, if◌then◌else◌, is_ok, OnOk, OnErr, IsTrue};
     ghost use Rattle.sector.specs.Bytes.{sectors_at, with_sectors, sector_at, next_count};
     ghost use Rattle.device.specs.declared.operation.Operation.TheVariants.{Reads, Writes, Flushes};
@@ -143,6 +143,23 @@ impl Block for Stack {
         }
     }
 
+    fn copy_sectors(
+        &mut self,
+        to: Range,
+        from: &mut Stack,
+        first: Sector,
+        reads: u32,
+        writes: u32,
+    ) -> bool {
+        match self {
+            Stack::Disk(disk) => match from {
+                Stack::Disk(other) => disk.copy_sectors(to, other, first, reads, writes),
+                Stack::Flakey(_, _) | Stack::Dust(_, _) | Stack::Error(_) => false,
+            },
+            Stack::Flakey(_, _) | Stack::Dust(_, _) | Stack::Error(_) => false,
+        }
+    }
+
     ghost whole = { stack_whole };
 
     ghost small = { stack_small };
@@ -150,6 +167,10 @@ impl Block for Stack {
     ghost holds_now = { stack_holds_now };
 
     ghost holds_durable = { stack_holds_durable };
+
+    ghost holds_two = { stack_holds_two };
+
+    ghost has_like = { stack_has_like };
 }
 
 impl Stack {

@@ -55,7 +55,7 @@ released_is : (group : Option Group) (g : Group) (p : Progress) → group ≡ So
 released_is group g p is far = ap released_of is ∙ ap (λ (q : Progress). released_at q g) far
 
 -- a merge with a group has not failed
-sound_with : (failed : Bool) (group : Option Group) (g : Group) → (failed ≡ true → group ≡ None) → group ≡ Some g → failed ≡ false
+pub sound_with : (failed : Bool) (group : Option Group) (g : Group) → (failed ≡ true → group ≡ None) → group ≡ Some g → failed ≡ false
 sound_with true group g alone is = (let none : Some g ≡ None = sym is ∙ alone refl in absurd (cc))
 sound_with false group g alone is = refl
 

@@ -1,5 +1,5 @@
 -- What each event makes of the present group, and of the merge's books.
-use Rattle.std.proofs.Common.{◌≡◌, inl, inr, ◌&&◌, not, ℕ, ◌+◌, ◌-◌, ◌*◌, ◌<◌, ◌≤◌, Bool, true, false, nat_lt, List, ◌++◌, length, get_or, take, drop, arith, refl, ap, ◌∙◌, sym, subst, length-append, length-drop}
+use Rattle.std.proofs.Common.{◌≡◌, inl, inr, ◌&&◌, not, nat_le, ℕ, ◌+◌, ◌-◌, ◌*◌, ◌<◌, ◌≤◌, Bool, true, false, nat_lt, List, ◌++◌, length, get_or, take, drop, arith, refl, ap, ◌∙◌, sym, subst, length-append, length-drop}
 use Rattle.std.specs.Prelude.{Option, Some, None}
 use Rattle.std.specs.List.{All}
 use Rattle.std.proofs.lemmas.List.Elements.{All-nil, All-append}
@@ -7,7 +7,7 @@ use Rattle.store_bytes.specs.Picture.{place_of}
 use Rattle.store_bytes.proofs.Pictures.{place_found}
 use Rattle.volume_laws.proofs.Lists.{All-front}
 use Rattle.std.proofs.lemmas.Bool.{cases_lt, false≢true, true≢false}
-use Rattle.std.proofs.lemmas.List.{length-take-le, take_at}
+use Rattle.std.proofs.lemmas.List.{append-nil, drop_all, length-take-le, take_at}
 use Rattle.sector.specs.Bytes.{sectors_at, with_part, with_sectors}
 use Rattle.sector.proofs.Sectors.{sectors_at-with_same}
 use Rattle.sector.specs.declared.pair.Pair.{Pair}
@@ -19,12 +19,12 @@ use Rattle.store.specs.declared.state.State.{State}
 use Rattle.merge.specs.declared.group.Group.{Group}
 use Rattle.merge.specs.declared.group.Progress.{Progress}
 use Rattle.merge.specs.declared.group.Progress.TheVariants.{Open, Full, Flushed, Committed}
-use Rattle.merge.specs.Due.{has_group_of, last_in, read_at_progress, next_read_of, full_at, full_of, flush_at, can_flush_of, commit_at, can_commit_of, release_at, can_release_of}
-use Rattle.merge.specs.Lists.{total, all_in, is_flushed, is_committed, formed, taken_in, written_in, flushed_in, committed_in, changed, released_at, released_of}
+use Rattle.merge.specs.Due.{has_group_of, last_in, read_at_progress, next_read_of, full_at, full_of, flush_at, can_flush_of, commit_at, can_commit_of, release_at, can_release_of, copy_at}
+use Rattle.merge.specs.Lists.{total, all_in, is_flushed, is_committed, formed, taken_in, written_in, flushed_in, committed_in, copied_in, changed, released_at, released_of}
 use Rattle.merge.specs.Held.{IsGroupOf}
 
 -- the group of an option
-the_group : (g h : Group) → Some g ≡ Some h → g ≡ h
+pub the_group : (g h : Group) → Some g ≡ Some h → g ≡ h
 the_group g h e = cc
 
 -- no group is there, and nothing has failed
@@ -328,3 +328,51 @@ flush_early group e = (let r = copied_back group e in release_at_far group r.at.
 
 pub commit_early : (group : Option Group) → can_commit_of group ≡ true → can_release_of group ≡ false
 commit_early group e = (let r = commits group e in release_at_far group r.g Flushed r.is r.far)
+
+-- the group whose chunks are copied at once
+pub record CopiesAll (g : Group) (chunk sectors : ℕ) : Type 0 where
+  pub far : g.progress ≡ Open
+  pub two : 1 < g.waiting
+  pub whole : chunk * (g.first.old + g.waiting) ≤ sectors
+
+copies_at : (p : Progress) (g : Group) (chunk sectors : ℕ) → g.progress ≡ p → copy_at p g chunk sectors ≡ true → CopiesAll g chunk sectors
+copies_at Open g chunk sectors is e = (let both : (nat_lt 1 g.waiting ≡ true) × (nat_le (chunk * (g.first.old + g.waiting)) sectors ≡ true) = grind arith in record { far = is; two = (let a = both.0 in grind arith); whole = (let b = both.1 in grind arith) })
+copies_at Full g chunk sectors is e = absurd (false≢true e)
+copies_at Flushed g chunk sectors is e = absurd (false≢true e)
+copies_at Committed g chunk sectors is e = absurd (false≢true e)
+
+pub copies_all : (g : Group) (chunk sectors : ℕ) → copy_at g.progress g chunk sectors ≡ true → CopiesAll g chunk sectors
+copies_all g chunk sectors e = copies_at g.progress g chunk sectors refl e
+
+pub present_copied : (s : State) (ps : List Pair) (group : Option Group) (g : Group) → ((g : Group) → group ≡ Some g → IsGroupOf s ps g) → group ≡ Some g → g.progress ≡ Open → (h : Group) → changed copied_in group ≡ Some h → IsGroupOf s ps h
+present_copied s ps group g present is far h same =
+    let f : copied_in g ≡ h = the_group (copied_in g) h (ap (changed copied_in) (sym is) ∙ same) in
+    let before : total g ≡ g.waiting + (0 + g.copied) = rw far refl in
+    let after : total (copied_in g) ≡ 0 + (0 + (g.copied + g.waiting)) = rw far refl in
+    subst (IsGroupOf s ps) f (group_on s ps g (copied_in g) (present g is) (ap is_committed far) refl (omega (arith, before, after)) (λ c. refl))
+
+-- its first pairs lie inside
+pub waiting_inside : (s : State) (ps : List Pair) (g : Group) → IsGroupOf s ps g → g.progress ≡ Open → All (IsInside s.chunk s.origin s.size) (run_at g.first 0 g.waiting)
+waiting_inside s ps g is far k d lt =
+    let n : total g ≡ g.waiting + (0 + g.copied) = rw far refl in
+    let l = length-run g.first 0 g.waiting in
+    let within : k < g.waiting = omega (arith, l, lt) in
+    let z : 0 + k ≡ k = omega arith in
+    subst (λ (p : Pair). IsInside s.chunk s.origin s.size p) (sym (get_or-run g.first 0 g.waiting k d within ∙ ap (shifted g.first) z)) (inside_at s ps g k is (omega (arith, n, within)))
+
+pub inside_of : (s : State) (ps : List Pair) (g : Group) (k : ℕ) → IsGroupOf s ps g → k < total g → IsInside s.chunk s.origin s.size (shifted g.first k)
+inside_of = inside_at
+
+pub one_more : (chunk place : ℕ) → chunk * (place + 1) ≡ chunk * place + chunk
+one_more chunk place = grind arith
+
+-- the chunk of each of so many is whole, where the last is
+pub chunk_whole : (chunk old k n sectors : ℕ) → k < n → chunk * (old + n) ≤ sectors → count_of chunk sectors (old + k) ≡ chunk
+chunk_whole chunk old k n sectors within whole =
+    let up : chunk * (old + k + 1) ≡ chunk * (old + k) + chunk = grind arith in
+    let le : chunk * (old + k + 1) ≤ chunk * (old + n) = (let lt : old + k + 1 ≤ old + n = omega arith in grind arith) in
+    omega (arith, up, le, whole)
+
+-- and fills the buffer
+pub front_all : (old bytes : List ℕ) → length bytes ≡ length old → with_part old 0 bytes ≡ bytes
+front_all old bytes long = ap (λ xs. bytes ++ xs) (drop_all (0 + length bytes) old (omega (arith, long))) ∙ append-nil bytes

@@ -1,7 +1,7 @@
 -- To be believed: `run`'s output, a volume's steps or its attach are said in these words.
 -- Which events of a merge may be due. A merge that failed has no group, and none of them is. What requests in flight and
 -- other snapshots have to say is their volume's to test.
-use Rattle.std.specs.Prelude.{◌==◌, ◌&&◌, not, ◌-◌, nat_lt, Bool, true, false, length, Option, Some, None, if◌then◌else◌}
+use Rattle.std.specs.Prelude.{◌==◌, ◌&&◌, not, ℕ, ◌+◌, ◌*◌, ◌-◌, nat_le, nat_lt, Bool, true, false, length, Option, Some, None, if◌then◌else◌}
 use Rattle.sector.specs.declared.pair.Pair.{Pair}
 use Rattle.store.specs.Grouping.{shifted}
 use Rattle.merge.specs.declared.group.Group.{Group}
@@ -87,3 +87,15 @@ release_at Committed = true
 abbrev pub can_release_of : Option Group → Bool
 can_release_of None = false
 can_release_of (Some g) = release_at g.progress
+
+-- The chunks of a group that wait may be copied back at once: at least two do, none is in the buffer, and each lies whole on an origin of
+-- so many sectors.
+abbrev pub copy_at : Progress → Group → ℕ → ℕ → Bool
+copy_at Open g chunk sectors = nat_lt 1 g.waiting && nat_le (chunk * (g.first.old + g.waiting)) sectors
+copy_at Full g chunk sectors = false
+copy_at Flushed g chunk sectors = false
+copy_at Committed g chunk sectors = false
+
+abbrev pub can_copy_of : Option Group → ℕ → ℕ → Bool
+can_copy_of None chunk sectors = false
+can_copy_of (Some g) chunk sectors = copy_at g.progress g chunk sectors

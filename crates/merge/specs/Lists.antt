@@ -106,6 +106,10 @@ flushed_in g = record g { progress = Flushed }
 abbrev pub committed_in : Group → Group
 committed_in g = record g { progress = Committed }
 
+-- all chunks that wait are read and written
+abbrev pub copied_in : Group → Group
+copied_in g = record g { waiting = 0; copied = g.copied + g.waiting }
+
 -- the present group, changed
 abbrev pub changed : (Group → Group) → Option Group → Option Group
 changed f None = None

@@ -1,22 +1,24 @@
 // The chunks of the group are copied back one after the other, and the origin disk is flushed.
-ghost use Rattle.std.specs.Prelude.{◌≡◌, ◌+◌, ◌*◌, ◌^◌, ◌<◌, Bool, length, take, is_ok, OnOk, OnErr, Some, IsSome, IsTrue, true, if◌then◌else◌};
+ghost use Rattle.std.specs.Prelude.{◌≡◌, ◌+◌, ◌*◌, ◌^◌, ◌<◌, ◌&&◌, Bool, length, take, is_ok, OnOk, OnErr, Some, IsSome, IsTrue, true, false, if◌then◌else◌};
 ghost use Rattle.sector.specs.Bytes.{sectors_at, with_sectors, with_part};
 ghost use Rattle.sector.specs.declared.pair.Pair.{Pair};
 ghost use Rattle.device.specs.declared.operation.Operation.TheVariants.{Reads, Writes, Flushes};
+ghost use Rattle.device.specs.Bare.{count_after, is_bare};
 ghost use Rattle.device.specs.Layers.{fate, is_passed, is_loud};
 ghost use Rattle.store_bytes.specs.Pairs.{IsInside};
 ghost use Rattle.in_flight.specs.Copies.{count_of};
 ghost use Rattle.store.specs.Held.{pending};
 ghost use Rattle.store.specs.Operations.{IsOneOperation};
-ghost use Rattle.merge.specs.Due.{next_read_of, full_of, can_flush_of};
-ghost use Rattle.merge.specs.Lists.{waiting_of, changed, taken_in, written_in, flushed_in};
+ghost use Rattle.merge.specs.Due.{next_read_of, full_of, can_flush_of, can_copy_of};
+ghost use Rattle.merge.specs.Lists.{waiting_of, changed, taken_in, written_in, flushed_in, copied_in};
 ghost use Rattle.merge.specs.Merging.{books_of, due_of};
 ghost use Rattle.volume_laws.specs.Steps.{WritesDisk};
 ghost use Rattle.volume_laws.specs.MergeSteps.{ReadsBack, WritesBack, FlushesBack};
 ghost use Rattle.merge.specs.declared.group.Group.{Group};
-ghost use Rattle.merge.specs.Steps.{ReadsInto, WritesOrigin};
+ghost use Rattle.merge.specs.Steps.{ReadsInto, WritesOrigin, IsWaiting};
 ghost use Rattle.stop_laws.specs.Firm.{AddsNow, IsFirm};
 
+use crate::group::is_copyable;
 use crate::{Group, Merge, Progress};
 use device::{Block, Io};
 use in_flight::sectors_of;
@@ -82,6 +84,53 @@ impl<B: Block> Merge<B> {
             }
             Err(io) => Err(io),
         }
+    }
+
+    /// Copies the chunks of all pairs that wait back to the origin disk, as their reads and writes would, one after another, from
+    /// the last on. It does so where at least two wait, no chunk is in the buffer, each lies whole on the origin, and no layer stands
+    /// above either device; else nothing changes, and it answers `false`.
+    pub fn copy_chunks(&mut self, origin: &mut B) -> bool
+        requires sectors { B.size origin.old ≡ self.old.state.origin }
+
+        ensures answer { result ≡ (can_copy_of self.old.group self.old.state.chunk self.old.state.origin && (is_bare (B.layers origin.old) && is_bare (B.layers self.old.device))) }
+        ensures undone { result ≡ false → (origin.new ≡ origin.old) × (self.new ≡ self.old) }
+        ensures waits { result ≡ true → (g : Group) → self.old.group ≡ Some g → IsWaiting g self.old }
+        ensures copied { result ≡ true → (g : Group) → self.old.group ≡ Some g → B.contents origin.new ≡ with_sectors (B.contents origin.old) (self.old.state.chunk * g.first.old) (sectors_at (B.contents self.old.device) (self.old.state.chunk * g.first.new) (self.old.state.chunk * g.waiting)) }
+        ensures fields { result ≡ true → (g : Group) → self.old.group ≡ Some g → self.new ≡ record self.old { device = self.new.device; group = Some (copied_in g); buffer = sectors_at (B.contents self.old.device) (self.old.state.chunk * g.first.new) self.old.state.chunk } }
+        ensures same { B.contents self.new.device ≡ B.contents self.old.device }
+        ensures layers { (B.layers origin.new ≡ B.layers origin.old) × (B.layers self.new.device ≡ B.layers self.old.device) }
+        ensures durable { (B.durable origin.new ≡ B.durable origin.old) × (B.durable self.new.device ≡ B.durable self.old.device) }
+        ensures size { (B.size origin.new ≡ B.size origin.old) × (B.size self.new.device ≡ B.size self.old.device) }
+        ensures faults { (B.fault_count origin.new ≡ B.fault_count origin.old) × (B.fault_count self.new.device ≡ B.fault_count self.old.device) }
+        ensures done { result ≡ true → (g : Group) → self.old.group ≡ Some g → (B.done_count origin.new ≡ count_after (B.done_count origin.old) g.waiting) × (B.done_count self.new.device ≡ count_after (B.done_count self.old.device) g.waiting) }
+    {
+        let Some(group) = self.group else {
+            return false;
+        };
+        let chunk = self.store.state.chunk;
+        let size = self.store.state.origin;
+        if !is_copyable(group, chunk, size) {
+            return false;
+        }
+        let to = Range {
+            first: chunk as u64 * group.first.old,
+            count: chunk * group.waiting,
+            size,
+        };
+        let reads = group.waiting - 1;
+        if !self
+            .store
+            .copy_to(origin, to, group.first.new, reads, group.waiting)
+        {
+            return false;
+        }
+        // The first pair's chunk is the last to be read, and stays in the buffer.
+        match fetch(&mut self.store, self.buffer.as_mut_slice(), group.first) {
+            Ok(()) => {}
+            Err(Io) => unreachable!(),
+        }
+        count_all(&mut self.group);
+        true
     }
 
     /// Flushes the origin disk, to which all chunks of the group are copied. At `Io` nothing changed but that disk's counts
@@ -206,6 +255,17 @@ fn count_copied(group: &mut Option<Group>)
     if let Some(present) = group {
         present.copied += 1;
         present.progress = Progress::Open;
+    }
+}
+
+/// Counts all chunks that wait as copied.
+fn count_all(group: &mut Option<Group>)
+    requires few { (g : Group) → group.old ≡ Some g → g.copied + g.waiting < 2 ^ 32 }
+    ensures { group.new ≡ changed copied_in group.old }
+{
+    if let Some(present) = group {
+        present.copied += present.waiting;
+        present.waiting = 0;
     }
 }
 

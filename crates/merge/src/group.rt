@@ -4,7 +4,7 @@ ghost use Rattle.volume_laws.specs.Again.{has_chunk};
 ghost use Rattle.store.specs.Grouping.{shifted};
 ghost use Rattle.merge.specs.Held.{IsSmall};
 ghost use Rattle.merge.specs.Lists.{total, all_in, has_place};
-ghost use Rattle.merge.specs.Due.{last_in, read_at_progress, full_at, flush_at};
+ghost use Rattle.merge.specs.Due.{last_in, read_at_progress, full_at, flush_at, copy_at};
 
 use sector::{Chunk, Pair};
 
@@ -107,6 +107,22 @@ pub(crate) fn is_placed(group: Group, place: Chunk) -> bool
     ensures { result ≡ has_place (all_in group) place }
 {
     group.first.new <= place && place - group.first.new < total_of(group)
+}
+
+/// Whether the chunks that wait may be copied back at once to an origin of so many sectors.
+pub(crate) fn is_copyable(group: Group, chunk: u32, sectors: u64) -> bool
+    requires small { IsSmall group }
+    requires near { chunk * (group.first.old + group.waiting) < 2 ^ 64 }
+    ensures { result ≡ copy_at group.progress group chunk sectors }
+{
+    match group.progress {
+        Progress::Open => {
+            1 < group.waiting && chunk as u64 * (group.first.old + group.waiting as u64) <= sectors
+        }
+        Progress::Full => false,
+        Progress::Flushed => false,
+        Progress::Committed => false,
+    }
 }
 
 /// Whether all chunks of a group are copied, and the origin disk is not flushed.

@@ -1,8 +1,9 @@
 // A merge takes pairs away, from the last backwards, and the areas that become empty with them.
-ghost use Rattle.std.specs.Prelude.{◌≡◌, ℕ, ◌+◌, ◌-◌, ◌*◌, ◌<◌, ◌≤◌, length, take, replicate, slice_index_or, is_ok, OnOk, OnErr, IsTrue, false};
-ghost use Rattle.sector.specs.Bytes.{with_part};
+ghost use Rattle.std.specs.Prelude.{◌≡◌, ℕ, ◌+◌, ◌-◌, ◌*◌, ◌<◌, ◌≤◌, ◌&&◌, List, length, take, replicate, slice_index_or, is_ok, OnOk, OnErr, IsTrue, true, false};
+ghost use Rattle.sector.specs.Bytes.{sectors_at, with_part, with_sectors};
 ghost use Rattle.sector.specs.declared.pair.Pair.{Pair};
 ghost use Rattle.device.specs.declared.operation.Operation.TheVariants.{Reads, Writes};
+ghost use Rattle.device.specs.Bare.{count_after, is_bare};
 ghost use Rattle.device.specs.Layers.{is_loud};
 ghost use Rattle.store_bytes.specs.Places.{area_place, ChangesOnly};
 ghost use Rattle.store.specs.declared.state.Left.TheVariants.{Nothing};
@@ -16,7 +17,7 @@ use crate::chunks::{read_area, write_whole};
 use crate::committing::copy_slots;
 use device::{Block, Io};
 use exception_arena::{Exceptions, remove_last};
-use sector::Chunk;
+use sector::{Chunk, Range};
 
 impl<B: Block> Store<B> {
     /// Takes the last pairs away, so many of the current area, whose old chunks fall by one from `old`, that of the last
@@ -68,6 +69,41 @@ impl<B: Block> Store<B> {
                 Err(io)
             }
         }
+    }
+
+    /// Copies sectors, from the first of a place on, to a device, as reads here and writes there would, one after another: so
+    /// many of each, which together are of all these sectors. It does so where no layer stands above either device; else nothing
+    /// changes, and it answers `false`.
+    pub fn copy_to(
+        &mut self,
+        origin: &mut B,
+        to: Range,
+        place: Chunk,
+        reads: u32,
+        writes: u32,
+    ) -> bool
+        requires some { 0 < to.count }
+        requires inside { to.first + to.count ≤ B.size origin.old }
+        requires there { self.old.state.chunk * place + to.count ≤ self.old.state.size }
+
+        ensures answer { result ≡ (is_bare (B.layers origin.old) && is_bare (B.layers self.old.device)) }
+        ensures undone { result ≡ false → (origin.new ≡ origin.old) × (self.new.device ≡ self.old.device) }
+        ensures layers { (B.layers origin.new ≡ B.layers origin.old) × (B.layers self.new.device ≡ B.layers self.old.device) }
+        ensures copied { result ≡ true → B.contents origin.new ≡ with_sectors (B.contents origin.old) to.first (sectors_at (B.contents self.old.device) (self.old.state.chunk * place) to.count) }
+        ensures same { B.contents self.new.device ≡ B.contents self.old.device }
+        ensures durable { (B.durable origin.new ≡ B.durable origin.old) × (B.durable self.new.device ≡ B.durable self.old.device) }
+        ensures size { (B.size origin.new ≡ B.size origin.old) × (B.size self.new.device ≡ B.size self.old.device) }
+        ensures faults { (B.fault_count origin.new ≡ B.fault_count origin.old) × (B.fault_count self.new.device ≡ B.fault_count self.old.device) }
+        ensures done { result ≡ true → (B.done_count origin.new ≡ count_after (B.done_count origin.old) writes) × (B.done_count self.new.device ≡ count_after (B.done_count self.old.device) reads) }
+        ensures stop { AddsNow (B.may_hold origin.old) (B.may_hold origin.new) (B.contents origin.new) }
+        ensures stop_here { (s : ℕ) (v : List ℕ) → B.may_hold self.new.device s v → B.may_hold self.old.device s v }
+
+        ensures exceptions { self.new.exceptions ≡ self.old.exceptions }
+        ensures places { self.new.places ≡ self.old.places }
+        ensures state { self.new.state ≡ self.old.state }
+    {
+        let first = self.state.chunk as u64 * place;
+        origin.copy_sectors(to, &mut self.device, first, reads, writes)
     }
 
     /// Reads the area before the current one, which is empty, in its place. From then on no copy starts.

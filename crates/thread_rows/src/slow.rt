@@ -2,7 +2,7 @@
 use crate::waiting::Waiting;
 use device::{Block, Io};
 use layers::{Answer, Layered, Message};
-use sector::{Range, Refusal};
+use sector::{Range, Refusal, Sector};
 
 /// The device inside, but that each read waits first.
 #[derive(Drop)]
@@ -51,6 +51,18 @@ impl<'a, B: Block> Block for Slow<'a, B> {
         self.inner.flush()
     }
 
+    fn copy_sectors(
+        &mut self,
+        to: Range,
+        from: &mut Slow<'a, B>,
+        first: Sector,
+        reads: u32,
+        writes: u32,
+    ) -> bool {
+        self.inner
+            .copy_sectors(to, &mut from.inner, first, reads, writes)
+    }
+
     ghost whole = { λ d. B.whole d.inner };
 
     ghost small = { λ d. B.small d.inner };
@@ -58,6 +70,10 @@ impl<'a, B: Block> Block for Slow<'a, B> {
     ghost holds_now = { λ d. B.holds_now d.inner };
 
     ghost holds_durable = { λ d. B.holds_durable d.inner };
+
+    ghost holds_two = { λ d. B.holds_two d.inner };
+
+    ghost has_like = { λ d bytes count bare whole few. (let other = B.has_like d.inner bytes count bare whole few in record { like = record d { inner = other.like }; bytes_are = other.bytes_are; flushed = other.flushed; bare = other.bare; sized = other.sized; faulty = other.faulty; counted = other.counted }) };
 }
 
 impl<'a, B: Layered> Layered for Slow<'a, B> {

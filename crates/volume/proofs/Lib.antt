@@ -105,6 +105,7 @@ pub mod Under
 pub mod Others
 pub mod OwnKinds
 pub mod Fresh
+pub mod GroupCopies
 pub mod MergeLasts
 mod LastOne
 mod LastAll

@@ -30,6 +30,7 @@ pub mod SnapLasting
 pub mod Handing
 pub mod Adding
 pub mod Closing
+pub mod Copied
 pub mod DoesStep
 pub mod DoesSubmit
 pub mod DoesServe

@@ -15,7 +15,8 @@
 //! or marks. Where no device drops writes, each event is exactly the event machine's, and so is each request that is accepted,
 //! found invalid or refused for a store that overflowed, whatever is in flight. The time and messages change layers, and
 //! nothing that callers see. A list of calls does what its calls do one after another, each with its answer, and `peek` copies
-//! what the origin or a snapshot shows. Devices may have caches: whatever of what was written since the last flush of each a
+//! what the origin or a snapshot shows. The chunks of a merge's group are copied back by steps, or by one call, which does as those
+//! steps do, one after another. Devices may have caches: whatever of what was written since the last flush of each a
 //! stop loses, the stores are loaded again, and a call opens no value of an array but those that it writes.
 #![tactic(auto)]
 
@@ -29,6 +30,7 @@ mod detach;
 mod event_kinds;
 mod events;
 mod finishing;
+mod group_copies;
 mod issue;
 mod issue_merging;
 mod lent;

@@ -1,19 +1,33 @@
 -- Events of a merge that are done in straight line: a drain goes on by each of them.
-use Rattle.std.proofs.Common.{◌≡◌, ℕ, ◌+◌, ◌<◌, true, List, [], ◌∷◌, ◌++◌, length, sym, refl, ap, ◌∙◌, subst, arith}
+use Rattle.std.proofs.Common.{◌≡◌, ℕ, zero, suc, ◌+◌, ◌<◌, true, false, List, [], ◌∷◌, ◌++◌, Option, None, Some, length, sym, refl, ap, ◌∙◌, subst, arith}
+use Rattle.std.specs.Prelude.{◌&&◌, Ok}
+use Rattle.std.proofs.lemmas.Bool.{false≢true}
 use Rattle.std.proofs.lemmas.List.{append-nil}
+use Rattle.device.specs.Bare.{is_bare}
 use Rattle.device.specs.Layers.{Layer}
 use Rattle.plain.specs.Replies.{reply_in}
 use Rattle.plain.specs.declared.event.Event.{Event}
+use Rattle.plain.specs.declared.event.Event.TheVariants.{MergeRead, MergeWrite}
 use Rattle.plain.specs.declared.event.Outcome.{Outcome}
+use Rattle.plain.specs.declared.event.Outcome.TheVariants.{Done}
 use Rattle.plain.specs.declared.request.Replied.{Replied}
+use Rattle.merge.specs.declared.group.Group.{Group}
+use Rattle.merge.specs.Due.{can_copy_of}
+use Rattle.merge.specs.Merging.{Merging}
+use Rattle.volume.specs.Copied.{AreCopied, IsDoneInTurn, can_copy_group, can_copy_to}
 use Rattle.volume.specs.EventKinds.{is_of_merge}
 use Rattle.volume.specs.Volumed.{Volumed, left_in_all}
 use Rattle.volume_commands.specs.Following.{AreMerged, AreSteps, IsStep}
-use Rattle.volume_commands.specs.Places.{Counted}
+use Rattle.volume.proofs.GroupCopies.{copied_group}
+use Rattle.volume.proofs.Shown.{and_left, and_right}
+use Rattle.volume_laws.specs.MergeDue.{is_none}
+use Rattle.volume_commands.specs.Places.{Counted, HasPlaces, counted_with}
 use Rattle.volume_commands.specs.TakesPlaces.{TakesByRequests}
 use Rattle.volume_commands.proofs.Drained.{RunsQuiet, quiet_more}
-use Rattle.volume_commands.proofs.Drains.{DrainsSo, drains_more}
-use Rattle.volume_commands.proofs.Takings.{takes_then}
+use Rattle.volume_commands.proofs.Drains.{DrainsSo, drains_more, step_is}
+use Rattle.volume_commands.proofs.Earns.{stepped_many}
+use Rattle.volume_commands.proofs.Fewer.{stepped_have}
+use Rattle.volume_commands.proofs.Takings.{stepped_takes, takes_none, takes_then}
 
 none_more : (now replies : List Replied) → replies ≡ [] → now ≡ now ++ replies
 none_more now replies silent = sym (ap (λ (rs : List Replied). now ++ rs) silent ∙ append-nil now)
@@ -40,6 +54,9 @@ module _ {B : Type 0} {contents : B → List ℕ} {layers : B → List Layer} {f
     taken = takes_then u v w first.taken second.taken;
   }
 
+  pub none_merged : (u : Counted B) → AreMerged contents layers faults size u u
+  none_merged u = record { steps = []; chain = refl; left = omega arith; taken = takes_none u }
+
 module _ {B : Type 0} (contents : B → List ℕ) (layers : B → List Layer) (faults size : B → ℕ) where
   -- the drain goes on
   pub drains_on : (steps : List (Event × Outcome)) (len cap : ℕ) (u v w : Volumed B) (before now : List Replied) → DrainsSo contents layers faults size len cap u v before now → AreSteps contents layers faults size steps v w → DrainsSo contents layers faults size len cap u w before now
@@ -50,3 +67,31 @@ module _ {B : Type 0} (contents : B → List ℕ) (layers : B → List Layer) (f
   pub quiet_on : (steps : List (Event × Outcome)) (u v w : Volumed B) (before now : List Replied) → RunsQuiet contents layers size u v before now → AreSteps contents layers faults size steps v w → RunsQuiet contents layers size u w before now
   quiet_on [] u v w before now so same = subst (λ (x : Volumed B). RunsQuiet contents layers size u x before now) (sym same) so
   quiet_on (x ∷ xs) u v w before now so chain = quiet_on xs u chain.0 w before now (quiet_more contents layers size faults u v chain.0 x.0 x.1 before now now so chain.1 (none_more now (reply_in x.1) chain.3)) chain.4
+
+-- the chunks of a group, copied at once: each of their events was done in its turn, and took no place
+module _ {B : Type 0} (holds : B → ℕ → List ℕ → Type 0) (contents : B → List ℕ) (layers : B → List Layer) (size faults done : B → ℕ) where
+  turn_merged : (event : Event) (v w : Volumed B) (places : ℕ) → is_of_merge event ≡ true → IsDoneInTurn holds contents layers size faults done event v w → AreMerged contents layers faults size (counted_with v places) (counted_with w places)
+  turn_merged event v w places merges turn =
+      let step = step_is contents layers faults size event Done Done v w (sym turn.first) turn.machine refl turn.does.exact turn.does.legal turn.does.kept turn.does.loud turn.does.counts.0 turn.does.flown turn.does.cause in
+      merged_one event Done (counted_with v places) (counted_with w places) step merges refl turn.does.lower (stepped_takes v w holds contents layers size faults done event places (Ok Done) turn.does)
+
+  turn_have : (event : Event) (v w : Volumed B) (places : ℕ) → IsDoneInTurn holds contents layers size faults done event v w → HasPlaces v places → HasPlaces w places
+  turn_have event v w places turn have = stepped_have v w faults event Done places turn.does.flown turn.does.cause turn.does.overflows (stepped_many v w size turn.does.kept turn.does.counts.0) have
+
+  pub copied_merged : (n : ℕ) (v w : Volumed B) (places : ℕ) → AreCopied holds contents layers size faults done n v w → AreMerged contents layers faults size (counted_with v places) (counted_with w places)
+  copied_merged zero v w places same = subst (λ (x : Volumed B). AreMerged contents layers faults size (counted_with v places) (counted_with x places)) (sym same) (none_merged (counted_with v places))
+  copied_merged (suc n) v w places chain =
+      merged_then (turn_merged MergeRead v chain.0 places refl chain.2)
+      (merged_then (turn_merged MergeWrite chain.0 chain.1 places refl chain.3) (copied_merged n chain.1 w places chain.4))
+
+  pub copied_have : (n : ℕ) (v w : Volumed B) (places : ℕ) → AreCopied holds contents layers size faults done n v w → HasPlaces v places → HasPlaces w places
+  copied_have zero v w places same have = subst (λ (x : Volumed B). HasPlaces x places) (sym same) have
+  copied_have (suc n) v w places chain have = copied_have n chain.1 w places chain.4 (turn_have MergeWrite chain.0 chain.1 places chain.3 (turn_have MergeRead v chain.0 places chain.2 have))
+
+-- one whose chunks were copied at once has a merge and a group
+copies_to : {B : Type 0} (layers : B → List Layer) (origin : B) (o : Option (Merging B)) → can_copy_to layers origin o ≡ true → (m : Merging B) × (o ≡ Some m) × (g : Group) × (m.group ≡ Some g)
+copies_to layers origin None e = absurd (false≢true e)
+copies_to layers origin (Some m) e = (let g = copied_group m.group m.state.chunk m.state.origin (and_left (can_copy_of m.group m.state.chunk m.state.origin) (is_bare (layers origin) && is_bare (layers m.device)) e) in (m, refl, g.0, g.1))
+
+pub copies_group : {B : Type 0} (layers : B → List Layer) (v : Volumed B) → can_copy_group layers v ≡ true → (m : Merging B) × (v.merge ≡ Some m) × (g : Group) × (m.group ≡ Some g)
+copies_group layers v e = copies_to layers v.origin v.merge (and_right (is_none v.flights) (can_copy_to layers v.origin v.merge) (and_right (is_none v.snaps) (is_none v.flights && can_copy_to layers v.origin v.merge) e))

@@ -9,6 +9,7 @@ ghost use Rattle.volume.specs.Lent.{is_bare, origin_write};
 ghost use Rattle.volume.specs.Volumed.{is_loud_in_all, plain_of};
 ghost use Rattle.journal.specs.declared.entry.Entry.{Entry};
 ghost use Rattle.volume_commands.specs.Declined.{IsUnsent};
+ghost use Rattle.volume_commands.specs.Following.{AreMerged};
 ghost use Rattle.volume_commands.specs.GoingOn.{ComesTo, GoesOn, IsSubmitNoted};
 ghost use Rattle.volume_commands.specs.Places.{kept_for_marks};
 ghost use Rattle.volume_commands.specs.TakesPlaces.{TakesByRequests, TakesPlaces};
@@ -108,6 +109,14 @@ impl<B: Layered> Journaled<B> {
         ensures goes_on { IfOk result (λ outcome. is_loud_in_all B.layers self.old.volume ≡ true → (entries : List Entry) × ComesTo (plain_of B.contents B.layers self.old.volume) outcome entries × GoesOn (plain_of B.contents B.layers self.old.volume) entries (plain_of B.contents B.layers self.new.volume)) }
     {
         self.volume.step(event)
+    }
+
+    /// Copies all chunks of a merge's group back at once, as their events would, one after another, where the volume can; else
+    /// nothing changes. It takes no place of the journal.
+    pub(crate) fn copy_group(&mut self)
+        ensures { AreMerged B.contents B.layers B.fault_count B.size self.old self.new }
+    {
+        let _ = self.volume.copy_group();
     }
 
     /// Does one event as `step` does, in the caller's own code: for one that knows the event's kind.

@@ -26,11 +26,13 @@ fn merge_on<B: Layered>(volume: &mut Journaled<B>, event: Event) -> bool
     }
 }
 
-/// Does the events of a group that is formed: each of its chunks is read and written, the origin disk is flushed, the area is
-/// written without the group's slots, and the group ends. One after the other, so that the kind of each is known where it is done.
+/// Does the events of a group that is formed: each of its chunks is read and written, all at once where they can be, the origin
+/// disk is flushed, the area is written without the group's slots, and the group ends. One after the other, so that the kind of
+/// each is known where it is done.
 fn follow_group<B: Layered>(volume: &mut Journaled<B>)
     ensures { AreMerged B.contents B.layers B.fault_count B.size volume.old volume.new }
 {
+    volume.copy_group();
     while merge_on(volume, Event::MergeRead) {
         if !merge_on(volume, Event::MergeWrite) {
             return;
