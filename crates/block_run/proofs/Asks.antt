@@ -2,9 +2,9 @@
 use Rattle.std.proofs.Common.{◌≡◌, ℕ, true, false, [], get_or, Ok, inl, inr, refl, sym, ap, ◌∙◌, arith}
 use Rattle.std.proofs.lemmas.List.{get_or_past}
 use Rattle.std.proofs.lemmas.Option.{slice_get_cases}
-use Rattle.settled.specs.Snaps.{Snap, Volume}
-use Rattle.plain.specs.declared.request.Dev.TheVariants.{Snap as to_snap}
-use Rattle.plain.specs.declared.request.Overflowing.TheVariants.{Never}
+use Rattle.big_steps.specs.Snaps.{Snap, Volume}
+use Rattle.plain_machine.specs.declared.request.Dev.TheVariants.{Snap as to_snap}
+use Rattle.plain_machine.specs.declared.request.Overflowing.TheVariants.{Never}
 use Rattle.command_rules.specs.State.{Volume as Named}
 use Rattle.command_rules.specs.Messages.{snap_at}
 use Rattle.command_rules.specs.Sectors.{dev_of}

@@ -8,20 +8,20 @@ use Rattle.std.proofs.lemmas.Option.{slice_get-get_or}
 use Rattle.device.specs.Layers.{is_loud}
 use Rattle.layers.specs.declared.stack.Stack.{Stack}
 use Rattle.layers.specs.Stack.{stack_layers, stack_size}
-use Rattle.journal.specs.Books.{AuditShape}
+use Rattle.audit.specs.Books.{AuditShape}
 use Rattle.merge.specs.Merging.{Merging}
-use Rattle.snapshots.specs.Numbers.{number_of_snap}
+use Rattle.snapshot_list.specs.Numbers.{number_of_snap}
 use Rattle.volume.specs.Leaving.{is_quiet_of}
 use Rattle.volume.specs.Stepping.{merged_of}
 use Rattle.volume.specs.Volumed.{Volumed, is_loud_in_all, is_loud_with}
 use Rattle.volume_commands.specs.Kept.{KeepsDevices}
 use Rattle.volume_commands.specs.Rested.{Attached, Rested, attached_of, is_loud_in, rested_of}
 use Rattle.command_rules.specs.State.{Names, Volume}
-use Rattle.named_volume.specs.Names.{IsNamedBegun, KeepsNames}
-use Rattle.named_volume.specs.Parting.{HasAll, HasBegun, Parts, named_with, place_begun, with_begun, with_requests}
-use Rattle.named_volume.proofs.Begun.{place_within}
-use Rattle.named_volume.specs.Flights.{IsBehind}
-use Rattle.named_volume.proofs.Merges.{merge_is, names_are, still_begun}
+use Rattle.device_list.specs.Names.{IsNamedBegun, KeepsNames}
+use Rattle.device_list.specs.Parting.{HasAll, HasBegun, Parts, named_with, place_begun, with_begun, with_requests}
+use Rattle.device_list.proofs.Begun.{place_within}
+use Rattle.device_list.specs.Flights.{IsBehind}
+use Rattle.device_list.proofs.Merges.{merge_is, names_are, still_begun}
 use Rattle.locked_volume.specs.Fixed.{HasBegun as HasOneBegun, HasSame, fixed_of}
 use Rattle.block_run.specs.Running.{IsRun}
 use Rattle.block_run.specs.Taking.{IsBack}

@@ -3,9 +3,9 @@ use Rattle.std.proofs.Common.{◌≡◌, ℕ, zero, suc, ◌+◌, ◌<◌, ◌�
 use Rattle.std.proofs.lemmas.Bool.{cases_lt}
 use Rattle.std.proofs.lemmas.List.{append_assoc, append_cancel_left, get_or-map}
 use Rattle.layers.specs.declared.stack.Stack.{Stack}
-use Rattle.journal.specs.declared.entry.Entry.{Entry}
-use Rattle.journal.specs.Books.{AuditShape}
-use Rattle.journal.specs.Entries.{answered_of, entries_by}
+use Rattle.audit.specs.declared.entry.Entry.{Entry}
+use Rattle.audit.specs.Books.{AuditShape}
+use Rattle.audit.specs.Entries.{answered_of, entries_by}
 use Rattle.command_rules.specs.State.{Volume}
 use Rattle.volume_threads.specs.Rigs.{fixed_in, receipts_at, seen_at, start_in}
 use Rattle.volume_threads.specs.declared.task.Task.{Task}

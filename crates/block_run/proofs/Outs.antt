@@ -4,7 +4,7 @@ use Rattle.std.specs.Prelude.{◌==◌, ◌&&◌}
 use Rattle.layers.specs.declared.stack.Stack.{Stack}
 use Rattle.volume_commands.specs.Rested.{Rested}
 use Rattle.command_rules.specs.State.{Volume}
-use Rattle.named_volume.specs.Parting.{HasAll, IsParted, Parts, named_with, with_requests}
+use Rattle.device_list.specs.Parting.{HasAll, IsParted, Parts, named_with, with_requests}
 
 greater : (n m : ℕ) → m ≤ n → max n m ≡ n
 greater n m le = omega (arith, le)

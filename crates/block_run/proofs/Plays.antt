@@ -5,27 +5,27 @@ use Rattle.std.specs.List.{All}
 use Rattle.std.proofs.lemmas.List.{append_assoc, append_cancel_left}
 use Rattle.std.proofs.lemmas.List.Elements.{All-append, All-map}
 use Rattle.layers.specs.declared.stack.Stack.{Stack}
-use Rattle.journal.specs.declared.entry.Answered.{Answered}
-use Rattle.journal.specs.declared.entry.Entry.{Entry}
-use Rattle.journal.specs.declared.entry.Entry.TheVariants.{Answered as IsAnswered, Spoiled, Overflowed, Attached, Detached, Begun, Finished}
-use Rattle.journal.specs.Books.{AuditShape}
-use Rattle.journal.specs.Entries.{entries_by}
-use Rattle.plain.specs.Plain.{Shown, saved_under, overflow_under}
-use Rattle.journal.specs.Inside.{AllInside}
-use Rattle.journal.specs.Replay.{AllLawful, replay}
-use Rattle.journal.proofs.Own.{inside_rest, lawful_rest, meets_own}
-use Rattle.journal.proofs.Replaying.{entries_by_spoils, replay_then}
+use Rattle.audit.specs.declared.entry.Answered.{Answered}
+use Rattle.audit.specs.declared.entry.Entry.{Entry}
+use Rattle.audit.specs.declared.entry.Entry.TheVariants.{Answered as IsAnswered, Spoiled, Overflowed, Attached, Detached, Begun, Finished}
+use Rattle.audit.specs.Books.{AuditShape}
+use Rattle.audit.specs.Entries.{entries_by}
+use Rattle.plain_machine.specs.Plain.{Shown, saved_under, overflow_under}
+use Rattle.audit.specs.Inside.{AllInside}
+use Rattle.audit.specs.Replay.{AllLawful, replay}
+use Rattle.audit.proofs.Own.{inside_rest, lawful_rest, meets_own}
+use Rattle.audit.proofs.Replaying.{entries_by_spoils, replay_then}
 use Rattle.command_rules.specs.State.{Volume}
-use Rattle.named_volume.specs.Flights.{IsBehind}
-use Rattle.named_volume.specs.Parting.{Parts}
+use Rattle.device_list.specs.Flights.{IsBehind}
+use Rattle.device_list.specs.Parting.{Parts}
 use Rattle.locked_volume.specs.AskedFor.{AddsAskedFor, IsAskedFor}
 use Rattle.locked_volume.specs.Keeping.{Begins}
 use Rattle.layers.specs.Stack.{stack_layers, stack_size}
-use Rattle.plain.specs.declared.request.Dev.{Dev}
-use Rattle.plain.specs.declared.request.Dev.TheVariants.{Origin, Snap}
-use Rattle.plain.specs.declared.request.Request.{Request}
+use Rattle.plain_machine.specs.declared.request.Dev.{Dev}
+use Rattle.plain_machine.specs.declared.request.Dev.TheVariants.{Origin, Snap}
+use Rattle.plain_machine.specs.declared.request.Request.{Request}
 use Rattle.sector.specs.declared.refusal.Refusal.{Refusal}
-use Rattle.snapshots.specs.Numbers.{number_of_snap}
+use Rattle.snapshot_list.specs.Numbers.{number_of_snap}
 use Rattle.volume.specs.Stepping.{merged_of}
 use Rattle.volume.specs.Volumed.{is_loud_in_all}
 use Rattle.locked_volume.specs.Denying.{IsClosed, IsCrowded, IsDenied, IsLost, IsOpen, IsShut, WasDenied, Wish, Serve, Begin}

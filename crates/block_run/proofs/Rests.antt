@@ -4,15 +4,15 @@ use Rattle.std.specs.Prelude.{Err, None, Ok, OnOk, Option, Result, Some}
 use Rattle.std.proofs.lemmas.List.{append-nil, append_assoc, map-append}
 use Rattle.layers.specs.declared.stack.Stack.{Stack}
 use Rattle.layers.specs.Stack.{stack_layers, stack_size}
-use Rattle.plain.specs.declared.event.Outcome.{Outcome}
-use Rattle.plain.specs.declared.event.Outcome.TheVariants.{Done, Fault, Reply as Replied}
+use Rattle.plain_machine.specs.declared.event.Outcome.{Outcome}
+use Rattle.plain_machine.specs.declared.event.Outcome.TheVariants.{Done, Fault, Reply as Replied}
 use Rattle.volume.specs.Stepping.{KeepsAll}
 use Rattle.volume.specs.Volumed.{is_loud_in_all}
-use Rattle.journal.specs.declared.entry.Entry.{Entry}
-use Rattle.journal.specs.declared.entry.Entry.TheVariants.{Spoiled}
-use Rattle.journal.specs.declared.entry.Receipt.{Receipt}
-use Rattle.journal.specs.Books.{AuditShape}
-use Rattle.journal.specs.Journaled.{IsApplied, IsNoted, IsSilent, KeepsBase, outcome_in}
+use Rattle.audit.specs.declared.entry.Entry.{Entry}
+use Rattle.audit.specs.declared.entry.Entry.TheVariants.{Spoiled}
+use Rattle.audit.specs.declared.entry.Receipt.{Receipt}
+use Rattle.audit.specs.Books.{AuditShape}
+use Rattle.audit.specs.PlacesTaken.{IsApplied, IsNoted, IsSilent, KeepsBase, outcome_in}
 use Rattle.volume_commands.specs.Rested.{rested_of}
 use Rattle.volume_commands.proofs.Seen.{devices_kept, devices_more, devices_none}
 use Rattle.block_run.specs.Taking.{IsRested}

@@ -9,7 +9,7 @@ use Rattle.command_rules.specs.Sound.{is_sound, is_sound_stack, is_sound_volume}
 use Rattle.command_rules.specs.State.{Stacked, Table, Volume, names_in}
 use Rattle.command_rules.proofs.Keeping.{names_there}
 use Rattle.command_rules.proofs.NamedFrames.{no_more_named, same_volume_names}
-use Rattle.named_volume.specs.Names.{IsNamedBegun, KeepsNames}
+use Rattle.device_list.specs.Names.{IsNamedBegun, KeepsNames}
 use Rattle.command.specs.declared.seat_line.SeatLine.{SeatLine}
 use Rattle.block_run.specs.Running.{AreRun, IsRun, IsRunIf, IsTableRun, is_used, used_in}
 

@@ -6,9 +6,9 @@ use Rattle.std.proofs.lemmas.List.{append-nil, append_assoc, drop_more, length_p
 use Rattle.std.proofs.lemmas.List.Elements.{All-nil, All-push, All-same}
 use Rattle.layers.specs.declared.stack.Stack.{Stack}
 use Rattle.block_run.specs.Played.{Story}
-use Rattle.journal.specs.Books.{AuditShape}
+use Rattle.audit.specs.Books.{AuditShape}
 use Rattle.command_rules.specs.State.{Volume}
-use Rattle.named_volume.specs.Parting.{Parts}
+use Rattle.device_list.specs.Parting.{Parts}
 use Rattle.locked_volume.specs.Fixed.{Fixed, StaysFrom}
 use Rattle.block_run.specs.declared.taking.Slot.{Slot}
 use Rattle.block_run.specs.declared.taking.Slot.TheVariants.{Stays, Out}

@@ -3,9 +3,9 @@ use Rattle.std.proofs.Common.{◌≡◌, inl, inr, ℕ, ◌+◌, ◌<◌, Bool, 
 use Rattle.std.specs.Prelude.{Err, Ok, OnErr, Result}
 use Rattle.std.proofs.lemmas.List.{append_cancel_left, append-nil, length_push}
 use Rattle.layers.specs.declared.stack.Stack.{Stack}
-use Rattle.journal.specs.declared.entry.Answered.{Answered}
-use Rattle.journal.specs.Books.{AuditShape}
-use Rattle.journal.specs.Entries.{entries_by}
+use Rattle.audit.specs.declared.entry.Answered.{Answered}
+use Rattle.audit.specs.Books.{AuditShape}
+use Rattle.audit.specs.Entries.{entries_by}
 use Rattle.command_rules.specs.State.{Volume}
 use Rattle.block_run.specs.Played.{Story}
 use Rattle.block_run.specs.Spared.{AreSpared, NoneAdded}

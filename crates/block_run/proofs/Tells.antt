@@ -16,7 +16,7 @@ use Rattle.command.specs.declared.command_reply.CommandReply.{CommandReply}
 use Rattle.command.specs.declared.command_reply.CommandReply.TheVariants.{Gate}
 use Rattle.volume_threads.specs.Rigs.{SeatShape}
 use Rattle.volume_threads.specs.declared.task.Task.{Task}
-use Rattle.journal.specs.declared.entry.Entry.{Entry}
+use Rattle.audit.specs.declared.entry.Entry.{Entry}
 use Rattle.block_run.specs.Played.{denied_in, pieces_in}
 use Rattle.locked_volume.specs.Denying.{Wish}
 use Rattle.sector.specs.declared.refusal.Refusal.{Refusal}

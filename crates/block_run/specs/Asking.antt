@@ -5,7 +5,7 @@ use Rattle.sector.specs.declared.refusal.Refusal.{Refusal}
 use Rattle.sector.specs.declared.refusal.Refusal.TheVariants.{MergeInProgress, NoSuchDevice, OutOfRange}
 use Rattle.words.specs.Given.{◌>>=◌}
 use Rattle.chunk.specs.Pieces.{span_of}
-use Rattle.settled.specs.Devices.{sectors_of}
+use Rattle.big_steps.specs.Devices.{sectors_of}
 use Rattle.command.specs.declared.seat_line.Work.{Work}
 use Rattle.command.specs.declared.seat_line.Work.TheVariants as works
 use Rattle.command_rules.specs.State.{Table, Volume}

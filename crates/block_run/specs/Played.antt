@@ -1,25 +1,25 @@
 -- What the seats of a block made at the volumes, and that it answers their lines. This project's own.
 use Rattle.std.specs.Prelude.{◌≡◌, ◌<◌, ℕ, Bool, true, false, List, [], length, map, slice_index_or}
 use Rattle.std.specs.List.{count_by}
-use Rattle.journal.specs.declared.entry.Entry.{Entry}
-use Rattle.journal.specs.Earned.{AreEarned}
-use Rattle.journal.specs.Entries.{answered_of, entries_by}
-use Rattle.journal.specs.Own.{MeetsOwn}
-use Rattle.journal.specs.Replay.{AllLawful, replay}
-use Rattle.plain.specs.Plain.{Shown, shown_of}
+use Rattle.audit.specs.declared.entry.Entry.{Entry}
+use Rattle.audit.specs.Earned.{AreEarned}
+use Rattle.audit.specs.Entries.{answered_of, entries_by}
+use Rattle.audit.specs.Own.{MeetsOwn}
+use Rattle.audit.specs.Replay.{AllLawful, replay}
+use Rattle.plain_machine.specs.Plain.{Shown, shown_of}
 use Rattle.layers.specs.declared.stack.Stack.{Stack}
 use Rattle.locked_volume.specs.Keeping.{Begins}
 use Rattle.layers.specs.Stack.{stack_contents, stack_layers, stack_size}
 use Rattle.sector.specs.declared.refusal.Refusal.{Refusal}
 use Rattle.command_rules.specs.State.{Volume}
-use Rattle.named_volume.specs.Flights.{InEvents}
+use Rattle.device_list.specs.Flights.{InEvents}
 use Rattle.locked_volume.specs.Denying.{Wish, WasDenied}
 use Rattle.locked_volume.specs.Fixed.{Fixed, piece_at}
 use Rattle.locked_volume.specs.Names.{nothing_fixed}
 use Rattle.volume_threads.specs.Rigs.{SeatShape, receipts_at, seen_at}
 use Rattle.volume_threads.specs.declared.task.Task.{Task}
 use Rattle.volume_threads.specs.Tasks.{IsEnded}
-use Rattle.snapshots.specs.Numbers.{number_of_snap}
+use Rattle.snapshot_list.specs.Numbers.{number_of_snap}
 use Rattle.volume.specs.Stepping.{merged_of}
 use Rattle.volume.specs.Volumed.{Volumed, is_loud_in_all, plain_of}
 use Rattle.block_run.specs.Asking.{place_among}

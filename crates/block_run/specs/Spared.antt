@@ -2,8 +2,8 @@
 use Rattle.std.specs.Prelude.{◌≡◌, ◌⊎◌, ◌<◌, ℕ, List, [], length, slice_index_or}
 use Rattle.std.specs.List.{AllZip}
 use Rattle.layers.specs.declared.stack.Stack.{Stack}
-use Rattle.journal.specs.Books.{AuditShape}
-use Rattle.journal.specs.Entries.{entries_by}
+use Rattle.audit.specs.Books.{AuditShape}
+use Rattle.audit.specs.Entries.{entries_by}
 use Rattle.command_rules.specs.State.{Volume}
 use Rattle.block_run.specs.Played.{IsPlayedIn, Story}
 

@@ -3,15 +3,15 @@ use Rattle.std.specs.Prelude.{◌≡◌, ◌+◌, Bool, true, ℕ, List, [], ◌
 use Rattle.std.specs.List.{All}
 use Rattle.layers.specs.declared.stack.Stack.{Stack}
 use Rattle.layers.specs.Stack.{stack_layers, stack_size}
-use Rattle.journal.specs.declared.entry.Entry.{Entry}
-use Rattle.journal.specs.Books.{AuditShape}
-use Rattle.journal.specs.Earned.{AreEarned}
-use Rattle.journal.specs.Entries.{entries_by}
-use Rattle.journal.specs.Inside.{AllInside}
-use Rattle.journal.specs.Journaled.{KeepsBase, OnlySpoils}
-use Rattle.journal.specs.Replay.{AllLawful, replay}
+use Rattle.audit.specs.declared.entry.Entry.{Entry}
+use Rattle.audit.specs.Books.{AuditShape}
+use Rattle.audit.specs.Earned.{AreEarned}
+use Rattle.audit.specs.Entries.{entries_by}
+use Rattle.audit.specs.Inside.{AllInside}
+use Rattle.audit.specs.PlacesTaken.{KeepsBase, OnlySpoils}
+use Rattle.audit.specs.Replay.{AllLawful, replay}
 use Rattle.command_rules.specs.State.{Volume}
-use Rattle.named_volume.specs.Parting.{IsParted, Parts, named_with}
+use Rattle.device_list.specs.Parting.{IsParted, Parts, named_with}
 use Rattle.volume_commands.specs.Kept.{KeepsDevices}
 use Rattle.volume_commands.specs.Rested.{rested_of}
 use Rattle.locked_volume.specs.AskedFor.{AddsAskedFor, IsAskedFor}

@@ -1,11 +1,11 @@
 // What the lines of a block find under their names.
 ghost use Rattle.std.specs.Prelude.{◌≡◌, IfOk, map};
-ghost use Rattle.named_volume.specs.Tables.{table_of};
+ghost use Rattle.device_list.specs.Tables.{table_of};
 ghost use Rattle.block_run.specs.Looking.{found_in, name_in, serves};
 
 use command::{NameFound, SeatLine, Work};
 use command_rules::{Place, Role};
-use named_volume::{Devices, find_device};
+use device_list::{Devices, find_device};
 use std::alloc::{AllocError, Global};
 use words::Name;
 

@@ -1,15 +1,15 @@
 // Volumes that are taken out of the table while their seats run, and put back.
 ghost use Rattle.std.specs.Prelude.{◌≡◌, ◌+◌, ◌<◌, ◌≤◌, Bool, List, [], true, drop, length, vec_len, vec_capacity};
 ghost use Rattle.layers.specs.declared.stack.Stack.{Stack as StackShape};
-ghost use Rattle.journal.specs.Books.{AuditShape};
+ghost use Rattle.audit.specs.Books.{AuditShape};
 ghost use Rattle.volume.specs.Leaving.{is_quiet_of};
 ghost use Rattle.command_rules.specs.State.{Volume};
 ghost use Rattle.block_run.specs.Played.{Story};
 ghost use Rattle.block_run.specs.Taking.{AreSlots, IsBack, IsBackAt, IsMade, IsPutAt, IsRested, IsSlot};
 
-use journal::Audit;
+use audit::Audit;
+use device_list::{NamedParts, NamedVolume};
 use layers::Stack;
-use named_volume::{NamedParts, NamedVolume};
 use std::sync::Wait;
 use volume::is_of_merge;
 use volume_commands::Resting;

@@ -1,7 +1,7 @@
 -- A volume with its merge: what goes on keeps its names.
 use Rattle.std.proofs.Common.{◌≡◌, refl, ap}
 use Rattle.std.specs.Prelude.{Option, Some, None, is_some}
-use Rattle.settled.specs.Merges.{Merge, Merged}
+use Rattle.big_steps.specs.Merges.{Merge, Merged}
 use Rattle.command_rules.specs.State.{Merging, Volume, merge_in, names_in, merged_in, with_merge, with_merged}
 
 -- the names stay

@@ -8,8 +8,8 @@ use Rattle.sector.specs.declared.refusal.Refusal.TheVariants.{BadTable, NoSuchDe
 use Rattle.device.specs.Layers.{Layer}
 use Rattle.layers.specs.declared.message.Message.{Message}
 use Rattle.layers.specs.declared.message.Answer.{Answer}
-use Rattle.settled.specs.Snaps.{Snap, Volume as Settled}
-use Rattle.settled.specs.Merges.{Merge, Merged}
+use Rattle.big_steps.specs.Snaps.{Snap, Volume as Settled}
+use Rattle.big_steps.specs.Merges.{Merge, Merged}
 use Rattle.command_rules.specs.declared.place.Role.{Role}
 use Rattle.command_rules.specs.declared.place.Role.TheVariants.{Origin, Under, Snapshot, Store, Merging, MergingStore}
 use Rattle.command_rules.specs.declared.place.Place.TheVariants.{Free, In}

@@ -5,23 +5,23 @@ use Rattle.sector.specs.Bytes.{with_part, sector_at}
 use Rattle.sector.specs.declared.refusal.Refusal.{Refusal}
 use Rattle.device.specs.declared.operation.Operation.{Operation}
 use Rattle.device.specs.declared.operation.Operation.TheVariants.{Reads, Writes, Flushes}
-use Rattle.device.specs.Layers.{Layer, Flaky, Dusty, Broken, Counted, Fused, Window, layer_after, layer_fate, layers_after, passed_on, fate, is_answered, is_passed, is_loud, is_loud_layer}
+use Rattle.device.specs.Layers.{Layer, Flaky, Dusty, Broken, Counted, TornDiskShape, Window, layer_after, layer_fate, layers_after, passed_on, fate, is_answered, is_passed, is_loud, is_loud_layer}
 use Rattle.sector.specs.declared.refusal.Refusal.TheVariants.{TooMany, BadChunk, StoreTooSmall, Damaged, Stale}
 use Rattle.chunk.specs.Sizes.{is_chunk}
 use Rattle.store_bytes.specs.Places.{area_place}
 use Rattle.store_bytes.specs.Pairs.{pairs_of}
-use Rattle.settled.specs.Saves.{zeroed}
-use Rattle.settled.specs.Loads.{trimmed, is_loadable, is_too_small}
+use Rattle.big_steps.specs.Saves.{zeroed}
+use Rattle.big_steps.specs.Loads.{trimmed, is_loadable, is_too_small}
 use Rattle.cow_header.specs.HeaderText.{header_bytes, found_in}
 use Rattle.cow_header.specs.declared.found.Found.{Found}
 use Rattle.cow_header.specs.declared.found.Found.TheVariants.{Fresh, Header}
-use Rattle.plain.specs.declared.request.Overflowing.{Overflowing}
-use Rattle.plain.specs.Plain.{overflow_of}
-use Rattle.settled.specs.Devices.{Device, sectors_of, answers, met, written_by}
-use Rattle.settled.specs.Snaps.{Volume as Settled}
+use Rattle.plain_machine.specs.declared.request.Overflowing.{Overflowing}
+use Rattle.plain_machine.specs.Plain.{overflow_of}
+use Rattle.big_steps.specs.Devices.{Device, sectors_of, answers, met, written_by}
+use Rattle.big_steps.specs.Snaps.{Volume as Settled}
 use Rattle.command_rules.specs.State.{Stacked, Volume}
 use Rattle.command_rules.specs.Snapshots.{store_of, kept_out, attached_to}
-use Rattle.settled.specs.Attaching.{Tried, read_on, write_on, flush_on, flush_both, done, read_areas, last_area, has_tail, write_header, write_fresh, make, write_tail, clear, load, load_as, open_store, Store, Attached, refused_attach, taken_by, attached}
+use Rattle.big_steps.specs.Attaching.{Tried, read_on, write_on, flush_on, flush_both, done, read_areas, last_area, has_tail, write_header, write_fresh, make, write_tail, clear, load, load_as, open_store, Store, Attached, refused_attach, taken_by, attached}
 
 loud_layer_after : (l : Layer) (op : Operation) (done : Bool) → is_loud_layer (layer_after l op done) ≡ is_loud_layer l
 loud_layer_after (Flaky moment up down features offset) op done = refl
@@ -30,9 +30,9 @@ loud_layer_after (Dusty sectors size enabled bad) (Writes first count) done = re
 loud_layer_after (Dusty sectors size enabled bad) Flushes done = refl
 loud_layer_after Broken op done = refl
 loud_layer_after (Counted left) op done = refl
-loud_layer_after (Fused left) (Reads first count) done = refl
-loud_layer_after (Fused left) (Writes first count) done = refl
-loud_layer_after (Fused left) Flushes done = refl
+loud_layer_after (TornDiskShape left) (Reads first count) done = refl
+loud_layer_after (TornDiskShape left) (Writes first count) done = refl
+loud_layer_after (TornDiskShape left) Flushes done = refl
 loud_layer_after (Window aside) op done = refl
 
 either_loud : (b : Bool) (xs ys : List Layer) → is_loud xs ≡ is_loud ys → is_loud (if b then xs else ys) ≡ is_loud ys

@@ -4,8 +4,8 @@ use Rattle.std.specs.Prelude.{Option, Some, None, Result, Ok, Err, is_some, if�
 use Rattle.sector.specs.declared.refusal.Refusal.{Refusal}
 use Rattle.sector.specs.declared.refusal.Refusal.TheVariants.{MergeInProgress, NotMerging, NotFinished}
 use Rattle.words.specs.Given.{◌>>=◌}
-use Rattle.settled.specs.Snaps.{Snap}
-use Rattle.settled.specs.Merges.{merged}
+use Rattle.big_steps.specs.Snaps.{Snap}
+use Rattle.big_steps.specs.Merges.{merged}
 use Rattle.command_rules.specs.declared.place.Role.TheVariants.{Origin, Under, Snapshot, Store, Merging, MergingStore}
 use Rattle.command_rules.specs.declared.place.Place.{Place}
 use Rattle.command_rules.specs.declared.place.Place.TheVariants.{Free, In}

@@ -5,7 +5,7 @@ use Rattle.std.specs.List.{sum_by, remove}
 use Rattle.std.specs.Str.{bytes_eq}
 use Rattle.std.proofs.lemmas.List.Sums.{sum_by-cons, sum_by-remove, sum_by-set, sum_by_push}
 use Rattle.std.proofs.lemmas.Slice.Eq.{bytes_eq-Decides}
-use Rattle.settled.specs.Devices.{Device}
+use Rattle.big_steps.specs.Devices.{Device}
 use Rattle.command_rules.specs.State.{Stacked, Names, Volume, Table, names_in}
 use Rattle.command_rules.specs.Places.{place_of}
 use Rattle.command_rules.specs.Disks.{devices_of, devices_under, devices_merging, devices_in, device_count, with_stack, alone}

@@ -12,9 +12,9 @@ use Rattle.table.specs.declared.lines.Line.{Line}
 use Rattle.table.specs.declared.lines.Target.{Target}
 use Rattle.table.specs.declared.lines.Target.TheVariants as targets
 use Rattle.command.specs.Words.{sectors_of}
-use Rattle.settled.specs.Devices.{Device, sectors_of as size_of}
-use Rattle.settled.specs.Attaching.{Store, given_back}
-use Rattle.settled.specs.Merges.{Merged}
+use Rattle.big_steps.specs.Devices.{Device, sectors_of as size_of}
+use Rattle.big_steps.specs.Attaching.{Store, given_back}
+use Rattle.big_steps.specs.Merges.{Merged}
 use Rattle.command_rules.specs.declared.place.Role.{Role}
 use Rattle.command_rules.specs.declared.place.Role.TheVariants.{Origin, Under, Snapshot, Store as InStore, Merging, MergingStore}
 use Rattle.command_rules.specs.declared.place.Place.{Place}

@@ -4,7 +4,7 @@ use Rattle.std.specs.Prelude.{Option, Some, None, nat_lt, if◌then◌else◌, O
 use Rattle.std.specs.List.{sum_by, list_all, remove}
 use Rattle.std.proofs.lemmas.List.Sums.{sum_by-append, sum_by-cons, sum_by-remove}
 use Rattle.std.proofs.lemmas.List.Folds.{list_all-append}
-use Rattle.settled.specs.Snaps.{Snap}
+use Rattle.big_steps.specs.Snaps.{Snap}
 use Rattle.command_rules.specs.State.{Stacked, Names, Merging, Volume, Table, names_in}
 use Rattle.command_rules.specs.Places.{volume_at}
 use Rattle.command_rules.specs.Changes.{changed}

@@ -7,13 +7,13 @@ use Rattle.device.specs.declared.operation.Operation.{Operation}
 use Rattle.device.specs.declared.operation.Operation.TheVariants.{Reads, Writes, Flushes}
 use Rattle.store_bytes.specs.Places.{area_place}
 use Rattle.store_bytes.specs.Pairs.{pairs_of}
-use Rattle.settled.specs.Saves.{zeroed}
-use Rattle.settled.specs.Loads.{trimmed, is_loadable, is_too_small}
+use Rattle.big_steps.specs.Saves.{zeroed}
+use Rattle.big_steps.specs.Loads.{trimmed, is_loadable, is_too_small}
 use Rattle.cow_header.specs.HeaderText.{header_bytes, found_in}
 use Rattle.cow_header.specs.declared.found.Found.{Found}
 use Rattle.cow_header.specs.declared.found.Found.TheVariants.{Fresh, Header}
-use Rattle.settled.specs.Devices.{Device, sectors_of, answers, met, written_by}
-use Rattle.settled.specs.Attaching.{Tried, read_on, write_on, flush_on, flush_both, done, read_areas, last_area, has_tail, write_header, write_fresh, make, write_tail, clear, load, load_as, open_store}
+use Rattle.big_steps.specs.Devices.{Device, sectors_of, answers, met, written_by}
+use Rattle.big_steps.specs.Attaching.{Tried, read_on, write_on, flush_on, flush_both, done, read_areas, last_area, has_tail, write_header, write_fresh, make, write_tail, clear, load, load_as, open_store}
 
 -- what was tried is over an origin with these bytes
 pub record IsOver (disk : List ℕ) (tried : Tried) : Type 0 where

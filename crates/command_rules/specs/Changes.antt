@@ -3,7 +3,7 @@
 use Rattle.std.specs.Prelude.{◌≡◌, ◌≢◌, Bool, true, false, Result, Ok, Err}
 use Rattle.sector.specs.declared.refusal.Refusal.{Refusal}
 use Rattle.sector.specs.declared.refusal.Refusal.TheVariants.{NoMemory}
-use Rattle.settled.specs.Refusals.{is_starved}
+use Rattle.big_steps.specs.Refusals.{is_starved}
 
 -- What the call answered and left is what the rule says, unless memory ran out. A refusal changes nothing.
 abbrev pub Steps : {A T : Type 0} → Result A Refusal → T → T → Result (A × T) Refusal → Type 0

@@ -4,7 +4,7 @@ use Rattle.std.specs.Prelude.{ℕ, ◌+◌, ◌*◌, ◌&&◌, not, Bool, false,
 use Rattle.sector.specs.declared.refusal.Refusal.{Refusal}
 use Rattle.sector.specs.declared.refusal.Refusal.TheVariants.{Busy, OutOfRange, TooMany}
 use Rattle.device.specs.Layers.{Broken}
-use Rattle.settled.specs.Devices.{Device}
+use Rattle.big_steps.specs.Devices.{Device}
 use Rattle.command_rules.specs.State.{Stacked, Names, Volume, Table, names_in}
 use Rattle.command_rules.specs.Places.{place_of}
 

@@ -7,9 +7,9 @@ use Rattle.sector.specs.declared.refusal.Refusal.TheVariants.{BadTable, NotDue}
 use Rattle.words.specs.Given.{◌>>=◌}
 use Rattle.command.specs.declared.events.EventWords.{EventWords}
 use Rattle.command.specs.declared.events.EventWords.TheVariants.{Issue, CopyRead, CopyWrite, Publish, ZeroNext, WriteArea, WriteInvalid, FlushStore, MergeGroup, MergeAreaRead, MergeRead, MergeWrite, MergeFlush, MergeCommit, MergeRelease}
-use Rattle.plain.specs.declared.event.Event.{Event as Step}
-use Rattle.plain.specs.declared.event.Event.TheVariants as steps
-use Rattle.settled.specs.Merges.{merged}
+use Rattle.plain_machine.specs.declared.event.Event.{Event as Step}
+use Rattle.plain_machine.specs.declared.event.Event.TheVariants as steps
+use Rattle.big_steps.specs.Merges.{merged}
 use Rattle.command_rules.specs.declared.place.Role.TheVariants.{Origin, Under, Snapshot, Store, Merging, MergingStore}
 use Rattle.command_rules.specs.declared.place.Place.{Place}
 use Rattle.command_rules.specs.declared.place.Place.TheVariants.{Free, In}

@@ -9,7 +9,7 @@ use Rattle.device.specs.Layers.{Layer, Flaky, Dusty, Window, Features}
 use Rattle.layers.specs.Windows.{beside}
 use Rattle.words.specs.Given.{◌>>=◌}
 use Rattle.table.specs.declared.lines.FlakeyFeatures.{FlakeyFeatures as Words}
-use Rattle.settled.specs.Devices.{Device, sectors_of}
+use Rattle.big_steps.specs.Devices.{Device, sectors_of}
 use Rattle.command_rules.specs.declared.place.Role.{Role}
 use Rattle.command_rules.specs.declared.place.Role.TheVariants.{Origin, Under, Snapshot, Store, Merging, MergingStore}
 use Rattle.command_rules.specs.declared.place.Place.{Place}

@@ -11,7 +11,7 @@ use Rattle.table.specs.declared.lines.Line.{Line}
 use Rattle.table.specs.declared.lines.Target.{Target}
 use Rattle.table.specs.declared.lines.Target.TheVariants as targets
 use Rattle.table.specs.Printed.{text_of}
-use Rattle.settled.specs.Devices.{Device, sectors_of}
+use Rattle.big_steps.specs.Devices.{Device, sectors_of}
 use Rattle.command_rules.specs.declared.place.Role.{Role}
 use Rattle.command_rules.specs.declared.place.Role.TheVariants.{Origin, Under, Snapshot, Store, Merging, MergingStore}
 use Rattle.command_rules.specs.declared.place.Place.{Place}

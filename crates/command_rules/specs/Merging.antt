@@ -7,9 +7,9 @@ use Rattle.std.specs.Option.{option_map}
 use Rattle.sector.specs.declared.refusal.Refusal.{Refusal}
 use Rattle.sector.specs.declared.refusal.Refusal.TheVariants.{BadTable, Invalid, MergeInProgress, NotMerging, NotFinished}
 use Rattle.words.specs.Given.{◌>>=◌}
-use Rattle.settled.specs.Snaps.{Snap}
-use Rattle.settled.specs.Attaching.{detached}
-use Rattle.settled.specs.Merges.{Merge, merge_of, pairs_in}
+use Rattle.big_steps.specs.Snaps.{Snap}
+use Rattle.big_steps.specs.Attaching.{detached}
+use Rattle.big_steps.specs.Merges.{Merge, merge_of, pairs_in}
 use Rattle.event_machine.specs.Merging.{resumed as moving_resumed}
 use Rattle.command_rules.specs.declared.place.Role.TheVariants.{Origin, Under, Snapshot, Store, Merging, MergingStore}
 use Rattle.command_rules.specs.declared.place.Place.{Place}

@@ -10,11 +10,11 @@ use Rattle.layers.specs.declared.message.Answer.{Answer}
 use Rattle.layers.specs.Messages.{Told, Refused, Answered, told}
 use Rattle.layers.specs.Ticks.{layers_ticked}
 use Rattle.words.specs.Given.{◌>>=◌}
-use Rattle.settled.specs.Devices.{Device}
-use Rattle.settled.specs.Snaps.{Snap, Volume as Settled}
-use Rattle.settled.specs.Moments.{relayered}
-use Rattle.settled.specs.Merges.{Merge, Merged}
-use Rattle.settled.specs.MergedMoments.{merged_relayered}
+use Rattle.big_steps.specs.Devices.{Device}
+use Rattle.big_steps.specs.Snaps.{Snap, Volume as Settled}
+use Rattle.big_steps.specs.Moments.{relayered}
+use Rattle.big_steps.specs.Merges.{Merge, Merged}
+use Rattle.big_steps.specs.MergedMoments.{merged_relayered}
 use Rattle.command_rules.specs.declared.place.Role.{Role}
 use Rattle.command_rules.specs.declared.place.Role.TheVariants.{Origin, Under, Snapshot, Store, Merging, MergingStore}
 use Rattle.command_rules.specs.declared.place.Place.{Place}

@@ -7,7 +7,7 @@ use Rattle.sector.specs.declared.refusal.Refusal.{Refusal}
 use Rattle.sector.specs.declared.refusal.Refusal.TheVariants.{Busy, NotQuiet, BadTable}
 use Rattle.device.specs.Layers.{is_loud}
 use Rattle.words.specs.Given.{◌>>=◌}
-use Rattle.settled.specs.Devices.{sectors_of}
+use Rattle.big_steps.specs.Devices.{sectors_of}
 use Rattle.command_rules.specs.State.{Stacked, Volume, Table}
 use Rattle.command_rules.specs.Places.{stack_at, volume_at}
 use Rattle.command_rules.specs.Layers.{top}

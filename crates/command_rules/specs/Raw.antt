@@ -8,7 +8,7 @@ use Rattle.device.specs.Layers.{Layer}
 use Rattle.layers.specs.Windows.{raw_of, has_disk}
 use Rattle.words.specs.Given.{◌>>=◌}
 use Rattle.command.specs.Words.{sectors_of}
-use Rattle.settled.specs.Devices.{Device}
+use Rattle.big_steps.specs.Devices.{Device}
 use Rattle.command_rules.specs.declared.place.Role.{Role}
 use Rattle.command_rules.specs.declared.place.Role.TheVariants.{Origin, Under, Snapshot, Store, Merging, MergingStore}
 use Rattle.command_rules.specs.declared.place.Place.{Place}

@@ -7,7 +7,7 @@ use Rattle.sector.specs.declared.refusal.Refusal.TheVariants.{Busy, MergeInProgr
 use Rattle.device.specs.Layers.{Layer}
 use Rattle.layers.specs.Windows.{layers_below, bytes_below}
 use Rattle.words.specs.Given.{◌>>=◌}
-use Rattle.settled.specs.Devices.{Device}
+use Rattle.big_steps.specs.Devices.{Device}
 use Rattle.command_rules.specs.declared.place.Role.TheVariants.{Origin, Under, Snapshot, Store, Merging, MergingStore}
 use Rattle.command_rules.specs.declared.place.Place.{Place}
 use Rattle.command_rules.specs.declared.place.Place.TheVariants.{Free, In}

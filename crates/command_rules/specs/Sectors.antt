@@ -8,16 +8,16 @@ use Rattle.sector.specs.declared.refusal.Refusal.TheVariants.{BadTable, TooMany,
 use Rattle.words.specs.Given.{◌>>=◌}
 use Rattle.chunk.specs.Pieces.{Span}
 use Rattle.command.specs.Words.{sectors_of}
-use Rattle.plain.specs.declared.request.Dev.{Dev}
-use Rattle.plain.specs.declared.request.Dev.TheVariants as devs
-use Rattle.plain.specs.declared.request.Reply.{Reply}
-use Rattle.plain.specs.declared.request.Reply.TheVariants.{Data, Written, Flushed, Refused}
-use Rattle.settled.specs.Devices.{sectors_of as size_of}
-use Rattle.settled.specs.Snaps.{Volume as Settled}
-use Rattle.settled.specs.Merges.{Merged}
-use Rattle.settled.specs.Commands.{bytes_in}
-use Rattle.settled.specs.Beside.{written_beside, read_beside, flushed_beside, count_beside, written_first_beside}
-use Rattle.plain.specs.Failures.{refusal_of}
+use Rattle.plain_machine.specs.declared.request.Dev.{Dev}
+use Rattle.plain_machine.specs.declared.request.Dev.TheVariants as devs
+use Rattle.plain_machine.specs.declared.request.Reply.{Reply}
+use Rattle.plain_machine.specs.declared.request.Reply.TheVariants.{Data, Written, Flushed, Refused}
+use Rattle.big_steps.specs.Devices.{sectors_of as size_of}
+use Rattle.big_steps.specs.Snaps.{Volume as Settled}
+use Rattle.big_steps.specs.Merges.{Merged}
+use Rattle.big_steps.specs.Commands.{bytes_in}
+use Rattle.big_steps.specs.Beside.{written_beside, read_beside, flushed_beside, count_beside, written_first_beside}
+use Rattle.plain_machine.specs.Failures.{refusal_of}
 use Rattle.command_rules.specs.declared.place.Role.{Role}
 use Rattle.command_rules.specs.declared.place.Role.TheVariants.{Origin, Under, Snapshot, Store, Merging, MergingStore}
 use Rattle.command_rules.specs.declared.place.Place.{Place}
@@ -27,7 +27,7 @@ use Rattle.command_rules.specs.Places.{place_of, found, volume_at}
 use Rattle.command_rules.specs.Changes.{Did, refused}
 use Rattle.command_rules.specs.Messages.{snap_at, put_volume}
 use Rattle.command_rules.specs.Raw.{fits, whole}
-use Rattle.settled.specs.Pieces.{Answered}
+use Rattle.big_steps.specs.Pieces.{Answered}
 
 -- disks and layers are neither read nor written by these commands
 abbrev pub serves : Role → Result (Unit {0}) Refusal

@@ -7,11 +7,11 @@ use Rattle.std.specs.List.{remove}
 use Rattle.sector.specs.declared.refusal.Refusal.{Refusal}
 use Rattle.sector.specs.declared.refusal.Refusal.TheVariants.{NoSuchDevice, Stale, MergeInProgress}
 use Rattle.device.specs.Layers.{is_loud}
-use Rattle.plain.specs.Plain.{overflow_of}
+use Rattle.plain_machine.specs.Plain.{overflow_of}
 use Rattle.words.specs.Given.{◌>>=◌}
-use Rattle.settled.specs.Devices.{sectors_of}
-use Rattle.settled.specs.Snaps.{Volume as Settled}
-use Rattle.settled.specs.Attaching.{Store, Attached, attached, refused_attach, detached, given_back}
+use Rattle.big_steps.specs.Devices.{sectors_of}
+use Rattle.big_steps.specs.Snaps.{Volume as Settled}
+use Rattle.big_steps.specs.Attaching.{Store, Attached, attached, refused_attach, detached, given_back}
 use Rattle.command_rules.specs.declared.place.Role.TheVariants.{Origin, Under, Snapshot, Store as InStore, Merging, MergingStore}
 use Rattle.command_rules.specs.declared.place.Place.{Place}
 use Rattle.command_rules.specs.declared.place.Place.TheVariants.{Free, In}

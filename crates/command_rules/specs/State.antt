@@ -2,10 +2,10 @@
 -- What the command program holds: stacks of devices that nothing uses, and volumes, each of which owns the stacks that it
 -- stands on. The shape is this project's own.
 use Rattle.std.specs.Prelude.{ℕ, Bool, List, Option, Some, None}
-use Rattle.settled.specs.Devices.{Device}
+use Rattle.big_steps.specs.Devices.{Device}
 use Rattle.event_machine.specs.Held.{Moving}
-use Rattle.settled.specs.Snaps.{Volume as Settled}
-use Rattle.settled.specs.Merges.{Merge, Merged}
+use Rattle.big_steps.specs.Snaps.{Volume as Settled}
+use Rattle.big_steps.specs.Merges.{Merge, Merged}
 
 -- A stack that nothing uses: the names of its layers from the top, and of the disk or the error layer at the bottom; its
 -- bytes and layers; and whether a mark stands with the disk at the bottom that an invalid mark could not be written to it.

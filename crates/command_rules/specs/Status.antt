@@ -6,14 +6,14 @@ use Rattle.sector.specs.declared.refusal.Refusal.{Refusal}
 use Rattle.sector.specs.declared.refusal.Refusal.TheVariants.{BadTable}
 use Rattle.words.specs.Given.{◌>>=◌}
 use Rattle.store_bytes.specs.Pairs.{pairs_of}
-use Rattle.plain.specs.Plain.{did_overflow}
+use Rattle.plain_machine.specs.Plain.{did_overflow}
 use Rattle.table.specs.declared.status.StatusState.{StatusState}
 use Rattle.table.specs.declared.status.StatusState.TheVariants.{Invalid, Failed, Overflow, Used}
 use Rattle.table.specs.Lines.{origin_text, snapshot_text, merge_text}
-use Rattle.settled.specs.Saves.{next_of}
-use Rattle.settled.specs.Devices.{Device, sectors_of}
-use Rattle.settled.specs.Snaps.{Snap}
-use Rattle.settled.specs.Merges.{Merge}
+use Rattle.big_steps.specs.Saves.{next_of}
+use Rattle.big_steps.specs.Devices.{Device, sectors_of}
+use Rattle.big_steps.specs.Snaps.{Snap}
+use Rattle.big_steps.specs.Merges.{Merge}
 use Rattle.command_rules.specs.declared.place.Role.{Role}
 use Rattle.command_rules.specs.declared.place.Role.TheVariants.{Origin, Under, Snapshot, Store, Merging, MergingStore}
 use Rattle.command_rules.specs.declared.place.Place.{Place}

@@ -5,8 +5,8 @@ use Rattle.std.specs.Prelude.{ℕ, nat_lt, List, [], ◌∷◌, ◌++◌, false,
 use Rattle.std.specs.List.{remove}
 use Rattle.sector.specs.declared.refusal.Refusal.{Refusal}
 use Rattle.words.specs.Given.{◌>>=◌}
-use Rattle.settled.specs.Devices.{Device}
-use Rattle.settled.specs.Snaps.{Snap}
+use Rattle.big_steps.specs.Devices.{Device}
+use Rattle.big_steps.specs.Snaps.{Snap}
 use Rattle.command_rules.specs.State.{Stacked, Names, Merging, Volume, Table}
 use Rattle.command_rules.specs.Places.{volume_at}
 use Rattle.command_rules.specs.Events.{origin_by}

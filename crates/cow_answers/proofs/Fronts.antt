@@ -1,7 +1,7 @@
 -- Where the first empty slot stands.
 use Rattle.std.proofs.Common.{◌≡◌, ◌≢◌, ℕ, zero, suc, ◌+◌, ◌<◌, ◌≤◌, List, [], ◌∷◌, length, get_or, arith, ap, ◌∙◌, sym}
 use Rattle.std.proofs.lemmas.Bool.{eq-eqb, ne_eqb, cond-true, cond-false}
-use Rattle.cow_kept.specs.declared.using.Slot.{Slot}
+use Rattle.cow_salvage.specs.declared.using.Slot.{Slot}
 use Rattle.std.specs.Prelude.{Bool, Option}
 use Rattle.cow_answers.specs.declared.notes.Behind.{Behind}
 use Rattle.cow_answers.specs.Noted.{row_from, front_by, lacks_by, behind_by, notes_by}

@@ -3,7 +3,7 @@ use Rattle.std.proofs.Common.{◌≡◌, ℕ, ◌+◌, ◌<◌, ◌≤◌, true,
 use Rattle.std.proofs.lemmas.Bool.{cond-true, cond-false}
 use Rattle.std.proofs.lemmas.List.{take_more, drop_more, drop_all, append-nil, flat_map_more}
 use Rattle.sector.specs.declared.pair.Pair.{Pair}
-use Rattle.cow_kept.specs.declared.span.Span.{Span}
+use Rattle.cow_salvage.specs.declared.span.Span.{Span}
 use Rattle.cow_answers.specs.Items.{run_object, run_objects_from, run_objects, slot_object, slot_objects, unread_object, unread_objects}
 use Rattle.cow_answers.specs.Lines.{follows}
 

@@ -5,7 +5,7 @@ use Rattle.cow_image.specs.declared.map.CowMap.{CowMap}
 use Rattle.cow_image.specs.declared.found.Reason.{Reason}
 use Rattle.cow_image.specs.declared.found.Told.{Told}
 use Rattle.cow_image.specs.declared.found.Told.TheVariants.{Fresh, Refused, Written}
-use Rattle.cow_kept.specs.declared.span.Span.{Span}
+use Rattle.cow_salvage.specs.declared.span.Span.{Span}
 use Rattle.cow_answers.specs.declared.showing.Numbers.{Numbers}
 use Rattle.cow_answers.specs.Reasons.{reason_text, refused_name}
 use Rattle.cow_answers.specs.Shows.{slots_by}

@@ -1,6 +1,6 @@
 -- What is noted of a store's slots: of those that are not empty, in their order, in areas of so many slots.
 use Rattle.std.specs.Prelude.{ℕ, ◌+◌, ◌*◌, ◌==◌, Bool, List, [], ◌∷◌, length, drop, Option, Some, None, if◌then◌else◌}
-use Rattle.cow_kept.specs.declared.using.Slot.{Slot}
+use Rattle.cow_salvage.specs.declared.using.Slot.{Slot}
 use Rattle.cow_answers.specs.declared.notes.Notes.{Notes}
 use Rattle.cow_answers.specs.declared.notes.Behind.{Behind}
 

@@ -3,7 +3,7 @@ use Rattle.std.specs.Prelude.{◌≡◌, ℕ, List, [], ◌++◌, length, codes,
 use Rattle.sector.specs.declared.pair.Pair.{Pair}
 use Rattle.cow_image.specs.declared.fault.Fault.{Fault}
 use Rattle.cow_image.specs.declared.reading.Listed.TheVariants.{Lacks}
-use Rattle.cow_kept.specs.declared.span.Span.{Span}
+use Rattle.cow_salvage.specs.declared.span.Span.{Span}
 use Rattle.cow_answers.specs.Lines.{runs_text, listed_text}
 use Rattle.cow_answers.specs.Salvage.{skipped_text, spans_text, behind_text}
 use Rattle.cow_answers.specs.declared.notes.Notes.{Notes}

@@ -6,7 +6,7 @@ use Rattle.cow_image.specs.declared.found.Told.{Told}
 use Rattle.cow_image.specs.declared.found.Told.TheVariants.{Fresh, Refused, Written}
 use Rattle.cow_image.specs.declared.reading.Listed.{Listed}
 use Rattle.cow_image.specs.declared.reading.Listed.TheVariants.{Ends, Lacks}
-use Rattle.cow_kept.specs.declared.span.Span.{Span}
+use Rattle.cow_salvage.specs.declared.span.Span.{Span}
 use Rattle.cow_answers.specs.Items.{number_object, run_objects, slot_objects, listed_object, fault_objects, behind_object, unread_objects}
 use Rattle.cow_answers.specs.Json.{json_text}
 use Rattle.cow_answers.specs.Shows.{slots_by}

@@ -1,7 +1,7 @@
 -- What is listed of a salvage, in lines.
 use Rattle.std.specs.Prelude.{ℕ, ◌*◌, List, ◌++◌, codes, decimal, flat_map}
 use Rattle.cow_image.specs.declared.fault.Fault.{Fault}
-use Rattle.cow_kept.specs.declared.span.Span.{Span}
+use Rattle.cow_salvage.specs.declared.span.Span.{Span}
 use Rattle.cow_answers.specs.Reasons.{fault_text, slot_text}
 
 -- a line for each pair that is skipped, in a store whose areas have so many slots

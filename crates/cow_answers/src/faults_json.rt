@@ -5,7 +5,7 @@ ghost use Rattle.cow_answers.specs.Items.{faulty_object, fault_object, fault_obj
 use crate::json::push_member;
 use crate::members::{push_first, push_first_quoted, push_pair_end, push_slot_members};
 use cow_image::Fault;
-use cow_kept::Span;
+use cow_salvage::Span;
 use sector::Pair;
 use std::alloc::AllocError;
 

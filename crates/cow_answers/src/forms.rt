@@ -10,7 +10,7 @@ use crate::notes::{Behind, Notes, push_behind_of, salvaged_lines};
 use crate::objects::{check_json, map_json, raw_json};
 use crate::showing::Numbers;
 use cow_image::{Fault, Listed};
-use cow_kept::{Saved, Span};
+use cow_salvage::{Saved, Span};
 use sector::Pair;
 use std::alloc::{AllocError, Global};
 

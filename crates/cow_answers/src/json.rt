@@ -6,7 +6,7 @@ use crate::reasons::{push_reason, refused_as};
 use crate::showing::{Numbers, slots_of};
 use crate::text::push_number;
 use cow_image::{CowMap, Reason, Told};
-use cow_kept::Span;
+use cow_salvage::Span;
 use std::alloc::AllocError;
 
 /// Adds one member more: a key and a number.

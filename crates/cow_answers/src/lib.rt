@@ -1,6 +1,6 @@
 //! What `lochknife` is asked and answers of a store: what the words of its command line ask for; what is seen of a store's image,
 //! and what is printed of that, in lines of a key and a value or as JSON, an object for each item on a line of its own. It stands on
-//! `cow_image` and `cow_kept`, which read, and on `words` for the names of disks.
+//! `cow_image` and `cow_salvage`, which read, and on `words` for the names of disks.
 //!
 //! It promises that each text and each answer is the one of its definition in `specs/`; what words ask for is tested.
 #![tactic(auto)]

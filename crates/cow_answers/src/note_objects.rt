@@ -7,7 +7,7 @@ use crate::listing_json::{push_listed_json, push_runs_json};
 use crate::members::push_number_json;
 use crate::notes::{Behind, Notes};
 use cow_image::Listed;
-use cow_kept::{Saved, Span};
+use cow_salvage::{Saved, Span};
 use std::alloc::{AllocError, Global};
 
 /// What is printed of a salvage of a store whose areas have so many slots: how many pairs are kept, their runs, the others and

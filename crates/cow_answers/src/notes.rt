@@ -6,7 +6,7 @@ ghost use Rattle.cow_answers.specs.Notes.{salvaged_words, kept_text, unknown_tex
 use crate::listing::{push_listed, push_runs_lines};
 use crate::salvage::{push_behind_lines, push_skipped, push_spans};
 use cow_image::Listed;
-use cow_kept::{Saved, Slot, Span, Used, front_of};
+use cow_salvage::{Saved, Slot, Span, Used, front_of};
 use std::alloc::{AllocError, Global};
 
 /// What is noted of a store's slots.

@@ -5,7 +5,7 @@ ghost use Rattle.cow_answers.specs.Salvage.{skipped_line, skipped_text, span_lin
 use crate::reasons::{push_fault, push_slot};
 use crate::text::push_number;
 use cow_image::Fault;
-use cow_kept::Span;
+use cow_salvage::Span;
 use std::alloc::AllocError;
 
 /// Adds a line for each pair that is skipped, in a store whose areas have so many slots.

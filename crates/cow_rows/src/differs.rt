@@ -2,7 +2,7 @@
 
 use crate::images::{WRITTEN_ORIGIN, WRITTEN_STORE, image_of};
 use cow_image::{Told, read_store};
-use cow_kept::differences;
+use cow_salvage::differences;
 use std::process::Abort;
 use std::test::Fail;
 

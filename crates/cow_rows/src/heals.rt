@@ -3,7 +3,7 @@ ghost use Rattle.std.specs.Prelude.{None};
 
 use crate::images::{WRITTEN_ORIGIN, WRITTEN_SHOWN, WRITTEN_STORE, bytes_of, image_of};
 use cow_image::Fault;
-use cow_kept::{Blanked, Span, export_kept, front_of, read_used, sift, unreadable};
+use cow_salvage::{Blanked, Span, export_kept, front_of, read_used, sift, unreadable};
 use image::{Image, MemImage, MemSink};
 use sector::Pair;
 use std::alloc::Global;

@@ -32,7 +32,7 @@ pub data Layer : Type 0 where
   -- the operations that pass before one fails; none fails where there is no number
   Counted : Option ℕ → Layer
   -- a fuse: the writes and flushes that pass before it is blown; None: it is blown, and every operation fails, counted
-  Fused : Option ℕ → Layer
+  TornDiskShape : Option ℕ → Layer
   -- no layer of its own: what lies beside the bytes that the layer above shows of the device below. It passes everything
   Window : Beside → Layer
 
@@ -63,10 +63,10 @@ counted_after (Some (suc k)) = Some k
 counted_after None = None
 
 -- whether a fuse that so many writes and flushes pass lets one pass
-abbrev pub fuse_passes : Option ℕ → Bool
-fuse_passes (Some zero) = false
-fuse_passes (Some (suc k)) = true
-fuse_passes None = false
+abbrev pub torn_disk_passes : Option ℕ → Bool
+torn_disk_passes (Some zero) = false
+torn_disk_passes (Some (suc k)) = true
+torn_disk_passes None = false
 
 -- what one layer does
 abbrev pub layer_fate : Layer → Operation → Fate
@@ -76,9 +76,9 @@ layer_fate (Dusty sectors size enabled bad) (Writes first count) = Pass
 layer_fate (Dusty sectors size enabled bad) Flushes = Pass
 layer_fate Broken op = Fail
 layer_fate (Counted left) op = if counted_passes left then Pass else Fail
-layer_fate (Fused left) (Reads first count) = if is_some left then Pass else Fail
-layer_fate (Fused left) (Writes first count) = if fuse_passes left then Pass else Fail
-layer_fate (Fused left) Flushes = if fuse_passes left then Pass else Fail
+layer_fate (TornDiskShape left) (Reads first count) = if is_some left then Pass else Fail
+layer_fate (TornDiskShape left) (Writes first count) = if torn_disk_passes left then Pass else Fail
+layer_fate (TornDiskShape left) Flushes = if torn_disk_passes left then Pass else Fail
 layer_fate (Window aside) op = Pass
 
 -- the operation as it is passed on
@@ -114,8 +114,8 @@ is_passed Drop = false
 abbrev pub layer_after : Layer → Operation → Bool → Layer
 layer_after (Dusty sectors size enabled bad) (Writes first count) done = Dusty sectors size enabled (if enabled && done then filter (λ block. not (touches size first count block)) bad else bad)
 layer_after (Counted left) op done = Counted (counted_after left)
-layer_after (Fused left) (Writes first count) done = Fused (counted_after left)
-layer_after (Fused left) Flushes done = Fused (counted_after left)
+layer_after (TornDiskShape left) (Writes first count) done = TornDiskShape (counted_after left)
+layer_after (TornDiskShape left) Flushes done = TornDiskShape (counted_after left)
 layer_after l op done = l
 
 -- the layers after an operation

@@ -12,8 +12,8 @@ use Rattle.in_flight.specs.Copies.{count_of}
 use Rattle.volume_laws.specs.Books.{MergeBooks}
 use Rattle.volume_laws.specs.MergeDue.{last_of}
 use Rattle.volume_laws.specs.MergeSteps.{without_group, FormsGroup, ReadsBack, WritesBack, FlushesBack, CommitsGroup, ReleasesGroup, ReadsArea, FailsMerge, Resumes, WritesStore}
-use Rattle.settled.specs.Devices.{Device, sectors_of, answers, met, written_by}
-use Rattle.settled.specs.Merges.{last_run, without_slots}
+use Rattle.big_steps.specs.Devices.{Device, sectors_of, answers, met, written_by}
+use Rattle.big_steps.specs.Merges.{last_run, without_slots}
 use Rattle.event_machine.specs.Held.{MergeHeld, Moving, on_device, with_merge}
 use Rattle.event_machine.specs.Again.{rerouted}
 use Rattle.event_machine.specs.MergeDue.{in_area}

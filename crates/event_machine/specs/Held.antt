@@ -2,15 +2,15 @@
 -- A volume with events: what it keeps of its snapshots, its copies, its merge and its requests beside its devices.
 use Rattle.std.specs.Prelude.{ℕ, Bool, false, true, List, [], ◌++◌, Option, Some, map}
 use Rattle.sector.specs.declared.pair.Pair.{Pair}
-use Rattle.plain.specs.declared.request.Request.{Request}
-use Rattle.plain.specs.declared.request.Reply.{Reply}
+use Rattle.plain_machine.specs.declared.request.Request.{Request}
+use Rattle.plain_machine.specs.declared.request.Reply.{Reply}
 use Rattle.in_flight.specs.declared.copies.Stage.{Stage}
 use Rattle.in_flight.specs.declared.copies.Mark.{Mark}
 use Rattle.in_flight.specs.Flushed.{flushed_stage, safe_mark}
 use Rattle.in_flight.specs.declared.flights.Route.{Route}
-use Rattle.settled.specs.Devices.{Device}
-use Rattle.settled.specs.Snaps.{Snap}
-use Rattle.settled.specs.Merges.{Merge}
+use Rattle.big_steps.specs.Devices.{Device}
+use Rattle.big_steps.specs.Snaps.{Snap}
+use Rattle.big_steps.specs.Merges.{Merge}
 
 -- a copy that is not committed: its number, its pair, how far it is, and the bytes that were read, none while it waits
 pub record Copying : Type 0 where

@@ -3,12 +3,12 @@
 use Rattle.std.specs.Prelude.{◌==◌, ◌&&◌, not, ℕ, ◌*◌, nat_lt, Bool, false, List, [], ◌∷◌, length, drop, Option, Some, None}
 use Rattle.std.specs.List.{list_any}
 use Rattle.sector.specs.declared.pair.Pair.{Pair}
-use Rattle.plain.specs.declared.event.Event.{Event}
-use Rattle.plain.specs.declared.event.Event.TheVariants.{MergeGroup, MergeAreaRead, MergeRead, MergeWrite, MergeFlush, MergeCommit, MergeRelease}
+use Rattle.plain_machine.specs.declared.event.Event.{Event}
+use Rattle.plain_machine.specs.declared.event.Event.TheVariants.{MergeGroup, MergeAreaRead, MergeRead, MergeWrite, MergeFlush, MergeCommit, MergeRelease}
 use Rattle.in_flight.specs.Copies.{count_of}
 use Rattle.in_flight.specs.Kinds.{kind_of}
 use Rattle.volume_laws.specs.MergeDue.{is_none, last_of, next_pair, goes_to, writes_to, one_of, due_or}
-use Rattle.settled.specs.Devices.{sectors_of}
+use Rattle.big_steps.specs.Devices.{sectors_of}
 use Rattle.event_machine.specs.Held.{SnapHeld, Going, MergeHeld, Moving, group_in}
 use Rattle.event_machine.specs.Again.{is_clear_over}
 use Rattle.event_machine.specs.Due.{due}

@@ -2,7 +2,7 @@
 use Rattle.std.specs.Prelude.{◌≡◌, ℕ, ◌*◌, [], length, map, Option, Some, None}
 use Rattle.std.specs.List.{All}
 use Rattle.store_bytes.specs.Pairs.{pairs_of}
-use Rattle.settled.specs.Merges.{Merge, Merged, Merging}
+use Rattle.big_steps.specs.Merges.{Merge, Merged, Merging}
 use Rattle.event_machine.specs.Held.{SnapHeld, MergeHeld, Moving}
 use Rattle.event_machine.specs.MergeStepping.{without_group}
 use Rattle.event_machine.specs.Requests.{volume_of}

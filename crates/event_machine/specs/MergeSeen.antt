@@ -2,12 +2,12 @@
 use Rattle.std.specs.Prelude.{◌≡◌, ℕ, ◌+◌, ◌*◌, List, [], ◌∷◌, length, take, Option, Some, None}
 use Rattle.sector.specs.declared.pair.Pair.{Pair}
 use Rattle.device.specs.Layers.{Layer}
-use Rattle.plain.specs.declared.request.Reply.{Reply}
+use Rattle.plain_machine.specs.declared.request.Reply.{Reply}
 use Rattle.in_flight.specs.Copies.{count_of}
 use Rattle.in_flight.specs.declared.flights.Flight.{Flight}
 use Rattle.volume_laws.specs.Books.{MergeBooks}
 use Rattle.volume_laws.specs.MergeDue.{DueMerge}
-use Rattle.settled.specs.Devices.{Device}
+use Rattle.big_steps.specs.Devices.{Device}
 use Rattle.event_machine.specs.Held.{MergeHeld, Moving, with_merge}
 use Rattle.event_machine.specs.Seen.{Seen, moving_of}
 

@@ -2,10 +2,10 @@
 use Rattle.std.specs.Prelude.{ℕ, ◌+◌, ◌*◌, ◌/◌, ◌<◌, ◌≤◌, List, map}
 use Rattle.std.specs.List.{All}
 use Rattle.sector.specs.declared.range.Range.{Range}
-use Rattle.plain.specs.declared.request.Request.{Request}
-use Rattle.settled.specs.Snaps.{Volume}
+use Rattle.plain_machine.specs.declared.request.Request.{Request}
+use Rattle.big_steps.specs.Snaps.{Volume}
 use Rattle.event_machine.specs.Held.{SnapHeld, Moving}
-use Rattle.settled.specs.Requests.{FitsRange}
+use Rattle.big_steps.specs.Requests.{FitsRange}
 
 -- the volume's devices and snapshots
 abbrev pub volume_of : Moving → Volume

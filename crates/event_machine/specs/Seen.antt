@@ -2,15 +2,15 @@
 -- and of reads in flight.
 use Rattle.std.specs.Prelude.{◌≡◌, ℕ, Bool, true, List, [], Option, Some, None, map, if◌then◌else◌}
 use Rattle.device.specs.Layers.{Layer}
-use Rattle.plain.specs.declared.event.Outcome.{Outcome}
-use Rattle.plain.specs.declared.event.Outcome.TheVariants.{Done, Fault, Reply as Replied}
-use Rattle.plain.specs.declared.request.Reply.{Reply}
+use Rattle.plain_machine.specs.declared.event.Outcome.{Outcome}
+use Rattle.plain_machine.specs.declared.event.Outcome.TheVariants.{Done, Fault, Reply as Replied}
+use Rattle.plain_machine.specs.declared.request.Reply.{Reply}
 use Rattle.in_flight.specs.declared.copies.ChunkCopy.{ChunkCopy}
 use Rattle.in_flight.specs.declared.copies.Stage.TheVariants.{Waiting}
 use Rattle.in_flight.specs.declared.flights.Flight.{Flight}
 use Rattle.in_flight.specs.Due.{is_stage, front_ready}
 use Rattle.volume_laws.specs.Due.{DueSnap}
-use Rattle.settled.specs.Devices.{Device}
+use Rattle.big_steps.specs.Devices.{Device}
 use Rattle.event_machine.specs.Held.{Copying, SnapHeld, Going, Moving}
 use Rattle.event_machine.specs.Due.{needs_area, waits_for_area}
 

@@ -1,13 +1,13 @@
 -- A request is submitted: it is routed, and the copies that it waits for are started. This project's own.
 use Rattle.std.specs.Prelude.{◌==◌, ◌&&◌, ◌||◌, not, ℕ, ◌+◌, ◌*◌, ◌/◌, nat_lt, is_some, Bool, List, [], ◌∷◌, ◌++◌, length, map, Option, Some, None, if◌then◌else◌}
 use Rattle.std.specs.List.{list_any}
-use Rattle.plain.specs.Plain.{did_overflow, may_overflow}
-use Rattle.plain.specs.Kept.{kept}
-use Rattle.plain.specs.declared.request.Overflowing.TheVariants.{Did}
-use Rattle.plain.specs.declared.request.Request.{Request}
-use Rattle.plain.specs.declared.request.Reply.TheVariants.{Refused as Declined}
-use Rattle.plain.specs.declared.request.Failure.{Failure}
-use Rattle.plain.specs.declared.request.Failure.TheVariants.{Invalid, Overflow}
+use Rattle.plain_machine.specs.Plain.{did_overflow, may_overflow}
+use Rattle.plain_machine.specs.Kept.{kept}
+use Rattle.plain_machine.specs.declared.request.Overflowing.TheVariants.{Did}
+use Rattle.plain_machine.specs.declared.request.Request.{Request}
+use Rattle.plain_machine.specs.declared.request.Reply.TheVariants.{Refused as Declined}
+use Rattle.plain_machine.specs.declared.request.Failure.{Failure}
+use Rattle.plain_machine.specs.declared.request.Failure.TheVariants.{Invalid, Overflow}
 use Rattle.store_bytes.specs.NextPlace.{stepped as stepped_place}
 use Rattle.store_bytes.specs.Picture.{place_of}
 use Rattle.in_flight.specs.Kinds.{kind_of}

@@ -7,11 +7,11 @@
 //! worked out by the protocol's public specification. A read that fails between two that do not is tried too.
 //!
 //! **Texts.** NAME.img is an image, NAME.cmd a text that begins with the lines which give a disk its bytes, and then saves all of
-//! that, and NAME.out what `dmrig` answers to it: the program `rows` runs the same two texts. `NAME ok` is printed where the
+//! that, and NAME.out what `dmrig` answers to it: the program `stored_rows` runs the same two texts. `NAME ok` is printed where the
 //! lines are those of the text, byte for byte, the answers tell the image, byte for byte, and answers that are cut, or have a
 //! line more that is none, tell nothing but where; else what differs.
 //!
-//! It stands on `cow_nbd` and `command_images`. It promises that a name is told as well only where all of that is so.
+//! It stands on `cow_nbd` and `image_script`. It promises that a name is told as well only where all of that is so.
 #![tactic(auto)]
 
 mod clients;

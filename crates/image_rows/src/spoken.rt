@@ -1,7 +1,7 @@
 // An image's words, and what answers tell of it.
 
-use command_images::{put_words, read_told};
 use image::{MemImage, MemSink};
+use image_script::{put_words, read_told};
 use std::alloc::Global;
 use std::io;
 use words::Name;
@@ -47,7 +47,7 @@ pub fn spoken(alloc: Global, image: &[u8], commands: &[u8]) -> io::Result<Verdic
         bytes: Vec::new(alloc),
         room: usize::MAX,
     };
-    if sectors > command_images::MOST_SECTORS {
+    if sectors > image_script::MOST_SECTORS {
         return Ok(Verdict::Spoken);
     }
     match put_words(alloc, &name, &mut image, sectors, &mut sink) {

@@ -1,8 +1,8 @@
 // Answers that are wrong, reads that fail, and room that ends.
 
 use crate::spoken::image_of;
-use command_images::{MOST_SECTORS, Stopped, Untold, put_words, read_told};
 use image::{FailingImage, MemSink};
+use image_script::{MOST_SECTORS, Stopped, Untold, put_words, read_told};
 use std::alloc::Global;
 use std::io;
 use words::Name;

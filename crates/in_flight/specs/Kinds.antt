@@ -1,12 +1,12 @@
 -- To be believed: `run`'s output, a volume's steps or its attach are said in these words.
 -- What a request is, and how callers see a request in flight: its number and what was asked, no route and no buffer.
 use Rattle.std.specs.Prelude.{ℕ, ◌*◌, List, []}
-use Rattle.plain.specs.declared.request.Request.{Request}
-use Rattle.plain.specs.declared.request.Dev.{Dev}
-use Rattle.plain.specs.declared.request.Dev.TheVariants.{Origin, Snap}
-use Rattle.plain.specs.declared.request.Op.{Op}
-use Rattle.plain.specs.declared.request.Op.TheVariants.{Read, Write, Flush}
-use Rattle.plain.specs.Plain.{InFlight}
+use Rattle.plain_machine.specs.declared.request.Request.{Request}
+use Rattle.plain_machine.specs.declared.request.Dev.{Dev}
+use Rattle.plain_machine.specs.declared.request.Dev.TheVariants.{Origin, Snap}
+use Rattle.plain_machine.specs.declared.request.Op.{Op}
+use Rattle.plain_machine.specs.declared.request.Op.TheVariants.{Read, Write, Flush}
+use Rattle.plain_machine.specs.Plain.{InFlight}
 use Rattle.in_flight.specs.declared.flights.Kind.{Kind}
 use Rattle.in_flight.specs.declared.flights.Kind.TheVariants.{OriginRead, OriginWrite, OriginFlush, SnapRead, SnapWrite, SnapFlush}
 use Rattle.in_flight.specs.declared.flights.Flight.{Flight}

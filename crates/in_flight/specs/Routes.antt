@@ -2,7 +2,7 @@
 -- How requests are routed, at submit and again: this project's own table of the waits that the kernel's admin-guide page
 -- on snapshots describes in words.
 use Rattle.std.specs.Prelude.{◌==◌, ◌&&◌, ℕ, ◌/◌, List, Bool, true, false, Option, Some, None, if◌then◌else◌}
-use Rattle.plain.specs.Plain.{is_in}
+use Rattle.plain_machine.specs.Plain.{is_in}
 use Rattle.in_flight.specs.declared.flights.Kind.{Kind}
 use Rattle.in_flight.specs.declared.flights.Kind.TheVariants.{OriginRead, OriginWrite, OriginFlush, SnapRead, SnapWrite, SnapFlush}
 use Rattle.in_flight.specs.declared.flights.Route.{Route}

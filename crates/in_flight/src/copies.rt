@@ -5,7 +5,7 @@ ghost use Rattle.in_flight.specs.Copies.{count_of};
 ghost use Rattle.in_flight.specs.Flushed.{flushed_copy, flushed_stage as stage_after, safe_mark};
 ghost use Rattle.in_flight.specs.declared.copies.Stage.TheVariants.{Waiting};
 
-use plain::CopyId;
+use plain_machine::CopyId;
 use sector::{Chunk, Pair};
 use std::alloc::{AllocError, Global};
 

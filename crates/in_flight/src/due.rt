@@ -6,7 +6,7 @@ ghost use Rattle.in_flight.specs.Due.{batch as batch_of, first_by, front_ready a
 use crate::copies::{ChunkCopy, Mark, Stage};
 use crate::flights::{Flight, Route};
 use crate::routes::is_being_read;
-use plain::{CopyId, ReqId, SnapId};
+use plain_machine::{CopyId, ReqId, SnapId};
 
 /// The lesser of two numbers, if there are any.
 pub fn least(one: Option<u64>, other: Option<u64>) -> Option<u64>

@@ -3,7 +3,7 @@ ghost use Rattle.std.specs.Prelude.{◌≡◌, ◌==◌, ◌*◌, IfOk, length};
 ghost use Rattle.std.specs.List.{position};
 ghost use Rattle.in_flight.specs.Kinds.{kind_of, room_of};
 
-use plain::{Dev, Op, ReqId, Request, SnapId};
+use plain_machine::{Dev, Op, ReqId, Request, SnapId};
 use sector::Chunk;
 use std::alloc::{AllocError, Global};
 

@@ -1,5 +1,5 @@
 //! The bookkeeping of a volume: the copies that its snapshots still need, the requests in flight with their routes,
-//! and the look-ups, tests and changes of these lists. It stands on `sector` and `plain`, and touches no device. Each
+//! and the look-ups, tests and changes of these lists. It stands on `sector` and `plain_machine`, and touches no device. Each
 //! function promises a list function or a table of cases: which place a look-up finds, and what every element becomes.
 #![tactic(auto)]
 

@@ -4,7 +4,7 @@ ghost use Rattle.std.specs.List.{list_any};
 ghost use Rattle.in_flight.specs.Routes.{again_route_of, flush_route_of, is_reading, placed_route_of, read_route_of, reads_origin_of, refused_of, refused_route_of, write_route_of};
 
 use crate::flights::{Flight, Kind, Route, request_kind};
-use plain::SnapId;
+use plain_machine::SnapId;
 use sector::Chunk;
 
 /// The route of a read, of the origin or of a snapshot, by the place of its chunk's copy.

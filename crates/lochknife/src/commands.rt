@@ -9,7 +9,7 @@ use cow_answers::{
     notes_of, push_behind, raw, shown,
 };
 use cow_image::{Reason, Told, read_slots, sectors_of};
-use cow_kept::read_used;
+use cow_salvage::read_used;
 
 /// Reads a store, for an origin of so many sectors, and sees that it was not written meanwhile.
 pub fn seen_in<'a>(

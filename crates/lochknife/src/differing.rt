@@ -1,7 +1,7 @@
 // In which bytes a snapshot and its origin differ.
 ghost use Rattle.std.specs.Prelude.{◌≡◌, ℕ, ◌*◌, ◌≤◌, List, length, true, IfOk, Some};
 ghost use Rattle.cow_image.specs.Maps.{IsToldOf};
-ghost use Rattle.cow_kept.specs.Differences.{AreDifferences};
+ghost use Rattle.cow_salvage.specs.Differences.{AreDifferences};
 ghost use Rattle.cow_answers.specs.Answers.{is_good as is_good_by};
 ghost use Rattle.lochknife.specs.Differing.{differing_by};
 ghost use Rattle.lochknife.specs.Arrays.{array_of};
@@ -13,7 +13,7 @@ use crate::rolling::why_stopped;
 use crate::trouble::{Trouble, held};
 use cow_answers::{Form, Seen, is_good, push_spans, push_spans_json, shown};
 use cow_image::{Stopped, Told};
-use cow_kept::{Span, Undone, differences};
+use cow_salvage::{Span, Undone, differences};
 use image::Image;
 use std::alloc::{AllocError, Global};
 

@@ -1,7 +1,7 @@
 //! The program `lochknife`: what the image of a snapshot's store holds, and the array that it shows with the image of its
 //! origin.
 //!
-//! It stands on `cow_answers`, `cow_image`, `cow_kept`, `cow_merge`, `cow_nbd` and `command_images`, which say what is asked for, read,
+//! It stands on `cow_answers`, `cow_image`, `cow_salvage`, `cow_merge`, `cow_nbd` and `image_script`, which say what is asked for, read,
 //! written and printed, and has the commands' order, the exit status (0 for a store that is good, 1 for one that is refused, 2 where
 //! something could not be read or written), and the files: inputs, which are only read and locked for that, a new file that is
 //! written whole or not at all, what went wrong with which, and how far a command is. No contract says what a file holds.

@@ -10,7 +10,7 @@ use crate::watched::Watched;
 use crate::writing::{begun, ended};
 use cow_answers::{Form, Seen, chunk_listed, is_good, is_whole, look, notes_of, salvaged};
 use cow_image::{MAX_IMAGE, Told};
-use cow_kept::{Blanked, Saved, Slot, Span, Used, export_kept, front_of, read_used, unreadable};
+use cow_salvage::{Blanked, Saved, Slot, Span, Used, export_kept, front_of, read_used, unreadable};
 
 /// What is asked of a salvage.
 #[derive(Clone, Copy)]

@@ -6,8 +6,8 @@ use crate::target::OUTPUT;
 use crate::trouble::{Trouble, Why, about};
 use crate::watched::Watched;
 use crate::writing::{begun, ended};
-use command_images::{MOST_SECTORS, Stopped, Untold, put_words, read_told};
 use image::Sink;
+use image_script::{MOST_SECTORS, Stopped, Untold, put_words, read_told};
 use words::Name;
 
 /// Prints the lines of commands that make a disk of `dmrig` with the bytes of an image.

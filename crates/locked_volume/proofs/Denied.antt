@@ -9,35 +9,35 @@ use Rattle.store_bytes.specs.Picture.{picture}
 use Rattle.sector.specs.declared.range.Range.{Range}
 use Rattle.sector.specs.declared.refusal.Refusal.{Refusal}
 use Rattle.sector.specs.declared.refusal.Refusal.TheVariants.{Invalid as IsInvalid, JournalFull, MergingSnapshot, NoMemory, NoSuchDevice, NotQuiet, OutOfRange, Overflow as OverflowRefusal, TooMany, MergeInProgress}
-use Rattle.plain.specs.Kept.{kept_range}
-use Rattle.plain.specs.Plain.{Live, Invalid, did_overflow, is_in, overflow_under, saved_under, Shown, shown_of}
-use Rattle.plain.specs.declared.request.Dev.{Dev}
-use Rattle.plain.specs.declared.request.Dev.TheVariants.{Origin, Snap}
-use Rattle.plain.specs.declared.request.Op.{Op}
-use Rattle.plain.specs.declared.request.Op.TheVariants.{Read, Write, Flush}
-use Rattle.plain.specs.declared.request.Overflowing.{Overflowing}
-use Rattle.plain.specs.declared.request.Overflowing.TheVariants.{Never, May, Did}
-use Rattle.plain.specs.declared.request.Request.{Request}
+use Rattle.plain_machine.specs.Kept.{kept_range}
+use Rattle.plain_machine.specs.Plain.{Live, Invalid, did_overflow, is_in, overflow_under, saved_under, Shown, shown_of}
+use Rattle.plain_machine.specs.declared.request.Dev.{Dev}
+use Rattle.plain_machine.specs.declared.request.Dev.TheVariants.{Origin, Snap}
+use Rattle.plain_machine.specs.declared.request.Op.{Op}
+use Rattle.plain_machine.specs.declared.request.Op.TheVariants.{Read, Write, Flush}
+use Rattle.plain_machine.specs.declared.request.Overflowing.{Overflowing}
+use Rattle.plain_machine.specs.declared.request.Overflowing.TheVariants.{Never, May, Did}
+use Rattle.plain_machine.specs.declared.request.Request.{Request}
 use Rattle.in_flight.specs.Kinds.{kind_at, kind_of}
 use Rattle.in_flight.specs.declared.flights.Kind.{Kind}
 use Rattle.in_flight.specs.declared.flights.Kind.TheVariants.{OriginRead, OriginWrite, OriginFlush, SnapRead, SnapWrite, SnapFlush}
 use Rattle.merge.specs.Merging.{Merging}
 use Rattle.snapshot.specs.Kept.{Kept}
-use Rattle.snapshots.specs.Finding.{place_of_snap}
-use Rattle.snapshots.specs.Numbers.{number_of_snap}
-use Rattle.snapshots.specs.Starting.{spoilt_of, unroomed}
-use Rattle.snapshots.proofs.Finds.{any_of, position_any, position_none, position_within}
+use Rattle.snapshot_list.specs.Finding.{place_of_snap}
+use Rattle.snapshot_list.specs.Numbers.{number_of_snap}
+use Rattle.snapshot_list.specs.Starting.{spoilt_of, unroomed}
+use Rattle.snapshot_list.proofs.Finds.{any_of, position_any, position_none, position_within}
 use Rattle.volume.specs.Shown.{shown_begun, shown_entry}
 use Rattle.volume.specs.Beginning.{begin_refusal, begin_with, beside_refusal, place_refusal}
 use Rattle.volume.specs.Leaving.{is_quiet_of}
 use Rattle.volume.specs.Stepping.{KeepsAll, merged_of}
 use Rattle.volume.specs.Submitting.{IsFoundFull, IsOverflown, are_too_many, dev_refusal, first_of_two, is_merging, is_piece_of, limit_refusal, range_refusal, refusal_at, shut_at, shut_refusal, starting, submit_refusal}
 use Rattle.volume.specs.Volumed.{Volumed, piece_of, piece_with, plain_of}
-use Rattle.journal.specs.declared.entry.Entry.{Entry}
-use Rattle.journal.specs.Books.{AuditShape}
-use Rattle.journal.specs.Journaled.{IsNotMerged, IsNotSubmitted, is_full_by, places_of}
-use Rattle.journal.specs.Noted.{kept_count, live_count, may_count}
-use Rattle.journal.specs.Replay.{replay}
+use Rattle.audit.specs.declared.entry.Entry.{Entry}
+use Rattle.audit.specs.Books.{AuditShape}
+use Rattle.audit.specs.PlacesTaken.{IsNotMerged, IsNotSubmitted, is_full_by, places_of}
+use Rattle.audit.specs.Noted.{kept_count, live_count, may_count}
+use Rattle.audit.specs.Replay.{replay}
 use Rattle.locked_volume.specs.Denying.{Agrees, merged_number, IsClosed, IsCrowded, IsDenied, IsLost, IsMissing, IsOpen, IsShut, Begin, Serve, WasDenied, is_merged}
 use Rattle.locked_volume.specs.Fixed.{Fixed, StaysFrom, fixed_of, least_of, piece_at, piece_in}
 

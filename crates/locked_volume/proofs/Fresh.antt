@@ -1,11 +1,11 @@
 -- What is new in a journal after a call, and what the keeper then knows.
 use Rattle.std.proofs.Common.{◌≡◌, ◌⊎◌, inl, inr, ℕ, zero, suc, ◌-◌, ◌<◌, true, List, [], ◌∷◌, ◌++◌, length, map, take, drop, get_or, refl, sym, ap, ◌∙◌, subst, arith, append_assoc}
-use Rattle.journal.specs.declared.entry.Entry.{Entry}
-use Rattle.journal.specs.declared.entry.Entry.TheVariants.{Overflowed, Spoiled}
-use Rattle.journal.specs.Books.{AuditShape}
-use Rattle.journal.specs.Journaled.{HasOverflowed, OnlySpoils}
+use Rattle.audit.specs.declared.entry.Entry.{Entry}
+use Rattle.audit.specs.declared.entry.Entry.TheVariants.{Overflowed, Spoiled}
+use Rattle.audit.specs.Books.{AuditShape}
+use Rattle.audit.specs.PlacesTaken.{HasOverflowed, OnlySpoils}
 use Rattle.locked_volume.specs.Keeping.{is_silent}
-use Rattle.plain.specs.declared.request.Request.{Request}
+use Rattle.plain_machine.specs.declared.request.Request.{Request}
 
 -- what stands after the front, as a slice of all
 abbrev pub fresh_in : List Entry → List Entry → List Entry

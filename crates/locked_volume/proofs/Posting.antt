@@ -3,28 +3,28 @@ use Rattle.std.proofs.Common.{◌≡◌, inl, inr, ℕ, ◌+◌, Bool, List, [],
 use Rattle.std.specs.Prelude.{◌≢◌, ◌&&◌, slice_index_or}
 use Rattle.std.proofs.lemmas.Bool.{eq-eqb}
 use Rattle.sector.specs.declared.range.Range.{Range}
-use Rattle.plain.specs.Kept.{kept, kept_range}
+use Rattle.plain_machine.specs.Kept.{kept, kept_range}
 use Rattle.atomic_table.specs.Seated.{TableId}
 use Rattle.atomic_table.specs.declared.shared.Seat.{Seat}
 use Rattle.device.specs.Layers.{Layer}
-use Rattle.plain.specs.declared.event.Event.{Event}
-use Rattle.plain.specs.declared.event.Event.TheVariants.{Issue}
-use Rattle.plain.specs.declared.event.Outcome.{Outcome}
-use Rattle.plain.specs.declared.event.Outcome.TheVariants.{Done, Fault, Reply as Replied}
-use Rattle.plain.specs.declared.request.Op.{Op}
-use Rattle.plain.specs.declared.request.Op.TheVariants.{Read, Write, Flush}
-use Rattle.plain.specs.declared.request.Reply.{Reply}
-use Rattle.plain.specs.declared.request.Request.{Request}
+use Rattle.plain_machine.specs.declared.event.Event.{Event}
+use Rattle.plain_machine.specs.declared.event.Event.TheVariants.{Issue}
+use Rattle.plain_machine.specs.declared.event.Outcome.{Outcome}
+use Rattle.plain_machine.specs.declared.event.Outcome.TheVariants.{Done, Fault, Reply as Replied}
+use Rattle.plain_machine.specs.declared.request.Op.{Op}
+use Rattle.plain_machine.specs.declared.request.Op.TheVariants.{Read, Write, Flush}
+use Rattle.plain_machine.specs.declared.request.Reply.{Reply}
+use Rattle.plain_machine.specs.declared.request.Request.{Request}
 use Rattle.sector.specs.declared.refusal.Refusal.{Refusal}
-use Rattle.journal.specs.declared.entry.Answered.{Answered as AnsweredEntry}
-use Rattle.journal.specs.declared.entry.Entry.{Entry}
-use Rattle.journal.specs.declared.entry.Entry.TheVariants.{Answered}
-use Rattle.journal.specs.declared.entry.Receipt.{Receipt}
-use Rattle.journal.specs.Books.{AuditShape}
-use Rattle.journal.specs.Entries.{answered_of, entries_by}
-use Rattle.journal.specs.Journaled.{HasReceipt, IsNotMerged, IsNoted, IsSilent, KeepsJournal}
-use Rattle.journal.specs.Seats.{IsUnanswered, Seated, may_do, seated_under, without_seated}
-use Rattle.journal.proofs.Receipts.{may_other}
+use Rattle.audit.specs.declared.entry.Answered.{Answered as AnsweredEntry}
+use Rattle.audit.specs.declared.entry.Entry.{Entry}
+use Rattle.audit.specs.declared.entry.Entry.TheVariants.{Answered}
+use Rattle.audit.specs.declared.entry.Receipt.{Receipt}
+use Rattle.audit.specs.Books.{AuditShape}
+use Rattle.audit.specs.Entries.{answered_of, entries_by}
+use Rattle.audit.specs.PlacesTaken.{HasReceipt, IsNotMerged, IsNoted, IsSilent, KeepsJournal}
+use Rattle.audit.specs.Seats.{IsUnanswered, Seated, may_do, seated_under, without_seated}
+use Rattle.audit.proofs.Receipts.{may_other}
 use Rattle.locked_volume.specs.Keeping.{Begins, answered_by, asked_by, keeper_of, looking_of, seated_with}
 use Rattle.locked_volume.specs.declared.rule.View.{View}
 use Rattle.locked_volume.specs.declared.told.Told.{Told}

@@ -10,7 +10,7 @@ use Rattle.between_threads.specs.Words.{no_usage}
 use Rattle.chunk_alloc.specs.declared.usage.Usage.{Usage as Sectors}
 use Rattle.merge.specs.Merging.{Merging}
 use Rattle.snapshot.specs.Kept.{Kept}
-use Rattle.plain.specs.Plain.{did_overflow}
+use Rattle.plain_machine.specs.Plain.{did_overflow}
 use Rattle.volume.specs.Asking.{merging_number}
 use Rattle.volume.specs.Leaving.{usage_of}
 use Rattle.locked_volume.specs.Usages.{is_before, overflown, shown_merge, shown_of, spoiled, used, used_or_spoiled, usages_with}

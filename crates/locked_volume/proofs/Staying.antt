@@ -6,17 +6,17 @@ use Rattle.std.proofs.lemmas.List.{get_or-map, length-map}
 use Rattle.device.specs.Layers.{Layer, is_loud}
 use Rattle.sector.specs.declared.refusal.Refusal.{Refusal}
 use Rattle.merge.specs.Merging.{Merging}
-use Rattle.snapshots.specs.Keeping.{kept_back, kept_for, unkept}
+use Rattle.snapshot_list.specs.Keeping.{kept_back, kept_for, unkept}
 use Rattle.snapshot.specs.Kept.{Kept}
-use Rattle.snapshots.specs.Numbers.{number_of_snap}
-use Rattle.snapshots.proofs.Finds.{position_within}
+use Rattle.snapshot_list.specs.Numbers.{number_of_snap}
+use Rattle.snapshot_list.proofs.Finds.{position_within}
 use Rattle.volume_laws.proofs.Lists.{map-remove}
 use Rattle.volume.specs.Beginning.{IsMergeBegun, IsNotBegun, SameButKept, begin_with, begin_refusal}
 use Rattle.volume.specs.Causes.{counts_with, counts_of}
 use Rattle.volume.specs.Stepping.{KeepsAll, merged_of}
 use Rattle.volume.specs.Volumed.{Volumed, is_loud_in_all, is_loud_with}
-use Rattle.journal.specs.Books.{AuditShape}
-use Rattle.journal.specs.Journaled.{KeepsBase, KeepsJournal}
+use Rattle.audit.specs.Books.{AuditShape}
+use Rattle.audit.specs.PlacesTaken.{KeepsBase, KeepsJournal}
 use Rattle.locked_volume.specs.Fixed.{Fixed, StaysFrom, fixed_of, least_of, piece_at, piece_in}
 
 -- device 0 is the origin disk

@@ -4,16 +4,16 @@
 use Rattle.std.specs.Prelude.{◌≡◌, ◌≢◌, ◌⊎◌, ◌==◌, ◌≤◌, ℕ, ◌+◌, Bool, true, false, List, [], ◌∷◌, ◌++◌, length, Option, Some, None}
 use Rattle.sector.specs.declared.refusal.Refusal.{Refusal}
 use Rattle.sector.specs.declared.refusal.Refusal.TheVariants.{Invalid as IsInvalid, JournalFull, MergeInProgress, MergingSnapshot, NoMemory, NoSuchDevice, OutOfRange, Overflow, TooMany}
-use Rattle.plain.specs.Kept.{kept_range}
-use Rattle.plain.specs.Plain.{Invalid, is_in, overflow_under, saved_under, Shown}
-use Rattle.plain.specs.declared.request.Dev.{Dev}
-use Rattle.plain.specs.declared.request.Dev.TheVariants.{Origin, Snap}
-use Rattle.plain.specs.declared.request.Op.TheVariants.{Write}
-use Rattle.plain.specs.declared.request.Overflowing.TheVariants.{Did}
-use Rattle.plain.specs.declared.request.Request.{Request}
-use Rattle.journal.specs.declared.entry.Entry.{Entry}
-use Rattle.journal.specs.declared.entry.Entry.TheVariants.{Begun}
-use Rattle.journal.specs.Replay.{replay}
+use Rattle.plain_machine.specs.Kept.{kept_range}
+use Rattle.plain_machine.specs.Plain.{Invalid, is_in, overflow_under, saved_under, Shown}
+use Rattle.plain_machine.specs.declared.request.Dev.{Dev}
+use Rattle.plain_machine.specs.declared.request.Dev.TheVariants.{Origin, Snap}
+use Rattle.plain_machine.specs.declared.request.Op.TheVariants.{Write}
+use Rattle.plain_machine.specs.declared.request.Overflowing.TheVariants.{Did}
+use Rattle.plain_machine.specs.declared.request.Request.{Request}
+use Rattle.audit.specs.declared.entry.Entry.{Entry}
+use Rattle.audit.specs.declared.entry.Entry.TheVariants.{Begun}
+use Rattle.audit.specs.Replay.{replay}
 use Rattle.locked_volume.specs.Keeping.{Begins}
 use Rattle.volume.specs.Submitting.{is_piece_of}
 use Rattle.locked_volume.specs.Fixed.{Fixed, StaysFrom, piece_at}

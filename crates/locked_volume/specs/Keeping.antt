@@ -3,11 +3,11 @@ use Rattle.std.specs.Prelude.{◌≡◌, ◌==◌, ℕ, ◌+◌, ◌<◌, Bool, 
 use mathlib.Core.Option.{Option, none, some}
 use lib.ListN.{get_elem?}
 use Rattle.atomic_table.specs.Table.{State, Me, Step}
-use Rattle.plain.specs.declared.request.Request.{Request}
-use Rattle.journal.specs.declared.entry.Entry.{Entry}
-use Rattle.journal.specs.declared.entry.Entry.TheVariants.{Answered as WasAnswered, Spoiled, Overflowed, Attached, Detached, Begun, Finished}
-use Rattle.journal.specs.Entries.{entries_by}
-use Rattle.journal.specs.Seats.{Seated, seated_under, without_seated}
+use Rattle.plain_machine.specs.declared.request.Request.{Request}
+use Rattle.audit.specs.declared.entry.Entry.{Entry}
+use Rattle.audit.specs.declared.entry.Entry.TheVariants.{Answered as WasAnswered, Spoiled, Overflowed, Attached, Detached, Begun, Finished}
+use Rattle.audit.specs.Entries.{entries_by}
+use Rattle.audit.specs.Seats.{Seated, seated_under, without_seated}
 use Rattle.locked_volume.specs.declared.rule.View.{View}
 use Rattle.locked_volume.specs.declared.told.Told.{Told}
 use Rattle.locked_volume.specs.declared.told.Told.TheVariants.{Asked, Answered, Noted}

@@ -4,10 +4,10 @@ use Rattle.atomic_table.specs.Seated.{TableId}
 use Rattle.atomic_table.specs.declared.shared.Seat.{Seat}
 use Rattle.between_threads.specs.BoardPasses.{Seen}
 use Rattle.device.specs.Layers.{Layer}
-use Rattle.plain.specs.declared.event.Event.{Event}
-use Rattle.plain.specs.declared.event.Event.TheVariants.{Issue, CopyRead, CopyWrite, ZeroNext, WriteArea, Publish, WriteInvalid, FlushStore, MergeGroup, MergeAreaRead, MergeRead, MergeWrite, MergeFlush, MergeCommit, MergeRelease}
-use Rattle.journal.specs.declared.entry.Entry.{Entry}
-use Rattle.journal.specs.Books.{AuditShape}
+use Rattle.plain_machine.specs.declared.event.Event.{Event}
+use Rattle.plain_machine.specs.declared.event.Event.TheVariants.{Issue, CopyRead, CopyWrite, ZeroNext, WriteArea, Publish, WriteInvalid, FlushStore, MergeGroup, MergeAreaRead, MergeRead, MergeWrite, MergeFlush, MergeCommit, MergeRelease}
+use Rattle.audit.specs.declared.entry.Entry.{Entry}
+use Rattle.audit.specs.Books.{AuditShape}
 use Rattle.locked_volume.specs.declared.rule.View.{View}
 use Rattle.locked_volume.specs.declared.told.Told.{Told}
 use Rattle.locked_volume.specs.Fixed.{Fixed, StaysFrom, fixed_of}

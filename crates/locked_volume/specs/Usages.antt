@@ -7,7 +7,7 @@ use Rattle.between_threads.specs.declared.usage.PlaceState.TheVariants.{Good, In
 use Rattle.between_threads.specs.declared.usage.PlaceUsage.{PlaceUsage}
 use Rattle.chunk_alloc.specs.declared.usage.Usage.{Usage as Sectors}
 use Rattle.merge.specs.Merging.{Merging}
-use Rattle.plain.specs.Plain.{did_overflow}
+use Rattle.plain_machine.specs.Plain.{did_overflow}
 use Rattle.snapshot.specs.Kept.{Kept}
 use Rattle.volume.specs.Asking.{merging_usage}
 use Rattle.volume.specs.Leaving.{usage_of}

@@ -1,7 +1,7 @@
 // What lies under a volume's lock.
 use crate::boards::Publishers;
 use crate::room::Room;
-use journal::Audit;
+use audit::Audit;
 use layers::Layered;
 use std::marker::{Model, PhantomData};
 

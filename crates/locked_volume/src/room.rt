@@ -6,7 +6,7 @@ use std::marker::Brand;
 /// a program picks them.
 pub trait Room {
     ghost use Rattle.std.specs.Prelude.{ℕ, Bool, List};
-    ghost use Rattle.journal.specs.declared.entry.Entry.{Entry};
+    ghost use Rattle.audit.specs.declared.entry.Entry.{Entry};
     ghost use Rattle.atomic_table.specs.Seated.{TableId};
     ghost use Rattle.between_threads.specs.BoardPasses.{BoardId};
     ghost use Rattle.between_threads.specs.Passes.{Queue};

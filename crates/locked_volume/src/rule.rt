@@ -2,8 +2,8 @@
 
 use crate::told::Told;
 use atomic_table::{Join, Play, Seat, Split, TableRule};
-use journal::{Answered, Entry};
-use plain::Request;
+use audit::{Answered, Entry};
+use plain_machine::Request;
 use std::collections::LinkedList;
 use std::marker::Model;
 
@@ -15,7 +15,7 @@ pub struct Asked {
 }
 
 impl Model for Asked {
-    ghost use Rattle.journal.specs.Seats.{Seated};
+    ghost use Rattle.audit.specs.Seats.{Seated};
 
     ghost Value = { Seated };
 

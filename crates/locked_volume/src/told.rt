@@ -1,7 +1,7 @@
 // What a step says to the rule. It is for the proof alone.
 
-use journal::Entry;
-use plain::Request;
+use audit::Entry;
+use plain_machine::Request;
 use std::snapshot::Snapshot;
 
 /// What happens to the journal at a step.

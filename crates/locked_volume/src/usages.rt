@@ -3,13 +3,13 @@ ghost use Rattle.std.specs.Prelude.{◌≡◌, ◌<◌, ◌^◌, Some, count_by,
 ghost use Rattle.between_threads.specs.Words.{IsNarrow, no_usage};
 ghost use Rattle.volume.specs.Asking.{merging_number};
 ghost use Rattle.merge.specs.Merging.{Merging};
-ghost use Rattle.plain.specs.Plain.{did_overflow};
+ghost use Rattle.plain_machine.specs.Plain.{did_overflow};
 ghost use Rattle.locked_volume.specs.Usages.{fitted, is_before, shown_merge, shown_of, used, usage_at as usage_of_place};
 
 use between_threads::{PlaceState, PlaceUsage};
 use chunk_alloc::Usage as Sectors;
 use device::Block;
-use plain::{Overflowing, SnapId};
+use plain_machine::{Overflowing, SnapId};
 use snapshot::Snapshot;
 use volume::Volume;
 

@@ -9,7 +9,7 @@ ghost use Rattle.merge.specs.InStep.{IsInStep};
 use crate::Group;
 use chunk_alloc::Usage;
 use device::Block;
-use plain::SnapId;
+use plain_machine::SnapId;
 use sector::Chunk;
 use std::marker::Model;
 use store::Store;

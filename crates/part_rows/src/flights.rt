@@ -2,7 +2,7 @@
 ghost use Rattle.std.specs.Prelude.{◌≡◌, IfOk, length};
 
 use in_flight::*;
-use plain::{Dev, Op, Request};
+use plain_machine::{Dev, Op, Request};
 use sector::{Buf, Pair, Range};
 use std::alloc::Global;
 use std::test::Fail;

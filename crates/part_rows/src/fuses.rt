@@ -1,29 +1,29 @@
 // A disk that goes down within a write, or before a flush.
 ghost use Rattle.std.specs.Prelude.{◌≡◌, IfOk};
-ghost use Rattle.fuse.specs.Fuse.{fuse_size};
+ghost use Rattle.torn_disk.specs.TornDisk.{torn_disk_size};
 
 use crate::bytes::are_all;
 use device::{Block, MemDisk};
-use fuse::Fuse;
 use layers::Layered;
 use sector::Range;
 use std::alloc::Global;
 use std::test::Fail;
+use torn_disk::TornDisk;
 
 // A disk of four sectors of ones, that passes so many writes and flushes.
-fn fuse_of(alloc: Global, changes: u64, new: &[bool]) -> Result<Fuse, Fail>
-    ensures { IfOk result (λ f. fuse_size f ≡ 4) }
+fn torn_disk_of(alloc: Global, changes: u64, new: &[bool]) -> Result<TornDisk, Fail>
+    ensures { IfOk result (λ f. torn_disk_size f ≡ 4) }
 {
     let mut disk = MemDisk::new(alloc, 4)?;
     disk.write(Range::new(0, 4, 4)?, &[1; 2048])?;
-    match Fuse::new(alloc, disk, changes, Vec::from_slice(alloc, new)?) {
+    match TornDisk::new(alloc, disk, changes, Vec::from_slice(alloc, new)?) {
         Ok(fuse) => Ok(fuse),
         Err((refusal, _)) => Err(Fail::from(refusal)),
     }
 }
 
 // Whether the disk that a fuse keeps aside has one byte in a sector.
-fn keeps(fuse: &Fuse, sector: Range, byte: u8) -> bool {
+fn keeps(fuse: &TornDisk, sector: Range, byte: u8) -> bool {
     match fuse.left() {
         Some(left) if left.sectors() == 4 && sector.count == 1 && sector.first < 4 => {
             let mut out = [9; 512];
@@ -38,7 +38,7 @@ fn keeps(fuse: &Fuse, sector: Range, byte: u8) -> bool {
 fn the_disk_kept_aside_has_the_new_sectors_alone(rt: HostRuntime) -> Result<(), Fail> {
     let (first, second) = (Range::new(0, 1, 4)?, Range::new(1, 1, 4)?);
     let (third, three) = (Range::new(2, 1, 4)?, Range::new(0, 3, 4)?);
-    let mut fuse = fuse_of(rt.alloc(), 2, &[false, true])?;
+    let mut fuse = torn_disk_of(rt.alloc(), 2, &[false, true])?;
     let mut out = [9; 512];
     let written = fuse.write(first, &[2; 512]);
     let flushed = fuse.flush();
@@ -56,7 +56,7 @@ fn the_disk_kept_aside_has_the_new_sectors_alone(rt: HostRuntime) -> Result<(), 
 #[test]
 fn a_blown_fuse_fails_and_changes_nothing(rt: HostRuntime) -> Result<(), Fail> {
     let one = Range::new(1, 1, 4)?;
-    let mut fuse = fuse_of(rt.alloc(), 1, &[true])?;
+    let mut fuse = torn_disk_of(rt.alloc(), 1, &[true])?;
     let mut out = [9; 512];
     let written = fuse.write(one, &[2; 512]);
     let torn = fuse.write(one, &[3; 512]);
@@ -76,7 +76,7 @@ fn a_blown_fuse_fails_and_changes_nothing(rt: HostRuntime) -> Result<(), Fail> {
 #[test]
 fn a_fuse_blown_before_a_flush_keeps_the_disk_as_it_was(rt: HostRuntime) -> Result<(), Fail> {
     let one = Range::new(1, 1, 4)?;
-    let mut fuse = fuse_of(rt.alloc(), 2, &[true])?;
+    let mut fuse = torn_disk_of(rt.alloc(), 2, &[true])?;
     let flushed = fuse.flush();
     let written = fuse.write(one, &[2; 512]);
     let blown = fuse.flush();

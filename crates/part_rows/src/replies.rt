@@ -1,5 +1,5 @@
 // Requests and replies that are copied.
-use plain::{Failure, Op, Reply};
+use plain_machine::{Failure, Op, Reply};
 use sector::Buf;
 use std::test::Fail;
 

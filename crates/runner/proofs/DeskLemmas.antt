@@ -5,13 +5,13 @@ use Rattle.std.proofs.lemmas.Bool.{cases_Bool}
 use Rattle.sector.specs.declared.refusal.Refusal.{Refusal}
 use Rattle.command.specs.declared.command_reply.CommandReply.{CommandReply}
 use Rattle.command.specs.declared.command_reply.CommandReply.TheVariants.{Refused}
-use Rattle.plain.specs.declared.request.Replied.{Replied}
+use Rattle.plain_machine.specs.declared.request.Replied.{Replied}
 use Rattle.runner.specs.declared.summary.Summary.{Summary}
-use Rattle.settled.specs.Refusals.{is_starved}
+use Rattle.big_steps.specs.Refusals.{is_starved}
 use Rattle.command_rules.specs.Changes.{ServesIf}
 use Rattle.command_rules.specs.Naming.{AreNamed}
 use Rattle.command_rules.specs.State.{Table}
-use Rattle.settled.proofs.Starved.{starved_by}
+use Rattle.big_steps.proofs.Starved.{starved_by}
 use Rattle.runner.specs.Steps.{answer_of}
 use Rattle.runner.specs.Wants.{enters_line}
 use Rattle.runner.specs.Starts.{AreStartReplies, starts_line}

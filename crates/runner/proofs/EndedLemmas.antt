@@ -7,7 +7,7 @@ use Rattle.std.proofs.lemmas.List.Concat.{flat_map-cons}
 use Rattle.words.proofs.Written.{appends_more}
 use Rattle.command.specs.declared.command_reply.CommandReply.{CommandReply}
 use Rattle.command.specs.Texts.{text_of}
-use Rattle.plain.specs.declared.request.Replied.{Replied}
+use Rattle.plain_machine.specs.declared.request.Replied.{Replied}
 use Rattle.runner.specs.declared.summary.Summary.{Summary}
 use Rattle.runner.specs.Counts.{capped, with_lines, with_reply}
 use Rattle.runner.specs.Ended.{ended_line, ended_lines, line_replies}

@@ -5,9 +5,9 @@ use Rattle.sector.specs.declared.refusal.Refusal.{Refusal}
 use Rattle.sector.specs.declared.refusal.Refusal.TheVariants.{JournalFull, NoMemory}
 use Rattle.layers.specs.declared.message.Answer.{Answer}
 use Rattle.layers.specs.declared.message.Answer.TheVariants as answers
-use Rattle.plain.specs.declared.event.Outcome.{Outcome}
-use Rattle.plain.specs.declared.event.Outcome.TheVariants as outcomes
-use Rattle.plain.specs.declared.request.Replied.{Replied}
+use Rattle.plain_machine.specs.declared.event.Outcome.{Outcome}
+use Rattle.plain_machine.specs.declared.event.Outcome.TheVariants as outcomes
+use Rattle.plain_machine.specs.declared.request.Replied.{Replied}
 use Rattle.command.specs.Answers.{reply_to}
 use Rattle.command.specs.Line.{said_of}
 use Rattle.command.specs.declared.events.EventWords.{EventWords}
@@ -17,13 +17,13 @@ use Rattle.command.specs.declared.command_reply.CommandReply.TheVariants.{Data, 
 use Rattle.command_rules.specs.Changes.{Did, Does, kept}
 use Rattle.command_rules.specs.Events.{step_event}
 use Rattle.command_rules.specs.State.{Table}
-use Rattle.named_devices.specs.Asked.{IsAskedMuch}
+use Rattle.device_commands.specs.Asked.{IsAskedMuch}
 use Rattle.runner.specs.Full.{IsAskedByLine, IsAskedBySaid, entered_by}
 use Rattle.runner.specs.Left.{IsStepLeft, stepped_reply}
 use Rattle.runner.specs.Output.{told}
 use Rattle.runner.specs.Steps.{reworded, told_as}
-use Rattle.named_devices.proofs.NeverFull.{IsNeverFull}
-use Rattle.named_devices.proofs.RulesNeverFull.{step_event_other}
+use Rattle.device_commands.proofs.NeverFull.{IsNeverFull}
+use Rattle.device_commands.proofs.RulesNeverFull.{step_event_other}
 use Rattle.runner.proofs.AskingLemmas.{memory_or_not}
 use Rattle.runner.proofs.WordsNeverFull.{said_never}
 

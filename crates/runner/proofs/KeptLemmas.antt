@@ -12,10 +12,10 @@ use Rattle.command.specs.declared.grammar.Command.{Command}
 use Rattle.command.specs.Blocks.{Lines, ends_block, with_line, with_said}
 use Rattle.command.specs.Lines.{ends_with, said_in}
 use Rattle.command.specs.Opening.{has_par, is_par}
-use Rattle.plain.specs.declared.request.Replied.{Replied}
+use Rattle.plain_machine.specs.declared.request.Replied.{Replied}
 use Rattle.command.specs.declared.command_reply.CommandReply.{CommandReply}
 use Rattle.command_rules.specs.State.{Table}
-use Rattle.command_arrays.specs.Arrays.{arrays_in}
+use Rattle.command_effects.specs.Arrays.{arrays_in}
 use Rattle.runner.specs.Asking.{IsFirst, line_first, said_first}
 use Rattle.runner.specs.Done.{IsLineDone, IsToldFor}
 use Rattle.runner.proofs.FullLemmas.{full_alike}

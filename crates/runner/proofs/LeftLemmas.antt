@@ -7,12 +7,12 @@ use Rattle.command.specs.Line.{said_of}
 use Rattle.command.specs.declared.grammar.Command.{Command}
 use Rattle.command.specs.declared.command_reply.CommandReply.{CommandReply}
 use Rattle.command.specs.declared.command_reply.CommandReply.TheVariants.{Refused}
-use Rattle.plain.specs.declared.request.Replied.{Replied}
+use Rattle.plain_machine.specs.declared.request.Replied.{Replied}
 use Rattle.command_rules.specs.State.{Table}
 use Rattle.runner.specs.Asking.{refusal_in, IsFirst}
 use Rattle.runner.specs.Ended.{ended_lines, line_replies}
 use Rattle.command.specs.declared.events.EventWords.{EventWords}
-use Rattle.named_devices.specs.Devices.{KeepsOthers}
+use Rattle.device_commands.specs.Devices.{KeepsOthers}
 use Rattle.runner.specs.Full.{IsAskedByLine}
 use Rattle.runner.specs.Left.{IsLeft, IsLeftSaid, IsLineLeft, IsStepLeft}
 use Rattle.runner.specs.Output.{answered, told}

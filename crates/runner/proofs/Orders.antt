@@ -8,9 +8,9 @@ use Rattle.command_rules.specs.declared.place.Place.TheVariants.{Free, In}
 use Rattle.command_rules.specs.State.{Volume, Table}
 use Rattle.command_rules.specs.Places.{found, place_of, volume_at}
 use Rattle.command_rules.proofs.Keeping.{not_ok, same_ok}
-use Rattle.command_arrays.specs.Well.{HoldsFor, IsNumbered, IsNumberedFor, IsWell, IsWellFor}
-use Rattle.named_devices.specs.Order.{IsInOrder, IsInOrderAt, IsInOrderFor, IsInOrderIn}
-use Rattle.named_devices.specs.Ruled.{is_sound_in, volume_for, volume_with}
+use Rattle.command_effects.specs.Well.{HoldsFor, IsNumbered, IsNumberedFor, IsWell, IsWellFor}
+use Rattle.device_commands.specs.Order.{IsInOrder, IsInOrderAt, IsInOrderFor, IsInOrderIn}
+use Rattle.device_commands.specs.Ruled.{is_sound_in, volume_for, volume_with}
 
 numbered_of : (volume : Volume) → IsInOrder volume → IsNumbered volume
 numbered_of volume order = record { named = order.named; numbers = order.numbers }

@@ -4,16 +4,16 @@ use Rattle.std.specs.Prelude.{Result, Ok, Err, ◌==◌, if◌then◌else◌}
 use Rattle.std.proofs.lemmas.Option.{slice_get_cases}
 use Rattle.sector.specs.declared.refusal.Refusal.{Refusal}
 use Rattle.sector.specs.declared.refusal.Refusal.TheVariants.{NoSuchDevice}
-use Rattle.device.specs.Layers.{Layer, Flaky, Dusty, Broken, Counted, Fused, Window}
+use Rattle.device.specs.Layers.{Layer, Flaky, Dusty, Broken, Counted, TornDiskShape, Window}
 use Rattle.layers.specs.declared.message.Message.{Message}
 use Rattle.layers.specs.declared.message.Message.TheVariants.{AddBadBlock, RemoveBadBlock, QueryBlock, CountBadBlocks, ClearBadBlocks, Enable, Disable}
 use Rattle.layers.specs.declared.message.Answer.{Answer}
 use Rattle.layers.specs.declared.message.Answer.TheVariants.{Done}
 use Rattle.layers.specs.Messages.{Told, Answered, Refused, told, told_with, layer_told, dust_told, is_past, is_listed}
 use Rattle.words.specs.Given.{◌>>=◌}
-use Rattle.settled.specs.Devices.{Device}
-use Rattle.settled.specs.Snaps.{Snap, Volume as Settled}
-use Rattle.settled.specs.Merges.{Merge, Merged}
+use Rattle.big_steps.specs.Devices.{Device}
+use Rattle.big_steps.specs.Snaps.{Snap, Volume as Settled}
+use Rattle.big_steps.specs.Merges.{Merge, Merged}
 use Rattle.command_rules.specs.declared.place.Role.{Role}
 use Rattle.command_rules.specs.declared.place.Role.TheVariants.{Origin, Under, Snapshot, Store, Merging as MergingRole, MergingStore}
 use Rattle.command_rules.specs.declared.place.Place.{Place}
@@ -51,7 +51,7 @@ layer_quiet (Flaky moment up down features offset) m = tt
 layer_quiet (Dusty sectors size enabled bad) m = dust_quiet sectors size enabled bad m
 layer_quiet Broken m = tt
 layer_quiet (Counted left) m = tt
-layer_quiet (Fused left) m = tt
+layer_quiet (TornDiskShape left) m = tt
 layer_quiet (Window aside) m = tt
 
 -- what is made of it
@@ -70,7 +70,7 @@ told_quiet (Flaky moment up down features offset ∷ ls) d m = at_quiet (d == 0)
 told_quiet (Dusty sectors size enabled bad ∷ ls) d m = at_quiet (d == 0) (Dusty sectors size enabled bad) ls m (told ls (d - 1) m) (told_quiet ls (d - 1) m)
 told_quiet (Broken ∷ ls) d m = at_quiet (d == 0) Broken ls m (told ls (d - 1) m) (told_quiet ls (d - 1) m)
 told_quiet (Counted left ∷ ls) d m = at_quiet (d == 0) (Counted left) ls m (told ls (d - 1) m) (told_quiet ls (d - 1) m)
-told_quiet (Fused left ∷ ls) d m = at_quiet (d == 0) (Fused left) ls m (told ls (d - 1) m) (told_quiet ls (d - 1) m)
+told_quiet (TornDiskShape left ∷ ls) d m = at_quiet (d == 0) (TornDiskShape left) ls m (told ls (d - 1) m) (told_quiet ls (d - 1) m)
 
 -- the same of a rule
 abbrev LeavesSame : {T : Type 0} → T → Result (Answer × T) Refusal → Type 0

@@ -11,8 +11,8 @@ use Rattle.command.specs.declared.grammar.Command.TheVariants as commands
 use Rattle.command_rules.specs.Events.{is_merge_event}
 use Rattle.command_rules.specs.Sound.{is_sound}
 use Rattle.command_rules.specs.State.{Volume, Table}
-use Rattle.named_devices.specs.Ruled.{is_quiet_in, is_sound_in, volume_for}
-use Rattle.named_devices.proofs.Ruled.{name_ruled, name_still, target_ruled}
+use Rattle.device_commands.specs.Ruled.{is_quiet_in, is_sound_in, volume_for}
+use Rattle.device_commands.proofs.Ruled.{name_ruled, name_still, target_ruled}
 use Rattle.runner.specs.Ruled.{is_ruled, is_ruled_said, is_ruled_line}
 use Rattle.runner.specs.Sound.{is_sound_command, is_sound_said, is_sound_line}
 

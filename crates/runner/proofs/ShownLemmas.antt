@@ -8,15 +8,15 @@ use Rattle.command.specs.declared.grammar.Command.{Command}
 use Rattle.command.specs.declared.grammar.Command.TheVariants as commands
 use Rattle.command.specs.declared.command_reply.CommandReply.{CommandReply}
 use Rattle.command.specs.declared.command_reply.CommandReply.TheVariants.{Done, Refused}
-use Rattle.settled.specs.Refusals.{is_starved}
+use Rattle.big_steps.specs.Refusals.{is_starved}
 use Rattle.command_rules.specs.State.{Table}
 use Rattle.command_rules.specs.Changes.{Did}
-use Rattle.command_arrays.specs.Arrays.{Arrays, arrays_in}
-use Rattle.command_arrays.specs.Commands.{IsAnswered, IsRefused, IsShown}
-use Rattle.command_arrays.specs.Well.{IsWellOf}
-use Rattle.command_arrays.proofs.Layers.{ticked_shows}
-use Rattle.command_arrays.proofs.Lines.{settle_line, merge_line, resume_line, finish_line, checkpoint_line, stop_line, write_line, write_starved, read_line, read_starved, flush_line, flush_starved, tell_line, load_line}
-use Rattle.command_arrays.proofs.Devices.{disk_line, remove_line, create_line}
+use Rattle.command_effects.specs.Arrays.{Arrays, arrays_in}
+use Rattle.command_effects.specs.Commands.{IsAnswered, IsRefused, IsShown}
+use Rattle.command_effects.specs.Well.{IsWellOf}
+use Rattle.command_effects.proofs.Layers.{ticked_shows}
+use Rattle.command_effects.proofs.Lines.{settle_line, merge_line, resume_line, finish_line, checkpoint_line, stop_line, write_line, write_starved, read_line, read_starved, flush_line, flush_starved, tell_line, load_line}
+use Rattle.command_effects.proofs.Devices.{disk_line, remove_line, create_line}
 use Rattle.runner.specs.Steps.{reworded, step, obeyed, answer_of}
 use Rattle.runner.specs.Output.{LineOutcome, told, outcome, outcome_of, IsPartDone, IsPartSaid, IsStarved, MayBe}
 use Rattle.runner.proofs.AskingLemmas.{memory_or_not}

@@ -14,7 +14,7 @@ use Rattle.command.specs.Answers.{reply_to}
 use Rattle.command_rules.specs.State.{Table}
 use Rattle.command_rules.specs.Changes.{Did, Does, ServesIf, kept}
 use Rattle.command_rules.specs.Messages.{tell}
-use Rattle.settled.proofs.Starved.{other_memory}
+use Rattle.big_steps.proofs.Starved.{other_memory}
 use Rattle.runner.specs.Steps.{reworded, told_as, step, obeyed, answer_of}
 use Rattle.runner.specs.Sound.{is_sound_command, is_sound_said, is_sound_line}
 use Rattle.runner.specs.Starts.{starts, starts_said, starts_line}

@@ -1,7 +1,7 @@
 -- The lines of volumes, one after the other.
 use Rattle.std.proofs.Common.{ℕ, List, [], ◌∷◌, ◌++◌, append_assoc, append-nil, refl, sym, ◌∙◌, ap}
 use Rattle.command_rules.specs.State.{Volume}
-use Rattle.named_volume.specs.Trace.{IsTraced}
+use Rattle.device_list.specs.Trace.{IsTraced}
 use Rattle.runner.specs.Traced.{AreTraced}
 
 -- one volume more

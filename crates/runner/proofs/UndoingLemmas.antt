@@ -11,11 +11,11 @@ use Rattle.command.specs.declared.command_reply.CommandReply.TheVariants.{Refuse
 use Rattle.command_rules.specs.Changes.{changed}
 use Rattle.command_rules.specs.Merging.{merge_finished}
 use Rattle.command_rules.specs.State.{Table}
-use Rattle.command_arrays.specs.Arrays.{Arrays, arrays_in}
-use Rattle.command_arrays.specs.Commands.{IsAnswered, IsMade}
-use Rattle.command_arrays.specs.Undoing.{ShowsStill}
-use Rattle.command_arrays.proofs.OnDisk.{finished_on_disk}
-use Rattle.command_arrays.proofs.Undoing.{made_shows, merge_shows, still_shown}
+use Rattle.command_effects.specs.Arrays.{Arrays, arrays_in}
+use Rattle.command_effects.specs.Commands.{IsAnswered, IsMade}
+use Rattle.command_effects.specs.Undoing.{ShowsStill}
+use Rattle.command_effects.proofs.OnDisk.{finished_on_disk}
+use Rattle.command_effects.proofs.Undoing.{made_shows, merge_shows, still_shown}
 use Rattle.runner.specs.Output.{LineOutcome, outcome, outcome_of}
 use Rattle.runner.specs.Steps.{answer_of, done_as, obeyed, step, told_as}
 use Rattle.runner.specs.Shown.{IsLineShown, IsSaidShown, answer_in}

@@ -8,9 +8,9 @@ use Rattle.command.specs.Line.{said_of}
 use Rattle.command.specs.declared.grammar.Command.{Command}
 use Rattle.command.specs.declared.grammar.Command.TheVariants as commands
 use Rattle.command_rules.specs.State.{Table}
-use Rattle.command_arrays.specs.Well.{IsNumberedTarget, IsWellOf}
+use Rattle.command_effects.specs.Well.{IsNumberedTarget, IsWellOf}
 use Rattle.runner.proofs.Orders.{numbered_for, well_for}
-use Rattle.named_devices.specs.Order.{changed_under, IsLookedAt}
+use Rattle.device_commands.specs.Order.{changed_under, IsLookedAt}
 use Rattle.runner.specs.Changed.{changed_by}
 use Rattle.runner.specs.Ruled.{is_ruled, is_ruled_line}
 use Rattle.runner.proofs.RuledLemmas.{ruled_as}

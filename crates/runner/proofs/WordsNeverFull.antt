@@ -7,7 +7,7 @@ use Rattle.command.specs.Messages.{message_in}
 use Rattle.command.specs.Events.{event_of, merge_event_of, event_in}
 use Rattle.command.specs.Grammar.{span_of, patch_of, alone_of, disk_of, create_of, message_of, tick_of, start_of, step_of, stop_of, volume_command_of, command_of}
 use Rattle.command.specs.Line.{said_of}
-use Rattle.named_devices.proofs.NeverFull.{IsNeverFull, never}
+use Rattle.device_commands.proofs.NeverFull.{IsNeverFull, never}
 
 name_never : (word : List ℕ) → IsNeverFull (name_of word)
 name_never word = search never

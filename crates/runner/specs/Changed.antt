@@ -2,7 +2,7 @@
 use Rattle.std.specs.Prelude.{ℕ, List, Option, Some, None}
 use Rattle.command.specs.declared.grammar.Command.{Command}
 use Rattle.command.specs.declared.grammar.Command.TheVariants as commands
-use Rattle.named_devices.specs.Order.{changed_under}
+use Rattle.device_commands.specs.Order.{changed_under}
 
 -- the name whose volume a command changes
 abbrev pub changed_by : Command → Option (List ℕ)

@@ -4,7 +4,7 @@ use Rattle.sector.specs.declared.refusal.Refusal.{Refusal}
 use Rattle.sector.specs.declared.refusal.Refusal.TheVariants.{JournalFull}
 use Rattle.command.specs.declared.command_reply.CommandReply.{CommandReply}
 use Rattle.command.specs.declared.command_reply.CommandReply.TheVariants.{Refused}
-use Rattle.plain.specs.declared.request.Replied.{Replied}
+use Rattle.plain_machine.specs.declared.request.Replied.{Replied}
 use Rattle.command_rules.specs.State.{Table}
 use Rattle.runner.specs.Asking.{IsFirst, line_first}
 use Rattle.runner.specs.Ended.{ended_lines}

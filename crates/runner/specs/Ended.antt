@@ -1,13 +1,13 @@
 -- The lines of requests that were started by one command and ended in another, each before that other's own line.
 use Rattle.std.specs.Prelude.{List, ◌++◌, map, Option}
-use Rattle.plain.specs.declared.request.Reply.{Reply as Answered}
-use Rattle.plain.specs.declared.request.Reply.TheVariants as answers
+use Rattle.plain_machine.specs.declared.request.Reply.{Reply as Answered}
+use Rattle.plain_machine.specs.declared.request.Reply.TheVariants as answers
 use Rattle.command.specs.declared.command_reply.CommandReply.{CommandReply}
 use Rattle.command.specs.declared.command_reply.CommandReply.TheVariants.{Ended}
 use Rattle.command.specs.declared.ended.Ending.{Ending}
 use Rattle.command.specs.declared.ended.Ending.TheVariants.{Data, Written, Flushed, Refused}
-use Rattle.plain.specs.declared.request.Replied.{Replied}
-use Rattle.plain.specs.Failures.{refusal_of}
+use Rattle.plain_machine.specs.declared.request.Replied.{Replied}
+use Rattle.plain_machine.specs.Failures.{refusal_of}
 use Rattle.runner.specs.Output.{answered}
 
 -- how a request ended, by what its volume replied

@@ -5,8 +5,8 @@ use Rattle.command.specs.Line.{said_of}
 use Rattle.command.specs.declared.grammar.Command.{Command}
 use Rattle.command.specs.declared.grammar.Command.TheVariants as commands
 use Rattle.command_rules.specs.State.{Table}
-use Rattle.named_devices.specs.Asked.{IsAskedMuch}
-use Rattle.named_devices.specs.Order.{changed_under}
+use Rattle.device_commands.specs.Asked.{IsAskedMuch}
+use Rattle.device_commands.specs.Order.{changed_under}
 
 -- the name of the device in whose volume's journal a command takes places
 abbrev pub entered_by : Command → Option (List ℕ)

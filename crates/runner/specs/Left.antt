@@ -7,16 +7,16 @@ use Rattle.command.specs.Line.{said_of}
 use Rattle.command.specs.declared.grammar.Command.{Command}
 use Rattle.command.specs.declared.grammar.Command.TheVariants as commands
 use Rattle.command.specs.declared.events.EventWords.{EventWords}
-use Rattle.plain.specs.declared.event.Outcome.{Outcome}
-use Rattle.plain.specs.declared.event.Outcome.TheVariants as outcomes
-use Rattle.plain.specs.declared.request.Op.{Op}
-use Rattle.plain.specs.declared.request.Op.TheVariants.{Read as ReadOp, Write as WriteOp}
+use Rattle.plain_machine.specs.declared.event.Outcome.{Outcome}
+use Rattle.plain_machine.specs.declared.event.Outcome.TheVariants as outcomes
+use Rattle.plain_machine.specs.declared.request.Op.{Op}
+use Rattle.plain_machine.specs.declared.request.Op.TheVariants.{Read as ReadOp, Write as WriteOp}
 use Rattle.table.specs.declared.lines.Line.{Line}
 use Rattle.command.specs.declared.command_reply.CommandReply.{CommandReply}
 use Rattle.command.specs.declared.command_reply.CommandReply.TheVariants.{Data, Done, Fault, Number, Said}
-use Rattle.plain.specs.Replies.{reply_in}
-use Rattle.plain.specs.declared.request.Replied.{Replied}
-use Rattle.settled.specs.Refusals.{is_starved}
+use Rattle.plain_machine.specs.Replies.{reply_in}
+use Rattle.plain_machine.specs.declared.request.Replied.{Replied}
+use Rattle.big_steps.specs.Refusals.{is_starved}
 use Rattle.command_rules.specs.State.{Table}
 use Rattle.command_rules.specs.Events.{event_asked, is_merge_event, origin_by, rested, snapshot_named, step_event}
 use Rattle.command_rules.specs.Losing.{StopsLosing}
@@ -24,13 +24,13 @@ use Rattle.command_rules.specs.Merging.{merge_begun}
 use Rattle.command_rules.specs.Places.{volume_at}
 use Rattle.command_rules.specs.Sectors.{Asked}
 use Rattle.command_rules.specs.Starting.{flush_asked, read_asked, write_asked}
-use Rattle.named_devices.specs.Devices.{Flies, KeepsOthers}
-use Rattle.named_devices.specs.Flights.{IsDoneFor, IsEventDoneFor, IsFlushedAmong, IsNotDueIn, IsNotStartedAs, IsReadAmong, IsStartedAs, IsWrittenAmong, event_of, is_about_merging}
-use Rattle.named_devices.specs.Meeting.{IsCreated}
-use Rattle.named_devices.specs.Merging.{IsBegunIn, IsFinishedIn, IsUnfinishedIn}
-use Rattle.named_devices.specs.Ruled.{is_alone_in, is_quiet_in, volume_for}
-use Rattle.named_devices.specs.Status.{IsStatusAmong, IsStatusHeld}
-use Rattle.named_volume.specs.Flights.{IsDenied, IsSettledBy}
+use Rattle.device_commands.specs.Devices.{Flies, KeepsOthers}
+use Rattle.device_commands.specs.Flights.{IsDoneFor, IsEventDoneFor, IsFlushedAmong, IsNotDueIn, IsNotStartedAs, IsReadAmong, IsStartedAs, IsWrittenAmong, event_of, is_about_merging}
+use Rattle.device_commands.specs.Meeting.{IsCreated}
+use Rattle.device_commands.specs.Merging.{IsBegunIn, IsFinishedIn, IsUnfinishedIn}
+use Rattle.device_commands.specs.Ruled.{is_alone_in, is_quiet_in, volume_for}
+use Rattle.device_commands.specs.Status.{IsStatusAmong, IsStatusHeld}
+use Rattle.device_list.specs.Flights.{IsDenied, IsSettledBy}
 use Rattle.runner.specs.Steps.{reworded}
 
 -- What was read, and what was done for it of what is in flight in the volume; where nothing is, why it was refused, whichever device

@@ -9,7 +9,7 @@ use Rattle.command.specs.declared.grammar.Command.{Command}
 use Rattle.command.specs.declared.grammar.Command.TheVariants as commands
 use Rattle.command_rules.specs.Events.{is_merge_event}
 use Rattle.command_rules.specs.State.{Table}
-use Rattle.named_devices.specs.Ruled.{is_quiet_in, is_sound_in, is_sound_target, volume_for}
+use Rattle.device_commands.specs.Ruled.{is_quiet_in, is_sound_in, is_sound_target, volume_for}
 
 abbrev pub is_ruled : Command → Table → Bool
 is_ruled (commands.Read device first count) table = is_sound_in (volume_for device table)

@@ -1,5 +1,5 @@
 -- To be believed: what lines do to what volumes show is said in these words.
--- What a line does to what volumes show, by the reply that it prints (`command_arrays`).
+-- What a line does to what volumes show, by the reply that it prints (`command_effects`).
 use Rattle.std.specs.Prelude.{◌≡◌, ℕ, List, [], ◌∷◌, Option, Some, None, Result, Ok, Err}
 use Rattle.sector.specs.declared.refusal.Refusal.{Refusal}
 use Rattle.command.specs.Line.{said_of}
@@ -7,8 +7,8 @@ use Rattle.command.specs.declared.grammar.Command.{Command}
 use Rattle.command.specs.declared.command_reply.CommandReply.{CommandReply}
 use Rattle.command.specs.declared.command_reply.CommandReply.TheVariants.{Done, Data, Said, Number, Fault, Ended, Seat, Gate, Refused}
 use Rattle.command_rules.specs.State.{Table}
-use Rattle.command_arrays.specs.Arrays.{Arrays, arrays_in}
-use Rattle.command_arrays.specs.Commands.{IsShown}
+use Rattle.command_effects.specs.Arrays.{Arrays, arrays_in}
+use Rattle.command_effects.specs.Commands.{IsShown}
 use Rattle.runner.specs.Output.{LineOutcome}
 
 -- whether a reply is a refusal

@@ -9,8 +9,8 @@ use Rattle.command.specs.declared.grammar.Command.TheVariants as commands
 use Rattle.table.specs.declared.lines.Line.{Line}
 use Rattle.table.specs.declared.lines.Target.TheVariants as targets
 use Rattle.command_rules.specs.State.{Table}
-use Rattle.command_arrays.specs.Arrays.{Arrays, arrays_in}
-use Rattle.command_arrays.specs.Undoing.{HasNone, IsFreshIn, IsOnDisk, IsOver, OriginShows, Spares}
+use Rattle.command_effects.specs.Arrays.{Arrays, arrays_in}
+use Rattle.command_effects.specs.Undoing.{HasNone, IsFreshIn, IsOnDisk, IsOver, OriginShows, Spares}
 use Rattle.runner.specs.Done.{IsLineDone}
 use Rattle.runner.specs.Output.{LineOutcome}
 use Rattle.runner.specs.Ruled.{is_ruled_line}

@@ -7,7 +7,7 @@ ghost use Rattle.command.specs.declared.command_reply.CommandReply.{CommandReply
 ghost use Rattle.command.specs.declared.command_reply.CommandReply.TheVariants.{Refused};
 ghost use Rattle.command_rules.specs.Naming.{AreNamed};
 ghost use Rattle.command_rules.specs.Sound.{is_sound};
-ghost use Rattle.named_volume.specs.Tables.{table_of};
+ghost use Rattle.device_list.specs.Tables.{table_of};
 ghost use Rattle.runner.specs.Asking.{IsFirst, line_first};
 ghost use Rattle.runner.specs.Counts.{summary_of};
 ghost use Rattle.runner.specs.Exit.{IsMemory, IsWriters};
@@ -25,8 +25,8 @@ use crate::error::RunError;
 use crate::step::answer;
 use crate::summary::Summary;
 use command::CommandReply;
-use named_volume::Devices;
-use plain::Replied;
+use device_list::Devices;
+use plain_machine::Replied;
 use std::alloc::Global;
 use std::io::Write;
 use std::marker::Model;
@@ -43,7 +43,7 @@ pub struct Desk {
 
 impl Model for Desk {
     ghost use Rattle.runner.specs.Output.{Standing};
-    ghost use Rattle.named_volume.specs.Tables.{table_of};
+    ghost use Rattle.device_list.specs.Tables.{table_of};
 
     ghost Value = { Standing };
 

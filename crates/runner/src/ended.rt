@@ -7,7 +7,7 @@ ghost use Rattle.runner.specs.Output.{answered, printed};
 
 use crate::error::RunError;
 use command::{CommandReply, Ended, Ending};
-use plain::{Replied, Reply as Answered, refusal_for};
+use plain_machine::{Replied, Reply as Answered, refusal_for};
 use std::alloc::Global;
 use std::io::Write;
 use std::{io, mem};

@@ -4,17 +4,17 @@ ghost use Rattle.command_rules.specs.Changes.{Does, refused};
 ghost use Rattle.command_rules.specs.Events.{event_asked, is_merge_event, step_event};
 ghost use Rattle.command_rules.specs.Naming.{AreNamed};
 ghost use Rattle.command_rules.specs.Sound.{is_sound};
-ghost use Rattle.named_volume.specs.Tables.{table_of};
-ghost use Rattle.named_devices.specs.Ruled.{is_quiet_in, volume_for};
+ghost use Rattle.device_list.specs.Tables.{table_of};
+ghost use Rattle.device_commands.specs.Ruled.{is_quiet_in, volume_for};
 ghost use Rattle.runner.specs.Asking.{IsFirst, refusal_in};
 ghost use Rattle.runner.specs.Left.{IsStepLeft};
 ghost use Rattle.runner.specs.Output.{told};
 ghost use Rattle.runner.specs.Steps.{reworded};
 
 use command::{CommandReply, EventWords};
-use named_devices::step_device;
-use named_volume::Devices;
-use plain::{Outcome, Replied};
+use device_commands::step_device;
+use device_list::Devices;
+use plain_machine::{Outcome, Replied};
 use sector::Refusal;
 use words::Name;
 

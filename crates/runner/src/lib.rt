@@ -1,7 +1,7 @@
 //! The command program: what each line of commands does to the named devices, blocks of lines that run at once, and whole
 //! texts of lines.
 //!
-//! It stands on `named_devices`, which does each command, on `block_run`, which runs a block, on `command`, which says what a
+//! It stands on `device_commands`, which does each command, on `block_run`, which runs a block, on `command`, which says what a
 //! line says and what is printed, and on `words` for what is read. It promises that a text of lines prints exactly the
 //! answers of the definition `output_of`, one command after the other, from no devices on: each command's own definition
 //! says what it answers and which devices it leaves, with the first refusal in the stated order. Since a volume's arrays are

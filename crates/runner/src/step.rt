@@ -8,9 +8,9 @@ ghost use Rattle.command_rules.specs.Changes.{Does, ServesIf, kept};
 ghost use Rattle.command_rules.specs.Messages.{tell};
 ghost use Rattle.command_rules.specs.Naming.{AreNamed};
 ghost use Rattle.command_rules.specs.Sound.{is_sound};
-ghost use Rattle.named_volume.specs.Tables.{table_of};
-ghost use Rattle.named_devices.specs.Asked.{IsAskedMuch};
-ghost use Rattle.named_devices.specs.Order.{IsLookedAt};
+ghost use Rattle.device_list.specs.Tables.{table_of};
+ghost use Rattle.device_commands.specs.Asked.{IsAskedMuch};
+ghost use Rattle.device_commands.specs.Order.{IsLookedAt};
 ghost use Rattle.runner.specs.Asking.{IsFirst, first_refusal, line_first};
 ghost use Rattle.runner.specs.Changed.{changed_by};
 ghost use Rattle.runner.specs.Full.{IsAskedByLine, entered_by};
@@ -31,14 +31,14 @@ use command::Command::{
     StartRead, StartWrite, Status, Step, Stop, StopLosing, Table, Tick, Write,
 };
 use command::{Command, CommandReply, LINE_LIMIT, said};
-use layers::{Answer, Message};
-use named_devices::{
+use device_commands::{
     checkpoint_device, create_device, finish_device, flush_device, line_text, load_disk, make_disk,
     merge_device, read_device, remove_device, resume_device, save_disk, settle_device, start_read,
     start_write, status_text, stop_device, stop_losing, tell, tick, write_device,
 };
-use named_volume::Devices;
-use plain::{Replied, ReqId};
+use device_list::Devices;
+use layers::{Answer, Message};
+use plain_machine::{Replied, ReqId};
 use sector::{Buf, Refusal};
 use std::alloc::Global;
 use std::mem;

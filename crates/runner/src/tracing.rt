@@ -2,7 +2,7 @@
 ghost use Rattle.std.specs.Prelude.{IfOk};
 ghost use Rattle.runner.specs.Traced.{AreTraced};
 
-use named_volume::NamedVolume;
+use device_list::NamedVolume;
 use std::alloc::{AllocError, Global};
 
 /// The lines of a trace, one for each volume in which something is in flight or due. An error says that the allocator refused

@@ -1,4 +1,4 @@
--- The flushes and writes of a load, one after the other, as `settled` has them.
+-- The flushes and writes of a load, one after the other, as `big_steps` has them.
 use Rattle.std.proofs.Common.{◌≡◌, ℕ, ◌∙◌, Bool, true, false, List, refl, sym, ap, subst}
 use Rattle.std.proofs.lemmas.Bool.{true≢false, false≢true, cond-true, cond-false}
 use Rattle.sector.specs.declared.refusal.Refusal.TheVariants.{Io}
@@ -10,8 +10,8 @@ use Rattle.store.specs.Operations.{IsOneOperation}
 use Rattle.store.specs.declared.state.Left.{Left}
 use Rattle.store.specs.declared.state.Left.TheVariants.{FirstArea, HeaderChunk, Tail, Nothing}
 use Rattle.store.specs.declared.state.State.{State}
-use Rattle.settled.specs.Devices.{Device}
-use Rattle.settled.specs.Attaching.{Tried, refuse, flush_on, flush_both, done}
+use Rattle.big_steps.specs.Devices.{Device}
+use Rattle.big_steps.specs.Attaching.{Tried, refuse, flush_on, flush_both, done}
 use Rattle.snapshot.specs.Attaching.{last_by, next_by, prepared_by}
 use Rattle.snapshot.specs.Opening.{ChangesFront}
 use Rattle.snapshot.proofs.Tries.{over}

@@ -15,7 +15,7 @@ use Rattle.store.specs.declared.state.Left.TheVariants.{Nothing}
 use Rattle.store.specs.declared.state.State.{State}
 use Rattle.store.specs.Stored.{new_of}
 use Rattle.device.specs.Layers.{Layer, is_loud}
-use Rattle.plain.specs.Plain.{overflow_of}
+use Rattle.plain_machine.specs.Plain.{overflow_of}
 use Rattle.store_bytes.specs.NextPlace.{IsNextPlace}
 use Rattle.snapshot.specs.Kept.{Kept}
 use Rattle.snapshot.specs.Opened.{IsOpened}

@@ -11,9 +11,9 @@ use Rattle.store.specs.declared.state.State.{State}
 use Rattle.store.specs.Loading.{is_begun, is_settled}
 use Rattle.store.specs.Stored.{IsFront, IsStored, AreGiven, new_of}
 use Rattle.store.proofs.Given.{given_formed}
-use Rattle.settled.specs.Saves.{next_of}
-use Rattle.settled.specs.Order.{AreEmptyFrom, IsInOrder}
-use Rattle.settled.proofs.Nexts.{next_place_is}
+use Rattle.big_steps.specs.Saves.{next_of}
+use Rattle.big_steps.specs.Order.{AreEmptyFrom, IsInOrder}
+use Rattle.big_steps.proofs.Nexts.{next_place_is}
 use Rattle.snapshot.specs.Held.{IsAhead}
 
 -- nothing is zeroed ahead where there is no copy

@@ -1,4 +1,4 @@
--- A store that is opened over a device with layers: what its load read and wrote is what `settled` does.
+-- A store that is opened over a device with layers: what its load read and wrote is what `big_steps` does.
 use Rattle.std.proofs.Common.{◌≡◌, ◌≢◌, inl, inr, ℕ, zero, suc, ◌+◌, ◌*◌, ◌-◌, ◌/◌, ◌%◌, ◌<◌, ◌≤◌, Bool, true, false, List, [], ◌∷◌, length, get_or, drop, arith, refl, ap, ◌∙◌, sym, subst}
 use Rattle.std.specs.Prelude.{◌==◌, ◌&&◌, nat_lt, not, if◌then◌else◌, Option, Some, None, Result, Ok, Err}
 use Rattle.std.specs.List.{list_all}
@@ -22,12 +22,12 @@ use Rattle.cow_header.specs.declared.found.Found.TheVariants.{Fresh, Header}
 use Rattle.store.specs.declared.state.State.{State}
 use Rattle.store.specs.Opening.{IsOpenedWritten, IsRefused}
 use Rattle.store.specs.Reading.{Reading, ended, all_read, read_areas as areas_read, read_found, reading, IsEnded}
-use Rattle.settled.specs.Loads.{trimmed, is_loadable, is_too_small}
-use Rattle.settled.proofs.Loadable.{formed-loadable, loadable-formed}
-use Rattle.settled.proofs.Trimmed.{cleared}
-use Rattle.settled.specs.Devices.{Device, answers, met, sectors_of}
-use Rattle.settled.specs.Attaching.{Tried, refuse, write_on, flush_on, flush_both, done, read_areas, last_area, has_tail, make, clear, load_as, write_tail, open_store}
-use Rattle.settled.proofs.FaultlessAttaching.{size_of}
+use Rattle.big_steps.specs.Loads.{trimmed, is_loadable, is_too_small}
+use Rattle.big_steps.proofs.Loadable.{formed-loadable, loadable-formed}
+use Rattle.big_steps.proofs.Trimmed.{cleared}
+use Rattle.big_steps.specs.Devices.{Device, answers, met, sectors_of}
+use Rattle.big_steps.specs.Attaching.{Tried, refuse, write_on, flush_on, flush_both, done, read_areas, last_area, has_tail, make, clear, load_as, write_tail, open_store}
+use Rattle.big_steps.proofs.FaultlessAttaching.{size_of}
 use Rattle.snapshot.specs.Opening.{IsOpenedAs}
 use Rattle.snapshot.specs.Attaching.{both_by, writes_by}
 

@@ -21,7 +21,7 @@ ghost use Rattle.stop_laws.specs.Firm.{AddsNow};
 use crate::Snapshot;
 use device::{Block, Io};
 use in_flight::{ChunkCopy, Mark};
-use plain::CopyId;
+use plain_machine::CopyId;
 
 impl<B: Block> Snapshot<B> {
     /// Zeroes the area after the current one, for copies whose pairs fill that. At `Io` nothing changed but the device's

@@ -15,7 +15,7 @@ use crate::Snapshot;
 use crate::starting::reserve_slots;
 use device::Block;
 use in_flight::{ChunkCopy, Stage, sectors_of};
-use plain::CopyId;
+use plain_machine::CopyId;
 use sector::{Chunk, Refusal, SECTOR_BYTES};
 use store::Store;
 

@@ -22,13 +22,13 @@ ghost use Rattle.snapshot.specs.Opened.{IsOpened, IsBack, IsFlushedAs, IsOriginB
 ghost use Rattle.snapshot.specs.StopsOpening.{Leaves, MayOpen, MayPrepareAll};
 ghost use Rattle.store.specs.Reading.{AreRead};
 ghost use Rattle.stop_laws.specs.Firm.{AddsNow, IsFirm};
-ghost use Rattle.settled.specs.Attaching.{Tried, open_store, refuse, done};
-ghost use Rattle.settled.specs.Devices.{Device};
+ghost use Rattle.big_steps.specs.Attaching.{Tried, open_store, refuse, done};
+ghost use Rattle.big_steps.specs.Devices.{Device};
 ghost use Rattle.snapshot.specs.Attaching.{both_by, device_of, next_by, prepared_by};
 
 use crate::Snapshot;
 use device::{Block, Io};
-use plain::SnapId;
+use plain_machine::SnapId;
 use sector::Refusal;
 use std::alloc::Global;
 use store::{Store, open};

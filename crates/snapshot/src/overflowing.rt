@@ -1,14 +1,14 @@
 // What a write of a snapshot does that finds its store full, and that one did.
 ghost use Rattle.std.specs.Prelude.{◌≡◌, true};
-ghost use Rattle.plain.specs.Plain.{overflow_of};
-ghost use Rattle.plain.specs.declared.request.Overflowing.TheVariants.{Did, May};
+ghost use Rattle.plain_machine.specs.Plain.{overflow_of};
+ghost use Rattle.plain_machine.specs.declared.request.Overflowing.TheVariants.{Did, May};
 ghost use Rattle.volume_laws.specs.Steps.{Overflows};
 ghost use Rattle.snapshot.specs.InStep.{IsInStep};
 ghost use Rattle.snapshot.specs.Kept.{books_of};
 
 use crate::Snapshot;
 use device::Block;
-use plain::Overflowing;
+use plain_machine::Overflowing;
 
 /// A new snapshot's: whether it may overflow is asked for.
 pub(crate) fn overflowing(overflow: bool) -> Overflowing

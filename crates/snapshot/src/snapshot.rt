@@ -13,7 +13,7 @@ ghost use Rattle.snapshot.specs.Rest.{IsStill};
 use chunk_alloc::Usage;
 use device::Block;
 use in_flight::{ChunkCopy, Mark, batch, is_marked};
-use plain::{CopyId, Overflowing, SnapId};
+use plain_machine::{CopyId, Overflowing, SnapId};
 use sector::Chunk;
 use std::marker::Model;
 use store::Store;

@@ -5,12 +5,12 @@ use crate::disks::copy_of;
 use crate::machine::Machine;
 use crate::scenario::Step;
 use device::{Block, MemDisk};
-use fuse::Fuse;
 use layers::Layered;
-use plain::{Dev, SnapId};
+use plain_machine::{Dev, SnapId};
 use sector::Refusal;
 use std::alloc::Global;
 use std::test::Fail;
+use torn_disk::TornDisk;
 use volume::Stopped;
 
 /// What a stop left: the stores, the last one first, and then the origin disk; the arrays from before; and the snapshot whose store
@@ -24,7 +24,7 @@ struct Left<B: Block> {
 }
 
 /// The disk that is left of a fuse.
-fn disk_of(alloc: Global, fuse: &Fuse) -> Result<MemDisk, Fail> {
+fn disk_of(alloc: Global, fuse: &TornDisk) -> Result<MemDisk, Fail> {
     match fuse.left() {
         Some(disk) => copy_of(alloc, disk),
         None => copy_of(alloc, fuse),
@@ -34,8 +34,8 @@ fn disk_of(alloc: Global, fuse: &Fuse) -> Result<MemDisk, Fail> {
 /// The disks that are left of a machine that stops, the origin's first. A store at whose attach the fuse was blown is the last.
 fn disks_left(
     alloc: Global,
-    stopped: &mut Stopped<Fuse>,
-    stores: &[Fuse],
+    stopped: &mut Stopped<TornDisk>,
+    stores: &[TornDisk],
     count: usize,
 ) -> Result<Vec<MemDisk>, Fail> {
     let mut disks = Vec::new(alloc);
@@ -50,7 +50,7 @@ fn disks_left(
 }
 
 /// Stops a machine.
-fn stop(alloc: Global, machine: Machine<Fuse>) -> Result<Left<MemDisk>, Fail> {
+fn stop(alloc: Global, machine: Machine<TornDisk>) -> Result<Left<MemDisk>, Fail> {
     let Machine {
         volume,
         arrays,
@@ -198,6 +198,6 @@ fn judged<B: Layered + Drop>(alloc: Global, left: Left<B>) -> Result<Machine<B>,
 /// Stops a machine, loads again what is left, and holds it against the arrays from before: each snapshot shows its own, each
 /// sector up to the write that was under way, unless it was spoiled and its mark tried; and so does the origin, or where a
 /// merge was begun the merging store.
-pub fn load_again(alloc: Global, machine: Machine<Fuse>) -> Result<Machine<MemDisk>, Fail> {
+pub fn load_again(alloc: Global, machine: Machine<TornDisk>) -> Result<Machine<MemDisk>, Fail> {
     judged(alloc, stop(alloc, machine)?)
 }

@@ -1,5 +1,5 @@
 // A volume as plain arrays of a byte a sector: the origin's, each snapshot's own, and the requests in flight.
-use plain::{Dev, Failure, Reply, ReqId, SnapId};
+use plain_machine::{Dev, Failure, Reply, ReqId, SnapId};
 use sector::{Buf, SECTOR_BYTES};
 use std::alloc::{AllocError, Global};
 

@@ -1,7 +1,7 @@
 // Calls of a volume, of which nothing but the answer is said.
 use device::Block;
 use layers::Layered;
-use plain::{Dev, Event, Op, Outcome, ReqId, Request, SnapId};
+use plain_machine::{Dev, Event, Op, Outcome, ReqId, Request, SnapId};
 use sector::{Buf, Range, Refusal, SECTOR_BYTES};
 use snapshot::StoreDev;
 use std::alloc::Global;

@@ -6,7 +6,7 @@ use crate::scenario::{
     WIDE_MERGE, WRITTEN_MERGE,
 };
 use device::{FailAt, MemDisk};
-use plain::Dev;
+use plain_machine::Dev;
 use std::alloc::Global;
 use std::test::Fail;
 

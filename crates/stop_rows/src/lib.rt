@@ -1,6 +1,6 @@
 //! Volumes that stop within a write, and volumes of which one device fails once, beside plain arrays of a byte a sector.
 //!
-//! It stands on `volume`, `deeds` and `fuse` and has tests only. What is done is a list of steps; a machine does them and keeps the
+//! It stands on `volume`, `volume_history` and `torn_disk` and has tests only. What is done is a list of steps; a machine does them and keeps the
 //! plain arrays, which each answer is compared with. A fuse is blown at each write of each device in turn: what a stop there
 //! leaves is loaded again and shows the plain arrays. And each device fails at each of its operations in turn: each failure
 //! is told, and nothing else is, and a merge that stopped at it goes on to its end. Flushes by requests are issued beside a merge's

@@ -4,16 +4,16 @@ ghost use Rattle.std.specs.List.{All};
 ghost use Rattle.volume.specs.Running.{IsFitCall};
 
 use crate::lives::{SECTORS, do_one, is_filled, volume_of, write};
-use deeds::{Deed, Done};
 use device::{Block, MemDisk};
 use layers::Layered;
-use plain::{Dev, Event, Op, Outcome, Reply, Request};
+use plain_machine::{Dev, Event, Op, Outcome, Reply, Request};
 use sector::{Buf, Range, Refusal, SECTOR_BYTES};
 use snapshot::StoreDev;
 use std::alloc::Global;
 use std::process::Abort;
 use std::test::Fail;
 use volume::{Call, Returned, Volume};
+use volume_history::{Deed, Done};
 
 /// A write of sector 5 of the origin, the events that it is done by, and its Issue once more.
 fn first_write(alloc: Global) -> Result<Vec<Call>, Refusal>

@@ -1,18 +1,18 @@
 // A volume of sixteen sectors with chunks of one sector: what was written since a snapshot was taken is undone by its merge. A flush
 // of the origin is done by one Issue, and beside a merge by two.
 ghost use Rattle.std.specs.Prelude.{◌≡◌, ◌<◌, []};
-ghost use Rattle.deeds.specs.Lived.{IsFitDeed};
+ghost use Rattle.volume_history.specs.Lived.{IsFitDeed};
 
-use deeds::{Deed, Done, live};
 use device::{Block, MemDisk};
 use layers::Layered;
-use plain::{Dev, Op, Outcome, Reply, Request};
+use plain_machine::{Dev, Op, Outcome, Reply, Request};
 use sector::{Buf, Range, Refusal, SECTOR_BYTES};
 use snapshot::StoreDev;
 use std::alloc::Global;
 use std::process::Abort;
 use std::test::Fail;
 use volume::Volume;
+use volume_history::{Deed, Done, live};
 
 /// The sectors of the origin and of the store.
 pub const SECTORS: u64 = 16;

@@ -5,7 +5,7 @@ use crate::scenario::Step;
 use crate::told::{failed, is_of_mark, is_told};
 use device::Block;
 use layers::Layered;
-use plain::{Dev, Event, Outcome, ReqId, SnapId};
+use plain_machine::{Dev, Event, Outcome, ReqId, SnapId};
 use sector::{Range, Refusal};
 use std::alloc::{AllocError, Global};
 use std::test::Fail;

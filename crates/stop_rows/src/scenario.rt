@@ -1,5 +1,5 @@
 // What is done to a volume, as a list of steps.
-use plain::{Dev, Event, SnapId};
+use plain_machine::{Dev, Event, SnapId};
 
 /// One thing that is done. Chunks are counted from 0; each sector of a chunk that is written is filled with one byte.
 #[derive(Clone, Copy)]

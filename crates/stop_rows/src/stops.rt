@@ -7,10 +7,10 @@ use crate::scenario::{
     Scenario, Step, WHOLE_AREA, WIDE_MERGE, WRITTEN_MERGE,
 };
 use device::MemDisk;
-use fuse::Fuse;
-use plain::Dev;
+use plain_machine::Dev;
 use std::alloc::Global;
 use std::test::Fail;
+use torn_disk::TornDisk;
 
 /// More writes and flushes than a run has.
 const MOST: u64 = 10_000;
@@ -28,8 +28,13 @@ static FOUR_SECTORS: [&[bool]; 4] = [
 ];
 
 /// A fuse over a disk.
-fn fuse_over(alloc: Global, disk: MemDisk, changes: u64, new: &[bool]) -> Result<Fuse, Fail> {
-    match Fuse::new(alloc, disk, changes, Vec::from_slice(alloc, new)?) {
+fn torn_disk_over(
+    alloc: Global,
+    disk: MemDisk,
+    changes: u64,
+    new: &[bool],
+) -> Result<TornDisk, Fail> {
+    match TornDisk::new(alloc, disk, changes, Vec::from_slice(alloc, new)?) {
         Ok(fuse) => Ok(fuse),
         Err((refusal, _)) => Err(Fail::from(refusal)),
     }
@@ -42,12 +47,12 @@ pub fn fused(
     place: usize,
     k: u64,
     new: &[bool],
-) -> Result<Machine<Fuse>, Fail> {
+) -> Result<Machine<TornDisk>, Fail> {
     let mut fuses = Vec::new(alloc);
     let mut at = scenario.stores.len();
     for disk in disks_of(alloc, scenario)? {
         let changes = if at == place { k } else { u64::MAX };
-        fuses.push(fuse_over(alloc, disk, changes, new)?)?;
+        fuses.push(torn_disk_over(alloc, disk, changes, new)?)?;
         at = at.saturating_sub(1);
     }
     Machine::new(alloc, fuses, scenario.chunk, true)

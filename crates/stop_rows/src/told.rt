@@ -2,7 +2,7 @@
 use crate::arrays::Arrays;
 use crate::calls::{is_spoilt, store_faults};
 use device::Block;
-use plain::{Event, Failure, Outcome, Reply};
+use plain_machine::{Event, Failure, Outcome, Reply};
 use volume::Volume;
 
 /// How many operations of a volume's devices failed, and how many of its snapshots are spoiled or stopped merging.

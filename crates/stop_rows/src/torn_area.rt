@@ -5,7 +5,7 @@ use crate::scenario::{Scenario, Step};
 use crate::stops::{fused, stop_at_each};
 use chunk_alloc::Usage;
 use device::{Block, MemDisk};
-use plain::{Dev, Event};
+use plain_machine::{Dev, Event};
 use sector::{Range, SECTOR_BYTES};
 use std::alloc::Global;
 use std::test::Fail;

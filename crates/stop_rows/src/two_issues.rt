@@ -3,7 +3,7 @@
 // the flush was answered.
 use crate::calls;
 use device::MemDisk;
-use plain::{Dev, Event, Op, Outcome, Reply, ReqId, Request, SnapId};
+use plain_machine::{Dev, Event, Op, Outcome, Reply, ReqId, Request, SnapId};
 use sector::{Range, SECTOR_BYTES};
 use std::alloc::Global;
 use std::test::Fail;

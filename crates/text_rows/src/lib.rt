@@ -2,7 +2,7 @@
 //! out by the time that more is read, the numbers of lines, the trace behind them, the counts of a summary, and a text that is cut at any byte.
 //!
 //! It stands on `runner` alone and has tests only. Whole texts of commands with the answers that are wanted for them are
-//! the files of `rows`.
+//! the files of `stored_rows`.
 #![tactic(auto)]
 
 #[cfg(test)]

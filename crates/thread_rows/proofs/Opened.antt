@@ -1,7 +1,7 @@
 -- What a rig over one audit is made from.
 use Rattle.std.proofs.Common.{arith, ◌≡◌, ◌<◌, ℕ, zero, suc, List, [], ◌∷◌, ◌++◌, length, get_or, refl, ap, ◌∙◌, subst, sym}
 use Rattle.device.specs.Layers.{Layer}
-use Rattle.journal.specs.Books.{AuditShape}
+use Rattle.audit.specs.Books.{AuditShape}
 use Rattle.volume_threads.specs.Rigs.{AreOpened, IsRoomOf, OpenedShape, boards_in, fixed_in, histories_in, start_in}
 
 -- the audits are the one that was put into an empty vector

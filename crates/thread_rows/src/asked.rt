@@ -4,7 +4,7 @@ ghost use Rattle.std.specs.Prelude.{◌≡◌, ◌*◌, ◌<◌, ℕ, length, tr
 use between_threads::{Gate, PlaceState, PlaceUsage};
 use device::Block;
 use layers::Layered;
-use plain::{Dev, Op, Overflowing, Request, SnapId};
+use plain_machine::{Dev, Op, Overflowing, Request, SnapId};
 use sector::{Buf, Range, Refusal, SECTOR_BYTES};
 use std::alloc::Global;
 use std::sync::Wait;

@@ -1,10 +1,10 @@
 // An audit of a volume of sixteen sectors with chunks of one sector, and calls of it.
 ghost use Rattle.std.specs.Prelude.{◌≡◌, ◌<◌, ◌≤◌, []};
 
+use audit::{Audit, Receipt};
 use device::{Block, MemDisk};
-use journal::{Audit, Receipt};
 use layers::Layered;
-use plain::{Dev, Event, NotDue, Op, ReqId, Request, SnapId};
+use plain_machine::{Dev, Event, NotDue, Op, ReqId, Request, SnapId};
 use sector::{Buf, Range, Refusal, SECTOR_BYTES};
 use snapshot::StoreDev;
 use std::alloc::Global;

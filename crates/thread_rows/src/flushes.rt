@@ -2,9 +2,9 @@
 ghost use Rattle.std.specs.Prelude.{◌<◌};
 
 use crate::calling::{answer, attach, audit_of, submit_flush, submit_write};
+use audit::{Audit, Receipt, Verdict};
 use device::MemDisk;
-use journal::{Audit, Receipt, Verdict};
-use plain::{Dev, Event, NotDue, Op, Outcome, Reply, ReqId};
+use plain_machine::{Dev, Event, NotDue, Op, Outcome, Reply, ReqId};
 use sector::Refusal;
 use std::alloc::Global;
 use std::process::Abort;

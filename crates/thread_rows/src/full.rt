@@ -1,9 +1,9 @@
 // A journal that is full refuses, and after each checkpoint takes as many entries again, in the same memory.
 use crate::calling::{answer, attach, audit_of, detach, submit_read, submit_write};
+use audit::{Audit, MAX_ENTRIES};
 use device::MemDisk;
-use journal::{Audit, MAX_ENTRIES};
 use layers::Layered;
-use plain::Dev;
+use plain_machine::Dev;
 use sector::Refusal;
 use std::alloc::Global;
 use std::fs;

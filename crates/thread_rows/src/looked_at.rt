@@ -1,17 +1,17 @@
 // A seat reads a board while another one's read holds the volume's lock.
 ghost use denote.Param.Send.{IsSend, IsSync};
 ghost use Rattle.std.specs.Prelude.{◌≡◌, ◌<◌, ℕ, [], length, slice_index_or};
-ghost use Rattle.journal.specs.Books.{AuditShape};
+ghost use Rattle.audit.specs.Books.{AuditShape};
 ghost use Rattle.volume_threads.specs.Rigs.{IsRoomOf};
 
 use crate::open_gate::OpenGate;
 use crate::slow::Slow;
 use crate::waiting::Waiting;
+use audit::Audit;
 use between_threads::{PlaceState, PlaceUsage};
 use device::MemDisk;
-use journal::Audit;
 use layers::Layered;
-use plain::Dev;
+use plain_machine::Dev;
 use sector::{Range, Refusal};
 use snapshot::StoreDev;
 use std::alloc::Global;

@@ -2,8 +2,8 @@
 use crate::asked::Asked;
 use crate::waiting::{Meeting, MeetingGate};
 use crate::watched::{volume_of_two, watched};
-use journal::Audit;
-use plain::Dev;
+use audit::Audit;
+use plain_machine::Dev;
 use std::test::Fail;
 
 /// A write of one chunk of the origin, of which two copies are made.

@@ -2,10 +2,10 @@
 ghost use Rattle.std.specs.Prelude.{◌≡◌, ◌<◌};
 
 use crate::calling::{answer, attach, audit_of, submit_write};
+use audit::{Audit, Receipt, Verdict};
 use device::MemDisk;
-use journal::{Audit, Receipt, Verdict};
 use layers::Layered;
-use plain::{Dev, Op, Reply, Request};
+use plain_machine::{Dev, Op, Reply, Request};
 use sector::{Buf, Range, Refusal, SECTOR_BYTES};
 use std::alloc::Global;
 use std::process::Abort;

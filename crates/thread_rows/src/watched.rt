@@ -1,16 +1,16 @@
 // After each call of two seats, made in turn, the boards say what the status of a volume does that was asked the same.
 ghost use denote.Param.Send.{IsSend, IsSync};
 ghost use Rattle.std.specs.Prelude.{◌≡◌, ◌<◌, ℕ, [], length, slice_index_or, true, IfOk};
-ghost use Rattle.journal.specs.Books.{AuditShape};
+ghost use Rattle.audit.specs.Books.{AuditShape};
 ghost use Rattle.volume_threads.specs.Rigs.{IsRoomOf};
 
 use crate::asked::{Asked, SECTORS, ask_seat, ask_volume, status_of};
 use crate::open_gate::OpenGate;
+use audit::Audit;
 use between_threads::{Gate, PlaceState, PlaceUsage};
 use device::MemDisk;
-use journal::Audit;
 use layers::Layered;
-use plain::{Dev, SnapId};
+use plain_machine::{Dev, SnapId};
 use sector::Refusal;
 use snapshot::StoreDev;
 use std::alloc::Global;

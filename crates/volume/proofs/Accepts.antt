@@ -2,9 +2,9 @@
 use Rattle.std.specs.Prelude.{Result, Ok, Err, IfOk, IfErr}
 use Rattle.std.proofs.Common.{◌≡◌, ℕ, List, [], ◌∷◌, ◌++◌, map, refl, sym, ◌∙◌, ap, subst}
 use Rattle.device.specs.Layers.{Layer}
-use Rattle.plain.specs.Legal.{IsSubmitted}
-use Rattle.plain.specs.declared.request.Request.{Request}
-use Rattle.plain.specs.Plain.{InFlight}
+use Rattle.plain_machine.specs.Legal.{IsSubmitted}
+use Rattle.plain_machine.specs.declared.request.Request.{Request}
+use Rattle.plain_machine.specs.Plain.{InFlight}
 use Rattle.in_flight.specs.Kinds.{in_flight, kind_of}
 use Rattle.in_flight.specs.declared.flights.Flight.{Flight}
 use Rattle.in_flight.specs.declared.flights.Kind.{Kind}
@@ -16,7 +16,7 @@ use Rattle.volume.specs.Submitting.{IsEntered, IsAcceptedAs, SameButRoom, lives_
 use Rattle.volume.specs.Exact.{IsSubmittedAs}
 use Rattle.volume.proofs.Keeping.{keeps_entered}
 use Rattle.volume.proofs.Unflushed.{kept_is}
-use Rattle.plain.specs.Kept.{kept, kept_range}
+use Rattle.plain_machine.specs.Kept.{kept, kept_range}
 
 -- one more is in flight
 pub entered_flown : (rs qs : List Flight) (f : Flight) → map in_flight qs ≡ map in_flight rs → map in_flight (qs ++ f ∷ []) ≡ map in_flight rs ++ in_flight f ∷ []

@@ -4,12 +4,12 @@ use Rattle.std.proofs.lemmas.List.{map-id}
 use Rattle.std.specs.List.{list_any}
 use Rattle.std.proofs.lemmas.Bool.{eq-eqb, or_parts, true≢false}
 use Rattle.device.specs.Layers.{Layer}
-use Rattle.plain.specs.Plain.{InFlight}
-use Rattle.plain.specs.Unwritten.{writes, is_written}
-use Rattle.plain.specs.declared.request.Dev.{Dev}
-use Rattle.plain.specs.declared.request.Dev.TheVariants.{Origin, Snap}
-use Rattle.plain.specs.declared.request.Op.{Op}
-use Rattle.plain.specs.declared.request.Op.TheVariants.{Read, Write, Flush}
+use Rattle.plain_machine.specs.Plain.{InFlight}
+use Rattle.plain_machine.specs.Unwritten.{writes, is_written}
+use Rattle.plain_machine.specs.declared.request.Dev.{Dev}
+use Rattle.plain_machine.specs.declared.request.Dev.TheVariants.{Origin, Snap}
+use Rattle.plain_machine.specs.declared.request.Op.{Op}
+use Rattle.plain_machine.specs.declared.request.Op.TheVariants.{Read, Write, Flush}
 use Rattle.sector.specs.declared.range.Range.{Range}
 use Rattle.in_flight.specs.Kinds.{in_flight}
 use Rattle.stop_laws.specs.Clauses.{Gives}

@@ -7,16 +7,16 @@ use Rattle.std.proofs.lemmas.Nat.{div-add-mod'}
 use Rattle.sector.specs.declared.range.Range.{Range}
 use Rattle.sector.specs.declared.refusal.Refusal.{Refusal}
 use Rattle.sector.specs.declared.refusal.Refusal.TheVariants.{OutOfRange, TooMany}
-use Rattle.plain.specs.declared.request.Request.{Request}
-use Rattle.plain.specs.declared.request.Op.{Op}
-use Rattle.plain.specs.declared.request.Op.TheVariants.{Read, Write, Flush}
-use Rattle.plain.specs.Kept.{kept_range}
-use Rattle.plain.specs.declared.request.Dev.TheVariants.{Origin}
+use Rattle.plain_machine.specs.declared.request.Request.{Request}
+use Rattle.plain_machine.specs.declared.request.Op.{Op}
+use Rattle.plain_machine.specs.declared.request.Op.TheVariants.{Read, Write, Flush}
+use Rattle.plain_machine.specs.Kept.{kept_range}
+use Rattle.plain_machine.specs.declared.request.Dev.TheVariants.{Origin}
 use Rattle.in_flight.specs.declared.flights.Kind.TheVariants.{SnapRead, SnapWrite}
 use Rattle.in_flight.specs.Kinds.{kind_of, kind_at}
 use Rattle.volume_laws.specs.Published.{IsPiece}
 use Rattle.volume.specs.Volumed.{Volumed, piece_with}
-use Rattle.snapshots.specs.Numbers.{count_in}
+use Rattle.snapshot_list.specs.Numbers.{count_in}
 use Rattle.volume.specs.Submitting.{first_of_two, range_refusal, limit_refusal, dev_refusal, shut_refusal, submit_refusal, is_piece_of, are_too_many, starting}
 
 both_none : (a b : Option Refusal) → first_of_two a b ≡ None → (a ≡ None) × (b ≡ None)

@@ -8,8 +8,8 @@ use Rattle.std.proofs.lemmas.List.Edits.{length-remove}
 use Rattle.std.proofs.lemmas.List.Quantifiers.{position-Some}
 use Rattle.sector.specs.Bytes.{next_count}
 use Rattle.device.specs.Layers.{Layer, is_loud}
-use Rattle.plain.specs.declared.event.Event.{Event}
-use Rattle.plain.specs.declared.event.Outcome.{Outcome}
+use Rattle.plain_machine.specs.declared.event.Event.{Event}
+use Rattle.plain_machine.specs.declared.event.Outcome.{Outcome}
 use Rattle.in_flight.specs.Due.{number_of_copy, number_of_mark, is_publishable}
 use Rattle.in_flight.specs.Kinds.{in_flight}
 use Rattle.in_flight.specs.Routes.{is_reading}
@@ -32,14 +32,14 @@ use Rattle.volume_laws.proofs.WaitingAgain.{waits_published, waits_tried}
 use Rattle.volume_laws.proofs.Left.{unmark_left, tried_left}
 use Rattle.volume_laws.proofs.Lists.{map-remove}
 use Rattle.snapshot.specs.Kept.{Kept, books_of as snap_books, due_of_kept, unpublished}
-use Rattle.snapshots.specs.Rooms.{merge_books, room_of}
+use Rattle.snapshot_list.specs.Rooms.{merge_books, room_of}
 use Rattle.volume_laws.specs.MergeRooms.{unpublished as unpublished_room}
 use Rattle.volume_laws.proofs.MergeRooms.{KeepsSpace}
 use Rattle.volume_laws.proofs.MergeRoomEvents.{publish_room, tried_room}
 use Rattle.volume.specs.Volumed.{Volumed, books_of}
-use Rattle.snapshots.specs.Numbers.{numbers_in}
+use Rattle.snapshot_list.specs.Numbers.{numbers_in}
 use Rattle.volume.specs.Whole.{IsWhole, IsCounted}
-use Rattle.snapshots.specs.Finding.{is_trying, is_mark_of}
+use Rattle.snapshot_list.specs.Finding.{is_trying, is_mark_of}
 use Rattle.volume.specs.Causes.{HasCause}
 use Rattle.volume.proofs.Changing.{SameDisk, same_disk, StaysAttached, changed, books_within, books_is, changes, few_less, few_same}
 use Rattle.volume.proofs.Counting.{counts_store, store_within}

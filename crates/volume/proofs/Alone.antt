@@ -1,10 +1,10 @@
 -- A volume of which nothing is merged.
 use Rattle.std.proofs.Common.{◌≡◌, ℕ, Bool, List, Option, None, ap}
 use Rattle.device.specs.Layers.{Layer}
-use Rattle.plain.specs.declared.event.Event.{Event}
+use Rattle.plain_machine.specs.declared.event.Event.{Event}
 use Rattle.volume_laws.specs.Due.{due_of, is_due}
 use Rattle.merge.specs.Merging.{Merging}
-use Rattle.snapshots.specs.Rooms.{merge_books}
+use Rattle.snapshot_list.specs.Rooms.{merge_books}
 use Rattle.volume.specs.Volumed.{Volumed, dues_of, merge_due, due_by, is_due_by, next_of, is_due_of, plain_of}
 use Rattle.volume.specs.Shown.{shown_origin}
 

@@ -5,15 +5,15 @@ use Rattle.std.specs.Prelude.{Ok, sum_by, count_by}
 use Rattle.std.proofs.lemmas.List.{get_or_default}
 use Rattle.device.specs.Layers.{Layer}
 use Rattle.store_bytes.specs.Picture.{place_of}
-use Rattle.plain.specs.declared.event.Event.TheVariants.{Issue}
-use Rattle.plain.specs.declared.event.Outcome.TheVariants.{Reply as Replied}
-use Rattle.plain.specs.declared.request.Dev.{Dev}
-use Rattle.plain.specs.declared.request.Dev.TheVariants.{Origin as ToOrigin, Snap}
-use Rattle.plain.specs.declared.request.Op.{Op}
-use Rattle.plain.specs.declared.request.Op.TheVariants.{Flush, Read, Write}
-use Rattle.plain.specs.declared.request.Reply.{Reply}
-use Rattle.plain.specs.declared.request.Request.{Request}
-use Rattle.plain.specs.Kept.{kept_range}
+use Rattle.plain_machine.specs.declared.event.Event.TheVariants.{Issue}
+use Rattle.plain_machine.specs.declared.event.Outcome.TheVariants.{Reply as Replied}
+use Rattle.plain_machine.specs.declared.request.Dev.{Dev}
+use Rattle.plain_machine.specs.declared.request.Dev.TheVariants.{Origin as ToOrigin, Snap}
+use Rattle.plain_machine.specs.declared.request.Op.{Op}
+use Rattle.plain_machine.specs.declared.request.Op.TheVariants.{Flush, Read, Write}
+use Rattle.plain_machine.specs.declared.request.Reply.{Reply}
+use Rattle.plain_machine.specs.declared.request.Request.{Request}
+use Rattle.plain_machine.specs.Kept.{kept_range}
 use Rattle.in_flight.specs.Due.{is_routed}
 use Rattle.in_flight.specs.Kinds.{kind_at, kind_of, room_of}
 use Rattle.in_flight.specs.declared.flights.Flight.{Flight}
@@ -22,10 +22,10 @@ use Rattle.in_flight.specs.declared.flights.Route.TheVariants.{Origin, Store}
 use Rattle.volume_laws.specs.Accepting.{IsTakenIn}
 use Rattle.volume_laws.specs.Published.{is_clear}
 use Rattle.snapshot.specs.Kept.{Kept, books_of as snap_books}
-use Rattle.snapshots.specs.Finding.{place_of_snap}
-use Rattle.snapshots.specs.Numbers.{count_in}
-use Rattle.snapshots.specs.Routing.{is_merged_at, place_at}
-use Rattle.snapshots.specs.Starting.{starts}
+use Rattle.snapshot_list.specs.Finding.{place_of_snap}
+use Rattle.snapshot_list.specs.Numbers.{count_in}
+use Rattle.snapshot_list.specs.Routing.{is_merged_at, place_at}
+use Rattle.snapshot_list.specs.Starting.{starts}
 use Rattle.in_flight.specs.Routes.{read_route_of}
 use Rattle.volume.specs.AtDisk.{GoesToDisk, IsReadOf}
 use Rattle.volume.specs.DoesServe.{IsServedAtOnce}

@@ -9,21 +9,21 @@ use Rattle.sector.specs.Bytes.{sector_at, sectors_at, with_sectors, next_count}
 use Rattle.sector.specs.declared.range.Range.{Range}
 use Rattle.device.specs.Layers.{Layer, is_loud}
 use Rattle.device.specs.declared.operation.Operation.TheVariants.{Reads, Writes}
-use Rattle.plain.specs.declared.event.Event.TheVariants.{Issue}
-use Rattle.plain.specs.declared.event.Outcome.TheVariants.{Reply as Replied}
-use Rattle.plain.specs.declared.request.Dev.TheVariants.{Snap}
-use Rattle.plain.specs.declared.request.Failure.TheVariants.{Io}
-use Rattle.plain.specs.declared.request.Op.{Op}
-use Rattle.plain.specs.declared.request.Op.TheVariants.{Read, Write}
-use Rattle.plain.specs.declared.request.Reply.{Reply}
-use Rattle.plain.specs.declared.request.Reply.TheVariants.{Data, Written as IsWritten, Refused as IsRefused}
+use Rattle.plain_machine.specs.declared.event.Event.TheVariants.{Issue}
+use Rattle.plain_machine.specs.declared.event.Outcome.TheVariants.{Reply as Replied}
+use Rattle.plain_machine.specs.declared.request.Dev.TheVariants.{Snap}
+use Rattle.plain_machine.specs.declared.request.Failure.TheVariants.{Io}
+use Rattle.plain_machine.specs.declared.request.Op.{Op}
+use Rattle.plain_machine.specs.declared.request.Op.TheVariants.{Read, Write}
+use Rattle.plain_machine.specs.declared.request.Reply.{Reply}
+use Rattle.plain_machine.specs.declared.request.Reply.TheVariants.{Data, Written as IsWritten, Refused as IsRefused}
 use Rattle.in_flight.specs.Due.{is_routed}
 use Rattle.in_flight.specs.Kinds.{in_flight, room_at}
 use Rattle.in_flight.specs.declared.flights.Flight.{Flight}
 use Rattle.in_flight.specs.declared.flights.Route.TheVariants.{Origin, Store}
 use Rattle.stop_laws.proofs.Firm.{adds_none}
 use Rattle.store.specs.Operations.{IsOneOperation}
-use Rattle.snapshots.proofs.Finds.{position_within}
+use Rattle.snapshot_list.proofs.Finds.{position_within}
 use Rattle.volume_laws.specs.Held.{RequestHolds}
 use Rattle.volume_laws.specs.Steps.{WritesDisk}
 use Rattle.snapshot.specs.Kept.{Kept}

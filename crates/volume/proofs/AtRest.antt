@@ -6,8 +6,8 @@ use Rattle.std.proofs.lemmas.Bool.{cases_lt, eqb-true}
 use Rattle.std.proofs.lemmas.List.{drop_more, nil_from_length, get_or_default}
 use Rattle.std.proofs.lemmas.List.Elements.{All-cons}
 use Rattle.device.specs.Layers.{Layer, is_loud}
-use Rattle.plain.specs.declared.request.Reply.{Reply}
-use Rattle.settled.specs.Order.{IsInOrder}
+use Rattle.plain_machine.specs.declared.request.Reply.{Reply}
+use Rattle.big_steps.specs.Order.{IsInOrder}
 use Rattle.event_machine.specs.Held.{MergeHeld}
 use Rattle.event_machine.specs.MergeRest.{IsMergeResting, IsBetween}
 use Rattle.event_machine.specs.MergeSeen.{MergeSeen, held_in, merge_held_of as held_merge}

@@ -12,8 +12,8 @@ use Rattle.std.proofs.lemmas.List.Sums.{sum_by-append}
 use Rattle.chunk.specs.Sizes.{is_chunk}
 use Rattle.device.specs.Layers.{Layer}
 use Rattle.store_bytes.specs.Picture.{picture}
-use Rattle.plain.specs.declared.request.Overflowing.{Overflowing}
-use Rattle.plain.specs.Legal.{IsTaken}
+use Rattle.plain_machine.specs.declared.request.Overflowing.{Overflowing}
+use Rattle.plain_machine.specs.Legal.{IsTaken}
 use Rattle.volume_laws.specs.Books.{number_of}
 use Rattle.volume_laws.specs.Steps.{Attaches, IsNewSnap}
 use Rattle.volume_laws.specs.Whole.{plain_of as plain_books}
@@ -22,7 +22,7 @@ use Rattle.volume_laws.proofs.Waiting.{waits_none}
 use Rattle.snapshot.specs.Kept.{Kept, books_of as snap_books}
 use Rattle.merge.specs.Merging.{Merging}
 use Rattle.volume.specs.Volumed.{Volumed, books_of, plain_of}
-use Rattle.snapshots.specs.Numbers.{number_of_snap, numbers_in, count_in}
+use Rattle.snapshot_list.specs.Numbers.{number_of_snap, numbers_in, count_in}
 use Rattle.volume.specs.Whole.{AreNumbers, SharesNone, IsAttached, IsWhole, GoesOn, IsCounted, starts_left}
 use Rattle.volume.specs.Taking.{taking_refusal}
 use Rattle.volume.proofs.Shown.{shown}

@@ -10,10 +10,10 @@ use Rattle.stop_laws.specs.Stop.{MayLeave}
 use Rattle.stop_laws.specs.Again.{IsOpen}
 use Rattle.volume_laws.proofs.Lists.{All-remove}
 use Rattle.snapshot.specs.Kept.{Kept}
-use Rattle.snapshots.proofs.Finds.{position_within}
+use Rattle.snapshot_list.proofs.Finds.{position_within}
 use Rattle.merge.specs.Due.{is_finished_of}
 use Rattle.merge.specs.Merging.{Merging}
-use Rattle.snapshots.specs.Keeping.{unkept}
+use Rattle.snapshot_list.specs.Keeping.{unkept}
 use Rattle.volume.specs.Beginning.{merging_from, IsMergeBegun}
 use Rattle.volume.specs.Finishing.{finish_with}
 use Rattle.volume.specs.Handing.{HandsOver, OpensTaken}

@@ -10,17 +10,17 @@ use Rattle.device.specs.Layers.{Layer}
 use Rattle.sector.specs.declared.pair.Pair.{Pair}
 use Rattle.store.specs.declared.state.State.{State}
 use Rattle.sector.specs.declared.refusal.Refusal.TheVariants.{Invalid, NotQuiet}
-use Rattle.plain.specs.Plain.{Plain}
-use Rattle.plain.specs.Legal.{IsBegun}
-use Rattle.plain.specs.declared.request.Reply.{Reply}
+use Rattle.plain_machine.specs.Plain.{Plain}
+use Rattle.plain_machine.specs.Legal.{IsBegun}
+use Rattle.plain_machine.specs.declared.request.Reply.{Reply}
 use Rattle.volume_laws.proofs.Lists.{map-remove}
 use Rattle.event_machine.specs.Merging.{begun}
 use Rattle.snapshot.specs.Kept.{Kept}
-use Rattle.snapshots.specs.Finding.{place_of_snap}
-use Rattle.snapshots.proofs.Finds.{position_within}
+use Rattle.snapshot_list.specs.Finding.{place_of_snap}
+use Rattle.snapshot_list.proofs.Finds.{position_within}
 use Rattle.merge.specs.Merging.{Merging}
-use Rattle.snapshots.specs.Keeping.{unkept, kept_for}
-use Rattle.snapshots.proofs.Unkept.{kept_unkept}
+use Rattle.snapshot_list.specs.Keeping.{unkept, kept_for}
+use Rattle.snapshot_list.proofs.Unkept.{kept_unkept}
 use Rattle.volume.specs.Beginning.{IsMergeBegun, begin_refusal, begin_with, beside_refusal, merging_from, place_refusal}
 use Rattle.volume.specs.Causes.{lives_of}
 use Rattle.volume.specs.Leaving.{is_quiet_of}

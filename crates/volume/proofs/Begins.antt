@@ -18,10 +18,10 @@ use Rattle.volume_laws.proofs.MergeRooms.{KeepsRoom}
 use Rattle.volume_laws.proofs.MergeRoomEvents.{start_room, spoil_room}
 use Rattle.snapshot.specs.Kept.{Kept}
 use Rattle.snapshot.specs.Calls.{StartsAt}
-use Rattle.snapshots.specs.Starting.{spoilt_of}
-use Rattle.snapshots.specs.Rooms.{room_of}
+use Rattle.snapshot_list.specs.Starting.{spoilt_of}
+use Rattle.snapshot_list.specs.Rooms.{room_of}
 use Rattle.volume.specs.Volumed.{Volumed, books_of}
-use Rattle.snapshots.specs.Numbers.{number_of_snap, numbers_in, count_in, merged_count}
+use Rattle.snapshot_list.specs.Numbers.{number_of_snap, numbers_in, count_in, merged_count}
 use Rattle.volume.specs.Whole.{AreNumbers, SharesNone, IsAttached, IsWhole, IsCounted, starts_left}
 use Rattle.volume.proofs.Changing.{goes_changed}
 

@@ -9,9 +9,9 @@ use Rattle.std.proofs.lemmas.List.Elements.{All-cons, All-map, All-nil}
 use Rattle.std.proofs.lemmas.List.Quantifiers.{all_pairs_remove}
 use Rattle.std.proofs.lemmas.Nat.{div-mul-add}
 use Rattle.device.specs.Layers.{Layer, is_loud}
-use Rattle.plain.specs.Plain.{Plain}
-use Rattle.plain.specs.Legal.{IsBegun}
-use Rattle.plain.specs.declared.request.Reply.{Reply}
+use Rattle.plain_machine.specs.Plain.{Plain}
+use Rattle.plain_machine.specs.Legal.{IsBegun}
+use Rattle.plain_machine.specs.declared.request.Reply.{Reply}
 use Rattle.in_flight.specs.Copies.{pair_of}
 use Rattle.in_flight.specs.declared.flights.Flight.{Flight}
 use Rattle.volume_laws.specs.Books.{SnapBooks, MergeBooks}
@@ -31,10 +31,10 @@ use Rattle.event_machine.specs.Merging.{begin, begun, merging_of}
 use Rattle.event_machine.specs.MergeSeen.{held_in, merge_held_of}
 use Rattle.event_machine.specs.Stepping.{first_that, for_some, without_first}
 use Rattle.snapshot.specs.Kept.{Kept, books_of as snap_books}
-use Rattle.snapshots.specs.Numbers.{number_of_snap, count_in}
+use Rattle.snapshot_list.specs.Numbers.{number_of_snap, count_in}
 use Rattle.merge.specs.Merging.{Merging, due_of as merging_due}
-use Rattle.snapshots.specs.Keeping.{kept_back, kept_for}
-use Rattle.snapshots.specs.Rooms.{merge_books, room_of}
+use Rattle.snapshot_list.specs.Keeping.{kept_back, kept_for}
+use Rattle.snapshot_list.specs.Rooms.{merge_books, room_of}
 use Rattle.volume.specs.Beginning.{merging_from}
 use Rattle.volume.specs.Volumed.{Volumed, books_of, is_loud_in_all, is_loud_with, plain_of}
 use Rattle.volume.specs.Whole.{AreNumbers, SharesNone, IsAttached, IsCounted, IsMerged, IsWhole, starts_left}

@@ -18,9 +18,9 @@ use Rattle.volume_laws.proofs.Due.{first_none}
 use Rattle.volume_laws.proofs.Lists.{Any-remove}
 use Rattle.volume_laws.proofs.Nexts.{next_unpublished, span, touched_one}
 use Rattle.snapshot.specs.Kept.{Kept, books_of as snap_books, unpublished}
-use Rattle.snapshots.specs.Starting.{lacks_chunk, next_chunk_of}
-use Rattle.snapshots.specs.MergeStarting.{GoesOnBehind, LacksBehind, next_for}
-use Rattle.snapshots.proofs.Sought.{first_of_run}
+use Rattle.snapshot_list.specs.Starting.{lacks_chunk, next_chunk_of}
+use Rattle.snapshot_list.specs.MergeStarting.{GoesOnBehind, LacksBehind, next_for}
+use Rattle.snapshot_list.proofs.Sought.{first_of_run}
 use Rattle.merge.specs.Lists.{next_of_group}
 use Rattle.merge.specs.Merging.{Merging}
 use Rattle.volume.specs.Volumed.{Volumed}

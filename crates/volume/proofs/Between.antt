@@ -6,10 +6,10 @@ use Rattle.std.specs.Prelude.{Err, IfErr, Ok, Result}
 use Rattle.sector.specs.declared.refusal.Refusal.{Refusal}
 use Rattle.sector.specs.declared.refusal.Refusal.TheVariants.{NotMerging}
 use Rattle.device.specs.Layers.{Layer}
-use Rattle.plain.specs.Plain.{overflow_of}
-use Rattle.settled.specs.Attaching.{attached, refused_attach}
-use Rattle.settled.specs.Refusals.{is_starved}
-use Rattle.settled.proofs.Starved.{starved_by}
+use Rattle.plain_machine.specs.Plain.{overflow_of}
+use Rattle.big_steps.specs.Attaching.{attached, refused_attach}
+use Rattle.big_steps.specs.Refusals.{is_starved}
+use Rattle.big_steps.proofs.Starved.{starved_by}
 use Rattle.store.specs.Opening.{faults_after}
 use Rattle.snapshot.specs.declared.opening.StoreDev.{StoreDev}
 use Rattle.volume.specs.Attached.{store_of, volume_in}

@@ -4,13 +4,13 @@ use Rattle.std.specs.List.{All}
 use Rattle.std.specs.Prelude.{is_some}
 use Rattle.device.specs.Layers.{Layer, is_loud}
 use Rattle.store_bytes.specs.Picture.{place_of}
-use Rattle.plain.specs.Plain.{did_overflow}
+use Rattle.plain_machine.specs.Plain.{did_overflow}
 use Rattle.in_flight.specs.Kinds.{kind_of, room_of}
 use Rattle.in_flight.specs.Routes.{flush_route_of, read_route_of}
 use Rattle.in_flight.specs.declared.flights.Flight.{Flight}
 use Rattle.in_flight.specs.declared.flights.Kind.TheVariants.{OriginRead, OriginWrite, OriginFlush, SnapRead, SnapWrite, SnapFlush}
 use Rattle.in_flight.specs.declared.flights.Route.TheVariants.{Store, Held, Whole}
-use Rattle.plain.specs.Kept.{kept}
+use Rattle.plain_machine.specs.Kept.{kept}
 use Rattle.volume_laws.specs.Held.{RequestHolds}
 use Rattle.volume_laws.specs.Books.{MergeBooks}
 use Rattle.volume_laws.specs.Again.{merged_place, new_route}
@@ -19,7 +19,7 @@ use Rattle.volume_laws.specs.Waits.{IsSaving, IsCopying, is_grouped}
 use Rattle.volume_laws.specs.Accepting.{IsPrepared, IsTakenIn, IsBeside}
 use Rattle.volume_laws.proofs.Entries.{origin_flush_is, snap_flush_is}
 use Rattle.volume_laws.proofs.Wholes.{new_whole}
-use Rattle.plain.specs.declared.request.Op.TheVariants.{Flush}
+use Rattle.plain_machine.specs.declared.request.Op.TheVariants.{Flush}
 use Rattle.volume_laws.proofs.Beside.{beside_origin_read, beside_origin_write, beside_origin_flush, beside_snap_read, beside_snap_write, beside_snap_flush}
 use Rattle.volume_laws.proofs.Accepted.{origin_read_taken, origin_write_taken, origin_flush_taken, snap_flush_taken, snap_read_taken, snap_write_held_taken, snap_write_placed_taken}
 use Rattle.snapshot.specs.Kept.{Kept, books_of as snap_books}

@@ -26,9 +26,9 @@ use Rattle.volume_laws.proofs.MergeRoomEvents.{rooms_changed}
 use Rattle.volume_laws.proofs.MergeSaved.{KeepsSaved, goes_changed as goes_set}
 use Rattle.merge.specs.Merging.{Merging, due_of as merging_due}
 use Rattle.snapshot.specs.Kept.{Kept, books_of as snap_books, due_of_kept}
-use Rattle.snapshots.specs.Rooms.{merge_books, room_of}
+use Rattle.snapshot_list.specs.Rooms.{merge_books, room_of}
 use Rattle.volume.specs.Volumed.{Volumed, books_of, piece_of, piece_with, is_loud_in_all, left_by, left_in_all, merge_due, dues_of, is_loud_with}
-use Rattle.snapshots.specs.Numbers.{number_of_snap, numbers_in, count_in, merged_count}
+use Rattle.snapshot_list.specs.Numbers.{number_of_snap, numbers_in, count_in, merged_count}
 use Rattle.volume.specs.Whole.{AreNumbers, SharesNone, IsAttached, IsWhole, GoesOn, IsCounted, starts_left}
 use Rattle.volume.proofs.Lists.{all_pairs_set, list_all_set, IsFewer, fewer_all, fewer_pairs}
 use Rattle.volume.proofs.Shown.{due_books}

@@ -5,7 +5,7 @@ use Rattle.std.specs.Prelude.{◌&&◌, ◌||◌, not, None, sum_by, count_by, i
 use Rattle.std.specs.List.{list_all, list_any}
 use Rattle.std.proofs.lemmas.Bool.{cases_Bool, MatchBool-at_true, MatchBool-at_false, and_parts, and_from, or_parts, true≢false}
 use Rattle.device.specs.Layers.{Layer}
-use Rattle.plain.specs.declared.request.Request.{Request}
+use Rattle.plain_machine.specs.declared.request.Request.{Request}
 use Rattle.in_flight.specs.Kinds.{kind_of, room_of}
 use Rattle.in_flight.specs.Routes.{write_route_of}
 use Rattle.in_flight.specs.declared.flights.Flight.{Flight}
@@ -15,10 +15,10 @@ use Rattle.volume_laws.specs.Accepting.{IsTakenIn}
 use Rattle.volume_laws.specs.Books.{SnapBooks}
 use Rattle.volume_laws.specs.Published.{is_clear, is_saved}
 use Rattle.snapshot.specs.Kept.{Kept, books_of as snap_books}
-use Rattle.snapshots.specs.Numbers.{count_in}
-use Rattle.snapshots.specs.Routing.{is_merged_at}
-use Rattle.snapshots.specs.Starting.{lacks, is_full_of, starts, overflows, overflowing, own_of, IsSavedIn, AreSavedIn}
-use Rattle.snapshots.proofs.Overflowing.{overflowing_fine, saved_lives}
+use Rattle.snapshot_list.specs.Numbers.{count_in}
+use Rattle.snapshot_list.specs.Routing.{is_merged_at}
+use Rattle.snapshot_list.specs.Starting.{lacks, is_full_of, starts, overflows, overflowing, own_of, IsSavedIn, AreSavedIn}
+use Rattle.snapshot_list.proofs.Overflowing.{overflowing_fine, saved_lives}
 use Rattle.volume.specs.Submitting.{IsAsked, IsAcceptedAs, IsEntered, entered_of, lives_after, spoiled_by}
 use Rattle.volume.specs.Causes.{lives_of}
 use Rattle.volume.specs.Exact.{IsSubmittedAs}

@@ -6,7 +6,7 @@ use Rattle.sector.specs.Bytes.{next_count}
 use Rattle.in_flight.specs.declared.flights.Flight.{Flight}
 use Rattle.snapshot.specs.Kept.{Kept}
 use Rattle.volume.specs.Volumed.{Volumed}
-use Rattle.snapshots.specs.Numbers.{number_of_snap}
+use Rattle.snapshot_list.specs.Numbers.{number_of_snap}
 use Rattle.volume.specs.Stepping.{KeepsAll}
 use Rattle.volume.specs.Causes.{counts_of, counted, lives_of, counts_with}
 use Rattle.volume.proofs.Changing.{changed}

@@ -3,13 +3,13 @@ use Rattle.std.proofs.Common.{◌≡◌, inl, inr, ℕ, zero, suc, true, List, [
 use Rattle.std.specs.Prelude.{◌==◌}
 use Rattle.device.specs.Layers.{Layer}
 use Rattle.sector.specs.declared.refusal.Refusal.{Refusal}
-use Rattle.plain.specs.declared.request.Dev.{Dev}
-use Rattle.plain.specs.declared.request.Dev.TheVariants.{Origin, Snap}
-use Rattle.plain.specs.declared.request.Op.{Op}
-use Rattle.plain.specs.declared.request.Op.TheVariants.{Read, Write, Flush}
-use Rattle.plain.specs.declared.request.Request.{Request}
-use Rattle.plain.specs.Plain.{overflow_under}
-use Rattle.plain.specs.Legal.{IsDeclined}
+use Rattle.plain_machine.specs.declared.request.Dev.{Dev}
+use Rattle.plain_machine.specs.declared.request.Dev.TheVariants.{Origin, Snap}
+use Rattle.plain_machine.specs.declared.request.Op.{Op}
+use Rattle.plain_machine.specs.declared.request.Op.TheVariants.{Read, Write, Flush}
+use Rattle.plain_machine.specs.declared.request.Request.{Request}
+use Rattle.plain_machine.specs.Plain.{overflow_under}
+use Rattle.plain_machine.specs.Legal.{IsDeclined}
 use Rattle.in_flight.specs.Kinds.{kind_at, in_flight}
 use Rattle.in_flight.specs.declared.flights.Kind.TheVariants.{SnapWrite}
 use Rattle.volume.specs.Shown.{shown_entry}

@@ -2,7 +2,7 @@
 use Rattle.std.proofs.Common.{◌≡◌, ◌≢◌, ℕ, Bool, true, false, List, Option, Some, None, map, refl, ◌∙◌, ap}
 use Rattle.std.specs.Prelude.{◌||◌, AllPairs}
 use Rattle.device.specs.Layers.{Layer}
-use Rattle.plain.specs.declared.event.Event.{Event}
+use Rattle.plain_machine.specs.declared.event.Event.{Event}
 use Rattle.in_flight.specs.declared.flights.Flight.{Flight}
 use Rattle.volume_laws.specs.Books.{SnapBooks}
 use Rattle.volume_laws.specs.Due.{DueSnap, books_of, is_due}

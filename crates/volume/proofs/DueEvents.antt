@@ -10,8 +10,8 @@ use Rattle.in_flight.specs.declared.copies.Stage.{Stage}
 use Rattle.in_flight.specs.declared.flights.Flight.{Flight}
 use Rattle.volume_laws.specs.Due.{DueSnap}
 use Rattle.snapshot.specs.Kept.{Kept, due_of_kept}
-use Rattle.snapshots.specs.Finding.{is_copy_of, has_copy_at, is_mark_of, has_mark_at}
-use Rattle.snapshots.proofs.Finds.{position_within, position_any, any_passes, any_of}
+use Rattle.snapshot_list.specs.Finding.{is_copy_of, has_copy_at, is_mark_of, has_mark_at}
+use Rattle.snapshot_list.proofs.Finds.{position_within, position_any, any_passes, any_of}
 
 module _ {B : Type 0} (contents : B → List ℕ) (layers : B → List Layer) where
   -- a test of the snapshots is a test of what says which events are due

@@ -3,15 +3,15 @@ use Rattle.std.proofs.Common.{◌≡◌, ℕ, zero, suc, ◌<◌, Bool, true, fa
 use Rattle.std.specs.Prelude.{◌||◌, ◌&&◌, ◌==◌, IfNone, IfSome, is_some}
 use Rattle.std.specs.List.{list_any, position}
 use Rattle.device.specs.Layers.{Layer}
-use Rattle.plain.specs.declared.event.Event.{Event}
+use Rattle.plain_machine.specs.declared.event.Event.{Event}
 use Rattle.in_flight.specs.Due.{is_copy_at, is_publishable}
 use Rattle.in_flight.specs.declared.copies.Stage.{Stage}
 use Rattle.in_flight.specs.declared.flights.Flight.{Flight}
 use Rattle.volume_laws.specs.Due.{DueSnap, is_due}
 use Rattle.volume_laws.specs.MergeDue.{is_merge_due}
 use Rattle.snapshot.specs.Kept.{Kept, due_of_kept, books_of as snap_books}
-use Rattle.snapshots.specs.Finding.{has_copy_at, has_mark_at, is_copy_of, is_mark_of}
-use Rattle.snapshots.proofs.Finds.{any_passes, position_any}
+use Rattle.snapshot_list.specs.Finding.{has_copy_at, has_mark_at, is_copy_of, is_mark_of}
+use Rattle.snapshot_list.proofs.Finds.{any_passes, position_any}
 use Rattle.merge.specs.Merging.{Merging, due_of as merging_due}
 use Rattle.volume.specs.Volumed.{Volumed, dues_of, is_due_of}
 use Rattle.volume.proofs.DueEvents.{due_by}

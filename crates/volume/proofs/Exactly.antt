@@ -10,9 +10,9 @@ use Rattle.device.specs.declared.operation.Operation.TheVariants.{Reads, Writes,
 use Rattle.cow_header.specs.HeaderText.{header_bytes}
 use Rattle.store_bytes.specs.Places.{area_place}
 use Rattle.store_bytes.specs.NextPlace.{LacksArea}
-use Rattle.plain.specs.declared.event.Event.TheVariants.{CopyRead, CopyWrite, FlushStore, ZeroNext, WriteArea, Publish, WriteInvalid}
-use Rattle.plain.specs.declared.event.Outcome.TheVariants.{Done, Fault}
-use Rattle.plain.specs.declared.request.Reply.{Reply}
+use Rattle.plain_machine.specs.declared.event.Event.TheVariants.{CopyRead, CopyWrite, FlushStore, ZeroNext, WriteArea, Publish, WriteInvalid}
+use Rattle.plain_machine.specs.declared.event.Outcome.TheVariants.{Done, Fault}
+use Rattle.plain_machine.specs.declared.request.Reply.{Reply}
 use Rattle.in_flight.specs.Copies.{count_of, pair_of}
 use Rattle.in_flight.specs.Due.{front_ready}
 use Rattle.in_flight.specs.Flushed.{flushed_copy, safe_mark}
@@ -32,10 +32,10 @@ use Rattle.event_machine.specs.Seen.{going_of}
 use Rattle.event_machine.specs.Stepping.{first_that, publishes, stepped}
 use Rattle.snapshot.specs.Kept.{Kept, books_of as snap_books, batch_of, needs_area, waits_area, spare_after, unpublished}
 use Rattle.snapshot.specs.Calls.{ReadsAt, StaysAt, WritesAt}
-use Rattle.snapshots.specs.Rooms.{merge_books}
+use Rattle.snapshot_list.specs.Rooms.{merge_books}
 use Rattle.volume.specs.Volumed.{Volumed, is_loud_in_all}
 use Rattle.volume.specs.Whole.{IsWhole, IsCounted}
-use Rattle.snapshots.specs.Finding.{is_copy_of, is_flushing, is_mark_of, is_trying, waits_for_flush, is_committing, is_zeroing}
+use Rattle.snapshot_list.specs.Finding.{is_copy_of, is_flushing, is_mark_of, is_trying, waits_for_flush, is_committing, is_zeroing}
 use Rattle.volume.specs.Exact.{IsExact}
 use Rattle.volume.specs.Moved.{held_of, moving_of}
 use Rattle.volume.proofs.MovedLists.{IsFirst, first_is, first_position}

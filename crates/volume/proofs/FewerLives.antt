@@ -5,20 +5,20 @@ use Rattle.std.proofs.lemmas.List.{map-set}
 use Rattle.device.specs.Layers.{Layer}
 use Rattle.sector.specs.declared.pair.Pair.{Pair}
 use Rattle.sector.specs.declared.refusal.Refusal.{Refusal}
-use Rattle.plain.specs.declared.event.Event.{Event}
-use Rattle.plain.specs.declared.event.Event.TheVariants.{Issue, CopyRead, CopyWrite, ZeroNext, WriteArea, Publish, WriteInvalid, FlushStore, MergeGroup, MergeAreaRead, MergeRead, MergeWrite, MergeFlush, MergeCommit, MergeRelease}
-use Rattle.plain.specs.declared.event.Outcome.{Outcome}
-use Rattle.plain.specs.declared.event.Outcome.TheVariants.{Done, Fault, Reply as Replied}
-use Rattle.plain.specs.declared.request.Failure.TheVariants.{Invalid as IsInvalid, Io, Overflow}
-use Rattle.plain.specs.declared.request.Overflowing.TheVariants.{Did}
-use Rattle.plain.specs.declared.request.Reply.{Reply}
-use Rattle.plain.specs.declared.request.Reply.TheVariants.{Data, Written, Flushed, Refused}
-use Rattle.plain.specs.declared.request.Request.{Request}
+use Rattle.plain_machine.specs.declared.event.Event.{Event}
+use Rattle.plain_machine.specs.declared.event.Event.TheVariants.{Issue, CopyRead, CopyWrite, ZeroNext, WriteArea, Publish, WriteInvalid, FlushStore, MergeGroup, MergeAreaRead, MergeRead, MergeWrite, MergeFlush, MergeCommit, MergeRelease}
+use Rattle.plain_machine.specs.declared.event.Outcome.{Outcome}
+use Rattle.plain_machine.specs.declared.event.Outcome.TheVariants.{Done, Fault, Reply as Replied}
+use Rattle.plain_machine.specs.declared.request.Failure.TheVariants.{Invalid as IsInvalid, Io, Overflow}
+use Rattle.plain_machine.specs.declared.request.Overflowing.TheVariants.{Did}
+use Rattle.plain_machine.specs.declared.request.Reply.{Reply}
+use Rattle.plain_machine.specs.declared.request.Reply.TheVariants.{Data, Written, Flushed, Refused}
+use Rattle.plain_machine.specs.declared.request.Request.{Request}
 use Rattle.in_flight.specs.Kinds.{kind_of}
 use Rattle.in_flight.specs.declared.flights.Kind.{Kind}
 use Rattle.in_flight.specs.declared.flights.Kind.TheVariants.{OriginRead, OriginWrite, OriginFlush, SnapRead, SnapWrite, SnapFlush}
 use Rattle.snapshot.specs.Kept.{Kept}
-use Rattle.snapshots.specs.Starting.{overflows, spoilt_of, unroomed}
+use Rattle.snapshot_list.specs.Starting.{overflows, spoilt_of, unroomed}
 use Rattle.merge.specs.Merging.{Merging}
 use Rattle.volume.specs.Causes.{HasCause, HasDone, HasFailed, HasReplied, is_lost, lives_of, lives_saved}
 use Rattle.volume.specs.Submitting.{IsAcceptedAs, IsFoundFull, IsOverflown, IsRefusedAs, SameButRoom, lives_after}

@@ -8,7 +8,7 @@ use Rattle.std.proofs.lemmas.List.{length-map, length-set, get_or-map, get_or-se
 use Rattle.std.proofs.Math.Seq.{map-set_same}
 use Rattle.sector.specs.declared.pair.Pair.{Pair}
 use Rattle.device.specs.Layers.{Layer}
-use Rattle.plain.specs.declared.event.Event.TheVariants.{Publish}
+use Rattle.plain_machine.specs.declared.event.Event.TheVariants.{Publish}
 use Rattle.in_flight.specs.Copies.{count_of}
 use Rattle.in_flight.specs.declared.copies.Mark.{Mark}
 use Rattle.in_flight.specs.Due.{is_publishable}
@@ -19,11 +19,11 @@ use Rattle.volume_laws.specs.MergeWaits.{IsSavedSoon, next_pairs}
 use Rattle.volume_laws.specs.Published.{next_over}
 use Rattle.volume_laws.specs.Waits.{IsSaving}
 use Rattle.snapshot.specs.Kept.{Kept, books_of as snap_books, unpublished}
-use Rattle.snapshots.specs.Finding.{is_mark_of}
-use Rattle.snapshots.specs.Starting.{lacks_chunk, is_full_of}
+use Rattle.snapshot_list.specs.Finding.{is_mark_of}
+use Rattle.snapshot_list.specs.Starting.{lacks_chunk, is_full_of}
 use Rattle.merge.specs.Lists.{first_or, next_of_group, reading_of, waiting_of}
 use Rattle.merge.specs.Merging.{Merging}
-use Rattle.snapshots.specs.MergeStarting.{IsNextSaved, IsNextSavedBeside, LacksAtMost, next_for}
+use Rattle.snapshot_list.specs.MergeStarting.{IsNextSaved, IsNextSavedBeside, LacksAtMost, next_for}
 use Rattle.volume.specs.Volumed.{Volumed}
 use Rattle.volume.specs.Whole.{IsWhole}
 use Rattle.volume.specs.Causes.{HasDone, counts_of, counts_with, is_lost, lives_of, lives_saved, unmarked}

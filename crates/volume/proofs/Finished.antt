@@ -7,9 +7,9 @@ use Rattle.std.proofs.lemmas.List.{nil_from_length}
 use Rattle.std.proofs.lemmas.List.Elements.{All-nil}
 use Rattle.device.specs.Layers.{Layer, is_loud}
 use Rattle.sector.specs.declared.refusal.Refusal.TheVariants.{NotFinished, NotQuiet}
-use Rattle.plain.specs.Plain.{Plain}
-use Rattle.plain.specs.Legal.{IsFinished}
-use Rattle.plain.specs.declared.request.Reply.{Reply}
+use Rattle.plain_machine.specs.Plain.{Plain}
+use Rattle.plain_machine.specs.Legal.{IsFinished}
+use Rattle.plain_machine.specs.declared.request.Reply.{Reply}
 use Rattle.in_flight.specs.declared.flights.Flight.{Flight}
 use Rattle.volume_laws.specs.Books.{MergeBooks}
 use Rattle.volume_laws.specs.MergeDue.{is_none}
@@ -27,8 +27,8 @@ use Rattle.merge.specs.declared.group.Group.{Group}
 use Rattle.merge.specs.Due.{has_group_of, is_finished_of}
 use Rattle.merge.specs.Lists.{group_pairs}
 use Rattle.merge.specs.Merging.{Merging, books_of as merging_books, due_of as merging_due}
-use Rattle.snapshots.specs.Keeping.{unkept}
-use Rattle.snapshots.specs.Rooms.{merge_books}
+use Rattle.snapshot_list.specs.Keeping.{unkept}
+use Rattle.snapshot_list.specs.Rooms.{merge_books}
 use Rattle.volume.specs.Finishing.{finish_refusal, finish_with}
 use Rattle.volume.specs.Leaving.{is_quiet_of}
 use Rattle.volume.specs.Volumed.{Volumed, books_of, is_loud_in_all, plain_of}

@@ -7,8 +7,8 @@ use Rattle.std.proofs.lemmas.List.{length-map}
 use Rattle.std.proofs.lemmas.List.Elements.{All-nil, All-cons, All-head, All-tail}
 use Rattle.std.proofs.lemmas.List.{take_at}
 use Rattle.device.specs.Layers.{Layer, is_loud}
-use Rattle.plain.specs.Plain.{Plain}
-use Rattle.plain.specs.Legal.{IsSubmitted}
+use Rattle.plain_machine.specs.Plain.{Plain}
+use Rattle.plain_machine.specs.Legal.{IsSubmitted}
 use Rattle.in_flight.specs.Kinds.{kind_of, room_of, in_flight}
 use Rattle.in_flight.specs.Routes.{write_route_of}
 use Rattle.in_flight.specs.declared.flights.Flight.{Flight}
@@ -22,13 +22,13 @@ use Rattle.volume_laws.specs.Accepting.{IsTakenIn}
 use Rattle.volume_laws.proofs.Preparing.{prepared_none}
 use Rattle.snapshot.specs.Kept.{Kept, books_of as snap_books}
 use Rattle.merge.specs.Merging.{Merging}
-use Rattle.snapshots.specs.Routing.{is_merged_at}
+use Rattle.snapshot_list.specs.Routing.{is_merged_at}
 use Rattle.volume.specs.Volumed.{Volumed, books_of, piece_of, piece_with, plain_of, is_loud_in_all, is_loud_with}
-use Rattle.snapshots.specs.Numbers.{count_in}
+use Rattle.snapshot_list.specs.Numbers.{count_in}
 use Rattle.volume.specs.Whole.{IsWhole}
-use Rattle.snapshots.specs.Starting.{unroomed, starts, overflows, overflowing, IsSavedIn, AreSavedIn, own_of}
-use Rattle.snapshots.proofs.Overflowing.{overflowing_roomed, saved_lives}
-use Rattle.snapshots.proofs.Roomed.{roomed}
+use Rattle.snapshot_list.specs.Starting.{unroomed, starts, overflows, overflowing, IsSavedIn, AreSavedIn, own_of}
+use Rattle.snapshot_list.proofs.Overflowing.{overflowing_roomed, saved_lives}
+use Rattle.snapshot_list.proofs.Roomed.{roomed}
 use Rattle.volume.specs.Submitting.{IsAsked, IsAcceptedAs, entered_of, lives_after, spoiled_by}
 use Rattle.volume.proofs.Accepts.{kept_flown}
 use Rattle.volume.proofs.Unflushed.{unflushed}

@@ -10,14 +10,14 @@ use Rattle.std.proofs.lemmas.List.Quantifiers.{position-Some}
 use Rattle.std.proofs.Math.Seq.{map-set_same}
 use Rattle.sector.specs.Bytes.{next_count}
 use Rattle.device.specs.Layers.{Layer, is_loud}
-use Rattle.plain.specs.Legal.{IsBegunFlush}
-use Rattle.plain.specs.declared.event.Event.TheVariants.{Issue}
-use Rattle.plain.specs.declared.event.Outcome.TheVariants.{Done, Reply as Replied}
-use Rattle.plain.specs.declared.request.Dev.TheVariants.{Origin as AtOrigin, Snap}
-use Rattle.plain.specs.declared.request.Op.TheVariants.{Flush}
-use Rattle.plain.specs.declared.request.Reply.{Reply}
-use Rattle.plain.specs.declared.request.Reply.TheVariants.{Flushed as IsFlushed, Refused as IsRefused}
-use Rattle.plain.specs.declared.request.Failure.TheVariants.{Io}
+use Rattle.plain_machine.specs.Legal.{IsBegunFlush}
+use Rattle.plain_machine.specs.declared.event.Event.TheVariants.{Issue}
+use Rattle.plain_machine.specs.declared.event.Outcome.TheVariants.{Done, Reply as Replied}
+use Rattle.plain_machine.specs.declared.request.Dev.TheVariants.{Origin as AtOrigin, Snap}
+use Rattle.plain_machine.specs.declared.request.Op.TheVariants.{Flush}
+use Rattle.plain_machine.specs.declared.request.Reply.{Reply}
+use Rattle.plain_machine.specs.declared.request.Reply.TheVariants.{Flushed as IsFlushed, Refused as IsRefused}
+use Rattle.plain_machine.specs.declared.request.Failure.TheVariants.{Io}
 use Rattle.in_flight.specs.Due.{number_of_flight}
 use Rattle.in_flight.specs.Flushed.{flushed_copy, safe_mark}
 use Rattle.in_flight.specs.Kinds.{in_flight, kind_of}
@@ -47,9 +47,9 @@ use Rattle.volume_laws.proofs.Waiting.{KeepsWaiting, waits_out, waits_changed}
 use Rattle.volume_laws.proofs.WholeOne.{snap_holds}
 use Rattle.snapshot.specs.Kept.{Kept, books_of as snap_books, due_of_kept}
 use Rattle.merge.specs.Merging.{Merging, books_of as merging_books, due_of as merging_due}
-use Rattle.snapshots.specs.Rooms.{merge_books, room_of}
-use Rattle.snapshots.specs.Numbers.{numbers_in}
-use Rattle.snapshots.proofs.Finds.{position_within}
+use Rattle.snapshot_list.specs.Rooms.{merge_books, room_of}
+use Rattle.snapshot_list.specs.Numbers.{numbers_in}
+use Rattle.snapshot_list.proofs.Finds.{position_within}
 use Rattle.volume.specs.Flying.{Fits}
 use Rattle.volume.specs.Volumed.{Volumed, books_of, dues_of, is_loud_in_all, left_by, merge_due, plain_of}
 use Rattle.volume.specs.Whole.{AreNumbers, IsCounted, IsMerged, IsWhole}

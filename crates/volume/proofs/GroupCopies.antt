@@ -12,13 +12,13 @@ use Rattle.device.specs.Bare.{HasLike, HoldsTwo, count_after, is_bare}
 use Rattle.device.specs.Layers.{Layer, fate, is_answered, is_loud, layers_after}
 use Rattle.device.specs.declared.operation.Operation.{Operation}
 use Rattle.device.specs.declared.operation.Operation.TheVariants.{Reads, Writes}
-use Rattle.plain.specs.declared.event.Event.{Event}
-use Rattle.plain.specs.declared.event.Event.TheVariants.{MergeAreaRead, MergeCommit, MergeFlush, MergeGroup, MergeRead, MergeWrite}
-use Rattle.plain.specs.declared.event.Outcome.TheVariants.{Done}
+use Rattle.plain_machine.specs.declared.event.Event.{Event}
+use Rattle.plain_machine.specs.declared.event.Event.TheVariants.{MergeAreaRead, MergeCommit, MergeFlush, MergeGroup, MergeRead, MergeWrite}
+use Rattle.plain_machine.specs.declared.event.Outcome.TheVariants.{Done}
 use Rattle.in_flight.specs.Copies.{count_of}
 use Rattle.in_flight.specs.declared.flights.Flight.{Flight}
 use Rattle.snapshot.specs.Kept.{Kept, books_of as snap_books, due_of_kept}
-use Rattle.snapshots.specs.MergeStarting.{AreNextSavedIn, IsNextSaved, next_for}
+use Rattle.snapshot_list.specs.MergeStarting.{AreNextSavedIn, IsNextSaved, next_for}
 use Rattle.store.specs.Grouping.{run_at, shifted}
 use Rattle.store.proofs.Groups.{get_or-run, length-run}
 use Rattle.store.specs.Operations.{IsOneOperation}

@@ -7,7 +7,7 @@ use Rattle.in_flight.specs.Due.{is_issuable, is_routed}
 use Rattle.in_flight.specs.declared.flights.Flight.{Flight}
 use Rattle.in_flight.specs.declared.flights.Route.{Route}
 use Rattle.volume_laws.specs.Due.{is_issued}
-use Rattle.snapshots.proofs.Finds.{position_none}
+use Rattle.snapshot_list.proofs.Finds.{position_none}
 
 issued_by : (number : ℕ) (fs : List Flight) (k : ℕ) (d : Flight) → k < length fs → nat_eq (get_or fs k d).number number ≡ true → ((j : ℕ) → j < k → nat_eq (get_or fs j d).number number ≡ false) → is_issued number fs ≡ is_issuable (get_or fs k d)
 issued_by number [] k d lt mine before = absurd (omega (arith, lt))

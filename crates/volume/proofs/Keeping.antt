@@ -5,19 +5,19 @@ use Rattle.std.proofs.lemmas.Bool.{cases_Bool, MatchBool-at_true, MatchBool-at_f
 use Rattle.std.proofs.Math.Seq.{map-set_same}
 use Rattle.device.specs.Layers.{Layer}
 use Rattle.sector.specs.declared.refusal.Refusal.{Refusal}
-use Rattle.plain.specs.declared.request.Request.{Request}
+use Rattle.plain_machine.specs.declared.request.Request.{Request}
 use Rattle.in_flight.specs.declared.copies.ChunkCopy.{ChunkCopy}
 use Rattle.in_flight.specs.declared.flights.Flight.{Flight}
 use Rattle.snapshot.specs.Kept.{Kept}
 use Rattle.snapshot.specs.Calls.{StartsAt, started}
 use Rattle.volume.specs.Volumed.{Volumed}
-use Rattle.snapshots.specs.Numbers.{number_of_snap}
+use Rattle.snapshot_list.specs.Numbers.{number_of_snap}
 use Rattle.volume.specs.Causes.{counts_with}
 use Rattle.volume.specs.Stepping.{KeepsAll, KeepsDevices, merged_of}
-use Rattle.plain.specs.declared.request.Overflowing.TheVariants.{Did}
-use Rattle.snapshots.specs.Starting.{unroomed, starts, overflows, spoilt_of, IsSavedIn, AreSavedIn, own_of}
+use Rattle.plain_machine.specs.declared.request.Overflowing.TheVariants.{Did}
+use Rattle.snapshot_list.specs.Starting.{unroomed, starts, overflows, spoilt_of, IsSavedIn, AreSavedIn, own_of}
 use Rattle.volume.specs.Submitting.{entered_of, SameButRoom, IsFoundFull, IsOverflown, IsRefusedAs}
-use Rattle.snapshots.proofs.Roomed.{roomed}
+use Rattle.snapshot_list.proofs.Roomed.{roomed}
 
 -- what each device has of a kind
 sizes_of : {B : Type 0} (size : B → ℕ) (xs ys : List (Kept B)) → map (λ (s : Kept B). s.device) xs ≡ map (λ (s : Kept B). s.device) ys → map (λ (s : Kept B). size s.device) xs ≡ map (λ (s : Kept B). size s.device) ys

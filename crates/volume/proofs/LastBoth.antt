@@ -7,9 +7,9 @@ use Rattle.std.proofs.lemmas.Bool.{cases_Bool}
 use Rattle.std.proofs.lemmas.List.{length-map, get_or-map}
 use Rattle.sector.specs.Bytes.{sector_at, with_sectors}
 use Rattle.device.specs.Layers.{Layer, is_loud}
-use Rattle.plain.specs.declared.event.Event.TheVariants.{Issue}
-use Rattle.plain.specs.declared.request.Dev.TheVariants.{Origin as AtOrigin, Snap}
-use Rattle.plain.specs.declared.request.Op.TheVariants.{Write}
+use Rattle.plain_machine.specs.declared.event.Event.TheVariants.{Issue}
+use Rattle.plain_machine.specs.declared.request.Dev.TheVariants.{Origin as AtOrigin, Snap}
+use Rattle.plain_machine.specs.declared.request.Op.TheVariants.{Write}
 use Rattle.in_flight.specs.Kinds.{kind_at, kind_of, in_flight}
 use Rattle.in_flight.specs.declared.flights.Flight.{Flight}
 use Rattle.in_flight.specs.declared.flights.Kind.TheVariants.{OriginWrite, SnapWrite}
@@ -20,7 +20,7 @@ use Rattle.volume_laws.specs.Held.{RequestHolds}
 use Rattle.volume_laws.specs.Steps.{WritesDisk, WritesPlace}
 use Rattle.volume_laws.proofs.Requests.{asked_first}
 use Rattle.snapshot.specs.Kept.{Kept, books_of as snap_books}
-use Rattle.snapshots.proofs.Finds.{position_within}
+use Rattle.snapshot_list.proofs.Finds.{position_within}
 use Rattle.merge.specs.Merging.{Merging}
 use Rattle.volume.specs.SnapLasting.{SnapLasting}
 use Rattle.volume.specs.MergeLasting.{MergeLasting, StopsOriginOn}

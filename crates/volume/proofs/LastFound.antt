@@ -4,7 +4,7 @@ use Rattle.std.specs.Prelude.{◌&&◌, ◌==◌, not}
 use Rattle.std.proofs.lemmas.Bool.{true≢false}
 use Rattle.in_flight.specs.Due.{front_ready}
 use Rattle.snapshot.specs.Kept.{Kept, needs_area, fills_area}
-use Rattle.snapshots.specs.Finding.{is_zeroing}
+use Rattle.snapshot_list.specs.Finding.{is_zeroing}
 
 second : (a b : Bool) → (a && b) ≡ true → b ≡ true
 second true b e = e

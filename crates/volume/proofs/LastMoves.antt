@@ -30,7 +30,7 @@ use Rattle.store.specs.Stored.{after_commit}
 use Rattle.snapshot.specs.Kept.{Kept, books_of as snap_books, spare_after}
 use Rattle.snapshot.specs.Calls.{WritesAt}
 use Rattle.snapshot.specs.InStep.{IsInStep}
-use Rattle.snapshots.specs.Starting.{spoilt_of}
+use Rattle.snapshot_list.specs.Starting.{spoilt_of}
 use Rattle.volume.specs.SnapLasting.{IsReady, SnapLasting}
 use Rattle.volume.specs.Volumed.{Volumed}
 use Rattle.volume.specs.Whole.{IsWhole, IsCounted}

@@ -3,16 +3,16 @@
 use Rattle.std.proofs.Common.{◌≡◌, inl, inr, ℕ, List, Option, None, Some, refl, sym, subst}
 use Rattle.sector.specs.declared.pair.Pair.{Pair}
 use Rattle.sector.specs.declared.refusal.Refusal.{Refusal}
-use Rattle.plain.specs.declared.request.Overflowing.{Overflowing}
-use Rattle.plain.specs.declared.request.Overflowing.TheVariants.{Did}
+use Rattle.plain_machine.specs.declared.request.Overflowing.{Overflowing}
+use Rattle.plain_machine.specs.declared.request.Overflowing.TheVariants.{Did}
 use Rattle.device.specs.Layers.{Layer}
 use Rattle.in_flight.specs.declared.copies.Mark.{Mark}
 use Rattle.in_flight.specs.declared.flights.Flight.{Flight}
 use Rattle.merge.specs.Lists.{next_of_group}
 use Rattle.merge.specs.Merging.{Merging}
-use Rattle.snapshots.specs.MergeStarting.{IsNextSaved, IsNextSavedBeside, next_for}
+use Rattle.snapshot_list.specs.MergeStarting.{IsNextSaved, IsNextSavedBeside, next_for}
 use Rattle.snapshot.specs.Kept.{Kept}
-use Rattle.snapshots.specs.Starting.{own_of}
+use Rattle.snapshot_list.specs.Starting.{own_of}
 use Rattle.volume.proofs.Lefts.{LeftBy, AllLeft, left_saved, all_same, all_next}
 use Rattle.volume.proofs.SnapWrites.{IsRefusedFull}
 

@@ -7,7 +7,7 @@ use Rattle.std.proofs.lemmas.List.{length-map}
 use Rattle.std.proofs.lemmas.List.Edits.{length-remove}
 use Rattle.std.proofs.lemmas.List.Quantifiers.{all_pairs_remove}
 use Rattle.device.specs.Layers.{Layer, is_loud}
-use Rattle.plain.specs.Legal.{IsDetached}
+use Rattle.plain_machine.specs.Legal.{IsDetached}
 use Rattle.volume_laws.specs.Books.{SnapBooks}
 use Rattle.volume_laws.specs.MergeRooms.{KeepBack}
 use Rattle.volume_laws.specs.MergeWaits.{MergeGoes}
@@ -19,14 +19,14 @@ use Rattle.volume_laws.proofs.MergeRoomEvents.{rooms_detached}
 use Rattle.volume_laws.proofs.MergeSaved.{goes_detached}
 use Rattle.volume_laws.proofs.Waiting.{waits_none}
 use Rattle.merge.specs.Merging.{Merging, due_of as merging_due}
-use Rattle.snapshots.specs.Rooms.{room_of}
+use Rattle.snapshot_list.specs.Rooms.{room_of}
 use Rattle.snapshot.specs.Kept.{Kept, books_of as snap_books}
 use Rattle.snapshot.specs.declared.opening.StoreDev.{StoreDev}
 use Rattle.volume.specs.Volumed.{Volumed, books_of, is_loud_in_all, plain_of, is_loud_with}
-use Rattle.snapshots.specs.Numbers.{number_of_snap, count_in}
+use Rattle.snapshot_list.specs.Numbers.{number_of_snap, count_in}
 use Rattle.volume.specs.Whole.{AreNumbers, SharesNone, IsAttached, IsWhole, GoesOn, IsCounted, starts_left}
 use Rattle.volume.proofs.Changing.{books_within, books_is}
-use Rattle.snapshots.specs.Finding.{place_of_snap}
+use Rattle.snapshot_list.specs.Finding.{place_of_snap}
 use Rattle.volume.specs.Leaving.{IsWithout}
 use Rattle.std.proofs.lemmas.List.Quantifiers.{position-Some}
 use Rattle.volume.proofs.Shown.{shown, one_loud}

@@ -13,8 +13,8 @@ use Rattle.in_flight.specs.declared.copies.Stage.TheVariants.{Waiting, Flushed}
 use Rattle.in_flight.specs.declared.flights.Flight.{Flight}
 use Rattle.snapshot.specs.Kept.{Kept}
 use Rattle.snapshot.specs.Calls.{StartsAt, StartsMerging}
-use Rattle.snapshots.specs.Starting.{starts_chunk, overflows_chunk, lacks_chunk, spoilt_of, unroomed, IsSavedIn, AreSavedIn}
-use Rattle.snapshots.specs.MergeStarting.{IsNextSavedIn, AreNextSavedIn}
+use Rattle.snapshot_list.specs.Starting.{starts_chunk, overflows_chunk, lacks_chunk, spoilt_of, unroomed, IsSavedIn, AreSavedIn}
+use Rattle.snapshot_list.specs.MergeStarting.{IsNextSavedIn, AreNextSavedIn}
 use Rattle.volume.specs.SnapLasting.{IsReady}
 use Rattle.volume.proofs.LastOne.{IsLeft, Stays, Spoils, none_ready}
 

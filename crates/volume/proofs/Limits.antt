@@ -6,10 +6,10 @@ use Rattle.std.proofs.lemmas.List.Sums.{count_by-le-length}
 use Rattle.in_flight.specs.declared.flights.Kind.{Kind}
 use Rattle.in_flight.specs.declared.flights.Kind.TheVariants.{OriginRead, OriginWrite, OriginFlush, SnapRead, SnapWrite, SnapFlush}
 use Rattle.snapshot.specs.Kept.{Kept}
-use Rattle.snapshots.specs.Numbers.{count_in}
-use Rattle.snapshots.specs.Starting.{starts}
+use Rattle.snapshot_list.specs.Numbers.{count_in}
+use Rattle.snapshot_list.specs.Starting.{starts}
 use Rattle.merge.specs.Merging.{Merging}
-use Rattle.snapshots.specs.Routing.{is_merged_at}
+use Rattle.snapshot_list.specs.Routing.{is_merged_at}
 use Rattle.volume.specs.Submitting.{are_too_many, starting}
 use Rattle.volume.specs.Volumed.{Volumed}
 

@@ -9,7 +9,7 @@ use Rattle.sector.specs.declared.pair.Pair.{Pair}
 use Rattle.store_bytes.specs.Pairs.{pairs_of}
 use Rattle.store_bytes.specs.Picture.{place_of, picture, picture_at}
 use Rattle.store_bytes.proofs.Pictures.{picture-plain, picture-written}
-use Rattle.settled.proofs.PictureSectors.{at_place, same_sectors}
+use Rattle.big_steps.proofs.PictureSectors.{at_place, same_sectors}
 use Rattle.volume.specs.Peeking.{picture_by}
 
 pub length-listed : (chunk : ℕ) (origin store : List ℕ) (ps : List Pair) → length (picture_by chunk origin store ps) ≡ length origin

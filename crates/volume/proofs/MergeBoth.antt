@@ -27,7 +27,7 @@ use Rattle.merge.specs.InStep.{IsInStep as IsMergingInStep}
 use Rattle.merge.specs.Lists.{copied_count, reading_of}
 use Rattle.merge.specs.Merging.{Merging, flushed_of, books_of as merging_books, due_of as merging_due}
 use Rattle.merge.specs.Steps.{WritesArea}
-use Rattle.snapshots.specs.MergeStarting.{IsNextSaved, next_for}
+use Rattle.snapshot_list.specs.MergeStarting.{IsNextSaved, next_for}
 use Rattle.volume.specs.MergeLasting.{MergeLasting, StopsOriginOn}
 use Rattle.volume.specs.Lasting.{IsLasting}
 use Rattle.volume.specs.Volumed.{Volumed}

@@ -6,8 +6,8 @@ use Rattle.std.specs.List.{All, list_all}
 use Rattle.std.proofs.lemmas.List.{length-map}
 use Rattle.chunk.specs.Sizes.{is_chunk}
 use Rattle.device.specs.Layers.{Layer, is_loud}
-use Rattle.plain.specs.declared.event.Event.{Event}
-use Rattle.plain.specs.declared.event.Outcome.{Outcome}
+use Rattle.plain_machine.specs.declared.event.Event.{Event}
+use Rattle.plain_machine.specs.declared.event.Outcome.{Outcome}
 use Rattle.in_flight.specs.Due.{number_of_flight}
 use Rattle.in_flight.specs.Kinds.{in_flight}
 use Rattle.in_flight.specs.declared.flights.Flight.{Flight}
@@ -22,7 +22,7 @@ use Rattle.volume_laws.specs.Whole.{Holds}
 use Rattle.volume_laws.proofs.MergeSteps.{IsMergeStep}
 use Rattle.snapshot.specs.Kept.{Kept, books_of as snap_books}
 use Rattle.merge.specs.Merging.{Merging, books_of as merging_books, due_of as merging_due}
-use Rattle.snapshots.specs.Rooms.{merge_books, room_of}
+use Rattle.snapshot_list.specs.Rooms.{merge_books, room_of}
 use Rattle.volume.specs.Volumed.{Volumed, books_of, plain_of, is_loud_with, is_loud_in_all, dues_of, left_in_all, left_by, merge_due}
 use Rattle.volume.specs.Whole.{AreNumbers, IsAttached, IsMerged, GoesOn, IsWhole}
 use Rattle.volume.specs.Causes.{HasCause, IsOneAtMost, counts_of}

@@ -6,8 +6,8 @@ use Rattle.std.proofs.lemmas.List.Elements.{All-head}
 use Rattle.device.specs.Layers.{Layer, is_loud}
 use Rattle.sector.specs.declared.pair.Pair.{Pair}
 use Rattle.store_bytes.specs.Pairs.{IsInside}
-use Rattle.plain.specs.declared.event.Event.{Event}
-use Rattle.plain.specs.declared.request.Reply.{Reply}
+use Rattle.plain_machine.specs.declared.event.Event.{Event}
+use Rattle.plain_machine.specs.declared.request.Reply.{Reply}
 use Rattle.in_flight.specs.declared.flights.Flight.{Flight}
 use Rattle.volume_laws.specs.Books.{MergeBooks}
 use Rattle.volume_laws.specs.Due.{DueSnap, due_of, books_of as books_due}

@@ -6,8 +6,8 @@ use Rattle.std.proofs.lemmas.List.{length-map, get_or-map, get_or_default, get_o
 use Rattle.sector.specs.declared.pair.Pair.{Pair}
 use Rattle.device.specs.Layers.{Layer, is_loud}
 use Rattle.store_bytes.specs.Pairs.{IsInside}
-use Rattle.plain.specs.declared.event.Event.TheVariants.{MergeGroup}
-use Rattle.plain.specs.declared.event.Outcome.TheVariants.{Done}
+use Rattle.plain_machine.specs.declared.event.Event.TheVariants.{MergeGroup}
+use Rattle.plain_machine.specs.declared.event.Outcome.TheVariants.{Done}
 use Rattle.in_flight.specs.Due.{number_of_copy, number_of_mark}
 use Rattle.in_flight.specs.declared.copies.ChunkCopy.{ChunkCopy}
 use Rattle.in_flight.specs.declared.flights.Flight.{Flight}
@@ -24,14 +24,14 @@ use Rattle.volume_laws.proofs.MergeRoomStarts.{HaveRoom, has_room, room_next}
 use Rattle.volume_laws.proofs.MergeSaved.{goes_steady, steady_grouped}
 use Rattle.volume_laws.proofs.MergeSteps.{IsMergeChange, IsMergeStart, group_change, group_step}
 use Rattle.snapshot.specs.Kept.{Kept, books_of as snap_books}
-use Rattle.snapshots.specs.Starting.{lacks_chunk}
+use Rattle.snapshot_list.specs.Starting.{lacks_chunk}
 use Rattle.store.specs.Grouping.{IsGroup, run_at}
 use Rattle.merge.specs.Due.{can_group_of}
 use Rattle.merge.specs.Lists.{formed, waiting_of, reading_of}
 use Rattle.merge.specs.Merging.{Merging, books_of as merging_books, due_of as merging_due}
 use Rattle.merge.specs.declared.group.Group.{Group}
-use Rattle.snapshots.specs.Rooms.{room_of}
-use Rattle.snapshots.specs.MergeStarting.{IsNextSaved, KeepsRoomFor, CanSaveNext, next_for}
+use Rattle.snapshot_list.specs.Rooms.{room_of}
+use Rattle.snapshot_list.specs.MergeStarting.{IsNextSaved, KeepsRoomFor, CanSaveNext, next_for}
 use Rattle.volume.specs.Volumed.{Volumed, books_of}
 use Rattle.volume.specs.Whole.{IsAttached, IsWhole}
 use Rattle.volume.specs.Exact.{IsExact}

@@ -4,8 +4,8 @@ use Rattle.std.specs.Prelude.{Option, Some, None}
 use Rattle.std.specs.List.{position, remove}
 use Rattle.sector.specs.Bytes.{sectors_at, with_sectors}
 use Rattle.store_bytes.specs.Places.{ChangesOnly}
-use Rattle.plain.specs.declared.request.Op.TheVariants.{Write}
-use Rattle.plain.specs.declared.request.Reply.TheVariants.{Data, Written as IsWritten}
+use Rattle.plain_machine.specs.declared.request.Op.TheVariants.{Write}
+use Rattle.plain_machine.specs.declared.request.Reply.TheVariants.{Data, Written as IsWritten}
 use Rattle.in_flight.specs.Kinds.{kind_of}
 use Rattle.in_flight.specs.declared.flights.Flight.{Flight}
 use Rattle.in_flight.specs.declared.flights.Kind.TheVariants.{OriginRead, OriginWrite}

@@ -25,7 +25,7 @@ use Rattle.volume_laws.specs.Whole.{OriginHolds}
 use Rattle.merge.specs.Due.{is_finished_of, has_group_of}
 use Rattle.merge.specs.Lists.{copied_of}
 use Rattle.merge.specs.Merging.{Merging, flushed_of, books_of as merging_books}
-use Rattle.snapshots.specs.Rooms.{merge_books}
+use Rattle.snapshot_list.specs.Rooms.{merge_books}
 use Rattle.volume.specs.Volumed.{Volumed}
 use Rattle.volume.specs.Whole.{IsWhole, GoesOn}
 use Rattle.volume.specs.Stopping.{StopsFinished}

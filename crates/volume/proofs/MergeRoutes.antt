@@ -18,8 +18,8 @@ use Rattle.volume_laws.specs.Waits.{is_grouped}
 use Rattle.event_machine.specs.Again.{is_grouped as is_grouped_held, merged_place as place_held}
 use Rattle.event_machine.specs.MergeSeen.{held_in}
 use Rattle.merge.specs.Merging.{Merging, books_of as merging_books}
-use Rattle.snapshots.specs.Rooms.{merge_books}
-use Rattle.snapshots.specs.Routing.{is_grouped_at, place_at, is_merged_at}
+use Rattle.snapshot_list.specs.Rooms.{merge_books}
+use Rattle.snapshot_list.specs.Routing.{is_grouped_at, place_at, is_merged_at}
 use Rattle.snapshot.specs.Kept.{books_of as snap_books}
 use Rattle.volume.specs.Volumed.{Volumed}
 use Rattle.volume.specs.Moved.{merge_seen}

@@ -7,8 +7,8 @@ use Rattle.std.proofs.lemmas.List.{length-map, get_or-map}
 use Rattle.std.proofs.lemmas.List.Elements.{All-nil, All-cons}
 use Rattle.sector.specs.declared.pair.Pair.{Pair}
 use Rattle.device.specs.Layers.{Layer, is_loud}
-use Rattle.plain.specs.declared.event.Event.{Event}
-use Rattle.plain.specs.declared.event.Outcome.TheVariants.{Done}
+use Rattle.plain_machine.specs.declared.event.Event.{Event}
+use Rattle.plain_machine.specs.declared.event.Outcome.TheVariants.{Done}
 use Rattle.in_flight.specs.Copies.{count_of}
 use Rattle.in_flight.specs.Due.{number_of_flight}
 use Rattle.in_flight.specs.Kinds.{in_flight}
@@ -28,13 +28,13 @@ use Rattle.volume_laws.proofs.MergeStarts.{AreStarting, starting_none, starting_
 use Rattle.volume_laws.proofs.MergeSteps.{IsMergeStart, StartsCopies, starts_by}
 use Rattle.volume_laws.proofs.Preparing.{prepared_none}
 use Rattle.snapshot.specs.Kept.{Kept, books_of as snap_books, due_of_kept}
-use Rattle.snapshots.specs.Numbers.{number_of_snap}
-use Rattle.snapshots.specs.Starting.{spoilt_of}
+use Rattle.snapshot_list.specs.Numbers.{number_of_snap}
+use Rattle.snapshot_list.specs.Starting.{spoilt_of}
 use Rattle.merge.specs.Lists.{waiting_of}
 use Rattle.merge.specs.Merging.{Merging, books_of as merging_books, due_of as merging_due}
 use Rattle.merge.specs.declared.group.Group.{Group}
-use Rattle.snapshots.specs.Rooms.{room_of}
-use Rattle.snapshots.specs.MergeStarting.{IsNextSaved, AreNextSavedIn, next_for}
+use Rattle.snapshot_list.specs.Rooms.{room_of}
+use Rattle.snapshot_list.specs.MergeStarting.{IsNextSaved, AreNextSavedIn, next_for}
 use Rattle.volume.specs.Volumed.{Volumed, books_of, plain_of, is_loud_with, is_loud_in_all, left_in_all, left_by, dues_of, merge_due}
 use Rattle.volume.specs.Whole.{AreNumbers, IsMerged, IsWhole}
 use Rattle.volume.specs.Causes.{HasCause, IsOneAtMost, SavesNext, counts_of, lives_saved}

@@ -18,7 +18,7 @@ use Rattle.loss_laws.proofs.Slots.{inside_of}
 use Rattle.store.specs.Headed.{marked_as}
 use Rattle.snapshot.specs.Kept.{Kept}
 use Rattle.snapshot.specs.InStep.{IsInStep}
-use Rattle.snapshots.specs.Keeping.{unkept, kept_back, kept_for}
+use Rattle.snapshot_list.specs.Keeping.{unkept, kept_back, kept_for}
 use Rattle.volume.specs.Beginning.{merging_from}
 use Rattle.volume.specs.SnapLasting.{IsReady, lost_of, IsThereOn, SnapLasting}
 use Rattle.volume.specs.MergeLasting.{MergeLasting}

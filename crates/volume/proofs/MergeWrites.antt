@@ -2,21 +2,21 @@
 use Rattle.std.proofs.Common.{◌≡◌, ℕ, ◌+◌, Bool, true, false, List, [], Option, None, Some, length, map, refl, sym, ◌∙◌, ap}
 use Rattle.std.specs.Prelude.{if◌then◌else◌, count_by, is_some}
 use Rattle.device.specs.Layers.{Layer, is_loud}
-use Rattle.plain.specs.declared.request.Request.{Request}
+use Rattle.plain_machine.specs.declared.request.Request.{Request}
 use Rattle.in_flight.specs.Kinds.{kind_of, room_of}
 use Rattle.in_flight.specs.Routes.{flush_route_of, read_route_of, write_route_of}
 use Rattle.in_flight.specs.declared.flights.Flight.{Flight}
 use Rattle.in_flight.specs.declared.flights.Kind.TheVariants.{OriginRead, OriginWrite, OriginFlush}
-use Rattle.plain.specs.Kept.{kept}
+use Rattle.plain_machine.specs.Kept.{kept}
 use Rattle.in_flight.specs.declared.flights.Route.{Route}
 use Rattle.volume_laws.specs.Accepting.{IsPrepared, IsTakenIn}
 use Rattle.volume_laws.specs.Published.{is_clear}
 use Rattle.volume_laws.proofs.Preparing.{prepared_none}
 use Rattle.merge.specs.Merging.{Merging}
-use Rattle.snapshots.specs.Rooms.{merge_books}
-use Rattle.snapshots.specs.Routing.{is_grouped_at, place_at, is_merged_at}
+use Rattle.snapshot_list.specs.Rooms.{merge_books}
+use Rattle.snapshot_list.specs.Routing.{is_grouped_at, place_at, is_merged_at}
 use Rattle.snapshot.specs.Kept.{Kept, books_of as snap_books}
-use Rattle.snapshots.specs.Starting.{own_of, starts, overflows, overflowing}
+use Rattle.snapshot_list.specs.Starting.{own_of, starts, overflows, overflowing}
 use Rattle.volume.specs.Volumed.{Volumed, books_of, piece_with}
 use Rattle.volume.specs.Whole.{IsWhole}
 use Rattle.volume.specs.Submitting.{IsAsked, IsEntered, IsAcceptedAs, entered_of, starting}

@@ -6,8 +6,8 @@ use Rattle.sector.specs.Bytes.{next_count, with_sectors}
 use Rattle.sector.specs.declared.pair.Pair.{Pair}
 use Rattle.device.specs.Layers.{Layer, is_loud}
 use Rattle.device.specs.declared.operation.Operation.TheVariants.{Writes}
-use Rattle.plain.specs.declared.event.Event.TheVariants.{MergeWrite}
-use Rattle.plain.specs.declared.event.Outcome.TheVariants.{Done}
+use Rattle.plain_machine.specs.declared.event.Event.TheVariants.{MergeWrite}
+use Rattle.plain_machine.specs.declared.event.Outcome.TheVariants.{Done}
 use Rattle.in_flight.specs.Copies.{count_of}
 use Rattle.in_flight.specs.declared.flights.Flight.{Flight}
 use Rattle.store.specs.Operations.{IsOneOperation}
@@ -29,8 +29,8 @@ use Rattle.merge.specs.Looks.{LooksAgree, option_pairs}
 use Rattle.merge.specs.Merging.{Merging, books_of as merging_books, due_of as merging_due}
 use Rattle.merge.specs.Steps.{WritesOrigin}
 use Rattle.merge.specs.declared.group.Group.{Group}
-use Rattle.snapshots.specs.Rooms.{room_of}
-use Rattle.snapshots.specs.MergeStarting.{IsNextSaved, CanSaveNext}
+use Rattle.snapshot_list.specs.Rooms.{room_of}
+use Rattle.snapshot_list.specs.MergeStarting.{IsNextSaved, CanSaveNext}
 use Rattle.volume.specs.Volumed.{Volumed, books_of, is_due_of, is_loud_in_all}
 use Rattle.volume.specs.Whole.{IsAttached, IsWhole}
 use Rattle.volume.specs.Exact.{IsExact}

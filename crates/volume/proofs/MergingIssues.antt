@@ -7,15 +7,15 @@ use Rattle.std.proofs.lemmas.List.Quantifiers.{position-Some}
 use Rattle.sector.specs.Bytes.{sectors_at, next_count}
 use Rattle.device.specs.Layers.{Layer, is_loud}
 use Rattle.store_bytes.specs.Picture.{place_of}
-use Rattle.plain.specs.declared.event.Event.TheVariants.{Issue}
-use Rattle.plain.specs.declared.event.Outcome.TheVariants.{Reply as Replied}
-use Rattle.plain.specs.declared.request.Dev.{Dev}
-use Rattle.plain.specs.declared.request.Dev.TheVariants.{Origin as AtOrigin}
-use Rattle.plain.specs.declared.request.Op.{Op}
-use Rattle.plain.specs.declared.request.Op.TheVariants.{Read, Write, Flush}
-use Rattle.plain.specs.declared.request.Reply.{Reply}
-use Rattle.plain.specs.declared.request.Reply.TheVariants.{Data, Written as IsWritten, Refused as IsRefused}
-use Rattle.plain.specs.declared.request.Failure.TheVariants.{Io}
+use Rattle.plain_machine.specs.declared.event.Event.TheVariants.{Issue}
+use Rattle.plain_machine.specs.declared.event.Outcome.TheVariants.{Reply as Replied}
+use Rattle.plain_machine.specs.declared.request.Dev.{Dev}
+use Rattle.plain_machine.specs.declared.request.Dev.TheVariants.{Origin as AtOrigin}
+use Rattle.plain_machine.specs.declared.request.Op.{Op}
+use Rattle.plain_machine.specs.declared.request.Op.TheVariants.{Read, Write, Flush}
+use Rattle.plain_machine.specs.declared.request.Reply.{Reply}
+use Rattle.plain_machine.specs.declared.request.Reply.TheVariants.{Data, Written as IsWritten, Refused as IsRefused}
+use Rattle.plain_machine.specs.declared.request.Failure.TheVariants.{Io}
 use Rattle.in_flight.specs.Kinds.{kind_at, kind_of}
 use Rattle.in_flight.specs.declared.flights.Flight.{Flight}
 use Rattle.in_flight.specs.declared.flights.Kind.TheVariants.{OriginFlush, OriginRead, OriginWrite}
@@ -37,9 +37,9 @@ use Rattle.volume_laws.proofs.MergeWaiting.{waits_stored}
 use Rattle.merge.specs.Lists.{released_of}
 use Rattle.merge.specs.Merging.{Merging, books_of as merging_books, due_of as merging_due}
 use Rattle.merge.specs.Steps.{WritesPlaceOf}
-use Rattle.snapshots.specs.Rooms.{merge_books}
+use Rattle.snapshot_list.specs.Rooms.{merge_books}
 use Rattle.snapshot.specs.Kept.{books_of as snap_books}
-use Rattle.snapshots.proofs.Finds.{position_within}
+use Rattle.snapshot_list.proofs.Finds.{position_within}
 use Rattle.volume.specs.Volumed.{Volumed, books_of, dues_of, is_loud_in_all, merge_due, left_by}
 use Rattle.volume.specs.Whole.{IsMerged, IsWhole}
 use Rattle.volume.specs.Causes.{HasReplied, IsFaultless, FailsAlone, GoesTo, merging_device}

@@ -5,12 +5,12 @@ use Rattle.std.specs.List.{All}
 use Rattle.std.proofs.lemmas.List.{map-append}
 use Rattle.device.specs.Layers.{Layer}
 use Rattle.store_bytes.specs.Picture.{place_of}
-use Rattle.plain.specs.declared.request.Reply.{Reply}
-use Rattle.plain.specs.declared.request.Reply.TheVariants.{Refused as Declined}
-use Rattle.plain.specs.declared.request.Failure.TheVariants.{Invalid, Overflow}
-use Rattle.plain.specs.declared.request.Overflowing.TheVariants.{Never, Did}
-use Rattle.plain.specs.Plain.{did_overflow}
-use Rattle.plain.specs.declared.request.Request.{Request}
+use Rattle.plain_machine.specs.declared.request.Reply.{Reply}
+use Rattle.plain_machine.specs.declared.request.Reply.TheVariants.{Refused as Declined}
+use Rattle.plain_machine.specs.declared.request.Failure.TheVariants.{Invalid, Overflow}
+use Rattle.plain_machine.specs.declared.request.Overflowing.TheVariants.{Never, Did}
+use Rattle.plain_machine.specs.Plain.{did_overflow}
+use Rattle.plain_machine.specs.declared.request.Request.{Request}
 use Rattle.in_flight.specs.Kinds.{kind_of}
 use Rattle.in_flight.specs.Routes.{flush_route_of, read_route_of, write_route_of, refused_of}
 use Rattle.merge.specs.Merging.{Merging}
@@ -19,7 +19,7 @@ use Rattle.in_flight.specs.declared.flights.Kind.{Kind}
 use Rattle.in_flight.specs.declared.flights.Kind.TheVariants.{OriginRead, OriginWrite, OriginFlush, SnapRead, SnapWrite, SnapFlush}
 use Rattle.in_flight.specs.declared.flights.Route.{Route}
 use Rattle.in_flight.specs.declared.flights.Route.TheVariants.{Held as Waits, Store, Whole}
-use Rattle.plain.specs.Kept.{kept}
+use Rattle.plain_machine.specs.Kept.{kept}
 use Rattle.volume_laws.specs.Again.{published_place}
 use Rattle.event_machine.specs.Held.{SnapHeld, Going, Moving}
 use Rattle.event_machine.specs.Again.{is_clear, is_grouped, merged_place, write_route}
@@ -30,9 +30,9 @@ use Rattle.event_machine.specs.Submitting.{accepted, chunk_at, declined, started
 use Rattle.volume_laws.specs.Published.{is_clear as is_clear_in}
 use Rattle.snapshot.specs.Kept.{Kept, books_of as snap_books}
 use Rattle.volume.specs.Volumed.{Volumed}
-use Rattle.snapshots.specs.Starting.{unroomed, lacks, is_full_of, own_of, spoilt_of, AreSavedIn}
+use Rattle.snapshot_list.specs.Starting.{unroomed, lacks, is_full_of, own_of, spoilt_of, AreSavedIn}
 use Rattle.volume.specs.Submitting.{entered_of}
-use Rattle.snapshots.specs.Routing.{is_grouped_at, place_at, is_merged_at}
+use Rattle.snapshot_list.specs.Routing.{is_grouped_at, place_at, is_merged_at}
 use Rattle.volume.specs.Moved.{held_of, merge_seen, moving_of}
 use Rattle.volume.proofs.MergeRoutes.{grouped_held, place_held_is, unmerged_route, merged_route_is}
 use Rattle.volume.proofs.MovedLists.{IsFirst, first_is, with_is, if_true, if_false}

@@ -7,8 +7,8 @@ use Rattle.sector.specs.declared.pair.Pair.{Pair}
 use Rattle.device.specs.Layers.{Layer}
 use Rattle.device.specs.declared.operation.Operation.{Operation}
 use Rattle.device.specs.declared.operation.Operation.TheVariants.{Reads, Writes}
-use Rattle.plain.specs.declared.event.Event.TheVariants.{CopyRead, CopyWrite}
-use Rattle.plain.specs.declared.request.Reply.{Reply}
+use Rattle.plain_machine.specs.declared.event.Event.TheVariants.{CopyRead, CopyWrite}
+use Rattle.plain_machine.specs.declared.request.Reply.{Reply}
 use Rattle.in_flight.specs.Copies.{count_of}
 use Rattle.in_flight.specs.Due.{is_stage}
 use Rattle.in_flight.specs.Routes.{refused_of}
@@ -16,14 +16,14 @@ use Rattle.in_flight.specs.declared.copies.Stage.{Stage}
 use Rattle.in_flight.specs.declared.copies.Stage.TheVariants.{Waiting, Read, Written}
 use Rattle.in_flight.specs.declared.copies.ChunkCopy.{ChunkCopy}
 use Rattle.store.specs.Operations.{IsOneOperation}
-use Rattle.settled.specs.Devices.{answers, met}
+use Rattle.big_steps.specs.Devices.{answers, met}
 use Rattle.event_machine.specs.Held.{Copying, SnapHeld, Moving, with_store}
 use Rattle.event_machine.specs.Stepping.{for_some, first_that, with_first, put, spoil, store_write, is_copy, on_copy, read_copy, write_copy, stepped}
 use Rattle.event_machine.specs.Seen.{copying_of}
 use Rattle.snapshot.specs.Kept.{Kept}
 use Rattle.snapshot.specs.Calls.{GoesTo}
 use Rattle.volume.specs.Volumed.{Volumed}
-use Rattle.snapshots.specs.Finding.{is_copy_of, has_copy_at}
+use Rattle.snapshot_list.specs.Finding.{is_copy_of, has_copy_at}
 use Rattle.volume.specs.Moved.{device_of, held_of, moving_of}
 use Rattle.volume.proofs.MovedLists.{IsFirst, first_by_test, first_is, with_is, any_seen, if_true, if_false}
 use Rattle.volume.proofs.MovedSnaps.{changed, spoilt, met_is, put_is, spoil_is, write_is, fail_is}

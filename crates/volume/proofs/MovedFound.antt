@@ -13,9 +13,9 @@ use Rattle.in_flight.specs.declared.copies.Stage.{Stage}
 use Rattle.in_flight.specs.declared.flights.Flight.{Flight}
 use Rattle.snapshot.specs.Kept.{Kept}
 use Rattle.volume.specs.Volumed.{Volumed}
-use Rattle.snapshots.specs.Numbers.{number_of_snap, numbers_in}
+use Rattle.snapshot_list.specs.Numbers.{number_of_snap, numbers_in}
 use Rattle.volume.specs.Whole.{AreNumbers, IsWhole, SharesNone}
-use Rattle.snapshots.specs.Finding.{is_copy_of, has_copy_at, is_mark_of, has_mark_at}
+use Rattle.snapshot_list.specs.Finding.{is_copy_of, has_copy_at, is_mark_of, has_mark_at}
 use Rattle.volume.proofs.MovedLists.{IsFirst, first_position}
 
 and_left : (a b : Bool) → (a && b) ≡ true → a ≡ true

@@ -6,16 +6,16 @@ use Rattle.std.proofs.lemmas.Bool.{cond-true, false≢true}
 use Rattle.std.proofs.lemmas.List.{get_or-map, length-map}
 use Rattle.sector.specs.declared.pair.Pair.{Pair}
 use Rattle.device.specs.Layers.{Layer}
-use Rattle.plain.specs.declared.event.Event.{Event}
-use Rattle.plain.specs.declared.event.Event.TheVariants.{MergeGroup}
-use Rattle.plain.specs.declared.request.Reply.{Reply}
+use Rattle.plain_machine.specs.declared.event.Event.{Event}
+use Rattle.plain_machine.specs.declared.event.Event.TheVariants.{MergeGroup}
+use Rattle.plain_machine.specs.declared.request.Reply.{Reply}
 use Rattle.in_flight.specs.Copies.{count_of}
 use Rattle.in_flight.specs.declared.flights.Flight.{Flight}
 use Rattle.store.specs.Grouping.{IsGroup, run_at}
 use Rattle.volume_laws.specs.Held.{SnapHolds}
 use Rattle.volume_laws.specs.MergeDue.{can_group, last_of}
 use Rattle.volume_laws.specs.MergeSteps.{FormsGroup}
-use Rattle.settled.specs.Merges.{last_run}
+use Rattle.big_steps.specs.Merges.{last_run}
 use Rattle.event_machine.specs.Held.{SnapHeld, Going, MergeHeld, Moving}
 use Rattle.event_machine.specs.MergeDue.{in_area}
 use Rattle.event_machine.specs.Seen.{going_of}
@@ -31,7 +31,7 @@ use Rattle.merge.specs.Due.{has_group_of, can_group_of}
 use Rattle.merge.specs.Lists.{formed}
 use Rattle.merge.specs.Merging.{Merging, due_of as merging_due, flushed_of}
 use Rattle.merge.specs.declared.group.Group.{Group}
-use Rattle.snapshots.specs.MergeStarting.{IsNextSaved, next_for}
+use Rattle.snapshot_list.specs.MergeStarting.{IsNextSaved, next_for}
 use Rattle.volume.specs.Volumed.{Volumed}
 use Rattle.volume.specs.Whole.{IsWhole}
 use Rattle.volume.specs.Moved.{held_of, moving_of}

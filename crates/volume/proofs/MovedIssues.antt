@@ -6,20 +6,20 @@ use Rattle.sector.specs.Bytes.{sectors_at, with_sectors}
 use Rattle.device.specs.Layers.{Layer}
 use Rattle.device.specs.declared.operation.Operation.{Operation}
 use Rattle.device.specs.declared.operation.Operation.TheVariants.{Reads, Writes, Flushes}
-use Rattle.plain.specs.declared.event.Event.TheVariants.{Issue}
-use Rattle.plain.specs.declared.request.Dev.{Dev}
-use Rattle.plain.specs.declared.request.Dev.TheVariants.{Origin as ToOrigin, Snap as ToSnap}
-use Rattle.plain.specs.declared.request.Op.{Op}
-use Rattle.plain.specs.declared.request.Op.TheVariants.{Read as ReadOp, Write as WriteOp, Flush as FlushOp}
-use Rattle.plain.specs.declared.request.Reply.{Reply}
-use Rattle.plain.specs.declared.request.Reply.TheVariants.{Data, Written as Done, Flushed as DidFlush, Refused as Declined}
-use Rattle.plain.specs.declared.request.Failure.TheVariants.{Invalid, Io}
+use Rattle.plain_machine.specs.declared.event.Event.TheVariants.{Issue}
+use Rattle.plain_machine.specs.declared.request.Dev.{Dev}
+use Rattle.plain_machine.specs.declared.request.Dev.TheVariants.{Origin as ToOrigin, Snap as ToSnap}
+use Rattle.plain_machine.specs.declared.request.Op.{Op}
+use Rattle.plain_machine.specs.declared.request.Op.TheVariants.{Read as ReadOp, Write as WriteOp, Flush as FlushOp}
+use Rattle.plain_machine.specs.declared.request.Reply.{Reply}
+use Rattle.plain_machine.specs.declared.request.Reply.TheVariants.{Data, Written as Done, Flushed as DidFlush, Refused as Declined}
+use Rattle.plain_machine.specs.declared.request.Failure.TheVariants.{Invalid, Io}
 use Rattle.in_flight.specs.Due.{is_routed}
 use Rattle.in_flight.specs.declared.flights.Flight.{Flight}
 use Rattle.in_flight.specs.declared.flights.Route.{Route}
 use Rattle.in_flight.specs.declared.flights.Route.TheVariants.{Origin, Store, Whole, Refused}
 use Rattle.store.specs.Operations.{IsOneOperation}
-use Rattle.settled.specs.Devices.{Device, answers, flush_reply, met, written_by, read_reply}
+use Rattle.big_steps.specs.Devices.{Device, answers, flush_reply, met, written_by, read_reply}
 use Rattle.event_machine.specs.Held.{Copying, SnapHeld, Going, MergeHeld, Moving, flushed_held, on_device, with_merge, with_store}
 use Rattle.event_machine.specs.Due.{is_issuable}
 use Rattle.event_machine.specs.MergeSeen.{held_in, merge_held_of}

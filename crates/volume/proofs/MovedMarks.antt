@@ -8,8 +8,8 @@ use Rattle.device.specs.Layers.{Layer}
 use Rattle.device.specs.declared.operation.Operation.{Operation}
 use Rattle.device.specs.declared.operation.Operation.TheVariants.{Writes, Flushes}
 use Rattle.cow_header.specs.HeaderText.{header_bytes}
-use Rattle.plain.specs.declared.event.Event.TheVariants.{FlushStore, Publish, WriteInvalid}
-use Rattle.plain.specs.declared.request.Reply.{Reply}
+use Rattle.plain_machine.specs.declared.event.Event.TheVariants.{FlushStore, Publish, WriteInvalid}
+use Rattle.plain_machine.specs.declared.request.Reply.{Reply}
 use Rattle.in_flight.specs.Kinds.{kind_of}
 use Rattle.in_flight.specs.Due.{is_stage}
 use Rattle.in_flight.specs.Flushed.{flushed_copy, flushed_stage, safe_mark}
@@ -24,8 +24,8 @@ use Rattle.store.specs.Operations.{IsOneOperation}
 use Rattle.volume_laws.specs.Again.{again_of, new_route, placed_of}
 use Rattle.volume_laws.specs.Books.{SnapBooks}
 use Rattle.volume_laws.specs.Published.{is_clear as is_clear_in, is_clear_over as is_clear_over_in, is_saved as is_saved_in, is_saved_over as is_saved_over_in}
-use Rattle.settled.specs.Saves.{marked}
-use Rattle.settled.specs.Devices.{Device, answers, met, written_by}
+use Rattle.big_steps.specs.Saves.{marked}
+use Rattle.big_steps.specs.Devices.{Device, answers, met, written_by}
 use Rattle.event_machine.specs.Held.{SnapHeld, Going, MergeHeld, Moving, Copying, is_untried, flushed_copying, flushed_held, spoiled, with_store}
 use Rattle.event_machine.specs.Due.{can_flush_store, can_mark, is_publishable}
 use Rattle.event_machine.specs.Again.{is_saved, is_saved_over, is_clear, is_clear_over, is_grouped, merged_place, write_route, again, placed, rerouted}
@@ -34,10 +34,10 @@ use Rattle.event_machine.specs.Seen.{copying_of, going_of}
 use Rattle.event_machine.specs.MergeSeen.{MergeSeen, merge_held_of, held_in, books_in}
 use Rattle.event_machine.proofs.Tied.{seen_alike}
 use Rattle.merge.specs.Merging.{Merging}
-use Rattle.snapshots.specs.Rooms.{merge_books}
+use Rattle.snapshot_list.specs.Rooms.{merge_books}
 use Rattle.snapshot.specs.Kept.{Kept, books_of as snap_books, unpublished}
 use Rattle.volume.specs.Volumed.{Volumed}
-use Rattle.snapshots.specs.Finding.{is_flushing, is_trying, is_mark_of, has_mark_at}
+use Rattle.snapshot_list.specs.Finding.{is_flushing, is_trying, is_mark_of, has_mark_at}
 use Rattle.volume.specs.Whole.{IsCounted}
 use Rattle.volume.specs.Moved.{device_of, held_of, merge_seen, moving_of}
 use Rattle.volume.proofs.MovedLists.{IsFirst, first_by_all, first_by_test, if_true, if_false, with_is, without_is}

@@ -7,9 +7,9 @@ use Rattle.sector.specs.declared.pair.Pair.{Pair}
 use Rattle.device.specs.Layers.{Layer}
 use Rattle.device.specs.declared.operation.Operation.{Operation}
 use Rattle.device.specs.declared.operation.Operation.TheVariants.{Reads, Writes, Flushes}
-use Rattle.plain.specs.declared.event.Event.{Event}
-use Rattle.plain.specs.declared.event.Event.TheVariants.{MergeAreaRead, MergeCommit, MergeFlush, MergeRead, MergeRelease}
-use Rattle.plain.specs.declared.request.Reply.{Reply}
+use Rattle.plain_machine.specs.declared.event.Event.{Event}
+use Rattle.plain_machine.specs.declared.event.Event.TheVariants.{MergeAreaRead, MergeCommit, MergeFlush, MergeRead, MergeRelease}
+use Rattle.plain_machine.specs.declared.request.Reply.{Reply}
 use Rattle.store_bytes.specs.Places.{area_place}
 use Rattle.in_flight.specs.Copies.{count_of}
 use Rattle.in_flight.specs.declared.flights.Flight.{Flight}
@@ -22,8 +22,8 @@ use Rattle.volume_laws.specs.MergeSteps.{ReadsBack, FlushesBack, CommitsGroup, R
 use Rattle.volume_laws.specs.MergeWaits.{IsStaged}
 use Rattle.volume_laws.specs.Published.{is_clear as is_clear_in}
 use Rattle.volume_laws.proofs.MergeTests.{commit_test}
-use Rattle.settled.specs.Devices.{Device, answers, met, written_by, sectors_of}
-use Rattle.settled.specs.Merges.{without_slots}
+use Rattle.big_steps.specs.Devices.{Device, answers, met, written_by, sectors_of}
+use Rattle.big_steps.specs.Merges.{without_slots}
 use Rattle.event_machine.specs.Held.{Going, MergeHeld, Moving, on_device}
 use Rattle.event_machine.specs.Seen.{going_of}
 use Rattle.event_machine.specs.Again.{rerouted}
@@ -40,7 +40,7 @@ use Rattle.merge.specs.Due.{has_group_of, commit_at, can_commit_of}
 use Rattle.merge.specs.Lists.{changed, committed_in, copied_at, copied_of, copied_count}
 use Rattle.merge.specs.Merging.{Merging, books_of as merging_books, due_of as merging_due, flushed_of}
 use Rattle.merge.specs.Steps.{ReadsInto}
-use Rattle.snapshots.specs.Rooms.{merge_books}
+use Rattle.snapshot_list.specs.Rooms.{merge_books}
 use Rattle.volume.specs.Volumed.{Volumed}
 use Rattle.volume.specs.Moved.{device_of, moving_of}
 use Rattle.volume.proofs.MergeChanging.{merged_to}

@@ -3,12 +3,12 @@ use Rattle.std.proofs.Common.{◌≡◌, ◌≢◌, ◌/◌, ℕ, Bool, true, fa
 use Rattle.std.specs.Prelude.{◌&&◌, ◌||◌, not}
 use Rattle.std.proofs.lemmas.Bool.{false≢true}
 use Rattle.device.specs.Layers.{Layer}
-use Rattle.plain.specs.declared.request.Overflowing.{Overflowing}
-use Rattle.plain.specs.declared.request.Overflowing.TheVariants.{Never, May, Did}
-use Rattle.plain.specs.Plain.{did_overflow, may_overflow}
+use Rattle.plain_machine.specs.declared.request.Overflowing.{Overflowing}
+use Rattle.plain_machine.specs.declared.request.Overflowing.TheVariants.{Never, May, Did}
+use Rattle.plain_machine.specs.Plain.{did_overflow, may_overflow}
 use Rattle.event_machine.specs.Submitting.{is_filled, needs_none, shuts}
 use Rattle.snapshot.specs.Kept.{Kept}
-use Rattle.snapshots.specs.Starting.{lacks, is_full_of, own_of}
+use Rattle.snapshot_list.specs.Starting.{lacks, is_full_of, own_of}
 use Rattle.volume.specs.Moved.{held_of}
 use Rattle.volume.proofs.MovedSubmits.{IsSized, lacks_live, needs_is, filled_is, not_of, yes_of}
 

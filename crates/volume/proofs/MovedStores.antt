@@ -13,8 +13,8 @@ use Rattle.device.specs.declared.operation.Operation.TheVariants.{Writes}
 use Rattle.store_bytes.specs.Places.{area_place}
 use Rattle.store_bytes.specs.NextPlace.{LacksArea}
 use Rattle.store_bytes.specs.Slots.{pair_bytes}
-use Rattle.plain.specs.declared.event.Event.TheVariants.{ZeroNext, WriteArea}
-use Rattle.plain.specs.declared.request.Reply.{Reply}
+use Rattle.plain_machine.specs.declared.event.Event.TheVariants.{ZeroNext, WriteArea}
+use Rattle.plain_machine.specs.declared.request.Reply.{Reply}
 use Rattle.in_flight.specs.Copies.{pair_of}
 use Rattle.in_flight.specs.Routes.{refused_of}
 use Rattle.in_flight.specs.declared.copies.ChunkCopy.{ChunkCopy}
@@ -24,15 +24,15 @@ use Rattle.store.specs.Slots.{pairs_bytes, slot_start}
 use Rattle.store.specs.Stored.{after_commit}
 use Rattle.store.specs.declared.state.State.{State}
 use Rattle.volume_laws.specs.Steps.{mark_of}
-use Rattle.settled.specs.Saves.{zeroed}
-use Rattle.settled.specs.Saving.{lacks_area}
+use Rattle.big_steps.specs.Saves.{zeroed}
+use Rattle.big_steps.specs.Saving.{lacks_area}
 use Rattle.event_machine.specs.Held.{Copying, SnapHeld, Moving, with_store}
 use Rattle.event_machine.specs.Due.{batch_of as batch_in, can_commit, can_zero}
 use Rattle.event_machine.specs.Stepping.{spoil, store_write, zero_next, all_paired, commit, stepped, pair_of as pair_of_copying, mark_of as mark_of_copying}
 use Rattle.event_machine.specs.Seen.{copying_of}
 use Rattle.snapshot.specs.Kept.{Kept, batch_of, spare_after}
 use Rattle.volume.specs.Volumed.{Volumed}
-use Rattle.snapshots.specs.Finding.{is_committing, is_zeroing}
+use Rattle.snapshot_list.specs.Finding.{is_committing, is_zeroing}
 use Rattle.volume.specs.Whole.{IsCounted}
 use Rattle.volume.specs.Moved.{device_of, held_of, moving_of}
 use Rattle.volume.proofs.MovedLists.{IsFirst, first_by_all, if_true, if_false}

@@ -19,7 +19,7 @@ use Rattle.event_machine.specs.Seen.{copying_of, going_of}
 use Rattle.event_machine.specs.Submitting.{is_filled, with_copy, needs_none, started_all, started_by, refused_by}
 use Rattle.snapshot.specs.Kept.{Kept}
 use Rattle.snapshot.specs.Calls.{StartsAt, started}
-use Rattle.snapshots.specs.Starting.{lacks_chunk, is_full_of, overflows_chunk, spoilt_of, IsSavedIn, AreSavedIn}
+use Rattle.snapshot_list.specs.Starting.{lacks_chunk, is_full_of, overflows_chunk, spoilt_of, IsSavedIn, AreSavedIn}
 use Rattle.volume.specs.Moved.{held_of}
 use Rattle.volume.proofs.MovedLists.{any_seen, if_true, if_false}
 use Rattle.volume.proofs.MovedSnaps.{refused_seen}

@@ -7,8 +7,8 @@ use Rattle.sector.specs.declared.pair.Pair.{Pair}
 use Rattle.device.specs.Layers.{Layer}
 use Rattle.device.specs.declared.operation.Operation.{Operation}
 use Rattle.device.specs.declared.operation.Operation.TheVariants.{Writes}
-use Rattle.plain.specs.declared.event.Event.TheVariants.{MergeWrite}
-use Rattle.plain.specs.declared.request.Reply.{Reply}
+use Rattle.plain_machine.specs.declared.event.Event.TheVariants.{MergeWrite}
+use Rattle.plain_machine.specs.declared.request.Reply.{Reply}
 use Rattle.in_flight.specs.Copies.{count_of}
 use Rattle.in_flight.specs.declared.flights.Flight.{Flight}
 use Rattle.store.specs.Operations.{IsOneOperation}
@@ -16,7 +16,7 @@ use Rattle.volume_laws.specs.Again.{again_of}
 use Rattle.volume_laws.specs.MergeDue.{can_write, is_writable, last_of}
 use Rattle.volume_laws.specs.MergeSteps.{WritesBack, FailsMerge}
 use Rattle.volume_laws.specs.Published.{is_clear as is_clear_in}
-use Rattle.settled.specs.Devices.{Device, answers, written_by, sectors_of}
+use Rattle.big_steps.specs.Devices.{Device, answers, written_by, sectors_of}
 use Rattle.event_machine.specs.Held.{MergeHeld, Moving}
 use Rattle.event_machine.specs.MergeDue.{is_writable as is_writable_held}
 use Rattle.event_machine.specs.MergeSeen.{MergeSeen, merge_held_of}
@@ -29,8 +29,8 @@ use Rattle.merge.specs.Merging.{Merging, books_of as merging_books, due_of as me
 use Rattle.merge.specs.declared.group.Group.{Group}
 use Rattle.merge.specs.declared.group.Progress.{Progress}
 use Rattle.merge.specs.declared.group.Progress.TheVariants.{Open, Full, Flushed, Committed}
-use Rattle.snapshots.specs.Rooms.{merge_books}
-use Rattle.snapshots.specs.MergeStarting.{IsNextSaved}
+use Rattle.snapshot_list.specs.Rooms.{merge_books}
+use Rattle.snapshot_list.specs.MergeStarting.{IsNextSaved}
 use Rattle.volume.specs.Volumed.{Volumed}
 use Rattle.volume.specs.Moved.{device_of, held_of, moving_of}
 use Rattle.volume.proofs.MergeChanging.{merged_to}

@@ -10,7 +10,7 @@ use Rattle.sector.specs.declared.pair.Pair.{Pair}
 use Rattle.in_flight.specs.declared.copies.Mark.{Mark}
 use Rattle.in_flight.specs.declared.flights.Flight.{Flight}
 use Rattle.in_flight.specs.declared.flights.Route.TheVariants.{Held, Whole}
-use Rattle.plain.specs.Kept.{kept}
+use Rattle.plain_machine.specs.Kept.{kept}
 use Rattle.in_flight.specs.Routes.{read_route_of}
 use Rattle.volume_laws.specs.Published.{is_published}
 use Rattle.volume_laws.specs.Waits.{IsCopying}
@@ -20,25 +20,25 @@ use Rattle.volume_laws.proofs.Preparing.{prepared_none}
 use Rattle.std.proofs.lemmas.List.{get_or-map, get_or_default}
 use Rattle.sector.specs.declared.refusal.Refusal.{Refusal}
 use Rattle.sector.specs.declared.refusal.Refusal.TheVariants.{NoSuchDevice, MergingSnapshot, Invalid, Overflow}
-use Rattle.plain.specs.declared.request.Dev.{Dev}
-use Rattle.plain.specs.declared.request.Dev.TheVariants.{Origin, Snap}
-use Rattle.plain.specs.declared.request.Op.{Op}
-use Rattle.plain.specs.declared.request.Op.TheVariants.{Read, Write, Flush}
-use Rattle.plain.specs.declared.request.Overflowing.TheVariants.{Never}
-use Rattle.plain.specs.declared.request.Request.{Request}
-use Rattle.plain.specs.Plain.{did_overflow}
+use Rattle.plain_machine.specs.declared.request.Dev.{Dev}
+use Rattle.plain_machine.specs.declared.request.Dev.TheVariants.{Origin, Snap}
+use Rattle.plain_machine.specs.declared.request.Op.{Op}
+use Rattle.plain_machine.specs.declared.request.Op.TheVariants.{Read, Write, Flush}
+use Rattle.plain_machine.specs.declared.request.Overflowing.TheVariants.{Never}
+use Rattle.plain_machine.specs.declared.request.Request.{Request}
+use Rattle.plain_machine.specs.Plain.{did_overflow}
 use Rattle.in_flight.specs.Kinds.{kind_of, kind_at, room_of}
 use Rattle.in_flight.specs.declared.flights.Kind.TheVariants.{SnapFlush, SnapRead, SnapWrite}
 use Rattle.snapshot.specs.Kept.{Kept, books_of as snap_books}
 use Rattle.merge.specs.Merging.{Merging}
 use Rattle.volume.specs.Volumed.{Volumed, books_of, piece_with}
 use Rattle.volume.specs.Whole.{IsWhole}
-use Rattle.snapshots.specs.Finding.{place_of_snap}
-use Rattle.snapshots.specs.Starting.{lacks, own_of}
+use Rattle.snapshot_list.specs.Finding.{place_of_snap}
+use Rattle.snapshot_list.specs.Starting.{lacks, own_of}
 use Rattle.volume.specs.Submitting.{IsAsked, entered_of, refusal_at, dev_refusal, is_merging, shut_at}
 use Rattle.volume.proofs.ByKind.{snap_flush_enters, snap_read_enters, snap_write_held_enters, snap_write_placed_enters}
 use Rattle.volume.proofs.Savings.{not_lacking}
-use Rattle.snapshots.proofs.Finds.{position_none}
+use Rattle.snapshot_list.proofs.Finds.{position_none}
 use Rattle.volume.proofs.Leaves.{found_place}
 use Rattle.volume.proofs.MergeRoutes.{not_merging}
 

@@ -25,10 +25,10 @@ use Rattle.volume_laws.proofs.MergeRoomStarts.{HaveRoom, has_room, room_after, r
 use Rattle.volume_laws.proofs.MergeStarts.{AreStarting, start_next_same, starting_start, starting_spoil, starting_here}
 use Rattle.snapshot.specs.Kept.{Kept, books_of as snap_books}
 use Rattle.snapshot.specs.Calls.{StartsMerging, started}
-use Rattle.snapshots.specs.Numbers.{number_of_snap, numbers_in, count_in, merged_count}
-use Rattle.snapshots.specs.Starting.{lacks_chunk, is_full_of, starts_chunk, overflows_chunk, spoilt_of}
-use Rattle.snapshots.specs.Rooms.{room_of}
-use Rattle.snapshots.specs.MergeStarting.{IsNextSavedIn, AreNextSavedIn, next_for}
+use Rattle.snapshot_list.specs.Numbers.{number_of_snap, numbers_in, count_in, merged_count}
+use Rattle.snapshot_list.specs.Starting.{lacks_chunk, is_full_of, starts_chunk, overflows_chunk, spoilt_of}
+use Rattle.snapshot_list.specs.Rooms.{room_of}
+use Rattle.snapshot_list.specs.MergeStarting.{IsNextSavedIn, AreNextSavedIn, next_for}
 use Rattle.volume.specs.Volumed.{Volumed, books_of}
 use Rattle.volume.specs.Whole.{AreNumbers, SharesNone, IsAttached, IsCounted, starts_left}
 use Rattle.volume.proofs.Changing.{SnapsFit, changed, changes, spoils_one, same_disk, books_is}

@@ -8,8 +8,8 @@ use Rattle.std.proofs.lemmas.List.{length-map, map-set, get_or-map}
 use Rattle.std.proofs.Math.Seq.{map-set_same}
 use Rattle.sector.specs.declared.pair.Pair.{Pair}
 use Rattle.device.specs.Layers.{Layer, is_loud}
-use Rattle.plain.specs.declared.event.Event.TheVariants.{Publish}
-use Rattle.plain.specs.declared.event.Outcome.TheVariants.{Done}
+use Rattle.plain_machine.specs.declared.event.Event.TheVariants.{Publish}
+use Rattle.plain_machine.specs.declared.event.Outcome.TheVariants.{Done}
 use Rattle.in_flight.specs.Due.{number_of_flight}
 use Rattle.in_flight.specs.Kinds.{in_flight}
 use Rattle.in_flight.specs.declared.flights.Flight.{Flight}
@@ -27,12 +27,12 @@ use Rattle.volume_laws.proofs.MergeRoomSteps.{steady_next}
 use Rattle.volume_laws.proofs.MergeRoomStarts.{HaveRoom}
 use Rattle.volume_laws.proofs.MergeSaved.{goes_steady, next_none, next_some, steady_all, steady_changed, steady_goes}
 use Rattle.snapshot.specs.Kept.{Kept, books_of as snap_books}
-use Rattle.snapshots.specs.Numbers.{number_of_snap}
+use Rattle.snapshot_list.specs.Numbers.{number_of_snap}
 use Rattle.merge.specs.Lists.{next_of_group, reading_of, waiting_of}
 use Rattle.merge.specs.Merging.{Merging, books_of as merging_books, due_of as merging_due}
 use Rattle.merge.specs.declared.group.Group.{Group}
-use Rattle.snapshots.specs.Rooms.{room_of}
-use Rattle.snapshots.specs.MergeStarting.{CanSaveNext, IsNextSaved, IsNextSavedBeside}
+use Rattle.snapshot_list.specs.Rooms.{room_of}
+use Rattle.snapshot_list.specs.MergeStarting.{CanSaveNext, IsNextSaved, IsNextSavedBeside}
 use Rattle.volume.specs.Volumed.{Volumed, books_of, is_loud_with, is_loud_in_all, left_by, left_in_all, dues_of, merge_due}
 use Rattle.volume.specs.Whole.{AreNumbers, GoesOn, IsMerged, IsWhole}
 use Rattle.volume.specs.Causes.{HasCause, counts_of, counts_with}

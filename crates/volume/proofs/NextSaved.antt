@@ -18,10 +18,10 @@ use Rattle.volume_laws.proofs.MergeBeside.{weigh}
 use Rattle.event_machine.specs.Held.{SnapHeld}
 use Rattle.snapshot.specs.Kept.{Kept, books_of as snap_books, due_of_kept}
 use Rattle.snapshot.specs.Calls.{StartsAt, StartsMerging, started}
-use Rattle.snapshots.specs.Numbers.{number_of_snap}
-use Rattle.snapshots.specs.Starting.{lacks_chunk, is_full_of, starts_chunk, overflows_chunk, spoilt_of, IsSavedIn, AreSavedIn}
-use Rattle.snapshots.specs.MergeStarting.{IsNextSavedIn, AreNextSavedIn}
-use Rattle.snapshots.proofs.NextStarts.{saved_step, saved_given}
+use Rattle.snapshot_list.specs.Numbers.{number_of_snap}
+use Rattle.snapshot_list.specs.Starting.{lacks_chunk, is_full_of, starts_chunk, overflows_chunk, spoilt_of, IsSavedIn, AreSavedIn}
+use Rattle.snapshot_list.specs.MergeStarting.{IsNextSavedIn, AreNextSavedIn}
+use Rattle.snapshot_list.proofs.NextStarts.{saved_step, saved_given}
 use Rattle.volume.specs.Moved.{held_of}
 
 -- the numbers of the snapshots that are found full, where a chunk of each is wanted

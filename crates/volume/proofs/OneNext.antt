@@ -11,8 +11,8 @@ use Rattle.store_bytes.specs.Picture.{place_of}
 use Rattle.in_flight.specs.declared.copies.ChunkCopy.{ChunkCopy}
 use Rattle.in_flight.specs.declared.flights.Flight.{Flight}
 use Rattle.snapshot.specs.Kept.{Kept}
-use Rattle.snapshots.specs.Starting.{lacks_chunk, is_full_of, starts_chunk, overflows_chunk}
-use Rattle.snapshots.specs.MergeStarting.{IsNextSavedIn, AreNextSavedIn, LacksAtMost}
+use Rattle.snapshot_list.specs.Starting.{lacks_chunk, is_full_of, starts_chunk, overflows_chunk}
+use Rattle.snapshot_list.specs.MergeStarting.{IsNextSavedIn, AreNextSavedIn, LacksAtMost}
 
 -- no snapshot lacks its own
 abbrev pub LackNone : {B : Type 0} → (Kept B → ℕ) → List (Kept B) → Type 0

@@ -10,7 +10,7 @@ use Rattle.stop_laws.specs.Again.{IsOpen}
 use Rattle.stop_laws.specs.Clauses.{Given, Gives, StopsDisk, StopsMerge}
 use Rattle.stop_laws.proofs.Opens.{left_with}
 use Rattle.snapshot.specs.Kept.{Kept}
-use Rattle.snapshots.specs.Numbers.{number_of_snap}
+use Rattle.snapshot_list.specs.Numbers.{number_of_snap}
 use Rattle.merge.specs.Merging.{Merging}
 use Rattle.volume.specs.AddedUp.{IsOpenSnap, IsLeftAt, IsOpenOrigin}
 use Rattle.volume.specs.Adding.{LeavesNoMore}

@@ -9,20 +9,20 @@ use Rattle.std.proofs.lemmas.List.Edits.{get_or-remove_below, get_or-remove_abov
 use Rattle.device.specs.Layers.{Layer}
 use Rattle.sector.specs.declared.refusal.Refusal.{Refusal}
 use Rattle.sector.specs.declared.refusal.Refusal.TheVariants.{NotMerging}
-use Rattle.plain.specs.declared.event.Event.{Event}
-use Rattle.plain.specs.declared.event.Event.TheVariants.{Issue, CopyRead, CopyWrite, ZeroNext, WriteArea, Publish, WriteInvalid, FlushStore, MergeGroup, MergeAreaRead, MergeRead, MergeWrite, MergeFlush, MergeCommit, MergeRelease}
-use Rattle.plain.specs.declared.event.NotDue.{NotDue}
-use Rattle.plain.specs.declared.event.Outcome.{Outcome}
-use Rattle.plain.specs.declared.request.Dev.{Dev}
-use Rattle.plain.specs.declared.request.Request.{Request}
+use Rattle.plain_machine.specs.declared.event.Event.{Event}
+use Rattle.plain_machine.specs.declared.event.Event.TheVariants.{Issue, CopyRead, CopyWrite, ZeroNext, WriteArea, Publish, WriteInvalid, FlushStore, MergeGroup, MergeAreaRead, MergeRead, MergeWrite, MergeFlush, MergeCommit, MergeRelease}
+use Rattle.plain_machine.specs.declared.event.NotDue.{NotDue}
+use Rattle.plain_machine.specs.declared.event.Outcome.{Outcome}
+use Rattle.plain_machine.specs.declared.request.Dev.{Dev}
+use Rattle.plain_machine.specs.declared.request.Request.{Request}
 use Rattle.layers.specs.declared.message.Answer.{Answer}
 use Rattle.layers.specs.declared.message.Message.{Message}
 use Rattle.in_flight.specs.Kinds.{in_flight}
 use Rattle.stop_laws.specs.Clauses.{Gives}
 use Rattle.snapshot.specs.Kept.{Kept}
-use Rattle.snapshots.specs.Numbers.{number_of_snap}
+use Rattle.snapshot_list.specs.Numbers.{number_of_snap}
 use Rattle.merge.specs.Merging.{Merging}
-use Rattle.snapshots.specs.Keeping.{kept_back, kept_for, unkept}
+use Rattle.snapshot_list.specs.Keeping.{kept_back, kept_for, unkept}
 use Rattle.volume.specs.declared.calls.Call.{Call}
 use Rattle.volume.specs.declared.calls.Call.TheVariants.{BeginMerge}
 use Rattle.volume.specs.AddedUp.{GivesAsked, IsFrom, IsGiven, IsSomeOf, IsOpenIn, IsOpenOrigin, OpensOnly}

@@ -18,9 +18,9 @@ use Rattle.in_flight.specs.Kinds.{kind_at, kind_of}
 use Rattle.in_flight.specs.declared.flights.Flight.{Flight}
 use Rattle.in_flight.specs.declared.flights.Kind.TheVariants.{OriginWrite, SnapWrite}
 use Rattle.in_flight.specs.declared.flights.Route.TheVariants.{Origin, Store, Refused}
-use Rattle.plain.specs.declared.request.Dev.{Dev}
-use Rattle.plain.specs.declared.request.Dev.TheVariants.{Origin as AtOrigin, Snap}
-use Rattle.plain.specs.declared.request.Op.TheVariants.{Write}
+use Rattle.plain_machine.specs.declared.request.Dev.{Dev}
+use Rattle.plain_machine.specs.declared.request.Dev.TheVariants.{Origin as AtOrigin, Snap}
+use Rattle.plain_machine.specs.declared.request.Op.TheVariants.{Write}
 use Rattle.stop_laws.specs.Firm.{IsFirm}
 use Rattle.stop_laws.specs.Clauses.{Given, Gives}
 use Rattle.stop_laws.proofs.Sectors.{sectors_same}

@@ -5,17 +5,17 @@ use Rattle.std.proofs.lemmas.List.{get_or-map, length-map}
 use Rattle.device.specs.Layers.{Layer, is_loud}
 use Rattle.store_bytes.specs.Pairs.{pairs_of, IsInside}
 use Rattle.store_bytes.specs.Picture.{picture, place_of}
-use Rattle.plain.specs.declared.request.Dev.{Dev}
-use Rattle.plain.specs.declared.request.Dev.TheVariants.{Snap}
-use Rattle.plain.specs.Plain.{Entry, Live, Invalid, saved_under}
-use Rattle.settled.proofs.PictureSectors.{all_front, place_inside}
+use Rattle.plain_machine.specs.declared.request.Dev.{Dev}
+use Rattle.plain_machine.specs.declared.request.Dev.TheVariants.{Snap}
+use Rattle.plain_machine.specs.Plain.{Entry, Live, Invalid, saved_under}
+use Rattle.big_steps.proofs.PictureSectors.{all_front, place_inside}
 use Rattle.snapshot.specs.Kept.{Kept, books_of as snap_books}
 use Rattle.volume_laws.specs.Held.{LiveHolds, SnapHolds}
 use Rattle.volume.specs.Shown.{shown_entry, shown_origin}
 use Rattle.volume.specs.Peeking.{is_loud_at, is_loud_under}
 use Rattle.volume.specs.Volumed.{Volumed, plain_of}
 use Rattle.volume.specs.Whole.{IsWhole}
-use Rattle.snapshots.specs.Finding.{place_of_snap}
+use Rattle.snapshot_list.specs.Finding.{place_of_snap}
 use Rattle.volume.specs.Submitting.{dev_refusal, is_merging, refusal_at}
 use Rattle.merge.specs.InStep.{IsInStep}
 use Rattle.merge.specs.Merging.{Merging}

@@ -3,9 +3,9 @@ use Rattle.std.proofs.Common.{◌≡◌, ℕ, ◌<◌, true, List, Option, None,
 use Rattle.std.specs.List.{All, position, remove}
 use Rattle.std.proofs.lemmas.List.Elements.{All-set}
 use Rattle.device.specs.Layers.{Layer}
-use Rattle.plain.specs.declared.event.Event.TheVariants.{Publish}
-use Rattle.plain.specs.declared.event.Outcome.TheVariants.{Done}
-use Rattle.plain.specs.declared.request.Reply.{Reply}
+use Rattle.plain_machine.specs.declared.event.Event.TheVariants.{Publish}
+use Rattle.plain_machine.specs.declared.event.Outcome.TheVariants.{Done}
+use Rattle.plain_machine.specs.declared.request.Reply.{Reply}
 use Rattle.in_flight.specs.declared.copies.Mark.{Mark}
 use Rattle.in_flight.specs.declared.flights.Flight.{Flight}
 use Rattle.volume_laws.specs.Again.{again_of, placed_of}
@@ -16,11 +16,11 @@ use Rattle.event_machine.specs.MergeSeen.{held_in}
 use Rattle.event_machine.specs.MergeStepping.{start_next, start_waiting}
 use Rattle.event_machine.specs.Stepping.{for_some, stepped}
 use Rattle.snapshot.specs.Kept.{Kept, books_of as snap_books, unpublished}
-use Rattle.snapshots.specs.Finding.{is_mark_of}
+use Rattle.snapshot_list.specs.Finding.{is_mark_of}
 use Rattle.merge.specs.Lists.{next_of_group}
 use Rattle.merge.specs.Merging.{Merging}
-use Rattle.snapshots.specs.Rooms.{merge_books}
-use Rattle.snapshots.specs.MergeStarting.{IsNextSavedBeside}
+use Rattle.snapshot_list.specs.Rooms.{merge_books}
+use Rattle.snapshot_list.specs.MergeStarting.{IsNextSavedBeside}
 use Rattle.volume.specs.Exact.{IsExact}
 use Rattle.volume.specs.Moved.{merge_seen, moving_of}
 use Rattle.volume.specs.Volumed.{Volumed}

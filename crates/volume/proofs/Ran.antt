@@ -5,18 +5,18 @@ use Rattle.std.specs.Prelude.{None, Result, IfErr, IfOk, Ok, Err, MatchResult}
 use Rattle.device.specs.Layers.{Layer}
 use Rattle.layers.specs.declared.message.Answer.{Answer}
 use Rattle.layers.specs.declared.message.Message.{Message}
-use Rattle.plain.specs.Plain.{Entry, Plain}
-use Rattle.plain.specs.Runs.{IsRun, MayStep, MaySubmit}
-use Rattle.plain.specs.declared.event.Event.{Event}
-use Rattle.plain.specs.declared.event.NotDue.{NotDue}
-use Rattle.plain.specs.declared.event.Outcome.{Outcome}
-use Rattle.plain.specs.declared.request.Dev.{Dev}
-use Rattle.plain.specs.declared.request.Request.{Request}
+use Rattle.plain_machine.specs.Plain.{Entry, Plain}
+use Rattle.plain_machine.specs.Runs.{IsRun, MayStep, MaySubmit}
+use Rattle.plain_machine.specs.declared.event.Event.{Event}
+use Rattle.plain_machine.specs.declared.event.NotDue.{NotDue}
+use Rattle.plain_machine.specs.declared.event.Outcome.{Outcome}
+use Rattle.plain_machine.specs.declared.request.Dev.{Dev}
+use Rattle.plain_machine.specs.declared.request.Request.{Request}
 use Rattle.sector.specs.declared.refusal.Refusal.{Refusal}
 use Rattle.sector.specs.declared.refusal.Refusal.TheVariants.{NotMerging}
 use Rattle.volume.specs.Shown.{shown_entry}
 use Rattle.snapshot.specs.Kept.{Kept}
-use Rattle.snapshots.specs.Keeping.{unkept}
+use Rattle.snapshot_list.specs.Keeping.{unkept}
 use Rattle.volume.specs.declared.calls.Call.{Call}
 use Rattle.volume.specs.declared.calls.Call.TheVariants.{Submit, Step, Tick, Message as Tell, BeginMerge, ResumeMerge}
 use Rattle.volume.specs.declared.calls.Returned.{Returned}

@@ -9,9 +9,9 @@ use Rattle.snapshot.specs.Kept.{Kept, books_of as snap_books}
 use Rattle.volume_laws.specs.Books.{SnapBooks}
 use Rattle.volume_laws.specs.Held.{SnapHolds}
 use Rattle.volume.specs.Volumed.{Volumed}
-use Rattle.snapshots.specs.Numbers.{number_of_snap}
+use Rattle.snapshot_list.specs.Numbers.{number_of_snap}
 use Rattle.volume.specs.Whole.{IsWhole}
-use Rattle.snapshots.specs.Finding.{place_of_snap}
+use Rattle.snapshot_list.specs.Finding.{place_of_snap}
 
 below-other : (m n : ℕ) → m < n → (m == n) ≡ false
 below-other m n lt = search (arith)

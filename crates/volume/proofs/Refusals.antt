@@ -6,20 +6,20 @@ use Rattle.std.proofs.lemmas.List.{get_or-map}
 use Rattle.device.specs.Layers.{Layer}
 use Rattle.sector.specs.declared.refusal.Refusal.{Refusal}
 use Rattle.sector.specs.declared.refusal.Refusal.TheVariants.{MergingSnapshot, OutOfRange, TooMany, NoMemory, Invalid, Overflow}
-use Rattle.plain.specs.declared.request.Dev.{Dev}
-use Rattle.plain.specs.declared.request.Dev.TheVariants.{Origin, Snap}
-use Rattle.plain.specs.declared.request.Op.{Op}
-use Rattle.plain.specs.declared.request.Op.TheVariants.{Read, Write, Flush}
-use Rattle.plain.specs.declared.request.Request.{Request}
-use Rattle.plain.specs.declared.request.Reply.{Reply}
-use Rattle.plain.specs.declared.request.Reply.TheVariants.{Refused as Declined}
-use Rattle.plain.specs.declared.request.Failure.{Failure}
-use Rattle.plain.specs.declared.request.Failure.TheVariants.{Invalid as IsInvalid, Io as IsIo, Overflow as IsOverflow}
-use Rattle.plain.specs.declared.request.Overflowing.{Overflowing}
-use Rattle.plain.specs.declared.request.Overflowing.TheVariants.{Never, May, Did}
-use Rattle.plain.specs.Failures.{refusal_of}
-use Rattle.plain.specs.Kept.{kept_range}
-use Rattle.plain.specs.Plain.{did_overflow}
+use Rattle.plain_machine.specs.declared.request.Dev.{Dev}
+use Rattle.plain_machine.specs.declared.request.Dev.TheVariants.{Origin, Snap}
+use Rattle.plain_machine.specs.declared.request.Op.{Op}
+use Rattle.plain_machine.specs.declared.request.Op.TheVariants.{Read, Write, Flush}
+use Rattle.plain_machine.specs.declared.request.Request.{Request}
+use Rattle.plain_machine.specs.declared.request.Reply.{Reply}
+use Rattle.plain_machine.specs.declared.request.Reply.TheVariants.{Refused as Declined}
+use Rattle.plain_machine.specs.declared.request.Failure.{Failure}
+use Rattle.plain_machine.specs.declared.request.Failure.TheVariants.{Invalid as IsInvalid, Io as IsIo, Overflow as IsOverflow}
+use Rattle.plain_machine.specs.declared.request.Overflowing.{Overflowing}
+use Rattle.plain_machine.specs.declared.request.Overflowing.TheVariants.{Never, May, Did}
+use Rattle.plain_machine.specs.Failures.{refusal_of}
+use Rattle.plain_machine.specs.Kept.{kept_range}
+use Rattle.plain_machine.specs.Plain.{did_overflow}
 use Rattle.in_flight.specs.Kinds.{kind_of, kind_at}
 use Rattle.in_flight.specs.Routes.{refused_of}
 use Rattle.in_flight.specs.declared.flights.Flight.{Flight}
@@ -30,9 +30,9 @@ use Rattle.event_machine.specs.Submitting.{submitted}
 use Rattle.snapshot.specs.Kept.{Kept}
 use Rattle.volume.specs.Volumed.{Volumed, piece_with}
 use Rattle.volume.specs.Whole.{IsWhole}
-use Rattle.snapshots.specs.Finding.{place_of_snap}
+use Rattle.snapshot_list.specs.Finding.{place_of_snap}
 use Rattle.volume.specs.Moved.{moving_of}
-use Rattle.snapshots.specs.Starting.{lacks, is_full_of, spoilt_of}
+use Rattle.snapshot_list.specs.Starting.{lacks, is_full_of, spoilt_of}
 use Rattle.volume.specs.Submitting.{first_of_two, refusal_at, dev_refusal, is_merging, submit_refusal, is_piece_of, are_too_many, starting, shut_at, shut_refusal, SameButRoom, IsFoundFull, IsOverflown, IsRefusedAs}
 use Rattle.volume.proofs.Accepts.{same_roomed}
 use Rattle.volume.proofs.Leaves.{found_place}

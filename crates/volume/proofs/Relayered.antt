@@ -11,8 +11,8 @@ use Rattle.layers.specs.Ticks.{layers_ticked}
 use Rattle.layers.specs.Loudness.{loud_ticked}
 use Rattle.event_machine.specs.Held.{SnapHeld, MergeHeld, Moving, on_device}
 use Rattle.event_machine.specs.MergeSeen.{held_in, merge_held_of}
-use Rattle.settled.specs.Moments.{relayered}
-use Rattle.plain.specs.declared.request.Reply.{Reply}
+use Rattle.big_steps.specs.Moments.{relayered}
+use Rattle.plain_machine.specs.declared.request.Reply.{Reply}
 use Rattle.volume_laws.specs.Books.{Books, SnapBooks, MergeBooks}
 use Rattle.volume_laws.specs.Due.{DueSnap}
 use Rattle.volume_laws.specs.MergeDue.{DueMerge}
@@ -22,9 +22,9 @@ use Rattle.volume_laws.specs.Whole.{Holds}
 use Rattle.in_flight.specs.Due.{number_of_flight}
 use Rattle.volume_laws.specs.Waits.{Waits}
 use Rattle.snapshot.specs.Kept.{Kept, books_of as snap_books, due_of_kept}
-use Rattle.snapshots.specs.Rooms.{merge_books, room_of}
+use Rattle.snapshot_list.specs.Rooms.{merge_books, room_of}
 use Rattle.volume.specs.Volumed.{Volumed, books_of, dues_of, is_loud_with}
-use Rattle.snapshots.specs.Numbers.{number_of_snap, count_in}
+use Rattle.snapshot_list.specs.Numbers.{number_of_snap, count_in}
 use Rattle.volume.specs.Whole.{IsWhole, IsAttached, IsCounted, IsMerged, GoesOn, SharesNone, AreNumbers, starts_left}
 use Rattle.volume.specs.Moved.{moving_of, held_of, merge_seen}
 use Rattle.volume.specs.Layering.{Measures, IsLater, IsSnapLater, IsTicked, held_relayered, merging_relayered, moving_relayered, IsMergeLater}

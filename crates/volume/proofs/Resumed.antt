@@ -2,7 +2,7 @@
 use Rattle.std.proofs.Common.{◌≡◌, ℕ, false, List, Option, Some, refl, sym, ap, subst}
 use Rattle.std.proofs.lemmas.Bool.{false≢true}
 use Rattle.device.specs.Layers.{Layer, is_loud}
-use Rattle.plain.specs.declared.request.Reply.{Reply}
+use Rattle.plain_machine.specs.declared.request.Reply.{Reply}
 use Rattle.volume_laws.specs.Books.{SnapBooks, Books}
 use Rattle.volume_laws.specs.MergeDue.{DueMerge}
 use Rattle.volume_laws.specs.MergeWaits.{MergeGoes}
@@ -10,7 +10,7 @@ use Rattle.volume_laws.specs.Whole.{Holds}
 use Rattle.volume_laws.specs.Waits.{Waits}
 use Rattle.event_machine.specs.Merging.{resumed}
 use Rattle.merge.specs.Merging.{Merging, due_of as merging_due}
-use Rattle.snapshots.specs.Rooms.{merge_books}
+use Rattle.snapshot_list.specs.Rooms.{merge_books}
 use Rattle.volume.specs.Volumed.{Volumed, books_of, plain_of, is_loud_in_all}
 use Rattle.volume.specs.Whole.{IsMerged, IsWhole, GoesOn}
 use Rattle.volume.specs.Moved.{moving_of}

@@ -6,15 +6,15 @@ use Rattle.volume_laws.specs.Books.{SnapBooks, Books}
 use Rattle.volume_laws.specs.Whole.{Holds}
 use Rattle.volume_laws.specs.Waits.{Waits}
 use Rattle.snapshot.specs.Kept.{Kept, books_of as snap_books}
-use Rattle.snapshots.proofs.Roomed.{roomed, roomed_length, roomed_at}
+use Rattle.snapshot_list.proofs.Roomed.{roomed, roomed_length, roomed_at}
 use Rattle.volume_laws.specs.MergeRooms.{KeepBack}
 use Rattle.volume_laws.specs.MergeWaits.{MergeGoes}
 use Rattle.merge.specs.Merging.{Merging, due_of as merging_due}
-use Rattle.snapshots.specs.Rooms.{room_of}
+use Rattle.snapshot_list.specs.Rooms.{room_of}
 use Rattle.volume.specs.Volumed.{Volumed, books_of, piece_of, piece_with}
-use Rattle.snapshots.specs.Numbers.{number_of_snap, count_in}
+use Rattle.snapshot_list.specs.Numbers.{number_of_snap, count_in}
 use Rattle.volume.specs.Whole.{AreNumbers, SharesNone, IsAttached, GoesOn, IsWhole, IsCounted, starts_left}
-use Rattle.snapshots.specs.Starting.{unroomed, starts}
+use Rattle.snapshot_list.specs.Starting.{unroomed, starts}
 use Rattle.volume.proofs.Sums.{sum_cons}
 
 unseen_sum : {B : Type 0} (f : Kept B → ℕ) (xs : List (Kept B)) → ((s : Kept B) → f (unroomed s) ≡ f s) → sum_by f (map unroomed xs) ≡ sum_by f xs

@@ -19,10 +19,10 @@ use Rattle.volume_laws.proofs.Preparing.{prepared_start, prepared_spoil, saving_
 use Rattle.snapshot.specs.Kept.{Kept, books_of as snap_books}
 use Rattle.snapshot.specs.Calls.{StartsAt, started}
 use Rattle.volume.specs.Volumed.{Volumed, books_of}
-use Rattle.snapshots.specs.Numbers.{count_in}
+use Rattle.snapshot_list.specs.Numbers.{count_in}
 use Rattle.volume.specs.Whole.{IsWhole, IsCounted}
-use Rattle.snapshots.specs.Starting.{lacks, lacks_chunk, is_full_of, own_of, starts, overflows, overflows_chunk, overflowing, spoilt_of, IsSavedIn, AreSavedIn}
-use Rattle.snapshots.proofs.Overflowing.{overflowing_full, overflowing_fine, starts_fine}
+use Rattle.snapshot_list.specs.Starting.{lacks, lacks_chunk, is_full_of, own_of, starts, overflows, overflows_chunk, overflowing, spoilt_of, IsSavedIn, AreSavedIn}
+use Rattle.snapshot_list.proofs.Overflowing.{overflowing_full, overflowing_fine, starts_fine}
 use Rattle.volume.proofs.Changing.{same_disk, changed, changes, spoils_one, whole_changed, books_within, books_is}
 use Rattle.volume.proofs.SavingAt.{AreSavingAt, saving_here_at, saving_set_at}
 use Rattle.volume.proofs.Sums.{count_cons}

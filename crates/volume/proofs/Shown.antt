@@ -13,7 +13,7 @@ use Rattle.volume_laws.specs.Whole.{IsLoud, entry_of, origin_of, begun_of, plain
 use Rattle.volume_laws.proofs.Same.{plain}
 use Rattle.snapshot.specs.Kept.{Kept, books_of as snap_books, due_of_kept}
 use Rattle.merge.specs.Merging.{Merging, books_of as merging_books}
-use Rattle.snapshots.specs.Rooms.{merge_books}
+use Rattle.snapshot_list.specs.Rooms.{merge_books}
 use Rattle.volume.specs.Volumed.{Volumed, books_of, plain_of, is_loud_in_all, is_loud_with}
 
 pub and_left : (a b : Bool) → (a && b) ≡ true → a ≡ true

@@ -8,10 +8,10 @@ use Rattle.std.proofs.Math.Seq.{map-set_same}
 use Rattle.sector.specs.declared.refusal.Refusal.{Refusal}
 use Rattle.sector.specs.declared.refusal.Refusal.TheVariants.{Invalid, NoMemory, Overflow}
 use Rattle.device.specs.Layers.{Layer, is_loud}
-use Rattle.plain.specs.Legal.{IsSubmitted, Overflows, Spoils}
-use Rattle.plain.specs.Plain.{Plain, did_overflow}
-use Rattle.plain.specs.declared.request.Overflowing.TheVariants.{Never, May, Did}
-use Rattle.plain.specs.declared.request.Request.{Request}
+use Rattle.plain_machine.specs.Legal.{IsSubmitted, Overflows, Spoils}
+use Rattle.plain_machine.specs.Plain.{Plain, did_overflow}
+use Rattle.plain_machine.specs.declared.request.Overflowing.TheVariants.{Never, May, Did}
+use Rattle.plain_machine.specs.declared.request.Request.{Request}
 use Rattle.in_flight.specs.Kinds.{kind_of, room_of}
 use Rattle.in_flight.specs.Routes.{refused_of}
 use Rattle.in_flight.specs.declared.copies.ChunkCopy.{ChunkCopy}
@@ -26,20 +26,20 @@ use Rattle.volume_laws.specs.Accepting.{IsPrepared, IsTakenIn}
 use Rattle.volume_laws.proofs.MergeRoomEvents.{overflow_room}
 use Rattle.volume_laws.proofs.Overflowing.{overflow_event, overflow_waits}
 use Rattle.volume_laws.proofs.Preparing.{prepared_none, prepared_start, prepared_spoil}
-use Rattle.snapshots.specs.Rooms.{room_of as kept_room}
+use Rattle.snapshot_list.specs.Rooms.{room_of as kept_room}
 use Rattle.snapshot.specs.Kept.{Kept, books_of as snap_books}
 use Rattle.snapshot.specs.Calls.{StartsAt, started}
 use Rattle.volume.specs.Volumed.{Volumed, books_of, piece_with, plain_of}
-use Rattle.snapshots.specs.Numbers.{count_in}
+use Rattle.snapshot_list.specs.Numbers.{count_in}
 use Rattle.volume.specs.Whole.{IsWhole, IsCounted}
-use Rattle.plain.specs.declared.request.Reply.{Reply}
+use Rattle.plain_machine.specs.declared.request.Reply.{Reply}
 use Rattle.event_machine.specs.Held.{SnapHeld as Seen, Moving}
 use Rattle.event_machine.specs.Submitting.{submitted}
 use Rattle.volume.specs.Exact.{IsSubmittedAs}
-use Rattle.snapshots.specs.Finding.{place_of_snap}
+use Rattle.snapshot_list.specs.Finding.{place_of_snap}
 use Rattle.volume.specs.Moved.{moving_of}
-use Rattle.snapshots.specs.Starting.{lacks, is_full_of, own_of, starts, overflows, spoilt_of, unroomed, IsSavedIn}
-use Rattle.snapshots.proofs.Roomed.{roomed}
+use Rattle.snapshot_list.specs.Starting.{lacks, is_full_of, own_of, starts, overflows, spoilt_of, unroomed, IsSavedIn}
+use Rattle.snapshot_list.proofs.Roomed.{roomed}
 use Rattle.volume.specs.Submitting.{IsAsked, IsAcceptedAs, IsFoundFull, IsOverflown, SameButRoom, entered_of, lives_after, spoiled_by}
 use Rattle.volume.proofs.Accepts.{kept_flown}
 use Rattle.volume.proofs.Unflushed.{unflushed}

@@ -8,7 +8,7 @@ use Rattle.store_bytes.specs.Places.{is_area_place}
 use Rattle.in_flight.specs.declared.copies.ChunkCopy.{ChunkCopy}
 use Rattle.snapshot.specs.Kept.{Kept}
 use Rattle.snapshot.specs.Calls.{StartsAt}
-use Rattle.snapshots.specs.Starting.{lacks_chunk, is_full_of, starts_chunk}
+use Rattle.snapshot_list.specs.Starting.{lacks_chunk, is_full_of, starts_chunk}
 use Rattle.volume.specs.Whole.{starts_left}
 
 pub left_same : {B : Type 0} (s t : Kept B) → t.live ≡ s.live → t.state.size ≡ s.state.size → t.next ≡ s.next → starts_left t ≤ starts_left s

@@ -2,9 +2,9 @@
 use Rattle.std.proofs.Common.{◌≡◌, ◌∙◌, ℕ, Bool, List, ap, false, map, refl, subst, sym, true}
 use Rattle.std.specs.Prelude.{◌&&◌, Err, IfOk, Ok, OnErr, OnOk, Result, Some, is_ok}
 use Rattle.device.specs.Layers.{Layer}
-use Rattle.plain.specs.declared.event.Event.{Event}
-use Rattle.plain.specs.declared.event.NotDue.{NotDue}
-use Rattle.plain.specs.declared.event.Outcome.{Outcome}
+use Rattle.plain_machine.specs.declared.event.Event.{Event}
+use Rattle.plain_machine.specs.declared.event.NotDue.{NotDue}
+use Rattle.plain_machine.specs.declared.event.Outcome.{Outcome}
 use Rattle.in_flight.specs.Kinds.{in_flight}
 use Rattle.volume.specs.Asking.{is_finished_in}
 use Rattle.volume.specs.Closing.{ClosesBy}

@@ -7,8 +7,8 @@ use Rattle.std.proofs.lemmas.List.{map-append}
 use Rattle.sector.specs.Bytes.{next_count}
 use Rattle.device.specs.Layers.{Layer, is_loud}
 use Rattle.store_bytes.specs.NextPlace.{LacksArea}
-use Rattle.plain.specs.declared.event.Event.TheVariants.{FlushStore, ZeroNext, WriteArea}
-use Rattle.plain.specs.declared.event.Outcome.TheVariants.{Done, Fault}
+use Rattle.plain_machine.specs.declared.event.Event.TheVariants.{FlushStore, ZeroNext, WriteArea}
+use Rattle.plain_machine.specs.declared.event.Outcome.TheVariants.{Done, Fault}
 use Rattle.in_flight.specs.Due.{number_of_copy, number_of_mark, front_ready, front_unflushed}
 use Rattle.in_flight.specs.Flushed.{flushed_copy, safe_mark}
 use Rattle.in_flight.specs.Routes.{refused_of}
@@ -26,12 +26,12 @@ use Rattle.volume_laws.proofs.Waiting.{waits_changed}
 use Rattle.volume_laws.proofs.FlushLeft.{flush_left, flush_spoil_left}
 use Rattle.volume_laws.proofs.Left.{zero_left, commit_left}
 use Rattle.volume_laws.proofs.MergeRoomEvents.{zero_room, commit_room, flush_room}
-use Rattle.snapshots.specs.Rooms.{room_of}
+use Rattle.snapshot_list.specs.Rooms.{room_of}
 use Rattle.snapshot.specs.Kept.{Kept, books_of as snap_books, due_of_kept, batch_of, fills_area, needs_area, waits_area, spare_after}
 use Rattle.volume.specs.Volumed.{Volumed, books_of}
-use Rattle.snapshots.specs.Numbers.{numbers_in}
+use Rattle.snapshot_list.specs.Numbers.{numbers_in}
 use Rattle.volume.specs.Whole.{IsWhole, IsCounted}
-use Rattle.snapshots.specs.Finding.{is_committing, is_flushing, is_zeroing, waits_for_flush}
+use Rattle.snapshot_list.specs.Finding.{is_committing, is_flushing, is_zeroing, waits_for_flush}
 use Rattle.volume.proofs.Changing.{SameDisk, same_disk, StaysAttached, few_same, changed, books_within, books_is, changes}
 use Rattle.volume.proofs.Counting.{counts_same, counts_store, store_within, lives_same, lives_spoiled, lived}
 use Rattle.volume.proofs.CopyEvents.{both_left, both_right}

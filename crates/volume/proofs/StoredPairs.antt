@@ -2,14 +2,14 @@
 use Rattle.std.proofs.Common.{◌≡◌, ℕ, ◌<◌, Bool, true, List, Option, Some, None, length, refl, sym, ◌∙◌, ap, subst, arith, length-append}
 use Rattle.std.specs.Prelude.{◌==◌, ◌&&◌, not}
 use Rattle.device.specs.Layers.{Layer, is_loud}
-use Rattle.plain.specs.declared.event.Event.TheVariants.{MergeCommit}
-use Rattle.plain.specs.declared.event.Outcome.TheVariants.{Done}
+use Rattle.plain_machine.specs.declared.event.Event.TheVariants.{MergeCommit}
+use Rattle.plain_machine.specs.declared.event.Outcome.TheVariants.{Done}
 use Rattle.volume_laws.specs.MergeSteps.{CommitsGroup}
 use Rattle.volume_laws.specs.Whole.{OriginHolds}
 use Rattle.volume_laws.proofs.MergeLeft.{some_pairs}
 use Rattle.merge.specs.Due.{has_group_of}
 use Rattle.merge.specs.Merging.{Merging, books_of as merging_books, due_of as merging_due}
-use Rattle.snapshots.specs.Rooms.{merge_books}
+use Rattle.snapshot_list.specs.Rooms.{merge_books}
 use Rattle.volume.specs.Asking.{is_finished_in}
 use Rattle.volume.specs.Stored.{pairs_left, pairs_stored, is_finished_on, RemovesPairs}
 use Rattle.volume.specs.Volumed.{Volumed, books_of, is_loud_in_all}

@@ -5,10 +5,10 @@ use Rattle.std.specs.Prelude.{Err, IfErr, IfOk, Ok, Result}
 use Rattle.device.specs.Layers.{Layer}
 use Rattle.sector.specs.declared.refusal.Refusal.{Refusal}
 use Rattle.sector.specs.declared.refusal.Refusal.TheVariants.{JournalFull, NoMemory}
-use Rattle.plain.specs.Failures.{refusal_of}
-use Rattle.plain.specs.declared.request.Failure.{Failure}
-use Rattle.plain.specs.declared.request.Failure.TheVariants.{Invalid, Io, Overflow}
-use Rattle.plain.specs.declared.request.Request.{Request}
+use Rattle.plain_machine.specs.Failures.{refusal_of}
+use Rattle.plain_machine.specs.declared.request.Failure.{Failure}
+use Rattle.plain_machine.specs.declared.request.Failure.TheVariants.{Invalid, Io, Overflow}
+use Rattle.plain_machine.specs.declared.request.Request.{Request}
 use Rattle.volume.specs.DoesSubmit.{DoesSubmit}
 use Rattle.volume.specs.Layering.{Measures}
 use Rattle.volume.specs.Running.{IsSubmitReturned}

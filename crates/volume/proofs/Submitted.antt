@@ -7,22 +7,22 @@ use Rattle.std.proofs.lemmas.List.{get_or_default}
 use Rattle.device.specs.Layers.{Layer}
 use Rattle.store_bytes.specs.Picture.{place_of}
 use Rattle.sector.specs.declared.pair.Pair.{Pair}
-use Rattle.plain.specs.declared.request.Request.{Request}
-use Rattle.plain.specs.Plain.{did_overflow}
+use Rattle.plain_machine.specs.declared.request.Request.{Request}
+use Rattle.plain_machine.specs.Plain.{did_overflow}
 use Rattle.in_flight.specs.Kinds.{kind_of}
 use Rattle.in_flight.specs.Routes.{flush_route_of, read_route_of, write_route_of}
 use Rattle.in_flight.specs.declared.copies.Mark.{Mark}
 use Rattle.in_flight.specs.declared.flights.Kind.TheVariants.{OriginRead, OriginWrite, OriginFlush, SnapRead, SnapWrite, SnapFlush}
 use Rattle.in_flight.specs.declared.flights.Route.{Route}
 use Rattle.in_flight.specs.declared.flights.Route.TheVariants.{Held, Whole}
-use Rattle.plain.specs.Kept.{kept}
+use Rattle.plain_machine.specs.Kept.{kept}
 use Rattle.volume_laws.specs.Again.{published_place}
 use Rattle.volume_laws.specs.Published.{is_published}
 use Rattle.snapshot.specs.Kept.{Kept}
-use Rattle.snapshots.specs.Routing.{is_grouped_at, place_at, is_merged_at}
+use Rattle.snapshot_list.specs.Routing.{is_grouped_at, place_at, is_merged_at}
 use Rattle.volume.specs.Volumed.{Volumed}
 use Rattle.volume.specs.Whole.{IsWhole}
-use Rattle.snapshots.specs.Starting.{lacks}
+use Rattle.snapshot_list.specs.Starting.{lacks}
 use Rattle.volume.specs.Submitting.{IsEntered}
 use Rattle.volume.specs.Exact.{IsSubmittedAs}
 use Rattle.volume.proofs.Exactly.{holds_live}

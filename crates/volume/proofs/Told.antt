@@ -10,31 +10,31 @@ use Rattle.layers.specs.declared.message.Answer.{Answer}
 use Rattle.layers.specs.declared.message.Message.{Message}
 use Rattle.layers.specs.Loudness.{loud_told}
 use Rattle.layers.specs.Messages.{Told, Answered, Refused, NeedsRoom, answer_of, told}
-use Rattle.plain.specs.declared.request.Dev.{Dev}
-use Rattle.plain.specs.declared.request.Dev.TheVariants.{Origin, Snap}
-use Rattle.plain.specs.declared.request.Reply.{Reply}
+use Rattle.plain_machine.specs.declared.request.Dev.{Dev}
+use Rattle.plain_machine.specs.declared.request.Dev.TheVariants.{Origin, Snap}
+use Rattle.plain_machine.specs.declared.request.Reply.{Reply}
 use Rattle.sector.specs.declared.refusal.Refusal.{Refusal}
 use Rattle.sector.specs.declared.refusal.Refusal.TheVariants.{NoSuchDevice}
 use Rattle.event_machine.specs.Held.{SnapHeld, MergeHeld, Moving, on_device}
 use Rattle.event_machine.specs.MergeRest.{merge_in, IsMergeResting, IsBetween}
 use Rattle.event_machine.specs.MergeSeen.{held_in, merge_held_of}
-use Rattle.settled.specs.Moments.{snap_relayered}
+use Rattle.big_steps.specs.Moments.{snap_relayered}
 use Rattle.event_machine.specs.Requests.{volume_of}
 use Rattle.event_machine.specs.Rest.{IsResting, IsAtRest}
-use Rattle.settled.specs.Snaps.{Snap as SettledSnap, Volume}
-use Rattle.settled.proofs.Each.{Each, each_from, all_from}
+use Rattle.big_steps.specs.Snaps.{Snap as SettledSnap, Volume}
+use Rattle.big_steps.proofs.Each.{Each, each_from, all_from}
 use Rattle.volume_laws.specs.Whole.{plain_of as plain_books}
 use Rattle.store.specs.Layering.{IsRelayered}
 use Rattle.snapshot.specs.Kept.{Kept}
 use Rattle.merge.specs.Merging.{Merging, due_of as merging_due}
 use Rattle.volume.specs.Volumed.{Volumed, books_of, plain_of, is_loud_in_all, is_loud_with}
-use Rattle.snapshots.specs.Finding.{place_of_snap}
+use Rattle.snapshot_list.specs.Finding.{place_of_snap}
 use Rattle.volume.specs.Whole.{IsWhole, GoesOn}
 use Rattle.volume.specs.Moved.{moving_of, held_of, merge_seen}
 use Rattle.volume.specs.Layering.{Measures, held_relayered, merge_relayered}
 use Rattle.volume.specs.Telling.{layers_left, layers_told, store_layers, merging_layers, layers_or, told_under, volume_told, merged_in, helds_relayered, numbered_relayered, dev_relayered, volume_relayered, IsRelayeredBy, IsOriginRelayered, IsNotMerging, IsSnapRelayered, IsMergeRelayered, IsRelayeredAt, IsTold, IsNotTold, IsRefusal, IsMergeMet, IsMergeTold, IsMergeNotTold}
 use Rattle.volume.proofs.Accepts.{if_ok, if_err}
-use Rattle.snapshots.proofs.Finds.{position_none}
+use Rattle.snapshot_list.proofs.Finds.{position_none}
 use Rattle.volume.proofs.Keeping.{of_both}
 use Rattle.volume.proofs.MovedLists.{IsFirst, first_position}
 use Rattle.volume.proofs.Relayered.{IsAlike, IsSnapAlike, IsVolumeAlike, books_of_alike, whole_alike, IsMergeAlike, merge_same, merge_loud_alike}

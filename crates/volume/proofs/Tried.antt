@@ -3,8 +3,8 @@ use Rattle.std.proofs.Common.{◌≡◌, ℕ, suc, ◌<◌, Bool, true, false, L
 use Rattle.std.proofs.lemmas.List.{map-set, get_or-set_same, length-map}
 use Rattle.sector.specs.Bytes.{next_count}
 use Rattle.device.specs.Layers.{Layer, is_loud}
-use Rattle.plain.specs.declared.event.Event.TheVariants.{FlushStore, WriteInvalid}
-use Rattle.plain.specs.declared.event.Outcome.TheVariants.{Done, Fault}
+use Rattle.plain_machine.specs.declared.event.Event.TheVariants.{FlushStore, WriteInvalid}
+use Rattle.plain_machine.specs.declared.event.Outcome.TheVariants.{Done, Fault}
 use Rattle.in_flight.specs.declared.flights.Flight.{Flight}
 use Rattle.volume_laws.specs.Published.{is_clear}
 use Rattle.volume_laws.specs.Again.{again_of}
@@ -15,12 +15,12 @@ use Rattle.volume_laws.proofs.Waiting.{waits_changed}
 use Rattle.volume_laws.proofs.Left.{mark_left}
 use Rattle.volume_laws.proofs.MergeRoomEvents.{mark_room}
 use Rattle.snapshot.specs.Kept.{Kept, books_of as snap_books, due_of_kept}
-use Rattle.snapshots.specs.Rooms.{merge_books, room_of}
+use Rattle.snapshot_list.specs.Rooms.{merge_books, room_of}
 use Rattle.volume.specs.Causes.{MarkFails}
 use Rattle.volume.specs.Volumed.{Volumed, books_of}
 use Rattle.volume.specs.Whole.{IsWhole, IsCounted}
-use Rattle.snapshots.specs.Finding.{is_flushing, is_trying}
-use Rattle.snapshots.specs.Numbers.{numbers_in}
+use Rattle.snapshot_list.specs.Finding.{is_flushing, is_trying}
+use Rattle.snapshot_list.specs.Numbers.{numbers_in}
 use Rattle.volume.proofs.Changing.{StaysAttached, same_disk, changed, changes, few_same}
 use Rattle.volume.proofs.Counting.{counts_same, counts_store, lives_same, store_within}
 use Rattle.volume.proofs.Good.{IsGood, silent_good}

@@ -3,7 +3,7 @@ use Rattle.std.proofs.Common.{◌≡◌, ◌≢◌, inl, inr, ℕ, Bool, List, O
 use Rattle.device.specs.Layers.{Layer, is_loud}
 use Rattle.sector.specs.declared.refusal.Refusal.{Refusal}
 use Rattle.sector.specs.declared.refusal.Refusal.TheVariants.{Io}
-use Rattle.plain.specs.declared.request.Reply.{Reply}
+use Rattle.plain_machine.specs.declared.request.Reply.{Reply}
 use Rattle.event_machine.specs.Rest.{IsAtRest}
 use Rattle.snapshot.specs.Opened.{IsFlushedAs, IsOriginBack}
 use Rattle.volume.specs.Volumed.{Volumed, is_loud_in_all, plain_of}

@@ -6,9 +6,9 @@ use Rattle.std.proofs.lemmas.List.Elements.{All-cons, All-head, All-tail}
 use Rattle.chunk.specs.Sizes.{is_chunk}
 use Rattle.device.specs.Layers.{Layer, is_loud}
 use Rattle.store_bytes.specs.Pairs.{pairs_of, AreWellFormed}
-use Rattle.plain.specs.declared.request.Reply.{Reply}
-use Rattle.settled.specs.MergeShown.{IsWell, IsUnderWay, IsMerging}
-use Rattle.settled.specs.Snaps.{Snap}
+use Rattle.plain_machine.specs.declared.request.Reply.{Reply}
+use Rattle.big_steps.specs.MergeShown.{IsWell, IsUnderWay, IsMerging}
+use Rattle.big_steps.specs.Snaps.{Snap}
 use Rattle.event_machine.specs.Held.{SnapHeld, MergeHeld}
 use Rattle.event_machine.specs.MergeRest.{IsBetween, in_big_steps}
 use Rattle.event_machine.specs.MergeSeen.{held_in, merge_held_of as held_merge}

@@ -3,10 +3,10 @@ use Rattle.std.proofs.Common.{◌≡◌, inl, inr, ℕ, false, List, [], ◌∷�
 use Rattle.std.specs.Prelude.{◌==◌}
 use Rattle.std.specs.List.{list_any}
 use Rattle.std.proofs.lemmas.Bool.{cases_Bool, eqb-true, or_parts}
-use Rattle.plain.specs.Plain.{Plain, Entry, saved_under, without_saved}
-use Rattle.plain.specs.Runs.{IsRun}
-use Rattle.plain.specs.Unwritten.{is_written, StillShows}
-use Rattle.plain.proofs.Unwritten.{step_keeps, submit_keeps}
+use Rattle.plain_machine.specs.Plain.{Plain, Entry, saved_under, without_saved}
+use Rattle.plain_machine.specs.Runs.{IsRun}
+use Rattle.plain_machine.specs.Unwritten.{is_written, StillShows}
+use Rattle.plain_machine.proofs.Unwritten.{step_keeps, submit_keeps}
 use Rattle.volume.specs.declared.calls.Call.{Call}
 use Rattle.volume.specs.declared.calls.Call.TheVariants.{Submit, Step, Tick, Message as Tell, BeginMerge, ResumeMerge}
 use Rattle.volume.specs.Running.{MayBegin, MayCall, writes_or_merges}

@@ -17,8 +17,8 @@ use Rattle.volume_laws.specs.Books.{SnapBooks, MergeBooks}
 use Rattle.volume_laws.specs.Due.{weight_at, weight_of}
 use Rattle.volume_laws.specs.Published.{chunk_of}
 use Rattle.snapshot.specs.Kept.{Kept}
-use Rattle.snapshots.specs.Starting.{overflows_chunk, starts_chunk}
-use Rattle.snapshots.specs.MergeStarting.{AreNextSavedIn, IsNextSavedIn}
+use Rattle.snapshot_list.specs.Starting.{overflows_chunk, starts_chunk}
+use Rattle.snapshot_list.specs.MergeStarting.{AreNextSavedIn, IsNextSavedIn}
 
 -- a list weighs as much where each request does
 weights_same : (f : Flight → Flight) → ((r : Flight) → weight_of (f r) ≡ weight_of r) → (rs : List Flight) → sum_by weight_of (map f rs) ≡ sum_by weight_of rs

@@ -4,8 +4,8 @@
 use Rattle.std.specs.Prelude.{◌≡◌, ◌⊎◌, ℕ, ◌<◌, Bool, true, false, List, [], ◌∷◌, Option, Some, None, map}
 use Rattle.std.specs.List.{list_any}
 use Rattle.sector.specs.Bytes.{sector_at}
-use Rattle.plain.specs.Plain.{InFlight}
-use Rattle.plain.specs.Unwritten.{writes, is_written}
+use Rattle.plain_machine.specs.Plain.{InFlight}
+use Rattle.plain_machine.specs.Unwritten.{writes, is_written}
 use Rattle.in_flight.specs.Kinds.{in_flight}
 use Rattle.stop_laws.specs.Stop.{MayLeave}
 use Rattle.stop_laws.specs.Again.{IsOpen}

@@ -2,12 +2,12 @@
 use Rattle.std.specs.Prelude.{◌≡◌, ◌⊎◌, ◌/◌, ℕ, true, List, None, Option, Some, map, slice_index_or}
 use Rattle.device.specs.Layers.{Layer}
 use Rattle.store_bytes.specs.Picture.{place_of}
-use Rattle.plain.specs.declared.request.Request.{Request}
+use Rattle.plain_machine.specs.declared.request.Request.{Request}
 use Rattle.in_flight.specs.Kinds.{kind_of}
 use Rattle.in_flight.specs.declared.flights.Kind.TheVariants.{OriginRead, OriginWrite, SnapRead}
 use Rattle.volume_laws.specs.Published.{is_clear}
 use Rattle.snapshot.specs.Kept.{Kept, books_of as snap_books}
-use Rattle.snapshots.specs.Finding.{place_of_snap}
+use Rattle.snapshot_list.specs.Finding.{place_of_snap}
 
 -- a read of the snapshot at place k of the list, whose chunk's committed copy stands at a place of its store, or nowhere
 pub record IsReadOf {B : Type 0} (request : Request) (k : ℕ) (place : Option ℕ) (snaps : List (Kept B)) : Type 0 where

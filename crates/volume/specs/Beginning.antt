@@ -4,9 +4,9 @@ use Rattle.std.specs.List.{remove}
 use Rattle.sector.specs.declared.refusal.Refusal.{Refusal}
 use Rattle.sector.specs.declared.refusal.Refusal.TheVariants.{NoSuchDevice, NotQuiet, NoMemory, Invalid, MergeInProgress}
 use Rattle.snapshot.specs.Kept.{Kept}
-use Rattle.snapshots.specs.Finding.{place_of_snap}
+use Rattle.snapshot_list.specs.Finding.{place_of_snap}
 use Rattle.merge.specs.Merging.{Merging}
-use Rattle.snapshots.specs.Keeping.{unkept, kept_for}
+use Rattle.snapshot_list.specs.Keeping.{unkept, kept_for}
 use Rattle.volume.specs.Volumed.{Volumed}
 use Rattle.volume.specs.Causes.{lives_of}
 use Rattle.volume.specs.Leaving.{is_quiet_of}

@@ -7,13 +7,13 @@ use Rattle.std.specs.List.{remove}
 use Rattle.sector.specs.Bytes.{next_count}
 use Rattle.store_bytes.specs.NextPlace.{LacksArea}
 use Rattle.sector.specs.declared.pair.Pair.{Pair}
-use Rattle.plain.specs.declared.event.Event.{Event}
-use Rattle.plain.specs.declared.event.Event.TheVariants.{CopyRead, CopyWrite, FlushStore, MergeAreaRead, MergeCommit, MergeFlush, MergeGroup, MergeRead, MergeWrite, Publish, ZeroNext, WriteArea, WriteInvalid}
-use Rattle.plain.specs.declared.event.Outcome.{Outcome}
-use Rattle.plain.specs.declared.event.Outcome.TheVariants.{Done, Fault, Reply as Replied}
-use Rattle.plain.specs.declared.request.Reply.{Reply}
-use Rattle.plain.specs.declared.request.Reply.TheVariants.{Refused}
-use Rattle.plain.specs.declared.request.Failure.TheVariants.{Io}
+use Rattle.plain_machine.specs.declared.event.Event.{Event}
+use Rattle.plain_machine.specs.declared.event.Event.TheVariants.{CopyRead, CopyWrite, FlushStore, MergeAreaRead, MergeCommit, MergeFlush, MergeGroup, MergeRead, MergeWrite, Publish, ZeroNext, WriteArea, WriteInvalid}
+use Rattle.plain_machine.specs.declared.event.Outcome.{Outcome}
+use Rattle.plain_machine.specs.declared.event.Outcome.TheVariants.{Done, Fault, Reply as Replied}
+use Rattle.plain_machine.specs.declared.request.Reply.{Reply}
+use Rattle.plain_machine.specs.declared.request.Reply.TheVariants.{Refused}
+use Rattle.plain_machine.specs.declared.request.Failure.TheVariants.{Io}
 use Rattle.in_flight.specs.declared.copies.Mark.{Mark}
 use Rattle.in_flight.specs.declared.flights.Flight.{Flight}
 use Rattle.in_flight.specs.declared.flights.Route.TheVariants.{Origin, Store, Whole}
@@ -23,8 +23,8 @@ use Rattle.snapshot.specs.Kept.{Kept}
 use Rattle.volume_laws.specs.MergeDue.{last_of}
 use Rattle.merge.specs.Lists.{next_of_group, waiting_of}
 use Rattle.merge.specs.Merging.{Merging}
-use Rattle.snapshots.specs.Starting.{overflows_chunk}
-use Rattle.snapshots.specs.MergeStarting.{next_for}
+use Rattle.snapshot_list.specs.Starting.{overflows_chunk}
+use Rattle.snapshot_list.specs.MergeStarting.{next_for}
 use Rattle.volume.specs.Volumed.{Volumed}
 
 -- what some devices counted, and then the merging store

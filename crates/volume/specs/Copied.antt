@@ -3,10 +3,10 @@
 use Rattle.std.specs.Prelude.{◌≡◌, ◌&&◌, ℕ, zero, suc, Bool, true, false, List, Option, Some, None, Ok}
 use Rattle.device.specs.Layers.{Layer}
 use Rattle.device.specs.Bare.{is_bare}
-use Rattle.plain.specs.declared.event.Event.{Event}
-use Rattle.plain.specs.declared.event.Event.TheVariants.{MergeRead, MergeWrite}
-use Rattle.plain.specs.declared.event.Outcome.TheVariants.{Done}
-use Rattle.plain.specs.declared.request.Reply.{Reply}
+use Rattle.plain_machine.specs.declared.event.Event.{Event}
+use Rattle.plain_machine.specs.declared.event.Event.TheVariants.{MergeRead, MergeWrite}
+use Rattle.plain_machine.specs.declared.event.Outcome.TheVariants.{Done}
+use Rattle.plain_machine.specs.declared.request.Reply.{Reply}
 use Rattle.volume_laws.specs.MergeDue.{is_none}
 use Rattle.event_machine.specs.MergeDue.{due_all}
 use Rattle.merge.specs.Due.{can_copy_of}

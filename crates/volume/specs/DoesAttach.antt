@@ -4,10 +4,10 @@ use Rattle.sector.specs.declared.refusal.Refusal.{Refusal}
 use Rattle.sector.specs.Bytes.{sector_at}
 use Rattle.cow_header.specs.HeaderText.{found_in}
 use Rattle.device.specs.Layers.{Layer, is_loud}
-use Rattle.plain.specs.Legal.{IsTaken}
-use Rattle.plain.specs.Plain.{overflow_of}
-use Rattle.settled.specs.Attaching.{attached as attached_by, refused_attach}
-use Rattle.settled.specs.Refusals.{is_starved}
+use Rattle.plain_machine.specs.Legal.{IsTaken}
+use Rattle.plain_machine.specs.Plain.{overflow_of}
+use Rattle.big_steps.specs.Attaching.{attached as attached_by, refused_attach}
+use Rattle.big_steps.specs.Refusals.{is_starved}
 use Rattle.stop_laws.specs.Firm.{IsFirm}
 use Rattle.store.specs.Reading.{AreRead}
 use Rattle.snapshot.specs.Kept.{Kept}

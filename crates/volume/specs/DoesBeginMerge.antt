@@ -2,8 +2,8 @@
 use Rattle.std.specs.Prelude.{◌≡◌, true, ℕ, List, None, OnErr, OnOk, Option, Result}
 use Rattle.sector.specs.declared.refusal.Refusal.{Refusal}
 use Rattle.device.specs.Layers.{Layer}
-use Rattle.plain.specs.Legal.{IsBegun}
-use Rattle.plain.specs.declared.request.Reply.{Reply}
+use Rattle.plain_machine.specs.Legal.{IsBegun}
+use Rattle.plain_machine.specs.declared.request.Reply.{Reply}
 use Rattle.event_machine.specs.Merging.{begun as begun_by}
 use Rattle.volume.specs.Beginning.{IsMergeBegun, begin_refusal}
 use Rattle.volume.specs.Handing.{HandsOver}

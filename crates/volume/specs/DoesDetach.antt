@@ -2,7 +2,7 @@
 use Rattle.std.specs.Prelude.{◌≡◌, ◌&&◌, true, ℕ, List, IfOk, None, OnOk, Result}
 use Rattle.sector.specs.declared.refusal.Refusal.{Refusal}
 use Rattle.device.specs.Layers.{Layer, is_loud}
-use Rattle.plain.specs.Legal.{IsDetached}
+use Rattle.plain_machine.specs.Legal.{IsDetached}
 use Rattle.snapshot.specs.declared.opening.StoreDev.{StoreDev}
 use Rattle.volume.specs.Leaving.{IsWithout, detach_refusal}
 use Rattle.volume.specs.Stopping.{StopsAround}

@@ -2,8 +2,8 @@
 use Rattle.std.specs.Prelude.{◌≡◌, ◌&&◌, true, ℕ, List, IfOk, None, OnOk, Option, Result}
 use Rattle.sector.specs.declared.refusal.Refusal.{Refusal}
 use Rattle.device.specs.Layers.{Layer, is_loud}
-use Rattle.plain.specs.Legal.{IsFinished}
-use Rattle.plain.specs.declared.request.Reply.{Reply}
+use Rattle.plain_machine.specs.Legal.{IsFinished}
+use Rattle.plain_machine.specs.declared.request.Reply.{Reply}
 use Rattle.event_machine.specs.Merging.{finished}
 use Rattle.snapshot.specs.declared.opening.StoreDev.{StoreDev}
 use Rattle.volume.specs.Finishing.{IsTakenOut, finish_refusal}

@@ -4,8 +4,8 @@ use Rattle.sector.specs.declared.refusal.Refusal.{Refusal}
 use Rattle.device.specs.Layers.{Layer}
 use Rattle.layers.specs.declared.message.Answer.{Answer}
 use Rattle.layers.specs.declared.message.Message.{Message}
-use Rattle.plain.specs.declared.request.Dev.{Dev}
-use Rattle.plain.specs.declared.request.Reply.{Reply}
+use Rattle.plain_machine.specs.declared.request.Dev.{Dev}
+use Rattle.plain_machine.specs.declared.request.Reply.{Reply}
 use Rattle.volume.specs.Adding.{OpensNothing}
 use Rattle.volume.specs.Layering.{Measures}
 use Rattle.volume.specs.Moved.{moving_of}

@@ -3,7 +3,7 @@ use Rattle.std.specs.Prelude.{◌≡◌, List, ℕ, IfErr, None, OnOk, Option, R
 use Rattle.sector.specs.declared.refusal.Refusal.{Refusal}
 use Rattle.sector.specs.declared.refusal.Refusal.TheVariants.{NotMerging}
 use Rattle.device.specs.Layers.{Layer}
-use Rattle.plain.specs.declared.request.Reply.{Reply}
+use Rattle.plain_machine.specs.declared.request.Reply.{Reply}
 use Rattle.event_machine.specs.Merging.{resumed as resumed_by}
 use Rattle.volume.specs.Beginning.{IsResumed}
 use Rattle.volume.specs.Moved.{moving_of}

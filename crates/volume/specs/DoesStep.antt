@@ -2,10 +2,10 @@
 -- What a call of `step` does to a volume, as one record: a layer that passes an event on says the same record of the volume below it.
 use Rattle.std.specs.Prelude.{◌≡◌, ◌&&◌, ℕ, ◌+◌, ◌<◌, ◌≤◌, Bool, true, List, IfOk, OnErr, OnOk, Result, Some, is_ok, map}
 use Rattle.device.specs.Layers.{Layer}
-use Rattle.plain.specs.declared.event.Event.{Event}
-use Rattle.plain.specs.declared.event.NotDue.{NotDue}
-use Rattle.plain.specs.declared.event.Outcome.{Outcome}
-use Rattle.plain.specs.Legal.{IsLegalStep}
+use Rattle.plain_machine.specs.declared.event.Event.{Event}
+use Rattle.plain_machine.specs.declared.event.NotDue.{NotDue}
+use Rattle.plain_machine.specs.declared.event.Outcome.{Outcome}
+use Rattle.plain_machine.specs.Legal.{IsLegalStep}
 use Rattle.in_flight.specs.Kinds.{in_flight}
 use Rattle.volume.specs.Asking.{is_finished_in}
 use Rattle.volume.specs.Causes.{HasCause, IsOneAtMost}

@@ -2,7 +2,7 @@
 use Rattle.std.specs.Prelude.{◌≡◌, ℕ, List, Option}
 use Rattle.device.specs.Layers.{Layer}
 use Rattle.layers.specs.Ticks.{layers_ticked}
-use Rattle.plain.specs.declared.request.Reply.{Reply}
+use Rattle.plain_machine.specs.declared.request.Reply.{Reply}
 use Rattle.volume.specs.Adding.{OpensNothing}
 use Rattle.volume.specs.Layering.{IsTicked, Measures, moving_relayered}
 use Rattle.volume.specs.Moved.{moving_of}

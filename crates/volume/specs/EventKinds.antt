@@ -1,7 +1,7 @@
 -- Which events are those of a merge.
 use Rattle.std.specs.Prelude.{Bool, true, false}
-use Rattle.plain.specs.declared.event.Event.{Event}
-use Rattle.plain.specs.declared.event.Event.TheVariants.{MergeGroup, MergeAreaRead, MergeRead, MergeWrite, MergeFlush, MergeCommit, MergeRelease}
+use Rattle.plain_machine.specs.declared.event.Event.{Event}
+use Rattle.plain_machine.specs.declared.event.Event.TheVariants.{MergeGroup, MergeAreaRead, MergeRead, MergeWrite, MergeFlush, MergeCommit, MergeRelease}
 
 abbrev pub is_of_merge : Event → Bool
 is_of_merge MergeGroup = true

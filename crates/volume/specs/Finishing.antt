@@ -5,7 +5,7 @@ use Rattle.sector.specs.declared.refusal.Refusal.TheVariants.{NotQuiet, NotFinis
 use Rattle.snapshot.specs.declared.opening.StoreDev.{StoreDev}
 use Rattle.merge.specs.Due.{is_finished_of}
 use Rattle.merge.specs.Merging.{Merging}
-use Rattle.snapshots.specs.Keeping.{unkept}
+use Rattle.snapshot_list.specs.Keeping.{unkept}
 use Rattle.volume.specs.Volumed.{Volumed}
 use Rattle.volume.specs.Leaving.{is_quiet_of}
 

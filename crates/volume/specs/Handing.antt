@@ -5,7 +5,7 @@ use Rattle.sector.specs.Bytes.{sector_at}
 use Rattle.stop_laws.specs.Stop.{MayLeave}
 use Rattle.stop_laws.specs.Again.{IsOpen}
 use Rattle.snapshot.specs.Kept.{Kept}
-use Rattle.snapshots.specs.Finding.{place_of_snap}
+use Rattle.snapshot_list.specs.Finding.{place_of_snap}
 use Rattle.merge.specs.Merging.{Merging}
 use Rattle.volume.specs.Volumed.{Volumed}
 

@@ -11,7 +11,7 @@ use Rattle.chunk_alloc.specs.declared.usage.Usage.{Usage}
 use Rattle.snapshot.specs.declared.opening.StoreDev.{StoreDev}
 use Rattle.snapshot.specs.Kept.{Kept}
 use Rattle.snapshot.specs.Rest.{IsStill}
-use Rattle.snapshots.specs.Finding.{place_of_snap}
+use Rattle.snapshot_list.specs.Finding.{place_of_snap}
 use Rattle.merge.specs.Due.{has_group_of}
 use Rattle.merge.specs.Merging.{Merging}
 use Rattle.volume.specs.Volumed.{Volumed}

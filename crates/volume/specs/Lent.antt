@@ -3,9 +3,9 @@ use Rattle.std.specs.Prelude.{◌≡◌, ◌==◌, ◌&&◌, not, ℕ, ◌+◌, 
 use Rattle.std.specs.Option.{is_some}
 use Rattle.sector.specs.declared.range.Range.{Range}
 use Rattle.device.specs.Layers.{Layer}
-use Rattle.plain.specs.declared.request.Dev.TheVariants.{Origin}
-use Rattle.plain.specs.declared.request.Op.TheVariants.{Write}
-use Rattle.plain.specs.declared.request.Request.{Request}
+use Rattle.plain_machine.specs.declared.request.Dev.TheVariants.{Origin}
+use Rattle.plain_machine.specs.declared.request.Op.TheVariants.{Write}
+use Rattle.plain_machine.specs.declared.request.Request.{Request}
 use Rattle.in_flight.specs.declared.flights.Flight.{Flight}
 use Rattle.in_flight.specs.declared.flights.Route.TheVariants.{Origin as ToDisk}
 use Rattle.volume.specs.Leaving.{is_quiet_of}

@@ -2,8 +2,8 @@
 -- and what a volume has answered when none is left.
 use Rattle.std.specs.Prelude.{◌≡◌, ℕ, ◌+◌, true, List, Option}
 use Rattle.device.specs.Layers.{Layer}
-use Rattle.plain.specs.declared.event.Event.{Event}
-use Rattle.plain.specs.declared.request.Reply.{Reply}
+use Rattle.plain_machine.specs.declared.event.Event.{Event}
+use Rattle.plain_machine.specs.declared.request.Reply.{Reply}
 use Rattle.event_machine.specs.Due.{due}
 use Rattle.event_machine.specs.Held.{Moving}
 use Rattle.event_machine.specs.MergeDue.{due_all}
@@ -11,7 +11,7 @@ use Rattle.event_machine.specs.MergeRest.{IsBetween}
 use Rattle.event_machine.specs.MergeStepping.{stepped_all}
 use Rattle.event_machine.specs.Settles.{settle_by}
 use Rattle.event_machine.specs.Stepping.{stepped}
-use Rattle.settled.specs.Merges.{Merged}
+use Rattle.big_steps.specs.Merges.{Merged}
 use Rattle.volume.specs.Volumed.{Volumed, is_loud_in_all}
 use Rattle.volume.specs.Moved.{moving_of}
 use Rattle.volume.specs.Telling.{merged_in}

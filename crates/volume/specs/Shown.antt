@@ -2,7 +2,7 @@
 -- What the devices' own bytes show: the origin's array, the snapshot that is being merged, and each snapshot.
 use Rattle.std.specs.Prelude.{ℕ, List, Option, Some, None, if◌then◌else◌}
 use Rattle.store_bytes.specs.Picture.{picture}
-use Rattle.plain.specs.Plain.{Entry, Live, Invalid}
+use Rattle.plain_machine.specs.Plain.{Entry, Live, Invalid}
 use Rattle.snapshot.specs.Kept.{Kept}
 use Rattle.merge.specs.Merging.{Merging}
 

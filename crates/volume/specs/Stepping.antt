@@ -2,15 +2,15 @@
 -- What an event that was due does to a volume.
 use Rattle.std.specs.Prelude.{◌≡◌, ℕ, ◌+◌, ◌<◌, ◌≤◌, Bool, true, false, List, Option, Some, None, map}
 use Rattle.device.specs.Layers.{Layer}
-use Rattle.plain.specs.declared.event.Event.{Event}
-use Rattle.plain.specs.declared.event.Event.TheVariants.{MergeAreaRead, MergeCommit, MergeFlush, MergeGroup, MergeRead, MergeWrite, Publish}
-use Rattle.plain.specs.declared.event.Outcome.{Outcome}
-use Rattle.plain.specs.declared.event.Outcome.TheVariants.{Fault}
-use Rattle.plain.specs.Legal.{IsLegalStep}
+use Rattle.plain_machine.specs.declared.event.Event.{Event}
+use Rattle.plain_machine.specs.declared.event.Event.TheVariants.{MergeAreaRead, MergeCommit, MergeFlush, MergeGroup, MergeRead, MergeWrite, Publish}
+use Rattle.plain_machine.specs.declared.event.Outcome.{Outcome}
+use Rattle.plain_machine.specs.declared.event.Outcome.TheVariants.{Fault}
+use Rattle.plain_machine.specs.Legal.{IsLegalStep}
 use Rattle.in_flight.specs.Kinds.{in_flight}
 use Rattle.merge.specs.Merging.{Merging}
 use Rattle.volume.specs.Volumed.{Volumed, plain_of, left_in_all, is_loud_in_all}
-use Rattle.snapshots.specs.Numbers.{number_of_snap}
+use Rattle.snapshot_list.specs.Numbers.{number_of_snap}
 use Rattle.volume.specs.Flying.{IsFlown}
 use Rattle.volume.specs.Causes.{HasCause, IsOneAtMost, counts_of}
 

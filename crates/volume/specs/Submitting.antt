@@ -7,12 +7,12 @@ use Rattle.sector.specs.declared.range.Range.{Range}
 use Rattle.sector.specs.declared.refusal.Refusal.{Refusal}
 use Rattle.sector.specs.declared.refusal.Refusal.TheVariants.{NoSuchDevice, MergingSnapshot, OutOfRange, Invalid, Overflow, TooMany, NoMemory}
 use Rattle.device.specs.Layers.{Layer}
-use Rattle.plain.specs.declared.request.Dev.{Dev}
-use Rattle.plain.specs.declared.request.Dev.TheVariants.{Origin, Snap}
-use Rattle.plain.specs.declared.request.Op.TheVariants.{Write}
-use Rattle.plain.specs.Kept.{kept, kept_range}
-use Rattle.plain.specs.declared.request.Overflowing.TheVariants.{Never, May, Did}
-use Rattle.plain.specs.declared.request.Request.{Request}
+use Rattle.plain_machine.specs.declared.request.Dev.{Dev}
+use Rattle.plain_machine.specs.declared.request.Dev.TheVariants.{Origin, Snap}
+use Rattle.plain_machine.specs.declared.request.Op.TheVariants.{Write}
+use Rattle.plain_machine.specs.Kept.{kept, kept_range}
+use Rattle.plain_machine.specs.declared.request.Overflowing.TheVariants.{Never, May, Did}
+use Rattle.plain_machine.specs.declared.request.Request.{Request}
 use Rattle.in_flight.specs.Kinds.{in_flight, kind_of}
 use Rattle.in_flight.specs.Routes.{refused_of}
 use Rattle.in_flight.specs.declared.flights.Flight.{Flight}
@@ -20,14 +20,14 @@ use Rattle.in_flight.specs.declared.flights.Kind.{Kind}
 use Rattle.in_flight.specs.declared.flights.Kind.TheVariants.{OriginRead, OriginWrite, OriginFlush, SnapRead, SnapWrite, SnapFlush}
 use Rattle.snapshot.specs.Kept.{Kept}
 use Rattle.in_flight.specs.declared.flights.Route.{Route}
-use Rattle.plain.specs.Plain.{did_overflow}
-use Rattle.plain.specs.Legal.{IsSubmitted, Overflows, Spoils}
+use Rattle.plain_machine.specs.Plain.{did_overflow}
+use Rattle.plain_machine.specs.Legal.{IsSubmitted, Overflows, Spoils}
 use Rattle.volume_laws.specs.Published.{IsPiece}
-use Rattle.snapshots.specs.Finding.{place_of_snap}
-use Rattle.snapshots.specs.Numbers.{count_in}
-use Rattle.snapshots.specs.Starting.{own_of, starts, overflows, overflowing, spoilt_of, unroomed}
+use Rattle.snapshot_list.specs.Finding.{place_of_snap}
+use Rattle.snapshot_list.specs.Numbers.{count_in}
+use Rattle.snapshot_list.specs.Starting.{own_of, starts, overflows, overflowing, spoilt_of, unroomed}
 use Rattle.merge.specs.Merging.{Merging}
-use Rattle.snapshots.specs.Routing.{is_merged_at}
+use Rattle.snapshot_list.specs.Routing.{is_merged_at}
 use Rattle.volume.specs.Volumed.{Volumed, piece_with, plain_of, is_loud_in_all}
 use Rattle.volume.specs.Causes.{lives_of}
 use Rattle.volume.specs.Exact.{IsSubmittedAs}

@@ -7,19 +7,19 @@ use Rattle.device.specs.Layers.{Layer}
 use Rattle.layers.specs.declared.message.Answer.{Answer}
 use Rattle.layers.specs.declared.message.Message.{Message}
 use Rattle.layers.specs.Messages.{Told, Answered, Refused, NeedsRoom, answer_of, told}
-use Rattle.plain.specs.declared.request.Dev.{Dev}
-use Rattle.plain.specs.declared.request.Dev.TheVariants.{Origin, Snap}
+use Rattle.plain_machine.specs.declared.request.Dev.{Dev}
+use Rattle.plain_machine.specs.declared.request.Dev.TheVariants.{Origin, Snap}
 use Rattle.event_machine.specs.Held.{SnapHeld, MergeHeld, Moving}
 use Rattle.event_machine.specs.MergeRest.{merged_of}
-use Rattle.settled.specs.Moments.{relayered, origin_relayered, snap_relayered}
-use Rattle.settled.specs.Snaps.{Snap as SettledSnap, Volume}
-use Rattle.settled.specs.Merges.{Merge, Merged}
+use Rattle.big_steps.specs.Moments.{relayered, origin_relayered, snap_relayered}
+use Rattle.big_steps.specs.Snaps.{Snap as SettledSnap, Volume}
+use Rattle.big_steps.specs.Merges.{Merge, Merged}
 use Rattle.store.specs.Layering.{IsRelayered}
 use Rattle.snapshot.specs.Kept.{Kept}
 use Rattle.merge.specs.Merging.{Merging}
 use Rattle.volume.specs.Volumed.{Volumed}
 use Rattle.volume.specs.Moved.{moving_of}
-use Rattle.snapshots.specs.Finding.{place_of_snap}
+use Rattle.snapshot_list.specs.Finding.{place_of_snap}
 use Rattle.volume.specs.Layering.{Measures, held_relayered, merge_relayered}
 
 -- the layers that a message leaves: where it is refused, those that there were

@@ -3,8 +3,8 @@
 use Rattle.std.specs.Prelude.{◌&&◌, ℕ, ◌+◌, Bool, true, List, [], ◌∷◌, Option, Some, None, map, min}
 use Rattle.std.specs.List.{list_all}
 use Rattle.device.specs.Layers.{Layer, is_loud}
-use Rattle.plain.specs.Plain.{Plain}
-use Rattle.plain.specs.declared.event.Event.{Event}
+use Rattle.plain_machine.specs.Plain.{Plain}
+use Rattle.plain_machine.specs.declared.event.Event.{Event}
 use Rattle.in_flight.specs.Kinds.{in_flight}
 use Rattle.in_flight.specs.declared.flights.Flight.{Flight}
 use Rattle.volume_laws.specs.Books.{Books}
@@ -12,7 +12,7 @@ use Rattle.volume_laws.specs.Due.{DueSnap, books_of as due_books, due_of, is_due
 use Rattle.volume_laws.specs.MergeDue.{DueMerge, due_with, is_due_with, left_in_merge, left_beside}
 use Rattle.snapshot.specs.Kept.{Kept, books_of as snap_books, due_of_kept}
 use Rattle.merge.specs.Merging.{Merging, due_of as merging_due}
-use Rattle.snapshots.specs.Rooms.{merge_books}
+use Rattle.snapshot_list.specs.Rooms.{merge_books}
 use Rattle.volume.specs.Shown.{shown_begun, shown_entry, shown_origin}
 
 -- A volume, with its devices. requests, copies, attached: how many numbers of each kind were given.

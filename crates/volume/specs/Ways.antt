@@ -1,7 +1,7 @@
 -- What is known of a request by the way it goes.
 use Rattle.std.specs.Prelude.{◌≡◌, ℕ, true, false, List, None, Some, map}
 use Rattle.device.specs.Layers.{Layer}
-use Rattle.plain.specs.declared.request.Request.{Request}
+use Rattle.plain_machine.specs.declared.request.Request.{Request}
 use Rattle.in_flight.specs.Kinds.{kind_of}
 use Rattle.in_flight.specs.declared.flights.Kind.TheVariants.{OriginWrite}
 use Rattle.volume_laws.specs.Published.{is_clear}

@@ -9,9 +9,9 @@ use Rattle.volume_laws.specs.Waits.{Waits}
 use Rattle.volume_laws.specs.MergeWaits.{MergeGoes}
 use Rattle.volume_laws.specs.MergeRooms.{KeepBack}
 use Rattle.snapshot.specs.Kept.{Kept, books_of as snap_books}
-use Rattle.snapshots.specs.Numbers.{number_of_snap, numbers_in, count_in}
+use Rattle.snapshot_list.specs.Numbers.{number_of_snap, numbers_in, count_in}
 use Rattle.merge.specs.Merging.{Merging, due_of as merging_due}
-use Rattle.snapshots.specs.Rooms.{room_of}
+use Rattle.snapshot_list.specs.Rooms.{room_of}
 use Rattle.volume.specs.Volumed.{Volumed, books_of}
 
 -- numbers that were given one after another, the last of them `most`

@@ -1,8 +1,8 @@
 // A request that waits for nothing is answered at once, and is never in flight.
 ghost use Rattle.std.specs.Prelude.{◌≡◌, ◌≢◌, ◌*◌, ◌+◌, ◌^◌, ◌<◌, IfErr, List, None, Ok, [], false, length, map, true, ℕ};
-ghost use Rattle.plain.specs.declared.event.Event.TheVariants.{Issue};
-ghost use Rattle.plain.specs.declared.event.Outcome.TheVariants.{Reply as Replied};
-ghost use Rattle.plain.specs.declared.request.Op.TheVariants.{Flush as IsFlush, Write};
+ghost use Rattle.plain_machine.specs.declared.event.Event.TheVariants.{Issue};
+ghost use Rattle.plain_machine.specs.declared.event.Outcome.TheVariants.{Reply as Replied};
+ghost use Rattle.plain_machine.specs.declared.request.Op.TheVariants.{Flush as IsFlush, Write};
 ghost use Rattle.in_flight.specs.declared.flights.Route.TheVariants.{Origin};
 ghost use Rattle.in_flight.specs.Kinds.{kind_of};
 ghost use Rattle.in_flight.specs.declared.flights.Flight.{Flight};
@@ -22,7 +22,7 @@ use crate::Volume;
 use crate::ways::Way;
 use device::{Block, Io};
 use in_flight::{Flight, Route};
-use plain::{Failure, Op, Reply, ReqId, Request};
+use plain_machine::{Failure, Op, Reply, ReqId, Request};
 use sector::{Buf, Range, Refusal};
 use std::alloc::Global;
 

@@ -1,8 +1,8 @@
 // A read of a snapshot is answered at once at its chunk's place on the snapshot's store.
 ghost use Rattle.std.specs.Prelude.{◌≡◌, ◌*◌, ◌+◌, ◌^◌, ◌<◌, IfErr, List, None, Ok, Some, [], length, true, ℕ};
-ghost use Rattle.plain.specs.declared.event.Event.TheVariants.{Issue};
-ghost use Rattle.plain.specs.declared.event.Outcome.TheVariants.{Reply as Replied};
-ghost use Rattle.plain.specs.declared.request.Op.TheVariants.{Write};
+ghost use Rattle.plain_machine.specs.declared.event.Event.TheVariants.{Issue};
+ghost use Rattle.plain_machine.specs.declared.event.Outcome.TheVariants.{Reply as Replied};
+ghost use Rattle.plain_machine.specs.declared.request.Op.TheVariants.{Write};
 ghost use Rattle.in_flight.specs.declared.flights.Route.TheVariants.{Store};
 ghost use Rattle.volume.specs.AtDisk.{IsReadOf};
 ghost use Rattle.volume.specs.DoesServe.{DoesServe};
@@ -15,7 +15,7 @@ use crate::Volume;
 use crate::at_once::Served;
 use device::{Block, Io};
 use in_flight::{Flight, Route};
-use plain::{Failure, Reply, Request};
+use plain_machine::{Failure, Reply, Request};
 use sector::{Buf, Chunk, Refusal};
 use std::alloc::Global;
 

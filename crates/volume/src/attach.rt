@@ -7,7 +7,7 @@ ghost use Rattle.volume.specs.Taking.{IsNotTaken, attach_refusal};
 use crate::{MAX_SNAPSHOTS, Volume};
 use chunk::is_chunk_size;
 use device::Block;
-use plain::SnapId;
+use plain_machine::SnapId;
 use sector::Refusal;
 use snapshot::{StoreDev, open_snapshot};
 use std::alloc::Global;

@@ -2,7 +2,7 @@
 ghost use Rattle.std.specs.Prelude.{◌≡◌, ◌∷◌, IfErr, IfOk, OnOk, [], true};
 ghost use Rattle.std.specs.List.{All};
 ghost use Rattle.sector.specs.declared.refusal.Refusal.TheVariants.{NoMemory};
-ghost use Rattle.plain.specs.Runs.{IsRun};
+ghost use Rattle.plain_machine.specs.Runs.{IsRun};
 ghost use Rattle.volume.specs.AddedUp.{OpensNoneUnwritten, OpensOnly};
 ghost use Rattle.volume.specs.Stopping.{StopsNow};
 ghost use Rattle.volume.specs.Volumed.{is_loud_in_all, plain_of};
@@ -10,7 +10,7 @@ ghost use Rattle.volume.specs.Running.{AreReturned, IsFitCall, IsReturned, Keeps
 
 use crate::Volume;
 use layers::{Answer, Layered, Message};
-use plain::{Dev, Event, NotDue, Outcome, ReqId, Request, SnapId};
+use plain_machine::{Dev, Event, NotDue, Outcome, ReqId, Request, SnapId};
 use sector::Refusal;
 use std::alloc::Global;
 

@@ -2,12 +2,12 @@
 ghost use Rattle.std.specs.Prelude.{◌≡◌, [], ◌∷◌, ◌<◌, false, IfNone, IfOk, IfSome, OnErr, is_ok, length, map, slice_index_or, Some, true, OnOk, None};
 ghost use Rattle.std.specs.List.{list_any, position};
 ghost use Rattle.in_flight.specs.declared.copies.Stage.TheVariants.{Read};
-ghost use Rattle.plain.specs.declared.event.Event.TheVariants.{CopyRead, CopyWrite, FlushStore, Publish, WriteArea, WriteInvalid, ZeroNext};
+ghost use Rattle.plain_machine.specs.declared.event.Event.TheVariants.{CopyRead, CopyWrite, FlushStore, Publish, WriteArea, WriteInvalid, ZeroNext};
 ghost use Rattle.in_flight.specs.Routes.{refused_of};
 ghost use Rattle.volume_laws.specs.Due.{is_due};
 ghost use Rattle.volume_laws.specs.Steps.{SpoilsSnap};
 ghost use Rattle.snapshot.specs.Kept.{books_of, Kept};
-ghost use Rattle.snapshots.specs.Finding.{has_copy_at, is_copy_of};
+ghost use Rattle.snapshot_list.specs.Finding.{has_copy_at, is_copy_of};
 ghost use Rattle.volume.specs.Volumed.{dues_of, is_loud_in_all};
 ghost use Rattle.volume.specs.Stepping.{IsStepped};
 ghost use Rattle.volume.specs.Exact.{IsExact};
@@ -17,10 +17,10 @@ ghost use Rattle.volume.specs.MergeLasting.{StopsOriginOn};
 use crate::Volume;
 use device::{Block, Io};
 use in_flight::{Flight, Mark, Stage, refuse};
-use plain::{CopyId, NotDue, Outcome, SnapId};
+use plain_machine::{CopyId, NotDue, Outcome, SnapId};
 use sector::Chunk;
 use snapshot::Snapshot;
-use snapshots::{
+use snapshot_list::{
     committing_near, find_copy_from, find_copy_near, find_mark_near, flushing_near, route_again,
     route_placed, save_next_pair, trying_at, zeroing_at,
 };

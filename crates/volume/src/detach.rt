@@ -5,10 +5,10 @@ ghost use Rattle.volume.specs.Leaving.{detach_refusal};
 
 use crate::Volume;
 use device::Block;
-use plain::SnapId;
+use plain_machine::SnapId;
 use sector::Refusal;
 use snapshot::StoreDev;
-use snapshots::snap_at;
+use snapshot_list::snap_at;
 
 impl<B: Block> Volume<B> {
     /// Takes a snapshot away, and gives the device of its store back, stale where its invalid mark failed. `MergeInProgress`

@@ -2,7 +2,7 @@
 ghost use Rattle.std.specs.Prelude.{◌≡◌};
 ghost use Rattle.volume.specs.EventKinds.{is_of_merge as is_merges};
 
-use plain::Event;
+use plain_machine::Event;
 
 /// Whether an event is one of a merge, and none of a request or a snapshot.
 pub fn is_of_merge(event: Event) -> bool

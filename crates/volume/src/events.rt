@@ -15,7 +15,7 @@ ghost use Rattle.volume.specs.MergeLasting.{StopsOriginOn};
 
 use crate::Volume;
 use device::Block;
-use plain::{Event, NotDue, Outcome};
+use plain_machine::{Event, NotDue, Outcome};
 
 impl<B: Block> Volume<B> {
     /// Does an event by its kind.

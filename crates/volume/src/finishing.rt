@@ -7,7 +7,7 @@ use crate::Volume;
 use device::Block;
 use sector::Refusal;
 use snapshot::StoreDev;
-use snapshots::let_go_all;
+use snapshot_list::let_go_all;
 
 impl<B: Block> Volume<B> {
     /// Takes a merge out that has neither a pair nor a group left, and gives the device of its store back. Where no device

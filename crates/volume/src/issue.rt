@@ -1,8 +1,8 @@
 // Issue: the one read, write or flush of a request's route, and its reply.
 ghost use Rattle.std.specs.Prelude.{◌≡◌, ◌≢◌, ◌==◌, ◌<◌, ℕ, false, length, IfNone, IfOk, IfSome, MatchOption, OnErr, Some, is_ok, slice_index_or, OnOk, map};
 ghost use Rattle.std.specs.List.{list_any, position};
-ghost use Rattle.plain.specs.declared.event.Event.TheVariants.{Issue};
-ghost use Rattle.plain.specs.declared.request.Dev.TheVariants.{Origin as ToOrigin, Snap};
+ghost use Rattle.plain_machine.specs.declared.event.Event.TheVariants.{Issue};
+ghost use Rattle.plain_machine.specs.declared.request.Dev.TheVariants.{Origin as ToOrigin, Snap};
 ghost use Rattle.in_flight.specs.declared.flights.Flight.{Flight};
 ghost use Rattle.in_flight.specs.declared.flights.Route.TheVariants.{Origin, Refused, Store, Whole};
 ghost use Rattle.in_flight.specs.Due.{is_routed as goes_somewhere};
@@ -20,10 +20,10 @@ ghost use Rattle.volume.specs.Stopping.{given_by};
 use crate::Volume;
 use device::{Block, Io};
 use in_flight::{Flight, Route, flight_at};
-use plain::{Dev, Failure, NotDue, Op, Outcome, Reply, ReqId, Request, SnapId};
+use plain_machine::{Dev, Failure, NotDue, Op, Outcome, Reply, ReqId, Request, SnapId};
 use sector::{Buf, Chunk};
 use snapshot::Snapshot;
-use snapshots::snap_at;
+use snapshot_list::snap_at;
 
 /// The place of the snapshot that a request is of.
 fn holder_at<B: Block>(snaps: &[Snapshot<B>], dev: Dev) -> Option<usize>

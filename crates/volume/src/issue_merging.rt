@@ -1,8 +1,8 @@
 // Issue of a request of the origin whose chunk the merging store still has, and the first of a flush of the origin.
 ghost use Rattle.std.specs.Prelude.{◌≡◌, ◌==◌, Some, slice_index_or, map};
 ghost use Rattle.std.specs.List.{position};
-ghost use Rattle.plain.specs.declared.event.Event.TheVariants.{Issue};
-ghost use Rattle.plain.specs.declared.request.Dev.TheVariants.{Origin as ToOrigin};
+ghost use Rattle.plain_machine.specs.declared.event.Event.TheVariants.{Issue};
+ghost use Rattle.plain_machine.specs.declared.request.Dev.TheVariants.{Origin as ToOrigin};
 ghost use Rattle.in_flight.specs.declared.flights.Flight.{Flight};
 ghost use Rattle.in_flight.specs.declared.flights.Route.TheVariants.{Store, Whole};
 ghost use Rattle.volume.specs.Stepping.{IsStepped};
@@ -16,7 +16,7 @@ ghost use Rattle.volume.specs.Stopping.{given_by};
 use crate::Volume;
 use device::{Block, Io};
 use in_flight::{Flight, Route};
-use plain::{Failure, Op, Outcome, Reply, ReqId, Request};
+use plain_machine::{Failure, Op, Outcome, Reply, ReqId, Request};
 use sector::{Buf, Chunk};
 
 impl<B: Block> Volume<B> {

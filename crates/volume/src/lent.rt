@@ -6,7 +6,7 @@ ghost use Rattle.volume.specs.Submitting.{submit_refusal};
 
 use crate::Volume;
 use device::Block;
-use plain::{Dev, Op, Reply, Request};
+use plain_machine::{Dev, Op, Reply, Request};
 use sector::{Buf, Range, Refusal};
 use std::alloc::Global;
 

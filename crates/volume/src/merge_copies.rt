@@ -1,6 +1,6 @@
 // The events of a merge that start the copies that its next chunk waits for, each a call of its own.
 ghost use Rattle.std.specs.Prelude.{◌≡◌, IfOk, OnErr, is_ok, OnOk, None};
-ghost use Rattle.plain.specs.declared.event.Event.TheVariants.{MergeGroup, MergeWrite};
+ghost use Rattle.plain_machine.specs.declared.event.Event.TheVariants.{MergeGroup, MergeWrite};
 ghost use Rattle.volume.specs.Volumed.{is_due_of};
 ghost use Rattle.volume.specs.Stepping.{IsStepped};
 ghost use Rattle.volume.specs.Exact.{IsExact};
@@ -10,8 +10,8 @@ ghost use Rattle.volume.specs.MergeLasting.{StopsOriginOn};
 use crate::Volume;
 use device::{Block, Io};
 use in_flight::sectors_of;
-use plain::{NotDue, Outcome};
-use snapshots::{is_clear_over, route_again, save_waiting};
+use plain_machine::{NotDue, Outcome};
+use snapshot_list::{is_clear_over, route_again, save_waiting};
 
 impl<B: Block> Volume<B> {
     /// Forms the next group of the merge, and starts in each other snapshot the copy that the group's first chunk waits for.

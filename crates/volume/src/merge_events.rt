@@ -1,6 +1,6 @@
 // The events of a merge that start no copies, each a call of its own.
 ghost use Rattle.std.specs.Prelude.{◌≡◌, IfOk, OnErr, is_ok, true, OnOk, None};
-ghost use Rattle.plain.specs.declared.event.Event.TheVariants.{MergeAreaRead, MergeCommit, MergeFlush, MergeRead, MergeRelease};
+ghost use Rattle.plain_machine.specs.declared.event.Event.TheVariants.{MergeAreaRead, MergeCommit, MergeFlush, MergeRead, MergeRelease};
 ghost use Rattle.volume.specs.Volumed.{is_due_of, is_loud_in_all};
 ghost use Rattle.volume.specs.Stepping.{IsStepped};
 ghost use Rattle.volume.specs.Stored.{RemovesPairs};
@@ -10,8 +10,8 @@ ghost use Rattle.volume.specs.MergeLasting.{StopsOriginOn};
 
 use crate::Volume;
 use device::{Block, Io};
-use plain::{NotDue, Outcome};
-use snapshots::{is_read_due, is_release_due, route_again};
+use plain_machine::{NotDue, Outcome};
+use snapshot_list::{is_read_due, is_release_due, route_again};
 
 // Each of them looks first: what the merge's looks say of its books is known from there on.
 impl<B: Block> Volume<B> {

@@ -1,6 +1,6 @@
 // A merge begins, and goes on after a fault.
 ghost use Rattle.std.specs.Prelude.{◌≡◌, IfErr, IfOk, None, Option, Some};
-ghost use Rattle.snapshots.specs.Finding.{place_of_snap};
+ghost use Rattle.snapshot_list.specs.Finding.{place_of_snap};
 ghost use Rattle.volume.specs.DoesBeginMerge.{DoesBeginMerge};
 ghost use Rattle.volume.specs.DoesResumeMerge.{DoesResumeMerge};
 ghost use Rattle.volume.specs.Beginning.{IsNotBegun, begin_refusal, beside_refusal};
@@ -8,9 +8,9 @@ ghost use Rattle.volume.specs.Beginning.{IsNotBegun, begin_refusal, beside_refus
 use crate::Volume;
 use device::Block;
 use merge::Merge;
-use plain::SnapId;
+use plain_machine::SnapId;
 use sector::{Refusal, SECTOR_BYTES};
-use snapshots::{keep_back_all, snap_at};
+use snapshot_list::{keep_back_all, snap_at};
 use std::alloc::Global;
 
 impl<B: Block> Volume<B> {

@@ -1,7 +1,7 @@
 // Messages to the layers of a volume's devices.
 ghost use Rattle.std.specs.Prelude.{IfOk, IfErr, Option};
 ghost use Rattle.layers.specs.Messages.{answer_of};
-ghost use Rattle.plain.specs.declared.request.Dev.TheVariants.{Origin, Snap};
+ghost use Rattle.plain_machine.specs.declared.request.Dev.TheVariants.{Origin, Snap};
 ghost use Rattle.volume.specs.DoesMessage.{DoesMessage};
 ghost use Rattle.volume.specs.Telling.{IsMergeNotTold, IsMergeTold, IsNotTold, IsTold};
 ghost use Rattle.volume.specs.Adding.{AddsMerge, OpensNothing};
@@ -9,9 +9,9 @@ ghost use Rattle.volume.specs.Adding.{AddsMerge, OpensNothing};
 use crate::Volume;
 use layers::{Answer, Layered, Message};
 use merge::Merge;
-use plain::{Dev, SnapId};
+use plain_machine::{Dev, SnapId};
 use sector::Refusal;
-use snapshots::snap_at;
+use snapshot_list::snap_at;
 
 /// Tells a layer of the merging store, where its snapshot has this number; `NoSuchDevice` where none has.
 fn tell_merge<B: Layered>(

@@ -2,7 +2,7 @@
 ghost use Rattle.std.specs.Prelude.{◌≡◌, ℕ, ◌+◌, ◌-◌, ◌*◌, ◌/◌, ◌<◌, ◌≤◌, IfErr, List, None, OnOk, Some, length, true};
 ghost use Rattle.sector.specs.Bytes.{sectors_at};
 ghost use Rattle.store_bytes.specs.Picture.{place_of as place_in};
-ghost use Rattle.plain.specs.Serves.{Shows};
+ghost use Rattle.plain_machine.specs.Serves.{Shows};
 ghost use Rattle.volume.specs.Peeking.{is_loud_merging, is_loud_under, listed_origin, picture_by, IsListed};
 ghost use Rattle.volume.specs.Volumed.{plain_of};
 ghost use Rattle.volume.specs.Submitting.{dev_refusal};
@@ -11,10 +11,10 @@ use crate::Volume;
 use chunk::Geometry;
 use layers::Layered;
 use merge::Merge;
-use plain::Dev;
+use plain_machine::Dev;
 use sector::{Range, Refusal, SECTOR_BYTES};
 use snapshot::Snapshot;
-use snapshots::snap_at;
+use snapshot_list::snap_at;
 
 /// Copies a piece of what a snapshot shows: from its store where the piece's chunk has a copy, else from the origin disk.
 fn peek_piece<B: Layered>(

@@ -1,17 +1,17 @@
 // Why a request is refused, memory and full stores aside.
 ghost use Rattle.std.specs.Prelude.{◌≡◌, ◌%◌, ◌<◌};
-ghost use Rattle.plain.specs.Kept.{kept_range};
+ghost use Rattle.plain_machine.specs.Kept.{kept_range};
 ghost use Rattle.in_flight.specs.Kinds.{kind_of};
 ghost use Rattle.volume.specs.Volumed.{piece_with};
-ghost use Rattle.snapshots.specs.Finding.{place_of_snap};
+ghost use Rattle.snapshot_list.specs.Finding.{place_of_snap};
 ghost use Rattle.volume.specs.Submitting.{are_too_many, dev_refusal, is_merging as is_merging_of, is_piece_of, refusal_at, shut_at, shut_refusal, starting as starting_of, submit_refusal};
 
 use crate::Volume;
 use device::Block;
 use in_flight::{Kind, MAX_COPIES, MAX_REQUESTS, request_kind};
-use plain::{Dev, Overflowing, Request, SnapId};
+use plain_machine::{Dev, Overflowing, Request, SnapId};
 use sector::{Range, Refusal};
-use snapshots::{is_merged_at, pending_count, snap_at, starting_count, starting_count_of};
+use snapshot_list::{is_merged_at, pending_count, snap_at, starting_count, starting_count_of};
 
 /// The rest of so many sectors that are divided by a piece. Pieces are powers of two: a mask is several times as fast as a
 /// division.

@@ -1,17 +1,17 @@
 // A request is accepted or refused: it is routed, and the copies that it waits for are started.
 ghost use Rattle.std.specs.Prelude.{◌≡◌, ◌*◌, ◌+◌, ◌<◌, ◌^◌, ◌≤◌, IfErr, IfOk, List, None, [], count_by, false, length, map, sum_by, ℕ};
 ghost use Rattle.sector.specs.declared.refusal.Refusal.TheVariants.{NoMemory};
-ghost use Rattle.plain.specs.Kept.{kept_range};
-ghost use Rattle.plain.specs.declared.request.Op.TheVariants.{Write};
+ghost use Rattle.plain_machine.specs.Kept.{kept_range};
+ghost use Rattle.plain_machine.specs.declared.request.Op.TheVariants.{Write};
 ghost use Rattle.in_flight.specs.Kinds.{kind_of, room_of};
 ghost use Rattle.in_flight.specs.declared.flights.Flight.{Flight};
 ghost use Rattle.in_flight.specs.declared.flights.Kind.TheVariants.{OriginFlush, OriginRead, OriginWrite};
 ghost use Rattle.volume_laws.specs.Accepting.{IsTakenIn};
 ghost use Rattle.volume_laws.specs.Published.{is_clear as is_clear_in};
 ghost use Rattle.snapshot.specs.Kept.{books_of as snap_books};
-ghost use Rattle.snapshots.specs.Numbers.{count_in};
-ghost use Rattle.snapshots.specs.Starting.{starts};
-ghost use Rattle.snapshots.specs.Routing.{is_merged_at as is_merged_in};
+ghost use Rattle.snapshot_list.specs.Numbers.{count_in};
+ghost use Rattle.snapshot_list.specs.Starting.{starts};
+ghost use Rattle.snapshot_list.specs.Routing.{is_merged_at as is_merged_in};
 ghost use Rattle.volume.specs.DoesSubmit.{DoesSubmit};
 ghost use Rattle.volume.specs.Stopping.{StopsNow};
 ghost use Rattle.volume.specs.Submitting.{IsAcceptedAs, IsAsked, IsEntered, IsRefusedAs, SameButRoom, entered_of, starting, submit_refusal};
@@ -21,9 +21,9 @@ ghost use Rattle.volume.specs.Whole.{IsWhole};
 use crate::Volume;
 use device::Block;
 use in_flight::{Flight, Kind, Route, flush_route, read_route, request_kind};
-use plain::{ReqId, Request};
+use plain_machine::{ReqId, Request};
 use sector::Refusal;
-use snapshots::{is_clear, is_merged_at, merged_route, place_at, save_in_all, take_rooms};
+use snapshot_list::{is_clear, is_merged_at, merged_route, place_at, save_in_all, take_rooms};
 use std::alloc::Global;
 
 impl<B: Block> Volume<B> {

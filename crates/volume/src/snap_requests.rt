@@ -1,25 +1,25 @@
 // A request of a snapshot is accepted: it is routed, and the copy that a write waits for is started.
 ghost use Rattle.std.specs.Prelude.{◌≡◌, ◌≢◌, ◌⊎◌, ◌==◌, ◌&&◌, false, true, ℕ, ◌+◌, ◌*◌, ◌^◌, ◌<◌, ◌≤◌, List, length, sum_by, count_by, slice_index_or, Some, None, IfOk, IfErr};
 ghost use Rattle.sector.specs.declared.refusal.Refusal.TheVariants.{NoMemory, Invalid, Overflow};
-ghost use Rattle.plain.specs.Plain.{did_overflow};
-ghost use Rattle.plain.specs.declared.request.Overflowing.TheVariants.{Did, May, Never};
-ghost use Rattle.plain.specs.Kept.{kept_range};
+ghost use Rattle.plain_machine.specs.Plain.{did_overflow};
+ghost use Rattle.plain_machine.specs.declared.request.Overflowing.TheVariants.{Did, May, Never};
+ghost use Rattle.plain_machine.specs.Kept.{kept_range};
 ghost use Rattle.in_flight.specs.Kinds.{kind_of};
 ghost use Rattle.in_flight.specs.declared.flights.Kind.TheVariants.{SnapFlush, SnapRead, SnapWrite};
 ghost use Rattle.snapshot.specs.Kept.{Kept};
 ghost use Rattle.volume.specs.Volumed.{piece_with};
-ghost use Rattle.snapshots.specs.Numbers.{count_in};
-ghost use Rattle.snapshots.specs.Finding.{place_of_snap};
-ghost use Rattle.snapshots.specs.Starting.{HasRoomFor, IsSavedIn, lacks, overflows, own_of, starts};
+ghost use Rattle.snapshot_list.specs.Numbers.{count_in};
+ghost use Rattle.snapshot_list.specs.Finding.{place_of_snap};
+ghost use Rattle.snapshot_list.specs.Starting.{HasRoomFor, IsSavedIn, lacks, overflows, own_of, starts};
 ghost use Rattle.volume.specs.Submitting.{dev_refusal, shut_at, IsAsked, IsAcceptedAs, SameButRoom, IsFoundFull, IsOverflown};
 
 use crate::Volume;
 use device::Block;
 use in_flight::{Flight, Route, read_route};
-use plain::{Overflowing, ReqId, Request, SnapId};
+use plain_machine::{Overflowing, ReqId, Request, SnapId};
 use sector::Refusal;
 use snapshot::Snapshot;
-use snapshots::{is_lacking, own_chunk, save_in, snap_at, take_room};
+use snapshot_list::{is_lacking, own_chunk, save_in, snap_at, take_room};
 use std::alloc::Global;
 
 impl<B: Block> Volume<B> {

@@ -2,17 +2,17 @@
 ghost use Rattle.std.specs.Prelude.{◌≡◌, ◌*◌, ◌<◌, ◌≤◌, AllPairs, IfErr, IfNone, IfOk, IfSome, None, Option, Some, false, length, map, slice_index_or, true};
 ghost use Rattle.std.specs.List.{All, list_all};
 ghost use Rattle.sector.specs.declared.refusal.Refusal.TheVariants.{NoSuchDevice};
-ghost use Rattle.plain.specs.declared.request.Reply.{Reply};
+ghost use Rattle.plain_machine.specs.declared.request.Reply.{Reply};
 ghost use Rattle.chunk.specs.Sizes.{is_chunk};
 ghost use Rattle.event_machine.specs.Due.{due};
 ghost use Rattle.event_machine.specs.Held.{MergeHeld};
 ghost use Rattle.event_machine.specs.MergeRest.{IsBetween, in_big_steps};
 ghost use Rattle.event_machine.specs.Rest.{IsAtRest};
 ghost use Rattle.merge.specs.Merging.{Merging};
-ghost use Rattle.settled.specs.MergeShown.{IsMerging};
+ghost use Rattle.big_steps.specs.MergeShown.{IsMerging};
 ghost use Rattle.snapshot.specs.Kept.{Kept};
-ghost use Rattle.snapshots.specs.Finding.{place_of_snap};
-ghost use Rattle.snapshots.specs.Numbers.{number_of_snap};
+ghost use Rattle.snapshot_list.specs.Finding.{place_of_snap};
+ghost use Rattle.snapshot_list.specs.Numbers.{number_of_snap};
 ghost use Rattle.volume.specs.Asking.{HasNone, HoldsOf, is_finished_in, merging_chunk_of, merging_number, merging_usage};
 ghost use Rattle.volume.specs.Leaving.{IsStillOn, has_group_in, is_done_of, is_quiet_of, usage_of};
 ghost use Rattle.volume.specs.Moved.{moving_of};
@@ -26,10 +26,10 @@ use crate::Volume;
 use chunk_alloc::Usage;
 use device::Block;
 use merge::Merge;
-use plain::{CopyId, ReqId, SnapId};
+use plain_machine::{CopyId, ReqId, SnapId};
 use sector::Refusal;
 use snapshot::Snapshot;
-use snapshots::snap_at;
+use snapshot_list::snap_at;
 
 /// Whether a snapshot has neither a copy that is not published, nor an invalid mark that is untried.
 pub fn is_done<B: Block>(snap: &Snapshot<B>) -> bool

@@ -10,9 +10,9 @@ use crate::Volume;
 use device::Block;
 use in_flight::{Flight, Stage, flight_at, is_routed};
 use merge::Merge;
-use plain::{Event, ReqId};
+use plain_machine::{Event, ReqId};
 use snapshot::Snapshot;
-use snapshots::{
+use snapshot_list::{
     committing_at, find_copy, find_mark, flushing_at, is_area_due, is_commit_due, is_flush_due,
     is_group_due, is_read_due, is_release_due, is_write_due, trying_at, zeroing_at,
 };

@@ -2,8 +2,8 @@
 ghost use Rattle.std.specs.Prelude.{◌≡◌, ◌≤◌, [], None, IfErr, IfNone, IfOk, IfSome, Option, Some, false, length, true};
 ghost use Rattle.chunk.specs.Sizes.{is_chunk};
 ghost use Rattle.std.specs.List.{All};
-ghost use Rattle.plain.specs.declared.event.Event.{Event};
-ghost use Rattle.plain.specs.declared.request.Reply.{Reply};
+ghost use Rattle.plain_machine.specs.declared.event.Event.{Event};
+ghost use Rattle.plain_machine.specs.declared.request.Reply.{Reply};
 ghost use Rattle.event_machine.specs.MergeDue.{due_all};
 ghost use Rattle.volume.specs.Moved.{moving_of};
 ghost use Rattle.sector.specs.declared.refusal.Refusal.TheVariants.{NoMemory};
@@ -20,10 +20,10 @@ ghost use Rattle.volume.specs.Volumed.{books_of, is_due_of, next_of, piece_of, p
 use device::Block;
 use in_flight::{Flight, MAX_REQUESTS};
 use merge::Merge;
-use plain::Event;
+use plain_machine::Event;
 use sector::Refusal;
 use snapshot::Snapshot;
-use snapshots::{first_due, merge_due};
+use snapshot_list::{first_due, merge_due};
 use std::alloc::Global;
 use std::marker::Model;
 

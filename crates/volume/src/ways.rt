@@ -7,9 +7,9 @@ ghost use Rattle.volume.specs.Ways.{IsWayOf};
 use crate::Volume;
 use device::Block;
 use in_flight::{Kind, request_kind};
-use plain::{Request, SnapId};
+use plain_machine::{Request, SnapId};
 use sector::Chunk;
-use snapshots::{is_clear, own_chunk, snap_at};
+use snapshot_list::{is_clear, own_chunk, snap_at};
 
 /// Which way a request goes.
 #[derive(Drop)]

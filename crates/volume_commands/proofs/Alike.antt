@@ -3,16 +3,16 @@ use Rattle.std.proofs.Common.{◌≡◌, ℕ, Bool, List, [], ◌∷◌, length,
 use Rattle.std.specs.Prelude.{◌==◌, ◌&&◌, not}
 use Rattle.std.specs.List.{list_all}
 use Rattle.device.specs.Layers.{Layer, is_loud}
-use Rattle.settled.specs.Snaps.{Snap}
-use Rattle.settled.specs.Merges.{Merge, Merged}
+use Rattle.big_steps.specs.Snaps.{Snap}
+use Rattle.big_steps.specs.Merges.{Merge, Merged}
 use Rattle.event_machine.specs.Held.{SnapHeld, MergeHeld, Moving}
 use Rattle.event_machine.specs.MergeRest.{merge_in, merged_of as merged_in_events}
-use Rattle.settled.specs.Moments.{relayered, store_relayered}
-use Rattle.settled.specs.MergedMoments.{merged_relayered, store_relayered as merging_store_relayered}
+use Rattle.big_steps.specs.Moments.{relayered, store_relayered}
+use Rattle.big_steps.specs.MergedMoments.{merged_relayered, store_relayered as merging_store_relayered}
 use Rattle.snapshot.specs.Kept.{Kept}
 use Rattle.volume.specs.Volumed.{Volumed, is_loud_in_all, is_loud_with}
 use Rattle.volume.specs.Moved.{moving_of}
-use Rattle.snapshots.specs.Numbers.{number_of_snap}
+use Rattle.snapshot_list.specs.Numbers.{number_of_snap}
 use Rattle.merge.specs.Due.{has_group_of}
 use Rattle.merge.specs.Merging.{Merging}
 use Rattle.volume.specs.Leaving.{has_group_in, is_done_of, is_quiet_of}

@@ -6,13 +6,13 @@ use Rattle.sector.specs.declared.range.Range.{Range}
 use Rattle.sector.specs.declared.refusal.Refusal.{Refusal}
 use Rattle.device.specs.Layers.{Layer}
 use Rattle.chunk.specs.Pieces.{Span}
-use Rattle.plain.specs.declared.request.Dev.{Dev}
-use Rattle.plain.specs.declared.request.Op.TheVariants.{Read, Write}
-use Rattle.plain.specs.declared.request.Reply.{Reply}
+use Rattle.plain_machine.specs.declared.request.Dev.{Dev}
+use Rattle.plain_machine.specs.declared.request.Op.TheVariants.{Read, Write}
+use Rattle.plain_machine.specs.declared.request.Reply.{Reply}
 use Rattle.chunk.proofs.Runs.{StandsAt}
-use Rattle.settled.specs.Commands.{bytes_in}
+use Rattle.big_steps.specs.Commands.{bytes_in}
 use Rattle.volume.specs.Volumed.{Volumed}
-use Rattle.plain.specs.declared.request.Replied.{Replied}
+use Rattle.plain_machine.specs.declared.request.Replied.{Replied}
 use Rattle.volume_commands.specs.Rested.{rested_of}
 use Rattle.volume_commands.specs.Kept.{KeepsDevices}
 use Rattle.volume_commands.specs.Among.{IsPieceServed, IsPieceFailed, AreReadAmong, AreWrittenAmong, IsReadStopped, IsWriteStopped, sectors_of}

@@ -9,23 +9,23 @@ use Rattle.sector.specs.declared.refusal.Refusal.{Refusal}
 use Rattle.sector.specs.declared.refusal.Refusal.TheVariants.{Invalid as InvalidRefusal}
 use Rattle.chunk.specs.Pieces.{Span}
 use Rattle.chunk_alloc.specs.declared.usage.Usage.{Usage}
-use Rattle.plain.specs.declared.request.Dev.{Dev}
-use Rattle.plain.specs.declared.request.Op.{Op}
-use Rattle.plain.specs.declared.request.Op.TheVariants.{Read, Write}
-use Rattle.plain.specs.declared.request.Dev.TheVariants.{Snap as ToSnap}
-use Rattle.plain.specs.declared.request.Reply.{Reply}
-use Rattle.plain.specs.declared.request.Reply.TheVariants.{Refused}
-use Rattle.plain.specs.declared.request.Failure.{Failure}
-use Rattle.plain.specs.declared.request.Request.{Request}
-use Rattle.settled.specs.Commands.{bytes_in}
+use Rattle.plain_machine.specs.declared.request.Dev.{Dev}
+use Rattle.plain_machine.specs.declared.request.Op.{Op}
+use Rattle.plain_machine.specs.declared.request.Op.TheVariants.{Read, Write}
+use Rattle.plain_machine.specs.declared.request.Dev.TheVariants.{Snap as ToSnap}
+use Rattle.plain_machine.specs.declared.request.Reply.{Reply}
+use Rattle.plain_machine.specs.declared.request.Reply.TheVariants.{Refused}
+use Rattle.plain_machine.specs.declared.request.Failure.{Failure}
+use Rattle.plain_machine.specs.declared.request.Request.{Request}
+use Rattle.big_steps.specs.Commands.{bytes_in}
 use Rattle.snapshot.specs.Kept.{Kept}
 use Rattle.volume.specs.Volumed.{Volumed}
-use Rattle.snapshots.specs.Finding.{place_of_snap}
+use Rattle.snapshot_list.specs.Finding.{place_of_snap}
 use Rattle.volume.specs.Leaving.{usage_of}
 use Rattle.volume.specs.Submitting.{IsRefusedAs}
-use Rattle.plain.specs.declared.request.Replied.{Replied}
+use Rattle.plain_machine.specs.declared.request.Replied.{Replied}
 use Rattle.volume_commands.specs.Rested.{Attached, attached_of, rested_of, has_number, snap_at}
-use Rattle.plain.specs.Failures.{refusal_of}
+use Rattle.plain_machine.specs.Failures.{refusal_of}
 use Rattle.volume_commands.specs.Serving.{IsGood}
 use Rattle.volume_commands.specs.Draining.{IsDrainedApart, is_idle_of}
 use Rattle.volume_commands.specs.Among.{IsServedAmong, IsRefusedAmong, IsRequestOf, IsPieceServed, IsPieceFailed, AreReadAmong, AreWrittenAmong, IsTurnedAway, is_live_dev, live_in, sectors_of}

@@ -6,25 +6,25 @@ use Rattle.sector.specs.declared.range.Range.{Range}
 use Rattle.sector.specs.declared.refusal.Refusal.{Refusal}
 use Rattle.device.specs.Layers.{Layer}
 use Rattle.chunk.specs.Pieces.{Span}
-use Rattle.plain.specs.Failures.{refusal_of}
-use Rattle.plain.specs.Kept.{kept, kept_range}
-use Rattle.plain.specs.Legal.{IsLegalStep}
-use Rattle.plain.specs.Plain.{InFlight, asked_under, without}
-use Rattle.plain.specs.declared.event.Event.{Event}
-use Rattle.plain.specs.declared.event.Event.TheVariants.{Issue, CopyRead, CopyWrite, ZeroNext, WriteArea, Publish, WriteInvalid, FlushStore, MergeGroup, MergeAreaRead, MergeRead, MergeWrite, MergeFlush, MergeCommit, MergeRelease}
-use Rattle.plain.specs.declared.event.Outcome.{Outcome}
-use Rattle.plain.specs.declared.event.Outcome.TheVariants.{Done, Fault, Reply as Answered}
-use Rattle.plain.specs.declared.request.Dev.{Dev}
-use Rattle.plain.specs.declared.request.Failure.{Failure}
-use Rattle.plain.specs.declared.request.Op.{Op}
-use Rattle.plain.specs.declared.request.Op.TheVariants.{Read, Write, Flush}
-use Rattle.plain.specs.declared.request.Reply.{Reply}
-use Rattle.plain.specs.declared.request.Reply.TheVariants.{Data, Written, Flushed, Refused}
-use Rattle.plain.specs.declared.request.Request.{Request}
+use Rattle.plain_machine.specs.Failures.{refusal_of}
+use Rattle.plain_machine.specs.Kept.{kept, kept_range}
+use Rattle.plain_machine.specs.Legal.{IsLegalStep}
+use Rattle.plain_machine.specs.Plain.{InFlight, asked_under, without}
+use Rattle.plain_machine.specs.declared.event.Event.{Event}
+use Rattle.plain_machine.specs.declared.event.Event.TheVariants.{Issue, CopyRead, CopyWrite, ZeroNext, WriteArea, Publish, WriteInvalid, FlushStore, MergeGroup, MergeAreaRead, MergeRead, MergeWrite, MergeFlush, MergeCommit, MergeRelease}
+use Rattle.plain_machine.specs.declared.event.Outcome.{Outcome}
+use Rattle.plain_machine.specs.declared.event.Outcome.TheVariants.{Done, Fault, Reply as Answered}
+use Rattle.plain_machine.specs.declared.request.Dev.{Dev}
+use Rattle.plain_machine.specs.declared.request.Failure.{Failure}
+use Rattle.plain_machine.specs.declared.request.Op.{Op}
+use Rattle.plain_machine.specs.declared.request.Op.TheVariants.{Read, Write, Flush}
+use Rattle.plain_machine.specs.declared.request.Reply.{Reply}
+use Rattle.plain_machine.specs.declared.request.Reply.TheVariants.{Data, Written, Flushed, Refused}
+use Rattle.plain_machine.specs.declared.request.Request.{Request}
 use Rattle.in_flight.specs.Kinds.{in_flight}
 use Rattle.in_flight.specs.Routes.{refused_of}
 use Rattle.in_flight.specs.declared.flights.Flight.{Flight}
-use Rattle.settled.specs.Refusals.{IsStarved, is_starved}
+use Rattle.big_steps.specs.Refusals.{IsStarved, is_starved}
 use Rattle.volume.specs.Causes.{HasCause}
 use Rattle.volume.specs.Exact.{IsExact}
 use Rattle.volume.specs.Flying.{Fits, IsFlown, IsTakenOut}

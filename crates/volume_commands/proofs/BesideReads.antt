@@ -1,20 +1,20 @@
 -- Reads, whether a merge is begun or not, change nothing that is shown; those of a snapshot are as they are without a merge.
 use Rattle.std.proofs.Common.{◌≡◌, ℕ, List, [], ◌∷◌, ◌++◌, Option, Some, None, refl, ap, ◌∙◌}
 use Rattle.chunk.specs.Pieces.{Span}
-use Rattle.plain.specs.declared.request.Dev.{Dev}
-use Rattle.plain.specs.declared.request.Dev.TheVariants.{Origin, Snap as ToSnap}
-use Rattle.plain.specs.declared.request.Reply.{Reply}
-use Rattle.plain.specs.declared.request.Reply.TheVariants.{Data, Written, Flushed, Refused}
-use Rattle.settled.specs.Snaps.{Volume}
-use Rattle.settled.specs.Pieces.{Answered}
-use Rattle.settled.specs.Commands.{go_on, bytes_in, read_piece, read_pieces}
-use Rattle.settled.specs.Merges.{Merge, Merged, Merging, merged_of, beside, place_in, read_at, read_parts}
-use Rattle.settled.specs.MergeShown.{array_of}
+use Rattle.plain_machine.specs.declared.request.Dev.{Dev}
+use Rattle.plain_machine.specs.declared.request.Dev.TheVariants.{Origin, Snap as ToSnap}
+use Rattle.plain_machine.specs.declared.request.Reply.{Reply}
+use Rattle.plain_machine.specs.declared.request.Reply.TheVariants.{Data, Written, Flushed, Refused}
+use Rattle.big_steps.specs.Snaps.{Volume}
+use Rattle.big_steps.specs.Pieces.{Answered}
+use Rattle.big_steps.specs.Commands.{go_on, bytes_in, read_piece, read_pieces}
+use Rattle.big_steps.specs.Merges.{Merge, Merged, Merging, merged_of, beside, place_in, read_at, read_parts}
+use Rattle.big_steps.specs.MergeShown.{array_of}
 use Rattle.volume_commands.specs.Serving.{part_read}
 use Rattle.volume_commands.proofs.Shown.{arrays_with, begun_with}
 use Rattle.volume_commands.proofs.ReadRuns.{parts_read}
 use Rattle.volume_commands.proofs.ShownReads.{piece_shown}
-use Rattle.plain.specs.Plain.{Shown}
+use Rattle.plain_machine.specs.Plain.{Shown}
 
 -- one piece of the origin beside a merge
 at_shown : (o : Option ℕ) (piece : Span) (m : Merging) → arrays_with (merged_of (read_at o piece m).state) ≡ arrays_with (merged_of m)

@@ -1,11 +1,11 @@
 -- What holds between two commands holds again after a piece, and a settled volume is settled again.
 use Rattle.std.proofs.Common.{◌≡◌, ℕ, true, List, Option, None, sym, ◌∙◌, ap, arith}
 use Rattle.device.specs.Layers.{Layer}
-use Rattle.plain.specs.declared.request.Reply.{Reply}
+use Rattle.plain_machine.specs.declared.request.Reply.{Reply}
 use Rattle.event_machine.specs.Held.{Moving}
 use Rattle.event_machine.specs.MergeRest.{merge_in}
 use Rattle.event_machine.specs.Requests.{volume_of}
-use Rattle.settled.specs.Merges.{Merged}
+use Rattle.big_steps.specs.Merges.{Merged}
 use Rattle.volume.specs.Volumed.{Volumed, is_loud_in_all}
 use Rattle.volume.specs.Moved.{moving_of}
 use Rattle.volume.specs.Leaving.{is_quiet_of}

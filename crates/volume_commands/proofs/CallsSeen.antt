@@ -4,12 +4,12 @@ use Rattle.std.specs.Prelude.{Err, IfErr, Ok, Result}
 use Rattle.sector.specs.declared.refusal.Refusal.{Refusal}
 use Rattle.sector.specs.declared.refusal.Refusal.TheVariants.{JournalFull}
 use Rattle.device.specs.Layers.{Layer}
-use Rattle.plain.specs.declared.event.Event.{Event}
-use Rattle.plain.specs.declared.event.NotDue.{NotDue}
-use Rattle.plain.specs.declared.event.Outcome.{Outcome}
-use Rattle.plain.specs.declared.request.Request.{Request}
-use Rattle.settled.specs.Refusals.{IsStarved, is_starved}
-use Rattle.settled.proofs.Starved.{other_full}
+use Rattle.plain_machine.specs.declared.event.Event.{Event}
+use Rattle.plain_machine.specs.declared.event.NotDue.{NotDue}
+use Rattle.plain_machine.specs.declared.event.Outcome.{Outcome}
+use Rattle.plain_machine.specs.declared.request.Request.{Request}
+use Rattle.big_steps.specs.Refusals.{IsStarved, is_starved}
+use Rattle.big_steps.proofs.Starved.{other_full}
 use Rattle.event_machine.specs.MergeRest.{IsBetween}
 use Rattle.snapshot.specs.declared.opening.StoreDev.{StoreDev}
 use Rattle.volume.specs.Beginning.{IsNotBegun}

@@ -10,7 +10,7 @@ use Rattle.in_flight.specs.declared.flights.Flight.{Flight}
 use Rattle.snapshot.specs.Kept.{Kept}
 use Rattle.merge.specs.Merging.{Merging}
 use Rattle.volume.specs.Volumed.{Volumed}
-use Rattle.snapshots.specs.Finding.{place_of_snap}
+use Rattle.snapshot_list.specs.Finding.{place_of_snap}
 use Rattle.volume.specs.Leaving.{has_group_in, is_done_of, is_quiet_of, close_refusal}
 use Rattle.volume_commands.specs.Rested.{attached_of, rested_of, snap_at}
 use Rattle.volume_commands.proofs.Leaves.{at_place}

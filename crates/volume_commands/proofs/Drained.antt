@@ -5,14 +5,14 @@ use Rattle.std.specs.List.{list_all}
 use Rattle.std.proofs.lemmas.Bool.{ne_eqb}
 use Rattle.std.proofs.lemmas.List.{append-nil}
 use Rattle.device.specs.Layers.{Layer}
-use Rattle.plain.specs.Replies.{reply_in}
-use Rattle.plain.specs.declared.event.Event.{Event}
-use Rattle.plain.specs.declared.event.Outcome.{Outcome}
-use Rattle.plain.specs.declared.request.Replied.{Replied}
-use Rattle.plain.specs.declared.request.Reply.{Reply}
+use Rattle.plain_machine.specs.Replies.{reply_in}
+use Rattle.plain_machine.specs.declared.event.Event.{Event}
+use Rattle.plain_machine.specs.declared.event.Outcome.{Outcome}
+use Rattle.plain_machine.specs.declared.request.Replied.{Replied}
+use Rattle.plain_machine.specs.declared.request.Reply.{Reply}
 use Rattle.in_flight.specs.declared.flights.Flight.{Flight}
-use Rattle.settled.specs.Merges.{Merged, merged}
-use Rattle.settled.specs.MergeShown.{IsMerging}
+use Rattle.big_steps.specs.Merges.{Merged, merged}
+use Rattle.big_steps.specs.MergeShown.{IsMerging}
 use Rattle.event_machine.specs.Due.{due}
 use Rattle.event_machine.specs.Held.{MergeHeld}
 use Rattle.event_machine.specs.MergeDue.{due_all}
@@ -21,7 +21,7 @@ use Rattle.event_machine.specs.MergeSeen.{held_in}
 use Rattle.event_machine.specs.Seen.{replied_by}
 use Rattle.merge.specs.Merging.{Merging}
 use Rattle.event_machine.proofs.Alone.{due_alone}
-use Rattle.settling.proofs.MergesSettle.{merge_settles}
+use Rattle.big_step_laws.proofs.MergesSettle.{merge_settles}
 use Rattle.volume.specs.Leaving.{has_group_in, is_done_of, is_quiet_of}
 use Rattle.volume.specs.Moved.{merge_seen, moving_of}
 use Rattle.volume.specs.Reaching.{IsRunAll}

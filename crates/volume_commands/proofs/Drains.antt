@@ -4,14 +4,14 @@ use Rattle.std.specs.Prelude.{◌==◌, ◌&&◌, ◌||◌, not, if◌then◌els
 use Rattle.std.proofs.lemmas.Bool.{cases_Bool, cond-true, cond-false, eq-eqb, ne_eqb}
 use Rattle.std.proofs.lemmas.List.{append_assoc, append-nil}
 use Rattle.device.specs.Layers.{Layer}
-use Rattle.plain.specs.declared.event.Event.{Event}
-use Rattle.plain.specs.declared.event.Outcome.{Outcome}
-use Rattle.plain.specs.declared.event.Outcome.TheVariants.{Reply as Answered}
-use Rattle.plain.specs.declared.request.Reply.{Reply}
-use Rattle.plain.specs.declared.request.Reply.TheVariants.{Refused}
-use Rattle.plain.specs.declared.request.Failure.TheVariants.{Invalid}
+use Rattle.plain_machine.specs.declared.event.Event.{Event}
+use Rattle.plain_machine.specs.declared.event.Outcome.{Outcome}
+use Rattle.plain_machine.specs.declared.event.Outcome.TheVariants.{Reply as Answered}
+use Rattle.plain_machine.specs.declared.request.Reply.{Reply}
+use Rattle.plain_machine.specs.declared.request.Reply.TheVariants.{Refused}
+use Rattle.plain_machine.specs.declared.request.Failure.TheVariants.{Invalid}
 use Rattle.in_flight.specs.Kinds.{in_flight}
-use Rattle.plain.specs.Legal.{IsLegalStep}
+use Rattle.plain_machine.specs.Legal.{IsLegalStep}
 use Rattle.event_machine.specs.MergeDue.{due_all}
 use Rattle.volume.specs.Volumed.{Volumed, is_loud_in_all, next_of, plain_of}
 use Rattle.volume.specs.EventKinds.{is_of_merge}
@@ -20,8 +20,8 @@ use Rattle.volume.specs.Exact.{IsExact}
 use Rattle.volume.specs.Flying.{IsFlown}
 use Rattle.volume.specs.Moved.{moving_of}
 use Rattle.volume.specs.Stepping.{KeepsAll}
-use Rattle.plain.specs.declared.request.Replied.{Replied}
-use Rattle.plain.specs.Replies.{reply_in}
+use Rattle.plain_machine.specs.declared.request.Replied.{Replied}
+use Rattle.plain_machine.specs.Replies.{reply_in}
 use Rattle.volume_commands.specs.Draining.{IsDoneFirst, IsChain, IsDrained, IsDrainedApart, IsAnsweredAmong, replied_in, others, reply_to, tells, is_lazy, are_apart}
 use Rattle.volume_commands.specs.Following.{IsStep}
 use Rattle.volume_commands.proofs.Settled.{keeps_none, keeps_more}

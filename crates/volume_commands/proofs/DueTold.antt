@@ -7,8 +7,8 @@ use Rattle.std.specs.declared.alloc.AllocError.{AllocError}
 use Rattle.std.proofs.lemmas.Bool.{eqb-true, false≢true}
 use Rattle.std.proofs.lemmas.List.Elements.{All-contains, Contains-append_cases, Contains-append_left, Contains-append_right, Contains-push_cases, filter_passes}
 use Rattle.device.specs.Layers.{Layer}
-use Rattle.plain.specs.declared.event.Event.{Event}
-use Rattle.plain.specs.declared.event.Event.TheVariants.{Issue, CopyRead, CopyWrite, ZeroNext, WriteArea, Publish, WriteInvalid, FlushStore, MergeGroup, MergeAreaRead, MergeRead, MergeWrite, MergeFlush, MergeCommit, MergeRelease}
+use Rattle.plain_machine.specs.declared.event.Event.{Event}
+use Rattle.plain_machine.specs.declared.event.Event.TheVariants.{Issue, CopyRead, CopyWrite, ZeroNext, WriteArea, Publish, WriteInvalid, FlushStore, MergeGroup, MergeAreaRead, MergeRead, MergeWrite, MergeFlush, MergeCommit, MergeRelease}
 use Rattle.in_flight.specs.Due.{is_copy_at, is_issuable, is_publishable}
 use Rattle.in_flight.specs.declared.copies.ChunkCopy.{ChunkCopy}
 use Rattle.in_flight.specs.declared.copies.Mark.{Mark}
@@ -18,7 +18,7 @@ use Rattle.volume_laws.specs.Books.{SnapBooks}
 use Rattle.volume_laws.specs.Due.{DueSnap, books_of, can_commit, can_flush_store, can_mark, can_zero, is_due, is_issued}
 use Rattle.volume_laws.specs.MergeDue.{DueMerge, is_merge_due}
 use Rattle.snapshot.specs.Kept.{Kept, due_of_kept}
-use Rattle.snapshots.proofs.Finds.{any_of}
+use Rattle.snapshot_list.proofs.Finds.{any_of}
 use Rattle.volume.specs.Volumed.{Volumed, dues_of, is_due_by, is_due_of, merge_due}
 use Rattle.volume_commands.specs.Trace.{IsAllDue, candidates_of, due_among, events_of_copies, events_of_copy, events_of_flights, events_of_marks, events_of_merge, events_of_snap}
 

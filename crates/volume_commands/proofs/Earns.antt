@@ -8,16 +8,16 @@ use Rattle.device.specs.Layers.{Layer}
 use Rattle.layers.specs.declared.message.Answer.{Answer}
 use Rattle.layers.specs.declared.message.Message.{Message}
 use Rattle.merge.specs.Merging.{Merging}
-use Rattle.plain.specs.Plain.{Plain}
-use Rattle.plain.specs.declared.request.Dev.{Dev}
-use Rattle.plain.specs.declared.request.Dev.TheVariants.{Origin, Snap}
-use Rattle.plain.specs.declared.request.Request.{Request}
+use Rattle.plain_machine.specs.Plain.{Plain}
+use Rattle.plain_machine.specs.declared.request.Dev.{Dev}
+use Rattle.plain_machine.specs.declared.request.Dev.TheVariants.{Origin, Snap}
+use Rattle.plain_machine.specs.declared.request.Request.{Request}
 use Rattle.sector.specs.declared.refusal.Refusal.{Refusal}
 use Rattle.snapshot.specs.Kept.{Kept}
 use Rattle.snapshot.specs.declared.opening.StoreDev.{StoreDev}
-use Rattle.snapshots.specs.Finding.{place_of_snap}
-use Rattle.snapshots.specs.Keeping.{unkept}
-use Rattle.snapshots.specs.Numbers.{number_of_snap}
+use Rattle.snapshot_list.specs.Finding.{place_of_snap}
+use Rattle.snapshot_list.specs.Keeping.{unkept}
+use Rattle.snapshot_list.specs.Numbers.{number_of_snap}
 use Rattle.volume.specs.Attached.{IsGained}
 use Rattle.volume.specs.Beginning.{IsMergeBegun, IsNotBegun, IsResumed, SameButKept}
 use Rattle.volume.specs.DoesMessage.{DoesMessage}
@@ -31,7 +31,7 @@ use Rattle.volume.specs.Submitting.{IsAcceptedAs, IsRefusedAs}
 use Rattle.volume.specs.Telling.{IsRelayeredAt}
 use Rattle.volume.specs.Volumed.{Volumed, plain_of}
 use Rattle.volume.proofs.Named.{found_within}
-use Rattle.journal.specs.Earned.{AreEarned, merges_of}
+use Rattle.audit.specs.Earned.{AreEarned, merges_of}
 use Rattle.volume_commands.proofs.Refusing.{refused_given}
 
 -- what says how many merges there are

@@ -7,18 +7,18 @@ use Rattle.std.proofs.lemmas.List.{length-map, map-set}
 use Rattle.device.specs.Layers.{Layer}
 use Rattle.sector.specs.declared.refusal.Refusal.{Refusal}
 use Rattle.merge.specs.Merging.{Merging}
-use Rattle.plain.specs.declared.event.Event.{Event}
-use Rattle.plain.specs.declared.event.Outcome.{Outcome}
-use Rattle.plain.specs.declared.request.Overflowing.TheVariants.{Did}
-use Rattle.plain.specs.declared.request.Request.{Request}
-use Rattle.plain.specs.Kept.{kept}
-use Rattle.plain.specs.Plain.{Plain, InFlight, may_overflow}
+use Rattle.plain_machine.specs.declared.event.Event.{Event}
+use Rattle.plain_machine.specs.declared.event.Outcome.{Outcome}
+use Rattle.plain_machine.specs.declared.request.Overflowing.TheVariants.{Did}
+use Rattle.plain_machine.specs.declared.request.Request.{Request}
+use Rattle.plain_machine.specs.Kept.{kept}
+use Rattle.plain_machine.specs.Plain.{Plain, InFlight, may_overflow}
 use Rattle.in_flight.specs.Kinds.{in_flight}
 use Rattle.in_flight.specs.declared.flights.Flight.{Flight}
 use Rattle.in_flight.specs.Routes.{refused_of}
 use Rattle.snapshot.specs.Kept.{Kept}
 use Rattle.snapshot.specs.declared.opening.StoreDev.{StoreDev}
-use Rattle.snapshots.specs.Starting.{spoilt_of, unroomed}
+use Rattle.snapshot_list.specs.Starting.{spoilt_of, unroomed}
 use Rattle.volume.specs.Attached.{IsGained}
 use Rattle.volume.specs.Beginning.{IsMergeBegun, IsNotBegun, SameButKept}
 use Rattle.volume.specs.Causes.{HasCause, lives_of}
@@ -29,14 +29,14 @@ use Rattle.volume.specs.Stepping.{KeepsDevices}
 use Rattle.volume.specs.Submitting.{IsAcceptedAs, IsFoundFull, IsOverflown, IsRefusedAs, SameButRoom}
 use Rattle.volume.specs.Volumed.{Volumed, plain_of}
 use Rattle.volume.proofs.FewerLives.{accepted_lives, caused_lives, roomed_lives, same_fewer, same_lives, set_fewer, set_lives, set_own, then_fewer}
-use Rattle.journal.specs.Books.{AuditShape}
-use Rattle.journal.specs.Earned.{AreEarned, merges_of}
-use Rattle.journal.specs.Journaled.{places_for, places_of}
-use Rattle.journal.specs.Noted.{kept_count, live_count, may_count, mays_of}
-use Rattle.journal.specs.Seats.{Seated, flight_in}
-use Rattle.journal.proofs.Beginning.{lives_more, mays_more}
-use Rattle.journal.proofs.Lives.{begun_lives, begun_mays, finished_lives, gained_lives, gained_mays, mays_by, roomed_map, unbegun_lives, unseen_lives, unseen_mays, without_lives, without_mays}
-use Rattle.journal.proofs.Mays.{IsFewer, bit, may_fewer, may_more, may_removed}
+use Rattle.audit.specs.Books.{AuditShape}
+use Rattle.audit.specs.Earned.{AreEarned, merges_of}
+use Rattle.audit.specs.PlacesTaken.{places_for, places_of}
+use Rattle.audit.specs.Noted.{kept_count, live_count, may_count, mays_of}
+use Rattle.audit.specs.Seats.{Seated, flight_in}
+use Rattle.audit.proofs.Beginning.{lives_more, mays_more}
+use Rattle.audit.proofs.Lives.{begun_lives, begun_mays, finished_lives, gained_lives, gained_mays, mays_by, roomed_map, unbegun_lives, unseen_lives, unseen_mays, without_lives, without_mays}
+use Rattle.audit.proofs.Mays.{IsFewer, bit, may_fewer, may_more, may_removed}
 use Rattle.volume_commands.specs.Places.{HasPlaces, kept_for_marks}
 use Rattle.volume_commands.proofs.Earns.{HasAsMany, accepted_many, begun_earned, finished_earned, gained_earned, left_earned, many_earned, merges_few, refused_many, unbegun_many, unseen_many}
 use Rattle.volume_commands.proofs.Flown.{fewer_fly}

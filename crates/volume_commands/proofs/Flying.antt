@@ -2,8 +2,8 @@
 use Rattle.std.proofs.Common.{◌≡◌, ℕ, Bool, true, false, List, [], ◌∷◌, map, Option, Some, None, refl, ap, ◌∙◌}
 use Rattle.std.specs.Prelude.{◌==◌, if◌then◌else◌}
 use Rattle.device.specs.Layers.{Layer}
-use Rattle.plain.specs.declared.request.Dev.{Dev}
-use Rattle.plain.specs.declared.request.Dev.TheVariants.{Origin, Snap}
+use Rattle.plain_machine.specs.declared.request.Dev.{Dev}
+use Rattle.plain_machine.specs.declared.request.Dev.TheVariants.{Origin, Snap}
 use Rattle.event_machine.specs.Held.{SnapHeld, MergeHeld, Moving}
 use Rattle.volume.specs.Layering.{held_relayered, merge_relayered, merging_relayered, moving_relayered}
 use Rattle.volume.specs.Telling.{dev_relayered, helds_relayered, numbered_relayered}

@@ -7,18 +7,18 @@ use Rattle.sector.specs.declared.refusal.Refusal.{Refusal}
 use Rattle.sector.specs.declared.refusal.Refusal.TheVariants.{BadChunk, Invalid, JournalFull, MergeInProgress, MergingSnapshot, NoMemory, NoSuchDevice, NotFinished, NotQuiet, OutOfRange, Overflow, Stale, TooMany}
 use Rattle.device.specs.Layers.{Layer}
 use Rattle.chunk.specs.Sizes.{is_chunk}
-use Rattle.plain.specs.Kept.{kept_range}
-use Rattle.plain.specs.declared.request.Dev.{Dev}
-use Rattle.plain.specs.declared.request.Dev.TheVariants.{Origin, Snap}
-use Rattle.plain.specs.declared.request.Request.{Request}
+use Rattle.plain_machine.specs.Kept.{kept_range}
+use Rattle.plain_machine.specs.declared.request.Dev.{Dev}
+use Rattle.plain_machine.specs.declared.request.Dev.TheVariants.{Origin, Snap}
+use Rattle.plain_machine.specs.declared.request.Request.{Request}
 use Rattle.in_flight.specs.Kinds.{kind_of}
 use Rattle.in_flight.specs.declared.flights.Kind.{Kind}
 use Rattle.in_flight.specs.declared.flights.Kind.TheVariants.{OriginRead, OriginWrite, OriginFlush, SnapRead, SnapWrite, SnapFlush}
-use Rattle.settled.specs.Refusals.{is_starved}
-use Rattle.settled.proofs.Starved.{other_full}
+use Rattle.big_steps.specs.Refusals.{is_starved}
+use Rattle.big_steps.proofs.Starved.{other_full}
 use Rattle.store.specs.Opening.{IsRefused}
 use Rattle.snapshot.specs.Kept.{Kept}
-use Rattle.snapshots.specs.Finding.{place_of_snap}
+use Rattle.snapshot_list.specs.Finding.{place_of_snap}
 use Rattle.merge.specs.Due.{is_finished_of}
 use Rattle.merge.specs.Merging.{Merging}
 use Rattle.volume.specs.Beginning.{IsNotBegun, begin_refusal, begin_with, beside_refusal, place_refusal}

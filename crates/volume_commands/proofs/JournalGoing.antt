@@ -3,15 +3,15 @@ use Rattle.std.proofs.Common.{◌≡◌, ◌≢◌, ◌⊎◌, inl, inr, ℕ, Bo
 use Rattle.std.specs.Prelude.{Err, Ok, OnOk, Result}
 use Rattle.device.specs.Layers.{Layer}
 use Rattle.sector.specs.declared.refusal.Refusal.{Refusal}
-use Rattle.plain.specs.declared.event.Event.{Event}
-use Rattle.plain.specs.declared.event.Event.TheVariants.{Issue, CopyRead, CopyWrite, ZeroNext, WriteArea, Publish, WriteInvalid, FlushStore, MergeGroup, MergeAreaRead, MergeRead, MergeWrite, MergeFlush, MergeCommit, MergeRelease}
-use Rattle.plain.specs.declared.event.Outcome.{Outcome}
-use Rattle.plain.specs.declared.event.Outcome.TheVariants.{Done, Fault, Reply as Replied}
-use Rattle.plain.specs.declared.request.Reply.{Reply}
-use Rattle.plain.specs.declared.request.Request.{Request}
-use Rattle.plain.specs.Plain.{Plain, Shown, overflow_of, shown_of, spoiled_entry}
-use Rattle.plain.specs.Serves.{Serves}
-use Rattle.plain.specs.Legal.{IsAnswered, IsBegun, IsDeclined, IsDetached, IsFinished, IsLegalStep, IsTaken, Overflows, Spoils}
+use Rattle.plain_machine.specs.declared.event.Event.{Event}
+use Rattle.plain_machine.specs.declared.event.Event.TheVariants.{Issue, CopyRead, CopyWrite, ZeroNext, WriteArea, Publish, WriteInvalid, FlushStore, MergeGroup, MergeAreaRead, MergeRead, MergeWrite, MergeFlush, MergeCommit, MergeRelease}
+use Rattle.plain_machine.specs.declared.event.Outcome.{Outcome}
+use Rattle.plain_machine.specs.declared.event.Outcome.TheVariants.{Done, Fault, Reply as Replied}
+use Rattle.plain_machine.specs.declared.request.Reply.{Reply}
+use Rattle.plain_machine.specs.declared.request.Request.{Request}
+use Rattle.plain_machine.specs.Plain.{Plain, Shown, overflow_of, shown_of, spoiled_entry}
+use Rattle.plain_machine.specs.Serves.{Serves}
+use Rattle.plain_machine.specs.Legal.{IsAnswered, IsBegun, IsDeclined, IsDetached, IsFinished, IsLegalStep, IsTaken, Overflows, Spoils}
 use Rattle.snapshot.specs.declared.opening.StoreDev.{StoreDev}
 use Rattle.volume.specs.Attached.{IsGained}
 use Rattle.volume.specs.Beginning.{IsMergeBegun}
@@ -19,15 +19,15 @@ use Rattle.volume.specs.Leaving.{IsWithout}
 use Rattle.volume.specs.Submitting.{IsAcceptedAs, IsRefusedAs}
 use Rattle.volume.specs.Volumed.{Volumed, is_loud_in_all, plain_of}
 use Rattle.volume.proofs.Declines.{refused_declined}
-use Rattle.journal.specs.declared.entry.Entry.{Entry}
-use Rattle.journal.specs.declared.entry.Entry.TheVariants.{Answered, Attached, Begun, Detached, Finished, Overflowed, Spoiled}
-use Rattle.journal.specs.Replay.{AllLawful, IsLawful, after, plain_in, replay, served}
-use Rattle.journal.proofs.Changes.{finished_does}
-use Rattle.journal.proofs.Departed.{begun_does, detached_does}
-use Rattle.journal.proofs.Gained.{attached_does}
-use Rattle.journal.proofs.Keeping.{spoils_of}
-use Rattle.journal.proofs.Replaying.{lawful_is, lawful_then, replay_then, served_is}
-use Rattle.journal.proofs.Spoils.{lost_lawful, lost_of, replay_lost}
+use Rattle.audit.specs.declared.entry.Entry.{Entry}
+use Rattle.audit.specs.declared.entry.Entry.TheVariants.{Answered, Attached, Begun, Detached, Finished, Overflowed, Spoiled}
+use Rattle.audit.specs.Replay.{AllLawful, IsLawful, after, plain_in, replay, served}
+use Rattle.audit.proofs.Changes.{finished_does}
+use Rattle.audit.proofs.Departed.{begun_does, detached_does}
+use Rattle.audit.proofs.Gained.{attached_does}
+use Rattle.audit.proofs.Keeping.{spoils_of}
+use Rattle.audit.proofs.Replaying.{lawful_is, lawful_then, replay_then, served_is}
+use Rattle.audit.proofs.Spoils.{lost_lawful, lost_of, replay_lost}
 use Rattle.volume_commands.specs.GoingOn.{ComesTo, GoesOn, IsSubmitNoted}
 
 goes_on : (p q : Plain) (es : List Entry) → AllLawful (shown_of p) es → replay (shown_of p) es ≡ shown_of q → GoesOn p es q

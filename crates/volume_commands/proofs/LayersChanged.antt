@@ -6,12 +6,12 @@ use Rattle.device.specs.Layers.{Layer}
 use Rattle.layers.specs.Ticks.{layers_ticked}
 use Rattle.layers.specs.declared.message.Answer.{Answer}
 use Rattle.layers.specs.declared.message.Message.{Message}
-use Rattle.plain.specs.declared.request.Dev.{Dev}
-use Rattle.plain.specs.declared.request.Dev.TheVariants.{Origin, Snap as ToSnap}
+use Rattle.plain_machine.specs.declared.request.Dev.{Dev}
+use Rattle.plain_machine.specs.declared.request.Dev.TheVariants.{Origin, Snap as ToSnap}
 use Rattle.event_machine.specs.Held.{Moving}
 use Rattle.event_machine.specs.MergeRest.{merge_in}
 use Rattle.merge.specs.Merging.{Merging}
-use Rattle.snapshots.specs.Finding.{place_of_snap}
+use Rattle.snapshot_list.specs.Finding.{place_of_snap}
 use Rattle.volume.specs.DoesMessage.{DoesMessage}
 use Rattle.volume.specs.DoesTick.{DoesTick}
 use Rattle.volume.specs.Layering.{Measures}

@@ -5,13 +5,13 @@ use Rattle.std.specs.List.{list_all, remove}
 use Rattle.std.proofs.lemmas.Bool.{cases_Bool, cond-true, cond-false}
 use Rattle.std.proofs.lemmas.List.Quantifiers.{position-Some}
 use Rattle.device.specs.Layers.{Layer, is_loud}
-use Rattle.settled.specs.Snaps.{Snap}
-use Rattle.settled.specs.Attaching.{Store, detached, given_back}
+use Rattle.big_steps.specs.Snaps.{Snap}
+use Rattle.big_steps.specs.Attaching.{Store, detached, given_back}
 use Rattle.snapshot.specs.Kept.{Kept}
 use Rattle.snapshot.specs.declared.opening.StoreDev.{StoreDev}
 use Rattle.volume.specs.Volumed.{Volumed, is_loud_in_all, is_loud_with}
 use Rattle.volume.specs.Moved.{device_of}
-use Rattle.snapshots.specs.Finding.{place_of_snap}
+use Rattle.snapshot_list.specs.Finding.{place_of_snap}
 use Rattle.volume.specs.Leaving.{has_group_in, is_done_of, is_quiet_of, leaving_refusal, detach_refusal, IsWithout}
 use Rattle.volume.specs.Submitting.{is_merging}
 use Rattle.volume_commands.specs.Rested.{Attached, attached_of, rested_of, snap_of, merged_of, IsSettled, has_dev, snap_at, without}
@@ -19,7 +19,7 @@ use Rattle.volume_commands.specs.Leaving.{IsDetachedAs}
 use Rattle.volume_commands.proofs.Seen.{loud_same, dev_found, dev_missing}
 use Rattle.sector.specs.declared.refusal.Refusal.{Refusal}
 use Rattle.sector.specs.declared.refusal.Refusal.TheVariants.{JournalFull, NoSuchDevice, NotQuiet, MergeInProgress}
-use Rattle.plain.specs.declared.request.Dev.TheVariants.{Snap as ToSnap}
+use Rattle.plain_machine.specs.declared.request.Dev.TheVariants.{Snap as ToSnap}
 use Rattle.volume.proofs.Quieted.{quiet_done, quiet_flights, quiet_free}
 use Rattle.volume.proofs.Shown.{loud_others}
 

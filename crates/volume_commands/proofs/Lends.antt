@@ -9,7 +9,7 @@ use Rattle.std.proofs.lemmas.Nat.{div-mul-add}
 use Rattle.device.specs.Layers.{Layer}
 use Rattle.chunk_alloc.specs.declared.usage.Usage.{Usage}
 use Rattle.store_bytes.specs.Pairs.{pairs_of}
-use Rattle.settled.specs.Saves.{next_of}
+use Rattle.big_steps.specs.Saves.{next_of}
 use Rattle.event_machine.specs.Held.{SnapHeld}
 use Rattle.event_machine.specs.MergeRest.{IsBetween}
 use Rattle.event_machine.specs.Rest.{IsKept, IsResting}
@@ -18,7 +18,7 @@ use Rattle.volume_laws.proofs.Lists.{map-remove}
 use Rattle.volume.specs.Volumed.{Volumed}
 use Rattle.volume.specs.Moved.{held_of, moving_of}
 use Rattle.volume.specs.Whole.{IsCounted}
-use Rattle.snapshots.specs.Finding.{place_of_snap}
+use Rattle.snapshot_list.specs.Finding.{place_of_snap}
 use Rattle.volume.specs.Leaving.{usage_of}
 use Rattle.volume_commands.specs.Rested.{Attached, Rested, attached_of, rested_of, snap_at, without}
 use Rattle.volume_commands.specs.Using.{IsInUse, IsUsed}

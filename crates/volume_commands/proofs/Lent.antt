@@ -2,11 +2,11 @@
 use Rattle.std.proofs.Common.{◌≡◌, inl, inr, ℕ, ◌≤◌, ◌∙◌, List, Option, None, Some, ap, arith, length, refl, sym, true}
 use Rattle.sector.specs.declared.range.Range.{Range}
 use Rattle.sector.specs.declared.refusal.Refusal.{Refusal}
-use Rattle.plain.specs.declared.request.Dev.TheVariants.{Origin}
-use Rattle.plain.specs.declared.request.Op.TheVariants.{Write}
+use Rattle.plain_machine.specs.declared.request.Dev.TheVariants.{Origin}
+use Rattle.plain_machine.specs.declared.request.Op.TheVariants.{Write}
 use Rattle.device.specs.Layers.{Layer}
 use Rattle.in_flight.specs.declared.flights.Kind.TheVariants.{OriginWrite, SnapWrite}
-use Rattle.settled.specs.Refusals.{is_starved}
+use Rattle.big_steps.specs.Refusals.{is_starved}
 use Rattle.merge.specs.Merging.{Merging}
 use Rattle.volume.specs.Lent.{is_bare, origin_write}
 use Rattle.volume.specs.Submitting.{submit_refusal}

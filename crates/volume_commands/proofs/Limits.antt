@@ -9,14 +9,14 @@ use Rattle.std.proofs.lemmas.Nat.{div-add-mod'}
 use Rattle.sector.specs.declared.refusal.Refusal.{Refusal}
 use Rattle.sector.specs.declared.refusal.Refusal.TheVariants.{Invalid, Overflow}
 use Rattle.sector.specs.declared.range.Range.{Range}
-use Rattle.plain.specs.Kept.{kept_range}
-use Rattle.plain.specs.Plain.{did_overflow}
-use Rattle.plain.specs.declared.request.Request.{Request}
-use Rattle.plain.specs.declared.request.Dev.{Dev}
-use Rattle.plain.specs.declared.request.Dev.TheVariants.{Origin, Snap as ToSnap}
-use Rattle.plain.specs.declared.request.Op.{Op}
-use Rattle.plain.specs.declared.request.Op.TheVariants.{Read, Write, Flush}
-use Rattle.plain.specs.declared.request.Overflowing.TheVariants.{Never}
+use Rattle.plain_machine.specs.Kept.{kept_range}
+use Rattle.plain_machine.specs.Plain.{did_overflow}
+use Rattle.plain_machine.specs.declared.request.Request.{Request}
+use Rattle.plain_machine.specs.declared.request.Dev.{Dev}
+use Rattle.plain_machine.specs.declared.request.Dev.TheVariants.{Origin, Snap as ToSnap}
+use Rattle.plain_machine.specs.declared.request.Op.{Op}
+use Rattle.plain_machine.specs.declared.request.Op.TheVariants.{Read, Write, Flush}
+use Rattle.plain_machine.specs.declared.request.Overflowing.TheVariants.{Never}
 use Rattle.in_flight.specs.Kinds.{kind_of}
 use Rattle.in_flight.specs.declared.flights.Kind.{Kind}
 use Rattle.in_flight.specs.declared.flights.Kind.TheVariants.{OriginRead, OriginWrite, OriginFlush, SnapRead, SnapWrite, SnapFlush}
@@ -27,10 +27,10 @@ use Rattle.snapshot.specs.Kept.{Kept}
 use Rattle.merge.specs.Merging.{Merging}
 use Rattle.volume.specs.Asking.{merging_number}
 use Rattle.volume.specs.Volumed.{Volumed, piece_with}
-use Rattle.snapshots.specs.Numbers.{count_in, numbers_in}
-use Rattle.snapshots.specs.Finding.{place_of_snap}
+use Rattle.snapshot_list.specs.Numbers.{count_in, numbers_in}
+use Rattle.snapshot_list.specs.Finding.{place_of_snap}
 use Rattle.volume.specs.Leaving.{is_done_of, is_quiet_of}
-use Rattle.snapshots.specs.Starting.{starts}
+use Rattle.snapshot_list.specs.Starting.{starts}
 use Rattle.volume.specs.Submitting.{first_of_two, refusal_at, dev_refusal, shut_at, shut_refusal, range_refusal, limit_refusal, is_merging, is_piece_of, are_too_many, starting, submit_refusal}
 use Rattle.volume.proofs.Quieted.{quiet_done, quiet_flights}
 use Rattle.volume.proofs.Sums.{sum_cons}

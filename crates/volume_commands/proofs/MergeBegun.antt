@@ -8,14 +8,14 @@ use Rattle.std.proofs.lemmas.List.Quantifiers.{position-Some}
 use Rattle.device.specs.Layers.{Layer}
 use Rattle.sector.specs.declared.refusal.Refusal.{Refusal}
 use Rattle.sector.specs.declared.refusal.Refusal.TheVariants.{Invalid, JournalFull, NotQuiet}
-use Rattle.settled.specs.Merges.{begun as begun_in_big_steps}
+use Rattle.big_steps.specs.Merges.{begun as begun_in_big_steps}
 use Rattle.event_machine.specs.Merging.{begun as begun_in_events}
 use Rattle.event_machine.specs.MergeRest.{merged_of as merged_in_events, IsBetween}
 use Rattle.event_machine.proofs.MergeCommands.{begun_is}
 use Rattle.snapshot.specs.Kept.{Kept}
-use Rattle.snapshots.specs.Finding.{place_of_snap}
+use Rattle.snapshot_list.specs.Finding.{place_of_snap}
 use Rattle.merge.specs.Merging.{Merging}
-use Rattle.snapshots.specs.Keeping.{unkept, kept_back, kept_for}
+use Rattle.snapshot_list.specs.Keeping.{unkept, kept_back, kept_for}
 use Rattle.volume.specs.Volumed.{Volumed}
 use Rattle.volume.specs.Moved.{moving_of}
 use Rattle.volume.specs.Beginning.{begin_refusal, begin_with, merging_from, place_refusal, IsMergeBegun, IsNotBegun as IsNotBegunIn, SameButKept}

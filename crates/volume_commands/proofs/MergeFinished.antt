@@ -10,15 +10,15 @@ use Rattle.sector.specs.declared.refusal.Refusal.TheVariants.{NotFinished, NotQu
 use Rattle.device.specs.Layers.{Layer, is_loud}
 use Rattle.store_bytes.specs.Pairs.{pairs_of}
 use Rattle.volume_laws.proofs.Attaching.{picture_none}
-use Rattle.settled.specs.Snaps.{Volume}
-use Rattle.settled.specs.Merges.{Finished, Merge, Merged, finished, finished_by}
-use Rattle.settled.specs.MergeShown.{array_of, origin_shown}
+use Rattle.big_steps.specs.Snaps.{Volume}
+use Rattle.big_steps.specs.Merges.{Finished, Merge, Merged, finished, finished_by}
+use Rattle.big_steps.specs.MergeShown.{array_of, origin_shown}
 use Rattle.event_machine.specs.MergeRest.{merge_in, IsBetween}
 use Rattle.event_machine.specs.MergeSeen.{held_in, merge_held_of}
 use Rattle.snapshot.specs.declared.opening.StoreDev.{StoreDev}
 use Rattle.merge.specs.Due.{has_group_of, is_finished_of}
 use Rattle.merge.specs.Merging.{Merging, due_of as merging_due}
-use Rattle.snapshots.specs.Keeping.{unkept}
+use Rattle.snapshot_list.specs.Keeping.{unkept}
 use Rattle.volume.specs.Volumed.{Volumed, is_loud_in_all}
 use Rattle.volume.specs.Attached.{store_of}
 use Rattle.volume.specs.Finishing.{finish_refusal, finish_with, IsTakenOut}

@@ -5,12 +5,12 @@ use Rattle.std.proofs.lemmas.Bool.{false≢true}
 use Rattle.std.proofs.lemmas.List.{append-nil}
 use Rattle.device.specs.Bare.{is_bare}
 use Rattle.device.specs.Layers.{Layer}
-use Rattle.plain.specs.Replies.{reply_in}
-use Rattle.plain.specs.declared.event.Event.{Event}
-use Rattle.plain.specs.declared.event.Event.TheVariants.{MergeRead, MergeWrite}
-use Rattle.plain.specs.declared.event.Outcome.{Outcome}
-use Rattle.plain.specs.declared.event.Outcome.TheVariants.{Done}
-use Rattle.plain.specs.declared.request.Replied.{Replied}
+use Rattle.plain_machine.specs.Replies.{reply_in}
+use Rattle.plain_machine.specs.declared.event.Event.{Event}
+use Rattle.plain_machine.specs.declared.event.Event.TheVariants.{MergeRead, MergeWrite}
+use Rattle.plain_machine.specs.declared.event.Outcome.{Outcome}
+use Rattle.plain_machine.specs.declared.event.Outcome.TheVariants.{Done}
+use Rattle.plain_machine.specs.declared.request.Replied.{Replied}
 use Rattle.merge.specs.declared.group.Group.{Group}
 use Rattle.merge.specs.Due.{can_copy_of}
 use Rattle.merge.specs.Merging.{Merging}

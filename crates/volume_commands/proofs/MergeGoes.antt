@@ -2,11 +2,11 @@
 use Rattle.std.proofs.Common.{◌≡◌, inl, inr, ℕ, List, [], ◌∷◌, map, Option, Some, None, refl, sym, ◌∙◌, ap, subst}
 use Rattle.std.proofs.lemmas.Bool.{cases_Bool, cond-false}
 use Rattle.device.specs.Layers.{Layer}
-use Rattle.settled.specs.Snaps.{Snap, Volume}
-use Rattle.settled.specs.Shown.{ShowTheSame}
-use Rattle.settled.specs.Merges.{Merge, Merged, Merging, merge_all, merged, merged_by}
-use Rattle.settled.specs.MergeShown.{IsMerging, IsUnseen}
-use Rattle.settling.proofs.MergeEnds.{merge_unseen}
+use Rattle.big_steps.specs.Snaps.{Snap, Volume}
+use Rattle.big_steps.specs.Shown.{ShowTheSame}
+use Rattle.big_steps.specs.Merges.{Merge, Merged, Merging, merge_all, merged, merged_by}
+use Rattle.big_steps.specs.MergeShown.{IsMerging, IsUnseen}
+use Rattle.big_step_laws.proofs.MergeEnds.{merge_unseen}
 use Rattle.event_machine.specs.Held.{MergeHeld}
 use Rattle.event_machine.specs.MergeRest.{in_big_steps, merge_in}
 use Rattle.event_machine.specs.MergeSeen.{held_in}
@@ -21,7 +21,7 @@ use Rattle.volume_commands.proofs.Overflows.{overflows_of, merge_keeps}
 use Rattle.volume_commands.proofs.Parts.{kept_none}
 use Rattle.volume_commands.proofs.PlainReads.{IsUnder, under_by}
 use Rattle.volume_commands.proofs.Shown.{arrays_with, begun_with, seen}
-use Rattle.plain.specs.Plain.{Shown}
+use Rattle.plain_machine.specs.Plain.{Shown}
 
 -- nothing changed
 pub gone_none : (a : Shown) → IsGoneOn a a

@@ -3,14 +3,14 @@ use Rattle.std.proofs.Common.{◌≡◌, ℕ, false, List, ◌∷◌, length, ma
 use Rattle.std.specs.Prelude.{◌==◌, ◌&&◌, not}
 use Rattle.std.specs.List.{list_all}
 use Rattle.device.specs.Layers.{Layer}
-use Rattle.settled.specs.Merges.{resumed as resumed_in_big_steps, resumed_by}
+use Rattle.big_steps.specs.Merges.{resumed as resumed_in_big_steps, resumed_by}
 use Rattle.event_machine.specs.Held.{MergeHeld, Moving, with_merge}
 use Rattle.event_machine.specs.Merging.{resumed as resumed_in_events}
 use Rattle.event_machine.specs.MergeRest.{merge_in, merged_of as merged_in_events}
 use Rattle.event_machine.specs.Requests.{volume_of}
 use Rattle.event_machine.specs.Stepping.{for_some}
 use Rattle.snapshot.specs.Kept.{Kept}
-use Rattle.snapshots.specs.Numbers.{number_of_snap}
+use Rattle.snapshot_list.specs.Numbers.{number_of_snap}
 use Rattle.volume.specs.Volumed.{Volumed, is_loud_in_all}
 use Rattle.volume.specs.Moved.{moving_of}
 use Rattle.volume.specs.Beginning.{IsResumed}

@@ -5,8 +5,8 @@ use Rattle.std.specs.List.{list_any}
 use Rattle.std.proofs.lemmas.Bool.{cond-false, eqb-true, not-false, or_parts, true≢false}
 use Rattle.std.proofs.lemmas.List.{length-map}
 use Rattle.device.specs.Layers.{Layer}
-use Rattle.plain.specs.declared.event.Event.{Event}
-use Rattle.plain.specs.declared.event.Event.TheVariants.{Issue, CopyRead, CopyWrite, WriteArea, Publish, FlushStore}
+use Rattle.plain_machine.specs.declared.event.Event.{Event}
+use Rattle.plain_machine.specs.declared.event.Event.TheVariants.{Issue, CopyRead, CopyWrite, WriteArea, Publish, FlushStore}
 use Rattle.in_flight.specs.declared.copies.ChunkCopy.{ChunkCopy}
 use Rattle.in_flight.specs.declared.copies.Mark.{Mark}
 use Rattle.in_flight.specs.declared.copies.Stage.{Stage}
@@ -14,14 +14,14 @@ use Rattle.in_flight.specs.declared.copies.Stage.TheVariants.{Waiting, Read, Wri
 use Rattle.in_flight.specs.declared.flights.Flight.{Flight}
 use Rattle.in_flight.specs.Due.{first_by, is_copy_at, is_issuable as is_issuable_in, is_stage, least, number_of_copy, number_of_flight, number_of_mark}
 use Rattle.volume_laws.specs.Due.{copy_of, event_or, is_unsafe, least_of}
-use Rattle.settled.proofs.Each.{Each, each_weaker}
+use Rattle.big_steps.proofs.Each.{Each, each_weaker}
 use Rattle.event_machine.specs.Held.{Copying, SnapHeld, Moving, number_of}
 use Rattle.event_machine.specs.Due.{can_mark, can_flush_store, can_commit, can_zero, copy_at, is_at, is_front_ready, is_front_unflushed, needs_area, waits_for_area, publishable_in, is_issuable, is_publishable, least_in, number_of_copying, number_of_going, due}
 use Rattle.event_machine.specs.Seen.{copying_of, going_of}
 use Rattle.event_machine.specs.Stepping.{stepped}
 use Rattle.event_machine.proofs.Lists.{nowhere_by, nowhere_least}
 use Rattle.snapshot.specs.Kept.{Kept, due_of_kept}
-use Rattle.snapshots.specs.Busy.{is_begun, is_busy, waiting_due}
+use Rattle.snapshot_list.specs.Busy.{is_begun, is_busy, waiting_due}
 use Rattle.volume.specs.EventKinds.{is_of_merge}
 use Rattle.volume.specs.Moved.{held_of}
 use Rattle.volume_commands.specs.Following.{StandsAt}

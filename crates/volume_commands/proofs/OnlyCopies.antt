@@ -7,7 +7,7 @@ use Rattle.std.proofs.lemmas.List.Folds.{list_any_at}
 use Rattle.std.proofs.lemmas.List.Quantifiers.{position-Some}
 use Rattle.in_flight.specs.declared.copies.Stage.TheVariants.{Read}
 use Rattle.snapshot.specs.Kept.{Kept}
-use Rattle.snapshots.specs.Finding.{has_copy_at, is_copy_of}
+use Rattle.snapshot_list.specs.Finding.{has_copy_at, is_copy_of}
 use Rattle.volume_commands.specs.Following.{is_alone}
 
 -- what is found is there

@@ -4,15 +4,15 @@ use Rattle.std.specs.Prelude.{AllPairs, Some, None}
 use Rattle.std.specs.List.{All}
 use Rattle.device.specs.Layers.{Layer}
 use Rattle.chunk.specs.Sizes.{is_chunk}
-use Rattle.settled.specs.Merges.{Merged}
-use Rattle.settled.specs.MergeShown.{IsMerging, IsWell as IsOrderly}
-use Rattle.settled.proofs.Each.{Each, all_from}
-use Rattle.settled.proofs.Chunks.{HasChunks}
-use Rattle.settled.specs.Beside.{chunk_beside}
+use Rattle.big_steps.specs.Merges.{Merged}
+use Rattle.big_steps.specs.MergeShown.{IsMerging, IsWell as IsOrderly}
+use Rattle.big_steps.proofs.Each.{Each, all_from}
+use Rattle.big_steps.proofs.Chunks.{HasChunks}
+use Rattle.big_steps.specs.Beside.{chunk_beside}
 use Rattle.event_machine.specs.Held.{MergeHeld}
 use Rattle.event_machine.specs.MergeRest.{IsBetween, in_big_steps}
 use Rattle.snapshot.specs.Kept.{Kept}
-use Rattle.snapshots.specs.Numbers.{number_of_snap}
+use Rattle.snapshot_list.specs.Numbers.{number_of_snap}
 use Rattle.volume.specs.Volumed.{Volumed, piece_with}
 use Rattle.volume.specs.Moved.{moving_of}
 use Rattle.volume_commands.specs.Rested.{rested_of, merged_of, attached_of, snap_of}

@@ -10,14 +10,14 @@ use Rattle.device.specs.declared.operation.Operation.TheVariants.{Reads}
 use Rattle.store_bytes.specs.Places.{area_place}
 use Rattle.store_bytes.specs.Pairs.{pairs_of}
 use Rattle.store_bytes.specs.Picture.{place_of}
-use Rattle.plain.specs.declared.request.Overflowing.{Overflowing}
-use Rattle.settled.specs.Devices.{Device, answers}
-use Rattle.settled.specs.Snaps.{Snap, Volume}
-use Rattle.settled.specs.Saving.{Saving, next_place, is_full, has_chunk, save}
-use Rattle.settled.specs.Pieces.{save_all, save_at, write_place, write_saved, Answered}
-use Rattle.settled.specs.Merges.{Merge, Merging, sectors_in, write_disk, read_then, next_over, saved_round, saved_rounds, saved_over, copy_back, copy_all, group_of, flush, clear_slots, merge_group, read_before, in_area, merge_step, merge_steps, merge_all}
-use Rattle.settled.proofs.Saves.{saves_nothing, saves_full, saves_copy, chunk_read}
-use Rattle.settled.proofs.Keeps.{copy_keeps}
+use Rattle.plain_machine.specs.declared.request.Overflowing.{Overflowing}
+use Rattle.big_steps.specs.Devices.{Device, answers}
+use Rattle.big_steps.specs.Snaps.{Snap, Volume}
+use Rattle.big_steps.specs.Saving.{Saving, next_place, is_full, has_chunk, save}
+use Rattle.big_steps.specs.Pieces.{save_all, save_at, write_place, write_saved, Answered}
+use Rattle.big_steps.specs.Merges.{Merge, Merging, sectors_in, write_disk, read_then, next_over, saved_round, saved_rounds, saved_over, copy_back, copy_all, group_of, flush, clear_slots, merge_group, read_before, in_area, merge_step, merge_steps, merge_all}
+use Rattle.big_steps.proofs.Saves.{saves_nothing, saves_full, saves_copy, chunk_read}
+use Rattle.big_steps.proofs.Keeps.{copy_keeps}
 
 -- of all snapshots
 abbrev pub overflows_of : List Snap → List Overflowing

@@ -5,11 +5,11 @@ use Rattle.std.proofs.Math.Seq.{take-append-add, drop-append-add, take-append_se
 use Rattle.std.proofs.lemmas.List.{drop-drop, append_assoc, take-append-drop}
 use Rattle.std.proofs.lemmas.Bool.{cases_Bool, cond-true, cond-false}
 use Rattle.sector.specs.Bytes.{with_sectors}
-use Rattle.plain.specs.Plain.{Saved, Live, Invalid, Entry, marked_in, overflow_under, Shown}
-use Rattle.plain.specs.declared.request.Dev.{Dev}
-use Rattle.plain.specs.declared.request.Dev.TheVariants.{Origin, Snap as ToSnap}
-use Rattle.plain.specs.declared.request.Overflowing.{Overflowing}
-use Rattle.plain.specs.declared.request.Overflowing.TheVariants.{Did}
+use Rattle.plain_machine.specs.Plain.{Saved, Live, Invalid, Entry, marked_in, overflow_under, Shown}
+use Rattle.plain_machine.specs.declared.request.Dev.{Dev}
+use Rattle.plain_machine.specs.declared.request.Dev.TheVariants.{Origin, Snap as ToSnap}
+use Rattle.plain_machine.specs.declared.request.Overflowing.{Overflowing}
+use Rattle.plain_machine.specs.declared.request.Overflowing.TheVariants.{Did}
 use Rattle.volume_commands.specs.Showing.{saved_at, saved_of, with_bytes, changed_at, AreKept, IsWritten, IsLost}
 
 -- runs of sectors that are written one after the other are one

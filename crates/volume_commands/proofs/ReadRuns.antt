@@ -1,15 +1,15 @@
 -- The pieces of a read, one after the other, whether a merge is begun or not.
 use Rattle.std.proofs.Common.{◌≡◌, ℕ, ◌+◌, ◌<◌, List, [], ◌∷◌, ◌++◌, Option, Some, None, length, take, refl, ap, ◌∙◌, sym, arith, length-append}
 use Rattle.chunk.specs.Pieces.{Span}
-use Rattle.plain.specs.declared.request.Dev.{Dev}
-use Rattle.plain.specs.declared.request.Reply.{Reply}
-use Rattle.plain.specs.declared.request.Reply.TheVariants.{Data, Written, Flushed, Refused}
-use Rattle.plain.specs.declared.request.Failure.{Failure}
-use Rattle.settled.specs.Snaps.{Volume}
-use Rattle.settled.specs.Pieces.{Answered}
-use Rattle.settled.specs.Commands.{go_on, bytes_in, read_piece, read_pieces}
-use Rattle.settled.specs.Merges.{Merge, Merged, Merging, read_part, read_parts}
-use Rattle.settled.specs.Beside.{alone, beside, served, served_by}
+use Rattle.plain_machine.specs.declared.request.Dev.{Dev}
+use Rattle.plain_machine.specs.declared.request.Reply.{Reply}
+use Rattle.plain_machine.specs.declared.request.Reply.TheVariants.{Data, Written, Flushed, Refused}
+use Rattle.plain_machine.specs.declared.request.Failure.{Failure}
+use Rattle.big_steps.specs.Snaps.{Volume}
+use Rattle.big_steps.specs.Pieces.{Answered}
+use Rattle.big_steps.specs.Commands.{go_on, bytes_in, read_piece, read_pieces}
+use Rattle.big_steps.specs.Merges.{Merge, Merged, Merging, read_part, read_parts}
+use Rattle.big_steps.specs.Beside.{alone, beside, served, served_by}
 use Rattle.volume_commands.specs.Serving.{IsGood, part_read}
 use Rattle.volume_commands.proofs.WriteRuns.{answer, alone_goes, beside_goes, take_front, joined, ends}
 

@@ -4,16 +4,16 @@ use Rattle.std.specs.Prelude.{◌&&◌, not, IfSome}
 use Rattle.std.specs.List.{list_all}
 use Rattle.sector.specs.declared.refusal.Refusal.{Refusal}
 use Rattle.sector.specs.declared.refusal.Refusal.TheVariants.{Invalid, Overflow}
-use Rattle.settled.specs.Refusals.{is_starved}
-use Rattle.settled.proofs.Starved.{memory_starved}
+use Rattle.big_steps.specs.Refusals.{is_starved}
+use Rattle.big_steps.proofs.Starved.{memory_starved}
 use Rattle.device.specs.Layers.{Layer}
-use Rattle.plain.specs.declared.request.Overflowing.TheVariants.{Did}
-use Rattle.plain.specs.declared.request.Request.{Request}
+use Rattle.plain_machine.specs.declared.request.Overflowing.TheVariants.{Did}
+use Rattle.plain_machine.specs.declared.request.Request.{Request}
 use Rattle.snapshot.specs.Kept.{Kept}
 use Rattle.volume.specs.Volumed.{Volumed}
 use Rattle.volume.specs.Leaving.{has_group_in, is_done_of, is_quiet_of}
-use Rattle.snapshots.specs.Finding.{place_of_snap}
-use Rattle.snapshots.specs.Starting.{unroomed}
+use Rattle.snapshot_list.specs.Finding.{place_of_snap}
+use Rattle.snapshot_list.specs.Starting.{unroomed}
 use Rattle.volume.specs.Asking.{merging_number}
 use Rattle.volume.specs.Submitting.{SameButRoom, IsOverflown, IsRefusedAs}
 use Rattle.volume_commands.specs.Declined.{IsUnsent}

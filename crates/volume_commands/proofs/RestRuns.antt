@@ -4,11 +4,11 @@ use Rattle.std.proofs.lemmas.List.{append_assoc, append-nil, take_all}
 use Rattle.sector.specs.declared.refusal.Refusal.{Refusal}
 use Rattle.device.specs.Layers.{Layer}
 use Rattle.chunk.specs.Pieces.{Span}
-use Rattle.plain.specs.declared.request.Dev.{Dev}
-use Rattle.plain.specs.declared.request.Op.{Op}
-use Rattle.plain.specs.declared.request.Op.TheVariants.{Read, Write}
-use Rattle.plain.specs.declared.request.Reply.{Reply}
-use Rattle.settled.specs.Commands.{bytes_in}
+use Rattle.plain_machine.specs.declared.request.Dev.{Dev}
+use Rattle.plain_machine.specs.declared.request.Op.{Op}
+use Rattle.plain_machine.specs.declared.request.Op.TheVariants.{Read, Write}
+use Rattle.plain_machine.specs.declared.request.Reply.{Reply}
+use Rattle.big_steps.specs.Commands.{bytes_in}
 use Rattle.volume.specs.Volumed.{Volumed}
 use Rattle.volume_commands.specs.Among.{sectors_of}
 use Rattle.volume_commands.specs.AtRest.{AreReadAtRest, AreWrittenAtRest, IsPieceAnswered, IsPieceUndone, IsReadCut, IsReadUndone, IsWriteCut}

@@ -4,23 +4,23 @@ use Rattle.std.specs.Prelude.{◌==◌, ◌&&◌, min}
 use Rattle.std.specs.List.{list_all, list_any}
 use Rattle.std.proofs.lemmas.List.{length-map}
 use Rattle.device.specs.Layers.{Layer, is_loud}
-use Rattle.plain.specs.declared.request.Dev.{Dev}
-use Rattle.plain.specs.declared.request.Dev.TheVariants.{Origin, Snap as ToSnap}
-use Rattle.plain.specs.declared.request.Reply.{Reply}
-use Rattle.settled.specs.Snaps.{Snap, Volume}
+use Rattle.plain_machine.specs.declared.request.Dev.{Dev}
+use Rattle.plain_machine.specs.declared.request.Dev.TheVariants.{Origin, Snap as ToSnap}
+use Rattle.plain_machine.specs.declared.request.Reply.{Reply}
+use Rattle.big_steps.specs.Snaps.{Snap, Volume}
 use Rattle.event_machine.specs.Held.{SnapHeld}
 use Rattle.event_machine.specs.MergeRest.{merge_in, merged_of as merged_in_events}
 use Rattle.event_machine.specs.Requests.{volume_of}
-use Rattle.settled.specs.Merges.{Merged}
+use Rattle.big_steps.specs.Merges.{Merged}
 use Rattle.snapshot.specs.Kept.{Kept}
 use Rattle.merge.specs.Merging.{Merging}
 use Rattle.volume.specs.Asking.{merging_number}
 use Rattle.volume.specs.Volumed.{Volumed, is_loud_in_all, piece_of, piece_with, is_loud_with}
 use Rattle.volume.specs.Moved.{device_of, held_of, moving_of}
-use Rattle.snapshots.specs.Numbers.{number_of_snap}
+use Rattle.snapshot_list.specs.Numbers.{number_of_snap}
 use Rattle.volume.specs.Causes.{counts_of, counts_with}
-use Rattle.snapshots.specs.Finding.{place_of_snap}
-use Rattle.snapshots.proofs.Finds.{any_of, position_none, position_any}
+use Rattle.snapshot_list.specs.Finding.{place_of_snap}
+use Rattle.snapshot_list.proofs.Finds.{any_of, position_none, position_any}
 use Rattle.volume.proofs.Relayered.{map_twice}
 use Rattle.volume_commands.specs.Rested.{Attached, Rested, attached_of, rested_of, snap_of, settled_of, merged_of as merged_at, is_loud_in, has_number, has_dev, numbers_of, chunks_of, sizes_of}
 use Rattle.volume_commands.specs.Kept.{KeepsDevices}

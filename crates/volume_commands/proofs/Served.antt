@@ -5,16 +5,16 @@ use Rattle.std.specs.List.{All}
 use Rattle.std.proofs.lemmas.List.Elements.{All-nil, All-cons, All-head, All-tail}
 use Rattle.device.specs.Layers.{Layer}
 use Rattle.sector.specs.declared.range.Range.{Range}
-use Rattle.plain.specs.declared.request.Request.{Request}
-use Rattle.plain.specs.declared.request.Reply.{Reply}
+use Rattle.plain_machine.specs.declared.request.Request.{Request}
+use Rattle.plain_machine.specs.declared.request.Reply.{Reply}
 use Rattle.chunk.specs.Sizes.{is_chunk}
 use Rattle.chunk.specs.Pieces.{span_of, IsInOneChunk}
-use Rattle.settled.specs.Merges.{Merged, Merging, merged_of as in_one}
-use Rattle.settled.specs.MergeShown.{IsMerging}
-use Rattle.settled.specs.Snaps.{Snap, Volume}
-use Rattle.settled.specs.Pieces.{Answered}
-use Rattle.settled.specs.Requests.{answer_of}
-use Rattle.settled.specs.Beside.{served_by}
+use Rattle.big_steps.specs.Merges.{Merged, Merging, merged_of as in_one}
+use Rattle.big_steps.specs.MergeShown.{IsMerging}
+use Rattle.big_steps.specs.Snaps.{Snap, Volume}
+use Rattle.big_steps.specs.Pieces.{Answered}
+use Rattle.big_steps.specs.Requests.{answer_of}
+use Rattle.big_steps.specs.Beside.{served_by}
 use Rattle.event_machine.specs.Held.{MergeHeld, Moving}
 use Rattle.event_machine.specs.Due.{due}
 use Rattle.event_machine.specs.MergeRest.{IsBetween, merge_in, in_big_steps}
@@ -24,8 +24,8 @@ use Rattle.event_machine.specs.Requests.{volume_of, IsInChunk, IsFit}
 use Rattle.event_machine.specs.Settles.{SettlesTo}
 use Rattle.event_machine.specs.Submitting.{submitted}
 use Rattle.event_machine.proofs.MergeCommands.{alone_between, merged_between}
-use Rattle.settling.proofs.Requests.{request_settles}
-use Rattle.settling.proofs.PartsSettle.{part_settles}
+use Rattle.big_step_laws.proofs.Requests.{request_settles}
+use Rattle.big_step_laws.proofs.PartsSettle.{part_settles}
 use Rattle.snapshot.specs.Kept.{Kept}
 use Rattle.merge.specs.Merging.{Merging as MergingKept}
 use Rattle.volume.specs.Volumed.{Volumed, piece_with}

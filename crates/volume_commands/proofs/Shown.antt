@@ -3,14 +3,14 @@ use Rattle.std.proofs.Common.{◌≡◌, ℕ, List, Option, Some, None, refl, sy
 use Rattle.device.specs.Layers.{Layer}
 use Rattle.event_machine.specs.MergeRest.{merge_in}
 use Rattle.event_machine.specs.MergeSeen.{held_in}
-use Rattle.settled.specs.Merges.{Merged, Merge}
-use Rattle.settled.specs.MergeShown.{origin_shown}
+use Rattle.big_steps.specs.Merges.{Merged, Merge}
+use Rattle.big_steps.specs.MergeShown.{origin_shown}
 use Rattle.merge.specs.Merging.{Merging}
 use Rattle.volume.specs.Moved.{merge_seen}
 use Rattle.volume.specs.Shown.{shown_origin, shown_begun}
 use Rattle.volume_commands.specs.Rested.{Rested, merged_of, settled_of}
 use Rattle.volume_commands.specs.Showing.{arrays_of, arrays_in}
-use Rattle.plain.specs.Plain.{Shown}
+use Rattle.plain_machine.specs.Plain.{Shown}
 
 abbrev pub begun_with : Option Merge → Option ℕ
 begun_with None = None

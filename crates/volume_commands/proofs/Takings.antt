@@ -8,18 +8,18 @@ use Rattle.device.specs.Layers.{Layer}
 use Rattle.merge.specs.Merging.{Merging}
 use Rattle.sector.specs.declared.refusal.Refusal.{Refusal}
 use Rattle.sector.specs.declared.refusal.Refusal.TheVariants.{Invalid, JournalFull, NotQuiet}
-use Rattle.plain.specs.Plain.{may_overflow}
-use Rattle.plain.specs.declared.event.Event.{Event}
-use Rattle.plain.specs.declared.event.NotDue.{NotDue}
-use Rattle.plain.specs.declared.event.Outcome.{Outcome}
-use Rattle.plain.specs.declared.request.Overflowing.{Overflowing}
-use Rattle.plain.specs.declared.request.Overflowing.TheVariants.{Did, May, Never}
-use Rattle.plain.specs.declared.request.Request.{Request}
-use Rattle.settled.specs.Refusals.{IsStarved}
+use Rattle.plain_machine.specs.Plain.{may_overflow}
+use Rattle.plain_machine.specs.declared.event.Event.{Event}
+use Rattle.plain_machine.specs.declared.event.NotDue.{NotDue}
+use Rattle.plain_machine.specs.declared.event.Outcome.{Outcome}
+use Rattle.plain_machine.specs.declared.request.Overflowing.{Overflowing}
+use Rattle.plain_machine.specs.declared.request.Overflowing.TheVariants.{Did, May, Never}
+use Rattle.plain_machine.specs.declared.request.Request.{Request}
+use Rattle.big_steps.specs.Refusals.{IsStarved}
 use Rattle.snapshot.specs.Kept.{Kept}
 use Rattle.snapshot.specs.declared.opening.StoreDev.{StoreDev}
-use Rattle.snapshots.specs.Finding.{place_of_snap}
-use Rattle.snapshots.specs.Starting.{spoilt_of}
+use Rattle.snapshot_list.specs.Finding.{place_of_snap}
+use Rattle.snapshot_list.specs.Starting.{spoilt_of}
 use Rattle.volume.specs.Attached.{IsGained}
 use Rattle.volume.specs.Beginning.{IsMergeBegun, IsNotBegun, begin_refusal, begin_with, place_refusal}
 use Rattle.volume.specs.Causes.{lives_of}
@@ -31,9 +31,9 @@ use Rattle.volume.specs.Volumed.{Volumed}
 use Rattle.volume.proofs.FewerLives.{roomed_lives, set_own}
 use Rattle.volume.proofs.Named.{found_within}
 use Rattle.volume.proofs.Savings.{overflows_live}
-use Rattle.journal.specs.Noted.{live_count, may_count, mays_of}
-use Rattle.journal.proofs.Lives.{begun_lives, finished_lives, gained_lives, mays_by}
-use Rattle.journal.proofs.Mays.{may_marked}
+use Rattle.audit.specs.Noted.{live_count, may_count, mays_of}
+use Rattle.audit.proofs.Lives.{begun_lives, finished_lives, gained_lives, mays_by}
+use Rattle.audit.proofs.Mays.{may_marked}
 use Rattle.volume_commands.specs.Places.{Counted, counted_with, kept_for_marks, kept_for_snaps}
 use Rattle.volume_commands.specs.TakesPlaces.{TakesByRequests, TakesPlaces, did_count, places_of_marks}
 use Rattle.volume_commands.proofs.Fewer.{alike_marks, roomed_mays, roomed_overflows, unbegun_marks}

@@ -7,23 +7,23 @@ use Rattle.device.specs.Layers.{Layer}
 use Rattle.layers.specs.declared.message.Answer.{Answer}
 use Rattle.layers.specs.declared.message.Message.{Message}
 use Rattle.layers.specs.Messages.{Told, Answered, Refused, NeedsRoom, answer_of, told}
-use Rattle.plain.specs.declared.request.Dev.TheVariants.{Origin, Snap as ToSnap}
-use Rattle.settled.specs.Devices.{Device}
-use Rattle.settled.specs.Snaps.{Snap, Volume}
+use Rattle.plain_machine.specs.declared.request.Dev.TheVariants.{Origin, Snap as ToSnap}
+use Rattle.big_steps.specs.Devices.{Device}
+use Rattle.big_steps.specs.Snaps.{Snap, Volume}
 use Rattle.event_machine.specs.MergeRest.{merge_in}
 use Rattle.event_machine.specs.MergeSeen.{held_in, merge_held_of}
 use Rattle.event_machine.specs.Requests.{volume_of}
-use Rattle.settled.specs.Merges.{Merge, Merged}
-use Rattle.settled.specs.MergedMoments.{store_relayered as merging_store_relayered}
+use Rattle.big_steps.specs.Merges.{Merge, Merged}
+use Rattle.big_steps.specs.MergedMoments.{store_relayered as merging_store_relayered}
 use Rattle.merge.specs.Merging.{Merging, due_of as merging_due}
-use Rattle.settled.specs.Moments.{store_relayered}
+use Rattle.big_steps.specs.Moments.{store_relayered}
 use Rattle.snapshot.specs.Kept.{Kept}
 use Rattle.volume.specs.Volumed.{Volumed}
-use Rattle.snapshots.specs.Finding.{place_of_snap}
+use Rattle.snapshot_list.specs.Finding.{place_of_snap}
 use Rattle.volume.specs.Layering.{Measures}
 use Rattle.volume.specs.Moved.{device_of, merge_seen, moving_of}
 use Rattle.volume.specs.Telling.{layers_left, layers_told, IsTold, IsNotTold, IsRelayeredAt}
-use Rattle.snapshots.proofs.Finds.{position_within}
+use Rattle.snapshot_list.proofs.Finds.{position_within}
 use Rattle.volume.proofs.Told.{merging_told, relayered_there, snap_told, untold_moving}
 use Rattle.volume_commands.specs.Rested.{Attached, attached_of, rested_of, snap_of, settled_of, merged_of}
 use Rattle.volume_commands.specs.Telling.{place_relayered, IsOriginTold, IsStoreTold, IsTellRefused, IsMergingTold, IsMergingUntold}

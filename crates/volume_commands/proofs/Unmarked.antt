@@ -7,11 +7,11 @@ use Rattle.std.proofs.lemmas.Bool.{cases_Bool, cond-true, cond-false, not-false,
 use Rattle.sector.specs.Bytes.{sectors_at, with_sectors}
 use Rattle.device.specs.declared.operation.Operation.{Operation}
 use Rattle.device.specs.declared.operation.Operation.TheVariants.{Reads, Writes, Flushes}
-use Rattle.plain.specs.declared.event.Event.TheVariants.{CopyRead, CopyWrite, WriteArea, Publish, FlushStore}
-use Rattle.plain.specs.declared.request.Dev.{Dev}
-use Rattle.plain.specs.declared.request.Dev.TheVariants.{Origin as ToOrigin, Snap as ToSnap}
-use Rattle.plain.specs.declared.request.Op.{Op}
-use Rattle.plain.specs.declared.request.Op.TheVariants.{Read as ReadOp, Write as WriteOp, Flush as FlushOp}
+use Rattle.plain_machine.specs.declared.event.Event.TheVariants.{CopyRead, CopyWrite, WriteArea, Publish, FlushStore}
+use Rattle.plain_machine.specs.declared.request.Dev.{Dev}
+use Rattle.plain_machine.specs.declared.request.Dev.TheVariants.{Origin as ToOrigin, Snap as ToSnap}
+use Rattle.plain_machine.specs.declared.request.Op.{Op}
+use Rattle.plain_machine.specs.declared.request.Op.TheVariants.{Read as ReadOp, Write as WriteOp, Flush as FlushOp}
 use Rattle.in_flight.specs.declared.copies.Mark.{Mark}
 use Rattle.in_flight.specs.declared.copies.Stage.TheVariants.{Waiting, Read, Written}
 use Rattle.in_flight.specs.declared.flights.Route.{Route}
@@ -22,8 +22,8 @@ use Rattle.in_flight.specs.Kinds.{kind_at, kind_of}
 use Rattle.in_flight.specs.Routes.{reads_origin_of}
 use Rattle.store_bytes.specs.Places.{area_place}
 use Rattle.volume_laws.specs.Due.{is_unsafe}
-use Rattle.settled.specs.Devices.{sectors_of, answers, met, written_by}
-use Rattle.settled.proofs.Each.{Each, each_weaker}
+use Rattle.big_steps.specs.Devices.{sectors_of, answers, met, written_by}
+use Rattle.big_steps.proofs.Each.{Each, each_weaker}
 use Rattle.event_machine.specs.Held.{Copying, SnapHeld, Going, Moving, number_of, with_store, spoiled, flushed_copying, flushed_held}
 use Rattle.event_machine.specs.Due.{batch_of, filled_of, can_mark, can_flush_store, can_commit, can_zero, copy_at, is_front_ready, is_front_unflushed, needs_area, waits_for_area, is_reading, publishable_in, is_publishable, least_in, due}
 use Rattle.event_machine.specs.Stepping.{for_some, first_that, with_first, without_first, put, spoil, store_write, read_copy, write_copy, pair_of, mark_of, all_paired, commit, flush_store, publish, publishes, is_copy, stepped}

@@ -4,12 +4,12 @@ use Rattle.sector.specs.declared.range.Range.{Range}
 use Rattle.sector.specs.declared.refusal.Refusal.{Refusal}
 use Rattle.device.specs.Layers.{Layer}
 use Rattle.chunk.specs.Pieces.{Span, span_of, pieces_of}
-use Rattle.plain.specs.declared.request.Dev.{Dev}
-use Rattle.plain.specs.declared.request.Reply.TheVariants.{Written}
-use Rattle.settled.specs.Snaps.{Volume}
-use Rattle.settled.specs.Commands.{write_pieces, written}
-use Rattle.settled.specs.Merges.{Merge, Merged, write_parts, written_through}
-use Rattle.settled.specs.Beside.{served_by, chunk_by, chunk_beside, written_beside, written_first_beside}
+use Rattle.plain_machine.specs.declared.request.Dev.{Dev}
+use Rattle.plain_machine.specs.declared.request.Reply.TheVariants.{Written}
+use Rattle.big_steps.specs.Snaps.{Volume}
+use Rattle.big_steps.specs.Commands.{write_pieces, written}
+use Rattle.big_steps.specs.Merges.{Merge, Merged, write_parts, written_through}
+use Rattle.big_steps.specs.Beside.{served_by, chunk_by, chunk_beside, written_beside, written_first_beside}
 use Rattle.volume.specs.Volumed.{Volumed}
 use Rattle.volume_commands.specs.Rested.{rested_of, merged_of, IsSettled, has_dev}
 use Rattle.volume_commands.specs.Commands.{IsDoneBy, IsWriteRefused}

@@ -5,21 +5,21 @@ use Rattle.sector.specs.declared.refusal.Refusal.{Refusal}
 use Rattle.sector.specs.declared.refusal.Refusal.TheVariants.{NoSuchDevice, NoMemory, Invalid as InvalidRefusal}
 use Rattle.device.specs.Layers.{Layer}
 use Rattle.chunk.specs.Pieces.{Span, span_of, pieces_of}
-use Rattle.plain.specs.declared.request.Dev.{Dev}
-use Rattle.plain.specs.declared.request.Dev.TheVariants.{Origin, Snap as ToSnap}
-use Rattle.plain.specs.declared.request.Op.{Op}
-use Rattle.plain.specs.declared.request.Op.TheVariants.{Read, Write, Flush}
-use Rattle.plain.specs.declared.request.Reply.{Reply}
-use Rattle.plain.specs.declared.request.Reply.TheVariants.{Refused}
-use Rattle.plain.specs.declared.request.Failure.{Failure}
-use Rattle.plain.specs.declared.request.Request.{Request}
-use Rattle.settled.specs.Commands.{bytes_in}
-use Rattle.settled.specs.Refusals.{is_starved}
+use Rattle.plain_machine.specs.declared.request.Dev.{Dev}
+use Rattle.plain_machine.specs.declared.request.Dev.TheVariants.{Origin, Snap as ToSnap}
+use Rattle.plain_machine.specs.declared.request.Op.{Op}
+use Rattle.plain_machine.specs.declared.request.Op.TheVariants.{Read, Write, Flush}
+use Rattle.plain_machine.specs.declared.request.Reply.{Reply}
+use Rattle.plain_machine.specs.declared.request.Reply.TheVariants.{Refused}
+use Rattle.plain_machine.specs.declared.request.Failure.{Failure}
+use Rattle.plain_machine.specs.declared.request.Request.{Request}
+use Rattle.big_steps.specs.Commands.{bytes_in}
+use Rattle.big_steps.specs.Refusals.{is_starved}
 use Rattle.volume.specs.Volumed.{Volumed, piece_with}
 use Rattle.volume.specs.Submitting.{IsAcceptedAs, IsRefusedAs}
-use Rattle.plain.specs.declared.request.Replied.{Replied}
+use Rattle.plain_machine.specs.declared.request.Replied.{Replied}
 use Rattle.volume_commands.specs.Rested.{Attached, Rested, rested_of, has_dev}
-use Rattle.plain.specs.Failures.{refusal_of}
+use Rattle.plain_machine.specs.Failures.{refusal_of}
 use Rattle.volume_commands.specs.Serving.{IsGood}
 use Rattle.volume_commands.specs.Draining.{IsDrainedApart, IsAnsweredAmong, is_idle_of}
 

@@ -5,23 +5,23 @@ use Rattle.sector.specs.declared.refusal.Refusal.{Refusal}
 use Rattle.sector.specs.declared.refusal.Refusal.TheVariants.{NoMemory}
 use Rattle.device.specs.Layers.{Layer}
 use Rattle.chunk.specs.Pieces.{Span}
-use Rattle.plain.specs.declared.event.Event.{Event}
-use Rattle.plain.specs.declared.event.Outcome.{Outcome}
-use Rattle.plain.specs.declared.event.Outcome.TheVariants.{Reply as Replies, Done, Fault}
-use Rattle.plain.specs.declared.request.Dev.{Dev}
-use Rattle.plain.specs.declared.request.Op.{Op}
-use Rattle.plain.specs.declared.request.Op.TheVariants.{Read, Write, Flush}
-use Rattle.plain.specs.declared.request.Reply.{Reply}
-use Rattle.plain.specs.declared.request.Reply.TheVariants.{Refused}
-use Rattle.plain.specs.declared.request.Failure.{Failure}
-use Rattle.plain.specs.declared.request.Failure.TheVariants.{Invalid}
-use Rattle.plain.specs.declared.request.Request.{Request}
-use Rattle.plain.specs.Failures.{refusal_of}
-use Rattle.plain.specs.Legal.{IsLegalStep}
+use Rattle.plain_machine.specs.declared.event.Event.{Event}
+use Rattle.plain_machine.specs.declared.event.Outcome.{Outcome}
+use Rattle.plain_machine.specs.declared.event.Outcome.TheVariants.{Reply as Replies, Done, Fault}
+use Rattle.plain_machine.specs.declared.request.Dev.{Dev}
+use Rattle.plain_machine.specs.declared.request.Op.{Op}
+use Rattle.plain_machine.specs.declared.request.Op.TheVariants.{Read, Write, Flush}
+use Rattle.plain_machine.specs.declared.request.Reply.{Reply}
+use Rattle.plain_machine.specs.declared.request.Reply.TheVariants.{Refused}
+use Rattle.plain_machine.specs.declared.request.Failure.{Failure}
+use Rattle.plain_machine.specs.declared.request.Failure.TheVariants.{Invalid}
+use Rattle.plain_machine.specs.declared.request.Request.{Request}
+use Rattle.plain_machine.specs.Failures.{refusal_of}
+use Rattle.plain_machine.specs.Legal.{IsLegalStep}
 use Rattle.in_flight.specs.Kinds.{in_flight}
 use Rattle.event_machine.specs.Submitting.{submitted}
-use Rattle.settled.specs.Commands.{bytes_in}
-use Rattle.settled.specs.Refusals.{IsStarved, is_starved}
+use Rattle.big_steps.specs.Commands.{bytes_in}
+use Rattle.big_steps.specs.Refusals.{IsStarved, is_starved}
 use Rattle.volume.specs.Causes.{HasCause}
 use Rattle.volume.specs.Exact.{IsExact}
 use Rattle.volume.specs.Flying.{Fits, IsFlown}

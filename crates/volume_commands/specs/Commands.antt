@@ -1,20 +1,20 @@
 -- When a command on a device is refused, and what it leaves: this project's own. What it does where it is not refused, or
--- answers Invalid or Io, is the settled machine's (`settled`).
+-- answers Invalid or Io, is the settled machine's (`big_steps`).
 use Rattle.std.specs.Prelude.{◌≡◌, ◌⊎◌, ℕ, ◌<◌, true, false, List}
 use Rattle.sector.specs.declared.refusal.Refusal.{Refusal}
 use Rattle.sector.specs.declared.refusal.Refusal.TheVariants.{NoSuchDevice}
 use Rattle.device.specs.Layers.{Layer}
 use Rattle.chunk.specs.Pieces.{Span}
-use Rattle.plain.specs.declared.request.Dev.{Dev}
-use Rattle.plain.specs.declared.request.Reply.{Reply}
-use Rattle.plain.specs.declared.request.Reply.TheVariants.{Data, Written, Refused}
-use Rattle.plain.specs.declared.request.Failure.{Failure}
-use Rattle.settled.specs.Merges.{Merged}
-use Rattle.settled.specs.Beside.{written_beside, read_beside, flushed_beside, written_first_beside, read_first_beside, count_beside}
-use Rattle.settled.specs.Refusals.{is_starved}
+use Rattle.plain_machine.specs.declared.request.Dev.{Dev}
+use Rattle.plain_machine.specs.declared.request.Reply.{Reply}
+use Rattle.plain_machine.specs.declared.request.Reply.TheVariants.{Data, Written, Refused}
+use Rattle.plain_machine.specs.declared.request.Failure.{Failure}
+use Rattle.big_steps.specs.Merges.{Merged}
+use Rattle.big_steps.specs.Beside.{written_beside, read_beside, flushed_beside, written_first_beside, read_first_beside, count_beside}
+use Rattle.big_steps.specs.Refusals.{is_starved}
 use Rattle.volume_commands.specs.Rested.{Rested, merged_of, IsSettled, has_dev}
-use Rattle.plain.specs.Failures.{refusal_of}
-use Rattle.settled.specs.Pieces.{Answered}
+use Rattle.plain_machine.specs.Failures.{refusal_of}
+use Rattle.big_steps.specs.Pieces.{Answered}
 
 -- where the volume is settled, this was done, with this reply
 abbrev pub IsDoneBy : {B : Type 0} → (B → List ℕ) → (B → List Layer) → (Merged → Answered Merged) → Reply → Rested B → Rested B → Type 0

@@ -2,21 +2,21 @@
 -- event does is said where events are (`volume`). This project's own.
 use Rattle.std.specs.Prelude.{◌≡◌, ◌==◌, ◌&&◌, ◌||◌, not, ℕ, Bool, true, false, List, [], ◌∷◌, ◌++◌, map, Option, Some, None, if◌then◌else◌}
 use Rattle.device.specs.Layers.{Layer}
-use Rattle.plain.specs.declared.event.Event.{Event}
-use Rattle.plain.specs.declared.event.Outcome.{Outcome}
-use Rattle.plain.specs.declared.event.Outcome.TheVariants.{Reply as Replies, Done, Fault}
+use Rattle.plain_machine.specs.declared.event.Event.{Event}
+use Rattle.plain_machine.specs.declared.event.Outcome.{Outcome}
+use Rattle.plain_machine.specs.declared.event.Outcome.TheVariants.{Reply as Replies, Done, Fault}
 use Rattle.in_flight.specs.Kinds.{in_flight}
 use Rattle.volume.specs.Causes.{HasCause}
 use Rattle.volume.specs.EventKinds.{is_of_merge}
-use Rattle.plain.specs.declared.request.Reply.{Reply}
-use Rattle.plain.specs.declared.request.Reply.TheVariants.{Refused}
-use Rattle.plain.specs.declared.request.Failure.TheVariants.{Invalid}
-use Rattle.plain.specs.Legal.{IsLegalStep}
-use Rattle.plain.specs.Replies.{reply_in}
+use Rattle.plain_machine.specs.declared.request.Reply.{Reply}
+use Rattle.plain_machine.specs.declared.request.Reply.TheVariants.{Refused}
+use Rattle.plain_machine.specs.declared.request.Failure.TheVariants.{Invalid}
+use Rattle.plain_machine.specs.Legal.{IsLegalStep}
+use Rattle.plain_machine.specs.Replies.{reply_in}
 use Rattle.volume.specs.Volumed.{Volumed, is_loud_in_all, next_of, plain_of}
 use Rattle.volume.specs.Exact.{IsExact}
 use Rattle.volume.specs.Flying.{IsFlown}
-use Rattle.plain.specs.declared.request.Replied.{Replied}
+use Rattle.plain_machine.specs.declared.request.Replied.{Replied}
 
 -- The event that was due first was done, with this outcome: whichever device drops writes, it replies to a request in flight or to
 -- none, and each reply and each fault has its cause.

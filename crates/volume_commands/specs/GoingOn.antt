@@ -1,15 +1,15 @@
 -- How a journal of a volume would go on: which entries a call comes to. This project's own.
 use Rattle.std.specs.Prelude.{◌≡◌, ◌⊎◌, Err, ℕ, Ok, Result, List, [], ◌∷◌, ◌++◌, Some, map}
-use Rattle.plain.specs.declared.event.Outcome.{Outcome}
-use Rattle.plain.specs.declared.event.Outcome.TheVariants.{Done, Fault, Reply as Replied}
-use Rattle.plain.specs.declared.request.Request.{Request}
-use Rattle.plain.specs.declared.request.Dev.TheVariants.{Snap}
-use Rattle.plain.specs.Plain.{Plain, Shown, asked_under, shown_of}
+use Rattle.plain_machine.specs.declared.event.Outcome.{Outcome}
+use Rattle.plain_machine.specs.declared.event.Outcome.TheVariants.{Done, Fault, Reply as Replied}
+use Rattle.plain_machine.specs.declared.request.Request.{Request}
+use Rattle.plain_machine.specs.declared.request.Dev.TheVariants.{Snap}
+use Rattle.plain_machine.specs.Plain.{Plain, Shown, asked_under, shown_of}
 use Rattle.sector.specs.declared.refusal.Refusal.{Refusal}
 use Rattle.sector.specs.declared.refusal.Refusal.TheVariants.{Overflow}
-use Rattle.journal.specs.declared.entry.Entry.{Entry}
-use Rattle.journal.specs.declared.entry.Entry.TheVariants.{Answered, Overflowed, Spoiled}
-use Rattle.journal.specs.Replay.{AllLawful, replay}
+use Rattle.audit.specs.declared.entry.Entry.{Entry}
+use Rattle.audit.specs.declared.entry.Entry.TheVariants.{Answered, Overflowed, Spoiled}
+use Rattle.audit.specs.Replay.{AllLawful, replay}
 
 -- Whatever lawful entries gave what callers saw of a volume before, from whatever arrays and states: these behind them are
 -- lawful too, and give what callers see then.

@@ -2,11 +2,11 @@
 use Rattle.std.specs.Prelude.{◌≡◌, ◌==◌, ◌&&◌, ℕ, Bool, true, List, [], ◌∷◌, Option, Some, None, map, if◌then◌else◌}
 use Rattle.std.specs.List.{list_any, list_all}
 use Rattle.device.specs.Layers.{Layer, is_loud}
-use Rattle.plain.specs.declared.request.Dev.{Dev}
-use Rattle.plain.specs.declared.request.Dev.TheVariants.{Origin, Snap as ToSnap}
+use Rattle.plain_machine.specs.declared.request.Dev.{Dev}
+use Rattle.plain_machine.specs.declared.request.Dev.TheVariants.{Origin, Snap as ToSnap}
 use Rattle.event_machine.specs.MergeRest.{merge_in}
-use Rattle.settled.specs.Merges.{Merged}
-use Rattle.settled.specs.Snaps.{Snap, SnapOn, Volume}
+use Rattle.big_steps.specs.Merges.{Merged}
+use Rattle.big_steps.specs.Snaps.{Snap, SnapOn, Volume}
 use Rattle.snapshot.specs.Kept.{Kept}
 use Rattle.volume.specs.Volumed.{Volumed, is_loud_with}
 use Rattle.volume.specs.Causes.{counts_with}

@@ -3,9 +3,9 @@ use Rattle.std.specs.Prelude.{◌≡◌, ◌≢◌, ◌+◌, ℕ, Bool, true, fa
 use Rattle.sector.specs.declared.refusal.Refusal.{Refusal}
 use Rattle.sector.specs.declared.refusal.Refusal.TheVariants.{MergeInProgress}
 use Rattle.device.specs.Layers.{Layer, is_loud}
-use Rattle.plain.specs.Plain.{overflow_of}
-use Rattle.settled.specs.Attaching.{attached as attached_by, refused_attach}
-use Rattle.settled.specs.Refusals.{is_starved}
+use Rattle.plain_machine.specs.Plain.{overflow_of}
+use Rattle.big_steps.specs.Attaching.{attached as attached_by, refused_attach}
+use Rattle.big_steps.specs.Refusals.{is_starved}
 use Rattle.snapshot.specs.declared.opening.StoreDev.{StoreDev}
 use Rattle.volume.specs.Attached.{store_of}
 use Rattle.volume.specs.Leaving.{is_quiet_of}

@@ -4,26 +4,26 @@ use Rattle.std.specs.List.{All}
 use Rattle.sector.specs.declared.range.Range.{Range}
 use Rattle.sector.specs.declared.refusal.Refusal.{Refusal}
 use Rattle.device.specs.Layers.{Layer}
-use Rattle.plain.specs.declared.request.Dev.{Dev}
-use Rattle.plain.specs.declared.request.Reply.{Reply}
-use Rattle.plain.specs.declared.request.Reply.TheVariants.{Data, Written, Flushed, Refused}
-use Rattle.plain.specs.declared.request.Failure.{Failure}
+use Rattle.plain_machine.specs.declared.request.Dev.{Dev}
+use Rattle.plain_machine.specs.declared.request.Reply.{Reply}
+use Rattle.plain_machine.specs.declared.request.Reply.TheVariants.{Data, Written, Flushed, Refused}
+use Rattle.plain_machine.specs.declared.request.Failure.{Failure}
 use Rattle.chunk.specs.Sizes.{is_chunk}
 use Rattle.chunk.specs.Pieces.{Span, span_of}
-use Rattle.settled.specs.Commands.{bytes_in, write_piece, read_piece}
-use Rattle.settled.specs.Merges.{Merged, write_part, read_part}
-use Rattle.settled.specs.Beside.{served}
-use Rattle.settled.specs.Refusals.{is_starved}
-use Rattle.plain.specs.declared.request.Op.{Op}
-use Rattle.plain.specs.declared.request.Request.{Request}
-use Rattle.settled.specs.Requests.{FitsRange, answer_of}
+use Rattle.big_steps.specs.Commands.{bytes_in, write_piece, read_piece}
+use Rattle.big_steps.specs.Merges.{Merged, write_part, read_part}
+use Rattle.big_steps.specs.Beside.{served}
+use Rattle.big_steps.specs.Refusals.{is_starved}
+use Rattle.plain_machine.specs.declared.request.Op.{Op}
+use Rattle.plain_machine.specs.declared.request.Request.{Request}
+use Rattle.big_steps.specs.Requests.{FitsRange, answer_of}
 use Rattle.event_machine.specs.MergeSettles.{part_of}
 use Rattle.snapshot.specs.Kept.{Kept}
 use Rattle.volume.specs.Volumed.{Volumed, piece_with}
 use Rattle.volume_commands.specs.Rested.{Rested, rested_of, merged_of, IsSettled, has_dev}
-use Rattle.plain.specs.Failures.{refusal_of}
+use Rattle.plain_machine.specs.Failures.{refusal_of}
 use Rattle.volume_commands.specs.Commands.{IsDoneBy}
-use Rattle.settled.specs.Pieces.{Answered}
+use Rattle.big_steps.specs.Pieces.{Answered}
 
 -- a snapshot's chunks have a size that is allowed, and are no smaller than a piece
 abbrev pub IsAsLarge : {B : Type 0} → ℕ → Kept B → Type 0

@@ -5,13 +5,13 @@ use Rattle.sector.specs.Bytes.{sectors_at, with_sectors}
 use Rattle.sector.specs.declared.refusal.Refusal.{Refusal}
 use Rattle.sector.specs.declared.refusal.Refusal.TheVariants.{NoSuchDevice, NoMemory, JournalFull, Invalid as InvalidRefusal, Io as IoRefusal, Overflow as OverflowRefusal}
 use Rattle.chunk.specs.Pieces.{Span}
-use Rattle.plain.specs.Plain.{Saved, Live, Invalid, Entry, marked_in, overflow_under, Shown, without_saved}
-use Rattle.plain.specs.declared.request.Dev.{Dev}
-use Rattle.plain.specs.declared.request.Dev.TheVariants.{Origin, Snap as ToSnap}
-use Rattle.plain.specs.declared.request.Overflowing.TheVariants.{May, Did}
+use Rattle.plain_machine.specs.Plain.{Saved, Live, Invalid, Entry, marked_in, overflow_under, Shown, without_saved}
+use Rattle.plain_machine.specs.declared.request.Dev.{Dev}
+use Rattle.plain_machine.specs.declared.request.Dev.TheVariants.{Origin, Snap as ToSnap}
+use Rattle.plain_machine.specs.declared.request.Overflowing.TheVariants.{May, Did}
 use Rattle.device.specs.Layers.{Layer}
-use Rattle.settled.specs.Snaps.{Snap, Volume, shown}
-use Rattle.settled.specs.Beside.{pieces_beside}
+use Rattle.big_steps.specs.Snaps.{Snap, Volume, shown}
+use Rattle.big_steps.specs.Beside.{pieces_beside}
 use Rattle.volume.specs.Shown.{shown_origin, shown_begun}
 use Rattle.volume_commands.specs.Rested.{Rested, merged_of, settled_of}
 

@@ -1,8 +1,8 @@
 -- How many places of its journal a call takes, and when it finds none. This project's own.
 use Rattle.std.specs.Prelude.{◌≡◌, ℕ, suc, ◌+◌, List, [], ◌∷◌, map, MatchResult, Result, Ok, Err, if◌then◌else◌}
 use Rattle.sector.specs.declared.refusal.Refusal.{Refusal}
-use Rattle.plain.specs.Plain.{did_overflow}
-use Rattle.plain.specs.declared.request.Overflowing.{Overflowing}
+use Rattle.plain_machine.specs.Plain.{did_overflow}
+use Rattle.plain_machine.specs.declared.request.Overflowing.{Overflowing}
 use Rattle.volume.specs.Volumed.{Volumed}
 use Rattle.volume_commands.specs.Places.{Counted, IsFullFirst, is_full_for, kept_for_marks}
 

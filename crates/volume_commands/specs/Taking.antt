@@ -3,7 +3,7 @@ use Rattle.std.specs.Prelude.{◌≡◌, ◌≢◌, ℕ, Bool, true, false, List
 use Rattle.sector.specs.declared.refusal.Refusal.{Refusal}
 use Rattle.sector.specs.declared.refusal.Refusal.TheVariants.{Io}
 use Rattle.device.specs.Layers.{Layer, is_loud}
-use Rattle.plain.specs.Plain.{overflow_of}
+use Rattle.plain_machine.specs.Plain.{overflow_of}
 use Rattle.snapshot.specs.declared.opening.StoreDev.{StoreDev}
 use Rattle.volume.specs.Attached.{IsTriedOrigin}
 use Rattle.volume_commands.specs.Rested.{Attached, Rested}

@@ -3,8 +3,8 @@ use Rattle.std.specs.Prelude.{◌≡◌, ℕ}
 use Rattle.std.specs.List.{All}
 use Rattle.device.specs.declared.operation.Operation.TheVariants.{Reads}
 use Rattle.device.specs.Layers.{layers_after}
-use Rattle.settled.specs.Devices.{Device}
-use Rattle.settled.specs.Snaps.{Volume}
+use Rattle.big_steps.specs.Devices.{Device}
+use Rattle.big_steps.specs.Snaps.{Volume}
 
 -- no read changes the device's layers
 abbrev pub IsUnmoved : Device → Type 0

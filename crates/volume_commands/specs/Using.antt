@@ -3,7 +3,7 @@
 use Rattle.std.specs.Prelude.{◌≡◌, ℕ, ◌+◌, ◌*◌, ◌/◌, List, length}
 use Rattle.chunk_alloc.specs.declared.usage.Usage.{Usage}
 use Rattle.store_bytes.specs.Pairs.{pairs_of}
-use Rattle.settled.specs.Saves.{next_of}
+use Rattle.big_steps.specs.Saves.{next_of}
 use Rattle.snapshot.specs.Kept.{Kept}
 use Rattle.volume_commands.specs.Rested.{Attached}
 

@@ -1,7 +1,7 @@
 // One request of a command, among requests in flight: it is submitted, and then all that is due is done.
 ghost use Rattle.std.specs.Prelude.{◌≡◌, ◌⊎◌, ◌+◌, ◌*◌, ◌≤◌, ℕ, List, length, vec_capacity, vec_len, IfOk, IfErr, true, false, None};
 ghost use Rattle.sector.specs.declared.refusal.Refusal.TheVariants.{Invalid, NoMemory, JournalFull};
-ghost use Rattle.plain.specs.declared.request.Op.TheVariants.{Write};
+ghost use Rattle.plain_machine.specs.declared.request.Op.TheVariants.{Write};
 ghost use Rattle.volume_commands.specs.Rested.{rested_of};
 ghost use Rattle.volume_commands.specs.Kept.{KeepsDevices};
 ghost use Rattle.volume_commands.specs.Draining.{IsDrainedApart, is_idle_of};
@@ -11,14 +11,14 @@ ghost use Rattle.volume_commands.specs.TakesPlaces.{TakesByRequests};
 
 use crate::draining::{drain_apart, drain_for};
 use crate::serving::look;
-use crate::{Journaled, Replied};
+use crate::{CountedVolume, Replied};
 use in_flight::MAX_REQUESTS;
 use layers::Layered;
-use plain::{Dev, Reply, Request};
+use plain_machine::{Dev, Reply, Request};
 use sector::Refusal;
 
 /// Whether a request's device is a snapshot that is live.
-fn is_live<B: Layered>(volume: &Journaled<B>, dev: Dev) -> bool
+fn is_live<B: Layered>(volume: &CountedVolume<B>, dev: Dev) -> bool
     ensures { result ≡ is_live_dev dev (rested_of volume.now.volume) }
 {
     match dev {
@@ -38,7 +38,7 @@ fn is_live<B: Layered>(volume: &Journaled<B>, dev: Dev) -> bool
 
 /// What follows a request that is answered `Invalid` at once: where its snapshot was live it is spoiled by that, and all that
 /// is due then is done, but for events of a merge. There is room in `ended` for a reply to each request in flight.
-fn follow<B: Layered>(volume: &mut Journaled<B>, live: bool, ended: &mut Vec<Replied>)
+fn follow<B: Layered>(volume: &mut CountedVolume<B>, live: bool, ended: &mut Vec<Replied>)
     requires room { vec_len ended.old + length volume.old.volume.flights ≤ vec_capacity ended.old }
     ensures drained { IsDrainedApart B.contents B.layers B.fault_count volume.old.volume volume.new.volume ended.old.items ended.new.items }
     ensures dead { live ≡ false → (volume.new.volume ≡ volume.old.volume) × (ended.new.items ≡ ended.old.items) }
@@ -56,7 +56,7 @@ fn follow<B: Layered>(volume: &mut Journaled<B>, live: bool, ended: &mut Vec<Rep
 /// requests are put at the end of `ended`, which has room for one of each request that can be in flight. What is refused is
 /// followed by nothing, but for a write that spoiled its snapshot.
 pub(crate) fn serve_among<B: Layered>(
-    volume: &mut Journaled<B>,
+    volume: &mut CountedVolume<B>,
     request: Request,
     ended: &mut Vec<Replied>,
 ) -> Result<Reply, Refusal>

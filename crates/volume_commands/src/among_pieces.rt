@@ -1,10 +1,10 @@
 // A command of a volume with requests in flight, cut into pieces: each is served before the next, and the first that is not
 // done ends it.
 ghost use Rattle.std.specs.Prelude.{◌≡◌, ◌⊎◌, ℕ, ◌+◌, ◌-◌, ◌*◌, ◌≤◌, ◌<◌, ◌++◌, [], take, drop, length, vec_capacity, vec_len, IfOk, IfErr, OnOk, true, false, None};
-ghost use Rattle.plain.specs.declared.request.Reply.{Reply as AnyReply};
-ghost use Rattle.plain.specs.declared.request.Op.TheVariants.{Read, Write};
+ghost use Rattle.plain_machine.specs.declared.request.Reply.{Reply as AnyReply};
+ghost use Rattle.plain_machine.specs.declared.request.Op.TheVariants.{Read, Write};
 ghost use Rattle.chunk.specs.Pieces.{span_of, pieces_of};
-ghost use Rattle.settled.specs.Commands.{bytes_in};
+ghost use Rattle.big_steps.specs.Commands.{bytes_in};
 ghost use Rattle.volume.specs.Volumed.{piece_with};
 ghost use Rattle.volume_commands.specs.Rested.{has_dev, rested_of};
 ghost use Rattle.volume_commands.specs.Flying.{IsWhole};
@@ -18,16 +18,16 @@ ghost use Rattle.volume_commands.specs.TakesPlaces.{TakesByRequests};
 use crate::among::serve_among;
 use crate::pieces::part_of;
 use crate::serving::is_there;
-use crate::{Journaled, Replied, Resting, refusal_for};
+use crate::{CountedVolume, Replied, Resting, refusal_for};
 use chunk::Geometry;
 use layers::Layered;
-use plain::{Dev, Op, Reply, Request};
+use plain_machine::{Dev, Op, Reply, Request};
 use sector::{Buf, Range, Refusal, SECTOR_BYTES};
 use std::alloc::Global;
 
 /// Writes one piece: the bytes from `from` up to `to`.
 fn write_piece_among<B: Layered>(
-    volume: &mut Journaled<B>,
+    volume: &mut CountedVolume<B>,
     alloc: Global,
     dev: Dev,
     piece: Range,
@@ -66,7 +66,7 @@ fn write_piece_among<B: Layered>(
 
 /// Reads one piece to the end of `out`, which has room for it.
 fn read_piece_among<B: Layered>(
-    volume: &mut Journaled<B>,
+    volume: &mut CountedVolume<B>,
     dev: Dev,
     piece: Range,
     out: &mut Vec<u8>,
@@ -105,7 +105,7 @@ fn read_piece_among<B: Layered>(
 
 /// Writes a range, piece after piece. The bytes are lent: one piece is handed all of them, and of more each is a copy.
 fn write_pieces_among<B: Layered>(
-    volume: &mut Journaled<B>,
+    volume: &mut CountedVolume<B>,
     alloc: Global,
     dev: Dev,
     range: Range,
@@ -138,7 +138,7 @@ fn write_pieces_among<B: Layered>(
 
 /// Reads a range, piece after piece, to the end of `out`, which is empty and has room for it.
 fn read_pieces_among<B: Layered>(
-    volume: &mut Journaled<B>,
+    volume: &mut CountedVolume<B>,
     dev: Dev,
     range: Range,
     out: &mut Vec<u8>,

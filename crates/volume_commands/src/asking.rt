@@ -3,9 +3,9 @@ ghost use Rattle.std.specs.Prelude.{◌≡◌, ◌<◌, ◌≤◌, AllPairs, IfE
 ghost use Rattle.std.specs.List.{All};
 ghost use Rattle.sector.specs.declared.refusal.Refusal.TheVariants.{NoSuchDevice};
 ghost use Rattle.chunk.specs.Sizes.{is_chunk};
-ghost use Rattle.plain.specs.declared.event.Event.{Event};
-ghost use Rattle.plain.specs.declared.request.Reply.{Reply};
-ghost use Rattle.settled.specs.MergeShown.{IsMerging};
+ghost use Rattle.plain_machine.specs.declared.event.Event.{Event};
+ghost use Rattle.plain_machine.specs.declared.request.Reply.{Reply};
+ghost use Rattle.big_steps.specs.MergeShown.{IsMerging};
 ghost use Rattle.snapshot.specs.Kept.{Kept};
 ghost use Rattle.merge.specs.Due.{has_group_of};
 ghost use Rattle.merge.specs.Merging.{Merging, books_of as merging_books};
@@ -15,8 +15,8 @@ ghost use Rattle.event_machine.specs.MergeDue.{due_all};
 ghost use Rattle.event_machine.specs.MergeRest.{IsBetween, in_big_steps};
 ghost use Rattle.volume_laws.specs.MergeDue.{has_group};
 ghost use Rattle.volume_laws.specs.Waits.{IsQuiet};
-ghost use Rattle.snapshots.specs.Finding.{place_of_snap};
-ghost use Rattle.snapshots.specs.Numbers.{number_of_snap};
+ghost use Rattle.snapshot_list.specs.Finding.{place_of_snap};
+ghost use Rattle.snapshot_list.specs.Numbers.{number_of_snap};
 ghost use Rattle.volume.specs.Asking.{HasNone, HoldsOf, IsMergeStill, merging_chunk_of, merging_number, merging_usage};
 ghost use Rattle.volume.specs.EventKinds.{is_of_merge};
 ghost use Rattle.volume.specs.Leaving.{has_group_in, is_quiet_of, usage_of};
@@ -28,14 +28,14 @@ ghost use Rattle.volume.specs.Submitting.{is_merging};
 ghost use Rattle.volume.specs.Volumed.{books_of, is_due_of, is_loud_in_all, next_of, piece_with};
 ghost use Rattle.volume.specs.Whole.{IsCounted};
 
-use crate::Journaled;
+use crate::CountedVolume;
 use chunk_alloc::Usage;
 use layers::Layered;
-use plain::{Event, ReqId, SnapId};
+use plain_machine::{Event, ReqId, SnapId};
 use sector::Refusal;
 use snapshot::Snapshot;
 
-impl<B: Layered> Journaled<B> {
+impl<B: Layered> CountedVolume<B> {
     /// The origin disk.
     pub fn origin(&self) -> &B
         ensures { result.now ≡ self.now.volume.origin }

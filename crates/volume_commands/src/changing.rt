@@ -1,7 +1,7 @@
 // A snapshot is taken or leaves, and the volume is closed.
 ghost use Rattle.std.specs.Prelude.{◌≡◌, ◌≢◌, ◌⊎◌, [], None, Some, IfErr, IfOk, is_some, true, false};
 ghost use Rattle.sector.specs.declared.refusal.Refusal.TheVariants.{Busy, NoSuchDevice, NotQuiet};
-ghost use Rattle.plain.specs.declared.request.Dev.TheVariants.{Snap};
+ghost use Rattle.plain_machine.specs.declared.request.Dev.TheVariants.{Snap};
 ghost use Rattle.merge.specs.Merging.{Merging};
 ghost use Rattle.volume.specs.DoesAttach.{DoesAttach};
 ghost use Rattle.volume.specs.DoesDetach.{DoesDetach};
@@ -15,11 +15,11 @@ ghost use Rattle.volume_commands.specs.SeesDetach.{SeesDetach};
 ghost use Rattle.volume_commands.specs.Places.{kept_for_snaps};
 ghost use Rattle.volume_commands.specs.Recorded.{counted_in};
 ghost use Rattle.volume_commands.specs.TakesPlaces.{TakesPlaces, reason_of};
-ghost use Rattle.journal.specs.Journaled.{places_for};
+ghost use Rattle.audit.specs.PlacesTaken.{places_for};
 
 use crate::Resting;
 use layers::Layered;
-use plain::SnapId;
+use plain_machine::SnapId;
 use sector::Refusal;
 use snapshot::StoreDev;
 use std::alloc::Global;

@@ -2,7 +2,7 @@
 ghost use Rattle.std.specs.Prelude.{◌≡◌, ◌+◌, ◌≤◌, length, vec_capacity, vec_len, is_ok, IfErr, OnOk, true, None};
 ghost use Rattle.sector.specs.declared.refusal.Refusal.TheVariants.{NoMemory};
 ghost use Rattle.volume.specs.Leaving.{is_quiet_of};
-ghost use Rattle.settled.specs.Merges.{merged};
+ghost use Rattle.big_steps.specs.Merges.{merged};
 ghost use Rattle.volume_commands.specs.Rested.{rested_of, merged_of, IsSettled};
 ghost use Rattle.volume_commands.specs.Flying.{IsWhole};
 ghost use Rattle.volume_commands.specs.Kept.{KeepsDevices};
@@ -12,9 +12,9 @@ ghost use Rattle.volume_commands.specs.Recorded.{counted_in};
 ghost use Rattle.volume_commands.specs.TakesPlaces.{TakesByRequests};
 
 use crate::following_merge::follow_merge;
-use crate::{Journaled, Replied, Resting};
+use crate::{CountedVolume, Replied, Resting};
 use layers::Layered;
-use plain::{Failure, NotDue, Outcome, Reply, ReqId};
+use plain_machine::{Failure, NotDue, Outcome, Reply, ReqId};
 use sector::Refusal;
 use volume::is_of_merge;
 
@@ -36,7 +36,7 @@ pub(crate) fn make_room(ended: &mut Vec<Replied>, replies: usize) -> Result<(), 
 
 /// Does the events that are due, each time the one that is due first, until none is. Each reply is put at the end of `ended`,
 /// where room for one of each request in flight is taken first: where that is refused, nothing is done.
-fn drain<B: Layered>(volume: &mut Journaled<B>, ended: &mut Vec<Replied>) -> Result<(), Refusal>
+fn drain<B: Layered>(volume: &mut CountedVolume<B>, ended: &mut Vec<Replied>) -> Result<(), Refusal>
     ensures drained { OnOk result (IsDrained B.contents B.layers B.fault_count volume.old.volume volume.new.volume ended.old.items ended.new.items) }
     ensures quiet { OnOk result (is_quiet_of volume.new.volume ≡ true) }
     ensures merged { OnOk result (IsSettled B.layers (rested_of volume.old.volume) → merged (merged_of B.contents B.layers (rested_of volume.old.volume)) ≡ merged_of B.contents B.layers (rested_of volume.new.volume)) }
@@ -64,7 +64,7 @@ fn drain<B: Layered>(volume: &mut Journaled<B>, ended: &mut Vec<Replied>) -> Res
 
 /// Does the events that are due likewise, until none is but one of a merge. There is room in `ended` for a reply to each
 /// request in flight.
-pub(crate) fn drain_apart<B: Layered>(volume: &mut Journaled<B>, ended: &mut Vec<Replied>)
+pub(crate) fn drain_apart<B: Layered>(volume: &mut CountedVolume<B>, ended: &mut Vec<Replied>)
     requires room { vec_len ended.old + length volume.old.volume.flights ≤ vec_capacity ended.old }
     ensures drained { IsDrainedApart B.contents B.layers B.fault_count volume.old.volume volume.new.volume ended.old.items ended.new.items }
     ensures idle { is_idle_of B.contents B.layers volume.new.volume ≡ true }
@@ -88,7 +88,7 @@ pub(crate) fn drain_apart<B: Layered>(volume: &mut Journaled<B>, ended: &mut Vec
 /// Does the events that are due likewise, those of a merge only until the reply to one request, and tells that reply; those
 /// to others are put at the end of `ended`, which has room for one of each request in flight.
 pub(crate) fn drain_for<B: Layered>(
-    volume: &mut Journaled<B>,
+    volume: &mut CountedVolume<B>,
     own: ReqId,
     ended: &mut Vec<Replied>,
 ) -> Reply

@@ -1,28 +1,28 @@
 // Requests and events.
 ghost use Rattle.std.specs.Prelude.{◌≡◌, ◌*◌, ◌+◌, IfErr, IfOk, List, OnErr, length, true, ℕ};
-ghost use Rattle.plain.specs.declared.request.Op.TheVariants.{Write};
-ghost use Rattle.plain.specs.declared.request.Reply.TheVariants.{Refused};
+ghost use Rattle.plain_machine.specs.declared.request.Op.TheVariants.{Write};
+ghost use Rattle.plain_machine.specs.declared.request.Reply.TheVariants.{Refused};
 ghost use Rattle.volume.specs.DoesServe.{DoesServe, IsServedAtOnce};
 ghost use Rattle.volume.specs.DoesStep.{DoesStep};
 ghost use Rattle.volume.specs.DoesSubmit.{DoesSubmit};
 ghost use Rattle.volume.specs.Lent.{is_bare, origin_write};
 ghost use Rattle.volume.specs.Volumed.{is_loud_in_all, plain_of};
-ghost use Rattle.journal.specs.declared.entry.Entry.{Entry};
+ghost use Rattle.audit.specs.declared.entry.Entry.{Entry};
 ghost use Rattle.volume_commands.specs.Declined.{IsUnsent};
 ghost use Rattle.volume_commands.specs.Following.{AreMerged};
 ghost use Rattle.volume_commands.specs.GoingOn.{ComesTo, GoesOn, IsSubmitNoted};
 ghost use Rattle.volume_commands.specs.Places.{kept_for_marks};
 ghost use Rattle.volume_commands.specs.TakesPlaces.{TakesByRequests, TakesPlaces};
 
-use crate::Journaled;
-use crate::journaled::count_may;
-use journal::MAX_ENTRIES;
+use crate::CountedVolume;
+use crate::counted_volume::count_may;
+use audit::MAX_ENTRIES;
 use layers::Layered;
-use plain::{Event, NotDue, Outcome, Reply, ReqId, Request};
+use plain_machine::{Event, NotDue, Outcome, Reply, ReqId, Request};
 use sector::{Range, Refusal};
 use volume::Served;
 
-impl<B: Layered> Journaled<B> {
+impl<B: Layered> CountedVolume<B> {
     /// Accepts a request, and tells its number: it takes a place of the journal, which its reply's entry has then. Refused first of
     /// all where the journal is full (`JournalFull`), and nothing changed; then as the volume refuses it. A mark takes no place:
     /// its entry has the one that was kept free for it.

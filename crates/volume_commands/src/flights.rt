@@ -1,6 +1,6 @@
 // Requests in flight between commands: one is started, and one event is done.
 ghost use Rattle.std.specs.Prelude.{◌≡◌, ◌*◌, ◌<◌, ℕ, List, length, AllPairs, IfErr, true};
-ghost use Rattle.plain.specs.declared.request.Op.TheVariants.{Write};
+ghost use Rattle.plain_machine.specs.declared.request.Op.TheVariants.{Write};
 ghost use Rattle.volume.specs.DoesStep.{DoesStep};
 ghost use Rattle.volume.specs.DoesSubmit.{DoesSubmit};
 ghost use Rattle.volume.specs.Leaving.{is_quiet_of};
@@ -14,15 +14,15 @@ ghost use Rattle.volume_commands.specs.Recorded.{counted_in};
 ghost use Rattle.volume_commands.specs.TakesPlaces.{TakesByRequests, TakesPlaces};
 
 use crate::serving::look;
-use crate::{Journaled, Resting};
+use crate::{CountedVolume, Resting};
 use layers::Layered;
-use plain::{Event, NotDue, Outcome, ReqId, Request};
+use plain_machine::{Event, NotDue, Outcome, ReqId, Request};
 use sector::Refusal;
 use std::alloc::Global;
 
 /// Whether a volume of events is quiet. One that is, and of which no device drops writes, is settled. The numbers of its
 /// snapshots rise in any case.
-fn is_still<B: Layered>(volume: &Journaled<B>) -> bool
+fn is_still<B: Layered>(volume: &CountedVolume<B>) -> bool
     ensures value { result ≡ is_quiet_of volume.now.volume }
     ensures numbers { AllPairs (λ a b. a < b) (numbers_of (rested_of volume.now.volume)) }
     ensures rest { result ≡ true → is_loud_in B.layers (rested_of volume.now.volume) ≡ true → IsSettled B.layers (rested_of volume.now.volume) }

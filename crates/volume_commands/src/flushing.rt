@@ -1,9 +1,9 @@
 // A flush of a device: one request, whether a merge is begun or not.
 ghost use Rattle.std.specs.Prelude.{◌≡◌, ◌⊎◌, ◌+◌, ◌<◌, ◌≤◌, ℕ, IfErr, OnOk, true};
-ghost use Rattle.plain.specs.declared.request.Op.TheVariants.{Flush};
-ghost use Rattle.plain.specs.declared.request.Reply.TheVariants.{Flushed};
+ghost use Rattle.plain_machine.specs.declared.request.Op.TheVariants.{Flush};
+ghost use Rattle.plain_machine.specs.declared.request.Reply.TheVariants.{Flushed};
 ghost use Rattle.volume.specs.Leaving.{is_quiet_of};
-ghost use Rattle.settled.specs.Beside.{flushed_beside};
+ghost use Rattle.big_steps.specs.Beside.{flushed_beside};
 ghost use Rattle.volume_commands.specs.Rested.{has_dev, rested_of, IsSettled};
 ghost use Rattle.volume_commands.specs.Kept.{KeepsDevices};
 ghost use Rattle.volume_commands.specs.Between.{IsBetween};
@@ -19,9 +19,9 @@ ghost use Rattle.volume_commands.specs.TakesPlaces.{TakesByRequests};
 
 use crate::among::serve_among;
 use crate::serving::{is_there, look, serve};
-use crate::{Journaled, Replied, Resting, refusal_for};
+use crate::{CountedVolume, Replied, Resting, refusal_for};
 use layers::Layered;
-use plain::{Dev, Op, Reply, Request};
+use plain_machine::{Dev, Op, Reply, Request};
 use sector::{Range, Refusal};
 
 /// The request of a flush. Its sectors are not looked at: a volume takes it where its origin has one.
@@ -40,7 +40,7 @@ fn request_of(dev: Dev) -> Request
 }
 
 /// Flushes a device of a volume of events that is at rest.
-fn flush_device<B: Layered>(volume: &mut Journaled<B>, dev: Dev) -> Result<(), Refusal>
+fn flush_device<B: Layered>(volume: &mut CountedVolume<B>, dev: Dev) -> Result<(), Refusal>
     requires between { IsBetween volume.old.volume }
     requires there { has_dev dev (rested_of volume.old.volume) ≡ true }
     requires some { 0 < B.size volume.old.volume.origin }
@@ -71,7 +71,7 @@ fn flush_device<B: Layered>(volume: &mut Journaled<B>, dev: Dev) -> Result<(), R
 
 /// Flushes a device of a volume of events with requests in flight.
 fn flush_device_among<B: Layered>(
-    volume: &mut Journaled<B>,
+    volume: &mut CountedVolume<B>,
     dev: Dev,
     ended: &mut Vec<Replied>,
 ) -> Result<(), Refusal>

@@ -2,21 +2,21 @@
 ghost use Rattle.std.specs.Prelude.{◌≡◌, ◌==◌, ◌&&◌, ◌≤◌, IfNone, IfSome, Some, false, length, map, true};
 ghost use Rattle.std.specs.List.{list_all, list_any};
 ghost use Rattle.in_flight.specs.declared.copies.Stage.TheVariants.{Read};
-ghost use Rattle.plain.specs.declared.event.Event.TheVariants.{CopyRead};
+ghost use Rattle.plain_machine.specs.declared.event.Event.TheVariants.{CopyRead};
 ghost use Rattle.snapshot.specs.Kept.{Kept, due_of_kept};
-ghost use Rattle.snapshots.specs.Busy.{is_busy as is_busy_in, waiting_due as due_of_waiting};
-ghost use Rattle.snapshots.specs.Finding.{has_copy_at};
+ghost use Rattle.snapshot_list.specs.Busy.{is_busy as is_busy_in, waiting_due as due_of_waiting};
+ghost use Rattle.snapshot_list.specs.Finding.{has_copy_at};
 ghost use Rattle.volume.specs.Stepping.{KeepsAll};
 ghost use Rattle.volume.specs.Volumed.{is_loud_in_all, left_in_all};
 ghost use Rattle.volume_commands.specs.AtRest.{AreDone};
 ghost use Rattle.volume_commands.specs.Following.{AreDoneSo, GoesOn, IsAlone, IsCarried, IsFollowed, IsNextDue, IsReadFirst, StandsAt, is_of_origin};
 ghost use Rattle.volume_commands.specs.TakesPlaces.{TakesByRequests};
 
-use crate::Journaled;
+use crate::CountedVolume;
 use in_flight::{ChunkCopy, Flight};
 use layers::Layered;
-use plain::{CopyId, Dev, Event, NotDue, Outcome, Reply, SnapId};
-use snapshots::{is_busy, waiting_due};
+use plain_machine::{CopyId, Dev, Event, NotDue, Outcome, Reply, SnapId};
+use snapshot_list::{is_busy, waiting_due};
 
 /// Whether a request is the origin's.
 fn is_origins(flight: &Flight) -> bool
@@ -45,7 +45,7 @@ fn is_only(copies: &[ChunkCopy], flights: &[Flight]) -> bool
 /// The number and the place of a snapshot that has a copy of this number whose chunk was read, if one has, and whether that is
 /// alone there and no request reads its chunk.
 #[inline(always)]
-fn holder<B: Layered>(volume: &Journaled<B>, number: CopyId) -> Option<(SnapId, usize, bool)>
+fn holder<B: Layered>(volume: &CountedVolume<B>, number: CopyId) -> Option<(SnapId, usize, bool)>
     ensures none { IfNone result (list_any (has_copy_at Read number) volume.now.volume.snaps ≡ false) }
     ensures here { IfSome result (λ p. (s : Kept B) × StandsAt p.1 volume.now.volume.snaps s × (has_copy_at Read number s ≡ true)) }
     ensures alone { IfSome result (λ p. p.2 ≡ true → IsAlone number volume.now.volume) }
@@ -63,7 +63,7 @@ fn holder<B: Layered>(volume: &Journaled<B>, number: CopyId) -> Option<(SnapId, 
 
 /// What is due first where no more is due of any snapshot than reads of chunks, if that is so of the one at a place.
 #[inline(always)]
-fn next_due<B: Layered>(volume: &Journaled<B>, place: usize) -> Option<Event>
+fn next_due<B: Layered>(volume: &CountedVolume<B>, place: usize) -> Option<Event>
     ensures there { IfSome result (λ _. (s : Kept B) × StandsAt place volume.now.volume.snaps s × (is_busy_in (due_of_kept B.contents B.layers s) ≡ false)) }
     ensures waiting { IfSome result (λ next. due_of_waiting (map (due_of_kept B.contents B.layers) volume.now.volume.snaps) volume.now.volume.flights ≡ Some next) }
 {
@@ -78,7 +78,7 @@ fn next_due<B: Layered>(volume: &Journaled<B>, place: usize) -> Option<Event>
 /// Does one event where it is due, and tells whether to go on: nothing failed, and nothing was answered. `reply` is the last reply
 /// then.
 #[inline(always)]
-fn carry_one<B: Layered>(volume: &mut Journaled<B>, event: Event, reply: &mut Reply) -> bool
+fn carry_one<B: Layered>(volume: &mut CountedVolume<B>, event: Event, reply: &mut Reply) -> bool
     ensures { IsCarried B.contents B.layers B.fault_count B.size event result reply.old reply.new volume.old volume.new }
 {
     match volume.step_here(event) {
@@ -98,7 +98,7 @@ fn carry_one<B: Layered>(volume: &mut Journaled<B>, event: Event, reply: &mut Re
 /// where it is done. Tells what is due next, where all was done and that is known: the read of a chunk, or a request.
 #[inline(always)]
 fn follow_read<B: Layered>(
-    volume: &mut Journaled<B>,
+    volume: &mut CountedVolume<B>,
     number: CopyId,
     reply: &mut Reply,
 ) -> Option<Event>
@@ -133,7 +133,11 @@ fn follow_read<B: Layered>(
 /// next, each with what follows it, as long as nothing fails; and where no copy waits any more, the request that is due then.
 /// The copies of one write come so one after the other, and the write itself, with no search for what is due between them.
 #[inline(always)]
-pub(crate) fn follow_reads<B: Layered>(volume: &mut Journaled<B>, number: CopyId, reply: &mut Reply)
+pub(crate) fn follow_reads<B: Layered>(
+    volume: &mut CountedVolume<B>,
+    number: CopyId,
+    reply: &mut Reply,
+)
     requires first { IsReadFirst B.contents B.layers number volume.old.volume }
     ensures { AreDoneSo B.contents B.layers B.fault_count B.size (GoesOn B.contents B.layers reply.old reply.new volume.old.volume volume.new.volume) reply.old reply.new volume.old volume.new }
 {
@@ -159,7 +163,7 @@ pub(crate) fn follow_reads<B: Layered>(volume: &mut Journaled<B>, number: CopyId
 /// is then due first. Those that follow the read of a chunk are done by `follow_reads`. Tells the last reply, and the one that was
 /// given before where there is none.
 #[inline(always)]
-pub(crate) fn follow<B: Layered>(volume: &mut Journaled<B>, done: Event, reply: Reply) -> Reply
+pub(crate) fn follow<B: Layered>(volume: &mut CountedVolume<B>, done: Event, reply: Reply) -> Reply
     ensures follows { IsFollowed B.contents B.layers done reply result volume.old.volume volume.new.volume }
     ensures did { AreDone B.contents B.layers B.fault_count reply result volume.old.volume volume.new.volume }
     ensures loud { is_loud_in_all B.layers volume.new.volume ≡ is_loud_in_all B.layers volume.old.volume }

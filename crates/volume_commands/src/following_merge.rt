@@ -4,13 +4,13 @@ ghost use Rattle.volume.specs.EventKinds.{is_of_merge};
 ghost use Rattle.volume.specs.Volumed.{left_in_all};
 ghost use Rattle.volume_commands.specs.Following.{AreMerged};
 
-use crate::Journaled;
+use crate::CountedVolume;
 use layers::Layered;
-use plain::{Event, NotDue, Outcome};
+use plain_machine::{Event, NotDue, Outcome};
 
 /// Does one event of a merge where it is due and nothing else can be, and tells whether to go on: it was done, and nothing failed.
 #[inline(always)]
-fn merge_on<B: Layered>(volume: &mut Journaled<B>, event: Event) -> bool
+fn merge_on<B: Layered>(volume: &mut CountedVolume<B>, event: Event) -> bool
     requires merges { is_of_merge event ≡ true }
     ensures merged { AreMerged B.contents B.layers B.fault_count B.size volume.old volume.new }
     ensures lower { result ≡ true → left_in_all B.contents B.layers volume.new.volume < left_in_all B.contents B.layers volume.old.volume }
@@ -29,7 +29,7 @@ fn merge_on<B: Layered>(volume: &mut Journaled<B>, event: Event) -> bool
 /// Does the events of a group that is formed: each of its chunks is read and written, all at once where they can be, the origin
 /// disk is flushed, the area is written without the group's slots, and the group ends. One after the other, so that the kind of
 /// each is known where it is done.
-fn follow_group<B: Layered>(volume: &mut Journaled<B>)
+fn follow_group<B: Layered>(volume: &mut CountedVolume<B>)
     ensures { AreMerged B.contents B.layers B.fault_count B.size volume.old volume.new }
 {
     volume.copy_group();
@@ -50,7 +50,7 @@ fn follow_group<B: Layered>(volume: &mut Journaled<B>)
 /// Does the events of a merge that are known to follow one that was due first and was done, as long as each is due, nothing else
 /// can be, and nothing fails: each is then due first. Nothing is answered.
 #[inline(always)]
-pub(crate) fn follow_merge<B: Layered>(volume: &mut Journaled<B>, done: Event)
+pub(crate) fn follow_merge<B: Layered>(volume: &mut CountedVolume<B>, done: Event)
     ensures { AreMerged B.contents B.layers B.fault_count B.size volume.old volume.new }
 {
     match done {

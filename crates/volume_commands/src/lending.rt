@@ -11,7 +11,7 @@ ghost use Rattle.volume_commands.specs.Using.{IsInUse, IsUsed};
 use crate::Resting;
 use chunk_alloc::Usage;
 use layers::Layered;
-use plain::{Overflowing, SnapId};
+use plain_machine::{Overflowing, SnapId};
 
 impl<B: Layered> Resting<B> {
     /// Its number: no snapshot before it has the same, nor the one that is being merged.

@@ -19,7 +19,7 @@ ghost use Rattle.volume_commands.specs.TakesPlaces.{TakesPlaces};
 use crate::Resting;
 use chunk_alloc::Usage;
 use layers::Layered;
-use plain::SnapId;
+use plain_machine::SnapId;
 use sector::Refusal;
 use snapshot::StoreDev;
 use std::alloc::Global;

@@ -4,15 +4,15 @@ ghost use Rattle.sector.specs.declared.refusal.Refusal.TheVariants.{NoMemory};
 ghost use Rattle.volume.specs.Volumed.{is_loud_in_all};
 ghost use Rattle.volume_commands.specs.Flying.{IsWhole};
 ghost use Rattle.volume_commands.specs.Rested.{rested_of};
-ghost use Rattle.journal.specs.Journaled.{places_of};
-ghost use Rattle.journal.specs.Noted.{kept_count, mays_of};
+ghost use Rattle.audit.specs.PlacesTaken.{places_of};
+ghost use Rattle.audit.specs.Noted.{kept_count, mays_of};
 ghost use Rattle.volume.specs.Causes.{lives_of};
 ghost use Rattle.volume_commands.specs.Places.{kept_for_marks, kept_free};
 
-use crate::{Journaled, Resting};
-use journal::Audit;
+use crate::{CountedVolume, Resting};
+use audit::Audit;
 use layers::Layered;
-use plain::ReqId;
+use plain_machine::ReqId;
 use sector::Refusal;
 
 impl<B: Layered> Resting<B> {
@@ -43,7 +43,7 @@ impl<B: Layered> Resting<B> {
         ensures taken { result.taken ≡ max (places_of audit) (kept_count (lives_of audit.volume) (mays_of audit.volume)) }
     {
         Resting {
-            volume: Journaled::of_audit(audit),
+            volume: CountedVolume::of_audit(audit),
         }
     }
 

@@ -1,14 +1,14 @@
 // A command, cut into pieces: each is served before the next, and the first that is not done ends it.
 ghost use Rattle.std.specs.Prelude.{◌≡◌, ◌⊎◌, ℕ, ◌+◌, ◌-◌, ◌*◌, ◌≤◌, ◌<◌, ◌∷◌, ◌++◌, [], take, drop, length, vec_capacity, vec_len, Option, None, Some, IfOk, IfErr, OnOk, OnErr, true};
-ghost use Rattle.plain.specs.declared.request.Reply.{Reply as AnyReply};
-ghost use Rattle.plain.specs.declared.request.Reply.TheVariants.{Data, Refused, Written};
-ghost use Rattle.plain.specs.declared.request.Dev.TheVariants.{Origin};
-ghost use Rattle.plain.specs.declared.request.Op.TheVariants.{Read, Write};
+ghost use Rattle.plain_machine.specs.declared.request.Reply.{Reply as AnyReply};
+ghost use Rattle.plain_machine.specs.declared.request.Reply.TheVariants.{Data, Refused, Written};
+ghost use Rattle.plain_machine.specs.declared.request.Dev.TheVariants.{Origin};
+ghost use Rattle.plain_machine.specs.declared.request.Op.TheVariants.{Read, Write};
 ghost use Rattle.chunk.specs.Pieces.{pieces_of, span_of};
 ghost use Rattle.volume.specs.Lent.{is_bare};
 ghost use Rattle.volume.specs.Volumed.{piece_with};
-ghost use Rattle.settled.specs.Beside.{written_beside, read_beside};
-ghost use Rattle.settled.specs.Commands.{bytes_in};
+ghost use Rattle.big_steps.specs.Beside.{written_beside, read_beside};
+ghost use Rattle.big_steps.specs.Commands.{bytes_in};
 ghost use Rattle.volume_commands.specs.AtRest.{AreReadAtRest, AreWrittenAtRest, IsPieceAnswered, IsPieceUndone, IsReadUndone, IsWriteCut};
 ghost use Rattle.volume_commands.specs.Serving.{part_written, part_read};
 ghost use Rattle.volume_commands.specs.Rested.{rested_of, IsSettled};
@@ -21,11 +21,11 @@ ghost use Rattle.sector.specs.declared.refusal.Refusal.TheVariants.{JournalFull}
 ghost use Rattle.volume_commands.specs.Places.{is_full_for};
 ghost use Rattle.volume_commands.specs.TakesPlaces.{TakesByRequests};
 
-use crate::Journaled;
+use crate::CountedVolume;
 use crate::serving::{serve, serve_lent};
 use chunk::Geometry;
 use layers::Layered;
-use plain::{Dev, Op, Reply, Request, refusal_for};
+use plain_machine::{Dev, Op, Reply, Request, refusal_for};
 use sector::{Buf, Range, Refusal, SECTOR_BYTES};
 use std::alloc::{AllocError, Global};
 use std::mem;
@@ -51,7 +51,7 @@ pub(crate) fn part_of(
 
 /// Writes one piece of a bare volume's origin by bytes that are lent.
 fn write_piece_lent<B: Layered>(
-    volume: &mut Journaled<B>,
+    volume: &mut CountedVolume<B>,
     dev: Dev,
     piece: Range,
     bytes: &[u8],
@@ -84,7 +84,7 @@ fn write_piece_lent<B: Layered>(
 /// Writes one piece: the bytes from `from` up to `to`, which a bare volume's origin is lent, and of which any other is given a
 /// copy. At `NoMemory` nothing of the volume changed.
 fn write_piece<B: Layered>(
-    volume: &mut Journaled<B>,
+    volume: &mut CountedVolume<B>,
     alloc: Global,
     dev: Dev,
     piece: Range,
@@ -131,7 +131,7 @@ fn write_piece<B: Layered>(
 
 /// Reads one piece to the end of `out`, which has room for it. At `NoMemory` nothing changed.
 fn read_piece<B: Layered>(
-    volume: &mut Journaled<B>,
+    volume: &mut CountedVolume<B>,
     dev: Dev,
     piece: Range,
     out: &mut Vec<u8>,
@@ -187,7 +187,7 @@ fn is_one_piece(chunk: u32, range: &Range) -> bool
 
 /// Reads one piece, and hands its bytes on as they came. At `NoMemory` nothing changed.
 fn read_alone<B: Layered>(
-    volume: &mut Journaled<B>,
+    volume: &mut CountedVolume<B>,
     alloc: Global,
     dev: Dev,
     piece: Range,
@@ -222,7 +222,7 @@ fn read_alone<B: Layered>(
 /// Writes a range, piece after piece. A piece that is not done ends it, and those before it stand. The bytes are lent, to each piece of
 /// a bare volume's origin too; of any other, where there is one piece they are taken, else each piece is a copy of its part.
 pub(crate) fn write_pieces<B: Layered>(
-    volume: &mut Journaled<B>,
+    volume: &mut CountedVolume<B>,
     alloc: Global,
     dev: Dev,
     range: Range,
@@ -264,7 +264,7 @@ pub(crate) fn write_pieces<B: Layered>(
 
 /// Reads a range, piece after piece. A piece that is not done ends it, and those before it were read.
 pub(crate) fn read_pieces<B: Layered>(
-    volume: &mut Journaled<B>,
+    volume: &mut CountedVolume<B>,
     alloc: Global,
     dev: Dev,
     range: Range,

@@ -2,10 +2,10 @@
 ghost use Rattle.std.specs.Prelude.{◌≡◌, ◌+◌, ◌*◌, ◌<◌, ◌≤◌, true, [], length, IfErr, IfOk, OnOk, Ok, Err, None};
 ghost use Rattle.sector.specs.declared.refusal.Refusal.TheVariants.{NoMemory, JournalFull};
 ghost use Rattle.device.specs.Layers.{is_loud};
-ghost use Rattle.plain.specs.declared.request.Reply.TheVariants.{Data, Written};
+ghost use Rattle.plain_machine.specs.declared.request.Reply.TheVariants.{Data, Written};
 ghost use Rattle.chunk.specs.Pieces.{span_of};
 ghost use Rattle.volume.specs.Leaving.{is_quiet_of};
-ghost use Rattle.settled.specs.Beside.{written_beside, read_beside};
+ghost use Rattle.big_steps.specs.Beside.{written_beside, read_beside};
 ghost use Rattle.volume_commands.specs.Rested.{has_dev, rested_of, IsSettled};
 ghost use Rattle.volume_commands.specs.Kept.{KeepsDevices};
 ghost use Rattle.volume_commands.specs.Flying.{IsWhole};
@@ -17,11 +17,11 @@ ghost use Rattle.volume_commands.specs.Places.{is_full_for};
 ghost use Rattle.volume_commands.specs.Recorded.{counted_in};
 ghost use Rattle.volume_commands.specs.TakesPlaces.{TakesByRequests};
 
-use crate::Journaled;
+use crate::CountedVolume;
 use crate::pieces::{read_pieces, write_pieces};
 use crate::serving::{is_there, look};
 use layers::Layered;
-use plain::Dev;
+use plain_machine::Dev;
 use sector::{Buf, Range, Refusal};
 use std::alloc::Global;
 use std::marker::Model;
@@ -32,7 +32,7 @@ use std::marker::Model;
 /// volume.
 #[derive(Drop)]
 pub struct Resting<B: Layered> {
-    pub(crate) volume: Journaled<B>,
+    pub(crate) volume: CountedVolume<B>,
 }
 
 impl<B: Layered> Model for Resting<B> {
@@ -52,7 +52,7 @@ impl<B: Layered + Drop> Resting<B> {
         ensures settled { IfOk result (λ v. is_loud (B.layers origin) ≡ true → IsSettled B.layers v.rested) }
         ensures err { IfErr result (λ e. e ≡ record { 0 = NoMemory; 1 = origin }) }
     {
-        match Journaled::new(alloc, origin) {
+        match CountedVolume::new(alloc, origin) {
             Ok(volume) => Ok(Resting { volume }),
             Err(refused) => Err(refused),
         }

@@ -1,9 +1,9 @@
 // One piece of a command: it is served, and the events that are due are done until none is.
 ghost use Rattle.std.specs.Prelude.{◌≡◌, ℕ, ◌+◌, ◌≤◌, length, Option, None, Some, IfOk, IfErr, true, false};
-ghost use Rattle.plain.specs.declared.request.Dev.TheVariants.{Origin};
-ghost use Rattle.plain.specs.declared.request.Op.TheVariants.{Write};
-ghost use Rattle.plain.specs.declared.request.Reply.{Reply};
-ghost use Rattle.settled.specs.Refusals.{is_starved};
+ghost use Rattle.plain_machine.specs.declared.request.Dev.TheVariants.{Origin};
+ghost use Rattle.plain_machine.specs.declared.request.Op.TheVariants.{Write};
+ghost use Rattle.plain_machine.specs.declared.request.Reply.{Reply};
+ghost use Rattle.big_steps.specs.Refusals.{is_starved};
 ghost use Rattle.event_machine.specs.Due.{due};
 ghost use Rattle.volume.specs.Volumed.{is_loud_in_all, next_of, piece_with};
 ghost use Rattle.volume.specs.Moved.{moving_of};
@@ -24,17 +24,17 @@ ghost use Rattle.sector.specs.declared.refusal.Refusal.TheVariants.{JournalFull}
 ghost use Rattle.volume_commands.specs.Places.{is_full_for};
 ghost use Rattle.volume_commands.specs.TakesPlaces.{TakesByRequests};
 
-use crate::Journaled;
+use crate::CountedVolume;
 use crate::following::{follow, follow_reads};
 use layers::Layered;
-use plain::{Dev, Event, Failure, NotDue, Outcome, Reply, Request};
+use plain_machine::{Dev, Event, Failure, NotDue, Outcome, Reply, Request};
 use sector::{Range, Refusal};
 use volume::Served;
 
 /// Does the event that is due first, in the caller's own code, and tells whether to go on: nothing failed, and nothing was answered.
 /// `reply` is the last reply then.
 #[inline(always)]
-fn do_first<B: Layered>(volume: &mut Journaled<B>, event: Event, reply: &mut Reply) -> bool
+fn do_first<B: Layered>(volume: &mut CountedVolume<B>, event: Event, reply: &mut Reply) -> bool
     requires first { next_of B.contents B.layers volume.old.volume ≡ Some event }
     ensures { IsDoneHere B.contents B.layers B.fault_count B.size event result reply.old reply.new volume.old volume.new }
 {
@@ -53,7 +53,7 @@ fn do_first<B: Layered>(volume: &mut Journaled<B>, event: Event, reply: &mut Rep
 /// merge. Tells the last reply, and the one that was given before where there is none. What is known to follow an event is
 /// done without a search for what is due.
 #[inline(always)]
-fn settle<B: Layered>(volume: &mut Journaled<B>, mut reply: Reply) -> Reply
+fn settle<B: Layered>(volume: &mut CountedVolume<B>, mut reply: Reply) -> Reply
     requires free { has_group_in volume.old.volume.merge ≡ false }
     ensures run { IsRun B.contents B.layers (Some reply) (Some result) volume.old.volume volume.new.volume }
     ensures did { AreDone B.contents B.layers B.fault_count reply result volume.old.volume volume.new.volume }
@@ -93,7 +93,7 @@ fn settle<B: Layered>(volume: &mut Journaled<B>, mut reply: Reply) -> Reply
 /// its snapshot refuses, with `Invalid` or `Overflow`, which may have spoiled or marked that snapshot. Any other will be answered,
 /// and `Invalid` stands for its reply until then. Where memory is refused nothing changed.
 #[inline(never)]
-fn begin<B: Layered>(volume: &mut Journaled<B>, request: Request) -> Result<Reply, Refusal>
+fn begin<B: Layered>(volume: &mut CountedVolume<B>, request: Request) -> Result<Reply, Refusal>
     requires quiet { is_quiet_of volume.old.volume ≡ true }
     requires few { length volume.old.volume.snaps ≤ 8 }
     requires can { CanServe B.size request.dev request.op request.range volume.old.volume }
@@ -123,7 +123,7 @@ fn begin<B: Layered>(volume: &mut Journaled<B>, request: Request) -> Result<Repl
 /// Serves the request of a piece, and does all that is due then. Tells its reply; where memory is refused nothing changed.
 #[inline(always)]
 pub(crate) fn serve<B: Layered>(
-    volume: &mut Journaled<B>,
+    volume: &mut CountedVolume<B>,
     request: Request,
 ) -> Result<Reply, Refusal>
     requires between { IsBetween volume.old.volume }
@@ -150,7 +150,7 @@ pub(crate) fn serve<B: Layered>(
 
 /// Serves a write of a bare volume's origin by bytes that are lent, as `serve` does of such a request. Nothing is due then.
 pub(crate) fn serve_lent<B: Layered>(
-    volume: &mut Journaled<B>,
+    volume: &mut CountedVolume<B>,
     piece: Range,
     bytes: &[u8],
 ) -> Result<Reply, Refusal>
@@ -182,14 +182,14 @@ pub(crate) fn serve_lent<B: Layered>(
 }
 
 /// A look at how many snapshots there are: eight at most.
-pub(crate) fn look<B: Layered>(volume: &Journaled<B>)
+pub(crate) fn look<B: Layered>(volume: &CountedVolume<B>)
     ensures { length volume.now.volume.snaps ≤ 8 }
 {
     let _ = volume.len();
 }
 
 /// Whether a request's device is there.
-pub(crate) fn is_there<B: Layered>(volume: &Journaled<B>, dev: Dev) -> bool
+pub(crate) fn is_there<B: Layered>(volume: &CountedVolume<B>, dev: Dev) -> bool
     ensures { result ≡ has_dev dev (rested_of volume.now.volume) }
 {
     match dev {

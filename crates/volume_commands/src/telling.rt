@@ -6,7 +6,7 @@ ghost use Rattle.volume_commands.specs.Telling.{IsOriginTold, IsStoreTold, IsTel
 
 use crate::Resting;
 use layers::{Answer, Layered, Message};
-use plain::Dev;
+use plain_machine::Dev;
 use sector::Refusal;
 
 impl<B: Layered> Resting<B> {

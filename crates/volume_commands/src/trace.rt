@@ -5,10 +5,10 @@ ghost use Rattle.volume.specs.Volumed.{is_due_of};
 ghost use Rattle.volume_commands.specs.Flying.{IsWhole};
 ghost use Rattle.volume_commands.specs.Trace.{IsAllDue, candidates_of, due_among, events_of_copies, events_of_flights, events_of_marks, events_of_merge, events_of_snap};
 
-use crate::{Journaled, Resting};
+use crate::{CountedVolume, Resting};
 use in_flight::{ChunkCopy, Flight, Mark};
 use layers::Layered;
-use plain::Event;
+use plain_machine::Event;
 use snapshot::Snapshot;
 use std::alloc::{AllocError, Global};
 
@@ -79,7 +79,7 @@ fn add_merge(events: &mut Vec<Event>) -> Result<(), AllocError>
     Ok(())
 }
 
-impl<B: Layered> Journaled<B> {
+impl<B: Layered> CountedVolume<B> {
     /// Whether an event is due: `step` does just those that are.
     pub fn is_due(&self, event: Event) -> bool
         ensures { result ≡ is_due_of B.contents B.layers self.now.volume event }

@@ -3,9 +3,9 @@ use Rattle.std.proofs.Common.{◌≡◌, ◌≢◌, ℕ, ◌<◌, Bool, true, fa
 use Rattle.std.specs.List.{All}
 use Rattle.std.specs.Option.{is_some}
 use Rattle.store_bytes.specs.Picture.{place_of}
-use Rattle.plain.specs.Plain.{did_overflow}
-use Rattle.plain.specs.Kept.{kept}
-use Rattle.plain.specs.Legal.{is_shut}
+use Rattle.plain_machine.specs.Plain.{did_overflow}
+use Rattle.plain_machine.specs.Kept.{kept}
+use Rattle.plain_machine.specs.Legal.{is_shut}
 use Rattle.in_flight.specs.Kinds.{kind_of}
 use Rattle.in_flight.specs.Routes.{read_route_of, write_route_of, flush_route_of}
 use Rattle.in_flight.specs.declared.flights.Flight.{Flight}

@@ -2,8 +2,8 @@
 use Rattle.std.proofs.Common.{◌≡◌, ◌≢◌, ℕ, ◌<◌, true, false, List, Option, Some, None, length, get_or, sym, ◌∙◌, ap}
 use Rattle.std.specs.List.{All}
 use Rattle.store_bytes.specs.Picture.{place_of}
-use Rattle.plain.specs.Kept.{kept}
-use Rattle.plain.specs.Plain.{did_overflow}
+use Rattle.plain_machine.specs.Kept.{kept}
+use Rattle.plain_machine.specs.Plain.{did_overflow}
 use Rattle.in_flight.specs.Kinds.{kind_of}
 use Rattle.in_flight.specs.Routes.{read_route_of, write_route_of}
 use Rattle.in_flight.specs.declared.flights.Flight.{Flight}

@@ -9,7 +9,7 @@ use Rattle.std.proofs.lemmas.List.Quantifiers.{all_pairs_push, all_pairs_remove}
 use Rattle.store_bytes.specs.Pairs.{pairs_of}
 use Rattle.store_bytes.specs.Picture.{picture, picture_at}
 use Rattle.store_bytes.proofs.Pictures.{length-picture, get_or-picture}
-use Rattle.plain.specs.Legal.{IsTaken, IsDetached}
+use Rattle.plain_machine.specs.Legal.{IsTaken, IsDetached}
 use Rattle.in_flight.specs.Copies.{pair_of}
 use Rattle.in_flight.specs.Kinds.{in_flight}
 use Rattle.volume_laws.specs.Books.{SnapBooks, Books, number_of}

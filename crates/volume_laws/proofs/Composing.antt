@@ -5,14 +5,14 @@ use Rattle.std.specs.List.{All}
 use Rattle.std.proofs.lemmas.Bool.{cases_Bool}
 use Rattle.std.proofs.lemmas.List.Folds.{list_any-append}
 use Rattle.std.proofs.lemmas.List.Elements.{All-set}
-use Rattle.plain.specs.declared.request.Request.{Request}
-use Rattle.plain.specs.declared.request.Dev.{Dev}
-use Rattle.plain.specs.declared.request.Dev.TheVariants.{Origin, Snap}
-use Rattle.plain.specs.declared.request.Op.{Op}
-use Rattle.plain.specs.declared.request.Op.TheVariants.{Read, Write, Flush}
-use Rattle.plain.specs.Plain.{Plain, Entry, Invalid, is_in, spoiled, spoiled_entry, overflow_under, did_overflow}
-use Rattle.plain.specs.Kept.{kept}
-use Rattle.plain.specs.Legal.{Spoils, is_shut}
+use Rattle.plain_machine.specs.declared.request.Request.{Request}
+use Rattle.plain_machine.specs.declared.request.Dev.{Dev}
+use Rattle.plain_machine.specs.declared.request.Dev.TheVariants.{Origin, Snap}
+use Rattle.plain_machine.specs.declared.request.Op.{Op}
+use Rattle.plain_machine.specs.declared.request.Op.TheVariants.{Read, Write, Flush}
+use Rattle.plain_machine.specs.Plain.{Plain, Entry, Invalid, is_in, spoiled, spoiled_entry, overflow_under, did_overflow}
+use Rattle.plain_machine.specs.Kept.{kept}
+use Rattle.plain_machine.specs.Legal.{Spoils, is_shut}
 use Rattle.volume_laws.specs.Books.{SnapBooks, Books}
 use Rattle.volume_laws.specs.Whole.{IsLoud, plain_of}
 use Rattle.volume_laws.specs.Steps.{ChangesSnap, SpoilsOne}

@@ -4,15 +4,15 @@ use Rattle.std.specs.List.{remove}
 use Rattle.std.proofs.lemmas.Bool.{cases_Bool}
 use Rattle.sector.specs.Bytes.{sectors_at}
 use Rattle.store_bytes.specs.Picture.{picture}
-use Rattle.plain.specs.declared.request.Dev.{Dev}
-use Rattle.plain.specs.declared.request.Dev.TheVariants.{Origin as AtOrigin, Snap}
-use Rattle.plain.specs.declared.request.Op.TheVariants.{Read, Flush}
-use Rattle.plain.specs.declared.request.Reply.{Reply}
-use Rattle.plain.specs.declared.request.Reply.TheVariants.{Data, Flushed, Refused as IsRefused}
-use Rattle.plain.specs.declared.request.Failure.TheVariants.{Invalid as IsInvalid, Io}
-use Rattle.plain.specs.Plain.{Live, Invalid, saved_under}
-use Rattle.plain.specs.Serves.{Serves, SameArrays, IsShowing}
-use Rattle.plain.specs.Legal.{IsAnswered}
+use Rattle.plain_machine.specs.declared.request.Dev.{Dev}
+use Rattle.plain_machine.specs.declared.request.Dev.TheVariants.{Origin as AtOrigin, Snap}
+use Rattle.plain_machine.specs.declared.request.Op.TheVariants.{Read, Flush}
+use Rattle.plain_machine.specs.declared.request.Reply.{Reply}
+use Rattle.plain_machine.specs.declared.request.Reply.TheVariants.{Data, Flushed, Refused as IsRefused}
+use Rattle.plain_machine.specs.declared.request.Failure.TheVariants.{Invalid as IsInvalid, Io}
+use Rattle.plain_machine.specs.Plain.{Live, Invalid, saved_under}
+use Rattle.plain_machine.specs.Serves.{Serves, SameArrays, IsShowing}
+use Rattle.plain_machine.specs.Legal.{IsAnswered}
 use Rattle.in_flight.specs.Kinds.{kind_of}
 use Rattle.in_flight.specs.declared.flights.Flight.{Flight}
 use Rattle.in_flight.specs.declared.flights.Kind.TheVariants.{OriginRead, OriginWrite, OriginFlush, SnapRead, SnapWrite, SnapFlush}

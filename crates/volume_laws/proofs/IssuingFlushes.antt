@@ -9,10 +9,10 @@ use Rattle.std.proofs.lemmas.List.Elements.{All-set}
 use Rattle.std.proofs.lemmas.List.Sums.{sum_by-set}
 use Rattle.std.proofs.Math.Seq.{map-set_same}
 use Rattle.store_bytes.specs.Picture.{picture}
-use Rattle.plain.specs.declared.request.Dev.TheVariants.{Snap}
-use Rattle.plain.specs.declared.request.Op.TheVariants.{Flush}
-use Rattle.plain.specs.declared.request.Reply.TheVariants.{Flushed}
-use Rattle.plain.specs.Legal.{IsBegunFlush}
+use Rattle.plain_machine.specs.declared.request.Dev.TheVariants.{Snap}
+use Rattle.plain_machine.specs.declared.request.Op.TheVariants.{Flush}
+use Rattle.plain_machine.specs.declared.request.Reply.TheVariants.{Flushed}
+use Rattle.plain_machine.specs.Legal.{IsBegunFlush}
 use Rattle.in_flight.specs.Kinds.{kind_of, in_flight}
 use Rattle.in_flight.specs.declared.flights.Flight.{Flight}
 use Rattle.in_flight.specs.declared.flights.Kind.TheVariants.{OriginFlush, SnapFlush}

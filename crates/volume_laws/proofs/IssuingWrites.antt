@@ -8,10 +8,10 @@ use Rattle.std.proofs.lemmas.List.Elements.{All-set}
 use Rattle.std.proofs.lemmas.Nat.{div-add-mod'}
 use Rattle.sector.specs.Bytes.{with_sectors}
 use Rattle.store_bytes.specs.Picture.{picture}
-use Rattle.plain.specs.declared.request.Dev.TheVariants.{Origin as AtOrigin, Snap}
-use Rattle.plain.specs.declared.request.Op.TheVariants.{Write}
-use Rattle.plain.specs.declared.request.Reply.TheVariants.{Written as IsWritten}
-use Rattle.plain.specs.Plain.{Entry, Live}
+use Rattle.plain_machine.specs.declared.request.Dev.TheVariants.{Origin as AtOrigin, Snap}
+use Rattle.plain_machine.specs.declared.request.Op.TheVariants.{Write}
+use Rattle.plain_machine.specs.declared.request.Reply.TheVariants.{Written as IsWritten}
+use Rattle.plain_machine.specs.Plain.{Entry, Live}
 use Rattle.in_flight.specs.Kinds.{kind_of}
 use Rattle.in_flight.specs.declared.flights.Flight.{Flight}
 use Rattle.in_flight.specs.declared.flights.Kind.TheVariants.{OriginWrite, SnapWrite}

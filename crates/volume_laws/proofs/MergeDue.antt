@@ -1,8 +1,8 @@
 -- The event of a merge that is due first is due; where none is, nothing of the merge can go on.
 use Rattle.std.proofs.Common.{◌≡◌, ◌≢◌, ◌⊎◌, inl, inr, Bool, true, false, List, Option, Some, None, map, refl, ◌∙◌, ap, subst}
 use Rattle.std.specs.Prelude.{◌||◌, AllPairs}
-use Rattle.plain.specs.declared.event.Event.{Event}
-use Rattle.plain.specs.declared.event.Event.TheVariants.{MergeGroup, MergeAreaRead, MergeRead, MergeWrite, MergeFlush, MergeCommit, MergeRelease}
+use Rattle.plain_machine.specs.declared.event.Event.{Event}
+use Rattle.plain_machine.specs.declared.event.Event.TheVariants.{MergeGroup, MergeAreaRead, MergeRead, MergeWrite, MergeFlush, MergeCommit, MergeRelease}
 use Rattle.in_flight.specs.declared.flights.Flight.{Flight}
 use Rattle.volume_laws.specs.Books.{SnapBooks}
 use Rattle.volume_laws.specs.Due.{DueSnap, books_of, due_of, is_due}

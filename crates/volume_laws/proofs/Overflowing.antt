@@ -2,8 +2,8 @@
 use Rattle.std.proofs.Common.{◌≡◌, ℕ, true, Some, set, map, refl, sym, ◌∙◌, ap, subst}
 use Rattle.std.proofs.lemmas.List.{map-set}
 use Rattle.store_bytes.specs.Picture.{picture}
-use Rattle.plain.specs.declared.request.Overflowing.TheVariants.{Did}
-use Rattle.plain.specs.Legal.{Overflows as PlainOverflows}
+use Rattle.plain_machine.specs.declared.request.Overflowing.TheVariants.{Did}
+use Rattle.plain_machine.specs.Legal.{Overflows as PlainOverflows}
 use Rattle.in_flight.specs.Kinds.{in_flight}
 use Rattle.volume_laws.specs.Books.{SnapBooks, Books}
 use Rattle.volume_laws.specs.Held.{LiveHolds, SnapHolds}

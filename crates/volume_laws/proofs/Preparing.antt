@@ -3,7 +3,7 @@ use Rattle.std.proofs.Common.{◌*◌, ◌≡◌, inl, inr, ℕ, ◌+◌, ◌<�
 use Rattle.std.specs.Prelude.{Any}
 use Rattle.std.proofs.lemmas.Bool.{cases_eq}
 use Rattle.std.proofs.lemmas.List.{get_or-set_same, get_or-set_other, get_or_default, get_or-append-add, append-nil}
-use Rattle.plain.specs.Legal.{Spoils}
+use Rattle.plain_machine.specs.Legal.{Spoils}
 use Rattle.in_flight.specs.Copies.{count_of}
 use Rattle.in_flight.specs.Kinds.{in_flight}
 use Rattle.in_flight.specs.declared.copies.ChunkCopy.{ChunkCopy}

@@ -3,7 +3,7 @@ use Rattle.std.proofs.Common.{◌≡◌, ℕ, true, false, List, [], ◌∷◌, 
 use Rattle.std.specs.List.{All}
 use Rattle.std.proofs.lemmas.List.Elements.{All-weaker, All-map}
 use Rattle.sector.specs.declared.pair.Pair.{Pair}
-use Rattle.plain.specs.Plain.{is_in}
+use Rattle.plain_machine.specs.Plain.{is_in}
 use Rattle.in_flight.specs.Kinds.{kind_of, in_flight}
 use Rattle.in_flight.specs.Routes.{refused_of, refused_route_of}
 use Rattle.in_flight.specs.declared.flights.Flight.{Flight}

@@ -3,7 +3,7 @@ use Rattle.std.proofs.Common.{◌≡◌, ℕ, zero, suc, ◌<◌, true, false, L
 use Rattle.std.specs.Prelude.{◌==◌}
 use Rattle.std.specs.List.{All, remove, position}
 use Rattle.std.proofs.lemmas.List.Quantifiers.{position-Some}
-use Rattle.plain.specs.Plain.{asked_under, without}
+use Rattle.plain_machine.specs.Plain.{asked_under, without}
 use Rattle.in_flight.specs.Kinds.{in_flight}
 use Rattle.in_flight.specs.declared.flights.Flight.{Flight}
 use Rattle.volume_laws.specs.Books.{SnapBooks, MergeBooks, Books, listed, taken}

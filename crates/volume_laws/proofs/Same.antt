@@ -4,8 +4,8 @@ use Rattle.sector.specs.declared.pair.Pair.{Pair}
 use Rattle.in_flight.specs.declared.copies.ChunkCopy.{ChunkCopy}
 use Rattle.in_flight.specs.declared.copies.Mark.{Mark}
 use Rattle.in_flight.specs.declared.flights.Flight.{Flight}
-use Rattle.plain.specs.declared.request.Overflowing.{Overflowing}
-use Rattle.plain.specs.Plain.{Plain, Entry, InFlight}
+use Rattle.plain_machine.specs.declared.request.Overflowing.{Overflowing}
+use Rattle.plain_machine.specs.Plain.{Plain, Entry, InFlight}
 use Rattle.volume_laws.specs.Books.{SnapBooks, MergeBooks, Books}
 
 abbrev snap : ℕ → Bool → Bool → Bool → Bool → Overflowing → ℕ → ℕ → ℕ → List ℕ → List Pair → List Pair → ℕ → List ChunkCopy → List Mark → SnapBooks

@@ -4,7 +4,7 @@ use Rattle.std.specs.List.{All}
 use Rattle.std.specs.Prelude.{AllPairs}
 use Rattle.std.proofs.lemmas.Bool.{false≢true, cases_eq, cases_order}
 use Rattle.std.proofs.lemmas.List.{map-set, length-map, get_or-map, length-set, get_or-set_same, get_or-set_other, get_or_default}
-use Rattle.plain.specs.Plain.{Entry, is_in, spoiled_entry}
+use Rattle.plain_machine.specs.Plain.{Entry, is_in, spoiled_entry}
 use Rattle.in_flight.specs.Kinds.{in_flight}
 use Rattle.in_flight.specs.Routes.{refused_of}
 use Rattle.store_bytes.specs.Picture.{picture}

@@ -3,9 +3,9 @@ use Rattle.std.proofs.Common.{◌≡◌, ℕ, false, List, [], ◌∷◌, ◌++�
 use Rattle.std.specs.List.{All}
 use Rattle.std.proofs.lemmas.List.{map_push}
 use Rattle.std.proofs.lemmas.List.Elements.{All-push}
-use Rattle.plain.specs.Plain.{Entry, spoiled_entry}
-use Rattle.plain.specs.Kept.{kept}
-use Rattle.plain.specs.Legal.{is_shut}
+use Rattle.plain_machine.specs.Plain.{Entry, spoiled_entry}
+use Rattle.plain_machine.specs.Kept.{kept}
+use Rattle.plain_machine.specs.Legal.{is_shut}
 use Rattle.in_flight.specs.Kinds.{in_flight}
 use Rattle.in_flight.specs.declared.flights.Flight.{Flight}
 use Rattle.volume_laws.specs.Books.{SnapBooks, MergeBooks, Books, listed, taken}

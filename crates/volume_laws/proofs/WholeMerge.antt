@@ -11,10 +11,10 @@ use Rattle.sector.specs.declared.pair.Pair.{Pair}
 use Rattle.store_bytes.specs.Places.{area_place, ChangesOnly}
 use Rattle.store_bytes.specs.Pairs.{pairs_of}
 use Rattle.store_bytes.specs.Picture.{picture}
-use Rattle.plain.specs.declared.request.Dev.TheVariants.{Origin as AtOrigin}
-use Rattle.plain.specs.declared.request.Op.TheVariants.{Read, Write}
-use Rattle.plain.specs.declared.request.Reply.TheVariants.{Data, Written as IsWritten}
-use Rattle.plain.specs.Legal.{IsBegun, IsFinished}
+use Rattle.plain_machine.specs.declared.request.Dev.TheVariants.{Origin as AtOrigin}
+use Rattle.plain_machine.specs.declared.request.Op.TheVariants.{Read, Write}
+use Rattle.plain_machine.specs.declared.request.Reply.TheVariants.{Data, Written as IsWritten}
+use Rattle.plain_machine.specs.Legal.{IsBegun, IsFinished}
 use Rattle.in_flight.specs.Copies.{count_of}
 use Rattle.in_flight.specs.Kinds.{kind_of, in_flight}
 use Rattle.in_flight.specs.declared.flights.Flight.{Flight}

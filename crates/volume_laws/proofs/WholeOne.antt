@@ -7,9 +7,9 @@ use Rattle.std.proofs.lemmas.List.{map-set, length-map, get_or-map}
 use Rattle.std.proofs.lemmas.List.Elements.{All-set}
 use Rattle.std.proofs.Math.Seq.{map-set_same}
 use Rattle.store_bytes.specs.Picture.{picture}
-use Rattle.plain.specs.declared.request.Overflowing.{Overflowing}
-use Rattle.plain.specs.Plain.{Plain, Entry, Live, Invalid, spoiled_entry}
-use Rattle.plain.specs.Legal.{Spoils}
+use Rattle.plain_machine.specs.declared.request.Overflowing.{Overflowing}
+use Rattle.plain_machine.specs.Plain.{Plain, Entry, Live, Invalid, spoiled_entry}
+use Rattle.plain_machine.specs.Legal.{Spoils}
 use Rattle.in_flight.specs.Kinds.{in_flight}
 use Rattle.in_flight.specs.Routes.{is_reading}
 use Rattle.in_flight.specs.declared.copies.ChunkCopy.{ChunkCopy}

@@ -1,7 +1,7 @@
 -- No new route is that to a whole store: a request that has it after it was routed again had it before.
 use Rattle.std.proofs.Common.{◌≡◌, ◌≢◌, ℕ, Bool, true, false, List, Option, None, Some}
 use Rattle.std.specs.Prelude.{◌==◌, if◌then◌else◌}
-use Rattle.plain.specs.Plain.{is_in}
+use Rattle.plain_machine.specs.Plain.{is_in}
 use Rattle.in_flight.specs.Routes.{write_route_of, again_route_of, placed_route_of, refused_route_of}
 use Rattle.in_flight.specs.declared.flights.Flight.{Flight}
 use Rattle.in_flight.specs.declared.flights.Kind.{Kind}

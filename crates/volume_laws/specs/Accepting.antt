@@ -2,8 +2,8 @@
 -- request is in flight. This project's own.
 use Rattle.std.specs.Prelude.{◌≡◌, ◌≢◌, ℕ, ◌<◌, true, List, Option, Some, map, slice_index_or}
 use Rattle.std.specs.List.{All}
-use Rattle.plain.specs.declared.request.Request.{Request}
-use Rattle.plain.specs.Legal.{Spoils, IsSubmitted}
+use Rattle.plain_machine.specs.declared.request.Request.{Request}
+use Rattle.plain_machine.specs.Legal.{Spoils, IsSubmitted}
 use Rattle.in_flight.specs.Kinds.{kind_of, in_flight}
 use Rattle.in_flight.specs.declared.flights.Flight.{Flight}
 use Rattle.in_flight.specs.declared.flights.Kind.TheVariants.{SnapRead, SnapWrite, SnapFlush}

@@ -2,7 +2,7 @@
 -- What a volume keeps, as plain records: the bytes of its devices, and what it has in memory. This project's own.
 use Rattle.std.specs.Prelude.{ℕ, Bool, List, [], ◌++◌, Option, Some, None}
 use Rattle.sector.specs.declared.pair.Pair.{Pair}
-use Rattle.plain.specs.declared.request.Overflowing.{Overflowing}
+use Rattle.plain_machine.specs.declared.request.Overflowing.{Overflowing}
 use Rattle.in_flight.specs.declared.copies.ChunkCopy.{ChunkCopy}
 use Rattle.in_flight.specs.declared.copies.Mark.{Mark}
 use Rattle.in_flight.specs.declared.flights.Flight.{Flight}

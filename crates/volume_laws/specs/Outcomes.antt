@@ -1,8 +1,8 @@
 -- What an event does to a volume that holds: it holds again, and the plain machine takes the step that the outcome tells.
 use Rattle.std.specs.Prelude.{ℕ, List, []}
-use Rattle.plain.specs.declared.request.Request.{Request}
-use Rattle.plain.specs.declared.request.Reply.{Reply}
-use Rattle.plain.specs.Legal.{Spoils, IsAnswered, IsSubmitted}
+use Rattle.plain_machine.specs.declared.request.Request.{Request}
+use Rattle.plain_machine.specs.declared.request.Reply.{Reply}
+use Rattle.plain_machine.specs.Legal.{Spoils, IsAnswered, IsSubmitted}
 use Rattle.volume_laws.specs.Books.{Books}
 use Rattle.volume_laws.specs.Whole.{Holds, IsLoud, plain_of}
 

@@ -8,9 +8,9 @@ use Rattle.store_bytes.specs.Pairs.{pairs_of}
 use Rattle.in_flight.specs.Copies.{count_of}
 use Rattle.in_flight.specs.Flushed.{flushed_copy, safe_mark}
 use Rattle.in_flight.specs.Routes.{refused_of}
-use Rattle.plain.specs.declared.request.Op.TheVariants.{Write}
-use Rattle.plain.specs.declared.request.Overflowing.TheVariants.{May, Did}
-use Rattle.plain.specs.Plain.{did_overflow}
+use Rattle.plain_machine.specs.declared.request.Op.TheVariants.{Write}
+use Rattle.plain_machine.specs.declared.request.Overflowing.TheVariants.{May, Did}
+use Rattle.plain_machine.specs.Plain.{did_overflow}
 use Rattle.in_flight.specs.declared.copies.ChunkCopy.{ChunkCopy}
 use Rattle.in_flight.specs.declared.copies.Mark.{Mark}
 use Rattle.in_flight.specs.declared.copies.Stage.TheVariants.{Waiting, Read, Written, Flushed}

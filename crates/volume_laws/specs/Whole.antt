@@ -2,7 +2,7 @@
 use Rattle.std.specs.Prelude.{◌≡◌, ◌≢◌, ℕ, ◌*◌, true, List, Option, Some, None, length, map, AllPairs, if◌then◌else◌}
 use Rattle.std.specs.List.{All}
 use Rattle.store_bytes.specs.Picture.{picture}
-use Rattle.plain.specs.Plain.{Plain, Entry, Live, Invalid}
+use Rattle.plain_machine.specs.Plain.{Plain, Entry, Live, Invalid}
 use Rattle.in_flight.specs.Kinds.{kind_of, in_flight}
 use Rattle.in_flight.specs.declared.flights.Flight.{Flight}
 use Rattle.in_flight.specs.declared.flights.Kind.TheVariants.{OriginRead, OriginWrite, OriginFlush}

@@ -2,9 +2,9 @@
 use Rattle.std.proofs.Common.{◌≡◌, ◌==◌, if◌then◌else◌, ℕ, Bool, true, false, [], ◌∷◌, ◌++◌, Option, Some, None, refl, sym, ap, ◌∙◌}
 use Rattle.atomic_table.specs.Seated.{TableId}
 use Rattle.atomic_table.specs.declared.shared.Seat.{Seat}
-use Rattle.plain.specs.declared.request.Reply.{Reply}
-use Rattle.journal.specs.declared.entry.Receipt.{Receipt}
-use Rattle.journal.specs.Seats.{Seated, seated_under, without_seated}
+use Rattle.plain_machine.specs.declared.request.Reply.{Reply}
+use Rattle.audit.specs.declared.entry.Receipt.{Receipt}
+use Rattle.audit.specs.Seats.{Seated, seated_under, without_seated}
 use Rattle.locked_volume.specs.declared.rule.View.{View}
 use Rattle.locked_volume.specs.declared.told.Told.{Told}
 use Rattle.between_threads.specs.Passes.{Passed}

@@ -3,11 +3,11 @@ use Rattle.std.proofs.Common.{◌≡◌, ◌==◌, ◌<◌, ℕ, Bool, true, fal
 use Rattle.std.proofs.lemmas.Bool.{eqb-true, eqb-false}
 use Rattle.std.proofs.lemmas.List.{get_or-set_same, get_or-set_other, length-set}
 use Rattle.between_threads.specs.BoardPasses.{Seen}
-use Rattle.journal.specs.declared.entry.Receipt.{Receipt}
+use Rattle.audit.specs.declared.entry.Receipt.{Receipt}
 use Rattle.sector.specs.declared.refusal.Refusal.{Refusal}
 use Rattle.locked_volume.specs.Keeping.{Begins}
 use Rattle.locked_volume.proofs.Begins.{begins_as, begins_in}
-use Rattle.journal.specs.declared.entry.Entry.{Entry}
+use Rattle.audit.specs.declared.entry.Entry.{Entry}
 use Rattle.locked_volume.specs.Denying.{Wish, WasDenied}
 use Rattle.locked_volume.specs.Fixed.{Fixed}
 use Rattle.volume_threads.specs.Rigs.{AreIdle, HasAdded, IsIdle, seen_at}

@@ -5,8 +5,8 @@ use Rattle.atomic_table.specs.Seated.{TableId}
 use Rattle.between_threads.specs.BoardPasses.{BoardId}
 use Rattle.between_threads.specs.Passes.{Queue}
 use Rattle.device.specs.Layers.{Layer}
-use Rattle.journal.specs.declared.entry.Entry.{Entry}
-use Rattle.journal.specs.Books.{AuditShape}
+use Rattle.audit.specs.declared.entry.Entry.{Entry}
+use Rattle.audit.specs.Books.{AuditShape}
 use Rattle.locked_volume.specs.Fixed.{Fixed, fixed_of}
 use Rattle.locked_volume.specs.Names.{no_table, nothing_fixed}
 use Rattle.volume_threads.specs.Rigs.{AreDealt, IsRoomOf, IsStart, OpenedShape}

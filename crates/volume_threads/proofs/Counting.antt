@@ -5,14 +5,14 @@ use Rattle.std.proofs.lemmas.List.{length-map, map-append}
 use Rattle.atomic_table.specs.Seated.{TableId}
 use Rattle.atomic_table.specs.declared.badge.Badge.{Badge}
 use Rattle.atomic_table.specs.declared.shared.Seat.{Seat}
-use Rattle.plain.specs.declared.request.Reply.{Reply}
+use Rattle.plain_machine.specs.declared.request.Reply.{Reply}
 use Rattle.locked_volume.specs.declared.rule.View.{View}
 use Rattle.locked_volume.specs.declared.told.Told.{Told}
 use Rattle.locked_volume.specs.Seats.{IsReceipted}
-use Rattle.journal.specs.declared.entry.Answered.{Answered}
-use Rattle.journal.specs.declared.entry.Entry.{Entry}
-use Rattle.journal.specs.declared.entry.Receipt.{Receipt}
-use Rattle.journal.specs.Entries.{Agreeing, answered_of, entries_by}
+use Rattle.audit.specs.declared.entry.Answered.{Answered}
+use Rattle.audit.specs.declared.entry.Entry.{Entry}
+use Rattle.audit.specs.declared.entry.Receipt.{Receipt}
+use Rattle.audit.specs.Entries.{Agreeing, answered_of, entries_by}
 use Rattle.volume_threads.specs.Sittings.{AreCounted, SittingHolds}
 
 -- one receipt more

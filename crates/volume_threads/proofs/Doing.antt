@@ -2,7 +2,7 @@
 use Rattle.std.proofs.Common.{◌≡◌, ◌+◌, ◌<◌, ℕ, List, [], ◌∷◌, ◌++◌, Option, None, Some, drop, get_or, length, length-set, set, take, inl, inr, refl, sym, ap, ◌∙◌, subst, arith}
 use Rattle.std.proofs.Math.Logic.{∥∥₁_elim, ∥∥₁_map}
 use native.Mathlib.Nat.{ℕ_set}
-use Rattle.journal.specs.declared.entry.Receipt.{Receipt}
+use Rattle.audit.specs.declared.entry.Receipt.{Receipt}
 use Rattle.std.proofs.Math.Seq.{take-length}
 use Rattle.std.proofs.lemmas.List.{drop_more, drop-set-lt, get_or-drop, take_more, take_more_set}
 use Rattle.command.specs.declared.seated.SeatAnswer.{SeatAnswer}
@@ -12,7 +12,7 @@ use Rattle.volume_threads.specs.declared.task.Job.{Job}
 use Rattle.volume_threads.specs.declared.task.Job.TheVariants.{Read, Write, Merge, RefusedRead, Refused}
 use Rattle.volume_threads.specs.declared.task.Task.{Task}
 use Rattle.locked_volume.specs.Denying.{Wish}
-use Rattle.journal.specs.declared.entry.Entry.{Entry}
+use Rattle.audit.specs.declared.entry.Entry.{Entry}
 use Rattle.sector.specs.declared.refusal.Refusal.{Refusal}
 use Rattle.volume_threads.specs.Tasks.{AreCalled, AreDone, AreUnderWay, IsCall, IsDone, IsDoneAs, IsEnded, IsNew, IsUnbegun}
 

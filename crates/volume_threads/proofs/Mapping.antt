@@ -2,19 +2,19 @@
 use Rattle.std.proofs.Common.{inl, inr, ℕ, List, [], ◌∷◌, Option, None, Some}
 use Rattle.std.proofs.Math.Logic.{∥∥₁_map}
 use Rattle.chunk.specs.Pieces.{Span, pieces_of, span_of}
-use Rattle.plain.specs.declared.request.Dev.{Dev}
-use Rattle.plain.specs.declared.request.Op.{Op}
-use Rattle.plain.specs.declared.request.Reply.{Reply}
-use Rattle.plain.specs.declared.request.Request.{Request}
+use Rattle.plain_machine.specs.declared.request.Dev.{Dev}
+use Rattle.plain_machine.specs.declared.request.Op.{Op}
+use Rattle.plain_machine.specs.declared.request.Reply.{Reply}
+use Rattle.plain_machine.specs.declared.request.Request.{Request}
 use Rattle.sector.specs.declared.refusal.Refusal.{Refusal}
-use Rattle.journal.specs.declared.entry.Entry.{Entry}
-use Rattle.journal.specs.declared.entry.Receipt.{Receipt}
+use Rattle.audit.specs.declared.entry.Entry.{Entry}
+use Rattle.audit.specs.declared.entry.Receipt.{Receipt}
 use Rattle.locked_volume.specs.Denying.{Wish, Serve}
 use Rattle.command.specs.declared.seated.SeatAnswer.{SeatAnswer}
 use Rattle.command.specs.declared.seated.SeatAnswer.TheVariants as answered
 use Rattle.volume_threads.specs.Rigs.{SeatShape, seen_at}
-use Rattle.plain.specs.declared.request.Op.TheVariants as op
-use Rattle.plain.specs.declared.request.Reply.TheVariants as reply
+use Rattle.plain_machine.specs.declared.request.Op.TheVariants as op
+use Rattle.plain_machine.specs.declared.request.Reply.TheVariants as reply
 use Rattle.volume_threads.specs.Served.{IsCut, IsCutShort, IsReadLost, IsRefused, IsWriteLost, read_op, written_reply}
 use Rattle.volume_threads.specs.declared.task.Job.{Job}
 use Rattle.volume_threads.specs.declared.task.Job.TheVariants.{Read, Write, Merge, RefusedRead, Refused}

@@ -5,8 +5,8 @@ use Rattle.std.proofs.lemmas.List.{append_cancel_left, append-nil, get_or-map}
 use Rattle.std.proofs.lemmas.List.Elements.{All-nil, All-same}
 use Rattle.std.proofs.lemmas.List.Folds.{list_any_at}
 use Rattle.std.proofs.lemmas.List.FromFn.{get_or-range_with_len, length-range_with_len}
-use Rattle.journal.specs.declared.entry.Entry.{Entry}
-use Rattle.journal.specs.Books.{AuditShape}
+use Rattle.audit.specs.declared.entry.Entry.{Entry}
+use Rattle.audit.specs.Books.{AuditShape}
 use Rattle.locked_volume.specs.AskedFor.{AddsAskedFor, IsAskedFor}
 use Rattle.locked_volume.specs.Denying.{Wish}
 use Rattle.sector.specs.declared.refusal.Refusal.{Refusal}

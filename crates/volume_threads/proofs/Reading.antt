@@ -2,11 +2,11 @@
 use Rattle.std.proofs.Common.{◌≡◌, ℕ, List, [], ◌∷◌, inl, refl, sym}
 use Rattle.std.proofs.lemmas.List.{append-nil}
 use Rattle.chunk.specs.Pieces.{Span, pieces_of}
-use Rattle.plain.specs.declared.request.Dev.{Dev}
-use Rattle.plain.specs.declared.request.Request.{Request}
+use Rattle.plain_machine.specs.declared.request.Dev.{Dev}
+use Rattle.plain_machine.specs.declared.request.Request.{Request}
 use Rattle.sector.specs.declared.refusal.Refusal.{Refusal}
 use Rattle.sector.specs.declared.refusal.Refusal.TheVariants.{NoMemory}
-use Rattle.journal.specs.declared.entry.Receipt.{Receipt}
+use Rattle.audit.specs.declared.entry.Receipt.{Receipt}
 use Rattle.volume_threads.specs.Served.{IsReadBy, IsReadCut}
 
 -- it is cut short behind its last piece

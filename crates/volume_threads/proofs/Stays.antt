@@ -2,10 +2,10 @@
 use Rattle.std.proofs.Common.{◌≡◌, ℕ, ◌<◌, List, [], ◌++◌, length, get_or, map, refl, sym, ap, ◌∙◌, subst, inl}
 use Rattle.std.proofs.lemmas.List.{append-nil, get_or-map}
 use Rattle.device.specs.Layers.{Layer}
-use Rattle.journal.specs.declared.entry.Entry.{Entry}
-use Rattle.journal.specs.declared.entry.Receipt.{Receipt}
-use Rattle.journal.specs.Books.{AuditShape}
-use Rattle.journal.specs.Entries.{answered_of, entries_by}
+use Rattle.audit.specs.declared.entry.Entry.{Entry}
+use Rattle.audit.specs.declared.entry.Receipt.{Receipt}
+use Rattle.audit.specs.Books.{AuditShape}
+use Rattle.audit.specs.Entries.{answered_of, entries_by}
 use Rattle.locked_volume.specs.Fixed.{Fixed, StaysFrom, fixed_of}
 use Rattle.locked_volume.specs.Names.{nothing_fixed}
 use Rattle.volume_threads.specs.Rigs.{AreOpened, IsRoomOf, OpenedShape, boards_in, fixed_in, histories_in, start_in}

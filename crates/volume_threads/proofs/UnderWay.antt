@@ -1,12 +1,12 @@
 -- A call of a seat, piece after piece.
 use Rattle.std.proofs.Common.{◌≡◌, inl, inr, ℕ, List, [], ◌∷◌, ◌++◌, length, refl, sym, ap, ◌∙◌, subst, append_assoc, append-nil, arith}
 use Rattle.chunk.specs.Pieces.{Span}
-use Rattle.plain.specs.declared.request.Dev.{Dev}
-use Rattle.plain.specs.declared.request.Op.{Op}
-use Rattle.plain.specs.declared.request.Reply.{Reply}
+use Rattle.plain_machine.specs.declared.request.Dev.{Dev}
+use Rattle.plain_machine.specs.declared.request.Op.{Op}
+use Rattle.plain_machine.specs.declared.request.Reply.{Reply}
 use Rattle.sector.specs.declared.refusal.Refusal.{Refusal}
-use Rattle.journal.specs.declared.entry.Receipt.{Receipt}
-use Rattle.plain.specs.declared.request.Request.{Request}
+use Rattle.audit.specs.declared.entry.Receipt.{Receipt}
+use Rattle.plain_machine.specs.declared.request.Request.{Request}
 use Rattle.locked_volume.proofs.Begins.{begins_same, begins_then}
 use Rattle.volume_threads.specs.Rigs.{HasAdded, IsPieceCut, SeatShape, receipts_at, seen_at}
 use Rattle.volume_threads.specs.Served.{AreServed, IsCut, IsOf, IsRefused}

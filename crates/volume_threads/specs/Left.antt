@@ -1,9 +1,9 @@
 -- What a run of seats leaves of the volumes and the tasks that it was given. This project's own.
 use Rattle.std.specs.Prelude.{◌≡◌, ◌<◌, ◌++◌, ℕ, List, [], length, slice_index_or}
 use Rattle.device.specs.Layers.{Layer}
-use Rattle.journal.specs.declared.entry.Entry.{Entry}
-use Rattle.journal.specs.Books.{AuditShape}
-use Rattle.journal.specs.Entries.{entries_by}
+use Rattle.audit.specs.declared.entry.Entry.{Entry}
+use Rattle.audit.specs.Books.{AuditShape}
+use Rattle.audit.specs.Entries.{entries_by}
 use Rattle.locked_volume.specs.Fixed.{StaysFrom, fixed_of}
 use Rattle.locked_volume.specs.AskedFor.{AddsAskedFor}
 use Rattle.volume_threads.specs.Tasks.{merges_among}

@@ -3,19 +3,19 @@ use Rattle.std.specs.Prelude.{◌≡◌, ◌⊎◌, ◌+◌, ◌<◌, ◌≤◌,
 use Rattle.atomic_table.specs.Seated.{TableId}
 use Rattle.between_threads.specs.Passes.{Queue}
 use Rattle.device.specs.Layers.{Layer}
-use Rattle.journal.specs.declared.entry.Entry.{Entry}
-use Rattle.journal.specs.declared.entry.Receipt.{Receipt}
-use Rattle.journal.specs.Books.{AuditShape}
-use Rattle.journal.specs.declared.entry.Verdict.TheVariants.{Agrees}
-use Rattle.journal.specs.Entries.{HasVerdict, answered_of, entries_by}
+use Rattle.audit.specs.declared.entry.Entry.{Entry}
+use Rattle.audit.specs.declared.entry.Receipt.{Receipt}
+use Rattle.audit.specs.Books.{AuditShape}
+use Rattle.audit.specs.declared.entry.Verdict.TheVariants.{Agrees}
+use Rattle.audit.specs.Entries.{HasVerdict, answered_of, entries_by}
 use Rattle.chunk.specs.Pieces.{Span}
-use Rattle.plain.specs.Failures.{refusal_of}
-use Rattle.plain.specs.declared.request.Dev.{Dev}
-use Rattle.plain.specs.declared.request.Failure.{Failure}
-use Rattle.plain.specs.declared.request.Op.{Op}
-use Rattle.plain.specs.declared.request.Reply.{Reply}
-use Rattle.plain.specs.declared.request.Request.{Request}
-use Rattle.plain.specs.declared.request.Reply.TheVariants.{Refused}
+use Rattle.plain_machine.specs.Failures.{refusal_of}
+use Rattle.plain_machine.specs.declared.request.Dev.{Dev}
+use Rattle.plain_machine.specs.declared.request.Failure.{Failure}
+use Rattle.plain_machine.specs.declared.request.Op.{Op}
+use Rattle.plain_machine.specs.declared.request.Reply.{Reply}
+use Rattle.plain_machine.specs.declared.request.Request.{Request}
+use Rattle.plain_machine.specs.declared.request.Reply.TheVariants.{Refused}
 use Rattle.sector.specs.declared.refusal.Refusal.{Refusal}
 use Rattle.locked_volume.specs.Keeping.{Begins}
 use Rattle.volume_threads.specs.Served.{IsOf, IsRefused}

@@ -2,12 +2,12 @@
 use Rattle.std.specs.Prelude.{◌≡◌, ◌+◌, ℕ, true, List, [], ◌∷◌, ◌++◌, map}
 use Rattle.atomic_table.specs.Seated.{TableId}
 use Rattle.atomic_table.specs.declared.badge.Badge.{Badge}
-use Rattle.plain.specs.declared.request.Reply.{Reply}
-use Rattle.plain.specs.declared.request.Request.{Request}
-use Rattle.journal.specs.declared.entry.Receipt.{Receipt}
-use Rattle.journal.specs.Entries.{answered_of}
-use Rattle.journal.specs.declared.entry.Entry.{Entry}
-use Rattle.journal.specs.Seats.{Seated}
+use Rattle.plain_machine.specs.declared.request.Reply.{Reply}
+use Rattle.plain_machine.specs.declared.request.Request.{Request}
+use Rattle.audit.specs.declared.entry.Receipt.{Receipt}
+use Rattle.audit.specs.Entries.{answered_of}
+use Rattle.audit.specs.declared.entry.Entry.{Entry}
+use Rattle.audit.specs.Seats.{Seated}
 use Rattle.locked_volume.specs.Keeping.{Begins}
 use Rattle.locked_volume.specs.declared.rule.View.{View}
 use Rattle.locked_volume.specs.Denying.{Wish, WasDenied}

@@ -4,14 +4,14 @@ use Rattle.std.specs.List.{list_any, range_with_len}
 use Rattle.std.specs.Global.{Vec}
 use Rattle.chunk.specs.Pieces.{span_of}
 use Rattle.sector.specs.declared.range.Range.{Range}
-use Rattle.plain.specs.declared.request.Dev.{Dev}
+use Rattle.plain_machine.specs.declared.request.Dev.{Dev}
 use Rattle.device.specs.Layers.{Layer}
 use Rattle.sector.specs.declared.refusal.Refusal.{Refusal}
-use Rattle.journal.specs.declared.entry.Entry.{Entry}
-use Rattle.journal.specs.declared.entry.Receipt.{Receipt}
+use Rattle.audit.specs.declared.entry.Entry.{Entry}
+use Rattle.audit.specs.declared.entry.Receipt.{Receipt}
 use Rattle.locked_volume.specs.Denying.{Wish, Serve, Begin, WasBegun, WasDenied}
 use Rattle.locked_volume.specs.Fixed.{Fixed, piece_at}
-use Rattle.journal.specs.Books.{AuditShape}
+use Rattle.audit.specs.Books.{AuditShape}
 use Rattle.command.specs.declared.seated.SeatAnswer.{SeatAnswer}
 use Rattle.command.specs.declared.seated.SeatAnswer.TheVariants as answered
 use Rattle.command.specs.Runs.{data_words}

@@ -1,9 +1,9 @@
 // What a seat asks of the volumes of a rig.
 ghost use Rattle.std.specs.Prelude.{◌≡◌, ◌≢◌, ◌*◌, ◌<◌, ◌∷◌, ◌++◌, ℕ, true, List, [], length, IfOk, IfErr, OnOk};
 ghost use Rattle.chunk.specs.Pieces.{span_of};
-ghost use Rattle.plain.specs.declared.request.Op.TheVariants.{Flush, Read, Write};
-ghost use Rattle.plain.specs.declared.request.Reply.TheVariants.{Data, Written};
-ghost use Rattle.journal.specs.declared.entry.Receipt.{Receipt};
+ghost use Rattle.plain_machine.specs.declared.request.Op.TheVariants.{Flush, Read, Write};
+ghost use Rattle.plain_machine.specs.declared.request.Reply.TheVariants.{Data, Written};
+ghost use Rattle.audit.specs.declared.entry.Receipt.{Receipt};
 ghost use Rattle.locked_volume.specs.Denying.{Begin, Serve, WasBegun, WasDenied};
 ghost use Rattle.locked_volume.specs.Fixed.{piece_at};
 ghost use Rattle.volume_threads.specs.Rigs.{HasAdded, IsPieceCut, receipts_at, seen_at};
@@ -17,12 +17,12 @@ use crate::rig::Rig;
 use crate::seat::Seat;
 use crate::sitting::Sitting;
 use crate::turns::{begin, merge_turn};
+use audit::Receipt;
 use between_threads::Gate;
 use chunk::Geometry;
-use journal::Receipt;
 use layers::Layered;
 use locked_volume::Room;
-use plain::{Dev, Op, Reply, Request, SnapId, refusal_for};
+use plain_machine::{Dev, Op, Reply, Request, SnapId, refusal_for};
 use sector::{Buf, Range, Refusal, SECTOR_BYTES};
 use std::sync::Wait;
 

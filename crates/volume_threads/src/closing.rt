@@ -1,7 +1,7 @@
 // A rig is closed.
 ghost use Rattle.std.specs.Prelude.{◌≡◌, ◌<◌, ◌++◌, ℕ, List, [], length, slice_index_or};
-ghost use Rattle.journal.specs.declared.entry.Entry.{Entry};
-ghost use Rattle.journal.specs.Books.{AuditShape};
+ghost use Rattle.audit.specs.declared.entry.Entry.{Entry};
+ghost use Rattle.audit.specs.Books.{AuditShape};
 ghost use Rattle.locked_volume.specs.AskedFor.{AddsAskedFor};
 ghost use Rattle.locked_volume.specs.Beside.{IsBeside};
 ghost use Rattle.locked_volume.specs.Fixed.{StaysFrom, fixed_of};
@@ -11,8 +11,8 @@ use crate::place::VolumePlace;
 use crate::rig::Rig;
 use crate::seat::Seat;
 use crate::worker::Worker;
+use audit::Audit;
 use between_threads::Gate;
-use journal::Audit;
 use layers::Layered;
 use locked_volume::{Beside, Post, Room};
 use std::sync::Wait;

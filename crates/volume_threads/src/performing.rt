@@ -1,7 +1,7 @@
 // One request of a seat, from its submission to its reply.
 ghost use Rattle.std.specs.Prelude.{◌≡◌, ◌≢◌, ◌*◌, ◌<◌, ℕ, List, [], length, IfErr, IfOk};
-ghost use Rattle.plain.specs.declared.request.Op.TheVariants.{Flush, Write};
-ghost use Rattle.journal.specs.declared.entry.Receipt.{Receipt};
+ghost use Rattle.plain_machine.specs.declared.request.Op.TheVariants.{Flush, Write};
+ghost use Rattle.audit.specs.declared.entry.Receipt.{Receipt};
 ghost use Rattle.locked_volume.specs.Denying.{Serve};
 ghost use Rattle.volume_threads.specs.Sittings.{IsPerformed, IsTurnedAway};
 
@@ -11,7 +11,7 @@ use crate::sitting::Sitting;
 use crate::turns::{submit, turn};
 use layers::Layered;
 use locked_volume::Room;
-use plain::{Reply, Request};
+use plain_machine::{Reply, Request};
 use sector::Refusal;
 use std::sync::Wait;
 

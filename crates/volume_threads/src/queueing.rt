@@ -5,7 +5,7 @@ ghost use Rattle.between_threads.specs.Working.{HasPut};
 use crate::queue::{QueuePass, TicketQueue};
 use between_threads::{PendingCopy, Ticket, TicketPass};
 use locked_volume::Room;
-use plain::CopyId;
+use plain_machine::CopyId;
 use std::sync::Wait;
 
 /// The copies that a call under a volume's lock started: those after the first number, up to the second.

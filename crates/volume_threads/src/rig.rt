@@ -1,8 +1,8 @@
 // A rig.
 use crate::place::VolumePlace;
 use crate::queue::TicketQueue;
+use audit::Audit;
 use between_threads::Gate;
-use journal::Audit;
 use layers::Layered;
 use locked_volume::Room;
 use std::marker::Model;

@@ -3,7 +3,7 @@ ghost use Rattle.std.specs.Prelude.{◌≡◌, ◌+◌, ◌<◌, ◌≤◌, ℕ,
 ghost use Rattle.std.specs.List.{All};
 ghost use denote.Param.Send.{IsSend, IsSync};
 ghost use Rattle.sector.specs.declared.refusal.Refusal.TheVariants.{NoMemory};
-ghost use Rattle.journal.specs.Books.{AuditShape};
+ghost use Rattle.audit.specs.Books.{AuditShape};
 ghost use Rattle.volume_threads.specs.Rigs.{IsRoomOf};
 ghost use Rattle.volume_threads.specs.Left.{AllAddAskedFor, AreLeft, NothingRan};
 ghost use Rattle.volume_threads.specs.Tasks.{AreTold, merges_among, tasks_at};
@@ -14,8 +14,8 @@ use crate::plan::Plan;
 use crate::seat_run::SeatRun;
 use crate::task::{SEATS, Task};
 use crate::{Opened, Rig, Room, Worker};
+use audit::Audit;
 use between_threads::Gate;
-use journal::Audit;
 use layers::Layered;
 use sector::Refusal;
 use std::alloc::Global;

@@ -10,7 +10,7 @@ use crate::{Rig, Room, Seat};
 use between_threads::Gate;
 use command::{SeatAnswer, words_of_data};
 use layers::Layered;
-use plain::{Dev, SnapId};
+use plain_machine::{Dev, SnapId};
 use sector::{Buf, Range, Refusal, SECTOR_BYTES};
 use std::alloc::Global;
 use std::sync::Wait;

@@ -1,7 +1,7 @@
 // What a seat is to do.
 
 use command::SeatAnswer;
-use plain::{Dev, SnapId};
+use plain_machine::{Dev, SnapId};
 use sector::{Buf, Range, Refusal};
 
 /// There are as many seats as this.

@@ -1,10 +1,10 @@
 // What a seat or a worker does while it holds a volume's lock once.
 ghost use Rattle.std.specs.Prelude.{◌≡◌, ◌≢◌, ◌*◌, ◌<◌, ◌∷◌, ℕ, true, List, [], length, IfErr, IfSome, IfNone, MatchOption, MatchResult, OnOk};
 ghost use Rattle.std.specs.Sync.Mutex.{mutex_guard_value};
-ghost use Rattle.plain.specs.declared.event.Event.TheVariants.{Issue};
-ghost use Rattle.plain.specs.declared.request.Op.TheVariants.{Flush, Write};
-ghost use Rattle.journal.specs.Seats.{Seated};
-ghost use Rattle.journal.specs.declared.entry.Receipt.{Receipt};
+ghost use Rattle.plain_machine.specs.declared.event.Event.TheVariants.{Issue};
+ghost use Rattle.plain_machine.specs.declared.request.Op.TheVariants.{Flush, Write};
+ghost use Rattle.audit.specs.Seats.{Seated};
+ghost use Rattle.audit.specs.declared.entry.Receipt.{Receipt};
 ghost use Rattle.locked_volume.specs.Denying.{Begin, Serve, WasBegun, WasDenied};
 ghost use Rattle.volume_threads.specs.Sittings.{IsAnswered, IsPerformed, IsSameSitting, IsTurnedAway, IsWaiting};
 ghost use Rattle.sector.specs.declared.refusal.Refusal.TheVariants.{NotQuiet};
@@ -14,7 +14,7 @@ use crate::queueing::Started;
 use crate::sitting::Sitting;
 use layers::Layered;
 use locked_volume::{Post, Room};
-use plain::{Event, Reply, ReqId, Request, SnapId};
+use plain_machine::{Event, Reply, ReqId, Request, SnapId};
 use sector::Refusal;
 use std::sync::{MutexGuard, Wait};
 

@@ -9,7 +9,7 @@ use crate::turns::copy;
 use between_threads::{Copies, Gate, PendingCopy, TicketPass, Tickets};
 use layers::Layered;
 use locked_volume::Room;
-use plain::Event;
+use plain_machine::Event;
 use std::sync::Wait;
 
 /// A worker of a rig, which one thread has at a time.

@@ -1,6 +1,6 @@
 -- There is a mark for each volume.
 use Rattle.std.proofs.Common.{length, ap, ◌∙◌}
-use Rattle.named_volume.specs.Tables.{table_of}
+use Rattle.device_list.specs.Tables.{table_of}
 use Rattle.block_run.proofs.Runs.{marks_many}
 use Rattle.block_run.proofs.planning.plan_of.Goals as goal
 

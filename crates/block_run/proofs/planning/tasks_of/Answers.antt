@@ -4,7 +4,7 @@ use Rattle.std.specs.Vec.Iter.{into_iter_items}
 use Rattle.std.proofs.lemmas.List.{nil_from_length}
 use Rattle.command.specs.Blocks.{AreSeats}
 use Rattle.command.specs.declared.seat_line.SeatLine.{SeatLine}
-use Rattle.named_volume.specs.Tables.{table_of}
+use Rattle.device_list.specs.Tables.{table_of}
 use Rattle.volume_threads.specs.declared.task.Task.{Task}
 use Rattle.volume_threads.specs.Tasks.{tasks_at}
 use Rattle.block_run.specs.Asking.{IsTask}

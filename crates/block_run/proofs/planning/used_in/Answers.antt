@@ -3,7 +3,7 @@ use Rattle.std.proofs.Common.{◌≡◌, ℕ, false, length, take, List, ap, ◌
 use Rattle.std.proofs.lemmas.List.{take_all}
 use Rattle.std.proofs.lemmas.List.FromFn.{fill_by_all}
 use Rattle.command.specs.declared.seat_line.SeatLine.{SeatLine}
-use Rattle.named_volume.specs.Tables.{table_of}
+use Rattle.device_list.specs.Tables.{table_of}
 use Rattle.block_run.specs.Running.{is_used}
 use Rattle.block_run.proofs.planning.used_in.Goals as goal
 

@@ -1,6 +1,6 @@
 -- The volumes of the first lines are marked.
 use Rattle.std.proofs.Common.{◌≡◌, ℕ, ◌<◌, false, get_or, length, take, vec_len}
-use Rattle.named_volume.specs.Tables.{table_of}
+use Rattle.device_list.specs.Tables.{table_of}
 use Rattle.block_run.specs.Running.{is_used}
 use Rattle.block_run.proofs.planning.used_in.Given as goal
 

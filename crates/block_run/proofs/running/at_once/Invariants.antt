@@ -2,7 +2,7 @@
 use Rattle.std.proofs.Common.{◌≡◌, ◌+◌, ◌<◌, ◌≤◌, ℕ, List, false, true, vec_len, vec_capacity}
 use Rattle.layers.specs.declared.stack.Stack.{Stack}
 use Rattle.layers.specs.Stack.{stack_layers, stack_size}
-use Rattle.journal.specs.Books.{AuditShape}
+use Rattle.audit.specs.Books.{AuditShape}
 use Rattle.volume_threads.specs.Left.{AllAddAskedFor}
 use Rattle.volume_threads.specs.Tasks.{AreTold, tasks_at}
 use Rattle.block_run.specs.Spared.{NoneAdded}

@@ -1,6 +1,6 @@
 -- The replies of all seats, and then the gate's.
 use Rattle.std.proofs.Common.{◌++◌, Bool, List, ap, subst, ◌∙◌, arith}
-use Rattle.named_volume.specs.Tables.{table_of}
+use Rattle.device_list.specs.Tables.{table_of}
 use Rattle.command.specs.declared.command_reply.CommandReply.{CommandReply}
 use Rattle.volume_threads.specs.Tasks.{tasks_at}
 use Rattle.block_run.specs.Answering.{gate_replies}

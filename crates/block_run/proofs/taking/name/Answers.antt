@@ -5,7 +5,7 @@ use Rattle.layers.specs.Stack.{stack_layers, stack_size}
 use Rattle.volume_commands.specs.Kept.{KeepsDevices}
 use Rattle.volume_commands.specs.Rested.{Rested, rested_of}
 use Rattle.volume.specs.Leaving.{is_quiet_of}
-use Rattle.named_volume.specs.Parting.{HasAll, HasBegun, named_with, place_begun, with_begun, with_requests}
+use Rattle.device_list.specs.Parting.{HasAll, HasBegun, named_with, place_begun, with_begun, with_requests}
 use Rattle.block_run.proofs.Backs.{fits, is_run, loud, stands_now}
 use Rattle.block_run.proofs.Plays.{is_made}
 use Rattle.block_run.proofs.taking.name.Goals as goal

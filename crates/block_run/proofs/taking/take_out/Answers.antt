@@ -5,7 +5,7 @@ use Rattle.layers.specs.Stack.{stack_layers}
 use Rattle.volume.specs.Volumed.{Volumed}
 use Rattle.volume_commands.specs.Recorded.{Recorded}
 use Rattle.volume_commands.specs.Rested.{Rested, is_loud_in, rested_of}
-use Rattle.named_volume.specs.Parting.{HasAll, IsParted, named_with}
+use Rattle.device_list.specs.Parting.{HasAll, IsParted, named_with}
 use Rattle.block_run.proofs.Backs.{loud_is}
 use Rattle.block_run.proofs.Outs.{as_it_was, idle}
 use Rattle.block_run.proofs.taking.take_out.Goals as goal

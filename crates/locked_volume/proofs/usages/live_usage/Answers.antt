@@ -1,6 +1,6 @@
 -- Its store overflowed, or is in use.
 use Rattle.std.proofs.Common.{ap, sym, ◌∙◌}
-use Rattle.plain.specs.Plain.{did_overflow}
+use Rattle.plain_machine.specs.Plain.{did_overflow}
 use Rattle.locked_volume.proofs.Shown.{live_shown, marked_shown}
 use Rattle.locked_volume.proofs.usages.live_usage.Goals as goal
 

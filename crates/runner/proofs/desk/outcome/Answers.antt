@@ -1,4 +1,4 @@
-use Rattle.named_volume.specs.Tables.{table_of}
+use Rattle.device_list.specs.Tables.{table_of}
 use Rattle.runner.proofs.DeskLemmas.{may_err, may_ok}
 use Rattle.runner.proofs.desk.outcome.Goals as goal
 

@@ -5,7 +5,7 @@ use Rattle.words.specs.Given.{Gives}
 use Rattle.command.specs.declared.grammar.Command.{Command}
 use Rattle.command.specs.declared.command_reply.CommandReply.{CommandReply}
 use Rattle.command_rules.specs.Changes.{ServesIf}
-use Rattle.named_volume.specs.Tables.{table_of}
+use Rattle.device_list.specs.Tables.{table_of}
 use Rattle.runner.proofs.Lawful.{command_said}
 use Rattle.runner.proofs.StepLemmas.{silent_does, refused_does, obeyed_does, placed_is, sound_said, starts_too, silent_starts}
 use Rattle.runner.specs.Asking.{IsFirst, first_refusal, line_first}

@@ -2,9 +2,9 @@ use Rattle.std.proofs.Common.{◌≡◌, [], ◌∷◌, Some, refl, sym, subst}
 use Rattle.std.specs.Prelude.{IfSome}
 use Rattle.command.specs.declared.command_reply.CommandReply.TheVariants.{Data, Done, Refused, Said}
 use Rattle.command.specs.declared.grammar.Command.{Command}
-use Rattle.named_volume.specs.Tables.{table_of}
+use Rattle.device_list.specs.Tables.{table_of}
 use Rattle.command_rules.specs.Starting.{read_asked, write_asked}
-use Rattle.named_devices.specs.Order.{IsLookedAt}
+use Rattle.device_commands.specs.Order.{IsLookedAt}
 use Rattle.runner.specs.Asking.{IsFirst, first_refusal}
 use Rattle.runner.specs.Changed.{changed_by}
 use Rattle.runner.specs.Output.{replied, told}
@@ -12,7 +12,7 @@ use Rattle.runner.specs.Steps.{reworded}
 use Rattle.runner.proofs.LeftLemmas.{asked_still, worded_asked}
 use Rattle.runner.specs.Left.{IsLeft}
 use Rattle.sector.specs.declared.refusal.Refusal.TheVariants.{JournalFull}
-use Rattle.named_devices.specs.Asked.{IsAskedMuch}
+use Rattle.device_commands.specs.Asked.{IsAskedMuch}
 use Rattle.runner.specs.Full.{entered_by}
 use Rattle.runner.proofs.FullLemmas.{data_other, done_other, said_other, worded_full, worded_never}
 use Rattle.runner.proofs.step.obey.Goals as goal

@@ -2,8 +2,8 @@ use Rattle.std.proofs.Common.{◌≡◌, [], ◌∷◌, true, Some, refl, sym, s
 use Rattle.std.specs.Prelude.{IfSome, Ok}
 use Rattle.command.specs.declared.command_reply.CommandReply.TheVariants.{Data, Done, Number, Refused, Said}
 use Rattle.command.specs.declared.grammar.Command.{Command}
-use Rattle.named_volume.specs.Tables.{table_of}
-use Rattle.named_devices.specs.Ruled.{volume_for}
+use Rattle.device_list.specs.Tables.{table_of}
+use Rattle.device_commands.specs.Ruled.{volume_for}
 use Rattle.command_rules.specs.Naming.{AreNamed}
 use Rattle.command_rules.specs.Sound.{is_sound}
 use Rattle.command_rules.specs.State.{Table}
@@ -14,7 +14,7 @@ use Rattle.command_rules.specs.Creating.{create}
 use Rattle.command_rules.specs.Journal.{enters_journal}
 use Rattle.command_rules.specs.Events.{is_merge_event, origin_by}
 use Rattle.command_rules.specs.Starting.{flush_asked, read_asked, write_asked}
-use Rattle.named_devices.specs.Order.{IsLookedAt}
+use Rattle.device_commands.specs.Order.{IsLookedAt}
 use Rattle.runner.specs.Asking.{IsFirst, first_refusal}
 use Rattle.runner.specs.Changed.{changed_by}
 use Rattle.runner.specs.Output.{IsPartDone, told}
@@ -28,10 +28,10 @@ use Rattle.runner.proofs.StepLemmas.{serves_worded}
 use Rattle.runner.proofs.LeftLemmas.{asked_both, asked_still, refused_stays, worded_asked}
 use Rattle.runner.specs.Left.{IsLeft}
 use Rattle.sector.specs.declared.refusal.Refusal.TheVariants.{JournalFull}
-use Rattle.named_devices.specs.Asked.{IsAskedMuch}
+use Rattle.device_commands.specs.Asked.{IsAskedMuch}
 use Rattle.runner.specs.Full.{entered_by}
-use Rattle.named_devices.proofs.NeverFull.{answer_never}
-use Rattle.named_devices.proofs.RulesNeverFull.{changes_never, checkpointed_never, gives_never, line_text_never, load_never, make_never, merge_resumed_never, origin_by_never, save_never, stops_never, tell_never, volume_stopped_never}
+use Rattle.device_commands.proofs.NeverFull.{answer_never}
+use Rattle.device_commands.proofs.RulesNeverFull.{changes_never, checkpointed_never, gives_never, line_text_never, load_never, make_never, merge_resumed_never, origin_by_never, save_never, stops_never, tell_never, volume_stopped_never}
 use Rattle.runner.proofs.FullLemmas.{data_other, done_other, number_other, said_other, settled_never, stepped_never, told_never, worded_full, worded_never}
 use Rattle.runner.proofs.step.obey_any.Goals as goal
 

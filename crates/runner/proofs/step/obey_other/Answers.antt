@@ -1,7 +1,7 @@
 use Rattle.std.proofs.Common.{◌≡◌, subst}
 use Rattle.std.specs.Prelude.{IfSome}
 use Rattle.command.specs.declared.grammar.Command.{Command}
-use Rattle.named_volume.specs.Tables.{table_of}
+use Rattle.device_list.specs.Tables.{table_of}
 use Rattle.runner.specs.Asking.{first_refusal}
 use Rattle.runner.proofs.step.obey_other.Goals as goal
 

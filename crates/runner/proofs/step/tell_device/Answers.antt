@@ -1,4 +1,4 @@
-use Rattle.named_volume.specs.Tables.{table_of}
+use Rattle.device_list.specs.Tables.{table_of}
 use Rattle.runner.proofs.StepLemmas.{told_done}
 use Rattle.runner.proofs.step.tell_device.Goals as goal
 

@@ -20,8 +20,8 @@ use Rattle.snapshot.specs.Kept.{Kept}
 use Rattle.snapshot.specs.StopsOpening.{Leaves, MayOpen, MayPrepareAll}
 use Rattle.snapshot.specs.Opening.{ChangesFront, IsOpenedAs, prepared}
 use Rattle.sector.specs.declared.refusal.Refusal.TheVariants.{Io as IoRefusal}
-use Rattle.settled.specs.Attaching.{done, refuse}
-use Rattle.settled.specs.Devices.{Device}
+use Rattle.big_steps.specs.Attaching.{done, refuse}
+use Rattle.big_steps.specs.Devices.{Device}
 use Rattle.snapshot.specs.Attaching.{device_of, writes_by}
 use Rattle.snapshot.proofs.Loads.{origin_goes}
 use Rattle.snapshot.proofs.Leaves.{leaves_same, leaves_then, may_open}

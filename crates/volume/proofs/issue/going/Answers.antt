@@ -1,7 +1,7 @@
 -- The request that was found.
 use Rattle.std.proofs.Common.{ap, sym, nat_eq}
 use Rattle.in_flight.specs.declared.flights.Flight.{Flight}
-use Rattle.snapshots.proofs.Finds.{position_within}
+use Rattle.snapshot_list.proofs.Finds.{position_within}
 use Rattle.volume.proofs.Issued.{issued_at, issued_none}
 use Rattle.volume.proofs.issue.going.Goals as goal
 

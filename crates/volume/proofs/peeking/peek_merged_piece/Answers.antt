@@ -2,7 +2,7 @@
 use Rattle.std.proofs.Common.{◌≡◌, ◌+◌, ◌*◌, ◌/◌, ◌%◌, ◌<◌, Some, None, ap, ◌∙◌, sym, arith}
 use Rattle.sector.specs.Bytes.{sectors_at}
 use Rattle.store_bytes.specs.Picture.{place_of}
-use Rattle.settled.proofs.PictureSectors.{one_of}
+use Rattle.big_steps.proofs.PictureSectors.{one_of}
 use Rattle.volume.proofs.Listed.{listed_plain, listed_copied, place_by}
 use Rattle.volume.proofs.Peeked.{place_low, place_high}
 use Rattle.volume.proofs.peeking.peek_merged_piece.Goals as goal

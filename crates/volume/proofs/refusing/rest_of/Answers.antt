@@ -2,7 +2,7 @@
 use Rattle.std.proofs.Common.{◌≡◌, ◌-◌, ◌%◌, bit_and, sym, subst, ◌∙◌}
 use Rattle.std.proofs.lemmas.Nat.{and_mask}
 use Rattle.std.specs.Int.{w32, trailing_zeros}
-use Rattle.snapshots.proofs.Shifts.{power_is}
+use Rattle.snapshot_list.proofs.Shifts.{power_is}
 use Rattle.volume.proofs.refusing.rest_of.Goals as goal
 
 pub returns-then-is_power_of_two : goal.returns-then-is_power_of_two

@@ -1,6 +1,6 @@
 -- The request was served, or refused.
 use Rattle.std.proofs.Common.{inl, inr, subst, List}
-use Rattle.plain.specs.declared.request.Replied.{Replied}
+use Rattle.plain_machine.specs.declared.request.Replied.{Replied}
 use Rattle.volume_commands.specs.Rested.{rested_of}
 use Rattle.volume_commands.specs.Draining.{IsAnsweredAmong}
 use Rattle.volume_commands.proofs.Seen.{devices_kept, devices_more}

@@ -1,8 +1,8 @@
 -- The piece was read, or failed.
 use Rattle.std.proofs.Common.{◌++◌, List, ℕ, refl, ◌∙◌, ap, sym}
 use Rattle.chunk.specs.Pieces.{span_of}
-use Rattle.plain.specs.declared.request.Op.TheVariants.{Read}
-use Rattle.plain.specs.declared.request.Reply.TheVariants.{Data, Written, Flushed}
+use Rattle.plain_machine.specs.declared.request.Op.TheVariants.{Read}
+use Rattle.plain_machine.specs.declared.request.Reply.TheVariants.{Data, Written, Flushed}
 use Rattle.volume_commands.proofs.Amongs.{piece_served, piece_failed, piece_refused}
 use Rattle.volume_commands.proofs.AmongRuns.{cut_same, cut_none}
 use Rattle.volume.proofs.Submits.{not_full}

@@ -1,8 +1,8 @@
 -- The piece was written, or failed.
 use Rattle.std.proofs.Common.{◌-◌, take, drop, refl, ap, sym, ◌∙◌}
 use Rattle.chunk.specs.Pieces.{span_of}
-use Rattle.plain.specs.declared.request.Op.TheVariants.{Write}
-use Rattle.plain.specs.declared.request.Reply.TheVariants.{Written, Flushed}
+use Rattle.plain_machine.specs.declared.request.Op.TheVariants.{Write}
+use Rattle.plain_machine.specs.declared.request.Reply.TheVariants.{Written, Flushed}
 use Rattle.volume_commands.proofs.Amongs.{piece_served, piece_failed, piece_refused}
 use Rattle.volume.proofs.Submits.{not_full}
 use Rattle.volume_commands.proofs.among_pieces.write_piece_among.Goals as goal

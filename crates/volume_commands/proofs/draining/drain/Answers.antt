@@ -1,7 +1,7 @@
 -- One event more is done; and none is left.
 use Rattle.std.proofs.Common.{None, refl, sym, ◌∙◌, arith}
 use Rattle.std.proofs.lemmas.List.{append-nil}
-use Rattle.plain.specs.declared.event.Outcome.TheVariants.{Done, Fault, Reply as Answered}
+use Rattle.plain_machine.specs.declared.event.Outcome.TheVariants.{Done, Fault, Reply as Answered}
 use Rattle.volume_commands.proofs.Drained.{drained_merged, quiet_more, quiet_start}
 use Rattle.volume_commands.proofs.Drains.{drains_more, drains_start, step_is}
 use Rattle.volume_commands.proofs.MergeFollows.{drains_on, quiet_on}

@@ -1,7 +1,7 @@
 -- One event more is done; and none is left, or one of a merge is due.
 use Rattle.std.proofs.Common.{refl, sym, ◌∙◌, arith}
 use Rattle.std.proofs.lemmas.List.{append-nil}
-use Rattle.plain.specs.declared.event.Outcome.TheVariants.{Done, Fault, Reply as Answered}
+use Rattle.plain_machine.specs.declared.event.Outcome.TheVariants.{Done, Fault, Reply as Answered}
 use Rattle.volume_commands.proofs.Drains.{apart_next, step_is}
 use Rattle.volume_commands.proofs.Seen.{devices_kept}
 use Rattle.volume_commands.proofs.Takings.{takes_then}

@@ -2,8 +2,8 @@
 use Rattle.std.proofs.Common.{◌≡◌, ◌++◌, List, true, false, refl, sym, ◌∙◌, ap, arith}
 use Rattle.std.specs.Prelude.{◌&&◌}
 use Rattle.std.proofs.lemmas.List.{append-nil}
-use Rattle.plain.specs.declared.event.Outcome.TheVariants.{Done, Fault, Reply as Answered}
-use Rattle.plain.specs.declared.request.Replied.{Replied}
+use Rattle.plain_machine.specs.declared.event.Outcome.TheVariants.{Done, Fault, Reply as Answered}
+use Rattle.plain_machine.specs.declared.request.Replied.{Replied}
 use Rattle.volume.specs.EventKinds.{is_of_merge}
 use Rattle.volume_commands.proofs.Drains.{for_next, for_start, goes_apart, goes_untold, other_reply, other_tells, other_told, own_reply, own_tells, own_told, step_is, told_before, told_now}
 use Rattle.volume_commands.proofs.Seen.{devices_kept}

@@ -1,11 +1,11 @@
 -- The flush was done, or refused.
 use Rattle.std.proofs.Common.{inl, inr, refl, ◌∙◌, ap, sym}
-use Rattle.plain.specs.declared.request.Reply.TheVariants.{Written, Flushed, Refused}
+use Rattle.plain_machine.specs.declared.request.Reply.TheVariants.{Written, Flushed, Refused}
 use Rattle.volume_commands.specs.Rested.{rested_of, merged_of}
 use Rattle.volume_commands.proofs.Going.{chunks_by}
 use Rattle.volume_commands.proofs.WriteRuns.{answer}
 use Rattle.volume_commands.proofs.Flushes.{flush_can, flush_did, flush_good, plain_flush, plain_flush_refused}
-use Rattle.plain.specs.declared.request.Op.TheVariants.{Flush}
+use Rattle.plain_machine.specs.declared.request.Op.TheVariants.{Flush}
 use Rattle.volume_commands.specs.Among.{flush_piece}
 use Rattle.volume_commands.proofs.AtRest.{piece_answered, piece_failed, piece_untaken}
 use Rattle.volume.proofs.Submits.{not_full}

@@ -1,6 +1,6 @@
 -- The flush was done, or failed.
-use Rattle.plain.specs.declared.request.Op.TheVariants.{Flush}
-use Rattle.plain.specs.declared.request.Reply.TheVariants.{Written, Flushed}
+use Rattle.plain_machine.specs.declared.request.Op.TheVariants.{Flush}
+use Rattle.plain_machine.specs.declared.request.Reply.TheVariants.{Written, Flushed}
 use Rattle.std.proofs.Common.{refl, sym, ◌∙◌}
 use Rattle.volume_commands.specs.Among.{flush_piece}
 use Rattle.volume_commands.proofs.Amongs.{piece_served, piece_failed, piece_refused}

@@ -1,5 +1,5 @@
 -- The event was done, or it was not due.
-use Rattle.plain.specs.declared.event.Outcome.TheVariants.{Done, Fault, Reply as Answered}
+use Rattle.plain_machine.specs.declared.event.Outcome.TheVariants.{Done, Fault, Reply as Answered}
 use Rattle.volume_commands.proofs.AtRest.{due_is}
 use Rattle.volume_commands.proofs.Carrying.{done_carried, not_carried}
 use Rattle.volume_commands.proofs.following.carry_one.Goals as goal

@@ -1,7 +1,7 @@
 -- The events of the snapshot that has the copy, as many as were done, or none; and what is due next after all.
 use Rattle.std.proofs.Common.{ℕ, List, [], ◌∷◌, inl, refl}
-use Rattle.plain.specs.declared.event.Event.{Event}
-use Rattle.plain.specs.declared.event.Event.TheVariants.{FlushStore, WriteArea, Publish}
+use Rattle.plain_machine.specs.declared.event.Event.{Event}
+use Rattle.plain_machine.specs.declared.event.Event.TheVariants.{FlushStore, WriteArea, Publish}
 use Rattle.volume_commands.proofs.Carrying.{alone_followed, none_so, out_after, out_at, read_followed}
 use Rattle.volume_commands.proofs.NextRead.{if_both}
 use Rattle.volume_commands.proofs.Takings.{takes_none}

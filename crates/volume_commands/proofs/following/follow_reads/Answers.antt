@@ -1,6 +1,6 @@
 -- The read of a copy, and what follows it, go on from what was reached so far; and the read that is due next was due first.
 use Rattle.std.proofs.Common.{[], ◌∷◌, sym, subst}
-use Rattle.plain.specs.declared.event.Event.{Event}
+use Rattle.plain_machine.specs.declared.event.Event.{Event}
 use Rattle.volume_commands.specs.Following.{AreCarried}
 use Rattle.volume_commands.proofs.Carrying.{so_then}
 use Rattle.volume_commands.proofs.Runs.{next_goes, next_read, read_goes}

@@ -5,7 +5,7 @@ use Rattle.std.specs.List.{list_all, list_any, position}
 use Rattle.std.proofs.lemmas.Bool.{and_parts}
 use Rattle.in_flight.specs.declared.copies.Stage.TheVariants.{Read}
 use Rattle.snapshot.specs.Kept.{Kept}
-use Rattle.snapshots.specs.Finding.{is_copy_of}
+use Rattle.snapshot_list.specs.Finding.{is_copy_of}
 use Rattle.volume_commands.specs.Following.{StandsAt, is_alone, is_of_origin}
 use Rattle.volume_commands.specs.Places.{Counted}
 use Rattle.volume_commands.proofs.OnlyCopies.{alone_at, position_any}

@@ -2,7 +2,7 @@
 use Rattle.std.proofs.Common.{◌<◌, ◌∙◌, List, arith, length, map, sym, ap, subst}
 use Rattle.in_flight.specs.declared.flights.Flight.{Flight}
 use Rattle.snapshot.specs.Kept.{Kept, due_of_kept}
-use Rattle.snapshots.specs.Busy.{waiting_due}
+use Rattle.snapshot_list.specs.Busy.{waiting_due}
 use Rattle.volume_commands.specs.Following.{StandsAt}
 use Rattle.volume_commands.specs.Places.{Counted}
 use Rattle.volume_commands.proofs.NextRead.{if_any, if_is}

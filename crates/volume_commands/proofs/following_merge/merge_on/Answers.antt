@@ -1,6 +1,6 @@
 -- The event was due, and so the one that is due first; no event of a merge is answered.
 use Rattle.std.proofs.Common.{◌≡◌, true, refl, sym}
-use Rattle.plain.specs.declared.event.Outcome.TheVariants.{Done, Fault}
+use Rattle.plain_machine.specs.declared.event.Outcome.TheVariants.{Done, Fault}
 use Rattle.volume.specs.Volumed.{is_due_of}
 use Rattle.volume_commands.proofs.Drains.{step_is}
 use Rattle.volume_commands.proofs.MergeFollows.{merged_one}

@@ -1,10 +1,10 @@
 -- The bytes of the reply are what was read.
 use Rattle.std.proofs.Common.{refl, ◌∙◌, ap, sym}
-use Rattle.plain.specs.declared.request.Reply.TheVariants.{Data, Written, Flushed}
+use Rattle.plain_machine.specs.declared.request.Reply.TheVariants.{Data, Written, Flushed}
 use Rattle.volume_commands.specs.Rested.{rested_of, merged_of}
 use Rattle.volume_commands.proofs.WriteRuns.{answer}
 use Rattle.chunk.specs.Pieces.{span_of}
-use Rattle.plain.specs.declared.request.Op.TheVariants.{Read}
+use Rattle.plain_machine.specs.declared.request.Op.TheVariants.{Read}
 use Rattle.volume_commands.proofs.AtRest.{piece_answered, piece_failed, piece_untaken}
 use Rattle.volume.proofs.Submits.{not_full}
 use Rattle.volume_commands.proofs.pieces.read_alone.Goals as goal

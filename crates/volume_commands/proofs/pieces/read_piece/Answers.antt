@@ -1,11 +1,11 @@
 -- All that was read comes after what was there.
 use Rattle.std.proofs.Common.{◌*◌, ◌++◌, List, ℕ, refl, ◌∙◌, ap, sym}
 use Rattle.chunk.specs.Pieces.{span_of}
-use Rattle.plain.specs.declared.request.Reply.TheVariants.{Data, Written, Flushed}
+use Rattle.plain_machine.specs.declared.request.Reply.TheVariants.{Data, Written, Flushed}
 use Rattle.volume_commands.specs.Rested.{rested_of, merged_of}
 use Rattle.volume_commands.proofs.WriteRuns.{answer}
 use Rattle.volume_commands.proofs.Reading.{whole_taken}
-use Rattle.plain.specs.declared.request.Op.TheVariants.{Read}
+use Rattle.plain_machine.specs.declared.request.Op.TheVariants.{Read}
 use Rattle.volume_commands.specs.Among.{IsRequestOf}
 use Rattle.volume_commands.proofs.AmongRuns.{cut_same}
 use Rattle.volume_commands.proofs.AtRest.{piece_answered, piece_failed, piece_untaken, read_whole}

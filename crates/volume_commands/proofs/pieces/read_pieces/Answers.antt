@@ -3,12 +3,12 @@ use Rattle.std.proofs.Common.{◌≡◌, None, ℕ, ◌+◌, ◌*◌, List, [], 
 use Rattle.sector.specs.declared.refusal.Refusal.{Refusal}
 use Rattle.chunk.specs.Pieces.{Span, span_of, pieces_of}
 use Rattle.chunk.proofs.Limits.{is_chunk-some, is_chunk-small}
-use Rattle.plain.specs.declared.request.Op.TheVariants.{Read}
-use Rattle.plain.specs.declared.request.Reply.{Reply}
-use Rattle.plain.specs.declared.request.Reply.TheVariants.{Data}
+use Rattle.plain_machine.specs.declared.request.Op.TheVariants.{Read}
+use Rattle.plain_machine.specs.declared.request.Reply.{Reply}
+use Rattle.plain_machine.specs.declared.request.Reply.TheVariants.{Data}
 use Rattle.chunk.proofs.Runs.{StandsAt, first_piece, stands_first, stands_next, stands_last}
-use Rattle.settled.specs.Beside.{read_beside}
-use Rattle.settled.specs.Commands.{bytes_in}
+use Rattle.big_steps.specs.Beside.{read_beside}
+use Rattle.big_steps.specs.Commands.{bytes_in}
 use Rattle.volume.specs.Volumed.{piece_with}
 use Rattle.volume_commands.specs.Rested.{rested_of, merged_of, IsSettled}
 use Rattle.volume_commands.specs.AtRest.{AreReadAtRest, IsPieceAnswered, IsPieceUndone, IsReadUndone}

@@ -2,9 +2,9 @@
 use Rattle.std.proofs.Common.{◌-◌, inl, ℕ, List, take, drop, refl, ap, sym, subst, ◌∙◌}
 use Rattle.std.specs.Prelude.{IfErr}
 use Rattle.chunk.specs.Pieces.{span_of}
-use Rattle.plain.specs.declared.request.Op.TheVariants.{Write}
-use Rattle.plain.specs.declared.request.Reply.{Reply}
-use Rattle.plain.specs.declared.request.Reply.TheVariants.{Written, Flushed, Refused}
+use Rattle.plain_machine.specs.declared.request.Op.TheVariants.{Write}
+use Rattle.plain_machine.specs.declared.request.Reply.{Reply}
+use Rattle.plain_machine.specs.declared.request.Reply.TheVariants.{Written, Flushed, Refused}
 use Rattle.volume_commands.specs.AtRest.{IsPieceUndone}
 use Rattle.volume_commands.specs.Commands.{IsDoneBy}
 use Rattle.volume_commands.specs.Rested.{rested_of}

@@ -1,8 +1,8 @@
 -- The piece was written, or was not.
 use Rattle.std.proofs.Common.{refl, sym, ◌∙◌}
 use Rattle.chunk.specs.Pieces.{span_of}
-use Rattle.plain.specs.declared.request.Op.TheVariants.{Write}
-use Rattle.plain.specs.declared.request.Reply.TheVariants.{Written, Flushed}
+use Rattle.plain_machine.specs.declared.request.Op.TheVariants.{Write}
+use Rattle.plain_machine.specs.declared.request.Reply.TheVariants.{Written, Flushed}
 use Rattle.volume.specs.Lent.{origin_write}
 use Rattle.volume.proofs.Submits.{not_full}
 use Rattle.volume_commands.proofs.AtRest.{piece_answered, piece_failed, piece_untaken}

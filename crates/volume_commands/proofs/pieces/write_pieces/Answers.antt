@@ -2,7 +2,7 @@
 use Rattle.std.proofs.Common.{None, ℕ, List, ◌+◌, ◌-◌, ◌*◌, take, drop, refl, ◌∙◌, ap, subst, sym, arith}
 use Rattle.chunk.specs.Pieces.{span_of, pieces_of}
 use Rattle.chunk.proofs.Limits.{is_chunk-some, is_chunk-small}
-use Rattle.plain.specs.declared.request.Op.TheVariants.{Write}
+use Rattle.plain_machine.specs.declared.request.Op.TheVariants.{Write}
 use Rattle.chunk.proofs.Runs.{StandsAt, first_piece, stands_first, stands_next, stands_last}
 use Rattle.volume.specs.Volumed.{piece_with}
 use Rattle.volume_commands.specs.Serving.{CanServe}

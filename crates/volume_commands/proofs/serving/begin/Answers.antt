@@ -1,9 +1,9 @@
 -- Accepted, answered at once, or starved.
 use Rattle.std.proofs.Common.{◌∙◌, Some, None, ap, arith, inl, inr, refl, subst}
 use Rattle.sector.specs.declared.refusal.Refusal.{Refusal}
-use Rattle.plain.specs.declared.request.Reply.TheVariants.{Refused}
-use Rattle.plain.specs.declared.request.Failure.TheVariants.{Invalid, Overflow}
-use Rattle.settled.specs.Refusals.{is_starved}
+use Rattle.plain_machine.specs.declared.request.Reply.TheVariants.{Refused}
+use Rattle.plain_machine.specs.declared.request.Failure.TheVariants.{Invalid, Overflow}
+use Rattle.big_steps.specs.Refusals.{is_starved}
 use Rattle.volume.specs.Leaving.{has_group_in}
 use Rattle.volume.specs.Submitting.{IsRefusedAs}
 use Rattle.volume.proofs.Quieted.{quiet_free}

@@ -1,6 +1,6 @@
 -- The piece was written, or failed, or was not taken.
 use Rattle.std.proofs.Common.{◌∙◌, Some, ap, arith}
-use Rattle.plain.specs.declared.request.Reply.TheVariants.{Refused}
+use Rattle.plain_machine.specs.declared.request.Reply.TheVariants.{Refused}
 use Rattle.volume.specs.Lent.{origin_write}
 use Rattle.volume.specs.Leaving.{is_quiet_of}
 use Rattle.volume.specs.Volumed.{Volumed, piece_with}

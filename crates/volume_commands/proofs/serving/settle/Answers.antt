@@ -1,8 +1,8 @@
 -- One event more is done; and none is left.
 use Rattle.std.proofs.Common.{Some, refl, sym, ◌∙◌, subst}
 use Rattle.std.proofs.lemmas.Bool.{true≢false}
-use Rattle.plain.specs.declared.event.Event.{Event}
-use Rattle.plain.specs.declared.event.Outcome.TheVariants.{Done, Fault, Reply as Answered}
+use Rattle.plain_machine.specs.declared.event.Event.{Event}
+use Rattle.plain_machine.specs.declared.event.Outcome.TheVariants.{Done, Fault, Reply as Answered}
 use Rattle.volume.specs.Exact.{IsExact}
 use Rattle.volume_commands.specs.Following.{IsDoneHere}
 use Rattle.volume_commands.proofs.AtRest.{done_none, done_one, done_then, due_is, still_never}

@@ -3,7 +3,7 @@ use Rattle.std.proofs.Common.{◌≡◌, ℕ, Bool, ◌+◌, ◌-◌, ◌<◌, L
 use Rattle.std.specs.List.{All}
 use Rattle.std.proofs.lemmas.List.{get_or-map}
 use Rattle.volume_threads.specs.Rigs.{IsSettledAt, SeatShape, fixed_in, receipts_at, start_in}
-use Rattle.journal.specs.declared.entry.Entry.{Entry}
+use Rattle.audit.specs.declared.entry.Entry.{Entry}
 use Rattle.locked_volume.specs.Fixed.{Fixed}
 use Rattle.volume_threads.specs.Left.{AllAddAskedFor, AreLeft, NothingRan}
 use Rattle.volume_threads.specs.Tasks.{IsEnded, MayMerge, denied_of, pieces_at, tasks_at}

@@ -2,8 +2,8 @@
 use Rattle.std.proofs.Common.{rules, ◌≡◌, ◌<◌, ◌^◌, List, [], length, arith, sym, ◌∙◌}
 use Rattle.std.specs.Prelude.{OnOk, IfSome}
 use Rattle.std.specs.Io.KnownBytes.{Appends}
-use Rattle.named_volume.specs.Tables.{table_of}
-use Rattle.plain.specs.declared.request.Replied.{Replied}
+use Rattle.device_list.specs.Tables.{table_of}
+use Rattle.plain_machine.specs.declared.request.Replied.{Replied}
 use Rattle.command.specs.declared.command_reply.CommandReply.{CommandReply}
 use Rattle.runner.specs.Asking.{line_first}
 use Rattle.runner.specs.Ended.{line_replies}

@@ -2,7 +2,7 @@
 use Rattle.std.proofs.Common.{rules, ◌∷◌, ◌++◌, List, [], ap, sym, ◌∙◌}
 use Rattle.std.specs.Prelude.{OnOk}
 use Rattle.std.specs.Io.KnownBytes.{Appends}
-use Rattle.named_volume.specs.Tables.{table_of}
+use Rattle.device_list.specs.Tables.{table_of}
 use Rattle.command.specs.declared.command_reply.CommandReply.{CommandReply}
 use Rattle.command.specs.declared.command_reply.CommandReply.TheVariants.{Done}
 use Rattle.runner.specs.Counts.{with_reply}

@@ -1,7 +1,7 @@
 -- A new snapshot has the pairs that its store's bytes hold, and nothing under way.
 use Rattle.std.proofs.Common.{◌≡◌, ◌*◌, ◌∙◌, ap, length, sym, refl, [], Bool, true, false}
 use Rattle.std.proofs.lemmas.Bool.{false≢true, true≢false}
-use Rattle.plain.specs.Plain.{did_overflow, overflow_of}
+use Rattle.plain_machine.specs.Plain.{did_overflow, overflow_of}
 use Rattle.store.specs.Held.{committed, pending, pairs_pending}
 use Rattle.store.specs.Loading.{is_begun}
 use Rattle.snapshot.proofs.Stores.{store_holds, store_alone, none_pending}

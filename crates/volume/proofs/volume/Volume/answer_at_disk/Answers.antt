@@ -2,8 +2,8 @@
 use Rattle.std.proofs.Common.{◌≡◌, ◌-◌, ◌*◌, ◌∙◌, [], None, true, false, arith, ap, length, refl, subst, sym}
 use Rattle.std.proofs.lemmas.List.{with_items_is}
 use Rattle.device.specs.declared.operation.Operation.TheVariants.{Reads}
-use Rattle.plain.specs.declared.request.Op.{Op}
-use Rattle.plain.specs.declared.request.Op.TheVariants.{Write}
+use Rattle.plain_machine.specs.declared.request.Op.{Op}
+use Rattle.plain_machine.specs.declared.request.Op.TheVariants.{Write}
 use Rattle.in_flight.specs.Due.{is_routed}
 use Rattle.in_flight.specs.Kinds.{room_at}
 use Rattle.in_flight.specs.declared.flights.Flight.{Flight}

@@ -2,7 +2,7 @@
 use Rattle.std.proofs.Common.{◌≡◌, ◌*◌, ◌+◌, ◌<◌, ◌≤◌, ℕ, List, [], ◌∷◌, ◌++◌, length, inl, inr, get_or, refl, sym, ◌∙◌, ap, subst, arith, true, false, Option, ⊎_elim}
 use Rattle.std.specs.Prelude.{Some, None}
 use Rattle.std.specs.Option.{is_some}
-use Rattle.plain.specs.Plain.{overflow_of}
+use Rattle.plain_machine.specs.Plain.{overflow_of}
 use Rattle.volume_laws.specs.Steps.{IsNewSnap}
 use Rattle.cow_header.specs.HeaderText.{found_in}
 use Rattle.sector.specs.Bytes.{sector_at}
@@ -14,7 +14,7 @@ use Rattle.store.specs.Opening.{IsRefused}
 use Rattle.snapshot.specs.Opening.{shown_array}
 use Rattle.snapshot.proofs.Openings.{opened_origin}
 use Rattle.volume.specs.Volumed.{Volumed, plain_of}
-use Rattle.snapshots.specs.Numbers.{numbers_in}
+use Rattle.snapshot_list.specs.Numbers.{numbers_in}
 use Rattle.volume.specs.Whole.{IsCounted}
 use Rattle.volume.specs.Leaving.{is_quiet_of}
 use Rattle.volume.specs.Taking.{attach_refusal}
@@ -22,7 +22,7 @@ use Rattle.volume.proofs.Quieted.{quiet_flights}
 use Rattle.volume.proofs.Attaches.{attach_fresh, taking_none, none_begun, whole_taken, plain_taken_as}
 use Rattle.chunk.specs.Sizes.{is_chunk}
 use Rattle.chunk.proofs.Limits.{is_chunk-some}
-use Rattle.plain.specs.Legal.{IsTaken}
+use Rattle.plain_machine.specs.Legal.{IsTaken}
 use Rattle.sector.specs.declared.refusal.Refusal.{Refusal}
 use Rattle.sector.specs.declared.refusal.Refusal.TheVariants.{NoMemory}
 use Rattle.volume.specs.Moved.{device_of}
@@ -36,7 +36,7 @@ use Rattle.volume.proofs.Lefts.{all_same}
 use Rattle.volume.proofs.OriginLasts.{origin_met}
 use Rattle.volume.proofs.MergeStarts.{new_lasts}
 use Rattle.volume.proofs.BeginLasts.{attached_all}
-use Rattle.settled.proofs.Starved.{other_memory, starved_by}
+use Rattle.big_steps.proofs.Starved.{other_memory, starved_by}
 use Rattle.volume.specs.Layering.{Measures}
 use Rattle.volume.proofs.Between.{not_attached, not_tried}
 use Rattle.volume.proofs.volume.Volume.attach.Goals as goal

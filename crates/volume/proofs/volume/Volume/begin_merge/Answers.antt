@@ -5,8 +5,8 @@ use Rattle.std.proofs.lemmas.List.{get_or_default}
 use Rattle.store.specs.Held.{committed}
 use Rattle.store.specs.declared.state.State.{State}
 use Rattle.snapshot.specs.Kept.{Kept}
-use Rattle.snapshots.specs.Finding.{place_of_snap}
-use Rattle.snapshots.specs.Keeping.{unkept, kept_for}
+use Rattle.snapshot_list.specs.Finding.{place_of_snap}
+use Rattle.snapshot_list.specs.Keeping.{unkept, kept_for}
 use Rattle.volume.specs.Beginning.{begin_refusal}
 use Rattle.volume.specs.Volumed.{Volumed}
 use Rattle.volume.proofs.Beginnings.{twice_unkept, made_from, alone, calm, within, live_now, number_now, idle_now, unmarked_now, chunk_now, whole_after, plain_after, exact_after, loud_after, is_begun, all_unkept, there}

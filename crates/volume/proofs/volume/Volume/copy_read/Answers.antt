@@ -3,9 +3,9 @@ use Rattle.std.proofs.Common.{◌≡◌, ◌<◌, true, false, Some, refl, sym, 
 use Rattle.std.specs.List.{position}
 use Rattle.in_flight.specs.declared.copies.Stage.TheVariants.{Waiting}
 use Rattle.in_flight.specs.Routes.{refused_of}
-use Rattle.snapshots.specs.Finding.{is_copy_of, has_copy_at}
+use Rattle.snapshot_list.specs.Finding.{is_copy_of, has_copy_at}
 use Rattle.volume.proofs.Changing.{SameDisk, same_disk}
-use Rattle.snapshots.proofs.Finds.{position_within}
+use Rattle.snapshot_list.proofs.Finds.{position_within}
 use Rattle.volume.proofs.DueEvents.{due_by, copy_found, copy_due}
 use Rattle.volume.proofs.CopyEvents.{read_good, read_fault, copy_lives, copy_is}
 use Rattle.snapshot.specs.Kept.{Kept}

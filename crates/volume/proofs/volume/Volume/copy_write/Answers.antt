@@ -5,9 +5,9 @@ use Rattle.std.proofs.lemmas.List.{get_or_default}
 use Rattle.device.specs.Layers.{is_loud}
 use Rattle.in_flight.specs.declared.copies.Stage.TheVariants.{Read}
 use Rattle.in_flight.specs.Routes.{refused_of}
-use Rattle.snapshots.specs.Finding.{is_copy_of, has_copy_at}
+use Rattle.snapshot_list.specs.Finding.{is_copy_of, has_copy_at}
 use Rattle.volume.proofs.Changing.{same_disk}
-use Rattle.snapshots.proofs.Finds.{position_within}
+use Rattle.snapshot_list.proofs.Finds.{position_within}
 use Rattle.volume.proofs.DueEvents.{due_by, copy_found, copy_due}
 use Rattle.volume.proofs.CopyEvents.{write_good, write_fault, copy_lives, copy_is, copy_stage}
 use Rattle.snapshot.specs.Kept.{Kept}

@@ -4,8 +4,8 @@ use Rattle.std.proofs.lemmas.List.{get_or_default}
 use Rattle.snapshot.specs.Kept.{Kept}
 use Rattle.volume.specs.Leaving.{IsWithout}
 use Rattle.volume.specs.Volumed.{Volumed}
-use Rattle.snapshots.proofs.Finds.{position_within}
-use Rattle.snapshots.specs.Finding.{place_of_snap}
+use Rattle.snapshot_list.proofs.Finds.{position_within}
+use Rattle.snapshot_list.specs.Finding.{place_of_snap}
 use Rattle.volume.proofs.Leaves.{whole_left, plain_left_as, found_place, without_loud}
 use Rattle.volume.proofs.Quieted.{quiet_flights}
 use Rattle.volume.specs.SnapLasting.{SnapLasting}

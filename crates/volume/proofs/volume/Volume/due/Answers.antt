@@ -2,7 +2,7 @@
 use Rattle.std.proofs.Common.{◌≡◌, true, false, None, Some, refl, sym, ap, map, ◌∙◌, subst}
 use Rattle.std.proofs.lemmas.Bool.{false≢true}
 use Rattle.std.specs.Prelude.{IfNone, IfSome, Option}
-use Rattle.plain.specs.declared.event.Event.{Event}
+use Rattle.plain_machine.specs.declared.event.Event.{Event}
 use Rattle.volume_laws.specs.Due.{due_of}
 use Rattle.volume_laws.specs.MergeDue.{has_group, merge_due as due_of_merge}
 use Rattle.snapshot.specs.Kept.{due_of_kept, books_of as snap_books}

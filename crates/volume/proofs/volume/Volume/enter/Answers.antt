@@ -1,8 +1,8 @@
 -- The request is the last in flight.
 use Rattle.std.proofs.Common.{◌≡◌, ◌≢◌, ◌+◌, ◌<◌, ℕ, List, [], length, sym, ◌∙◌, ap, subst, arith}
 use Rattle.std.specs.List.{All}
-use Rattle.plain.specs.Legal.{IsSubmitted}
-use Rattle.plain.specs.declared.request.Request.{Request}
+use Rattle.plain_machine.specs.Legal.{IsSubmitted}
+use Rattle.plain_machine.specs.declared.request.Request.{Request}
 use Rattle.in_flight.specs.declared.flights.Flight.{Flight}
 use Rattle.volume_laws.specs.Accepting.{IsTakenIn}
 use Rattle.volume.specs.Volumed.{Volumed, books_of, plain_of}

@@ -1,7 +1,7 @@
 -- The merge is taken out, and its store's device is given back.
 use Rattle.std.proofs.Common.{◌≡◌, None, Some, map, refl, sym, ◌∙◌, ap, subst, Option}
 use Rattle.merge.specs.Merging.{Merging}
-use Rattle.snapshots.specs.Keeping.{unkept}
+use Rattle.snapshot_list.specs.Keeping.{unkept}
 use Rattle.volume.specs.Finishing.{finish_refusal, finish_with}
 use Rattle.volume.specs.Volumed.{Volumed, is_loud_in_all}
 use Rattle.volume.proofs.Finishes.{back}

@@ -1,11 +1,11 @@
 -- A flush of the origin is issued at the merging store.
 use Rattle.std.proofs.Common.{◌≡◌, ◌∙◌, sym, ap, Some, get_or, nat_eq, arith, refl, subst, ◌<◌}
 use Rattle.std.specs.List.{position}
-use Rattle.plain.specs.declared.request.Dev.TheVariants.{Origin as AtOrigin}
+use Rattle.plain_machine.specs.declared.request.Dev.TheVariants.{Origin as AtOrigin}
 use Rattle.in_flight.specs.declared.flights.Flight.{Flight}
 use Rattle.in_flight.specs.declared.flights.Route.TheVariants.{Whole}
 use Rattle.volume.specs.Volumed.{Volumed}
-use Rattle.snapshots.proofs.Finds.{position_within}
+use Rattle.snapshot_list.proofs.Finds.{position_within}
 use Rattle.volume.proofs.FlushIssues.{merging_flush, merging_flush_io, whole_begun}
 use Rattle.volume.proofs.Refusals.{element}
 use Rattle.volume.proofs.ExactIssues.{merging_flush_exact, merging_flush_io_exact}
@@ -13,7 +13,7 @@ use Rattle.volume.proofs.Lefts.{all_same}
 use Rattle.volume.specs.Stopping.{given_by}
 use Rattle.in_flight.specs.Kinds.{in_flight}
 use Rattle.std.specs.Prelude.{map}
-use Rattle.plain.specs.declared.event.Event.TheVariants.{Issue}
+use Rattle.plain_machine.specs.declared.event.Event.TheVariants.{Issue}
 use Rattle.volume.proofs.MergeBoth.{met_both}
 use Rattle.volume.proofs.MergeLasts.{kept_merge}
 use Rattle.volume.proofs.LastCloses.{merging_closes}

@@ -6,7 +6,7 @@ use Rattle.in_flight.specs.Routes.{refused_of}
 use Rattle.volume_laws.specs.Published.{is_clear}
 use Rattle.volume_laws.specs.Again.{again_of}
 use Rattle.snapshot.specs.Kept.{Kept, books_of}
-use Rattle.snapshots.specs.Finding.{is_flushing}
+use Rattle.snapshot_list.specs.Finding.{is_flushing}
 use Rattle.volume.proofs.DueEvents.{due_by, snap_found, snap_due}
 use Rattle.volume.proofs.Chunks.{chunks_set}
 use Rattle.volume.proofs.Spoilt.{spoilt_device}
@@ -18,7 +18,7 @@ use Rattle.volume.proofs.LastBoth.{beside_both}
 use Rattle.std.specs.Prelude.{None}
 use Rattle.std.proofs.lemmas.Bool.{false≢true}
 use Rattle.volume.proofs.volume.Volume.flush_store.Goals as goal
-use Rattle.snapshots.specs.Rooms.{merge_books}
+use Rattle.snapshot_list.specs.Rooms.{merge_books}
 
 pub invariant_of-self : goal.invariant_of-self
 invariant_of-self g c = record {

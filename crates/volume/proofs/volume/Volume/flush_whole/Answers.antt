@@ -2,18 +2,18 @@
 use Rattle.std.proofs.Common.{◌≡◌, ◌<◌, ◌∙◌, sym, ap, Some, get_or, length, nat_eq, arith, refl}
 use Rattle.std.specs.List.{position, list_any}
 use Rattle.std.proofs.lemmas.Bool.{false≢true}
-use Rattle.plain.specs.declared.request.Dev.TheVariants.{Snap}
+use Rattle.plain_machine.specs.declared.request.Dev.TheVariants.{Snap}
 use Rattle.in_flight.specs.declared.flights.Flight.{Flight}
 use Rattle.in_flight.specs.declared.flights.Route.TheVariants.{Whole}
 use Rattle.snapshot.specs.Kept.{Kept}
 use Rattle.volume.specs.Volumed.{Volumed}
-use Rattle.snapshots.proofs.Finds.{position_within}
+use Rattle.snapshot_list.proofs.Finds.{position_within}
 use Rattle.volume.proofs.FlushIssues.{whole_alive, whole_done, whole_io}
 use Rattle.volume.proofs.StoreIssues.{is_snap, held_any}
 use Rattle.volume.proofs.ExactIssues.{whole_exact, whole_io_exact}
 use Rattle.volume.proofs.LastMoves.{device_moves, flush_moves}
 use Rattle.volume.proofs.LastBoth.{beside_both}
-use Rattle.plain.specs.declared.event.Event.TheVariants.{Issue}
+use Rattle.plain_machine.specs.declared.event.Event.TheVariants.{Issue}
 use Rattle.in_flight.specs.Kinds.{in_flight}
 use Rattle.volume.specs.Stopping.{given_by}
 use Rattle.std.proofs.Common.{map}

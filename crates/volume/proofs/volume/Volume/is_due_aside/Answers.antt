@@ -2,7 +2,7 @@
 use Rattle.std.proofs.Common.{ap, map, sym, refl, ◌∙◌}
 use Rattle.in_flight.specs.declared.copies.Stage.TheVariants.{Waiting, Read}
 use Rattle.snapshot.specs.Kept.{due_of_kept}
-use Rattle.snapshots.specs.Finding.{is_committing, is_flushing, is_trying, is_zeroing}
+use Rattle.snapshot_list.specs.Finding.{is_committing, is_flushing, is_trying, is_zeroing}
 use Rattle.volume_laws.specs.Due.{is_due}
 use Rattle.volume.proofs.DueLooks.{copy_look, mark_look, snap_look}
 use Rattle.volume.proofs.volume.Volume.is_due_aside.Goals as goal

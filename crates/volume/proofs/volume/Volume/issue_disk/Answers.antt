@@ -3,22 +3,22 @@ use Rattle.std.proofs.Common.{◌≡◌, ◌*◌, ◌∙◌, sym, ap, Some, get_
 use Rattle.std.specs.List.{position}
 use Rattle.std.proofs.lemmas.List.{with_items_is}
 use Rattle.sector.specs.Bytes.{with_sectors}
-use Rattle.plain.specs.declared.request.Op.{Op}
+use Rattle.plain_machine.specs.declared.request.Op.{Op}
 use Rattle.in_flight.specs.Kinds.{room_at}
 use Rattle.in_flight.specs.declared.flights.Flight.{Flight}
 use Rattle.in_flight.specs.declared.flights.Route.TheVariants.{Origin}
 use Rattle.volume.specs.Volumed.{Volumed}
-use Rattle.snapshots.proofs.Finds.{position_within}
+use Rattle.snapshot_list.proofs.Finds.{position_within}
 use Rattle.volume.proofs.IssueEvents.{request_at}
 use Rattle.volume.proofs.DiskIssues.{is_origin_flush, disk_flush, disk_flush_io, disk_read, disk_read_io, disk_write, disk_write_io}
 use Rattle.device.specs.declared.operation.Operation.TheVariants.{Reads, Writes, Flushes}
-use Rattle.plain.specs.declared.request.Reply.TheVariants.{Data}
+use Rattle.plain_machine.specs.declared.request.Reply.TheVariants.{Data}
 use Rattle.store.specs.Operations.{IsOneOperation}
 use Rattle.volume.proofs.ExactIssues.{origin_flush_exact, origin_read_exact, origin_write_exact}
 use Rattle.volume.proofs.LastMoves.{met_moves}
 use Rattle.volume.proofs.LastBoth.{met_both}
 use Rattle.stop_laws.proofs.Firm.{adds_none}
-use Rattle.plain.specs.declared.event.Event.TheVariants.{Issue}
+use Rattle.plain_machine.specs.declared.event.Event.TheVariants.{Issue}
 use Rattle.in_flight.specs.Kinds.{in_flight}
 use Rattle.volume.specs.Stopping.{given_by}
 use Rattle.volume.proofs.LastBoth.{disk_both}

@@ -5,9 +5,9 @@ use Rattle.std.proofs.lemmas.List.{with_items_is}
 use Rattle.sector.specs.Bytes.{sectors_at}
 use Rattle.device.specs.declared.operation.Operation.TheVariants.{Reads, Writes}
 use Rattle.device.specs.Layers.{is_loud}
-use Rattle.plain.specs.declared.request.Dev.TheVariants.{Origin as AtOrigin}
-use Rattle.plain.specs.declared.request.Op.{Op}
-use Rattle.plain.specs.declared.request.Reply.TheVariants.{Data}
+use Rattle.plain_machine.specs.declared.request.Dev.TheVariants.{Origin as AtOrigin}
+use Rattle.plain_machine.specs.declared.request.Op.{Op}
+use Rattle.plain_machine.specs.declared.request.Reply.TheVariants.{Data}
 use Rattle.in_flight.specs.Kinds.{room_at, in_flight}
 use Rattle.in_flight.specs.declared.flights.Flight.{Flight}
 use Rattle.in_flight.specs.declared.flights.Route.TheVariants.{Store}
@@ -15,7 +15,7 @@ use Rattle.store.specs.Operations.{IsOneOperation}
 use Rattle.merge.specs.Merging.{books_of}
 use Rattle.merge.specs.Steps.{WritesPlaceOf}
 use Rattle.volume.specs.Volumed.{Volumed}
-use Rattle.snapshots.proofs.Finds.{position_within}
+use Rattle.snapshot_list.proofs.Finds.{position_within}
 use Rattle.volume.proofs.IssueEvents.{request_at}
 use Rattle.volume.proofs.MergingIssues.{unflushed, is_begun, read_placed, write_placed, lies_within, merging_read, merging_read_io, merging_write, merging_write_io}
 use Rattle.volume.proofs.ExactIssues.{merging_read_exact, merging_write_exact}
@@ -23,7 +23,7 @@ use Rattle.volume.proofs.MergeBoth.{met_both, placed_both}
 use Rattle.volume.proofs.Lefts.{all_same}
 use Rattle.volume.specs.Stopping.{given_by, given_as, given_in}
 use Rattle.std.specs.Prelude.{map}
-use Rattle.plain.specs.declared.event.Event.TheVariants.{Issue}
+use Rattle.plain_machine.specs.declared.event.Event.TheVariants.{Issue}
 use Rattle.volume.proofs.OriginLasts.{GoesBy, merging_issued}
 use Rattle.volume_laws.proofs.Requests.{asked_first}
 use Rattle.volume.proofs.volume.Volume.issue_merging.Goals as goal

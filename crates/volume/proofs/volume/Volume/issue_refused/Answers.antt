@@ -4,12 +4,12 @@ use Rattle.std.specs.List.{position}
 use Rattle.in_flight.specs.declared.flights.Flight.{Flight}
 use Rattle.in_flight.specs.declared.flights.Route.TheVariants.{Refused}
 use Rattle.volume.specs.Volumed.{Volumed}
-use Rattle.snapshots.proofs.Finds.{position_within}
+use Rattle.snapshot_list.proofs.Finds.{position_within}
 use Rattle.volume.proofs.StoreIssues.{refused_good}
 use Rattle.volume.proofs.ExactIssues.{refused_exact}
 use Rattle.volume.proofs.LastMoves.{none_moves}
 use Rattle.volume.proofs.LastBoth.{beside_both}
-use Rattle.plain.specs.declared.event.Event.TheVariants.{Issue}
+use Rattle.plain_machine.specs.declared.event.Event.TheVariants.{Issue}
 use Rattle.in_flight.specs.Kinds.{in_flight}
 use Rattle.volume.specs.Stopping.{given_by}
 use Rattle.std.proofs.Common.{refl}

@@ -5,25 +5,25 @@ use Rattle.std.proofs.Math.Nat.{mod-lt}
 use Rattle.std.proofs.lemmas.Bool.{false≢true}
 use Rattle.std.proofs.lemmas.List.{with_items_is}
 use Rattle.sector.specs.Bytes.{sectors_at}
-use Rattle.plain.specs.declared.request.Op.{Op}
-use Rattle.plain.specs.declared.request.Dev.TheVariants.{Snap}
+use Rattle.plain_machine.specs.declared.request.Op.{Op}
+use Rattle.plain_machine.specs.declared.request.Dev.TheVariants.{Snap}
 use Rattle.in_flight.specs.Kinds.{room_at}
 use Rattle.in_flight.specs.declared.flights.Flight.{Flight}
 use Rattle.in_flight.specs.declared.flights.Route.TheVariants.{Store}
 use Rattle.volume_laws.specs.Steps.{WritesPlace}
 use Rattle.snapshot.specs.Kept.{Kept, books_of}
 use Rattle.volume.specs.Volumed.{Volumed}
-use Rattle.snapshots.proofs.Finds.{position_within}
+use Rattle.snapshot_list.proofs.Finds.{position_within}
 use Rattle.volume.proofs.Chunks.{chunks_all}
 use Rattle.volume.proofs.IssueEvents.{request_at}
 use Rattle.volume.proofs.StoreIssues.{is_snap, held_any, unflushed, read_placed, read_part, write_placed, write_part, store_read, store_read_io, store_write, store_write_io}
 use Rattle.device.specs.declared.operation.Operation.TheVariants.{Reads, Writes}
-use Rattle.plain.specs.declared.request.Reply.TheVariants.{Data}
+use Rattle.plain_machine.specs.declared.request.Reply.TheVariants.{Data}
 use Rattle.store.specs.Operations.{IsOneOperation}
 use Rattle.volume.proofs.ExactIssues.{store_read_exact, store_write_exact}
 use Rattle.volume.proofs.LastMoves.{device_moves}
 use Rattle.volume.proofs.LastBoth.{beside_both}
-use Rattle.plain.specs.declared.event.Event.TheVariants.{Issue}
+use Rattle.plain_machine.specs.declared.event.Event.TheVariants.{Issue}
 use Rattle.in_flight.specs.Kinds.{in_flight}
 use Rattle.volume.specs.Stopping.{given_by}
 use Rattle.volume.proofs.LastBoth.{own_both}

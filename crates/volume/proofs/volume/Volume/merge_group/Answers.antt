@@ -1,6 +1,6 @@
 -- A group is formed, and the copies of the chunk that is copied first are started.
 use Rattle.std.proofs.Common.{◌≡◌, sym, ◌∙◌, true, ap, subst, refl, Some}
-use Rattle.plain.specs.declared.event.Event.TheVariants.{MergeGroup}
+use Rattle.plain_machine.specs.declared.event.Event.TheVariants.{MergeGroup}
 use Rattle.volume_laws.specs.MergeDue.{can_group}
 use Rattle.merge.specs.Merging.{due_of as merging_due}
 use Rattle.volume.specs.Volumed.{Volumed}

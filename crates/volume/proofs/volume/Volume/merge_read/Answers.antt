@@ -2,13 +2,13 @@
 use Rattle.std.proofs.Common.{◌≡◌, ap, sym, refl, ◌∙◌, true, map, subst, length, Some, ◌<◌, ◌*◌}
 use Rattle.std.specs.List.{All}
 use Rattle.device.specs.Layers.{is_loud}
-use Rattle.plain.specs.declared.event.Event.TheVariants.{MergeRead}
+use Rattle.plain_machine.specs.declared.event.Event.TheVariants.{MergeRead}
 use Rattle.volume_laws.specs.Again.{again_of}
 use Rattle.volume_laws.specs.MergeDue.{can_read}
 use Rattle.volume_laws.specs.Published.{is_clear}
 use Rattle.snapshot.specs.Kept.{Kept, books_of}
 use Rattle.merge.specs.Merging.{Merging, books_of as merging_books}
-use Rattle.snapshots.specs.Rooms.{merge_books}
+use Rattle.snapshot_list.specs.Rooms.{merge_books}
 use Rattle.merge.specs.Due.{next_read_of, can_release_of}
 use Rattle.volume.specs.Volumed.{Volumed}
 use Rattle.volume.proofs.Chunks.{chunks_all}

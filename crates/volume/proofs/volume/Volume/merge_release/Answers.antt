@@ -7,7 +7,7 @@ use Rattle.volume_laws.specs.MergeDue.{can_release}
 use Rattle.volume_laws.specs.Published.{is_clear}
 use Rattle.snapshot.specs.Kept.{Kept, books_of}
 use Rattle.merge.specs.Merging.{books_of as merging_books, flushed_of}
-use Rattle.snapshots.specs.Rooms.{merge_books}
+use Rattle.snapshot_list.specs.Rooms.{merge_books}
 use Rattle.volume.specs.Volumed.{Volumed}
 use Rattle.volume.proofs.Chunks.{chunks_all}
 use Rattle.volume.proofs.MergeChanging.{disk_stays}

@@ -2,7 +2,7 @@
 use Rattle.std.proofs.Common.{◌≡◌, ◌<◌, ◌*◌, ℕ, length, map, refl, ap, sym, subst, ◌∙◌, true, false, Some, None, arith}
 use Rattle.std.specs.List.{All}
 use Rattle.device.specs.Layers.{is_loud}
-use Rattle.plain.specs.declared.event.Event.TheVariants.{MergeWrite}
+use Rattle.plain_machine.specs.declared.event.Event.TheVariants.{MergeWrite}
 use Rattle.in_flight.specs.Copies.{count_of}
 use Rattle.volume_laws.specs.Again.{again_of}
 use Rattle.volume_laws.specs.MergeDue.{can_write, is_writable}
@@ -13,7 +13,7 @@ use Rattle.merge.specs.Lists.{changed, written_in}
 use Rattle.merge.specs.Looks.{option_pairs}
 use Rattle.merge.specs.Merging.{books_of as merging_books}
 use Rattle.merge.proofs.Looks.{full_is}
-use Rattle.snapshots.specs.Rooms.{merge_books}
+use Rattle.snapshot_list.specs.Rooms.{merge_books}
 use Rattle.volume.specs.Volumed.{Volumed}
 use Rattle.volume.proofs.Chunks.{chunks_all}
 use Rattle.volume.proofs.MergeChanging.{DiskStays}

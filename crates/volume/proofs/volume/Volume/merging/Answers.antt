@@ -1,7 +1,7 @@
 -- The snapshot that is being merged is none of the list.
 use Rattle.std.proofs.Common.{◌∙◌, ap}
 use Rattle.volume.specs.Volumed.{Volumed}
-use Rattle.snapshots.specs.Finding.{place_of_snap}
+use Rattle.snapshot_list.specs.Finding.{place_of_snap}
 use Rattle.volume.proofs.Others.{merging_apart}
 use Rattle.volume.proofs.volume.Volume.merging.Goals as goal
 

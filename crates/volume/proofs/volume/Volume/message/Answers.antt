@@ -1,5 +1,5 @@
 -- What a caller sees of a message, by what was told or not.
-use Rattle.plain.specs.declared.request.Dev.TheVariants.{Origin, Snap}
+use Rattle.plain_machine.specs.declared.request.Dev.TheVariants.{Origin, Snap}
 use Rattle.volume.specs.Layering.{Measures}
 use Rattle.volume.proofs.Told.{call_moving, call_still, call_books, call_plain, call_loud}
 use Rattle.volume.proofs.volume.Volume.message.Goals as goal

@@ -3,13 +3,13 @@ use Rattle.std.proofs.Common.{◌≡◌, arith, ℕ, List, Some, true, false, re
 use Rattle.std.specs.Prelude.{◌==◌, length}
 use Rattle.std.proofs.lemmas.Option.{slice_get_read}
 use Rattle.sector.specs.Bytes.{sectors_at}
-use Rattle.plain.specs.Serves.{Shows}
-use Rattle.plain.specs.declared.request.Dev.{Dev}
-use Rattle.plain.specs.declared.request.Dev.TheVariants.{Origin, Snap}
+use Rattle.plain_machine.specs.Serves.{Shows}
+use Rattle.plain_machine.specs.declared.request.Dev.{Dev}
+use Rattle.plain_machine.specs.declared.request.Dev.TheVariants.{Origin, Snap}
 use Rattle.snapshot.specs.Kept.{Kept}
 use Rattle.volume.specs.Peeking.{is_loud_under, IsListed}
 use Rattle.volume.specs.Volumed.{Volumed, plain_of}
-use Rattle.snapshots.specs.Finding.{place_of_snap}
+use Rattle.snapshot_list.specs.Finding.{place_of_snap}
 use Rattle.volume.specs.Submitting.{is_merging}
 use Rattle.volume.proofs.MovedLists.{IsFirst, first_position}
 use Rattle.volume.proofs.Listed.{listed_is}

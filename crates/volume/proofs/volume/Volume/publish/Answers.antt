@@ -6,9 +6,9 @@ use Rattle.volume_laws.specs.Again.{again_of, placed_of}
 use Rattle.in_flight.specs.declared.copies.Mark.{Mark}
 use Rattle.snapshot.specs.Kept.{Kept, books_of}
 use Rattle.volume.specs.Volumed.{Volumed}
-use Rattle.snapshots.specs.Finding.{is_mark_of, has_mark_at}
-use Rattle.snapshots.specs.MergeStarting.{GoesOnBehind}
-use Rattle.snapshots.proofs.Finds.{position_within}
+use Rattle.snapshot_list.specs.Finding.{is_mark_of, has_mark_at}
+use Rattle.snapshot_list.specs.MergeStarting.{GoesOnBehind}
+use Rattle.snapshot_list.proofs.Finds.{position_within}
 use Rattle.volume.proofs.DueEvents.{due_by, mark_found, mark_due, mark_is}
 use Rattle.volume.proofs.Behind.{goes_behind}
 use Rattle.volume.proofs.Chunks.{chunks_all, chunks_set}
@@ -23,7 +23,7 @@ use Rattle.volume.proofs.LastNext.{left_marks, next_beside}
 use Rattle.std.specs.Prelude.{None}
 use Rattle.std.proofs.Common.{List, get_or}
 use Rattle.volume.proofs.volume.Volume.publish.Goals as goal
-use Rattle.snapshots.specs.Rooms.{merge_books}
+use Rattle.snapshot_list.specs.Rooms.{merge_books}
 
 pub find_mark_near-requires : goal.find_mark_near-requires
 find_mark_near-requires g c =

@@ -2,17 +2,17 @@
 use Rattle.std.proofs.Common.{◌≡◌, ◌+◌, ◌<◌, ◌≤◌, ◌++◌, ◌∷◌, [], ℕ, false, List, length, map, take, drop, sym, ◌∙◌, ap, subst, arith}
 use Rattle.std.specs.Prelude.{None, sum_by, count_by}
 use Rattle.std.specs.List.{All}
-use Rattle.plain.specs.declared.request.Request.{Request}
+use Rattle.plain_machine.specs.declared.request.Request.{Request}
 use Rattle.in_flight.specs.Kinds.{kind_of, room_of}
 use Rattle.in_flight.specs.Routes.{write_route_of}
 use Rattle.in_flight.specs.declared.flights.Flight.{Flight}
 use Rattle.volume_laws.specs.Books.{SnapBooks}
 use Rattle.volume_laws.specs.Published.{is_clear}
 use Rattle.snapshot.specs.Kept.{Kept, books_of as snap_books}
-use Rattle.snapshots.specs.Routing.{is_merged_at}
+use Rattle.snapshot_list.specs.Routing.{is_merged_at}
 use Rattle.volume.specs.Volumed.{Volumed, piece_with}
-use Rattle.snapshots.specs.Numbers.{count_in}
-use Rattle.snapshots.specs.Starting.{unroomed, starts, AreSavedIn, HaveRooms, own_of}
+use Rattle.snapshot_list.specs.Numbers.{count_in}
+use Rattle.snapshot_list.specs.Starting.{unroomed, starts, AreSavedIn, HaveRooms, own_of}
 use Rattle.volume.specs.Submitting.{IsAsked, IsAcceptedAs}
 use Rattle.volume.proofs.Clear.{still_waits}
 use Rattle.volume.proofs.Roomed.{books_roomed, whole_roomed}

@@ -1,8 +1,8 @@
 -- A request that waits for nothing is refused as any is, or answered at the origin disk.
 use Rattle.std.proofs.Common.{◌≡◌, ◌+◌, ◌*◌, ◌∙◌, ℕ, List, None, arith, ap, inl, length, refl, subst, sym}
 use Rattle.std.specs.Prelude.{Err}
-use Rattle.plain.specs.declared.request.Op.TheVariants.{Write}
-use Rattle.plain.specs.declared.request.Request.{Request}
+use Rattle.plain_machine.specs.declared.request.Op.TheVariants.{Write}
+use Rattle.plain_machine.specs.declared.request.Request.{Request}
 use Rattle.in_flight.specs.Kinds.{room_of}
 use Rattle.in_flight.specs.declared.flights.Flight.{Flight}
 use Rattle.volume.specs.AtDisk.{GoesToDisk}

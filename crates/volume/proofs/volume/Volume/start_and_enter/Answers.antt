@@ -5,11 +5,11 @@ use Rattle.std.proofs.lemmas.List.{get_or-set_same}
 use Rattle.in_flight.specs.declared.flights.Flight.{Flight}
 use Rattle.snapshot.specs.Kept.{Kept}
 use Rattle.volume.specs.Volumed.{Volumed, piece_with}
-use Rattle.snapshots.specs.Numbers.{count_in}
-use Rattle.snapshots.specs.Finding.{place_of_snap}
-use Rattle.snapshots.proofs.Finds.{position_within}
-use Rattle.snapshots.specs.Starting.{lacks, own_of, starts, HasRoomFor, IsSavedIn}
-use Rattle.plain.specs.Plain.{did_overflow}
+use Rattle.snapshot_list.specs.Numbers.{count_in}
+use Rattle.snapshot_list.specs.Finding.{place_of_snap}
+use Rattle.snapshot_list.proofs.Finds.{position_within}
+use Rattle.snapshot_list.specs.Starting.{lacks, own_of, starts, HasRoomFor, IsSavedIn}
+use Rattle.plain_machine.specs.Plain.{did_overflow}
 use Rattle.volume.specs.Submitting.{dev_refusal, shut_at, IsAsked, IsAcceptedAs}
 use Rattle.volume.proofs.Finishes.{back, begins_all}
 use Rattle.volume.proofs.Named.{IsNamed, dev_of_write, found_open, is_named}

@@ -2,7 +2,7 @@
 use Rattle.std.proofs.Common.{◌∙◌, ap, nat_eq}
 use Rattle.std.specs.Prelude.{◌&&◌, count_by}
 use Rattle.volume.specs.Volumed.{Volumed}
-use Rattle.snapshots.specs.Starting.{starts}
+use Rattle.snapshot_list.specs.Starting.{starts}
 use Rattle.volume.proofs.volume.Volume.starting.Goals as goal
 
 pub returns-in-SnapWrite : goal.returns-in-SnapWrite

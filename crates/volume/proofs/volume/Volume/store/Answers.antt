@@ -1,8 +1,8 @@
 -- The merging store, or that of the snapshot that is found.
 use Rattle.std.proofs.Common.{◌≡◌, inl, nat_eq, sym, ◌∙◌, ap, arith}
 use Rattle.snapshot.specs.Kept.{Kept}
-use Rattle.snapshots.proofs.Finds.{position_within}
-use Rattle.snapshots.specs.Finding.{place_of_snap}
+use Rattle.snapshot_list.proofs.Finds.{position_within}
+use Rattle.snapshot_list.specs.Finding.{place_of_snap}
 use Rattle.merge.specs.Merging.{Merging}
 use Rattle.volume.proofs.Asked.{holds_found}
 use Rattle.volume.proofs.volume.Volume.store.Goals as goal

@@ -1,6 +1,6 @@
 -- A request is taken as it is kept.
 use Rattle.std.proofs.Common.{sym, ◌∙◌, ap, subst}
-use Rattle.plain.specs.declared.request.Request.{Request}
+use Rattle.plain_machine.specs.declared.request.Request.{Request}
 use Rattle.volume.specs.Submitting.{IsAcceptedAs, IsRefusedAs, submit_refusal}
 use Rattle.volume.specs.Whole.{IsWhole}
 use Rattle.volume.proofs.Accepts.{if_ok, if_err}

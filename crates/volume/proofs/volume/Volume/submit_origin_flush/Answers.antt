@@ -1,7 +1,7 @@
 -- The flush goes to the merging store first where a merge is begun, or else to the origin disk.
 use Rattle.std.specs.Prelude.{is_some}
 use Rattle.std.proofs.Common.{refl, sym, ◌∙◌, ap, subst}
-use Rattle.plain.specs.Kept.{kept}
+use Rattle.plain_machine.specs.Kept.{kept}
 use Rattle.in_flight.specs.Kinds.{kind_of, room_of}
 use Rattle.in_flight.specs.Routes.{flush_route_of}
 use Rattle.in_flight.specs.declared.flights.Kind.TheVariants.{OriginFlush}

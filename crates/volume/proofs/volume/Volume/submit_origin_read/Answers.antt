@@ -1,10 +1,10 @@
 -- The read goes where the merging store has its chunk, or to the origin disk.
 use Rattle.std.proofs.Common.{refl, sym, ◌∙◌, ap, subst}
-use Rattle.plain.specs.declared.request.Request.{Request}
+use Rattle.plain_machine.specs.declared.request.Request.{Request}
 use Rattle.in_flight.specs.Kinds.{kind_of, room_of}
 use Rattle.in_flight.specs.Routes.{read_route_of}
 use Rattle.in_flight.specs.declared.flights.Kind.TheVariants.{OriginRead}
-use Rattle.snapshots.specs.Routing.{place_at}
+use Rattle.snapshot_list.specs.Routing.{place_at}
 use Rattle.volume.specs.Volumed.{Volumed, piece_with}
 use Rattle.volume.specs.Whole.{IsWhole}
 use Rattle.volume.specs.Submitting.{IsAsked}

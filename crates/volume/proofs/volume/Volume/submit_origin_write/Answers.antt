@@ -1,9 +1,9 @@
 -- A write that is the merge's is put in flight, and starts nothing; for any other the copies are started.
 use Rattle.std.proofs.Common.{◌≡◌, true, false, sym, ◌∙◌, ap, subst, arith}
-use Rattle.plain.specs.declared.request.Request.{Request}
+use Rattle.plain_machine.specs.declared.request.Request.{Request}
 use Rattle.in_flight.specs.Kinds.{kind_of, room_of}
 use Rattle.in_flight.specs.Routes.{write_route_of}
-use Rattle.snapshots.specs.Routing.{is_grouped_at, place_at, is_merged_at}
+use Rattle.snapshot_list.specs.Routing.{is_grouped_at, place_at, is_merged_at}
 use Rattle.volume.specs.Volumed.{Volumed, piece_with}
 use Rattle.volume.specs.Whole.{IsWhole}
 use Rattle.volume.specs.Submitting.{IsAsked}

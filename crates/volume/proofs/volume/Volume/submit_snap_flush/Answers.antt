@@ -3,10 +3,10 @@ use Rattle.std.proofs.Common.{refl, sym, ◌∙◌, ap, subst}
 use Rattle.in_flight.specs.declared.flights.Kind.TheVariants.{SnapFlush}
 use Rattle.in_flight.specs.declared.flights.Route.TheVariants.{Whole}
 use Rattle.in_flight.specs.Kinds.{kind_of, room_of}
-use Rattle.plain.specs.Kept.{kept}
+use Rattle.plain_machine.specs.Kept.{kept}
 use Rattle.volume.specs.Volumed.{Volumed, piece_with}
 use Rattle.volume.specs.Whole.{IsWhole}
-use Rattle.snapshots.specs.Finding.{place_of_snap}
+use Rattle.snapshot_list.specs.Finding.{place_of_snap}
 use Rattle.volume.specs.Submitting.{IsAsked}
 use Rattle.volume.proofs.Named.{dev_of_flush, found_some, found_within, is_named, snap_flush_goes}
 use Rattle.volume.proofs.Accepts.{if_ok, entered_accepted}

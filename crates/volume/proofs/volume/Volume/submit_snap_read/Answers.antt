@@ -4,11 +4,11 @@ use Rattle.store_bytes.specs.Picture.{place_of}
 use Rattle.in_flight.specs.declared.flights.Kind.TheVariants.{SnapRead}
 use Rattle.in_flight.specs.Kinds.{kind_of, room_of}
 use Rattle.in_flight.specs.Routes.{read_route_of}
-use Rattle.plain.specs.declared.request.Request.{Request}
+use Rattle.plain_machine.specs.declared.request.Request.{Request}
 use Rattle.snapshot.specs.Kept.{Kept}
 use Rattle.volume.specs.Volumed.{Volumed, piece_with}
 use Rattle.volume.specs.Whole.{IsWhole}
-use Rattle.snapshots.specs.Finding.{place_of_snap}
+use Rattle.snapshot_list.specs.Finding.{place_of_snap}
 use Rattle.volume.specs.Submitting.{IsAsked}
 use Rattle.volume.proofs.Named.{dev_of_read, found_some, found_within, is_named, snap_read_goes}
 use Rattle.volume.proofs.Accepts.{if_ok, entered_accepted}

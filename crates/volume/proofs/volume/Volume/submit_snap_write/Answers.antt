@@ -4,15 +4,15 @@ use Rattle.store_bytes.specs.Picture.{place_of}
 use Rattle.in_flight.specs.declared.flights.Kind.TheVariants.{SnapWrite}
 use Rattle.in_flight.specs.Kinds.{kind_of, room_of}
 use Rattle.in_flight.specs.Routes.{read_route_of}
-use Rattle.plain.specs.declared.request.Request.{Request}
-use Rattle.plain.specs.Plain.{did_overflow}
+use Rattle.plain_machine.specs.declared.request.Request.{Request}
+use Rattle.plain_machine.specs.Plain.{did_overflow}
 use Rattle.volume_laws.specs.Published.{is_published}
 use Rattle.snapshot.specs.Kept.{Kept}
 use Rattle.volume.specs.Volumed.{Volumed, piece_with}
 use Rattle.in_flight.specs.declared.flights.Route.TheVariants.{Held}
 use Rattle.volume.specs.Whole.{IsWhole}
-use Rattle.snapshots.specs.Finding.{place_of_snap}
-use Rattle.snapshots.specs.Starting.{lacks}
+use Rattle.snapshot_list.specs.Finding.{place_of_snap}
+use Rattle.snapshot_list.specs.Starting.{lacks}
 use Rattle.volume.specs.Submitting.{IsAsked}
 use Rattle.volume.proofs.Named.{dev_of_write, found_open, found_some, found_within, is_named, index_same, snap_write_placed_goes, snap_write_held_goes}
 use Rattle.volume.proofs.Accepts.{if_ok, entered_accepted}

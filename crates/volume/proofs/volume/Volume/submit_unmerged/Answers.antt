@@ -5,10 +5,10 @@ use Rattle.std.specs.List.{All}
 use Rattle.in_flight.specs.Kinds.{kind_of, room_of}
 use Rattle.volume_laws.specs.Published.{is_clear}
 use Rattle.snapshot.specs.Kept.{Kept, books_of as snap_books}
-use Rattle.snapshots.specs.Numbers.{count_in}
-use Rattle.snapshots.specs.Routing.{is_merged_at}
-use Rattle.snapshots.specs.Starting.{starts}
-use Rattle.plain.specs.declared.request.Request.{Request}
+use Rattle.snapshot_list.specs.Numbers.{count_in}
+use Rattle.snapshot_list.specs.Routing.{is_merged_at}
+use Rattle.snapshot_list.specs.Starting.{starts}
+use Rattle.plain_machine.specs.declared.request.Request.{Request}
 use Rattle.volume.specs.Volumed.{Volumed, piece_with}
 use Rattle.volume.specs.Whole.{IsWhole}
 use Rattle.volume.specs.Submitting.{IsAsked}

@@ -2,7 +2,7 @@
 use Rattle.std.proofs.Common.{◌≡◌, ap, arith, false, inl, inr, refl, subst, sym}
 use Rattle.std.specs.Prelude.{Err}
 use Rattle.in_flight.specs.declared.flights.Kind.TheVariants.{OriginWrite}
-use Rattle.snapshots.specs.Routing.{is_merged_at}
+use Rattle.snapshot_list.specs.Routing.{is_merged_at}
 use Rattle.volume.specs.Submitting.{starting}
 use Rattle.volume.specs.Volumed.{Volumed}
 use Rattle.volume.specs.Whole.{IsWhole}

@@ -1,8 +1,8 @@
 -- The store of the snapshot that is found answers for the volume.
 use Rattle.std.proofs.Common.{sym, ◌∙◌, ap, arith, None, Some, ◌≡◌}
-use Rattle.snapshots.specs.Finding.{place_of_snap}
+use Rattle.snapshot_list.specs.Finding.{place_of_snap}
 use Rattle.volume.specs.Layering.{Measures}
-use Rattle.snapshots.proofs.Finds.{position_within}
+use Rattle.snapshot_list.proofs.Finds.{position_within}
 use Rattle.volume.proofs.Told.{apart_found, store_answered, store_refused, store_whole, merge_answered, merge_refused, merge_whole}
 use Rattle.std.proofs.Common.{inl}
 use Rattle.volume.proofs.LastTime.{one_adds}

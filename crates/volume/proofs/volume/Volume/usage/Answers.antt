@@ -3,8 +3,8 @@ use Rattle.std.proofs.Common.{◌≡◌, inl, Some, None, nat_eq, sym, ◌∙◌
 use Rattle.std.specs.Prelude.{Option}
 use Rattle.chunk_alloc.specs.declared.usage.Usage.{Usage}
 use Rattle.snapshot.specs.Kept.{Kept}
-use Rattle.snapshots.proofs.Finds.{position_within}
-use Rattle.snapshots.specs.Finding.{place_of_snap}
+use Rattle.snapshot_list.proofs.Finds.{position_within}
+use Rattle.snapshot_list.specs.Finding.{place_of_snap}
 use Rattle.merge.specs.Merging.{Merging}
 use Rattle.volume.specs.Asking.{merging_usage}
 use Rattle.volume.specs.Leaving.{usage_of}

@@ -2,7 +2,7 @@
 use Rattle.std.proofs.Common.{◌∙◌, None, Some, ap, arith, inr, sym}
 use Rattle.store_bytes.specs.Picture.{place_of}
 use Rattle.snapshot.specs.Kept.{Kept}
-use Rattle.snapshots.specs.Finding.{place_of_snap}
+use Rattle.snapshot_list.specs.Finding.{place_of_snap}
 use Rattle.volume.specs.AtDisk.{IsReadOf}
 use Rattle.volume.specs.Volumed.{Volumed}
 use Rattle.volume.proofs.AtDisk.{read_at}

@@ -4,7 +4,7 @@ use Rattle.device.specs.Layers.{is_loud}
 use Rattle.in_flight.specs.Routes.{refused_of}
 use Rattle.in_flight.proofs.Batches.{batch_few, batch_ready}
 use Rattle.snapshot.specs.Kept.{Kept}
-use Rattle.snapshots.specs.Finding.{is_committing}
+use Rattle.snapshot_list.specs.Finding.{is_committing}
 use Rattle.volume.proofs.DueEvents.{due_by, snap_found, snap_due}
 use Rattle.volume.proofs.Spoilt.{spoilt_device}
 use Rattle.volume.proofs.StoreEvents.{commit_good, commit_fault, front_live, committing_front, committing_next}

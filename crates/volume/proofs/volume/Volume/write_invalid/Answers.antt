@@ -4,7 +4,7 @@ use Rattle.std.specs.List.{All}
 use Rattle.volume_laws.specs.Published.{is_clear}
 use Rattle.volume_laws.specs.Again.{again_of}
 use Rattle.snapshot.specs.Kept.{Kept, books_of}
-use Rattle.snapshots.specs.Finding.{is_trying}
+use Rattle.snapshot_list.specs.Finding.{is_trying}
 use Rattle.volume.proofs.AgainEvents.{trying_untried, trying_unmarked}
 use Rattle.volume.proofs.DueEvents.{due_by, snap_found, snap_due}
 use Rattle.volume.proofs.Chunks.{chunks_set}
@@ -14,7 +14,7 @@ use Rattle.volume.proofs.LastMoves.{mark_moves, fails_moves}
 use Rattle.volume.proofs.LastBoth.{beside_both}
 use Rattle.std.specs.Prelude.{None}
 use Rattle.volume.proofs.volume.Volume.write_invalid.Goals as goal
-use Rattle.snapshots.specs.Rooms.{merge_books}
+use Rattle.snapshot_list.specs.Rooms.{merge_books}
 
 pub write_invalid-requires-clause-untried : goal.write_invalid-requires-clause-untried
 write_invalid-requires-clause-untried g c =

@@ -1,6 +1,6 @@
 -- A write whose bytes are lent is refused as any is, or answered at the origin disk.
 use Rattle.std.proofs.Common.{◌≡◌, ◌+◌, ◌*◌, ◌∙◌, ℕ, List, arith, ap, inl, inr, length, refl, subst, sym}
-use Rattle.plain.specs.declared.request.Op.TheVariants.{Write}
+use Rattle.plain_machine.specs.declared.request.Op.TheVariants.{Write}
 use Rattle.in_flight.specs.Kinds.{bytes_at}
 use Rattle.in_flight.specs.declared.flights.Flight.{Flight}
 use Rattle.in_flight.specs.declared.flights.Route.TheVariants.{Origin}

@@ -3,7 +3,7 @@ use Rattle.std.proofs.Common.{◌≡◌, ◌<◌, true, false, refl, sym, ◌∙
 use Rattle.device.specs.Layers.{is_loud}
 use Rattle.in_flight.specs.Routes.{refused_of}
 use Rattle.snapshot.specs.Kept.{Kept}
-use Rattle.snapshots.specs.Finding.{is_zeroing}
+use Rattle.snapshot_list.specs.Finding.{is_zeroing}
 use Rattle.volume.proofs.DueEvents.{due_by, snap_found, snap_due}
 use Rattle.volume.proofs.Spoilt.{spoilt_device}
 use Rattle.volume.proofs.StoreEvents.{zero_good, zero_fault, zero_lacks, front_live, zeroing_front, zeroing_due, first_some}

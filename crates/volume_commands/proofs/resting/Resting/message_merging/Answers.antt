@@ -1,5 +1,5 @@
 -- The merging store has other layers, or nothing changed; or no merge is begun.
-use Rattle.plain.specs.declared.request.Dev.TheVariants.{Snap}
+use Rattle.plain_machine.specs.declared.request.Dev.TheVariants.{Snap}
 use Rattle.volume.specs.Layering.{Measures}
 use Rattle.volume.proofs.Accepts.{if_ok}
 use Rattle.volume_commands.proofs.Begun.{one_begun}

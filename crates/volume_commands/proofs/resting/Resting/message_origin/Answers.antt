@@ -1,5 +1,5 @@
 -- The origin's device has other layers, or nothing changed.
-use Rattle.plain.specs.declared.request.Dev.TheVariants.{Origin}
+use Rattle.plain_machine.specs.declared.request.Dev.TheVariants.{Origin}
 use Rattle.volume.specs.Layering.{Measures}
 use Rattle.volume.proofs.Accepts.{if_err, if_ok}
 use Rattle.volume_commands.proofs.LayersChanged.{message_changes, origin_keeps}

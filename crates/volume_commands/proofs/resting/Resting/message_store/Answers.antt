@@ -1,5 +1,5 @@
 -- The store at that place has other layers, or nothing changed.
-use Rattle.plain.specs.declared.request.Dev.TheVariants.{Snap}
+use Rattle.plain_machine.specs.declared.request.Dev.TheVariants.{Snap}
 use Rattle.volume.specs.Layering.{Measures}
 use Rattle.volume.proofs.Accepts.{if_err, if_ok}
 use Rattle.volume_commands.proofs.LayersChanged.{message_changes, other_stays}

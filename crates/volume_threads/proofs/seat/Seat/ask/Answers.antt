@@ -1,7 +1,7 @@
 use Rattle.std.proofs.Common.{◌≡◌, ℕ, ◌<◌, List, get_or, length, set, [], ◌∷◌, ◌++◌, sym, ap, ◌∙◌, subst}
 use Rattle.std.proofs.lemmas.List.{append-nil, get_or_default}
 use Rattle.locked_volume.specs.Keeping.{Begins}
-use Rattle.journal.specs.declared.entry.Entry.{Entry}
+use Rattle.audit.specs.declared.entry.Entry.{Entry}
 use Rattle.locked_volume.specs.Denying.{Serve}
 use Rattle.volume_threads.specs.Rigs.{HasAdded}
 use Rattle.volume_threads.specs.Sittings.{SittingShape}

@@ -1,9 +1,9 @@
 use Rattle.std.proofs.Common.{◌≡◌, ◌<◌, ℕ, List, inl, refl, sym, ap, ◌∙◌, subst}
 use Rattle.chunk.specs.Pieces.{Span, pieces_of, span_of}
 use Rattle.chunk.proofs.Limits.{is_chunk-some, is_chunk-small}
-use Rattle.plain.specs.declared.request.Reply.TheVariants.{Data}
+use Rattle.plain_machine.specs.declared.request.Reply.TheVariants.{Data}
 use Rattle.sector.specs.declared.refusal.Refusal.TheVariants.{NoMemory}
-use Rattle.journal.specs.declared.entry.Receipt.{Receipt}
+use Rattle.audit.specs.declared.entry.Receipt.{Receipt}
 use Rattle.locked_volume.specs.Denying.{Serve, WasDenied}
 use Rattle.locked_volume.specs.Fixed.{piece_at}
 use Rattle.volume_threads.specs.Rigs.{HasAdded, seen_at}

@@ -1,6 +1,6 @@
 -- The pieces so far were read.
 use Rattle.chunk.specs.Pieces.{pieces_of, span_of}
-use Rattle.plain.specs.declared.request.Reply.TheVariants.{Data}
+use Rattle.plain_machine.specs.declared.request.Reply.TheVariants.{Data}
 use Rattle.locked_volume.specs.Fixed.{piece_at}
 use Rattle.volume_threads.specs.Served.{read_op}
 use Rattle.volume_threads.proofs.UnderWay.{IsUnderWay}

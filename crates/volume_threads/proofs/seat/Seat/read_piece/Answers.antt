@@ -1,6 +1,6 @@
 use Rattle.std.proofs.Common.{◌++◌, [], inl, inr, refl, ap, ◌∙◌}
 use Rattle.chunk.specs.Pieces.{span_of}
-use Rattle.plain.specs.declared.request.Op.TheVariants.{Read}
+use Rattle.plain_machine.specs.declared.request.Op.TheVariants.{Read}
 use Rattle.volume_threads.proofs.seat.Seat.read_piece.Goals as goal
 
 pub returns-in-Ok-extend_from_slice-clause-ok : goal.returns-in-Ok-extend_from_slice-clause-ok

@@ -3,12 +3,12 @@ use Rattle.std.proofs.Common.{◌≡◌, ◌<◌, ℕ, List, ◌+◌, ◌-◌, �
 use Rattle.chunk.specs.Pieces.{Span, pieces_of, span_of}
 use Rattle.chunk.proofs.Limits.{is_chunk-some, is_chunk-small}
 use Rattle.chunk.proofs.Runs.{StandsAt, first_piece, stands_first, stands_last, stands_next}
-use Rattle.plain.specs.declared.request.Op.TheVariants.{Write}
+use Rattle.plain_machine.specs.declared.request.Op.TheVariants.{Write}
 use Rattle.locked_volume.specs.Denying.{Serve, WasDenied}
 use Rattle.locked_volume.specs.Fixed.{piece_at}
 use Rattle.volume_threads.specs.Rigs.{HasAdded, seen_at}
 use Rattle.volume_threads.specs.Served.{IsWriteLost, IsWrittenBy, written_reply}
-use Rattle.journal.specs.declared.entry.Receipt.{Receipt}
+use Rattle.audit.specs.declared.entry.Receipt.{Receipt}
 use Rattle.volume_threads.proofs.Parts.{part_all, part_fits, part_more}
 use Rattle.volume_threads.proofs.UnderWay.{IsUnderWay, begins, ends, goes, stops}
 use Rattle.volume_threads.proofs.seat.Seat.write_all.Goals as goal

@@ -2,7 +2,7 @@
 use Rattle.std.proofs.Common.{◌+◌, take}
 use Rattle.chunk.specs.Pieces.{pieces_of, span_of}
 use Rattle.chunk.proofs.Runs.{StandsAt}
-use Rattle.plain.specs.declared.request.Op.TheVariants.{Write}
+use Rattle.plain_machine.specs.declared.request.Op.TheVariants.{Write}
 use Rattle.locked_volume.specs.Fixed.{piece_at}
 use Rattle.volume_threads.specs.Served.{written_reply}
 use Rattle.volume_threads.proofs.UnderWay.{IsUnderWay}

@@ -1,6 +1,6 @@
 use Rattle.std.proofs.Common.{inl, inr, refl, ap, ◌∙◌}
 use Rattle.chunk.specs.Pieces.{span_of}
-use Rattle.plain.specs.declared.request.Op.TheVariants.{Write}
+use Rattle.plain_machine.specs.declared.request.Op.TheVariants.{Write}
 use Rattle.volume_threads.proofs.seat.Seat.write_piece.Goals as goal
 
 pub returns-in-Ok-Written-clause-ok : goal.returns-in-Ok-Written-clause-ok

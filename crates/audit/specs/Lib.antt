@@ -1,0 +1,11 @@
+pub mod Replay
+pub mod Seats
+pub mod Entries
+pub mod Noted
+pub mod Marked
+pub mod Inside
+pub mod Earned
+pub mod Books
+pub mod PlacesTaken
+pub mod Undone
+pub mod Own

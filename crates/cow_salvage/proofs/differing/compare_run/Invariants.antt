@@ -1,0 +1,17 @@
+use Rattle.std.proofs.Common.{◌≡◌, ℕ, ◌-◌, ◌*◌, ◌≤◌, List, length, Some}
+use Rattle.cow_image.specs.Shown.{shown}
+use Rattle.cow_salvage.specs.Differences.{AreDifferences}
+use Rattle.cow_salvage.proofs.differing.compare_run.Given as goal
+
+abbrev pub invariant-loop-done : goal.invariant-loop-done
+invariant-loop-done g l = record {
+  origin : g.O.Image.bytes l.origin ≡ g.O.Image.bytes l.fn.origin;
+  cow : g.C.Image.bytes l.cow ≡ g.C.Image.bytes l.fn.cow;
+  ours : length l.ours ≡ 1_048_576;
+  theirs : length l.theirs ≡ 1_048_576;
+  inside : l.done ≤ l.end;
+  told : (size : ℕ) (o b : List ℕ) → g.O.Image.bytes l.fn.origin ≡ Some o → g.C.Image.bytes l.fn.cow ≡ Some b → l.end ≤ size → AreDifferences (shown l.chunk o b l.pairs 0 (512 * size)) o l.first l.fn.spans.items → AreDifferences (shown l.chunk o b l.pairs 0 (512 * size)) o l.done l.spans.items;
+}
+
+abbrev pub decreases-loop-done : goal.decreases-loop-done
+decreases-loop-done g l = l.end - l.done

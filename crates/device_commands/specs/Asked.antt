@@ -1,0 +1,22 @@
+-- Of which volume a journal is full, and how much that was asked for. This project's own.
+use Rattle.std.specs.Prelude.{◌≡◌, ℕ, Bool, true, false, List, Option, Some, None, Result, Ok, Err}
+use Rattle.sector.specs.declared.refusal.Refusal.{Refusal}
+use Rattle.command_rules.specs.State.{Volume, Table}
+use Rattle.command_rules.specs.Places.{place_of, found}
+use Rattle.device_list.specs.Asked.{has_asked_much}
+use Rattle.device_commands.specs.Ruled.{volume_with}
+
+-- a volume that is there was asked for so much that its journal may be full
+abbrev pub has_asked_much_in : Result Volume Refusal → Bool
+has_asked_much_in (Err refusal) = false
+has_asked_much_in (Ok volume) = has_asked_much volume
+
+-- so was, by the end of a command, the one that had the device of a name
+abbrev pub has_asked_much_for : List ℕ → Table → Table → Bool
+has_asked_much_for name old new = has_asked_much_in (volume_with new (found (place_of name old)))
+
+-- A command that takes places in the journal of the volume that has the device of a name may find that full only once that was asked for
+-- so much. One that takes none, and so has no such name, never does.
+abbrev pub IsAskedMuch : Option (List ℕ) → Table → Table → Type 0
+IsAskedMuch None old new = ⊥
+IsAskedMuch (Some name) old new = has_asked_much_for name old new ≡ true

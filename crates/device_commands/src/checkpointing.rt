@@ -1,0 +1,34 @@
+// The journal of a volume.
+ghost use Rattle.std.specs.Prelude.{◌≡◌, ◌<◌, Ok, Err, IfErr, length};
+ghost use Rattle.command_rules.specs.Changes.{Changes};
+ghost use Rattle.command_rules.specs.Events.{origin_by};
+ghost use Rattle.command_rules.specs.Journal.{checkpointed};
+ghost use Rattle.device_list.specs.Tables.{table_of};
+
+use crate::flights::origin_at;
+use device_list::{Devices, find_device};
+use sector::Refusal;
+use words::Name;
+
+/// The journal of a volume is folded.
+fn checkpoint_at(held: &mut Devices, v: usize) -> Result<(), Refusal>
+    requires { v < length held.old.volumes.items }
+    ensures done { Changes result (table_of held.old) (table_of held.new) (Ok (table_of held.old)) }
+    ensures same { table_of held.new ≡ table_of held.old }
+{
+    held.volumes[v].checkpoint()
+}
+
+/// `checkpoint VOL`: folds the journal of an origin's volume, so that it has room again, whatever is in flight; no device is
+/// changed. In this order: `NoSuchDevice` for a name that no device has, `BadTable` for a device that is no origin, `NoMemory`
+/// where the allocator refuses what is needed. A refusal changes nothing.
+#[tactic(auto, unfolding(command_rules::specs::Events::origin_by, command_rules::specs::Journal::checkpointed))]
+pub fn checkpoint_device(held: &mut Devices, name: &Name) -> Result<(), Refusal>
+    ensures asks { IfErr (origin_by name.now (table_of held.old)) (λ e. result ≡ Err e) }
+    ensures done { Changes result (table_of held.old) (table_of held.new) (checkpointed name.now (table_of held.old)) }
+    ensures same { table_of held.new ≡ table_of held.old }
+{
+    let place = find_device(held, name)?;
+    let v = origin_at(place)?;
+    checkpoint_at(held, v)
+}

@@ -1,0 +1,37 @@
+// Raw disks: making one.
+ghost use Rattle.std.specs.Prelude.{◌≡◌, ◌≤◌, length, true};
+ghost use Rattle.command_rules.specs.Changes.{Changes};
+ghost use Rattle.device_list.specs.Tables.{table_of};
+ghost use Rattle.command_rules.specs.Disks.{make};
+ghost use Rattle.command_rules.specs.Naming.{AreNamed};
+ghost use Rattle.command_rules.specs.Sound.{is_sound};
+
+use device::{MAX_SECTORS, MemDisk};
+use device_list::{Devices, NamedStack, find, is_full};
+use sector::Refusal;
+use std::alloc::Global;
+use words::Name;
+
+/// `disk NAME N`: a disk of N zero sectors. In this order: `Busy` for a name that a device has, `OutOfRange` for a number of
+/// sectors outside 1 to 2^24, `TooMany` where there are 64 devices, `NoMemory` where the allocator refuses room.
+#[inline(never)]
+#[tactic(auto, unfolding(command_rules::specs::Disks::make))]
+pub fn make_disk(alloc: Global, held: &mut Devices, name: Name, sectors: u32) -> Result<(), Refusal>
+    ensures done { Changes result (table_of held.old) (table_of held.new) (make name sectors (table_of held.old)) }
+    ensures sound { is_sound (table_of held.old) ≡ true → is_sound (table_of held.new) ≡ true }
+    ensures named { AreNamed (table_of held.old) → AreNamed (table_of held.new) }
+{
+    if find(held, &name).is_some() {
+        return Err(Refusal::Busy);
+    }
+    if !(0 < sectors && sectors <= MAX_SECTORS as u32) {
+        return Err(Refusal::OutOfRange);
+    }
+    if is_full(held) {
+        return Err(Refusal::TooMany);
+    }
+    let disk = MemDisk::new(alloc, u64::from(sectors))?;
+    let stack = NamedStack::of_disk(alloc, name, disk).map_err(|_| Refusal::NoMemory)?;
+    held.stacks.push(stack).map_err(|_| Refusal::NoMemory)?;
+    Ok(())
+}

@@ -1,0 +1,8 @@
+use Rattle.command_rules.specs.Stacks.{device_of}
+use Rattle.device_list.proofs.Below.{uncovered_is}
+use Rattle.device_list.proofs.stack.NamedStack.uncover.Goals as goal
+
+pub returns : goal.returns
+returns c =
+    uncovered_is c.self.inside.names.items c.remove.new.self.items (device_of c.self.inside.stack) (device_of c.lower.new.stack) c.self.inside.stale c.args.self.now
+    c.self.view_is c.remove.ensures.items c.lower.ensures

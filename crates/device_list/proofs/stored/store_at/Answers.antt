@@ -1,0 +1,12 @@
+use Rattle.std.proofs.Common.{sym, ap, ◌∙◌}
+use Rattle.layers.specs.declared.stack.Stack.{Stack}
+use Rattle.big_steps.specs.Snaps.{Snap}
+use Rattle.volume_commands.specs.Rested.{Attached}
+use Rattle.command_rules.specs.Stacks.{device_of}
+use Rattle.device_list.proofs.Places.{at_place}
+use Rattle.device_list.proofs.stored.store_at.Goals as goal
+
+pub returns : goal.returns
+returns c = λ d.
+    let at = at_place c.args.volume.now.rested c.args.k c.requires in
+    ap device_of (c.store_at.ensures at.0 ∙ ap (λ (s : Attached Stack). s.store) (at.1.is at.0)) ∙ sym (ap (λ (s : Snap). s.store) (at.1.held d))

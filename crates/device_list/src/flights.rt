@@ -1,0 +1,107 @@
+// Requests that one call starts and later ones end.
+ghost use Rattle.std.specs.Prelude.{◌≡◌, ◌≢◌, ◌+◌, ◌*◌, ◌<◌, ◌≤◌, ℕ, List, length, get_or, is_ok, true, false, not, ◌&&◌, None, Ok, Err, IfErr, IfOk, OnOk, OnErr};
+ghost use Rattle.sector.specs.declared.refusal.Refusal.TheVariants.{NoMemory, Invalid, JournalFull, Overflow};
+ghost use Rattle.plain_machine.specs.declared.request.Op.TheVariants.{Write};
+ghost use Rattle.big_steps.specs.Snaps.{Snap};
+ghost use Rattle.volume.specs.EventKinds.{is_of_merge};
+ghost use Rattle.command_rules.specs.Events.{merge_done};
+ghost use Rattle.command_rules.specs.Places.{IsRoleIn};
+ghost use Rattle.command_rules.specs.Sectors.{asked_of};
+ghost use Rattle.device_list.specs.Asked.{has_asked_much};
+ghost use Rattle.device_list.specs.Flights.{IsNotDue, IsNotStarted, IsSettledBy, IsStarted, IsStepped};
+ghost use Rattle.device_list.specs.Names.{KeepsNames};
+
+use crate::origin::NamedVolume;
+use crate::sectors::ask;
+use crate::stored::{look, look_at_places, number_at};
+use command_rules::Role;
+use plain_machine::{Event, NotDue, Op, Outcome, ReqId, Request, SnapId};
+use sector::Refusal;
+use std::alloc::Global;
+use volume::is_of_merge;
+use volume_commands::Replied;
+
+impl NamedVolume {
+    /// Whether nothing is in flight or left to do.
+    pub fn is_quiet(&self) -> bool
+        ensures { result ≡ self.now.quiet }
+    {
+        self.volume.is_quiet()
+    }
+
+    /// The number of the snapshot at a place.
+    pub fn number(&self, k: usize) -> SnapId
+        requires { k < length self.now.snaps }
+        ensures { (d : Snap) → result ≡ (get_or self.now.state.snaps k d).number }
+    {
+        number_at(&self.volume, k)
+    }
+
+    /// Starts a read or a write of so many sectors from `first` on, and tells its number; it is in flight from then on. Refused
+    /// in this order: `BadTable` for disks and layers, `OutOfRange` for sectors past the end, `MergingSnapshot` for the snapshot
+    /// that is being merged, `TooMany` where 2^60 sectors were asked for in all; then, as the volume submits, `JournalFull`, `Invalid` for a spoiled snapshot, `Overflow` for a write of one
+    /// whose store overflowed, `OutOfRange` for sectors of two chunks, `TooMany`, `NoMemory`, and for a snapshot whose store is
+    /// full `Invalid`, which spoils it, or `Overflow`, if it may overflow.
+    pub fn start(
+        &mut self,
+        alloc: Global,
+        role: Role,
+        first: u32,
+        count: u32,
+        op: Op,
+    ) -> Result<ReqId, Refusal>
+        requires role { IsRoleIn role self.old }
+        requires some { 0 < count }
+        requires few { count ≤ 2048 }
+        requires bytes { (bytes : List ℕ) → op ≡ Write bytes → length bytes ≡ 512 * count }
+        ensures asks { IfErr (asked_of role first count self.old) (λ e. result ≡ Err e) }
+        ensures stays { IfErr (asked_of role first count self.old) (λ _. self.new ≡ self.old) }
+        ensures flies { OnOk result (self.new.quiet ≡ false) }
+        ensures started { IfOk result (λ number. IfOk (asked_of role first count self.old) (IsStarted op number self.old self.new)) }
+        ensures refused { IfErr result (λ e. IfOk (asked_of role first count self.old) (IsNotStarted op e self.old self.new)) }
+        ensures counts { IfOk (asked_of role first count self.old) (λ _. self.new.asked ≡ self.old.asked + count) }
+        ensures same { IfErr result (λ e. e ≢ Invalid → e ≢ Overflow → self.new.state ≡ self.old.state) }
+        ensures still { IfErr result (λ e. e ≢ Invalid → self.new.quiet ≡ self.old.quiet) }
+        ensures kept { KeepsNames self.old self.new }
+        ensures full { IfErr result (λ e. e ≡ JournalFull → has_asked_much self.new ≡ true) }
+    {
+        let (dev, range) = match ask(&self.volume, &mut self.asked, role, first, count) {
+            Ok(asks) => asks,
+            Err(refusal) => return Err(refusal),
+        };
+        look_at_places(&self.volume);
+        self.volume.start(alloc, Request { dev, op, range })
+    }
+
+    /// Does an event. `NotDue` where it isn't due, and then nothing changed; where nothing is in flight or left to do, none is
+    /// but those of a merge.
+    pub fn step(&mut self, event: Event) -> Result<Outcome, NotDue>
+        ensures idle { self.old.quiet ≡ true → is_of_merge event ≡ false → is_ok result ≡ false }
+        ensures stepped { IfOk result (λ outcome. IsStepped event outcome self.old self.new) }
+        ensures due { (not (is_of_merge event) && self.old.quiet) ≡ false → OnErr result (IsNotDue event self.old) }
+        ensures same { OnErr result (self.new ≡ self.old) }
+        ensures kept { KeepsNames self.old self.new }
+    {
+        if !is_of_merge(event) && self.is_quiet() {
+            return Err(NotDue);
+        }
+        self.volume.step(event)
+    }
+
+    /// Does the events that are due, each time the one that is due first, until none is. Each request that ends is told at the
+    /// end of `ended`. `NoMemory` where the allocator refuses room for that, and then nothing is done. Where nothing is in flight, this is the
+    /// whole merge, or up to the first of its operations that fails, and no memory is asked for.
+    pub fn settle(&mut self, ended: &mut Vec<Replied>) -> Result<(), Refusal>
+        ensures quiet { OnOk result (self.new.quiet ≡ true) }
+        ensures drained { OnOk result (IsSettledBy ended.old.items ended.new.items self.old self.new) }
+        ensures done { self.old.sound ≡ true → self.old.quiet ≡ true → OnOk result (self.new ≡ merge_done self.old) }
+        ensures idle { self.old.quiet ≡ true → is_ok result ≡ true }
+        ensures still { self.old.quiet ≡ true → ended.new.items ≡ ended.old.items }
+        ensures alone { self.old.quiet ≡ true → self.old.merging ≡ None → self.new ≡ self.old }
+        ensures kept { KeepsNames self.old self.new }
+        ensures err { IfErr result (λ e. (e ≡ NoMemory) × (self.new ≡ self.old) × (ended.new.items ≡ ended.old.items)) }
+    {
+        look(&self.volume);
+        self.volume.settle(ended)
+    }
+}

@@ -1,0 +1,81 @@
+// The merge of a snapshot into the origin: it begins, goes on after a fault, and is finished. No device is touched.
+ghost use Rattle.std.specs.Prelude.{◌≡◌, ◌≢◌, ◌<◌, length, true, false, Ok, Err, IfErr, IfOk, OnErr, OnOk};
+ghost use Rattle.sector.specs.declared.refusal.Refusal.TheVariants.{JournalFull};
+ghost use Rattle.device.specs.Layers.{is_loud};
+ghost use Rattle.big_steps.specs.Refusals.{is_starved};
+ghost use Rattle.command_rules.specs.Changes.{Changes, Enters};
+ghost use Rattle.command_rules.specs.Merging.{begun, finished, resumed};
+ghost use Rattle.device_list.specs.Asked.{has_asked_much};
+ghost use Rattle.device_list.specs.Flights.{IsUnfinished};
+ghost use Rattle.device_list.specs.Names.{IsNamedBegun, IsNamedLess};
+
+use crate::NamedStack;
+use crate::names::SnapNames;
+use crate::origin::NamedVolume;
+use crate::stored::{look, look_at_places};
+use sector::Refusal;
+use std::alloc::Global;
+
+impl NamedVolume {
+    /// Begins to merge the snapshot at a place, which is none of the others any more. In this order: `MergeInProgress` where a
+    /// merge is begun, `Invalid` for a spoiled snapshot, `NotQuiet`, `NoMemory`; then nothing that is seen changed. `JournalFull`
+    /// may come before all but the first.
+    pub fn begin_merge(&mut self, alloc: Global, k: usize) -> Result<(), Refusal>
+        requires { k < length self.old.snaps }
+        ensures done { self.old.sound ≡ true → Enters result self.old self.new (begun k self.old) }
+        ensures err { IfErr result (λ e. (self.new ≡ self.old) × (is_starved e ≡ false → begun k self.old ≡ Err e)) }
+        ensures named { OnOk result (IsNamedBegun k self.old self.new) }
+        ensures sound { self.new.sound ≡ self.old.sound }
+        ensures quiet { self.new.quiet ≡ self.old.quiet }
+        ensures full { IfErr result (λ e. e ≡ JournalFull → has_asked_much self.new ≡ true) }
+    {
+        if self.merging.is_some() {
+            return Err(Refusal::MergeInProgress);
+        }
+        look(&self.volume);
+        look_at_places(&self.volume);
+        let number = self.volume.number(k);
+        match self.volume.begin_merge(alloc, number) {
+            Ok(()) => {
+                self.merging = Some(self.snaps.remove(k));
+                Ok(())
+            }
+            Err(refusal) => Err(refusal),
+        }
+    }
+
+    /// Lets a merge that failed go on. `NotMerging` where none is begun.
+    pub fn resume_merge(&mut self) -> Result<(), Refusal>
+        ensures done { Changes result self.old self.new (resumed self.old) }
+    {
+        self.volume.resume_merge()
+    }
+
+    /// Takes a merge that has no pair left out, and gives the stack of its store back, under its names. In this order:
+    /// `JournalFull` where the journal has no room, `NotFinished` where none is begun, or a pair or a group is left, `NotQuiet`; then
+    /// nothing changed.
+    pub fn finish_merge(&mut self) -> Result<NamedStack, Refusal>
+        ensures parted { self.old.sound ≡ true → IfOk result (λ stack. finished self.old ≡ Ok (stack, self.new)) }
+        ensures refused { self.old.sound ≡ true → self.old.quiet ≡ true → IfErr result (λ e. e ≢ JournalFull → finished self.old ≡ Err e) }
+        ensures unfinished { IfErr result (λ e. e ≢ JournalFull → IsUnfinished e self.old) }
+        ensures named { IfOk result (λ stack. IsNamedLess stack self.old self.new) }
+        ensures same { OnErr result (self.new ≡ self.old) }
+        ensures loud { IfOk result (λ stack. self.old.sound ≡ true → is_loud stack.device.layers ≡ true) }
+        ensures sound { self.new.sound ≡ self.old.sound }
+        ensures quiet { OnOk result ((self.old.quiet ≡ true) × (self.new.quiet ≡ true)) }
+        ensures full { IfErr result (λ e. e ≡ JournalFull → has_asked_much self.new ≡ true) }
+    {
+        look(&self.volume);
+        look_at_places(&self.volume);
+        let given = match self.volume.finish_merge() {
+            Ok(given) => given,
+            Err(refusal) => return Err(refusal),
+        };
+        match self.merging.take() {
+            Some(SnapNames { store, .. }) => {
+                Ok(NamedStack::of_parts(store, given.device, given.stale))
+            }
+            None => unreachable!(),
+        }
+    }
+}

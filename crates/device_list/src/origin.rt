@@ -1,0 +1,222 @@
+// A volume with the names of its devices.
+ghost use Rattle.std.specs.Prelude.{◌≡◌, ◌≢◌, ◌⊎◌, ◌<◌, ◌-◌, true, false, None, [], sum_by, Option, IfOk, IfErr, IfSome, is_some, length, position};
+ghost use Rattle.std.specs.Str.{bytes_eq};
+ghost use Rattle.sector.specs.declared.refusal.Refusal.TheVariants.{NoMemory, Busy, NotQuiet};
+ghost use Rattle.device.specs.Layers.{is_loud};
+ghost use Rattle.big_steps.specs.Devices.{sectors_of as size_of};
+ghost use Rattle.command_rules.specs.Places.{role_of, role_among, role_merging, store_among, is_among, IsRoleAmong, IsRoleMerging, IsRoleIn};
+ghost use Rattle.command_rules.specs.Disks.{devices_in, devices_merging, devices_under};
+ghost use Rattle.command_rules.specs.Origins.{origin_on, stack_under};
+
+use crate::names::SnapNames;
+use crate::{NamedStack, depth_in, sectors_of};
+use command_rules::Role;
+use layers::Stack;
+use sector::Refusal;
+use std::alloc::Global;
+use std::marker::Model;
+use volume_commands::Resting;
+use words::Name;
+
+/// An origin with its snapshots, and the names of all their devices.
+#[derive(Drop)]
+pub struct NamedVolume {
+    pub(crate) origin: Name,
+    pub(crate) under: Vec<Name>,
+    pub(crate) stale: bool,
+    pub(crate) snaps: Vec<SnapNames>,
+    pub(crate) merging: Option<SnapNames>,
+    pub(crate) volume: Resting<Stack>,
+    pub(crate) asked: u64,
+    pub(crate) sound: bool,
+}
+
+impl Model for NamedVolume {
+    ghost use Rattle.volume.specs.Leaving.{is_quiet_of};
+    ghost use Rattle.command_rules.specs.State.{Volume};
+    ghost use Rattle.device_list.specs.Held.{flying_in, merging_with, settled_in, IsHeld};
+
+    ghost Value = { Volume };
+
+    ghost view = { λ m. record { origin = m.origin; under = m.under.items; stale = m.stale; snaps = m.snaps.items; merging = merging_with m.merging m.volume.rested; state = settled_in m.volume.rested; given = m.volume.rested.attached; asked = m.asked; sound = m.sound; quiet = is_quiet_of m.volume.rested.events; flying = flying_in m.volume.rested.events } };
+
+    ghost invariant = { λ m. IsHeld m.snaps.items m.merging m.volume.rested m.asked m.sound };
+}
+
+fn snapshot_of(snaps: &[SnapNames], name: &Name) -> Option<usize>
+    ensures place { result ≡ position (λ n. bytes_eq n.snapshot name.now) snaps.now }
+    ensures within { IfSome result (λ k. k < length snaps.now) }
+{
+    snaps.iter().position(|names| names.is_snapshot(name))
+}
+
+fn store_of(snaps: &[SnapNames], name: &Name) -> Option<usize>
+    ensures place { result ≡ position (λ n. is_among name.now n.store) snaps.now }
+    ensures within { IfSome result (λ k. k < length snaps.now) }
+{
+    snaps.iter().position(|names| names.depth(name).is_some())
+}
+
+/// What a name is among the stores.
+#[tactic(auto, unfolding(command_rules::specs::Places::store_among))]
+fn store_among(snaps: &[SnapNames], name: &Name) -> Option<Role>
+    ensures role { result ≡ store_among name.now snaps.now }
+    ensures within { IfSome result (λ role. IsRoleAmong role snaps.now) }
+{
+    match store_of(snaps, name) {
+        None => None,
+        Some(k) => match snaps[k].depth(name) {
+            None => None,
+            Some(depth) => Some(Role::Store(k, depth)),
+        },
+    }
+}
+
+/// What a name is among the snapshots and their stores.
+#[tactic(auto, unfolding(command_rules::specs::Places::role_among))]
+fn role_among(snaps: &[SnapNames], name: &Name) -> Option<Role>
+    ensures role { result ≡ role_among name.now snaps.now }
+    ensures within { IfSome result (λ role. IsRoleAmong role snaps.now) }
+{
+    match snapshot_of(snaps, name) {
+        Some(k) => Some(Role::Snapshot(k)),
+        None => store_among(snaps, name),
+    }
+}
+
+/// What a name is of the snapshot that is being merged and its store.
+#[tactic(auto, unfolding(command_rules::specs::Places::role_merging))]
+fn role_merging(merging: &Option<SnapNames>, name: &Name) -> Option<Role>
+    ensures role { result ≡ role_merging name.now merging.now }
+    ensures within { IfSome result (λ role. IsRoleMerging role merging.now) }
+{
+    match merging {
+        None => None,
+        Some(names) => {
+            if names.is_snapshot(name) {
+                return Some(Role::Merging);
+            }
+            match names.depth(name) {
+                None => None,
+                Some(depth) => Some(Role::MergingStore(depth)),
+            }
+        }
+    }
+}
+
+/// What is left of so many devices, those of the snapshot that is being merged taken away.
+fn without_merging(merging: &Option<SnapNames>, most: usize) -> usize
+    ensures { result ≡ most - devices_merging merging.now }
+{
+    match merging {
+        None => most,
+        Some(names) => most.saturating_sub(1).saturating_sub(names.devices()),
+    }
+}
+
+/// What is left of so many devices, those of some snapshots and their stores taken away.
+fn left_after(snaps: &[SnapNames], most: usize) -> usize
+    ensures { result ≡ most - sum_by devices_under snaps.now }
+{
+    let mut left = most;
+    for names in snaps {
+        left = left.saturating_sub(1).saturating_sub(names.devices());
+    }
+    left
+}
+
+impl NamedVolume {
+    /// An origin over a stack. `NoMemory` where the allocator refuses room; then the stack is given back.
+    pub fn open(
+        alloc: Global,
+        name: Name,
+        stack: NamedStack,
+    ) -> Result<NamedVolume, (Refusal, NamedStack)>
+        ensures ok { IfOk result (λ v. v ≡ origin_on name stack) }
+        ensures err { IfErr result (λ e. e ≡ record { 0 = NoMemory; 1 = stack }) }
+    {
+        let sound = stack.is_loud();
+        let (under, device, stale) = stack.into_parts();
+        match Resting::new(alloc, device) {
+            Ok(volume) => Ok(NamedVolume {
+                origin: name,
+                under,
+                stale,
+                snaps: Vec::new(alloc),
+                merging: None,
+                volume,
+                asked: 0,
+                sound,
+            }),
+            Err((refusal, device)) => Err((refusal, NamedStack::of_parts(under, device, stale))),
+        }
+    }
+
+    /// Gives the stack under the origin back. In this order: `Busy` where there is a snapshot or a merge is begun, `NotQuiet` where a request is in
+    /// flight.
+    pub fn close(self) -> Result<NamedStack, (Refusal, NamedVolume)>
+        ensures ok { IfOk result (λ stack. (self.snaps ≡ []) × (self.merging ≡ None) × (self.quiet ≡ true) × (stack ≡ stack_under self)) }
+        ensures sound { IfOk result (λ stack. self.sound ≡ true → is_loud stack.device.layers ≡ true) }
+        ensures err { IfErr result (λ e. (((e.0 ≡ Busy) × ((self.snaps ≢ []) ⊎ (is_some self.merging ≡ true))) ⊎ ((e.0 ≡ NotQuiet) × (self.snaps ≡ []) × (self.merging ≡ None) × (self.quiet ≡ false))) × (e.1 ≡ self)) }
+    {
+        let NamedVolume {
+            origin,
+            under,
+            stale,
+            snaps,
+            merging,
+            volume,
+            asked,
+            sound,
+        } = self;
+        match volume.close() {
+            Ok(stack) => Ok(NamedStack::of_parts(under, stack, stale)),
+            Err((refusal, volume)) => Err((
+                refusal,
+                NamedVolume {
+                    origin,
+                    under,
+                    stale,
+                    snaps,
+                    merging,
+                    volume,
+                    asked,
+                    sound,
+                },
+            )),
+        }
+    }
+
+    /// How many sectors the origin has.
+    pub fn sectors(&self) -> u32
+        ensures { result ≡ size_of self.now.state.origin }
+    {
+        sectors_of(self.volume.origin())
+    }
+
+    /// What is left of so many devices, its own taken away.
+    pub fn left_of(&self, most: usize) -> usize
+        ensures { result ≡ most - devices_in self.now }
+    {
+        let left = most.saturating_sub(1).saturating_sub(self.under.len());
+        without_merging(&self.merging, left_after(&self.snaps, left))
+    }
+
+    /// What a name is in the volume.
+    #[tactic(auto, unfolding(command_rules::specs::Places::role_of))]
+    pub fn role(&self, name: &Name) -> Option<Role>
+        ensures role { result ≡ role_of name.now self.now }
+        ensures within { IfSome result (λ role. IsRoleIn role self.now) }
+    {
+        if self.origin.is_same(name) {
+            return Some(Role::Origin);
+        }
+        match depth_in(&self.under, name) {
+            Some(depth) => Some(Role::Under(depth)),
+            None => match role_among(&self.snaps, name) {
+                Some(role) => Some(role),
+                None => role_merging(&self.merging, name),
+            },
+        }
+    }
+}

@@ -1,3 +1,0 @@
-pub mod Torn
-pub mod Fuse
-pub mod Laws

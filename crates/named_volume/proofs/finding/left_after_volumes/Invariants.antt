@@ -1,7 +1,0 @@
-use Rattle.std.proofs.Common.{◌≡◌, ◌-◌, drop}
-use Rattle.std.specs.Prelude.{sum_by}
-use Rattle.command_rules.specs.Disks.{devices_in}
-use Rattle.named_volume.proofs.finding.left_after_volumes.Given as goal
-
-abbrev pub invariant-loop-volume : goal.invariant-loop-volume
-invariant-loop-volume l = l.left - sum_by devices_in (drop l.volume-index l.volumes) ≡ l.most - sum_by devices_in l.volumes

@@ -1,6 +1,0 @@
--- The merge's look is what its books say.
-use Rattle.std.proofs.Common.{◌∙◌, true}
-use Rattle.snapshots.proofs.due_in_merge.is_flush_due.Goals as goal
-
-pub returns : goal.returns
-returns g c = c.can_flush.ensures ∙ (c.has_group.ensures.looks true).flush

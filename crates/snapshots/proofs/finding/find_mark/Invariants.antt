@@ -1,8 +1,0 @@
--- The snapshots so far have none.
-use Rattle.std.proofs.Common.{◌≡◌, drop}
-use Rattle.std.specs.List.{list_any}
-use Rattle.snapshots.specs.Finding.{has_mark_at}
-use Rattle.snapshots.proofs.finding.find_mark.Given as goal
-
-abbrev pub invariant-loop-place : goal.invariant-loop-place
-invariant-loop-place g l = list_any (has_mark_at l.flights l.number) l.snaps ≡ list_any (has_mark_at l.flights l.number) (drop l.place l.snaps)

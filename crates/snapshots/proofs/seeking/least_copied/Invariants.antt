@@ -1,7 +1,0 @@
--- The least of those so far.
-use Rattle.std.proofs.Common.{map, take}
-use Rattle.snapshots.specs.MergeStarting.{IsLeastFrom}
-use Rattle.snapshots.proofs.seeking.least_copied.Given as goal
-
-abbrev pub invariant-loop-copy : goal.invariant-loop-copy
-invariant-loop-copy l = IsLeastFrom l.low l.most (map (λ p. p.pair.old) (take l.copy-index l.copies)) l.least

@@ -1,7 +1,0 @@
-use Rattle.std.proofs.Common.{◌≡◌, take}
-use Rattle.std.specs.Prelude.{sum_by}
-use Rattle.snapshots.specs.Numbers.{count_in}
-use Rattle.snapshots.proofs.starting.pending_count.Given as goal
-
-abbrev pub invariant-loop-snap : goal.invariant-loop-snap
-invariant-loop-snap g l = l.count ≡ sum_by count_in (take l.snap-index l.snaps)
