@@ -17,3 +17,4 @@ pub mod Premises
 pub mod Slots
 pub mod Closing
 pub mod OnDevices
+pub mod Fewer
