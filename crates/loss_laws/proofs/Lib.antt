@@ -18,3 +18,4 @@ pub mod Slots
 pub mod Closing
 pub mod OnDevices
 pub mod StaysOut
+pub mod Fewer
