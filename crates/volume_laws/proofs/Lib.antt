@@ -1,3 +1,4 @@
+pub mod Heard
 pub mod Lists
 pub mod Pairs
 pub mod Same
