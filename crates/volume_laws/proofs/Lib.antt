@@ -60,3 +60,5 @@ pub mod MergeBeside
 pub mod Beside
 pub mod MergeStarts
 pub mod MergeRoomStarts
+pub mod Ahead
+pub mod AheadDue
