@@ -187,7 +187,7 @@ module _ {B : Type 0} (holds : B → ℕ → List ℕ → Type 0) (contents : B 
       qs : List Pair
       qs = take count s.begun
 
-      a : LiveHolds (contents o) rs (snap_books contents layers s)
+      a : LiveHolds (is_loud (layers o)) (contents o) rs (snap_books contents layers s)
       a = alive holds contents layers size whole here o rs s k l live
 
       many : length (take count s.begun) ≡ count
