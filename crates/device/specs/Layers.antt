@@ -32,7 +32,7 @@ pub data Layer : Type 0 where
   -- the operations that pass before one fails; none fails where there is no number
   Counted : Option ℕ → Layer
   -- a fuse: the writes and flushes that pass before it is blown; None: it is blown, and every operation fails, counted
-  TornDiskShape : Option ℕ → Layer
+  Tearing : Option ℕ → Layer
   -- no layer of its own: what lies beside the bytes that the layer above shows of the device below. It passes everything
   Window : Beside → Layer
   -- a file: the ranges that were read ahead, each by its first sector and their number; and whether all that it answered is what a
@@ -83,9 +83,9 @@ layer_fate (Dusty sectors size enabled bad) (Writes first count) = Pass
 layer_fate (Dusty sectors size enabled bad) Flushes = Pass
 layer_fate Broken op = Fail
 layer_fate (Counted left) op = if counted_passes left then Pass else Fail
-layer_fate (TornDiskShape left) (Reads first count) = if is_some left then Pass else Fail
-layer_fate (TornDiskShape left) (Writes first count) = if torn_disk_passes left then Pass else Fail
-layer_fate (TornDiskShape left) Flushes = if torn_disk_passes left then Pass else Fail
+layer_fate (Tearing left) (Reads first count) = if is_some left then Pass else Fail
+layer_fate (Tearing left) (Writes first count) = if torn_disk_passes left then Pass else Fail
+layer_fate (Tearing left) Flushes = if torn_disk_passes left then Pass else Fail
 layer_fate (Window aside) op = Pass
 layer_fate (ReadAhead ranges kept) (Reads first count) = if list_any (is_within first count) ranges then Pass else Fail
 layer_fate (ReadAhead ranges kept) (Writes first count) = Pass
@@ -124,8 +124,8 @@ is_passed Drop = false
 abbrev pub layer_after : Layer → Operation → Bool → Layer
 layer_after (Dusty sectors size enabled bad) (Writes first count) done = Dusty sectors size enabled (if enabled && done then filter (λ block. not (touches size first count block)) bad else bad)
 layer_after (Counted left) op done = Counted (counted_after left)
-layer_after (TornDiskShape left) (Writes first count) done = TornDiskShape (counted_after left)
-layer_after (TornDiskShape left) Flushes done = TornDiskShape (counted_after left)
+layer_after (Tearing left) (Writes first count) done = Tearing (counted_after left)
+layer_after (Tearing left) Flushes done = Tearing (counted_after left)
 layer_after (ReadAhead ranges kept) (Writes first count) done = ReadAhead [] kept
 layer_after l op done = l
 
