@@ -4,8 +4,8 @@ use Rattle.std.specs.Io.KnownBytes.{Appends}
 use Rattle.sector.specs.declared.pair.Pair.{Pair}
 use Rattle.cow_image.specs.Shown.{shown}
 use Rattle.cow_image.specs.Fails.{ShownFails, ReadFails}
-use Rattle.nbd_server.specs.Replies.{greeting}
-use Rattle.nbd_server.specs.declared.served.Export.{Export}
+use Rattle.nbd_messages.specs.Replies.{greeting}
+use Rattle.nbd_options.specs.declared.export.Export.{Export}
 use Rattle.nbd_server.specs.Talk.{Talk, Turn, beginning}
 
 -- the arrays, by their numbers: the snapshot's, and then the origin's

@@ -8,7 +8,8 @@ ghost use Rattle.cow_nbd.specs.Shows.{IsServedBy, FailsAt, FailsFresh};
 use crate::pictures::Pictures;
 use cow_image::CowMap;
 use image::{Image, MemImage};
-use nbd_server::{Export, Stopped, serve};
+use nbd_options::Export;
+use nbd_server::{Stopped, serve};
 use std::alloc::Global;
 use std::io::{Read, Write};
 

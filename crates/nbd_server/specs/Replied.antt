@@ -2,10 +2,10 @@
 -- chunk message", "Request types", "Error values". Which requests are served is this project's choice where that page leaves
 -- it open: flags that were not offered and lengths over 32 MiB are invalid.
 use Rattle.std.specs.Prelude.{◌≡◌, ◌==◌, ℕ, ◌+◌, ◌≤◌, Bool, true, false, List, [], ◌++◌, take, drop, nat_lt, Option, Some, None, if◌then◌else◌}
-use Rattle.nbd_server.specs.Replies.{simple_reply, bare_chunk, error_chunk, data_front, state_chunk}
-use Rattle.nbd_server.specs.declared.command.Command.{Command}
-use Rattle.nbd_server.specs.declared.command.Command.TheVariants.{Read, Write, Disconnect, Flush, Trim, WriteZeroes, BlockStatus, Other}
-use Rattle.nbd_server.specs.declared.request.Request.{Request}
+use Rattle.nbd_messages.specs.Replies.{simple_reply, bare_chunk, error_chunk, data_front, state_chunk}
+use Rattle.nbd_messages.specs.declared.command.Command.{Command}
+use Rattle.nbd_messages.specs.declared.command.Command.TheVariants.{Read, Write, Disconnect, Flush, Trim, WriteZeroes, BlockStatus, Other}
+use Rattle.nbd_messages.specs.declared.request.Request.{Request}
 use Rattle.nbd_server.specs.Blocks.{asked_bytes, first_kind, first_alike, state_of}
 use Rattle.nbd_server.specs.declared.served.Fault.{Fault}
 use Rattle.nbd_server.specs.declared.served.Fault.TheVariants.{Io, NoMemory}

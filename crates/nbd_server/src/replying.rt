@@ -5,9 +5,10 @@ ghost use Rattle.nbd_server.specs.Replied.{is_invalid_read, error_reply, data_st
 ghost use Rattle.nbd_server.specs.Blocks.{asked_bytes, state_of as state_by};
 
 use crate::describing::first_kind_at;
-use crate::{
-    Command, Export, Fault, Request, Served, push_bare_chunk, push_data_front, push_error_chunk,
-    push_simple_reply, push_state_chunk,
+use crate::{Fault, Served};
+use nbd_messages::{
+    Command, Request, push_bare_chunk, push_data_front, push_error_chunk, push_simple_reply,
+    push_state_chunk,
 };
 use std::alloc::AllocError;
 

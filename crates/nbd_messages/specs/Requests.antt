@@ -1,11 +1,11 @@
 -- To be believed: what a client says, by doc/proto.md of the NBD project: "Newstyle negotiation", "Option haggling" and
 -- "Transmission", "Request message".
 use Rattle.std.specs.Prelude.{◌==◌, ℕ, List, Option, Some, None, if◌then◌else◌}
-use Rattle.nbd_server.specs.Layout.{number_at}
-use Rattle.nbd_server.specs.declared.command.Command.{Command}
-use Rattle.nbd_server.specs.declared.command.Command.TheVariants.{Read, Write, Disconnect, Flush, Trim, WriteZeroes, BlockStatus, Other}
-use Rattle.nbd_server.specs.declared.request.Request.{Request}
-use Rattle.nbd_server.specs.declared.asked.Asked.{Asked}
+use Rattle.nbd_messages.specs.Layout.{number_at}
+use Rattle.nbd_messages.specs.declared.command.Command.{Command}
+use Rattle.nbd_messages.specs.declared.command.Command.TheVariants.{Read, Write, Disconnect, Flush, Trim, WriteZeroes, BlockStatus, Other}
+use Rattle.nbd_messages.specs.declared.request.Request.{Request}
+use Rattle.nbd_messages.specs.declared.asked.Asked.{Asked}
 
 -- which command a number asks for
 abbrev pub command_of : ℕ → Command

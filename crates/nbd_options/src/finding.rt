@@ -1,8 +1,8 @@
 // An export is found by its name.
 ghost use Rattle.std.specs.Prelude.{◌≡◌};
-ghost use Rattle.nbd_server.specs.Haggled.{named, first_of};
+ghost use Rattle.nbd_options.specs.Haggled.{named, first_of};
 
-use crate::Export;
+use crate::export::Export;
 use crate::session::Place;
 
 /// The export that a name means: the first one of this name, and where the name is empty the first one of all.

@@ -2,8 +2,8 @@
 use Rattle.std.proofs.Common.{◌≡◌, ℕ, zero, suc, ◌+◌, ◌-◌, ◌<◌, ◌≤◌, Bool, true, false, List, length, take, drop, Option, None, Some, refl, arith, ap, ◌∙◌, sym, length-drop}
 use Rattle.std.specs.Prelude.{slice_range, nat_lt, ◌==◌, if◌then◌else◌}
 use Rattle.std.proofs.Math.Seq.{take-length}
-use Rattle.nbd_server.specs.Layout.{number_at}
-use Rattle.nbd_server.specs.Haggled.{asked_by, is_fitting}
+use Rattle.nbd_messages.specs.Layout.{number_at}
+use Rattle.nbd_options.specs.Haggled.{asked_by, is_fitting}
 
 -- a query without its length
 pub asked_short : (chooses found : Bool) (count : ℕ) (text : List ℕ) → 0 < count → length text < 4 → None ≡ asked_by chooses found count text

@@ -1,6 +1,6 @@
 // A request is read.
 ghost use Rattle.std.specs.Prelude.{◌≡◌, length};
-ghost use Rattle.nbd_server.specs.Requests.{request_in as request_by};
+ghost use Rattle.nbd_messages.specs.Requests.{request_in as request_by};
 
 use crate::command::{Command, command_of};
 use crate::numbers::{u16_at, u32_at, u64_at};

@@ -1,6 +1,6 @@
 // What a server says is written.
 ghost use Rattle.std.specs.Prelude.{◌≡◌, ◌+◌, ◌^◌, ◌<◌, [], ◌++◌, length, OnOk};
-ghost use Rattle.nbd_server.specs.Replies.{greeting, option_front, option_reply, listed_name, context_info, export_info, export_reply, simple_reply, chunk_kind, chunk_front, bare_chunk, error_chunk, data_front, block_state, state_chunk};
+ghost use Rattle.nbd_messages.specs.Replies.{greeting, option_front, option_reply, listed_name, context_info, export_info, export_reply, simple_reply, chunk_kind, chunk_front, bare_chunk, error_chunk, data_front, block_state, state_chunk};
 
 use crate::numbers::{push_u16, push_u32, push_u64};
 use std::alloc::AllocError;

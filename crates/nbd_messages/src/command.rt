@@ -1,6 +1,6 @@
 // What a request asks for.
 ghost use Rattle.std.specs.Prelude.{◌≡◌};
-ghost use Rattle.nbd_server.specs.Requests.{command_of as command_by};
+ghost use Rattle.nbd_messages.specs.Requests.{command_of as command_by};
 
 /// A command of the protocol.
 #[derive(Clone, Copy, PartialEq, Eq)]

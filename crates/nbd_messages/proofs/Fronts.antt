@@ -3,8 +3,8 @@ use Rattle.std.proofs.Common.{◌≡◌, ℕ, ◌+◌, ◌≤◌, List, ◌++◌
 use Rattle.std.proofs.lemmas.List.{drop-append-le}
 use Rattle.byteorder.specs.Endian.{big_number}
 use Rattle.byteorder.specs.Numbers.{big_from-append}
-use Rattle.nbd_server.specs.Layout.{number_at}
-use Rattle.nbd_server.specs.Requests.{request_in, asked_in}
+use Rattle.nbd_messages.specs.Layout.{number_at}
+use Rattle.nbd_messages.specs.Requests.{request_in, asked_in}
 
 pub number_front : (xs ys : List ℕ) (at n : ℕ) → at + n ≤ length xs → number_at (xs ++ ys) at n ≡ number_at xs at n
 unfolding number_at

@@ -1,7 +1,7 @@
 use Rattle.std.proofs.Common.{◌≡◌, ◌∙◌, ap, sym, refl, Bool, true, false, length}
 use Rattle.std.specs.Prelude.{◌==◌, if◌then◌else◌}
-use Rattle.nbd_server.proofs.Queries.{asked_short, asked_cut, asked_next, asked_end}
-use Rattle.nbd_server.proofs.haggling.asked_by.Goals as goal
+use Rattle.nbd_options.proofs.Queries.{asked_short, asked_cut, asked_next, asked_end}
+use Rattle.nbd_options.proofs.haggling.asked_by.Goals as goal
 
 pub returns-then-rest-lt4 : goal.returns-then-rest-lt4
 returns-then-rest-lt4 c = asked_short c.args.chooses c.loop-left.found c.loop-left.left c.loop-left.rest.now c.loop-left-test.true c.if-rest-lt4.true ∙ c.loop-left.invariant

@@ -1,7 +1,7 @@
 use Rattle.std.proofs.Common.{◌++◌, ℕ, List, length, sym, ap, ◌∙◌, append_assoc}
-use Rattle.nbd_server.specs.Replies.{option_front, export_info}
-use Rattle.nbd_server.proofs.Lengths.{length_export_info}
-use Rattle.nbd_server.proofs.replies.push_export_info.Goals as goal
+use Rattle.nbd_messages.specs.Replies.{option_front, export_info}
+use Rattle.nbd_messages.proofs.Lengths.{length_export_info}
+use Rattle.nbd_messages.proofs.replies.push_export_info.Goals as goal
 
 pub returns : goal.returns
 returns c =

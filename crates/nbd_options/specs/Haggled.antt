@@ -2,13 +2,13 @@
 -- negotiation", "Option types", "Option reply types".
 use Rattle.std.specs.Prelude.{◌≡◌, ◌==◌, ℕ, zero, suc, ◌+◌, ◌*◌, ◌&&◌, ◌||◌, Bool, true, false, List, [], ◌∷◌, ◌++◌, length, drop, slice_range, bytes_eq, codes, not, nat_lt, Option, Some, None, if◌then◌else◌}
 use Rattle.std.specs.List.{flat_map}
-use Rattle.nbd_server.specs.Layout.{number_at}
-use Rattle.nbd_server.specs.Replies.{option_reply, listed_name, context_info, export_info, export_reply}
-use Rattle.nbd_server.specs.declared.served.Export.{Export}
-use Rattle.nbd_server.specs.declared.session.Place.{Place}
-use Rattle.nbd_server.specs.declared.session.Stage.{Stage}
-use Rattle.nbd_server.specs.declared.session.Stage.TheVariants.{Serving, Over}
-use Rattle.nbd_server.specs.declared.session.Session.{Session}
+use Rattle.nbd_messages.specs.Layout.{number_at}
+use Rattle.nbd_messages.specs.Replies.{option_reply, listed_name, context_info, export_info, export_reply}
+use Rattle.nbd_options.specs.declared.export.Export.{Export}
+use Rattle.nbd_options.specs.declared.session.Place.{Place}
+use Rattle.nbd_options.specs.declared.session.Stage.{Stage}
+use Rattle.nbd_options.specs.declared.session.Stage.TheVariants.{Serving, Over}
+use Rattle.nbd_options.specs.declared.session.Session.{Session}
 
 -- the types of replies: an acknowledgement, an export of a list, a fact of an export; unknown, malformed, no such export, too long
 abbrev pub acknowledged : ℕ

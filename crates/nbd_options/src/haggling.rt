@@ -1,15 +1,16 @@
 // An option is answered.
 ghost use Rattle.std.specs.Prelude.{◌≡◌, ◌+◌, ◌≤◌, [], ◌++◌, OnOk, IfOk, length, true, if◌then◌else◌};
 ghost use Rattle.std.specs.Option.{option_map};
-ghost use Rattle.nbd_server.specs.Layout.{number_at};
-ghost use Rattle.nbd_server.specs.Haggled.{named, IsReaction, haggled, haggled_unread, named_export, listed, asked_name as asked_name_of, informed, on_export, without_data, with_structure, on_contexts, context_name as context_name_of, asked_by as asked_by_of, asks_allocation as asks_allocation_of, is_fitting as is_fitting_of, contexts_at, told_context, choosing, refused, aborted};
-ghost use Rattle.nbd_server.specs.declared.session.Place.{Place as PlaceOf};
+ghost use Rattle.nbd_messages.specs.Layout.{number_at};
+ghost use Rattle.nbd_options.specs.Haggled.{named, IsReaction, haggled, haggled_unread, named_export, listed, asked_name as asked_name_of, informed, on_export, without_data, with_structure, on_contexts, context_name as context_name_of, asked_by as asked_by_of, asks_allocation as asks_allocation_of, is_fitting as is_fitting_of, contexts_at, told_context, choosing, refused, aborted};
+ghost use Rattle.nbd_options.specs.declared.session.Place.{Place as PlaceOf};
 
+use crate::export::Export;
 use crate::finding::found;
 use crate::session::{Place, Session, Stage};
-use crate::{
-    Export, push_bare_reply, push_context, push_export_info, push_export_reply, push_listed_name,
-    u16_at, u32_at,
+use nbd_messages::{
+    push_bare_reply, push_context, push_export_info, push_export_reply, push_listed_name, u16_at,
+    u32_at,
 };
 use std::alloc::AllocError;
 

@@ -1,6 +1,6 @@
 // An option's header is read.
 ghost use Rattle.std.specs.Prelude.{◌≡◌, length};
-ghost use Rattle.nbd_server.specs.Requests.{asked_in as asked_by};
+ghost use Rattle.nbd_messages.specs.Requests.{asked_in as asked_by};
 
 use crate::numbers::{u32_at, u64_at};
 

@@ -1,7 +1,7 @@
 // Numbers in messages.
 ghost use Rattle.std.specs.Prelude.{◌≡◌, ◌+◌, ◌≤◌, ◌++◌, length, OnOk};
 ghost use Rattle.byteorder.specs.Endian.{big_bytes};
-ghost use Rattle.nbd_server.specs.Layout.{number_at};
+ghost use Rattle.nbd_messages.specs.Layout.{number_at};
 
 use byteorder::{BigEndian, ByteOrder};
 use std::alloc::AllocError;

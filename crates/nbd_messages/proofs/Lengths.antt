@@ -1,7 +1,7 @@
 -- How long replies are.
 use Rattle.std.proofs.Common.{◌≡◌, ℕ, ◌+◌, List, ◌++◌, length, refl, arith, ap, ◌∙◌, length-append}
 use Rattle.byteorder.specs.Endian.{big_bytes}
-use Rattle.nbd_server.specs.Replies.{listed_name, context_info, export_info}
+use Rattle.nbd_messages.specs.Replies.{listed_name, context_info, export_info}
 
 pub length_listed_name : (name : List ℕ) → length (listed_name name) ≡ 4 + length name
 unfolding listed_name
