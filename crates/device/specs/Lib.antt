@@ -1,3 +1,4 @@
+pub mod Ahead
 pub mod Bare
 pub mod Disk
 pub mod Laws

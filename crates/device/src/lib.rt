@@ -1,9 +1,11 @@
-//! Devices of sectors: the trait `Block`, disks in memory, and a device that fails one operation.
+//! Devices of sectors: the trait `Block`, disks in memory, a device that fails one operation, and the trait `Ahead` of one that does
+//! operations ahead.
 //!
 //! It stands on `sector`. It promises that a read gives what the writes left, that an operation answers `Io` exactly
 //! where a fault was counted, and says what a stop or a loss at any moment may leave in each sector.
 #![tactic(auto)]
 
+mod ahead;
 mod block;
 mod bytes;
 mod disk_sectors;
@@ -20,6 +22,7 @@ mod span;
 mod undo;
 mod zeroed;
 
+pub use ahead::Ahead;
 pub use block::Block;
 pub use fail_at::FailAt;
 pub use io::Io;
