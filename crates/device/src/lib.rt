@@ -9,6 +9,7 @@ mod ahead;
 mod block;
 mod bytes;
 mod disk_sectors;
+mod doing_ahead;
 mod fail_at;
 mod io;
 mod kept;
@@ -24,6 +25,7 @@ mod zeroed;
 
 pub use ahead::Ahead;
 pub use block::Block;
+pub use doing_ahead::do_ahead;
 pub use fail_at::FailAt;
 pub use io::Io;
 pub use mem_disk::{MAX_SECTORS, MemDisk};
