@@ -1,5 +1,5 @@
 //! The header of a store: what a first sector says, and the text of the chunk that says it, in the format of
-//! dm-snap-persistent.c. It stands on `sector`, `numbers` and `chunk`. It promises an answer for every sector, the refusals in
+//! dm-snap-persistent.c. It stands on `sector` and `chunk`. It promises an answer for every sector, the refusals in
 //! one order, and that what is written is read again as its source.
 #![tactic(auto)]
 

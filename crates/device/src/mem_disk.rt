@@ -17,8 +17,8 @@ pub const MAX_SECTORS: u64 = 16_777_216;
 ///
 /// Contracts see its size, its bytes now, its bytes at the last flush and its count of operations.
 ///
-/// The first write after a flush waits beside the sectors, if it is small: where a flush comes next, no value of the last flush
-/// need be kept aside. Whatever else comes next, it is written first, and then none waits until the next flush.
+/// The first small write after a flush waits beside the sectors: where a flush comes next, no value of the last flush need be
+/// kept aside. Whatever else comes next, it is written first, and then none waits until the next flush.
 #[derive(Drop)]
 pub struct MemDisk {
     sectors: DiskSectors,
