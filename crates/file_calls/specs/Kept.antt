@@ -63,7 +63,7 @@ is_kept start [] = true
 is_kept start (Len None ∷ calls) = is_kept start calls
 is_kept start (Len (Some n) ∷ calls) = is_kept start calls && (n == length (now_in start calls))
 is_kept start (Read at count None ∷ calls) = is_kept start calls
-is_kept start (Read at count (Some bytes) ∷ calls) = is_kept start calls && (length bytes == count) && bytes_eq bytes (take count (drop at (now_in start calls)))
+is_kept start (Read at count (Some bytes) ∷ calls) = is_kept start calls && bytes_eq bytes (take count (drop at (now_in start calls)))
 is_kept start (Write at bytes done ∷ calls) = is_kept start calls
 is_kept start (SetLen n done ∷ calls) = is_kept start calls
 is_kept start (Sync done promised ∷ calls) = is_kept start calls && (not (done || promised) || (done && are_answered calls))
