@@ -8,6 +8,8 @@
 mod devices;
 mod locks;
 mod numbers;
+#[cfg(test)]
+mod tests;
 mod users;
 
 pub use locks::{has_word, is_lock_on, is_of_writer};

@@ -1,21 +1,37 @@
 -- What a file holds that is written from its front to its end.
 use Rattle.std.proofs.Common.{◌≡◌, ℕ, zero, suc, ◌+◌, ◌-◌, ◌<◌, ◌≤◌, List, [], ◌∷◌, ◌++◌, length, take, drop, replicate, refl, arith, ap, ◌∙◌, sym, subst}
-use Rattle.std.proofs.lemmas.List.{append_assoc, append-nil, drop-drop, take_all, drop_all, take-replicate, length-append, length-replicate, length-take, replicate-append-replicate}
+use Rattle.std.proofs.lemmas.List.{append_assoc, append-nil, drop-drop, take_all, drop_all, take-replicate, take_more, length-append, length-drop, length-replicate, length-take, length-take-le, replicate-append-replicate, replicate_more}
+use Rattle.std.proofs.lemmas.Nat.{le_or_l, le_or_r}
+use Rattle.std.proofs.Math.ListN.{get_or}
+use Rattle.std.specs.Int.Bits.{bit_or}
 use Rattle.std.proofs.Math.Seq.{take-add, take-append-add}
 use Rattle.file_calls.specs.Kept.{with_len, with_bytes}
 
 -- zeros, and zeros behind them
-pub zeros_next : (b : List ℕ) (from place end : ℕ) → from ≤ place → place ≤ end → take (place - from) (drop from b) ≡ replicate (place - from) 0 → take (end - place) (drop place b) ≡ replicate (end - place) 0 → take (end - from) (drop from b) ≡ replicate (end - from) 0
-zeros_next b from place end low high front rest =
+zeros_join : (b : List ℕ) (from place end : ℕ) → from ≤ place → place ≤ end → take (place - from) (drop from b) ≡ replicate (place - from) 0 → take (end - place) (drop place b) ≡ replicate (end - place) 0 → take (end - from) (drop from b) ≡ replicate (end - from) 0
+zeros_join b from place end low high front rest =
     let e : end - from ≡ (place - from) + (end - place) = omega arith in
     let f : from + (place - from) ≡ place = omega arith in
-    ap (λ (n : ℕ). take n (drop from b)) e
-    ∙ take-add (place - from) (end - place) (drop from b)
-    ∙ ap (λ (l : List ℕ). take (place - from) (drop from b) ++ take (end - place) l) (drop-drop (place - from) from b ∙ ap (λ (n : ℕ). drop n b) f)
-    ∙ ap (λ (l : List ℕ). l ++ take (end - place) (drop place b)) front
-    ∙ ap (λ (l : List ℕ). replicate (place - from) 0 ++ l) rest
-    ∙ replicate-append-replicate (place - from) (end - place) 0
-    ∙ ap (λ (n : ℕ). replicate n 0) (sym e)
+    let back : take (end - place) (drop (place - from) (drop from b)) ≡ replicate (end - place) 0 = ap (take (end - place)) (drop-drop (place - from) from b ∙ ap (λ (n : ℕ). drop n b) f) ∙ rest in
+    rw e (take-add (place - from) (end - place) (drop from b) ∙ ap (λ (l : List ℕ). l ++ take (end - place) (drop (place - from) (drop from b))) front ∙ ap (λ (l : List ℕ). replicate (place - from) 0 ++ l) back ∙ replicate-append-replicate (place - from) (end - place) 0)
+
+pub zeros_next : (b : List ℕ) (from place end : ℕ) → from ≤ place → place ≤ end → end ≤ length b → take (place - from) (drop from b) ≡ replicate (place - from) 0 → take (end - place) (drop place b) ≡ replicate (length (take (end - place) (drop place b))) 0 → take (end - from) (drop from b) ≡ replicate (end - from) 0
+zeros_next b from place end low high inside front rest =
+    let all = length-drop place b in
+    let len : length (take (end - place) (drop place b)) ≡ end - place = length-take-le (end - place) (drop place b) (omega (arith, all)) in
+    zeros_join b from place end low high front (rest ∙ ap (λ (n : ℕ). replicate n 0) len)
+
+-- a byte more
+pub zeros_more : (b : List ℕ) (i seen : ℕ) → i < length b → bit_or seen (get_or b i 0) ≡ 0 → (seen ≡ 0 → take i b ≡ replicate i 0) → take (i + 1) b ≡ replicate (i + 1) 0
+zeros_more b i seen inside none front =
+    let left = le_or_l seen (get_or b i 0) in
+    let right = le_or_r seen (get_or b i 0) in
+    let no : seen ≡ 0 = omega (arith, left, none) in
+    let zero : get_or b i 0 ≡ 0 = omega (arith, right, none) in
+    take_more b i 0 inside
+    ∙ ap (λ (l : List ℕ). l ++ get_or b i 0 ∷ []) (front no)
+    ∙ ap (λ (n : ℕ). replicate i 0 ++ n ∷ []) zero
+    ∙ replicate_more i 0
 
 -- a list that is filled with zeros
 len_of : (x : List ℕ) (n : ℕ) → length x ≤ n → with_len x n ≡ x ++ replicate (n - length x) 0

@@ -75,7 +75,9 @@ impl<C: FileCalls> Sink for FileSink<C> {
             let from = data_begins(start, bytes, done);
             let to = data_ends(start, bytes, from);
             self.skip((from - done) as u64);
-            self.write(&bytes[from..to])?;
+            if let Err(error) = self.write(&bytes[from..to]) {
+                return Err(error);
+            }
             done = to;
         }
         Ok(())

@@ -5,7 +5,7 @@ use crate::streams::Output;
 use image_commands::answer;
 use std::fs::File;
 use std::io::Write;
-use std::{fs, io};
+use std::{fs, io, str};
 
 /// What a command printed, and its exit status.
 #[derive(Drop)]
@@ -111,6 +111,11 @@ fn is_so(rt: &HostRuntime, step: Step<'_>, ended: &Ended) -> io::Result<bool> {
         Step::Status(status) => Ok(ended.status == status),
         Step::Prints(name) => has(rt, name, ended.printed.as_slice()),
         Step::Tells(name) => has(rt, name, ended.told.as_slice()),
+        Step::Names(word) => {
+            let printed = str::from_utf8(ended.printed.as_slice());
+            Ok(printed.unwrap_or("").contains(word))
+        }
+        Step::Says("") => Ok(ended.told.is_empty()),
         Step::Says(line) => Ok(said(rt, line)?.as_slice() == ended.told.as_slice()),
         Step::Same { file, wants } => {
             let bytes = fs::read(rt, file)?;

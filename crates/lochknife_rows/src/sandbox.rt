@@ -6,13 +6,15 @@ use std::os::unix::fs::PermissionsExt;
 use std::{fs, io};
 
 /// Their names.
-const NAMES: [&str; 6] = [
+const NAMES: [&str; 8] = [
     "o.img",
     "c.img",
     "out.img",
     "out.img.partial",
     "d/o.img",
     "d/c.img",
+    "d/out.img",
+    "d/out.img.partial",
 ];
 
 /// The folder that a row may make.

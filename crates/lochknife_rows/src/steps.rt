@@ -25,7 +25,9 @@ pub enum Step<'a> {
     /// It wrote what is in this file to standard output, or to standard error.
     Prints(&'a str),
     Tells(&'a str),
-    /// It wrote this to standard error, where each `|` ends a line, as the end does.
+    /// What it wrote to standard output has this word somewhere.
+    Names(&'a str),
+    /// It wrote this to standard error, where each `|` ends a line, as the end does; without a text nothing.
     Says(&'a str),
     /// A file has the bytes of another one, or is not there.
     Same { file: &'a str, wants: &'a str },
@@ -59,6 +61,7 @@ pub fn step_of(line: &str) -> Option<Step<'_>> {
         "status" => Some(Step::Status(status(rest)?)),
         "prints" => Some(Step::Prints(rest)),
         "tells" => Some(Step::Tells(rest)),
+        "names" => Some(Step::Names(rest)),
         "says" => Some(Step::Says(rest)),
         "same" => {
             let (file, wants) = two(rest)?;
