@@ -2,7 +2,7 @@ use Rattle.std.proofs.Common.{arith}
 use Rattle.cow_merge.specs.Begun.{begun}
 use Rattle.cow_merge.proofs.Steps.{passes_none, passes_one, rolls_kept}
 use Rattle.cow_merge.proofs.Areas.{area_room, copies_same}
-use Rattle.cow_merge.proofs.copying.read_area.Goals as goal
+use Rattle.cow_merge.proofs.gathering.read_area.Goals as goal
 
 pub returns-then-sizes-chunk-clause-cause : goal.returns-then-sizes-chunk-clause-cause
 returns-then-sizes-chunk-clause-cause g c = record {
