@@ -1,5 +1,5 @@
 -- What a file holds that is written from its front to its end.
-use Rattle.std.proofs.Common.{◌≡◌, ℕ, zero, suc, ◌+◌, ◌-◌, ◌<◌, ◌≤◌, List, [], ◌∷◌, ◌++◌, length, take, drop, replicate, refl, arith, ap, ◌∙◌, sym, subst}
+use Rattle.std.proofs.Common.{◌≡◌, ℕ, ◌+◌, ◌-◌, ◌<◌, ◌≤◌, List, [], ◌∷◌, ◌++◌, length, take, drop, replicate, arith, ap, ◌∙◌, sym}
 use Rattle.std.proofs.lemmas.List.{append_assoc, append-nil, drop-drop, take_all, drop_all, take-replicate, take_more, length-append, length-drop, length-replicate, length-take, length-take-le, replicate-append-replicate, replicate_more}
 use Rattle.std.proofs.lemmas.Nat.{le_or_l, le_or_r}
 use Rattle.std.proofs.Math.ListN.{get_or}
@@ -13,13 +13,21 @@ zeros_join b from place end low high front rest =
     let e : end - from ≡ (place - from) + (end - place) = omega arith in
     let f : from + (place - from) ≡ place = omega arith in
     let back : take (end - place) (drop (place - from) (drop from b)) ≡ replicate (end - place) 0 = ap (take (end - place)) (drop-drop (place - from) from b ∙ ap (λ (n : ℕ). drop n b) f) ∙ rest in
-    rw e (take-add (place - from) (end - place) (drop from b) ∙ ap (λ (l : List ℕ). l ++ take (end - place) (drop (place - from) (drop from b))) front ∙ ap (λ (l : List ℕ). replicate (place - from) 0 ++ l) back ∙ replicate-append-replicate (place - from) (end - place) 0)
+    ap (λ (n : ℕ). take n (drop from b)) e
+    ∙ take-add (place - from) (end - place) (drop from b)
+    ∙ ap (λ (l : List ℕ). l ++ take (end - place) (drop (place - from) (drop from b))) front
+    ∙ ap (λ (l : List ℕ). replicate (place - from) 0 ++ l) back
+    ∙ replicate-append-replicate (place - from) (end - place) 0
+    ∙ ap (λ (n : ℕ). replicate n 0) (sym e)
 
+-- how long a part is
+pub slice_length : (b : List ℕ) (from to : ℕ) → to ≤ length b → length (take (to - from) (drop from b)) ≡ to - from
+slice_length b from to inside = let all = length-drop from b in length-take-le (to - from) (drop from b) (omega (arith, all, inside))
+
+-- zeros that are found behind zeros
 pub zeros_next : (b : List ℕ) (from place end : ℕ) → from ≤ place → place ≤ end → end ≤ length b → take (place - from) (drop from b) ≡ replicate (place - from) 0 → take (end - place) (drop place b) ≡ replicate (length (take (end - place) (drop place b))) 0 → take (end - from) (drop from b) ≡ replicate (end - from) 0
 zeros_next b from place end low high inside front rest =
-    let all = length-drop place b in
-    let len : length (take (end - place) (drop place b)) ≡ end - place = length-take-le (end - place) (drop place b) (omega (arith, all)) in
-    zeros_join b from place end low high front (rest ∙ ap (λ (n : ℕ). replicate n 0) len)
+    zeros_join b from place end low high front (rest ∙ ap (λ (n : ℕ). replicate n 0) (slice_length b place end inside))
 
 -- a byte more
 pub zeros_more : (b : List ℕ) (i seen : ℕ) → i < length b → bit_or seen (get_or b i 0) ≡ 0 → (seen ≡ 0 → take i b ≡ replicate i 0) → take (i + 1) b ≡ replicate (i + 1) 0
@@ -27,10 +35,10 @@ zeros_more b i seen inside none front =
     let left = le_or_l seen (get_or b i 0) in
     let right = le_or_r seen (get_or b i 0) in
     let no : seen ≡ 0 = omega (arith, left, none) in
-    let zero : get_or b i 0 ≡ 0 = omega (arith, right, none) in
+    let here : get_or b i 0 ≡ 0 = omega (arith, right, none) in
     take_more b i 0 inside
     ∙ ap (λ (l : List ℕ). l ++ get_or b i 0 ∷ []) (front no)
-    ∙ ap (λ (n : ℕ). replicate i 0 ++ n ∷ []) zero
+    ∙ ap (λ (n : ℕ). replicate i 0 ++ n ∷ []) here
     ∙ replicate_more i 0
 
 -- a list that is filled with zeros

@@ -1,6 +1,6 @@
-use Rattle.std.proofs.Common.{◌≡◌, ◌-◌, ◌++◌, List, ℕ, take, drop, replicate, take-append-drop, ap, ◌∙◌}
+use Rattle.std.proofs.Common.{◌≡◌, ◌-◌, arith, ◌++◌, List, ℕ, take, drop, replicate, take-append-drop, ap, ◌∙◌}
 use Rattle.image_files.specs.Held.{held}
-use Rattle.image_files.proofs.Holds.{piece}
+use Rattle.image_files.proofs.Holds.{piece, slice_length}
 use Rattle.image_files.proofs.file_sink.FileSinkSink.put.Goals as goal
 
 pub returns-in-Err-clause-part : goal.returns-in-Err-clause-part
@@ -17,7 +17,14 @@ loop-done-preserved g c =
     let h = held (g.C.FileCalls.history c.args.self.now.file) c.args.self.now.at in
     let b = c.args.bytes.now in
     record {
-      at = ?;
+      at =
+          (let wrote = c.write.ensures.at in
+          let skipped = c.skip.ensures.at in
+          let here = c.loop-done.invariant.at in
+          let len = slice_length b c.data_begins-from.result c.data_ends-to.result c.data_ends-to.ensures.inside in
+          let low = c.data_begins-from.ensures.after in
+          let high = c.data_ends-to.ensures.after in
+          omega (arith, wrote, skipped, here, len, low, high));
       inside = c.data_ends-to.ensures.inside;
       held =
           c.write.ensures.held
