@@ -11,6 +11,7 @@
 ghost use Rattle.std.specs.Prelude.{◌≡◌, ◌≤◌, is_some, IfOk};
 
 mod asking;
+mod help;
 mod running;
 mod source;
 
