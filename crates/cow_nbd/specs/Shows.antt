@@ -13,9 +13,10 @@ abbrev pub arrays : List ℕ → List ℕ → ℕ → List ℕ
 arrays snapshot origin zero = snapshot
 arrays snapshot origin (suc k) = origin
 
--- An export of this name, of so many sectors.
+-- An export of this name, of so many sectors. It is only read: of the flags, it has that there are flags, 1, that it is only read,
+-- 2, and that it takes FLUSH, 4. The lengths of requests are not told.
 abbrev pub IsExport : ℕ → List ℕ → Export → Type 0
-IsExport size name export = (export.name.now ≡ name) × (export.size ≡ 512 * size)
+IsExport size name export = (export.name.now ≡ name) × (export.size ≡ 512 * size) × (export.flags ≡ 7) × (export.blocks ≡ None)
 
 -- the two exports
 abbrev pub AreExports : ℕ → List Export → Type 0

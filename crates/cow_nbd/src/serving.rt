@@ -8,6 +8,7 @@ ghost use Rattle.cow_nbd.specs.Shows.{IsServedBy, FailsAt, FailsFresh};
 use crate::pictures::Pictures;
 use cow_image::CowMap;
 use image::{Image, MemImage};
+use nbd_messages::READ_FLAGS;
 use nbd_options::Export;
 use nbd_server::{Stopped, serve};
 use std::alloc::Global;
@@ -26,10 +27,14 @@ pub fn serve_pictures<O: Image, C: Image, R: Read, W: Write>(
     let snapshot = Export {
         name: b"snapshot".as_slice(),
         size,
+        flags: READ_FLAGS,
+        blocks: None,
     };
     let origin = Export {
         name: b"origin".as_slice(),
         size,
+        flags: READ_FLAGS,
+        blocks: None,
     };
     let exports = [snapshot, origin];
     match serve(alloc, pictures, exports.as_slice(), reader, writer) {

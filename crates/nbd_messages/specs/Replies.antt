@@ -23,6 +23,10 @@ listed_name name = big_bytes 4 (length name) ++ name
 unfoldable pub export_info : ℕ → ℕ → List ℕ
 export_info size flags = big_bytes 2 0 ++ big_bytes 8 size ++ big_bytes 2 flags
 
+-- the data of a reply on an export's blocks: that it is of them, 3, the least, the best and the greatest length of a request
+unfoldable pub blocks_info : ℕ → ℕ → ℕ → List ℕ
+blocks_info least best most = big_bytes 2 3 ++ big_bytes 4 least ++ big_bytes 4 best ++ big_bytes 4 most
+
 -- the data of a reply on a context, of which a client can ask the state of blocks: its number in this session, and its name
 unfoldable pub context_info : ℕ → List ℕ → List ℕ
 context_info number name = big_bytes 4 number ++ name

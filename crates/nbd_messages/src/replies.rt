@@ -1,7 +1,8 @@
 // What a server says is written.
 ghost use Rattle.std.specs.Prelude.{◌≡◌, ◌+◌, ◌^◌, ◌<◌, [], ◌++◌, length, OnOk};
-ghost use Rattle.nbd_messages.specs.Replies.{greeting, option_front, option_reply, listed_name, context_info, export_info, export_reply, simple_reply, chunk_kind, chunk_front, bare_chunk, error_chunk, data_front, block_state, state_chunk};
+ghost use Rattle.nbd_messages.specs.Replies.{greeting, option_front, option_reply, listed_name, context_info, export_info, blocks_info, export_reply, simple_reply, chunk_kind, chunk_front, bare_chunk, error_chunk, data_front, block_state, state_chunk};
 
+use crate::blocks::BlockSizes;
 use crate::numbers::{push_u16, push_u32, push_u64};
 use std::alloc::AllocError;
 
@@ -89,6 +90,31 @@ fn push_info(out: &mut Vec<u8>, size: u64, flags: u16) -> Result<(), AllocError>
     push_u16(out, 0)?;
     push_u64(out, size)?;
     push_u16(out, flags)
+}
+
+/// Adds a reply to an option on an export: the least, the best and the greatest length of a request, in bytes.
+#[tactic(auto, using(crate::proofs::Lengths::length_blocks_info))]
+pub fn push_blocks_info(
+    out: &mut Vec<u8>,
+    option: u32,
+    kind: u32,
+    blocks: BlockSizes,
+) -> Result<(), AllocError>
+    ensures { OnOk result (out.new.items ≡ out.old.items ++ option_reply option kind (blocks_info blocks.least blocks.best blocks.most)) }
+{
+    push_option_front(out, option, kind, 14)?;
+    push_blocks(out, blocks)?;
+    Ok(())
+}
+
+#[tactic(auto, unfolding(crate::specs::Replies::blocks_info))]
+fn push_blocks(out: &mut Vec<u8>, blocks: BlockSizes) -> Result<(), AllocError>
+    ensures { OnOk result (out.new.items ≡ out.old.items ++ blocks_info blocks.least blocks.best blocks.most) }
+{
+    push_u16(out, 3)?;
+    push_u32(out, blocks.least)?;
+    push_u32(out, blocks.best)?;
+    push_u32(out, blocks.most)
 }
 
 /// Adds the end of the haggling by an export's name: its size in bytes, its flags, and so many zeros.

@@ -3,7 +3,8 @@
 use Rattle.std.specs.Prelude.{◌≡◌, ◌==◌, ℕ, zero, suc, ◌+◌, ◌*◌, ◌&&◌, ◌||◌, Bool, true, false, List, [], ◌∷◌, ◌++◌, length, drop, slice_range, bytes_eq, codes, not, nat_lt, Option, Some, None, if◌then◌else◌}
 use Rattle.std.specs.List.{flat_map}
 use Rattle.nbd_messages.specs.Layout.{number_at}
-use Rattle.nbd_messages.specs.Replies.{option_reply, listed_name, context_info, export_info, export_reply}
+use Rattle.nbd_messages.specs.Replies.{option_reply, listed_name, context_info, export_info, blocks_info, export_reply}
+use Rattle.nbd_messages.specs.declared.blocks.BlockSizes.{BlockSizes}
 use Rattle.nbd_options.specs.declared.export.Export.{Export}
 use Rattle.nbd_options.specs.declared.session.Place.{Place}
 use Rattle.nbd_options.specs.declared.session.Stage.{Stage}
@@ -36,20 +37,20 @@ too_long = 2_147_483_657
 abbrev pub telling : ℕ
 telling = 4
 
--- The flags of an export: there are flags, it is only read, it takes flushes.
-abbrev pub export_flags : ℕ
-export_flags = 7
+-- an export that was found, by its number
+abbrev pub place_at : ℕ → Export → Place
+place_at number e = record { export = number; size = e.size; flags = e.flags; blocks = e.blocks }
 
 -- the first export of this name, from a number on
 abbrev pub named_from : ℕ → List Export → List ℕ → Option Place
 named_from number [] name = None
 named_from number (e ∷ exports) name =
-    if bytes_eq e.name.now name then Some (record { export = number; size = e.size }) else named_from (number + 1) exports name
+    if bytes_eq e.name.now name then Some (place_at number e) else named_from (number + 1) exports name
 
 -- the first export
 abbrev pub first_of : List Export → Option Place
 first_of [] = None
-first_of (e ∷ exports) = Some (record { export = 0; size = e.size })
+first_of (e ∷ exports) = Some (place_at 0 e)
 
 -- The export that a name means: the empty name the first one.
 abbrev pub named : List Export → List ℕ → Option Place
@@ -72,7 +73,7 @@ bare session option kind = record { answer = option_reply option kind []; after 
 abbrev pub named_export : Session → Option Place → Reaction
 named_export session None = record { answer = []; after = moved session Over }
 named_export session (Some place) = record {
-  answer = export_reply place.size export_flags (if session.no_zeroes then 0 else 124);
+  answer = export_reply place.size place.flags (if session.no_zeroes then 0 else 124);
   after = moved session (Serving place);
 }
 
@@ -91,11 +92,16 @@ asked_name text =
     if length text == 6 + name_len text + 2 * number_at text (4 + name_len text) 2 then Some (slice_range text 4 (4 + name_len text)) else
     None
 
--- an export's size and flags
+-- the lengths of requests that an export takes, where they are told
+abbrev pub told_blocks : ℕ → Option BlockSizes → List ℕ
+told_blocks option None = []
+told_blocks option (Some blocks) = option_reply option informing (blocks_info blocks.least blocks.best blocks.most)
+
+-- an export's size and flags, and its block sizes
 abbrev pub informed : Session → ℕ → Stage → Option Place → Reaction
 informed session option stage None = bare session option unknown
 informed session option stage (Some place) = record {
-  answer = option_reply option informing (export_info place.size export_flags) ++ option_reply option acknowledged [];
+  answer = option_reply option informing (export_info place.size place.flags) ++ told_blocks option place.blocks ++ option_reply option acknowledged [];
   after = moved session stage;
 }
 

@@ -1,6 +1,6 @@
 // An export is found by its name.
 ghost use Rattle.std.specs.Prelude.{◌≡◌};
-ghost use Rattle.nbd_options.specs.Haggled.{named, first_of};
+ghost use Rattle.nbd_options.specs.Haggled.{named, first_of, place_at};
 
 use crate::export::Export;
 use crate::session::Place;
@@ -14,8 +14,7 @@ pub fn found(exports: &[Export<'_>], name: &[u8]) -> Option<Place>
     }
     for (export, it) in exports.iter().enumerate() {
         if it.name == name {
-            let size = it.size;
-            return Some(Place { export, size });
+            return Some(place_of(export, it));
         }
     }
     None
@@ -25,8 +24,17 @@ fn first(exports: &[Export<'_>]) -> Option<Place>
     ensures { result ≡ first_of exports.now }
 {
     let first = exports.first()?;
-    Some(Place {
-        export: 0,
-        size: first.size,
-    })
+    Some(place_of(0, first))
+}
+
+/// The place of an export that has this number.
+fn place_of(export: usize, it: &Export<'_>) -> Place
+    ensures { result ≡ place_at export it.now }
+{
+    Place {
+        export,
+        size: it.size,
+        flags: it.flags,
+        blocks: it.blocks,
+    }
 }

@@ -2,20 +2,17 @@
 ghost use Rattle.std.specs.Prelude.{◌≡◌, ◌+◌, ◌≤◌, [], ◌++◌, OnOk, IfOk, length, true, if◌then◌else◌};
 ghost use Rattle.std.specs.Option.{option_map};
 ghost use Rattle.nbd_messages.specs.Layout.{number_at};
-ghost use Rattle.nbd_options.specs.Haggled.{named, IsReaction, haggled, haggled_unread, named_export, listed, asked_name as asked_name_of, informed, on_export, without_data, with_structure, on_contexts, context_name as context_name_of, asked_by as asked_by_of, asks_allocation as asks_allocation_of, is_fitting as is_fitting_of, contexts_at, told_context, choosing, refused, aborted};
+ghost use Rattle.nbd_options.specs.Haggled.{named, IsReaction, haggled, haggled_unread, named_export, listed, asked_name as asked_name_of, informed, on_export, without_data, with_structure, on_contexts, context_name as context_name_of, asked_by as asked_by_of, asks_allocation as asks_allocation_of, is_fitting as is_fitting_of, contexts_at, told_blocks, told_context, choosing, refused, aborted};
 ghost use Rattle.nbd_options.specs.declared.session.Place.{Place as PlaceOf};
 
 use crate::export::Export;
 use crate::finding::found;
 use crate::session::{Place, Session, Stage};
 use nbd_messages::{
-    push_bare_reply, push_context, push_export_info, push_export_reply, push_listed_name, u16_at,
-    u32_at,
+    BlockSizes, push_bare_reply, push_blocks_info, push_context, push_export_info,
+    push_export_reply, push_listed_name, u16_at, u32_at,
 };
 use std::alloc::AllocError;
-
-/// The flags of an export: there are flags, it is only read, it takes flushes.
-const FLAGS: u16 = 7;
 
 /// The types of replies.
 const ACKNOWLEDGED: u32 = 1;
@@ -67,7 +64,7 @@ fn name_export(
         return Ok(());
     };
     let zeros = if session.no_zeroes { 0 } else { 124 };
-    push_export_reply(answer, place.size, FLAGS, zeros)?;
+    push_export_reply(answer, place.size, place.flags, zeros)?;
     session.stage = Stage::Serving(place);
     Ok(())
 }
@@ -83,7 +80,21 @@ fn list(exports: &[Export<'_>], answer: &mut Vec<u8>) -> Result<(), AllocError>
     push_bare_reply(answer, 3, ACKNOWLEDGED)
 }
 
-/// Tells an export's size and flags, or that there is no such export.
+/// Tells the lengths of requests that an export takes, where they are told.
+fn push_blocks(
+    option: u32,
+    blocks: Option<BlockSizes>,
+    answer: &mut Vec<u8>,
+) -> Result<(), AllocError>
+    ensures { OnOk result (answer.new.items ≡ answer.old.items ++ told_blocks option blocks) }
+{
+    match blocks {
+        Some(blocks) => push_blocks_info(answer, option, INFORMING, blocks),
+        None => Ok(()),
+    }
+}
+
+/// Tells an export's size, flags and block sizes, or that there is no such export.
 fn inform(
     session: &Session,
     option: u32,
@@ -98,7 +109,8 @@ fn inform(
         push_bare_reply(answer, option, UNKNOWN)?;
         return Ok(*session);
     };
-    push_export_info(answer, option, INFORMING, place.size, FLAGS)?;
+    push_export_info(answer, option, INFORMING, place.size, place.flags)?;
+    push_blocks(option, place.blocks, answer)?;
     push_bare_reply(answer, option, ACKNOWLEDGED)?;
     let mut after = *session;
     after.stage = stage;

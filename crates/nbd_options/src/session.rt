@@ -1,10 +1,14 @@
 // How far a session has come.
 
-/// An export that was found: its number, and its size in bytes.
+use nbd_messages::BlockSizes;
+
+/// An export that was found: its number, its size in bytes, and what is told of it.
 #[derive(Clone, Copy, PartialEq, Eq)]
 pub struct Place {
     pub export: usize,
     pub size: u64,
+    pub flags: u16,
+    pub blocks: Option<BlockSizes>,
 }
 
 /// What a session waits for.

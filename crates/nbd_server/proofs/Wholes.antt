@@ -15,7 +15,8 @@ use Rattle.nbd_options.specs.declared.session.Stage.TheVariants.{Opening, Haggli
 use Rattle.nbd_options.specs.declared.session.Session.{Session}
 use Rattle.nbd_server.specs.Heard.{IsShort, IsRead}
 use Rattle.nbd_options.specs.Haggled.{IsReaction, Reaction, haggled_any}
-use Rattle.nbd_server.specs.Talk.{IsWhole, NoneIsWhole, IsCaused, AreArrays, payload, opened, reaction_at, option_reaction, request_reaction}
+use Rattle.nbd_messages.specs.Writing.{payload}
+use Rattle.nbd_server.specs.Talk.{IsWhole, NoneIsWhole, IsCaused, AreArrays, opened, reaction_at, option_reaction, request_reaction}
 use Rattle.nbd_server.specs.Turns.{IsTurn, IsOpened, IsEnd, IsAsked, IsRequested, IsHaggledFor, IsReplied}
 
 -- two headers at the front of what is heard are one

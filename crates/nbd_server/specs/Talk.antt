@@ -14,22 +14,9 @@ use Rattle.nbd_options.specs.declared.session.Place.{Place}
 use Rattle.nbd_options.specs.declared.session.Stage.{Stage}
 use Rattle.nbd_options.specs.declared.session.Stage.TheVariants.{Opening, Haggling, Serving, Over}
 use Rattle.nbd_options.specs.declared.session.Session.{Session}
+use Rattle.nbd_messages.specs.Writing.{payload}
 use Rattle.nbd_options.specs.Haggled.{Reaction, moved, haggled_any}
 use Rattle.nbd_server.specs.Replied.{reply_to, HasCause}
-
--- how many bytes follow a request's header: those that are to be written
-abbrev pub payload_by : Command → ℕ → ℕ
-payload_by Read length = 0
-payload_by Write length = length
-payload_by Disconnect length = 0
-payload_by Flush length = 0
-payload_by Trim length = 0
-payload_by WriteZeroes length = 0
-payload_by BlockStatus length = 0
-payload_by Other length = 0
-
-abbrev pub payload : Request → ℕ
-payload request = payload_by request.command request.length
 
 -- Bytes that are one whole message: first the client's flags, of which there are two; then options with their data; then
 -- requests, a WRITE with its bytes; and none once a session is over.

@@ -2,7 +2,8 @@
 ghost use Rattle.std.specs.Prelude.{◌≡◌, ◌<◌, ◌≤◌, ℕ, List, [], length, IfOk, IfSome, OnOk, MatchBool, MatchOption};
 ghost use Rattle.std.specs.Io.KnownBytes.{Consumes};
 ghost use Rattle.nbd_server.specs.Heard.{IsShort, IsRead};
-ghost use Rattle.nbd_server.specs.Talk.{AreArrays, NoneIsWhole, is_chosen as is_chosen_of, payload};
+ghost use Rattle.nbd_messages.specs.Writing.{payload};
+ghost use Rattle.nbd_server.specs.Talk.{AreArrays, NoneIsWhole, is_chosen as is_chosen_of};
 ghost use Rattle.nbd_options.specs.declared.export.Export.{Export as ExportOf};
 ghost use Rattle.nbd_options.specs.declared.session.Place.{Place as PlaceOf};
 ghost use Rattle.nbd_server.specs.Turns.{IsTurn, IsOpened, IsAskedTurn, IsEnd, IsAsked, IsRequested, IsHaggledFor, IsReplied};

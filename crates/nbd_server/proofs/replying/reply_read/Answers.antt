@@ -1,6 +1,7 @@
 use Rattle.std.proofs.Common.{◌≡◌, ℕ, List, [], ◌++◌, Bool, false, Some, Err, cond, ap, ◌∙◌, sym, arith}
 use Rattle.nbd_server.specs.declared.served.Fault.{Fault}
-use Rattle.nbd_server.specs.Replied.{error_reply, given_reply, read_reply, invalid, fault_error}
+use Rattle.nbd_messages.specs.Reading.{error_reply}
+use Rattle.nbd_server.specs.Replied.{given_reply, read_reply, invalid, fault_error}
 use Rattle.nbd_server.proofs.replying.reply_read.Goals as goal
 
 -- an error after nothing
