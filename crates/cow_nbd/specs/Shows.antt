@@ -1,5 +1,5 @@
 -- To be believed: the two arrays that a server of a store shows, and what it says to a client.
-use Rattle.std.specs.Prelude.{◌≡◌, ℕ, zero, suc, ◌+◌, ◌*◌, ◌<◌, ◌≤◌, ◌⊎◌, List, [], ◌∷◌, ◌++◌, codes, Option, Some, None}
+use Rattle.std.specs.Prelude.{◌≡◌, ℕ, zero, suc, ◌+◌, ◌*◌, ◌<◌, ◌≤◌, ◌⊎◌, List, [], ◌∷◌, ◌++◌, codes, Option, Some, None, Bool, IsTrue}
 use Rattle.std.specs.Io.KnownBytes.{Appends}
 use Rattle.sector.specs.declared.pair.Pair.{Pair}
 use Rattle.cow_image.specs.Shown.{shown}
@@ -47,3 +47,7 @@ known_shown chunk pairs size (Some origin) (Some store) = Some (shown chunk orig
 abbrev pub known_at : ℕ → List Pair → ℕ → Option (List ℕ) → Option (List ℕ) → ℕ → Option (List ℕ)
 known_at chunk pairs size origin store zero = known_shown chunk pairs size origin store
 known_at chunk pairs size origin store (suc k) = origin
+
+-- or where it is told, or may be told, that the images changed
+abbrev pub OrChanged : Bool → Type 0 → (ℕ → ℕ → ℕ → Type 0) → ℕ → ℕ → ℕ → Type 0
+OrChanged told may_change fails export at count = fails export at count ⊎ (IsTrue told ⊎ may_change)

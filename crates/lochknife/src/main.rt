@@ -24,6 +24,7 @@ mod target;
 mod teller;
 mod trouble;
 mod watched;
+mod witness;
 mod writing;
 
 use crate::commands::{check, map, raw_map, show};

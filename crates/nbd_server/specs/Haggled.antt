@@ -36,9 +36,10 @@ too_long = 2_147_483_657
 abbrev pub telling : ℕ
 telling = 4
 
--- The flags of an export: there are flags, it is only read, it takes flushes.
+-- The flags of an export: there are flags, it is only read, it takes flushes, and several connections show the same bytes
+-- (bits 0, 1, 2 and 8).
 abbrev pub export_flags : ℕ
-export_flags = 7
+export_flags = 263
 
 -- the first export of this name, from a number on
 abbrev pub named_from : ℕ → List Export → List ℕ → Option Place

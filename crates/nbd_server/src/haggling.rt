@@ -13,8 +13,8 @@ use crate::{
 };
 use std::alloc::AllocError;
 
-/// The flags of an export: there are flags, it is only read, it takes flushes.
-const FLAGS: u16 = 7;
+/// The flags of an export: there are flags, it is only read, it takes flushes, several connections show the same bytes.
+const FLAGS: u16 = 263;
 
 /// The types of replies.
 const ACKNOWLEDGED: u32 = 1;
