@@ -246,6 +246,7 @@ fn put_kept<'a>(
 {
     both.origin.below.hush();
     let slots = taken(used, asked.behind);
+    let front = front_of(slots);
     let origin = &mut both.origin;
     let cow = &mut both.cow;
     let put = export_kept(
@@ -256,6 +257,7 @@ fn put_kept<'a>(
         size,
         sectors,
         slots,
+        front,
         watched,
     );
     watched.hush();
