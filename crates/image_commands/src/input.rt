@@ -34,6 +34,25 @@ impl Stamp {
     }
 }
 
+/// An input's file, and what it was when it was opened.
+#[derive(Drop)]
+pub struct Kept<'a> {
+    /// Its name, as it was given.
+    pub name: &'a str,
+    file: File,
+    stamp: Stamp,
+}
+
+impl Kept<'_> {
+    /// Whether it is not as it was, or can't be asked.
+    pub fn has_changed(&self) -> bool {
+        match self.file.metadata() {
+            Ok(now) => Stamp::of(&now) != self.stamp,
+            Err(_) => true,
+        }
+    }
+}
+
 /// A file or a block device that is opened for reading only.
 #[derive(Drop)]
 pub struct Input<'a> {
@@ -121,6 +140,16 @@ impl<'a> Input<'a> {
             return Err(self.trouble(Failure::Changed));
         }
         Ok(())
+    }
+
+    /// Its file, to be looked at while it is read elsewhere.
+    pub fn kept(&self) -> Result<Kept<'a>, Trouble<'a>> {
+        let file = about(self.name, self.file.try_clone())?;
+        Ok(Kept {
+            name: self.name,
+            file,
+            stamp: self.stamp,
+        })
     }
 
     /// Tells no more how much is read.

@@ -27,6 +27,7 @@ mod teller;
 mod trouble;
 mod watched;
 mod watched_files;
+mod witness;
 mod writing;
 
 pub use running::{answer, run};

@@ -260,6 +260,7 @@ fn put_kept<'a, W: Write>(
     both.origin.below.hush();
     both.cow.below.hush();
     let slots = taken(used, asked.behind);
+    let front = front_of(slots);
     let origin = &mut both.origin;
     let cow = &mut both.cow;
     let put = export_kept(
@@ -270,6 +271,7 @@ fn put_kept<'a, W: Write>(
         size,
         sectors,
         slots,
+        front,
         watched,
     );
     watched.hush();

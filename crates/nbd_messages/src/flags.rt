@@ -15,8 +15,12 @@ pub const SEND_FUA: u16 = 8;
 /// It takes WRITE_ZEROES.
 pub const SEND_WRITE_ZEROES: u16 = 64;
 
-/// The flags of an export that is only read: there are flags, it is only read, it takes FLUSH.
-pub const READ_FLAGS: u16 = 7;
+/// Several connections show the same bytes.
+pub const CAN_MULTI_CONN: u16 = 256;
+
+/// The flags of an export that is only read: there are flags, it is only read, it takes FLUSH, several connections show the same
+/// bytes.
+pub const READ_FLAGS: u16 = 263;
 
 /// The flags of an export that is read and written: there are flags, it takes FLUSH, FUA and WRITE_ZEROES.
 pub const WRITE_FLAGS: u16 = 77;

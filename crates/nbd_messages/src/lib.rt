@@ -21,7 +21,8 @@ pub use blocks::BlockSizes;
 pub use command::{Command, command_of};
 pub use errors::ErrorValue;
 pub use flags::{
-    HAS_FLAGS, READ_FLAGS, READ_ONLY, SEND_FLUSH, SEND_FUA, SEND_WRITE_ZEROES, WRITE_FLAGS,
+    CAN_MULTI_CONN, HAS_FLAGS, READ_FLAGS, READ_ONLY, SEND_FLUSH, SEND_FUA, SEND_WRITE_ZEROES,
+    WRITE_FLAGS,
 };
 pub use numbers::{u16_at, u32_at};
 pub use reading::{push_data_start, push_error};
