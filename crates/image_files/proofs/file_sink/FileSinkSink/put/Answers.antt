@@ -6,11 +6,14 @@ use Rattle.image_files.proofs.file_sink.FileSinkSink.put.Goals as goal
 pub returns-in-Err-clause-part : goal.returns-in-Err-clause-part
 returns-in-Err-clause-part g c =
     let h = held (g.C.FileCalls.history c.args.self.now.file) c.args.self.now.at in
-    let b = c.args.bytes.now in
-    (take c.data_ends-to.result b, drop c.data_ends-to.result b, take-append-drop c.data_ends-to.result b,
+    let b = c.args.bytes.now in (
+      take c.data_ends-to.result b,
+      drop c.data_ends-to.result b,
+      take-append-drop c.data_ends-to.result b,
       c.write.ensures.held
-      ∙ ap (λ (l : List ℕ). l ++ take (c.data_ends-to.result - c.data_begins-from.result) (drop c.data_begins-from.result b)) (c.skip.ensures.held ∙ ap (λ (l : List ℕ). l ++ replicate (c.data_begins-from.result - c.loop-done.done) 0) c.loop-done.invariant.held)
-      ∙ piece h b c.loop-done.done c.data_begins-from.result c.data_ends-to.result c.data_begins-from.ensures.after c.data_ends-to.ensures.after c.data_begins-from.ensures.zeros)
+          ∙ ap (λ (l : List ℕ). l ++ take (c.data_ends-to.result - c.data_begins-from.result) (drop c.data_begins-from.result b)) (c.skip.ensures.held ∙ ap (λ (l : List ℕ). l ++ replicate (c.data_begins-from.result - c.loop-done.done) 0) c.loop-done.invariant.held)
+          ∙ piece h b c.loop-done.done c.data_begins-from.result c.data_ends-to.result c.data_begins-from.ensures.after c.data_ends-to.ensures.after c.data_begins-from.ensures.zeros,
+    )
 
 pub loop-done-preserved : goal.loop-done-preserved
 loop-done-preserved g c =
