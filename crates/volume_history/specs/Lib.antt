@@ -1,3 +1,5 @@
 pub mod Lived
 pub mod Answered
 pub mod Lasted
+pub mod Flushed
+pub mod Doing
