@@ -20,4 +20,3 @@ pub mod Numbered
 pub mod Undoing
 pub mod Traced
 pub mod Told
-pub mod Both

@@ -67,10 +67,9 @@ pub fn run_numbered<T: Threads + Wait + Sync, R: Read, W: Write, X: Tracer>(
             print_numbered(writer, number, &page)?;
             return Ok(session.summary());
         }
-        let line = buffer.as_slice();
-        session.line(rt, line, &mut page)?;
+        session.line(rt, buffer.as_slice(), &mut page)?;
         print_numbered(writer, number, &page)?;
-        tracer.behind(number, line, &session, writer);
+        tracer.behind(number, &session, writer);
     }
     Err(RunError::Endless)
 }

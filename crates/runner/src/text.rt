@@ -80,9 +80,8 @@ pub fn run<T: Threads + Wait + Sync, R: Read, W: Write, X: Tracer>(
             session.end(rt, writer)?;
             return Ok(session.summary());
         }
-        let line = buffer.as_slice();
-        session.line(rt, line, writer)?;
-        tracer.behind(lines + 1, line, &session, writer);
+        session.line(rt, buffer.as_slice(), writer)?;
+        tracer.behind(lines + 1, &session, writer);
     }
     Err(RunError::Endless)
 }
