@@ -148,9 +148,9 @@ module _ {B : Type 0} (holds : B → ℕ → List ℕ → Type 0) (contents : B 
             after : MergeLasting holds contents layers size o' (Some m')
             after lo' lm' =
                 let lo : is_loud (layers o) ≡ true = sym disk.loud ∙ lo' in
-                  let lm : is_loud (layers m.device) ≡ true = sym store.loud ∙ lm' in
-                  lasts_as (copied_of m'.group) (flushed_of m'.group) refl refl
-                  (disk_lasts (holds o) (holds m.device) (holds o') (holds m'.device) (contents o) (contents o') (contents m.device) (merging_of size o m) (Gives given None) (there_of lo lm) (l lo lm) (disk.adds lo) (store_adds lm) (copied_of m'.group) (flushed_of m'.group) (back lo lm))
+                let lm : is_loud (layers m.device) ≡ true = sym store.loud ∙ lm' in
+                lasts_as (copied_of m'.group) (flushed_of m'.group) refl refl
+                (disk_lasts (holds o) (holds m.device) (holds o') (holds m'.device) (contents o) (contents o') (contents m.device) (merging_of size o m) (Gives given None) (there_of lo lm) (l lo lm) (disk.adds lo) (store_adds lm) (copied_of m'.group) (flushed_of m'.group) (back lo lm))
 
         -- the origin's device is flushed, to which the group's chunks were copied back
         pub flush_goes : contents o' ≡ contents o → (is_loud (layers o) ≡ true → IsFirm (holds o') (contents o') (size o')) → copied_of m'.group ≡ copied_of m.group → flushed_of m'.group ≡ true → GoesMerge given o o' m m'
@@ -159,11 +159,11 @@ module _ {B : Type 0} (holds : B → ℕ → List ℕ → Type 0) (contents : B 
             after : MergeLasting holds contents layers size o' (Some m')
             after lo' lm' =
                 let lo : is_loud (layers o) ≡ true = sym disk.loud ∙ lo' in
-                  let lm : is_loud (layers m.device) ≡ true = sym store.loud ∙ lm' in
-                  lasts_as (copied_of m.group) true copied flushed
-                  (subst (λ z. MergeLasts (holds o') (holds m'.device) z (contents m.device) (record { chunk = m.state.chunk; sectors = size o; size = size m.device; pairs = m.pairs; copied = copied_of m.group; flushed = true })) (sym same)
-                  (origin_flush_lasts (holds o) (holds m.device) (holds o') (holds m'.device) (contents o) (contents m.device) (merging_of size o m) (there_of lo lm) (l lo lm) (store_adds lm)
-                  (subst (λ n. IsFirm (holds o') (contents o) n) disk.sectors (subst (λ z. IsFirm (holds o') z (size o')) same (firm lo)))))
+                let lm : is_loud (layers m.device) ≡ true = sym store.loud ∙ lm' in
+                lasts_as (copied_of m.group) true copied flushed
+                (subst (λ z. MergeLasts (holds o') (holds m'.device) z (contents m.device) (record { chunk = m.state.chunk; sectors = size o; size = size m.device; pairs = m.pairs; copied = copied_of m.group; flushed = true })) (sym same)
+                (origin_flush_lasts (holds o) (holds m.device) (holds o') (holds m'.device) (contents o) (contents m.device) (merging_of size o m) (there_of lo lm) (l lo lm) (store_adds lm)
+                (subst (λ n. IsFirm (holds o') (contents o) n) disk.sectors (subst (λ z. IsFirm (holds o') z (size o')) same (firm lo)))))
 
       -- neither is written
       pub still_goes : IsSameDevice holds contents layers size o o' → IsSameDevice holds contents layers size m.device m'.device → m'.pairs ≡ m.pairs → (flushed_of m'.group ≡ true → (flushed_of m.group ≡ true) × (copied_of m'.group ≡ copied_of m.group)) → GoesMerge given o o' m m'
@@ -198,17 +198,17 @@ module _ {B : Type 0} (holds : B → ℕ → List ℕ → Type 0) (contents : B 
 
             after : MergeLasting holds contents layers size o' (Some m')
             after lo' lm' =
-              let lo : is_loud (layers o) ≡ true = sym disk.loud ∙ lo' in
-              let lm : is_loud (layers m.device) ≡ true = sym store.loud ∙ lm' in
-              let is : contents m'.device ≡ with_sectors (contents m.device) (m.state.chunk * n + r) bytes = written lm in
-              let left_o : MayLeave (holds o') (size o) (contents o) = subst (λ z. MayLeave (holds o') (size o) z) disk.bytes (subst (λ x. MayLeave (holds o') x (contents o')) disk.sectors (leaves holds contents layers size whole here o')) in
-              let left_m : MayLeave (holds m'.device) (size m.device) (with_sectors (contents m.device) (m.state.chunk * n + r) bytes) =
-              subst (λ z. MayLeave (holds m'.device) (size m.device) z) is (subst (λ x. MayLeave (holds m'.device) x (contents m'.device)) store.sectors (leaves holds contents layers size whole here m'.device)) in
-              subst (λ (z : Lost). MergeLasts (holds o') (holds m'.device) (contents o') (contents m'.device) z)
-              (lost_is m.state.chunk m'.state.chunk (size o) (size o') (size m.device) (size m'.device) m.pairs m'.pairs (copied_of m.group) (copied_of m'.group) (flushed_of m.group) (flushed_of m'.group) chunk disk.sectors store.sectors pairs copied flushed)
-              (subst (λ z. MergeLasts (holds o') (holds m'.device) z (contents m'.device) (merging_of size o m)) (sym disk.bytes)
-              (subst (λ z. MergeLasts (holds o') (holds m'.device) (contents o) z (merging_of size o m)) (sym is)
-              (place_lasts (holds o) (holds m.device) (holds o') (holds m'.device) (contents o) (contents m.device) bytes (merging_of size o m) named n r count (there_of lo lm) (l lo lm) at within long (disk_same lo) (placed_adds lm) left_o left_m)))
+                let lo : is_loud (layers o) ≡ true = sym disk.loud ∙ lo' in
+                let lm : is_loud (layers m.device) ≡ true = sym store.loud ∙ lm' in
+                let is : contents m'.device ≡ with_sectors (contents m.device) (m.state.chunk * n + r) bytes = written lm in
+                let left_o : MayLeave (holds o') (size o) (contents o) = subst (λ z. MayLeave (holds o') (size o) z) disk.bytes (subst (λ x. MayLeave (holds o') x (contents o')) disk.sectors (leaves holds contents layers size whole here o')) in
+                let left_m : MayLeave (holds m'.device) (size m.device) (with_sectors (contents m.device) (m.state.chunk * n + r) bytes) =
+                subst (λ z. MayLeave (holds m'.device) (size m.device) z) is (subst (λ x. MayLeave (holds m'.device) x (contents m'.device)) store.sectors (leaves holds contents layers size whole here m'.device)) in
+                subst (λ (z : Lost). MergeLasts (holds o') (holds m'.device) (contents o') (contents m'.device) z)
+                (lost_is m.state.chunk m'.state.chunk (size o) (size o') (size m.device) (size m'.device) m.pairs m'.pairs (copied_of m.group) (copied_of m'.group) (flushed_of m.group) (flushed_of m'.group) chunk disk.sectors store.sectors pairs copied flushed)
+                (subst (λ z. MergeLasts (holds o') (holds m'.device) z (contents m'.device) (merging_of size o m)) (sym disk.bytes)
+                (subst (λ z. MergeLasts (holds o') (holds m'.device) (contents o) z (merging_of size o m)) (sym is)
+                (place_lasts (holds o) (holds m.device) (holds o') (holds m'.device) (contents o) (contents m.device) bytes (merging_of size o m) named n r count (there_of lo lm) (l lo lm) at within long (disk_same lo) (placed_adds lm) left_o left_m)))
 
       -- The slots of the group are cleared, whose chunks were copied back and flushed.
       module _ (disk : IsSameDevice holds contents layers size o o') (store : IsCalled holds contents layers size m.device m'.device) (kept : List Pair) (a : ℕ) (parts : m.pairs ≡ kept ++ copied_of m.group) (was : flushed_of m.group ≡ true) (pairs : m'.pairs ≡ kept) (none : copied_of m'.group ≡ [])
@@ -233,15 +233,15 @@ module _ {B : Type 0} (holds : B → ℕ → List ℕ → Type 0) (contents : B 
           where
             after : MergeLasting holds contents layers size o' (Some m')
             after lo' lm' =
-              let lo : is_loud (layers o) ≡ true = sym disk.loud ∙ lo' in
-              let lm : is_loud (layers m.device) ≡ true = sym store.loud ∙ lm' in
-              let left_o : MayLeave (holds o') (size o) (contents o) = subst (λ z. MayLeave (holds o') (size o) z) disk.bytes (subst (λ x. MayLeave (holds o') x (contents o')) disk.sectors (leaves holds contents layers size whole here o')) in
-              let left_m : MayLeave (holds m'.device) (size m.device) (contents m'.device) = subst (λ x. MayLeave (holds m'.device) x (contents m'.device)) store.sectors (leaves holds contents layers size whole here m'.device) in
-              subst (λ (z : Lost). MergeLasts (holds o') (holds m'.device) (contents o') (contents m'.device) z)
-              (lost_is m.state.chunk m'.state.chunk (size o) (size o') (size m.device) (size m'.device) kept m'.pairs [] (copied_of m'.group) (flushed_of m'.group) (flushed_of m'.group) chunk disk.sectors store.sectors pairs none refl)
-              (subst (λ z. MergeLasts (holds o') (holds m'.device) z (contents m'.device) back_lost) (sym disk.bytes)
-              (unsaid (holds o') (holds m'.device) (contents o) (contents m'.device) (record { chunk = m.state.chunk; sectors = size o; size = size m.device; pairs = kept; copied = []; flushed = false }) (flushed_of m'.group) refl
-              (clear_lasts (holds o) (holds m.device) (holds o') (holds m'.device) (contents o) (contents m.device) (contents m'.device) (merging_of size o m) kept a (there_of lo lm) (l lo lm) parts was (unwritten lo) (store.adds lm) (only lm) (now lo lm) (zero lm) (others lm) (clears lm) (copied_there lo lm) [] left_o left_m)))
+                let lo : is_loud (layers o) ≡ true = sym disk.loud ∙ lo' in
+                let lm : is_loud (layers m.device) ≡ true = sym store.loud ∙ lm' in
+                let left_o : MayLeave (holds o') (size o) (contents o) = subst (λ z. MayLeave (holds o') (size o) z) disk.bytes (subst (λ x. MayLeave (holds o') x (contents o')) disk.sectors (leaves holds contents layers size whole here o')) in
+                let left_m : MayLeave (holds m'.device) (size m.device) (contents m'.device) = subst (λ x. MayLeave (holds m'.device) x (contents m'.device)) store.sectors (leaves holds contents layers size whole here m'.device) in
+                subst (λ (z : Lost). MergeLasts (holds o') (holds m'.device) (contents o') (contents m'.device) z)
+                (lost_is m.state.chunk m'.state.chunk (size o) (size o') (size m.device) (size m'.device) kept m'.pairs [] (copied_of m'.group) (flushed_of m'.group) (flushed_of m'.group) chunk disk.sectors store.sectors pairs none refl)
+                (subst (λ z. MergeLasts (holds o') (holds m'.device) z (contents m'.device) back_lost) (sym disk.bytes)
+                (unsaid (holds o') (holds m'.device) (contents o) (contents m'.device) (record { chunk = m.state.chunk; sectors = size o; size = size m.device; pairs = kept; copied = []; flushed = false }) (flushed_of m'.group) refl
+                (clear_lasts (holds o) (holds m.device) (holds o') (holds m'.device) (contents o) (contents m.device) (contents m'.device) (merging_of size o m) kept a (there_of lo lm) (l lo lm) parts was (unwritten lo) (store.adds lm) (only lm) (now lo lm) (zero lm) (others lm) (clears lm) (copied_there lo lm) [] left_o left_m)))
 
   -- Where no merge is begun, the origin disk is the array: a value is as it was, or given.
   pub plain_stops : (given : Option Given) (o o' : B) (after : Option (Merging B)) → IsCalled holds contents layers size o o'
