@@ -137,3 +137,4 @@ pub mod Clear
 mod DueAlone
 mod AtOnce
 mod AtDisk
+pub mod Aheads
