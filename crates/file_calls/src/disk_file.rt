@@ -3,21 +3,12 @@ ghost use Rattle.std.specs.Prelude.{◌≡◌, [], map};
 ghost use Rattle.file_calls.specs.Note.{call_of};
 
 use crate::FileCalls;
+use crate::kinds::{LEN, READ, SET_LEN, SYNC, WRITE};
 use crate::record::Record;
 use std::fs::File;
 use std::io;
 use std::io::{Seek, SeekFrom};
 use std::os::unix::fs::FileExt;
-
-const LEN: u64 = 0;
-
-const READ: u64 = 1;
-
-const WRITE: u64 = 2;
-
-const SET_LEN: u64 = 3;
-
-const SYNC: u64 = 4;
 
 /// An open file.
 #[derive(Drop)]

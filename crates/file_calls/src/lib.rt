@@ -7,7 +7,10 @@
 
 mod disk_file;
 mod file_calls;
+mod kinds;
+mod mem_file;
 mod record;
 
 pub use crate::file_calls::FileCalls;
 pub use disk_file::DiskFile;
+pub use mem_file::{Fault, MemFile};
