@@ -1,4 +1,4 @@
-use Rattle.std.proofs.Common.{arith}
+use Rattle.std.proofs.Common.{◌≤◌, arith}
 use Rattle.image_files.proofs.Holds.{zeros_next}
 use Rattle.image_files.proofs.holes.data_begins.Goals as goal
 
@@ -6,7 +6,7 @@ pub loop-place-preserved : goal.loop-place-preserved
 loop-place-preserved c =
     let more = c.block_end-end.ensures.more in
     let low = c.loop-place.invariant.after in
-    let high = omega (arith, more) in
+    let high : c.loop-place.place ≤ c.block_end-end.result = omega (arith, more) in
     record {
       after = omega (arith, more, low);
       inside = c.block_end-end.ensures.inside;
