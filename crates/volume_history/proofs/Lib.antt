@@ -1,3 +1,4 @@
 pub mod Plains
 pub mod Lives
 pub mod Lasts
+pub mod AtOnce

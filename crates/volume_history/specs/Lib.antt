@@ -1,3 +1,4 @@
 pub mod Lived
 pub mod Answered
 pub mod Lasted
+pub mod AtOnce
