@@ -5,7 +5,7 @@ use Rattle.sector.specs.Bytes.{with_part, sector_at}
 use Rattle.sector.specs.declared.refusal.Refusal.{Refusal}
 use Rattle.device.specs.declared.operation.Operation.{Operation}
 use Rattle.device.specs.declared.operation.Operation.TheVariants.{Reads, Writes, Flushes}
-use Rattle.device.specs.Layers.{Layer, Flaky, Dusty, Broken, Counted, TornDiskShape, Window, layer_after, layer_fate, layers_after, passed_on, fate, is_answered, is_passed, is_loud, is_loud_layer}
+use Rattle.device.specs.Layers.{Layer, Flaky, Dusty, Broken, Counted, Tearing, Window, ReadAhead, layer_after, layer_fate, layers_after, passed_on, fate, is_answered, is_passed, is_loud, is_loud_layer}
 use Rattle.sector.specs.declared.refusal.Refusal.TheVariants.{TooMany, BadChunk, StoreTooSmall, Damaged, Stale}
 use Rattle.chunk.specs.Sizes.{is_chunk}
 use Rattle.store_bytes.specs.Places.{area_place}
@@ -30,10 +30,13 @@ loud_layer_after (Dusty sectors size enabled bad) (Writes first count) done = re
 loud_layer_after (Dusty sectors size enabled bad) Flushes done = refl
 loud_layer_after Broken op done = refl
 loud_layer_after (Counted left) op done = refl
-loud_layer_after (TornDiskShape left) (Reads first count) done = refl
-loud_layer_after (TornDiskShape left) (Writes first count) done = refl
-loud_layer_after (TornDiskShape left) Flushes done = refl
+loud_layer_after (Tearing left) (Reads first count) done = refl
+loud_layer_after (Tearing left) (Writes first count) done = refl
+loud_layer_after (Tearing left) Flushes done = refl
 loud_layer_after (Window aside) op done = refl
+loud_layer_after (ReadAhead ranges kept) (Reads first count) done = refl
+loud_layer_after (ReadAhead ranges kept) (Writes first count) done = refl
+loud_layer_after (ReadAhead ranges kept) Flushes done = refl
 
 either_loud : (b : Bool) (xs ys : List Layer) → is_loud xs ≡ is_loud ys → is_loud (if b then xs else ys) ≡ is_loud ys
 either_loud true xs ys same = same

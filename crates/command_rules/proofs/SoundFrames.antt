@@ -3,7 +3,7 @@ use Rattle.std.proofs.Common.{◌≡◌, ℕ, zero, suc, ◌<◌, Bool, true, fa
 use Rattle.std.specs.Prelude.{Some}
 use Rattle.std.specs.List.{list_all, remove}
 use Rattle.std.proofs.lemmas.List.Folds.{list_all-append}
-use Rattle.device.specs.Layers.{Layer, is_loud, is_loud_layer, Flaky, Dusty, Broken, Counted, TornDiskShape, Window}
+use Rattle.device.specs.Layers.{Layer, is_loud, is_loud_layer, Flaky, Dusty, Broken, Counted, Tearing, Window, ReadAhead}
 use Rattle.layers.specs.Windows.{layers_below}
 use Rattle.command_rules.specs.State.{Stacked, Volume, Table}
 use Rattle.command_rules.specs.Disks.{with_stack}
@@ -117,4 +117,5 @@ loud_below (l ∷ Flaky moment up down features offset ∷ ls) rest is loud = ab
 loud_below (l ∷ Dusty sectors size enabled bad ∷ ls) rest is loud = absurd (cc)
 loud_below (l ∷ Broken ∷ ls) rest is loud = absurd (cc)
 loud_below (l ∷ Counted left ∷ ls) rest is loud = absurd (cc)
-loud_below (l ∷ TornDiskShape left ∷ ls) rest is loud = absurd (cc)
+loud_below (l ∷ Tearing left ∷ ls) rest is loud = absurd (cc)
+loud_below (l ∷ ReadAhead ranges kept ∷ ls) rest is loud = absurd (cc)

@@ -34,6 +34,6 @@ abbrev pub behind_by : Form → ℕ → Option Behind → List ℕ
 behind_by Lines slots behind = behind_of slots behind
 behind_by Json slots behind = behind_object_of slots behind
 
-abbrev pub salvaged_by : Form → ℕ → List Pair → List Fault → List Span → List Span → Notes → List ℕ
-salvaged_by Lines slots kept skipped origin cow notes = salvaged_text slots kept skipped origin cow notes
-salvaged_by Json slots kept skipped origin cow notes = salvaged_objects slots kept skipped origin cow notes
+abbrev pub salvaged_by : Form → ℕ → List Pair → List Pair → List Fault → List Span → List Span → Notes → List ℕ
+salvaged_by Lines slots certain doubtful skipped origin cow notes = salvaged_text slots certain doubtful skipped origin cow notes
+salvaged_by Json slots certain doubtful skipped origin cow notes = salvaged_objects slots certain doubtful skipped origin cow notes

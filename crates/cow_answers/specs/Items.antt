@@ -57,6 +57,14 @@ abbrev pub listed_object : Listed → List ℕ
 listed_object (Ends area) = number_object (codes "ends") area
 listed_object (Lacks area) = number_object (codes "lacks") area
 
+-- the object of a pair that is kept from behind the first empty slot
+abbrev pub doubtful_object : Pair → List ℕ
+doubtful_object pair = first_quoted (codes "doubtful") (codes "behind") ++ pair_end pair
+
+-- an object for each of them
+abbrev pub doubtful_objects : List Pair → List ℕ
+doubtful_objects pairs = flat_map doubtful_object pairs
+
 -- the object of a slot whose pair has this fault
 abbrev pub faulty_object : List ℕ → List ℕ → ℕ → ℕ → Pair → List ℕ
 faulty_object key word slots slot pair = first_quoted key word ++ (slot_members slots slot ++ pair_end pair)

@@ -5,7 +5,7 @@ use Rattle.cow_image.specs.declared.fault.Fault.{Fault}
 use Rattle.cow_image.specs.declared.reading.Listed.TheVariants.{Lacks}
 use Rattle.cow_salvage.specs.declared.span.Span.{Span}
 use Rattle.cow_answers.specs.Lines.{runs_text, listed_text}
-use Rattle.cow_answers.specs.Salvage.{skipped_text, spans_text, behind_text}
+use Rattle.cow_answers.specs.Salvage.{doubtful_text, skipped_text, spans_text, behind_text}
 use Rattle.cow_answers.specs.declared.notes.Notes.{Notes}
 use Rattle.cow_answers.specs.declared.notes.Behind.{Behind}
 
@@ -23,9 +23,13 @@ behind_of slots (Some behind) = behind_text slots behind.count behind.first
 abbrev pub salvaged_words : List ℕ
 salvaged_words = codes "salvaged the runs below are the chunks that have copies: OLD NEW COUNT\nunknown every other chunk is the origin's of today, and may be newer than the snapshot\n"
 
--- the pairs that are kept in runs, and each other one
-abbrev pub kept_text : ℕ → List Pair → List Fault → List ℕ
-kept_text slots kept skipped = salvaged_words ++ (runs_text kept ++ skipped_text slots skipped)
+-- each pair that is doubtful, and each that is not kept
+abbrev pub others_text : ℕ → List Pair → List Fault → List ℕ
+others_text slots doubtful skipped = doubtful_text doubtful ++ skipped_text slots skipped
+
+-- the certain pairs in runs, and each other one
+abbrev pub kept_text : ℕ → List Pair → List Pair → List Fault → List ℕ
+kept_text slots certain doubtful skipped = salvaged_words ++ (runs_text certain ++ others_text slots doubtful skipped)
 
 -- what is noted of a store's slots
 abbrev pub notes_text : ℕ → Notes → List ℕ
@@ -36,9 +40,9 @@ abbrev pub unknown_text : ℕ → List Span → List Span → Notes → List ℕ
 unknown_text slots origin cow notes = spans_text (codes "unreadable ORIGIN") origin ++ (spans_text (codes "unreadable COW") cow ++ notes_text slots notes)
 
 -- what is printed of a salvage
-abbrev pub salvaged_text : ℕ → List Pair → List Fault → List Span → List Span → Notes → List ℕ
-salvaged_text slots kept skipped origin cow notes = kept_text slots kept skipped ++ unknown_text slots origin cow notes
+abbrev pub salvaged_text : ℕ → List Pair → List Pair → List Fault → List Span → List Span → Notes → List ℕ
+salvaged_text slots certain doubtful skipped origin cow notes = kept_text slots certain doubtful skipped ++ unknown_text slots origin cow notes
 
 -- nothing is listed
-abbrev pub IsWhole : List Fault → List Span → List Span → Notes → Type 0
-IsWhole skipped origin cow notes = (length skipped ≡ 0) × (length origin ≡ 0) × (length cow ≡ 0) × (notes.lacks ≡ None)
+abbrev pub IsWhole : List Pair → List Fault → List Span → List Span → Notes → Type 0
+IsWhole doubtful skipped origin cow notes = (length doubtful ≡ 0) × (length skipped ≡ 0) × (length origin ≡ 0) × (length cow ≡ 0) × (notes.lacks ≡ None)

@@ -7,7 +7,7 @@ use Rattle.cow_image.specs.declared.found.Told.TheVariants.{Fresh, Refused, Writ
 use Rattle.cow_image.specs.declared.reading.Listed.{Listed}
 use Rattle.cow_image.specs.declared.reading.Listed.TheVariants.{Ends, Lacks}
 use Rattle.cow_salvage.specs.declared.span.Span.{Span}
-use Rattle.cow_answers.specs.Items.{number_object, run_objects, slot_objects, listed_object, fault_objects, behind_object, unread_objects}
+use Rattle.cow_answers.specs.Items.{number_object, run_objects, slot_objects, listed_object, doubtful_objects, fault_objects, behind_object, unread_objects}
 use Rattle.cow_answers.specs.Json.{json_text}
 use Rattle.cow_answers.specs.Shows.{slots_by}
 use Rattle.cow_answers.specs.declared.showing.Numbers.{Numbers}
@@ -56,13 +56,17 @@ abbrev pub behind_object_of : ℕ → Option Behind → List ℕ
 behind_object_of slots None = []
 behind_object_of slots (Some behind) = behind_object slots behind.count behind.first
 
--- how many pairs are kept
+-- how many pairs are certain
 abbrev pub count_object : List Pair → List ℕ
-count_object kept = number_object (codes "salvaged") (length kept)
+count_object certain = number_object (codes "salvaged") (length certain)
 
--- how many pairs are kept, their runs, and each other one
-abbrev pub kept_objects : ℕ → List Pair → List Fault → List ℕ
-kept_objects slots kept skipped = count_object kept ++ (run_objects kept ++ fault_objects (codes "skipped") slots skipped)
+-- each pair that is doubtful, and each that is not kept
+abbrev pub others_objects : ℕ → List Pair → List Fault → List ℕ
+others_objects slots doubtful skipped = doubtful_objects doubtful ++ fault_objects (codes "skipped") slots skipped
+
+-- how many pairs are certain, their runs, and each other one
+abbrev pub kept_objects : ℕ → List Pair → List Pair → List Fault → List ℕ
+kept_objects slots certain doubtful skipped = count_object certain ++ (run_objects certain ++ others_objects slots doubtful skipped)
 
 -- what is noted of a store's slots
 abbrev pub notes_objects : ℕ → Notes → List ℕ
@@ -73,5 +77,5 @@ abbrev pub unknown_objects : ℕ → List Span → List Span → Notes → List 
 unknown_objects slots origin cow notes = unread_objects (codes "ORIGIN") origin ++ (unread_objects (codes "COW") cow ++ notes_objects slots notes)
 
 -- what is printed of a salvage
-abbrev pub salvaged_objects : ℕ → List Pair → List Fault → List Span → List Span → Notes → List ℕ
-salvaged_objects slots kept skipped origin cow notes = kept_objects slots kept skipped ++ unknown_objects slots origin cow notes
+abbrev pub salvaged_objects : ℕ → List Pair → List Pair → List Fault → List Span → List Span → Notes → List ℕ
+salvaged_objects slots certain doubtful skipped origin cow notes = kept_objects slots certain doubtful skipped ++ unknown_objects slots origin cow notes

@@ -1,6 +1,6 @@
 // What is wrong with a store as JSON, an object a line.
 ghost use Rattle.std.specs.Prelude.{◌≡◌, ◌*◌, ◌<◌, ◌++◌, OnOk, codes};
-ghost use Rattle.cow_answers.specs.Items.{faulty_object, fault_object, fault_objects, behind_object, span_end, unread_object, unread_objects};
+ghost use Rattle.cow_answers.specs.Items.{doubtful_object, doubtful_objects, faulty_object, fault_object, fault_objects, behind_object, span_end, unread_object, unread_objects};
 
 use crate::json::push_member;
 use crate::members::{push_first, push_first_quoted, push_pair_end, push_slot_members};
@@ -8,6 +8,24 @@ use cow_image::Fault;
 use cow_salvage::Span;
 use sector::Pair;
 use std::alloc::AllocError;
+
+/// Adds an object for each pair that is kept from behind the first empty slot.
+pub fn push_doubtful_json(text: &mut Vec<u8>, pairs: &[Pair]) -> Result<(), AllocError>
+    ensures { OnOk result (text.new.items ≡ text.old.items ++ doubtful_objects pairs.now) }
+{
+    for pair in pairs {
+        push_doubtful_pair(text, *pair)?;
+    }
+    Ok(())
+}
+
+/// Adds the object of a pair that is kept from behind the first empty slot.
+fn push_doubtful_pair(text: &mut Vec<u8>, pair: Pair) -> Result<(), AllocError>
+    ensures { OnOk result (text.new.items ≡ text.old.items ++ doubtful_object pair) }
+{
+    push_first_quoted(text, b"doubtful", b"behind")?;
+    push_pair_end(text, pair)
+}
 
 /// Adds an object for each of these faults, under a key, in a store whose areas have so many slots.
 pub fn push_faults_json(

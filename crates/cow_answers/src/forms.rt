@@ -85,8 +85,8 @@ pub fn push_behind(
     }
 }
 
-/// What is printed of a salvage of a store whose areas have so many slots: the runs of the kept pairs, the others and why they
-/// are skipped, and what of both images could not be read.
+/// What is printed of a salvage of a store whose areas have so many slots: the runs of the certain pairs, the doubtful ones, the
+/// others and why they are skipped, and what of both images could not be read.
 pub fn salvaged(
     alloc: Global,
     slots: u64,
@@ -97,7 +97,7 @@ pub fn salvaged(
     form: Form,
 ) -> Result<Vec<u8>, AllocError>
     requires { 0 < slots }
-    ensures { IfOk result (λ text. text.items ≡ salvaged_by form slots saved.now.pairs.items saved.now.skipped.items origin.now cow.now notes) }
+    ensures { IfOk result (λ text. text.items ≡ salvaged_by form slots saved.now.certain.items saved.now.doubtful.items saved.now.skipped.items origin.now cow.now notes) }
 {
     match form {
         Form::Lines => salvaged_lines(alloc, slots, saved, origin, cow, notes),

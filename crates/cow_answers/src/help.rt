@@ -41,5 +41,6 @@ is standard output. Options stand anywhere; after -- there are names only.
   --dry-run   what a merge would do; nothing is written
   -h, --help, -V, --version
 
-Exit status: 0 the store is good; 1 it is refused; 2 something could not be read or written, or the words are wrong.
+Exit status: 0 the store is good; 1 it is refused; 2 something could not be read or written, or the words are wrong;
+3 a merge is done, but could not be told.
 ";

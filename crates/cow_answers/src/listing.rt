@@ -87,7 +87,7 @@ fn push_slot_line(text: &mut Vec<u8>, slots: u64, slot: u64, pair: Pair) -> Resu
 }
 
 /// Adds two numbers.
-fn push_two(text: &mut Vec<u8>, first: u64, second: u64) -> Result<(), AllocError>
+pub(crate) fn push_two(text: &mut Vec<u8>, first: u64, second: u64) -> Result<(), AllocError>
     ensures { OnOk result (text.new.items ≡ text.old.items ++ two_text first second) }
 {
     push_number(text, first)?;

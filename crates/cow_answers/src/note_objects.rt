@@ -1,8 +1,10 @@
 // What is told as JSON of a salvage, and of slots behind the end of a list.
 ghost use Rattle.std.specs.Prelude.{◌≡◌, ◌<◌, ◌++◌, IfOk, OnOk};
-ghost use Rattle.cow_answers.specs.Objects.{count_object, kept_objects, unknown_objects, notes_objects, salvaged_objects, lacks_object_of, behind_object_of};
+ghost use Rattle.cow_answers.specs.Objects.{count_object, kept_objects, others_objects, unknown_objects, notes_objects, salvaged_objects, lacks_object_of, behind_object_of};
 
-use crate::faults_json::{push_behind_json, push_faults_json, push_unread_json};
+use crate::faults_json::{
+    push_behind_json, push_doubtful_json, push_faults_json, push_unread_json,
+};
 use crate::listing_json::{push_listed_json, push_runs_json};
 use crate::members::push_number_json;
 use crate::notes::{Behind, Notes};
@@ -10,7 +12,7 @@ use cow_image::Listed;
 use cow_salvage::{Saved, Span};
 use std::alloc::{AllocError, Global};
 
-/// What is printed of a salvage of a store whose areas have so many slots: how many pairs are kept, their runs, the others and
+/// What is printed of a salvage of a store whose areas have so many slots: how many pairs are certain, their runs, the doubtful ones, the others and
 /// why they are skipped, and what of both images could not be read.
 pub(crate) fn salvaged_json(
     alloc: Global,
@@ -21,7 +23,7 @@ pub(crate) fn salvaged_json(
     notes: Notes,
 ) -> Result<Vec<u8>, AllocError>
     requires { 0 < slots }
-    ensures { IfOk result (λ text. text.items ≡ salvaged_objects slots saved.now.pairs.items saved.now.skipped.items origin.now cow.now notes) }
+    ensures { IfOk result (λ text. text.items ≡ salvaged_objects slots saved.now.certain.items saved.now.doubtful.items saved.now.skipped.items origin.now cow.now notes) }
 {
     let mut text = Vec::new(alloc);
     push_kept(&mut text, slots, saved)?;
@@ -29,22 +31,31 @@ pub(crate) fn salvaged_json(
     Ok(text)
 }
 
-/// Adds how many pairs are kept, which they are, and why each other one is not.
+/// Adds how many pairs are certain, which they are, which are doubtful, and why each other one is not.
 fn push_kept(text: &mut Vec<u8>, slots: u64, saved: &Saved) -> Result<(), AllocError>
     requires { 0 < slots }
-    ensures { OnOk result (text.new.items ≡ text.old.items ++ kept_objects slots saved.now.pairs.items saved.now.skipped.items) }
+    ensures { OnOk result (text.new.items ≡ text.old.items ++ kept_objects slots saved.now.certain.items saved.now.doubtful.items saved.now.skipped.items) }
 {
     push_count(text, saved)?;
-    push_runs_json(text, saved.pairs.as_slice())?;
-    push_faults_json(text, b"skipped", slots, saved.skipped.as_slice())?;
+    push_runs_json(text, saved.certain.as_slice())?;
+    push_others(text, slots, saved)?;
     Ok(())
 }
 
-/// Adds how many pairs are kept.
-fn push_count(text: &mut Vec<u8>, saved: &Saved) -> Result<(), AllocError>
-    ensures { OnOk result (text.new.items ≡ text.old.items ++ count_object saved.now.pairs.items) }
+/// Adds which pairs are doubtful, and why each other one is not kept.
+fn push_others(text: &mut Vec<u8>, slots: u64, saved: &Saved) -> Result<(), AllocError>
+    requires { 0 < slots }
+    ensures { OnOk result (text.new.items ≡ text.old.items ++ others_objects slots saved.now.doubtful.items saved.now.skipped.items) }
 {
-    push_number_json(text, b"salvaged", saved.pairs.len() as u64)
+    push_doubtful_json(text, saved.doubtful.as_slice())?;
+    push_faults_json(text, b"skipped", slots, saved.skipped.as_slice())
+}
+
+/// Adds how many pairs are certain.
+fn push_count(text: &mut Vec<u8>, saved: &Saved) -> Result<(), AllocError>
+    ensures { OnOk result (text.new.items ≡ text.old.items ++ count_object saved.now.certain.items) }
+{
+    push_number_json(text, b"salvaged", saved.certain.len() as u64)
 }
 
 /// Adds what of both images could not be read, and what is noted of the slots.

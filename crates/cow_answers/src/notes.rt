@@ -1,10 +1,10 @@
 // What is told of a salvage, and of slots behind the end of a list.
 ghost use Rattle.std.specs.Prelude.{◌≡◌, ◌<◌, ◌≤◌, ◌++◌, length, IfOk, OnOk, MatchBool};
 ghost use Rattle.cow_answers.specs.Noted.{front_by, lacks_by, first_by, behind_by, notes_by};
-ghost use Rattle.cow_answers.specs.Notes.{salvaged_words, kept_text, unknown_text, notes_text, salvaged_text, lacks_of, behind_of, IsWhole};
+ghost use Rattle.cow_answers.specs.Notes.{salvaged_words, kept_text, others_text, unknown_text, notes_text, salvaged_text, lacks_of, behind_of, IsWhole};
 
 use crate::listing::{push_listed, push_runs_lines};
-use crate::salvage::{push_behind_lines, push_skipped, push_spans};
+use crate::salvage::{push_behind_lines, push_doubtful, push_skipped, push_spans};
 use cow_image::Listed;
 use cow_salvage::{Saved, Slot, Span, Used, front_of};
 use std::alloc::{AllocError, Global};
@@ -65,8 +65,8 @@ fn first_in(slots: &[Slot]) -> Option<Behind>
     })
 }
 
-/// What is printed of a salvage of a store whose areas have so many slots: the runs of the kept pairs, the others and why they
-/// are skipped, and what of both images could not be read.
+/// What is printed of a salvage of a store whose areas have so many slots: the runs of the certain pairs, the doubtful ones, the
+/// others and why they are skipped, and what of both images could not be read.
 pub(crate) fn salvaged_lines(
     alloc: Global,
     slots: u64,
@@ -76,7 +76,7 @@ pub(crate) fn salvaged_lines(
     notes: Notes,
 ) -> Result<Vec<u8>, AllocError>
     requires { 0 < slots }
-    ensures { IfOk result (λ text. text.items ≡ salvaged_text slots saved.now.pairs.items saved.now.skipped.items origin.now cow.now notes) }
+    ensures { IfOk result (λ text. text.items ≡ salvaged_text slots saved.now.certain.items saved.now.doubtful.items saved.now.skipped.items origin.now cow.now notes) }
 {
     let mut text = Vec::new(alloc);
     push_kept(&mut text, slots, saved)?;
@@ -87,12 +87,21 @@ pub(crate) fn salvaged_lines(
 /// Adds which pairs are kept, and why each other one is not.
 fn push_kept(text: &mut Vec<u8>, slots: u64, saved: &Saved) -> Result<(), AllocError>
     requires { 0 < slots }
-    ensures { OnOk result (text.new.items ≡ text.old.items ++ kept_text slots saved.now.pairs.items saved.now.skipped.items) }
+    ensures { OnOk result (text.new.items ≡ text.old.items ++ kept_text slots saved.now.certain.items saved.now.doubtful.items saved.now.skipped.items) }
 {
     push_words(text)?;
-    push_runs_lines(text, saved.pairs.as_slice())?;
-    push_skipped(text, slots, saved.skipped.as_slice())?;
+    push_runs_lines(text, saved.certain.as_slice())?;
+    push_others(text, slots, saved)?;
     Ok(())
+}
+
+/// Adds which pairs are doubtful, and why each other one is not kept.
+fn push_others(text: &mut Vec<u8>, slots: u64, saved: &Saved) -> Result<(), AllocError>
+    requires { 0 < slots }
+    ensures { OnOk result (text.new.items ≡ text.old.items ++ others_text slots saved.now.doubtful.items saved.now.skipped.items) }
+{
+    push_doubtful(text, saved.doubtful.as_slice())?;
+    push_skipped(text, slots, saved.skipped.as_slice())
 }
 
 /// Adds what a salvaged array is, before the runs of its copies.
@@ -154,10 +163,13 @@ pub(crate) fn push_behind_of(
     }
 }
 
-/// Whether nothing is listed: each pair is kept, both images could be read, and no area lacks.
+/// Whether nothing is listed: each pair is kept, and none is doubtful, both images could be read, and no area lacks.
 pub fn is_whole(saved: &Saved, origin: &[Span], cow: &[Span], notes: Notes) -> bool
-    ensures { MatchBool result (IsWhole saved.now.skipped.items origin.now cow.now notes) (IsWhole saved.now.skipped.items origin.now cow.now notes → ⊥) }
+    ensures { MatchBool result (IsWhole saved.now.doubtful.items saved.now.skipped.items origin.now cow.now notes) (IsWhole saved.now.doubtful.items saved.now.skipped.items origin.now cow.now notes → ⊥) }
 {
+    if saved.doubtful.len() != 0 {
+        return false;
+    }
     if saved.skipped.len() != 0 || origin.len() != 0 || cow.len() != 0 {
         return false;
     }

@@ -1,11 +1,13 @@
 // What is listed of a salvage, in lines.
 ghost use Rattle.std.specs.Prelude.{◌≡◌, ◌*◌, ◌<◌, ◌++◌, OnOk};
-ghost use Rattle.cow_answers.specs.Salvage.{skipped_line, skipped_text, span_line, spans_text, behind_text};
+ghost use Rattle.cow_answers.specs.Salvage.{doubtful_line, doubtful_text, skipped_line, skipped_text, span_line, spans_text, behind_text};
 
+use crate::listing::push_two;
 use crate::reasons::{push_fault, push_slot};
 use crate::text::push_number;
 use cow_image::Fault;
 use cow_salvage::Span;
+use sector::Pair;
 use std::alloc::AllocError;
 
 /// Adds a line for each pair that is skipped, in a store whose areas have so many slots.
@@ -26,6 +28,25 @@ fn push_skipped_line(text: &mut Vec<u8>, slots: u64, fault: Fault) -> Result<(),
 {
     text.extend_from_slice(b"skipped ")?;
     push_fault(text, slots, fault)?;
+    text.extend_from_slice(b"\n")
+}
+
+/// Adds a line for each pair that is kept from behind the first empty slot.
+pub fn push_doubtful(text: &mut Vec<u8>, pairs: &[Pair]) -> Result<(), AllocError>
+    ensures { OnOk result (text.new.items ≡ text.old.items ++ doubtful_text pairs.now) }
+{
+    for pair in pairs {
+        push_doubtful_line(text, *pair)?;
+    }
+    Ok(())
+}
+
+/// Adds the line of a pair that is kept from behind the first empty slot.
+fn push_doubtful_line(text: &mut Vec<u8>, pair: Pair) -> Result<(), AllocError>
+    ensures { OnOk result (text.new.items ≡ text.old.items ++ doubtful_line pair) }
+{
+    text.extend_from_slice(b"doubtful ")?;
+    push_two(text, pair.old, pair.new)?;
     text.extend_from_slice(b"\n")
 }
 

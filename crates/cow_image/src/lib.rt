@@ -28,6 +28,6 @@ pub use judging::{begins_before, judge, lies_within};
 pub use map::{CowMap, StoreUsage};
 pub use ranging::show_range;
 pub use reading::{Listed, MAX_IMAGE, read_area, read_pairs};
-pub use running::{Run, run_at};
+pub use running::{Run, row_at, run_at};
 pub use sorting::sort_by_old;
 pub use telling::{read_first, read_slots, read_store, sectors_of};

@@ -36,9 +36,10 @@ fn below(pairs: &[Pair], number: Chunk) -> usize
 }
 
 /// How many pairs from one on have chunks in a row, old and new, if they are not more than so many.
-fn row_at(pairs: &[Pair], low: usize, most: u64) -> u64
+pub fn row_at(pairs: &[Pair], low: usize, most: u64) -> u64
     requires { low < length pairs.now }
     ensures some { 0 < result }
+    ensures few { 0 < most → result ≤ most }
     ensures row { IsRow pairs.now low result }
 {
     let first = pairs[low];

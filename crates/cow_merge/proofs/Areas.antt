@@ -1,6 +1,6 @@
 -- Areas are read, copied back, and zeroed.
 use Rattle.std.proofs.Common.{◌≡◌, ◌≢◌, ◌⊎◌, inl, inr, ℕ, ◌+◌, ◌*◌, ◌-◌, ◌/◌, ◌<◌, ◌≤◌, List, length, get_or, replicate, arith, refl, ap, ◌∙◌, sym, subst, length-take, length-drop}
-use Rattle.std.proofs.lemmas.Bool.{cases_lt, cases_eq}
+use Rattle.std.proofs.lemmas.Bool.{cases_lt}
 use Rattle.std.proofs.Math.Nat.{mul-le-mul_left, mul-le-mul_right, div-mul-le_self}
 use Rattle.std.proofs.lemmas.List.{ext_get_or, length-replicate}
 use Rattle.sector.specs.Bytes.{sector_at, with_sectors}
@@ -10,7 +10,7 @@ use Rattle.store_bytes.specs.Slots.{pair_in}
 use Rattle.store_bytes.specs.Places.{area_place, chunk_at, slot}
 use Rattle.store_bytes.proofs.Slots.{slot-at, IsListed-of}
 use Rattle.cow_merge.specs.Merges.{IsInArea}
-use Rattle.cow_merge.specs.Holding.{Begin, pairs, IsBegin, OriginMay, StoreMay, Leaves, Rolls, IsSafe, IsBack, AreBack, Copies, IsZero, IsGone, Clears}
+use Rattle.cow_merge.specs.Holding.{Begin, pairs, IsBegin, OriginMay, StoreMay, Leaves, Rolls, Copies, IsZero, IsGone, Clears}
 use Rattle.cow_merge.proofs.Sectors.{by_sectors, zero_byte, area_from}
 use Rattle.cow_merge.proofs.Copies.{sector_of_part}
 use Rattle.cow_merge.proofs.Shows.{slot_cases}
@@ -101,23 +101,6 @@ copies_same b from known known' bytes bytes' may may' lasts lasts' rolls knows s
   store = stop 1;
   keeps = λ s lt was. (ap (λ x. sector_at x s) (same 0) ∙ was.0, still 0 s was.1);
 }
-
--- what is back stays so, and one more pair's is
-pub back_kept : (b : Begin) (from : ℕ) (origin origin' : List ℕ) (lasts lasts' : ℕ → ℕ → Type 0) (low high : ℕ) → AreBack b from origin lasts low high → ((s : ℕ) → s < b.sectors → IsSafe b origin lasts s → IsSafe b origin' lasts' s) → AreBack b from origin' lasts' low high
-back_kept b from origin origin' lasts lasts' low high are keeps k d lo hi under inside s lt at = keeps s lt (are k d lo hi under inside s lt at)
-
-pub back_more : (b : Begin) (from : ℕ) (origin origin' : List ℕ) (lasts lasts' : ℕ → ℕ → Type 0) (low high : ℕ) (pair : Pair) → AreBack b from origin lasts low high → ((s : ℕ) → s < b.sectors → IsSafe b origin lasts s → IsSafe b origin' lasts' s) → ((d : Pair) → get_or (pairs b) high d ≡ pair) → IsBack b origin' lasts' pair.old → AreBack b from origin' lasts' low (high + 1)
-back_more b from origin origin' lasts lasts' low high pair are keeps is back k d lo hi under inside s lt at = elim (cases_eq k high) [
-  | inl e ↦ back s lt (at ∙ ap (λ x. (get_or (pairs b) x d).old) e ∙ ap (λ (p : Pair). p.old) (is d))
-  | inr ne ↦ keeps s lt (are k d lo (omega arith) under inside s lt at)
-]
-
--- of two runs of slots
-pub back_joined : (b : Begin) (from : ℕ) (origin : List ℕ) (lasts : ℕ → ℕ → Type 0) (low mid high : ℕ) → AreBack b from origin lasts low mid → AreBack b from origin lasts mid high → AreBack b from origin lasts low high
-back_joined b from origin lasts low mid high x y k d lo hi under inside = elim (cases_lt k mid) [
-  | inl lt ↦ x k d lo lt under inside
-  | inr ge ↦ y k d ge hi under inside
-]
 
 -- a sector of zeros
 pub zero_sector : (n t : ℕ) → t < n → sector_at (replicate (512 * n) 0) t ≡ replicate 512 0

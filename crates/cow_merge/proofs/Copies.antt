@@ -1,5 +1,7 @@
 -- A copy is taken back.
 use Rattle.std.proofs.Common.{◌≡◌, ◌⊎◌, inl, inr, false, ℕ, ◌+◌, ◌*◌, ◌-◌, ◌/◌, ◌%◌, ◌<◌, ◌≤◌, List, length, take, drop, get_or, arith, refl, ap, ◌∙◌, sym, subst, min, length-take, length-drop, Some}
+use Rattle.std.proofs.lemmas.Bool.{cases_lt}
+use Rattle.std.proofs.Math.Nat.{mul-le-mul_left, mul-le-mul_right}
 use Rattle.std.proofs.lemmas.Nat.{mod_below, div-mul-add, mod-mul-add, div-add-mod'}
 use Rattle.std.proofs.lemmas.List.{ext_get_or, length-take-le}
 use Rattle.sector.specs.Bytes.{sector_at, sectors_at, with_sectors}
@@ -9,7 +11,7 @@ use Rattle.store_bytes.specs.Picture.{place_of}
 use Rattle.store_bytes.specs.Places.{is_area_place}
 use Rattle.cow_image.proofs.Places.{place_first}
 use Rattle.stop_laws.proofs.Open.{sector_copied}
-use Rattle.cow_merge.specs.Holding.{Begin, pairs, array, IsBegin, OriginMay, StoreMay, Leaves, Rolls, IsPairOf, IsBack, Copies}
+use Rattle.cow_merge.specs.Holding.{Begin, pairs, array, IsBegin, OriginMay, StoreMay, Leaves, Rolls, IsPairOf, AreInRow, IsBack, Copies}
 use Rattle.cow_merge.proofs.Sectors.{not_in_area}
 
 -- a sector of a run of sectors
@@ -39,25 +41,76 @@ sector_in chunk n t pos lt =
     let e : chunk * n + t ≡ n * chunk + t = grind arith in
     (ap (λ x. x / chunk) e ∙ div-mul-add n chunk t lt, ap (λ x. x % chunk) e ∙ mod-mul-add n chunk t lt)
 
--- what is read of it is the array's
-pub part_array : (b : Begin) (from : ℕ) (known : Type 0) (bytes : ℕ → List ℕ) (may : ℕ → ℕ → List ℕ → Type 0) (pair : Pair) (count t : ℕ) (part : List ℕ) → Rolls b from known bytes may → IsPairOf b pair → count ≡ min b.chunk (b.sectors - b.chunk * pair.old) → part ≡ sectors_at (bytes 1) (b.chunk * pair.new) count → t < count → sector_at part t ≡ sector_at (array b) (b.chunk * pair.old + t)
-part_array b from known bytes may pair count t part rolls of size is lt =
+-- a sector of a pair's copy is the array's
+pub copied_at : (b : Begin) (from : ℕ) (known : Type 0) (bytes : ℕ → List ℕ) (may : ℕ → ℕ → List ℕ → Type 0) (pair : Pair) (t : ℕ) → Rolls b from known bytes may → IsPairOf b pair → t < b.chunk → b.chunk * pair.old + t < b.sectors → sector_at (bytes 1) (b.chunk * pair.new + t) ≡ sector_at (array b) (b.chunk * pair.old + t)
+copied_at b from known bytes may pair t rolls of short there =
     let begin = rolls.leaves.begin in
     let some = begin.some in
     let (place, first, fits, free) = pair_place b pair begin of in
     let up : b.chunk * (pair.new + 1) ≡ b.chunk * pair.new + b.chunk = grind arith in
-    let short : t < b.chunk = omega arith in
     let (q, r) = sector_in b.chunk pair.old t some short in
-    ap (λ x. sector_at x t) is ∙ sector_of_part (bytes 1) (b.chunk * pair.new) count t lt ∙ elim (rolls.store_now (b.chunk * pair.new + t) (omega arith)) [
-      | inr (zeros, there) ↦ absurd (not_in_area b.chunk from pair.new t some short free there)
+    elim (rolls.store_now (b.chunk * pair.new + t) (omega arith)) [
+      | inr (zeros, in_area) ↦ absurd (not_in_area b.chunk from pair.new t some short free in_area)
       | inl same ↦ same ∙ ap (λ x. sector_at b.store (b.chunk * pair.new + x)) (sym r)
-          ∙ sym (sector_copied b.chunk b.sectors b.size (b.chunk * pair.old + t) pair.new b.origin b.store (pairs b) some begin.origin begin.store (omega arith) (omega arith) refl (ap (place_of (pairs b)) q ∙ place))
+          ∙ sym (sector_copied b.chunk b.sectors b.size (b.chunk * pair.old + t) pair.new b.origin b.store (pairs b) some begin.origin begin.store there (omega arith) refl (ap (place_of (pairs b)) q ∙ place))
     ]
 
-pub length_part : (b : Begin) (from : ℕ) (known : Type 0) (bytes : ℕ → List ℕ) (may : ℕ → ℕ → List ℕ → Type 0) (pair : Pair) (count : ℕ) (part : List ℕ) → Rolls b from known bytes may → IsPairOf b pair → count ≡ min b.chunk (b.sectors - b.chunk * pair.old) → part ≡ sectors_at (bytes 1) (b.chunk * pair.new) count → length part ≡ 512 * count
-length_part b from known bytes may pair count part rolls of size is =
-    let (place, first, fits, free) = pair_place b pair rolls.leaves.begin of in
-    let up : b.chunk * (pair.new + 1) ≡ b.chunk * pair.new + b.chunk = grind arith in
+-- copies in a row begin inside the origin, and end inside the store
+pub row_fits : (b : Begin) (pair : Pair) (count : ℕ) → IsBegin b → 0 < count → AreInRow b pair count → (b.chunk * pair.old < b.sectors) × (b.chunk * (pair.new + count) ≤ b.size)
+row_fits b pair count begin some row =
+    let (p, of, old, new) = row 0 some in
+    let (place, first, fits, free) = pair_place b p begin of in
+    let (p', of', old', new') = row (count - 1) (omega arith) in
+    let (place', first', fits', free') = pair_place b p' begin of' in
+    let at : p.old ≡ pair.old = omega arith in
+    let end : p'.new + 1 ≡ pair.new + count = omega arith in
+    (subst (λ (n : ℕ). b.chunk * n < b.sectors) at first, subst (λ (n : ℕ). b.chunk * n ≤ b.size) end fits')
+
+-- so many chunks lie inside where their sectors do
+pub chunks_inside : (c s n : ℕ) → 0 < c → c * n ≤ s → n ≤ s / c
+chunks_inside c s n some fits = elim (cases_lt (s / c) n) [
+  | inr ge ↦ ge
+  | inl less ↦ absurd (
+      let whole : s ≡ s / c * c + s % c = sym (div-add-mod' s c) in
+      let short : s % c < c = mod_below s c some in
+      let next : s / c + 1 ≤ n = omega arith in
+      let up : (s / c + 1) * c ≤ n * c = mul-le-mul_right c next in
+      let one : (s / c + 1) * c ≡ s / c * c + c = one_more (s / c) c in
+      let turned : c * n ≡ n * c = turn c n in
+      omega arith
+      )
+]
+  where
+    one_more : (q d : ℕ) → (q + 1) * d ≡ q * d + d
+    one_more q d = grind arith
+
+    turn : (d m : ℕ) → d * m ≡ m * d
+    turn d m = grind arith
+
+-- a sector of them lies in one of them
+row_split : (c n q r : ℕ) → c * n + (q * c + r) ≡ c * (n + q) + r
+row_split c n q r = grind arith
+
+-- what is read of them is the array's
+pub row_array : (b : Begin) (from : ℕ) (known : Type 0) (bytes : ℕ → List ℕ) (may : ℕ → ℕ → List ℕ → Type 0) (pair : Pair) (count sectors t : ℕ) (part : List ℕ) → Rolls b from known bytes may → AreInRow b pair count → sectors ≡ min (b.chunk * count) (b.sectors - b.chunk * pair.old) → part ≡ sectors_at (bytes 1) (b.chunk * pair.new) sectors → t < sectors → sector_at part t ≡ sector_at (array b) (b.chunk * pair.old + t)
+row_array b from known bytes may pair count sectors t part rolls row size is lt =
+    let some = rolls.leaves.begin.some in
+    let whole : t ≡ t / b.chunk * b.chunk + t % b.chunk = sym (div-add-mod' t b.chunk) in
+    let short : t % b.chunk < b.chunk = mod_below t b.chunk some in
+    let inside : t / b.chunk < count = elim (cases_lt (t / b.chunk) count) [
+      | inl less ↦ less
+      | inr past ↦ absurd (let up : count * b.chunk ≤ t / b.chunk * b.chunk = mul-le-mul_right b.chunk past in let turned : b.chunk * count ≡ count * b.chunk = grind arith in omega arith)
+    ] in
+    let (p, of, old, new) = row (t / b.chunk) inside in
+    let from_store : b.chunk * pair.new + t ≡ b.chunk * p.new + t % b.chunk = ap (λ x. b.chunk * pair.new + x) whole ∙ row_split b.chunk pair.new (t / b.chunk) (t % b.chunk) ∙ ap (λ x. b.chunk * x + t % b.chunk) (sym new) in
+    let to_origin : b.chunk * pair.old + t ≡ b.chunk * p.old + t % b.chunk = ap (λ x. b.chunk * pair.old + x) whole ∙ row_split b.chunk pair.old (t / b.chunk) (t % b.chunk) ∙ ap (λ x. b.chunk * x + t % b.chunk) (sym old) in
+    ap (λ x. sector_at x t) is ∙ sector_of_part (bytes 1) (b.chunk * pair.new) sectors t lt ∙ ap (sector_at (bytes 1)) from_store
+    ∙ copied_at b from known bytes may p (t % b.chunk) rolls of short (omega arith) ∙ ap (sector_at (array b)) (sym to_origin)
+
+pub length_row : (b : Begin) (from : ℕ) (known : Type 0) (bytes : ℕ → List ℕ) (may : ℕ → ℕ → List ℕ → Type 0) (pair : Pair) (count sectors : ℕ) (part : List ℕ) → Rolls b from known bytes may → 0 < count → AreInRow b pair count → sectors ≡ min (b.chunk * count) (b.sectors - b.chunk * pair.old) → part ≡ sectors_at (bytes 1) (b.chunk * pair.new) sectors → length part ≡ 512 * sectors
+length_row b from known bytes may pair count sectors part rolls some row size is =
+    let (first, fits) = row_fits b pair count rolls.leaves.begin some row in
+    let up : b.chunk * (pair.new + count) ≡ b.chunk * pair.new + b.chunk * count = grind arith in
     let len = rolls.leaves.store in
     ap length is ∙ simp (length-take, length-drop) (omega arith)
 
@@ -110,25 +163,28 @@ copies_written b from first count known known' bytes bytes' may may' lasts lasts
       );
     }
 
--- they are the array's
-pub back_written : (b : Begin) (first count : ℕ) (bytes bytes' part : List ℕ) (lasts : ℕ → ℕ → Type 0) (c : ℕ) → 0 < b.chunk → ((t : ℕ) → t < count → sector_at part t ≡ sector_at (array b) (first + t)) → length part ≡ 512 * count → first ≡ b.chunk * c → count ≡ min b.chunk (b.sectors - b.chunk * c) → length bytes ≡ 512 * b.sectors → first + count ≤ b.sectors → bytes' ≡ with_sectors bytes first part → ((s : ℕ) → first ≤ s → 512 * (s - first) < length part → lasts 0 s) → IsBack b bytes' lasts c
-back_written b first count bytes bytes' part lasts c some arrays len at size lo fits wrote fresh s lt here =
+-- the chunks of copies in a row are the array's
+pub back_row : (b : Begin) (first count sectors : ℕ) (bytes bytes' part : List ℕ) (lasts : ℕ → ℕ → Type 0) (old : ℕ) → 0 < b.chunk → ((t : ℕ) → t < sectors → sector_at part t ≡ sector_at (array b) (first + t)) → length part ≡ 512 * sectors → first ≡ b.chunk * old → sectors ≡ min (b.chunk * count) (b.sectors - b.chunk * old) → length bytes ≡ 512 * b.sectors → first + sectors ≤ b.sectors → bytes' ≡ with_sectors bytes first part → ((s : ℕ) → first ≤ s → 512 * (s - first) < length part → lasts 0 s) → (q : ℕ) → q < count → IsBack b bytes' lasts (old + q)
+back_row b first count sectors bytes bytes' part lasts old some arrays len at size lo fits wrote fresh q less s lt here =
     let e : s ≡ s / b.chunk * b.chunk + s % b.chunk = sym (div-add-mod' s b.chunk) in
     let below : s % b.chunk < b.chunk = mod_below s b.chunk some in
-    let e' : s / b.chunk * b.chunk ≡ b.chunk * c = ap (λ x. x * b.chunk) here ∙ grind arith in
+    let e' : s / b.chunk * b.chunk ≡ b.chunk * old + b.chunk * q = ap (λ x. x * b.chunk) here ∙ grind arith in
+    let next : q + 1 ≤ count = omega arith in
+    let end : b.chunk * (q + 1) ≤ b.chunk * count = mul-le-mul_left b.chunk next in
+    let end' : b.chunk * (q + 1) ≡ b.chunk * q + b.chunk = grind arith in
     let is : s ≡ first + (s - first) = omega arith in (
       ap (λ x. sector_at x s) wrote ∙ ap (sector_at (with_sectors bytes first part)) is
-          ∙ sectors_at-with_inside bytes first count part (first + (s - first)) 1 (omega arith) len (omega arith) (omega arith)
+          ∙ sectors_at-with_inside bytes first sectors part (first + (s - first)) 1 (omega arith) len (omega arith) (omega arith)
           ∙ ap (sector_at part) (omega arith) ∙ arrays (s - first) (omega arith) ∙ ap (sector_at (array b)) (sym is),
       fresh s (omega arith) (omega arith),
     )
 
 -- what was read
-pub read_part : (bytes out room : List ℕ) (chunk new count from : ℕ) → from ≡ 512 * (chunk * new) → length room ≡ 512 * chunk → count ≤ chunk → out ≡ take (length (take (512 * count) room)) (drop from bytes) → out ≡ sectors_at bytes (chunk * new) count
-read_part bytes out room chunk new count from at len le is =
-    let n : length (take (512 * count) room) ≡ 512 * count = length-take-le (512 * count) room (omega arith) in
-    is ∙ ap (λ x. take x (drop from bytes)) n ∙ ap (λ x. take (512 * count) (drop x bytes)) at
+pub read_row : (bytes out room : List ℕ) (chunk new sectors from : ℕ) → from ≡ 512 * (chunk * new) → 512 * sectors ≤ length room → out ≡ take (length (take (512 * sectors) room)) (drop from bytes) → out ≡ sectors_at bytes (chunk * new) sectors
+read_row bytes out room chunk new sectors from at len is =
+    let n : length (take (512 * sectors) room) ≡ 512 * sectors = length-take-le (512 * sectors) room len in
+    is ∙ ap (λ x. take x (drop from bytes)) n ∙ ap (λ x. take (512 * sectors) (drop x bytes)) at
 
 -- and goes to the array's place
-pub arrays_at : (b : Begin) (from : ℕ) (known : Type 0) (bytes : ℕ → List ℕ) (may : ℕ → ℕ → List ℕ → Type 0) (pair : Pair) (count first : ℕ) (part : List ℕ) → Rolls b from known bytes may → IsPairOf b pair → count ≡ min b.chunk (b.sectors - b.chunk * pair.old) → first ≡ b.chunk * pair.old → part ≡ sectors_at (bytes 1) (b.chunk * pair.new) count → (t : ℕ) → t < count → sector_at part t ≡ sector_at (array b) (first + t)
-arrays_at b from known bytes may pair count first part rolls of size at is t lt = part_array b from known bytes may pair count t part rolls of size is lt ∙ ap (λ x. sector_at (array b) (x + t)) (sym at)
+pub arrays_at : (b : Begin) (from : ℕ) (known : Type 0) (bytes : ℕ → List ℕ) (may : ℕ → ℕ → List ℕ → Type 0) (pair : Pair) (count sectors first : ℕ) (part : List ℕ) → Rolls b from known bytes may → AreInRow b pair count → sectors ≡ min (b.chunk * count) (b.sectors - b.chunk * pair.old) → first ≡ b.chunk * pair.old → part ≡ sectors_at (bytes 1) (b.chunk * pair.new) sectors → (t : ℕ) → t < sectors → sector_at part t ≡ sector_at (array b) (first + t)
+arrays_at b from known bytes may pair count sectors first part rolls row size at is t lt = row_array b from known bytes may pair count sectors t part rolls row size is lt ∙ ap (λ x. sector_at (array b) (x + t)) (sym at)

@@ -4,3 +4,4 @@ pub mod Steps
 pub mod Copies
 pub mod Areas
 pub mod Merged
+pub mod Gathered

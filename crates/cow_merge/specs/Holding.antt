@@ -1,5 +1,6 @@
 -- What holds of an origin and its store at each moment of a merge.
 use Rattle.std.specs.Prelude.{◌≡◌, ◌⊎◌, ℕ, ◌+◌, ◌*◌, ◌/◌, ◌<◌, ◌≤◌, List, length, replicate, slice_index_or, Ok}
+use Rattle.std.specs.List.{Contains}
 use Rattle.sector.specs.Bytes.{sector_at}
 use Rattle.sector.specs.declared.pair.Pair.{Pair}
 use Rattle.store_bytes.specs.Places.{area_place}
@@ -68,6 +69,14 @@ pub record Passes (b : Begin) (before now : ℕ) (past since : ℕ → (ℕ → 
 -- it is one of the store's pairs
 abbrev pub IsPairOf : Begin → Pair → Type 0
 IsPairOf b pair = (k : ℕ) × (k < length (pairs b)) × ((d : Pair) → slice_index_or (pairs b) k d ≡ pair)
+
+-- so many copies in a row, of which a pair has the first, are those of the store's pairs
+abbrev pub AreInRow : Begin → Pair → ℕ → Type 0
+AreInRow b pair count = (q : ℕ) → q < count → (p : Pair) × IsPairOf b p × (p.old ≡ pair.old + q) × (p.new ≡ pair.new + q)
+
+-- the pairs of areas below one, from slot `low` on and below `high`, stand in a list
+abbrev pub AreGathered : Begin → ℕ → List Pair → ℕ → ℕ → Type 0
+AreGathered b from list low high = (k : ℕ) (d : Pair) → low ≤ k → k < high → k < from * (32 * b.chunk) → k < length (pairs b) → Contains list (slice_index_or (pairs b) k d)
 
 -- a sector of the origin is the array's, and a sync makes it last
 abbrev pub IsSafe : Begin → List ℕ → (ℕ → ℕ → Type 0) → ℕ → Type 0

@@ -1,12 +1,14 @@
 // Copies are taken back into the origin.
 ghost use Rattle.std.specs.Prelude.{◌≡◌, ◌⊎◌, ℕ, ◌+◌, ◌*◌, ◌-◌, ◌%◌, ◌/◌, ◌<◌, ◌≤◌, List, length, min, MatchOption, OnOk};
+ghost use Rattle.std.specs.List.{All};
 ghost use Rattle.sector.specs.Bytes.{sector_at, with_sectors};
-ghost use Rattle.store_bytes.specs.Places.{area_place, chunk_at};
 ghost use Rattle.image.specs.Stops.{Elapses, HasCause};
 ghost use Rattle.cow_merge.specs.Begun.{begun};
-ghost use Rattle.cow_merge.specs.Holding.{Rolls, Passes, Copies, IsPairOf, IsBack, AreBack, Begin, pairs};
+ghost use Rattle.cow_merge.specs.Holding.{Rolls, Passes, Copies, IsPairOf, AreInRow, IsBack, AreBack, Begin, pairs};
 
+use crate::gathering::read_slots;
 use crate::{Sizes, Stopped};
+use cow_image::row_at;
 use image::FileSet;
 use metadata_area::Area;
 use sector::Pair;
@@ -18,23 +20,30 @@ pub const ORIGIN: usize = 0;
 /// The number of the store's file.
 pub const STORE: usize = 1;
 
-/// Where a copy is, and where it goes.
+/// Where copies in a row are, and where they go.
 #[derive(Clone, Copy)]
 struct Place {
-    /// The byte of the store where it begins.
+    /// The byte of the store where they begin.
     from: u64,
-    /// The sector of the origin where it goes.
+    /// The sector of the origin where they go.
     to: u64,
-    /// How many sectors it has: those of a chunk, or less at the origin's end.
+    /// How many sectors they have: those of their chunks, or less at the origin's end.
     count: u32,
 }
 
-/// The place of a pair's copy; none where the origin or the store has no such chunk.
-fn place_of(sizes: Sizes, pair: Pair) -> Option<Place>
-    ensures found { MatchOption result (sizes.chunk * pair.old < sizes.origin → sizes.chunk * (pair.new + 1) ≤ sizes.store → ⊥) (λ place. (place.from ≡ 512 * (sizes.chunk * pair.new)) × (place.to ≡ sizes.chunk * pair.old) × (sizes.chunk * pair.old < sizes.origin) × (sizes.chunk * (pair.new + 1) ≤ sizes.store) × (place.count ≡ min sizes.chunk (sizes.origin - sizes.chunk * pair.old))) }
+/// The place of so many copies in a row, of which a pair has the first; none where the store has no such chunks, or the origin
+/// ends before the first one.
+fn place_of(sizes: Sizes, pair: Pair, count: u32) -> Option<Place>
+    requires few { count ≤ 2048 }
+    ensures found { MatchOption result (sizes.chunk * pair.old < sizes.origin → sizes.chunk * (pair.new + count) ≤ sizes.store → ⊥) (λ place. (place.from ≡ 512 * (sizes.chunk * pair.new)) × (place.to ≡ sizes.chunk * pair.old) × (sizes.chunk * pair.old < sizes.origin) × (sizes.chunk * (pair.new + count) ≤ sizes.store) × (place.count ≡ min (sizes.chunk * count) (sizes.origin - sizes.chunk * pair.old))) }
 {
     let chunk = sizes.chunk as u64;
-    if sizes.store / chunk <= pair.new {
+    let count = count as u64;
+    let chunks = sizes.store / chunk;
+    if chunks < count {
+        return None;
+    }
+    if chunks - count < pair.new {
         return None;
     }
     let to = pair.old.checked_mul(chunk)?;
@@ -44,7 +53,7 @@ fn place_of(sizes: Sizes, pair: Pair) -> Option<Place>
     Some(Place {
         from: 512 * (chunk * pair.new),
         to,
-        count: (sizes.origin - to).min(chunk) as u32,
+        count: (sizes.origin - to).min(chunk * count) as u32,
     })
 }
 
@@ -65,20 +74,23 @@ fn put_back<F: FileSet>(files: &mut F, sector: u64, part: &[u8]) -> io::Result<(
     files.write_at(ORIGIN, sector, part)
 }
 
-/// Copies a pair's chunk back, through room for a chunk.
-fn copy_pair<F: FileSet>(
+/// Copies so many chunks in a row back, of which a pair has the first, through room for them.
+fn copy_row<F: FileSet>(
     files: &mut F,
     sizes: Sizes,
     pair: Pair,
+    count: u32,
     room: &mut [u8],
 ) -> Result<(), Stopped>
-    requires room { length room.old ≡ 512 * sizes.chunk }
-    ensures passes { (o c : List ℕ) (from : ℕ) → IsPairOf (begun sizes o c) pair → Rolls (begun sizes o c) from (F.is_known files.old) (F.bytes files.old) (F.may_hold files.old) → Passes (begun sizes o c) (F.moment files.old) (F.moment files.new) (F.left_since files.old) (F.left_since files.new) (F.is_known files.new) (F.bytes files.new) (F.may_hold files.new) }
-    ensures copies { OnOk result ((o c : List ℕ) (from : ℕ) → IsPairOf (begun sizes o c) pair → Rolls (begun sizes o c) from (F.is_known files.old) (F.bytes files.old) (F.may_hold files.old) → Copies (begun sizes o c) from (F.is_known files.new) (F.bytes files.old) (F.bytes files.new) (F.may_hold files.old) (F.may_hold files.new) (F.will_last files.old) (F.will_last files.new)) }
-    ensures back { OnOk result ((o c : List ℕ) (from : ℕ) → IsPairOf (begun sizes o c) pair → Rolls (begun sizes o c) from (F.is_known files.old) (F.bytes files.old) (F.may_hold files.old) → IsBack (begun sizes o c) (F.bytes files.new 0) (F.will_last files.new) pair.old) }
-    ensures cause { HasCause ((o : List ℕ) × (c : List ℕ) × (from : ℕ) × IsPairOf (begun sizes o c) pair × Rolls (begun sizes o c) from (F.is_known files.old) (F.bytes files.old) (F.may_hold files.old) × (F.lacks_memory files.new → ⊥)) (F.fault_count files.old) (F.fault_count files.new) result }
+    requires some { 0 < count }
+    requires few { count ≤ 2048 }
+    requires room { 512 * (sizes.chunk * count) ≤ length room.old }
+    ensures passes { (o c : List ℕ) (from : ℕ) → AreInRow (begun sizes o c) pair count → Rolls (begun sizes o c) from (F.is_known files.old) (F.bytes files.old) (F.may_hold files.old) → Passes (begun sizes o c) (F.moment files.old) (F.moment files.new) (F.left_since files.old) (F.left_since files.new) (F.is_known files.new) (F.bytes files.new) (F.may_hold files.new) }
+    ensures copies { OnOk result ((o c : List ℕ) (from : ℕ) → AreInRow (begun sizes o c) pair count → Rolls (begun sizes o c) from (F.is_known files.old) (F.bytes files.old) (F.may_hold files.old) → Copies (begun sizes o c) from (F.is_known files.new) (F.bytes files.old) (F.bytes files.new) (F.may_hold files.old) (F.may_hold files.new) (F.will_last files.old) (F.will_last files.new)) }
+    ensures back { OnOk result ((o c : List ℕ) (from : ℕ) → AreInRow (begun sizes o c) pair count → Rolls (begun sizes o c) from (F.is_known files.old) (F.bytes files.old) (F.may_hold files.old) → (q : ℕ) → q < count → IsBack (begun sizes o c) (F.bytes files.new 0) (F.will_last files.new) (pair.old + q)) }
+    ensures cause { HasCause ((o : List ℕ) × (c : List ℕ) × (from : ℕ) × AreInRow (begun sizes o c) pair count × Rolls (begun sizes o c) from (F.is_known files.old) (F.bytes files.old) (F.may_hold files.old) × (F.lacks_memory files.new → ⊥)) (F.fault_count files.old) (F.fault_count files.new) result }
 {
-    let Some(place) = place_of(sizes, pair) else {
+    let Some(place) = place_of(sizes, pair, count) else {
         return Err(Stopped::Changed);
     };
     let part = &mut room[..512 * place.count as usize];
@@ -87,65 +99,52 @@ fn copy_pair<F: FileSet>(
     Ok(())
 }
 
-/// Reads an area of the store into memory.
-fn read_area<F: FileSet>(
-    files: &mut F,
-    sizes: Sizes,
-    area: &mut Area,
-    index: u64,
-) -> Result<(), Stopped>
-    requires chunk { area.old.chunk ≡ sizes.chunk }
-    requires low { index < sizes.store }
-    ensures chunk { area.new.chunk ≡ sizes.chunk }
-    ensures data { OnOk result (F.is_known files.old → area.new.bytes.items ≡ chunk_at sizes.chunk (F.bytes files.old 1) (area_place sizes.chunk index)) }
-    ensures rolls { (o c : List ℕ) (from : ℕ) → Rolls (begun sizes o c) from (F.is_known files.old) (F.bytes files.old) (F.may_hold files.old) → Copies (begun sizes o c) from (F.is_known files.new) (F.bytes files.old) (F.bytes files.new) (F.may_hold files.old) (F.may_hold files.new) (F.will_last files.old) (F.will_last files.new) }
-    ensures passes { (o c : List ℕ) (from : ℕ) → Rolls (begun sizes o c) from (F.is_known files.old) (F.bytes files.old) (F.may_hold files.old) → Passes (begun sizes o c) (F.moment files.old) (F.moment files.new) (F.left_since files.old) (F.left_since files.new) (F.is_known files.new) (F.bytes files.new) (F.may_hold files.new) }
-    ensures cause { HasCause ((o : List ℕ) × (c : List ℕ) × (from : ℕ) × (index ≤ length (pairs (begun sizes o c)) / (32 * sizes.chunk)) × Rolls (begun sizes o c) from (F.is_known files.old) (F.bytes files.old) (F.may_hold files.old) × (F.lacks_memory files.new → ⊥)) (F.fault_count files.old) (F.fault_count files.new) result }
+/// How many chunks are copied by one call: those that the room holds, and not more than 2048.
+fn chunks_at_once(sizes: Sizes, room: &[u8]) -> u64
+    requires room { 512 * sizes.chunk ≤ length room.now }
+    ensures some { 0 < result }
+    ensures few { result ≤ 2048 }
+    ensures room { 512 * (sizes.chunk * result) ≤ length room.now }
 {
-    let chunk = sizes.chunk as u64;
-    let place = index * (32 * chunk + 1) + 1;
-    if sizes.store < chunk * (place + 1) {
-        return Err(Stopped::Changed);
-    }
-    files.read_at(STORE, 512 * (chunk * place), area.bytes.as_mut_slice())?;
-    Ok(())
+    (room.len() / (512 * sizes.chunk as usize)).min(2048) as u64
 }
 
-/// Copies back what an area's pairs have.
-fn copy_area<F: FileSet>(
+/// Copies back what pairs have, those in a row by one call.
+fn copy_slots<F: FileSet>(
     files: &mut F,
     sizes: Sizes,
-    area: &mut Area,
+    slots: &[Pair],
     room: &mut [u8],
-    index: u64,
 ) -> Result<(), Stopped>
-    requires chunk { area.old.chunk ≡ sizes.chunk }
-    requires room { length room.old ≡ 512 * sizes.chunk }
-    requires low { index < sizes.store }
-    ensures chunk { area.new.chunk ≡ sizes.chunk }
-    ensures passes { (o c : List ℕ) (from : ℕ) → index ≤ length (pairs (begun sizes o c)) / (32 * sizes.chunk) → Rolls (begun sizes o c) from (F.is_known files.old) (F.bytes files.old) (F.may_hold files.old) → Passes (begun sizes o c) (F.moment files.old) (F.moment files.new) (F.left_since files.old) (F.left_since files.new) (F.is_known files.new) (F.bytes files.new) (F.may_hold files.new) }
-    ensures copies { OnOk result ((o c : List ℕ) (from : ℕ) → index ≤ length (pairs (begun sizes o c)) / (32 * sizes.chunk) → Rolls (begun sizes o c) from (F.is_known files.old) (F.bytes files.old) (F.may_hold files.old) → Copies (begun sizes o c) from (F.is_known files.new) (F.bytes files.old) (F.bytes files.new) (F.may_hold files.old) (F.may_hold files.new) (F.will_last files.old) (F.will_last files.new)) }
-    ensures back { OnOk result ((o c : List ℕ) (from : ℕ) → index ≤ length (pairs (begun sizes o c)) / (32 * sizes.chunk) → Rolls (begun sizes o c) from (F.is_known files.old) (F.bytes files.old) (F.may_hold files.old) → AreBack (begun sizes o c) from (F.bytes files.new 0) (F.will_last files.new) (index * (32 * sizes.chunk)) ((index + 1) * (32 * sizes.chunk))) }
-    ensures cause { HasCause ((o : List ℕ) × (c : List ℕ) × (from : ℕ) × (index ≤ length (pairs (begun sizes o c)) / (32 * sizes.chunk)) × Rolls (begun sizes o c) from (F.is_known files.old) (F.bytes files.old) (F.may_hold files.old) × (F.lacks_memory files.new → ⊥)) (F.fault_count files.old) (F.fault_count files.new) result }
+    requires room { 512 * sizes.chunk ≤ length room.old }
+    ensures passes { (o c : List ℕ) (from : ℕ) → All (IsPairOf (begun sizes o c)) slots.now → Rolls (begun sizes o c) from (F.is_known files.old) (F.bytes files.old) (F.may_hold files.old) → Passes (begun sizes o c) (F.moment files.old) (F.moment files.new) (F.left_since files.old) (F.left_since files.new) (F.is_known files.new) (F.bytes files.new) (F.may_hold files.new) }
+    ensures copies { OnOk result ((o c : List ℕ) (from : ℕ) → All (IsPairOf (begun sizes o c)) slots.now → Rolls (begun sizes o c) from (F.is_known files.old) (F.bytes files.old) (F.may_hold files.old) → Copies (begun sizes o c) from (F.is_known files.new) (F.bytes files.old) (F.bytes files.new) (F.may_hold files.old) (F.may_hold files.new) (F.will_last files.old) (F.will_last files.new)) }
+    ensures back { OnOk result ((o c : List ℕ) (from : ℕ) → All (IsPairOf (begun sizes o c)) slots.now → Rolls (begun sizes o c) from (F.is_known files.old) (F.bytes files.old) (F.may_hold files.old) → All (λ pair. IsBack (begun sizes o c) (F.bytes files.new 0) (F.will_last files.new) pair.old) slots.now) }
+    ensures cause { HasCause ((o : List ℕ) × (c : List ℕ) × (from : ℕ) × All (IsPairOf (begun sizes o c)) slots.now × Rolls (begun sizes o c) from (F.is_known files.old) (F.bytes files.old) (F.may_hold files.old) × (F.lacks_memory files.new → ⊥)) (F.fault_count files.old) (F.fault_count files.new) result }
 {
-    read_area(files, sizes, area, index)?;
-    for slot in 0..area.first_empty() {
-        copy_pair(files, sizes, area.pair(slot), room)?;
+    let most = chunks_at_once(sizes, room);
+    let mut at = 0;
+    while at < slots.len() {
+        let count = row_at(slots, at, most);
+        copy_row(files, sizes, slots[at], count as u32, room)?;
+        at += count as usize;
     }
     Ok(())
 }
 
-/// Copies back what the pairs of areas have, from one on and up to another.
+/// Copies back what the pairs of areas have, from one on and up to another, in the order of their old chunks.
 pub fn copy_areas<F: FileSet>(
     files: &mut F,
     sizes: Sizes,
     area: &mut Area,
+    slots: &mut [Pair],
     room: &mut [u8],
     from: u64,
     end: u64,
 ) -> Result<(), Stopped>
     requires chunk { area.old.chunk ≡ sizes.chunk }
-    requires room { length room.old ≡ 512 * sizes.chunk }
+    requires slots { (end - from) * (32 * sizes.chunk) ≤ length slots.old }
+    requires room { 512 * sizes.chunk ≤ length room.old }
     requires low { end ≤ sizes.store }
     ensures chunk { area.new.chunk ≡ sizes.chunk }
     ensures passes { (o c : List ℕ) (first : ℕ) → end ≤ length (pairs (begun sizes o c)) / (32 * sizes.chunk) + 1 → Rolls (begun sizes o c) first (F.is_known files.old) (F.bytes files.old) (F.may_hold files.old) → Passes (begun sizes o c) (F.moment files.old) (F.moment files.new) (F.left_since files.old) (F.left_since files.new) (F.is_known files.new) (F.bytes files.new) (F.may_hold files.new) }
@@ -153,8 +152,8 @@ pub fn copy_areas<F: FileSet>(
     ensures back { OnOk result ((o c : List ℕ) (first : ℕ) → end ≤ length (pairs (begun sizes o c)) / (32 * sizes.chunk) + 1 → Rolls (begun sizes o c) first (F.is_known files.old) (F.bytes files.old) (F.may_hold files.old) → AreBack (begun sizes o c) first (F.bytes files.new 0) (F.will_last files.new) (from * (32 * sizes.chunk)) (end * (32 * sizes.chunk))) }
     ensures cause { HasCause ((o : List ℕ) × (c : List ℕ) × (first : ℕ) × (end ≤ length (pairs (begun sizes o c)) / (32 * sizes.chunk) + 1) × Rolls (begun sizes o c) first (F.is_known files.old) (F.bytes files.old) (F.may_hold files.old) × (F.lacks_memory files.new → ⊥)) (F.fault_count files.old) (F.fault_count files.new) result }
 {
-    for index in from..end {
-        copy_area(files, sizes, area, room, index)?;
-    }
-    Ok(())
+    let count = read_slots(files, sizes, area, slots, from, end)?;
+    let taken = &mut slots[..count];
+    taken.sort_unstable_by_key(|pair| pair.old);
+    copy_slots(files, sizes, taken, room)
 }

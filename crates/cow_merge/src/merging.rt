@@ -13,6 +13,7 @@ use crate::{Sizes, Stopped};
 use cow_image::CowMap;
 use image::FileSet;
 use metadata_area::Area;
+use sector::Pair;
 use std::alloc::{AllocError, Global};
 
 /// Copies back what the pairs of areas have, and makes it last.
@@ -20,12 +21,14 @@ fn copy_batch<F: FileSet>(
     files: &mut F,
     sizes: Sizes,
     area: &mut Area,
+    slots: &mut [Pair],
     room: &mut [u8],
     from: u64,
     end: u64,
 ) -> Result<(), Stopped>
     requires chunk { area.old.chunk ≡ sizes.chunk }
-    requires room { length room.old ≡ 512 * sizes.chunk }
+    requires slots { (end - from) * (32 * sizes.chunk) ≤ length slots.old }
+    requires room { 512 * sizes.chunk ≤ length room.old }
     requires low { end ≤ sizes.store }
     requires order { from ≤ end }
     ensures chunk { area.new.chunk ≡ sizes.chunk }
@@ -34,7 +37,7 @@ fn copy_batch<F: FileSet>(
     ensures store { OnOk result ((o c : List ℕ) (first : ℕ) → first ≤ end → end ≤ length (pairs (begun sizes o c)) / (32 * sizes.chunk) + 1 → Rolls (begun sizes o c) first (F.is_known files.old) (F.bytes files.old) (F.may_hold files.old) → (s : ℕ) (v : List ℕ) → F.may_hold files.new 1 s v → F.may_hold files.old 1 s v) }
     ensures cause { HasCause ((o : List ℕ) × (c : List ℕ) × (first : ℕ) × (end ≤ length (pairs (begun sizes o c)) / (32 * sizes.chunk) + 1) × Rolls (begun sizes o c) first (F.is_known files.old) (F.bytes files.old) (F.may_hold files.old) × (F.lacks_memory files.new → ⊥)) (F.fault_count files.old) (F.fault_count files.new) result }
 {
-    copy_areas(files, sizes, area, room, from, end)?;
+    copy_areas(files, sizes, area, slots, room, from, end)?;
     files.sync(ORIGIN)?;
     Ok(())
 }
@@ -65,13 +68,15 @@ fn merge_areas<F: FileSet>(
     files: &mut F,
     sizes: Sizes,
     area: &mut Area,
+    slots: &mut [Pair],
     zeros: &[u8],
     room: &mut [u8],
     last: u64,
     step: u64,
 ) -> Result<(), Stopped>
     requires chunk { area.old.chunk ≡ sizes.chunk }
-    requires room { length room.old ≡ 512 * sizes.chunk }
+    requires slots { step * (32 * sizes.chunk) ≤ length slots.old }
+    requires room { 512 * sizes.chunk ≤ length room.old }
     requires zeros { zeros.now ≡ replicate (512 * sizes.chunk) 0 }
     requires low { last < sizes.store }
     requires step { 0 < step }
@@ -82,21 +87,27 @@ fn merge_areas<F: FileSet>(
     let mut end = last + 1;
     while 0 < end {
         let from = end.saturating_sub(step);
-        copy_batch(files, sizes, area, room, from, end)?;
+        copy_batch(files, sizes, area, slots, room, from, end)?;
         clear_batch(files, sizes, zeros, from, end)?;
         end = from;
     }
     Ok(())
 }
 
-/// Room for a merge: an area, as many zeros, and a chunk.
+/// Room for a merge: an area, the pairs of the areas whose copies are taken back at a time, as many zeros as an area has, and
+/// the copies of one call.
 #[derive(Drop)]
 pub struct Room {
     area: Area,
+    slots: Vec<Pair>,
+    /// How many areas are merged at a time.
+    step: u64,
     zeros: Vec<u8>,
     part: Vec<u8>,
+    ghost some: { 0 < step },
+    ghost are_slots: { step * (32 * area.chunk) ≤ length slots.items },
     ghost are_zeros: { zeros.items ≡ replicate (512 * area.chunk) 0 },
-    ghost is_chunk: { length part.items ≡ 512 * area.chunk },
+    ghost is_chunk: { 512 * area.chunk ≤ length part.items },
 }
 
 impl Room {
@@ -109,17 +120,29 @@ impl Room {
         let Ok(area) = Area::new(alloc, chunk) else {
             return Err(AllocError);
         };
+        let step = areas_at_once(chunk);
+        let slots = vec![in alloc; Pair { old: 0, new: 0 }; step as usize * (32 * chunk as usize)]?;
         let zeros = vec![in alloc; 0u8; 512 * chunk as usize]?;
-        let part = vec![in alloc; 0u8; 512 * chunk as usize]?;
-        Ok(Room { area, zeros, part })
+        let part = vec![in alloc; 0u8; (512 * chunk as usize).max(MOST_BYTES)]?;
+        Ok(Room {
+            area,
+            slots,
+            step,
+            zeros,
+            part,
+        })
     }
 }
+
+/// The bytes that a call copies, where a chunk has not more.
+const MOST_BYTES: usize = 1_048_576;
 
 /// The areas whose pairs are merged at a time, where a chunk has so many sectors: those of 64 MiB of copies, or one.
 fn areas_at_once(chunk: u32) -> u64
     requires some { 0 < chunk }
     requires allowed { chunk ≤ 1024 }
-    ensures { 0 < result }
+    ensures some { 0 < result }
+    ensures few { result ≤ 4096 }
 {
     let chunk = chunk as u64;
     (4096 / (chunk * chunk)).max(1)
@@ -146,14 +169,25 @@ pub fn merge<F: FileSet>(
         origin,
         store: map.size,
     };
-    let step = areas_at_once(map.chunk);
     let Room {
         mut area,
+        mut slots,
+        step,
         zeros,
         mut part,
     } = room;
+    let slots = slots.as_mut_slice();
     let zeros = zeros.as_slice();
     let part = part.as_mut_slice();
     settle(files)?;
-    merge_areas(files, sizes, &mut area, zeros, part, map.current, step)
+    merge_areas(
+        files,
+        sizes,
+        &mut area,
+        slots,
+        zeros,
+        part,
+        map.current,
+        step,
+    )
 }

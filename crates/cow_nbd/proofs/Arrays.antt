@@ -1,5 +1,5 @@
 -- Bytes of arrays.
-use Rattle.std.proofs.Common.{◌≡◌, ℕ, zero, suc, ◌+◌, ◌-◌, ◌*◌, ◌<◌, ◌≤◌, List, [], ◌++◌, length, take, drop, Option, None, Some, IfSome, refl, arith, ap, ◌∙◌, sym, subst, zero-add, drop_at, inl, inr}
+use Rattle.std.proofs.Common.{◌≡◌, ℕ, zero, suc, ◌+◌, ◌-◌, ◌*◌, ◌<◌, ◌≤◌, List, [], ◌++◌, length, take, drop, Option, None, Some, Bool, IfSome, refl, arith, ap, ◌∙◌, sym, subst, zero-add, drop_at, inl, inr}
 use Rattle.std.proofs.Math.Seq.{take-append_seam}
 use Rattle.std.proofs.lemmas.List.FromFn.{length-map-range_with_len}
 use Rattle.sector.specs.declared.pair.Pair.{Pair}
@@ -8,7 +8,7 @@ use Rattle.cow_image.specs.Shown.{shown}
 use Rattle.cow_image.specs.Fails.{ShownFails}
 use Rattle.cow_image.proofs.Exports.{shown_parts}
 use Rattle.cow_image.proofs.Fails.{shown_calm}
-use Rattle.cow_nbd.specs.Shows.{known_shown, known_at, arrays, FailsAt, FailsFresh, IsServedBy}
+use Rattle.cow_nbd.specs.Shows.{known_shown, known_at, arrays, FailsAt, FailsFresh, OrChanged, IsServedBy}
 use Rattle.nbd_server.proofs.Calm.{talk_calm}
 use Rattle.nbd_server.specs.Talk.{beginning}
 
@@ -78,6 +78,15 @@ fresh_fails o c size (suc k) at n (inl past) = inl past
 fresh_fails o c size (suc k) at n (inr fails) = inr (at, n, omega arith, omega arith, inr fails)
 
 -- the same session, whose reads of the origin alone may fail
-pub served_fresh : (o c : ℕ → ℕ → Type 0) (size : ℕ) (pairs : List Pair) (snapshot origin heard : List ℕ) (old new : Option (List ℕ)) → pairs ≡ [] → IsServedBy (FailsAt o c 128 pairs size) size snapshot origin heard old new → IsServedBy (FailsFresh o size) size snapshot origin heard old new
-served_fresh o c size pairs snapshot origin heard old new none (exports, are, said, turns, talk, written) =
-    (exports, are, said, turns, talk_calm exports (arrays snapshot origin) (FailsAt o c 128 pairs size) (FailsFresh o size) beginning heard said turns (λ k from count h. fresh_fails o c size k from count (subst (λ ps. FailsAt o c 128 ps size k from count) none h)) talk, written)
+pub served_fresh : (told : Bool) (changes : Type 0) (o c : ℕ → ℕ → Type 0) (size : ℕ) (pairs : List Pair) (snapshot origin heard : List ℕ) (old new : Option (List ℕ)) → pairs ≡ [] → IsServedBy (OrChanged told changes (FailsAt o c 128 pairs size)) size snapshot origin heard old new → IsServedBy (OrChanged told changes (FailsFresh o size)) size snapshot origin heard old new
+served_fresh told changes o c size pairs snapshot origin heard old new none (exports, are, said, turns, talk, written) = (
+  exports,
+  are,
+  said,
+  turns,
+  talk_calm exports (arrays snapshot origin) (OrChanged told changes (FailsAt o c 128 pairs size)) (OrChanged told changes (FailsFresh o size)) beginning heard said turns (λ k from count h. elim h [
+    | inl fails ↦ inl (fresh_fails o c size k from count (subst (λ ps. FailsAt o c 128 ps size k from count) none fails))
+    | inr changed ↦ inr changed
+  ]) talk,
+  written,
+)

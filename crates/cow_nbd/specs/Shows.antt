@@ -1,11 +1,11 @@
 -- To be believed: the two arrays that a server of a store shows, and what it says to a client.
-use Rattle.std.specs.Prelude.{◌≡◌, ℕ, zero, suc, ◌+◌, ◌*◌, ◌<◌, ◌≤◌, ◌⊎◌, List, [], ◌∷◌, ◌++◌, codes, Option, Some, None}
+use Rattle.std.specs.Prelude.{◌≡◌, ℕ, zero, suc, ◌+◌, ◌*◌, ◌<◌, ◌≤◌, ◌⊎◌, List, [], ◌∷◌, ◌++◌, codes, Option, Some, None, Bool, IsTrue}
 use Rattle.std.specs.Io.KnownBytes.{Appends}
 use Rattle.sector.specs.declared.pair.Pair.{Pair}
 use Rattle.cow_image.specs.Shown.{shown}
 use Rattle.cow_image.specs.Fails.{ShownFails, ReadFails}
-use Rattle.nbd_server.specs.Replies.{greeting}
-use Rattle.nbd_server.specs.declared.served.Export.{Export}
+use Rattle.nbd_messages.specs.Replies.{greeting}
+use Rattle.nbd_options.specs.declared.export.Export.{Export}
 use Rattle.nbd_server.specs.Talk.{Talk, Turn, beginning}
 
 -- the arrays, by their numbers: the snapshot's, and then the origin's
@@ -13,9 +13,10 @@ abbrev pub arrays : List ℕ → List ℕ → ℕ → List ℕ
 arrays snapshot origin zero = snapshot
 arrays snapshot origin (suc k) = origin
 
--- An export of this name, of so many sectors.
+-- An export of this name, of so many sectors. It is only read: of the flags, it has that there are flags, 1, that it is only read,
+-- 2, that it takes FLUSH, 4, and that several connections show the same bytes, 256. The lengths of requests are not told.
 abbrev pub IsExport : ℕ → List ℕ → Export → Type 0
-IsExport size name export = (export.name.now ≡ name) × (export.size ≡ 512 * size)
+IsExport size name export = (export.name.now ≡ name) × (export.size ≡ 512 * size) × (export.flags ≡ 263) × (export.blocks ≡ None)
 
 -- the two exports
 abbrev pub AreExports : ℕ → List Export → Type 0
@@ -47,3 +48,7 @@ known_shown chunk pairs size (Some origin) (Some store) = Some (shown chunk orig
 abbrev pub known_at : ℕ → List Pair → ℕ → Option (List ℕ) → Option (List ℕ) → ℕ → Option (List ℕ)
 known_at chunk pairs size origin store zero = known_shown chunk pairs size origin store
 known_at chunk pairs size origin store (suc k) = origin
+
+-- or where it is told, or may be told, that the images changed
+abbrev pub OrChanged : Bool → Type 0 → (ℕ → ℕ → ℕ → Type 0) → ℕ → ℕ → ℕ → Type 0
+OrChanged told may_change fails export at count = fails export at count ⊎ (IsTrue told ⊎ may_change)

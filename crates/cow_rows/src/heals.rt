@@ -111,6 +111,7 @@ fn each_flipped_bit_of_a_slot_gives_a_whole_file_and_a_list(rt: HostRuntime) -> 
             128,
             128,
             slots,
+            slots.len(),
             &mut sink,
         )?;
         let (shown, skipped) = plain(rt.alloc(), wanted_origin.as_slice(), cow.bytes.as_slice())?;

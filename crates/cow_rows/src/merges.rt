@@ -232,7 +232,7 @@ fn a_kernel_s_snapshot_is_stopped_anywhere(rt: HostRuntime) -> Result<(), Fail> 
             }
         }
     }
-    assert_eq!(rt; stops, 64);
+    assert_eq!(rt; stops, 40);
     Ok(())
 }
 
@@ -262,6 +262,6 @@ fn a_merge_goes_on_where_an_operation_failed(rt: HostRuntime) -> Result<(), Fail
             }
         }
     }
-    assert_eq!(rt; fails, 262);
+    assert_eq!(rt; fails, 106);
     Ok(())
 }

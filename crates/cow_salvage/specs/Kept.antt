@@ -1,6 +1,6 @@
 -- To be believed: what a salvage writes is said in these words.
 -- Which pairs of a damaged store are kept: this project's own rule.
-use Rattle.std.specs.Prelude.{◌==◌, ℕ, ◌+◌, ◌*◌, ◌||◌, List, [], ◌∷◌, ◌++◌, Option, Some, None, nat_le, nat_lt, if◌then◌else◌, fold}
+use Rattle.std.specs.Prelude.{◌==◌, ℕ, ◌+◌, ◌*◌, ◌||◌, List, [], ◌∷◌, ◌++◌, length, take, drop, Option, Some, None, nat_le, nat_lt, if◌then◌else◌, fold}
 use Rattle.sector.specs.declared.pair.Pair.{Pair}
 use Rattle.store_bytes.specs.Places.{is_area_place}
 use Rattle.cow_image.specs.declared.fault.Fault.{Fault}
@@ -38,3 +38,12 @@ sifted_more chunk origin size s next = sifted_by (why_skipped chunk origin size 
 -- The pairs of these slots in their order: those that lie inside and are apart from all that were kept before, and the others.
 abbrev pub sifted : ℕ → ℕ → ℕ → List Slot → Sifted
 sifted chunk origin size slots = fold (sifted_more chunk origin size) (sifted_as [] []) slots
+
+-- Of the pairs that are kept, those of so many slots in front: where no empty slot comes before these, they are the store's list.
+abbrev pub certain : ℕ → ℕ → ℕ → List Slot → ℕ → List Pair
+certain chunk origin size slots front = (sifted chunk origin size (take front slots)).kept
+
+-- And the others. They stand behind an empty slot: they may be of this list, whose slot before them was lost, or of an earlier
+-- one, as a merge leaves it behind its end. No byte of the store tells which.
+abbrev pub doubtful : ℕ → ℕ → ℕ → List Slot → ℕ → List Pair
+doubtful chunk origin size slots front = drop (length (certain chunk origin size slots front)) (sifted chunk origin size slots).kept

@@ -2,7 +2,7 @@
 -- The layers above a disk, as plain data, and what they do with an operation: a table of cases.
 -- Sources: the kernel's pages on dm-flakey and dm-dust. What a flush does, and that a write takes blocks off dust's
 -- list only where it succeeded, is this project's own choice.
-use Rattle.std.specs.Prelude.{zero, suc, ℕ, ◌+◌, ◌*◌, Bool, true, false, ◌||◌, ◌&&◌, not, if◌then◌else◌, nat_lt, Option, Some, None, List, [], ◌∷◌, filter}
+use Rattle.std.specs.Prelude.{zero, suc, ℕ, ◌+◌, ◌*◌, Bool, true, false, ◌||◌, ◌&&◌, not, if◌then◌else◌, nat_lt, nat_le, Option, Some, None, List, [], ◌∷◌, filter}
 use Rattle.std.specs.List.{list_any}
 use Rattle.std.specs.Option.{is_some}
 use Rattle.device.specs.declared.operation.Operation.{Operation}
@@ -32,9 +32,12 @@ pub data Layer : Type 0 where
   -- the operations that pass before one fails; none fails where there is no number
   Counted : Option ℕ → Layer
   -- a fuse: the writes and flushes that pass before it is blown; None: it is blown, and every operation fails, counted
-  TornDiskShape : Option ℕ → Layer
+  Tearing : Option ℕ → Layer
   -- no layer of its own: what lies beside the bytes that the layer above shows of the device below. It passes everything
   Window : Beside → Layer
+  -- a file: the ranges that were read ahead, each by its first sector and their number; and whether all that it answered is what a
+  -- file answers that keeps what is written. A read within one of the ranges passes, and any other fails. A write ends them all
+  ReadAhead : List (ℕ × ℕ) → Bool → Layer
 
 -- whether block number `block`, of `size` bytes, has a byte of these sectors
 abbrev pub touches : ℕ → ℕ → ℕ → ℕ → Bool
@@ -68,6 +71,10 @@ torn_disk_passes (Some zero) = false
 torn_disk_passes (Some (suc k)) = true
 torn_disk_passes None = false
 
+-- whether sectors lie within a range
+abbrev pub is_within : ℕ → ℕ → ℕ × ℕ → Bool
+is_within first count range = nat_le range.0 first && nat_le (first + count) (range.0 + range.1)
+
 -- what one layer does
 abbrev pub layer_fate : Layer → Operation → Fate
 layer_fate (Flaky moment up down features offset) op = if nat_lt moment up then Pass else unreliable_fate features op
@@ -76,10 +83,13 @@ layer_fate (Dusty sectors size enabled bad) (Writes first count) = Pass
 layer_fate (Dusty sectors size enabled bad) Flushes = Pass
 layer_fate Broken op = Fail
 layer_fate (Counted left) op = if counted_passes left then Pass else Fail
-layer_fate (TornDiskShape left) (Reads first count) = if is_some left then Pass else Fail
-layer_fate (TornDiskShape left) (Writes first count) = if torn_disk_passes left then Pass else Fail
-layer_fate (TornDiskShape left) Flushes = if torn_disk_passes left then Pass else Fail
+layer_fate (Tearing left) (Reads first count) = if is_some left then Pass else Fail
+layer_fate (Tearing left) (Writes first count) = if torn_disk_passes left then Pass else Fail
+layer_fate (Tearing left) Flushes = if torn_disk_passes left then Pass else Fail
 layer_fate (Window aside) op = Pass
+layer_fate (ReadAhead ranges kept) (Reads first count) = if list_any (is_within first count) ranges then Pass else Fail
+layer_fate (ReadAhead ranges kept) (Writes first count) = Pass
+layer_fate (ReadAhead ranges kept) Flushes = Pass
 
 -- the operation as it is passed on
 abbrev pub passed_on : Layer → Operation → Operation
@@ -114,8 +124,9 @@ is_passed Drop = false
 abbrev pub layer_after : Layer → Operation → Bool → Layer
 layer_after (Dusty sectors size enabled bad) (Writes first count) done = Dusty sectors size enabled (if enabled && done then filter (λ block. not (touches size first count block)) bad else bad)
 layer_after (Counted left) op done = Counted (counted_after left)
-layer_after (TornDiskShape left) (Writes first count) done = TornDiskShape (counted_after left)
-layer_after (TornDiskShape left) Flushes done = TornDiskShape (counted_after left)
+layer_after (Tearing left) (Writes first count) done = Tearing (counted_after left)
+layer_after (Tearing left) Flushes done = Tearing (counted_after left)
+layer_after (ReadAhead ranges kept) (Writes first count) done = ReadAhead [] kept
 layer_after l op done = l
 
 -- the layers after an operation
@@ -128,6 +139,7 @@ layers_after (l ∷ ls) op =
 -- whether a layer does all that it answers
 abbrev pub is_loud_layer : Layer → Bool
 is_loud_layer (Flaky moment up down features offset) = not features.drop_writes
+is_loud_layer (ReadAhead ranges kept) = kept
 is_loud_layer l = true
 
 -- whether all do

@@ -1,4 +1,6 @@
+pub mod Ahead
 pub mod Bare
+pub mod CanDoAhead
 pub mod Disk
 pub mod Laws
 pub mod Layers

@@ -149,7 +149,8 @@ pub trait Block {
     /// A stop may leave what was there at the last flush.
     ghost holds_durable: { (d : Self) (s : ℕ) → s < size d → may_hold d s (sector_at (durable d) s) };
 
-    /// A stop may leave no more than these two in a sector of a device without layers.
+    /// A stop may leave no more than these two in a sector of a device without layers. A device whose cache may write out any value
+    /// since the last flush shows a layer that passes everything.
     ghost holds_two: { (d : Self) → layers d ≡ [] → HoldsTwo (may_hold d) (contents d) (durable d) };
 
     /// A device without layers may have any bytes, and have done any number of operations, whatever it had at the last flush.

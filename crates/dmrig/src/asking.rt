@@ -1,8 +1,9 @@
 // The words of the command line.
-ghost use Rattle.std.specs.Prelude.{◌≡◌, ◌≤◌, IfOk, IfSome, map, option_map};
+ghost use Rattle.std.specs.Prelude.{◌≡◌, ◌≤◌, IfOk, IfSome, IsOkAnd, map, option_map};
 ghost use Rattle.std.specs.String.{string_bytes};
 ghost use Rattle.dmrig.specs.Wanted.{wanted_of, workers_by, is_name as is_name_by, file_wanted};
 
+use crate::help::NOTES;
 use clap::{Arg, ArgAction, Command, Error};
 use std::alloc::Global;
 
@@ -18,11 +19,6 @@ pub struct Asked<'a> {
     /// Whether it is told behind each line what is in flight, and which events are due.
     pub trace: bool,
 }
-
-/// What stands behind the options in the help.
-const NOTES: &str = "\
-    Each answer is written out before more input is waited for, so that a program, or a person, can talk with dmrig line by line.\n\
-    Exit status: 0; 1 where an answer began with err; 2 where words, file or output were wrong.";
 
 /// The number of workers that a word says.
 fn workers_in(word: &str) -> Option<u32>
@@ -122,6 +118,19 @@ pub fn words_ask<'a>(alloc: Global, words: &'a [String]) -> Result<Asked<'a>, Er
         numbers: matches.get_flag("numbers"),
         trace: matches.get_flag("trace"),
     })
+}
+
+/// What any words ask for, the first of which is the program's own name: a file's name is looked for first (`file_asks`), and else
+/// `words_ask` reads them.
+pub fn any_ask<'a>(alloc: Global, words: &'a [String]) -> Result<Asked<'a>, Error>
+    ensures file { IfSome (file_wanted (map string_bytes words.now)) (λ wanted. IsOkAnd result (λ asked. wanted_of asked ≡ wanted)) }
+    ensures some { IfOk result (λ asked. 1 ≤ asked.workers) }
+    ensures few { IfOk result (λ asked. asked.workers ≤ 4) }
+{
+    match file_asks(words) {
+        Some(asked) => Ok(asked),
+        None => words_ask(alloc, words),
+    }
 }
 
 #[cfg(test)]
@@ -246,6 +255,7 @@ mod tests {
         for (word, kind, said) in [
             ("--help", ErrorKind::DisplayHelp, "Usage: dmrig"),
             ("-h", ErrorKind::DisplayHelp, "--numbers"),
+            ("--help", ErrorKind::DisplayHelp, "checkpoint VOL"),
             ("--version", ErrorKind::DisplayVersion, "dmrig 1\n"),
             ("-V", ErrorKind::DisplayVersion, "dmrig 1\n"),
         ] {

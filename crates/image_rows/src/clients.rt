@@ -1,6 +1,6 @@
 // What clients said, served over the images of a store that a Linux kernel wrote.
 
-use crate::failing_reads::is_told;
+use crate::failing_reads::{is_changed, is_told};
 use crate::recordings::NAMES;
 use crate::session::{Pictured, judge};
 use std::io::Write;
@@ -37,6 +37,10 @@ pub fn are_served<W: Write>(rt: &(impl Files + AllocGlobal), writer: &mut W) -> 
     }
     if !is_told(rt.alloc(), &images)? {
         writeln!(writer, "a read that fails differs")?;
+        well = false;
+    }
+    if !is_changed(rt.alloc(), &images)? {
+        writeln!(writer, "a read of images that changed differs")?;
         well = false;
     }
     Ok(well)

@@ -1,7 +1,7 @@
 // A client is served, and what it is answered is judged.
 
 use cow_image::{Told, read_store};
-use cow_nbd::serve_written;
+use cow_nbd::{Still, serve_written};
 use image::MemImage;
 use std::alloc::Global;
 use std::io;
@@ -58,7 +58,16 @@ fn said(alloc: Global, images: &Pictured, heard: &[u8]) -> io::Result<Vec<u8>> {
     };
     let mut reader = heard;
     let mut writer = Vec::new(alloc);
-    match serve_written(alloc, origin, cow, map, SECTORS, &mut reader, &mut writer) {
+    match serve_written(
+        alloc,
+        origin,
+        cow,
+        map,
+        SECTORS,
+        &mut Still,
+        &mut reader,
+        &mut writer,
+    ) {
         Ok(()) => Ok(writer),
         Err(_) => Err(io::ErrorKind::Other.into()),
     }

@@ -8,7 +8,7 @@ use Rattle.device.specs.declared.mem_disk.MemDisk.{MemDisk}
 use Rattle.device.specs.declared.operation.Operation.{Operation}
 use Rattle.device.specs.declared.operation.Operation.TheVariants.{Reads, Writes, Flushes}
 use Rattle.device.specs.Disk.{disk_contents}
-use Rattle.device.specs.Layers.{Layer, Flaky, Dusty, Broken, Counted, TornDiskShape, Window, layer_fate, layer_after, layers_after, passed_on, fate, is_answered, is_passed}
+use Rattle.device.specs.Layers.{Layer, Flaky, Dusty, Broken, Counted, Tearing, Window, ReadAhead, layer_fate, layer_after, layers_after, passed_on, fate, is_answered, is_passed}
 use Rattle.layers.specs.declared.stack.Stack.{Stack, Disk, Flakey', Dust', Error}
 use Rattle.layers.specs.declared.flakey.Flakey.{Flakey}
 use Rattle.layers.specs.declared.dust.Dust.{Dust}
@@ -111,10 +111,13 @@ widened_after (Dusty sectors size enabled bad) (Writes first count) done bytes =
 widened_after (Dusty sectors size enabled bad) Flushes done bytes = refl
 widened_after Broken op done bytes = refl
 widened_after (Counted left) op done bytes = refl
-widened_after (TornDiskShape left) (Reads first count) done bytes = refl
-widened_after (TornDiskShape left) (Writes first count) done bytes = refl
-widened_after (TornDiskShape left) Flushes done bytes = refl
+widened_after (Tearing left) (Reads first count) done bytes = refl
+widened_after (Tearing left) (Writes first count) done bytes = refl
+widened_after (Tearing left) Flushes done bytes = refl
 widened_after (Window aside) op done bytes = refl
+widened_after (ReadAhead ranges kept) (Reads first count) done bytes = refl
+widened_after (ReadAhead ranges kept) (Writes first count) done bytes = refl
+widened_after (ReadAhead ranges kept) Flushes done bytes = refl
 
 -- the bytes at the bottom, where the layers may or may not be others that give the same
 either_raw : (b : Bool) (xs ys : List Layer) (bytes : List ℕ) → raw_of xs bytes ≡ raw_of ys bytes → raw_of (if b then xs else ys) bytes ≡ raw_of ys bytes
@@ -134,8 +137,9 @@ widened_ticked n (Flaky moment up down features offset) bytes = refl
 widened_ticked n (Dusty sectors size enabled bad) bytes = refl
 widened_ticked n Broken bytes = refl
 widened_ticked n (Counted left) bytes = refl
-widened_ticked n (TornDiskShape left) bytes = refl
+widened_ticked n (Tearing left) bytes = refl
 widened_ticked n (Window aside) bytes = refl
+widened_ticked n (ReadAhead ranges kept) bytes = refl
 
 -- the time leaves what lies beside all windows
 pub raw_ticked : (n : ℕ) (ls : List Layer) (bytes : List ℕ) → raw_of (layers_ticked n ls) bytes ≡ raw_of ls bytes

@@ -1,7 +1,7 @@
 -- Laws: neither the time nor a message makes a stack drop writes, nor stops one that does.
 use Rattle.std.specs.Prelude.{◌≡◌, ℕ, ◌-◌, ◌==◌, Bool, true, false, ◌&&◌, List, [], ◌∷◌, if◌then◌else◌, refl}
 use Rattle.std.proofs.Common.{ap, ◌∙◌, subst}
-use Rattle.device.specs.Layers.{Layer, Flaky, Dusty, Broken, Counted, TornDiskShape, Window, is_loud, is_loud_layer}
+use Rattle.device.specs.Layers.{Layer, Flaky, Dusty, Broken, Counted, Tearing, Window, ReadAhead, is_loud, is_loud_layer}
 use Rattle.layers.specs.declared.message.Message.{Message}
 use Rattle.layers.specs.declared.message.Message.TheVariants.{AddBadBlock, RemoveBadBlock, QueryBlock, CountBadBlocks, ClearBadBlocks, Enable, Disable}
 use Rattle.layers.specs.declared.message.Answer.{Answer}
@@ -13,8 +13,9 @@ loud_layer_ticked n (Flaky moment up down features offset) = refl
 loud_layer_ticked n (Dusty sectors size enabled bad) = refl
 loud_layer_ticked n Broken = refl
 loud_layer_ticked n (Counted left) = refl
-loud_layer_ticked n (TornDiskShape left) = refl
+loud_layer_ticked n (Tearing left) = refl
 loud_layer_ticked n (Window aside) = refl
+loud_layer_ticked n (ReadAhead ranges kept) = refl
 
 -- the time
 pub loud_ticked : (n : ℕ) (ls : List Layer) → is_loud (layers_ticked n ls) ≡ is_loud ls
@@ -49,8 +50,9 @@ layer_loud (Flaky moment up down features offset) m = tt
 layer_loud (Dusty sectors size enabled bad) m = dust_loud sectors size enabled bad m
 layer_loud Broken m = tt
 layer_loud (Counted left) m = tt
-layer_loud (TornDiskShape left) m = tt
+layer_loud (Tearing left) m = tt
 layer_loud (Window aside) m = tt
+layer_loud (ReadAhead ranges kept) m = tt
 
 over_loud : (l : Layer) (ls : List Layer) (t : Told Layer) → AsLoudLayer (is_loud_layer l) t → AsLoud (is_loud (l ∷ ls)) (told_with (λ n. n ∷ ls) t)
 over_loud l ls (Refused r) h = tt
@@ -71,7 +73,8 @@ told_loud (Flaky moment up down features offset ∷ ls) d m = at_loud (d == 0) (
 told_loud (Dusty sectors size enabled bad ∷ ls) d m = at_loud (d == 0) (Dusty sectors size enabled bad) ls m (told ls (d - 1) m) (told_loud ls (d - 1) m)
 told_loud (Broken ∷ ls) d m = at_loud (d == 0) Broken ls m (told ls (d - 1) m) (told_loud ls (d - 1) m)
 told_loud (Counted left ∷ ls) d m = at_loud (d == 0) (Counted left) ls m (told ls (d - 1) m) (told_loud ls (d - 1) m)
-told_loud (TornDiskShape left ∷ ls) d m = at_loud (d == 0) (TornDiskShape left) ls m (told ls (d - 1) m) (told_loud ls (d - 1) m)
+told_loud (Tearing left ∷ ls) d m = at_loud (d == 0) (Tearing left) ls m (told ls (d - 1) m) (told_loud ls (d - 1) m)
+told_loud (ReadAhead ranges kept ∷ ls) d m = at_loud (d == 0) (ReadAhead ranges kept) ls m (told ls (d - 1) m) (told_loud ls (d - 1) m)
 
 -- a message
 pub loud_told : (ls : List Layer) (d : ℕ) (m : Message) (a : Answer) (ns : List Layer) → told ls d m ≡ Answered a ns → is_loud ns ≡ is_loud ls

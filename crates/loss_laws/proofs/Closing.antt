@@ -1,8 +1,10 @@
 -- A flush closes the sectors that every content takes from the device that was flushed: no fact of the volume is needed.
-use Rattle.std.proofs.Common.{◌≡◌, ◌≢◌, ℕ, ◌*◌, ◌/◌, ◌<◌, List, length, arith, refl, ap, ◌∙◌, sym}
+use Rattle.std.proofs.Common.{◌≡◌, ◌≢◌, ℕ, ◌*◌, ◌/◌, ◌<◌, List, length, take, arith, refl, ap, ◌∙◌, sym}
 use Rattle.std.specs.Prelude.{Option, Some, None, true, false}
+use Rattle.std.proofs.Math.Seq.{take-length}
 use Rattle.std.proofs.lemmas.List.{ext_get_or}
 use Rattle.sector.specs.Bytes.{sector_at}
+use Rattle.sector.specs.declared.pair.Pair.{Pair}
 use Rattle.store_bytes.specs.Pairs.{pairs_of}
 use Rattle.store_bytes.specs.Picture.{place_of, picture}
 use Rattle.store_bytes.proofs.Pictures.{length-picture}
@@ -10,6 +12,7 @@ use Rattle.stop_laws.specs.Stop.{MayLeave}
 use Rattle.stop_laws.specs.Firm.{IsFirm}
 use Rattle.stop_laws.specs.Again.{IsOpen}
 use Rattle.loss_laws.specs.Closing.{Closes}
+use Rattle.loss_laws.specs.Kept.{Kept, IsThere, SnapLasts}
 use Rattle.loss_laws.proofs.Parts.{byte_same_sector, from_bytes, picture_byte}
 use Rattle.stop_laws.proofs.Open.{sector_plain}
 
@@ -41,3 +44,19 @@ pub both_close : (chunk sectors size : ℕ) (oh sh : ℕ → List ℕ → Type 0
 both_close chunk sectors size oh sh o c lo lc firm_o firm_s s v shown =
     shown.is ∙ ap (λ z. sector_at (picture chunk shown.origin z) s) (firm_same sh c shown.store size lc.whole firm_s shown.store_left)
     ∙ ap (λ z. sector_at (picture chunk z c) s) (firm_same oh o shown.origin sectors lo.whole firm_o shown.origin_left)
+
+-- A live snapshot whose store was flushed, all of whose pairs are then surely in its list: in no sector at all is a value open but
+-- the present one.
+pub snap_closes_all : (oh sh : ℕ → List ℕ → Type 0) (o c : List ℕ) (ready : Pair → Type 0) (v : Kept) → IsThere oh sh o c ready v → SnapLasts oh sh o c ready v → v.sure ≡ length v.pairs → IsFirm sh c v.size
+    → (s : ℕ) (x : List ℕ) → s < v.sectors → IsOpen v.chunk oh sh v.sectors v.size s x → x ≡ sector_at (picture v.chunk o c) s
+snap_closes_all oh sh o c ready v t h sure firm s x lt shown =
+    shown.is ∙ ap (λ z. sector_at (picture v.chunk shown.origin z) s) (firm_same sh c shown.store v.size t.store_now.whole firm shown.store_left)
+    ∙ by (place_of v.pairs (s / v.chunk)) refl
+  where
+    by : (p : Option ℕ) → place_of v.pairs (s / v.chunk) ≡ p → sector_at (picture v.chunk shown.origin c) s ≡ sector_at (picture v.chunk o c) s
+    by (Some n) at = from_bytes (picture v.chunk shown.origin c) (picture v.chunk o c) s s v.sectors v.sectors (length-picture v.chunk shown.origin c ∙ shown.origin_left.whole) (length-picture v.chunk o c ∙ t.disk_now.whole) lt lt
+        (λ r small. picture_byte v.chunk v.sectors s r shown.origin c v.pairs (Some n) t.some shown.origin_left.whole lt small t.listed at ∙ sym (picture_byte v.chunk v.sectors s r o c v.pairs (Some n) t.some t.disk_now.whole lt small t.listed at))
+    by None at =
+        sector_plain v.chunk v.sectors s shown.origin c v.pairs t.some shown.origin_left.whole lt t.listed at
+        ∙ h.disk s lt (ap (λ z. place_of z (s / v.chunk)) (ap (λ k. take k v.pairs) sure ∙ take-length v.pairs) ∙ at) (sector_at shown.origin s) (shown.origin_left.each s lt)
+        ∙ sym (sector_plain v.chunk v.sectors s o c v.pairs t.some t.disk_now.whole lt t.listed at)

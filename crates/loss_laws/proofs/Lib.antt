@@ -17,3 +17,5 @@ pub mod Premises
 pub mod Slots
 pub mod Closing
 pub mod OnDevices
+pub mod StaysOut
+pub mod Fewer

@@ -10,7 +10,8 @@
 //!
 //! The laws are the contracts of functions that do nothing, one for each call: whatever a stop leaves is loaded again, and shows in
 //! each sector a value that was open before the call or that it gives; and the invariant holds again after it. Most calls are
-//! instances of one law (`specs/Calm`). A flush of one of two devices closes the sectors that every content takes from it.
+//! instances of one law (`specs/Calm`). A flush of one of two devices closes the sectors that every content takes from it, and
+//! a flush of a snapshot's store its whole array.
 //! `proofs/Clauses` turns what the laws say into the clauses of a stop (`stop_laws/specs/Clauses`). It stands on `stop_laws`;
 //! `volume` keeps the order of these operations (a copy before its pair, an area before its publication, the origin before a
 //! merge's commit), gives the laws their premises from what its own calls say, and keeps the two invariants in its own.
@@ -20,6 +21,6 @@ mod closed;
 mod merged;
 mod saved;
 
-pub use closed::{flush_of_origin, flush_of_store};
+pub use closed::{flush_of_origin, flush_of_snapshot, flush_of_store, stays_out};
 pub use merged::{begin, clearing, disk_write, finish, merge_flushes, place_write};
 pub use saved::{attach, calm, calm_calls, commit, flush};

@@ -7,6 +7,7 @@
 //! merge fail. No call needs memory.
 #![tactic(auto)]
 
+mod ahead;
 mod committing;
 mod copying;
 mod due;

@@ -1,11 +1,11 @@
 -- What may fail later might before.
 use Rattle.std.proofs.Common.{◌≡◌, ℕ, ◌++◌, List, [], ◌∷◌, Option, None, Some}
-use Rattle.nbd_server.specs.declared.request.Request.{Request}
-use Rattle.nbd_server.specs.declared.served.Export.{Export}
+use Rattle.nbd_messages.specs.declared.request.Request.{Request}
+use Rattle.nbd_options.specs.declared.export.Export.{Export}
 use Rattle.nbd_server.specs.declared.served.Fault.{Fault}
-use Rattle.nbd_server.specs.declared.session.Session.{Session}
-use Rattle.nbd_server.specs.declared.session.Stage.{Stage}
-use Rattle.nbd_server.specs.declared.session.Stage.TheVariants.{Opening, Haggling, Serving, Over}
+use Rattle.nbd_options.specs.declared.session.Session.{Session}
+use Rattle.nbd_options.specs.declared.session.Stage.{Stage}
+use Rattle.nbd_options.specs.declared.session.Stage.TheVariants.{Opening, Haggling, Serving, Over}
 use Rattle.nbd_server.specs.Replied.{HasCause}
 use Rattle.nbd_server.specs.Talk.{Talk, Turn, IsCaused, reaction}
 use Rattle.nbd_server.specs.Turns.{IsTurn}

@@ -1,8 +1,8 @@
 -- What is known of results, and of an error in place of a read's bytes.
 use Rattle.std.proofs.Common.{◌≡◌, ℕ, ◌++◌, Bool, true, false, List, [], Ok, Err, OnOk, IfOk, MatchBool, ap, ◌∙◌}
 use Rattle.std.specs.Prelude.{Result}
-use Rattle.nbd_server.specs.declared.request.Request.{Request}
-use Rattle.nbd_server.specs.Replied.{error_reply}
+use Rattle.nbd_messages.specs.declared.request.Request.{Request}
+use Rattle.nbd_messages.specs.Reading.{error_reply}
 
 -- an error after nothing
 pub error_alone : (old new : List ℕ) (s : Bool) (n m : ℕ) (req : Request) → new ≡ old ++ error_reply s n req → old ≡ [] → n ≡ m → new ≡ error_reply s m req

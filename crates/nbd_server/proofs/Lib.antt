@@ -2,9 +2,6 @@ pub mod Hears
 pub mod Wholes
 pub mod SoFar
 pub mod OneAnswer
-pub mod Queries
 pub mod Blanks
 pub mod Errors
 pub mod Calm
-pub mod Lengths
-pub mod Fronts

@@ -1,18 +1,18 @@
 -- What a client sends has one answer.
 use Rattle.std.proofs.Common.{◌≡◌, ℕ, List, [], ◌∷◌, ◌++◌, Option, None, Some, refl, ap, ◌∙◌, sym, subst}
 use Rattle.std.proofs.lemmas.List.{append_cancel_left}
-use Rattle.nbd_server.specs.declared.served.Export.{Export}
+use Rattle.nbd_options.specs.declared.export.Export.{Export}
 use Rattle.nbd_server.specs.declared.served.Fault.{Fault}
 use Rattle.nbd_server.specs.declared.served.Fault.TheVariants.{Io, NoMemory}
-use Rattle.nbd_server.specs.declared.session.Session.{Session}
-use Rattle.nbd_server.specs.declared.session.Stage.{Stage}
-use Rattle.nbd_server.specs.declared.session.Stage.TheVariants.{Opening, Haggling, Serving, Over}
-use Rattle.nbd_server.specs.Haggled.{Reaction}
+use Rattle.nbd_options.specs.declared.session.Session.{Session}
+use Rattle.nbd_options.specs.declared.session.Stage.{Stage}
+use Rattle.nbd_options.specs.declared.session.Stage.TheVariants.{Opening, Haggling, Serving, Over}
+use Rattle.nbd_options.specs.Haggled.{Reaction}
 use Rattle.nbd_server.specs.Talk.{Talk, Turn, HaveMemory, NoneFails, NoneIsWhole, IsWhole, IsCaused, reaction}
 use Rattle.nbd_server.proofs.Wholes.{one_message}
 
 -- no fault without a cause
-no_fault_at : (may_fail : ℕ → ℕ → ℕ → Type 0) (export : ℕ) (fault : Option Fault) (request : Rattle.nbd_server.specs.declared.request.Request.Request) → NoneFails may_fail → Rattle.nbd_server.specs.Replied.HasCause may_fail export fault request → (fault ≡ Some NoMemory → ⊥) → fault ≡ None
+no_fault_at : (may_fail : ℕ → ℕ → ℕ → Type 0) (export : ℕ) (fault : Option Fault) (request : Rattle.nbd_messages.specs.declared.request.Request.Request) → NoneFails may_fail → Rattle.nbd_server.specs.Replied.HasCause may_fail export fault request → (fault ≡ Some NoMemory → ⊥) → fault ≡ None
 no_fault_at may_fail export None request never cause memory = refl
 no_fault_at may_fail export (Some Io) request never cause memory = let (at, n, from, to, fails) = cause refl in absurd (never export at n fails)
 no_fault_at may_fail export (Some NoMemory) request never cause memory = absurd (memory refl)

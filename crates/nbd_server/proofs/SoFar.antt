@@ -2,9 +2,9 @@
 use Rattle.std.proofs.Common.{◌≡◌, ℕ, List, [], ◌∷◌, ◌++◌, Option, None, Some, IfSome, refl, ap, ◌∙◌, sym, subst, append_assoc, append-nil}
 use Rattle.std.specs.Io.KnownBytes.{Consumes, Appends}
 use Rattle.std.proofs.KnownBytes.{Appends-trans}
-use Rattle.nbd_server.specs.Replies.{greeting}
-use Rattle.nbd_server.specs.declared.served.Export.{Export}
-use Rattle.nbd_server.specs.declared.session.Session.{Session}
+use Rattle.nbd_messages.specs.Replies.{greeting}
+use Rattle.nbd_options.specs.declared.export.Export.{Export}
+use Rattle.nbd_options.specs.declared.session.Session.{Session}
 use Rattle.nbd_server.specs.Talk.{Talk, Turn, NoneIsWhole, AreArrays, beginning}
 use Rattle.nbd_server.specs.Turns.{IsTurn, IsEnd}
 

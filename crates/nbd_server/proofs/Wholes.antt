@@ -3,19 +3,20 @@ use Rattle.std.proofs.Common.{◌≡◌, ℕ, ◌+◌, ◌<◌, ◌≤◌, List,
 use Rattle.std.proofs.Math.Seq.{take-append_seam}
 use Rattle.std.specs.Io.KnownBytes.{Consumes}
 use Rattle.std.proofs.KnownBytes.{Consumes-trans}
-use Rattle.nbd_server.specs.Requests.{request_in, asked_in}
-use Rattle.nbd_server.specs.declared.asked.Asked.{Asked}
-use Rattle.nbd_server.specs.declared.request.Request.{Request}
-use Rattle.nbd_server.proofs.Fronts.{asked_front, request_front}
-use Rattle.nbd_server.specs.declared.served.Export.{Export}
+use Rattle.nbd_messages.specs.Requests.{request_in, asked_in}
+use Rattle.nbd_messages.specs.declared.asked.Asked.{Asked}
+use Rattle.nbd_messages.specs.declared.request.Request.{Request}
+use Rattle.nbd_messages.proofs.Fronts.{asked_front, request_front}
+use Rattle.nbd_options.specs.declared.export.Export.{Export}
 use Rattle.nbd_server.specs.declared.served.Fault.{Fault}
-use Rattle.nbd_server.specs.declared.session.Place.{Place}
-use Rattle.nbd_server.specs.declared.session.Stage.{Stage}
-use Rattle.nbd_server.specs.declared.session.Stage.TheVariants.{Opening, Haggling, Serving, Over}
-use Rattle.nbd_server.specs.declared.session.Session.{Session}
+use Rattle.nbd_options.specs.declared.session.Place.{Place}
+use Rattle.nbd_options.specs.declared.session.Stage.{Stage}
+use Rattle.nbd_options.specs.declared.session.Stage.TheVariants.{Opening, Haggling, Serving, Over}
+use Rattle.nbd_options.specs.declared.session.Session.{Session}
 use Rattle.nbd_server.specs.Heard.{IsShort, IsRead}
-use Rattle.nbd_server.specs.Haggled.{IsReaction, Reaction, haggled_any}
-use Rattle.nbd_server.specs.Talk.{IsWhole, NoneIsWhole, IsCaused, AreArrays, payload, opened, reaction_at, option_reaction, request_reaction}
+use Rattle.nbd_options.specs.Haggled.{IsReaction, Reaction, haggled_any}
+use Rattle.nbd_messages.specs.Writing.{payload}
+use Rattle.nbd_server.specs.Talk.{IsWhole, NoneIsWhole, IsCaused, AreArrays, opened, reaction_at, option_reaction, request_reaction}
 use Rattle.nbd_server.specs.Turns.{IsTurn, IsOpened, IsEnd, IsAsked, IsRequested, IsHaggledFor, IsReplied}
 
 -- two headers at the front of what is heard are one

@@ -1,9 +1,5 @@
 pub mod Heard
 pub mod Blocks
 pub mod Replied
-pub mod Haggled
 pub mod Talk
 pub mod Turns
-pub mod Layout
-pub mod Requests
-pub mod Replies

@@ -2,10 +2,11 @@
 -- chunk message", "Request types", "Error values". Which requests are served is this project's choice where that page leaves
 -- it open: flags that were not offered and lengths over 32 MiB are invalid.
 use Rattle.std.specs.Prelude.{◌≡◌, ◌==◌, ℕ, ◌+◌, ◌≤◌, Bool, true, false, List, [], ◌++◌, take, drop, nat_lt, Option, Some, None, if◌then◌else◌}
-use Rattle.nbd_server.specs.Replies.{simple_reply, bare_chunk, error_chunk, data_front, state_chunk}
-use Rattle.nbd_server.specs.declared.command.Command.{Command}
-use Rattle.nbd_server.specs.declared.command.Command.TheVariants.{Read, Write, Disconnect, Flush, Trim, WriteZeroes, BlockStatus, Other}
-use Rattle.nbd_server.specs.declared.request.Request.{Request}
+use Rattle.nbd_messages.specs.Reading.{data_start, error_reply}
+use Rattle.nbd_messages.specs.Replies.{simple_reply, state_chunk}
+use Rattle.nbd_messages.specs.declared.command.Command.{Command}
+use Rattle.nbd_messages.specs.declared.command.Command.TheVariants.{Read, Write, Disconnect, Flush, Trim, WriteZeroes, BlockStatus, Other}
+use Rattle.nbd_messages.specs.declared.request.Request.{Request}
 use Rattle.nbd_server.specs.Blocks.{asked_bytes, first_kind, first_alike, state_of}
 use Rattle.nbd_server.specs.declared.served.Fault.{Fault}
 use Rattle.nbd_server.specs.declared.served.Fault.TheVariants.{Io, NoMemory}
@@ -32,21 +33,9 @@ is_invalid_read size request =
     if nat_lt longest request.length then true else
     nat_lt size (request.offset + request.length)
 
--- what stands before a read's bytes: the front of a simple or of a structured reply, of which there is none without bytes
-abbrev pub data_start : Bool → Request → List ℕ
-data_start false request = simple_reply 0 request.cookie
-data_start true request =
-    if request.length == 0 then bare_chunk request.cookie else
-    data_front request.cookie request.offset request.length
-
 -- a read's bytes in a reply
 abbrev pub data_reply : Bool → List ℕ → Request → List ℕ
 data_reply structured bytes request = data_start structured request ++ take request.length (drop request.offset bytes)
-
--- an error in place of a read's bytes
-abbrev pub error_reply : Bool → ℕ → Request → List ℕ
-error_reply false error request = simple_reply error request.cookie
-error_reply true error request = error_chunk error request.cookie
 
 -- what a good read is answered: the bytes, or the fault of what is served
 abbrev pub given_reply : Bool → Option Fault → List ℕ → Request → List ℕ

@@ -1,35 +1,22 @@
 -- To be believed: a whole session with a client, by doc/proto.md of the NBD project: "Newstyle negotiation", "Option
 -- haggling", "Transmission". What a client sends is a list of messages, and each is answered before the next is read.
 use Rattle.std.specs.Prelude.{◌≡◌, ◌==◌, ℕ, ◌+◌, ◌<◌, Bool, true, false, List, [], ◌∷◌, ◌++◌, length, drop, nat_le, Option, Some, None, ⊤, if◌then◌else◌}
-use Rattle.nbd_server.specs.Layout.{number_at}
-use Rattle.nbd_server.specs.Requests.{request_in, asked_in}
-use Rattle.nbd_server.specs.declared.asked.Asked.{Asked}
-use Rattle.nbd_server.specs.declared.command.Command.{Command}
-use Rattle.nbd_server.specs.declared.command.Command.TheVariants.{Read, Write, Disconnect, Flush, Trim, WriteZeroes, BlockStatus, Other}
-use Rattle.nbd_server.specs.declared.request.Request.{Request}
-use Rattle.nbd_server.specs.declared.served.Export.{Export}
+use Rattle.nbd_messages.specs.Layout.{number_at}
+use Rattle.nbd_messages.specs.Requests.{request_in, asked_in}
+use Rattle.nbd_messages.specs.declared.asked.Asked.{Asked}
+use Rattle.nbd_messages.specs.declared.command.Command.{Command}
+use Rattle.nbd_messages.specs.declared.command.Command.TheVariants.{Read, Write, Disconnect, Flush, Trim, WriteZeroes, BlockStatus, Other}
+use Rattle.nbd_messages.specs.declared.request.Request.{Request}
+use Rattle.nbd_options.specs.declared.export.Export.{Export}
 use Rattle.nbd_server.specs.declared.served.Fault.{Fault}
 use Rattle.nbd_server.specs.declared.served.Fault.TheVariants.{Io, NoMemory}
-use Rattle.nbd_server.specs.declared.session.Place.{Place}
-use Rattle.nbd_server.specs.declared.session.Stage.{Stage}
-use Rattle.nbd_server.specs.declared.session.Stage.TheVariants.{Opening, Haggling, Serving, Over}
-use Rattle.nbd_server.specs.declared.session.Session.{Session}
-use Rattle.nbd_server.specs.Haggled.{Reaction, moved, haggled_any}
+use Rattle.nbd_options.specs.declared.session.Place.{Place}
+use Rattle.nbd_options.specs.declared.session.Stage.{Stage}
+use Rattle.nbd_options.specs.declared.session.Stage.TheVariants.{Opening, Haggling, Serving, Over}
+use Rattle.nbd_options.specs.declared.session.Session.{Session}
+use Rattle.nbd_messages.specs.Writing.{payload}
+use Rattle.nbd_options.specs.Haggled.{Reaction, moved, haggled_any}
 use Rattle.nbd_server.specs.Replied.{reply_to, HasCause}
-
--- how many bytes follow a request's header: those that are to be written
-abbrev pub payload_by : Command → ℕ → ℕ
-payload_by Read length = 0
-payload_by Write length = length
-payload_by Disconnect length = 0
-payload_by Flush length = 0
-payload_by Trim length = 0
-payload_by WriteZeroes length = 0
-payload_by BlockStatus length = 0
-payload_by Other length = 0
-
-abbrev pub payload : Request → ℕ
-payload request = payload_by request.command request.length
 
 -- Bytes that are one whole message: first the client's flags, of which there are two; then options with their data; then
 -- requests, a WRITE with its bytes; and none once a session is over.

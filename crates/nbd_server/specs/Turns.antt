@@ -1,15 +1,15 @@
 -- One message of a session, as it is read and answered.
 use Rattle.std.specs.Prelude.{◌≡◌, ℕ, ◌+◌, List, length, Option, Some, IfSome}
 use Rattle.std.specs.Io.KnownBytes.{Consumes}
-use Rattle.nbd_server.specs.declared.served.Export.{Export}
+use Rattle.nbd_options.specs.declared.export.Export.{Export}
 use Rattle.nbd_server.specs.declared.served.Fault.{Fault}
-use Rattle.nbd_server.specs.declared.session.Stage.TheVariants.{Opening}
-use Rattle.nbd_server.specs.declared.session.Session.{Session}
-use Rattle.nbd_server.specs.Requests.{asked_in, request_in}
-use Rattle.nbd_server.specs.declared.asked.Asked.{Asked}
-use Rattle.nbd_server.specs.declared.request.Request.{Request}
-use Rattle.nbd_server.specs.declared.session.Place.{Place}
-use Rattle.nbd_server.specs.Haggled.{IsReaction, haggled_any}
+use Rattle.nbd_options.specs.declared.session.Stage.TheVariants.{Opening}
+use Rattle.nbd_options.specs.declared.session.Session.{Session}
+use Rattle.nbd_messages.specs.Requests.{asked_in, request_in}
+use Rattle.nbd_messages.specs.declared.asked.Asked.{Asked}
+use Rattle.nbd_messages.specs.declared.request.Request.{Request}
+use Rattle.nbd_options.specs.declared.session.Place.{Place}
+use Rattle.nbd_options.specs.Haggled.{IsReaction, haggled_any}
 use Rattle.nbd_server.specs.Replied.{reply_to, HasCause}
 use Rattle.nbd_server.specs.Talk.{IsWhole, NoneIsWhole, IsCaused, is_chosen, opened, reaction, served}
 

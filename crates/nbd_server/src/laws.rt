@@ -1,7 +1,7 @@
 // What the definitions of a session imply.
 ghost use Rattle.std.specs.Prelude.{◌≡◌, ℕ, List};
-ghost use Rattle.nbd_server.specs.declared.served.Export.{Export as ExportOf};
-ghost use Rattle.nbd_server.specs.declared.session.Session.{Session as SessionOf};
+ghost use Rattle.nbd_options.specs.declared.export.Export.{Export as ExportOf};
+ghost use Rattle.nbd_options.specs.declared.session.Session.{Session as SessionOf};
 ghost use Rattle.nbd_server.specs.Talk.{Talk, Turn, HaveMemory, NoneFails};
 
 use crate::Served;

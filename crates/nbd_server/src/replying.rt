@@ -1,13 +1,14 @@
 // A request is answered.
 ghost use Rattle.std.specs.Prelude.{◌≡◌, ℕ, ◌+◌, ◌^◌, ◌<◌, ◌≤◌, List, [], ◌++◌, length, take, drop, OnOk, Some, Err, Option, nat_lt};
 ghost use Rattle.nbd_server.specs.declared.served.Fault.{Fault as FaultOf};
-ghost use Rattle.nbd_server.specs.Replied.{is_invalid_read, error_reply, data_start, data_reply, given_reply, read_reply, is_invalid_state as is_invalid_state_of, told_state, given_state, state_reply, reply_to, fault_error, MayFail, HasCause};
+ghost use Rattle.nbd_messages.specs.Reading.{data_start, error_reply};
+ghost use Rattle.nbd_server.specs.Replied.{is_invalid_read, data_reply, given_reply, read_reply, is_invalid_state as is_invalid_state_of, told_state, given_state, state_reply, reply_to, fault_error, MayFail, HasCause};
 ghost use Rattle.nbd_server.specs.Blocks.{asked_bytes, state_of as state_by};
 
 use crate::describing::first_kind_at;
-use crate::{
-    Command, Export, Fault, Request, Served, push_bare_chunk, push_data_front, push_error_chunk,
-    push_simple_reply, push_state_chunk,
+use crate::{Fault, Served};
+use nbd_messages::{
+    Command, Request, push_data_start, push_error, push_simple_reply, push_state_chunk,
 };
 use std::alloc::AllocError;
 
@@ -46,22 +47,6 @@ fn is_invalid(size: u64, request: &Request) -> bool
     is_past(size, request)
 }
 
-/// Adds an error in place of a read's bytes.
-fn push_error(
-    answer: &mut Vec<u8>,
-    structured: bool,
-    error: u32,
-    request: &Request,
-) -> Result<(), AllocError>
-    ensures { OnOk result (answer.new.items ≡ answer.old.items ++ error_reply structured error request.now) }
-{
-    if structured {
-        push_error_chunk(answer, error, request.cookie)
-    } else {
-        push_simple_reply(answer, error, request.cookie)
-    }
-}
-
 /// The protocol's number of a fault.
 fn error_of(fault: Fault) -> u32
     ensures { result ≡ fault_error fault }
@@ -70,24 +55,6 @@ fn error_of(fault: Fault) -> u32
         Fault::Io => IO,
         Fault::NoMemory => NO_MEMORY,
     }
-}
-
-/// Adds what stands before a read's bytes.
-fn push_data_start(
-    answer: &mut Vec<u8>,
-    structured: bool,
-    request: &Request,
-) -> Result<(), AllocError>
-    requires { request.now.length < 2 ^ 31 }
-    ensures { OnOk result (answer.new.items ≡ answer.old.items ++ data_start structured request.now) }
-{
-    if !structured {
-        return push_simple_reply(answer, 0, request.cookie);
-    }
-    if request.length == 0 {
-        return push_bare_chunk(answer, request.cookie);
-    }
-    push_data_front(answer, request.cookie, request.offset, request.length)
 }
 
 /// Adds a read's bytes.

@@ -10,15 +10,6 @@ pub enum Fault {
     NoMemory,
 }
 
-/// An array that has a name.
-#[derive(Clone, Copy)]
-pub struct Export<'a> {
-    pub name: &'a [u8],
-    /// Bytes.
-    pub size: u64,
-    pub ghost short: { length name.now < 2 ^ 31 },
-}
-
 /// Arrays of bytes that are read, by their numbers from 0 on. Any read may fail.
 pub trait Served {
     /// The bytes of an array, where they are known.

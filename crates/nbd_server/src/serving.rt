@@ -1,13 +1,14 @@
 // A client is served.
 ghost use Rattle.std.specs.Prelude.{◌≡◌, ℕ, List, ◌++◌, OnOk, Some};
 ghost use Rattle.std.specs.Io.KnownBytes.{Appends};
-ghost use Rattle.nbd_server.specs.Replies.{greeting};
+ghost use Rattle.nbd_messages.specs.Replies.{greeting};
 ghost use Rattle.nbd_server.specs.Talk.{AreArrays, Talk, Turn, beginning};
 
-use crate::session::{Session, Stage};
+use crate::Served;
 use crate::stopped::Stopped;
 use crate::turning::turn;
-use crate::{Export, Served, push_greeting};
+use nbd_messages::push_greeting;
+use nbd_options::{Export, Session, Stage};
 use std::alloc::Global;
 use std::io::{ErrorKind, Read, Write};
 

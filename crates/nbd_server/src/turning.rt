@@ -2,21 +2,21 @@
 ghost use Rattle.std.specs.Prelude.{◌≡◌, ◌<◌, ◌≤◌, ℕ, List, [], length, IfOk, IfSome, OnOk, MatchBool, MatchOption};
 ghost use Rattle.std.specs.Io.KnownBytes.{Consumes};
 ghost use Rattle.nbd_server.specs.Heard.{IsShort, IsRead};
-ghost use Rattle.nbd_server.specs.Talk.{AreArrays, NoneIsWhole, is_chosen as is_chosen_of, payload};
-ghost use Rattle.nbd_server.specs.declared.served.Export.{Export as ExportOf};
-ghost use Rattle.nbd_server.specs.declared.session.Place.{Place as PlaceOf};
+ghost use Rattle.nbd_messages.specs.Writing.{payload};
+ghost use Rattle.nbd_server.specs.Talk.{AreArrays, NoneIsWhole, is_chosen as is_chosen_of};
+ghost use Rattle.nbd_options.specs.declared.export.Export.{Export as ExportOf};
+ghost use Rattle.nbd_options.specs.declared.session.Place.{Place as PlaceOf};
 ghost use Rattle.nbd_server.specs.Turns.{IsTurn, IsOpened, IsAskedTurn, IsEnd, IsAsked, IsRequested, IsHaggledFor, IsReplied};
-ghost use Rattle.nbd_server.specs.declared.session.Stage.TheVariants.{Opening, Haggling, Serving};
+ghost use Rattle.nbd_options.specs.declared.session.Stage.TheVariants.{Opening, Haggling, Serving};
 
-use crate::haggling::{haggle, haggle_unread};
+use crate::Served;
 use crate::hearing::{fill, skip};
 use crate::replying::reply;
-use crate::session::{Place, Session, Stage};
 use crate::stopped::Stopped;
-use crate::{
-    ASKED_BYTES, Asked, Command, Export, REQUEST_BYTES, Request, Served, asked_in, request_in,
-    u32_at,
+use nbd_messages::{
+    ASKED_BYTES, Asked, Command, REQUEST_BYTES, Request, asked_in, request_in, u32_at,
 };
+use nbd_options::{Export, Place, Session, Stage, haggle, haggle_unread};
 use std::io::Read;
 
 /// The longest data of an option that are looked at.

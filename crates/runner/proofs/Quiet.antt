@@ -4,7 +4,7 @@ use Rattle.std.specs.Prelude.{Result, Ok, Err, ◌==◌, if◌then◌else◌}
 use Rattle.std.proofs.lemmas.Option.{slice_get_cases}
 use Rattle.sector.specs.declared.refusal.Refusal.{Refusal}
 use Rattle.sector.specs.declared.refusal.Refusal.TheVariants.{NoSuchDevice}
-use Rattle.device.specs.Layers.{Layer, Flaky, Dusty, Broken, Counted, TornDiskShape, Window}
+use Rattle.device.specs.Layers.{Layer, Flaky, Dusty, Broken, Counted, Tearing, Window, ReadAhead}
 use Rattle.layers.specs.declared.message.Message.{Message}
 use Rattle.layers.specs.declared.message.Message.TheVariants.{AddBadBlock, RemoveBadBlock, QueryBlock, CountBadBlocks, ClearBadBlocks, Enable, Disable}
 use Rattle.layers.specs.declared.message.Answer.{Answer}
@@ -51,8 +51,9 @@ layer_quiet (Flaky moment up down features offset) m = tt
 layer_quiet (Dusty sectors size enabled bad) m = dust_quiet sectors size enabled bad m
 layer_quiet Broken m = tt
 layer_quiet (Counted left) m = tt
-layer_quiet (TornDiskShape left) m = tt
+layer_quiet (Tearing left) m = tt
 layer_quiet (Window aside) m = tt
+layer_quiet (ReadAhead ranges kept) m = tt
 
 -- what is made of it
 with_quiet : {X Y : Type 0} (f : X → Y) (old : X) (t : Told X) → IsQuiet old t → IsQuiet (f old) (told_with f t)
@@ -70,7 +71,8 @@ told_quiet (Flaky moment up down features offset ∷ ls) d m = at_quiet (d == 0)
 told_quiet (Dusty sectors size enabled bad ∷ ls) d m = at_quiet (d == 0) (Dusty sectors size enabled bad) ls m (told ls (d - 1) m) (told_quiet ls (d - 1) m)
 told_quiet (Broken ∷ ls) d m = at_quiet (d == 0) Broken ls m (told ls (d - 1) m) (told_quiet ls (d - 1) m)
 told_quiet (Counted left ∷ ls) d m = at_quiet (d == 0) (Counted left) ls m (told ls (d - 1) m) (told_quiet ls (d - 1) m)
-told_quiet (TornDiskShape left ∷ ls) d m = at_quiet (d == 0) (TornDiskShape left) ls m (told ls (d - 1) m) (told_quiet ls (d - 1) m)
+told_quiet (Tearing left ∷ ls) d m = at_quiet (d == 0) (Tearing left) ls m (told ls (d - 1) m) (told_quiet ls (d - 1) m)
+told_quiet (ReadAhead ranges kept ∷ ls) d m = at_quiet (d == 0) (ReadAhead ranges kept) ls m (told ls (d - 1) m) (told_quiet ls (d - 1) m)
 
 -- the same of a rule
 abbrev LeavesSame : {T : Type 0} → T → Result (Answer × T) Refusal → Type 0

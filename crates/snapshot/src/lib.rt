@@ -9,6 +9,7 @@
 //! committed copy, at most a chunk long, for its next one, until it goes.
 #![tactic(auto)]
 
+mod ahead;
 mod committing;
 mod copying;
 mod flushing;

@@ -8,6 +8,7 @@
 //! of the bytes holds while no layer of the device drops writes.
 #![tactic(auto)]
 
+mod ahead;
 mod chunks;
 mod committing;
 mod copying;

@@ -3,7 +3,7 @@ use Rattle.std.specs.Prelude.{◌≡◌, ◌⊎◌, ℕ, Bool, List, [], ◌∷�
 use Rattle.sector.specs.Bytes.{sector_at}
 use Rattle.device.specs.declared.mem_disk.MemDisk.{MemDisk}
 use Rattle.device.specs.Disk.{disk_size, disk_contents, disk_durable}
-use Rattle.device.specs.Layers.{Layer, TornDiskShape}
+use Rattle.device.specs.Layers.{Layer, Tearing}
 use Rattle.torn_disk.specs.declared.torn_disk.TornDisk.{TornDisk}
 
 -- how many writes and flushes pass before it is blown; None: it is blown
@@ -42,4 +42,4 @@ torn_disk_may_hold f s v = (v ≡ sector_at (torn_disk_contents f) s) ⊎ (v ≡
 
 -- it is one layer over a disk
 abbrev pub torn_disk_layers : TornDisk → List Layer
-torn_disk_layers f = TornDiskShape f.left ∷ []
+torn_disk_layers f = Tearing f.left ∷ []

@@ -6,7 +6,7 @@ ghost use Rattle.sector.specs.Bytes.{sectors_at, with_sectors, sector_at, next_c
 ghost use Rattle.device.specs.declared.operation.Operation.TheVariants.{Reads, Writes, Flushes};
 ghost use Rattle.device.specs.declared.operation.Fate.TheVariants.{Pass, Drop};
 ghost use Rattle.device.specs.Disk.{disk_size, disk_contents, disk_durable};
-ghost use Rattle.device.specs.Layers.{TornDiskShape, fate, is_answered, is_passed, layers_after, is_loud, counted_after};
+ghost use Rattle.device.specs.Layers.{Tearing, fate, is_answered, is_passed, layers_after, is_loud, counted_after};
 ghost use Rattle.torn_disk.specs.TornDisk.{changes_left, new_sectors, kept_aside, torn_disk_contents, torn_disk_size, torn_disk_durable, torn_disk_may_hold, torn_disk_layers};
 ghost use Rattle.torn_disk.specs.Laws.{torn_disk_whole, torn_disk_small};
 ghost use Rattle.torn_disk.specs.Torn.{IsTornBy};

@@ -142,7 +142,7 @@ module _ {B : Type 0} (contents : B → List ℕ) (layers : B → List Layer) (s
     | inr k ↦ (let any = waiting.write_attached k.0 k.1 in
         let s = any.1 in
         let kind : kind_of r.request ≡ SnapWrite s.number = k.1 ∙ ap SnapWrite (sym any.4) in
-        let here : SnapHolds vb.origin vb.requests s = subst (SnapHolds vb.origin vb.requests) any.3 (h.holds.snaps any.0 s any.2) in
+        let here : SnapHolds vb.loud vb.origin vb.requests s = subst (SnapHolds vb.loud vb.origin vb.requests) any.3 (h.holds.snaps any.0 s any.2) in
         elim (cases_Bool s.live) [
           | inl live ↦ absurd ((found_holds (RouteHolds s.number s.chunk s.pairs s.marks) number place r vb wb out (here.alive live).routes).write kind route)
           | inr dead ↦ absurd (origin_ne_refused (sym route ∙ (found_holds (RefusedHolds s.number) number place r vb wb out (here.spoilt dead).routes).write kind))
@@ -166,7 +166,7 @@ module _ {B : Type 0} (contents : B → List ℕ) (layers : B → List Layer) (s
     | inr k ↦ (let any = waiting.flush_attached k.0 k.1 in
         let s = any.1 in
         let kind : kind_of r.request ≡ SnapFlush s.number = k.1 ∙ ap SnapFlush (sym any.4) in
-        let here : SnapHolds vb.origin vb.requests s = subst (SnapHolds vb.origin vb.requests) any.3 (h.holds.snaps any.0 s any.2) in
+        let here : SnapHolds vb.loud vb.origin vb.requests s = subst (SnapHolds vb.loud vb.origin vb.requests) any.3 (h.holds.snaps any.0 s any.2) in
         elim (cases_Bool s.live) [
           | inl live ↦ absurd (origin_ne_whole (sym route ∙ (found_holds (RouteHolds s.number s.chunk s.pairs s.marks) number place r vb wb out (here.alive live).routes).flush kind))
           | inr dead ↦ absurd (origin_ne_refused (sym route ∙ (found_holds (RefusedHolds s.number) number place r vb wb out (here.spoilt dead).routes).flush kind))

@@ -80,11 +80,11 @@ module _ {B : Type 0} (contents : B → List ℕ) (layers : B → List Layer) (s
         let at : s.state.origin ≡ size v.origin = ap (λ (x : Kept B). x.state.origin) is ∙ (h.snaps k s within).origin in
         h.holds.whole ∙ ap (λ x. 512 * x) (sym at)
 
-    pub holds_live : s.live ≡ true → LiveHolds (contents v.origin) v.flights (snap_books contents layers s)
+    pub holds_live : s.live ≡ true → LiveHolds (is_loud (layers v.origin)) (contents v.origin) v.flights (snap_books contents layers s)
     holds_live live =
         let sb = snap_books contents layers in
         let at : get_or (map sb v.snaps) k (sb s) ≡ sb s = get_or-map sb v.snaps k s (sb s) within ∙ ap sb (sym is) in
-        (subst (SnapHolds (contents v.origin) v.flights) at (h.holds.snaps k (sb s) (omega (arith, within, length-map v.snaps sb)))).alive live
+        (subst (SnapHolds (is_loud (layers v.origin)) (contents v.origin) v.flights) at (h.holds.snaps k (sb s) (omega (arith, within, length-map v.snaps sb)))).alive live
 
     module _ (faults faults' done done' : ℕ) where
       -- CopyRead

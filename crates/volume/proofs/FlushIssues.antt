@@ -100,7 +100,7 @@ module _ {B : Type 0} (contents : B → List ℕ) (layers : B → List Layer) (s
     sb_in : k < length (map (snap_books contents layers) v.snaps)
     sb_in = books_within contents layers size v v.origin k s s within is
 
-    here : SnapHolds (contents v.origin) v.flights (snap_books contents layers s)
+    here : SnapHolds (is_loud (layers v.origin)) (contents v.origin) v.flights (snap_books contents layers s)
     here = snap_holds vb k (snap_books contents layers s) h.holds sb_in sb_is
 
     kind : kind_of r.request ≡ SnapFlush s.number

@@ -41,6 +41,7 @@ use Rattle.loss_laws.proofs.Places.{place_good}
 use Rattle.loss_laws.proofs.Slots.{ahead_of}
 use Rattle.volume_laws.specs.Held.{LiveHolds, is_stored}
 use Rattle.volume_laws.specs.Steps.{ZeroesArea, Commits, mark_of}
+use Rattle.volume_laws.proofs.Heard.{both_loud}
 use Rattle.store.specs.Headed.{marked_as}
 use Rattle.store.specs.Slots.{pairs_bytes, slot_start}
 use Rattle.store.specs.Stored.{after_commit}
@@ -187,7 +188,7 @@ module _ {B : Type 0} (holds : B → ℕ → List ℕ → Type 0) (contents : B 
       qs : List Pair
       qs = take count s.begun
 
-      a : LiveHolds (contents o) rs (snap_books contents layers s)
+      a : LiveHolds (is_loud (layers o)) (contents o) rs (snap_books contents layers s)
       a = alive holds contents layers size whole here o rs s k l live
 
       many : length (take count s.begun) ≡ count
@@ -297,8 +298,8 @@ module _ {B : Type 0} (holds : B → ℕ → List ℕ → Type 0) (contents : B 
     -- The store is flushed: all pairs are sure, a zeroed area is firm, and copies that were written are flushed.
     module _ (f : t ≡ record s { device = t.device; state = record s.state { firm = s.state.zeroed; sure = length s.pairs }; copies = map flushed_copy s.copies; marks = map safe_mark s.marks }) (counted : length s.pairs ≡ s.state.current * (32 * s.state.chunk) + s.state.filled) (part : s.state.filled < 32 * s.state.chunk)
         (store : IsSameDevice holds contents layers size s.device t.device) (firm : is_loud (layers s.device) ≡ true → IsFirm (holds t.device) (contents t.device) (size t.device)) where
-      stored_copy : is_loud (layers s.device) ≡ true → (q : Pair) → IsReady t.copies q → IsCopied s.state.chunk (contents o) (contents s.device) q × (s.state.chunk * (q.new + 1) ≤ size s.device)
-      stored_copy ls q ready =
+      stored_copy : is_loud (layers o) ≡ true → is_loud (layers s.device) ≡ true → (q : Pair) → IsReady t.copies q → IsCopied s.state.chunk (contents o) (contents s.device) q × (s.state.chunk * (q.new + 1) ≤ size s.device)
+      stored_copy lo ls q ready =
           let r : IsReady (map flushed_copy s.copies) q = subst (λ cs. IsReady cs q) (ap (λ (x : Kept B). x.copies) f) ready in
           let lt : r.index < length s.copies = (let w = r.within in omega (arith, w, length-map s.copies flushed_copy)) in
           let (p, is) = there_is s.copies r.index lt in
@@ -307,7 +308,7 @@ module _ {B : Type 0} (holds : B → ℕ → List ℕ → Type 0) (contents : B 
           let far : is_stored (get_or s.copies r.index p).stage ≡ true = ap (λ (c : ChunkCopy). is_stored c.stage) (sym is) ∙ stored_of p.stage (ap (λ (c : ChunkCopy). c.stage) (sym after) ∙ r.flushed) in
           let pair : p.pair ≡ q = ap (λ (c : ChunkCopy). c.pair) (sym after) ∙ r.pair in
           subst (λ (z : Pair). IsCopied s.state.chunk (contents o) (contents s.device) z × (s.state.chunk * (z.new + 1) ≤ size s.device)) pair (
-            subst (λ (z : ChunkCopy). IsCopied s.state.chunk (contents o) (contents s.device) z.pair) (sym is) (held.written ls far),
+            subst (λ (z : ChunkCopy). IsCopied s.state.chunk (contents o) (contents s.device) z.pair) (sym is) (held.written (both_loud (is_loud (layers o)) (is_loud (layers s.device)) lo ls) far),
             (copy_inside holds contents layers size whole here o rs s k l live r.index p lt is).new,
           )
 
@@ -327,7 +328,7 @@ module _ {B : Type 0} (holds : B → ℕ → List ℕ → Type 0) (contents : B 
           (λ lo ls side there lasts lives'. subst (SnapLasts (holds o) (holds t.device) (contents o) (contents t.device) (IsReady t.copies)) (sym lost_then)
           (subst (λ z. SnapLasts (holds o) (holds t.device) (contents o) z (IsReady t.copies) (record (lost_of size o s) { firm = s.state.zeroed; sure = length s.pairs })) (sym store.bytes)
           (flush_lasts (holds o) (holds s.device) (holds o) (holds t.device) (contents o) (contents s.device) (IsReady s.copies) (IsReady t.copies) (lost_of size o s) there lasts (λ x v was. inl was)
-          (subst (λ z. IsFirm (holds t.device) z (size s.device)) store.bytes (subst (λ n. IsFirm (holds t.device) (contents t.device) n) store.sectors (firm ls))) reaches (stored_copy ls))))
+          (subst (λ z. IsFirm (holds t.device) z (size s.device)) store.bytes (subst (λ n. IsFirm (holds t.device) (contents t.device) n) store.sectors (firm ls))) reaches (stored_copy lo ls))))
           l.unmarked (λ _. ap (λ (x : Kept B). x.marked) f ∙ l.unmarked live) (subst (λ (v : Lost). AreWellFormed v.chunk v.sectors v.size v.pairs) (sym lost_then) l.formed)
           (λ ls. ap (λ (v : Lost). pairs_of v.chunk (contents t.device)) lost_then ∙ ap (pairs_of s.state.chunk) store.bytes ∙ l.listed ls ∙ ap (λ (v : Lost). v.pairs) (sym lost_then)) (λ _. inl live) (λ lo ls dead. dies dead) (λ lo ls dead. dies' dead)
 

@@ -31,7 +31,7 @@ use Rattle.volume.specs.Stopping.{stopping_of}
 pub record IsKeptSnap {B : Type 0} (contents : B → List ℕ) (layers : B → List Layer) (size : B → ℕ) (o : B) (rs : List Flight) (s : Kept B) : Type 0 where
   pub some : 0 < s.state.chunk
   pub fits : s.state.origin ≡ size o
-  pub holds : SnapHolds (contents o) rs (snap_books contents layers s)
+  pub holds : SnapHolds (is_loud (layers o)) (contents o) rs (snap_books contents layers s)
 
 -- A device after a call that changes no byte of it.
 pub record IsSameDevice {B : Type 0} (holds : B → ℕ → List ℕ → Type 0) (contents : B → List ℕ) (layers : B → List Layer) (size : B → ℕ) (d d' : B) : Type 0 where
@@ -84,7 +84,7 @@ module _ {B : Type 0} (holds : B → ℕ → List ℕ → Type 0) (contents : B 
   module _ (o : B) (rs : List Flight) (s : Kept B) (k : IsKeptSnap contents layers size o rs s) (l : SnapLasting holds contents layers size o s) where
     -- a copy of a live one, whose pair stands behind the committed ones
     module _ (live : s.live ≡ true) where
-      pub alive : LiveHolds (contents o) rs (snap_books contents layers s)
+      pub alive : LiveHolds (is_loud (layers o)) (contents o) rs (snap_books contents layers s)
       alive = k.holds.alive live
 
       pub sized : s.state.size ≡ size s.device

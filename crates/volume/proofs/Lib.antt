@@ -120,7 +120,7 @@ pub mod MergeStarts
 pub mod MergeBoth
 pub mod BeginLasts
 mod LastTime
-mod LastCloses
+pub mod LastCloses
 pub mod FewerLives
 pub mod OpensNothing
 pub mod Opened
@@ -137,3 +137,4 @@ pub mod Clear
 mod DueAlone
 mod AtOnce
 mod AtDisk
+pub mod Aheads

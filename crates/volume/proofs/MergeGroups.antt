@@ -74,7 +74,7 @@ module _ {B : Type 0} (contents : B → List ℕ) (layers : B → List Layer) (s
         let is : get_or u.snaps k d ≡ get_or u.snaps k (get_or u.snaps k d) = get_or_default u.snaps k d (get_or u.snaps k d) lt in
         let in_rooms : k < length (map (room_of contents layers) u.snaps) = omega (arith, lt, length-map u.snaps (room_of contents layers)) in
         let room_is : room_of contents layers s ≡ get_or (map (room_of contents layers) u.snaps) k (room_of contents layers s) = ap (room_of contents layers) is ∙ sym (get_or-map (room_of contents layers) u.snaps k s (room_of contents layers s) lt) in
-        let hold : All (SnapHolds (contents u.origin) u.flights) (map room_books (map (room_of contents layers) u.snaps)) = subst (All (SnapHolds (contents u.origin) u.flights)) (sym (rooms_seen contents layers u.snaps)) holds.snaps in
+        let hold : All (SnapHolds (is_loud (layers u.origin)) (contents u.origin) u.flights) (map room_books (map (room_of contents layers) u.snaps)) = subst (All (SnapHolds (is_loud (layers u.origin)) (contents u.origin) u.flights)) (sym (rooms_seen contents layers u.snaps)) holds.snaps in
         let can = λ (e : lacks_chunk c s ≡ true). has_room m.state.chunk m.state.origin m.pairs q (map (room_of contents layers) u.snaps) room k (room_of contents layers s) in_rooms room_is (contents u.origin) u.flights hold
         (lacking_live c s e) (lacking_books contents layers c s e) in
         record {

@@ -160,7 +160,7 @@ module _ {B : Type 0} (contents : B → List ℕ) (layers : B → List Layer) (s
         good MergeCommit (λ p q x. x) (λ xs ys e. e)
         (commit_step before_in after_in before after h.holds h.waits goes changes m'.pairs m.state.current (contents m'.device) s.0 refl s.1.only s.1.stored)
         (rooms_committed (contents v.origin) v.flights (map (room_of contents layers) v.snaps) m'.pairs (contents m'.device) before after s.0
-        (subst (All (SnapHolds (contents v.origin) v.flights)) (sym seen) h.holds.snaps) (subst (λ (xs : List SnapBooks). MergeGoes xs before) (sym seen) goes) rooms)
+        (subst (All (SnapHolds (is_loud (layers v.origin)) (contents v.origin) v.flights)) (sym seen) h.holds.snaps) (subst (λ (xs : List SnapBooks). MergeGoes xs before) (sym seen) goes) rooms)
         (s.0.failed ∙ sym s.0.running) (faultless same) counts
 
   -- MergeFlush

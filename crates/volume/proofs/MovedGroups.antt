@@ -5,7 +5,7 @@ use Rattle.std.specs.List.{All}
 use Rattle.std.proofs.lemmas.Bool.{cond-true, false≢true}
 use Rattle.std.proofs.lemmas.List.{get_or-map, length-map}
 use Rattle.sector.specs.declared.pair.Pair.{Pair}
-use Rattle.device.specs.Layers.{Layer}
+use Rattle.device.specs.Layers.{Layer, is_loud}
 use Rattle.plain_machine.specs.declared.event.Event.{Event}
 use Rattle.plain_machine.specs.declared.event.Event.TheVariants.{MergeGroup}
 use Rattle.plain_machine.specs.declared.request.Reply.{Reply}
@@ -55,7 +55,7 @@ pub stores_sized : {B : Type 0} (contents : B → List ℕ) (layers : B → List
 stores_sized contents layers size v h k d lt = record {
   sized = λ live.
       (let at = get_or-map (snap_books contents layers) v.snaps k d (snap_books contents layers d) lt in
-      let one = subst (SnapHolds (contents v.origin) v.flights) at (h.holds.snaps k (snap_books contents layers d) (omega (arith, lt, length-map v.snaps (snap_books contents layers)))) in
+      let one = subst (SnapHolds (is_loud (layers v.origin)) (contents v.origin) v.flights) at (h.holds.snaps k (snap_books contents layers d) (omega (arith, lt, length-map v.snaps (snap_books contents layers)))) in
       (one.alive live).text.whole);
 }
 

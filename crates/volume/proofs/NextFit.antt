@@ -11,7 +11,7 @@ use Rattle.std.proofs.lemmas.List.Sums.{sum_by-set}
 use Rattle.std.proofs.Math.Seq.{map-set_same}
 use Rattle.sector.specs.declared.pair.Pair.{Pair}
 use Rattle.chunk.specs.Sizes.{is_chunk}
-use Rattle.device.specs.Layers.{Layer}
+use Rattle.device.specs.Layers.{Layer, is_loud}
 use Rattle.in_flight.specs.Copies.{count_of}
 use Rattle.in_flight.specs.Routes.{refused_of}
 use Rattle.in_flight.specs.declared.copies.ChunkCopy.{ChunkCopy}
@@ -143,8 +143,8 @@ module _ {B : Type 0} (contents : B → List ℕ) (layers : B → List Layer) (s
     room_is : room_of contents layers s ≡ get_or rooms k (room_of contents layers s)
     room_is = ap (room_of contents layers) is ∙ sym (get_or-map (room_of contents layers) v.snaps k s (room_of contents layers s) within)
 
-    all_hold : All (SnapHolds (contents v.origin) v.flights) (map room_books rooms)
-    all_hold = subst (All (SnapHolds (contents v.origin) v.flights)) (sym (rooms_seen contents layers v.snaps)) h.starting.prepared.holds.snaps
+    all_hold : All (SnapHolds (is_loud (layers v.origin)) (contents v.origin) v.flights) (map room_books rooms)
+    all_hold = subst (All (SnapHolds (is_loud (layers v.origin)) (contents v.origin) v.flights)) (sym (rooms_seen contents layers v.snaps)) h.starting.prepared.holds.snaps
 
     -- it can start its copy without memory
     pub can_start : lacks_chunk (at s) s ≡ true → CanMerge (room_of contents layers s)

@@ -166,7 +166,7 @@ module _ {B : Type 0} (holds : B → ℕ → List ℕ → Type 0) (contents : B 
               let any = waiting.write_attached n (ap (λ (x : Flight). kind_of x.request) (sym at) ∙ kind) in
               let s = any.1 in
               let mine : kind_of f.request ≡ SnapWrite s.number = kind ∙ ap SnapWrite (sym any.4) in
-              let its : SnapHolds vb.origin vb.requests s = subst (SnapHolds vb.origin vb.requests) any.3 (h.holds.snaps any.0 s any.2) in
+              let its : SnapHolds vb.loud vb.origin vb.requests s = subst (SnapHolds vb.loud vb.origin vb.requests) any.3 (h.holds.snaps any.0 s any.2) in
               let kind_at' : kind_of (get_or v.flights place f).request ≡ SnapWrite s.number = ap (λ (x : Flight). kind_of x.request) (sym at) ∙ mine in
               let route_at : (get_or v.flights place f).route ≡ Origin = ap (λ (x : Flight). x.route) (sym at) ∙ route in
               elim (cases_Bool s.live) [

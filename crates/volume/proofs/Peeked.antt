@@ -33,13 +33,13 @@ place_high chunk k n size first count same fits room = let end : chunk * (n + 1)
 
 -- of a live snapshot
 module _ {B : Type 0} (contents : B → List ℕ) (layers : B → List Layer) (size : B → ℕ) (v : Volumed B) (whole : IsWhole contents layers size v) (k : ℕ) (s : Kept B) (within : k < length v.snaps) (is : s ≡ get_or v.snaps k s) (live : s.live ≡ true) where
-  snap_holds : SnapHolds (contents v.origin) v.flights (snap_books contents layers s)
+  snap_holds : SnapHolds (is_loud (layers v.origin)) (contents v.origin) v.flights (snap_books contents layers s)
   snap_holds =
-      let held : SnapHolds (contents v.origin) v.flights (get_or (map (snap_books contents layers) v.snaps) k (snap_books contents layers s)) =
+      let held : SnapHolds (is_loud (layers v.origin)) (contents v.origin) v.flights (get_or (map (snap_books contents layers) v.snaps) k (snap_books contents layers s)) =
       whole.holds.snaps k (snap_books contents layers s) (omega (arith, within, length-map v.snaps (snap_books contents layers))) in
-      subst (SnapHolds (contents v.origin) v.flights) (get_or-map (snap_books contents layers) v.snaps k s (snap_books contents layers s) within ∙ ap (snap_books contents layers) (sym is)) held
+      subst (SnapHolds (is_loud (layers v.origin)) (contents v.origin) v.flights) (get_or-map (snap_books contents layers) v.snaps k s (snap_books contents layers s) within ∙ ap (snap_books contents layers) (sym is)) held
 
-  live_holds : LiveHolds (contents v.origin) v.flights (snap_books contents layers s)
+  live_holds : LiveHolds (is_loud (layers v.origin)) (contents v.origin) v.flights (snap_books contents layers s)
   live_holds = snap_holds.alive live
 
   -- the places of its pairs lie inside its device

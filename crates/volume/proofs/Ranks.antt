@@ -4,7 +4,7 @@ use Rattle.std.specs.Prelude.{◌==◌, nat_lt, AllPairs, if◌then◌else◌}
 use Rattle.std.specs.List.{position_or_len}
 use Rattle.std.proofs.lemmas.List.{length-map, get_or-map}
 use Rattle.std.proofs.lemmas.List.Sums.{position_or_len_is}
-use Rattle.device.specs.Layers.{Layer}
+use Rattle.device.specs.Layers.{Layer, is_loud}
 use Rattle.snapshot.specs.Kept.{Kept, books_of as snap_books}
 use Rattle.volume_laws.specs.Books.{SnapBooks}
 use Rattle.volume_laws.specs.Held.{SnapHolds}
@@ -44,6 +44,6 @@ pub size_is : {B : Type 0} (contents : B → List ℕ) (layers : B → List Laye
 size_is contents layers size v whole wholes k d within live =
     let s : Kept _ = get_or v.snaps k d in
     let books : List SnapBooks = map (snap_books contents layers) v.snaps in
-    let held : SnapHolds (contents v.origin) v.flights (get_or books k (snap_books contents layers d)) = whole.holds.snaps k (snap_books contents layers d) (omega (arith, within, length-map v.snaps (snap_books contents layers))) in
-    let mine : SnapHolds (contents v.origin) v.flights (snap_books contents layers s) = rw (sym (get_or-map (snap_books contents layers) v.snaps k d (snap_books contents layers d) within)) held in
+    let held : SnapHolds (is_loud (layers v.origin)) (contents v.origin) v.flights (get_or books k (snap_books contents layers d)) = whole.holds.snaps k (snap_books contents layers d) (omega (arith, within, length-map v.snaps (snap_books contents layers))) in
+    let mine : SnapHolds (is_loud (layers v.origin)) (contents v.origin) v.flights (snap_books contents layers s) = rw (sym (get_or-map (snap_books contents layers) v.snaps k d (snap_books contents layers d) within)) held in
     one-size (length (contents s.device)) s.state.size (size s.device) (mine.alive live).text.whole (wholes s.device)

@@ -161,7 +161,7 @@ module _ {B : Type 0} (contents : B → List ℕ) (layers : B → List Layer) (s
   e_is : ChangesSnap k (snap_books contents layers s) (snap_books contents layers s') (books_of contents layers size v) (books_of contents layers size (changed v v.origin k s' v.flights))
   e_is = changes contents layers size v v.origin k s s' within is disk
 
-  holds_live : (live : s.live ≡ true) → LiveHolds (contents v.origin) v.flights (snap_books contents layers s)
+  holds_live : (live : s.live ≡ true) → LiveHolds (is_loud (layers v.origin)) (contents v.origin) v.flights (snap_books contents layers s)
   holds_live live = (snap_holds (books_of contents layers size v) k (snap_books contents layers s) h.holds sb_in sb_is).alive live
 
   pub zero_good : is_zeroing number s ≡ true → (s.state.firm ≡ true → s.state.zeroed ≡ true) → (d : B) → s' ≡ record s { device = d; state = record s.state { zeroed = true; firm = false } } → ZeroesArea (s.state.current + 1) (snap_books contents layers s) (snap_books contents layers s')

@@ -45,3 +45,4 @@ pub mod DoesBeginMerge
 pub mod DoesResumeMerge
 pub mod DoesFinishMerge
 pub mod AddedUp
+pub mod DoesAhead

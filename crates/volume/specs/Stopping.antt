@@ -5,6 +5,8 @@ use Rattle.std.specs.Prelude.{◌≡◌, ◌⊎◌, ℕ, ◌<◌, true, List, Op
 use Rattle.sector.specs.Bytes.{sector_at}
 use Rattle.sector.specs.declared.range.Range.{Range}
 use Rattle.device.specs.Layers.{Layer}
+use Rattle.store_bytes.specs.Pairs.{pairs_of}
+use Rattle.store_bytes.specs.Picture.{place_of}
 use Rattle.plain_machine.specs.declared.event.Event.{Event}
 use Rattle.plain_machine.specs.declared.event.Event.TheVariants.{Issue}
 use Rattle.plain_machine.specs.declared.request.Dev.{Dev}
@@ -50,12 +52,20 @@ abbrev pub StopsFinished : {B : Type 0} → (B → ℕ → List ℕ → Type 0) 
 StopsFinished holds size given chunk origin origin' store =
     (o : List ℕ) → MayLeave (Within (holds origin) (holds origin')) (size origin) o → (s : ℕ) → s < size origin → IsOpen chunk (holds origin) (holds store) (size origin) (size store) s (sector_at o s) ⊎ Gives given None s (sector_at o s)
 
+-- A chunk that has no copy in any content which a store may be left with; and a call through which each such chunk stays one: no
+-- pair comes back that surely was gone.
+abbrev pub IsOut : {B : Type 0} → (B → ℕ → List ℕ → Type 0) → (B → ℕ) → ℕ → B → ℕ → Type 0
+IsOut holds size chunk store c = (d : List ℕ) → MayLeave (holds store) (size store) d → place_of (pairs_of chunk d) c ≡ None
+
+abbrev pub StaysOut : {B : Type 0} → (B → ℕ → List ℕ → Type 0) → (B → ℕ) → ℕ → B → B → Type 0
+StaysOut holds size chunk store store' = (c : ℕ) → IsOut holds size chunk store c → IsOut holds size chunk store' c
+
 -- the origin's array: over the merging store where a merge is begun, or else the origin disk itself
 abbrev pub StopsOrigin : {B : Type 0} → (B → ℕ → List ℕ → Type 0) → (B → ℕ) → Option Given → B → B → Option (Merging B) → Option (Merging B) → Type 0
 StopsOrigin holds size given origin origin' None after = StopsDisk holds size given origin origin'
 StopsOrigin holds size given origin origin' (Some m) None = ⊥
 StopsOrigin holds size given origin origin' (Some m) (Some m') =
-    StopsMerge holds size given m.state.chunk origin origin' m.device m'.device × (is_finished_of m ≡ true → StopsFinished holds size given m.state.chunk origin origin' m.device)
+    StopsMerge holds size given m.state.chunk origin origin' m.device m'.device × (is_finished_of m ≡ true → StopsFinished holds size given m.state.chunk origin origin' m.device) × StaysOut holds size m.state.chunk m.device m'.device
 
 -- Every snapshot's store is loaded again with its array, and the origin with its own, whatever of the call is done, and whatever
 -- of what was written since the last flush of a device is lost: each sector of an array holds a value that was open for it

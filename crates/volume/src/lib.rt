@@ -20,6 +20,7 @@
 //! stop loses, the stores are loaded again, and a call opens no value of an array but those that it writes.
 #![tactic(auto)]
 
+mod ahead;
 mod at_once;
 mod at_store;
 mod attach;

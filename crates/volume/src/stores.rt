@@ -1,7 +1,9 @@
 // What the snapshots' stores say, at every moment.
-ghost use Rattle.std.specs.Prelude.{◌≡◌, None, true};
+ghost use Rattle.std.specs.Prelude.{◌<◌, ◌≡◌, AllPairs, None, Some, map, true};
 ghost use Rattle.std.specs.List.{All};
 ghost use Rattle.snapshot.specs.InStep.{IsInStep};
+ghost use Rattle.snapshot_list.specs.Numbers.{number_of_snap};
+ghost use Rattle.merge.specs.Merging.{Merging};
 ghost use Rattle.volume.specs.Asking.{IsMergeInStep};
 ghost use Rattle.volume.specs.Stopping.{StopsVolume};
 ghost use Rattle.volume.specs.Volumed.{is_loud_in_all};
@@ -38,5 +40,14 @@ impl<B: Block> Volume<B> {
             Some(merge) => merge.look_at_store(),
             None => {}
         }
+    }
+
+    /// A look at the snapshots, which does nothing: their numbers ascend in the order of attaching, so that no two are the same;
+    /// and a chunk of the one that is being merged has a sector at least.
+    pub fn look_at_numbers(&self)
+        ensures ascending { AllPairs (λ a b. a < b) (map number_of_snap self.now.snaps) }
+        ensures some { (g : Merging B) → self.now.merge ≡ Some g → 0 < g.state.chunk }
+    {
+        let _ = &self.snaps;
     }
 }

@@ -1,6 +1,6 @@
 -- What a stop leaves of the snapshots that are remembered, deed by deed.
 use Rattle.std.proofs.Common.{◌≡◌, ◌⊎◌, inl, inr, ℕ, ◌+◌, ◌*◌, ◌<◌, Bool, true, false, List, [], ◌∷◌, ◌++◌, filter, length, get_or, map, None, Some, Option, refl, sym, ◌∙◌, ap, subst, arith}
-use Rattle.std.specs.Prelude.{◌==◌, nat_eq, Err, IfErr, IfOk, Ok, OnOk, Result, if◌then◌else◌}
+use Rattle.std.specs.Prelude.{◌==◌, AllPairs, nat_eq, Err, IfErr, IfOk, Ok, OnOk, Result, if◌then◌else◌}
 use Rattle.std.specs.List.{All, remove}
 use Rattle.std.proofs.lemmas.Bool.{cases_Bool, cases_lt, eq-eqb, true≢false}
 use Rattle.std.proofs.lemmas.List.{get_or-map, get_or_append_left, get_or_push, length-append, length-map, map-id}
@@ -20,6 +20,8 @@ use Rattle.snapshot.specs.declared.opening.StoreDev.{StoreDev}
 use Rattle.snapshot.specs.Kept.{Kept}
 use Rattle.snapshot.specs.Opening.{shown_array}
 use Rattle.snapshot_list.proofs.Finds.{position_within}
+use Rattle.snapshot_list.specs.Numbers.{number_of_snap}
+use Rattle.merge.specs.Merging.{Merging}
 use Rattle.volume.specs.Shown.{shown_entry}
 use Rattle.volume.specs.AddedUp.{GivesAsked, IsOpenIn, IsOpenSnap, IsSomeOf, OpensOnly}
 use Rattle.volume.specs.Adding.{LeavesNoMore}
@@ -42,6 +44,7 @@ use Rattle.volume_history.specs.declared.deed.Deed.TheVariants.{Submit, Step, Ti
 use Rattle.volume_history.specs.declared.deed.Done.{Done}
 use Rattle.volume_history.specs.declared.deed.Done.TheVariants.{Submitted, Stepped, Ticked, Told, Attached, Detached, Begun, Resumed, Finished}
 use Rattle.volume_history.specs.Answered.{AreAnswered, IsDone}
+use Rattle.volume_history.specs.Doing.{IsDoneBy}
 use Rattle.volume_history.specs.Lasted.{IsLasting, LastAll, LastsTaken, OpensByDeed, TakesAs}
 use Rattle.volume_history.specs.Lived.{IsLoudDeed, IsSeen, Sees, Taken, remembered}
 use Rattle.volume_history.proofs.Lives.{seen_keeps}
@@ -278,7 +281,7 @@ module _ {B : Type 0} (holds : B → ℕ → List ℕ → Type 0) (m : Measures 
   last_all v (t ∷ taken) stops all = (lasts_one v t stops all.0, last_all v taken stops all.1)
 
   -- after a deed, of those that were remembered
-  same_attach : (store store' : StoreDev B) (chunk chunk' : ℕ) (overflow overflow' : Bool) → Attach store chunk overflow ≡ Attach store' chunk' overflow' → store ≡ store'
+  pub same_attach : (store store' : StoreDev B) (chunk chunk' : ℕ) (overflow overflow' : Bool) → Attach store chunk overflow ≡ Attach store' chunk' overflow' → store ≡ store'
   same_attach store store' chunk chunk' overflow overflow' e = cc
 
   taken_before : (store : StoreDev B) (chunk : ℕ) (overflow : Bool) (v w : Volumed B) (t : Taken) → Sees m.contents (Attach store chunk overflow) (Attached (Ok t.number)) (plain v) (plain w) → IsKept (plain v) t → ⊥
@@ -320,8 +323,15 @@ module _ {B : Type 0} (holds : B → ℕ → List ℕ → Type 0) (m : Measures 
           (subst (λ a. Sees m.contents (Attach store chunk overflow) a (plain v) (plain w)) attached (subst (λ a. Sees m.contents a done (plain v) (plain w)) attach sees))
           (subst (λ a. OpensByDeed holds m layers (Attach store chunk overflow) a v w) attached (subst (λ a. OpensByDeed holds m layers a done v w) attach opens))
 
-  -- One deed of a path, and a list of them: what it promises, what it opens, and what a look at the stores says behind it.
+  -- What a look at a volume says: numbers of snapshots ascend, and a chunk has a sector at least.
+  pub record IsLookedAt (w : Volumed B) : Type 0 where
+    pub unique : AllPairs (λ a b. a < b) (map number_of_snap w.snaps)
+    pub some : (g : Merging B) → w.merge ≡ Some g → 0 < g.state.chunk
+
+  -- One deed of a path, and a list of them: what it promises, what it opens, and what a look at the volume says behind it.
   pub record IsPassed (deed : Deed B) (done : Done B) (v w : Volumed B) : Type 0 where
+    pub by : IsDoneBy holds m layers deed done v w
+    pub looked : IsLookedAt w
     pub done_is : IsDone holds m layers deed done v w
     pub opens : is_loud_in_all layers v ≡ true → IsLoudDeed layers deed → OpensByDeed holds m layers deed done v w
     pub stops : is_loud_in_all layers w ≡ true → StopsVolume holds m.size None w w

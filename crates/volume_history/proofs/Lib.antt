@@ -2,3 +2,9 @@ pub mod Plains
 pub mod Lives
 pub mod Lasts
 pub mod AtOnce
+pub mod Routes
+pub mod Histories
+pub mod Closes
+pub mod Stepped
+pub mod Noted
+pub mod Loses

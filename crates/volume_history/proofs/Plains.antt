@@ -70,7 +70,7 @@ some_none : (saved : Saved) → Some saved ≢ None
 some_none saved e = cc
 
 -- the last one is found where none has its number
-saved_last : (number : ℕ) (saved : Saved) (overflow : Overflowing) (entries : List Entry) → saved_under number entries ≡ None → saved_under number (entries ++ record { number = number; saved = saved; overflow = overflow } ∷ []) ≡ Some saved
+pub saved_last : (number : ℕ) (saved : Saved) (overflow : Overflowing) (entries : List Entry) → saved_under number entries ≡ None → saved_under number (entries ++ record { number = number; saved = saved; overflow = overflow } ∷ []) ≡ Some saved
 saved_last number saved overflow [] none = (let mine : (number == number) ≡ true = eq-eqb number number refl in rw mine refl)
 saved_last number saved overflow (e ∷ es) none = elim (cases_Bool (e.number == number)) [
   | inl mine ↦ absurd (some_none e.saved (sym (rw mine refl) ∙ none))

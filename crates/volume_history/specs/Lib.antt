@@ -2,3 +2,5 @@ pub mod Lived
 pub mod Answered
 pub mod Lasted
 pub mod AtOnce
+pub mod Flushed
+pub mod Doing

@@ -27,7 +27,7 @@ pub picture_none : (chunk : ℕ) (o store : List ℕ) → pairs_of chunk store �
 picture_none chunk o store none = ext_get_or 0 (picture chunk o store) o (length-picture chunk o store)
     (λ i lt. get_or-picture chunk o store i (let e = length-picture chunk o store in omega arith) ∙ ap (λ ps. picture_at chunk o store ps i) none)
 
-new_live : (o : List ℕ) (s : SnapBooks) → IsNewSnap o s → LiveHolds o [] s
+new_live : {l : Bool} (o : List ℕ) (s : SnapBooks) → IsNewSnap o s → LiveHolds l o [] s
 new_live o s n = record {
   text = subst (StoreHolds s.chunk s.sectors s.size s.store) (sym (ap (λ x. s.pairs ++ x) n.begun ∙ append-nil s.pairs)) n.text;
   stored = n.stored;
@@ -36,7 +36,7 @@ new_live o s n = record {
   agree = n.begun ∙ ap (map pair_of) (sym n.copies);
   few = omega (arith, n.sure);
   link = subst (λ x. All (IsLinked s.marks) (drop x s.pairs)) (sym n.sure) (link_flushed s.pairs s.marks);
-  copies = subst (All (CopyHolds s.loud s.chunk s.sectors o s.store)) (sym n.copies) (All-nil (CopyHolds s.loud s.chunk s.sectors o s.store));
+  copies = subst (All (CopyHolds _ s.chunk s.sectors o s.store)) (sym n.copies) (All-nil (CopyHolds _ s.chunk s.sectors o s.store));
   unpublished = λ _. subst (All (MarkHolds s.chunk o s.store s.pairs)) (sym n.marks) (All-nil (MarkHolds s.chunk o s.store s.pairs));
   routes = All-nil (RouteHolds s.number s.chunk s.pairs s.marks);
 }
@@ -49,8 +49,8 @@ attach_event s v w h e n =
       subst Holds (sym now) (record {
         whole = h.whole;
         merge = h.merge;
-        snaps = All-push (SnapHolds v.origin v.requests) v.snaps s h.snaps (record {
-          alive = λ _. subst (λ rs. LiveHolds v.origin rs s) (sym e.quiet) (new_live v.origin s n);
+        snaps = All-push (SnapHolds v.loud v.origin v.requests) v.snaps s h.snaps (record {
+          alive = λ _. subst (λ rs. LiveHolds v.loud v.origin rs s) (sym e.quiet) (new_live v.origin s n);
           spoilt = λ dead. absurd (false≢true (sym dead ∙ n.live));
         });
         requests = h.requests;
@@ -72,7 +72,7 @@ detach_event k s v w h e =
       subst Holds (sym now) (record {
         whole = h.whole;
         merge = h.merge;
-        snaps = All-remove (SnapHolds v.origin v.requests) v.snaps k h.snaps;
+        snaps = All-remove (SnapHolds v.loud v.origin v.requests) v.snaps k h.snaps;
         requests = h.requests;
         numbers = subst (AllPairs (λ m n. m ≢ n)) (sym (map-remove number_of v.snaps k)) (all_pairs_remove (λ m n. m ≢ n) (map number_of v.snaps) k (omega (arith, e.within, length-map v.snaps number_of)) h.numbers);
       }),
@@ -89,7 +89,7 @@ pub new_volume : (o : List ℕ) (sectors : ℕ) (loud : Bool) → length o ≡ 5
 new_volume o sectors loud whole = record {
   whole = whole;
   merge = All-nil UnmergedHolds;
-  snaps = All-nil (SnapHolds o []);
+  snaps = All-nil (SnapHolds _ o []);
   requests = All-nil (RequestHolds sectors);
   numbers = λ i j d lt within. absurd (omega (arith, within));
 }

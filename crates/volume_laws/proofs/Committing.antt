@@ -1,7 +1,7 @@
 -- An area is zeroed, and the first copies are committed: ZeroNext and WriteArea, of one live snapshot.
-use Rattle.std.proofs.Common.{◌≡◌, ◌≢◌, inl, inr, ℕ, ◌+◌, ◌<◌, true, false, List, [], ◌∷◌, ◌++◌, Option, Some, None, length, get_or, map, take, drop, refl, sym, ◌∙◌, ap, subst, arith, append_assoc, length-append, nat_eq, zero}
+use Rattle.std.proofs.Common.{Bool, ◌≡◌, ◌≢◌, inl, inr, ℕ, ◌+◌, ◌<◌, true, false, List, [], ◌∷◌, ◌++◌, Option, Some, None, length, get_or, map, take, drop, refl, sym, ◌∙◌, ap, subst, arith, append_assoc, length-append, nat_eq, zero}
 use Rattle.std.specs.List.{All, Any}
-use Rattle.std.specs.Prelude.{AllPairs}
+use Rattle.std.specs.Prelude.{◌&&◌, AllPairs}
 use Rattle.std.proofs.lemmas.Bool.{cases_Bool, eqb-true}
 use Rattle.std.proofs.Math.Seq.{take-append-add}
 use Rattle.std.proofs.lemmas.List.{get_or_default, get_or-append-add, take-map, drop-map, take-append-drop, get_or-take, length-take-le}
@@ -16,6 +16,7 @@ use Rattle.in_flight.specs.Copies.{pair_of}
 use Rattle.in_flight.specs.declared.copies.ChunkCopy.{ChunkCopy}
 use Rattle.in_flight.specs.declared.copies.Mark.{Mark}
 use Rattle.in_flight.specs.declared.flights.Flight.{Flight}
+use Rattle.volume_laws.proofs.Heard.{store_loud}
 use Rattle.volume_laws.specs.Books.{SnapBooks}
 use Rattle.volume_laws.specs.Published.{chunk_of, IsPublished, IsUnpublished}
 use Rattle.volume_laws.specs.Held.{LiveHolds, CopyHolds, MarkHolds, RouteHolds, is_stored}
@@ -27,7 +28,7 @@ use Rattle.volume_laws.proofs.Sure.{any_front, any_back, link_committed}
 use Rattle.volume_laws.proofs.Stores.{not_placed, inside_at, copied_kept, mark_kept, picture_kept, area_unnamed}
 
 -- no copy stands on an area's place
-copy_off_area : (o : List ℕ) (rs : List Flight) (v : SnapBooks) → LiveHolds o rs v → (a k : ℕ) (p : ChunkCopy) → k < length v.copies → p ≡ get_or v.copies k p → p.pair.new ≢ area_place v.chunk a
+copy_off_area : {l : Bool} (o : List ℕ) (rs : List Flight) (v : SnapBooks) → LiveHolds l o rs v → (a k : ℕ) (p : ChunkCopy) → k < length v.copies → p ≡ get_or v.copies k p → p.pair.new ≢ area_place v.chunk a
 copy_off_area o rs v h a k p within is e =
     let free = (inside_at o rs v h k p within is).free in
     true_ne_false (sym (place_is v.chunk a h.text.some) ∙ sym (ap (is_area_place v.chunk) e) ∙ free)
@@ -36,7 +37,7 @@ copy_off_area o rs v h a k p within is e =
     true_ne_false e = cc
 
 -- after a write of an area the copies' places are as they were
-pub area_copies : (o : List ℕ) (rs : List Flight) (v : SnapBooks) (new : List ℕ) → LiveHolds o rs v → (a : ℕ) → ChangesOnly v.chunk (area_place v.chunk a) v.store new → All (CopyHolds v.loud v.chunk v.sectors o new) v.copies
+pub area_copies : {l : Bool} (o : List ℕ) (rs : List Flight) (v : SnapBooks) (new : List ℕ) → LiveHolds l o rs v → (a : ℕ) → ChangesOnly v.chunk (area_place v.chunk a) v.store new → All (CopyHolds (l && v.loud) v.chunk v.sectors o new) v.copies
 area_copies o rs v new h a only k d lt =
     let x = get_or v.copies k d in
     let x_is : x ≡ get_or v.copies k x = get_or_default v.copies k d x lt in
@@ -47,13 +48,13 @@ area_copies o rs v new h a only k d lt =
       written = λ loud done. copied_kept v.chunk (area_place v.chunk a) o v.store new x.pair h.text.some only (copy_off_area o rs v h a k x lt x_is) (old.written loud done);
     }
 
-pub area_zeroed : (o : List ℕ) (rs : List Flight) (a : ℕ) (v w : SnapBooks) → LiveHolds o rs v → ZeroesArea a v w → LiveHolds o rs w
+pub area_zeroed : {l : Bool} (o : List ℕ) (rs : List Flight) (a : ℕ) (v w : SnapBooks) → LiveHolds l o rs v → ZeroesArea a v w → LiveHolds l o rs w
 area_zeroed o rs a v w h e =
     let s = e.same in
     let t = h.text in
     let u : SnapBooks = record v { store = w.store } in
     let now : w ≡ u = same_books w u s.number s.live s.untried s.marked s.loud s.overflow s.chunk s.sectors s.size refl e.pairs e.begun e.sure e.copies e.marks in
-    subst (LiveHolds o rs) (sym now) (record {
+    subst (LiveHolds _ o rs) (sym now) (record {
       text = record { some = t.some; allowed = t.allowed; whole = e.only.len ∙ t.whole; inside = t.inside; apart = t.apart };
       stored = e.stored;
       fits = h.fits;
@@ -67,7 +68,7 @@ area_zeroed o rs a v w h e =
       routes = h.routes;
     })
 
-pub area_zeroed_picture : (o : List ℕ) (rs : List Flight) (a : ℕ) (v w : SnapBooks) → LiveHolds o rs v → ZeroesArea a v w → v.loud ≡ true → picture w.chunk o w.store ≡ picture v.chunk o v.store
+pub area_zeroed_picture : {l : Bool} (o : List ℕ) (rs : List Flight) (a : ℕ) (v w : SnapBooks) → LiveHolds l o rs v → ZeroesArea a v w → v.loud ≡ true → picture w.chunk o w.store ≡ picture v.chunk o v.store
 area_zeroed_picture o rs a v w h e loud =
     ap (λ c. picture c o w.store) e.same.chunk
     ∙ picture_kept v.chunk (area_place v.chunk a) o v.store w.store v.pairs h.text.some e.only (area_unnamed o rs v h a) (h.stored loud) (e.stored loud)
@@ -136,7 +137,7 @@ fresh_pairs ps qs apart k d lt = place_none (ps ++ take k qs) (get_or qs k d).ol
     get_or_same xs k d e lt = get_or_default xs k e d lt
 
 -- the first copies are committed
-module _ (o : List ℕ) (rs : List Flight) (count a : ℕ) (v w : SnapBooks) (h : LiveHolds o rs v) (e : Commits count a v w) where
+module _ {l : Bool} (o : List ℕ) (rs : List Flight) (count a : ℕ) (v w : SnapBooks) (h : LiveHolds l o rs v) (e : Commits count a v w) where
   abbrev first : List ChunkCopy
   first = take count v.copies
 
@@ -161,12 +162,12 @@ module _ (o : List ℕ) (rs : List Flight) (count a : ℕ) (v w : SnapBooks) (h 
   none_now : (k : ℕ) (d : Pair) → k < length new → place_of (v.pairs ++ take k new) (get_or new k d).old ≡ None
   none_now = fresh_pairs v.pairs new apart_now
 
-  copied_now : v.loud ≡ true → All (IsCopied v.chunk o v.store) new
+  copied_now : (l && v.loud) ≡ true → All (IsCopied v.chunk o v.store) new
   copied_now loud = All-map (IsCopied v.chunk o v.store) pair_of first
-      (λ k d lt. (All-take (CopyHolds v.loud v.chunk v.sectors o v.store) count v.copies h.copies k d lt).written loud (ap is_stored (e.ready k d lt)))
+      (λ k d lt. (All-take (CopyHolds _ v.chunk v.sectors o v.store) count v.copies h.copies k d lt).written loud (ap is_stored (e.ready k d lt)))
 
   -- the array stays as it was, byte by byte
-  same_at : v.loud ≡ true → (i : ℕ) → i < length o → picture_at v.chunk o w.store (v.pairs ++ new) i ≡ picture_at v.chunk o v.store v.pairs i
+  same_at : (l && v.loud) ≡ true → (i : ℕ) → i < length o → picture_at v.chunk o w.store (v.pairs ++ new) i ≡ picture_at v.chunk o v.store v.pairs i
   same_at loud i lt = picture-only v.chunk (area_place v.chunk a) o v.store w.store (v.pairs ++ new) h.text.some e.only unnamed_now i
       ∙ picture-more v.chunk o v.store v.pairs new none_now (copied_now loud) i lt
 
@@ -183,7 +184,7 @@ module _ (o : List ℕ) (rs : List Flight) (count a : ℕ) (v w : SnapBooks) (h 
   after_is : w ≡ after
   after_is = (let s = e.same in same_books w after s.number s.live s.untried s.marked s.loud s.overflow s.chunk s.sectors s.size refl (e.pairs ∙ ap (λ x. v.pairs ++ x) front_begun) e.begun e.sure e.copies e.marks)
 
-  after_holds : LiveHolds o rs after
+  after_holds : LiveHolds l o rs after
   after_holds = (let t = h.text in record {
     text = record {
       some = t.some;
@@ -198,7 +199,7 @@ module _ (o : List ℕ) (rs : List Flight) (count a : ℕ) (v w : SnapBooks) (h 
     agree = ap (drop count) h.agree ∙ drop-map pair_of count v.copies;
     few = omega (arith, h.few, length-append v.pairs new);
     link = link_committed v.sure v.pairs v.marks first h.few h.link;
-    copies = All-drop (CopyHolds v.loud v.chunk v.sectors o w.store) count v.copies (area_copies o rs v w.store h a e.only);
+    copies = All-drop (CopyHolds _ v.chunk v.sectors o w.store) count v.copies (area_copies o rs v w.store h a e.only);
     unpublished = λ loud. All-append (MarkHolds v.chunk o w.store (v.pairs ++ new)) v.marks (map mark_of first)
         (All-weaker (MarkHolds v.chunk o v.store v.pairs) (MarkHolds v.chunk o w.store (v.pairs ++ new)) (λ m old. record { same = λ i lt at. same_at loud i lt ∙ old.same i lt at }) v.marks (h.unpublished loud))
         (All-weaker (λ (n : Mark). place_of v.pairs n.chunk ≡ None) (MarkHolds v.chunk o w.store (v.pairs ++ new))
@@ -207,9 +208,9 @@ module _ (o : List ℕ) (rs : List Flight) (count a : ℕ) (v w : SnapBooks) (h 
         (λ r. route_more v.number v.chunk v.pairs v.marks first r fresh_marks) rs h.routes;
   })
 
-  pub commit : LiveHolds o rs w
-  commit = subst (LiveHolds o rs) (sym after_is) after_holds
+  pub commit : LiveHolds l o rs w
+  commit = subst (LiveHolds _ o rs) (sym after_is) after_holds
 
-  pub commit_picture : v.loud ≡ true → picture w.chunk o w.store ≡ picture v.chunk o v.store
+  pub commit_picture : (l && v.loud) ≡ true → picture w.chunk o w.store ≡ picture v.chunk o v.store
   commit_picture loud = ap (λ c. picture c o w.store) e.same.chunk
-      ∙ picture-commit v.chunk (area_place v.chunk a) o v.store w.store v.pairs new h.text.some e.only (h.stored loud) (e.stored loud ∙ e.pairs ∙ ap (λ x. v.pairs ++ x) front_begun) unnamed_now none_now (copied_now loud)
+      ∙ picture-commit v.chunk (area_place v.chunk a) o v.store w.store v.pairs new h.text.some e.only (h.stored (store_loud l v.loud loud)) (e.stored (store_loud l v.loud loud) ∙ e.pairs ∙ ap (λ x. v.pairs ++ x) front_begun) unnamed_now none_now (copied_now loud)

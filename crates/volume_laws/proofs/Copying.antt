@@ -1,5 +1,6 @@
 -- A copy is read, and written to its place: CopyRead and CopyWrite, of one live snapshot.
-use Rattle.std.proofs.Common.{◌≡◌, ◌≢◌, ◌⊎◌, inl, inr, ℕ, ◌+◌, ◌*◌, ◌-◌, ◌<◌, ◌≤◌, true, false, List, length, get_or, set, min, refl, sym, ◌∙◌, ap, subst, arith}
+use Rattle.std.specs.Prelude.{◌&&◌}
+use Rattle.std.proofs.Common.{Bool, ◌≡◌, ◌≢◌, ◌⊎◌, inl, inr, ℕ, ◌+◌, ◌*◌, ◌-◌, ◌<◌, ◌≤◌, true, false, List, length, get_or, set, min, refl, sym, ◌∙◌, ap, subst, arith}
 use Rattle.std.specs.List.{All}
 use Rattle.std.proofs.lemmas.Bool.{cases_eq, cases_lt, false≢true}
 use Rattle.std.proofs.lemmas.List.{get_or_default}
@@ -16,6 +17,7 @@ use Rattle.in_flight.specs.Copies.{count_of, pair_of}
 use Rattle.in_flight.specs.declared.copies.ChunkCopy.{ChunkCopy}
 use Rattle.in_flight.specs.declared.copies.Stage.TheVariants.{Waiting, Read, Written}
 use Rattle.in_flight.specs.declared.flights.Flight.{Flight}
+use Rattle.volume_laws.proofs.Heard.{store_loud}
 use Rattle.volume_laws.specs.Books.{SnapBooks}
 use Rattle.volume_laws.specs.Held.{LiveHolds, CopyHolds, MarkHolds, is_stored}
 use Rattle.volume_laws.specs.Steps.{ReadsCopy, WritesCopy}
@@ -29,8 +31,8 @@ pub waiting_ne_read : Waiting ≢ Read
 waiting_ne_read e = cc
 
 -- a copy goes on, with its pair
-goes_on : (o : List ℕ) (rs : List Flight) (v : SnapBooks) → LiveHolds o rs v → (k : ℕ) (p q : ChunkCopy) → p ≡ get_or v.copies k p → q.pair ≡ p.pair → CopyHolds v.loud v.chunk v.sectors o v.store q
-    → LiveHolds o rs (record v { copies = set v.copies k q })
+goes_on : {l : Bool} (o : List ℕ) (rs : List Flight) (v : SnapBooks) → LiveHolds l o rs v → (k : ℕ) (p q : ChunkCopy) → p ≡ get_or v.copies k p → q.pair ≡ p.pair → CopyHolds (l && v.loud) v.chunk v.sectors o v.store q
+    → LiveHolds l o rs (record v { copies = set v.copies k q })
 goes_on o rs v h k p q is same holds = record {
   text = h.text;
   stored = h.stored;
@@ -39,20 +41,20 @@ goes_on o rs v h k p q is same holds = record {
   agree = h.agree ∙ sym (map-set_same pair_of v.copies k q p (same ∙ ap pair_of is));
   few = h.few;
   link = h.link;
-  copies = All-set (CopyHolds v.loud v.chunk v.sectors o v.store) v.copies k q holds h.copies;
+  copies = All-set (CopyHolds _ v.chunk v.sectors o v.store) v.copies k q holds h.copies;
   unpublished = h.unpublished;
   routes = h.routes;
 }
 
-pub copy_read : (o : List ℕ) (rs : List Flight) (k : ℕ) (p q : ChunkCopy) (v w : SnapBooks) → LiveHolds o rs v → ReadsCopy o k p q v w → LiveHolds o rs w
+pub copy_read : {l : Bool} (o : List ℕ) (rs : List Flight) (k : ℕ) (p q : ChunkCopy) (v w : SnapBooks) → LiveHolds l o rs v → ReadsCopy o k p q v w → LiveHolds l o rs w
 copy_read o rs k p q v w h e =
     let old = copy_holds o rs v h k p e.copy.within e.copy.was in
     let s = e.same in
     let now : w ≡ record v { copies = set v.copies k q } =
     same_books w (record v { copies = set v.copies k q }) s.number s.live s.untried s.marked s.loud s.overflow s.chunk s.sectors s.size e.store.store e.store.pairs e.store.begun e.store.sure e.copy.copies e.marks in
-    subst (LiveHolds o rs) (sym now) (goes_on o rs v h k p q e.copy.was e.copy.pair (record {
+    subst (LiveHolds _ o rs) (sym now) (goes_on o rs v h k p q e.copy.was e.copy.pair (record {
       room = e.room ∙ old.room ∙ ap (λ (x : Pair). 512 * count_of v.chunk v.sectors x.old) (sym e.copy.pair);
-      read = λ _. e.read ∙ ap (λ (x : Pair). sectors_at o (v.chunk * x.old) (count_of v.chunk v.sectors x.old)) (sym e.copy.pair);
+      read = λ _ _. e.read ∙ ap (λ (x : Pair). sectors_at o (v.chunk * x.old) (count_of v.chunk v.sectors x.old)) (sym e.copy.pair);
       written = λ _ is. absurd (false≢true (sym (ap is_stored e.stage) ∙ is));
     }))
 
@@ -75,8 +77,8 @@ place_copied chunk sectors size o old new bytes pair pos o_len s_len inside fits
     record { front = front_copied chunk pair.old pair.new n o new pos here small (whole_chunk chunk sectors pair.old (length o) o_len inside) }
 
 -- the copies' places but one
-other_copies : (o : List ℕ) (rs : List Flight) (v : SnapBooks) (new : List ℕ) → LiveHolds o rs v → (k : ℕ) (p : ChunkCopy) → k < length v.copies → p ≡ get_or v.copies k p → is_stored p.stage ≡ false → ChangesOnly v.chunk p.pair.new v.store new
-    → All (CopyHolds v.loud v.chunk v.sectors o new) v.copies
+other_copies : {l : Bool} (o : List ℕ) (rs : List Flight) (v : SnapBooks) (new : List ℕ) → LiveHolds l o rs v → (k : ℕ) (p : ChunkCopy) → k < length v.copies → p ≡ get_or v.copies k p → is_stored p.stage ≡ false → ChangesOnly v.chunk p.pair.new v.store new
+    → All (CopyHolds (l && v.loud) v.chunk v.sectors o new) v.copies
 other_copies o rs v new h k p within is unwritten only j d lt =
     let x = get_or v.copies j d in
     let x_is : x ≡ get_or v.copies j x = get_or_default v.copies j d x lt in
@@ -90,8 +92,8 @@ other_copies o rs v new h k p within is unwritten only j d lt =
       ];
     }
 
-place_written : (o : List ℕ) (rs : List Flight) (v : SnapBooks) (new : List ℕ) → LiveHolds o rs v → (k : ℕ) (p : ChunkCopy) → k < length v.copies → p ≡ get_or v.copies k p → is_stored p.stage ≡ false → ChangesOnly v.chunk p.pair.new v.store new
-    → LiveHolds o rs (record v { store = new })
+place_written : {l : Bool} (o : List ℕ) (rs : List Flight) (v : SnapBooks) (new : List ℕ) → LiveHolds l o rs v → (k : ℕ) (p : ChunkCopy) → k < length v.copies → p ≡ get_or v.copies k p → is_stored p.stage ≡ false → ChangesOnly v.chunk p.pair.new v.store new
+    → LiveHolds l o rs (record v { store = new })
 place_written o rs v new h k p within is unwritten only =
     let t = h.text in
     record {
@@ -108,23 +110,23 @@ place_written o rs v new h k p within is unwritten only =
       routes = h.routes;
     }
 
-pub copy_write : (o : List ℕ) (rs : List Flight) (k : ℕ) (p q : ChunkCopy) (v w : SnapBooks) → LiveHolds o rs v → WritesCopy k p q v w → LiveHolds o rs w
+pub copy_write : {l : Bool} (o : List ℕ) (rs : List Flight) (k : ℕ) (p q : ChunkCopy) (v w : SnapBooks) → LiveHolds l o rs v → WritesCopy k p q v w → LiveHolds l o rs w
 copy_write o rs k p q v w h e =
     let old = copy_holds o rs v h k p e.copy.within e.copy.was in
     let inside = inside_at o rs v h k p e.copy.within e.copy.was in
     let s = e.same in
     let u : SnapBooks = record v { store = w.store; copies = set v.copies k q } in
     let now : w ≡ u = same_books w u s.number s.live s.untried s.marked s.loud s.overflow s.chunk s.sectors s.size refl e.pairs e.begun e.sure e.copy.copies e.marks in
-    subst (LiveHolds o rs) (sym now)
+    subst (LiveHolds _ o rs) (sym now)
     (goes_on o rs (record v { store = w.store }) (place_written o rs v w.store h k p e.copy.within e.copy.was (ap is_stored e.was_read) e.only) k p q e.copy.was e.copy.pair (record {
       room = ap length e.buffer ∙ old.room ∙ ap (λ (x : Pair). 512 * count_of v.chunk v.sectors x.old) (sym e.copy.pair);
-      read = λ is. absurd (read_ne_written (sym is ∙ e.stage));
+      read = λ _ is. absurd (read_ne_written (sym is ∙ e.stage));
       written = λ loud _. subst (IsCopied v.chunk o w.store) (sym e.copy.pair)
-          (place_copied v.chunk v.sectors v.size o v.store w.store p.buffer.items p.pair h.text.some h.fits h.text.whole inside.old inside.new old.room (old.read e.was_read) (e.written loud));
+          (place_copied v.chunk v.sectors v.size o v.store w.store p.buffer.items p.pair h.text.some h.fits h.text.whole inside.old inside.new old.room (old.read loud e.was_read) (e.written (store_loud _ v.loud loud)));
     }))
 
 -- and the array is as it was
-pub copy_write_picture : (o : List ℕ) (rs : List Flight) (k : ℕ) (p q : ChunkCopy) (v w : SnapBooks) → LiveHolds o rs v → WritesCopy k p q v w → v.loud ≡ true → picture w.chunk o w.store ≡ picture v.chunk o v.store
+pub copy_write_picture : {l : Bool} (o : List ℕ) (rs : List Flight) (k : ℕ) (p q : ChunkCopy) (v w : SnapBooks) → LiveHolds l o rs v → WritesCopy k p q v w → v.loud ≡ true → picture w.chunk o w.store ≡ picture v.chunk o v.store
 copy_write_picture o rs k p q v w h e loud =
     let free = (inside_at o rs v h k p e.copy.within e.copy.was).free in
     ap (λ c. picture c o w.store) e.same.chunk

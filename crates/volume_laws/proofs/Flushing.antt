@@ -38,7 +38,7 @@ stored_before Written e = refl
 stored_before Flushed e = refl
 
 copy_flushed : (loud : Bool) (chunk sectors : ℕ) (o store : List ℕ) (p : ChunkCopy) → CopyHolds loud chunk sectors o store p → CopyHolds loud chunk sectors o store (flushed_copy p)
-copy_flushed loud chunk sectors o store p h = record { room = h.room; read = λ is. h.read (read_before p.stage is); written = λ is done. h.written is (stored_before p.stage done) }
+copy_flushed loud chunk sectors o store p h = record { room = h.room; read = λ loud is. h.read loud (read_before p.stage is); written = λ is done. h.written is (stored_before p.stage done) }
 
 pub same_pairs : (copies : List ChunkCopy) → map pair_of (map flushed_copy copies) ≡ map pair_of copies
 same_pairs [] = refl
@@ -72,12 +72,12 @@ route_flushed number chunk pairs marks r h = record {
   flush = h.flush;
 }
 
-pub flush : (o : List ℕ) (rs : List Flight) (v w : SnapBooks) → LiveHolds o rs v → FlushesStore v w → LiveHolds o rs w
+pub flush : {l : Bool} (o : List ℕ) (rs : List Flight) (v w : SnapBooks) → LiveHolds l o rs v → FlushesStore v w → LiveHolds l o rs w
 flush o rs v w h e =
     let s = e.same in
     let u : SnapBooks = record v { sure = length v.pairs; copies = map flushed_copy v.copies; marks = map safe_mark v.marks } in
     let now : w ≡ u = same_books w u s.number s.live s.untried s.marked s.loud s.overflow s.chunk s.sectors s.size e.store e.pairs e.begun e.sure e.copies e.marks in
-    subst (LiveHolds o rs) (sym now) (record {
+    subst (LiveHolds _ o rs) (sym now) (record {
       text = h.text;
       stored = h.stored;
       fits = h.fits;
@@ -85,8 +85,8 @@ flush o rs v w h e =
       agree = h.agree ∙ sym (same_pairs v.copies);
       few = omega arith;
       link = link_flushed v.pairs (map safe_mark v.marks);
-      copies = All-map (CopyHolds v.loud v.chunk v.sectors o v.store) flushed_copy v.copies
-          (All-weaker (CopyHolds v.loud v.chunk v.sectors o v.store) (λ p. CopyHolds v.loud v.chunk v.sectors o v.store (flushed_copy p)) (copy_flushed v.loud v.chunk v.sectors o v.store) v.copies h.copies);
+      copies = All-map (CopyHolds _ v.chunk v.sectors o v.store) flushed_copy v.copies
+          (All-weaker (CopyHolds _ v.chunk v.sectors o v.store) (λ p. CopyHolds _ v.chunk v.sectors o v.store (flushed_copy p)) (copy_flushed _ v.chunk v.sectors o v.store) v.copies h.copies);
       unpublished = λ loud. All-map (MarkHolds v.chunk o v.store v.pairs) safe_mark v.marks
           (All-weaker (MarkHolds v.chunk o v.store v.pairs) (λ m. MarkHolds v.chunk o v.store v.pairs (safe_mark m)) (λ m old. record { same = old.same }) v.marks (h.unpublished loud));
       routes = All-weaker (RouteHolds v.number v.chunk v.pairs v.marks) (RouteHolds v.number v.chunk v.pairs (map safe_mark v.marks)) (route_flushed v.number v.chunk v.pairs v.marks) rs h.routes;

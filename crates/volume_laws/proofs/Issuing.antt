@@ -17,6 +17,7 @@ use Rattle.in_flight.specs.Kinds.{kind_of}
 use Rattle.in_flight.specs.declared.flights.Flight.{Flight}
 use Rattle.in_flight.specs.declared.flights.Kind.TheVariants.{OriginRead, OriginWrite, OriginFlush, SnapRead, SnapWrite, SnapFlush}
 use Rattle.in_flight.specs.declared.flights.Route.TheVariants.{Origin, Store, Whole, Refused}
+use Rattle.volume_laws.proofs.Heard.{both_loud}
 use Rattle.volume_laws.specs.Books.{SnapBooks, Books}
 use Rattle.volume_laws.specs.Held.{SnapHolds, RouteHolds, RefusedHolds, RequestHolds}
 use Rattle.volume_laws.specs.Whole.{Holds, plain_of, entry_of, origin_of, begun_of}
@@ -99,7 +100,7 @@ module _ (number k : ℕ) (r : Flight) (v w : Books) (h : Holds v) (e : OnlyTake
 
   -- requests of snapshot j
   module _ (j : ℕ) (s : SnapBooks) (within : j < length v.snaps) (was : s ≡ get_or v.snaps j s) where
-    here : SnapHolds v.origin v.requests s
+    here : SnapHolds v.loud v.origin v.requests s
     here = snap_holds v j s h within was
 
     route_at : (live : s.live ≡ true) → RouteHolds s.number s.chunk s.pairs s.marks r
@@ -162,7 +163,7 @@ module _ (number k : ℕ) (r : Flight) (v w : Books) (h : Holds v) (e : OnlyTake
         record {
           holds = left_holds;
           step = λ loud. answered (Data bytes) (read_served bytes live kind
-              (read ∙ disk_read v.origin v.requests s (here.alive live) (snap_loud v j s loud within was) r.request.range at.piece (range_inside live) (at.read kind route)));
+              (read ∙ disk_read v.origin v.requests s (here.alive live) (both_loud v.loud s.loud loud.origin (snap_loud v j s loud within was)) r.request.range at.piece (range_inside live) (at.read kind route)));
         }
 
     -- a snapshot read that is routed to the chunk's place

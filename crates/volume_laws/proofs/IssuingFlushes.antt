@@ -1,6 +1,6 @@
 -- Flushes of a whole store are issued, in a whole volume: a snapshot's, which is answered, and the merging store's, after which
 -- the request goes on to the origin disk.
-use Rattle.std.proofs.Common.{◌≡◌, ◌≢◌, inl, inr, ℕ, ◌<◌, true, false, List, Option, Some, None, length, get_or, set, map, take, refl, sym, ◌∙◌, ap, subst, arith}
+use Rattle.std.proofs.Common.{Bool, ◌≡◌, ◌≢◌, inl, inr, ℕ, ◌<◌, true, false, List, Option, Some, None, length, get_or, set, map, take, refl, sym, ◌∙◌, ap, subst, arith}
 use Rattle.std.specs.List.{All, remove}
 use Rattle.std.specs.Prelude.{AllPairs, sum_by}
 use Rattle.std.proofs.lemmas.Bool.{cases_Bool, cases_eq, false≢true}
@@ -45,7 +45,7 @@ module _ (number k : ℕ) (r : Flight) (j : ℕ) (s s' : SnapBooks) (v w : Books
   whole_ne_refused : Whole ≢ Refused
   whole_ne_refused c = cc
 
-  this : SnapHolds v.origin v.requests s
+  this : SnapHolds v.loud v.origin v.requests s
   this = snap_holds v j s h e.within e.was
 
   pub flushed_live : s.live ≡ true
@@ -54,7 +54,7 @@ module _ (number k : ℕ) (r : Flight) (j : ℕ) (s s' : SnapBooks) (v w : Books
     | inr dead ↦ absurd (whole_ne_refused (sym route ∙ (found_holds (RefusedHolds s.number) number k r v w e.out (this.spoilt dead).routes).flush kind))
   ]
 
-  one_now : SnapHolds v.origin left s'
+  one_now : SnapHolds v.loud v.origin left s'
   one_now = record {
     alive = λ _. flush v.origin left s s' (live_out v.origin v.requests s k (this.alive flushed_live)) e.flush;
     spoilt = λ dead. absurd (false≢true (sym dead ∙ e.flush.same.live ∙ flushed_live));
@@ -70,7 +70,7 @@ module _ (number k : ℕ) (r : Flight) (j : ℕ) (s s' : SnapBooks) (v w : Books
   now_holds = record {
     whole = h.whole;
     merge = origin_out v.origin v.requests k v.merge h.merge;
-    snaps = All-set (SnapHolds v.origin left) v.snaps j s' one_now (λ i d lt. snap_out v.origin v.requests (get_or v.snaps i d) k (h.snaps i d lt));
+    snaps = All-set (SnapHolds v.loud v.origin left) v.snaps j s' one_now (λ i d lt. snap_out v.origin v.requests (get_or v.snaps i d) k (h.snaps i d lt));
     requests = All-remove (RequestHolds v.sectors) v.requests k h.requests;
     numbers = subst (AllPairs (λ m n. m ≢ n)) (sym (same_numbers v.snaps j s s' e.was e.flush.same.number)) h.numbers;
   }
@@ -141,7 +141,7 @@ module _ (number k : ℕ) (r : Flight) (v w : Books) (e : RoutesOn number k r v 
         no_flush = was.no_flush;
       }) old.routes)
 
-  snap_on : (o : List ℕ) (x : SnapBooks) → SnapHolds o v.requests x → SnapHolds o rs' x
+  snap_on : {l : Bool} (o : List ℕ) (x : SnapBooks) → SnapHolds l o v.requests x → SnapHolds l o rs' x
   snap_on o x old = record {
     alive = λ live. (let here = old.alive live in let P = RouteHolds x.number x.chunk x.pairs x.marks in
         live_requests o v.requests rs' x here (All-set P v.requests k on (origin_flush_snap x on kind (of_it P here.routes).piece) here.routes));

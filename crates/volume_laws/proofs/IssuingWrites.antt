@@ -1,5 +1,5 @@
 -- A write is issued, in a whole volume: Issue of an origin write without a merge, and of a snapshot write to its place.
-use Rattle.std.proofs.Common.{◌≡◌, ◌≢◌, inl, inr, ℕ, suc, ◌+◌, ◌*◌, ◌/◌, ◌%◌, ◌<◌, ◌≤◌, true, List, [], ◌∷◌, Some, None, length, get_or, set, map, refl, sym, ◌∙◌, ap, subst, arith}
+use Rattle.std.proofs.Common.{Bool, ◌≡◌, ◌≢◌, inl, inr, ℕ, suc, ◌+◌, ◌*◌, ◌/◌, ◌%◌, ◌<◌, ◌≤◌, true, List, [], ◌∷◌, Some, None, length, get_or, set, map, refl, sym, ◌∙◌, ap, subst, arith}
 use Rattle.std.specs.List.{All, remove}
 use Rattle.std.specs.Prelude.{AllPairs}
 use Rattle.std.proofs.lemmas.Bool.{cases_Bool, false≢true}
@@ -41,20 +41,20 @@ saved_over s first count some piece published i lt live =
     subst (IsPublished s.pairs s.marks) (sym (sector_in s.chunk first i (some live) (omega (arith, piece live, lt)))) (published live)
 
 -- what a write to the origin disk leaves of a snapshot
-pub disk_write_over : (o o' : List ℕ) (rs : List Flight) (s : SnapBooks) (first count : ℕ) → SnapHolds o rs s → WritesDisk first count o o' → IsSavedOver first count s → SnapHolds o' rs s
+pub disk_write_over : {l : Bool} (o o' : List ℕ) (rs : List Flight) (s : SnapBooks) (first count : ℕ) → SnapHolds l o rs s → WritesDisk first count o o' → IsSavedOver first count s → SnapHolds l o' rs s
 disk_write_over o o' rs s first count h e published = record {
   alive = λ live. disk_write o o' rs s (h.alive live) first count e (λ j lt. published j lt live);
   spoilt = h.spoilt;
 }
 
-pub disk_write_shown : (o o' : List ℕ) (rs : List Flight) (s : SnapBooks) (first count : ℕ) → SnapHolds o rs s → s.loud ≡ true → WritesDisk first count o o' → IsSavedOver first count s → entry_of o' s ≡ entry_of o s
+pub disk_write_shown : {l : Bool} (o o' : List ℕ) (rs : List Flight) (s : SnapBooks) (first count : ℕ) → SnapHolds l o rs s → s.loud ≡ true → WritesDisk first count o o' → IsSavedOver first count s → entry_of o' s ≡ entry_of o s
 disk_write_shown o o' rs s first count h loud e published = same_entry o o' s s refl refl refl (λ live. disk_write_picture o o' rs s (h.alive live) first count e (λ j lt. published j lt live) loud)
 
 -- and one that lies inside one chunk of it
-pub disk_write_snap : (o o' : List ℕ) (rs : List Flight) (s : SnapBooks) (first count : ℕ) → SnapHolds o rs s → WritesDisk first count o o' → (s.live ≡ true → first + count ≤ s.chunk * (first / s.chunk) + s.chunk) → IsSaved first s → SnapHolds o' rs s
+pub disk_write_snap : {l : Bool} (o o' : List ℕ) (rs : List Flight) (s : SnapBooks) (first count : ℕ) → SnapHolds l o rs s → WritesDisk first count o o' → (s.live ≡ true → first + count ≤ s.chunk * (first / s.chunk) + s.chunk) → IsSaved first s → SnapHolds l o' rs s
 disk_write_snap o o' rs s first count h e piece published = disk_write_over o o' rs s first count h e (saved_over s first count (λ live. (h.alive live).text.some) piece published)
 
-pub disk_write_entry : (o o' : List ℕ) (rs : List Flight) (s : SnapBooks) (first count : ℕ) → SnapHolds o rs s → s.loud ≡ true → WritesDisk first count o o' → (s.live ≡ true → first + count ≤ s.chunk * (first / s.chunk) + s.chunk) → IsSaved first s → entry_of o' s ≡ entry_of o s
+pub disk_write_entry : {l : Bool} (o o' : List ℕ) (rs : List Flight) (s : SnapBooks) (first count : ℕ) → SnapHolds l o rs s → s.loud ≡ true → WritesDisk first count o o' → (s.live ≡ true → first + count ≤ s.chunk * (first / s.chunk) + s.chunk) → IsSaved first s → entry_of o' s ≡ entry_of o s
 disk_write_entry o o' rs s first count h loud e piece published = disk_write_shown o o' rs s first count h loud e (saved_over s first count (λ live. (h.alive live).text.some) piece published)
 
 -- an origin write that is routed to the origin disk, without a merge
@@ -75,7 +75,7 @@ module _ (number k : ℕ) (r : Flight) (bytes : List ℕ) (v w : Books) (h : Hol
   route_in : (j : ℕ) (d : SnapBooks) → j < length v.snaps → (get_or v.snaps j d).live ≡ true → RouteHolds (get_or v.snaps j d).number (get_or v.snaps j d).chunk (get_or v.snaps j d).pairs (get_or v.snaps j d).marks r
   route_in j d lt live = (let s = get_or v.snaps j d in found_holds (RouteHolds s.number s.chunk s.pairs s.marks) number k r v w e.out ((h.snaps j d lt).alive live).routes)
 
-  snaps_now : All (SnapHolds w.origin rest) v.snaps
+  snaps_now : All (SnapHolds v.loud w.origin rest) v.snaps
   snaps_now j d lt =
       let s = get_or v.snaps j d in
       disk_write_snap v.origin w.origin rest s first r.request.range.count (snap_out v.origin v.requests s k (h.snaps j d lt)) e.disk
@@ -127,7 +127,7 @@ module _ (number k : ℕ) (r : Flight) (bytes : List ℕ) (j place : ℕ) (s s' 
   store_ne_refused : Store place ≢ Refused
   store_ne_refused c = cc
 
-  this : SnapHolds v.origin v.requests s
+  this : SnapHolds v.loud v.origin v.requests s
   this = snap_holds v j s h e.within e.was
 
   live : s.live ≡ true
@@ -151,7 +151,7 @@ module _ (number k : ℕ) (r : Flight) (bytes : List ℕ) (j place : ℕ) (s s' 
   fits : r.request.range.first % s.chunk + r.request.range.count ≤ s.chunk
   fits = (let p = at.piece.within in let b = begins in omega (arith, p, b))
 
-  one_now : SnapHolds v.origin left s'
+  one_now : SnapHolds v.loud v.origin left s'
   one_now = record {
     alive = λ _. place_write v.origin left s s' (live_out v.origin v.requests s k (this.alive live)) (r.request.range.first / s.chunk) place (r.request.range.first % s.chunk) bytes e.store
         (at.write_stored place kind route).0 (at.write_stored place kind route).1 r.request.range.count whole fits;
@@ -168,7 +168,7 @@ module _ (number k : ℕ) (r : Flight) (bytes : List ℕ) (j place : ℕ) (s s' 
   now_holds = record {
     whole = h.whole;
     merge = origin_out v.origin v.requests k v.merge h.merge;
-    snaps = All-set (SnapHolds v.origin left) v.snaps j s' one_now (λ i d lt. snap_out v.origin v.requests (get_or v.snaps i d) k (h.snaps i d lt));
+    snaps = All-set (SnapHolds v.loud v.origin left) v.snaps j s' one_now (λ i d lt. snap_out v.origin v.requests (get_or v.snaps i d) k (h.snaps i d lt));
     requests = All-remove (RequestHolds v.sectors) v.requests k h.requests;
     numbers = subst (AllPairs (λ m n. m ≢ n)) (sym (same_numbers v.snaps j s s' e.was e.store.same.number)) h.numbers;
   }

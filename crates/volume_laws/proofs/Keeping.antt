@@ -188,7 +188,7 @@ placed_behind (p ∷ ps) qs c named none = elim (cases_Bool (nat_eq p.old c)) [
   | inr other ↦ placed_behind ps qs c named (rw other at none)
 ]
 
-pub commit_keeps : (o : List ℕ) (rs : List Flight) (count a : ℕ) (v w : SnapBooks) → LiveHolds o rs v → Commits count a v w → KeepsWaiting v w
+pub commit_keeps : {l : Bool} (o : List ℕ) (rs : List Flight) (count a : ℕ) (v w : SnapBooks) → LiveHolds l o rs v → Commits count a v w → KeepsWaiting v w
 commit_keeps o rs count a v w h e =
     let first : List ChunkCopy = take count v.copies in
     let qs : List Pair = map pair_of (take count v.copies) in

@@ -1,3 +1,4 @@
+pub mod Heard
 pub mod Lists
 pub mod Pairs
 pub mod Same
@@ -59,3 +60,5 @@ pub mod MergeBeside
 pub mod Beside
 pub mod MergeStarts
 pub mod MergeRoomStarts
+pub mod Ahead
+pub mod AheadDue

@@ -70,7 +70,7 @@ merge_read o rs m h rest q bytes last none read sized quiet =
             ∙ ap (λ x. h.ending.0 ++ x) (append_assoc rest (q ∷ []) m.copied),
       );
       room = sized;
-      buffered = All-cons P q [] read (All-nil P);
+      buffered = λ _. All-cons P q [] read (All-nil P);
       back = h.back;
       routes = λ k d lt.
           (let r = get_or rs k d in
@@ -124,7 +124,7 @@ module _ (o o' : List ℕ) (rs : List Flight) (m : MergeBooks) (h : MergeHolds o
   copied_now loud =
       let n : ℕ = count_of m.chunk m.sectors q.old in
       let P : Pair → Type 0 = λ p. take (512 * count_of m.chunk m.sectors p.old) m.buffer ≡ sectors_at m.store (m.chunk * p.new) (count_of m.chunk m.sectors p.old) in
-      let here : take (512 * count_of m.chunk m.sectors q.old) m.buffer ≡ sectors_at m.store (m.chunk * q.new) (count_of m.chunk m.sectors q.old) = All-head P q [] (subst (All P) full h.buffered) in
+      let here : take (512 * count_of m.chunk m.sectors q.old) m.buffer ≡ sectors_at m.store (m.chunk * q.new) (count_of m.chunk m.sectors q.old) = All-head P q [] (subst (All P) full (h.buffered loud)) in
       record {
         front = front_copied m.chunk q.old q.new (count_of m.chunk m.sectors q.old) o' m.store h.text.some (sym here ∙ sym (wrote loud)) few
             (whole_chunk m.chunk m.sectors q.old (length o') (e.len ∙ h.fits) write_inside.old);
@@ -137,7 +137,7 @@ module _ (o o' : List ℕ) (rs : List Flight) (m : MergeBooks) (h : MergeHolds o
     fits = e.len ∙ h.fits;
     ending = (h.ending.0, h.ending.1 ∙ ap (λ x. h.ending.0 ++ (m.waiting ++ (x ++ m.copied))) full);
     room = h.room;
-    buffered = All-nil (λ p. take (512 * count_of m.chunk m.sectors p.old) m.buffer ≡ sectors_at m.store (m.chunk * p.new) (count_of m.chunk m.sectors p.old));
+    buffered = λ _. All-nil (λ p. take (512 * count_of m.chunk m.sectors p.old) m.buffer ≡ sectors_at m.store (m.chunk * p.new) (count_of m.chunk m.sectors p.old));
     back = λ loud. All-cons (IsCopied m.chunk o' m.store) q (m.copied ++ m.released) (copied_now loud)
         (λ k d lt. (let one = write_apart k d lt in let old = h.back loud k d lt in
         record {
@@ -187,7 +187,7 @@ module _ (o : List ℕ) (rs : List Flight) (m : MergeBooks) (h : MergeHolds o rs
     fits = h.fits;
     ending = (kept, sym (append-nil kept) ∙ ap (λ x. kept ++ x) (sym (ap (λ x. x ++ (m.reading ++ [])) all_read ∙ ap (λ x. x ++ []) all_written)));
     room = h.room;
-    buffered = subst (All (λ p. take (512 * count_of m.chunk m.sectors p.old) m.buffer ≡ sectors_at store (m.chunk * p.new) (count_of m.chunk m.sectors p.old))) (sym all_written)
+    buffered = λ _. subst (All (λ p. take (512 * count_of m.chunk m.sectors p.old) m.buffer ≡ sectors_at store (m.chunk * p.new) (count_of m.chunk m.sectors p.old))) (sym all_written)
         (All-nil (λ p. take (512 * count_of m.chunk m.sectors p.old) m.buffer ≡ sectors_at store (m.chunk * p.new) (count_of m.chunk m.sectors p.old)));
     back = commit_back;
     routes = λ k d lt. (let r = get_or rs k d in let c : ℕ = chunk_of m.chunk r in let old = h.routes k d lt in record {
@@ -255,7 +255,7 @@ merge_dissolve o rs m h elsewhere = record {
   fits = h.fits;
   ending = (m.pairs, sym (append-nil m.pairs));
   room = h.room;
-  buffered = All-nil (λ p. take (512 * count_of m.chunk m.sectors p.old) m.buffer ≡ sectors_at m.store (m.chunk * p.new) (count_of m.chunk m.sectors p.old));
+  buffered = λ _. All-nil (λ p. take (512 * count_of m.chunk m.sectors p.old) m.buffer ≡ sectors_at m.store (m.chunk * p.new) (count_of m.chunk m.sectors p.old));
   back = λ _. All-nil (IsCopied m.chunk o m.store);
   routes = λ k d lt. (let r = get_or rs k d in let c : ℕ = chunk_of m.chunk r in let old = h.routes k d lt in let far = elsewhere k d lt in
       let all : m.pairs ++ [] ≡ m.pairs = append-nil m.pairs in
@@ -284,7 +284,7 @@ merge_fault o rs m h none = merge_dissolve o rs m h (subst (λ x. All (GoesElsew
 abbrev pub begun : SnapBooks → Bool → List ℕ → MergeBooks
 begun v loud buffer = record { number = v.number; loud = loud; chunk = v.chunk; sectors = v.sectors; size = v.size; store = v.store; pairs = v.pairs; waiting = []; reading = []; buffer = buffer; copied = []; released = [] }
 
-pub begin : (o : List ℕ) (v : SnapBooks) (loud : Bool) (buffer : List ℕ) → LiveHolds o [] v → v.begun ≡ [] → (loud ≡ true → v.loud ≡ true) → length buffer ≡ 512 * v.chunk → MergeHolds o [] (begun v loud buffer)
+pub begin : {l : Bool} (o : List ℕ) (v : SnapBooks) (loud : Bool) (buffer : List ℕ) → LiveHolds l o [] v → v.begun ≡ [] → (loud ≡ true → v.loud ≡ true) → length buffer ≡ 512 * v.chunk → MergeHolds o [] (begun v loud buffer)
 begin o v loud buffer h none louder sized =
     let all : given v ≡ v.pairs ++ [] = ap (λ x. v.pairs ++ x) none in
     record {
@@ -299,7 +299,7 @@ begin o v loud buffer h none louder sized =
       fits = h.fits;
       ending = (v.pairs, sym (append-nil v.pairs));
       room = sized;
-      buffered = All-nil (λ p. take (512 * count_of v.chunk v.sectors p.old) buffer ≡ sectors_at v.store (v.chunk * p.new) (count_of v.chunk v.sectors p.old));
+      buffered = λ _. All-nil (λ p. take (512 * count_of v.chunk v.sectors p.old) buffer ≡ sectors_at v.store (v.chunk * p.new) (count_of v.chunk v.sectors p.old));
       back = λ _. All-nil (IsCopied v.chunk o v.store);
       routes = All-nil (MergeRouteHolds v.number v.chunk v.pairs (listed (begun v loud buffer)) (taken (begun v loud buffer)));
     }
@@ -318,7 +318,7 @@ merge_buffer o rs m bytes h none sized =
       fits = h.fits;
       ending = h.ending;
       room = sized;
-      buffered = subst (All P) (sym none) (All-nil P);
+      buffered = λ _. subst (All P) (sym none) (All-nil P);
       back = h.back;
       routes = h.routes;
     }

@@ -59,8 +59,8 @@ module _ (o : List ℕ) (rs : List Flight) (m : MergeBooks) (h : MergeHolds o rs
     fits = h.fits;
     ending = h.ending;
     room = h.room;
-    buffered = λ k d lt. (let q = get_or m.reading k d in
-        h.buffered k d lt ∙ sym (front_kept m.chunk place q.new (count_of m.chunk m.sectors q.old) m.store store only (All-front (λ q. q.new ≢ place) m.reading (m.copied ++ m.released) apart_from k d lt) (omega arith)));
+    buffered = λ loud k d lt. (let q = get_or m.reading k d in
+        h.buffered loud k d lt ∙ sym (front_kept m.chunk place q.new (count_of m.chunk m.sectors q.old) m.store store only (All-front (λ q. q.new ≢ place) m.reading (m.copied ++ m.released) apart_from k d lt) (omega arith)));
     back = λ loud k d lt. copied_kept m.chunk place o m.store store (get_or (m.copied ++ m.released) k d) h.text.some only
         (All-back (λ q. q.new ≢ place) m.reading (m.copied ++ m.released) apart_from k d lt) (h.back loud k d lt);
     routes = h.routes;

@@ -106,7 +106,7 @@ or_right true b e = refl
 or_right false b e = e
 
 -- WriteArea
-pub commit_room : (o : List ℕ) (rs : List Flight) (count a : ℕ) (s s' : RoomSnap) → LiveHolds o rs s.books → Commits count a s.books s'.books → CommitsRoom count s s' → KeepsRoom s s'
+pub commit_room : {l : Bool} (o : List ℕ) (rs : List Flight) (count a : ℕ) (s s' : RoomSnap) → LiveHolds l o rs s.books → Commits count a s.books s'.books → CommitsRoom count s s' → KeepsRoom s s'
 commit_room o rs count a s s' h e room = record {
   space = record {
     saved = saved;

@@ -1,5 +1,5 @@
 -- A merge starts its next copies, in one snapshot after another: in between each that lacks the chunk has what its copy needs.
-use Rattle.std.proofs.Common.{◌≡◌, ℕ, ◌*◌, ◌<◌, true, List, Some, length, get_or, set, map, sym, ◌∙◌, ap, subst}
+use Rattle.std.proofs.Common.{Bool, ◌≡◌, ℕ, ◌*◌, ◌<◌, true, List, Some, length, get_or, set, map, sym, ◌∙◌, ap, subst}
 use Rattle.std.specs.List.{All}
 use Rattle.std.proofs.lemmas.List.{get_or-map, length-map, map-set}
 use Rattle.sector.specs.declared.pair.Pair.{Pair}
@@ -35,7 +35,7 @@ module _ (chunk sectors : ℕ) (pairs : List Pair) (q : Pair) (snaps : List Room
       (next_changed chunk sectors pairs (map room_books snaps) q k s.books s'.books (subst (λ n. k < n) (sym (length-map snaps room_books)) within) (ap room_books was ∙ sym (get_or-map room_books snaps k s s.books within)) keeps h.next)
 
   -- it lacks the chunk that is wanted of it: its copy needs no memory, and after it there is room for the others
-  module _ (o : List ℕ) (rs : List Flight) (holds : All (SnapHolds o rs) (map room_books snaps)) (live : s.books.live ≡ true) (lacks : lacks_chunk (next_over (chunk * q.old) (count_of chunk sectors q.old) s.books) s.books ≡ true) where
+  module _ {l : Bool} (o : List ℕ) (rs : List Flight) (holds : All (SnapHolds l o rs) (map room_books snaps)) (live : s.books.live ≡ true) (lacks : lacks_chunk (next_over (chunk * q.old) (count_of chunk sectors q.old) s.books) s.books ≡ true) where
     pub has_room : CanMerge s
     has_room = next_can o rs chunk sectors pairs snaps q holds h.kept h.next k s within was live lacks
 

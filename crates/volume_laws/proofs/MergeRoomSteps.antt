@@ -1,5 +1,5 @@
 -- Each event of a merge leaves what the snapshots keep back for it, and the copies that it starts are taken from that.
-use Rattle.std.proofs.Common.{◌≡◌, ℕ, ◌*◌, ◌<◌, true, List, [], ◌∷◌, ◌++◌, Some, length, get_or, set, map, refl, sym, ◌∙◌, ap, subst, arith, append_assoc}
+use Rattle.std.proofs.Common.{Bool, ◌≡◌, ℕ, ◌*◌, ◌<◌, true, List, [], ◌∷◌, ◌++◌, Some, length, get_or, set, map, refl, sym, ◌∙◌, ap, subst, arith, append_assoc}
 use Rattle.std.specs.Prelude.{reverse}
 use Rattle.std.specs.List.{All}
 use Rattle.std.proofs.lemmas.Grind.{flat_map-append}
@@ -89,11 +89,11 @@ saved_here : (chunk sectors : ℕ) (snaps : List RoomSnap) (k : ℕ) (d : RoomSn
 saved_here chunk sectors snaps k d lt pairs saved = All-weaker (IsSavedIn chunk sectors (map room_books snaps)) (λ (r : Pair). IsSavedOver (chunk * r.old) (count_of chunk sectors r.old) (get_or snaps k d).books)
     (λ r all. subst (IsSavedOver (chunk * r.old) (count_of chunk sectors r.old)) (get_or-map room_books snaps k d d.books lt) (all k d.books (subst (λ n. k < n) (sym (length-map snaps room_books)) lt))) pairs saved
 
-holds_in : (o : List ℕ) (rs : List Flight) (snaps : List RoomSnap) (k : ℕ) (d : RoomSnap) → k < length snaps → All (SnapHolds o rs) (map room_books snaps) → SnapHolds o rs (get_or snaps k d).books
-holds_in o rs snaps k d lt h = subst (SnapHolds o rs) (get_or-map room_books snaps k d d.books lt) (h k d.books (subst (λ n. k < n) (sym (length-map snaps room_books)) lt))
+holds_in : {l : Bool} (o : List ℕ) (rs : List Flight) (snaps : List RoomSnap) (k : ℕ) (d : RoomSnap) → k < length snaps → All (SnapHolds l o rs) (map room_books snaps) → SnapHolds l o rs (get_or snaps k d).books
+holds_in o rs snaps k d lt h = subst (SnapHolds _ o rs) (get_or-map room_books snaps k d d.books lt) (h k d.books (subst (λ n. k < n) (sym (length-map snaps room_books)) lt))
 
 -- MergeCommit
-pub rooms_committed : (o : List ℕ) (rs : List Flight) (snaps : List RoomSnap) (kept : List Pair) (store : List ℕ) (d d' : DueMerge) → CommitsGroup kept store d d' → All (SnapHolds o rs) (map room_books snaps) → MergeGoes (map room_books snaps) d
+pub rooms_committed : {l : Bool} (o : List ℕ) (rs : List Flight) (snaps : List RoomSnap) (kept : List Pair) (store : List ℕ) (d d' : DueMerge) → CommitsGroup kept store d d' → All (SnapHolds l o rs) (map room_books snaps) → MergeGoes (map room_books snaps) d
     → KeepBack d.books.chunk d.books.sectors d.books.pairs snaps → KeepBack d'.books.chunk d'.books.sectors d'.books.pairs snaps
 rooms_committed o rs snaps kept store d d' e holds goes h =
     subst (λ (m : MergeBooks). KeepBack m.chunk m.sectors m.pairs snaps) (sym e.books) one
@@ -178,11 +178,11 @@ wanted_is chunk sectors pairs snaps q next s some lacks =
     joined a b c d e = ap (λ x. a ++ x) (append_assoc b (c ∷ d) e) ∙ sym (append_assoc a b (c ∷ (d ++ e)))
 
 -- A live snapshot that lacks that chunk can start its copy without memory, and once it is started, there is room for the rest.
-module _ (o : List ℕ) (rs : List Flight) (chunk sectors : ℕ) (pairs : List Pair) (snaps : List RoomSnap) (q : Pair) (holds : All (SnapHolds o rs) (map room_books snaps)) (h : KeepBack chunk sectors pairs snaps)
+module _ {l : Bool} (o : List ℕ) (rs : List Flight) (chunk sectors : ℕ) (pairs : List Pair) (snaps : List RoomSnap) (q : Pair) (holds : All (SnapHolds l o rs) (map room_books snaps)) (h : KeepBack chunk sectors pairs snaps)
     (next : ComesNext chunk sectors pairs (map room_books snaps) q) (k : ℕ) (s : RoomSnap) (within : k < length snaps) (was : s ≡ get_or snaps k s) (live : s.books.live ≡ true)
     (lacks : lacks_chunk (next_over (chunk * q.old) (count_of chunk sectors q.old) s.books) s.books ≡ true) where
-  alive : LiveHolds o rs s.books
-  alive = (subst (λ (x : RoomSnap). SnapHolds o rs x.books) (sym was) (holds_in o rs snaps k s within holds)).alive live
+  alive : LiveHolds l o rs s.books
+  alive = (subst (λ (x : RoomSnap). SnapHolds l o rs x.books) (sym was) (holds_in o rs snaps k s within holds)).alive live
 
   wanted : IsWanted chunk sectors pairs next.back s.books (next_over (chunk * q.old) (count_of chunk sectors q.old) s.books)
   wanted = wanted_is chunk sectors pairs (map room_books snaps) q next s.books alive.text.some lacks

@@ -116,7 +116,7 @@ merging_saves : (n c : ℕ) (s : RoomSnap) → IsMerging n c s → IsSaving c s.
 merging_saves n c s (inl (k, p, within, is, (number, old))) = inr (k, p, within, is, old)
 merging_saves n c s (inr (spare, (named, mark))) = inl named
 
-published_idle : (o : List ℕ) (rs : List Flight) (n c : ℕ) (s : RoomSnap) → LiveHolds o rs s.books → IsPublished s.books.pairs s.books.marks c → IsMerging n c s → ⊥
+published_idle : {l : Bool} (o : List ℕ) (rs : List Flight) (n c : ℕ) (s : RoomSnap) → LiveHolds l o rs s.books → IsPublished s.books.pairs s.books.marks c → IsMerging n c s → ⊥
 published_idle o rs n c s h published (inl (k, p, within, is, (number, old))) =
     published.placed (ap (place_of s.books.pairs) (sym old) ∙ not_placed o rs s.books h k p within (sym is))
 published_idle o rs n c s h published (inr (spare, (named, (k, m, within, is, (number, old))))) = subst (λ (x : Mark). x.chunk ≢ c) is (published.unmarked k m within) old
@@ -176,7 +176,7 @@ started_fewer front c back p s s' e old lacks =
 
 -- The chunk that the merge takes up next, all that stand behind it being published: in a live snapshot that lacks it a copy
 -- can be started.
-module _ (o : List ℕ) (rs : List Flight) (front : List ℕ) (c : ℕ) (back : List ℕ) (s : RoomSnap) (h : LiveHolds o rs s.books) (room : KeepsBack (front ++ c ∷ back) s)
+module _ {l : Bool} (o : List ℕ) (rs : List Flight) (front : List ℕ) (c : ℕ) (back : List ℕ) (s : RoomSnap) (h : LiveHolds l o rs s.books) (room : KeepsBack (front ++ c ∷ back) s)
     (lacks : lacks_chunk c s.books ≡ true) (published : All (IsPublished s.books.pairs s.books.marks) back) where
   -- a copy of the merge's would be of this chunk, of one before it, or of one behind it
   not_busy : (n : ℕ) → MergesChunk (front ++ c ∷ back) n s → ⊥
@@ -224,7 +224,7 @@ module _ (o : List ℕ) (rs : List Flight) (front : List ℕ) (c : ℕ) (back : 
       number_is a b is = cc
 
 -- MergeCommit: the chunks of the copied pairs, which are published, go
-pub room_committed : (o : List ℕ) (rs : List Flight) (kept copied : List ℕ) (s : RoomSnap) → LiveHolds o rs s.books → All (IsPublished s.books.pairs s.books.marks) copied → KeepsBack (kept ++ copied) s → KeepsBack kept s
+pub room_committed : {l : Bool} (o : List ℕ) (rs : List Flight) (kept copied : List ℕ) (s : RoomSnap) → LiveHolds l o rs s.books → All (IsPublished s.books.pairs s.books.marks) copied → KeepsBack (kept ++ copied) s → KeepsBack kept s
 room_committed o rs kept copied s h published room = record {
   nodes = omega (arith, room.nodes, sum_by-append (λ c. one_if (lacks_chunk c s.books)) kept copied);
   spare = room.spare;

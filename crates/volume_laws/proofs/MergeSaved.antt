@@ -132,7 +132,7 @@ start_saved p v w e = keeps_too v w (start_keeps p v w e) (same_published v w e.
 pub start_next : (p : ChunkCopy) (v w : SnapBooks) → StartsCopy p v w → KeepsNext v w
 start_next p v w e = next_by v w (start_saved p v w e) e.pairs e.marks
 
-pub commit_saved : (o : List ℕ) (rs : List Flight) (count a : ℕ) (v w : SnapBooks) → LiveHolds o rs v → Commits count a v w → KeepsSaved v w
+pub commit_saved : {l : Bool} (o : List ℕ) (rs : List Flight) (count a : ℕ) (v w : SnapBooks) → LiveHolds l o rs v → Commits count a v w → KeepsSaved v w
 commit_saved o rs count a v w h e =
     let qs : List Pair = map pair_of (take count v.copies) in
     let ns : List Mark = map mark_of (take count v.copies) in
@@ -141,7 +141,7 @@ commit_saved o rs count a v w h e =
     subst (λ x. IsPublished x w.marks c) (sym pairs) (subst (λ x. IsPublished (v.pairs ++ map pair_of (take count v.copies)) x c) (sym e.marks)
     (published_more v.pairs (map pair_of (take count v.copies)) v.marks (map mark_of (take count v.copies)) c (fresh_marks o rs count a v w h e) old)))
 
-pub commit_next : (o : List ℕ) (rs : List Flight) (count a : ℕ) (v w : SnapBooks) → LiveHolds o rs v → Commits count a v w → KeepsNext v w
+pub commit_next : {l : Bool} (o : List ℕ) (rs : List Flight) (count a : ℕ) (v w : SnapBooks) → LiveHolds l o rs v → Commits count a v w → KeepsNext v w
 commit_next o rs count a v w h e = record {
   saved = commit_saved o rs count a v w h e;
   same = λ live c. elim (cases_Bool (is_published v.pairs v.marks c)) [

@@ -18,7 +18,7 @@ use Rattle.volume_laws.proofs.Waiting.{KeepsWaiting, waits_changed}
 use Rattle.volume_laws.proofs.MergeSaved.{KeepsSaved, KeepsNext, next_by}
 
 -- a snapshot that holds is marked
-marked_holds : (v : Books) (s : SnapBooks) → s.live ≡ true → LiveHolds v.origin v.requests s → SnapHolds v.origin v.requests (record s { overflow = Did })
+marked_holds : (v : Books) (s : SnapBooks) → s.live ≡ true → LiveHolds v.loud v.origin v.requests s → SnapHolds v.loud v.origin v.requests (record s { overflow = Did })
 marked_holds v s live h = live_snap v.origin v.requests (record s { overflow = Did }) live (record {
   text = h.text;
   stored = h.stored;
@@ -63,7 +63,7 @@ module _ (k : ℕ) (s s' : SnapBooks) (v w : Books) (e : ChangesSnap k s s' v w)
       let after : Books = record v { snaps = set v.snaps k s' } in
       let now : w ≡ after = same_volume w after e.origin e.sectors e.loud e.snaps e.merge e.requests in (
         one_holds k s s' v w h e (ap (λ (x : SnapBooks). x.number) o.becomes)
-            (subst (SnapHolds v.origin v.requests) (sym o.becomes) (marked_holds v s o.was ((snap_holds v k s h e.within e.was).alive o.was))),
+            (subst (SnapHolds v.loud v.origin v.requests) (sym o.becomes) (marked_holds v s o.was ((snap_holds v k s h e.within e.was).alive o.was))),
         record {
           array = picture s.chunk v.origin s.store;
           live = saved_at v.origin v.snaps k s h.numbers e.within e.was ∙ ap (λ b. Some (shown s.number s.overflow b (picture s.chunk v.origin s.store)).saved) o.was;

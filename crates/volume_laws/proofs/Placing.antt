@@ -86,14 +86,14 @@ module _ (k : ℕ) (s : SnapBooks) (v w : Books) (h : Holds v) (e : Places k s v
       (λ r was goes. (let at = place_is s.pairs s.marks (chunk_of s.chunk r) goes.found goes.placed in
       snap_write_placed s (placed_of s r) goes.found goes.mine was.piece goes.goes at.0 at.1))
 
-  snap_moved : (j : ℕ) (d : SnapBooks) → j < length v.snaps → SnapHolds v.origin moved (get_or v.snaps j d)
+  snap_moved : (j : ℕ) (d : SnapBooks) → j < length v.snaps → SnapHolds v.loud v.origin moved (get_or v.snaps j d)
   snap_moved j d lt =
       let x = get_or v.snaps j d in
       let old = h.snaps j d lt in
       elim (cases_eq j k) [
         | inl same ↦
             (let is : s ≡ x = e.was ∙ ap (λ i. get_or v.snaps i s) (sym same) ∙ get_or_default v.snaps j s d lt in
-            subst (SnapHolds v.origin moved) is (record {
+            subst (SnapHolds v.loud v.origin moved) is (record {
               alive = λ l. (let here = (snap_holds v k s h e.within e.was).alive l in live_requests v.origin v.requests moved s here (mine_moved here.routes));
               spoilt = λ dead. absurd (false≢true (sym dead ∙ live));
             }))

@@ -1,5 +1,5 @@
 -- A committed copy is published: Publish, of one live snapshot. No request reads the chunk from the origin disk then.
-use Rattle.std.proofs.Common.{◌≡◌, ◌≢◌, inl, inr, ℕ, ◌<◌, true, false, List, length, get_or, drop, refl, sym, ◌∙◌, subst, eq-eqb}
+use Rattle.std.proofs.Common.{Bool, ◌≡◌, ◌≢◌, inl, inr, ℕ, ◌<◌, true, false, List, length, get_or, drop, refl, sym, ◌∙◌, subst, eq-eqb}
 use Rattle.std.specs.List.{remove, list_any}
 use Rattle.std.proofs.lemmas.Bool.{false≢true}
 use Rattle.sector.specs.declared.pair.Pair.{Pair}
@@ -40,13 +40,13 @@ route_unmarked number chunk ps ms k m r within is unread h = record {
   flush = h.flush;
 }
 
-pub unmark : (o : List ℕ) (rs : List Flight) (k : ℕ) (m : Mark) (v w : SnapBooks) → LiveHolds o rs v → Unmarks k m v w → list_any (is_reading v.number v.chunk m.chunk) rs ≡ false → LiveHolds o rs w
+pub unmark : {l : Bool} (o : List ℕ) (rs : List Flight) (k : ℕ) (m : Mark) (v w : SnapBooks) → LiveHolds l o rs v → Unmarks k m v w → list_any (is_reading v.number v.chunk m.chunk) rs ≡ false → LiveHolds l o rs w
 unmark o rs k m v w h e none =
     let s = e.same in
     let u : SnapBooks = record v { marks = remove v.marks k } in
     let now : w ≡ u = same_books w u s.number s.live s.untried s.marked s.loud s.overflow s.chunk s.sectors s.size e.store.store e.store.pairs e.store.begun e.store.sure e.copies e.marks in
     let unread = All-from_list_any (is_reading v.number v.chunk m.chunk) rs none in
-    subst (LiveHolds o rs) (sym now) (record {
+    subst (LiveHolds _ o rs) (sym now) (record {
       text = h.text;
       stored = h.stored;
       fits = h.fits;

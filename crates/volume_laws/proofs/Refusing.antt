@@ -1,5 +1,5 @@
 -- Requests of spoiled snapshots are refused: what that leaves of the others' routes.
-use Rattle.std.proofs.Common.{◌≡◌, ℕ, true, false, List, [], ◌∷◌, Option, Some, None, get_or, map, take, inl, inr, refl, sym, ◌∙◌, ap, if◌then◌else◌}
+use Rattle.std.proofs.Common.{Bool, ◌≡◌, ℕ, true, false, List, [], ◌∷◌, Option, Some, None, get_or, map, take, inl, inr, refl, sym, ◌∙◌, ap, if◌then◌else◌}
 use Rattle.std.specs.List.{All}
 use Rattle.std.proofs.lemmas.List.Elements.{All-weaker, All-map}
 use Rattle.sector.specs.declared.pair.Pair.{Pair}
@@ -59,7 +59,7 @@ pub merge_requests : (o : List ℕ) (rs rs' : List Flight) (m : MergeBooks) → 
 merge_requests o rs rs' m h routes = record { text = h.text; stored = h.stored; fits = h.fits; ending = h.ending; room = h.room; buffered = h.buffered; back = h.back; routes = routes }
 
 -- of a live snapshot
-pub live_requests : (o : List ℕ) (rs rs' : List Flight) (v : SnapBooks) → LiveHolds o rs v → All (RouteHolds v.number v.chunk v.pairs v.marks) rs' → LiveHolds o rs' v
+pub live_requests : {l : Bool} (o : List ℕ) (rs rs' : List Flight) (v : SnapBooks) → LiveHolds l o rs v → All (RouteHolds v.number v.chunk v.pairs v.marks) rs' → LiveHolds l o rs' v
 live_requests o rs rs' v h routes = record { text = h.text; stored = h.stored; fits = h.fits; tried = h.tried; agree = h.agree; few = h.few; link = h.link; copies = h.copies; unpublished = h.unpublished; routes = routes }
 
 merge_route_kept : (which : List ℕ) (m : MergeBooks) (r : Flight) → MergeRouteHolds m.number m.chunk m.pairs (listed m) (taken m) r → MergeRouteHolds m.number m.chunk m.pairs (listed m) (taken m) (refused_of which r)
@@ -122,7 +122,7 @@ pub untried_refused : (which : List ℕ) (chunk : ℕ) (pairs : List Pair) (rs :
 untried_refused which chunk pairs rs all = (let P = UntriedHolds chunk pairs in All-map P (refused_of which) rs (All-weaker P (λ r. P (refused_of which r)) (untried_kept which chunk pairs) rs all))
 
 -- a snapshot that is not among the spoiled
-pub snap_refused : (which : List ℕ) (o : List ℕ) (rs : List Flight) (v : SnapBooks) → is_in which v.number ≡ false → SnapHolds o rs v → SnapHolds o (map (refused_of which) rs) v
+pub snap_refused : {l : Bool} (which : List ℕ) (o : List ℕ) (rs : List Flight) (v : SnapBooks) → is_in which v.number ≡ false → SnapHolds l o rs v → SnapHolds l o (map (refused_of which) rs) v
 snap_refused which o rs v none h = record {
   alive = λ live. (let P = RouteHolds v.number v.chunk v.pairs v.marks in
       live_requests o rs (map (refused_of which) rs) v (h.alive live) (All-map P (refused_of which) rs (All-weaker P (λ r. P (refused_of which r)) (λ r. route_kept which v r none) rs (h.alive live).routes)));

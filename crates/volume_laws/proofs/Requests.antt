@@ -1,5 +1,5 @@
 -- A request is found under its number, and taken out, in a whole volume.
-use Rattle.std.proofs.Common.{◌≡◌, ℕ, zero, suc, ◌<◌, true, false, List, [], ◌∷◌, Option, Some, None, length, get_or, map, take, refl, sym, ◌∙◌, ap, subst, arith, nat_eq}
+use Rattle.std.proofs.Common.{Bool, ◌≡◌, ℕ, zero, suc, ◌<◌, true, false, List, [], ◌∷◌, Option, Some, None, length, get_or, map, take, refl, sym, ◌∙◌, ap, subst, arith, nat_eq}
 use Rattle.std.specs.Prelude.{◌==◌}
 use Rattle.std.specs.List.{All, remove, position}
 use Rattle.std.proofs.lemmas.List.Quantifiers.{position-Some}
@@ -60,10 +60,10 @@ pub origin_out : (o : List ℕ) (rs : List Flight) (k : ℕ) (merge : Option Mer
 origin_out o rs k None h = All-remove UnmergedHolds rs k h
 origin_out o rs k (Some m) h = merge_requests o rs (remove rs k) m h (All-remove (MergeRouteHolds m.number m.chunk m.pairs (listed m) (taken m)) rs k h.routes)
 
-pub live_out : (o : List ℕ) (rs : List Flight) (v : SnapBooks) (k : ℕ) → LiveHolds o rs v → LiveHolds o (remove rs k) v
+pub live_out : {l : Bool} (o : List ℕ) (rs : List Flight) (v : SnapBooks) (k : ℕ) → LiveHolds l o rs v → LiveHolds l o (remove rs k) v
 live_out o rs v k h = live_requests o rs (remove rs k) v h (All-remove (RouteHolds v.number v.chunk v.pairs v.marks) rs k h.routes)
 
-pub snap_out : (o : List ℕ) (rs : List Flight) (v : SnapBooks) (k : ℕ) → SnapHolds o rs v → SnapHolds o (remove rs k) v
+pub snap_out : {l : Bool} (o : List ℕ) (rs : List Flight) (v : SnapBooks) (k : ℕ) → SnapHolds l o rs v → SnapHolds l o (remove rs k) v
 snap_out o rs v k h = record {
   alive = λ live. live_out o rs v k (h.alive live);
   spoilt = λ dead. (let old = h.spoilt dead in record {

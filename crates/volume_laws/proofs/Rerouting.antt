@@ -74,7 +74,7 @@ again_untried : (v : SnapBooks) (merge : Option MergeBooks) (clear : ℕ → Boo
 again_untried v None clear r tried waits new = untried_write v (again_of None clear r) false None (clear r.request.range.first) new tried waits
 again_untried v (Some m) clear r tried waits new = untried_write v (again_of (Some m) clear r) (has_chunk (group_of m) (chunk_of m.chunk r)) (place_of m.pairs (chunk_of m.chunk r)) (clear r.request.range.first) new tried waits
 
-again_snap : (o : List ℕ) (rs : List Flight) (merge : Option MergeBooks) (clear : ℕ → Bool) (v : SnapBooks) → SnapHolds o rs v → ((first : ℕ) → clear first ≡ true → IsSaved first v) → ((first : ℕ) → clear first ≡ true → v.untried ≡ false) → SnapHolds o (map (again_of merge clear) rs) v
+again_snap : {l : Bool} (o : List ℕ) (rs : List Flight) (merge : Option MergeBooks) (clear : ℕ → Bool) (v : SnapBooks) → SnapHolds l o rs v → ((first : ℕ) → clear first ≡ true → IsSaved first v) → ((first : ℕ) → clear first ≡ true → v.untried ≡ false) → SnapHolds l o (map (again_of merge clear) rs) v
 again_snap o rs merge clear v h published tried = record {
   alive = λ live. (let old = h.alive live in let P = RouteHolds v.number v.chunk v.pairs v.marks in
       live_requests o rs (map (again_of merge clear) rs) v old

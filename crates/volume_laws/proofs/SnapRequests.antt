@@ -1,5 +1,6 @@
 -- Reads and writes of one live snapshot, by each route.
-use Rattle.std.proofs.Common.{◌≡◌, ◌≢◌, ◌⊎◌, inl, inr, ℕ, ◌+◌, ◌*◌, ◌-◌, ◌/◌, ◌%◌, ◌<◌, ◌≤◌, true, false, List, Some, length, get_or, refl, sym, ◌∙◌, ap, subst, arith}
+use Rattle.std.specs.Prelude.{◌&&◌}
+use Rattle.std.proofs.Common.{Bool, ◌≡◌, ◌≢◌, ◌⊎◌, inl, inr, ℕ, ◌+◌, ◌*◌, ◌-◌, ◌/◌, ◌%◌, ◌<◌, ◌≤◌, true, false, List, Some, length, get_or, refl, sym, ◌∙◌, ap, subst, arith}
 use Rattle.std.specs.List.{All}
 use Rattle.std.proofs.lemmas.List.{get_or_default}
 use Rattle.std.proofs.lemmas.Nat.{div-add-mod'}
@@ -14,6 +15,7 @@ use Rattle.store_bytes.proofs.Pictures.{length-picture, get_or-picture, picture-
 use Rattle.store_bytes.proofs.Slots.{pairs-outside}
 use Rattle.store_bytes.proofs.AreaPlaces.{chunks_apart}
 use Rattle.in_flight.specs.declared.flights.Flight.{Flight}
+use Rattle.volume_laws.proofs.Heard.{store_loud}
 use Rattle.volume_laws.specs.Books.{SnapBooks}
 use Rattle.volume_laws.specs.Published.{IsPiece, IsPublished, IsUnpublished}
 use Rattle.volume_laws.specs.Held.{LiveHolds, CopyHolds, MarkHolds}
@@ -24,23 +26,23 @@ use Rattle.volume_laws.proofs.Stores.{apart_from_pairs, inside_pairs, apart_pair
 use Rattle.volume_laws.proofs.Bytes.{piece_low, byte_chunk, byte_in, byte_below, sectors_are, length-sectors}
 
 -- a byte of a chunk that is not published is the origin disk's
-pub unpublished_is : (o : List ℕ) (rs : List Flight) (v : SnapBooks) → LiveHolds o rs v → v.loud ≡ true → (c i : ℕ) → IsUnpublished v.pairs v.marks c → i < length o → i / (512 * v.chunk) ≡ c → picture_at v.chunk o v.store v.pairs i ≡ get_or o i 0
+pub unpublished_is : {l : Bool} (o : List ℕ) (rs : List Flight) (v : SnapBooks) → LiveHolds l o rs v → (l && v.loud) ≡ true → (c i : ℕ) → IsUnpublished v.pairs v.marks c → i < length o → i / (512 * v.chunk) ≡ c → picture_at v.chunk o v.store v.pairs i ≡ get_or o i 0
 unpublished_is o rs v h loud c i (inl none) lt at = ap (byte_of v.chunk o v.store i) (ap (place_of v.pairs) at ∙ none)
 unpublished_is o rs v h loud c i (inr (k, m, within, is, chunk_is)) lt at =
     let same : MarkHolds v.chunk o v.store v.pairs m = subst (MarkHolds v.chunk o v.store v.pairs) is (h.unpublished loud k m within) in
     same.same i lt (at ∙ sym chunk_is)
 
 -- a byte of the array
-array_at : (o : List ℕ) (rs : List Flight) (v : SnapBooks) → LiveHolds o rs v → v.loud ≡ true → (i : ℕ) → i < length o → get_or (picture v.chunk o v.store) i 0 ≡ picture_at v.chunk o v.store v.pairs i
+array_at : {l : Bool} (o : List ℕ) (rs : List Flight) (v : SnapBooks) → LiveHolds l o rs v → v.loud ≡ true → (i : ℕ) → i < length o → get_or (picture v.chunk o v.store) i 0 ≡ picture_at v.chunk o v.store v.pairs i
 array_at o rs v h loud i lt = get_or-picture v.chunk o v.store i lt ∙ ap (λ ps. picture_at v.chunk o v.store ps i) (h.stored loud)
 
 -- a read that is routed to the origin disk
-pub disk_read : (o : List ℕ) (rs : List Flight) (v : SnapBooks) → LiveHolds o rs v → v.loud ≡ true → (range : Range) → IsPiece v.chunk range → range.first + range.count ≤ v.sectors → IsUnpublished v.pairs v.marks (range.first / v.chunk)
+pub disk_read : {l : Bool} (o : List ℕ) (rs : List Flight) (v : SnapBooks) → LiveHolds l o rs v → (l && v.loud) ≡ true → (range : Range) → IsPiece v.chunk range → range.first + range.count ≤ v.sectors → IsUnpublished v.pairs v.marks (range.first / v.chunk)
     → sectors_at o range.first range.count ≡ sectors_at (picture v.chunk o v.store) range.first range.count
 disk_read o rs v h loud range piece inside un =
     let len = length-picture v.chunk o v.store in
     sym (sectors_are (picture v.chunk o v.store) (sectors_at o range.first range.count) range.first range.count (omega (arith, h.fits)) (length-sectors o range.first range.count (omega (arith, h.fits)))
-    (λ k lt. array_at o rs v h loud (512 * range.first + k) (omega (arith, h.fits))
+    (λ k lt. array_at o rs v h (store_loud _ v.loud loud) (512 * range.first + k) (omega (arith, h.fits))
     ∙ unpublished_is o rs v h loud (range.first / v.chunk) (512 * range.first + k) un (omega (arith, h.fits)) (byte_chunk v.chunk range.first range.count k h.text.some piece.within lt)
     ∙ sym (byte_read o range.first range.count k lt)))
 
@@ -52,7 +54,7 @@ offset chunk first count pos piece =
     (first - chunk * (first / chunk), omega arith, omega arith, omega arith)
 
 -- a read that is routed to the chunk's place
-pub place_read : (o : List ℕ) (rs : List Flight) (v : SnapBooks) → LiveHolds o rs v → v.loud ≡ true → (range : Range) (place : ℕ) → IsPiece v.chunk range → range.first + range.count ≤ v.sectors → place_of v.pairs (range.first / v.chunk) ≡ Some place
+pub place_read : {l : Bool} (o : List ℕ) (rs : List Flight) (v : SnapBooks) → LiveHolds l o rs v → v.loud ≡ true → (range : Range) (place : ℕ) → IsPiece v.chunk range → range.first + range.count ≤ v.sectors → place_of v.pairs (range.first / v.chunk) ≡ Some place
     → sectors_at v.store (v.chunk * place + range.first % v.chunk) range.count ≡ sectors_at (picture v.chunk o v.store) range.first range.count
 place_read o rs v h loud range place piece inside named =
     let (off, at, fits, is) = offset v.chunk range.first range.count h.text.some piece.within in
@@ -68,7 +70,7 @@ place_read o rs v h loud range place piece inside named =
     ∙ picture-written v.chunk (range.first / v.chunk) place off range.count o v.store bytes v.pairs h.text.some named fits refl k lt))
 
 -- a write that is routed to the chunk's place
-module _ (o : List ℕ) (rs : List Flight) (v w : SnapBooks) (h : LiveHolds o rs v) (c place off : ℕ) (bytes : List ℕ) (e : WritesPlace c place off bytes v w)
+module _ {l : Bool} (o : List ℕ) (rs : List Flight) (v w : SnapBooks) (h : LiveHolds l o rs v) (c place off : ℕ) (bytes : List ℕ) (e : WritesPlace c place off bytes v w)
     (named : place_of v.pairs c ≡ Some place) (published : IsPublished v.pairs v.marks c) where
   placed : (pair : Pair) × (pair.old ≡ c) × (pair.new ≡ place) × IsInside v.chunk v.sectors v.size pair
   placed = place_of-All (IsInside v.chunk v.sectors v.size) v.pairs c place (inside_pairs o rs v h) named
@@ -82,7 +84,7 @@ module _ (o : List ℕ) (rs : List Flight) (v w : SnapBooks) (h : LiveHolds o rs
   same_pairs : pairs_of v.chunk w.store ≡ pairs_of v.chunk v.store
   same_pairs = pairs-outside v.chunk place v.store w.store h.text.some place_free e.only
 
-  copies_apart : All (CopyHolds v.loud v.chunk v.sectors o w.store) v.copies
+  copies_apart : All (CopyHolds (l && v.loud) v.chunk v.sectors o w.store) v.copies
   copies_apart k d lt =
       let x = get_or v.copies k d in
       let x_is : x ≡ get_or v.copies k x = get_or_default v.copies k d x lt in
@@ -111,13 +113,13 @@ module _ (o : List ℕ) (rs : List Flight) (v w : SnapBooks) (h : LiveHolds o rs
         (λ i out. ap (λ ps. picture_at v.chunk o w.store ps i) (h.stored loud) ∙ array_outside i out ∙ sym (ap (λ ps. picture_at v.chunk o v.store ps i) (h.stored loud)))
         (λ k lt. ap (λ ps. picture_at v.chunk o w.store ps (512 * (v.chunk * c + off) + k)) (h.stored loud) ∙ array_inside k lt)
 
-  pub place_write : (count : ℕ) → length bytes ≡ 512 * count → off + count ≤ v.chunk → LiveHolds o rs w
+  pub place_write : (count : ℕ) → length bytes ≡ 512 * count → off + count ≤ v.chunk → LiveHolds l o rs w
   place_write count whole fits =
       let s = e.same in
       let u : SnapBooks = record v { store = w.store } in
       let now : w ≡ u = same_books w u s.number s.live s.untried s.marked s.loud s.overflow s.chunk s.sectors s.size refl e.pairs e.begun e.sure e.copies e.marks in
       let t = h.text in
-      subst (LiveHolds o rs) (sym now) (record {
+      subst (LiveHolds _ o rs) (sym now) (record {
         text = record { some = t.some; allowed = t.allowed; whole = e.only.len ∙ t.whole; inside = t.inside; apart = t.apart };
         stored = λ loud. same_pairs ∙ h.stored loud;
         fits = h.fits;
@@ -128,7 +130,7 @@ module _ (o : List ℕ) (rs : List Flight) (v w : SnapBooks) (h : LiveHolds o rs
         copies = copies_apart;
         unpublished = λ loud k d lt.
             (let m = get_or v.marks k d in
-            record { same = λ i inside at. array_outside loud count whole fits i (other_chunk i (λ same. published.unmarked k d lt (sym at ∙ same))) ∙ (h.unpublished loud k d lt).same i inside at });
+            record { same = λ i inside at. array_outside (store_loud _ v.loud loud) count whole fits i (other_chunk i (λ same. published.unmarked k d lt (sym at ∙ same))) ∙ (h.unpublished loud k d lt).same i inside at });
         routes = h.routes;
       })
     where

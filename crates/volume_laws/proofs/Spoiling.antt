@@ -63,7 +63,7 @@ module _ (k : ℕ) (s s' : SnapBooks) (v w : Books) (h : Holds v) (e : SpoilsOne
   after_is : w ≡ after
   after_is = same_volume w after e.origin e.sectors e.loud e.snaps e.merge e.requests
 
-  spoilt_now : SnapHolds v.origin (map (refused_of which) v.requests) s'
+  spoilt_now : SnapHolds v.loud v.origin (map (refused_of which) v.requests) s'
   spoilt_now = record {
     alive = λ live. absurd (false≢true (sym e.spoils.live ∙ live));
     spoilt = λ _. record {
@@ -78,15 +78,15 @@ module _ (k : ℕ) (s s' : SnapBooks) (v w : Books) (h : Holds v) (e : SpoilsOne
     };
   }
 
-  snaps_now : All (SnapHolds v.origin (map (refused_of which) v.requests)) (set v.snaps k s')
+  snaps_now : All (SnapHolds v.loud v.origin (map (refused_of which) v.requests)) (set v.snaps k s')
   snaps_now j d lt =
       let within : j < length v.snaps = omega (arith, length-set v.snaps k s') in
       elim (cases_eq j k) [
-        | inl same ↦ subst (SnapHolds v.origin (map (refused_of which) v.requests))
+        | inl same ↦ subst (SnapHolds v.loud v.origin (map (refused_of which) v.requests))
             (sym (ap (λ i. get_or (set v.snaps k s') i d) same ∙ get_or-set_same v.snaps k s' d e.within)) spoilt_now
         | inr other ↦
             (let x = get_or v.snaps j d in
-            subst (SnapHolds v.origin (map (refused_of which) v.requests)) (sym (get_or-set_other v.snaps k j s' d other))
+            subst (SnapHolds v.loud v.origin (map (refused_of which) v.requests)) (sym (get_or-set_other v.snaps k j s' d other))
             (snap_refused which v.origin v.requests x (not_in s.number x.number (numbers_differ v.snaps j k x s h.numbers within e.within (get_or_default v.snaps j d x within) e.was other)) (h.snaps j d within)))
       ]
 

@@ -1,5 +1,5 @@
 -- A copy is started, of one live snapshot.
-use Rattle.std.proofs.Common.{◌≡◌, ℕ, List, [], ◌∷◌, ◌++◌, sym, ◌∙◌, ap, subst}
+use Rattle.std.proofs.Common.{Bool, ◌≡◌, ℕ, List, [], ◌∷◌, ◌++◌, sym, ◌∙◌, ap, subst}
 use Rattle.std.proofs.lemmas.Bool.{false≢true}
 use Rattle.std.proofs.lemmas.List.{map_push}
 use Rattle.std.proofs.lemmas.List.Elements.{All-push}
@@ -12,12 +12,12 @@ use Rattle.volume_laws.specs.Steps.{StartsCopy}
 use Rattle.volume_laws.proofs.Same.{same_books}
 use Rattle.volume_laws.proofs.Copying.{waiting_ne_read}
 
-pub start : (o : List ℕ) (rs : List Flight) (p : ChunkCopy) (v w : SnapBooks) → LiveHolds o rs v → StartsCopy p v w → LiveHolds o rs w
+pub start : {l : Bool} (o : List ℕ) (rs : List Flight) (p : ChunkCopy) (v w : SnapBooks) → LiveHolds l o rs v → StartsCopy p v w → LiveHolds l o rs w
 start o rs p v w h e =
     let s = e.same in
     let u : SnapBooks = record v { begun = v.begun ++ p.pair ∷ []; copies = v.copies ++ p ∷ [] } in
     let now : w ≡ u = same_books w u s.number s.live s.untried s.marked s.loud s.overflow s.chunk s.sectors s.size e.store e.pairs e.begun e.sure e.copies e.marks in
-    subst (LiveHolds o rs) (sym now) (record {
+    subst (LiveHolds _ o rs) (sym now) (record {
       text = e.text;
       stored = h.stored;
       fits = h.fits;
@@ -25,8 +25,8 @@ start o rs p v w h e =
       agree = ap (λ x. x ++ p.pair ∷ []) h.agree ∙ sym (map_push pair_of v.copies p);
       few = h.few;
       link = h.link;
-      copies = All-push (CopyHolds v.loud v.chunk v.sectors o v.store) v.copies p h.copies
-          (record { room = e.room; read = λ is. absurd (waiting_ne_read (sym e.stage ∙ is)); written = λ _ is. absurd (false≢true (sym (ap is_stored e.stage) ∙ is)) });
+      copies = All-push (CopyHolds _ v.chunk v.sectors o v.store) v.copies p h.copies
+          (record { room = e.room; read = λ _ is. absurd (waiting_ne_read (sym e.stage ∙ is)); written = λ _ is. absurd (false≢true (sym (ap is_stored e.stage) ∙ is)) });
       unpublished = h.unpublished;
       routes = h.routes;
     })

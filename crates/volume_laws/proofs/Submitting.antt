@@ -1,5 +1,5 @@
 -- A request is accepted, in a whole volume.
-use Rattle.std.proofs.Common.{◌≡◌, ℕ, false, List, [], ◌∷◌, ◌++◌, Option, Some, None, get_or, map, take, refl, sym, ◌∙◌, ap, subst}
+use Rattle.std.proofs.Common.{Bool, ◌≡◌, ℕ, false, List, [], ◌∷◌, ◌++◌, Option, Some, None, get_or, map, take, refl, sym, ◌∙◌, ap, subst}
 use Rattle.std.specs.List.{All}
 use Rattle.std.proofs.lemmas.List.{map_push}
 use Rattle.std.proofs.lemmas.List.Elements.{All-push}
@@ -21,7 +21,7 @@ origin_more : (o : List ℕ) (rs : List Flight) (f : Flight) (merge : Option Mer
 origin_more o rs f None h fits = All-push UnmergedHolds rs f h fits
 origin_more o rs f (Some m) h fits = merge_requests o rs (rs ++ f ∷ []) m h (All-push (MergeRouteHolds m.number m.chunk m.pairs (listed m) (taken m)) rs f h.routes fits)
 
-snap_more : (o : List ℕ) (rs : List Flight) (f : Flight) (s : SnapBooks) → SnapHolds o rs s → FitsSnap f s → SnapHolds o (rs ++ f ∷ []) s
+snap_more : {l : Bool} (o : List ℕ) (rs : List Flight) (f : Flight) (s : SnapBooks) → SnapHolds l o rs s → FitsSnap f s → SnapHolds l o (rs ++ f ∷ []) s
 snap_more o rs f s h fits = record {
   alive = λ live. live_requests o rs (rs ++ f ∷ []) s (h.alive live) (All-push (RouteHolds s.number s.chunk s.pairs s.marks) rs f (h.alive live).routes (fits.alive live));
   spoilt = λ dead. (let old = h.spoilt dead in record {

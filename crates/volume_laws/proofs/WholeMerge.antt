@@ -244,7 +244,7 @@ begin_event o n l vs k s loud buffer sized louder h within is live none =
       record {
         whole = h.whole;
         merge = begin o s loud buffer (holds.alive live) none louder sized;
-        snaps = All-remove (SnapHolds o []) vs k h.snaps;
+        snaps = All-remove (SnapHolds _ o []) vs k h.snaps;
         requests = h.requests;
         numbers = subst (AllPairs (λ a b. a ≢ b)) (sym (map-remove number_of vs k)) (all_pairs_remove (λ a b. a ≢ b) (map number_of vs) k (omega (arith, within, length-map vs number_of)) h.numbers);
       },

@@ -1,7 +1,7 @@
 -- One snapshot changes, in a whole volume: the copies' own events.
 use Rattle.std.proofs.Common.{◌≡◌, ◌≢◌, inl, inr, ℕ, zero, suc, ◌<◌, Bool, true, false, List, [], ◌∷◌, length, get_or, set, map, refl, sym, ◌∙◌, ap, subst, arith, if◌then◌else◌}
 use Rattle.std.specs.List.{list_any}
-use Rattle.std.specs.Prelude.{AllPairs}
+use Rattle.std.specs.Prelude.{◌&&◌, AllPairs}
 use Rattle.std.proofs.lemmas.Bool.{false≢true, cases_Bool}
 use Rattle.std.proofs.lemmas.List.{map-set, length-map, get_or-map}
 use Rattle.std.proofs.lemmas.List.Elements.{All-set}
@@ -15,6 +15,7 @@ use Rattle.in_flight.specs.Routes.{is_reading}
 use Rattle.in_flight.specs.declared.copies.ChunkCopy.{ChunkCopy}
 use Rattle.in_flight.specs.declared.copies.Mark.{Mark}
 use Rattle.in_flight.specs.declared.flights.Flight.{Flight}
+use Rattle.volume_laws.proofs.Heard.{store_loud, both_loud}
 use Rattle.volume_laws.specs.Books.{SnapBooks, Books, number_of}
 use Rattle.volume_laws.specs.Held.{LiveHolds, SnapHolds}
 use Rattle.volume_laws.specs.Whole.{Holds, IsLoud, plain_of, entry_of, origin_of, begun_of}
@@ -36,35 +37,35 @@ pub silent_step : (old new : Plain) → new ≡ old → Spoils [] old new
 silent_step old new same = same ∙ ap (λ x. plain old.origin old.begun x old.requests) (sym (spoiled_none old.saved))
 
 -- a snapshot of the volume
-pub snap_holds : (v : Books) (k : ℕ) (s : SnapBooks) → Holds v → k < length v.snaps → s ≡ get_or v.snaps k s → SnapHolds v.origin v.requests s
-snap_holds v k s h within is = subst (SnapHolds v.origin v.requests) (sym is) (h.snaps k s within)
+pub snap_holds : (v : Books) (k : ℕ) (s : SnapBooks) → Holds v → k < length v.snaps → s ≡ get_or v.snaps k s → SnapHolds v.loud v.origin v.requests s
+snap_holds v k s h within is = subst (SnapHolds v.loud v.origin v.requests) (sym is) (h.snaps k s within)
 
 pub snap_loud : (v : Books) (k : ℕ) (s : SnapBooks) → IsLoud v → k < length v.snaps → s ≡ get_or v.snaps k s → s.loud ≡ true
 snap_loud v k s loud within is = subst (λ (x : SnapBooks). x.loud ≡ true) (sym is) (loud.snaps k s within)
 
 -- a live one
-pub live_snap : (o : List ℕ) (rs : List Flight) (s : SnapBooks) → s.live ≡ true → LiveHolds o rs s → SnapHolds o rs s
+pub live_snap : {l : Bool} (o : List ℕ) (rs : List Flight) (s : SnapBooks) → s.live ≡ true → LiveHolds l o rs s → SnapHolds l o rs s
 live_snap o rs s live h = record { alive = λ _. h; spoilt = λ dead. absurd (false≢true (sym dead ∙ live)) }
 
 -- one with a copy, or with a mark, is live
-pub live_by_copy : (o : List ℕ) (rs : List Flight) (s : SnapBooks) (j : ℕ) → SnapHolds o rs s → j < length s.copies → s.live ≡ true
+pub live_by_copy : {l : Bool} (o : List ℕ) (rs : List Flight) (s : SnapBooks) (j : ℕ) → SnapHolds l o rs s → j < length s.copies → s.live ≡ true
 live_by_copy o rs s j h within = elim (cases_Bool s.live) [ inl live ↦ live | inr dead ↦ absurd (omega (arith, ap length (h.spoilt dead).copies)) ]
 
-pub live_by_mark : (o : List ℕ) (rs : List Flight) (s : SnapBooks) (j : ℕ) → SnapHolds o rs s → j < length s.marks → s.live ≡ true
+pub live_by_mark : {l : Bool} (o : List ℕ) (rs : List Flight) (s : SnapBooks) (j : ℕ) → SnapHolds l o rs s → j < length s.marks → s.live ≡ true
 live_by_mark o rs s j h within = elim (cases_Bool s.live) [ inl live ↦ live | inr dead ↦ absurd (omega (arith, ap length (h.spoilt dead).unpublished)) ]
 
 -- the numbers of the snapshots
 pub same_numbers : (snaps : List SnapBooks) (k : ℕ) (s s' : SnapBooks) → s ≡ get_or snaps k s → s'.number ≡ s.number → map number_of (set snaps k s') ≡ map number_of snaps
 same_numbers snaps k s s' is same = map-set_same number_of snaps k s' s (same ∙ ap number_of is)
 
-pub one_holds : (k : ℕ) (s s' : SnapBooks) (v w : Books) → Holds v → ChangesSnap k s s' v w → s'.number ≡ s.number → SnapHolds v.origin v.requests s' → Holds w
+pub one_holds : (k : ℕ) (s s' : SnapBooks) (v w : Books) → Holds v → ChangesSnap k s s' v w → s'.number ≡ s.number → SnapHolds v.loud v.origin v.requests s' → Holds w
 one_holds k s s' v w h e number one =
     let u : Books = record v { snaps = set v.snaps k s' } in
     let now : w ≡ u = same_volume w u e.origin e.sectors e.loud e.snaps e.merge e.requests in
     subst Holds (sym now) (record {
       whole = h.whole;
       merge = h.merge;
-      snaps = All-set (SnapHolds v.origin v.requests) v.snaps k s' one h.snaps;
+      snaps = All-set (SnapHolds v.loud v.origin v.requests) v.snaps k s' one h.snaps;
       requests = h.requests;
       numbers = subst (AllPairs (λ m n. m ≢ n)) (sym (same_numbers v.snaps k s s' e.was number)) h.numbers;
     })
@@ -97,11 +98,11 @@ same_entry o o' s s' number live overflow same =
     ∙ ap (λ x. shown s.number x s.live (picture s'.chunk o' s'.store)) overflow ∙ entry_as s.live s.number s.overflow (picture s.chunk o s.store) (picture s'.chunk o' s'.store) same
 
 -- a live snapshot stays live, and shows the same
-pub one_silent : (k : ℕ) (s s' : SnapBooks) (v w : Books) → Holds v → ChangesSnap k s s' v w → IsSame s s' → s.live ≡ true → LiveHolds v.origin v.requests s'
-    → (s.loud ≡ true → picture s'.chunk v.origin s'.store ≡ picture s.chunk v.origin s.store) → IsSilent v w
+pub one_silent : (k : ℕ) (s s' : SnapBooks) (v w : Books) → Holds v → ChangesSnap k s s' v w → IsSame s s' → s.live ≡ true → LiveHolds v.loud v.origin v.requests s'
+    → ((v.loud && s.loud) ≡ true → picture s'.chunk v.origin s'.store ≡ picture s.chunk v.origin s.store) → IsSilent v w
 one_silent k s s' v w h e same live one shows = record {
   holds = one_holds k s s' v w h e same.number (live_snap v.origin v.requests s' (same.live ∙ live) one);
-  step = λ loud. silent_step (plain_of v) (plain_of w) (one_plain k s s' v w e (same_entry v.origin v.origin s s' same.number same.live same.overflow (λ _. shows (snap_loud v k s loud e.within e.was))));
+  step = λ loud. silent_step (plain_of v) (plain_of w) (one_plain k s s' v w e (same_entry v.origin v.origin s s' same.number same.live same.overflow (λ _. shows (both_loud v.loud s.loud loud.origin (snap_loud v k s loud e.within e.was)))));
 }
 
 -- the array over an unchanged store
@@ -109,7 +110,7 @@ pub same_array : (o : List ℕ) (s s' : SnapBooks) → IsSame s s' → s'.store 
 same_array o s s' same store = ap (λ c. picture c o s'.store) same.chunk ∙ ap (picture s.chunk o) store
 
 module _ (k : ℕ) (s s' : SnapBooks) (v w : Books) (h : Holds v) (e : ChangesSnap k s s' v w) where
-  here : SnapHolds v.origin v.requests s
+  here : SnapHolds v.loud v.origin v.requests s
   here = snap_holds v k s h e.within e.was
 
   -- CopyRead
@@ -122,11 +123,11 @@ module _ (k : ℕ) (s s' : SnapBooks) (v w : Books) (h : Holds v) (e : ChangesSn
   pub copy_write_event : (j : ℕ) (p q : ChunkCopy) → WritesCopy j p q s s' → IsSilent v w
   copy_write_event j p q r =
       let live = live_by_copy v.origin v.requests s j here r.copy.within in
-      one_silent k s s' v w h e r.same live (copy_write v.origin v.requests j p q s s' (here.alive live) r) (copy_write_picture v.origin v.requests j p q s s' (here.alive live) r)
+      one_silent k s s' v w h e r.same live (copy_write v.origin v.requests j p q s s' (here.alive live) r) (λ both. copy_write_picture v.origin v.requests j p q s s' (here.alive live) r (store_loud v.loud s.loud both))
 
   -- ZeroNext
   pub zero_event : (a : ℕ) → s.live ≡ true → ZeroesArea a s s' → IsSilent v w
-  zero_event a live r = one_silent k s s' v w h e r.same live (area_zeroed v.origin v.requests a s s' (here.alive live) r) (area_zeroed_picture v.origin v.requests a s s' (here.alive live) r)
+  zero_event a live r = one_silent k s s' v w h e r.same live (area_zeroed v.origin v.requests a s s' (here.alive live) r) (λ both. area_zeroed_picture v.origin v.requests a s s' (here.alive live) r (store_loud v.loud s.loud both))
 
   -- WriteArea
   pub commit_event : (count a : ℕ) → s.live ≡ true → Commits count a s s' → IsSilent v w

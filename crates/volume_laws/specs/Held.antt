@@ -1,5 +1,5 @@
 -- What is true of a snapshot that is not being merged, over the origin disk's bytes and the requests in flight.
-use Rattle.std.specs.Prelude.{◌≡◌, ◌≢◌, ℕ, ◌+◌, ◌*◌, ◌/◌, ◌<◌, ◌≤◌, Bool, true, false, List, [], None, Some, Any, length, map, take, drop, AllPairs, slice_index}
+use Rattle.std.specs.Prelude.{◌≡◌, ◌≢◌, ◌&&◌, ℕ, ◌+◌, ◌*◌, ◌/◌, ◌<◌, ◌≤◌, Bool, true, false, List, [], None, Some, Any, length, map, take, drop, AllPairs, slice_index}
 use Rattle.std.specs.List.{All}
 use Rattle.sector.specs.Bytes.{sectors_at}
 use Rattle.sector.specs.declared.pair.Pair.{Pair}
@@ -34,10 +34,11 @@ is_stored Read = false
 is_stored Written = true
 is_stored Flushed = true
 
--- what a copy has in its buffer, and then on the store
+-- What a copy has in its buffer, and then on the store. Its bytes are compared with the origin's, so that is said where both
+-- stacks are loud: a layer that drops writes holds bytes that nobody wrote there. loud: whether both are.
 pub record CopyHolds (loud : Bool) (chunk sectors : ℕ) (origin store : List ℕ) (p : ChunkCopy) : Type 0 where
   pub room : length p.buffer.items ≡ 512 * count_of chunk sectors p.pair.old
-  pub read : p.stage ≡ Read → p.buffer.items ≡ sectors_at origin (chunk * p.pair.old) (count_of chunk sectors p.pair.old)
+  pub read : loud ≡ true → p.stage ≡ Read → p.buffer.items ≡ sectors_at origin (chunk * p.pair.old) (count_of chunk sectors p.pair.old)
   pub written : loud ≡ true → is_stored p.stage ≡ true → IsCopied chunk origin store p.pair
 
 -- the chunk of a committed copy that is not published: the origin's bytes are the picture's
@@ -60,8 +61,9 @@ pub record RouteHolds (number chunk : ℕ) (pairs : List Pair) (marks : List Mar
 abbrev pub IsLinked : List Mark → Pair → Type 0
 IsLinked marks q = Any (λ m. (m.chunk ≡ q.old) × (m.safe ≡ false)) marks
 
--- A live snapshot. What is said of the store's bytes is said where its stack is loud; the rest always.
-pub record LiveHolds (origin : List ℕ) (rs : List Flight) (v : SnapBooks) : Type 0 where
+-- A live snapshot. What is said of the store's bytes alone is said where its stack is loud; what compares them with the
+-- origin's, where both stacks are loud; the rest always. heard: whether the origin's stack is loud.
+pub record LiveHolds (heard : Bool) (origin : List ℕ) (rs : List Flight) (v : SnapBooks) : Type 0 where
   pub text : StoreHolds v.chunk v.sectors v.size v.store (given v)
   pub stored : v.loud ≡ true → pairs_of v.chunk v.store ≡ v.pairs
   pub fits : length origin ≡ 512 * v.sectors
@@ -69,8 +71,8 @@ pub record LiveHolds (origin : List ℕ) (rs : List Flight) (v : SnapBooks) : Ty
   pub agree : v.begun ≡ map pair_of v.copies
   pub few : v.sure ≤ length v.pairs
   pub link : All (IsLinked v.marks) (drop v.sure v.pairs)
-  pub copies : All (CopyHolds v.loud v.chunk v.sectors origin v.store) v.copies
-  pub unpublished : v.loud ≡ true → All (MarkHolds v.chunk origin v.store v.pairs) v.marks
+  pub copies : All (CopyHolds (heard && v.loud) v.chunk v.sectors origin v.store) v.copies
+  pub unpublished : (heard && v.loud) ≡ true → All (MarkHolds v.chunk origin v.store v.pairs) v.marks
   pub routes : All (RouteHolds v.number v.chunk v.pairs v.marks) rs
 
 -- where a request of a spoiled snapshot goes
@@ -93,8 +95,9 @@ pub record SpoiltHolds (rs : List Flight) (v : SnapBooks) : Type 0 where
   pub routes : All (RefusedHolds v.number) rs
   pub waited : v.untried ≡ true → All (UntriedHolds v.chunk (take v.sure v.pairs)) rs
 
-pub record SnapHolds (origin : List ℕ) (rs : List Flight) (v : SnapBooks) : Type 0 where
-  pub alive : v.live ≡ true → LiveHolds origin rs v
+-- a snapshot, live or spoiled; heard: whether the origin's stack is loud
+pub record SnapHolds (heard : Bool) (origin : List ℕ) (rs : List Flight) (v : SnapBooks) : Type 0 where
+  pub alive : v.live ≡ true → LiveHolds heard origin rs v
   pub spoilt : v.live ≡ false → SpoiltHolds rs v
 
 -- of each request, whatever became of the snapshots, for an origin of so many sectors

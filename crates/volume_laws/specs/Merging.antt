@@ -27,13 +27,14 @@ pub record MergeRouteHolds (number chunk : ℕ) (pairs all done : List Pair) (r 
   pub flush : kind_of r.request ≡ OriginFlush → (r.route ≡ Whole) ⊎ (r.route ≡ Origin)
   pub no_flush : kind_of r.request ≢ SnapFlush number
 
--- the merge over the origin disk's bytes and the requests in flight
+-- The merge over the origin disk's bytes and the requests in flight. What is said of bytes, but how many they are, is said
+-- where the stacks under both disks are loud, which is what `m.loud` says.
 pub record MergeHolds (origin : List ℕ) (rs : List Flight) (m : MergeBooks) : Type 0 where
   pub text : StoreHolds m.chunk m.sectors m.size m.store (listed m)
   pub stored : m.loud ≡ true → pairs_of m.chunk m.store ≡ m.pairs
   pub fits : length origin ≡ 512 * m.sectors
   pub ending : (kept : List Pair) × (m.pairs ≡ kept ++ (m.waiting ++ (m.reading ++ m.copied)))
   pub room : length m.buffer ≡ 512 * m.chunk
-  pub buffered : All (λ q. take (512 * count_of m.chunk m.sectors q.old) m.buffer ≡ sectors_at m.store (m.chunk * q.new) (count_of m.chunk m.sectors q.old)) m.reading
+  pub buffered : m.loud ≡ true → All (λ q. take (512 * count_of m.chunk m.sectors q.old) m.buffer ≡ sectors_at m.store (m.chunk * q.new) (count_of m.chunk m.sectors q.old)) m.reading
   pub back : m.loud ≡ true → All (IsCopied m.chunk origin m.store) (m.copied ++ m.released)
   pub routes : All (MergeRouteHolds m.number m.chunk m.pairs (listed m) (taken m)) rs

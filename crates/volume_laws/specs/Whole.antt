@@ -46,7 +46,7 @@ OriginHolds origin rs (Some m) = MergeHolds origin rs m
 pub record Holds (v : Books) : Type 0 where
   pub whole : length v.origin ≡ 512 * v.sectors
   pub merge : OriginHolds v.origin v.requests v.merge
-  pub snaps : All (SnapHolds v.origin v.requests) v.snaps
+  pub snaps : All (SnapHolds v.loud v.origin v.requests) v.snaps
   pub requests : All (RequestHolds v.sectors) v.requests
   pub numbers : AllPairs (λ m n. m ≢ n) (map number_of v.snaps)
 

@@ -1,55 +1,41 @@
-use Rattle.std.proofs.Common.{◌*◌, ◌≤◌, arith, refl}
-use Rattle.std.proofs.Math.Nat.{mul-le-mul_right}
+use Rattle.std.proofs.Common.{arith}
+use Rattle.std.proofs.lemmas.List.Sorted.{All-permutation}
+use Rattle.std.proofs.lemmas.Result.{on_ok_weaker}
 use Rattle.cow_merge.specs.Begun.{begun}
-use Rattle.cow_merge.proofs.Steps.{passes_both, passes_none}
-use Rattle.cow_merge.proofs.Areas.{copies_both, copies_none, back_joined, back_kept}
+use Rattle.cow_merge.specs.Holding.{IsPairOf}
+use Rattle.cow_merge.proofs.Steps.{passes_both}
+use Rattle.cow_merge.proofs.Areas.{copies_both}
+use Rattle.cow_merge.proofs.Gathered.{back_gathered}
 use Rattle.cow_merge.proofs.copying.copy_areas.Goals as goal
 
-pub loop-index-init : goal.loop-index-init
-loop-index-init g c = record {
-  chunk = c.requires.chunk;
-  room = c.requires.room;
-  faults = omega arith;
-  passes = λ o s first le rolls. passes_none _ _ _ _ _ _ _ rolls;
-  copies = λ o s first le rolls. copies_none _ _ _ _ _ _ rolls;
-  back = λ o s first le rolls k d lo hi under inside. absurd (omega arith);
-}
+pub returns-in_err-count-clause-passes : goal.returns-in_err-count-clause-passes
+returns-in_err-count-clause-passes g c = λ o s first le rolls. c.read_slots.ensures.passes o s first rolls
 
-pub returns-in_err-copy_area-clause-passes : goal.returns-in_err-copy_area-clause-passes
-returns-in_err-copy_area-clause-passes g c = λ o s first le rolls.
-    let i = c.loop-index.invariant in
-    let test = c.loop-index-test.true in
-    passes_both _ _ _ _ _ _ _ _ _ _ _ _ _ (i.passes o s first le rolls) (c.copy_area.ensures.passes o s first (omega arith) (i.copies o s first le rolls).rolls)
+pub returns-clause-passes : goal.returns-clause-passes
+returns-clause-passes g c = λ o s first le rolls.
+    let copies = c.read_slots.ensures.copies o s first rolls in
+    let all = All-permutation (IsPairOf (begun c.args.sizes o s)) _ _ c.sort_unstable_by_key.ensures.permutation (c.in_ok-count.ensures.pairs o s first le rolls) in
+    passes_both _ _ _ _ _ _ _ _ _ _ _ _ _ (c.read_slots.ensures.passes o s first rolls) (c.copy_slots.ensures.passes o s first all copies.rolls)
 
-pub returns-in_err-copy_area-clause-cause : goal.returns-in_err-copy_area-clause-cause
-returns-in_err-copy_area-clause-cause g c = record {
-  later = (let x = c.loop-index.invariant.faults in let y = c.copy_area.ensures.cause.later in omega arith);
-  failed = λ e there. (let (o, s, first, le, rolls, given) = there in
-      let i = c.loop-index.invariant in
-      let test = c.loop-index-test.true in
-      let x = i.faults in
-      let y = c.in_err-copy_area.ensures.cause.failed refl (o, s, first, omega arith, (i.copies o s first le rolls).rolls, given) in
-      omega arith);
-}
-
-pub loop-index-preserved : goal.loop-index-preserved
-loop-index-preserved g c =
-    let i = c.loop-index.invariant in
-    let test = c.loop-index-test.true in
-    let kept = c.copy_area.auto.room in
-    let room = i.room in
-    record {
-      chunk = c.copy_area.ensures.chunk;
-      room = omega arith;
-      faults = (let x = i.faults in let y = c.copy_area.ensures.cause.later in omega arith);
-      passes = λ o s first le rolls. passes_both _ _ _ _ _ _ _ _ _ _ _ _ _ (i.passes o s first le rolls) (c.copy_area.ensures.passes o s first (omega arith) (i.copies o s first le rolls).rolls);
-      copies = λ o s first le rolls. copies_both _ first _ _ _ _ _ _ _ _ _ _ _ (i.copies o s first le rolls) (c.in_ok-copy_area.ensures.copies o s first (omega arith) (i.copies o s first le rolls).rolls);
-      back = λ o s first le rolls.
-          let copies = c.in_ok-copy_area.ensures.copies o s first (omega arith) (i.copies o s first le rolls).rolls in
-          back_joined (begun c.args.sizes o s) first _ (g.F.FileSet.will_last c.copy_area.new.files) _ _ _ (back_kept (begun c.args.sizes o s) first _ _ (g.F.FileSet.will_last c.loop-index.files) (g.F.FileSet.will_last c.copy_area.new.files) _ _ (i.back o s first le rolls) copies.keeps) (c.in_ok-copy_area.ensures.back o s first (omega arith) (i.copies o s first le rolls).rolls);
-    }
+pub returns-clause-copies : goal.returns-clause-copies
+returns-clause-copies g c = on_ok_weaker c.copy_slots.result (λ copied o s first le rolls.
+    let copies = c.read_slots.ensures.copies o s first rolls in
+    let all = All-permutation (IsPairOf (begun c.args.sizes o s)) _ _ c.sort_unstable_by_key.ensures.permutation (c.in_ok-count.ensures.pairs o s first le rolls) in
+    copies_both _ first _ _ _ _ _ _ _ _ _ _ _ copies (copied o s first all copies.rolls)) c.copy_slots.ensures.copies
 
 pub returns-clause-back : goal.returns-clause-back
-returns-clause-back g c = λ o s first le rolls k d lo hi under inside.
-    let up : c.args.end * (32 * c.args.sizes.chunk) ≤ c.loop-index.index * (32 * c.args.sizes.chunk) = mul-le-mul_right (32 * c.args.sizes.chunk) c.loop-index-test.false in
-    c.loop-index.invariant.back o s first le rolls k d lo (omega arith) under inside
+returns-clause-back g c = on_ok_weaker c.copy_slots.result (λ back o s first le rolls.
+    let copies = c.read_slots.ensures.copies o s first rolls in
+    let all = All-permutation (IsPairOf (begun c.args.sizes o s)) _ _ c.sort_unstable_by_key.ensures.permutation (c.in_ok-count.ensures.pairs o s first le rolls) in
+    back_gathered (begun c.args.sizes o s) first _ (g.F.FileSet.will_last c.copy_slots.new.files) _ _ _ _ (c.in_ok-count.ensures.gathered o s first le rolls) c.sort_unstable_by_key.ensures.permutation (back o s first all copies.rolls)) c.copy_slots.ensures.back
+
+pub returns-clause-cause : goal.returns-clause-cause
+returns-clause-cause g c = record {
+  later = (let x = c.read_slots.ensures.cause.later in let y = c.copy_slots.ensures.cause.later in omega arith);
+  failed = λ e there. (let (o, s, first, le, rolls, given) = there in
+      let copies = c.read_slots.ensures.copies o s first rolls in
+      let all = All-permutation (IsPairOf (begun c.args.sizes o s)) _ _ c.sort_unstable_by_key.ensures.permutation (c.in_ok-count.ensures.pairs o s first le rolls) in
+      let x = c.read_slots.ensures.cause.later in
+      let y = c.copy_slots.ensures.cause.failed e (o, s, first, all, copies.rolls, given) in
+      omega arith);
+}

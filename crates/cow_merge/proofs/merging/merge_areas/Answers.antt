@@ -8,6 +8,7 @@ use Rattle.cow_merge.proofs.merging.merge_areas.Goals as goal
 pub loop-end-init : goal.loop-end-init
 loop-end-init g c = record {
   chunk = c.requires.chunk;
+  slots = c.requires.slots;
   room = c.requires.room;
   high = omega arith;
   faults = omega arith;
@@ -63,11 +64,14 @@ loop-end-preserved g c =
     let test = c.loop-end-test.true in
     let from = c.saturating_sub-from.ensures in
     let kept = c.copy_batch.auto.room in
+    let kept' = c.copy_batch.auto.slots in
     let room' = i.room in
+    let slots' = i.slots in
     let high' = i.high in
     let some = c.requires.step in
     record {
       chunk = c.copy_batch.ensures.chunk;
+      slots = omega arith;
       room = omega arith;
       high = omega arith;
       faults = (let x = i.faults in let y = c.copy_batch.ensures.cause.later in let z = c.clear_batch.ensures.cause.later in omega arith);

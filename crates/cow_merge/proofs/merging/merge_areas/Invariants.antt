@@ -10,7 +10,8 @@ invariant-loop-end g l =
     let may = g.F.FileSet.may_hold in
     record {
       chunk : l.area.chunk ≡ l.sizes.chunk;
-      room : length l.room ≡ 512 * l.sizes.chunk;
+      slots : l.step * (32 * l.sizes.chunk) ≤ length l.slots;
+      room : 512 * l.sizes.chunk ≤ length l.room;
       high : l.end ≤ l.last + 1;
       faults : g.F.FileSet.fault_count l.fn.files ≤ g.F.FileSet.fault_count l.files;
       passes : (o c : List ℕ) (first : ℕ) → first ≤ l.last + 1 → l.last ≤ length (pairs (begun l.sizes o c)) / (32 * l.sizes.chunk) → Rolls (begun l.sizes o c) first (known l.fn.files) (bytes l.fn.files) (may l.fn.files) → Passes (begun l.sizes o c) (g.F.FileSet.moment l.fn.files) (g.F.FileSet.moment l.files) (g.F.FileSet.left_since l.fn.files) (g.F.FileSet.left_since l.files) (known l.files) (bytes l.files) (may l.files);

@@ -8,4 +8,4 @@ pub returns-in-Ok : goal.returns-in-Ok
 returns-in-Ok g c = λ o b heard ois bis his.
     let p = c.args.pictures.now in
     let all = c.in-Ok.ensures.answers (arrays (shown p.chunk o b p.pairs.items 0 (512 * p.size)) o) heard (known_both p.chunk p.pairs.items p.size (g.O.Image.bytes p.origin) (g.C.Image.bytes p.cow) o b ois bis) his in
-    (_, (_, _, c.as_slice-3.ensures, (c.as_slice.ensures, refl), (c.as_slice-2.ensures, refl)), all.0, all.1, all.2, all.3)
+    (_, (_, _, c.as_slice-3.ensures, (c.as_slice.ensures, refl, refl, refl), (c.as_slice-2.ensures, refl, refl, refl)), all.0, all.1, all.2, all.3)

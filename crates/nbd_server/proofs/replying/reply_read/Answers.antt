@@ -1,13 +1,14 @@
 use Rattle.std.proofs.Common.{◌≡◌, ℕ, List, [], ◌++◌, Bool, false, Some, Err, cond, ap, ◌∙◌, sym, arith}
 use Rattle.nbd_server.specs.declared.served.Fault.{Fault}
-use Rattle.nbd_server.specs.Replied.{error_reply, given_reply, read_reply, invalid, fault_error}
+use Rattle.nbd_messages.specs.Reading.{error_reply}
+use Rattle.nbd_server.specs.Replied.{given_reply, read_reply, invalid, fault_error}
 use Rattle.nbd_server.proofs.replying.reply_read.Goals as goal
 
 -- an error after nothing
-error_alone : (old new : List ℕ) (s : Bool) (n m : ℕ) (req : Rattle.nbd_server.specs.declared.request.Request.Request) → new ≡ old ++ error_reply s n req → old ≡ [] → n ≡ m → new ≡ error_reply s m req
+error_alone : (old new : List ℕ) (s : Bool) (n m : ℕ) (req : Rattle.nbd_messages.specs.declared.request.Request.Request) → new ≡ old ++ error_reply s n req → old ≡ [] → n ≡ m → new ≡ error_reply s m req
 error_alone old new s n m req is none same = is ∙ ap (λ (l : List ℕ). l ++ error_reply s n req) none ∙ ap (λ (k : ℕ). error_reply s k req) same
 
-inside_self : (may_fail : ℕ → ℕ → ℕ → Type 0) (export : ℕ) (req : Rattle.nbd_server.specs.declared.request.Request.Request) → may_fail export req.offset req.length → Rattle.nbd_server.specs.Replied.MayFail may_fail export req.offset req.length
+inside_self : (may_fail : ℕ → ℕ → ℕ → Type 0) (export : ℕ) (req : Rattle.nbd_messages.specs.declared.request.Request.Request) → may_fail export req.offset req.length → Rattle.nbd_server.specs.Replied.MayFail may_fail export req.offset req.length
 inside_self may_fail export req fails = (req.offset, req.length, omega arith, omega arith, fails)
 
 pub returns-in_ok-push_error-in-Err-clause-reply : goal.returns-in_ok-push_error-in-Err-clause-reply

@@ -1,6 +1,6 @@
 use Rattle.std.proofs.Common.{◌≡◌, ℕ, List, [], ◌++◌, Some, ap, ◌∙◌, sym, subst}
 use Rattle.std.specs.Io.KnownBytes.{Appends}
-use Rattle.nbd_server.specs.Replies.{greeting}
+use Rattle.nbd_messages.specs.Replies.{greeting}
 use Rattle.nbd_server.specs.Talk.{AreArrays, beginning}
 use Rattle.nbd_server.specs.Turns.{IsTurn, IsEnd}
 use Rattle.nbd_server.proofs.SoFar.{so_far_begins, so_far_goes, so_far_ends}

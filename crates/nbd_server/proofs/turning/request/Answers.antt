@@ -1,6 +1,6 @@
 use Rattle.std.proofs.Common.{◌≡◌, ℕ, List, Option}
 use Rattle.nbd_server.specs.Heard.{IsShort, IsRead}
-use Rattle.nbd_server.specs.Talk.{payload}
+use Rattle.nbd_messages.specs.Writing.{payload}
 use Rattle.nbd_server.specs.Turns.{IsRequested}
 use Rattle.nbd_server.proofs.Wholes.{request_turn, request_end}
 use Rattle.nbd_server.proofs.turning.request.Goals as goal

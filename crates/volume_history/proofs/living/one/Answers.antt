@@ -7,6 +7,7 @@ use Rattle.volume_history.specs.declared.deed.Done.TheVariants.{Submitted, Stepp
 use Rattle.volume.proofs.OpenedCalls.{opens_alike, opens_begin, opens_resume, opens_stepped, opens_submitted, opens_told}
 use Rattle.volume.proofs.Relayered.{ticked_alike}
 use Rattle.volume_history.specs.Answered.{IsDone}
+use Rattle.volume_history.specs.Doing.{IsDoneBy}
 use Rattle.volume_history.specs.Lasted.{OpensByDeed}
 use Rattle.volume_history.specs.Lived.{IsLoudDeed}
 use Rattle.volume_history.proofs.Lasts.{attached_opens, begin_opens, by_calls, detached_opens, finished_opens}
@@ -115,3 +116,48 @@ pub returns-in-FinishMerge-clause-opens : goal.returns-in-FinishMerge-clause-ope
 returns-in-FinishMerge-clause-opens g c = λ loud brought.
     let m : Measures g.row.B.Denot = record { contents = g.B.Block.contents; durable = g.B.Block.durable; size = g.B.Block.size; faults = g.B.Block.fault_count; done = g.B.Block.done_count } in
     rw c.in-FinishMerge.is (finished_opens g.B.Block.may_hold m g.B.Block.layers c.finish_merge.result c.args.volume.now c.finish_merge.new.self c.finish_merge.ensures.does.taken c.finish_merge.ensures.err)
+
+pub returns-in-Submit-clause-by : goal.returns-in-Submit-clause-by
+returns-in-Submit-clause-by g c =
+    let m : Measures g.row.B.Denot = record { contents = g.B.Block.contents; durable = g.B.Block.durable; size = g.B.Block.size; faults = g.B.Block.fault_count; done = g.B.Block.done_count } in
+    subst (λ (d : Deed g.row.B.Denot). IsDoneBy g.B.Block.may_hold m g.B.Block.layers d (Submitted c.submit.result) c.args.volume.now c.submit.new.self) (sym c.in-Submit.is) (c.submit.ensures.does, c.submit.ensures.refused)
+
+pub returns-in-Step-clause-by : goal.returns-in-Step-clause-by
+returns-in-Step-clause-by g c =
+    let m : Measures g.row.B.Denot = record { contents = g.B.Block.contents; durable = g.B.Block.durable; size = g.B.Block.size; faults = g.B.Block.fault_count; done = g.B.Block.done_count } in
+    subst (λ (d : Deed g.row.B.Denot). IsDoneBy g.B.Block.may_hold m g.B.Block.layers d (Stepped c.step.result) c.args.volume.now c.step.new.self) (sym c.in-Step.is) c.step.ensures.does
+
+pub returns-in-Tick-clause-by : goal.returns-in-Tick-clause-by
+returns-in-Tick-clause-by g c =
+    let m : Measures g.row.B.Denot = record { contents = g.B.Block.contents; durable = g.B.Block.durable; size = g.B.Block.size; faults = g.B.Block.fault_count; done = g.B.Block.done_count } in
+    subst (λ (d : Deed g.row.B.Denot). IsDoneBy g.B.Block.may_hold m g.B.Block.layers d (Ticked) c.args.volume.now c.tick.new.self) (sym c.in-Tick.is) c.tick.ensures.does
+
+pub returns-in-Tell-clause-by : goal.returns-in-Tell-clause-by
+returns-in-Tell-clause-by g c =
+    let m : Measures g.row.B.Denot = record { contents = g.B.Block.contents; durable = g.B.Block.durable; size = g.B.Block.size; faults = g.B.Block.fault_count; done = g.B.Block.done_count } in
+    subst (λ (d : Deed g.row.B.Denot). IsDoneBy g.B.Block.may_hold m g.B.Block.layers d (Told c.message.result) c.args.volume.now c.message.new.self) (sym c.in-Tell.is) c.message.ensures.does
+
+pub returns-in-Attach-clause-by : goal.returns-in-Attach-clause-by
+returns-in-Attach-clause-by g c =
+    let m : Measures g.row.B.Denot = record { contents = g.B.Block.contents; durable = g.B.Block.durable; size = g.B.Block.size; faults = g.B.Block.fault_count; done = g.B.Block.done_count } in
+    subst (λ (d : Deed g.row.B.Denot). IsDoneBy g.B.Block.may_hold m g.B.Block.layers d (Attached c.attach.result) c.args.volume.now c.attach.new.self) (sym c.in-Attach.is) c.attach.ensures.does
+
+pub returns-in-Detach-clause-by : goal.returns-in-Detach-clause-by
+returns-in-Detach-clause-by g c =
+    let m : Measures g.row.B.Denot = record { contents = g.B.Block.contents; durable = g.B.Block.durable; size = g.B.Block.size; faults = g.B.Block.fault_count; done = g.B.Block.done_count } in
+    subst (λ (d : Deed g.row.B.Denot). IsDoneBy g.B.Block.may_hold m g.B.Block.layers d (Detached c.detach.result) c.args.volume.now c.detach.new.self) (sym c.in-Detach.is) (c.detach.ensures.does, c.detach.ensures.err)
+
+pub returns-in-BeginMerge-clause-by : goal.returns-in-BeginMerge-clause-by
+returns-in-BeginMerge-clause-by g c =
+    let m : Measures g.row.B.Denot = record { contents = g.B.Block.contents; durable = g.B.Block.durable; size = g.B.Block.size; faults = g.B.Block.fault_count; done = g.B.Block.done_count } in
+    subst (λ (d : Deed g.row.B.Denot). IsDoneBy g.B.Block.may_hold m g.B.Block.layers d (Begun c.begin_merge.result) c.args.volume.now c.begin_merge.new.self) (sym c.in-BeginMerge.is) (c.begin_merge.ensures.does, c.begin_merge.ensures.refused)
+
+pub returns-in-ResumeMerge-clause-by : goal.returns-in-ResumeMerge-clause-by
+returns-in-ResumeMerge-clause-by g c =
+    let m : Measures g.row.B.Denot = record { contents = g.B.Block.contents; durable = g.B.Block.durable; size = g.B.Block.size; faults = g.B.Block.fault_count; done = g.B.Block.done_count } in
+    subst (λ (d : Deed g.row.B.Denot). IsDoneBy g.B.Block.may_hold m g.B.Block.layers d (Resumed c.resume_merge.result) c.args.volume.now c.resume_merge.new.self) (sym c.in-ResumeMerge.is) c.resume_merge.ensures.does
+
+pub returns-in-FinishMerge-clause-by : goal.returns-in-FinishMerge-clause-by
+returns-in-FinishMerge-clause-by g c =
+    let m : Measures g.row.B.Denot = record { contents = g.B.Block.contents; durable = g.B.Block.durable; size = g.B.Block.size; faults = g.B.Block.fault_count; done = g.B.Block.done_count } in
+    subst (λ (d : Deed g.row.B.Denot). IsDoneBy g.B.Block.may_hold m g.B.Block.layers d (Finished c.finish_merge.result) c.args.volume.now c.finish_merge.new.self) (sym c.in-FinishMerge.is) (c.finish_merge.ensures.does, c.finish_merge.ensures.err)

@@ -16,7 +16,6 @@ use Rattle.std.specs.Prelude.{map}
 use Rattle.plain_machine.specs.declared.event.Event.TheVariants.{Issue}
 use Rattle.volume.proofs.MergeBoth.{met_both}
 use Rattle.volume.proofs.MergeLasts.{kept_merge}
-use Rattle.volume.proofs.LastCloses.{merging_closes}
 use Rattle.merge.specs.Merging.{Merging}
 use Rattle.volume.proofs.volume.Volume.flush_merging.Goals as goal
 
@@ -167,8 +166,4 @@ returns-in-Err-clause-stops_origin g c =
     rw (← c.self.view_is) goes.stops_origin
 
 pub returns-in-Ok-clause-closes : goal.returns-in-Ok-clause-closes
-returns-in-Ok-clause-closes g c =
-    let v : Volumed g.row.B.Denot = record { origin = c.self.inside.origin; snaps = c.self.inside.snaps.items; merge = c.self.inside.merge; flights = c.self.inside.flights.items; requests = c.self.inside.requests; copies = c.self.inside.copies; attached = c.self.inside.attached } in
-    let m = c.in-Some.merge in
-    let pos : 0 < m.state.chunk = (kept_merge g.B.Block.contents g.B.Block.layers g.B.Block.size v m c.self.invariant.whole c.in-Some.is).holds.text.some in
-    merging_closes g.B.Block.may_hold g.B.Block.contents g.B.Block.layers g.B.Block.size g.met.B.Block.whole g.met.B.Block.holds_now v.origin c.flush_store.new.self (subst (λ n. 0 < n) (sym (ap (λ (x : Merging g.row.B.Denot). x.state.chunk) c.flush_store.ensures.fields)) pos) (λ lo. c.in-Ok.ensures.firm (sym c.flush_store.ensures.loud ∙ lo))
+returns-in-Ok-clause-closes g c = λ lo. c.in-Ok.ensures.firm (sym c.flush_store.ensures.loud ∙ lo)

@@ -262,4 +262,7 @@ returns-in-Ok-clause-closes g c =
     let within : k < length v.snaps.items = omega (arith, c.in-Some.ensures.found.0, ap length c.deref.ensures.value) in
     let is = c.index_mut.ensures.value in
     let dev : r.request.dev ≡ Snap s.number = c.in-Some.ensures.found.1 s ∙ ap (λ (x : Kept _). Snap x.number) (ap (λ xs. get_or xs k s) c.deref.ensures.value ∙ sym is) in
-    rw (← c.self.view_is) (snap_closes g.B.Block.may_hold g.B.Block.contents g.B.Block.layers g.B.Block.size g.met.B.Block.whole g.met.B.Block.holds_now _ c.self.invariant.whole c.args.number c.args.place r found was k s c.flush_store.new.self v.flights.items within is dev (ap (λ (x : Kept _). x.number) c.in-Ok.ensures.fields) (ap (λ (x : Kept _). x.state.chunk) c.in-Ok.ensures.fields) c.flush_store.ensures.loud c.in-Ok.ensures.firm)
+    let alive = whole_alive g.B.Block.contents g.B.Block.layers g.B.Block.size g.B.Block.fault_count g.B.Block.done_count _ c.self.invariant.whole c.args.number c.args.place r found was route k s within is dev in
+    let goes = flush_moves g.B.Block.may_hold g.B.Block.contents g.B.Block.layers g.B.Block.size g.met.B.Block.whole g.met.B.Block.holds_now _ c.self.invariant.whole c.self.invariant.lasting.snaps (given_by (Issue c.args.number) (map in_flight v.flights.items)) k s c.flush_store.new.self v.flights.items within is alive c.in-Ok.ensures.fields (record { adds = c.flush_store.ensures.adds; bytes = c.flush_store.ensures.contents; sectors = c.flush_store.ensures.size; loud = c.flush_store.ensures.loud }) c.in-Ok.ensures.firm in
+    rw (← c.self.view_is) (snap_closes g.B.Block.may_hold g.B.Block.contents g.B.Block.layers g.B.Block.size g.met.B.Block.whole g.met.B.Block.holds_now _ c.self.invariant.whole c.args.number c.args.place r found was k s c.flush_store.new.self v.flights.items within is (ap (λ (x : Kept _). x.state.chunk) c.in-Ok.ensures.fields) c.flush_store.ensures.loud
+    (ap (λ (x : Kept _). x.live) c.in-Ok.ensures.fields ∙ alive) (ap (λ (x : Kept _). x.state.sure) c.in-Ok.ensures.fields ∙ ap (λ (x : Kept _). length x.pairs) (sym c.in-Ok.ensures.fields)) goes.lasts c.in-Ok.ensures.firm dev (ap (λ (x : Kept _). x.number) c.in-Ok.ensures.fields))

@@ -1,0 +1,4 @@
+pub mod Calls
+pub mod Kept
+pub mod Laws
+pub mod Note

@@ -1,0 +1,3 @@
+mod Among
+mod CallsAhead
+mod CallsMore

@@ -1,0 +1,3 @@
+pub mod Pieces
+pub mod Layers
+pub mod Laws

@@ -1,0 +1,100 @@
+// In which bytes a snapshot and its origin differ.
+ghost use Rattle.std.specs.Prelude.{◌≡◌, ℕ, ◌*◌, ◌≤◌, List, length, true, IfOk, Some};
+ghost use Rattle.cow_image.specs.Maps.{IsToldOf};
+ghost use Rattle.cow_salvage.specs.Differences.{AreDifferences};
+ghost use Rattle.cow_answers.specs.Answers.{is_good as is_good_by};
+ghost use Rattle.image_commands.specs.Differing.{differing_by};
+ghost use Rattle.image_commands.specs.Arrays.{array_of};
+
+use crate::commands::seen_in;
+use crate::input::{Input, size_of};
+use crate::printing::printed;
+use crate::rolling::why_stopped;
+use crate::trouble::{Trouble, held};
+use cow_answers::{Form, Seen, is_good, push_spans, push_spans_json, shown};
+use cow_image::{Stopped, Told};
+use cow_salvage::{Span, Undone, differences};
+use image::Image;
+use std::alloc::{AllocError, Global};
+use std::io::Write;
+
+/// The sectors in which the array of a snapshot, of whose store this was told, and its origin of so many sectors differ: of a
+/// fresh store, and of one that is refused, none.
+pub fn found<O: Image, C: Image>(
+    alloc: Global,
+    origin: &mut O,
+    cow: &mut C,
+    told: &Told,
+    size: u64,
+) -> Result<Vec<Span>, Undone>
+    requires { size ≤ 68_719_476_736 }
+    ensures { IfOk result (λ spans. (o : List ℕ) → (b : List ℕ) → O.bytes origin.old ≡ Some o → C.bytes cow.old ≡ Some b → length o ≡ 512 * size → IsToldOf size b told.now → is_good_by told.now ≡ true → AreDifferences (array_of told.now o b) o size spans.items) }
+{
+    match told {
+        Told::Fresh => Ok(Vec::new(alloc)),
+        Told::Refused(_) => Ok(Vec::new(alloc)),
+        Told::Written(map) => differences(alloc, origin, cow, map, size),
+    }
+}
+
+/// The text of the ranges in which they differ.
+fn differing(alloc: Global, spans: &[Span], form: Form) -> Result<Vec<u8>, AllocError>
+    ensures { IfOk result (λ text. text.items ≡ differing_by form spans.now) }
+{
+    let mut text = Vec::new(alloc);
+    match form {
+        Form::Lines => push_spans(&mut text, b"differs", spans)?,
+        Form::Json => push_spans_json(&mut text, spans)?,
+    }
+    Ok(text)
+}
+
+/// Prints in which bytes a snapshot and its origin differ, or why its store is refused.
+pub fn diff<'a, W: Write>(
+    rt: &'a HostRuntime,
+    origin: &'a str,
+    cow: &'a str,
+    form: Form,
+    output: &mut W,
+) -> Result<bool, Trouble<'a>> {
+    let mut origin = Input::open(rt, origin)?;
+    let mut cow = Input::open(rt, cow)?;
+    origin.is_apart(&cow)?;
+    let size = size_of(&mut origin)?;
+    let seen = seen_in(rt, &mut cow, size)?;
+    if let Told::Refused(_) = seen.told {
+        return refused(rt, &cow, &seen, form, output);
+    }
+    origin.hush();
+    let found = found(rt.alloc(), &mut origin, &mut cow, &seen.told, size);
+    let spans = match found {
+        Ok(spans) => spans,
+        Err(undone) => return Err(why_stopped(&origin, &cow, stopped(undone), cow.name)),
+    };
+    cow.is_unchanged()?;
+    origin.is_unchanged()?;
+    let text = held(cow.name, differing(rt.alloc(), spans.as_slice(), form))?;
+    printed(output, text.as_slice())?;
+    Ok(true)
+}
+
+/// Prints why a store is refused.
+fn refused<'a, W: Write>(
+    rt: &HostRuntime,
+    cow: &Input<'a>,
+    seen: &Seen,
+    form: Form,
+    output: &mut W,
+) -> Result<bool, Trouble<'a>> {
+    let text = held(cow.name, shown(rt.alloc(), seen, form))?;
+    printed(output, text.as_slice())?;
+    Ok(is_good(&seen.told))
+}
+
+/// Why a comparison stopped, in the words of an export.
+fn stopped(undone: Undone) -> Stopped {
+    match undone {
+        Undone::Unreadable(error) => Stopped::Unreadable(error),
+        Undone::NoMemory => Stopped::NoMemory,
+    }
+}

@@ -1,0 +1,130 @@
+// The array of a snapshot is written to a new file.
+ghost use Rattle.std.specs.Prelude.{◌≤◌};
+
+use crate::array::put_array;
+use crate::commands::seen_in;
+use crate::files::is_free;
+use crate::input::{Input, of_input, size_of};
+use crate::printing::told_beside;
+use crate::trouble::{Trouble, Why, about, held};
+use crate::watched::Watched;
+use crate::writing::{begun, ended};
+use cow_answers::{Form, Seen, is_good, shown};
+use cow_image::{Failure, MAX_IMAGE, Stopped, Told, read_store};
+use std::io::Write;
+
+/// Writes a snapshot's array to a new file, or prints why its store is refused. With no other snapshot of the origin this
+/// is also what the origin holds once the snapshot was merged into it.
+pub fn export<'a, W: Write, E: Write>(
+    rt: &'a HostRuntime,
+    origin: &'a str,
+    cow: &'a str,
+    out: &'a str,
+    form: Form,
+    output: &mut W,
+    errors: &mut E,
+) -> Result<bool, Trouble<'a>> {
+    is_free(rt, out)?;
+    let mut origin = Input::open(rt, origin)?;
+    let mut cow = Input::open(rt, cow)?;
+    origin.is_apart(&cow)?;
+    origin.is_unused(rt)?;
+    cow.is_unused(rt)?;
+    let size = size_of(&mut origin)?;
+    let seen = seen_in(rt, &mut cow, size)?;
+    if let Told::Refused(_) = seen.told {
+        return put_seen(rt, out, &seen, form, output, errors);
+    }
+    roll(rt, &mut origin, &mut cow, &seen, size, out, output)?;
+    Ok(true)
+}
+
+/// Writes the array of a store that is good to a new file, or to standard output. Where that fails no file is left.
+pub fn roll<'a, W: Write>(
+    rt: &'a HostRuntime,
+    origin: &mut Input<'a>,
+    cow: &mut Input<'a>,
+    seen: &Seen,
+    size: u64,
+    out: &'a str,
+    output: &mut W,
+) -> Result<(), Trouble<'a>>
+    requires { size ≤ MAX_IMAGE }
+{
+    let mut watched = begun(rt, out, size, output)?;
+    let rolled = rolled(rt, origin, cow, seen, size, &mut watched, out);
+    ended(rt, out, rolled)
+}
+
+/// Prints what a store holds or why it is refused, and tells whether it is good.
+pub fn put_seen<'a, W: Write, E: Write>(
+    rt: &HostRuntime,
+    out: &'a str,
+    seen: &Seen,
+    form: Form,
+    output: &mut W,
+    errors: &mut E,
+) -> Result<bool, Trouble<'a>> {
+    let text = held(out, shown(rt.alloc(), seen, form))?;
+    told_beside(output, errors, out, text.as_slice())?;
+    Ok(is_good(&seen.told))
+}
+
+/// Writes the array, makes it last, and sees that the inputs are still as they were read.
+fn rolled<'a, W: Write>(
+    rt: &HostRuntime,
+    origin: &mut Input<'a>,
+    cow: &mut Input<'a>,
+    seen: &Seen,
+    size: u64,
+    watched: &mut Watched<'_, '_, W>,
+    out: &'a str,
+) -> Result<(), Trouble<'a>>
+    requires { size ≤ MAX_IMAGE }
+{
+    origin.hush();
+    cow.hush();
+    let put = put_array(rt.alloc(), origin, cow, &seen.told, size, watched);
+    watched.hush();
+    if let Err(stopped) = put {
+        return Err(why_stopped(origin, cow, stopped, out));
+    }
+    about(out, watched.finish())?;
+    let again = read_store(rt.alloc(), cow, size);
+    let again = of_input(cow, again)?;
+    if !is_same(&seen.told, &again) {
+        return Err(cow.trouble(Failure::Changed));
+    }
+    cow.is_unchanged()?;
+    origin.is_unchanged()
+}
+
+/// With which file an export stopped.
+pub fn why_stopped<'a>(
+    origin: &Input<'a>,
+    cow: &Input<'a>,
+    stopped: Stopped,
+    out: &'a str,
+) -> Trouble<'a> {
+    let (name, at) = match &stopped {
+        Stopped::Unreadable(_) => match cow.failed() {
+            Some(at) => (cow.name, Some(at)),
+            None => (origin.name, origin.failed()),
+        },
+        Stopped::Unwritable(_) => (out, None),
+        Stopped::NoMemory => (out, None),
+    };
+    let why = Why::of_stopped(stopped, at);
+    Trouble { name, why }
+}
+
+/// Whether two looks at a store told the same header and the same pairs.
+fn is_same(told: &Told, again: &Told) -> bool {
+    match (told, again) {
+        (Told::Fresh, Told::Fresh) => true,
+        (Told::Written(map), Told::Written(again)) => {
+            map.chunk == again.chunk && map.pairs.as_slice() == again.pairs.as_slice()
+        }
+        _ => false,
+    }
+}

@@ -1,0 +1,74 @@
+// A command line is answered.
+ghost use Rattle.std.specs.Prelude.{◌≡◌};
+
+use crate::doing::done;
+use crate::ended::{Ended, status_of};
+use cow_answers::words_ask;
+use std::io;
+use std::io::{BufRead, Write};
+
+/// Does what the words of a command line ask for, from and to these streams, and gives the exit status. What goes wrong is a line
+/// on the third.
+pub fn answer<R: BufRead, W: Write, E: Write>(
+    rt: &HostRuntime,
+    words: &[String],
+    input: &mut R,
+    output: &mut W,
+    errors: &mut E,
+) -> u8 {
+    let asked = match words_ask(rt.alloc(), words) {
+        Ok(asked) => asked,
+        Err(wrong) => {
+            let _ = writeln!(
+                errors,
+                "lochknife: wrong words: {wrong}; lochknife --help tells which are taken"
+            );
+            return 2;
+        }
+    };
+    let done = done(rt, asked, input, output, errors);
+    match &done {
+        Ok(Ended::Untold(trouble)) => {
+            let _ = writeln!(errors, "lochknife: merged, but {trouble}");
+        }
+        Ok(_) => {}
+        Err(trouble) => {
+            let _ = writeln!(errors, "lochknife: {trouble}");
+        }
+    }
+    status_of(&done)
+}
+
+/// The words of the command line. `None`, once that is told, where they could not be had.
+fn line(rt: &HostRuntime) -> Option<Vec<String>> {
+    match std::env::args(rt) {
+        Ok(args) => match args.collect(rt.alloc()) {
+            Ok(words) => Some(words),
+            Err(_) => {
+                let _ = eprintln!(rt; "lochknife: no memory");
+                None
+            }
+        },
+        Err(error) => {
+            if error.kind() == io::ErrorKind::InvalidData {
+                let _ = eprintln!(rt;
+                    "lochknife: wrong words: one is no UTF-8; give such a file another name by a link"
+                );
+            } else {
+                let _ = eprintln!(rt; "lochknife: {error}");
+            }
+            None
+        }
+    }
+}
+
+/// The program: answers its command line, from and to the standard streams, and gives the exit status.
+pub fn run(rt: &HostRuntime) -> u8 {
+    let Some(words) = line(rt) else {
+        return 2;
+    };
+    let mut input = rt.stdin().lock();
+    let mut output = io::writer(rt);
+    let mut errors = rt.stderr();
+    answer(rt, &words, &mut input, &mut output, &mut errors)
+}

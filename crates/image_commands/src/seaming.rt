@@ -1,0 +1,114 @@
+// An image goes into a text of commands, and comes back from answers.
+
+use crate::files::is_free;
+use crate::input::{Input, size_of};
+use crate::target::OUTPUT;
+use crate::trouble::{Trouble, Why, about};
+use crate::watched::Watched;
+use crate::writing::{begun, ended};
+use image::Sink;
+use image_script::{MOST_SECTORS, Stopped, Untold, put_words, read_told};
+use std::io::{BufRead, Write};
+use words::Name;
+
+/// Prints the lines of commands that make a disk of `dmrig` with the bytes of an image.
+pub fn spell<'a, W: Write>(
+    rt: &'a HostRuntime,
+    disk: &'a str,
+    image: &'a str,
+    printer: &mut W,
+) -> Result<bool, Trouble<'a>> {
+    let mut input = Input::open(rt, image)?;
+    let size = size_of(&mut input)?;
+    let Ok(name) = Name::new(disk.as_bytes()) else {
+        return Err(no_disk(image, size));
+    };
+    if size == 0 || MOST_SECTORS < size {
+        return Err(no_disk(image, size));
+    }
+    let mut output = begun(rt, OUTPUT, size, printer)?;
+    output.hush();
+    if let Err(stopped) = put_words(rt.alloc(), &name, &mut input, size, &mut output) {
+        return Err(why_unput(&input, stopped));
+    }
+    input.hush();
+    about("standard output", output.finish())?;
+    input.is_unchanged()?;
+    Ok(true)
+}
+
+/// Why an image of so many sectors is no disk.
+fn no_disk(image: &str, size: u64) -> Trouble<'_> {
+    let why = Why::NoDisk(size);
+    let name = image;
+    Trouble { name, why }
+}
+
+/// Why not all lines were printed.
+fn why_unput<'a>(input: &Input<'a>, stopped: Stopped) -> Trouble<'a> {
+    let (name, why) = match stopped {
+        Stopped::Unreadable(error) => (input.name, Why::Unreadable(input.failed(), error)),
+        Stopped::Unwritable(error) => ("standard output", Why::Unwritable(error)),
+        Stopped::NoMemory => (input.name, Why::NoMemory),
+    };
+    Trouble { name, why }
+}
+
+/// What answers are read from.
+const HEARD: &str = "standard input";
+
+/// Writes the bytes that the answers on standard input tell to a new file. Where a line is no answer no file is made.
+pub fn hear<'a, R: BufRead, W: Write>(
+    rt: &'a HostRuntime,
+    out: &'a str,
+    input: &mut R,
+    printer: &mut W,
+) -> Result<bool, Trouble<'a>> {
+    is_free(rt, out)?;
+    let bytes = match read_told(rt.alloc(), input) {
+        Ok(bytes) => bytes,
+        Err(untold) => return Err(why_untold(untold)),
+    };
+    let len = bytes.len() as u64;
+    if len == 0 {
+        let name = HEARD;
+        let why = Why::NoData;
+        return Err(Trouble { name, why });
+    }
+    if len % 512 != 0 {
+        let name = HEARD;
+        let why = Why::PartOfSector(len);
+        return Err(Trouble { name, why });
+    }
+    let mut output = begun(rt, out, len / 512, printer)?;
+    let written = put_image(&mut output, out, bytes.as_slice());
+    ended(rt, out, written)?;
+    Ok(true)
+}
+
+/// Writes an image, and makes it last.
+fn put_image<'a, W: Write>(
+    output: &mut Watched<'_, '_, W>,
+    out: &'a str,
+    bytes: &[u8],
+) -> Result<(), Trouble<'a>> {
+    let put = output.put(bytes);
+    output.hush();
+    if let Err(error) = put {
+        let name = out;
+        let why = Why::Unwritable(error);
+        return Err(Trouble { name, why });
+    }
+    about(out, output.finish())
+}
+
+/// Why answers tell no image.
+fn why_untold(untold: Untold) -> Trouble<'static> {
+    let name = HEARD;
+    let why = match untold {
+        Untold::Unreadable(error) => Why::Unreadable(None, error),
+        Untold::Line(number) => Why::NoAnswer(number),
+        Untold::NoMemory => Why::NoMemory,
+    };
+    Trouble { name, why }
+}

@@ -1,0 +1,16 @@
+//! How a client of the Network Block Device protocol comes to an export: how far a session has come, the exports that there are,
+//! and what each option is answered. It stands on `nbd_messages`, whose replies it writes.
+//!
+//! It promises that an option with any data is answered as `specs/Haggled` says, after the protocol's document, and that the
+//! session is then so.
+#![tactic(auto)]
+
+mod export;
+mod finding;
+mod haggling;
+mod session;
+
+pub use export::Export;
+pub use finding::found;
+pub use haggling::{haggle, haggle_unread};
+pub use session::{Place, Session, Stage};

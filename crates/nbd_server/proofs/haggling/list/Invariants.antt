@@ -1,6 +1,0 @@
-use Rattle.std.proofs.Common.{◌≡◌, ◌++◌, drop}
-use Rattle.nbd_server.specs.Haggled.{listed}
-use Rattle.nbd_server.proofs.haggling.list.Given as goal
-
-abbrev pub invariant-loop-export : goal.invariant-loop-export
-invariant-loop-export l = l.answer.items ++ listed (drop l.export-index l.exports) ≡ listed l.exports
