@@ -24,12 +24,12 @@ module _ {B : Type 0} (holds : B → ℕ → List ℕ → Type 0) (m : Measures 
   served_lived taken request number reply v w s loud =
       let first = submit_done holds m layers request (Ok number) v s.mid s.submits tt in
       let second = step_done holds m layers (Issue number) (Ok (Replied number reply)) s.mid w s.steps in
-      (s.mid, first.seen loud tt, tt, w, second.seen (first.loud loud tt) tt, tt, refl)
+      (s.mid, first.seen loud tt, tt, (w, second.seen (first.loud loud tt) tt, tt, refl))
 
   pub served_answered : (request : Request) (number : ℕ) (reply : Reply) (v w : Volumed B) → IsServedAtOnce holds m.contents layers m.size m.faults m.done request number reply v w
       → AreAnswered holds m layers (Submit request ∷ Step (Issue number) ∷ []) (Submitted (Ok number) ∷ Stepped (Ok (Replied number reply)) ∷ []) v w
   served_answered request number reply v w s =
-      (s.mid, submit_done holds m layers request (Ok number) v s.mid s.submits tt, w, step_done holds m layers (Issue number) (Ok (Replied number reply)) s.mid w s.steps, refl)
+      (s.mid, submit_done holds m layers request (Ok number) v s.mid s.submits tt, (w, step_done holds m layers (Issue number) (Ok (Replied number reply)) s.mid w s.steps, refl))
 
   pub copied_lived : (taken : List Taken) (n : ℕ) (v w : Volumed B) → AreCopied holds m.contents layers m.size m.faults m.done n v w → is_loud_in_all layers v ≡ true → IsLived m layers taken (copy_deeds n) (copy_answers n) v w
   copied_lived taken zero v w same loud = same
@@ -37,9 +37,9 @@ module _ {B : Type 0} (holds : B → ℕ → List ℕ → Type 0) (m : Measures 
       let first = step_done holds m layers MergeRead (Ok Done) v read r.does in
       let second = step_done holds m layers MergeWrite (Ok Done) read written t.does in
       let there = first.loud loud tt in
-      (read, first.seen loud tt, tt, written, second.seen there tt, tt, copied_lived taken n written w rest (second.loud there tt))
+      (read, first.seen loud tt, tt, (written, second.seen there tt, tt, copied_lived taken n written w rest (second.loud there tt)))
 
   pub copied_answered : (n : ℕ) (v w : Volumed B) → AreCopied holds m.contents layers m.size m.faults m.done n v w → AreAnswered holds m layers (copy_deeds n) (copy_answers n) v w
   copied_answered zero v w same = same
   copied_answered (suc n) v w (read, written, r, t, rest) =
-      (read, step_done holds m layers MergeRead (Ok Done) v read r.does, written, step_done holds m layers MergeWrite (Ok Done) read written t.does, copied_answered n written w rest)
+      (read, step_done holds m layers MergeRead (Ok Done) v read r.does, (written, step_done holds m layers MergeWrite (Ok Done) read written t.does, copied_answered n written w rest))
