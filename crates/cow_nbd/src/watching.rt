@@ -37,17 +37,18 @@ impl Watch for Still {
 /// Arrays that are given only while their images are as they were: each read is followed by a look, and once that tells of a
 /// change no read gives bytes any more.
 #[derive(Drop)]
-pub struct Watched<'a, S: Served, W: Watch> {
-    pub served: &'a mut S,
-    pub watch: &'a mut W,
+pub struct Watched<'s, 'w, S: Served, W: Watch> {
+    pub served: &'s mut S,
+    pub watch: &'w mut W,
 }
 
-impl<S: Served, W: Watch> Served for Watched<'_, S, W> {
+impl<S: Served, W: Watch> Served for Watched<'_, '_, S, W> {
     ghost bytes = { λ w. S.bytes w.served.now };
 
     ghost may_fail = { λ w k at n. S.may_fail w.served.now k at n ⊎ (IsTrue (W.has_told w.watch.now) ⊎ W.may_change w.watch.now) };
 
     fn read(&mut self, export: usize, at: u64, out: &mut [u8]) -> Result<(), Fault>
+        requires { at + length out.old < 2 ^ 64 }
         ensures data { OnOk result (IfSome (S.bytes self.old.served.now export) (λ b. out.new ≡ take (length out.old) (drop at b))) }
         ensures unchanged { OnOk result (W.has_told self.new.watch.now ≡ false) }
         ensures fails { result ≡ Err Fault.Io → S.may_fail self.old.served.now export at (length out.old) ⊎ (IsTrue (W.has_told self.old.watch.now) ⊎ W.may_change self.old.watch.now) }

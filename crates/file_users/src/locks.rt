@@ -1,6 +1,6 @@
 // The words of a line of /proc/locks.
 ghost use Rattle.std.specs.Prelude.{◌≡◌};
-ghost use Rattle.file_users.specs.Locks.{has_at, is_lock_by};
+ghost use Rattle.file_users.specs.Locks.{has_at, is_lock_by, number_or, is_writer_by};
 ghost use Rattle.words.specs.Texts.{texts};
 
 use words::number;
@@ -26,7 +26,9 @@ pub fn is_lock_on(words: &[&[u8]], file: &[u8]) -> bool
 }
 
 /// The number at a place, or another one where there is none below 2^32.
-fn number_at(words: &[&[u8]], place: usize, other: u32) -> u32 {
+fn number_at(words: &[&[u8]], place: usize, other: u32) -> u32
+    ensures { result ≡ number_or (texts words.now) place other }
+{
     match words.get(place) {
         Some(word) => number(*word).unwrap_or(other),
         None => other,
@@ -34,7 +36,9 @@ fn number_at(words: &[&[u8]], place: usize, other: u32) -> u32 {
 }
 
 /// Whether a lock says that its holder writes: it is one to write, or it has the byte that qemu locks then.
-pub fn is_of_writer(words: &[&[u8]]) -> bool {
+pub fn is_of_writer(words: &[&[u8]]) -> bool
+    ensures { result ≡ is_writer_by (texts words.now) }
+{
     let first = number_at(words, 6, u32::MAX);
     let last = number_at(words, 7, u32::MAX);
     has_word(words, 3, b"WRITE")

@@ -1,6 +1,7 @@
 pub mod Plains
 pub mod Lives
 pub mod Lasts
+pub mod AtOnce
 pub mod Routes
 pub mod Histories
 pub mod Closes

@@ -7,8 +7,10 @@
 //! It stands on `volume`, whose contracts it joins, and adds nothing to what a volume does.
 #![tactic(auto)]
 
+mod at_once;
 mod deed;
 mod living;
 
+pub use at_once::{look_at_copied, look_at_served};
 pub use deed::{Deed, Done};
 pub use living::live;

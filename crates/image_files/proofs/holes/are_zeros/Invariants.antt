@@ -1,4 +1,4 @@
-use Rattle.std.proofs.Common.{◌≡◌, length, take, replicate}
+use Rattle.std.proofs.Common.{◌≡◌, take, replicate}
 use Rattle.image_files.proofs.holes.are_zeros.Given as goal
 
 abbrev pub invariant-loop-byte : goal.invariant-loop-byte

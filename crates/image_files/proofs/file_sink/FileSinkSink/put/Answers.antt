@@ -1,4 +1,4 @@
-use Rattle.std.proofs.Common.{◌≡◌, ◌-◌, arith, ◌++◌, List, ℕ, take, drop, replicate, take-append-drop, ap, ◌∙◌}
+use Rattle.std.proofs.Common.{◌-◌, arith, ◌++◌, List, ℕ, take, drop, replicate, take-append-drop, ap, ◌∙◌}
 use Rattle.image_files.specs.Held.{held}
 use Rattle.image_files.proofs.Holds.{piece, slice_length}
 use Rattle.image_files.proofs.file_sink.FileSinkSink.put.Goals as goal
