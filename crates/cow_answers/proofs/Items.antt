@@ -4,7 +4,7 @@ use Rattle.std.proofs.lemmas.Bool.{cond-true, cond-false}
 use Rattle.std.proofs.lemmas.List.{take_more, drop_more, drop_all, append-nil, flat_map_more}
 use Rattle.sector.specs.declared.pair.Pair.{Pair}
 use Rattle.cow_salvage.specs.declared.span.Span.{Span}
-use Rattle.cow_answers.specs.Items.{run_object, run_objects_from, run_objects, slot_object, slot_objects, unread_object, unread_objects}
+use Rattle.cow_answers.specs.Items.{run_object, run_objects_from, run_objects, slot_object, slot_objects, doubtful_object, doubtful_objects, unread_object, unread_objects}
 use Rattle.cow_answers.specs.Lines.{follows}
 
 -- the first run
@@ -44,3 +44,9 @@ pub unread_on : (told text next file : List ℕ) (spans : List Span) (i : ℕ) (
 unread_on told text next file spans i item lt same was is =
     is ∙ ap (λ xs. xs ++ unread_object file item) was ∙ ap (λ (x : Span). (told ++ unread_objects file (take i spans)) ++ unread_object file x) same
     ∙ flat_map_more (unread_object file) told (take i spans) (get_or spans i item) ∙ ap (λ xs. told ++ unread_objects file xs) (sym (take_more spans i item lt))
+
+-- a doubtful pair more
+pub doubtful_on : (told text next : List ℕ) (pairs : List Pair) (i : ℕ) (d : Pair) → i < length pairs → text ≡ told ++ doubtful_objects (take i pairs) → next ≡ text ++ doubtful_object (get_or pairs i d) → next ≡ told ++ doubtful_objects (take (i + 1) pairs)
+doubtful_on told text next pairs i d lt was is =
+    is ∙ ap (λ xs. xs ++ doubtful_object (get_or pairs i d)) was
+    ∙ flat_map_more doubtful_object told (take i pairs) (get_or pairs i d) ∙ ap (λ xs. told ++ doubtful_objects xs) (sym (take_more pairs i d lt))

@@ -12,8 +12,8 @@ use cow_image::Listed;
 use cow_salvage::{Saved, Span};
 use std::alloc::{AllocError, Global};
 
-/// What is printed of a salvage of a store whose areas have so many slots: how many pairs are certain, their runs, the doubtful ones, the others and
-/// why they are skipped, and what of both images could not be read.
+/// What is printed of a salvage of a store whose areas have so many slots: how many pairs are certain, their runs, the doubtful
+/// ones, the others and why they are skipped, and what of both images could not be read.
 pub(crate) fn salvaged_json(
     alloc: Global,
     slots: u64,

@@ -10,19 +10,24 @@ use std::io::Write;
 /// The word that stands for standard output.
 pub const OUTPUT: &str = "-";
 
-/// A new file, or standard output.
+/// A new file, or standard output where there is none.
 #[derive(Drop)]
-pub enum Target<'w, W: Write> {
-    File(FileSink<DiskFile>),
-    Output(&'w mut W),
+pub struct Target<'w, W: Write> {
+    file: Option<FileSink<DiskFile>>,
+    output: &'w mut W,
 }
 
-impl<W: Write> Target<'_, W> {
+impl<'w, W: Write> Target<'w, W> {
+    /// A new file, or standard output where none is given.
+    pub fn new(file: Option<FileSink<DiskFile>>, output: &'w mut W) -> Target<'w, W> {
+        Target { file, output }
+    }
+
     /// Makes a file last through a stop, with its whole length.
     pub fn finish(&mut self) -> io::Result<()> {
-        match self {
-            Target::File(sink) => sink.finish(),
-            Target::Output(output) => output.flush(),
+        match &mut self.file {
+            Some(sink) => sink.finish(),
+            None => self.output.flush(),
         }
     }
 }
@@ -31,9 +36,9 @@ impl<W: Write> Sink for Target<'_, W> {
     ghost contents = { λ _. None };
 
     fn put(&mut self, bytes: &[u8]) -> io::Result<()> {
-        match self {
-            Target::File(sink) => sink.put(bytes),
-            Target::Output(output) => output.write_all(bytes),
+        match &mut self.file {
+            Some(sink) => sink.put(bytes),
+            None => self.output.write_all(bytes),
         }
     }
 }

@@ -16,13 +16,13 @@ pub fn begun<'a, 'w, W: Write>(
 ) -> Result<Watched<'a, 'w, W>, Trouble<'a>> {
     let bytes = size.saturating_mul(512);
     if out == OUTPUT {
-        let target = Target::Output(output);
-        return Ok(Watched::new(rt, target, bytes));
+        return Ok(Watched::new(rt, Target::new(None, output), bytes));
     }
     is_free(rt, out)?;
     let partial = partial_name(rt, out)?;
     let sink = made(rt, out, partial.as_str())?;
-    Ok(Watched::new(rt, Target::File(sink), bytes))
+    let target = Target::new(Some(sink), output);
+    Ok(Watched::new(rt, target, bytes))
 }
 
 /// Gives a file its name where it is written whole, and else takes it away.
