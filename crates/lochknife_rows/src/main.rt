@@ -5,8 +5,8 @@
 //! printed, or the first step that is not so. Images, answers and files that are wanted come from `bench/program_rows`, which works
 //! them out in another language, from the kernel's format, docs/IMAGES.md and recordings of other programs.
 //!
-//! It stands on `image_commands` alone; its `answer` is all of the program but its words and its three streams. It promises that a
-//! row is told as well only where each of its steps was so.
+//! It stands on `image_commands` alone. Its `answer` is all of the program but its words and its three streams. A row is told as
+//! well only where each of its steps was so; no clause says that.
 #![tactic(auto)]
 
 mod row;
