@@ -1,8 +1,8 @@
 // The files of a merge are watched.
-ghost use Rattle.std.specs.Prelude.{◌≡◌, ◌*◌, ◌^◌, ◌<◌, ◌≤◌, [], false, None, Some, if◌then◌else◌, is_ok, length, IsErr};
-ghost use Rattle.file_calls.specs.Calls.{Len, Read, Write, Sync, answer_of};
+ghost use Rattle.std.specs.Prelude.{◌≡◌, ◌*◌, ◌^◌, ◌<◌, ◌≤◌, [], is_ok, IsErr, OnErr};
+ghost use Rattle.file_calls.specs.Calls.{Write};
 ghost use Rattle.image.specs.Stops.{AreLeft};
-ghost use Rattle.image_files.specs.Both.{IsAsked, AreAlike};
+ghost use Rattle.image_files.specs.Both.{IsAsked, AreAlike, IsTold, the_write};
 
 use crate::teller::Teller;
 use cow_merge::ORIGIN;
@@ -65,6 +65,21 @@ impl<'a, C: FileCalls> Merging<'a, C> {
         self.written = self.written.saturating_add(bytes as u64);
         self.teller.tell_written(self.written, self.all);
     }
+
+    // Writes, and tells how much of the origin is written.
+    fn write(&mut self, file: usize, sector: u64, part: &[u8]) -> io::Result<()>
+        ensures noted { 512 * sector < 2 ^ 64 → IsAsked file (Write (512 * sector) part.now (is_ok result)) (C.history self.old.files.origin) (C.history self.old.files.store) (C.history self.new.files.origin) (C.history self.new.files.store) }
+        ensures beyond { 2 ^ 64 ≤ 512 * sector → IsErr result × AreAlike (C.history self.old.files.origin) (C.history self.old.files.store) (C.history self.new.files.origin) (C.history self.new.files.store) }
+        ensures none { 2 ≤ file → IsErr result }
+        ensures failed { OnErr result (file < 2 → 512 * sector < 2 ^ 64 → IsTold self.new.files.failed file (the_write (512 * sector))) }
+    {
+        self.begun = true;
+        let written = self.files.write_at(file, sector, part);
+        if file == ORIGIN && written.is_ok() {
+            self.tell(part.len());
+        }
+        written
+    }
 }
 
 impl<C: FileCalls> FileSet for Merging<'_, C> {
@@ -84,38 +99,32 @@ impl<C: FileCalls> FileSet for Merging<'_, C> {
 
     ghost lacks_memory = { λ _. ⊥ };
 
-    fn len(&mut self, file: usize) -> io::Result<u64>
-        ensures noted { IsAsked file (Len (answer_of result)) (C.history self.old.files.origin) (C.history self.old.files.store) (C.history self.new.files.origin) (C.history self.new.files.store) }
-        ensures none { 2 ≤ file → IsErr result }
-    {
-        self.files.len(file)
-    }
-
-    fn read_at(&mut self, file: usize, at: u64, out: &mut [u8]) -> io::Result<()>
-        ensures noted { IsAsked file (Read at (length out.old) (if is_ok result then Some out.new else None)) (C.history self.old.files.origin) (C.history self.old.files.store) (C.history self.new.files.origin) (C.history self.new.files.store) }
-        ensures none { 2 ≤ file → IsErr result }
-    {
-        self.files.read_at(file, at, out)
-    }
-
-    fn write_at(&mut self, file: usize, sector: u64, part: &[u8]) -> io::Result<()>
-        ensures noted { 512 * sector < 2 ^ 64 → IsAsked file (Write (512 * sector) part.now (is_ok result)) (C.history self.old.files.origin) (C.history self.old.files.store) (C.history self.new.files.origin) (C.history self.new.files.store) }
-        ensures beyond { 2 ^ 64 ≤ 512 * sector → IsErr result × AreAlike (C.history self.old.files.origin) (C.history self.old.files.store) (C.history self.new.files.origin) (C.history self.new.files.store) }
-        ensures none { 2 ≤ file → IsErr result }
-    {
-        self.begun = true;
-        let written = self.files.write_at(file, sector, part);
-        if file == ORIGIN && written.is_ok() {
-            self.tell(part.len());
+    fn len(&mut self, file: usize) -> io::Result<u64> {
+        match self.files.len(file) {
+            Ok(len) => Ok(len),
+            Err(error) => Err(error),
         }
-        written
     }
 
-    fn sync(&mut self, file: usize) -> io::Result<()>
-        ensures noted { IsAsked file (Sync (is_ok result) false) (C.history self.old.files.origin) (C.history self.old.files.store) (C.history self.new.files.origin) (C.history self.new.files.store) }
-        ensures none { 2 ≤ file → IsErr result }
-    {
-        self.files.sync(file)
+    fn read_at(&mut self, file: usize, at: u64, out: &mut [u8]) -> io::Result<()> {
+        match self.files.read_at(file, at, out) {
+            Ok(()) => Ok(()),
+            Err(error) => Err(error),
+        }
+    }
+
+    fn write_at(&mut self, file: usize, sector: u64, part: &[u8]) -> io::Result<()> {
+        match self.write(file, sector, part) {
+            Ok(()) => Ok(()),
+            Err(error) => Err(error),
+        }
+    }
+
+    fn sync(&mut self, file: usize) -> io::Result<()> {
+        match self.files.sync(file) {
+            Ok(()) => Ok(()),
+            Err(error) => Err(error),
+        }
     }
 
     ghost holds_now = { λ d known. absurd known };
