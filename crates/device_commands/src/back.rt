@@ -2,7 +2,8 @@
 ghost use Rattle.std.specs.Prelude.{◌≡◌, ◌<◌, ◌≤◌, length, vec_len, vec_capacity};
 ghost use Rattle.std.specs.List.{insert};
 
-use device_list::{NamedStack, NamedVolume};
+use device_list::NamedVolume;
+use device_stacks::NamedStack;
 
 /// A stack goes back to the place from which it was taken.
 pub fn put_stack_back(stacks: &mut Vec<NamedStack>, i: usize, stack: NamedStack)

@@ -7,7 +7,8 @@ ghost use Rattle.command_rules.specs.Naming.{AreNamed};
 ghost use Rattle.command_rules.specs.Sound.{is_sound};
 
 use device::{MAX_SECTORS, MemDisk};
-use device_list::{Devices, NamedStack, find, is_full};
+use device_list::{Devices, find, is_full};
+use device_stacks::NamedStack;
 use sector::Refusal;
 use std::alloc::Global;
 use words::Name;

@@ -9,7 +9,8 @@ ghost use Rattle.command_rules.specs.Layers.{broken, features_of, laid, taken, t
 
 use command_rules::{Place, Role};
 use device::MAX_SECTORS;
-use device_list::{Devices, NamedStack, find_device};
+use device_list::{Devices, find_device};
+use device_stacks::NamedStack;
 use layers::{Features, Flakey};
 use sector::Refusal;
 use std::alloc::Global;

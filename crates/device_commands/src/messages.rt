@@ -9,7 +9,8 @@ ghost use Rattle.command_rules.specs.Places.{IsPlaceIn};
 ghost use Rattle.command_rules.specs.declared.place.Place.TheVariants.{Free, In};
 
 use command_rules::{Place, Role};
-use device_list::{Devices, NamedStack, NamedVolume, find_device};
+use device_list::{Devices, NamedVolume, find_device};
+use device_stacks::NamedStack;
 use layers::{Answer, Message};
 use sector::Refusal;
 use words::Name;

@@ -12,7 +12,8 @@ ghost use Rattle.command_rules.specs.declared.place.Place.TheVariants.{Free};
 
 use command_rules::{Place, Role};
 use device::{Block, MemDisk};
-use device_list::{Devices, NamedVolume, find_device, range_in, some_sectors, whole_sectors};
+use device_list::{Devices, NamedVolume, find_device};
+use device_stacks::{range_in, some_sectors, whole_sectors};
 use sector::{Buf, Refusal, SECTOR_BYTES};
 use std::alloc::Global;
 use words::Name;

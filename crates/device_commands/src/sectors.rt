@@ -19,7 +19,8 @@ ghost use Rattle.device_commands.specs.Ruled.{is_quiet_in, is_sound_in, volume_f
 
 use crate::order::find_in_order;
 use command_rules::{Place, Role};
-use device_list::{Devices, find_device, some_sectors, whole_sectors};
+use device_list::{Devices, find_device};
+use device_stacks::{some_sectors, whole_sectors};
 use plain_machine::Replied;
 use sector::{Buf, Refusal};
 use std::alloc::Global;

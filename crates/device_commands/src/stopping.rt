@@ -10,7 +10,8 @@ ghost use Rattle.device_list.specs.Tables.{table_of};
 ghost use Rattle.device_commands.specs.Stopping.{stopped_at};
 
 use crate::flights::origin_at;
-use device_list::{Devices, NamedStack, StoppedVolume, find_device};
+use device_list::{Devices, StoppedVolume, find_device};
+use device_stacks::NamedStack;
 use sector::Refusal;
 use words::Name;
 

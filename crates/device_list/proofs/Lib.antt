@@ -21,8 +21,4 @@ pub mod Orders
 pub mod Begun
 pub mod Statuses
 mod Firsts
-pub mod Below
-pub mod DiskBelow
-pub mod StackSizes
-pub mod Losing
 pub mod Traces

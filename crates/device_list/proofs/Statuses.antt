@@ -24,7 +24,7 @@ use Rattle.command_rules.specs.declared.place.Role.TheVariants.{Origin, Merging,
 use Rattle.command_rules.specs.State.{Volume}
 use Rattle.command_rules.specs.Messages.{snap_at}
 use Rattle.command_rules.specs.Status.{status_in}
-use Rattle.device_list.proofs.StackSizes.{size_of as size_of_stack}
+use Rattle.device_stacks.proofs.StackSizes.{size_of as size_of_stack}
 use Rattle.device_list.specs.Held.{flying_in, settled_in}
 use Rattle.device_list.specs.Status.{held_at, kept_held, state_kept, status_flying}
 use Rattle.device_list.proofs.Places.{at_place, here, stack_snap}

@@ -23,7 +23,7 @@ use Rattle.command_rules.specs.Stacks.{device_of}
 use Rattle.command_rules.specs.State.{Volume, Merging as Named}
 use Rattle.command_rules.specs.Messages.{snap_at}
 use Rattle.command_rules.specs.Status.{merge_state, state_of, state_at, status_in}
-use Rattle.device_list.proofs.StackSizes.{size_of as size_of_stack}
+use Rattle.device_stacks.proofs.StackSizes.{size_of as size_of_stack}
 use Rattle.device_list.specs.Held.{merged_inside, settled_in}
 use Rattle.device_list.proofs.Merges.{machine_merge, merge_by}
 use Rattle.device_list.proofs.Places.{at_place, stack_snap}

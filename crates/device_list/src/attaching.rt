@@ -8,10 +8,9 @@ ghost use Rattle.device_list.specs.Asked.{has_asked_much};
 ghost use Rattle.device_list.specs.Names.{IsNamedMore};
 ghost use Rattle.device_list.specs.Taking.{IsNotMet};
 
-use crate::NamedStack;
-use crate::names::SnapNames;
 use crate::origin::NamedVolume;
 use crate::stored::{look, look_at_places};
+use device_stacks::{NamedStack, SnapNames};
 use sector::Refusal;
 use snapshot::StoreDev;
 use std::alloc::Global;

@@ -6,9 +6,10 @@ ghost use Rattle.command_rules.specs.Places.{place_of, place_free, place_among, 
 ghost use Rattle.command_rules.specs.declared.place.Place.TheVariants.{Free, In};
 ghost use Rattle.command_rules.specs.Disks.{device_count, devices_in, devices_of};
 
+use crate::NamedVolume;
 use crate::held::{Devices, MOST_DEVICES};
-use crate::{NamedStack, NamedVolume};
 use command_rules::Place;
+use device_stacks::NamedStack;
 use sector::Refusal;
 use words::Name;
 

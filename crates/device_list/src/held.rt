@@ -2,7 +2,8 @@
 ghost use Rattle.std.specs.Prelude.{◌≡◌, [], IfOk};
 ghost use Rattle.device_list.specs.Tables.{table_of};
 
-use crate::{NamedStack, NamedVolume};
+use crate::NamedVolume;
+use device_stacks::NamedStack;
 use std::alloc::{AllocError, Global};
 
 /// The most devices that there may be.

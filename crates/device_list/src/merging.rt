@@ -9,10 +9,9 @@ ghost use Rattle.device_list.specs.Asked.{has_asked_much};
 ghost use Rattle.device_list.specs.Flights.{IsUnfinished};
 ghost use Rattle.device_list.specs.Names.{IsNamedBegun, IsNamedLess};
 
-use crate::NamedStack;
-use crate::names::SnapNames;
 use crate::origin::NamedVolume;
 use crate::stored::{look, look_at_places};
+use device_stacks::{NamedStack, SnapNames};
 use sector::Refusal;
 use std::alloc::Global;
 

@@ -8,9 +8,8 @@ ghost use Rattle.command_rules.specs.Places.{role_of, role_among, role_merging, 
 ghost use Rattle.command_rules.specs.Disks.{devices_in, devices_merging, devices_under};
 ghost use Rattle.command_rules.specs.Origins.{origin_on, stack_under};
 
-use crate::names::SnapNames;
-use crate::{NamedStack, depth_in, sectors_of};
 use command_rules::Role;
+use device_stacks::{NamedStack, SnapNames, depth_in, sectors_of};
 use layers::Stack;
 use sector::Refusal;
 use std::alloc::Global;

@@ -7,9 +7,9 @@ ghost use Rattle.command_rules.specs.Naming.{merging_sum, names_sum, volume_sum}
 ghost use Rattle.volume.specs.Leaving.{is_quiet_of};
 ghost use Rattle.device_list.specs.Parting.{HasAll, HasBegun, IsParted, named_with, parts_sum, place_begun, with_begun, with_requests};
 
-use crate::names::SnapNames;
 use crate::origin::NamedVolume;
 use crate::stopping::earlier;
+use device_stacks::SnapNames;
 use layers::Stack;
 use std::marker::Model;
 use volume_commands::Resting;

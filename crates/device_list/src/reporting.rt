@@ -11,14 +11,13 @@ ghost use Rattle.command_rules.specs.Raw.{raw_in_merging, raw_under};
 ghost use Rattle.command_rules.specs.Status.{status_in};
 ghost use Rattle.device_list.specs.Status.{IsStatusOf, status_flying};
 
-use crate::names::SnapNames;
 use crate::origin::NamedVolume;
 use crate::stored::{
     chunk_at, look, merging_chunk, merging_state, merging_store, state_at, store_at,
 };
-use crate::{disk_in, line_in, sectors_of};
 use command_rules::Role;
 use device::MemDisk;
+use device_stacks::{SnapNames, disk_in, line_in, sectors_of};
 use sector::Refusal;
 use std::alloc::Global;
 use table::{Line, StatusState, Target, merge_line, origin_line, snapshot_line};

@@ -15,8 +15,8 @@ ghost use Rattle.device_list.specs.Names.{KeepsNames};
 
 use crate::origin::NamedVolume;
 use crate::stored::look_at_places;
-use crate::{range_in, sectors_of};
 use command_rules::Role;
+use device_stacks::{range_in, sectors_of};
 use layers::Stack;
 use plain_machine::Dev;
 use sector::{Buf, Range, Refusal};

@@ -2,7 +2,7 @@
 ghost use Rattle.std.specs.Prelude.{◌≡◌, [], ◌∷◌, IfNone, IfSome};
 ghost use Rattle.device_list.specs.Stopping.{names_with};
 
-use crate::names::SnapNames;
+use device_stacks::SnapNames;
 use std::marker::Model;
 use words::Name;
 

@@ -6,9 +6,9 @@ ghost use Rattle.command_rules.specs.Stopping.{stopped};
 ghost use Rattle.device_list.specs.Stopping.{earlier_than};
 ghost use Rattle.volume.specs.Asking.{merging_number};
 
-use crate::NamedStack;
 use crate::origin::NamedVolume;
 use crate::stack_names::StackNames;
+use device_stacks::NamedStack;
 use layers::Stack;
 use std::marker::Model;
 use volume::Stopped;

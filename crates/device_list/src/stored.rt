@@ -12,8 +12,8 @@ ghost use Rattle.command_rules.specs.Status.{merge_state, state_of};
 ghost use Rattle.device_list.specs.Held.{merged_inside, settled_in, IsSettledIn};
 ghost use Rattle.device_list.specs.Status.{IsStateAt};
 
-use crate::sectors_of;
 use chunk_alloc::Usage;
+use device_stacks::sectors_of;
 use layers::Stack;
 use plain_machine::{Overflowing, SnapId};
 use table::StatusState;

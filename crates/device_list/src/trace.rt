@@ -7,8 +7,8 @@ ghost use Rattle.words.specs.Texts.{texts};
 ghost use Rattle.words.specs.Words.{spaced};
 ghost use Rattle.device_list.specs.Trace.{IsTraced, copied_text, copies_text, copy_text, due_text, dues_text, flight_text, flights_text, item_of, line_of, mark_text, marks_text, name_of, named_dev, route_word, snap_text, stage_word, told_text};
 
-use crate::names::SnapNames;
 use crate::origin::NamedVolume;
+use device_stacks::SnapNames;
 use in_flight::{ChunkCopy, Flight, Mark, Route, Stage};
 use itoa::Buffer;
 use layers::Stack;

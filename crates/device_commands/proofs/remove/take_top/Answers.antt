@@ -3,7 +3,7 @@ use Rattle.std.specs.Prelude.{Result, Ok}
 use Rattle.sector.specs.declared.refusal.Refusal.{Refusal}
 use Rattle.command_rules.specs.State.{Stacked, Table}
 use Rattle.device_list.specs.Tables.{table_of}
-use Rattle.device_list.proofs.Below.{lowered_some, lowered_none, nothing_left}
+use Rattle.device_stacks.proofs.Below.{lowered_some, lowered_none, nothing_left}
 use Rattle.device_commands.proofs.remove.take_top.Goals as goal
 
 pub returns-then-is_layered : goal.returns-then-is_layered

@@ -5,7 +5,7 @@ use Rattle.big_steps.specs.Devices.{sectors_of}
 use Rattle.command_rules.specs.Raw.{fits}
 use Rattle.command_rules.specs.Stacks.{device_of}
 use Rattle.layers.specs.Stack.{stack_size}
-use Rattle.device_list.proofs.StackSizes.{size_of}
+use Rattle.device_stacks.proofs.StackSizes.{size_of}
 use Rattle.device_list.specs.Held.{settled_in}
 use Rattle.device_list.proofs.Asks.{no_serve, no_dev, no_range, no_more, asks, fits_anyway, fits_known}
 use Rattle.device_list.proofs.sectors.ask.Goals as goal

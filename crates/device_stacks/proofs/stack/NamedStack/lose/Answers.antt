@@ -1,5 +1,5 @@
-use Rattle.device_list.proofs.Losing.{lost_lasting}
-use Rattle.device_list.proofs.stack.NamedStack.lose.Goals as goal
+use Rattle.device_stacks.proofs.Losing.{lost_lasting}
+use Rattle.device_stacks.proofs.stack.NamedStack.lose.Goals as goal
 
 pub returns : goal.returns
 returns c =

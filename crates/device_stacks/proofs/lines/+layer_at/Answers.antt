@@ -3,8 +3,8 @@ use Rattle.std.specs.Prelude.{Option, Some, None, IfSome, IfNone}
 use Rattle.layers.specs.Stack.{below_of}
 use Rattle.big_steps.specs.Devices.{Device}
 use Rattle.command_rules.specs.Stacks.{device_of}
-use Rattle.device_list.proofs.Below.{below_at}
-use Rattle.device_list.proofs.lines.+layer_at.Goals as goal
+use Rattle.device_stacks.proofs.Below.{below_at}
+use Rattle.device_stacks.proofs.lines.+layer_at.Goals as goal
 
 pub returns-in-Flakey-clause-there : goal.returns-in-Flakey-clause-there
 returns-in-Flakey-clause-there t c =

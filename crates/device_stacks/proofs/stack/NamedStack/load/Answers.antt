@@ -1,6 +1,6 @@
 use Rattle.std.proofs.Common.{◌+◌, arith}
-use Rattle.device_list.proofs.DiskBelow.{bare_fits}
-use Rattle.device_list.proofs.stack.NamedStack.load.Goals as goal
+use Rattle.device_stacks.proofs.DiskBelow.{bare_fits}
+use Rattle.device_stacks.proofs.stack.NamedStack.load.Goals as goal
 
 pub load-requires-clause-inside : goal.load-requires-clause-inside
 load-requires-clause-inside c =

@@ -19,9 +19,9 @@ use words::Name;
 /// A snapshot's name, those of its store's stack from the top, and whether its line says that the store may overflow.
 #[derive(Drop)]
 pub struct SnapNames {
-    pub(crate) snapshot: Name,
-    pub(crate) store: Vec<Name>,
-    pub(crate) overflow: bool,
+    pub snapshot: Name,
+    pub store: Vec<Name>,
+    pub overflow: bool,
 }
 
 impl Model for SnapNames {

@@ -1,6 +1,6 @@
 use Rattle.command_rules.specs.Stacks.{device_of}
-use Rattle.device_list.proofs.Below.{uncovered_is}
-use Rattle.device_list.proofs.stack.NamedStack.uncover.Goals as goal
+use Rattle.device_stacks.proofs.Below.{uncovered_is}
+use Rattle.device_stacks.proofs.stack.NamedStack.uncover.Goals as goal
 
 pub returns : goal.returns
 returns c =

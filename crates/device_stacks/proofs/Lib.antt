@@ -1,0 +1,4 @@
+pub mod Below
+pub mod DiskBelow
+pub mod StackSizes
+pub mod Losing
