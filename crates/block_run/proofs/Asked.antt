@@ -6,8 +6,8 @@ use Rattle.std.specs.List.{AllZip}
 use Rattle.std.proofs.lemmas.Bool.{eqb-true}
 use Rattle.std.proofs.lemmas.List.{append-nil, append_assoc}
 use Rattle.command.specs.declared.seat_line.SeatLine.{SeatLine}
-use Rattle.volume_threads.specs.declared.task.Task.{Task}
-use Rattle.volume_threads.specs.Tasks.{tasks_at}
+use Rattle.block_threads.specs.declared.task.Task.{Task}
+use Rattle.block_threads.specs.Tasks.{tasks_at}
 use Rattle.block_run.specs.Answering.{lines_by}
 
 -- none for one seat more

@@ -8,16 +8,16 @@ use Rattle.audit.specs.Books.{AuditShape}
 use Rattle.audit.specs.Entries.{answered_of, entries_by}
 use Rattle.command_rules.specs.State.{Volume}
 use Rattle.volume_threads.specs.Rigs.{fixed_in, receipts_at, seen_at, start_in}
-use Rattle.volume_threads.specs.declared.task.Task.{Task}
-use Rattle.volume_threads.specs.Left.{AllAddAskedFor}
-use Rattle.volume_threads.specs.Tasks.{AreTold, IsEnded, denied_of, merges_among, pieces_at}
+use Rattle.block_threads.specs.declared.task.Task.{Task}
+use Rattle.block_threads.specs.Left.{AllAddAskedFor}
+use Rattle.block_threads.specs.Tasks.{AreTold, IsEnded, denied_of, merges_among, pieces_at}
 use Rattle.block_run.specs.Answering.{AreEnded, AreForTasks}
 use Rattle.layers.specs.Stack.{stack_layers, stack_size}
 use Rattle.locked_volume.specs.Denying.{Wish, WasDenied}
 use Rattle.locked_volume.specs.Fixed.{Fixed, fixed_of, piece_at}
 use Rattle.locked_volume.specs.Names.{nothing_fixed}
 use Rattle.sector.specs.declared.refusal.Refusal.{Refusal}
-use Rattle.volume_threads.proofs.Mapping.{ended_by}
+use Rattle.block_threads.proofs.Mapping.{ended_by}
 use Rattle.block_run.specs.Played.{ArePlayed, Story, denied_in, no_story, pieces_in}
 use Rattle.block_run.specs.Running.{AreRun, IsRunIf}
 use Rattle.block_run.specs.Taking.{IsMade}

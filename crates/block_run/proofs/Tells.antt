@@ -15,12 +15,12 @@ use Rattle.command_rules.specs.State.{Table}
 use Rattle.command.specs.declared.command_reply.CommandReply.{CommandReply}
 use Rattle.command.specs.declared.command_reply.CommandReply.TheVariants.{Gate}
 use Rattle.volume_threads.specs.Rigs.{SeatShape}
-use Rattle.volume_threads.specs.declared.task.Task.{Task}
+use Rattle.block_threads.specs.declared.task.Task.{Task}
 use Rattle.audit.specs.declared.entry.Entry.{Entry}
 use Rattle.block_run.specs.Played.{denied_in, pieces_in}
 use Rattle.locked_volume.specs.Denying.{Wish}
 use Rattle.sector.specs.declared.refusal.Refusal.{Refusal}
-use Rattle.volume_threads.specs.Tasks.{AreDone, IsEnded}
+use Rattle.block_threads.specs.Tasks.{AreDone, IsEnded}
 use Rattle.block_run.specs.Asking.{IsTask}
 use Rattle.block_run.specs.Answering.{AreAsked, AreEnded, gate_replies, lines_by, replies_of, reply_of}
 use Rattle.block_run.specs.Running.{IsOfBlock, gate_told, seat_in, seats_told}

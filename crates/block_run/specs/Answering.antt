@@ -10,8 +10,8 @@ use Rattle.command.specs.declared.command_reply.CommandReply.TheVariants.{Seat, 
 use Rattle.command.specs.declared.seated.SeatAnswer.{SeatAnswer}
 use Rattle.command.specs.declared.seated.SeatAnswer.TheVariants.{Refused}
 use Rattle.locked_volume.specs.AskedFor.{IsAskedFor}
-use Rattle.volume_threads.specs.declared.task.Task.{Task}
-use Rattle.volume_threads.specs.Tasks.{merges_among}
+use Rattle.block_threads.specs.declared.task.Task.{Task}
+use Rattle.block_threads.specs.Tasks.{merges_among}
 use Rattle.block_run.specs.Asking.{IsTask}
 use Rattle.block_run.specs.Played.{ArePlayed, IsPlayedBy, Story, no_story}
 use Rattle.block_run.specs.Running.{used_in}

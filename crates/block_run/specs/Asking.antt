@@ -17,9 +17,9 @@ use Rattle.command_rules.specs.declared.place.Place.{Place}
 use Rattle.command_rules.specs.declared.place.Place.TheVariants.{Free, In}
 use Rattle.command_rules.specs.declared.place.Role.{Role}
 use Rattle.command_rules.specs.declared.place.Role.TheVariants.{Origin, Under, Snapshot, Store, Merging, MergingStore}
-use Rattle.volume_threads.specs.declared.task.Task.{Task}
-use Rattle.volume_threads.specs.declared.task.Job.{Job}
-use Rattle.volume_threads.specs.declared.task.Job.TheVariants.{Read, Write, Merge, RefusedRead, Refused}
+use Rattle.block_threads.specs.declared.task.Task.{Task}
+use Rattle.block_threads.specs.declared.task.Job.{Job}
+use Rattle.block_threads.specs.declared.task.Job.TheVariants.{Read, Write, Merge, RefusedRead, Refused}
 use Rattle.block_run.specs.Looking.{name_in}
 
 -- The place of volume v among those that are taken out, of which the last of the table is the first.

@@ -17,8 +17,8 @@ use Rattle.locked_volume.specs.Denying.{Wish, WasDenied}
 use Rattle.locked_volume.specs.Fixed.{Fixed, piece_at}
 use Rattle.locked_volume.specs.Names.{nothing_fixed}
 use Rattle.volume_threads.specs.Rigs.{SeatShape, receipts_at, seen_at}
-use Rattle.volume_threads.specs.declared.task.Task.{Task}
-use Rattle.volume_threads.specs.Tasks.{IsEnded}
+use Rattle.block_threads.specs.declared.task.Task.{Task}
+use Rattle.block_threads.specs.Tasks.{IsEnded}
 use Rattle.snapshot_list.specs.Numbers.{number_of_snap}
 use Rattle.volume.specs.Stepping.{merged_of}
 use Rattle.volume.specs.Volumed.{Volumed, is_loud_in_all, plain_of}

@@ -1,6 +1,6 @@
 //! Blocks of lines that run at once, over the named devices: what each line finds under its name, and the run itself.
 //!
-//! It stands on `command` for what the lines say and what is answered, on `device_list` for the devices, and on `volume_threads` for the
+//! It stands on `command` for what the lines say and what is answered, on `device_list` for the devices, and on `block_threads` for the
 //! run of their tasks on threads. It promises which refusal comes first, before anything runs, and that a block that is
 //! refused leaves all devices as they were; that one that runs changes no stack that nothing uses and no volume that no line
 //! names; that each volume keeps its place and its names, but that a merge of one of its snapshots may have begun, drops no

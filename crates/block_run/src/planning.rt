@@ -7,13 +7,14 @@ ghost use Rattle.command.specs.Lines.{IsSeat};
 ghost use Rattle.device_list.specs.Tables.{table_of};
 ghost use Rattle.command_rules.specs.Places.{IsRoleIn, place_of};
 ghost use Rattle.command_rules.specs.Sectors.{dev_of};
-ghost use Rattle.volume_threads.specs.Tasks.{tasks_at};
+ghost use Rattle.block_threads.specs.Tasks.{tasks_at};
 ghost use Rattle.block_run.specs.Answering.{AreAsked};
 ghost use Rattle.block_run.specs.Asking.{IsJob, IsMergeAs, IsReadAs, IsTask, IsWriteAs, asked, asks_of, merges_of, place_among, writes_of};
 ghost use Rattle.block_run.specs.Looking.{name_in};
 ghost use Rattle.block_run.specs.Running.{is_in, used_in};
 
 use crate::looking::name_in;
+use block_threads::{Job, SEATS, Task};
 use command::{CommandReply, SeatLine, Work};
 use command_rules::{Place, Role};
 use device_list::{Devices, NamedVolume, find_device};
@@ -21,7 +22,6 @@ use device_stacks::{range_in, whole_sectors};
 use plain_machine::Dev;
 use sector::{Buf, Range, Refusal};
 use std::alloc::{AllocError, Global};
-use volume_threads::{Job, SEATS, Task};
 
 /// Which volumes are taken out, by their place in the table; the tasks of each seat; and room for a reply to each line, and for
 /// the gate's.

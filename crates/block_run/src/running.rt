@@ -8,8 +8,8 @@ ghost use Rattle.audit.specs.Books.{AuditShape};
 ghost use Rattle.command_rules.specs.Naming.{AreNamed};
 ghost use Rattle.command_rules.specs.Sound.{is_sound};
 ghost use Rattle.device_list.specs.Tables.{table_of};
-ghost use Rattle.volume_threads.specs.Left.{AllAddAskedFor};
-ghost use Rattle.volume_threads.specs.Tasks.{AreTold, tasks_at};
+ghost use Rattle.block_threads.specs.Left.{AllAddAskedFor};
+ghost use Rattle.block_threads.specs.Tasks.{AreTold, tasks_at};
 ghost use Rattle.block_run.specs.Answering.{AreAnswered, AreEnded, AreForTasks, AreReplied, gate_replies, replies_of, reply_of};
 ghost use Rattle.block_run.specs.Looking.{block_refusal};
 ghost use Rattle.block_run.specs.Played.{ArePlayed, Story};
@@ -21,6 +21,7 @@ use crate::looking::all_found;
 use crate::planning::{BlockPlan, planned};
 use crate::taking::{put_back, take_all};
 use audit::Audit;
+use block_threads::{Hold, Task, run_seats};
 use command::{CommandReply, LineBlock, SeatAnswer, Seated, refusal_among};
 use device_list::Devices;
 use layers::Stack;
@@ -29,7 +30,6 @@ use std::alloc::Global;
 use std::mem;
 use std::sync::Wait;
 use std::thread::Threads;
-use volume_threads::{Hold, Task, run_seats};
 
 /// Why a block is refused before anything runs. The one error is `NoMemory`.
 #[tactic(auto, unfolding(crate::specs::Looking::block_refusal))]

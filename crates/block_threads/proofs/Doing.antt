@@ -8,13 +8,13 @@ use Rattle.std.proofs.lemmas.List.{drop_more, drop-set-lt, get_or-drop, take_mor
 use Rattle.command.specs.declared.seated.SeatAnswer.{SeatAnswer}
 use Rattle.command.specs.declared.seated.SeatAnswer.TheVariants as answered
 use Rattle.volume_threads.specs.Rigs.{SeatShape, receipts_at}
-use Rattle.volume_threads.specs.declared.task.Job.{Job}
-use Rattle.volume_threads.specs.declared.task.Job.TheVariants.{Read, Write, Merge, RefusedRead, Refused}
-use Rattle.volume_threads.specs.declared.task.Task.{Task}
+use Rattle.block_threads.specs.declared.task.Job.{Job}
+use Rattle.block_threads.specs.declared.task.Job.TheVariants.{Read, Write, Merge, RefusedRead, Refused}
+use Rattle.block_threads.specs.declared.task.Task.{Task}
 use Rattle.locked_volume.specs.Denying.{Wish}
 use Rattle.audit.specs.declared.entry.Entry.{Entry}
 use Rattle.sector.specs.declared.refusal.Refusal.{Refusal}
-use Rattle.volume_threads.specs.Tasks.{AreCalled, AreDone, AreUnderWay, IsCall, IsDone, IsDoneAs, IsEnded, IsNew, IsUnbegun}
+use Rattle.block_threads.specs.Tasks.{AreCalled, AreDone, AreUnderWay, IsCall, IsDone, IsDoneAs, IsEnded, IsNew, IsUnbegun}
 
 -- the first of two lists that are equal from a place on
 first_same : (asked tasks : List Task) (n : ℕ) (b : Task) → drop n tasks ≡ drop n asked → get_or tasks n b ≡ get_or asked n b

@@ -16,10 +16,10 @@ use Rattle.volume_threads.specs.Rigs.{SeatShape, seen_at}
 use Rattle.plain_machine.specs.declared.request.Op.TheVariants as op
 use Rattle.plain_machine.specs.declared.request.Reply.TheVariants as reply
 use Rattle.volume_threads.specs.Served.{IsCut, IsCutShort, IsReadLost, IsRefused, IsWriteLost, read_op, written_reply}
-use Rattle.volume_threads.specs.declared.task.Job.{Job}
-use Rattle.volume_threads.specs.declared.task.Job.TheVariants.{Read, Write, Merge, RefusedRead, Refused}
-use Rattle.volume_threads.specs.declared.task.Task.{Task}
-use Rattle.volume_threads.specs.Tasks.{AreCalled, AreDone, IsCall, IsDoneAs, IsEnded}
+use Rattle.block_threads.specs.declared.task.Job.{Job}
+use Rattle.block_threads.specs.declared.task.Job.TheVariants.{Read, Write, Merge, RefusedRead, Refused}
+use Rattle.block_threads.specs.declared.task.Task.{Task}
+use Rattle.block_threads.specs.Tasks.{AreCalled, AreDone, IsCall, IsDoneAs, IsEnded}
 
 module _ (op : List ℕ → Op) (reply : List ℕ → Reply) (dev : Dev) (lost : Refusal → Type 0) (denies says : Request → Refusal → Type 0) (by : (request : Request) (r : Refusal) → denies request r → says request r) where
   refused_by : (p : Span) (r : Refusal) → IsRefused op dev denies p r → IsRefused op dev says p r

@@ -10,12 +10,12 @@ use Rattle.audit.specs.Books.{AuditShape}
 use Rattle.locked_volume.specs.AskedFor.{AddsAskedFor, IsAskedFor}
 use Rattle.locked_volume.specs.Denying.{Wish}
 use Rattle.sector.specs.declared.refusal.Refusal.{Refusal}
-use Rattle.volume_threads.specs.Left.{AllAddAskedFor}
+use Rattle.block_threads.specs.Left.{AllAddAskedFor}
 use Rattle.volume_threads.specs.Rigs.{SeatShape, start_in}
-use Rattle.volume_threads.specs.Tasks.{IsDone, IsDoneAs, MayMerge, is_merge_in, is_merge_of, merges_among}
-use Rattle.volume_threads.specs.declared.task.Job.{Job}
-use Rattle.volume_threads.specs.declared.task.Job.TheVariants.{Merge}
-use Rattle.volume_threads.specs.declared.task.Task.{Task}
+use Rattle.block_threads.specs.Tasks.{IsDone, IsDoneAs, MayMerge, is_merge_in, is_merge_of, merges_among}
+use Rattle.block_threads.specs.declared.task.Job.{Job}
+use Rattle.block_threads.specs.declared.task.Job.TheVariants.{Merge}
+use Rattle.block_threads.specs.declared.task.Task.{Task}
 
 -- by all tasks, each task of a seat may merge what it merges
 pub all_may : (tasks : ℕ → List Task) (i : ℕ) → i < 8 → All (MayMerge (merges_among tasks)) (tasks i)

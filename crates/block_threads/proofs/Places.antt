@@ -6,8 +6,8 @@ use Rattle.std.specs.List.{remove}
 use Rattle.std.proofs.Math.ListN.{get_or-append}
 use Rattle.std.proofs.Math.Seq.{get_or-append_seam}
 use Rattle.volume_threads.specs.Rigs.{SeatShape}
-use Rattle.volume_threads.specs.declared.task.Task.{Task}
-use Rattle.volume_threads.specs.Tasks.{IsNew, tasks_at}
+use Rattle.block_threads.specs.declared.task.Task.{Task}
+use Rattle.block_threads.specs.Tasks.{IsNew, tasks_at}
 
 pub behind : (all : List (Vec Task)) (i : ℕ) → length all ≤ i → tasks_at all i ≡ []
 behind [] i last = refl

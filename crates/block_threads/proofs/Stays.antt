@@ -9,8 +9,8 @@ use Rattle.audit.specs.Entries.{answered_of, entries_by}
 use Rattle.locked_volume.specs.Fixed.{Fixed, StaysFrom, fixed_of}
 use Rattle.locked_volume.specs.Names.{nothing_fixed}
 use Rattle.volume_threads.specs.Rigs.{AreOpened, IsRoomOf, OpenedShape, boards_in, fixed_in, histories_in, start_in}
-use Rattle.volume_threads.specs.declared.task.Task.{Task}
-use Rattle.volume_threads.specs.Left.{AreLeft, NothingRan}
+use Rattle.block_threads.specs.declared.task.Task.{Task}
+use Rattle.block_threads.specs.Left.{AreLeft, NothingRan}
 
 still : (f : Fixed) → StaysFrom f f
 still f = record { attached = refl; sectors = refl; snaps = inl (refl, refl, refl); sound = refl; loud = refl; base = refl; taken = refl; folded = refl; piece = refl }

@@ -6,8 +6,8 @@ use Rattle.audit.specs.Books.{AuditShape}
 use Rattle.audit.specs.Entries.{entries_by}
 use Rattle.locked_volume.specs.Fixed.{StaysFrom, fixed_of}
 use Rattle.locked_volume.specs.AskedFor.{AddsAskedFor}
-use Rattle.volume_threads.specs.Tasks.{merges_among}
-use Rattle.volume_threads.specs.declared.task.Task.{Task}
+use Rattle.block_threads.specs.Tasks.{merges_among}
+use Rattle.block_threads.specs.declared.task.Task.{Task}
 
 -- Each is in its place, with no request in flight, and has stayed as it was but for a merge that began. Its journal begins
 -- with the entries that it had.

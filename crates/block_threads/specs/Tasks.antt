@@ -17,9 +17,9 @@ use Rattle.command.specs.declared.seated.SeatAnswer.TheVariants as answered
 use Rattle.command.specs.Runs.{data_words}
 use Rattle.volume_threads.specs.Rigs.{HasAdded, IsSettledAt, SeatShape, fixed_in, receipts_at, seen_at, start_in}
 use Rattle.volume_threads.specs.Served.{IsReadBy, IsReadCut, IsWriteCut, IsWrittenBy}
-use Rattle.volume_threads.specs.declared.task.Job.{Job}
-use Rattle.volume_threads.specs.declared.task.Job.TheVariants.{Read, Write, Merge, RefusedRead, Refused}
-use Rattle.volume_threads.specs.declared.task.Task.{Task}
+use Rattle.block_threads.specs.declared.task.Job.{Job}
+use Rattle.block_threads.specs.declared.task.Job.TheVariants.{Read, Write, Merge, RefusedRead, Refused}
+use Rattle.block_threads.specs.declared.task.Task.{Task}
 
 -- whether a job merges the snapshot with a number of a volume
 abbrev pub is_merge_of : ℕ → ℕ → Job → Bool

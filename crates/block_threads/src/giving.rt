@@ -2,15 +2,15 @@
 ghost use Rattle.std.specs.Prelude.{◌≡◌, ◌≢◌, ◌+◌, ◌<◌, ◌≤◌, ℕ, [], length, slice_index_or, vec_capacity};
 ghost use Rattle.std.specs.List.{All};
 ghost use Rattle.volume_threads.specs.Rigs.{AreNewSeats, SeatShape};
-ghost use Rattle.volume_threads.specs.Tasks.{IsEnded, IsNew, MayMerge, denied_of, pieces_at, tasks_at};
+ghost use Rattle.block_threads.specs.Tasks.{IsEnded, IsNew, MayMerge, denied_of, pieces_at, tasks_at};
 
 use crate::plan::Plan;
 use crate::seat_run::SeatRun;
 use crate::task::{SEATS, Task};
-use crate::{Room, Seat};
 use std::alloc::Global;
 use std::mem;
 use std::sync::Wait;
+use volume_threads::Seat;
 
 /// Takes the tasks at a place; none where there is no such place.
 fn take_tasks(alloc: Global, tasks: &mut Vec<Vec<Task>>, i: usize) -> Vec<Task>

@@ -5,24 +5,25 @@ ghost use denote.Param.Send.{IsSend, IsSync};
 ghost use Rattle.sector.specs.declared.refusal.Refusal.TheVariants.{NoMemory};
 ghost use Rattle.audit.specs.Books.{AuditShape};
 ghost use Rattle.volume_threads.specs.Rigs.{IsRoomOf};
-ghost use Rattle.volume_threads.specs.Left.{AllAddAskedFor, AreLeft, NothingRan};
-ghost use Rattle.volume_threads.specs.Tasks.{AreTold, merges_among, tasks_at};
+ghost use Rattle.block_threads.specs.Left.{AllAddAskedFor, AreLeft, NothingRan};
+ghost use Rattle.block_threads.specs.Tasks.{AreTold, merges_among, tasks_at};
 
 use crate::giving::{begin_all, end_all};
 use crate::hold::{Hold, HoldGate};
 use crate::plan::Plan;
 use crate::seat_run::SeatRun;
 use crate::task::{SEATS, Task};
-use crate::{Opened, Rig, Room, Worker};
 use audit::Audit;
 use between_threads::Gate;
 use layers::Layered;
+use locked_volume::Room;
 use sector::Refusal;
 use std::alloc::Global;
 use std::marker::Brand;
 use std::sync::Wait;
 use std::thread;
 use std::thread::Threads;
+use volume_threads::{Opened, Rig, Worker};
 
 /// Gives each seat that has something to do a thread of its own, and waits for all. The tasks of a seat that can't be started
 /// stay without an answer.

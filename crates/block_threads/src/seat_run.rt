@@ -1,13 +1,13 @@
 // A seat at its tasks.
 ghost use Rattle.std.specs.Prelude.{◌≡◌, true};
 ghost use Rattle.std.specs.List.{All};
-ghost use Rattle.volume_threads.specs.Tasks.{AreUnderWay, IsEnded, IsNew, IsUnbegun, MayMerge, denied_of, pieces_at};
+ghost use Rattle.block_threads.specs.Tasks.{AreUnderWay, IsEnded, IsNew, IsUnbegun, MayMerge, denied_of, pieces_at};
 
-use crate::Seat;
 use crate::plan::Plan;
 use crate::task::Task;
 use std::alloc::Global;
 use std::sync::Wait;
+use volume_threads::Seat;
 
 /// A seat and its tasks, the first of which are done: so many.
 #[derive(Drop)]

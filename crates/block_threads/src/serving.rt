@@ -1,19 +1,20 @@
 // What the thread of a seat does.
 ghost use Rattle.std.specs.Prelude.{◌≡◌, ◌*◌, ◌<◌, ℕ, length, true};
-ghost use Rattle.volume_threads.specs.Tasks.{IsCall, IsDone, IsMergedAs, IsReadAs, IsWrittenAs, MayMerge, denied_of, is_merge_of, pieces_at};
+ghost use Rattle.block_threads.specs.Tasks.{IsCall, IsDone, IsMergedAs, IsReadAs, IsWrittenAs, MayMerge, denied_of, is_merge_of, pieces_at};
 
 use crate::hold::Hold;
 use crate::plan::Plan;
 use crate::seat_run::SeatRun;
 use crate::task::{Job, Task};
-use crate::{Rig, Room, Seat};
 use between_threads::Gate;
 use command::{SeatAnswer, words_of_data};
 use layers::Layered;
+use locked_volume::Room;
 use plain_machine::{Dev, SnapId};
 use sector::{Buf, Range, Refusal, SECTOR_BYTES};
 use std::alloc::Global;
 use std::sync::Wait;
+use volume_threads::{Rig, Seat};
 
 /// A volume is one of the rig's; where it were none, this would wait for ever.
 fn among<R: Wait>(rt: &R, volume: usize, volumes: usize)

@@ -1,11 +1,8 @@
--- A rig may be shared by threads, wherever its devices, its gate and its room may be.
-use mathlib.Core.List.{[], ◌∷◌}
-use mir.Syntax.{Sym}
+-- A rig may be shared by threads, wherever its devices, its gate and its room may be, and a seat or a worker may go to another.
 use denote.RattleType.{RattleType}
-use denote.Param.Send.{IsSend, IsSync, sendable, recorded_send, recorded_sync, struct_send, struct_sync, view_sync}
+use denote.Param.Send.{IsSend, IsSync, sendable, recorded_sync, struct_sync, view_sync}
 use denote.Struct.Declared.{shape}
-use denote.Struct.Tuple.{TupleAt, field_at, type_at}
-use Rattle.std.proofs.Crossing.{crosses, Vec-send, Vec-sync}
+use Rattle.std.proofs.Crossing.{crosses, Vec-sync}
 use Rattle.std.proofs.MapsCrossing as Maps
 use Rattle.std.proofs.MapsCrossingOver as Sets
 use Rattle.std.proofs.alloc.Global.TheSendSync as Heap
@@ -24,12 +21,6 @@ use Rattle.volume_threads.specs.contracts.rig.Rig as Rig
 use Rattle.volume_threads.specs.contracts.seat.Seat as Sat
 use Rattle.volume_threads.specs.contracts.worker.Worker as Worker
 use Rattle.volume_threads.specs.contracts.rig.Rig.TheInside as Inside
-use Rattle.command.specs.contracts.seated.SeatAnswer as Answered
-use Rattle.volume_threads.specs.declared.plan.Plan as Plan
-use Rattle.volume_threads.specs.contracts.hold.Hold as Hold
-use Rattle.volume_threads.specs.contracts.seat_run.SeatRun as SeatRun
-use Rattle.volume_threads.specs.contracts.task.Job as Job
-use Rattle.volume_threads.specs.contracts.task.Task as Task
 
 -- which types of std and of the kit's tables may cross
 pub ruleset crossing = (sendable, crosses, Maps.crosses, Sets.crosses, Shared.the_send, Shared.the_sync, Seat.the_send, Badge.the_send, Lease.the_send, Lease.the_sync, RuledPerch.the_send, RuledPerch.the_sync, Perch.the_send, Perch.the_sync, Mark.the_send, Heap.the_send, Heap.the_sync)
@@ -59,32 +50,3 @@ worker_send Q j s = search crossing fits 50000 depth 40
 
 pub seat_send : (Q : RattleType) (j : Room.Ghosts Q.Denot) → IsSend Q → IsSend (Sat.the_row Q j)
 seat_send Q j s = search (sendable, crosses, Seat.the_send, Badge.the_send, Heap.the_send) fits 50000 depth 40
-
-answered_send : IsSend Answered.the_row
-answered_send = search (sendable, crosses) fits 50000 depth 40
-
-job_send : IsSend Job.the_row
-job_send = search (sendable, crosses) fits 50000 depth 40
-
-task_send : IsSend Task.the_row
-task_send = search (sendable, crosses, job_send, answered_send) fits 50000 depth 40
-
--- and so may a seat with its tasks, and the hold of the gate
-pub run_send : (Q : RattleType) (p : Plan.Ghosts Q.Denot) (j : Room.Ghosts Q.Denot) → IsSend Q → IsSend (SeatRun.the_row Q p j)
-run_send Q p j s =
-    recorded_send (SeatRun.the_field Q p j).row _ _ (SeatRun.the_type Q p j).to_one
-    (struct_send (shape (SeatRun.the_type Q p j)) (search (sendable, Heap.the_send), (seat_send Q j s, (Vec-send _ task_send, (search sendable, tt)))))
-
-pub hold_sync : IsSync Hold.the_row
-hold_sync = search (sendable, crosses) fits 50000 depth 40
-
--- What a closure captures.
-pub five_send : (name : Sym) (S T U V W : RattleType) → IsSend S → IsSend T → IsSend U → IsSend V → IsSend W → IsSend (TupleAt name (S ∷ T ∷ U ∷ V ∷ W ∷ []))
-five_send name S T U V W s t u v w =
-    let all = S ∷ T ∷ U ∷ V ∷ W ∷ [] in
-    recorded_send (field_at name all).row _ _ (type_at name all).to_one (struct_send (shape (type_at name all)) (s, (t, (u, (v, (w, tt))))))
-
-pub three_send : (name : Sym) (S T U : RattleType) → IsSend S → IsSend T → IsSend U → IsSend (TupleAt name (S ∷ T ∷ U ∷ []))
-three_send name S T U s t u =
-    let all = S ∷ T ∷ U ∷ [] in
-    recorded_send (field_at name all).row _ _ (type_at name all).to_one (struct_send (shape (type_at name all)) (s, (t, (u, tt))))

@@ -1,6 +1,6 @@
 -- No tasks for each seat so far.
 use Rattle.std.proofs.Common.{◌≡◌, ℕ, [], length}
-use Rattle.volume_threads.specs.Tasks.{tasks_at}
+use Rattle.block_threads.specs.Tasks.{tasks_at}
 use Rattle.block_run.proofs.planning.no_tasks.Given as goal
 
 abbrev pub invariant-loop : goal.invariant-loop

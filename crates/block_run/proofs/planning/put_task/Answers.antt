@@ -1,7 +1,7 @@
 -- One task more stands at its place.
 use Rattle.std.proofs.Common.{◌≡◌, ◌<◌, ◌-◌, ◌++◌, ◌∷◌, [], length, set, ap, ◌∙◌, sym, arith}
-use Rattle.volume_threads.specs.Tasks.{tasks_at}
-use Rattle.volume_threads.proofs.Places.{apart, at, here}
+use Rattle.block_threads.specs.Tasks.{tasks_at}
+use Rattle.block_threads.proofs.Places.{apart, at, here}
 use Rattle.block_run.proofs.planning.put_task.Goals as goal
 
 pub returns-in_err-push-clause-others : goal.returns-in_err-push-clause-others

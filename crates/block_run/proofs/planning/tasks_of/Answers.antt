@@ -5,8 +5,8 @@ use Rattle.std.proofs.lemmas.List.{nil_from_length}
 use Rattle.command.specs.Blocks.{AreSeats}
 use Rattle.command.specs.declared.seat_line.SeatLine.{SeatLine}
 use Rattle.device_list.specs.Tables.{table_of}
-use Rattle.volume_threads.specs.declared.task.Task.{Task}
-use Rattle.volume_threads.specs.Tasks.{tasks_at}
+use Rattle.block_threads.specs.declared.task.Task.{Task}
+use Rattle.block_threads.specs.Tasks.{tasks_at}
 use Rattle.block_run.specs.Asking.{IsTask}
 use Rattle.block_run.proofs.Asked.{all_so_far, more_so_far}
 use Rattle.block_run.proofs.planning.tasks_of.Goals as goal

@@ -3,7 +3,7 @@ use Rattle.std.proofs.Common.{◌≡◌, length}
 use Rattle.std.specs.Vec.Iter.{into_iter_items, into_iter_len}
 use Rattle.command.specs.Blocks.{AreSeats}
 use Rattle.device_list.specs.Tables.{table_of}
-use Rattle.volume_threads.specs.Tasks.{tasks_at}
+use Rattle.block_threads.specs.Tasks.{tasks_at}
 use Rattle.block_run.specs.Asking.{IsTask}
 use Rattle.block_run.proofs.Asked.{AreSoFar}
 use Rattle.block_run.proofs.planning.tasks_of.Given as goal

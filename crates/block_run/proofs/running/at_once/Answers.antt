@@ -2,7 +2,7 @@
 use Rattle.std.proofs.Common.{◌≡◌, ◌≤◌, ◌++◌, ◌∷◌, [], List, length, refl, ap, sym, ◌∙◌, subst, arith}
 use Rattle.std.specs.Option.{option_to_list}
 use Rattle.command_rules.specs.State.{Volume}
-use Rattle.volume_threads.specs.Tasks.{tasks_at}
+use Rattle.block_threads.specs.Tasks.{tasks_at}
 use Rattle.block_run.specs.declared.taking.Slot.{Slot}
 use Rattle.block_run.proofs.Ends.{made_asked, made_played, made_run, made_told}
 use Rattle.block_run.proofs.Made.{uses_of}

@@ -3,8 +3,8 @@ use Rattle.std.proofs.Common.{◌≡◌, ◌+◌, ◌<◌, ◌≤◌, ℕ, List,
 use Rattle.layers.specs.declared.stack.Stack.{Stack}
 use Rattle.layers.specs.Stack.{stack_layers, stack_size}
 use Rattle.audit.specs.Books.{AuditShape}
-use Rattle.volume_threads.specs.Left.{AllAddAskedFor}
-use Rattle.volume_threads.specs.Tasks.{AreTold, tasks_at}
+use Rattle.block_threads.specs.Left.{AllAddAskedFor}
+use Rattle.block_threads.specs.Tasks.{AreTold, tasks_at}
 use Rattle.block_run.specs.Spared.{NoneAdded}
 use Rattle.block_run.proofs.Slots.{AreLeft}
 use Rattle.block_run.proofs.running.at_once.Given as goal

@@ -4,7 +4,7 @@ use Rattle.std.proofs.lemmas.List.Elements.{All-same}
 use Rattle.std.proofs.lemmas.Result.{IfOk-weaker}
 use Rattle.command.specs.declared.seat_line.SeatLine.{SeatLine}
 use Rattle.device_list.specs.Tables.{table_of}
-use Rattle.volume_threads.specs.Tasks.{tasks_at}
+use Rattle.block_threads.specs.Tasks.{tasks_at}
 use Rattle.block_run.specs.Answering.{AreAsked, AreReplied}
 use Rattle.block_run.specs.Played.{ArePlayed}
 use Rattle.block_run.specs.Running.{IsOfBlock, gate_told, seat_in, seats_told, used_in}

@@ -2,7 +2,7 @@
 use Rattle.std.proofs.Common.{◌++◌, Bool, List, ap, subst, ◌∙◌, arith}
 use Rattle.device_list.specs.Tables.{table_of}
 use Rattle.command.specs.declared.command_reply.CommandReply.{CommandReply}
-use Rattle.volume_threads.specs.Tasks.{tasks_at}
+use Rattle.block_threads.specs.Tasks.{tasks_at}
 use Rattle.block_run.specs.Answering.{gate_replies}
 use Rattle.block_run.specs.Played.{ArePlayed}
 use Rattle.block_run.proofs.Tells.{ended_many}

@@ -1,9 +1,9 @@
 -- The replies of one seat more are told.
 use Rattle.std.proofs.Common.{◌≡◌, ◌<◌, ◌+◌, ◌-◌, ◌++◌, ℕ, List, length, length-set, map, ap, ◌∙◌, arith}
 use Rattle.command.specs.declared.command_reply.CommandReply.{CommandReply}
-use Rattle.volume_threads.specs.declared.task.Task.{Task}
-use Rattle.volume_threads.specs.Tasks.{tasks_at}
-use Rattle.volume_threads.proofs.Places.{apart, at}
+use Rattle.block_threads.specs.declared.task.Task.{Task}
+use Rattle.block_threads.specs.Tasks.{tasks_at}
+use Rattle.block_threads.proofs.Places.{apart, at}
 use Rattle.block_run.specs.Answering.{reply_of}
 use Rattle.block_run.proofs.Tells.{first_more, first_replies, seat_fits}
 use Rattle.block_run.proofs.running.tell_seats.Goals as goal

@@ -1,6 +1,6 @@
 -- All replies of the first seats are told, and the others have their tasks.
 use Rattle.std.proofs.Common.{◌≡◌, ◌+◌, ◌-◌, ◌≤◌, ℕ, length, vec_capacity}
-use Rattle.volume_threads.specs.Tasks.{tasks_at}
+use Rattle.block_threads.specs.Tasks.{tasks_at}
 use Rattle.block_run.proofs.Tells.{first_replies}
 use Rattle.block_run.proofs.running.tell_seats.Given as goal
 

@@ -3,9 +3,9 @@ use Rattle.std.proofs.Common.{◌≡◌, ◌+◌, ◌<◌, length, subst, sym, a
 use Rattle.std.proofs.lemmas.List.Edits.{length-remove}
 use Rattle.std.proofs.lemmas.List.Elements.{All-push, All-same}
 use Rattle.std.specs.List.{All}
-use Rattle.volume_threads.specs.Tasks.{MayMerge}
-use Rattle.volume_threads.proofs.Places.{AreNewFrom, rest_of}
-use Rattle.volume_threads.proofs.giving.begin_all.Goals as goal
+use Rattle.block_threads.specs.Tasks.{MayMerge}
+use Rattle.block_threads.proofs.Places.{AreNewFrom, rest_of}
+use Rattle.block_threads.proofs.giving.begin_all.Goals as goal
 
 pub new-requires-clause-asked : goal.new-requires-clause-asked
 new-requires-clause-asked g c =

@@ -1,9 +1,9 @@
 -- The first seats have their tasks, and the others are left.
 use Rattle.std.proofs.Common.{◌≡◌, ◌+◌, ◌≤◌, ℕ, length, vec_capacity}
 use Rattle.std.specs.List.{All}
-use Rattle.volume_threads.specs.Tasks.{tasks_at}
-use Rattle.volume_threads.proofs.Places.{AreNewFrom}
-use Rattle.volume_threads.proofs.giving.begin_all.Given as goal
+use Rattle.block_threads.specs.Tasks.{tasks_at}
+use Rattle.block_threads.proofs.Places.{AreNewFrom}
+use Rattle.block_threads.proofs.giving.begin_all.Given as goal
 
 abbrev pub invariant-loop-i : goal.invariant-loop-i
 invariant-loop-i g l = record {

@@ -1,11 +1,11 @@
 -- One seat more gave its tasks back.
 use Rattle.std.proofs.Common.{◌≡◌, ◌+◌, ◌<◌, ◌++◌, ◌∷◌, [], ℕ, List, length, length-append, slice_index_or, subst, sym, ap, ◌∙◌, arith}
 use Rattle.std.specs.List.{All}
-use Rattle.volume_threads.specs.declared.task.Task.{Task}
-use Rattle.volume_threads.specs.Tasks.{IsEnded, IsNew, IsUnbegun, denied_of, pieces_at}
+use Rattle.block_threads.specs.declared.task.Task.{Task}
+use Rattle.block_threads.specs.Tasks.{IsEnded, IsNew, IsUnbegun, denied_of, pieces_at}
 use Rattle.volume_threads.specs.Rigs.{SeatShape}
-use Rattle.volume_threads.proofs.Places.{HaveGiven, given_more, seats_more}
-use Rattle.volume_threads.proofs.giving.end_all.Goals as goal
+use Rattle.block_threads.proofs.Places.{HaveGiven, given_more, seats_more}
+use Rattle.block_threads.proofs.giving.end_all.Goals as goal
 
 pub loop-i-preserved : goal.loop-i-preserved
 loop-i-preserved g c =

@@ -2,9 +2,9 @@
 use Rattle.std.proofs.Common.{◌≡◌, ◌+◌, ◌<◌, ◌≤◌, ℕ, length, slice_index_or, vec_capacity}
 use Rattle.std.specs.List.{All}
 use Rattle.volume_threads.specs.Rigs.{SeatShape}
-use Rattle.volume_threads.specs.Tasks.{IsEnded, IsNew, denied_of, pieces_at, tasks_at}
-use Rattle.volume_threads.proofs.Places.{HaveGiven}
-use Rattle.volume_threads.proofs.giving.end_all.Given as goal
+use Rattle.block_threads.specs.Tasks.{IsEnded, IsNew, denied_of, pieces_at, tasks_at}
+use Rattle.block_threads.proofs.Places.{HaveGiven}
+use Rattle.block_threads.proofs.giving.end_all.Given as goal
 
 abbrev pub invariant-loop-i : goal.invariant-loop-i
 invariant-loop-i g l = record {

@@ -1,5 +1,5 @@
-use Rattle.volume_threads.proofs.Places.{apart, here}
-use Rattle.volume_threads.proofs.giving.put_tasks.Goals as goal
+use Rattle.block_threads.proofs.Places.{apart, here}
+use Rattle.block_threads.proofs.giving.put_tasks.Goals as goal
 
 pub returns-then-i-len-clause-put : goal.returns-then-i-len-clause-put
 returns-then-i-len-clause-put c low = here c.args.tasks.now.items c.args.i c.args.list low

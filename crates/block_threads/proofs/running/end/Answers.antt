@@ -1,7 +1,7 @@
 -- The seat stays as it was.
 use Rattle.std.proofs.Common.{subst, sym}
-use Rattle.volume_threads.specs.Tasks.{AreUnderWay, denied_of, pieces_at}
-use Rattle.volume_threads.proofs.running.end.Goals as goal
+use Rattle.block_threads.specs.Tasks.{AreUnderWay, denied_of, pieces_at}
+use Rattle.block_threads.proofs.running.end.Goals as goal
 
 pub invariant_of-run : goal.invariant_of-run
 invariant_of-run g c = record {

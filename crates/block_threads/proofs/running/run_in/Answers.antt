@@ -5,12 +5,12 @@ use Rattle.std.proofs.lemmas.List.{get_or-map}
 use Rattle.volume_threads.specs.Rigs.{IsSettledAt, SeatShape, fixed_in, receipts_at, start_in}
 use Rattle.audit.specs.declared.entry.Entry.{Entry}
 use Rattle.locked_volume.specs.Fixed.{Fixed}
-use Rattle.volume_threads.specs.Left.{AllAddAskedFor, AreLeft, NothingRan}
-use Rattle.volume_threads.specs.Tasks.{IsEnded, MayMerge, denied_of, pieces_at, tasks_at}
-use Rattle.volume_threads.proofs.Merging.{all_may, closed_asked, same_asked}
-use Rattle.volume_threads.proofs.Places.{tasks_same}
-use Rattle.volume_threads.proofs.Stays.{closed, entries_same, none_ran, same_spared}
-use Rattle.volume_threads.proofs.running.run_in.Goals as goal
+use Rattle.block_threads.specs.Left.{AllAddAskedFor, AreLeft, NothingRan}
+use Rattle.block_threads.specs.Tasks.{IsEnded, MayMerge, denied_of, pieces_at, tasks_at}
+use Rattle.block_threads.proofs.Merging.{all_may, closed_asked, same_asked}
+use Rattle.block_threads.proofs.Places.{tasks_same}
+use Rattle.block_threads.proofs.Stays.{closed, entries_same, none_ran, same_spared}
+use Rattle.block_threads.proofs.running.run_in.Goals as goal
 
 -- stands where no seat is
 nobody : SeatShape

@@ -1,10 +1,10 @@
 -- Nothing ran; or what was opened is for these audits.
 use Rattle.std.proofs.Common.{refl, subst, ◌∙◌}
 use Rattle.volume_threads.specs.Rigs.{AreOpened}
-use Rattle.volume_threads.specs.Tasks.{tasks_at}
-use Rattle.volume_threads.proofs.Merging.{same_asked}
-use Rattle.volume_threads.proofs.Stays.{none_ran, room_of, same_spared}
-use Rattle.volume_threads.proofs.running.run_seats.Goals as goal
+use Rattle.block_threads.specs.Tasks.{tasks_at}
+use Rattle.block_threads.proofs.Merging.{same_asked}
+use Rattle.block_threads.proofs.Stays.{none_ran, room_of, same_spared}
+use Rattle.block_threads.proofs.running.run_seats.Goals as goal
 
 pub returns-in_default-clause-err : goal.returns-in_default-clause-err
 returns-in_default-clause-err g c = (refl, none_ran g.B.Block.size g.B.Block.layers c.args.audits.items c.requires.quiet)

@@ -1,8 +1,8 @@
 -- The rig is named by its audits and by what was opened for them, and the tasks are those that each seat was given.
 use Rattle.std.proofs.Common.{◌-◌, length}
 use Rattle.volume_threads.specs.Rigs.{boards_in, fixed_in, histories_in, start_in}
-use Rattle.volume_threads.specs.Tasks.{merges_among, tasks_at}
-use Rattle.volume_threads.proofs.running.run_seats.Given as goal
+use Rattle.block_threads.specs.Tasks.{merges_among, tasks_at}
+use Rattle.block_threads.proofs.running.run_seats.Given as goal
 
 abbrev pub ghosts-run_in-J-Room : goal.ghosts-run_in-J-Room
 ghosts-run_in-J-Room g a = record {

@@ -3,9 +3,9 @@ use Rattle.chunk.specs.Pieces.{span_of}
 use Rattle.locked_volume.specs.Denying.{Serve}
 use Rattle.locked_volume.specs.Fixed.{piece_at}
 use Rattle.volume_threads.specs.Rigs.{seen_at}
-use Rattle.volume_threads.specs.Tasks.{denied_of}
-use Rattle.volume_threads.proofs.Reading.{unsaid}
-use Rattle.volume_threads.proofs.serving.read.Goals as goal
+use Rattle.block_threads.specs.Tasks.{denied_of}
+use Rattle.block_threads.proofs.Reading.{unsaid}
+use Rattle.block_threads.proofs.serving.read.Goals as goal
 
 pub returns-in-Ok : goal.returns-in-Ok
 returns-in-Ok g c =

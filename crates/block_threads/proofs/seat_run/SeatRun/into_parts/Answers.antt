@@ -1,8 +1,8 @@
 -- It is of this number, and over.
 use Rattle.std.proofs.Common.{◌∙◌, subst, sym}
-use Rattle.volume_threads.specs.Tasks.{IsEnded, IsUnbegun, denied_of, pieces_at}
-use Rattle.volume_threads.proofs.Doing.{unbegun}
-use Rattle.volume_threads.proofs.seat_run.SeatRun.into_parts.Goals as goal
+use Rattle.block_threads.specs.Tasks.{IsEnded, IsUnbegun, denied_of, pieces_at}
+use Rattle.block_threads.proofs.Doing.{unbegun}
+use Rattle.block_threads.proofs.seat_run.SeatRun.into_parts.Goals as goal
 
 pub returns-clause-ended : goal.returns-clause-ended
 returns-clause-ended g c =

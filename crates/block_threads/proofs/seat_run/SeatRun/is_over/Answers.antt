@@ -1,9 +1,9 @@
 -- By how many are done.
 use Rattle.std.proofs.Common.{◌∙◌}
 use Rattle.std.proofs.lemmas.Bool.{eqb-true}
-use Rattle.volume_threads.specs.Tasks.{denied_of, pieces_at}
-use Rattle.volume_threads.proofs.Doing.{all_done, none_done}
-use Rattle.volume_threads.proofs.seat_run.SeatRun.is_over.Goals as goal
+use Rattle.block_threads.specs.Tasks.{denied_of, pieces_at}
+use Rattle.block_threads.proofs.Doing.{all_done, none_done}
+use Rattle.block_threads.proofs.seat_run.SeatRun.is_over.Goals as goal
 
 pub returns-then-self-len : goal.returns-then-self-len
 returns-then-self-len g c all =

@@ -1,10 +1,10 @@
 -- One more is done.
 use Rattle.std.proofs.Common.{◌+◌, set, subst, sym}
 use Rattle.std.proofs.lemmas.List.Elements.{All-set}
-use Rattle.volume_threads.specs.Tasks.{AreUnderWay, MayMerge, denied_of, pieces_at}
-use Rattle.volume_threads.proofs.Doing.{same_number, stepped}
-use Rattle.volume_threads.proofs.Merging.{done_may}
-use Rattle.volume_threads.proofs.seat_run.SeatRun.step.Goals as goal
+use Rattle.block_threads.specs.Tasks.{AreUnderWay, MayMerge, denied_of, pieces_at}
+use Rattle.block_threads.proofs.Doing.{same_number, stepped}
+use Rattle.block_threads.proofs.Merging.{done_may}
+use Rattle.block_threads.proofs.seat_run.SeatRun.step.Goals as goal
 
 pub perform-requires-clause-asked : goal.perform-requires-clause-asked
 perform-requires-clause-asked g c =

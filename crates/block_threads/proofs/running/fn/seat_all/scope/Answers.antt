@@ -5,10 +5,11 @@ use denote.Param.{param}
 use denote.Param.Send.{IsSend, IsSync, arg_send, mut_send, param_send, plain_send, shr_send}
 use denote.Struct.Field.{u64-field}
 use Rattle.volume_threads.specs.contracts.rig.Rig as Rig
-use Rattle.volume_threads.specs.contracts.seat_run.SeatRun as SeatRun
-use Rattle.volume_threads.proofs.Crossing.{five_send, hold_sync, rig_sync, run_send}
-use Rattle.volume_threads.proofs.running.fn.seat_all.scope.Lts as lts
-use Rattle.volume_threads.proofs.running.fn.seat_all.scope.Goals as goal
+use Rattle.block_threads.specs.contracts.seat_run.SeatRun as SeatRun
+use Rattle.volume_threads.proofs.Crossing.{rig_sync}
+use Rattle.block_threads.proofs.Crossing.{five_send, hold_sync, run_send}
+use Rattle.block_threads.proofs.running.fn.seat_all.scope.Lts as lts
+use Rattle.block_threads.proofs.running.fn.seat_all.scope.Goals as goal
 
 pub spawn-requires-send-F : goal.spawn-requires-send-F
 spawn-requires-send-F g c κs within =

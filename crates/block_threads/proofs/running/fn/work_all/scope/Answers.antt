@@ -4,9 +4,10 @@ use denote.Param.{param}
 use denote.Param.Send.{IsSend, IsSync, arg_send, param_send, shr_send}
 use Rattle.volume_threads.specs.contracts.rig.Rig as Rig
 use Rattle.volume_threads.specs.contracts.worker.Worker as Worker
-use Rattle.volume_threads.proofs.Crossing.{rig_sync, three_send, worker_send}
-use Rattle.volume_threads.proofs.running.fn.work_all.scope.Lts as lts
-use Rattle.volume_threads.proofs.running.fn.work_all.scope.Goals as goal
+use Rattle.volume_threads.proofs.Crossing.{rig_sync, worker_send}
+use Rattle.block_threads.proofs.Crossing.{three_send}
+use Rattle.block_threads.proofs.running.fn.work_all.scope.Lts as lts
+use Rattle.block_threads.proofs.running.fn.work_all.scope.Goals as goal
 
 pub spawn-requires-send-F : goal.spawn-requires-send-F
 spawn-requires-send-F g c κs within =
