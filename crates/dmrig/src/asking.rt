@@ -1,5 +1,5 @@
 // The words of the command line.
-ghost use Rattle.std.specs.Prelude.{◌≡◌, ◌≤◌, IfOk, IfSome, map, option_map};
+ghost use Rattle.std.specs.Prelude.{◌≡◌, ◌≤◌, IfOk, IfSome, IsOkAnd, map, option_map};
 ghost use Rattle.std.specs.String.{string_bytes};
 ghost use Rattle.dmrig.specs.Wanted.{wanted_of, workers_by, is_name as is_name_by, file_wanted};
 
@@ -118,6 +118,19 @@ pub fn words_ask<'a>(alloc: Global, words: &'a [String]) -> Result<Asked<'a>, Er
         numbers: matches.get_flag("numbers"),
         trace: matches.get_flag("trace"),
     })
+}
+
+/// What any words ask for, the first of which is the program's own name: a file's name is looked for first (`file_asks`), and else
+/// `words_ask` reads them.
+pub fn any_ask<'a>(alloc: Global, words: &'a [String]) -> Result<Asked<'a>, Error>
+    ensures file { IfSome (file_wanted (map string_bytes words.now)) (λ wanted. IsOkAnd result (λ asked. wanted_of asked ≡ wanted)) }
+    ensures some { IfOk result (λ asked. 1 ≤ asked.workers) }
+    ensures few { IfOk result (λ asked. asked.workers ≤ 4) }
+{
+    match file_asks(words) {
+        Some(asked) => Ok(asked),
+        None => words_ask(alloc, words),
+    }
 }
 
 #[cfg(test)]

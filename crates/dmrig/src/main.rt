@@ -3,20 +3,23 @@
 //!
 //! It stands on `runner`, which says what is printed, and has only what concerns the process: the words of the command
 //! line, the file, standard output and the exit status (0, 1 where a line was refused, 2 where the run ended early or
-//! could not begin).
+//! could not begin). What is asked for is done over any reader, writer, tracer and any way to open a file (`running::done`): its
+//! contract hands on what `runner` prints and tells, of standard input or of the file that was opened. Here stands what makes those
+//! of the process.
 #![tactic(auto)]
 
-ghost use Rattle.std.specs.Prelude.{◌≡◌, ◌≤◌};
-ghost use Rattle.dmrig.specs.Ended.{ended};
+ghost use Rattle.std.specs.Prelude.{◌≡◌, ◌≤◌, is_some, IfOk};
 
 mod asking;
 mod help;
+mod running;
 mod source;
 
-use crate::asking::{Asked, file_asks, words_ask};
-use crate::source::Source;
-use runner::{RunError, Summary, TraceTo, exit_status, run, run_numbered};
-use std::io::{BufWriter, Read, Write};
+use crate::asking::{Asked, any_ask};
+use crate::running::done;
+use runner::TraceTo;
+use std::alloc::Global;
+use std::io::{BufWriter, Printer};
 use std::process::ExitCode;
 use std::rt::{Files, Stderr};
 use std::sync::Wait;
@@ -26,80 +29,29 @@ use std::{fs, io};
 /// The bytes of the room for short texts.
 const SHORT_TEXTS: usize = 4096;
 
-/// Runs the lines of a reader into standard output, and its trace, if that is asked for, into standard error. An error is the
-/// writer's own. The reader is asked for thousands of bytes at once (`words`), so that none need be kept for it.
-fn printed<R: Read + Drop>(
-    rt: &(impl Print + AllocGlobal + Threads + Wait + Sync),
-    mut reader: R,
-    errors: &Stderr,
-    asked: Asked<'_>,
-) -> io::Result<Result<Summary, RunError>>
-    requires some { 1 ≤ asked.workers }
-    requires few { asked.workers ≤ 4 }
-{
-    let alloc = rt.alloc();
+/// A writer to standard output that writes out many bytes at once.
+fn output<P: Print>(rt: &P, alloc: Global) -> io::Result<BufWriter<Printer<'_, P>>> {
     // Given back behind the writer's room, it stays between others: short texts come and go there, and not at the front of a large
     // room that is free, where one of them would keep the next that is as large out.
     let short = Vec::<u8>::with_capacity(alloc, SHORT_TEXTS).ok();
-    let mut writer = BufWriter::new(alloc, io::writer(rt))?;
+    let writer = BufWriter::new(alloc, io::writer(rt))?;
     drop(short);
-    let mut tracer = if asked.trace {
-        Some(TraceTo::new(BufWriter::new(alloc, errors)?))
-    } else {
-        None
-    };
-    let workers = asked.workers;
-    let ran = if asked.numbers {
-        run_numbered(rt, alloc, &mut reader, &mut writer, &mut tracer, workers)
-    } else {
-        run(rt, alloc, &mut reader, &mut writer, &mut tracer, workers)
-    };
-    writer.flush()?;
-    Ok(ran)
+    Ok(writer)
 }
 
-/// Says what ended a run early, and gives its exit status.
-fn finished(rt: &impl Eprint, name: &str, ran: io::Result<Result<Summary, RunError>>) -> u8
-    ensures { result ≡ ended ran }
-{
-    let Ok(ran) = ran else {
-        let _ = eprintln!(rt; "dmrig: cannot write");
-        return 2;
-    };
-    match &ran {
-        Err(RunError::Read(_)) => {
-            let _ = eprintln!(rt; "dmrig: cannot read {name}");
-        }
-        Err(error) => {
-            let _ = eprintln!(rt; "dmrig: {error}");
-        }
-        Ok(_) => (),
-    }
-    exit_status(&ran)
-}
-
-/// Does what is asked for, and gives the exit status.
-#[inline(never)]
-fn done(
-    rt: &(impl Files + Input + Print + Eprint + AllocGlobal + Threads + Wait + Sync),
+/// Who is told of each line, on standard error: nobody, unless a trace is asked for.
+fn tracer(
+    alloc: Global,
+    trace: bool,
     errors: &Stderr,
-    asked: Asked<'_>,
-) -> u8
-    requires some { 1 ≤ asked.workers }
-    requires few { asked.workers ≤ 4 }
+) -> io::Result<Option<TraceTo<BufWriter<&Stderr>>>>
+    ensures { IfOk result (λ tracer. is_some tracer ≡ trace) }
 {
-    let source = match asked.file {
-        None | Some("-") => Source::Input(rt.reader()),
-        Some(name) => match fs::open(rt, name) {
-            Ok(file) => Source::File(file),
-            Err(_) => {
-                let _ = eprintln!(rt; "dmrig: cannot read {name}");
-                return 2;
-            }
-        },
-    };
-    let name = asked.file.unwrap_or("-");
-    finished(rt, name, printed(rt, source, errors, asked))
+    if trace {
+        Ok(Some(TraceTo::new(BufWriter::new(alloc, errors)?)))
+    } else {
+        Ok(None)
+    }
 }
 
 /// The words of the command line. `None`, once that is told, where they could not be had.
@@ -126,19 +78,44 @@ fn given(rt: &HostRuntime) -> Option<Vec<String>> {
     }
 }
 
-/// Does what any words ask for, the first of which is the program's own name, or tells what is wrong with them.
-#[inline(never)]
-fn asked_by_words(
+/// Does what is asked for with the streams and files of this process, and gives the exit status. An error says that standard output,
+/// or standard error where it is wanted, can't be had.
+fn done_here(
     rt: &(impl Files + Input + Print + Eprint + AllocGlobal + Threads + Wait + Sync),
     errors: &Stderr,
-    words: &[String],
-) -> ExitCode {
-    match words_ask(rt.alloc(), words) {
-        Ok(asked) => ExitCode::from(done(rt, errors, asked)),
-        Err(error) => match error.print(rt) {
-            Ok(()) if !error.use_stderr() => ExitCode::SUCCESS,
-            _ => ExitCode::from(2),
-        },
+    asked: &Asked<'_>,
+) -> io::Result<u8>
+    requires some { 1 ≤ asked.now.workers }
+    requires few { asked.now.workers ≤ 4 }
+{
+    let mut writer = output(rt, rt.alloc())?;
+    let mut tracer = tracer(rt.alloc(), asked.trace, errors)?;
+    Ok(done(
+        rt,
+        asked,
+        rt.reader(),
+        |name| fs::open(rt, name),
+        &mut writer,
+        &mut tracer,
+    ))
+}
+
+/// Does what is asked for, and gives the exit status.
+#[inline(never)]
+fn status_of(
+    rt: &(impl Files + Input + Print + Eprint + AllocGlobal + Threads + Wait + Sync),
+    errors: &Stderr,
+    asked: &Asked<'_>,
+) -> u8
+    requires some { 1 ≤ asked.now.workers }
+    requires few { asked.now.workers ≤ 4 }
+{
+    match done_here(rt, errors, asked) {
+        Ok(status) => status,
+        Err(_) => {
+            let _ = eprintln!(rt; "dmrig: cannot write");
+            2
+        }
     }
 }
 
@@ -146,8 +123,11 @@ fn main(rt: HostRuntime) -> ExitCode {
     let Some(words) = given(&rt) else {
         return ExitCode::from(2);
     };
-    match file_asks(&words) {
-        Some(asked) => ExitCode::from(done(&rt, &rt.stderr(), asked)),
-        None => asked_by_words(&rt, &rt.stderr(), &words),
+    match any_ask(rt.alloc(), &words) {
+        Ok(asked) => ExitCode::from(status_of(&rt, &rt.stderr(), &asked)),
+        Err(error) => match error.print(&rt) {
+            Ok(()) if !error.use_stderr() => ExitCode::SUCCESS,
+            _ => ExitCode::from(2),
+        },
     }
 }
