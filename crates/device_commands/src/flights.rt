@@ -61,8 +61,8 @@ fn start_at(
 
 /// `start DEV read S N`: starts a read of an origin or of a snapshot, and gives its number; it ends in a later command. In
 /// this order: `OutOfRange` for a number of sectors outside 1 to 2048, `NoSuchDevice` for a name that no device has,
-/// `BadTable` for a disk or a layer, `OutOfRange` where the sectors don't lie inside the origin, `MergingSnapshot` for a
-/// snapshot that is being merged, `TooMany` where the volume has taken too many, then as the volume refuses requests.
+/// `BadTable` for a disk or a layer. Then `OutOfRange` where the sectors don't lie inside the origin, `MergingSnapshot` for a
+/// snapshot that is being merged, `TooMany` where the volume has taken too many, and as the volume refuses requests.
 #[tactic(auto, unfolding(command_rules::specs::Starting::read_asked, command_rules::specs::Starting::asked_by, crate::specs::Devices::Flies, crate::specs::Devices::KeepsOthers))]
 pub fn start_read(
     alloc: Global,
@@ -237,8 +237,8 @@ fn step_at(held: &mut Devices, v: usize, event: plain_machine::Event) -> Result<
 }
 
 /// `step VOL EVENT`: does one event of an origin's volume. In this order: `NoSuchDevice` for a name that no device has, the
-/// volume's before the snapshot's, `BadTable` where the one is no origin or the other no snapshot, `NotDue` for a snapshot of
-/// another volume, for one that is being merged and for an event that is not due. A refusal changes nothing.
+/// volume's before the snapshot's, and `BadTable` where the one is no origin or the other no snapshot. Then `NotDue` for a snapshot
+/// of another volume, for one that is being merged and for an event that is not due. A refusal changes nothing.
 #[tactic(auto, unfolding(command_rules::specs::Events::event_asked, command_rules::specs::Events::step_event, crate::specs::Devices::KeepsOthers))]
 pub fn step_device(held: &mut Devices, name: &Name, event: &EventWords) -> Result<Outcome, Refusal>
     ensures asks { IfErr (event_asked name.now event.now (table_of held.old)) (λ e. result ≡ Err e) }

@@ -57,7 +57,7 @@ fn begin_at(alloc: Global, held: &mut Devices, v: usize, k: usize) -> Result<(),
 /// `merge SNAP`: begins to merge a live snapshot into its origin, which shows what the snapshot showed from then on; it is none
 /// of the snapshots any more. No device is asked for anything: `settle` merges, or the merge's events do. In this order:
 /// `NoSuchDevice` for a name that no device has, `MergeInProgress` for a snapshot that is being merged, `BadTable` for another
-/// device than a snapshot, `MergeInProgress` where another snapshot of the volume is being merged, `Invalid` for a spoiled one,
+/// device than a snapshot. Then `MergeInProgress` where another snapshot of the volume is being merged, `Invalid` for a spoiled one,
 /// `NotQuiet` where its volume has something left to do, `NoMemory` where the allocator refuses what the merge will need. Where
 /// the journal of its volume has no room, `JournalFull` may stand in place of the last three.
 #[inline(never)]
@@ -123,8 +123,8 @@ fn finish_at(held: &mut Devices, v: usize) -> Result<(), Refusal>
 
 /// `finish VOL`: ends the merge of an origin's volume that has no pair left: the snapshot's name goes, and nothing uses its
 /// store any more. In this order: `NoSuchDevice` for a name that no device has, `BadTable` for a device that is no origin,
-/// `NotFinished` where no merge is begun or something of it is left, `NotQuiet` where its volume has something else left to do,
-/// `NoMemory` where the allocator refuses room for what is left, `JournalFull` where the journal has none; these may come before
+/// `NotFinished` where no merge is begun or something of it is left, `NotQuiet` where its volume has something else left to do.
+/// `NoMemory` where the allocator refuses room for what is left, and `JournalFull` where the journal has none, may come before
 /// those two. A refusal changes nothing.
 #[inline(never)]
 #[tactic(auto, unfolding(command_rules::specs::Events::origin_by, command_rules::specs::Merging::merge_finished))]

@@ -44,8 +44,8 @@ fn raw_sectors(alloc: Global, disk: &MemDisk, first: u32, count: u32) -> Result<
 }
 
 /// `save DISK S N`: raw sectors of a disk, used or not. In this order: `OutOfRange` for a number of sectors outside 1 to
-/// 2048, `NoSuchDevice` for a name that no device has, `BadTable` for a device that is no disk, `OutOfRange` where the
-/// sectors don't lie inside it, `NoMemory` where the allocator refuses the bytes.
+/// 2048, `NoSuchDevice` for a name that no device has, `BadTable` for a device that is no disk. Then `OutOfRange` where the
+/// sectors don't lie inside it, and `NoMemory` where the allocator refuses the bytes.
 #[inline(never)]
 #[tactic(auto, unfolding(command_rules::specs::Raw::save))]
 pub fn save_disk(
@@ -97,8 +97,8 @@ fn refuse_load(volume: &NamedVolume, role: Role, first: u32, count: u32) -> Refu
 
 /// `load DISK S DATA`: writes raw sectors of a disk that nothing uses; the first sector takes the mark away that an invalid
 /// mark could not be written. In this order: `BadTable` for bytes that are no whole sectors, `OutOfRange` where they are
-/// not 1 to 2048, `NoSuchDevice` for a name that no device has, `BadTable` for a device that is no disk, `OutOfRange` where
-/// the sectors don't lie inside it, `Busy` where a layer, an origin or a snapshot uses it.
+/// not 1 to 2048, `NoSuchDevice` for a name that no device has. Then `BadTable` for a device that is no disk, `OutOfRange` where
+/// the sectors don't lie inside it, and `Busy` where a layer, an origin or a snapshot uses it.
 #[inline(never)]
 #[tactic(auto, unfolding(command_rules::specs::Raw::load, command_rules::specs::Raw::loaded_at))]
 pub fn load_disk(held: &mut Devices, name: &Name, first: u32, bytes: &Buf) -> Result<(), Refusal>

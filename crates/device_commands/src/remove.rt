@@ -33,8 +33,8 @@ fn take_top(held: &mut Devices, i: usize)
 
 /// `remove NAME`: takes a device away that no other uses; what an origin or a snapshot stood on is left as it is. In this
 /// order: `NoSuchDevice` for a name that no device has, `Busy` where another device uses it, `MergeInProgress` for a snapshot that
-/// is being merged, `NotQuiet` for an origin or a snapshot whose volume has something left to do, `NoMemory` where the
-/// allocator refuses room for what is left, `JournalFull` for a snapshot where the journal of its volume has none; these two may
+/// is being merged, `NotQuiet` for an origin or a snapshot whose volume has something left to do. `NoMemory` where the
+/// allocator refuses room for what is left, and `JournalFull` for a snapshot where the journal of its volume has none, may
 /// come before `NotQuiet`.
 #[inline(never)]
 #[tactic(auto, unfolding(command_rules::specs::Removing::take_away), using(command_rules::proofs::Starving::changes_enter))]

@@ -54,9 +54,9 @@ fn read_at(
 }
 
 /// `read DEV S N`: so many sectors of an origin or of a snapshot. In this order: `OutOfRange` for a number of sectors
-/// outside 1 to 2048, `NoSuchDevice` for a name that no device has, `BadTable` for a disk or a layer, `OutOfRange` where
+/// outside 1 to 2048, `NoSuchDevice` for a name that no device has, `BadTable` for a disk or a layer. Then `OutOfRange` where
 /// the sectors don't lie inside the origin, `MergingSnapshot` for a snapshot that is being merged, `TooMany` where the volume
-/// has taken too many, then what its devices answer. Devices are met also where they answer with an error; `NoMemory`, and
+/// has taken too many, and what its devices answer. Devices are met also where they answer with an error; `NoMemory`, and
 /// `JournalFull` where the volume's journal has no room for a piece, may come before and after that. Requests that are in flight
 /// may end in it: their replies go to the end of `ended`.
 #[tactic(auto, unfolding(command_rules::specs::Starting::read_asked, command_rules::specs::Starting::asked_by, command_rules::specs::Sectors::read, command_rules::specs::Sectors::IsReadStarved, crate::specs::Devices::KeepsOthers))]
@@ -117,8 +117,8 @@ fn write_at(
 
 /// `write DEV S DATA`: writes sectors of an origin or of a snapshot. In this order: `BadTable` for bytes that are no whole
 /// sectors, `OutOfRange` where they are not 1 to 2048, `NoSuchDevice` for a name that no device has, `BadTable` for a disk
-/// or a layer, `OutOfRange` where the sectors don't lie inside the origin, `MergingSnapshot` for a snapshot that is being
-/// merged, `TooMany` where the volume has taken too many, then what its devices answer. `NoMemory` and `JournalFull` may come
+/// or a layer. Then `OutOfRange` where the sectors don't lie inside the origin, `MergingSnapshot` for a snapshot that is being
+/// merged, `TooMany` where the volume has taken too many, and what its devices answer. `NoMemory` and `JournalFull` may come
 /// where some first pieces were written. Requests that are in flight may end in it: their replies go to the end of `ended`. The
 /// bytes are lent: many of them leave their memory to the caller.
 #[tactic(auto, unfolding(command_rules::specs::Starting::write_asked, command_rules::specs::Starting::asked_by, command_rules::specs::Sectors::write, command_rules::specs::Sectors::IsWriteStarved, crate::specs::Devices::KeepsOthers))]
@@ -174,8 +174,8 @@ fn flush_at(
 
 /// `flush DEV`: makes what was written to an origin or to a snapshot last: of an origin whose merge is begun, the merging store
 /// is flushed, and then the origin. In this order: `NoSuchDevice` for a name that no device has, `BadTable` for a disk or a
-/// layer, `OutOfRange` where the origin has no sector, `MergingSnapshot` for a snapshot that is being merged, `TooMany` where
-/// the volume has taken too many, then `JournalFull` and what its devices answer; `NoMemory` may come before that, where
+/// layer, `OutOfRange` where the origin has no sector, `MergingSnapshot` for a snapshot that is being merged. Then `TooMany` where
+/// the volume has taken too many, `JournalFull` and what its devices answer; `NoMemory` may come before that, where
 /// something is in flight. Requests that are in flight may end in it: their replies go to the end of `ended`.
 #[inline(never)]
 #[tactic(auto, unfolding(command_rules::specs::Starting::flush_asked, command_rules::specs::Starting::asked_by, command_rules::specs::Sectors::flush, command_rules::specs::Sectors::IsFlushStarved, crate::specs::Devices::KeepsOthers))]

@@ -39,9 +39,10 @@ impl NamedVolume {
 
     /// Starts a read or a write of so many sectors from `first` on, and tells its number; it is in flight from then on. Refused
     /// in this order: `BadTable` for disks and layers, `OutOfRange` for sectors past the end, `MergingSnapshot` for the snapshot
-    /// that is being merged, `TooMany` where 2^60 sectors were asked for in all; then, as the volume submits, `JournalFull`, `Invalid` for a spoiled snapshot, `Overflow` for a write of one
-    /// whose store overflowed, `OutOfRange` for sectors of two chunks, `TooMany`, `NoMemory`, and for a snapshot whose store is
-    /// full `Invalid`, which spoils it, or `Overflow`, if it may overflow.
+    /// that is being merged, `TooMany` where 2^60 sectors were asked for in all. Then, as the volume submits, `JournalFull`,
+    /// `Invalid` for a spoiled snapshot, `Overflow` for a write of one whose store overflowed, `OutOfRange` for sectors of two
+    /// chunks, `TooMany` and `NoMemory`. Last, for a snapshot whose store is full, `Invalid`, which spoils it, or `Overflow`, if it
+    /// may overflow.
     pub fn start(
         &mut self,
         alloc: Global,
