@@ -69,4 +69,11 @@ impl<C: FileCalls, S: Start> FileDevice<C, S> {
             start: PhantomData,
         })
     }
+
+    /// The file, to look at.
+    pub fn file(&self) -> &C
+        ensures { result.now ≡ self.now.file }
+    {
+        &self.file
+    }
 }

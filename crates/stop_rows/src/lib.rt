@@ -16,11 +16,11 @@ mod calls;
 #[cfg(test)]
 mod disks;
 #[cfg(test)]
+mod driven;
+#[cfg(test)]
 mod faults;
 #[cfg(test)]
-mod listed;
-#[cfg(test)]
-mod lives;
+mod files;
 #[cfg(test)]
 mod machine;
 #[cfg(test)]
