@@ -14,17 +14,17 @@ use sector::{Range, Sector};
 impl<C: FileCalls, S: Start> Block for FileDevice<C, S> {
     ghost size = { λ d. d.sectors };
 
-    ghost contents = { λ d. now_in (at_first S.first d.sectors) (C.history d.file) };
+    ghost contents = { λ d. now_in (at_first (S.first d.number) d.sectors) (C.history d.file) };
 
-    ghost durable = { λ d. kept_in (at_first S.first d.sectors) (C.history d.file) };
+    ghost durable = { λ d. kept_in (at_first (S.first d.number) d.sectors) (C.history d.file) };
 
-    ghost layers = { λ d. file_layers d.is_broken d.pieces (is_found_kept (at_first S.first d.sectors) (C.history d.file)) };
+    ghost layers = { λ d. file_layers d.is_broken d.pieces (is_found_kept (at_first (S.first d.number) d.sectors) (C.history d.file)) };
 
     ghost fault_count = { λ d. d.faults };
 
     ghost done_count = { λ d. d.done };
 
-    ghost may_hold = { λ d. MayHold (at_first S.first d.sectors) (C.history d.file) };
+    ghost may_hold = { λ d. MayHold (at_first (S.first d.number) d.sectors) (C.history d.file) };
 
     fn sectors(&self) -> u64 {
         self.sectors
@@ -88,9 +88,9 @@ impl<C: FileCalls, S: Start> Block for FileDevice<C, S> {
 
     ghost small = { λ d. d.small };
 
-    ghost holds_now = { λ d s lt. now_held (at_first S.first d.sectors) (C.history d.file) s };
+    ghost holds_now = { λ d s lt. now_held (at_first (S.first d.number) d.sectors) (C.history d.file) s };
 
-    ghost holds_durable = { λ d s lt. kept_held (at_first S.first d.sectors) (C.history d.file) s };
+    ghost holds_durable = { λ d s lt. kept_held (at_first (S.first d.number) d.sectors) (C.history d.file) s };
 
     ghost holds_two = { λ d bare. absurd (never_bare _ _ _ bare) };
 

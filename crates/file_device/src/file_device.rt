@@ -14,10 +14,12 @@ use file_calls::FileCalls;
 use std::alloc::{AllocError, Global};
 use std::marker::PhantomData;
 
-/// A file as a device. `S` stands for what it held at first.
+/// A file as a device. `S` stands for what the files of a program held at first, of which it has one.
 #[derive(Drop)]
 pub struct FileDevice<C: FileCalls, S: Start> {
     pub(crate) file: C,
+    /// Which of the program's files it is.
+    pub(crate) number: u64,
     pub(crate) sectors: u64,
     /// What was read ahead.
     pub(crate) pieces: Pieces,
@@ -31,11 +33,11 @@ pub struct FileDevice<C: FileCalls, S: Start> {
     pub(crate) done: u64,
     start: PhantomData<S>,
     ghost small: { sectors ≤ 16_777_216 },
-    ghost long: { length (now_in (at_first S.first sectors) (C.history file)) ≡ 512 * sectors },
-    ghost there: { All (IsPieceOf (now_in (at_first S.first sectors) (C.history file)) sectors) (pieces_in pieces) },
+    ghost long: { length (now_in (at_first (S.first number) sectors) (C.history file)) ≡ 512 * sectors },
+    ghost there: { All (IsPieceOf (now_in (at_first (S.first number) sectors) (C.history file)) sectors) (pieces_in pieces) },
     ghost failed: { has_failed ≡ not (are_answered (C.history file)) },
-    ghost firm: { is_synced ≡ true → (s : ℕ) (v : List ℕ) → MayHold (at_first S.first sectors) (C.history file) s v → v ≡ sector_at (now_in (at_first S.first sectors) (C.history file)) s },
-    ghost kept: { is_synced ≡ true → kept_in (at_first S.first sectors) (C.history file) ≡ now_in (at_first S.first sectors) (C.history file) },
+    ghost firm: { is_synced ≡ true → (s : ℕ) (v : List ℕ) → MayHold (at_first (S.first number) sectors) (C.history file) s v → v ≡ sector_at (now_in (at_first (S.first number) sectors) (C.history file)) s },
+    ghost kept: { is_synced ≡ true → kept_in (at_first (S.first number) sectors) (C.history file) ≡ now_in (at_first (S.first number) sectors) (C.history file) },
 }
 
 /// Counts a fault.
@@ -48,17 +50,24 @@ pub(crate) fn fail(faults: &mut u64) -> Result<(), Io>
 }
 
 impl<C: FileCalls, S: Start> FileDevice<C, S> {
-    /// A device of so many sectors of a file, of which no call is noted yet. A file that is shorter fails where it ends.
-    pub fn new(alloc: Global, file: C, sectors: u64) -> Result<FileDevice<C, S>, AllocError>
+    /// A device of so many sectors of the file of this number, of which no call is noted yet. A file that is shorter fails where it ends.
+    pub fn new(
+        alloc: Global,
+        file: C,
+        number: u64,
+        sectors: u64,
+    ) -> Result<FileDevice<C, S>, AllocError>
         requires small { sectors ≤ 16_777_216 }
         requires fresh { C.history file ≡ [] }
         ensures file { IfOk result (λ d. d.file ≡ file) }
+        ensures number { IfOk result (λ d. d.number ≡ number) }
         ensures sectors { IfOk result (λ d. d.sectors ≡ sectors) }
         ensures none { IfOk result (λ d. (pieces_in d.pieces ≡ []) × (d.is_broken ≡ false) × (d.faults ≡ 0) × (d.done ≡ 0)) }
     {
         let pieces = Pieces::new(alloc)?;
         Ok(FileDevice {
             file,
+            number,
             sectors,
             pieces,
             is_synced: false,

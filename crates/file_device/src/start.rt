@@ -1,9 +1,10 @@
-// What is supposed of a file as it is opened.
+// What is supposed of files as they are opened.
 ghost use Rattle.std.specs.Prelude.{ℕ, List, []};
 
-/// What a file held at first, on the disk. A function over `S: Start` is proved for all contents, which no code can read.
+/// What the files of a program held at first, on the disk, by their numbers. A function over `S: Start` is proved for all contents, which no
+/// code can read.
 pub trait Start: Drop {
-    ghost first: { List ℕ };
+    ghost first: { ℕ → List ℕ };
 }
 
 /// For a program to name: nothing is supposed.
@@ -11,5 +12,5 @@ pub trait Start: Drop {
 pub struct Unknown;
 
 impl Start for Unknown {
-    ghost first = { [] };
+    ghost first = { λ _. [] };
 }

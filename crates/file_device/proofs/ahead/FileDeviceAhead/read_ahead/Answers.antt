@@ -10,19 +10,19 @@ use Rattle.file_device.proofs.ahead.FileDeviceAhead.read_ahead.Goals as goal
 pub invariant_of-self-2-clause-long : goal.invariant_of-self-2-clause-long
 invariant_of-self-2-clause-long g c =
     let d = c.args.self.now in
-    read_long (at_first g.S.Start.first d.sectors) (g.C.FileCalls.history d.file) _ d.sectors c.args.range.first c.args.range.count (take (512 * c.args.range.count) c.fill.new.self.near.bytes.items) c.fill.result d.long c.requires.inside
+    read_long (at_first (g.S.Start.first d.number) d.sectors) (g.C.FileCalls.history d.file) _ d.sectors c.args.range.first c.args.range.count (take (512 * c.args.range.count) c.fill.new.self.near.bytes.items) c.fill.result d.long c.requires.inside
     (grind (arith, places, c.requires.few, c.fill.new.self.long)) c.fill.ensures.noted
 
 pub invariant_of-self-2-clause-there : goal.invariant_of-self-2-clause-there
 invariant_of-self-2-clause-there g c =
     let d = c.args.self.now in
-    read_there (at_first g.S.Start.first d.sectors) (g.C.FileCalls.history d.file) _ d.sectors c.args.range.first c.args.range.count c.fill.new.self.near c.fill.new.self.more.items c.fill.result d.long c.requires.inside c.requires.some
+    read_there (at_first (g.S.Start.first d.number) d.sectors) (g.C.FileCalls.history d.file) _ d.sectors c.args.range.first c.args.range.count c.fill.new.self.near c.fill.new.self.more.items c.fill.result d.long c.requires.inside c.requires.some
     (omega (arith, c.requires.few, c.fill.new.self.long)) c.fill.ensures.count c.fill.ensures.first c.fill.ensures.more c.fill.ensures.noted
 
 pub returns-clause-does : goal.returns-clause-does
 returns-clause-does g c =
     let d = c.args.self.now in
-    let start = at_first g.S.Start.first d.sectors in
+    let start = at_first (g.S.Start.first d.number) d.sectors in
     let past : List Call = g.C.FileCalls.history d.file in
     let bytes : List ℕ = take (512 * c.args.range.count) c.fill.new.self.near.bytes.items in
     record {

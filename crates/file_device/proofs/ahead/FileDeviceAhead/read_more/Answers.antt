@@ -16,12 +16,12 @@ invariant_of-self-then-not-fill-clause-long g c =
     let d = c.args.self.now in
     let bytes : List ℕ = take (512 * c.args.range.count) c.fill.new.self.bytes.items in
     let whole : length bytes ≡ 512 * c.args.range.count = grind (arith, places, c.fill.ensures.len, c.in_ok-piece.ensures.room) in
-    read_long (at_first g.S.Start.first d.sectors) (g.C.FileCalls.history d.file) _ d.sectors c.args.range.first c.args.range.count bytes c.fill.result d.long c.requires.inside whole c.fill.ensures.noted
+    read_long (at_first (g.S.Start.first d.number) d.sectors) (g.C.FileCalls.history d.file) _ d.sectors c.args.range.first c.args.range.count bytes c.fill.result d.long c.requires.inside whole c.fill.ensures.noted
 
 pub invariant_of-self-then-not-fill-clause-there : goal.invariant_of-self-then-not-fill-clause-there
 invariant_of-self-then-not-fill-clause-there g c =
     let d = c.args.self.now in
-    let start = at_first g.S.Start.first d.sectors in
+    let start = at_first (g.S.Start.first d.number) d.sectors in
     let past : List Call = g.C.FileCalls.history d.file in
     let bytes : List ℕ = take (512 * c.args.range.count) c.fill.new.self.bytes.items in
     let whole : length bytes ≡ 512 * c.args.range.count = grind (arith, places, c.fill.ensures.len, c.in_ok-piece.ensures.room) in
@@ -30,7 +30,7 @@ invariant_of-self-then-not-fill-clause-there g c =
 pub returns-then-not-fill-clause-told : goal.returns-then-not-fill-clause-told
 returns-then-not-fill-clause-told g c =
     let d = c.args.self.now in
-    let b : List ℕ = now_in (at_first g.S.Start.first d.sectors) (g.C.FileCalls.history d.file) in
+    let b : List ℕ = now_in (at_first (g.S.Start.first d.number) d.sectors) (g.C.FileCalls.history d.file) in
     sym (answers c.if-self.self c.make_way.new.self _ c.args.range.first c.args.range.count
     ∙ ap (λ x. not c.if-self.self && x) (none_has b d.sectors c.args.range.first c.args.range.count (pieces_in c.make_way.new.self) c.requires.some (c.make_way.ensures.all b d.sectors d.there) c.make_way.ensures.apart)
     ∙ and_false (not c.if-self.self))
@@ -38,7 +38,7 @@ returns-then-not-fill-clause-told g c =
 pub returns-then-not-fill-clause-does : goal.returns-then-not-fill-clause-does
 returns-then-not-fill-clause-does g c =
     let d = c.args.self.now in
-    let start = at_first g.S.Start.first d.sectors in
+    let start = at_first (g.S.Start.first d.number) d.sectors in
     let past : List Call = g.C.FileCalls.history d.file in
     let bytes : List ℕ = take (512 * c.args.range.count) c.fill.new.self.bytes.items in
     record {
@@ -55,12 +55,12 @@ invariant_of-self-2-clause-long g c =
     let d = c.args.self.now in
     let bytes : List ℕ = take (512 * c.args.range.count) c.fill.new.self.bytes.items in
     let whole : length bytes ≡ 512 * c.args.range.count = grind (arith, places, c.fill.ensures.len, c.in_ok-piece.ensures.room) in
-    read_long (at_first g.S.Start.first d.sectors) (g.C.FileCalls.history d.file) _ d.sectors c.args.range.first c.args.range.count bytes c.fill.result d.long c.requires.inside whole c.fill.ensures.noted
+    read_long (at_first (g.S.Start.first d.number) d.sectors) (g.C.FileCalls.history d.file) _ d.sectors c.args.range.first c.args.range.count bytes c.fill.result d.long c.requires.inside whole c.fill.ensures.noted
 
 pub invariant_of-self-2-clause-there : goal.invariant_of-self-2-clause-there
 invariant_of-self-2-clause-there g c =
     let d = c.args.self.now in
-    let start = at_first g.S.Start.first d.sectors in
+    let start = at_first (g.S.Start.first d.number) d.sectors in
     let past : List Call = g.C.FileCalls.history d.file in
     let now : List ℕ = now_in start (g.C.FileCalls.history c.fill.new.file) in
     let bytes : List ℕ = take (512 * c.args.range.count) c.fill.new.self.bytes.items in
@@ -75,7 +75,7 @@ invariant_of-self-2-clause-there g c =
 pub returns-in_err-add-clause-does : goal.returns-in_err-add-clause-does
 returns-in_err-add-clause-does g c =
     let d = c.args.self.now in
-    let start = at_first g.S.Start.first d.sectors in
+    let start = at_first (g.S.Start.first d.number) d.sectors in
     let past : List Call = g.C.FileCalls.history d.file in
     let bytes : List ℕ = take (512 * c.args.range.count) c.fill.new.self.bytes.items in
     record {
@@ -90,7 +90,7 @@ returns-in_err-add-clause-does g c =
 pub returns-clause-does : goal.returns-clause-does
 returns-clause-does g c =
     let d = c.args.self.now in
-    let start = at_first g.S.Start.first d.sectors in
+    let start = at_first (g.S.Start.first d.number) d.sectors in
     let past : List Call = g.C.FileCalls.history d.file in
     let bytes : List ℕ = take (512 * c.args.range.count) c.fill.new.self.bytes.items in
     record {
@@ -107,4 +107,4 @@ returns-clause-beside g c is =
     let d = c.args.self.now in
     let whole : d.is_broken ≡ false = elim c.if-self.branch [ then-self w ↦ (let no : d.is_broken ≡ false = search rules in no) | else-self w ↦ (let no : d.is_broken ≡ false = search rules in no) ] in
     let goes_on : c.if-self.self ≡ false = cc in
-    passes (now_in (at_first g.S.Start.first d.sectors) (g.C.FileCalls.history d.file)) d.sectors c.args.range.first c.args.range.count d.pieces c.make_way.new.self c.add.new.self c.fill.new.self d.is_broken c.if-self.self _ _ whole goes_on c.requires.some d.there c.make_way.ensures.same c.in_ok-add.ensures.done
+    passes (now_in (at_first (g.S.Start.first d.number) d.sectors) (g.C.FileCalls.history d.file)) d.sectors c.args.range.first c.args.range.count d.pieces c.make_way.new.self c.add.new.self c.fill.new.self d.is_broken c.if-self.self _ _ whole goes_on c.requires.some d.there c.make_way.ensures.same c.in_ok-add.ensures.done

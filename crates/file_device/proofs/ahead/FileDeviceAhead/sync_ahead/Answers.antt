@@ -11,7 +11,7 @@ use Rattle.file_device.proofs.ahead.FileDeviceAhead.sync_ahead.Goals as goal
 pub returns-then-is_err-clause-does : goal.returns-then-is_err-clause-does
 returns-then-is_err-clause-does g c =
     let d = c.args.self.now in
-    let start = at_first g.S.Start.first d.sectors in
+    let start = at_first (g.S.Start.first d.number) d.sectors in
     let past : List Call = g.C.FileCalls.history d.file in
     record {
       loud = λ loud. loud_before start (Sync (is_ok c.sync.result) false) past d.is_broken d.pieces (sync_kept start past _ (is_ok c.sync.result) c.sync.ensures.noted true d.pieces loud);
@@ -25,7 +25,7 @@ returns-then-is_err-clause-does g c =
 pub returns-clause-does : goal.returns-clause-does
 returns-clause-does g c =
     let d = c.args.self.now in
-    let start = at_first g.S.Start.first d.sectors in
+    let start = at_first (g.S.Start.first d.number) d.sectors in
     let past : List Call = g.C.FileCalls.history d.file in
     record {
       loud = λ loud. loud_before start (Sync (is_ok c.sync.result) false) past d.is_broken d.pieces (sync_kept start past _ (is_ok c.sync.result) c.sync.ensures.noted c.if-self.self d.pieces loud);
