@@ -76,15 +76,20 @@ impl Stops for FileDevice<MemFile, Unknown> {
     }
 }
 
-/// A disk's bytes as a file, a call of which has a fault.
-fn file_of(alloc: Global, disk: &MemDisk, fault: (u64, Fault)) -> Result<Filed, Fail> {
+/// A disk's bytes as the file of this number, a call of which has a fault.
+fn file_of(
+    alloc: Global,
+    disk: &MemDisk,
+    number: u64,
+    fault: (u64, Fault),
+) -> Result<Filed, Fail> {
     let sectors = disk.sectors();
     if MOST_SECTORS < sectors {
         return Err(Fail::from("no size"));
     }
     let mut file = MemFile::new(alloc, bytes_of(alloc, disk)?)?;
     file.fault = Some(fault);
-    Ok(FileDevice::new(alloc, file, sectors)?)
+    Ok(FileDevice::new(alloc, file, number, sectors)?)
 }
 
 /// A machine over files. The call `k` of the file at a place (the origin's is 0) has a fault, and no other.
@@ -99,7 +104,7 @@ fn filed(
     let mut at = scenario.stores.len();
     for disk in disks_of(alloc, scenario)? {
         let calls = if at == place { k } else { MOST };
-        files.push(file_of(alloc, &disk, (calls, fault))?)?;
+        files.push(file_of(alloc, &disk, at as u64, (calls, fault))?)?;
         at = at.saturating_sub(1);
     }
     Machine::new(alloc, files, scenario.chunk, true)
