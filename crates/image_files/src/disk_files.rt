@@ -1,5 +1,5 @@
 // Two files, of which it is noted what failed.
-ghost use Rattle.std.specs.Prelude.{◌≡◌, ◌*◌, ◌^◌, ◌<◌, ◌≤◌, [], true, false, None, Some, if◌then◌else◌, is_ok, length, IsErr, OnErr};
+ghost use Rattle.std.specs.Prelude.{◌≡◌, ◌*◌, ◌^◌, ◌<◌, ◌≤◌, [], true, false, None, Some, if◌then◌else◌, is_ok, length, IsErr, OnErr, OnOk};
 ghost use Rattle.file_calls.specs.Calls.{Len, Read, Write, Sync, answer_of};
 ghost use Rattle.image.specs.Stops.{AreLeft};
 ghost use Rattle.image_files.specs.Both.{IsAsked, AreAlike, IsTold, the_len, the_read, the_write, the_sync};
@@ -64,6 +64,7 @@ impl<C: FileCalls> DiskFiles<C> {
         ensures origin { self.new.origin ≡ self.old.origin }
         ensures store { self.new.store ≡ self.old.store }
         ensures failed { has_failed ≡ true → IsTold self.new.failed file asked }
+        ensures kept { has_failed ≡ false → self.new.failed ≡ self.old.failed }
     {
         if has_failed {
             self.failed = Some(Failed { file, asked });
@@ -97,6 +98,7 @@ impl<C: FileCalls> FileSet for DiskFiles<C> {
         ensures noted { IsAsked file (Len (answer_of result)) (C.history self.old.origin) (C.history self.old.store) (C.history self.new.origin) (C.history self.new.store) }
         ensures none { 2 ≤ file → IsErr result }
         ensures failed { OnErr result (file < 2 → IsTold self.new.failed file the_len) }
+        ensures kept { OnOk result (self.new.failed ≡ self.old.failed) }
     {
         let len = match file {
             0 => self.origin.len(),
@@ -111,6 +113,7 @@ impl<C: FileCalls> FileSet for DiskFiles<C> {
         ensures noted { IsAsked file (Read at (length out.old) (if is_ok result then Some out.new else None)) (C.history self.old.origin) (C.history self.old.store) (C.history self.new.origin) (C.history self.new.store) }
         ensures none { 2 ≤ file → IsErr result }
         ensures failed { OnErr result (file < 2 → IsTold self.new.failed file (the_read at)) }
+        ensures kept { OnOk result (self.new.failed ≡ self.old.failed) }
     {
         let read = match file {
             0 => self.origin.read_at(at, out),
@@ -126,6 +129,7 @@ impl<C: FileCalls> FileSet for DiskFiles<C> {
         ensures beyond { 2 ^ 64 ≤ 512 * sector → IsErr result × AreAlike (C.history self.old.origin) (C.history self.old.store) (C.history self.new.origin) (C.history self.new.store) }
         ensures none { 2 ≤ file → IsErr result }
         ensures failed { OnErr result (file < 2 → 512 * sector < 2 ^ 64 → IsTold self.new.failed file (the_write (512 * sector))) }
+        ensures kept { OnOk result (self.new.failed ≡ self.old.failed) }
     {
         let Some(at) = sector.checked_mul(512) else {
             return Err(io::ErrorKind::FileTooLarge.into());
@@ -144,6 +148,7 @@ impl<C: FileCalls> FileSet for DiskFiles<C> {
         ensures noted { IsAsked file (Sync (is_ok result) false) (C.history self.old.origin) (C.history self.old.store) (C.history self.new.origin) (C.history self.new.store) }
         ensures none { 2 ≤ file → IsErr result }
         ensures failed { OnErr result (file < 2 → IsTold self.new.failed file the_sync) }
+        ensures kept { OnOk result (self.new.failed ≡ self.old.failed) }
     {
         let synced = match file {
             0 => self.origin.sync(false),
