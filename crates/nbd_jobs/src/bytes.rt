@@ -5,7 +5,8 @@ ghost use Rattle.nbd_jobs.specs.Steps.{with_bytes};
 use std::alloc::{AllocError, Global};
 use std::marker::Model;
 
-/// Bytes that a request brings, or that are to be told. Contracts see their list.
+/// Bytes that a request brings, or that are to be told. Contracts see their list. They are no `sector::Buf`: the protocol knows no
+/// sectors, and here a part is written over where a piece comes back, whereas a `Buf` holds whole sectors and is never changed in part.
 #[derive(Drop)]
 pub struct Bytes {
     bytes: Vec<u8>,
@@ -43,19 +44,21 @@ impl Bytes {
         Ok(Bytes { bytes })
     }
 
+    /// All of them, in order.
     pub fn as_slice(&self) -> &[u8]
         ensures { result.now ≡ self.now }
     {
         self.bytes.as_slice()
     }
 
+    /// How many they are.
     pub fn len(&self) -> usize
         ensures { result ≡ length self.now }
     {
         self.bytes.len()
     }
 
-    /// Writes over the bytes from one on.
+    /// Writes over the bytes from one on: those before and behind stay, and so does their number.
     pub fn put(&mut self, at: usize, part: &[u8])
         requires { at + length part.now ≤ length self.old }
         ensures put { self.new ≡ with_bytes self.old at part.now }

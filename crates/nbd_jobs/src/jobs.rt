@@ -68,6 +68,7 @@ impl Jobs {
         self.list.len()
     }
 
+    /// Whether no job is left.
     pub fn is_empty(&self) -> bool
         ensures { result ≡ (length self.now.jobs == 0) }
     {
