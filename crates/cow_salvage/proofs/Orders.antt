@@ -1,10 +1,10 @@
 -- Pairs that are kept are apart, and show the same in any order.
-use Rattle.std.proofs.Common.{◌≡◌, ◌≢◌, ◌==◌, ℕ, zero, suc, ◌+◌, ◌*◌, ◌/◌, ◌<◌, ◌≤◌, ◌||◌, Bool, true, false, cond, List, [], ◌∷◌, ◌++◌, length, get_or, map, inl, inr, arith, refl, ap, ◌∙◌, sym, Option, Some, None}
+use Rattle.std.proofs.Common.{◌≡◌, ◌≢◌, ◌==◌, ℕ, zero, suc, ◌+◌, ◌*◌, ◌/◌, ◌<◌, ◌≤◌, ◌||◌, Bool, true, false, cond, List, [], ◌∷◌, ◌++◌, length, get_or, drop, map, inl, inr, arith, refl, ap, ◌∙◌, sym, subst, Option, Some, None}
 use Rattle.std.specs.Prelude.{fold, nat_le, nat_lt}
 use Rattle.std.specs.List.{range_with_len}
 use Rattle.std.specs.List.Sorted.{IsPermutation}
 use Rattle.std.proofs.lemmas.Bool.{cases_lt, cases_eq, eq-eqb, ne_eqb, true≢false}
-use Rattle.std.proofs.lemmas.List.{get_or_append_left, get_or_push, length_push}
+use Rattle.std.proofs.lemmas.List.{get_or_append_left, get_or_push, length_push, get_or-drop, length-drop}
 use Rattle.sector.specs.declared.pair.Pair.{Pair}
 use Rattle.store_bytes.specs.Picture.{byte_of, picture_at}
 use Rattle.cow_image.specs.declared.fault.Fault.{Fault}
@@ -64,6 +64,15 @@ all_differ chunk origin size (next ∷ slots) s differ = all_differ chunk origin
 -- no chunk of the origin stands in two pairs that are kept
 pub kept_differ : (chunk origin size : ℕ) (slots : List Slot) → Differ old_of (sifted chunk origin size slots).kept
 kept_differ chunk origin size slots = all_differ chunk origin size slots (sifted_as [] []) (λ j k d lt lt'. absurd (omega arith))
+
+pub differ_if : (pairs : List Pair) (chunk origin size : ℕ) (slots : List Slot) → pairs ≡ (sifted chunk origin size slots).kept → Differ old_of pairs
+differ_if pairs chunk origin size slots is = subst (λ (ks : List Pair). Differ old_of ks) (sym is) (kept_differ chunk origin size slots)
+
+-- nor in some of them from one on
+pub differ_drop : (pairs : List Pair) (n : ℕ) → Differ old_of pairs → Differ old_of (drop n pairs)
+differ_drop pairs n differ j k d lt lt' same =
+    let len = length-drop n pairs in
+    differ (n + j) (n + k) d (omega arith) (omega (arith, len)) (ap (λ p. p.old) (sym (get_or-drop n pairs j d)) ∙ same ∙ ap (λ p. p.old) (get_or-drop n pairs k d))
 
 map_same : (f g : ℕ → ℕ) → ((x : ℕ) → f x ≡ g x) → (xs : List ℕ) → map f xs ≡ map g xs
 map_same f g same [] = refl

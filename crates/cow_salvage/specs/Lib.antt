@@ -1,5 +1,6 @@
 pub mod Used
 pub mod Kept
+pub mod Order
 pub mod Spans
 pub mod Blanks
 pub mod Differences

@@ -5,6 +5,7 @@ ghost use Rattle.std.specs.Io.KnownBytes.{Appends};
 ghost use Rattle.cow_image.specs.Sorted.{IsRisingBy, old_of};
 ghost use Rattle.cow_image.specs.Shown.{shown, IsFrontOf};
 ghost use Rattle.cow_salvage.specs.Kept.{sifted, certain as certain_of, doubtful as doubtful_of};
+ghost use Rattle.cow_salvage.specs.Order.{StandOnce};
 
 use crate::{Slot, sift};
 use cow_image::{Fault, Stopped, export_pairs, sort_by_old};
@@ -16,12 +17,14 @@ use std::alloc::{AllocError, Global};
 #[derive(Drop)]
 pub struct Saved {
     pub pairs: Vec<Pair>,
-    /// Those that stand before the first empty slot.
+    /// Those that stand before the first empty slot, in the same order.
     pub certain: Vec<Pair>,
-    /// Those behind it, which may be of an earlier list.
+    /// Those behind it, which may be of an earlier list, in the same order.
     pub doubtful: Vec<Pair>,
     pub skipped: Vec<Fault>,
     pub ghost rising: { IsRisingBy old_of pairs.items },
+    pub ghost certain_rises: { IsRisingBy old_of certain.items },
+    pub ghost doubtful_rises: { IsRisingBy old_of doubtful.items },
 }
 
 /// The pairs behind so many.
@@ -34,41 +37,17 @@ fn pairs_after(alloc: Global, pairs: &[Pair], count: usize) -> Result<Vec<Pair>,
     Vec::from_slice(alloc, &pairs[count..])
 }
 
-/// Pairs in the order of their old chunks.
+/// Pairs in the order of their old chunks, of which no two have the same one.
 fn in_order(pairs: Vec<Pair>) -> Vec<Pair>
-    ensures { IsPermutation pairs.items result.items }
+    requires { StandOnce old_of pairs.items }
+    ensures moved { IsPermutation pairs.items result.items }
+    ensures rising { IsRisingBy old_of result.items }
 {
     let mut pairs = pairs;
-    let _ = sort_by_old(&mut pairs);
-    pairs
-}
-
-/// Pairs that are kept, in two lists.
-#[derive(Drop)]
-struct Split {
-    certain: Vec<Pair>,
-    doubtful: Vec<Pair>,
-}
-
-/// Of the pairs that are kept of these slots, those of so many in front, and the others.
-fn split_kept(
-    alloc: Global,
-    chunk: u32,
-    origin: u64,
-    size: u64,
-    front: &[Slot],
-    kept: &[Pair],
-) -> Result<Split, AllocError>
-    requires some { 0 < chunk }
-    requires allowed { chunk ≤ 1024 }
-    ensures certain { IfOk result (λ split. IsPermutation (sifted chunk origin size front.now).kept split.certain.items) }
-    ensures doubtful { IfOk result (λ split. IsPermutation (drop (length (sifted chunk origin size front.now).kept) kept.now) split.doubtful.items) }
-{
-    let first = sift(alloc, chunk, origin, size, front)?;
-    let rest = pairs_after(alloc, kept, first.kept.len())?;
-    let certain = in_order(first.kept);
-    let doubtful = in_order(rest);
-    Ok(Split { certain, doubtful })
+    match sort_by_old(&mut pairs) {
+        None => pairs,
+        Some(_) => unreachable!(),
+    }
 }
 
 /// Sifts these slots of a store of so many sectors, so many of which come before the first empty one, for an origin of so many,
@@ -92,21 +71,22 @@ pub fn save(
     let Ok(sifted) = sift(alloc, chunk, origin, size, slots) else {
         return Err(Stopped::NoMemory);
     };
-    let mut pairs = sifted.kept;
-    let skipped = sifted.skipped;
-    let front = &slots[..front];
-    let Ok(split) = split_kept(alloc, chunk, origin, size, front, pairs.as_slice()) else {
+    let Ok(first) = sift(alloc, chunk, origin, size, &slots[..front]) else {
         return Err(Stopped::NoMemory);
     };
-    match sort_by_old(&mut pairs) {
-        None => Ok(Saved {
-            pairs,
-            certain: split.certain,
-            doubtful: split.doubtful,
-            skipped,
-        }),
-        Some(_) => unreachable!(),
-    }
+    let Ok(rest) = pairs_after(alloc, sifted.kept.as_slice(), first.kept.len()) else {
+        return Err(Stopped::NoMemory);
+    };
+    let pairs = in_order(sifted.kept);
+    let certain = in_order(first.kept);
+    let doubtful = in_order(rest);
+    let skipped = sifted.skipped;
+    Ok(Saved {
+        pairs,
+        certain,
+        doubtful,
+        skipped,
+    })
 }
 
 /// Writes what the pairs show that are kept of these slots, so many of which come before the first empty one, over an origin of

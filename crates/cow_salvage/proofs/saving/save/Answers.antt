@@ -1,11 +1,18 @@
-use Rattle.std.proofs.Common.{List, sym, subst}
+use Rattle.std.proofs.Common.{List, sym, subst, take}
 use Rattle.sector.specs.declared.pair.Pair.{Pair}
 use Rattle.cow_image.specs.Sorted.{old_of}
-use Rattle.cow_image.proofs.Sorts.{Differ, twice_not_apart}
-use Rattle.cow_salvage.proofs.Orders.{kept_differ}
+use Rattle.cow_image.proofs.Sorts.{Differ}
+use Rattle.cow_salvage.proofs.Orders.{differ_if, differ_drop}
 use Rattle.cow_salvage.proofs.saving.save.Goals as goal
 
-pub unreachable-requires : goal.unreachable-requires
-unreachable-requires c =
-    twice_not_apart old_of c.in-Ok.sifted.kept.items c.sort_by_old.new.pairs.items c.in-Some.field-0 c.sort_by_old.ensures.moved c.in-Some.ensures.rising
-    (subst (λ (ks : List Pair). Differ old_of ks) (sym c.in-Ok.ensures.kept) (kept_differ c.args.chunk c.args.origin c.args.size c.args.slots.now))
+pub in_order-pairs-requires : goal.in_order-pairs-requires
+in_order-pairs-requires c = differ_if c.in-Ok.sifted.kept.items c.args.chunk c.args.origin c.args.size c.args.slots.now c.in-Ok.ensures.kept
+
+pub in_order-certain-requires : goal.in_order-certain-requires
+in_order-certain-requires c = differ_if c.in-Ok-sift.first.kept.items c.args.chunk c.args.origin c.args.size (take c.args.front c.args.slots.now) c.in-Ok-sift.ensures.kept
+
+pub in_order-doubtful-requires : goal.in_order-doubtful-requires
+in_order-doubtful-requires c =
+    let kept = differ_if c.in-Ok.sifted.kept.items c.args.chunk c.args.origin c.args.size c.args.slots.now c.in-Ok.ensures.kept in
+    let slice : Differ old_of c.as_slice.result.now = subst (λ (ks : List Pair). Differ old_of ks) (sym c.as_slice.ensures.value) kept in
+    subst (λ (ks : List Pair). Differ old_of ks) (sym c.in-Ok-pairs_after.ensures) (differ_drop c.as_slice.result.now c.len.result slice)
