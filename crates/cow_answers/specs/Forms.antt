@@ -3,8 +3,8 @@ use Rattle.std.specs.Prelude.{ℕ, List, Option}
 use Rattle.sector.specs.declared.pair.Pair.{Pair}
 use Rattle.cow_image.specs.declared.fault.Fault.{Fault}
 use Rattle.cow_image.specs.declared.reading.Listed.{Listed}
-use Rattle.cow_answers.specs.declared.asked.Form.{Form}
-use Rattle.cow_answers.specs.declared.asked.Form.TheVariants.{Lines, Json}
+use Rattle.image_words.specs.declared.asked.Form.{Form}
+use Rattle.image_words.specs.declared.asked.Form.TheVariants.{Lines, Json}
 use Rattle.cow_salvage.specs.declared.span.Span.{Span}
 use Rattle.cow_answers.specs.declared.showing.Numbers.{Numbers}
 use Rattle.cow_answers.specs.declared.looking.Seen.{Seen}

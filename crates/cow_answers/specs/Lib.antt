@@ -1,5 +1,3 @@
-pub mod Splits
-pub mod Asks
 pub mod Seen
 pub mod Answers
 pub mod Noted

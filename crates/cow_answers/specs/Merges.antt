@@ -2,8 +2,8 @@
 use Rattle.std.specs.Prelude.{ℕ, List, codes}
 use Rattle.sector.specs.declared.pair.Pair.{Pair}
 use Rattle.cow_image.specs.declared.map.CowMap.{CowMap}
-use Rattle.cow_answers.specs.declared.asked.Form.{Form}
-use Rattle.cow_answers.specs.declared.asked.Form.TheVariants.{Lines, Json}
+use Rattle.image_words.specs.declared.asked.Form.{Form}
+use Rattle.image_words.specs.declared.asked.Form.TheVariants.{Lines, Json}
 use Rattle.cow_answers.specs.Items.{number_object, run_objects}
 use Rattle.cow_answers.specs.Left.{left_text, left_object}
 use Rattle.cow_answers.specs.Lines.{runs_text}

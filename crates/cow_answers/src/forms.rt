@@ -2,7 +2,6 @@
 ghost use Rattle.std.specs.Prelude.{◌≡◌, ◌*◌, ◌<◌, ◌≤◌, ◌++◌, IfOk, OnOk};
 ghost use Rattle.cow_answers.specs.Forms.{shown_by, map_by, raw_by, check_by, behind_by, salvaged_by};
 
-use crate::Form;
 use crate::answers::{check_lines, map_lines, raw_lines, shown_line, shown_lines};
 use crate::looking::Seen;
 use crate::note_objects::{push_behind_object, salvaged_json};
@@ -11,6 +10,7 @@ use crate::objects::{check_json, map_json, raw_json};
 use crate::showing::Numbers;
 use cow_image::{Fault, Listed};
 use cow_salvage::{Saved, Span};
+use image_words::Form;
 use sector::Pair;
 use std::alloc::{AllocError, Global};
 

@@ -1,15 +1,13 @@
-//! What `lochknife` is asked and answers of a store: what the words of its command line ask for; what is seen of a store's image,
-//! and what is printed of that, in lines of a key and a value or as JSON, an object for each item on a line of its own. It stands on
-//! `cow_image` and `cow_salvage`, which read, and on `words` for the names of disks.
+//! What `lochknife` answers of a store: what is seen of a store's image, and what is printed of that, in lines of a key and a value or
+//! as JSON, an object for each item on a line of its own. It stands on `cow_image` and `cow_salvage`, which read, and on `image_words`
+//! for the form that is asked for.
 //!
-//! It promises that each text and each answer is the one of its definition in `specs/`; what words ask for is tested.
+//! It promises that each text and each answer is the one of its definition in `specs/`.
 #![tactic(auto)]
 
 mod answers;
-mod asked;
 mod faults_json;
 mod forms;
-mod help;
 mod json;
 mod listing;
 mod listing_json;
@@ -23,14 +21,10 @@ mod reasons;
 mod remaining;
 mod salvage;
 mod showing;
-mod splitting;
 mod text;
-mod wrong;
 
-pub use asked::{Asked, Form, words_ask};
 pub use faults_json::{push_behind_json, push_faults_json, push_unread_json};
 pub use forms::{checked, mapped, push_behind, raw, salvaged, shown};
-pub use help::{HELP, VERSION};
 pub use json::{push_json, push_spans_json};
 pub use listing::{push_listed, push_runs_lines, push_slots};
 pub use listing_json::{push_listed_json, push_runs_json, push_slots_json};
@@ -45,4 +39,3 @@ pub use showing::{
     Numbers, push_numbers, push_sectors, push_show, push_told, push_usage, slots_of,
 };
 pub use text::push_line;
-pub use wrong::Wrong;

@@ -2,13 +2,13 @@
 ghost use Rattle.std.specs.Prelude.{◌≡◌, ◌++◌, OnOk};
 ghost use Rattle.cow_answers.specs.Merges.{bytes_by, runs_by, left_by};
 
-use crate::Form;
 use crate::listing::push_runs_lines;
 use crate::listing_json::push_runs_json;
 use crate::members::push_number_json;
 use crate::remaining::{push_left_json, push_left_lines};
 use crate::text::push_line;
 use cow_image::CowMap;
+use image_words::Form;
 use sector::Pair;
 use std::alloc::AllocError;
 

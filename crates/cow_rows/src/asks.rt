@@ -1,6 +1,6 @@
 // What words ask for.
 
-use cow_answers::{Asked, Form, Wrong, words_ask};
+use image_words::{Asked, Form, Wrong, words_ask};
 use std::alloc::Global;
 use std::test::Fail;
 

@@ -1,15 +1,16 @@
 // The commands that look at a store.
-ghost use Rattle.std.specs.Prelude.{◌<◌, ◌≤◌};
+ghost use Rattle.std.specs.Prelude.{◌<◌, ◌≤◌, IfOk};
 
-use crate::input::{Input, of_input, size_of};
 use crate::printing::printed;
-use crate::trouble::{Trouble, held};
 use cow_answers::{
-    Behind, Form, Seen, all_faults, checked, chunk_listed, chunk_of, is_good, look, mapped,
-    notes_of, push_behind, raw, shown,
+    Behind, Seen, all_faults, checked, chunk_listed, chunk_of, is_good, look, mapped, notes_of,
+    push_behind, raw, shown,
 };
-use cow_image::{Reason, Told, read_slots, sectors_of};
+use cow_image::{MAX_IMAGE, Reason, Told, read_slots};
 use cow_salvage::read_used;
+use image_words::Form;
+use opened_files::{Input, Inputs, Trouble, held, of_input, size_of};
+use std::alloc::AllocError;
 use std::io::Write;
 
 /// Reads a store, for an origin of so many sectors, and sees that it was not written meanwhile.
@@ -24,6 +25,34 @@ pub fn seen_in<'a>(
     Ok(seen)
 }
 
+/// How many sectors an origin has, and what is seen of its store for it, which was not written meanwhile.
+pub fn seen_both<'a>(rt: &HostRuntime, inputs: &mut Inputs<'a>) -> Result<(u64, Seen), Trouble<'a>>
+    ensures { IfOk result (λ both. both.0 ≤ MAX_IMAGE) }
+{
+    let size = size_of(&mut inputs.origin)?;
+    let seen = seen_in(rt, &mut inputs.cow, size)?;
+    Ok((size, seen))
+}
+
+/// Opens a store, and reads it for an origin of any size.
+fn seen_alone<'a>(rt: &'a HostRuntime, cow: &'a str) -> Result<(Input<'a>, Seen), Trouble<'a>> {
+    let mut input = Input::open(rt, cow)?;
+    let seen = seen_in(rt, &mut input, u64::MAX)?;
+    Ok((input, seen))
+}
+
+/// Prints a text about a store, and tells whether the store is good.
+pub fn put_text<'a, W: Write>(
+    cow: &'a str,
+    text: Result<Vec<u8>, AllocError>,
+    seen: &Seen,
+    output: &mut W,
+) -> Result<bool, Trouble<'a>> {
+    let text = held(cow, text)?;
+    printed(output, text.as_slice())?;
+    Ok(is_good(&seen.told))
+}
+
 /// Prints what a store holds, for an origin of any size.
 pub fn show<'a, W: Write>(
     rt: &'a HostRuntime,
@@ -31,11 +60,8 @@ pub fn show<'a, W: Write>(
     form: Form,
     output: &mut W,
 ) -> Result<bool, Trouble<'a>> {
-    let mut input = Input::open(rt, cow)?;
-    let seen = seen_in(rt, &mut input, u64::MAX)?;
-    let text = held(cow, shown(rt.alloc(), &seen, form))?;
-    printed(output, text.as_slice())?;
-    Ok(is_good(&seen.told))
+    let (_input, seen) = seen_alone(rt, cow)?;
+    put_text(cow, shown(rt.alloc(), &seen, form), &seen, output)
 }
 
 /// Prints the pairs of a store in runs, or why it is refused.
@@ -45,11 +71,8 @@ pub fn map<'a, W: Write>(
     form: Form,
     output: &mut W,
 ) -> Result<bool, Trouble<'a>> {
-    let mut input = Input::open(rt, cow)?;
-    let seen = seen_in(rt, &mut input, u64::MAX)?;
-    let text = held(cow, mapped(rt.alloc(), &seen, form))?;
-    printed(output, text.as_slice())?;
-    Ok(is_good(&seen.told))
+    let (_input, seen) = seen_alone(rt, cow)?;
+    put_text(cow, mapped(rt.alloc(), &seen, form), &seen, output)
 }
 
 /// Prints the slots of a store up to the first that is empty, whether it is good or not, and why it is refused, if it is. Of
@@ -60,22 +83,15 @@ pub fn raw_map<'a, W: Write>(
     form: Form,
     output: &mut W,
 ) -> Result<bool, Trouble<'a>> {
-    let mut input = Input::open(rt, cow)?;
-    let seen = seen_in(rt, &mut input, u64::MAX)?;
-    let text = match chunk_of(seen.numbers) {
-        None => held(cow, mapped(rt.alloc(), &seen, form))?,
-        Some(chunk) => {
-            let slots = read_slots(rt.alloc(), &mut input, chunk);
-            let (slots, listed) = of_input(&mut input, slots)?;
-            input.is_unchanged()?;
-            held(
-                cow,
-                raw(rt.alloc(), chunk, slots.as_slice(), listed, &seen, form),
-            )?
-        }
+    let (mut input, seen) = seen_alone(rt, cow)?;
+    let Some(chunk) = chunk_of(seen.numbers) else {
+        return put_text(cow, mapped(rt.alloc(), &seen, form), &seen, output);
     };
-    printed(output, text.as_slice())?;
-    Ok(is_good(&seen.told))
+    let slots = read_slots(rt.alloc(), &mut input, chunk);
+    let (slots, listed) = of_input(&mut input, slots)?;
+    input.is_unchanged()?;
+    let text = raw(rt.alloc(), chunk, slots.as_slice(), listed, &seen, form);
+    put_text(cow, text, &seen, output)
 }
 
 /// Prints what a store holds for this origin, and all faults of its pairs.
@@ -86,21 +102,17 @@ pub fn check<'a, W: Write>(
     form: Form,
     output: &mut W,
 ) -> Result<bool, Trouble<'a>> {
-    let mut origin = Input::open(rt, origin)?;
-    let mut input = Input::open(rt, cow)?;
-    origin.is_apart(&input)?;
-    let size = sectors_of(&mut origin);
-    let size = of_input(&mut origin, size)?;
-    let seen = seen_in(rt, &mut input, size)?;
+    let mut inputs = Inputs::open(rt, origin, cow)?;
+    let (size, seen) = seen_both(rt, &mut inputs)?;
     let mut text = held(cow, shown(rt.alloc(), &seen, form))?;
     match seen.told {
         Told::Refused(Reason::Pairs(_)) | Told::Refused(Reason::NoArea(_)) => {
-            let faults = faults_text(rt, &mut input, &seen, size, form)?;
+            let faults = faults_text(rt, &mut inputs.cow, &seen, size, form)?;
             held(cow, text.extend_from_slice(faults.as_slice()))?;
         }
         _ => {}
     }
-    add_behind(rt, &mut input, &seen, &mut text, form)?;
+    add_behind(rt, &mut inputs.cow, &seen, &mut text, form)?;
     printed(output, text.as_slice())?;
     Ok(is_good(&seen.told))
 }

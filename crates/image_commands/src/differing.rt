@@ -6,15 +6,14 @@ ghost use Rattle.cow_answers.specs.Answers.{is_good as is_good_by};
 ghost use Rattle.image_commands.specs.Differing.{differing_by};
 ghost use Rattle.image_commands.specs.Arrays.{array_of};
 
-use crate::commands::seen_in;
-use crate::input::{Input, size_of};
-use crate::printing::printed;
+use crate::commands::{put_text, seen_both};
 use crate::rolling::why_stopped;
-use crate::trouble::{Trouble, held};
-use cow_answers::{Form, Seen, is_good, push_spans, push_spans_json, shown};
+use cow_answers::{push_spans, push_spans_json, shown};
 use cow_image::{Stopped, Told};
 use cow_salvage::{Span, Undone, differences};
 use image::Image;
+use image_words::Form;
+use opened_files::{Inputs, Trouble};
 use std::alloc::{AllocError, Global};
 use std::io::Write;
 
@@ -57,38 +56,26 @@ pub fn diff<'a, W: Write>(
     form: Form,
     output: &mut W,
 ) -> Result<bool, Trouble<'a>> {
-    let mut origin = Input::open(rt, origin)?;
-    let mut cow = Input::open(rt, cow)?;
-    origin.is_apart(&cow)?;
-    let size = size_of(&mut origin)?;
-    let seen = seen_in(rt, &mut cow, size)?;
+    let mut inputs = Inputs::open(rt, origin, cow)?;
+    let (size, seen) = seen_both(rt, &mut inputs)?;
     if let Told::Refused(_) = seen.told {
-        return refused(rt, &cow, &seen, form, output);
+        return put_text(cow, shown(rt.alloc(), &seen, form), &seen, output);
     }
-    origin.hush();
-    let found = found(rt.alloc(), &mut origin, &mut cow, &seen.told, size);
+    inputs.origin.hush();
+    let found = found(
+        rt.alloc(),
+        &mut inputs.origin,
+        &mut inputs.cow,
+        &seen.told,
+        size,
+    );
     let spans = match found {
         Ok(spans) => spans,
-        Err(undone) => return Err(why_stopped(&origin, &cow, stopped(undone), cow.name)),
+        Err(undone) => return Err(why_stopped(&inputs.origin, &inputs.cow, stopped(undone), cow)),
     };
-    cow.is_unchanged()?;
-    origin.is_unchanged()?;
-    let text = held(cow.name, differing(rt.alloc(), spans.as_slice(), form))?;
-    printed(output, text.as_slice())?;
-    Ok(true)
-}
-
-/// Prints why a store is refused.
-fn refused<'a, W: Write>(
-    rt: &HostRuntime,
-    cow: &Input<'a>,
-    seen: &Seen,
-    form: Form,
-    output: &mut W,
-) -> Result<bool, Trouble<'a>> {
-    let text = held(cow.name, shown(rt.alloc(), seen, form))?;
-    printed(output, text.as_slice())?;
-    Ok(is_good(&seen.told))
+    inputs.are_unchanged()?;
+    let text = differing(rt.alloc(), spans.as_slice(), form);
+    put_text(cow, text, &seen, output)
 }
 
 /// Why a comparison stopped, in the words of an export.

@@ -9,8 +9,8 @@ use crate::rolling::export;
 use crate::salvaging::{Salvage, salvage_array};
 use crate::seaming::{hear, spell};
 use crate::serving::serve;
-use crate::trouble::Trouble;
-use cow_answers::{Asked, HELP, VERSION};
+use image_words::{Asked, HELP, VERSION};
+use opened_files::Trouble;
 use std::io::{BufRead, Write};
 
 /// Does what is asked for, from and to these streams.

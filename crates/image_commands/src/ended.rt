@@ -2,7 +2,7 @@
 ghost use Rattle.std.specs.Prelude.{◌≡◌};
 ghost use Rattle.image_commands.specs.Status.{status_by};
 
-use crate::trouble::Trouble;
+use opened_files::Trouble;
 
 /// How a command ended that could read and write what it had to.
 #[derive(Drop)]

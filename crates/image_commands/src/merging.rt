@@ -1,23 +1,18 @@
 // A snapshot's copies are taken back into its origin, in place.
 
+use crate::commands::seen_both;
 use crate::ended::Ended;
-use crate::files::folder_synced;
-use crate::input::{Input, of_input, unused};
 use crate::printing::printed;
-use crate::teller::Teller;
-use crate::trouble::{Trouble, Why, about, held};
-use crate::watched_files::Merging;
-use cow_answers::{Form, is_good, look, push_bytes, push_left, push_runs, shown};
-use cow_image::{CowMap, Told, read_store, sectors_of};
+use cow_answers::{Seen, is_good, push_bytes, push_left, push_runs, shown};
+use cow_image::{CowMap, Told, read_store};
 use cow_merge::{ORIGIN, Room, Stopped};
 use file_calls::DiskFile;
-use file_users::{UsedFile, user_of};
 use image_files::{Asked, DiskFiles, OriginFile, StoreFile};
+use image_words::Form;
+use opened_files::{InPlace, Input, Teller, Trouble, WatchedFile, Why, held, name_lasts, of_input};
 use std::alloc::{AllocError, Global};
-use std::fs::{File, TryLockError};
+use std::io;
 use std::io::Write;
-use std::os::fd::AsRawFd;
-use std::{fs, io};
 
 /// The words of a merge.
 #[derive(Clone, Copy, PartialEq, Eq)]
@@ -35,52 +30,52 @@ pub fn merge<'a, W: Write>(
     words: Words<'a>,
     output: &mut W,
 ) -> Result<Ended<'a>, Trouble<'a>> {
-    let first = opened(rt, words.origin, words.dry)?;
-    let second = opened(rt, words.cow, words.dry)?;
-    let mut origin = Input::over(rt, words.origin, &first)?;
-    let mut cow = Input::over(rt, words.cow, &second)?;
-    origin.is_apart(&cow)?;
-    locked(words.origin, &first, words.dry)?;
-    locked(words.cow, &second, words.dry)?;
-    is_unused(rt, words.origin, &first, words.dry)?;
-    is_unused(rt, words.cow, &second, words.dry)?;
-    let size = sectors_of(&mut origin);
-    let size = of_input(&mut origin, size)?;
-    let seen = look(rt.alloc(), &mut cow, size);
-    let seen = of_input(&mut cow, seen)?;
-    cow.is_unchanged()?;
-    origin.is_unchanged()?;
-    let mut text = held(words.cow, shown(rt.alloc(), &seen, words.form))?;
+    let InPlace {
+        origin,
+        store,
+        mut inputs,
+    } = InPlace::open(rt, words.origin, words.cow, words.dry)?;
+    let (size, seen) = seen_both(rt, &mut inputs)?;
+    inputs.are_unchanged()?;
+    let text = told_before(rt, words, &seen, size);
+    let text = held(words.cow, text)?;
+    printed(output, text.as_slice())?;
     let Told::Written(map) = &seen.told else {
-        printed(output, text.as_slice())?;
         return Ok(Ended::of(is_good(&seen.told)));
     };
-    let bytes = bytes_of(map, size);
-    held(words.cow, push_bytes(&mut text, bytes, words.form))?;
     if words.dry {
-        held(
-            words.cow,
-            push_runs(&mut text, map.pairs.as_slice(), words.form),
-        )?;
-        printed(output, text.as_slice())?;
         return Ok(Ended::Good);
     }
-    printed(output, text.as_slice())?;
-    let origin_file = OriginFile(DiskFile::new(first));
-    let store_file = StoreFile(DiskFile::new(second));
-    let files = Merging::new(
-        DiskFiles::new(origin_file, store_file),
-        Teller::new(rt),
-        bytes,
-    );
-    merge_files(rt, words, files, &mut cow, map, size, output)
+    let bytes = bytes_of(map, size);
+    let origin = WatchedFile::new(DiskFile::new(origin), Teller::new(rt), bytes);
+    let store = WatchedFile::new(DiskFile::new(store), Teller::quiet(rt), 0);
+    let files = DiskFiles::new(OriginFile(origin), StoreFile(store));
+    merge_files(rt, words, files, &mut inputs.cow, map, size, output)
+}
+
+/// What is printed before anything is written: what the store holds, or why it is refused, how many bytes of an origin of so many
+/// sectors will be written, and where nothing is to be written also the pairs.
+fn told_before(
+    rt: &HostRuntime,
+    words: Words<'_>,
+    seen: &Seen,
+    size: u64,
+) -> Result<Vec<u8>, AllocError> {
+    let mut text = shown(rt.alloc(), seen, words.form)?;
+    if let Told::Written(map) = &seen.told {
+        push_bytes(&mut text, bytes_of(map, size), words.form)?;
+        if words.dry {
+            push_runs(&mut text, map.pairs.as_slice(), words.form)?;
+        }
+    }
+    Ok(text)
 }
 
 /// Merges, and prints how many pairs are gone and how many are left.
 fn merge_files<'a, W: Write>(
     rt: &'a HostRuntime,
     words: Words<'a>,
-    mut files: Merging<'a, DiskFile>,
+    mut files: DiskFiles<WatchedFile<'a, DiskFile>>,
     cow: &mut Input<'a>,
     map: &CowMap,
     size: u64,
@@ -96,7 +91,7 @@ fn merge_files<'a, W: Write>(
     name_lasts(rt, words.origin)?;
     name_lasts(rt, words.cow)?;
     let merged = cow_merge::merge(&mut files, map, size, room);
-    files.hush();
+    files.origin.hush();
     if let Err(stopped) = merged {
         let _ = put_left(rt, words, cow, map, size, output);
         return Err(why_stopped(words, &files, stopped));
@@ -119,18 +114,6 @@ fn done_text(alloc: Global, map: &CowMap, form: Form) -> Result<Vec<u8>, AllocEr
     let mut text = Vec::new(alloc);
     push_left(&mut text, gone, 0, &none, form)?;
     Ok(text)
-}
-
-/// Makes the name of a file that is merged last: that of the file itself, where it is given by a link.
-fn name_lasts<'a>(rt: &HostRuntime, name: &'a str) -> Result<(), Trouble<'a>> {
-    let file = about(name, fs::canonicalize(rt, name))?;
-    match folder_synced(rt, file.as_str()) {
-        Ok(()) => Ok(()),
-        Err(error) => {
-            let why = Why::Folder(error);
-            Err(Trouble { name, why })
-        }
-    }
 }
 
 /// Prints how many of a map's pairs are gone, how many are left, and the store's status.
@@ -163,10 +146,10 @@ fn put_left<'a, W: Write>(
 /// With which file a merge stopped.
 fn why_stopped<'a>(
     words: Words<'a>,
-    files: &Merging<'a, DiskFile>,
+    files: &DiskFiles<WatchedFile<'a, DiskFile>>,
     stopped: Stopped,
 ) -> Trouble<'a> {
-    let Some(failed) = files.failed() else {
+    let Some(failed) = files.failed else {
         return Trouble {
             name: words.cow,
             why: Why::Changed,
@@ -178,15 +161,21 @@ fn why_stopped<'a>(
         words.cow
     };
     let why = match stopped {
-        Stopped::Failed(error) => why_failed(files, failed.asked, error),
+        Stopped::Failed(error) => why_failed(has_begun(files), failed.asked, error),
         Stopped::Changed => Why::Changed,
     };
     Trouble { name, why }
 }
 
-/// What is to be said where a file failed. A sync that fails before all writes may have lost what was copied there.
-fn why_failed(files: &Merging<'_, DiskFile>, asked: Asked, error: io::Error) -> Why {
-    if asked == Asked::Sync && !files.has_begun() {
+/// Whether a write of either file was asked for.
+fn has_begun(files: &DiskFiles<WatchedFile<'_, DiskFile>>) -> bool {
+    files.origin.has_begun() || files.store.has_begun()
+}
+
+/// What is to be said where a file failed, by whether a write was asked for. A sync that fails before all writes may have lost what
+/// was copied there.
+fn why_failed(begun: bool, asked: Asked, error: io::Error) -> Why {
+    if asked == Asked::Sync && !begun {
         return Why::Unsynced(error);
     }
     Why::Unmerged(asked, error)
@@ -201,51 +190,4 @@ fn bytes_of(map: &CowMap, size: u64) -> u64 {
         sectors = sectors.saturating_add(size.saturating_sub(first).min(chunk));
     }
     sectors.saturating_mul(512)
-}
-
-/// Opens a file: for reading alone, where nothing is to be written. Only files are taken: nothing tells whether a block device
-/// is in use. A file that would take the number of a standard stream is refused, since what is printed would go into it.
-fn opened<'a>(rt: &HostRuntime, name: &'a str, dry: bool) -> Result<File, Trouble<'a>> {
-    let metadata = about(name, fs::metadata(rt, name))?;
-    if !metadata.is_file() {
-        let why = Why::NoFile;
-        return Err(Trouble { name, why });
-    }
-    let file = if dry {
-        fs::open(rt, name)
-    } else {
-        File::options().read(true).write(true).open(rt, name)
-    };
-    let file = about(name, file)?;
-    if file.as_raw_fd() < 3 {
-        let why = Why::NoStream;
-        return Err(Trouble { name, why });
-    }
-    Ok(file)
-}
-
-/// Sees that nobody uses a file, or that nobody writes to it where nothing is to be written.
-fn is_unused<'a>(
-    rt: &HostRuntime,
-    name: &'a str,
-    file: &File,
-    dry: bool,
-) -> Result<(), Trouble<'a>> {
-    let used = UsedFile::of(&about(name, file.metadata())?);
-    unused(name, user_of(rt, used, dry))
-}
-
-/// Locks a file: against all other programs that lock it, or against those that write, where nothing is to be written.
-fn locked<'a>(name: &'a str, file: &File, dry: bool) -> Result<(), Trouble<'a>> {
-    let locked = if dry {
-        file.try_lock_shared()
-    } else {
-        file.try_lock()
-    };
-    let why = match locked {
-        Ok(()) => return Ok(()),
-        Err(TryLockError::WouldBlock) => Why::Locked,
-        Err(TryLockError::Error(error)) => Why::File(error),
-    };
-    Err(Trouble { name, why })
 }

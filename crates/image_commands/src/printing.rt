@@ -2,8 +2,7 @@
 ghost use Rattle.std.specs.Prelude.{OnOk};
 ghost use Rattle.std.specs.Io.KnownBytes.{Appends};
 
-use crate::target::OUTPUT;
-use crate::trouble::{Trouble, Why};
+use opened_files::{OUTPUT, Trouble, Why};
 use std::io;
 use std::io::Write;
 

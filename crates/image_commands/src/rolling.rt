@@ -2,15 +2,14 @@
 ghost use Rattle.std.specs.Prelude.{◌≤◌};
 
 use crate::array::put_array;
-use crate::commands::seen_in;
-use crate::files::is_free;
-use crate::input::{Input, of_input, size_of};
+use crate::commands::seen_both;
 use crate::printing::told_beside;
-use crate::trouble::{Trouble, Why, about, held};
-use crate::watched::Watched;
-use crate::writing::{begun, ended};
-use cow_answers::{Form, Seen, is_good, shown};
+use cow_answers::{Seen, is_good, shown};
 use cow_image::{Failure, MAX_IMAGE, Stopped, Told, read_store};
+use image_words::Form;
+use opened_files::{
+    Input, Inputs, Trouble, Watched, Why, about, file_begun, file_ended, held, is_free, of_input,
+};
 use std::io::Write;
 
 /// Writes a snapshot's array to a new file, or prints why its store is refused. With no other snapshot of the origin this
@@ -25,17 +24,15 @@ pub fn export<'a, W: Write, E: Write>(
     errors: &mut E,
 ) -> Result<bool, Trouble<'a>> {
     is_free(rt, out)?;
-    let mut origin = Input::open(rt, origin)?;
-    let mut cow = Input::open(rt, cow)?;
-    origin.is_apart(&cow)?;
-    origin.is_unused(rt)?;
-    cow.is_unused(rt)?;
-    let size = size_of(&mut origin)?;
-    let seen = seen_in(rt, &mut cow, size)?;
+    let mut inputs = Inputs::open(rt, origin, cow)?;
+    inputs.are_unused(rt, true)?;
+    let (size, seen) = seen_both(rt, &mut inputs)?;
     if let Told::Refused(_) = seen.told {
         return put_seen(rt, out, &seen, form, output, errors);
     }
-    roll(rt, &mut origin, &mut cow, &seen, size, out, output)?;
+    let origin = &mut inputs.origin;
+    let cow = &mut inputs.cow;
+    roll(rt, origin, cow, &seen, size, out, output)?;
     Ok(true)
 }
 
@@ -51,9 +48,9 @@ pub fn roll<'a, W: Write>(
 ) -> Result<(), Trouble<'a>>
     requires { size ≤ MAX_IMAGE }
 {
-    let mut watched = begun(rt, out, size, output)?;
+    let mut watched = file_begun(rt, out, size, output)?;
     let rolled = rolled(rt, origin, cow, seen, size, &mut watched, out);
-    ended(rt, out, rolled)
+    file_ended(rt, out, rolled)
 }
 
 /// Prints what a store holds or why it is refused, and tells whether it is good.

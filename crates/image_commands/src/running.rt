@@ -3,7 +3,7 @@ ghost use Rattle.std.specs.Prelude.{◌≡◌};
 
 use crate::doing::done;
 use crate::ended::{Ended, status_of};
-use cow_answers::words_ask;
+use image_words::words_ask;
 use std::io;
 use std::io::{BufRead, Write};
 

@@ -1,16 +1,16 @@
 // What is known of the array of a snapshot whose store is refused, or can't be read everywhere, is written to a new file.
 ghost use Rattle.std.specs.Prelude.{◌<◌, ◌≤◌, IfSome};
 
-use crate::files::is_free;
-use crate::input::{Input, of_input, size_of};
 use crate::printing::told_beside;
 use crate::rolling::{put_seen, roll, why_stopped};
-use crate::trouble::{Trouble, about, held};
-use crate::watched::Watched;
-use crate::writing::{begun, ended};
-use cow_answers::{Form, Seen, chunk_listed, is_good, is_whole, look, notes_of, salvaged};
+use cow_answers::{Seen, chunk_listed, is_good, is_whole, look, notes_of, salvaged};
 use cow_image::{MAX_IMAGE, Told};
 use cow_salvage::{Blanked, Saved, Slot, Span, Used, export_kept, front_of, read_used, unreadable};
+use image_words::Form;
+use opened_files::{
+    Input, Inputs, Trouble, Watched, about, file_begun, file_ended, held, is_free, of_input,
+    size_of,
+};
 use std::io::Write;
 
 /// What is asked of a salvage.
@@ -54,11 +54,9 @@ pub fn salvage_array<'a, W: Write, E: Write>(
 
 /// Opens both inputs, of which all sectors are read.
 fn opened<'a>(rt: &'a HostRuntime, origin: &'a str, cow: &'a str) -> Result<Both<'a>, Trouble<'a>> {
-    let origin = Input::open(rt, origin)?;
-    let cow = Input::open(rt, cow)?;
-    origin.is_apart(&cow)?;
-    origin.is_unused(rt)?;
-    cow.is_unused(rt)?;
+    let inputs = Inputs::open(rt, origin, cow)?;
+    inputs.are_unused(rt, true)?;
+    let Inputs { origin, cow } = inputs;
     Ok(Both {
         origin: Blanked {
             below: origin,
@@ -237,9 +235,9 @@ fn write_kept<'a, W: Write>(
     requires allowed { chunk ≤ 1024 }
     requires small { size ≤ MAX_IMAGE }
 {
-    let mut watched = begun(rt, asked.out, size, output)?;
+    let mut watched = file_begun(rt, asked.out, size, output)?;
     let put = put_kept(rt, both, asked, used, chunk, size, sectors, &mut watched);
-    ended(rt, asked.out, put)
+    file_ended(rt, asked.out, put)
 }
 
 /// Writes what the kept pairs show, makes it last, and sees that the inputs are still as they were read.

@@ -1,13 +1,10 @@
 // An image goes into a text of commands, and comes back from answers.
 
-use crate::files::is_free;
-use crate::input::{Input, size_of};
-use crate::target::OUTPUT;
-use crate::trouble::{Trouble, Why, about};
-use crate::watched::Watched;
-use crate::writing::{begun, ended};
 use image::Sink;
 use image_script::{MOST_SECTORS, Stopped, Untold, put_words, read_told};
+use opened_files::{
+    Input, OUTPUT, Trouble, Watched, Why, about, file_begun, file_ended, is_free, size_of,
+};
 use std::io::{BufRead, Write};
 use words::Name;
 
@@ -26,7 +23,7 @@ pub fn spell<'a, W: Write>(
     if size == 0 || MOST_SECTORS < size {
         return Err(no_disk(image, size));
     }
-    let mut output = begun(rt, OUTPUT, size, printer)?;
+    let mut output = file_begun(rt, OUTPUT, size, printer)?;
     output.hush();
     if let Err(stopped) = put_words(rt.alloc(), &name, &mut input, size, &mut output) {
         return Err(why_unput(&input, stopped));
@@ -80,9 +77,9 @@ pub fn hear<'a, R: BufRead, W: Write>(
         let why = Why::PartOfSector(len);
         return Err(Trouble { name, why });
     }
-    let mut output = begun(rt, out, len / 512, printer)?;
+    let mut output = file_begun(rt, out, len / 512, printer)?;
     let written = put_image(&mut output, out, bytes.as_slice());
-    ended(rt, out, written)?;
+    file_ended(rt, out, written)?;
     Ok(true)
 }
 

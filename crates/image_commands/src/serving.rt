@@ -5,14 +5,14 @@ ghost use Rattle.cow_nbd.specs.Shows.{IsServedBy, OrChanged};
 ghost use Rattle.image_commands.specs.Arrays.{array_of, FailsTold};
 ghost use Rattle.cow_answers.specs.Answers.{is_good};
 
-use crate::input::{Input, of_input, size_of};
-use crate::trouble::{Trouble, Why, held};
-use crate::witness::Witness;
-use cow_answers::{Form, look, shown};
+use crate::commands::seen_both;
+use cow_answers::shown;
 use cow_image::Told;
 use cow_nbd::{Watch, serve_fresh, serve_written};
 use image::Image;
+use image_words::Form;
 use nbd_server::Stopped;
+use opened_files::{Inputs, Trouble, Why, Witness, held};
 use std::alloc::Global;
 use std::io::{Read, Write};
 
@@ -26,20 +26,15 @@ pub fn serve<'a, R: Read, W: Write, E: Write>(
     writer: &mut W,
     errors: &mut E,
 ) -> Result<bool, Trouble<'a>> {
-    let mut origin = Input::open(rt, origin)?;
-    let mut cow = Input::open(rt, cow)?;
-    origin.is_apart(&cow)?;
-    let size = size_of(&mut origin)?;
-    let seen = look(rt.alloc(), &mut cow, size);
-    let seen = of_input(&mut cow, seen)?;
-    cow.is_unchanged()?;
+    let mut inputs = Inputs::open(rt, origin, cow)?;
+    let (size, seen) = seen_both(rt, &mut inputs)?;
     if let Told::Refused(_) = seen.told {
-        let text = held(cow.name, shown(rt.alloc(), &seen, Form::Lines))?;
+        let text = held(cow, shown(rt.alloc(), &seen, Form::Lines))?;
         let _ = errors.write_all(text.as_slice());
         return Ok(false);
     }
-    origin.hush();
-    cow.hush();
+    inputs.hush();
+    let Inputs { origin, cow } = inputs;
     let mut watch = Witness::new(origin.kept()?, cow.kept()?);
     let ended = serve_told(
         rt.alloc(),

@@ -1,0 +1,2 @@
+mod Givens
+mod Strips

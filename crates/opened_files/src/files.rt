@@ -1,0 +1,94 @@
+// A file is made, and made to last.
+
+use crate::target::OUTPUT;
+use crate::trouble::{Trouble, Why, about, held};
+use file_calls::DiskFile;
+use image_files::FileSink;
+use std::fs::File;
+use std::io::ErrorKind;
+use std::{fs, io};
+
+/// Sees that no file has this name, or that it stands for standard output.
+pub fn is_free<'a>(rt: &HostRuntime, name: &'a str) -> Result<(), Trouble<'a>> {
+    if name != OUTPUT && about(name, fs::exists(rt, name))? {
+        let why = Why::Exists;
+        return Err(Trouble { name, why });
+    }
+    Ok(())
+}
+
+/// The name that a file has until it is whole.
+pub(crate) fn partial_name<'a>(rt: &HostRuntime, out: &'a str) -> Result<String, Trouble<'a>> {
+    held(out, format!(in rt.alloc(); "{out}.partial"))
+}
+
+/// Makes a file, which must not be there, under the name that it has until it is whole, and locks it.
+pub(crate) fn made<'a>(
+    rt: &HostRuntime,
+    out: &'a str,
+    partial: &str,
+) -> Result<FileSink<DiskFile>, Trouble<'a>> {
+    is_free(rt, out)?;
+    let why = match File::create_new(rt, partial) {
+        Ok(file) => {
+            let _ = file.try_lock();
+            return Ok(FileSink::new(DiskFile::new(file)));
+        }
+        Err(error) => why_not_made(error),
+    };
+    Err(Trouble { name: out, why })
+}
+
+/// Why a file was not made under the name that it has until it is whole.
+fn why_not_made(error: io::Error) -> Why {
+    match error.kind() {
+        ErrorKind::AlreadyExists => Why::PartialExists,
+        _ => Why::File(error),
+    }
+}
+
+/// Gives a whole file its name, and makes the name last. A file that has this name already stays as it is.
+pub(crate) fn named<'a>(rt: &HostRuntime, partial: &str, out: &'a str) -> Result<(), Trouble<'a>> {
+    match fs::hard_link(rt, partial, out) {
+        Ok(()) => about(out, fs::remove_file(rt, partial))?,
+        Err(error) if error.kind() == ErrorKind::AlreadyExists => {
+            let why = Why::Exists;
+            return Err(Trouble { name: out, why });
+        }
+        // Where the files have one name each.
+        Err(_) => {
+            is_free(rt, out)?;
+            about(out, fs::rename(rt, partial, out))?;
+        }
+    }
+    match folder_synced(rt, out) {
+        Ok(()) => Ok(()),
+        Err(error) => {
+            let why = Why::ButFolder(error);
+            Err(Trouble { name: out, why })
+        }
+    }
+}
+
+/// Makes a file's name last.
+fn folder_synced(rt: &HostRuntime, out: &str) -> io::Result<()> {
+    let folder = match out.rsplit_once('/') {
+        None => ".",
+        Some(("", _)) => "/",
+        Some((folder, _)) => folder,
+    };
+    let folder = fs::open(rt, folder)?;
+    folder.sync_all()
+}
+
+/// Makes the name of a file that is merged last: that of the file itself, where it is given by a link.
+pub fn name_lasts<'a>(rt: &HostRuntime, name: &'a str) -> Result<(), Trouble<'a>> {
+    let file = about(name, fs::canonicalize(rt, name))?;
+    match folder_synced(rt, file.as_str()) {
+        Ok(()) => Ok(()),
+        Err(error) => {
+            let why = Why::Folder(error);
+            Err(Trouble { name, why })
+        }
+    }
+}
