@@ -1,0 +1,4 @@
+pub mod Answered
+pub mod Asked
+pub mod Heard
+pub mod Moved

@@ -1,0 +1,4 @@
+pub mod Sizes
+pub mod Splits
+pub mod Exports
+pub mod Asks

@@ -1,0 +1,131 @@
+// What is asked for.
+ghost use Rattle.std.specs.Prelude.{◌≡◌, find, not};
+ghost use Rattle.serve_words.specs.Splits.{split_of, text_in};
+ghost use Rattle.serve_words.specs.Asks.{told, asked_by, command_by, takes_by, new_by, take_by, serve_by};
+
+use crate::exports::unfit;
+use crate::sizes::size_of;
+use crate::splitting::Words;
+use crate::wrong::Wrong;
+
+/// What is asked for. A name of a file is as it was given.
+#[derive(Clone, Copy, PartialEq, Eq)]
+pub enum Asked<'w, 'a> {
+    /// The words that are taken.
+    Help,
+    /// The program's name and version.
+    Version,
+    /// An empty store of so many bytes.
+    New {
+        cow: &'a str,
+        bytes: u64,
+    },
+    /// A snapshot over an empty store, with chunks of so many sectors.
+    Take {
+        origin: &'a str,
+        cow: &'a str,
+        chunk: u32,
+    },
+    /// An origin and its snapshots are served. An empty store gets chunks of so many sectors. `refuse`: a write of a snapshot that finds
+    /// its store full is refused.
+    Serve {
+        origin: &'a str,
+        cows: &'w [&'a str],
+        chunk: u32,
+        refuse: bool,
+    },
+}
+
+/// What the words of a command line ask for: help and the version come before all else, but for a word that lacks behind an option.
+pub fn words_ask<'w, 'a>(words: &'w Words<'a>) -> Result<Asked<'w, 'a>, Wrong<'a>>
+    ensures { told result ≡ asked_by (split_of words.now) }
+{
+    if let Some(option) = words.awaited {
+        return Err(Wrong::NoValue(option));
+    }
+    if words.has("--help") || words.has("-h") {
+        return Ok(Asked::Help);
+    }
+    if words.has("--version") || words.has("-V") {
+        return Ok(Asked::Version);
+    }
+    let command = words.name(0, "a command")?;
+    match not_taken(words, command) {
+        Some(option) => Err(Wrong::Option(option)),
+        None => ask(words, command),
+    }
+}
+
+/// The first option that a command does not take.
+fn not_taken<'a>(words: &Words<'a>, command: &str) -> Option<&'a str>
+    ensures { text_in result ≡ find (λ option. not (takes_by command.now option)) (split_of words.now).options }
+{
+    for option in words.options.as_slice() {
+        if !takes(command, option) {
+            return Some(*option);
+        }
+    }
+    None
+}
+
+/// Whether a command takes an option.
+fn takes(command: &str, option: &str) -> bool
+    ensures { result ≡ takes_by command.now option.now }
+{
+    if option == "--chunk" {
+        return command == "take" || command == "serve";
+    }
+    (option == "--snapshot" || option == "--full") && command == "serve"
+}
+
+/// What a command asks for, whose options are all taken.
+fn ask<'w, 'a>(words: &'w Words<'a>, command: &'a str) -> Result<Asked<'w, 'a>, Wrong<'a>>
+    ensures { told result ≡ command_by (split_of words.now) command.now }
+{
+    match command {
+        "help" => Ok(Asked::Help),
+        "new" => new(words),
+        "take" => take(words),
+        "serve" => serve(words),
+        _ => Err(Wrong::Command(command)),
+    }
+}
+
+fn new<'w, 'a>(words: &'w Words<'a>) -> Result<Asked<'w, 'a>, Wrong<'a>>
+    ensures { told result ≡ new_by (split_of words.now) }
+{
+    let (cow, size) = words.two("COW", "SIZE")?;
+    match size_of(size.as_bytes()) {
+        Some(bytes) => Ok(Asked::New { cow, bytes }),
+        None => Err(Wrong::Size(size)),
+    }
+}
+
+fn take<'w, 'a>(words: &'w Words<'a>) -> Result<Asked<'w, 'a>, Wrong<'a>>
+    ensures { told result ≡ take_by (split_of words.now) }
+{
+    let (origin, cow) = words.two("ORIGIN", "COW")?;
+    let chunk = words.chunk()?;
+    Ok(Asked::Take { origin, cow, chunk })
+}
+
+fn serve<'w, 'a>(words: &'w Words<'a>) -> Result<Asked<'w, 'a>, Wrong<'a>>
+    ensures { told result ≡ serve_by (split_of words.now) }
+{
+    let origin = words.one("ORIGIN")?;
+    let chunk = words.chunk()?;
+    let refuse = words.refuses()?;
+    let cows = words.snapshots.as_slice();
+    if let Some(cow) = cows.get(8) {
+        return Err(Wrong::Snapshot(*cow));
+    }
+    match unfit(cows) {
+        Some(cow) => Err(Wrong::Export(cow)),
+        None => Ok(Asked::Serve {
+            origin,
+            cows,
+            chunk,
+            refuse,
+        }),
+    }
+}

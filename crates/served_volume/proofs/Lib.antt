@@ -1,0 +1,3 @@
+pub mod Seen
+mod Attached
+mod Takes

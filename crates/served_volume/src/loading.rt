@@ -1,0 +1,56 @@
+// A store's snapshot is loaded, or taken where the store is empty.
+ghost use Rattle.std.specs.Prelude.{◌≡◌};
+
+use crate::NotOpened;
+use crate::answering::are_answered;
+use crate::areas::areas_ahead;
+use crate::looking::first_said;
+use cow_header::Found;
+use device::Ahead;
+use plain_machine::SnapId;
+use sector::Refusal;
+use snapshot::StoreDev;
+use std::alloc::Global;
+use volume::Volume;
+
+/// Reads ahead what the load of a store will read, and gives what its first sector says.
+fn load_ahead<B: Ahead>(alloc: Global, store: &mut B) -> Result<Found, NotOpened> {
+    if store.sectors() == 0 {
+        return Err(NotOpened::Refused(Refusal::StoreTooSmall));
+    }
+    match first_said(alloc, store)? {
+        Ok(Found::Fresh) => Ok(Found::Fresh),
+        Ok(Found::Header { chunk }) => {
+            areas_ahead(alloc, store, chunk)?;
+            Ok(Found::Header { chunk })
+        }
+        Err(refusal) => Err(NotOpened::Refused(refusal)),
+    }
+}
+
+/// Attaches the snapshot of a store to a volume, and gives its number and what the store's first sector said: an empty store gets
+/// chunks of so many sectors. `overflow` says whether a write of the snapshot that finds its store full is refused.
+pub fn load<B: Ahead + Drop>(
+    alloc: Global,
+    volume: &mut Volume<B>,
+    mut store: B,
+    chunk: u32,
+    overflow: bool,
+) -> Result<(SnapId, Found), NotOpened> {
+    let found = load_ahead(alloc, &mut store)?;
+    if !store.sync_ahead() {
+        return Err(NotOpened::StoreFailed);
+    }
+    let store = StoreDev {
+        device: store,
+        stale: false,
+    };
+    let number = match volume.attach(alloc, store, chunk, overflow) {
+        Ok(number) => number,
+        Err((Refusal::NoMemory, _)) => return Err(NotOpened::NoMemory),
+        Err((Refusal::Io, _)) => return Err(NotOpened::StoreFailed),
+        Err((refusal, _)) => return Err(NotOpened::Refused(refusal)),
+    };
+    are_answered(volume)?;
+    Ok((number, found))
+}

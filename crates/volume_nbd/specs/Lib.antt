@@ -1,0 +1,6 @@
+pub mod Answers
+pub mod Faults
+pub mod Gathering
+pub mod Served
+pub mod Steps
+pub mod Submits

@@ -1,0 +1,46 @@
+-- A step: an event of the volume that is due, or nothing. This project's own.
+use Rattle.std.specs.Prelude.{◌≡◌, ◌⊎◌, ℕ, Bool, true, false, List, Result, Ok, Option, Some, None}
+use Rattle.device.specs.Layers.{Layer}
+use Rattle.plain_machine.specs.declared.event.Event.{Event}
+use Rattle.plain_machine.specs.declared.event.NotDue.{NotDue}
+use Rattle.plain_machine.specs.declared.event.Outcome.{Outcome}
+use Rattle.plain_machine.specs.declared.request.Dev.{Dev}
+use Rattle.plain_machine.specs.Legal.{IsLegalStep}
+use Rattle.served_array.specs.declared.array.Stepped.{Stepped}
+use Rattle.served_array.specs.declared.array.Stepped.TheVariants.{Still, Done, Slow, Back, Ended}
+use Rattle.volume.specs.DoesAhead.{DoesAhead}
+use Rattle.volume.specs.DoesStep.{DoesStep}
+use Rattle.volume.specs.EventKinds.{is_of_merge}
+use Rattle.volume.specs.Volumed.{Volumed, is_due_of, is_loud_in_all, plain_of}
+use Rattle.volume_nbd.specs.Answers.{stepped_as}
+use Rattle.volume_nbd.specs.Faults.{is_failed_at}
+
+-- whether something comes back of a step
+abbrev pub is_back : Stepped → Bool
+is_back Still = false
+is_back Done = false
+is_back Slow = false
+is_back (Back number bytes error) = true
+is_back Ended = false
+
+-- An event that was due was done ahead and then done, and its outcome is told. Where no file lost what was written to it, that is
+-- a legal step of the plain machine: a read's bytes are what its one array holds.
+pub record DoesEvent {B : Type 0} (holds : B → ℕ → List ℕ → Type 0) (contents : B → List ℕ) (layers : B → List Layer) (size faults done : B → ℕ) (failed : B → Bool) (chosen : Dev) (stepped : Stepped) (old new : Volumed B) : Type 0 where
+  pub event : Event
+  pub outcome : Outcome
+  pub between : Volumed B
+  pub due : is_due_of contents layers old event ≡ true
+  pub ahead : DoesAhead holds contents layers size faults done old between
+  pub step : DoesStep holds contents layers size faults done true event (Ok outcome) between new
+  pub legal : is_loud_in_all layers new ≡ true → IsLegalStep (plain_of contents layers old) event outcome (plain_of contents layers new)
+  pub told : stepped ≡ stepped_as (is_failed_at failed chosen new) outcome
+
+-- One event, or none: then nothing comes back.
+abbrev pub DoesServedStep : {B : Type 0} → (B → ℕ → List ℕ → Type 0) → (B → List ℕ) → (B → List Layer) → (B → ℕ) → (B → ℕ) → (B → ℕ) → (B → Bool) → Dev → Stepped → Volumed B → Volumed B → Type 0
+DoesServedStep holds contents layers size faults done failed chosen stepped old new =
+    DoesEvent holds contents layers size faults done failed chosen stepped old new ⊎ ((new ≡ old) × (is_back stepped ≡ false))
+
+-- whether nothing is due but events of a merge
+abbrev pub is_idle : Option Event → Bool
+is_idle None = true
+is_idle (Some event) = is_of_merge event

@@ -1,0 +1,72 @@
+// The array of a session.
+ghost use Rattle.std.specs.Prelude.{◌≡◌, ◌&&◌, ◌*◌, ◌==◌, ◌<◌, Some, false, length, nat_lt, slice_get, true};
+ghost use Rattle.volume.specs.Volumed.{piece_with};
+ghost use Rattle.volume_nbd.specs.Steps.{DoesServedStep};
+ghost use Rattle.volume_nbd.specs.Submits.{DoesTakeIn};
+
+use crate::VolumeArray;
+use device::{Ahead, Block};
+use nbd_jobs::Work;
+use served_array::{Array, Refused, Stepped};
+use std::alloc::Global;
+
+/// The bytes of a device.
+fn bytes_of<B: Block>(device: &B) -> u64
+    ensures { result ≡ 512 * B.size device.now }
+{
+    512 * device.sectors()
+}
+
+impl<B: Ahead> Array for VolumeArray<B> {
+    /// The client uses the export at this place. `false`, and nothing changes, where there is none, or where requests of another are
+    /// in flight.
+    fn choose(&mut self, place: usize) -> bool
+        ensures told { result ≡ (nat_lt place (length self.old.exports) && (length self.old.volume.flights == 0)) }
+        ensures chosen { result ≡ true → Some self.new.chosen ≡ slice_get self.old.exports place }
+        ensures same { result ≡ false → self.new ≡ self.old }
+        ensures kept { self.new ≡ record self.old { chosen = self.new.chosen } }
+    {
+        if !self.volume.flights().is_empty() {
+            return false;
+        }
+        match self.devices.get(place) {
+            Some(dev) => {
+                self.dev = *dev;
+                true
+            }
+            None => false,
+        }
+    }
+
+    /// The least chunk of all snapshots.
+    #[tactic(auto, using(crate::proofs::Sizes::chunk_some))]
+    fn chunk(&self) -> u32
+        ensures some { 0 < result }
+        ensures piece { result ≡ piece_with self.now.volume.merge self.now.volume.snaps }
+    {
+        self.volume.piece()
+    }
+
+    /// The bytes of the origin.
+    fn size(&self) -> u64
+        ensures { result ≡ 512 * B.size self.now.volume.origin }
+    {
+        bytes_of(self.volume.origin())
+    }
+
+    /// Takes a piece in, as `take_in` does.
+    fn submit(&mut self, alloc: Global, work: Work, part: &[u8]) -> Result<u64, Refused>
+        ensures does { DoesTakeIn B.contents B.layers B.size self.old.chosen work part.now result self.old.volume self.new.volume }
+        ensures kept { self.new ≡ record self.old { volume = self.new.volume } }
+    {
+        self.take_in(alloc, work, part)
+    }
+
+    /// Does an event or none, as `go_on` does.
+    fn step(&mut self) -> Stepped
+        ensures does { DoesServedStep B.may_hold B.contents B.layers B.size B.fault_count B.done_count B.failed self.old.chosen result self.old.volume self.new.volume }
+        ensures kept { self.new ≡ record self.old { volume = self.new.volume; starved = self.new.starved } }
+    {
+        self.go_on()
+    }
+}

@@ -1,0 +1,76 @@
+// A piece is handed on to the volume.
+ghost use Rattle.std.specs.Prelude.{◌≡◌, ◌*◌, IfOk, List, length, true, ℕ};
+ghost use Rattle.plain_machine.specs.declared.request.Op.TheVariants.{Write};
+ghost use Rattle.nbd_jobs.specs.declared.work.Kind.TheVariants.{Write as AsksWrite};
+ghost use Rattle.nbd_jobs.specs.declared.work.Work.{Work};
+ghost use Rattle.volume_nbd.specs.Submits.{DoesTakeIn, IsCrowded, IsHandedOn, op_of};
+
+use crate::VolumeArray;
+use crate::answers::refused;
+use device::{Ahead, Block};
+use in_flight::MAX_COPIES;
+use nbd_jobs::{Kind, Work};
+use nbd_messages::ErrorValue;
+use plain_machine::{Op, Request};
+use sector::{Buf, Range};
+use served_array::Refused;
+use snapshot_list::pending_count;
+use std::alloc::{AllocError, Global};
+use volume::Volume;
+
+/// What is asked of the volume. Zeros are written.
+fn operation(alloc: Global, work: Work, part: &[u8]) -> Result<Op, AllocError>
+    ensures { IfOk result (λ op. op ≡ op_of work.kind work.count part.now) }
+{
+    match work.kind {
+        Kind::Read => Ok(Op::Read),
+        Kind::Write => Ok(Op::Write(Buf::from_slice(alloc, part)?)),
+        Kind::Zeroes => Ok(Op::Write(Buf::zeroed(alloc, 512 * work.count as usize)?)),
+        Kind::Flush => Ok(Op::Flush),
+    }
+}
+
+/// Whether a write that starts a copy for each snapshot would find no room.
+fn is_crowded<B: Ahead>(volume: &Volume<B>) -> bool
+    ensures { result ≡ true → IsCrowded volume.now }
+{
+    MAX_COPIES < pending_count(volume.snaps()) + volume.len()
+}
+
+impl<B: Ahead> VolumeArray<B> {
+    /// Asks the volume for a piece, and tells what it answered.
+    fn hand_on(&mut self, alloc: Global, op: Op, range: Range) -> Result<u64, Refused>
+        requires bytes { (bytes : List ℕ) → op ≡ Write bytes → length bytes ≡ 512 * range.count }
+        ensures does { (work : Work) (part : List ℕ) → op ≡ op_of work.kind work.count part → range.first ≡ work.first → range.count ≡ work.count → range.size ≡ B.size self.old.volume.origin → IsHandedOn B.contents B.layers B.size self.old.chosen work part result self.old.volume self.new.volume }
+        ensures kept { self.new ≡ record self.old { volume = self.new.volume } }
+    {
+        let request = Request {
+            dev: self.dev,
+            op,
+            range,
+        };
+        match self.volume.submit(alloc, request) {
+            Ok(number) => Ok(number),
+            Err(refusal) => Err(refused(refusal)),
+        }
+    }
+
+    /// Takes a piece of the chosen device in, and tells its number in the volume. Refused: where copies are many, until some are
+    /// done (`Full`); past the end (`Invalid`); without memory (`NoMemory`); and as the volume refuses it.
+    pub fn take_in(&mut self, alloc: Global, work: Work, part: &[u8]) -> Result<u64, Refused>
+        requires { work.kind ≡ AsksWrite → length part.now ≡ 512 * work.count }
+        ensures does { DoesTakeIn B.contents B.layers B.size self.old.chosen work part.now result self.old.volume self.new.volume }
+        ensures kept { self.new ≡ record self.old { volume = self.new.volume } }
+    {
+        if is_crowded(&self.volume) {
+            return Err(Refused::Full);
+        }
+        let Ok(range) = Range::new(work.first, work.count, self.volume.origin().sectors()) else {
+            return Err(Refused::Error(ErrorValue::Invalid));
+        };
+        match operation(alloc, work, part) {
+            Ok(op) => self.hand_on(alloc, op, range),
+            Err(_) => Err(Refused::Error(ErrorValue::NoMemory)),
+        }
+    }
+}
