@@ -1,11 +1,7 @@
 -- What was heard, as a range of a room.
-use Rattle.std.proofs.Common.{◌≡◌, ℕ, ◌+◌, ◌-◌, ◌≤◌, min, List, ◌++◌, length, take, drop, Option, None, Some, arith, rules, refl, ap, ◌∙◌, sym, subst, slice_range, length-drop}
-use Rattle.std.proofs.lemmas.List.{places, same_lists, drop-append-le, drop-drop, drop-take, length-take-le}
-use Rattle.std.proofs.lemmas.Slice.{between_is}
-use Rattle.std.specs.Io.KnownBytes.{Consumes, Keeps}
-use Rattle.nbd_session.specs.Stream.{Stream, left, rest_of, thinned}
-use Rattle.nbd_session.proofs.Asked.{rest_thinned}
-use borrow.Rule.Slice.PartMut.{put_mid}
+use Rattle.std.proofs.Common.{◌≡◌, ℕ, ◌+◌, ◌-◌, ◌≤◌, min, List, length, take, drop, arith, refl, ap, ◌∙◌, sym, subst, slice_range, length-drop}
+use Rattle.std.proofs.lemmas.List.{drop-drop, drop-take, length-take-le}
+use Rattle.nbd_session.specs.Stream.{Stream, thinned}
 
 pub length_range : (room : List ℕ) (from to : ℕ) → from ≤ to → to ≤ length room → length (slice_range room from to) ≡ to - from
 length_range room from to order inside =
@@ -40,16 +36,3 @@ range_thinned room from to count gone order inside is =
     stream_same (slice_range room (from + gone) to) (drop (min count (length (slice_range room from to))) (slice_range room from to)) (count - gone) (count - min count (length (slice_range room from to)))
     (range_dropped room from to gone there ∙ ap (λ k. drop k (slice_range room from to)) same)
     (ap (λ k. count - k) same)
-
-take_put : (room buf : List ℕ) (at n : ℕ) → at ≤ length room → length buf ≡ length room - at → n ≤ length buf → take (at + n) (put_mid at (length room - at) room buf) ≡ take at room ++ take n buf
-take_put room buf at n inside len few = same_lists _ _ (search (rules, places)) (λ k d h. grind (arith, places))
-
--- bytes were put behind what was heard
-pub range_put : (room buf : List ℕ) (from to n : ℕ) → from ≤ to → to ≤ length room → length buf ≡ length room - to → n ≤ length buf → slice_range (put_mid to (length room - to) room buf) from (to + n) ≡ slice_range room from to ++ take n buf
-range_put room buf from to n order inside len few =
-    let there : length (take to room) ≡ to = length-take-le to room inside in
-    let front : from ≤ length (take to room) = omega (arith, order, there) in
-    between_is (put_mid to (length room - to) room buf) from (to + n)
-    ∙ ap (drop from) (take_put room buf to n inside len few)
-    ∙ drop-append-le from (take to room) (take n buf) front
-    ∙ ap (λ (l : List ℕ). l ++ take n buf) (sym (between_is room from to))

@@ -1,4 +1,2 @@
-pub mod Answered
-pub mod Asked
 pub mod Heard
-pub mod Moved
+pub mod Jobs

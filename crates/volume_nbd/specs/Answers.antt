@@ -1,7 +1,7 @@
 -- What a client is told: an error of the protocol for each reason to refuse a request, and for each way in which it fails. The protocol
 -- (doc/proto.md of the Network Block Device) says ENOSPC of a device that is full, EINVAL of what lies past its end, and ENOMEM; that all
 -- else is EIO, and that what has no room now is asked again, is this project's choice.
-use Rattle.std.specs.Prelude.{ℕ, Bool, true, false, List, [], Option, Some, None, Result, Ok, Err}
+use Rattle.std.specs.Prelude.{ℕ, Bool, true, false, List, [], Some, None, Result, Ok, Err}
 use Rattle.sector.specs.declared.refusal.Refusal.{Refusal}
 use Rattle.sector.specs.declared.refusal.Refusal.TheVariants.{OutOfRange, Overflow, TooMany, NoMemory as NoMemoryLeft}
 use Rattle.plain_machine.specs.declared.event.Outcome.{Outcome}

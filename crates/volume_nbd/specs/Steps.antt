@@ -1,8 +1,7 @@
 -- A step: an event of the volume that is due, or nothing. This project's own.
-use Rattle.std.specs.Prelude.{◌≡◌, ◌⊎◌, ℕ, Bool, true, false, List, Result, Ok, Option, Some, None}
+use Rattle.std.specs.Prelude.{◌≡◌, ◌⊎◌, ℕ, Bool, true, false, List, Ok, Option, Some, None}
 use Rattle.device.specs.Layers.{Layer}
 use Rattle.plain_machine.specs.declared.event.Event.{Event}
-use Rattle.plain_machine.specs.declared.event.NotDue.{NotDue}
 use Rattle.plain_machine.specs.declared.event.Outcome.{Outcome}
 use Rattle.plain_machine.specs.declared.request.Dev.{Dev}
 use Rattle.plain_machine.specs.Legal.{IsLegalStep}

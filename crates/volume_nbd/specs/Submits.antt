@@ -1,5 +1,5 @@
 -- A piece that is handed on to a volume, and one that is not. This project's own.
-use Rattle.std.specs.Prelude.{◌≡◌, ◌⊎◌, ℕ, ◌+◌, ◌*◌, ◌<◌, List, Result, Ok, Err, IfErr, replicate, sum_by, length}
+use Rattle.std.specs.Prelude.{◌≡◌, ◌⊎◌, ℕ, ◌+◌, ◌*◌, ◌<◌, List, Result, Err, IfErr, replicate, sum_by, length}
 use Rattle.device.specs.Layers.{Layer}
 use Rattle.sector.specs.declared.refusal.Refusal.{Refusal}
 use Rattle.plain_machine.specs.declared.request.Dev.{Dev}

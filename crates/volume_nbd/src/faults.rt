@@ -1,5 +1,5 @@
 // What ends serving, and what makes a reply an error.
-ghost use Rattle.std.specs.Prelude.{◌≡◌};
+ghost use Rattle.std.specs.Prelude.{◌≡◌, ◌==◌, ◌&&◌};
 ghost use Rattle.std.specs.List.{list_any};
 ghost use Rattle.volume_nbd.specs.Faults.{fault_of, is_failed_at as is_failed_there, is_store_failed as has_failed_store, is_stopped as is_stopped_by};
 
@@ -20,12 +20,19 @@ pub enum Fault {
     NoMemory,
 }
 
+/// Whether a snapshot has this number, and the file of its store failed.
+fn is_failed_as<B: Ahead>(snap: &Snapshot<B>, number: u32) -> bool
+    ensures { result ≡ ((snap.now.number == number) && B.failed snap.now.device) }
+{
+    snap.number() == number && snap.device().is_failed()
+}
+
 /// Whether the file of a snapshot's store failed.
 fn is_store_failed<B: Ahead>(snaps: &[Snapshot<B>], number: u32) -> bool
     ensures { result ≡ has_failed_store B.failed number snaps.now }
 {
     for snap in snaps {
-        if snap.number() == number && snap.device().is_failed() {
+        if is_failed_as(snap, number) {
             return true;
         }
     }

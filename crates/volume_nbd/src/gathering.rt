@@ -68,6 +68,7 @@ fn add_of_snaps<B: Ahead>(
 }
 
 /// Gathers the events of a batch: of requests and copies all, of stores those that are due.
+#[tactic(auto, using(crate::proofs::Gathers::gathered_each))]
 pub(crate) fn gather<B: Ahead>(
     events: &mut Vec<Event>,
     volume: &Volume<B>,

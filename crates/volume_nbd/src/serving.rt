@@ -1,5 +1,6 @@
 // The array of a session.
 ghost use Rattle.std.specs.Prelude.{◌≡◌, ◌&&◌, ◌*◌, ◌==◌, ◌<◌, Some, false, length, nat_lt, slice_get, true};
+ghost use Rattle.nbd_jobs.specs.declared.work.Kind.TheVariants.{Write as AsksWrite};
 ghost use Rattle.volume.specs.Volumed.{piece_with};
 ghost use Rattle.volume_nbd.specs.Steps.{DoesServedStep};
 ghost use Rattle.volume_nbd.specs.Submits.{DoesTakeIn};
@@ -56,6 +57,7 @@ impl<B: Ahead> Array for VolumeArray<B> {
 
     /// Takes a piece in, as `take_in` does.
     fn submit(&mut self, alloc: Global, work: Work, part: &[u8]) -> Result<u64, Refused>
+        requires { work.kind ≡ AsksWrite → length part.now ≡ 512 * work.count }
         ensures does { DoesTakeIn B.contents B.layers B.size self.old.chosen work part.now result self.old.volume self.new.volume }
         ensures kept { self.new ≡ record self.old { volume = self.new.volume } }
     {

@@ -1,8 +1,9 @@
 // A piece is handed on to the volume.
-ghost use Rattle.std.specs.Prelude.{◌≡◌, ◌*◌, IfOk, List, length, true, ℕ};
+ghost use Rattle.std.specs.Prelude.{◌≡◌, ◌+◌, ◌*◌, ◌≤◌, IfOk, List, length, sum_by, true, ℕ};
 ghost use Rattle.plain_machine.specs.declared.request.Op.TheVariants.{Write};
 ghost use Rattle.nbd_jobs.specs.declared.work.Kind.TheVariants.{Write as AsksWrite};
 ghost use Rattle.nbd_jobs.specs.declared.work.Work.{Work};
+ghost use Rattle.snapshot_list.specs.Numbers.{count_in};
 ghost use Rattle.volume_nbd.specs.Submits.{DoesTakeIn, IsCrowded, IsHandedOn, op_of};
 
 use crate::VolumeArray;
@@ -14,7 +15,7 @@ use nbd_messages::ErrorValue;
 use plain_machine::{Op, Request};
 use sector::{Buf, Range};
 use served_array::Refused;
-use snapshot_list::pending_count;
+use snapshot::Snapshot;
 use std::alloc::{AllocError, Global};
 use volume::Volume;
 
@@ -30,11 +31,34 @@ fn operation(alloc: Global, work: Work, part: &[u8]) -> Result<Op, AllocError>
     }
 }
 
+/// How many copies of a snapshot are not published, those aside that a merge started. They are counted up to what a number holds.
+fn waiting_count<B: Ahead>(snap: &Snapshot<B>) -> usize
+    ensures { result ≤ count_in snap.now }
+{
+    let count = snap.marks().len().saturating_add(snap.copies().len());
+    if snap.merging().is_some() {
+        count.saturating_sub(1)
+    } else {
+        count
+    }
+}
+
+/// How many copies of all snapshots are not published, and one more for each snapshot, counted likewise.
+fn wanted_count<B: Ahead>(snaps: &[Snapshot<B>]) -> usize
+    ensures { result ≤ sum_by count_in snaps.now + length snaps.now }
+{
+    let mut count = snaps.len();
+    for snap in snaps {
+        count = count.saturating_add(waiting_count(snap));
+    }
+    count
+}
+
 /// Whether a write that starts a copy for each snapshot would find no room.
 fn is_crowded<B: Ahead>(volume: &Volume<B>) -> bool
     ensures { result ≡ true → IsCrowded volume.now }
 {
-    MAX_COPIES < pending_count(volume.snaps()) + volume.len()
+    MAX_COPIES < wanted_count(volume.snaps())
 }
 
 impl<B: Ahead> VolumeArray<B> {
