@@ -123,8 +123,7 @@ impl Line {
     }
 
     /// Takes the next request, if it is there as a whole.
-    fn take(&mut self, alloc: Global) -> Result<Took, Ended>
-    {
+    fn take(&mut self, alloc: Global) -> Result<Took, Ended> {
         if self.input.len() < REQUEST_BYTES {
             return Ok(Took::None);
         }
@@ -138,8 +137,7 @@ impl Line {
     }
 
     /// Takes all requests that are there as a whole, and tells why no more are taken.
-    pub fn take_all(&mut self, alloc: Global) -> Result<Took, Ended>
-    {
+    pub fn take_all(&mut self, alloc: Global) -> Result<Took, Ended> {
         for _ in 0..u64::MAX {
             match self.take(alloc)? {
                 Took::One => {}

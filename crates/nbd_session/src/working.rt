@@ -114,8 +114,7 @@ impl Line {
     }
 
     /// Answers the first job that is done. `false` where there is none.
-    fn answer_one(&mut self) -> Result<bool, AllocError>
-    {
+    fn answer_one(&mut self) -> Result<bool, AllocError> {
         match self.jobs.take_done() {
             Some(job) => {
                 self.held = self.held.saturating_sub(job.bytes.len() as u64);
@@ -127,8 +126,7 @@ impl Line {
     }
 
     /// Answers all jobs that are done.
-    pub fn answer(&mut self) -> Result<(), AllocError>
-    {
+    pub fn answer(&mut self) -> Result<(), AllocError> {
         for _ in 0..u64::MAX {
             if !self.answer_one()? {
                 return Ok(());
@@ -138,8 +136,7 @@ impl Line {
     }
 
     /// Answers the first job EIO, whatever is out of it.
-    fn fail_one(&mut self) -> Result<(), AllocError>
-    {
+    fn fail_one(&mut self) -> Result<(), AllocError> {
         match self.jobs.take_first() {
             Some(job) => {
                 push_failure(&mut self.out, self.structured, ErrorValue::Io, &job.request)?;
@@ -188,8 +185,7 @@ impl Line {
         alloc: Global,
         array: &mut A,
         writer: &mut W,
-    ) -> Result<(), Ended>
-    {
+    ) -> Result<(), Ended> {
         self.tell(writer)?;
         self.give_all(alloc, array)?;
         Ok(())

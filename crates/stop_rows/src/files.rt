@@ -4,8 +4,8 @@ use crate::disks::{bytes_of, disk_of_bytes, disks_of};
 use crate::driven::{Cut, Driven, Stops};
 use crate::machine::Machine;
 use crate::scenario::{
-    ATTACH_WRITTEN, FULL_STORE, LONG_MERGE, MERGE_BESIDE, ONE_COPY, OVERFLOWED, Scenario,
-    Step, WHOLE_AREA, WIDE_MERGE, WRITTEN_MERGE,
+    ATTACH_WRITTEN, FULL_STORE, LONG_MERGE, MERGE_BESIDE, ONE_COPY, OVERFLOWED, Scenario, Step,
+    WHOLE_AREA, WIDE_MERGE, WRITTEN_MERGE,
 };
 use device::{Ahead, Block, MemDisk};
 use file_calls::{Fault, MemFile};
@@ -49,10 +49,7 @@ impl Driven for FileDevice<MemFile, Unknown> {
         over
     }
 
-    fn answered(
-        _volume: &Volume<FileDevice<MemFile, Unknown>>,
-        outcome: Outcome,
-    ) -> Outcome {
+    fn answered(_volume: &Volume<FileDevice<MemFile, Unknown>>, outcome: Outcome) -> Outcome {
         match outcome {
             Outcome::Reply(number, Reply::Written) => {
                 Outcome::Reply(number, Reply::Refused(Failure::Io))
@@ -77,12 +74,7 @@ impl Stops for FileDevice<MemFile, Unknown> {
 }
 
 /// A disk's bytes as the file of this number, a call of which has a fault.
-fn file_of(
-    alloc: Global,
-    disk: &MemDisk,
-    number: u64,
-    fault: (u64, Fault),
-) -> Result<Filed, Fail> {
+fn file_of(alloc: Global, disk: &MemDisk, number: u64, fault: (u64, Fault)) -> Result<Filed, Fail> {
     let sectors = disk.sectors();
     if MOST_SECTORS < sectors {
         return Err(Fail::from("no size"));

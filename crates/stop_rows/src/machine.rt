@@ -347,7 +347,6 @@ impl<B: Driven> Machine<B> {
         }
         Ok(false)
     }
-
 }
 
 impl<B: Layered + Drop> Machine<B> {
