@@ -62,18 +62,17 @@ pub fn diff<'a, W: Write>(
         return put_text(cow, shown(rt.alloc(), &seen, form), &seen, output);
     }
     inputs.origin.hush();
-    let found = found(
-        rt.alloc(),
-        &mut inputs.origin,
-        &mut inputs.cow,
-        &seen.told,
-        size,
-    );
+    let Inputs {
+        origin: mut array,
+        cow: mut store,
+    } = inputs;
+    let found = found(rt.alloc(), &mut array, &mut store, &seen.told, size);
     let spans = match found {
         Ok(spans) => spans,
-        Err(undone) => return Err(why_stopped(&inputs.origin, &inputs.cow, stopped(undone), cow)),
+        Err(undone) => return Err(why_stopped(&array, &store, stopped(undone), cow)),
     };
-    inputs.are_unchanged()?;
+    store.is_unchanged()?;
+    array.is_unchanged()?;
     let text = differing(rt.alloc(), spans.as_slice(), form);
     put_text(cow, text, &seen, output)
 }

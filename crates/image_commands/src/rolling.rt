@@ -30,9 +30,11 @@ pub fn export<'a, W: Write, E: Write>(
     if let Told::Refused(_) = seen.told {
         return put_seen(rt, out, &seen, form, output, errors);
     }
-    let origin = &mut inputs.origin;
-    let cow = &mut inputs.cow;
-    roll(rt, origin, cow, &seen, size, out, output)?;
+    let Inputs {
+        origin: mut array,
+        cow: mut store,
+    } = inputs;
+    roll(rt, &mut array, &mut store, &seen, size, out, output)?;
     Ok(true)
 }
 
