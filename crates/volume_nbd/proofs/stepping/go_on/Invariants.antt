@@ -1,6 +1,0 @@
--- Nothing was done so far.
-use Rattle.std.proofs.Common.{◌≡◌}
-use Rattle.volume_nbd.proofs.stepping.go_on.Given as goal
-
-abbrev pub invariant-loop : goal.invariant-loop-for
-invariant-loop g l = l.self ≡ record l.fn.self { starved = l.self.starved }
