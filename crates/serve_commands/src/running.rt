@@ -13,9 +13,9 @@ use std::io::{Read, Write};
 
 /// Does what the words of a command line ask for, from and to these streams, and gives the exit status: 0 where it is done, 1 where a
 /// store is refused, 2 where it could not run or the words are wrong. What goes wrong is a line on the third.
-pub fn answer<R: Read, W: Write, E: Write>(
-    rt: &HostRuntime,
-    words: &[String],
+pub fn answer<'a, R: Read, W: Write, E: Write>(
+    rt: &'a HostRuntime,
+    words: &'a [String],
     input: &mut R,
     output: &mut W,
     errors: &mut E,

@@ -33,6 +33,9 @@ const BLOCKS: BlockSizes = BlockSizes {
     most: 33_554_432,
 };
 
+/// The longest name of a file.
+const LONGEST_NAME: usize = 4096;
+
 /// Adds an item, or says for which file there was no memory.
 fn pushed<'a, T: Drop>(name: &'a str, all: &mut Vec<T>, item: T) -> Result<(), Trouble<'a>> {
     match all.push(item) {
@@ -136,8 +139,13 @@ fn exports_of<'a>(
     };
     pushed(words.origin, &mut exports, origin)?;
     for cow in words.cows {
+        let name = export_name(cow.as_bytes());
+        if LONGEST_NAME < name.len() {
+            let why = Why::NoFile;
+            return Err(Trouble { name: *cow, why });
+        }
         let export = Export {
-            name: export_name(cow.as_bytes()),
+            name,
             size,
             flags: WRITE_FLAGS,
             blocks: Some(BLOCKS),
