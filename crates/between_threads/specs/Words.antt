@@ -16,7 +16,7 @@ state_code Empty = 4
 abbrev pub usage_word : PlaceUsage → ℕ
 usage_word u = (state_code u.state * 2 ^ 28 + u.allocated) * 2 ^ 28 + u.metadata
 
--- each number has room in its bits. Those of a store are below 2 ^ 25
+-- each number has room in its bits. Those of a store in memory are below 2 ^ 25
 abbrev pub IsNarrow : PlaceUsage → Type 0
 IsNarrow u = (u.allocated < 2 ^ 28) × (u.metadata < 2 ^ 28)
 

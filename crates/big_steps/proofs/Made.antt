@@ -47,7 +47,7 @@ unfolding made
 made-is chunk store = refl
 
 -- a store without pairs, whose area 0 is there and empty
-fresh_order : (chunk origin size : ℕ) (new : List ℕ) → 0 < chunk → origin ≤ 16_777_216 → size ≤ 16_777_216 → length new ≡ 512 * size → 2 * chunk ≤ size → AreEmptyFrom chunk 0 0 new → IsInOrder chunk origin size new
+fresh_order : (chunk origin size : ℕ) (new : List ℕ) → 0 < chunk → origin ≤ 2_147_483_648 → size ≤ 2_147_483_648 → length new ≡ 512 * size → 2 * chunk ≤ size → AreEmptyFrom chunk 0 0 new → IsInOrder chunk origin size new
 fresh_order chunk origin size new pos small_o small whole fits tail =
     let none : pairs_of chunk new ≡ [] = empty_pairs chunk new pos tail in
     let zero_area : 0 / (32 * chunk) ≡ 0 = ap (λ n. n / (32 * chunk)) (first_slot chunk) ∙ div-mul-add 0 (32 * chunk) 0 (omega arith) in
@@ -78,7 +78,7 @@ pub made_shows : (chunk : ℕ) (disk store : List ℕ) → 0 < chunk → 512 * (
 made_shows chunk disk store pos fits = picture_of_none chunk disk (made chunk store) (empty_pairs chunk (made chunk store) pos (made_tail chunk store pos fits))
 
 -- what is made of a fresh store
-pub made_law : (chunk origin size : ℕ) (disk store : List ℕ) → 0 < chunk → origin ≤ 16_777_216 → size ≤ 16_777_216 → length store ≡ 512 * size → 512 * (2 * chunk) ≤ length store → IsInOrder chunk origin size (made chunk store) × (disk ≡ picture chunk disk (made chunk store))
+pub made_law : (chunk origin size : ℕ) (disk store : List ℕ) → 0 < chunk → origin ≤ 2_147_483_648 → size ≤ 2_147_483_648 → length store ≡ 512 * size → 512 * (2 * chunk) ≤ length store → IsInOrder chunk origin size (made chunk store) × (disk ≡ picture chunk disk (made chunk store))
 made_law chunk origin size disk store pos small_o small whole fits =
     let blank = zeroed_only chunk 0 store (omega arith) in
     let mark = headed_only chunk true (zeroed chunk store 0) pos (let e = blank.len in omega arith) in

@@ -24,7 +24,7 @@ use Rattle.big_steps.proofs.Tried.{TakenAs, HoldsWritten, open_taken}
 pub found_some : (first : List ℕ) (own : ℕ) → found_in first ≡ Ok (Header own) → 0 < own
 found_some first own is = is_chunk-some own (header_allowed (number_at first 0 4) (number_at first 4 4) (number_at first 8 4) (number_at first 12 4) own is)
 
-module _ (sectors size : ℕ) (small_origin : sectors ≤ 16_777_216) (small : size ≤ 16_777_216) where
+module _ (sectors size : ℕ) (small_origin : sectors ≤ 2_147_483_648) (small : size ≤ 2_147_483_648) where
   -- a store that was taken is in order
   abbrev pub SoundAs : Result ℕ Refusal → Device → Type 0
   SoundAs (Err refusal) device = Unit {0}

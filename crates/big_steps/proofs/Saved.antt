@@ -172,7 +172,7 @@ put_to chunk origin size c a j disk store now whole order inside none fits len l
       copy = rw pairs (λ e. let h : Some p.new ≡ None = sym (place-pushed ps p c none refl) ∙ e in absurd (cc));
     }
   where
-    small_number : (chunk c origin : ℕ) → 0 < chunk → origin ≤ 16_777_216 → chunk * c < origin → c < 256 ^ 8
+    small_number : (chunk c origin : ℕ) → 0 < chunk → origin ≤ 2_147_483_648 → chunk * c < origin → c < 256 ^ 8
     small_number chunk c origin pos small lt = let h : 1 * c ≤ chunk * c = mul-le 1 c chunk c (omega arith) (omega arith) in omega arith
 
     after_none : (chunk : ℕ) (ps : List Pair) (c : ℕ) → place_of ps c ≡ None → pairs_after chunk ps c ≡ ps ++ record { old = c; new = next_of chunk ps } ∷ []

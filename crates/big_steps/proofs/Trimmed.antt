@@ -81,7 +81,7 @@ trimmed_shows chunk origin size disk store pos fits formed =
     (λ i inside. picture-only chunk (area_place chunk a) disk store new (pairs_of chunk store) pos only (place_unnamed chunk origin size a (pairs_of chunk store) pos formed.inside) i)
 
 -- a store that may be loaded, once its tail is cleared
-pub trimmed_law : (chunk origin size : ℕ) (disk store : List ℕ) → 0 < chunk → origin ≤ 16_777_216 → size ≤ 16_777_216 → length store ≡ 512 * size → AreWellFormed chunk origin size (pairs_of chunk store) → IsInOrder chunk origin size (trimmed chunk store) × (picture chunk disk store ≡ picture chunk disk (trimmed chunk store))
+pub trimmed_law : (chunk origin size : ℕ) (disk store : List ℕ) → 0 < chunk → origin ≤ 2_147_483_648 → size ≤ 2_147_483_648 → length store ≡ 512 * size → AreWellFormed chunk origin size (pairs_of chunk store) → IsInOrder chunk origin size (trimmed chunk store) × (picture chunk disk store ≡ picture chunk disk (trimmed chunk store))
 trimmed_law chunk origin size disk store pos small_o small whole formed =
     let k : ℕ = length (pairs_of chunk store) in
     let a : ℕ = k / (32 * chunk) in

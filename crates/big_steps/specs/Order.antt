@@ -12,8 +12,8 @@ pub record AreEmptyFrom (chunk a j : ℕ) (store : List ℕ) : Type 0 where
 -- area is empty, so that no old pair comes to life with the next one.
 pub record IsInOrder (chunk origin size : ℕ) (store : List ℕ) : Type 0 where
   pub some : 0 < chunk
-  pub small : size ≤ 16_777_216
-  pub origin_small : origin ≤ 16_777_216
+  pub small : size ≤ 2_147_483_648
+  pub origin_small : origin ≤ 2_147_483_648
   pub whole : length store ≡ 512 * size
   pub pairs : AreWellFormed chunk origin size (pairs_of chunk store)
   pub tail : AreEmptyFrom chunk (length (pairs_of chunk store) / (32 * chunk)) (length (pairs_of chunk store) % (32 * chunk)) store

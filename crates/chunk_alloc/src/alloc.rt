@@ -18,8 +18,8 @@ pub struct Alloc {
     pub area: Chunk,
     pub ghost some: { 0 < chunk },
     pub ghost allowed: { chunk ≤ 1024 },
-    pub ghost small: { sectors ≤ 16_777_216 },
-    pub ghost near: { next ≤ 33_554_432 },
+    pub ghost small: { sectors ≤ 2_147_483_648 },
+    pub ghost near: { next ≤ 4_294_967_296 },
     pub ghost whole: { is_place chunk area ≡ true },
     pub ghost after: { next < area },
     pub ghost first: { area ≤ next + 32 * chunk },
@@ -30,7 +30,7 @@ impl Alloc {
     pub fn new(chunk: u32, sectors: u64) -> Alloc
         requires some { 0 < chunk }
         requires allowed { chunk ≤ 1024 }
-        requires small { sectors ≤ 16_777_216 }
+        requires small { sectors ≤ 2_147_483_648 }
         ensures chunk { result.chunk ≡ chunk }
         ensures sectors { result.sectors ≡ sectors }
         ensures next { result.next ≡ 2 }
@@ -48,8 +48,8 @@ impl Alloc {
     pub fn after_load(chunk: u32, sectors: u64, greatest: Chunk) -> Alloc
         requires some { 0 < chunk }
         requires allowed { chunk ≤ 1024 }
-        requires small { sectors ≤ 16_777_216 }
-        requires near { greatest ≤ 16_777_216 }
+        requires small { sectors ≤ 2_147_483_648 }
+        requires near { greatest ≤ 2_147_483_648 }
         ensures chunk { result.chunk ≡ chunk }
         ensures sectors { result.sectors ≡ sectors }
         ensures next { result.next ≡ stepped chunk (greatest + 1) }

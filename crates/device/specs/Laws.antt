@@ -17,6 +17,10 @@ late_fits d = omega (arith, d.inside, d.late.whole, d.sectors.whole)
 pub disk_whole : (d : MemDisk) → length (disk_contents d) ≡ 512 * disk_size d
 disk_whole d = ap length (contents_are d) ∙ length-with_sectors (now_in d.sectors) d.late.range.first d.late.bytes.items (late_fits d) ∙ d.sectors.whole
 
+-- and a disk in memory is no larger than any device
+pub disk_small : (d : MemDisk) → disk_size d ≤ 2_147_483_648
+disk_small d = omega (arith, d.sectors.small)
+
 -- all of it written over, where that waits
 over_all : (old bytes : List ℕ) → length bytes ≡ length old → with_sectors old 0 bytes ≡ bytes
 over_all old bytes long = same_lists _ _ (search (rules, places)) (λ k d h. grind (arith, places))

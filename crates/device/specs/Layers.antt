@@ -66,10 +66,10 @@ counted_after (Some (suc k)) = Some k
 counted_after None = None
 
 -- whether a fuse that so many writes and flushes pass lets one pass
-abbrev pub torn_disk_passes : Option ℕ → Bool
-torn_disk_passes (Some zero) = false
-torn_disk_passes (Some (suc k)) = true
-torn_disk_passes None = false
+abbrev pub tearing_passes : Option ℕ → Bool
+tearing_passes (Some zero) = false
+tearing_passes (Some (suc k)) = true
+tearing_passes None = false
 
 -- whether sectors lie within a range
 abbrev pub is_within : ℕ → ℕ → ℕ × ℕ → Bool
@@ -84,8 +84,8 @@ layer_fate (Dusty sectors size enabled bad) Flushes = Pass
 layer_fate Broken op = Fail
 layer_fate (Counted left) op = if counted_passes left then Pass else Fail
 layer_fate (Tearing left) (Reads first count) = if is_some left then Pass else Fail
-layer_fate (Tearing left) (Writes first count) = if torn_disk_passes left then Pass else Fail
-layer_fate (Tearing left) Flushes = if torn_disk_passes left then Pass else Fail
+layer_fate (Tearing left) (Writes first count) = if tearing_passes left then Pass else Fail
+layer_fate (Tearing left) Flushes = if tearing_passes left then Pass else Fail
 layer_fate (Window aside) op = Pass
 layer_fate (ReadAhead ranges kept) (Reads first count) = if list_any (is_within first count) ranges then Pass else Fail
 layer_fate (ReadAhead ranges kept) (Writes first count) = Pass

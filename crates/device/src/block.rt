@@ -140,8 +140,8 @@ pub trait Block {
     /// A device has whole sectors.
     ghost whole: { (d : Self) → length (contents d) ≡ 512 * size d };
 
-    /// The largest disk has 2^24 sectors.
-    ghost small: { (d : Self) → size d ≤ 16_777_216 };
+    /// A device has 2^31 sectors at most, 1 TiB.
+    ghost small: { (d : Self) → size d ≤ 2_147_483_648 };
 
     /// A stop may leave what is there.
     ghost holds_now: { (d : Self) (s : ℕ) → s < size d → may_hold d s (sector_at (contents d) s) };

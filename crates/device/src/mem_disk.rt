@@ -10,7 +10,7 @@ use crate::{Block, Io};
 use sector::{Range, Refusal, Sector};
 use std::alloc::Global;
 
-/// The most sectors that a disk may have: 2^24.
+/// The most sectors that a disk in memory may have: 2^24.
 pub const MAX_SECTORS: u64 = 16_777_216;
 
 /// A disk in memory. It never fails.
@@ -208,11 +208,11 @@ impl Block for MemDisk {
         true
     }
 
-    ghost use Rattle.device.specs.Laws.{disk_like, disk_whole};
+    ghost use Rattle.device.specs.Laws.{disk_like, disk_small, disk_whole};
 
     ghost whole = { disk_whole };
 
-    ghost small = { λ d. d.sectors.small };
+    ghost small = { disk_small };
 
     ghost holds_now = { λ d s lt. inl refl };
 

@@ -8,7 +8,7 @@ use sector::{Range, SECTOR_BYTES};
 
 /// Reads sectors of a file to the front of some bytes, and says whether it could.
 pub(crate) fn fetch<C: FileCalls>(file: &mut C, range: Range, all: &mut [u8]) -> bool
-    requires near { range.first + range.count ≤ 16_777_216 }
+    requires near { range.first + range.count ≤ 2_147_483_648 }
     requires room { 512 * range.count ≤ length all.old }
     ensures len { length all.new ≡ length all.old }
     ensures noted { C.history file.new ≡ Read (512 * range.first) (512 * range.count) (if result then Some (take (512 * range.count) all.new) else None) ∷ C.history file.old }

@@ -32,7 +32,7 @@ pub struct FileDevice<C: FileCalls, S: Start> {
     pub(crate) faults: u64,
     pub(crate) done: u64,
     start: PhantomData<S>,
-    ghost small: { sectors ≤ 16_777_216 },
+    ghost small: { sectors ≤ 2_147_483_648 },
     ghost long: { length (now_in (at_first (S.first number) sectors) (C.history file)) ≡ 512 * sectors },
     ghost there: { All (IsPieceOf (now_in (at_first (S.first number) sectors) (C.history file)) sectors) (pieces_in pieces) },
     ghost failed: { has_failed ≡ not (are_answered (C.history file)) },
@@ -57,7 +57,7 @@ impl<C: FileCalls, S: Start> FileDevice<C, S> {
         number: u64,
         sectors: u64,
     ) -> Result<FileDevice<C, S>, AllocError>
-        requires small { sectors ≤ 16_777_216 }
+        requires small { sectors ≤ 2_147_483_648 }
         requires fresh { C.history file ≡ [] }
         ensures file { IfOk result (λ d. d.file ≡ file) }
         ensures number { IfOk result (λ d. d.number ≡ number) }

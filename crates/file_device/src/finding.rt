@@ -15,7 +15,7 @@ pub(crate) fn piece_at(pieces: &[Piece], range: Range) -> Option<usize>
 
 /// Whether a piece has one of these sectors.
 pub(crate) fn one_meets(pieces: &[Piece], range: Range) -> bool
-    requires { range.first + range.count ≤ 16_777_216 }
+    requires { range.first + range.count ≤ 2_147_483_648 }
     ensures { result ≡ list_any (meets range.first range.count) pieces.now }
 {
     pieces.iter().any(|piece| piece.meets(range))

@@ -12,7 +12,7 @@ pub struct Piece {
     pub first: u64,
     pub count: u32,
     pub bytes: Vec<u8>,
-    pub ghost near: { first + count ≤ 16_777_216 },
+    pub ghost near: { first + count ≤ 2_147_483_648 },
     pub ghost room: { 512 * count ≤ length bytes.items },
 }
 
@@ -45,7 +45,7 @@ impl Piece {
 
     /// Whether it has one of these sectors.
     pub(crate) fn meets(&self, range: Range) -> bool
-        requires { range.first + range.count ≤ 16_777_216 }
+        requires { range.first + range.count ≤ 2_147_483_648 }
         ensures { result ≡ meets range.first range.count self.now }
     {
         self.first < range.first + range.count as u64
@@ -64,7 +64,7 @@ impl Piece {
 
     /// Reads sectors of a file, and says whether it could. Else it has none.
     pub(crate) fn fill<C: FileCalls>(&mut self, file: &mut C, range: Range) -> bool
-        requires near { range.first + range.count ≤ 16_777_216 }
+        requires near { range.first + range.count ≤ 2_147_483_648 }
         requires room { 512 * range.count ≤ length self.old.bytes.items }
         ensures len { length self.new.bytes.items ≡ length self.old.bytes.items }
         ensures noted { C.history file.new ≡ Read (512 * range.first) (512 * range.count) (if result then Some (take (512 * range.count) self.new.bytes.items) else None) ∷ C.history file.old }

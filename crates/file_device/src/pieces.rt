@@ -47,7 +47,7 @@ impl Pieces {
 
     /// Reads sectors of a file in place of all, and says whether it could. Else there are none.
     pub(crate) fn fill<C: FileCalls>(&mut self, file: &mut C, range: Range) -> bool
-        requires near { range.first + range.count ≤ 16_777_216 }
+        requires near { range.first + range.count ≤ 2_147_483_648 }
         requires few { range.count ≤ 1024 }
         ensures noted { C.history file.new ≡ Read (512 * range.first) (512 * range.count) (if result then Some (take (512 * range.count) self.new.near.bytes.items) else None) ∷ C.history file.old }
         ensures count { self.new.near.count ≡ (if result then range.count else 0) }
@@ -81,7 +81,7 @@ impl Pieces {
 
     /// Whether a piece has one of these sectors.
     pub(crate) fn meet(&self, range: Range) -> bool
-        requires { range.first + range.count ≤ 16_777_216 }
+        requires { range.first + range.count ≤ 2_147_483_648 }
         ensures { result ≡ list_any (meets range.first range.count) (pieces_in self.now) }
     {
         if self.near.count == 0 {
@@ -92,7 +92,7 @@ impl Pieces {
 
     /// Lets all go if one has one of these sectors.
     pub(crate) fn make_way(&mut self, range: Range)
-        requires { range.first + range.count ≤ 16_777_216 }
+        requires { range.first + range.count ≤ 2_147_483_648 }
         ensures apart { list_any (meets range.first range.count) (pieces_in self.new) ≡ false }
         ensures same { list_any (meets range.first range.count) (pieces_in self.old) ≡ false → pieces_in self.new ≡ pieces_in self.old }
         ensures all { (bytes : List ℕ) (sectors : ℕ) → All (IsPieceOf bytes sectors) (pieces_in self.old) → All (IsPieceOf bytes sectors) (pieces_in self.new) }

@@ -26,6 +26,9 @@ stack_small (Flakey' f p below) = omega (arith, stack_small below)
 stack_small (Dust' d p below) = omega (arith, stack_small below)
 stack_small (Error e) = e.small
 
+pub stack_bounded : (d : Stack) → stack_size d ≤ 2_147_483_648
+stack_bounded d = omega (arith, stack_small d)
+
 -- sectors of some sectors
 pub sectors_of_sectors : (b : List ℕ) (first count f c : ℕ) → f + c ≤ count → sectors_at (sectors_at b first count) f c ≡ sectors_at b (f + first) c
 sectors_of_sectors b first count f c inside =

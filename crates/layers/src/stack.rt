@@ -20,7 +20,7 @@ pub enum Stack {
 
 impl Block for Stack {
     ghost use Rattle.layers.specs.Stack.{stack_size, stack_contents, stack_durable, stack_layers, stack_faults, stack_done, stack_may_hold};
-    ghost use Rattle.layers.specs.Whole.{stack_whole, stack_small, stack_holds_now, stack_holds_durable, stack_holds_two, stack_has_like};
+    ghost use Rattle.layers.specs.Whole.{stack_whole, stack_bounded, stack_holds_now, stack_holds_durable, stack_holds_two, stack_has_like};
     ghost use Rattle.std.specs.Prelude.{◌≡◌, ◌⊎◌, ℕ, ◌+◌, ◌*◌, ◌-◌, ◌<◌, ◌≤◌, List, length, slice_index, if◌then◌else◌, is_ok, OnOk, OnErr, IsTrue};
     ghost use Rattle.sector.specs.Bytes.{sectors_at, with_sectors, sector_at, next_count};
     ghost use Rattle.device.specs.declared.operation.Operation.TheVariants.{Reads, Writes, Flushes};
@@ -162,7 +162,7 @@ impl Block for Stack {
 
     ghost whole = { stack_whole };
 
-    ghost small = { stack_small };
+    ghost small = { stack_bounded };
 
     ghost holds_now = { stack_holds_now };
 

@@ -13,7 +13,7 @@ use Rattle.volume.specs.Asking.{merging_usage}
 use Rattle.volume.specs.Leaving.{usage_of}
 use Rattle.volume.specs.Volumed.{Volumed}
 
--- A number of sectors as a board's word has it. Those of a store are below 2 ^ 25; one that had no room in the word would be
+-- A number of sectors as a board's word has it. Those of a store in memory are below 2 ^ 25; one that had no room in the word would be
 -- the largest that has.
 abbrev pub fitted : ℕ → ℕ
 fitted n = min n (2 ^ 28 - 1)

@@ -78,14 +78,14 @@ pub fn are_apart<'a>(one: &OpenFile<'a>, other: &OpenFile<'a>) -> Result<(), Tro
     Ok(())
 }
 
-/// A file that is open and locked, and how many sectors it has: 1 to 2^24.
+/// A file that is open and locked, and how many sectors it has: 1 to 2^31.
 #[derive(Drop)]
 pub struct ServedFile<'a> {
     pub name: &'a str,
     pub file: File,
     pub sectors: u64,
     pub ghost some: { 0 < sectors },
-    pub ghost small: { sectors ≤ 16_777_216 },
+    pub ghost small: { sectors ≤ 2_147_483_648 },
 }
 
 /// Locks a file that is to be served, and looks how long it is.
@@ -103,7 +103,7 @@ pub fn served<'a>(rt: &HostRuntime, opened: OpenFile<'a>) -> Result<ServedFile<'
 
 /// How many sectors so many bytes are.
 fn sectors_of<'a>(name: &'a str, bytes: u64) -> Result<u64, Trouble<'a>>
-    ensures { IfOk result (λ sectors. (0 < sectors) × (sectors ≤ 16_777_216) × (512 * sectors ≡ bytes)) }
+    ensures { IfOk result (λ sectors. (0 < sectors) × (sectors ≤ 2_147_483_648) × (512 * sectors ≡ bytes)) }
 {
     let why = if bytes == 0 {
         Why::Empty

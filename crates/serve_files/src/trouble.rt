@@ -108,7 +108,7 @@ impl fmt::Display for Why {
             Why::TooLarge(bytes) => {
                 write!(
                     f,
-                    "{bytes} bytes are more than 8589934592 (8 GiB), the most that is served"
+                    "{bytes} bytes are more than 1099511627776 (1 TiB), the most that is served"
                 )
             }
             Why::NoFile => write!(f, "no file: only files are written"),

@@ -21,7 +21,7 @@ digits_by unit word = if unit == 1 then word else take (length word - 1) word
 
 -- whole sectors: a header and an area at least, and no more than a device of a volume has
 abbrev pub is_size : ℕ → Bool
-is_size bytes = (bytes % 512 == 0) && nat_le 1024 bytes && nat_le bytes (2 ^ 33)
+is_size bytes = (bytes % 512 == 0) && nat_le 1024 bytes && nat_le bytes (2 ^ 40)
 
 abbrev pub sized : ℕ → Option ℕ → Option ℕ
 sized unit None = None

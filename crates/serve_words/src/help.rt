@@ -12,7 +12,7 @@ usage: lochknife new COW SIZE
        lochknife serve ORIGIN [--snapshot COW].. [--chunk N] [--full refuse]
 
   new       makes an empty store: a new file COW of SIZE bytes, all of them zeros, and of no blocks until it is written.
-            SIZE is a number, and K, M, G or T behind it; whole sectors of 512 bytes, from 1K to 8G. A file COW
+            SIZE is a number, and K, M, G or T behind it; whole sectors of 512 bytes, from 1K to 1T. A file COW
             that is there is taken only if it has no bytes
   take      takes a snapshot of ORIGIN over the empty store COW, and makes it last: from now on whoever writes ORIGIN
             must know of COW: `serve` does
@@ -20,7 +20,7 @@ usage: lochknife new COW SIZE
             protocol on standard input and output. All snapshots that ORIGIN has must be named, at most eight. Over an empty
             COW a snapshot is taken as it starts
 
-ORIGIN and COW are files, of at most 8 GiB, which no other program uses. Options stand anywhere; after -- there are names only.
+ORIGIN and COW are files, of at most 1 TiB, which no other program uses. Options stand anywhere; after -- there are names only.
 
   --chunk N   the sectors of a chunk: a power of two from 1 to 1024, and 8 where it is not given
   --snapshot COW   a snapshot; its export has the last part of that name, ORIGIN's is called origin and is the first

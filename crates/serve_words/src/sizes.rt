@@ -7,8 +7,8 @@ use words::number;
 /// The bytes of the smallest store: a header and an area, in chunks of one sector.
 pub const LEAST_BYTES: u64 = 1024;
 
-/// The bytes of the largest store or origin, 2^24 sectors: no device of a volume has more.
-pub const MOST_BYTES: u64 = 8_589_934_592;
+/// The bytes of the largest store or origin, 2^31 sectors, 1 TiB: no device of a volume has more.
+pub const MOST_BYTES: u64 = 1_099_511_627_776;
 
 /// How many bytes a last letter stands for: 2^10, 2^20, 2^30 or 2^40 where it is K, M, G or T, and else one.
 fn unit_of(letter: Option<u8>) -> u64

@@ -40,7 +40,7 @@ impl fmt::Display for Wrong<'_> {
             ),
             Wrong::Size(word) => write!(
                 f,
-                "{word} is no size of a store: whole sectors of 512 bytes, from 1K to 8G"
+                "{word} is no size of a store: whole sectors of 512 bytes, from 1K to 1T"
             ),
             Wrong::Full(word) => write!(f, "--full {word}: only refuse is taken"),
             Wrong::Snapshot(word) => write!(

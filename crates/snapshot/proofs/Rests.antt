@@ -52,7 +52,7 @@ module _ (bytes area : List ℕ) (ps : List Pair) (s : State) (front : IsFront p
       subst (λ (a : ℕ). AreEmptyFrom s.chunk a (length (pairs_of s.chunk bytes) % (32 * s.chunk)) bytes) (sym at)
       (subst (λ (j : ℕ). AreEmptyFrom s.chunk s.current j bytes) (sym rest) tail_here)
 
-  pub in_order : (place : ℕ) (begun : List Pair) → s.origin ≤ 16_777_216 → s.size ≤ 16_777_216 → length bytes ≡ 512 * s.size → AreGiven s.chunk s.origin s.size place s.copying ps begun → IsInOrder s.chunk s.origin s.size bytes
+  pub in_order : (place : ℕ) (begun : List Pair) → s.origin ≤ 2_147_483_648 → s.size ≤ 2_147_483_648 → length bytes ≡ 512 * s.size → AreGiven s.chunk s.origin s.size place s.copying ps begun → IsInOrder s.chunk s.origin s.size bytes
   in_order place begun origin_small small whole given = record {
     some = front.some;
     small = small;

@@ -142,7 +142,7 @@ impl<B: Block> Snapshot<B> {
     /// not marked invalid.
     pub fn is_done(&self) -> bool
         ensures value { result ≡ ((length self.now.copies == 0) && (length self.now.marks == 0) && not self.now.untried) }
-        ensures still { result ≡ true → self.now.live ≡ true → is_loud (B.layers self.now.device) ≡ true → self.now.state.origin ≤ 16_777_216 → IsStill B.contents self.now }
+        ensures still { result ≡ true → self.now.live ≡ true → is_loud (B.layers self.now.device) ≡ true → self.now.state.origin ≤ 2_147_483_648 → IsStill B.contents self.now }
     {
         self.copies.is_empty() && self.marks.is_empty() && !self.untried
     }

@@ -21,7 +21,7 @@ pub fn are_formed(
 ) -> Result<bool, Refusal>
     requires some { 0 < chunk }
     requires allowed { chunk ≤ 1024 }
-    requires small { size ≤ 16_777_216 }
+    requires small { size ≤ 2_147_483_648 }
     ensures formed { IfOk result (λ formed. MatchBool formed (All (IsInside chunk origin size) pairs.now × AllPairs IsApart pairs.now) (All (IsInside chunk origin size) pairs.now → AllPairs IsApart pairs.now → ⊥)) }
     ensures refusal { IfErr result (λ e. e ≡ NoMemory) }
     ensures starved { IfErr result (λ _. All (IsInside chunk origin size) pairs.now) }
@@ -36,7 +36,7 @@ pub fn are_formed(
 fn are_inside(chunk: u32, origin: u64, size: u64, pairs: &[Pair]) -> bool
     requires some { 0 < chunk }
     requires allowed { chunk ≤ 1024 }
-    requires small { size ≤ 16_777_216 }
+    requires small { size ≤ 2_147_483_648 }
     ensures { MatchBool result (All (IsInside chunk origin size) pairs.now) (All (IsInside chunk origin size) pairs.now → ⊥) }
 {
     for pair in pairs {
@@ -61,7 +61,7 @@ fn begins_before(chunk: u32, number: Chunk, end: u64) -> bool
 fn is_inside(chunk: u32, origin: u64, size: u64, pair: Pair) -> bool
     requires some { 0 < chunk }
     requires allowed { chunk ≤ 1024 }
-    requires small { size ≤ 16_777_216 }
+    requires small { size ≤ 2_147_483_648 }
     ensures { IsTrue result ↔ IsInside chunk origin size pair }
 {
     begins_before(chunk, pair.old, origin)

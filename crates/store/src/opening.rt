@@ -75,7 +75,7 @@ pub enum Loaded {
     Written,
 }
 
-/// Opens a store, for an origin of so many sectors, 2^24 at most as any device has: a fresh one with chunks of so many sectors, a written one with those
+/// Opens a store, for an origin of so many sectors, 2^31 at most as any device has: a fresh one with chunks of so many sectors, a written one with those
 /// of its header. It only reads, and takes the room for two chunks and for a pair to each chunk of the device. `prepare`
 /// does the flushes and writes that a load leaves.
 ///
@@ -90,7 +90,7 @@ pub fn open<B: Block>(
     origin: u64,
 ) -> Result<(Store<B>, Loaded), (Refusal, B)>
     requires chunk { is_chunk chunk ≡ true }
-    requires near { origin ≤ 16_777_216 }
+    requires near { origin ≤ 2_147_483_648 }
     ensures opened { IfOk result (λ opened. MatchLoaded opened.1 (IsOpenedFresh chunk origin (B.size device) (B.contents device) opened.0.state (committed opened.0.exceptions)) (IsOpenedWritten origin (B.size device) (B.contents device) opened.0.state (committed opened.0.exceptions))) }
     ensures pending { IfOk result (λ opened. length (pending opened.0.exceptions) ≡ 0) }
     ensures reserved { IfOk result (λ opened. reserved opened.0.exceptions ≡ 0) }
@@ -141,7 +141,7 @@ fn open_fresh<B: Block>(
     requires size { is_chunk chunk ≡ true }
     requires some { 0 < chunk }
     requires allowed { chunk ≤ 1024 }
-    requires near { origin ≤ 16_777_216 }
+    requires near { origin ≤ 2_147_483_648 }
     requires large { 2 * chunk ≤ B.size device }
     requires found { found_in (sector_at (B.contents device) 0) ≡ Ok FoundFresh }
     ensures device { IfOk result (λ store. store.device ≡ device) }
@@ -215,7 +215,7 @@ fn open_written<B: Block>(
     requires size { is_chunk chunk ≡ true }
     requires some { 0 < chunk }
     requires allowed { chunk ≤ 1024 }
-    requires near { origin ≤ 16_777_216 }
+    requires near { origin ≤ 2_147_483_648 }
     requires large { 2 * chunk ≤ B.size device }
     requires found { found_in (sector_at (B.contents device) 0) ≡ Ok (FoundHeader chunk) }
     ensures chunk { IfOk result (λ store. store.state.chunk ≡ chunk) }
@@ -292,8 +292,8 @@ fn hold_formed(
 ) -> Result<Arena, Refusal>
     requires some { 0 < chunk }
     requires allowed { chunk ≤ 1024 }
-    requires near { origin ≤ 16_777_216 }
-    requires small { size ≤ 16_777_216 }
+    requires near { origin ≤ 2_147_483_648 }
+    requires small { size ≤ 2_147_483_648 }
     ensures inside { IfOk result (λ _. All (IsInside chunk origin size) pairs.now) }
     ensures apart { IfOk result (λ _. AllPairs IsApart pairs.now) }
     ensures committed { IfOk result (λ exceptions. committed exceptions ≡ pairs.now) }

@@ -35,7 +35,7 @@ pub struct Store<B: Block> {
     pub ghost places_chunk: { places.chunk ≡ state.chunk },
     pub ghost places_size: { places.sectors ≡ state.size },
     pub ghost size: { state.size ≡ B.size device },
-    pub ghost near: { state.origin ≤ 16_777_216 },
+    pub ghost near: { state.origin ≤ 2_147_483_648 },
     pub ghost front: { IsFront (committed exceptions) state area.bytes.items },
     pub ghost given: { AreGiven state.chunk state.origin state.size places.next state.copying (committed exceptions) (pairs_pending exceptions) },
     pub ghost firm: { IsTrue (is_loud (B.layers device)) → is_left state.left ≡ true → state.awaits ≡ false → IsFirm (B.may_hold device) (B.contents device) state.size },

@@ -57,7 +57,7 @@ module _ {B : Type 0} (contents : B → List ℕ) (layers : B → List Layer) wh
   ]
 
   -- nothing is left to do for a snapshot that is done
-  resting : (sectors : ℕ) (s : Kept B) → sectors ≤ 16_777_216 → s.state.origin ≡ sectors → is_done_of s ≡ true → is_loud (layers s.device) ≡ true → IsStillOn contents layers s → IsResting sectors (held_of contents layers s)
+  resting : (sectors : ℕ) (s : Kept B) → sectors ≤ 2_147_483_648 → s.state.origin ≡ sectors → is_done_of s ≡ true → is_loud (layers s.device) ≡ true → IsStillOn contents layers s → IsResting sectors (held_of contents layers s)
   resting sectors s small origin done loud still =
       let lists : (nat_eq (length s.copies) 0 && nat_eq (length s.marks) 0) ≡ true = and_first (nat_eq (length s.copies) 0 && nat_eq (length s.marks) 0) (not s.untried) done in
       record {
@@ -75,7 +75,7 @@ module _ {B : Type 0} (contents : B → List ℕ) (layers : B → List Layer) wh
             });
       }
 
-  all_resting : (copies sectors : ℕ) (ss : List (Kept B)) → sectors ≤ 16_777_216 → All (IsAttached copies sectors) ss → All (IsStillOn contents layers) ss → list_all is_done_of ss ≡ true → list_all (λ s. is_loud (layers s.device)) ss ≡ true → All (IsResting sectors) (map (held_of contents layers) ss)
+  all_resting : (copies sectors : ℕ) (ss : List (Kept B)) → sectors ≤ 2_147_483_648 → All (IsAttached copies sectors) ss → All (IsStillOn contents layers) ss → list_all is_done_of ss ≡ true → list_all (λ s. is_loud (layers s.device)) ss ≡ true → All (IsResting sectors) (map (held_of contents layers) ss)
   all_resting copies sectors [] small attached still done loud = λ k d below. absurd (omega (arith, below))
   all_resting copies sectors (s ∷ ss) small attached still done loud =
       All-cons (IsResting sectors) (held_of contents layers s) (map (held_of contents layers) ss)
@@ -84,7 +84,7 @@ module _ {B : Type 0} (contents : B → List ℕ) (layers : B → List Layer) wh
       (and_second (is_done_of s) (list_all is_done_of ss) done) (and_second (is_loud (layers s.device)) (list_all (λ (t : Kept B). is_loud (layers t.device)) ss) loud))
 
   -- no request is in flight, no group of the merge is formed, and each snapshot is done
-  module _ (size : B → ℕ) (v : Volumed B) (replied : Option Reply) (whole : IsWhole contents layers size v) (small : size v.origin ≤ 16_777_216) (none : v.flights ≡ []) (done : list_all is_done_of v.snaps ≡ true) (still : All (IsStillOn contents layers) v.snaps) (loud : is_loud_in_all layers v ≡ true) where
+  module _ (size : B → ℕ) (v : Volumed B) (replied : Option Reply) (whole : IsWhole contents layers size v) (small : size v.origin ≤ 2_147_483_648) (none : v.flights ≡ []) (done : list_all is_done_of v.snaps ≡ true) (still : All (IsStillOn contents layers) v.snaps) (loud : is_loud_in_all layers v ≡ true) where
     snaps_rest : All (IsResting (size v.origin)) (map (held_of contents layers) v.snaps)
     snaps_rest = all_resting v.copies (size v.origin) v.snaps small whole.snaps still done (and_second (is_loud (layers v.origin)) (list_all (λ (s : Kept B). is_loud (layers s.device)) v.snaps) (loud_others contents layers size v loud))
 

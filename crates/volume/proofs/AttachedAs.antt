@@ -154,7 +154,7 @@ module _ {B : Type 0} (contents : B → List ℕ) (layers : B → List Layer) wh
       ∙ ap whole (sym (snaps_taken v.snaps s))
 
   -- nothing is left to do for the new one
-  pub resting : (sectors size chunk : ℕ) (bytes : List ℕ) (origin tried device : Device) (s : Kept B) → sectors ≤ 16_777_216 → size ≤ 16_777_216 → 0 < chunk → length origin.bytes ≡ 512 * sectors → length device.bytes ≡ 512 * size →
+  pub resting : (sectors size chunk : ℕ) (bytes : List ℕ) (origin tried device : Device) (s : Kept B) → sectors ≤ 2_147_483_648 → size ≤ 2_147_483_648 → 0 < chunk → length origin.bytes ≡ 512 * sectors → length device.bytes ≡ 512 * size →
       open_store chunk origin device ≡ done s.state.chunk tried (device_of contents layers s.device) → is_loud (layers s.device) ≡ true → IsNewSnap bytes (snap_books contents layers s) → IsNextPlace s.state.chunk (map new_of s.pairs) s.next → s.state.zeroed ≡ false → s.state.firm ≡ false → s.marked ≡ false → IsResting sectors (held_of contents layers s)
   resting sectors size chunk bytes origin tried device s small_origin small pos whole_origin whole opens loud new next unzeroed unfirm unmarked = record {
     tried = new.tried;

@@ -83,7 +83,7 @@ module _ {B : Type 0} (contents : B → List ℕ) (layers : B → List Layer) (s
     merge = refl;
   }
 
-  pub whole_taken : length v.snaps < 8 → s.state.size ≤ 16_777_216 → s.state.origin ≡ size v.origin → is_chunk s.state.chunk ≡ true → numbers_in s ≡ [] → IsCounted s → IsWhole contents layers size taken
+  pub whole_taken : length v.snaps < 8 → s.state.size ≤ 2_147_483_648 → s.state.origin ≡ size v.origin → is_chunk s.state.chunk ≡ true → numbers_in s ≡ [] → IsCounted s → IsWhole contents layers size taken
   whole_taken room small origin allowed idle counts =
       let all_numbers : AreNumbers v.copies (numbers_in s) = subst (AreNumbers v.copies) (sym idle) (record { given = All-nil (λ n. n ≤ v.copies); ascending = λ i j d lt within. absurd (omega (arith, within)) }) in
       record {
@@ -101,7 +101,7 @@ module _ {B : Type 0} (contents : B → List ℕ) (layers : B → List Layer) (s
         few = omega (arith, room, length-append v.snaps (s ∷ []));
         few_copies = let sums = sum_by-append count_in v.snaps (s ∷ []) in let one = sum_cons count_in s [] in omega (arith, h.few_copies, sums, one, ap length idle);
         few_requests = h.few_requests;
-        numbers_left = let sums = sum_by-append starts_left v.snaps (s ∷ []) in let one = sum_cons starts_left s [] in let most = left_whole s 16_777_216 small in omega (arith, h.numbers_left, sums, one, most);
+        numbers_left = let sums = sum_by-append starts_left v.snaps (s ∷ []) in let one = sum_cons starts_left s [] in let most = left_whole s 2_147_483_648 small in omega (arith, h.numbers_left, sums, one, most);
       }
 
   pub plain_taken : (array : List ℕ) → picture s.state.chunk (contents v.origin) (contents s.device) ≡ array → IsTaken (plain_of contents layers v) (v.attached + 1) array s.overflow (plain_of contents layers taken)

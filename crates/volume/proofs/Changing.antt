@@ -87,7 +87,7 @@ pub record SnapsFit {B : Type 0} (copies attached sectors : ℕ) (all : List (Ke
   pub numbers : AreNumbers attached (map number_of_snap all)
   pub few : length all ≤ 8
   pub few_copies : sum_by count_in all ≤ 256
-  pub numbers_left : copies + sum_by starts_left all ≤ 16_777_216 * attached
+  pub numbers_left : copies + sum_by starts_left all ≤ 2_147_483_648 * attached
 
 pub snaps_fit : {B : Type 0} (contents : B → List ℕ) (layers : B → List Layer) (size : B → ℕ) (v : Volumed B) (sectors : ℕ) → IsWhole contents layers size v → sectors ≡ size v.origin → SnapsFit v.copies v.attached sectors v.snaps
 snaps_fit contents layers size v sectors h same = record {

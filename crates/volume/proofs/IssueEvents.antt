@@ -70,7 +70,7 @@ module _ {B : Type 0} (contents : B → List ℕ) (layers : B → List Layer) (s
           requests = subst (λ n. AreNumbers n (map number_of_flight w.flights)) (sym requests) (subst (λ fs. AreNumbers v.requests (map number_of_flight fs)) (sym flights) (fewer_numbers v.requests v.flights place in_list h.requests));
           few = fit.few;
           few_copies = fit.few_copies;
-          numbers_left = subst (λ n. n + sum_by starts_left w.snaps ≤ 16_777_216 * w.attached) (sym copies) (subst (λ n. v.copies + sum_by starts_left w.snaps ≤ 16_777_216 * n) (sym attached) fit.numbers_left);
+          numbers_left = subst (λ n. n + sum_by starts_left w.snaps ≤ 2_147_483_648 * w.attached) (sym copies) (subst (λ n. v.copies + sum_by starts_left w.snaps ≤ 2_147_483_648 * n) (sym attached) fit.numbers_left);
           few_requests = omega (arith, h.few_requests, ap length flights, length-remove v.flights place in_list);
         };
         stepped = record {

@@ -114,7 +114,7 @@ module _ {B : Type 0} (contents : B → List ℕ) (layers : B → List Layer) wh
     full_starts m q is full = (full_inside m q is full).old
 
     -- its first sector is counted in 64 bits
-    pub full_begins : size v.origin ≤ 16_777_216 → (m : Merging B) (q : Pair) → v.merge ≡ Some m → full_of m.group ≡ Some q → m.state.chunk * q.old < 2 ^ 64
+    pub full_begins : size v.origin ≤ 2_147_483_648 → (m : Merging B) (q : Pair) → v.merge ≡ Some m → full_of m.group ≡ Some q → m.state.chunk * q.old < 2 ^ 64
     full_begins small m q is full =
         let inside = (full_inside m q is full).old in
         let origin = (merged m is).origin in

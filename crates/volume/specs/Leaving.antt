@@ -31,9 +31,9 @@ abbrev pub is_quiet_of : {B : Type 0} → Volumed B → Bool
 is_quiet_of v = (length v.flights == 0) && (not (has_group_in v.merge) && list_all is_done_of v.snaps)
 
 -- Where a snapshot is live and no layer drops its store's writes, what it knows stands in the store's bytes. An origin has
--- 16_777_216 sectors at most.
+-- 2_147_483_648 sectors at most.
 abbrev pub IsStillOn : {B : Type 0} → (B → List ℕ) → (B → List Layer) → Kept B → Type 0
-IsStillOn contents layers s = s.live ≡ true → is_loud (layers s.device) ≡ true → s.state.origin ≤ 16_777_216 → IsStill contents s
+IsStillOn contents layers s = s.live ≡ true → is_loud (layers s.device) ≡ true → s.state.origin ≤ 2_147_483_648 → IsStill contents s
 
 -- why a volume is not closed
 abbrev pub close_refusal : {B : Type 0} → Volumed B → Option Refusal

@@ -59,7 +59,7 @@ abbrev pub GoesOn : {B : Type 0} → (B → List ℕ) → (B → List Layer) →
 GoesOn contents layers size None v = Unit {0}
 GoesOn contents layers size (Some m) v = IsMerged contents layers size m v
 
--- numbers_left: a store has 2^24 sectors at most, so each snapshot that was ever attached starts fewer than 2^24 copies
+-- numbers_left: a store has 2^31 sectors at most, so each snapshot that was ever attached starts fewer than 2^31 copies
 pub record IsWhole {B : Type 0} (contents : B → List ℕ) (layers : B → List Layer) (size : B → ℕ) (v : Volumed B) : Type 0 where
   pub holds : Holds (books_of contents layers size v)
   pub waits : Waits (books_of contents layers size v)
@@ -72,4 +72,4 @@ pub record IsWhole {B : Type 0} (contents : B → List ℕ) (layers : B → List
   pub few : length v.snaps ≤ 8
   pub few_copies : sum_by count_in v.snaps ≤ 256
   pub few_requests : length v.flights ≤ 64
-  pub numbers_left : v.copies + sum_by starts_left v.snaps ≤ 16_777_216 * v.attached
+  pub numbers_left : v.copies + sum_by starts_left v.snaps ≤ 2_147_483_648 * v.attached

@@ -169,10 +169,10 @@ impl<B: Block> Volume<B> {
     }
 
     /// The number of the copy that was started last: so many were started so far. The numbers never run out: each copy takes
-    /// a place of a store of 2^24 sectors at most, and fewer than 2^32 snapshots are ever attached.
+    /// a place of a store of 2^31 sectors at most, and fewer than 2^32 snapshots are ever attached.
     pub fn last_copy(&self) -> CopyId
         ensures value { result ≡ self.now.copies }
-        ensures few { result ≤ 16_777_216 * self.now.attached }
+        ensures few { result ≤ 2_147_483_648 * self.now.attached }
     {
         self.copies
     }

@@ -1,4 +1,4 @@
--- A device has 2^24 sectors at most.
+-- A device has 2^31 sectors at most.
 use Rattle.std.proofs.Common.{arith}
 use Rattle.volume_nbd.proofs.serving.bytes_of.Goals as goal
 

@@ -25,8 +25,8 @@ returns-then-is_empty-2-clause-still g c = λ tried live loud small.
     let copying = keeps.copying alive in
     let idle : begun ≡ [] = keeps.agree ∙ ap (λ cs. map pair_of cs) (nil_from_length copies none) in
     let stored = s.stored loud' in
-    let small' : s.state.origin ≤ 16_777_216 = omega (arith, small, ap (λ v. v.state.origin) c.self.view_is) in
-    let fits : s.state.size ≤ 16_777_216 = omega (arith, s.size, g.met.B.Block.small s.device) in
+    let small' : s.state.origin ≤ 2_147_483_648 = omega (arith, small, ap (λ v. v.state.origin) c.self.view_is) in
+    let fits : s.state.size ≤ 2_147_483_648 = omega (arith, s.size, g.met.B.Block.small s.device) in
     let whole : length bytes ≡ 512 * s.state.size = g.met.B.Block.whole s.device ∙ ap (λ n. 512 * n) (sym s.size) in
     let unzeroed : s.state.zeroed ≡ false = none_ahead c.self.inside.live s.state (length copies) alive none keeps.ahead in
     rw (← c.self.view_is) (record {
