@@ -4,7 +4,7 @@ use Rattle.std.specs.Prelude.{nat_le, Result, Ok, Err, IfErr}
 use Rattle.std.proofs.lemmas.Bool.{le-leb, ltb-true}
 use Rattle.sector.specs.declared.refusal.Refusal.{Refusal}
 use Rattle.sector.specs.declared.refusal.Refusal.TheVariants.{JournalFull}
-use Rattle.volume_commands.specs.Places.{is_full_for, IsFullFirst}
+use Rattle.counted_volume.specs.Places.{is_full_for, IsFullFirst}
 
 -- a volume whose journal has too few places left was asked for much
 pub asked_much : (more taken requests given asked : ℕ) → more ≤ 3 → taken ≤ requests + 5 * given + 40 → requests ≤ asked → is_full_for more taken ≡ true → nat_le 65_000 (asked + 5 * given) ≡ true

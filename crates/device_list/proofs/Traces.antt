@@ -7,7 +7,7 @@ use Rattle.layers.specs.declared.stack.Stack.{Stack}
 use Rattle.plain_machine.specs.declared.event.Event.{Event}
 use Rattle.layers.specs.Stack.{stack_contents, stack_layers}
 use Rattle.volume.specs.Volumed.{Volumed}
-use Rattle.volume_commands.specs.Trace.{IsAllDue}
+use Rattle.counted_volume.specs.Trace.{IsAllDue}
 use Rattle.command_rules.specs.State.{Volume}
 use Rattle.device_list.specs.Flights.{IsBehind}
 use Rattle.device_list.specs.Trace.{IsTraced, items_of, line_of}

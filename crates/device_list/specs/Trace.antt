@@ -21,7 +21,7 @@ use Rattle.in_flight.specs.declared.flights.Route.TheVariants as routes
 use Rattle.snapshot.specs.Kept.{Kept}
 use Rattle.snapshot_list.specs.Finding.{place_of_snap}
 use Rattle.volume.specs.Volumed.{Volumed}
-use Rattle.volume_commands.specs.Trace.{IsAllDue}
+use Rattle.counted_volume.specs.Trace.{IsAllDue}
 use Rattle.command_rules.specs.State.{Names, Volume}
 use Rattle.device_list.specs.Flights.{IsBehind}
 

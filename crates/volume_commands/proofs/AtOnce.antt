@@ -1,5 +1,5 @@
--- A request that its volume served: the places of a journal that it takes, and what was begun with it.
-use Rattle.std.proofs.Common.{◌≡◌, inl, ℕ, ◌+◌, ◌≤◌, true, List, [], ◌∷◌, length, map, Some, refl, ◌∙◌, ap, arith, length-append, subst}
+-- What was begun with a request that its volume served.
+use Rattle.std.proofs.Common.{◌≡◌, inl, ℕ, ◌+◌, true, List, [], ◌∷◌, length, map, Some, refl, ◌∙◌, ap, arith, length-append, subst}
 use Rattle.std.specs.Prelude.{Ok}
 use Rattle.device.specs.Layers.{Layer}
 use Rattle.plain_machine.specs.Kept.{kept}
@@ -30,13 +30,8 @@ use Rattle.volume.specs.declared.at_once.Served.TheVariants.{Answered, InFlight 
 use Rattle.volume.proofs.Quieted.{quiet_flights}
 use Rattle.volume.proofs.Reaches.{reaches_more, reaches_none}
 use Rattle.volume_commands.specs.AtRest.{IsBegun, IsEntered}
-use Rattle.volume_commands.specs.Places.{HasPlaces, counted_with, kept_for_marks}
-use Rattle.volume_commands.specs.TakesPlaces.{TakesByRequests}
-use Rattle.volume_commands.proofs.AtRest.{done_none, done_one, due_is}
-use Rattle.volume_commands.proofs.Earns.{stepped_many}
-use Rattle.volume_commands.proofs.Fewer.{accepted_have, stepped_have}
-use Rattle.volume_commands.proofs.Freed.{beside_due}
-use Rattle.volume_commands.proofs.Takings.{accepted_takes, done_takes, stepped_takes, takes_then}
+use Rattle.counted_volume.proofs.DoneDue.{done_none, done_one, due_is}
+use Rattle.counted_volume.proofs.Freed.{beside_due}
 
 -- one run after another
 pub reaches_then : (m w u : Moving) → Reaches m w → Reaches w u → Reaches m u
@@ -57,21 +52,6 @@ accepted_busy contents layers request number v w is quiet =
     omega (arith, none, some, long)
 
 module _ {B : Type 0} (holds : B → ℕ → List ℕ → Type 0) (contents : B → List ℕ) (layers : B → List Layer) (size faults done : B → ℕ) (request : Request) (v w : Volumed B) where
-  module _ (places : ℕ) (room : places + kept_for_marks v + 1 ≤ 65_536) where
-    pub served_have : (served : Served) → DoesServe holds contents layers size faults done request (Ok served) v w → HasPlaces v places → HasPlaces w (places + 1)
-    served_have (IsInFlight n) does have = accepted_have v w contents layers request n places does.ok room have
-    served_have (Answered n reply) does have =
-        stepped_have does.mid w faults (Issue n) (Replied n reply) (places + 1) does.steps.flown does.steps.cause does.steps.overflows (stepped_many does.mid w size does.steps.kept does.steps.counts.0)
-        (accepted_have v does.mid contents layers request n places does.submits.ok room have)
-
-    accepted_by : (n : ℕ) (u : Volumed B) → IsAcceptedAs contents layers request n v u → TakesByRequests (counted_with v places) (counted_with u (places + 1))
-    accepted_by n u is = accepted_takes (counted_with v places) (counted_with u (places + 1)) contents layers request n is (done_takes 1 places (places + 1) (kept_for_marks v) kept_for_marks v u n refl room (omega arith))
-
-    pub served_takes : (served : Served) → DoesServe holds contents layers size faults done request (Ok served) v w → TakesByRequests (counted_with v places) (counted_with w (places + 1))
-    served_takes (IsInFlight n) does = accepted_by n w does.ok
-    served_takes (Answered n reply) does = takes_then (counted_with v places) (counted_with does.mid (places + 1)) (counted_with w (places + 1)) (accepted_by n does.mid does.submits.ok)
-        (stepped_takes does.mid w holds contents layers size faults done (Issue n) (places + 1) (Ok (Replied n reply)) does.steps)
-
   -- what it does by what became of the request
   pub flying_is : (number : ℕ) (served : Served) → served ≡ IsInFlight number → DoesServe holds contents layers size faults done request (Ok served) v w → DoesSubmit contents layers size request (Ok number) v w
   flying_is number served is does = subst (λ (s : Served). DoesServe holds contents layers size faults done request (Ok s) v w) is does

@@ -8,7 +8,6 @@ use Rattle.device.specs.Layers.{Layer}
 use Rattle.chunk.specs.Pieces.{Span}
 use Rattle.plain_machine.specs.Failures.{refusal_of}
 use Rattle.plain_machine.specs.Kept.{kept, kept_range}
-use Rattle.plain_machine.specs.Legal.{IsLegalStep}
 use Rattle.plain_machine.specs.Plain.{InFlight, asked_under, without}
 use Rattle.plain_machine.specs.declared.event.Event.{Event}
 use Rattle.plain_machine.specs.declared.event.Event.TheVariants.{Issue, CopyRead, CopyWrite, ZeroNext, WriteArea, Publish, WriteInvalid, FlushStore, MergeGroup, MergeAreaRead, MergeRead, MergeWrite, MergeFlush, MergeCommit, MergeRelease}
@@ -25,14 +24,13 @@ use Rattle.in_flight.specs.Kinds.{in_flight}
 use Rattle.in_flight.specs.Routes.{refused_of}
 use Rattle.in_flight.specs.declared.flights.Flight.{Flight}
 use Rattle.big_steps.specs.Refusals.{IsStarved, is_starved}
-use Rattle.volume.specs.Causes.{HasCause}
-use Rattle.volume.specs.Exact.{IsExact}
 use Rattle.volume.specs.Flying.{Fits, IsFlown, IsTakenOut}
 use Rattle.volume.specs.Leaving.{is_quiet_of}
 use Rattle.volume.specs.Submitting.{IsRefusedAs}
-use Rattle.volume.specs.Volumed.{Volumed, is_due_of, is_loud_in_all, plain_of}
+use Rattle.volume.specs.Volumed.{Volumed}
 use Rattle.volume_commands.specs.Among.{IsRequestOf}
-use Rattle.volume_commands.specs.AtRest.{AreDone, AreDoneDue, IsAnswered, IsDoneDue, IsEntered, IsPieceAnswered, IsPieceUndone, last_told, told_by}
+use Rattle.counted_volume.specs.DoneDue.{AreDone, AreDoneDue, last_told, told_by}
+use Rattle.volume_commands.specs.AtRest.{IsAnswered, IsEntered, IsPieceAnswered, IsPieceUndone}
 use Rattle.volume_commands.specs.Serving.{IsGood}
 
 -- an event that does not reply leaves which requests are in flight
@@ -101,39 +99,11 @@ kept_fits Flush range Written f = f
 kept_fits Flush range Flushed f = f
 kept_fits Flush range (Refused failure) f = f
 
-last_joined : (before : Reply) (xs ys : List (Event × Outcome)) → last_told before (xs ++ ys) ≡ last_told (last_told before xs) ys
-last_joined before [] ys = refl
-last_joined before (x ∷ xs) ys = last_joined (told_by x.1 before) xs ys
-
 -- a volume that was quiet is as it was while no event is done
 pub still_never : {B : Type 0} (old v w : Volumed B) → (is_quiet_of old ≡ true → v ≡ old) → is_quiet_of v ≡ false → is_quiet_of old ≡ true → w ≡ old
 still_never {B} old v w still busy quiet = absurd (true≢false (sym (ap (λ (x : Volumed B). is_quiet_of x) (still quiet) ∙ quiet) ∙ busy))
 
 module _ {B : Type 0} (contents : B → List ℕ) (layers : B → List Layer) (faults size : B → ℕ) where
-  chain_joined : (xs ys : List (Event × Outcome)) (u v w : Volumed B) → AreDoneDue contents layers faults xs u v → AreDoneDue contents layers faults ys v w → AreDoneDue contents layers faults (xs ++ ys) u w
-  chain_joined [] ys u v w same rest = subst (λ (x : Volumed B). AreDoneDue contents layers faults ys x w) same rest
-  chain_joined (x ∷ xs) ys u v w chain rest = (chain.0, chain.1, chain_joined xs ys chain.0 v w chain.2 rest)
-
-  -- an event that was due was done
-  pub due_is : (event : Event) (outcome told : Outcome) (v w : Volumed B) → true ≡ is_due_of contents layers v event → outcome ≡ told → IsExact contents layers event outcome v w
-      → (is_loud_in_all layers v ≡ true → IsLegalStep (plain_of contents layers v) event outcome (plain_of contents layers w)) → IsFlown event outcome (map in_flight v.flights) (map in_flight w.flights) → HasCause faults event outcome v w → w.requests ≡ v.requests → IsDoneDue contents layers faults event told v w
-  due_is event outcome told v w due is exact legal flown cause requests =
-      subst (λ (o : Outcome). IsDoneDue contents layers faults event o v w) is (record { due = sym due; exact = exact; legal = legal; flown = flown; cause = cause; requests = requests })
-
-  -- none was done, one, or some and then others
-  pub done_none : (reply : Reply) (v : Volumed B) → AreDone contents layers faults reply reply v v
-  done_none reply v = record { done = []; chain = refl; reply_is = refl }
-
-  pub done_one : (before : Reply) (event : Event) (outcome : Outcome) (v w : Volumed B) → IsDoneDue contents layers faults event outcome v w → AreDone contents layers faults before (told_by outcome before) v w
-  done_one before event outcome v w did = record { done = (event, outcome) ∷ []; chain = (w, did, refl); reply_is = refl }
-
-  pub done_then : (before now after : Reply) (u v w : Volumed B) → AreDone contents layers faults before now u v → AreDone contents layers faults now after v w → AreDone contents layers faults before after u w
-  done_then before now after u v w a b = record {
-    done = a.done ++ b.done;
-    chain = chain_joined a.done b.done u v w a.chain b.chain;
-    reply_is = b.reply_is ∙ ap (λ (r : Reply). last_told r b.done) a.reply_is ∙ sym (last_joined before a.done b.done);
-  }
-
   -- the last reply is one to that request
   all_fit : (own : InFlight) (before : Reply) (done : List (Event × Outcome)) (old new : Volumed B) → AtMost own (map in_flight old.flights) → AreDoneDue contents layers faults done old new → Fits own.request.op own.request.range before
       → Fits own.request.op own.request.range (last_told before done)

@@ -14,7 +14,7 @@ use Rattle.volume_commands.specs.Rested.{rested_of, settled_of, merged_of, IsSet
 use Rattle.volume_commands.specs.Kept.{KeepsDevices}
 use Rattle.volume_commands.specs.Between.{IsBetween}
 use Rattle.volume_commands.proofs.Seen.{settled_same, loud_same, length_kept}
-use Rattle.volume_commands.proofs.Refusing.{room_quiet}
+use Rattle.counted_volume.proofs.Refusing.{room_quiet}
 
 module _ {B : Type 0} (contents : B → List ℕ) (layers : B → List Layer) where
   -- without the last reply it is the settled machine's volume, with its merge

@@ -39,7 +39,7 @@ use Rattle.volume_commands.proofs.MergeArrays.{begun_shows, finished_shows, resu
 use Rattle.volume_commands.proofs.MergeBegun.{begun_as, begun_merged, begun_quiet, not_begun_as, not_begun_quiet}
 use Rattle.volume_commands.proofs.MergeFinished.{taken_out_as, taken_out_disk, taken_out_merged, taken_out_quiet, taken_out_settles, unfinished_as}
 use Rattle.volume_commands.proofs.MergeResumed.{resumed_flying, resumed_kept, resumed_merged, resumed_quiet, resumed_requests}
-use Rattle.volume_commands.proofs.Refusing.{refused_quiet, refused_requests}
+use Rattle.counted_volume.proofs.Refusing.{refused_quiet, refused_requests}
 use Rattle.volume_commands.proofs.Seen.{devices_kept, devices_none, loud_same, merged_still}
 use Rattle.volume_commands.proofs.Takes.{attached_seen, back_seen, refused_at, taken_alone, taken_as, taken_quiet, taken_settles, untaken}
 

@@ -19,15 +19,16 @@ use Rattle.volume.specs.Leaving.{has_group_in, is_quiet_of}
 use Rattle.volume.specs.Moved.{moving_of}
 use Rattle.volume.specs.Stepping.{KeepsAll}
 use Rattle.volume.specs.Volumed.{Volumed, is_loud_in_all}
-use Rattle.volume_commands.specs.AtRest.{AreDone, told_by}
-use Rattle.volume_commands.specs.Following.{GoesOn, IsDoneHere, IsReadFirst, grouped, is_done}
-use Rattle.volume_commands.specs.Places.{Counted}
-use Rattle.volume_commands.specs.TakesPlaces.{TakesByRequests}
-use Rattle.volume_commands.proofs.AtRest.{done_one, done_then, still_never}
-use Rattle.volume_commands.proofs.Freed.{beside_due, beside_steps}
-use Rattle.volume_commands.proofs.Runs.{RunsBeside, beside_more}
-use Rattle.volume_commands.proofs.Settled.{keeps_more}
-use Rattle.volume_commands.proofs.Takings.{takes_then}
+use Rattle.counted_volume.specs.DoneDue.{AreDone, told_by}
+use Rattle.counted_volume.specs.Following.{GoesOn, IsDoneHere, IsReadFirst, grouped, is_done}
+use Rattle.counted_volume.specs.Places.{Counted}
+use Rattle.counted_volume.specs.TakesPlaces.{TakesByRequests}
+use Rattle.counted_volume.proofs.DoneDue.{done_one, done_then}
+use Rattle.volume_commands.proofs.AtRest.{still_never}
+use Rattle.counted_volume.proofs.Freed.{beside_due, beside_steps}
+use Rattle.counted_volume.proofs.Runs.{RunsBeside, beside_more}
+use Rattle.counted_volume.proofs.Settled.{keeps_more}
+use Rattle.counted_volume.proofs.Takings.{takes_then}
 
 -- the last reply is told in two ways
 told_replied : (outcome : Outcome) (before : Reply) → replied_by outcome (Some before) ≡ Some (told_by outcome before)

@@ -27,7 +27,7 @@ use Rattle.volume.specs.Moved.{merge_seen, moving_of}
 use Rattle.volume.specs.Reaching.{IsRunAll}
 use Rattle.volume.specs.Volumed.{Volumed, is_loud_in_all}
 use Rattle.volume.proofs.Reaches.{run_none_all, run_more_all, run_merges}
-use Rattle.volume_commands.specs.Following.{IsStep}
+use Rattle.counted_volume.specs.Following.{IsStep}
 use Rattle.volume_commands.specs.Rested.{rested_of, merged_of, IsSettled}
 use Rattle.volume_commands.proofs.Rooms.{none_fly, none_told}
 use Rattle.volume_commands.proofs.Seen.{loud_same, merged_same}

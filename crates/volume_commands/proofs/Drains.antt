@@ -1,5 +1,5 @@
 -- One event more is done.
-use Rattle.std.proofs.Common.{◌≡◌, ◌≢◌, inl, inr, ℕ, ◌+◌, ◌≤◌, Bool, true, false, List, [], ◌∷◌, ◌++◌, length, map, Option, Some, refl, sym, ◌∙◌, ap, subst, arith}
+use Rattle.std.proofs.Common.{◌≡◌, ◌≢◌, inl, inr, ℕ, ◌+◌, ◌≤◌, Bool, true, false, List, [], ◌∷◌, ◌++◌, length, refl, sym, ◌∙◌, ap, subst, arith}
 use Rattle.std.specs.Prelude.{◌==◌, ◌&&◌, ◌||◌, not, if◌then◌else◌}
 use Rattle.std.proofs.lemmas.Bool.{cases_Bool, cond-true, cond-false, eq-eqb, ne_eqb}
 use Rattle.std.proofs.lemmas.List.{append_assoc, append-nil}
@@ -10,21 +10,15 @@ use Rattle.plain_machine.specs.declared.event.Outcome.TheVariants.{Reply as Answ
 use Rattle.plain_machine.specs.declared.request.Reply.{Reply}
 use Rattle.plain_machine.specs.declared.request.Reply.TheVariants.{Refused}
 use Rattle.plain_machine.specs.declared.request.Failure.TheVariants.{Invalid}
-use Rattle.in_flight.specs.Kinds.{in_flight}
-use Rattle.plain_machine.specs.Legal.{IsLegalStep}
-use Rattle.event_machine.specs.MergeDue.{due_all}
-use Rattle.volume.specs.Volumed.{Volumed, is_loud_in_all, next_of, plain_of}
+use Rattle.volume.specs.Volumed.{Volumed, is_loud_in_all}
 use Rattle.volume.specs.EventKinds.{is_of_merge}
-use Rattle.volume.specs.Causes.{HasCause}
-use Rattle.volume.specs.Exact.{IsExact}
-use Rattle.volume.specs.Flying.{IsFlown}
-use Rattle.volume.specs.Moved.{moving_of}
 use Rattle.volume.specs.Stepping.{KeepsAll}
 use Rattle.plain_machine.specs.declared.request.Replied.{Replied}
 use Rattle.plain_machine.specs.Replies.{reply_in}
-use Rattle.volume_commands.specs.Draining.{IsDoneFirst, IsChain, IsDrained, IsDrainedApart, IsAnsweredAmong, replied_in, others, reply_to, tells, is_lazy, are_apart}
-use Rattle.volume_commands.specs.Following.{IsStep}
-use Rattle.volume_commands.proofs.Settled.{keeps_none, keeps_more}
+use Rattle.counted_volume.specs.DoneDue.{IsDoneFirst}
+use Rattle.volume_commands.specs.Draining.{IsChain, IsDrained, IsDrainedApart, IsAnsweredAmong, replied_in, others, reply_to, tells, is_lazy, are_apart}
+use Rattle.counted_volume.specs.Following.{IsStep}
+use Rattle.counted_volume.proofs.Settled.{keeps_none, keeps_more}
 use Rattle.volume_commands.proofs.Rooms.{room_left}
 
 replied_more : (done : List (Event × Outcome)) (event : Event) (outcome : Outcome) → replied_in (done ++ (event, outcome) ∷ []) ≡ replied_in done ++ reply_in outcome
@@ -117,12 +111,6 @@ module _ {B : Type 0} (contents : B → List ℕ) (layers : B → List Layer) (f
   chain_more : (done : List (Event × Outcome)) (old mid new : Volumed B) (event : Event) (outcome : Outcome) → IsChain contents layers faults done old mid → IsDoneFirst contents layers faults event outcome mid new → IsChain contents layers faults (done ++ (event, outcome) ∷ []) old new
   chain_more [] old mid new event outcome same next = (new, subst (λ (v : Volumed B). IsDoneFirst contents layers faults event outcome v new) same next, refl)
   chain_more (x ∷ done) old mid new event outcome chain next = (chain.0, chain.1, chain_more done chain.0 mid new event outcome chain.2 next)
-
-  pub step_is : (event : Event) (outcome told : Outcome) (v w : Volumed B) → Some event ≡ next_of contents layers v → ((replied : Option Reply) → due_all (moving_of contents layers replied v) ≡ Some event) → outcome ≡ told
-      → IsExact contents layers event outcome v w → (is_loud_in_all layers v ≡ true → IsLegalStep (plain_of contents layers v) event outcome (plain_of contents layers w))
-      → KeepsAll size v w → is_loud_in_all layers w ≡ is_loud_in_all layers v → w.requests ≡ v.requests → IsFlown event outcome (map in_flight v.flights) (map in_flight w.flights) → HasCause faults event outcome v w → IsStep contents layers faults size event told v w
-  step_is event outcome told v w first due is exact legal kept loud requests flown cause =
-      subst (λ (o : Outcome). IsStep contents layers faults size event o v w) is (record { done = record { first = sym first; exact = exact; legal = legal; flown = flown; cause = cause }; due = due; kept = kept; loud = loud; requests = requests; flown = flown })
 
   -- what events leave as it is
   pub record KeepsCounts (old new : Volumed B) : Type 0 where

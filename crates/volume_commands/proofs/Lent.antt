@@ -12,19 +12,14 @@ use Rattle.volume.specs.Lent.{is_bare, origin_write}
 use Rattle.volume.specs.Submitting.{submit_refusal}
 use Rattle.volume.specs.Volumed.{Volumed}
 use Rattle.volume.proofs.Bare.{bare}
-use Rattle.volume_commands.specs.Declined.{IsUnsent}
+use Rattle.counted_volume.specs.Declined.{IsUnsent}
 use Rattle.volume_commands.specs.Kept.{KeepsDevices}
-use Rattle.volume_commands.specs.Places.{kept_for_marks}
 use Rattle.volume_commands.specs.Rested.{rested_of}
 use Rattle.volume.specs.Asking.{merging_number}
 use Rattle.volume_commands.specs.Serving.{CanServe}
 use Rattle.volume_commands.proofs.Limits.{later_none}
 
 module _ {B : Type 0} (v : Volumed B) (is : is_bare v ≡ true) where
-  -- no place is kept for a mark
-  pub no_marks : kept_for_marks v ≡ 0
-  no_marks = (let none = (bare v is).none in rw none refl)
-
   never : (m : Option (Merging B)) → m ≡ None → (number : ℕ) → merging_number m ≡ Some number → ⊥
   never m alone number e = (let other : None ≡ Some number = sym (ap merging_number alone) ∙ e in cc)
 

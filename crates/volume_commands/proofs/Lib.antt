@@ -1,4 +1,3 @@
-pub mod Settled
 pub mod Quiet
 pub mod WriteRuns
 pub mod Begun
@@ -13,7 +12,6 @@ pub mod Amongs
 pub mod AmongRuns
 pub mod AtRest
 pub mod RestRuns
-pub mod Refusing
 pub mod Between
 pub mod ReadRuns
 pub mod Going
@@ -42,27 +40,13 @@ pub mod Flying
 pub mod Others
 pub mod Rooms
 pub mod Drained
-pub mod MergeFollows
-pub mod Freed
-pub mod Follows
-pub mod Carried
-pub mod Unmarked
-pub mod NextRead
-pub mod OnlyCopies
-pub mod Carrying
-pub mod Runs
 pub mod Shown
 pub mod Ordered
 pub mod MergeArrays
 pub mod MergeGoes
-pub mod Flown
-pub mod Earns
-pub mod Fewer
-pub mod Full
-pub mod Takings
-pub mod JournalGoing
 pub mod Doing
-pub mod DueTold
 pub mod CallsSeen
 pub mod LayersChanged
 mod AtOnce
+pub mod MergeDrains
+pub mod Starving

@@ -9,7 +9,7 @@ use Rattle.plain_machine.specs.declared.event.Outcome.{Outcome}
 use Rattle.plain_machine.specs.declared.event.Outcome.TheVariants.{Reply as Answered}
 use Rattle.plain_machine.specs.declared.request.Reply.{Reply}
 use Rattle.volume.specs.Flying.{IsFlown}
-use Rattle.volume_commands.proofs.Flown.{fewer_fly}
+use Rattle.counted_volume.proofs.Flown.{fewer_fly}
 
 none_left : {X : Type 0} (xs : List X) → length xs ≤ 0 → xs ≡ []
 none_left [] few = refl

@@ -1,13 +1,10 @@
 -- A read, a write or a flush of a volume in which nothing is in flight, whichever device drops writes: the request of each piece is
 -- submitted, and events that are due are done until nothing is left to do, before the next. This project's own.
-use Rattle.std.specs.Prelude.{◌≡◌, ◌⊎◌, ℕ, ◌*◌, true, List, [], ◌∷◌, ◌++◌, Some, map, take, drop}
+use Rattle.std.specs.Prelude.{◌≡◌, ◌⊎◌, ℕ, ◌*◌, true, List, [], ◌∷◌, ◌++◌, Some, take, drop}
 use Rattle.sector.specs.declared.refusal.Refusal.{Refusal}
 use Rattle.sector.specs.declared.refusal.Refusal.TheVariants.{NoMemory}
 use Rattle.device.specs.Layers.{Layer}
 use Rattle.chunk.specs.Pieces.{Span}
-use Rattle.plain_machine.specs.declared.event.Event.{Event}
-use Rattle.plain_machine.specs.declared.event.Outcome.{Outcome}
-use Rattle.plain_machine.specs.declared.event.Outcome.TheVariants.{Reply as Replies, Done, Fault}
 use Rattle.plain_machine.specs.declared.request.Dev.{Dev}
 use Rattle.plain_machine.specs.declared.request.Op.{Op}
 use Rattle.plain_machine.specs.declared.request.Op.TheVariants.{Read, Write, Flush}
@@ -17,52 +14,18 @@ use Rattle.plain_machine.specs.declared.request.Failure.{Failure}
 use Rattle.plain_machine.specs.declared.request.Failure.TheVariants.{Invalid}
 use Rattle.plain_machine.specs.declared.request.Request.{Request}
 use Rattle.plain_machine.specs.Failures.{refusal_of}
-use Rattle.plain_machine.specs.Legal.{IsLegalStep}
-use Rattle.in_flight.specs.Kinds.{in_flight}
 use Rattle.event_machine.specs.Submitting.{submitted}
 use Rattle.big_steps.specs.Commands.{bytes_in}
 use Rattle.big_steps.specs.Refusals.{IsStarved, is_starved}
-use Rattle.volume.specs.Causes.{HasCause}
-use Rattle.volume.specs.Exact.{IsExact}
-use Rattle.volume.specs.Flying.{Fits, IsFlown}
+use Rattle.volume.specs.Flying.{Fits}
 use Rattle.volume.specs.Leaving.{is_quiet_of}
 use Rattle.volume.specs.Moved.{moving_of}
 use Rattle.volume.specs.Reaching.{IsRun}
 use Rattle.volume.specs.Submitting.{IsAcceptedAs, IsRefusedAs}
-use Rattle.volume.specs.Volumed.{Volumed, is_due_of, is_loud_in_all, plain_of}
+use Rattle.volume.specs.Volumed.{Volumed, is_loud_in_all}
 use Rattle.volume_commands.specs.Among.{IsRequestOf, flush_piece, sectors_of}
 use Rattle.volume_commands.specs.Serving.{IsGood}
-
--- An event that was due was done, with this outcome: it replies to a request in flight or to none, each reply and each fault has its
--- cause, and no request is numbered.
-pub record IsDoneDue {B : Type 0} (contents : B → List ℕ) (layers : B → List Layer) (faults : B → ℕ) (event : Event) (outcome : Outcome) (old new : Volumed B) : Type 0 where
-  pub due : is_due_of contents layers old event ≡ true
-  pub exact : IsExact contents layers event outcome old new
-  pub legal : is_loud_in_all layers old ≡ true → IsLegalStep (plain_of contents layers old) event outcome (plain_of contents layers new)
-  pub flown : IsFlown event outcome (map in_flight old.flights) (map in_flight new.flights)
-  pub cause : HasCause faults event outcome old new
-  pub requests : new.requests ≡ old.requests
-
--- these events were done, in this order
-abbrev pub AreDoneDue : {B : Type 0} → (B → List ℕ) → (B → List Layer) → (B → ℕ) → List (Event × Outcome) → Volumed B → Volumed B → Type 0
-AreDoneDue contents layers faults [] old new = new ≡ old
-AreDoneDue contents layers faults (x ∷ xs) old new = (mid : Volumed _) × IsDoneDue contents layers faults x.0 x.1 old mid × AreDoneDue contents layers faults xs mid new
-
--- the reply that an outcome is, or else the one that was given before; and the last of some
-abbrev pub told_by : Outcome → Reply → Reply
-told_by (Replies number reply) before = reply
-told_by Done before = before
-told_by Fault before = before
-
-abbrev pub last_told : Reply → List (Event × Outcome) → Reply
-last_told before [] = before
-last_told before (x ∷ done) = last_told (told_by x.1 before) done
-
--- Events were done, and this is the last reply of them, or the one that was given before.
-pub record AreDone {B : Type 0} (contents : B → List ℕ) (layers : B → List Layer) (faults : B → ℕ) (before after : Reply) (old new : Volumed B) : Type 0 where
-  pub done : List (Event × Outcome)
-  pub chain : AreDoneDue contents layers faults done old new
-  pub reply_is : after ≡ last_told before done
+use Rattle.counted_volume.specs.DoneDue.{AreDone}
 
 -- a request was accepted, and will be answered; or it was refused as one that failed
 abbrev pub IsEntered : {B : Type 0} → (B → List ℕ) → (B → List Layer) → (B → ℕ) → Request → Failure → Volumed B → Volumed B → Type 0

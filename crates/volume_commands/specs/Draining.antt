@@ -1,31 +1,18 @@
 -- Requests that end while others are in flight: events are done one after another, each the one that is due first. What one
 -- event does is said where events are (`volume`). This project's own.
-use Rattle.std.specs.Prelude.{◌≡◌, ◌==◌, ◌&&◌, ◌||◌, not, ℕ, Bool, true, false, List, [], ◌∷◌, ◌++◌, map, Option, Some, None, if◌then◌else◌}
+use Rattle.std.specs.Prelude.{◌≡◌, ◌==◌, ◌&&◌, ◌||◌, not, ℕ, Bool, true, false, List, [], ◌∷◌, ◌++◌, Option, Some, None, if◌then◌else◌}
 use Rattle.device.specs.Layers.{Layer}
 use Rattle.plain_machine.specs.declared.event.Event.{Event}
 use Rattle.plain_machine.specs.declared.event.Outcome.{Outcome}
 use Rattle.plain_machine.specs.declared.event.Outcome.TheVariants.{Reply as Replies, Done, Fault}
-use Rattle.in_flight.specs.Kinds.{in_flight}
-use Rattle.volume.specs.Causes.{HasCause}
 use Rattle.volume.specs.EventKinds.{is_of_merge}
 use Rattle.plain_machine.specs.declared.request.Reply.{Reply}
 use Rattle.plain_machine.specs.declared.request.Reply.TheVariants.{Refused}
 use Rattle.plain_machine.specs.declared.request.Failure.TheVariants.{Invalid}
-use Rattle.plain_machine.specs.Legal.{IsLegalStep}
 use Rattle.plain_machine.specs.Replies.{reply_in}
-use Rattle.volume.specs.Volumed.{Volumed, is_loud_in_all, next_of, plain_of}
-use Rattle.volume.specs.Exact.{IsExact}
-use Rattle.volume.specs.Flying.{IsFlown}
+use Rattle.volume.specs.Volumed.{Volumed, next_of}
 use Rattle.plain_machine.specs.declared.request.Replied.{Replied}
-
--- The event that was due first was done, with this outcome: whichever device drops writes, it replies to a request in flight or to
--- none, and each reply and each fault has its cause.
-pub record IsDoneFirst {B : Type 0} (contents : B → List ℕ) (layers : B → List Layer) (faults : B → ℕ) (event : Event) (outcome : Outcome) (old new : Volumed B) : Type 0 where
-  pub first : next_of contents layers old ≡ Some event
-  pub exact : IsExact contents layers event outcome old new
-  pub legal : is_loud_in_all layers old ≡ true → IsLegalStep (plain_of contents layers old) event outcome (plain_of contents layers new)
-  pub flown : IsFlown event outcome (map in_flight old.flights) (map in_flight new.flights)
-  pub cause : HasCause faults event outcome old new
+use Rattle.counted_volume.specs.DoneDue.{IsDoneFirst}
 
 -- these events were done, in this order
 abbrev pub IsChain : {B : Type 0} → (B → List ℕ) → (B → List Layer) → (B → ℕ) → List (Event × Outcome) → Volumed B → Volumed B → Type 0

@@ -10,17 +10,11 @@ pub mod Unread
 pub mod Telling
 pub mod Showing
 pub mod Draining
-pub mod Following
 pub mod Among
 pub mod AtRest
 pub mod Flying
 pub mod Merging
 pub mod Ordered
-pub mod Places
-pub mod TakesPlaces
-pub mod Declined
-pub mod GoingOn
-pub mod Trace
 pub mod SeesAttach
 pub mod SeesDetach
 pub mod SeesBeginMerge

@@ -1,6 +1,6 @@
 -- A volume by whole commands, and how many places of its journal are taken. This project's own.
 use Rattle.std.specs.Prelude.{ℕ}
-use Rattle.volume_commands.specs.Places.{Counted}
+use Rattle.counted_volume.specs.Places.{Counted}
 use Rattle.volume_commands.specs.Rested.{Rested}
 
 pub record Recorded (B : Type 0) : Type 0 where

@@ -6,12 +6,13 @@ ghost use Rattle.volume_commands.specs.Rested.{rested_of};
 ghost use Rattle.volume_commands.specs.Kept.{KeepsDevices};
 ghost use Rattle.volume_commands.specs.Draining.{IsDrainedApart, is_idle_of};
 ghost use Rattle.volume_commands.specs.Among.{is_live_dev, IsServedAmong, IsRefusedAmong};
-ghost use Rattle.volume_commands.specs.Places.{is_full_for};
-ghost use Rattle.volume_commands.specs.TakesPlaces.{TakesByRequests};
+ghost use Rattle.counted_volume.specs.Places.{is_full_for};
+ghost use Rattle.counted_volume.specs.TakesPlaces.{TakesByRequests};
 
+use crate::Replied;
 use crate::draining::{drain_apart, drain_for};
 use crate::serving::look;
-use crate::{CountedVolume, Replied};
+use counted_volume::CountedVolume;
 use in_flight::MAX_REQUESTS;
 use layers::Layered;
 use plain_machine::{Dev, Reply, Request};

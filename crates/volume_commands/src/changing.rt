@@ -7,14 +7,14 @@ ghost use Rattle.volume.specs.DoesAttach.{DoesAttach};
 ghost use Rattle.volume.specs.DoesDetach.{DoesDetach};
 ghost use Rattle.volume.specs.Leaving.{is_quiet_of};
 ghost use Rattle.volume.specs.Submitting.{is_merging};
-ghost use Rattle.volume_commands.specs.Declined.{IsUnattached};
+ghost use Rattle.counted_volume.specs.Declined.{IsUnattached};
 ghost use Rattle.volume_commands.specs.Flying.{IsWhole};
 ghost use Rattle.volume_commands.specs.Rested.{Attached, has_dev, snap_at};
 ghost use Rattle.volume_commands.specs.SeesAttach.{SeesAttach};
 ghost use Rattle.volume_commands.specs.SeesDetach.{SeesDetach};
-ghost use Rattle.volume_commands.specs.Places.{kept_for_snaps};
+ghost use Rattle.counted_volume.specs.Places.{kept_for_snaps};
 ghost use Rattle.volume_commands.specs.Recorded.{counted_in};
-ghost use Rattle.volume_commands.specs.TakesPlaces.{TakesPlaces, reason_of};
+ghost use Rattle.counted_volume.specs.TakesPlaces.{TakesPlaces, reason_of};
 ghost use Rattle.audit.specs.PlacesTaken.{places_for};
 
 use crate::Resting;

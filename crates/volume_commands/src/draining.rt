@@ -9,10 +9,10 @@ ghost use Rattle.volume_commands.specs.Kept.{KeepsDevices};
 ghost use Rattle.volume_commands.specs.Showing.{arrays_in, IsGoneOn};
 ghost use Rattle.volume_commands.specs.Draining.{IsDrained, IsDrainedApart, IsAnsweredAmong, is_idle_of};
 ghost use Rattle.volume_commands.specs.Recorded.{counted_in};
-ghost use Rattle.volume_commands.specs.TakesPlaces.{TakesByRequests};
+ghost use Rattle.counted_volume.specs.TakesPlaces.{TakesByRequests};
 
-use crate::following_merge::follow_merge;
-use crate::{CountedVolume, Replied, Resting};
+use crate::{Replied, Resting};
+use counted_volume::{CountedVolume, follow_merge};
 use layers::Layered;
 use plain_machine::{Failure, NotDue, Outcome, Reply, ReqId};
 use sector::Refusal;

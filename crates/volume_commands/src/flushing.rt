@@ -13,13 +13,14 @@ ghost use Rattle.volume_commands.specs.Showing.{arrays_in, IsPlainFlush, IsPlain
 ghost use Rattle.volume_commands.specs.AtRest.{IsFlushDone, IsFlushUndone};
 ghost use Rattle.volume_commands.specs.Among.{IsFlushedAmong, IsFlushRefusedAmong, IsPieceFailed, IsRequestOf, flush_piece};
 ghost use Rattle.sector.specs.declared.refusal.Refusal.TheVariants.{JournalFull};
-ghost use Rattle.volume_commands.specs.Places.{is_full_for};
+ghost use Rattle.counted_volume.specs.Places.{is_full_for};
 ghost use Rattle.volume_commands.specs.Recorded.{counted_in};
-ghost use Rattle.volume_commands.specs.TakesPlaces.{TakesByRequests};
+ghost use Rattle.counted_volume.specs.TakesPlaces.{TakesByRequests};
 
 use crate::among::serve_among;
 use crate::serving::{is_there, look, serve};
-use crate::{CountedVolume, Replied, Resting, refusal_for};
+use crate::{Replied, Resting, refusal_for};
+use counted_volume::CountedVolume;
 use layers::Layered;
 use plain_machine::{Dev, Op, Reply, Request};
 use sector::{Range, Refusal};

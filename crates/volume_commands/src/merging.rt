@@ -12,9 +12,9 @@ ghost use Rattle.volume_commands.specs.Flying.{IsWhole};
 ghost use Rattle.volume_commands.specs.SeesBeginMerge.{SeesBeginMerge};
 ghost use Rattle.volume_commands.specs.SeesFinishMerge.{SeesFinishMerge};
 ghost use Rattle.volume_commands.specs.SeesResumeMerge.{SeesResumeMerge};
-ghost use Rattle.volume_commands.specs.Places.{kept_for_snaps};
+ghost use Rattle.counted_volume.specs.Places.{kept_for_snaps};
 ghost use Rattle.volume_commands.specs.Recorded.{counted_in};
-ghost use Rattle.volume_commands.specs.TakesPlaces.{TakesPlaces};
+ghost use Rattle.counted_volume.specs.TakesPlaces.{TakesPlaces};
 
 use crate::Resting;
 use chunk_alloc::Usage;

@@ -7,10 +7,11 @@ ghost use Rattle.volume_commands.specs.Rested.{rested_of};
 ghost use Rattle.audit.specs.PlacesTaken.{places_of};
 ghost use Rattle.audit.specs.Noted.{kept_count, mays_of};
 ghost use Rattle.volume.specs.Causes.{lives_of};
-ghost use Rattle.volume_commands.specs.Places.{kept_for_marks, kept_free};
+ghost use Rattle.counted_volume.specs.Places.{kept_for_marks, kept_free};
 
-use crate::{CountedVolume, Resting};
+use crate::Resting;
 use audit::Audit;
+use counted_volume::CountedVolume;
 use layers::Layered;
 use plain_machine::ReqId;
 use sector::Refusal;

@@ -13,13 +13,13 @@ ghost use Rattle.volume_commands.specs.Among.{pieces_among};
 ghost use Rattle.volume_commands.specs.AtRest.{AreReadAtRest, AreWrittenAtRest, IsReadUndone, IsWriteCut};
 ghost use Rattle.volume_commands.specs.Commands.{IsDoneBy, IsWriteRefused, IsReadRefused};
 ghost use Rattle.volume_commands.specs.Showing.{arrays_in, pieces_for, IsPlainRead, IsPlainReadRefused, IsPlainWrite, IsPlainWriteRefused};
-ghost use Rattle.volume_commands.specs.Places.{is_full_for};
+ghost use Rattle.counted_volume.specs.Places.{is_full_for};
 ghost use Rattle.volume_commands.specs.Recorded.{counted_in};
-ghost use Rattle.volume_commands.specs.TakesPlaces.{TakesByRequests};
+ghost use Rattle.counted_volume.specs.TakesPlaces.{TakesByRequests};
 
-use crate::CountedVolume;
 use crate::pieces::{read_pieces, write_pieces};
 use crate::serving::{is_there, look};
+use counted_volume::CountedVolume;
 use layers::Layered;
 use plain_machine::Dev;
 use sector::{Buf, Range, Refusal};

@@ -4,10 +4,10 @@ use Rattle.plain_machine.specs.declared.request.Replied.{Replied}
 use Rattle.volume_commands.specs.Rested.{rested_of}
 use Rattle.volume_commands.specs.Draining.{IsAnsweredAmong}
 use Rattle.volume_commands.proofs.Seen.{devices_kept, devices_more}
-use Rattle.volume_commands.proofs.Refusing.{invalid_refused, refused_requests}
+use Rattle.counted_volume.proofs.Refusing.{invalid_refused, refused_requests}
 use Rattle.volume_commands.proofs.Amongs.{turned_plain, turned_invalid}
-use Rattle.volume_commands.proofs.Full.{still_full}
-use Rattle.volume_commands.proofs.Takings.{accepted_takes, takes_then, unsent_takes}
+use Rattle.counted_volume.proofs.Full.{still_full}
+use Rattle.counted_volume.proofs.Takings.{accepted_takes, takes_then, unsent_takes}
 use Rattle.volume_commands.proofs.among.serve_among.Goals as goal
 
 pub returns-in-Ok-submitted-clause-served : goal.returns-in-Ok-submitted-clause-served

@@ -5,7 +5,7 @@ use Rattle.chunk.proofs.Limits.{is_chunk-some, is_chunk-small}
 use Rattle.chunk.proofs.Runs.{StandsAt, first_piece, stands_first, stands_next, stands_last}
 use Rattle.volume.specs.Volumed.{piece_with}
 use Rattle.volume_commands.proofs.AmongRuns.{among_start, among_next, among_within, reads_start, reads_next, reads_end, reads_stop}
-use Rattle.volume_commands.proofs.Takings.{takes_none, takes_then}
+use Rattle.counted_volume.proofs.Takings.{takes_none, takes_then}
 use Rattle.volume_commands.proofs.among_pieces.read_pieces_among.Goals as goal
 
 pub invariant_of-geometry : goal.invariant_of-geometry

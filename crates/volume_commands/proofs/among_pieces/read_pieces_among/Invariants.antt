@@ -3,7 +3,7 @@ use Rattle.std.proofs.Common.{vec_len, vec_capacity}
 use Rattle.chunk.specs.Pieces.{span_of, pieces_of}
 use Rattle.volume.specs.Volumed.{piece_with}
 use Rattle.volume_commands.proofs.AmongRuns.{IsUnderWayAmong, ReadsAmong}
-use Rattle.volume_commands.specs.TakesPlaces.{TakesByRequests}
+use Rattle.counted_volume.specs.TakesPlaces.{TakesByRequests}
 use Rattle.volume_commands.proofs.among_pieces.read_pieces_among.Given as goal
 
 abbrev pub invariant-loop-piece : goal.invariant-loop-piece

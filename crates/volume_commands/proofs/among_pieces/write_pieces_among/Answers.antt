@@ -6,7 +6,7 @@ use Rattle.chunk.proofs.Runs.{StandsAt, first_piece, stands_first, stands_next, 
 use Rattle.volume.specs.Volumed.{piece_with}
 use Rattle.volume_commands.proofs.Writing.{left_behind, left_inside, left_part, part_fits}
 use Rattle.volume_commands.proofs.AmongRuns.{among_start, among_next, among_within, writes_start, writes_next, writes_end, writes_stop}
-use Rattle.volume_commands.proofs.Takings.{takes_none, takes_then}
+use Rattle.counted_volume.proofs.Takings.{takes_none, takes_then}
 use Rattle.volume_commands.proofs.among_pieces.write_pieces_among.Goals as goal
 
 pub invariant_of-geometry : goal.invariant_of-geometry

@@ -4,7 +4,7 @@ use Rattle.chunk.specs.Pieces.{span_of, pieces_of}
 use Rattle.chunk.proofs.Runs.{StandsAt}
 use Rattle.volume.specs.Volumed.{piece_with}
 use Rattle.volume_commands.proofs.AmongRuns.{GoesAmong, WritesAmong}
-use Rattle.volume_commands.specs.TakesPlaces.{TakesByRequests}
+use Rattle.counted_volume.specs.TakesPlaces.{TakesByRequests}
 use Rattle.volume_commands.proofs.among_pieces.write_pieces_among.Given as goal
 
 abbrev pub invariant-loop-piece : goal.invariant-loop-piece

@@ -3,12 +3,13 @@ use Rattle.std.proofs.Common.{None, refl, sym, ◌∙◌, arith}
 use Rattle.std.proofs.lemmas.List.{append-nil}
 use Rattle.plain_machine.specs.declared.event.Outcome.TheVariants.{Done, Fault, Reply as Answered}
 use Rattle.volume_commands.proofs.Drained.{drained_merged, quiet_more, quiet_start}
-use Rattle.volume_commands.proofs.Drains.{drains_more, drains_start, step_is}
-use Rattle.volume_commands.proofs.MergeFollows.{drains_on, quiet_on}
+use Rattle.volume_commands.proofs.Drains.{drains_more, drains_start}
+use Rattle.counted_volume.proofs.Steps.{step_is}
+use Rattle.volume_commands.proofs.MergeDrains.{drains_on, quiet_on}
 use Rattle.volume_commands.proofs.MergeGoes.{merged_gone_on}
 use Rattle.volume_commands.proofs.Quiet.{free_quiet, still_free}
 use Rattle.volume_commands.proofs.Seen.{devices_kept, loud_same}
-use Rattle.volume_commands.proofs.Takings.{takes_none, takes_then}
+use Rattle.counted_volume.proofs.Takings.{takes_none, takes_then}
 use Rattle.volume_commands.proofs.draining.drain.Goals as goal
 
 pub loop-event-init : goal.loop-event-init

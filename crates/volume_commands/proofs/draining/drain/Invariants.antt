@@ -3,7 +3,7 @@ use Rattle.std.proofs.Common.{vec_len, vec_capacity}
 use Rattle.volume.specs.Volumed.{left_in_all}
 use Rattle.volume_commands.proofs.Drained.{RunsQuiet}
 use Rattle.volume_commands.proofs.Drains.{DrainsSo}
-use Rattle.volume_commands.specs.TakesPlaces.{TakesByRequests}
+use Rattle.counted_volume.specs.TakesPlaces.{TakesByRequests}
 use Rattle.volume_commands.proofs.draining.drain.Given as goal
 
 abbrev pub invariant-loop-event : goal.invariant-loop-event

@@ -2,9 +2,10 @@
 use Rattle.std.proofs.Common.{refl, sym, ◌∙◌, arith}
 use Rattle.std.proofs.lemmas.List.{append-nil}
 use Rattle.plain_machine.specs.declared.event.Outcome.TheVariants.{Done, Fault, Reply as Answered}
-use Rattle.volume_commands.proofs.Drains.{apart_next, step_is}
+use Rattle.volume_commands.proofs.Drains.{apart_next}
+use Rattle.counted_volume.proofs.Steps.{step_is}
 use Rattle.volume_commands.proofs.Seen.{devices_kept}
-use Rattle.volume_commands.proofs.Takings.{takes_then}
+use Rattle.counted_volume.proofs.Takings.{takes_then}
 use Rattle.volume_commands.proofs.draining.drain_apart.Goals as goal
 
 pub loop-event-preserved-in-Ok-Reply : goal.loop-event-preserved-in-Ok-Reply

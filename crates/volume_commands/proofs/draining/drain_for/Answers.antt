@@ -5,9 +5,10 @@ use Rattle.std.proofs.lemmas.List.{append-nil}
 use Rattle.plain_machine.specs.declared.event.Outcome.TheVariants.{Done, Fault, Reply as Answered}
 use Rattle.plain_machine.specs.declared.request.Replied.{Replied}
 use Rattle.volume.specs.EventKinds.{is_of_merge}
-use Rattle.volume_commands.proofs.Drains.{for_next, for_start, goes_apart, goes_untold, other_reply, other_tells, other_told, own_reply, own_tells, own_told, step_is, told_before, told_now}
+use Rattle.volume_commands.proofs.Drains.{for_next, for_start, goes_apart, goes_untold, other_reply, other_tells, other_told, own_reply, own_tells, own_told, told_before, told_now}
+use Rattle.counted_volume.proofs.Steps.{step_is}
 use Rattle.volume_commands.proofs.Seen.{devices_kept}
-use Rattle.volume_commands.proofs.Takings.{takes_none, takes_then}
+use Rattle.counted_volume.proofs.Takings.{takes_none, takes_then}
 use Rattle.volume_commands.proofs.draining.drain_for.Goals.{else-told-via-then-told+else-is_of_merge, else-told-via-else-told}
 use Rattle.volume_commands.proofs.draining.drain_for.Goals as goal
 

@@ -23,7 +23,7 @@ use Rattle.volume_commands.proofs.ReadRuns.{ReadsTo, reads_none}
 use Rattle.volume_commands.proofs.Reading.{got_more, got_refused, got_all, refused_first}
 use Rattle.volume_commands.proofs.PlainReads.{plain_read, plain_read_refused}
 use Rattle.volume_commands.proofs.RestRuns.{rest_alone, rest_end, rest_next, rest_start, rest_stop, rest_undone}
-use Rattle.volume_commands.proofs.Takings.{takes_none, takes_then}
+use Rattle.counted_volume.proofs.Takings.{takes_none, takes_then}
 use Rattle.volume_commands.proofs.pieces.read_pieces.Goals as goal
 
 pub returns-in_default-clause-refused : goal.returns-in_default-clause-refused

@@ -6,7 +6,7 @@ use Rattle.volume_commands.specs.Rested.{rested_of, merged_of, IsSettled}
 use Rattle.volume_commands.proofs.ReadRuns.{ReadsTo}
 use Rattle.volume_commands.proofs.Reading.{IsUnderWay}
 use Rattle.volume_commands.proofs.RestRuns.{ReadsAtRest}
-use Rattle.volume_commands.specs.TakesPlaces.{TakesByRequests}
+use Rattle.counted_volume.specs.TakesPlaces.{TakesByRequests}
 use Rattle.volume_commands.proofs.pieces.read_pieces.Given as goal
 
 abbrev pub invariant-loop-piece : goal.invariant-loop-piece

@@ -13,7 +13,7 @@ use Rattle.volume_commands.proofs.WriteRuns.{writes_none}
 use Rattle.volume_commands.proofs.Writing.{left_behind, left_inside, left_part, part_is, part_fits, wrote_more, wrote_refused, wrote_all}
 use Rattle.volume_commands.proofs.BesideWrites.{plain_write, plain_write_lost}
 use Rattle.volume_commands.proofs.RestRuns.{wrote_end, wrote_next, wrote_start, wrote_stop}
-use Rattle.volume_commands.proofs.Takings.{takes_none, takes_then}
+use Rattle.counted_volume.proofs.Takings.{takes_none, takes_then}
 use Rattle.volume_commands.proofs.pieces.write_pieces.Goals as goal
 
 pub invariant_of-geometry : goal.invariant_of-geometry

@@ -7,7 +7,7 @@ use Rattle.volume_commands.specs.Rested.{rested_of, merged_of, IsSettled}
 use Rattle.volume_commands.proofs.Going.{GoesSo}
 use Rattle.volume_commands.proofs.WriteRuns.{WritesTo}
 use Rattle.volume_commands.proofs.RestRuns.{WritesAtRest}
-use Rattle.volume_commands.specs.TakesPlaces.{TakesByRequests}
+use Rattle.counted_volume.specs.TakesPlaces.{TakesByRequests}
 use Rattle.volume_commands.proofs.pieces.write_pieces.Given as goal
 
 abbrev pub invariant-loop-piece : goal.invariant-loop-piece

@@ -7,10 +7,11 @@ use Rattle.big_steps.specs.Refusals.{is_starved}
 use Rattle.volume.specs.Leaving.{has_group_in}
 use Rattle.volume.specs.Submitting.{IsRefusedAs}
 use Rattle.volume.proofs.Quieted.{quiet_free}
-use Rattle.volume_commands.proofs.Refusing.{apart_by, plain_refused, starved_only, refused_requests}
-use Rattle.volume_commands.proofs.Full.{still_full}
+use Rattle.volume_commands.proofs.Starving.{apart_by, starved_only}
+use Rattle.counted_volume.proofs.Refusing.{plain_refused, refused_requests}
+use Rattle.counted_volume.proofs.Full.{still_full}
 use Rattle.volume_commands.proofs.AtOnce.{answered_is, begun_answered, begun_waits, flying_is}
-use Rattle.volume_commands.proofs.Settled.{keeps_more}
+use Rattle.counted_volume.proofs.Settled.{keeps_more}
 use Rattle.volume_commands.proofs.serving.begin.Goals as goal
 
 pub returns-in-Ok-Answered-clause-begun : goal.returns-in-Ok-Answered-clause-begun

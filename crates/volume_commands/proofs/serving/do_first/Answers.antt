@@ -1,7 +1,7 @@
 -- The event that is due first is due, and was done.
 use Rattle.std.proofs.Common.{refl}
 use Rattle.plain_machine.specs.declared.event.Outcome.TheVariants.{Done, Fault, Reply as Answered}
-use Rattle.volume_commands.proofs.AtRest.{due_is}
+use Rattle.counted_volume.proofs.DoneDue.{due_is}
 use Rattle.volume_commands.proofs.serving.do_first.Goals as goal
 
 pub returns-in-Ok-Reply : goal.returns-in-Ok-Reply

@@ -7,14 +7,15 @@ use Rattle.volume.specs.Leaving.{is_quiet_of}
 use Rattle.volume.specs.Moved.{moving_of}
 use Rattle.volume.specs.Volumed.{Volumed}
 use Rattle.volume_commands.proofs.AtOnce.{reaches_then}
-use Rattle.volume_commands.proofs.Settled.{keeps_more}
+use Rattle.counted_volume.proofs.Settled.{keeps_more}
 use Rattle.volume_commands.proofs.Seen.{devices_kept, piece_kept}
-use Rattle.volume_commands.proofs.Refusing.{room_quiet}
+use Rattle.counted_volume.proofs.Refusing.{room_quiet}
 use Rattle.volume_commands.proofs.Between.{between_after, starved_between, starved_merged, settles_again, loud_in_all}
 use Rattle.volume_commands.proofs.Served.{served_did}
 use Rattle.volume.proofs.Quieted.{quiet_flights}
-use Rattle.volume_commands.proofs.AtRest.{answered, done_then}
-use Rattle.volume_commands.proofs.Takings.{takes_then}
+use Rattle.volume_commands.proofs.AtRest.{answered}
+use Rattle.counted_volume.proofs.DoneDue.{done_then}
+use Rattle.counted_volume.proofs.Takings.{takes_then}
 use Rattle.volume_commands.proofs.serving.serve.Goals as goal
 
 pub returns-in-Err-clause-kept : goal.returns-in-Err-clause-kept

@@ -9,11 +9,11 @@ use Rattle.volume_commands.specs.Rested.{merged_of, rested_of}
 use Rattle.volume_commands.proofs.AtOnce.{begun_answered}
 use Rattle.volume_commands.proofs.AtRest.{answered}
 use Rattle.volume_commands.proofs.Between.{between_after, loud_in_all, settles_again}
-use Rattle.volume_commands.proofs.Full.{still_full}
+use Rattle.counted_volume.proofs.Full.{still_full}
 use Rattle.volume_commands.proofs.Lent.{lent_starved, same_devices}
 use Rattle.volume_commands.proofs.Seen.{devices_kept, piece_kept}
 use Rattle.volume_commands.proofs.Served.{served_did}
-use Rattle.volume_commands.proofs.Settled.{keeps_more}
+use Rattle.counted_volume.proofs.Settled.{keeps_more}
 use Rattle.volume_commands.proofs.serving.serve_lent.Goals as goal
 
 pub returns-in-Ok-clause-kept : goal.returns-in-Ok-clause-kept

@@ -4,12 +4,13 @@ use Rattle.std.proofs.lemmas.Bool.{true≢false}
 use Rattle.plain_machine.specs.declared.event.Event.{Event}
 use Rattle.plain_machine.specs.declared.event.Outcome.TheVariants.{Done, Fault, Reply as Answered}
 use Rattle.volume.specs.Exact.{IsExact}
-use Rattle.volume_commands.specs.Following.{IsDoneHere}
-use Rattle.volume_commands.proofs.AtRest.{done_none, done_one, done_then, due_is, still_never}
-use Rattle.volume_commands.proofs.Runs.{beside_none, beside_more, beside_followed}
+use Rattle.counted_volume.specs.Following.{IsDoneHere}
+use Rattle.counted_volume.proofs.DoneDue.{done_none, done_one, done_then, due_is}
+use Rattle.volume_commands.proofs.AtRest.{still_never}
+use Rattle.counted_volume.proofs.Runs.{beside_none, beside_more, beside_followed}
 use Rattle.volume_commands.proofs.Doing.{here_done, here_goes, here_read, here_settling}
 use Rattle.volume_commands.proofs.Quiet.{still_free, free_quiet}
-use Rattle.volume_commands.proofs.Takings.{takes_none, takes_then}
+use Rattle.counted_volume.proofs.Takings.{takes_none, takes_then}
 use Rattle.volume_commands.proofs.serving.settle.Goals as goal
 
 pub loop-volume-init : goal.loop-volume-init

@@ -2,9 +2,9 @@
 use Rattle.std.proofs.Common.{◌≡◌, Some, true}
 use Rattle.volume.specs.Leaving.{is_quiet_of}
 use Rattle.volume.specs.Volumed.{left_in_all}
-use Rattle.volume_commands.specs.AtRest.{AreDone}
-use Rattle.volume_commands.proofs.Runs.{RunsBeside}
-use Rattle.volume_commands.specs.TakesPlaces.{TakesByRequests}
+use Rattle.counted_volume.specs.DoneDue.{AreDone}
+use Rattle.counted_volume.proofs.Runs.{RunsBeside}
+use Rattle.counted_volume.specs.TakesPlaces.{TakesByRequests}
 use Rattle.volume_commands.proofs.serving.settle.Given as goal
 
 abbrev pub invariant-loop-volume : goal.invariant-loop-volume

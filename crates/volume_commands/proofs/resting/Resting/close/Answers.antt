@@ -1,6 +1,6 @@
 -- It is closed where no snapshot is attached, no merge is begun and nothing is in flight.
 use Rattle.std.proofs.Common.{ap}
-use Rattle.volume_commands.specs.Places.{Counted}
+use Rattle.counted_volume.specs.Places.{Counted}
 use Rattle.volume_commands.specs.Rested.{rested_of}
 use Rattle.volume_commands.proofs.Closes.{closed, not_closed}
 use Rattle.volume_commands.specs.Recorded.{Recorded}

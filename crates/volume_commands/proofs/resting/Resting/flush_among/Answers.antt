@@ -2,7 +2,7 @@
 use Rattle.std.proofs.Common.{sym, ◌∙◌}
 use Rattle.volume_commands.specs.Rested.{rested_of}
 use Rattle.volume_commands.proofs.Flushes.{flush_refused_among}
-use Rattle.volume_commands.proofs.Takings.{takes_none}
+use Rattle.counted_volume.proofs.Takings.{takes_none}
 use Rattle.volume_commands.proofs.resting.Resting.flush_among.Goals as goal
 
 pub returns-clause-refused : goal.returns-clause-refused

@@ -3,7 +3,7 @@ use Rattle.std.proofs.Common.{◌≡◌, true, false, refl, sym, ◌∙◌, subs
 use Rattle.std.proofs.lemmas.Bool.{true≢false}
 use Rattle.volume.specs.Leaving.{is_quiet_of}
 use Rattle.volume_commands.proofs.PlainReads.{missing_shows}
-use Rattle.volume_commands.proofs.Takings.{takes_none}
+use Rattle.counted_volume.proofs.Takings.{takes_none}
 use Rattle.volume_commands.proofs.resting.Resting.write.Goals as goal
 
 pub returns-clause-refused : goal.returns-clause-refused

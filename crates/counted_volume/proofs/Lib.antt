@@ -1,0 +1,21 @@
+pub mod Settled
+pub mod Refusing
+pub mod MergeFollows
+pub mod Freed
+pub mod Follows
+pub mod Carried
+pub mod Unmarked
+pub mod NextRead
+pub mod OnlyCopies
+pub mod Carrying
+pub mod Runs
+pub mod Flown
+pub mod Earns
+pub mod Fewer
+pub mod Full
+pub mod Takings
+pub mod JournalGoing
+pub mod DueTold
+pub mod DoneDue
+mod ServedPlaces
+pub mod Steps

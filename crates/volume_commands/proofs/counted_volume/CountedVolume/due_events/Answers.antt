@@ -1,9 +1,0 @@
-use Rattle.std.proofs.Common.{rules, IfOk, ◌≡◌}
-use Rattle.volume_commands.specs.Trace.{due_among}
-use Rattle.volume_commands.proofs.DueTold.{told_all}
-use Rattle.volume_commands.proofs.counted_volume.CountedVolume.due_events.Goals as goal
-
-pub returns-clause-all : goal.returns-clause-all
-returns-clause-all g c =
-    let are : IfOk c.due_of.result (λ events. events.items ≡ due_among g.B.Block.contents g.B.Block.layers c.args.self.now.volume) = search rules in
-    told_all g.B.Block.contents g.B.Block.layers c.args.self.now.volume c.due_of.result are

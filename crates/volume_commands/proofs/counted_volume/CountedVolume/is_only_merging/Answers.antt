@@ -1,5 +1,0 @@
--- Nothing that is seen changed.
-use Rattle.volume_commands.proofs.counted_volume.CountedVolume.is_only_merging.Goals as goal
-
-pub returns-clause-machine : goal.returns-clause-machine
-returns-clause-machine g c = rw (← c.self.view_is) c.is_only_merging.ensures.machine
