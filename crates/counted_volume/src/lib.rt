@@ -9,7 +9,7 @@
 //! is left out; how many places each call takes, and that they are never more than its requests and snapshots earned; which entries
 //! each call comes to, and that whatever journal led to what the volume showed before, with these behind it leads to what it shows
 //! then; and that a checkpoint changes nothing that callers see. Of events that follow one another it promises that each was due
-//! first when it was done.
+//! when it was done, and what the last reply is.
 #![tactic(auto)]
 
 mod asking;

@@ -7,7 +7,8 @@
 //! one big step over the devices' own bytes and layers, and leaves it settled; that time and messages change layers alone;
 //! and that the numbers of a status line are those of a store's own bytes. A new volume is settled where its disk drops no
 //! writes; the attach of a store that drops writes alone makes one that is not. Where a volume is not settled, it promises
-//! which snapshots there are, and of what sizes. At any moment it may be stopped, and gives its devices back.
+//! which snapshots there are, and of what sizes. Of each call it says how many places of the volume's journal it takes. At any
+//! moment it may be stopped, and gives its devices back.
 #![tactic(auto)]
 
 mod among;
