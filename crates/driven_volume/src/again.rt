@@ -74,12 +74,13 @@ fn stop<B: Stops>(alloc: Global, machine: Machine<B>, cut: Cut) -> Result<Left<M
     })
 }
 
-/// Whether a snapshot's store may be loaded, and whether it may be refused as invalid.
-fn fates(state: State) -> (bool, bool) {
+/// Whether a snapshot's store may be loaded, and whether it may be refused as invalid. A loss of power may take a mark away that was
+/// written and not flushed yet.
+fn fates(state: State, cut: Cut) -> (bool, bool) {
     match state {
         State::Live | State::Spoilt | State::Merging => (true, false),
         State::Marking => (true, true),
-        State::Marked => (false, true),
+        State::Marked => (cut == Cut::Unpowered, true),
     }
 }
 
@@ -105,11 +106,10 @@ impl<B: Driven + Layered> Machine<B> {
     fn take_again(
         &mut self,
         alloc: Global,
-        state: State,
+        (may_load, may_refuse): (bool, bool),
         disk: B,
         array: &[u8],
     ) -> Result<(), Fail> {
-        let (may_load, may_refuse) = fates(state);
         match calls::attach(alloc, &mut self.volume, disk, self.chunk) {
             Ok(number) if may_load => self.arrays.enter(number, Vec::from_slice(alloc, array)?)?,
             Err((Refusal::Invalid, _)) if may_refuse => {}
@@ -124,6 +124,7 @@ impl<B: Driven + Layered> Machine<B> {
         alloc: Global,
         disks: &mut Vec<B>,
         arrays: &Arrays,
+        cut: Cut,
     ) -> Result<(), Fail> {
         for snap in &arrays.snaps {
             let Some(disk) = disks.pop() else {
@@ -131,7 +132,7 @@ impl<B: Driven + Layered> Machine<B> {
             };
             self.take_again(
                 alloc,
-                snap.state,
+                fates(snap.state, cut),
                 disk,
                 shown_again(snap, arrays.origin.as_slice()),
             )?;
@@ -190,7 +191,7 @@ fn judged<B: Driven + Layered>(alloc: Global, left: Left<B>) -> Result<Machine<B
     let merging = arrays.merging();
     let mut again = volume_again(alloc, &mut disks, chunk)?;
     again.fills_up = fills_up;
-    again.take_all_again(alloc, &mut disks, &arrays)?;
+    again.take_all_again(alloc, &mut disks, &arrays, Cut::Killed)?;
     again.arrays.show(arrays.origin.clone()?);
     if let Some(asked) = arrays.under_way {
         again.adopt(written_dev(&asked, merging), &asked)?;
@@ -225,7 +226,7 @@ pub fn snaps_again_met<B: Stops>(alloc: Global, machine: Machine<B>) -> Result<b
         ..
     } = stop(alloc, machine, Cut::Unpowered)?;
     let mut again = volume_again(alloc, &mut disks, chunk)?;
-    again.take_all_again(alloc, &mut disks, &arrays)?;
+    again.take_all_again(alloc, &mut disks, &arrays, Cut::Unpowered)?;
     again.hold_snaps()?;
     Ok(met)
 }

@@ -37,6 +37,11 @@ impl Driven for Filed {
                 over = over || store.is_failed();
             }
         }
+        if let Some(number) = volume.merging()
+            && let Ok(store) = volume.store(number)
+        {
+            over = over || store.is_failed();
+        }
         over
     }
 

@@ -115,13 +115,17 @@ impl<B: Driven> Machine<B> {
         Ok(self.stops && self.failures != 0)
     }
 
-    /// The run ends with an event, at which a device was found to have left unanswered what it had answered.
+    /// The run ends with an event, at which a device was found to have left unanswered what it had answered. A mark of a snapshot that
+    /// is spoiled may be there or not.
     fn end(&mut self, event: Event, outcome: Outcome) -> Result<bool, Fail> {
         let outcome = B::answered(&self.volume, outcome);
         if !self.follow(event, &outcome) {
             return Err(Fail::from("a wrong outcome"));
         }
         self.notice_spoils();
+        if let Event::WriteInvalid(number) = event {
+            self.arrays.set_state(number, State::Marking);
+        }
         Ok(true)
     }
 
@@ -250,7 +254,7 @@ impl<B: Driven> Machine<B> {
             return Err(Fail::from("a fault that was not told"));
         }
         self.arrays.enter(number, array)?;
-        Ok(false)
+        Ok(B::is_over(&self.volume))
     }
 
     /// Attaches a store again at whose attach a device failed, unless the run ends there.
