@@ -10,11 +10,18 @@ use std::io;
 use std::io::{Seek, SeekFrom};
 use std::os::unix::fs::FileExt;
 
-/// An open file.
+/// An open file. Once a write or a sync failed, it is given up: nothing more of it is written or synced, so that no write that was to
+/// follow the failed one is there without it.
 #[derive(Drop)]
 pub struct DiskFile {
     file: File,
     noted: Record,
+    is_given_up: bool,
+}
+
+/// The answer of a file that is given up.
+fn given_up() -> io::Result<()> {
+    Err(io::ErrorKind::Other.into())
 }
 
 impl DiskFile {
@@ -25,6 +32,7 @@ impl DiskFile {
         DiskFile {
             file,
             noted: Record::new(),
+            is_given_up: false,
         }
     }
 }
@@ -50,20 +58,35 @@ impl FileCalls for DiskFile {
     }
 
     fn write_at(&mut self, at: u64, bytes: &[u8]) -> io::Result<()> {
-        let answer = self.file.write_all_at(bytes, at);
+        let answer = if self.is_given_up {
+            given_up()
+        } else {
+            self.file.write_all_at(bytes, at)
+        };
+        self.is_given_up = answer.is_err();
         self.noted.note(WRITE, at, 0, answer.is_ok(), bytes);
         answer
     }
 
     fn set_len(&mut self, len: u64) -> io::Result<()> {
-        let answer = self.file.set_len(len);
+        let answer = if self.is_given_up {
+            given_up()
+        } else {
+            self.file.set_len(len)
+        };
+        self.is_given_up = answer.is_err();
         self.noted.note(SET_LEN, len, 0, answer.is_ok(), &[]);
         answer
     }
 
     // The data, and what is needed to find it: the length too.
     fn sync(&mut self, promised: bool) -> io::Result<()> {
-        let answer = self.file.sync_data();
+        let answer = if self.is_given_up {
+            given_up()
+        } else {
+            self.file.sync_data()
+        };
+        self.is_given_up = answer.is_err();
         self.noted
             .note(SYNC, u64::from(promised), 0, answer.is_ok(), &[]);
         answer

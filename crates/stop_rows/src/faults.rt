@@ -1,11 +1,11 @@
 // One fault at each operation of each device in turn.
-use crate::disks::disks_of;
-use crate::machine::Machine;
-use crate::scenario::{
+use device::{FailAt, MemDisk};
+use driven_volume::disks::disks_of;
+use driven_volume::machine::Machine;
+use driven_volume::scenario::{
     FILLS_UP, FULL_STORE, LONG_MERGE, MERGE_BESIDE, ONE_COPY, Scenario, Step, WHOLE_AREA,
     WIDE_MERGE, WRITTEN_MERGE,
 };
-use device::{FailAt, MemDisk};
 use plain_machine::Dev;
 use std::alloc::Global;
 use std::test::Fail;

@@ -1,12 +1,12 @@
 // A stop within each write and before each flush of each device in turn.
-use crate::again::load_again;
-use crate::disks::disks_of;
-use crate::machine::Machine;
-use crate::scenario::{
+use device::MemDisk;
+use driven_volume::again::load_again;
+use driven_volume::disks::disks_of;
+use driven_volume::machine::Machine;
+use driven_volume::scenario::{
     ATTACH, ATTACH_WRITTEN, FILLS_UP, FULL_STORE, LONG_MERGE, MERGE_BESIDE, ONE_COPY, OVERFLOWED,
     Scenario, Step, WHOLE_AREA, WIDE_MERGE, WRITTEN_MERGE,
 };
-use device::MemDisk;
 use plain_machine::Dev;
 use std::alloc::Global;
 use std::test::Fail;

@@ -1,10 +1,10 @@
 // A write of an area that is torn: of the pairs that it adds the second alone reaches the store.
-use crate::again::load_again;
-use crate::machine::Machine;
-use crate::scenario::{Scenario, Step};
 use crate::stops::{fused, stop_at_each};
 use chunk_alloc::Usage;
 use device::{Block, MemDisk};
+use driven_volume::again::load_again;
+use driven_volume::machine::Machine;
+use driven_volume::scenario::{Scenario, Step};
 use plain_machine::{Dev, Event};
 use sector::{Range, SECTOR_BYTES};
 use std::alloc::Global;

@@ -1,8 +1,8 @@
 // A flush of the origin beside a merge is issued twice: to the store, and then to the origin disk. Between both a commit may be
 // done and the origin be written; then the store has lost its commit, the written sector is not what the origin showed, though
 // the flush was answered.
-use crate::calls;
 use device::MemDisk;
+use driven_volume::calls;
 use plain_machine::{Dev, Event, Op, Outcome, Reply, ReqId, Request, SnapId};
 use sector::{Range, SECTOR_BYTES};
 use std::alloc::Global;

@@ -61,6 +61,26 @@ pub fn disks_of(alloc: Global, scenario: &Scenario) -> Result<Vec<MemDisk>, Fail
     Ok(disks)
 }
 
+/// The bytes that a disk shows.
+pub fn bytes_of(alloc: Global, disk: &MemDisk) -> Result<Vec<u8>, Fail> {
+    let mut bytes = Vec::new(alloc);
+    let mut sector_bytes = [0; SECTOR_BYTES];
+    for sector in 0..disk.sectors() {
+        disk.raw(Range::new(sector, 1, disk.sectors())?, &mut sector_bytes);
+        bytes.extend_from_slice(&sector_bytes)?;
+    }
+    Ok(bytes)
+}
+
+/// A disk of these bytes, of which there are whole sectors.
+pub fn disk_of_bytes(alloc: Global, bytes: &[u8]) -> Result<MemDisk, Fail> {
+    let mut disk = zeros(alloc, (bytes.len() / SECTOR_BYTES) as u64)?;
+    for (sector, sector_bytes) in bytes.chunks(SECTOR_BYTES).enumerate() {
+        load(&mut disk, sector as u64, sector_bytes)?;
+    }
+    Ok(disk)
+}
+
 /// A disk with the bytes that a device shows.
 pub fn copy_of<B: Layered>(alloc: Global, device: &B) -> Result<MemDisk, Fail> {
     let sectors = device.sectors();

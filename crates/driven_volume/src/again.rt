@@ -1,7 +1,7 @@
 // What a stop left is loaded again, and judged by the arrays from before.
 use crate::arrays::{Arrays, Asked, PlainSnapshot, State};
 use crate::calls;
-use crate::disks::copy_of;
+use crate::driven::{Cut, Driven, Stops};
 use crate::machine::Machine;
 use crate::scenario::Step;
 use device::{Block, MemDisk};
@@ -10,7 +10,6 @@ use plain_machine::{Dev, SnapId};
 use sector::Refusal;
 use std::alloc::Global;
 use std::test::Fail;
-use torn_disk::TornDisk;
 use volume::Stopped;
 
 /// What a stop left: the stores, the last one first, and then the origin disk; the arrays from before; and the snapshot whose store
@@ -21,36 +20,39 @@ struct Left<B: Block> {
     arrays: Arrays,
     chunk: u32,
     fills_up: Option<SnapId>,
+    /// Whether a device stopped, or had its fault.
+    met: bool,
 }
 
-/// The disk that is left of a fuse.
-fn disk_of(alloc: Global, fuse: &TornDisk) -> Result<MemDisk, Fail> {
-    match fuse.left() {
-        Some(disk) => copy_of(alloc, disk),
-        None => copy_of(alloc, fuse),
-    }
-}
-
-/// The disks that are left of a machine that stops, the origin's first. A store at whose attach the fuse was blown is the last.
-fn disks_left(
+/// The disks that are left of a machine that stops, the origin's first, and whether one stopped or had its fault. A store at whose
+/// attach it did is the last.
+fn disks_left<B: Stops>(
     alloc: Global,
-    stopped: &mut Stopped<TornDisk>,
-    stores: &[TornDisk],
+    stopped: &mut Stopped<B>,
+    stores: &[B],
     count: usize,
-) -> Result<Vec<MemDisk>, Fail> {
+    cut: Cut,
+) -> Result<(Vec<MemDisk>, bool), Fail> {
     let mut disks = Vec::new(alloc);
+    let mut met = false;
     for _ in 0..count {
         match (stopped.take(), stores.last()) {
-            (Some(fuse), _) => disks.push(disk_of(alloc, &fuse)?)?,
-            (None, Some(fuse)) => disks.push(disk_of(alloc, fuse)?)?,
+            (Some(device), _) => {
+                met = met || device.has_met();
+                disks.push(device.left(alloc, cut)?)?;
+            }
+            (None, Some(device)) => {
+                met = met || device.has_met();
+                disks.push(device.left(alloc, cut)?)?;
+            }
             (None, None) => return Err(Fail::from("a device is lost")),
         }
     }
-    Ok(disks)
+    Ok((disks, met))
 }
 
 /// Stops a machine.
-fn stop(alloc: Global, machine: Machine<TornDisk>) -> Result<Left<MemDisk>, Fail> {
+fn stop<B: Stops>(alloc: Global, machine: Machine<B>, cut: Cut) -> Result<Left<MemDisk>, Fail> {
     let Machine {
         volume,
         arrays,
@@ -61,22 +63,24 @@ fn stop(alloc: Global, machine: Machine<TornDisk>) -> Result<Left<MemDisk>, Fail
     } = machine;
     let count = arrays.snaps.len().saturating_add(1);
     let mut stopped = volume.stop();
-    let mut disks = disks_left(alloc, &mut stopped, stores.as_slice(), count)?;
+    let (mut disks, met) = disks_left(alloc, &mut stopped, stores.as_slice(), count, cut)?;
     disks.reverse();
     Ok(Left {
         disks,
         arrays,
         chunk,
         fills_up,
+        met,
     })
 }
 
-/// Whether a snapshot's store may be loaded, and whether it may be refused as invalid.
-fn fates(state: State) -> (bool, bool) {
+/// Whether a snapshot's store may be loaded, and whether it may be refused as invalid. A loss of power may take a mark away that was
+/// written and not flushed yet.
+fn fates(state: State, cut: Cut) -> (bool, bool) {
     match state {
         State::Live | State::Spoilt | State::Merging => (true, false),
         State::Marking => (true, true),
-        State::Marked => (false, true),
+        State::Marked => (cut == Cut::Unpowered, true),
     }
 }
 
@@ -97,16 +101,15 @@ fn written_dev(asked: &Asked, merging: Option<SnapId>) -> Dev {
     }
 }
 
-impl<B: Layered + Drop> Machine<B> {
+impl<B: Driven + Layered> Machine<B> {
     /// Attaches the store of a snapshot again, which is to show this array.
     fn take_again(
         &mut self,
         alloc: Global,
-        state: State,
+        (may_load, may_refuse): (bool, bool),
         disk: B,
         array: &[u8],
     ) -> Result<(), Fail> {
-        let (may_load, may_refuse) = fates(state);
         match calls::attach(alloc, &mut self.volume, disk, self.chunk) {
             Ok(number) if may_load => self.arrays.enter(number, Vec::from_slice(alloc, array)?)?,
             Err((Refusal::Invalid, _)) if may_refuse => {}
@@ -121,6 +124,7 @@ impl<B: Layered + Drop> Machine<B> {
         alloc: Global,
         disks: &mut Vec<B>,
         arrays: &Arrays,
+        cut: Cut,
     ) -> Result<(), Fail> {
         for snap in &arrays.snaps {
             let Some(disk) = disks.pop() else {
@@ -128,7 +132,7 @@ impl<B: Layered + Drop> Machine<B> {
             };
             self.take_again(
                 alloc,
-                snap.state,
+                fates(snap.state, cut),
                 disk,
                 shown_again(snap, arrays.origin.as_slice()),
             )?;
@@ -162,7 +166,7 @@ impl<B: Layered + Drop> Machine<B> {
 }
 
 /// A volume over the origin disk that is left.
-fn volume_again<B: Layered + Drop>(
+fn volume_again<B: Driven>(
     alloc: Global,
     disks: &mut Vec<B>,
     chunk: u32,
@@ -176,17 +180,18 @@ fn volume_again<B: Layered + Drop>(
 }
 
 /// Loads again what is left, and holds it against the arrays from before.
-fn judged<B: Layered + Drop>(alloc: Global, left: Left<B>) -> Result<Machine<B>, Fail> {
+fn judged<B: Driven + Layered>(alloc: Global, left: Left<B>) -> Result<Machine<B>, Fail> {
     let Left {
         mut disks,
         arrays,
         chunk,
         fills_up,
+        ..
     } = left;
     let merging = arrays.merging();
     let mut again = volume_again(alloc, &mut disks, chunk)?;
     again.fills_up = fills_up;
-    again.take_all_again(alloc, &mut disks, &arrays)?;
+    again.take_all_again(alloc, &mut disks, &arrays, Cut::Killed)?;
     again.arrays.show(arrays.origin.clone()?);
     if let Some(asked) = arrays.under_way {
         again.adopt(written_dev(&asked, merging), &asked)?;
@@ -198,6 +203,30 @@ fn judged<B: Layered + Drop>(alloc: Global, left: Left<B>) -> Result<Machine<B>,
 /// Stops a machine, loads again what is left, and holds it against the arrays from before: each snapshot shows its own, each
 /// sector up to the write that was under way, unless it was spoiled and its mark tried; and so does the origin, or where a
 /// merge was begun the merging store.
-pub fn load_again(alloc: Global, machine: Machine<TornDisk>) -> Result<Machine<MemDisk>, Fail> {
-    judged(alloc, stop(alloc, machine)?)
+pub fn load_again<B: Stops>(alloc: Global, machine: Machine<B>) -> Result<Machine<MemDisk>, Fail> {
+    judged(alloc, stop(alloc, machine, Cut::Killed)?)
+}
+
+/// Stops a machine and loads again what is left, as `load_again` does, and tells whether a device stopped or had its fault.
+pub fn loads_again_met<B: Stops>(alloc: Global, machine: Machine<B>) -> Result<bool, Fail> {
+    let left = stop(alloc, machine, Cut::Killed)?;
+    let met = left.met;
+    judged(alloc, left)?;
+    Ok(met)
+}
+
+/// Loads again the snapshots of a machine whose power was cut: each shows its array, unless it was spoiled and its mark tried. Tells
+/// whether a device had its fault.
+pub fn snaps_again_met<B: Stops>(alloc: Global, machine: Machine<B>) -> Result<bool, Fail> {
+    let Left {
+        mut disks,
+        arrays,
+        chunk,
+        met,
+        ..
+    } = stop(alloc, machine, Cut::Unpowered)?;
+    let mut again = volume_again(alloc, &mut disks, chunk)?;
+    again.take_all_again(alloc, &mut disks, &arrays, Cut::Unpowered)?;
+    again.hold_snaps()?;
+    Ok(met)
 }

@@ -1,6 +1,7 @@
 // A volume with the plain arrays beside it, by which each answer is judged.
 use crate::arrays::{Arrays, Asked, State, put};
 use crate::calls;
+use crate::driven::Driven;
 use crate::scenario::Step;
 use crate::told::{failed, is_of_mark, is_told};
 use device::Block;
@@ -27,7 +28,7 @@ pub struct Machine<B: Block> {
     pub fills_up: Option<SnapId>,
 }
 
-impl<B: Layered + Drop> Machine<B> {
+impl<B: Driven> Machine<B> {
     /// A volume over the last of these devices, the origin, and the others as stores.
     pub fn new(
         alloc: Global,
@@ -92,6 +93,7 @@ impl<B: Layered + Drop> Machine<B> {
     fn step(&mut self, event: Event) -> Result<bool, Fail> {
         let before = failed(&self.volume, &self.arrays);
         let of_mark = is_of_mark(&self.volume, event);
+        B::ahead(&mut self.volume, event);
         let Some(outcome) = calls::step(&mut self.volume, event) else {
             return if self.failures == 0 {
                 Err(Fail::from("not due"))
@@ -99,6 +101,9 @@ impl<B: Layered + Drop> Machine<B> {
                 Ok(false)
             };
         };
+        if B::is_over(&self.volume) {
+            return self.end(event, outcome);
+        }
         let after = failed(&self.volume, &self.arrays);
         let full = self.notice_full(&outcome);
         if !is_told(of_mark, &outcome, before, after, full) || !self.follow(event, &outcome) {
@@ -108,6 +113,20 @@ impl<B: Layered + Drop> Machine<B> {
             .failures
             .saturating_add(after.faults.wrapping_sub(before.faults));
         Ok(self.stops && self.failures != 0)
+    }
+
+    /// The run ends with an event, at which a device was found to have left unanswered what it had answered. A mark of a snapshot that
+    /// is spoiled may be there or not.
+    fn end(&mut self, event: Event, outcome: Outcome) -> Result<bool, Fail> {
+        let outcome = B::answered(&self.volume, outcome);
+        if !self.follow(event, &outcome) {
+            return Err(Fail::from("a wrong outcome"));
+        }
+        self.notice_spoils();
+        if let Event::WriteInvalid(number) = event {
+            self.arrays.set_state(number, State::Marking);
+        }
+        Ok(true)
     }
 
     /// Does all that is due.
@@ -210,9 +229,10 @@ impl<B: Layered + Drop> Machine<B> {
 
     /// Attaches the next store, which has such a sector. Where a device fails at it and the run goes on, it is attached again.
     fn attach(&mut self, alloc: Global, chunk: u32, own: Option<(u64, u8)>) -> Result<bool, Fail> {
-        let Some(device) = self.stores.pop() else {
+        let Some(mut device) = self.stores.pop() else {
             return Err(Fail::from("no store"));
         };
+        device.attach_ahead(alloc)?;
         let array = self.array_with(own)?;
         let faults = self.faults_with(&device);
         match calls::attach(alloc, &mut self.volume, device, chunk) {
@@ -234,7 +254,7 @@ impl<B: Layered + Drop> Machine<B> {
             return Err(Fail::from("a fault that was not told"));
         }
         self.arrays.enter(number, array)?;
-        Ok(false)
+        Ok(B::is_over(&self.volume))
     }
 
     /// Attaches a store again at whose attach a device failed, unless the run ends there.
@@ -331,7 +351,9 @@ impl<B: Layered + Drop> Machine<B> {
         }
         Ok(false)
     }
+}
 
+impl<B: Layered + Drop> Machine<B> {
     /// Holds what a device shows against its array.
     pub fn hold(&self, dev: Dev) -> Result<(), Fail> {
         for sector in 0..self.volume.origin().sectors() {

@@ -1,0 +1,66 @@
+// How a volume over devices of a kind does its events, and what a stop leaves of one.
+use crate::disks::copy_of;
+use device::{Block, FailAt, MemDisk};
+use plain_machine::{Event, Outcome};
+use std::alloc::Global;
+use std::test::Fail;
+use torn_disk::TornDisk;
+use volume::Volume;
+
+/// A device over which a volume is driven.
+pub trait Driven: Block + Drop {
+    /// Does ahead what an attach of this store will ask of it.
+    fn attach_ahead(&mut self, _alloc: Global) -> Result<(), Fail> {
+        Ok(())
+    }
+
+    /// Does ahead what an event will ask of a device.
+    fn ahead(_volume: &mut Volume<Self>, _event: Event) {}
+
+    /// Whether a device left unanswered what it had answered, so that the run ends.
+    fn is_over(_volume: &Volume<Self>) -> bool {
+        false
+    }
+
+    /// What a request is answered, where a device may have left it unanswered.
+    fn answered(_volume: &Volume<Self>, outcome: Outcome) -> Outcome {
+        outcome
+    }
+}
+
+impl Driven for MemDisk {}
+
+impl Driven for TornDisk {}
+
+impl Driven for FailAt<MemDisk> {}
+
+/// What a stop leaves of a device with a cache.
+#[derive(Clone, Copy, PartialEq, Eq)]
+pub enum Cut {
+    /// All that was written.
+    Killed,
+    /// What was there at the last sync.
+    Unpowered,
+}
+
+/// A device that stops.
+pub trait Stops: Driven {
+    /// Whether it stopped, or had its fault.
+    fn has_met(&self) -> bool;
+
+    /// The disk that a stop leaves.
+    fn left(&self, alloc: Global, cut: Cut) -> Result<MemDisk, Fail>;
+}
+
+impl Stops for TornDisk {
+    fn has_met(&self) -> bool {
+        self.left().is_some()
+    }
+
+    fn left(&self, alloc: Global, _cut: Cut) -> Result<MemDisk, Fail> {
+        match self.left() {
+            Some(disk) => copy_of(alloc, disk),
+            None => copy_of(alloc, self),
+        }
+    }
+}
