@@ -1,8 +1,8 @@
 //! Commands of `lochknife` on images: its rows, as `command_rows` runs them.
 //!
 //! Images, answers and files that are wanted come from `bench/program_rows`, which works them out in another language, from the kernel's
-//! format, docs/IMAGES.md and recordings of other programs. Beside `command_rows` it stands on `image_commands` alone, whose `answer` is
-//! all of the program but its words and its three streams.
+//! format, docs/IMAGES.md and recordings of other programs. It stands on `command_rows` and `image_commands`. All of the program but its
+//! words and its three streams is `answer` of the latter.
 #![tactic(auto)]
 
 use command_rows::{Output, Program, main_of};

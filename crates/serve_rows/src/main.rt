@@ -1,8 +1,8 @@
 //! The commands `new`, `take` and `serve` of `lochknife`: their rows, as `command_rows` runs them.
 //!
 //! What a client says (`client`), what it is to be answered, and the files that are wanted come from `bench/serve_rows`, which works them
-//! out in another language, from the protocol's text, docs/IMAGES.md and the kernel's format. Beside `command_rows` it stands on
-//! `serve_commands` alone, whose `answer` is all of the program but its words and its three streams.
+//! out in another language, from the protocol's text, docs/IMAGES.md and the kernel's format. It stands on `command_rows` and
+//! `serve_commands`. All of the program but its words and its three streams is `answer` of the latter.
 #![tactic(auto)]
 
 mod client;
