@@ -6,11 +6,17 @@ use std::os::unix::fs::PermissionsExt;
 use std::{fs, io};
 
 /// Their names.
-const NAMES: [&str; 10] = [
+const NAMES: [&str; 16] = [
     "o.img",
     "c.img",
     "c0.img",
     "c1.img",
+    "c2.img",
+    "c3.img",
+    "c4.img",
+    "c5.img",
+    "c6.img",
+    "c7.img",
     "out.img",
     "out.img.partial",
     "d/o.img",
