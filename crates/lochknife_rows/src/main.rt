@@ -1,39 +1,31 @@
-//! Commands of `lochknife`, each run on copies of stored images: what it prints, its exit status and the files that it leaves are
-//! compared byte for byte with what is wanted.
+//! Commands of `lochknife` on images: its rows, as `command_rows` runs them.
 //!
-//! The file `index` has a line for each row: its name. NAME.row has its steps, a line each (`steps`). For each row `NAME ok` is
-//! printed, or the first step that is not so. Images, answers and files that are wanted come from `bench/program_rows`, which works
-//! them out in another language, from the kernel's format, docs/IMAGES.md and recordings of other programs.
-//!
-//! It stands on `image_commands` alone. Its `answer` is all of the program but its words and its three streams. A row is told as
-//! well only where each of its steps was so; no clause says that.
+//! Images, answers and files that are wanted come from `bench/program_rows`, which works them out in another language, from the kernel's
+//! format, docs/IMAGES.md and recordings of other programs. It stands on `command_rows` and `image_commands`. All of the program but its
+//! words and its three streams is `answer` of the latter.
 #![tactic(auto)]
 
-mod row;
-mod sandbox;
-mod steps;
-mod streams;
-
-use crate::row::is_well;
-use std::io::{BufWriter, Write};
+use command_rows::{Output, Program, main_of};
+use image_commands::answer;
+use std::io;
 use std::process::ExitCode;
-use std::{fs, io};
 
-/// Runs all rows, and gives whether all were well.
-fn are_well<W: Write>(rt: &HostRuntime, writer: &mut W) -> io::Result<bool> {
-    let index = fs::read_to_string(rt, "index")?;
-    let mut well = true;
-    for name in index.lines() {
-        if !is_well(rt, writer, name)? {
-            well = false;
-        }
+/// `lochknife` on images.
+struct Lochknife;
+
+impl Program for Lochknife {
+    fn answer(
+        rt: &HostRuntime,
+        words: &[String],
+        hears: &[u8],
+        output: &mut Output<'_>,
+        told: &mut Vec<u8>,
+    ) -> u8 {
+        let mut input = hears;
+        answer(rt, words, &mut input, output, told)
     }
-    Ok(well)
 }
 
 fn main(rt: HostRuntime) -> io::Result<ExitCode> {
-    let mut writer = BufWriter::new(rt.alloc(), io::writer(&rt))?;
-    let well = are_well(&rt, &mut writer)?;
-    writer.flush()?;
-    Ok(ExitCode::from(if well { 0 } else { 1 }))
+    main_of::<Lochknife>(&rt)
 }

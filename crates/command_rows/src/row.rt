@@ -1,10 +1,11 @@
 // One row: its steps are done in turn.
-use crate::sandbox::{clear, hide, make_folder};
+use crate::program::Program;
+use crate::sandbox::{clear, hide, make_folder, make_zeros};
 use crate::steps::{Step, step_of};
 use crate::streams::Output;
-use image_commands::answer;
 use std::fs::File;
 use std::io::Write;
+use std::os::unix::fs::FileExt;
 use std::{fs, io, str};
 
 /// What a command printed, and its exit status.
@@ -28,7 +29,7 @@ struct Setting<'a> {
 /// The words of a command line: the program's own name is the first.
 fn words_of(rt: &HostRuntime, line: &str) -> io::Result<Vec<String>> {
     let mut words = Vec::new(rt.alloc());
-    words.push(String::from_str(rt.alloc(), "lochknife")?)?;
+    words.push(String::from_str(rt.alloc(), "program")?)?;
     for word in line.split(' ') {
         if !word.is_empty() {
             words.push(String::from_str(rt.alloc(), word)?)?;
@@ -38,9 +39,9 @@ fn words_of(rt: &HostRuntime, line: &str) -> io::Result<Vec<String>> {
 }
 
 /// Runs the program with the words of a line.
-fn ran(rt: &HostRuntime, line: &str, setting: &Setting<'_>) -> io::Result<Ended> {
+fn ran<P: Program>(rt: &HostRuntime, line: &str, setting: &Setting<'_>) -> io::Result<Ended> {
     let words = words_of(rt, line)?;
-    let mut input = setting.hears.as_slice();
+    let hears = setting.hears.as_slice();
     let mut output = Output {
         rt,
         bytes: Vec::new(rt.alloc()),
@@ -49,7 +50,7 @@ fn ran(rt: &HostRuntime, line: &str, setting: &Setting<'_>) -> io::Result<Ended>
         writes: 0,
     };
     let mut told: Vec<u8> = Vec::new(rt.alloc());
-    let status = answer(rt, &words, &mut input, &mut output, &mut told);
+    let status = P::answer(rt, &words, hears, &mut output, &mut told);
     Ok(Ended {
         printed: output.bytes,
         told,
@@ -73,17 +74,30 @@ fn has(rt: &HostRuntime, name: &str, bytes: &[u8]) -> io::Result<bool> {
     Ok(wants.as_slice() == bytes)
 }
 
+/// Whether a file has these bytes from a place on.
+fn holds(rt: &HostRuntime, name: &str, at: u64, wants: &str) -> io::Result<bool> {
+    let wants = fs::read(rt, wants)?;
+    let mut bytes = vec![in rt.alloc(); 0u8; wants.len()]?;
+    File::open(rt, name)?.read_exact_at(bytes.as_mut_slice(), at)?;
+    Ok(wants.as_slice() == bytes.as_slice())
+}
+
 /// Opens a file, to be locked.
 fn opened(rt: &HostRuntime, name: &str) -> io::Result<File> {
     File::options().read(true).open(rt, name)
 }
 
 /// Does a step that sets something up, or runs the program, and gives whether what it asks for is so.
-fn is_done<'a>(rt: &HostRuntime, step: Step<'a>, setting: &mut Setting<'a>) -> io::Result<bool> {
+fn is_done<'a, P: Program>(
+    rt: &HostRuntime,
+    step: Step<'a>,
+    setting: &mut Setting<'a>,
+) -> io::Result<bool> {
     match step {
         Step::Copy { from, to } => {
             fs::copy(rt, from, to)?;
         }
+        Step::Zeros { file, bytes } => make_zeros(rt, file, bytes)?,
         Step::Folder(name) => make_folder(rt, name)?,
         Step::Hide(name) => hide(rt, name)?,
         Step::Lock(name) => {
@@ -99,7 +113,7 @@ fn is_done<'a>(rt: &HostRuntime, step: Step<'a>, setting: &mut Setting<'a>) -> i
         Step::Grow(name) => setting.grows = Some(name),
         Step::Full(number) => setting.fails_at = number,
         Step::Hears(name) => setting.hears = fs::read(rt, name)?,
-        Step::Run(line) => setting.ended = ran(rt, line, setting)?,
+        Step::Run(line) => setting.ended = ran::<P>(rt, line, setting)?,
         _ => return is_so(rt, step, &setting.ended),
     }
     Ok(true)
@@ -121,6 +135,8 @@ fn is_so(rt: &HostRuntime, step: Step<'_>, ended: &Ended) -> io::Result<bool> {
             let bytes = fs::read(rt, file)?;
             has(rt, wants, bytes.as_slice())
         }
+        Step::Holds { file, at, wants } => holds(rt, file, at, wants),
+        Step::Length { file, bytes } => Ok(fs::metadata(rt, file)?.len() == bytes),
         Step::None(name) => Ok(!fs::exists(rt, name)?),
         _ => Ok(false),
     }
@@ -142,7 +158,11 @@ fn front(text: &[u8]) -> &[u8] {
 }
 
 /// Runs a row, and gives whether it was well.
-pub fn is_well<W: Write>(rt: &HostRuntime, writer: &mut W, name: &str) -> io::Result<bool> {
+pub fn is_well<P: Program, W: Write>(
+    rt: &HostRuntime,
+    writer: &mut W,
+    name: &str,
+) -> io::Result<bool> {
     let path = format!(in rt.alloc(); "{name}.row")?;
     let steps = fs::read_to_string(rt, path.as_str())?;
     clear(rt)?;
@@ -159,7 +179,7 @@ pub fn is_well<W: Write>(rt: &HostRuntime, writer: &mut W, name: &str) -> io::Re
     };
     for line in steps.lines() {
         let well = match step_of(line) {
-            Some(step) => is_done(rt, step, &mut setting).unwrap_or(false),
+            Some(step) => is_done::<P>(rt, step, &mut setting).unwrap_or(false),
             None => false,
         };
         if !well {

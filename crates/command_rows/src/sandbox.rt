@@ -1,14 +1,22 @@
 // The files that a row may make, in the folder that the program is run in.
 
-use std::fs::Permissions;
+use std::fs::{File, Permissions};
 use std::io::ErrorKind;
 use std::os::unix::fs::PermissionsExt;
 use std::{fs, io};
 
 /// Their names.
-const NAMES: [&str; 8] = [
+const NAMES: [&str; 16] = [
     "o.img",
     "c.img",
+    "c0.img",
+    "c1.img",
+    "c2.img",
+    "c3.img",
+    "c4.img",
+    "c5.img",
+    "c6.img",
+    "c7.img",
     "out.img",
     "out.img.partial",
     "d/o.img",
@@ -43,6 +51,11 @@ fn is_gone(error: io::Error) -> io::Result<()> {
         return Ok(());
     }
     Err(error)
+}
+
+/// Makes a file of so many zeros, of no blocks.
+pub fn make_zeros(rt: &HostRuntime, name: &str, bytes: u64) -> io::Result<()> {
+    File::create_new(rt, name)?.set_len(bytes)
 }
 
 /// Makes a folder.

@@ -4,7 +4,15 @@
 #[derive(Clone, Copy)]
 pub enum Step<'a> {
     /// A stored file is copied.
-    Copy { from: &'a str, to: &'a str },
+    Copy {
+        from: &'a str,
+        to: &'a str,
+    },
+    /// A file of so many zeros is made, of no blocks.
+    Zeros {
+        file: &'a str,
+        bytes: u64,
+    },
     /// A folder is made.
     Folder(&'a str),
     /// Nobody may read a folder from now on.
@@ -29,8 +37,20 @@ pub enum Step<'a> {
     Names(&'a str),
     /// It wrote this to standard error, where each `|` ends a line, as the end does; without a text nothing.
     Says(&'a str),
-    /// A file has the bytes of another one, or is not there.
-    Same { file: &'a str, wants: &'a str },
+    /// A file has the bytes of another one; has them from a place on; has so many bytes; or is not there.
+    Same {
+        file: &'a str,
+        wants: &'a str,
+    },
+    Holds {
+        file: &'a str,
+        at: u64,
+        wants: &'a str,
+    },
+    Length {
+        file: &'a str,
+        bytes: u64,
+    },
     None(&'a str),
 }
 
@@ -39,16 +59,22 @@ fn two(text: &str) -> Option<(&str, &str)> {
     text.split_once(' ')
 }
 
-/// The step of a line.
-pub fn step_of(line: &str) -> Option<Step<'_>> {
-    let (word, rest) = match two(line) {
-        Some(parts) => parts,
-        None => (line, ""),
-    };
+/// A file's name and a number.
+fn file_and_number(text: &str) -> Option<(&str, u64)> {
+    let (file, rest) = two(text)?;
+    Some((file, number(rest)?))
+}
+
+/// The step of a line that sets something up, or runs the program.
+fn setting_of<'a>(word: &str, rest: &'a str) -> Option<Step<'a>> {
     match word {
         "copy" => {
             let (from, to) = two(rest)?;
             Some(Step::Copy { from, to })
+        }
+        "zeros" => {
+            let (file, bytes) = file_and_number(rest)?;
+            Some(Step::Zeros { file, bytes })
         }
         "folder" => Some(Step::Folder(rest)),
         "hide" => Some(Step::Hide(rest)),
@@ -58,6 +84,13 @@ pub fn step_of(line: &str) -> Option<Step<'_>> {
         "full" => Some(Step::Full(number(rest)?)),
         "hears" => Some(Step::Hears(rest)),
         "run" => Some(Step::Run(rest)),
+        _ => None,
+    }
+}
+
+/// The step of a line that wants something to be so.
+fn wanted_of<'a>(word: &str, rest: &'a str) -> Option<Step<'a>> {
+    match word {
         "status" => Some(Step::Status(status(rest)?)),
         "prints" => Some(Step::Prints(rest)),
         "tells" => Some(Step::Tells(rest)),
@@ -67,8 +100,30 @@ pub fn step_of(line: &str) -> Option<Step<'_>> {
             let (file, wants) = two(rest)?;
             Some(Step::Same { file, wants })
         }
+        "holds" => {
+            let (file, rest) = two(rest)?;
+            let (at, wants) = two(rest)?;
+            let at = number(at)?;
+            Some(Step::Holds { file, at, wants })
+        }
+        "length" => {
+            let (file, bytes) = file_and_number(rest)?;
+            Some(Step::Length { file, bytes })
+        }
         "none" => Some(Step::None(rest)),
         _ => None,
+    }
+}
+
+/// The step of a line.
+pub fn step_of(line: &str) -> Option<Step<'_>> {
+    let (word, rest) = match two(line) {
+        Some(parts) => parts,
+        None => (line, ""),
+    };
+    match setting_of(word, rest) {
+        Some(step) => Some(step),
+        None => wanted_of(word, rest),
     }
 }
 
