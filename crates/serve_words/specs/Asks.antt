@@ -13,7 +13,7 @@ use Rattle.serve_words.specs.Sizes.{size_by}
 use Rattle.serve_words.specs.Splits.{Split}
 use Rattle.command_line.specs.Splits.{Split as LineSplit, value_of}
 use Rattle.command_line.specs.Reading.{text_of}
-use Rattle.command_line.specs.Asks.{Fault as LineFault, fault_of as line_fault_of, NoCommand, Requested, ForHelp, ForVersion, ForCommand, requested, one, two, all_taken}
+use Rattle.command_line.specs.Asks.{Fault as LineFault, fault_of as line_fault_of, NoCommand, Requested, ForHelp, ForVersion, ForCommand, requested, and_then, one, two, all_taken}
 
 -- what is asked for, by the bytes of names
 pub data Wanted : Type 0 where
@@ -57,12 +57,7 @@ told_chunk answer = result_map_both (λ x. x) fault_of answer
 abbrev pub told_full : Result Bool Wrong → Result Bool Fault
 told_full answer = result_map_both (λ x. x) fault_of answer
 
--- what follows where nothing is wrong
-abbrev pub and_then : {A B : Type 0} → Result A Fault → (A → Result B Fault) → Result B Fault
-and_then (Ok a) next = next a
-and_then (Err fault) next = Err fault
-
--- and where nothing is wrong with the line
+-- what follows where nothing is wrong with the line
 abbrev pub then_ask : {A B : Type 0} → Result A LineFault → (A → Result B Fault) → Result B Fault
 then_ask (Ok a) next = next a
 then_ask (Err fault) next = Err (OfLine fault)
