@@ -1,5 +1,6 @@
 // What words ask for.
 
+use command_line::Wrong as Line;
 use image_words::{Asked, Form, Wrong, words_ask};
 use std::alloc::Global;
 use std::test::Fail;
@@ -78,6 +79,7 @@ fn words_are_asked_in_any_place(rt: HostRuntime) -> Result<(), Fail> {
         ("check --json o c", Ok(Asked::Check { origin, cow, form })),
         ("merge o --json c --dry-run", Ok(tried)),
         ("map -- --raw", Ok(dashed)),
+        ("map c --json=1", Err(Wrong::Line(Line::Option("--json=1")))),
         ("check o c", Ok(check)),
         ("rollback o c -", Ok(written)),
         (
@@ -88,22 +90,22 @@ fn words_are_asked_in_any_place(rt: HostRuntime) -> Result<(), Fail> {
         ("words disk -", Ok(spelled)),
         ("image -- --json", Ok(heard)),
         ("words 9 c", Err(Wrong::Disk("9"))),
-        ("words disk", Err(Wrong::Missing("IMAGE"))),
-        ("words disk c d", Err(Wrong::Name("d"))),
-        ("image", Err(Wrong::Missing("OUT"))),
-        ("image - --json", Err(Wrong::Option("--json"))),
-        ("nbd o c --json", Err(Wrong::Option("--json"))),
-        ("shew c", Err(Wrong::Command("shew"))),
-        ("show", Err(Wrong::Missing("COW"))),
-        ("show c d", Err(Wrong::Name("d"))),
-        ("show c --raw", Err(Wrong::Option("--raw"))),
-        ("check o c --chunk 8", Err(Wrong::Option("--chunk"))),
+        ("words disk", Err(Wrong::Line(Line::Missing("IMAGE")))),
+        ("words disk c d", Err(Wrong::Line(Line::Name("d")))),
+        ("image", Err(Wrong::Line(Line::Missing("OUT")))),
+        ("image - --json", Err(Wrong::Line(Line::Option("--json")))),
+        ("nbd o c --json", Err(Wrong::Line(Line::Option("--json")))),
+        ("shew c", Err(Wrong::Line(Line::Command("shew")))),
+        ("show", Err(Wrong::Line(Line::Missing("COW")))),
+        ("show c d", Err(Wrong::Line(Line::Name("d")))),
+        ("show c --raw", Err(Wrong::Line(Line::Option("--raw")))),
+        (
+            "check o c --chunk 8",
+            Err(Wrong::Line(Line::Option("--chunk"))),
+        ),
         ("export o c - --chunk 8", Err(Wrong::Alone("--chunk"))),
         ("export o c - --salvage --chunk 9", Err(Wrong::Chunk("9"))),
-        (
-            "export --chunk",
-            Err(Wrong::Missing("the number behind --chunk")),
-        ),
+        ("export --chunk", Err(Wrong::Line(Line::NoValue("--chunk")))),
     ] {
         let words = words(rt.alloc(), line)?;
         let asked = words_ask(rt.alloc(), &words);

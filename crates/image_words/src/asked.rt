@@ -1,11 +1,12 @@
 // What is asked for.
-ghost use Rattle.std.specs.Prelude.{◌≡◌, List, [], ◌∷◌, map, find, not, codes};
+ghost use Rattle.std.specs.Prelude.{◌≡◌, map};
 ghost use Rattle.std.specs.String.{string_bytes};
-ghost use Rattle.image_words.specs.Splits.{split_of, text_in};
-ghost use Rattle.image_words.specs.Asks.{WithMemory, told, asked_by, split_asks, named_by, taken_by, command_by, takes_by, is_one_of, show_by, map_by, check_by, differ_by, export_by, merge_by, serve_by, words_by, image_by};
+ghost use Rattle.command_line.specs.Reading.{split_of};
+ghost use Rattle.image_words.specs.Asks.{WithMemory, told, asked_by, split_asks, command_by, show_by, map_by, check_by, differ_by, export_by, merge_by, serve_by, words_by, image_by};
 
-use crate::Wrong;
-use crate::splitting::{Words, split};
+use crate::options::{VALUED, chunk_of, form_of, options_of};
+use crate::wrong::Wrong;
+use command_line::{Request, Words, split};
 use std::alloc::Global;
 use words::is_a_name;
 
@@ -96,7 +97,7 @@ pub enum Asked<'a> {
 pub fn words_ask<'a>(alloc: Global, words: &'a [String]) -> Result<Asked<'a>, Wrong<'a>>
     ensures { WithMemory result (told result ≡ asked_by (map string_bytes words.now)) }
 {
-    match split(alloc, words) {
+    match split(alloc, VALUED, words) {
         Ok(words) => split_ask(&words),
         Err(_) => Err(Wrong::NoMemory),
     }
@@ -106,68 +107,14 @@ pub fn words_ask<'a>(alloc: Global, words: &'a [String]) -> Result<Asked<'a>, Wr
 fn split_ask<'a>(words: &Words<'a>) -> Result<Asked<'a>, Wrong<'a>>
     ensures { told result ≡ split_asks (split_of words.now) }
 {
-    if words.lacks_number() {
-        return Err(Wrong::Missing("the number behind --chunk"));
-    }
-    if words.has("--help") || words.has("-h") {
-        return Ok(Asked::Help);
-    }
-    if words.has("--version") || words.has("-V") {
-        return Ok(Asked::Version);
-    }
-    let command = words.name(0, "a command")?;
-    match not_taken(words, command) {
-        Some(option) => Err(Wrong::Option(option)),
-        None => ask(words, command),
-    }
-}
-
-/// The first option that a command does not take.
-fn not_taken<'a>(words: &Words<'a>, command: &str) -> Option<&'a str>
-    ensures { text_in result ≡ find (λ option. not (takes_by command.now option)) (split_of words.now).options }
-{
-    for option in words.options.as_slice() {
-        if !takes(command, option) {
-            return Some(*option);
+    match words.request()? {
+        Request::Help => Ok(Asked::Help),
+        Request::Version => Ok(Asked::Version),
+        Request::Command(command) => {
+            words.take_only(options_of(command))?;
+            ask(words, command)
         }
     }
-    None
-}
-
-/// Whether a command takes an option.
-fn takes(command: &str, option: &str) -> bool
-    ensures { result ≡ takes_by command.now option.now }
-{
-    if option == "--json" {
-        return answers(command);
-    }
-    if option == "--raw" {
-        return command == "map";
-    }
-    if option == "--dry-run" {
-        return command == "merge";
-    }
-    is_of_salvage(option) && command == "export"
-}
-
-/// Whether a command has an answer in either form.
-fn answers(command: &str) -> bool
-    ensures { result ≡ is_one_of (codes "show" ∷ codes "map" ∷ codes "check" ∷ codes "diff" ∷ codes "export" ∷ codes "rollback" ∷ codes "merge" ∷ []) command.now }
-{
-    command == "show"
-        || command == "map"
-        || command == "check"
-        || command == "diff"
-        || command == "export"
-        || command == "rollback"
-        || command == "merge"
-}
-
-/// Whether an option is one of a salvage.
-fn is_of_salvage(option: &str) -> bool
-    ensures { result ≡ is_one_of (codes "--salvage" ∷ codes "--behind" ∷ codes "--chunk" ∷ []) option.now }
-{
-    option == "--salvage" || option == "--behind" || option == "--chunk"
 }
 
 /// What a command asks for, whose options are all taken.
@@ -186,7 +133,7 @@ fn ask<'a>(words: &Words<'a>, command: &'a str) -> Result<Asked<'a>, Wrong<'a>>
         "nbd" => serve(words),
         "words" => spell(words),
         "image" => hear(words),
-        _ => Err(Wrong::Command(command)),
+        _ => Err(Wrong::Line(command_line::Wrong::Command(command))),
     }
 }
 
@@ -194,7 +141,7 @@ fn show<'a>(words: &Words<'a>) -> Result<Asked<'a>, Wrong<'a>>
     ensures { told result ≡ show_by (split_of words.now) }
 {
     let cow = words.one("COW")?;
-    let form = words.form();
+    let form = form_of(words);
     Ok(Asked::Show { cow, form })
 }
 
@@ -202,7 +149,7 @@ fn map<'a>(words: &Words<'a>) -> Result<Asked<'a>, Wrong<'a>>
     ensures { told result ≡ map_by (split_of words.now) }
 {
     let cow = words.one("COW")?;
-    let form = words.form();
+    let form = form_of(words);
     if words.has("--raw") {
         return Ok(Asked::RawMap { cow, form });
     }
@@ -213,7 +160,7 @@ fn check<'a>(words: &Words<'a>) -> Result<Asked<'a>, Wrong<'a>>
     ensures { told result ≡ check_by (split_of words.now) }
 {
     let (origin, cow) = words.two("ORIGIN", "COW")?;
-    let form = words.form();
+    let form = form_of(words);
     Ok(Asked::Check { origin, cow, form })
 }
 
@@ -221,7 +168,7 @@ fn differ<'a>(words: &Words<'a>) -> Result<Asked<'a>, Wrong<'a>>
     ensures { told result ≡ differ_by (split_of words.now) }
 {
     let (origin, cow) = words.two("ORIGIN", "COW")?;
-    let form = words.form();
+    let form = form_of(words);
     Ok(Asked::Differ { origin, cow, form })
 }
 
@@ -229,9 +176,9 @@ fn export<'a>(words: &Words<'a>) -> Result<Asked<'a>, Wrong<'a>>
     ensures { told result ≡ export_by (split_of words.now) }
 {
     let (origin, cow, out) = words.three("ORIGIN", "COW", "OUT")?;
-    let chunk = words.chunk()?;
+    let chunk = chunk_of(words)?;
     let behind = words.has("--behind");
-    let form = words.form();
+    let form = form_of(words);
     if words.has("--salvage") {
         return Ok(Asked::Salvage {
             origin,
@@ -261,7 +208,7 @@ fn merge<'a>(words: &Words<'a>) -> Result<Asked<'a>, Wrong<'a>>
 {
     let (origin, cow) = words.two("ORIGIN", "COW")?;
     let dry = words.has("--dry-run");
-    let form = words.form();
+    let form = form_of(words);
     Ok(Asked::Merge {
         origin,
         cow,

@@ -31,7 +31,7 @@ usage: lochknife show COW [--json]
   image     the bytes that dmrig's answers to save tell, from standard input, into a new file OUT
 
 COW is an image of a snapshot's store, ORIGIN one of its origin: files or block devices. OUT must not be there; as - it
-is standard output. Options stand anywhere; after -- there are names only.
+is standard output. Options stand anywhere, a value behind its option or as --option=VALUE; after -- there are names only.
 
   --json      the answer as JSON: an object, or one a line
   --raw       whether the store is good or not

@@ -1,5 +1,5 @@
-//! The words of `lochknife`'s command line: how they are split into names and options, what they ask for or which of them is wrong,
-//! and what the program says of itself. It stands on `words`, for the names of disks and for numbers.
+//! The words of `lochknife`'s command line: what they ask for or which of them is wrong, and what the program says of itself. It stands
+//! on `command_line`, which splits them into names and options, and on `words`, for the names of disks and for numbers.
 //!
 //! It promises that what is asked for is a function of all words (`specs/Asks`), but where memory is refused. A name of a file is given
 //! as it was said: whether there is one is not looked at here.
@@ -7,7 +7,7 @@
 
 mod asked;
 mod help;
-mod splitting;
+mod options;
 mod wrong;
 
 pub use asked::{Asked, Form, words_ask};

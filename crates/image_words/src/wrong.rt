@@ -1,34 +1,39 @@
 // What is wrong with the words of a command line.
+ghost use Rattle.std.specs.Prelude.{◌≡◌};
+ghost use Rattle.image_words.specs.declared.wrong.Wrong.TheVariants.{Line};
 
 use std::fmt;
 
 /// What is wrong with the words, and with which.
 #[derive(Clone, Copy, PartialEq, Eq)]
 pub enum Wrong<'a> {
-    /// This is missing.
-    Missing(&'static str),
-    /// No command has this name.
-    Command(&'a str),
-    /// The command does not take this option.
-    Option(&'a str),
+    /// They are no names and options of this command.
+    Line(command_line::Wrong<'a>),
     /// This option goes with `--salvage`.
     Alone(&'static str),
     /// This is no chunk size.
     Chunk(&'a str),
     /// No disk of `dmrig` has this name.
     Disk(&'a str),
-    /// This name is one too many.
-    Name(&'a str),
     /// Memory is refused.
     NoMemory,
+}
+
+impl<'a> From<command_line::Wrong<'a>> for Wrong<'a> {
+    ghost from_gives = { λ wrong own. own ≡ Line wrong };
+
+    fn from(wrong: command_line::Wrong<'a>) -> Wrong<'a> {
+        Wrong::Line(wrong)
+    }
 }
 
 impl fmt::Display for Wrong<'_> {
     fn fmt<W: fmt::Write>(&self, f: &mut fmt::Formatter<W>) -> fmt::Result {
         match self {
-            Wrong::Missing(wanted) => write!(f, "{wanted} is missing"),
-            Wrong::Command(word) => write!(f, "{word} is no command"),
-            Wrong::Option(word) => write!(f, "{word} is no option of this command"),
+            Wrong::Line(command_line::Wrong::NoValue(option)) => {
+                write!(f, "the number behind {option} is missing")
+            }
+            Wrong::Line(wrong) => write!(f, "{wrong}"),
             Wrong::Alone(option) => write!(f, "{option} goes with --salvage"),
             Wrong::Chunk(word) => write!(
                 f,
@@ -38,7 +43,6 @@ impl fmt::Display for Wrong<'_> {
                 f,
                 "{word} is no name of a disk: 1 to 16 of a to z, 0 to 9 and _, a letter first"
             ),
-            Wrong::Name(word) => write!(f, "{word} is one name too many"),
             Wrong::NoMemory => write!(f, "no memory"),
         }
     }

@@ -1,12 +1,14 @@
 // What is asked for.
-ghost use Rattle.std.specs.Prelude.{◌≡◌, find, not};
-ghost use Rattle.serve_words.specs.Splits.{split_of, text_in};
-ghost use Rattle.serve_words.specs.Asks.{told, asked_by, command_by, takes_by, new_by, take_by, serve_by};
+ghost use Rattle.std.specs.Prelude.{◌≡◌};
+ghost use Rattle.serve_words.specs.Splits.{split_of};
+ghost use Rattle.serve_words.specs.Asks.{told, asked_by, command_by, new_by, take_by, serve_by};
 
 use crate::exports::unfit;
+use crate::options::{chunk_of, options_of, refuses};
 use crate::sizes::size_of;
 use crate::splitting::Words;
 use crate::wrong::Wrong;
+use command_line::Request;
 
 /// What is asked for. A name of a file is as it was given.
 #[derive(Clone, Copy, PartialEq, Eq)]
@@ -40,42 +42,14 @@ pub enum Asked<'w, 'a> {
 pub fn words_ask<'w, 'a>(words: &'w Words<'a>) -> Result<Asked<'w, 'a>, Wrong<'a>>
     ensures { told result ≡ asked_by (split_of words.now) }
 {
-    if let Some(option) = words.awaited {
-        return Err(Wrong::NoValue(option));
-    }
-    if words.has("--help") || words.has("-h") {
-        return Ok(Asked::Help);
-    }
-    if words.has("--version") || words.has("-V") {
-        return Ok(Asked::Version);
-    }
-    let command = words.name(0, "a command")?;
-    match not_taken(words, command) {
-        Some(option) => Err(Wrong::Option(option)),
-        None => ask(words, command),
-    }
-}
-
-/// The first option that a command does not take.
-fn not_taken<'a>(words: &Words<'a>, command: &str) -> Option<&'a str>
-    ensures { text_in result ≡ find (λ option. not (takes_by command.now option)) (split_of words.now).options }
-{
-    for option in words.options.as_slice() {
-        if !takes(command, option) {
-            return Some(*option);
+    match words.line.request()? {
+        Request::Help => Ok(Asked::Help),
+        Request::Version => Ok(Asked::Version),
+        Request::Command(command) => {
+            words.line.take_only(options_of(command))?;
+            ask(words, command)
         }
     }
-    None
-}
-
-/// Whether a command takes an option.
-fn takes(command: &str, option: &str) -> bool
-    ensures { result ≡ takes_by command.now option.now }
-{
-    if option == "--chunk" {
-        return command == "take" || command == "serve";
-    }
-    (option == "--snapshot" || option == "--full") && command == "serve"
 }
 
 /// What a command asks for, whose options are all taken.
@@ -87,14 +61,14 @@ fn ask<'w, 'a>(words: &'w Words<'a>, command: &'a str) -> Result<Asked<'w, 'a>, 
         "new" => new(words),
         "take" => take(words),
         "serve" => serve(words),
-        _ => Err(Wrong::Command(command)),
+        _ => Err(Wrong::Line(command_line::Wrong::Command(command))),
     }
 }
 
 fn new<'w, 'a>(words: &'w Words<'a>) -> Result<Asked<'w, 'a>, Wrong<'a>>
     ensures { told result ≡ new_by (split_of words.now) }
 {
-    let (cow, size) = words.two("COW", "SIZE")?;
+    let (cow, size) = words.line.two("COW", "SIZE")?;
     match size_of(size.as_bytes()) {
         Some(bytes) => Ok(Asked::New { cow, bytes }),
         None => Err(Wrong::Size(size)),
@@ -104,17 +78,17 @@ fn new<'w, 'a>(words: &'w Words<'a>) -> Result<Asked<'w, 'a>, Wrong<'a>>
 fn take<'w, 'a>(words: &'w Words<'a>) -> Result<Asked<'w, 'a>, Wrong<'a>>
     ensures { told result ≡ take_by (split_of words.now) }
 {
-    let (origin, cow) = words.two("ORIGIN", "COW")?;
-    let chunk = words.chunk()?;
+    let (origin, cow) = words.line.two("ORIGIN", "COW")?;
+    let chunk = chunk_of(&words.line)?;
     Ok(Asked::Take { origin, cow, chunk })
 }
 
 fn serve<'w, 'a>(words: &'w Words<'a>) -> Result<Asked<'w, 'a>, Wrong<'a>>
     ensures { told result ≡ serve_by (split_of words.now) }
 {
-    let origin = words.one("ORIGIN")?;
-    let chunk = words.chunk()?;
-    let refuse = words.refuses()?;
+    let origin = words.line.one("ORIGIN")?;
+    let chunk = chunk_of(&words.line)?;
+    let refuse = refuses(&words.line)?;
     let cows = words.snapshots.as_slice();
     if let Some(cow) = cows.get(8) {
         return Err(Wrong::Snapshot(*cow));

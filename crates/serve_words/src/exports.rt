@@ -1,6 +1,6 @@
 // The names of exports.
 ghost use Rattle.std.specs.Prelude.{◌≡◌, [], map};
-ghost use Rattle.serve_words.specs.Splits.{text_in, text_of};
+ghost use Rattle.command_line.specs.Reading.{text_in, text_of};
 ghost use Rattle.serve_words.specs.Exports.{last_part, has_export, is_unfit as is_unfit_by, first_unfit};
 
 /// The name of a snapshot's export: the last part of its file's name.

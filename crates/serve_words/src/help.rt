@@ -20,7 +20,8 @@ usage: lochknife new COW SIZE
             protocol on standard input and output. All snapshots that ORIGIN has must be named, at most eight. Over an empty
             COW a snapshot is taken as it starts
 
-ORIGIN and COW are files, of at most 1 TiB, which no other program uses. Options stand anywhere; after -- there are names only.
+ORIGIN and COW are files, of at most 1 TiB, which no other program uses. Options stand anywhere, a value behind its option or
+as --option=VALUE; after -- there are names only.
 
   --chunk N   the sectors of a chunk: a power of two from 1 to 1024, and 8 where it is not given
   --snapshot COW   a snapshot; its export has the last part of that name, ORIGIN's is called origin and is the first

@@ -1,18 +1,14 @@
 // What is wrong with the words of a command line.
+ghost use Rattle.std.specs.Prelude.{◌≡◌};
+ghost use Rattle.serve_words.specs.declared.wrong.Wrong.TheVariants.{Line};
 
 use std::fmt;
 
 /// What is wrong with the words, and with which.
 #[derive(Clone, Copy, PartialEq, Eq)]
 pub enum Wrong<'a> {
-    /// This is missing.
-    Missing(&'static str),
-    /// The word behind this option is missing.
-    NoValue(&'a str),
-    /// No command has this name.
-    Command(&'a str),
-    /// The command does not take this option.
-    Option(&'a str),
+    /// They are no names and options of this command.
+    Line(command_line::Wrong<'a>),
     /// This is no chunk size.
     Chunk(&'a str),
     /// This is no size of a store.
@@ -23,17 +19,20 @@ pub enum Wrong<'a> {
     Snapshot(&'a str),
     /// This snapshot's export has the name of another one, or none.
     Export(&'a str),
-    /// This name is one too many.
-    Name(&'a str),
+}
+
+impl<'a> From<command_line::Wrong<'a>> for Wrong<'a> {
+    ghost from_gives = { λ wrong own. own ≡ Line wrong };
+
+    fn from(wrong: command_line::Wrong<'a>) -> Wrong<'a> {
+        Wrong::Line(wrong)
+    }
 }
 
 impl fmt::Display for Wrong<'_> {
     fn fmt<W: fmt::Write>(&self, f: &mut fmt::Formatter<W>) -> fmt::Result {
         match self {
-            Wrong::Missing(wanted) => write!(f, "{wanted} is missing"),
-            Wrong::NoValue(option) => write!(f, "the word behind {option} is missing"),
-            Wrong::Command(word) => write!(f, "{word} is no command"),
-            Wrong::Option(word) => write!(f, "{word} is no option of this command"),
+            Wrong::Line(wrong) => write!(f, "{wrong}"),
             Wrong::Chunk(word) => write!(
                 f,
                 "{word} is no chunk size: a power of two from 1 to 1024 sectors"
@@ -51,7 +50,6 @@ impl fmt::Display for Wrong<'_> {
                 f,
                 "{word}: the last part of its name is origin, or that of another snapshot, or nothing"
             ),
-            Wrong::Name(word) => write!(f, "{word} is one name too many"),
         }
     }
 }

@@ -1,5 +1,5 @@
 use Rattle.std.proofs.Common.{◌≡◌, [], map, take, drop}
-use Rattle.serve_words.specs.Splits.{text_of}
+use Rattle.command_line.specs.Reading.{text_of}
 use Rattle.serve_words.specs.Exports.{first_unfit}
 use Rattle.serve_words.proofs.exports.unfit.Given as goal
 

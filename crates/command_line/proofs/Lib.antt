@@ -1,0 +1,2 @@
+mod Strips
+mod OneByOne

@@ -1,0 +1,3 @@
+pub mod Splits
+pub mod Reading
+pub mod Asks

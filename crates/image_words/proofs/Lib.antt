@@ -1,2 +1,0 @@
-mod Givens
-mod Strips

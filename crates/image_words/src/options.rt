@@ -1,0 +1,51 @@
+// Which options there are, which of them a command takes, and what they mean.
+ghost use Rattle.std.specs.Prelude.{◌≡◌};
+ghost use Rattle.command_line.specs.Reading.{texts_of, split_of};
+ghost use Rattle.image_words.specs.Asks.{options_by, form_by, chunk_by, told_chunk};
+
+use crate::asked::Form;
+use crate::wrong::Wrong;
+use command_line::Words;
+use words::number;
+
+/// The options that take a value.
+pub const VALUED: &[&str] = &["--chunk"];
+
+/// The options that a command takes.
+pub fn options_of(command: &str) -> &'static [&'static str]
+    ensures { texts_of result.now ≡ options_by command.now }
+{
+    match command {
+        "show" => &["--json"],
+        "map" => &["--json", "--raw"],
+        "check" => &["--json"],
+        "diff" => &["--json"],
+        "export" => &["--json", "--salvage", "--chunk", "--behind"],
+        "rollback" => &["--json"],
+        "merge" => &["--json", "--dry-run"],
+        _ => &[],
+    }
+}
+
+/// How an answer is to be written.
+pub fn form_of(words: &Words<'_>) -> Form
+    ensures { result ≡ form_by (split_of words.now) }
+{
+    if words.has("--json") {
+        return Form::Json;
+    }
+    Form::Lines
+}
+
+/// The sectors of a chunk, where they are given.
+pub fn chunk_of<'a>(words: &Words<'a>) -> Result<Option<u32>, Wrong<'a>>
+    ensures { told_chunk result ≡ chunk_by (split_of words.now) }
+{
+    let Some(word) = words.value("--chunk") else {
+        return Ok(None);
+    };
+    match number(word.as_bytes()) {
+        Some(sectors) if sectors.is_power_of_two() && sectors <= 1024 => Ok(Some(sectors)),
+        _ => Err(Wrong::Chunk(word)),
+    }
+}
