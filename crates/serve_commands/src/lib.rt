@@ -6,6 +6,7 @@
 #![tactic(auto)]
 
 mod ending;
+mod exports;
 mod running;
 mod serving;
 mod taking;

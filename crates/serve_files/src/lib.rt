@@ -7,14 +7,26 @@
 //! status: 0 where it is done, 1 where a store is refused, 2 else. Which files there are, and who has locked them, is said by no clause.
 #![tactic(auto)]
 
+mod all_files;
 mod ended;
+mod ending;
+mod exports;
+mod held_file;
 mod making;
 mod opening;
+mod served_file;
+mod synced_file;
 mod told_file;
 mod trouble;
 
+pub use all_files::{Pair, SessionFiles, opened_pair, session_files};
 pub use ended::status_of;
+pub use ending::{AllSynced, all_synced};
+pub use exports::Exports;
+pub use held_file::HeldFile;
 pub use making::{make_store, new};
-pub use opening::{OpenFile, ServedFile, are_apart, has_streams, opened, served, synced};
+pub use opening::{OpenFile, has_streams, opened};
+pub use served_file::{ServedFile, served};
+pub use synced_file::{Device, Part, SyncedFile, device_name, synced};
 pub use told_file::ToldFile;
-pub use trouble::{StoreFault, Trouble, Why, about, held};
+pub use trouble::{StoreFault, Trouble, Why, about, held, pushed};
