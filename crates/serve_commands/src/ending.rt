@@ -1,16 +1,19 @@
 // How a session ended.
-ghost use Rattle.std.specs.Prelude.{◌≡◌, IfErr, IfOk, None, Ok, OnOk, Some, find, if◌then◌else◌, is_ok, map, not, true};
-ghost use Rattle.std.specs.List.{list_all};
+ghost use Rattle.std.specs.Prelude.{◌≡◌, None, Ok, OnOk, Some, find, if◌then◌else◌, map, true};
+ghost use Rattle.std.specs.List.{All, list_all};
 ghost use Rattle.std.specs.Option.{option_map};
+ghost use Rattle.file_calls.specs.Kept.{are_answered};
 ghost use Rattle.file_calls.specs.Note.{call_of};
 ghost use Rattle.nbd_session.specs.declared.ended.Finish.TheVariants.{Client};
-ghost use Rattle.serve_words.specs.Splits.{text_in};
 ghost use Rattle.serve_files.specs.Ending.{is_synced};
+ghost use Rattle.serve_files.specs.Names.{text_in};
 ghost use Rattle.serve_commands.specs.Troubles.{stop_by};
 
 use file_calls::DiskFile;
 use nbd_session::{Ended, Finish};
-use serve_files::{AllSynced, Device, HeldFile, Trouble, Why, all_synced, device_name};
+use serve_files::{
+    AllSynced, Device, HeldFile, Trouble, Why, all_synced, device_name, is_answered,
+};
 use snapshot::Snapshot;
 use std::io::Write;
 use volume::Volume;
@@ -92,15 +95,31 @@ fn trouble_of_end<'a>(
     Err(Trouble { name, why })
 }
 
-/// Ends a session: where its client went, all files are synced.
+/// Sees that no file of a session left a write or a sync unanswered.
+fn are_all_answered<'a>(volume: &Volume<Device<'a>>) -> Result<(), Trouble<'a>>
+    ensures origin { OnOk result (are_answered (map call_of volume.now.origin.file.file.noted.notes) ≡ true) }
+    ensures stores { OnOk result (All (λ snap. are_answered (map call_of snap.device.file.file.noted.notes) ≡ true) volume.now.snaps) }
+{
+    is_answered(volume.origin())?;
+    let snaps = volume.snaps();
+    for snap in snaps {
+        is_answered(snap.device())?;
+    }
+    Ok(())
+}
+
+/// Ends a session: where its client went and all files answered, they are synced.
 pub fn end<'a>(
     array: &VolumeArray<Device<'a>>,
     ended: Result<Finish, Ended>,
     held: &mut [HeldFile<'a, DiskFile>],
 ) -> Result<AllSynced, Trouble<'a>>
     ensures client { OnOk result (ended ≡ Ok Client) }
+    ensures origin { OnOk result (are_answered (map call_of array.now.volume.origin.file.file.noted.notes) ≡ true) }
+    ensures stores { OnOk result (All (λ snap. are_answered (map call_of snap.device.file.file.noted.notes) ≡ true) array.now.volume.snaps) }
     ensures synced { OnOk result (list_all (λ file. is_synced (map call_of file.file.noted.notes)) held.new ≡ true) }
 {
     trouble_of_end(array, ended)?;
+    are_all_answered(array.volume())?;
     all_synced(held)
 }

@@ -1,12 +1,14 @@
 // A file becomes a device, once all that is in it is on the disk.
-ghost use Rattle.std.specs.Prelude.{◌≡◌, ◌∷◌, ◌≤◌, [], IfErr, IfOk, false, map, true};
+ghost use Rattle.std.specs.Prelude.{◌≡◌, ◌∷◌, ◌≤◌, [], IfErr, IfOk, OnOk, false, map, true};
 ghost use Rattle.file_calls.specs.Calls.{Sync};
+ghost use Rattle.file_calls.specs.Kept.{are_answered};
 ghost use Rattle.file_calls.specs.Note.{call_of};
 
 use crate::held_file::HeldFile;
 use crate::served_file::ServedFile;
 use crate::told_file::ToldFile;
 use crate::trouble::{Trouble, Why, about, held};
+use device::Ahead;
 use file_calls::DiskFile;
 use file_device::{FileDevice, Unknown};
 use std::fs::File;
@@ -19,6 +21,19 @@ pub fn device_name<'a>(device: &Device<'a>) -> &'a str
     ensures { result.now ≡ device.now.file.name.now }
 {
     device.file().name()
+}
+
+/// Sees that the file of a device left no write and no sync unanswered.
+pub fn is_answered<'a>(device: &Device<'a>) -> Result<(), Trouble<'a>>
+    ensures ok { OnOk result (are_answered (map call_of device.now.file.file.noted.notes) ≡ true) }
+    ensures told { IfErr result (λ trouble. trouble.name.now ≡ device.now.file.name.now) }
+{
+    if device.is_failed() {
+        let name = device_name(device);
+        let why = Why::Failed;
+        return Err(Trouble { name, why });
+    }
+    Ok(())
 }
 
 /// A file that is open and locked, and was synced since. Only `synced` makes one, and devices are made of these alone.
