@@ -5,7 +5,7 @@ ghost use Rattle.serve_words.specs.Splits.{split_by};
 ghost use Rattle.serve_words.specs.Asks.{asked_by};
 
 use crate::serving::{Serving, serve};
-use crate::taking::take;
+use crate::taking::{Taking, take};
 use serve_files::{Trouble, about, new, status_of};
 use serve_words::{Asked, HELP, VERSION, split, words_ask};
 use std::io;
@@ -59,7 +59,7 @@ fn done<'a, R: Read, W: Write, E: Write>(
         Asked::Help => said(HELP, output),
         Asked::Version => said(VERSION, output),
         Asked::New { cow, bytes } => new(rt, cow, bytes),
-        Asked::Take { origin, cow, chunk } => take(rt, origin, cow, chunk, errors),
+        Asked::Take { origin, cow, chunk } => take(rt, Taking { origin, cow, chunk }, errors),
         Asked::Serve {
             origin,
             cows,
@@ -72,7 +72,10 @@ fn done<'a, R: Read, W: Write, E: Write>(
                 chunk,
                 refuse,
             };
-            serve(rt, words, input, output, errors)
+            match serve(rt, words, input, output, errors) {
+                Ok(_) => Ok(()),
+                Err(trouble) => Err(trouble),
+            }
         }
     }
 }

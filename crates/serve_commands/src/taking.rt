@@ -1,77 +1,68 @@
 // A snapshot is taken over an empty store.
+ghost use Rattle.std.specs.Prelude.{◌≡◌, if◌then◌else◌};
+ghost use Rattle.serve_commands.specs.Troubles.{is_of_origin, why_by};
 
-use file_calls::DiskFile;
-use file_device::{FileDevice, Unknown};
 use sector::Refusal;
-use serve_files::{
-    ServedFile, StoreFault, ToldFile, Trouble, Why, about, are_apart, has_streams, opened, served,
-    synced,
-};
+use serve_files::{Pair, StoreFault, Trouble, Why, has_streams, opened_pair};
 use served_volume::NotOpened;
 use std::io::Write;
 
-/// A file of the operating system as a device. Nothing is supposed of what it holds.
-pub type Device<'a> = FileDevice<ToldFile<'a, DiskFile>, Unknown>;
-
-/// The device of a file, which has this number among those of the command.
-pub fn device_of<'a>(
-    rt: &'a HostRuntime,
-    served: &ServedFile<'a>,
-    number: u64,
-) -> Result<Device<'a>, Trouble<'a>> {
-    let name = served.name;
-    let file = about(name, served.file.try_clone())?;
-    let file = ToldFile::new(rt, name, DiskFile::new(file));
-    match FileDevice::new(rt.alloc(), file, number, served.sectors) {
-        Ok(device) => Ok(device),
-        Err(_) => {
-            let why = Why::NoMemory;
-            Err(Trouble { name, why })
-        }
-    }
+/// The words of a snapshot that is to be taken.
+#[derive(Clone, Copy)]
+pub struct Taking<'a> {
+    pub origin: &'a str,
+    pub cow: &'a str,
+    /// The sectors of a chunk.
+    pub chunk: u32,
 }
 
 /// Takes a snapshot of an origin over an empty store, and tells so.
 pub fn take<'a, E: Write>(
     rt: &'a HostRuntime,
-    origin: &'a str,
-    cow: &'a str,
-    chunk: u32,
+    words: Taking<'a>,
     errors: &mut E,
 ) -> Result<(), Trouble<'a>> {
     has_streams(rt)?;
-    let first = opened(rt, origin)?;
-    let second = opened(rt, cow)?;
-    are_apart(&first, &second)?;
-    let first = served(rt, first)?;
-    let second = served(rt, second)?;
-    synced(&first)?;
-    synced(&second)?;
-    let origin_device = device_of(rt, &first, 0)?;
-    let store = device_of(rt, &second, 1)?;
-    match served_volume::take(rt.alloc(), origin_device, store, chunk) {
+    let Taking { origin, cow, chunk } = words;
+    let pair = opened_pair(rt, origin, cow)?;
+    let Pair {
+        origin: device,
+        store,
+    } = pair;
+    match served_volume::take(rt.alloc(), device, store, chunk) {
         Ok(_) => {
             let _ = writeln!(errors, "taken {cow}");
             Ok(())
         }
-        Err(why) => Err(trouble_of(why, origin, cow, chunk)),
+        Err(why) => Err(trouble_of(why, words)),
     }
 }
 
-/// With which file it went wrong, where chunks are to have so many sectors.
-pub fn trouble_of<'a>(why: NotOpened, origin: &'a str, cow: &'a str, chunk: u32) -> Trouble<'a> {
-    let (name, why) = match why {
-        NotOpened::NoMemory => (cow, Why::NoMemory),
-        NotOpened::Written => (cow, Why::Store(StoreFault::Written)),
+/// What went wrong where no snapshot is opened, with chunks of so many sectors.
+fn why_of(why: NotOpened, chunk: u32) -> Why
+    ensures { result ≡ why_by chunk why }
+{
+    match why {
+        NotOpened::NoMemory => Why::NoMemory,
+        NotOpened::Written => Why::Store(StoreFault::Written),
         NotOpened::Refused(Refusal::StoreTooSmall) => {
-            (
-                cow,
-                Why::Store(StoreFault::TooSmall(1024 * u64::from(chunk))),
-            )
+            Why::Store(StoreFault::TooSmall(1024 * u64::from(chunk)))
         }
-        NotOpened::Refused(refusal) => (cow, Why::Store(StoreFault::Refused(refusal))),
-        NotOpened::OriginFailed => (origin, Why::Failed),
-        NotOpened::StoreFailed => (cow, Why::Failed),
+        NotOpened::Refused(refusal) => Why::Store(StoreFault::Refused(refusal)),
+        NotOpened::OriginFailed | NotOpened::StoreFailed => Why::Failed,
+    }
+}
+
+/// With which file it went wrong, and what.
+pub fn trouble_of<'a>(why: NotOpened, words: Taking<'a>) -> Trouble<'a>
+    ensures name { result.name.now ≡ (if is_of_origin why then words.entry.origin.now else words.entry.cow.now) }
+    ensures why { result.why ≡ why_by words.entry.chunk why }
+{
+    let name = if why == NotOpened::OriginFailed {
+        words.origin
+    } else {
+        words.cow
     };
+    let why = why_of(why, words.chunk);
     Trouble { name, why }
 }

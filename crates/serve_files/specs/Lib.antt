@@ -1,2 +1,5 @@
+pub mod Ending
 pub mod Making
+pub mod Names
+pub mod Served
 pub mod Status

@@ -1,10 +1,10 @@
 // An empty store is made: zeros, without a header.
-ghost use Rattle.std.specs.Prelude.{◌≡◌, ◌∷◌, ◌≢◌, ℕ, None, Some, IfOk, OnErr, replicate, []};
+ghost use Rattle.std.specs.Prelude.{◌≡◌, ◌∷◌, ◌≢◌, ℕ, None, Some, IfErr, IfOk, OnErr, replicate, []};
 ghost use Rattle.file_calls.specs.Calls.{Len, SetLen, Sync};
 ghost use Rattle.file_calls.specs.Kept.{now_in};
 ghost use Rattle.serve_files.specs.Making.{IsMade, IsLeft};
 
-use crate::opening::{folder_synced, has_streams, opened};
+use crate::opening::{OpenFile, folder_synced, has_streams, opened};
 use crate::trouble::{Trouble, Why, about};
 use file_calls::{DiskFile, FileCalls};
 use std::fs::File;
@@ -29,13 +29,16 @@ pub fn make_store<C: FileCalls>(file: &mut C, bytes: u64) -> io::Result<Option<u
 }
 
 /// Makes the file of a store, or opens an empty one, and gives whether it was made.
-fn file_for<'a>(rt: &HostRuntime, cow: &'a str) -> Result<(File, bool), Trouble<'a>> {
+fn file_for<'a>(rt: &HostRuntime, cow: &'a str) -> Result<(File, bool), Trouble<'a>>
+    ensures told { IfErr result (λ trouble. trouble.name.now ≡ cow.now) }
+{
     match File::create_new(rt, cow) {
         Ok(file) => Ok((file, true)),
         Err(error) if error.kind() == ErrorKind::AlreadyExists => {
             let opened = opened(rt, cow)?;
             opened.is_alone(rt)?;
-            Ok((opened.file, false))
+            let OpenFile { file, .. } = opened;
+            Ok((file, false))
         }
         Err(error) => {
             let why = Why::File(error);
@@ -45,7 +48,9 @@ fn file_for<'a>(rt: &HostRuntime, cow: &'a str) -> Result<(File, bool), Trouble<
 }
 
 /// Makes a store of so many bytes in a file that is open.
-fn made_in<'a>(cow: &'a str, file: File, bytes: u64) -> Result<(), Trouble<'a>> {
+fn made_in<'a>(cow: &'a str, file: File, bytes: u64) -> Result<(), Trouble<'a>>
+    ensures told { IfErr result (λ trouble. trouble.name.now ≡ cow.now) }
+{
     let mut file = DiskFile::new(file);
     match about(cow, make_store(&mut file, bytes))? {
         None => Ok(()),

@@ -1,9 +1,9 @@
 // A file is opened to be written in place, and locked.
-ghost use Rattle.std.specs.Prelude.{◌≡◌, ◌*◌, ◌<◌, ◌≤◌, IfOk};
+ghost use Rattle.std.specs.Prelude.{◌≡◌, ◌≢◌, IfErr, IfOk, OnOk};
+ghost use Rattle.std.specs.List.{All};
 
 use crate::trouble::{Trouble, Why, about};
 use file_users::{UsedFile, user_of};
-use serve_words::MOST_BYTES;
 use std::fs::{File, TryLockError};
 use std::os::fd::AsRawFd;
 use std::{fs, io};
@@ -19,15 +19,19 @@ pub fn has_streams(rt: &HostRuntime) -> Result<(), Trouble<'static>> {
     Ok(())
 }
 
-/// A file that is open for reading and writing.
+/// A file that is open for reading and writing, with its name and which file it was then. Only `opened` makes one.
 #[derive(Drop)]
 pub struct OpenFile<'a> {
-    pub name: &'a str,
-    pub file: File,
+    pub(crate) name: &'a str,
+    pub(crate) file: File,
+    which: UsedFile,
 }
 
 /// Opens a file that is there. What is no file is not opened: nothing tells whether a block device is in use.
-pub fn opened<'a>(rt: &HostRuntime, name: &'a str) -> Result<OpenFile<'a>, Trouble<'a>> {
+pub fn opened<'a>(rt: &HostRuntime, name: &'a str) -> Result<OpenFile<'a>, Trouble<'a>>
+    ensures named { IfOk result (λ opened. opened.name.now ≡ name.now) }
+    ensures told { IfErr result (λ trouble. trouble.name.now ≡ name.now) }
+{
     let metadata = about(name, fs::metadata(rt, name))?;
     if !metadata.is_file() {
         let why = Why::NoFile;
@@ -35,17 +39,15 @@ pub fn opened<'a>(rt: &HostRuntime, name: &'a str) -> Result<OpenFile<'a>, Troub
     }
     let file = File::options().read(true).write(true).open(rt, name);
     let file = about(name, file)?;
-    Ok(OpenFile { name, file })
+    let which = UsedFile::of(&about(name, file.metadata())?);
+    Ok(OpenFile { name, file, which })
 }
 
 impl<'a> OpenFile<'a> {
-    /// Which file it is.
-    fn used(&self) -> Result<UsedFile, Trouble<'a>> {
-        Ok(UsedFile::of(&about(self.name, self.file.metadata())?))
-    }
-
     /// Locks it against all other programs that lock it, and sees that nobody uses it, as far as that can be told.
-    pub fn is_alone(&self, rt: &HostRuntime) -> Result<(), Trouble<'a>> {
+    pub(crate) fn is_alone(&self, rt: &HostRuntime) -> Result<(), Trouble<'a>>
+        ensures told { IfErr result (λ trouble. trouble.name.now ≡ self.now.name.now) }
+    {
         let name = self.name;
         let why = match self.file.try_lock() {
             Ok(()) => return self.is_unused(rt),
@@ -56,9 +58,11 @@ impl<'a> OpenFile<'a> {
     }
 
     /// Sees that nobody uses it.
-    fn is_unused(&self, rt: &HostRuntime) -> Result<(), Trouble<'a>> {
+    fn is_unused(&self, rt: &HostRuntime) -> Result<(), Trouble<'a>>
+        ensures told { IfErr result (λ trouble. trouble.name.now ≡ self.now.name.now) }
+    {
         let name = self.name;
-        match about(name, user_of(rt, self.used()?, false))? {
+        match about(name, user_of(rt, self.which, false))? {
             None => Ok(()),
             Some(user) => {
                 let why = Why::Used(user);
@@ -69,70 +73,30 @@ impl<'a> OpenFile<'a> {
 }
 
 /// Sees that two files are not one.
-pub fn are_apart<'a>(one: &OpenFile<'a>, other: &OpenFile<'a>) -> Result<(), Trouble<'a>> {
-    if one.used()? == other.used()? {
-        let name = other.name;
+pub(crate) fn is_apart<'a>(other: &OpenFile<'a>, file: &OpenFile<'a>) -> Result<(), Trouble<'a>>
+    ensures apart { OnOk result (other.now.which ≢ file.now.which) }
+    ensures told { IfErr result (λ trouble. trouble.name.now ≡ file.now.name.now) }
+{
+    if other.which == file.which {
+        let name = file.name;
         let why = Why::SameFile;
         return Err(Trouble { name, why });
     }
     Ok(())
 }
 
-/// A file that is open and locked, and how many sectors it has: 1 to 2^31.
-#[derive(Drop)]
-pub struct ServedFile<'a> {
-    pub name: &'a str,
-    pub file: File,
-    pub sectors: u64,
-    pub ghost some: { 0 < sectors },
-    pub ghost small: { sectors ≤ 2_147_483_648 },
-}
-
-/// Locks a file that is to be served, and looks how long it is.
-pub fn served<'a>(rt: &HostRuntime, opened: OpenFile<'a>) -> Result<ServedFile<'a>, Trouble<'a>> {
-    opened.is_alone(rt)?;
-    let OpenFile { name, file } = opened;
-    let bytes = about(name, file.metadata())?.len();
-    let sectors = sectors_of(name, bytes)?;
-    Ok(ServedFile {
-        name,
-        file,
-        sectors,
-    })
-}
-
-/// How many sectors so many bytes are.
-fn sectors_of<'a>(name: &'a str, bytes: u64) -> Result<u64, Trouble<'a>>
-    ensures { IfOk result (λ sectors. (0 < sectors) × (sectors ≤ 2_147_483_648) × (512 * sectors ≡ bytes)) }
+/// Sees that a file is none of these.
+pub(crate) fn are_apart<'a>(others: &[OpenFile<'a>], file: &OpenFile<'a>) -> Result<(), Trouble<'a>>
+    ensures apart { OnOk result (All (λ other. other.which ≢ file.now.which) others.now) }
 {
-    let why = if bytes == 0 {
-        Why::Empty
-    } else if MOST_BYTES < bytes {
-        Why::TooLarge(bytes)
-    } else if bytes % 512 != 0 {
-        Why::PartOfSector(bytes)
-    } else {
-        return Ok(bytes / 512);
-    };
-    Err(Trouble { name, why })
-}
-
-/// Makes what is in a file last, before it is read or written.
-pub fn synced<'a>(served: &ServedFile<'a>) -> Result<(), Trouble<'a>> {
-    match served.file.sync_data() {
-        Ok(()) => Ok(()),
-        Err(error) => {
-            let why = Why::Unsynced(error);
-            Err(Trouble {
-                name: served.name,
-                why,
-            })
-        }
+    for other in others {
+        is_apart(other, file)?;
     }
+    Ok(())
 }
 
 /// Makes a file's name last.
-pub fn folder_synced(rt: &HostRuntime, name: &str) -> io::Result<()> {
+pub(crate) fn folder_synced(rt: &HostRuntime, name: &str) -> io::Result<()> {
     let folder = match name.rsplit_once('/') {
         None => ".",
         Some(("", _)) => "/",

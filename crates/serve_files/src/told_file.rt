@@ -17,9 +17,10 @@ pub struct ToldFile<'a, C: FileCalls> {
 }
 
 impl<'a, C: FileCalls> ToldFile<'a, C> {
-    /// A file of which nothing is told yet.
+    /// A file of this name, of which nothing is told yet.
     pub fn new(rt: &'a HostRuntime, name: &'a str, file: C) -> ToldFile<'a, C>
-        ensures { result.file ≡ file }
+        ensures file { result.file ≡ file }
+        ensures named { result.name.now ≡ name.now }
     {
         ToldFile {
             rt,
@@ -29,6 +30,13 @@ impl<'a, C: FileCalls> ToldFile<'a, C> {
             writes: false,
             syncs: false,
         }
+    }
+
+    /// Its name.
+    pub fn name(&self) -> &'a str
+        ensures { result.now ≡ self.now.name.now }
+    {
+        self.name
     }
 
     // Tells that a read from this byte on failed.

@@ -1,5 +1,7 @@
 // Why a command does not do what it is asked for.
 
+ghost use Rattle.std.specs.Prelude.{◌≡◌, ◌∷◌, ◌++◌, IfErr, IfOk, Ok, OnErr, OnOk, [], is_ok};
+
 use sector::Refusal;
 use std::alloc::AllocError;
 use std::{fmt, io};
@@ -69,7 +71,11 @@ pub enum StoreFault {
 }
 
 /// Says with which file something went wrong.
-pub fn about<'a, T: Drop>(name: &'a str, asked: io::Result<T>) -> Result<T, Trouble<'a>> {
+pub fn about<'a, T: Drop>(name: &'a str, asked: io::Result<T>) -> Result<T, Trouble<'a>>
+    ensures ok { is_ok result ≡ is_ok asked }
+    ensures same { IfOk result (λ value. asked ≡ Ok value) }
+    ensures told { IfErr result (λ trouble. trouble.name.now ≡ name.now) }
+{
     match asked {
         Ok(value) => Ok(value),
         Err(error) => {
@@ -80,9 +86,28 @@ pub fn about<'a, T: Drop>(name: &'a str, asked: io::Result<T>) -> Result<T, Trou
 }
 
 /// Says for which file there was no memory.
-pub fn held<'a, T: Drop>(name: &'a str, asked: Result<T, AllocError>) -> Result<T, Trouble<'a>> {
+pub fn held<'a, T: Drop>(name: &'a str, asked: Result<T, AllocError>) -> Result<T, Trouble<'a>>
+    ensures ok { is_ok result ≡ is_ok asked }
+    ensures same { IfOk result (λ value. asked ≡ Ok value) }
+    ensures told { IfErr result (λ trouble. trouble.name.now ≡ name.now) }
+{
     match asked {
         Ok(value) => Ok(value),
+        Err(_) => {
+            let why = Why::NoMemory;
+            Err(Trouble { name, why })
+        }
+    }
+}
+
+/// Adds an item, or says for which file there was no memory.
+pub fn pushed<'a, T: Drop>(name: &'a str, all: &mut Vec<T>, item: T) -> Result<(), Trouble<'a>>
+    ensures ok { OnOk result (all.new.items ≡ all.old.items ++ item ∷ []) }
+    ensures err { OnErr result (all.new.items ≡ all.old.items) }
+    ensures told { IfErr result (λ trouble. trouble.name.now ≡ name.now) }
+{
+    match all.push(item) {
+        Ok(()) => Ok(()),
         Err(_) => {
             let why = Why::NoMemory;
             Err(Trouble { name, why })
