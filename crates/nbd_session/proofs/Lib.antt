@@ -1,2 +1,4 @@
+pub mod Answered
+pub mod Asked
 pub mod Heard
-pub mod Jobs
+pub mod Moved

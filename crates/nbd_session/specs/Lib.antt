@@ -1,3 +1,5 @@
 pub mod Stream
+pub mod Asked
+pub mod Answered
+pub mod Moved
 pub mod Took
-pub mod Same

@@ -2,10 +2,9 @@
 //! arrive, are done in pieces, and are answered in any order. It stands on `nbd_messages`, `nbd_options` and `nbd_jobs`; the array
 //! is any that does pieces, by the trait `Array`.
 //!
-//! It promises that where serving ends well, or the array ends, no request is open and all that was to be said is said; that what is
-//! to be said is said as it stands; that a request which is refused at once is said just its failure, and its payload is skipped; that one
-//! which is taken in is a job behind all others, with its payload; and that no work of the array takes or answers one. At most
-//! `nbd_jobs::MOST_JOBS` requests are held, and `MOST_BYTES` of their bytes before the last. That each request has one reply is no clause.
+//! Each request that is taken from the front of what the client said has one reply under its cookie, or is open still, and nothing
+//! else is said once an export is chosen: `specs/Moved`, `specs/Answered`. Where serving ends well, or the array ends, none is open.
+//! At most `nbd_jobs::MOST_JOBS` requests are held, and `MOST_BYTES` of their bytes before the last.
 #![tactic(auto)]
 
 mod ended;
