@@ -1,5 +1,6 @@
 -- Requests, one after the other, and how they are taken from what was heard.
-use Rattle.std.proofs.Common.{◌≡◌, ℕ, ◌+◌, ◌-◌, ◌≤◌, min, Option, None, Some, IfSome, List, [], ◌∷◌, ◌++◌, length, take, drop, refl, ap, ◌∙◌, sym, subst, append_assoc, arith, length-append, length-drop}
+use Rattle.std.proofs.Common.{◌≡◌, Bool, true, false, MatchBool, ℕ, zero, suc, ◌+◌, ◌-◌, ◌<◌, ◌≤◌, min, Option, None, Some, IfSome, List, [], ◌∷◌, ◌++◌, length, take, drop, refl, ap, ◌∙◌, sym, subst, append_assoc, arith, length-append, length-drop}
+use Rattle.std.specs.Bool.{⊤}
 use Rattle.std.specs.Io.KnownBytes.{Consumes, IsAtEnd, Keeps}
 use Rattle.std.proofs.lemmas.List.{append-nil, take-append-le, drop-append-le, drop-drop}
 use Rattle.nbd_messages.specs.declared.command.Command.TheVariants.{Disconnect}
@@ -74,13 +75,40 @@ rest_thinned heard bytes n =
     ∙ drop-drop (n - min n (length heard)) (min n (length heard)) (heard ++ bytes)
     ∙ ap (λ k. drop k (heard ++ bytes)) all
 
+-- so many bytes are taken, and others behind them, as they come
+pub rest_passed : (s : Stream) (header n : ℕ) (bytes : List ℕ) → s.unwanted ≡ 0 → header ≤ length s.heard → rest_of (lessened n (dropped header s)) bytes ≡ drop (header + n) (rest_of s bytes)
+rest_passed s header n bytes calm inside =
+    rest_thinned (drop header s.heard) bytes n
+    ∙ ap (drop n) (sym (drop-append-le header s.heard bytes inside))
+    ∙ drop-drop n header (s.heard ++ bytes)
+    ∙ ap (λ u. drop (header + n) (drop u (s.heard ++ bytes))) (sym calm)
+
+-- none are taken, or no byte is unwanted
+pub calm_front : (s : Stream) (n : ℕ) (bytes : List ℕ) → (0 < n → s.unwanted ≡ 0) → n ≤ length s.heard → take n (rest_of s bytes) ≡ take n s.heard
+calm_front s zero bytes calm inside = refl
+calm_front s (suc n) bytes calm inside = front_heard s (suc n) bytes (calm (omega arith)) inside
+
+pub calm_longer : (s : Stream) (n : ℕ) (bytes : List ℕ) → (0 < n → s.unwanted ≡ 0) → n ≤ length s.heard → n ≤ length (rest_of s bytes)
+calm_longer s zero bytes calm inside = omega arith
+calm_longer s (suc n) bytes calm inside = longer_rest s (suc n) bytes (calm (omega arith)) inside
+
+pub calm_taken : (s : Stream) (n : ℕ) (bytes : List ℕ) → (0 < n → s.unwanted ≡ 0) → n ≤ length s.heard → rest_of (dropped n s) bytes ≡ drop n (rest_of s bytes)
+calm_taken s zero bytes calm inside = refl
+calm_taken s (suc n) bytes calm inside = rest_taken s (suc n) bytes (calm (omega arith)) inside
+
+-- what of so many bytes is there, where nothing more comes, is less than others
+pub short_left : (s : Stream) (known : Option (List ℕ)) (count : ℕ) → IsAtEnd known → length s.heard < count → IfSome (left s known) (λ bytes. length bytes < count)
+short_left s None count end short = tt
+short_left s (Some x) count end short =
+    let P : List ℕ → Type 0 = λ l. length (rest_of s l) < count in
+    let few : length s.heard ≤ length s.heard = omega arith in
+    let less : length (rest_of s []) ≤ length s.heard = no_longer_rest s (length s.heard) few in
+    let there : length (rest_of s []) < count = omega (arith, less, short) in
+    subst P (sym end) there
+
 -- a request that is refused is taken, and its payload, as it comes
 pub rest_refused : (s : Stream) (n : ℕ) (bytes : List ℕ) → s.unwanted ≡ 0 → 28 ≤ length s.heard → rest_of (lessened n (dropped 28 s)) bytes ≡ drop (28 + n) (rest_of s bytes)
-rest_refused s n bytes calm header =
-    rest_thinned (drop 28 s.heard) bytes n
-    ∙ ap (drop n) (sym (drop-append-le 28 s.heard bytes header))
-    ∙ drop-drop n 28 (s.heard ++ bytes)
-    ∙ ap (λ u. drop (28 + n) (drop u (s.heard ++ bytes))) (sym calm)
+rest_refused s n bytes calm header = rest_passed s 28 n bytes calm header
 
 -- nothing more is asked where too little is left
 pub over_short : (size : ℕ) (bytes : List ℕ) → length bytes ≤ 27 → IsOver size bytes
@@ -146,3 +174,13 @@ pub left_kept : (s : Stream) (old new : Option (List ℕ)) → Keeps old new →
 left_kept s None new kept = tt
 left_kept s (Some x) None kept = absurd kept
 left_kept s (Some x) (Some y) kept = ap (rest_of s) kept
+
+true_false : true ≡ false → ⊥
+true_false same = cc
+
+-- the reader is at its end, and what was heard is too little
+pub ended_heard : (more : Bool) (old new : Stream) (known : Option (List ℕ)) (count : ℕ) → more ≡ false → MatchBool more ⊤ (IsAtEnd known × (new ≡ old)) → length old.heard < count → IfSome (left new known) (λ bytes. length bytes < count)
+ended_heard true old new known count ends end short = absurd (true_false ends)
+ended_heard false old new known count ends (end, same) short =
+    let P : Stream → Type 0 = λ s. length s.heard < count in
+    short_left new known count end (subst P (sym same) short)

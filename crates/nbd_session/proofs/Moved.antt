@@ -48,7 +48,7 @@ goes_then size structured a b c first second =
       answers = subst P (append_assoc a.due (map o first.asked) (map o second.asked) ∙ ap (λ (l : List Owed). a.due ++ l) (sym (map-append o first.asked second.asked))) both;
     }
 
-goes_under : (size size' : ℕ) (structured structured' : Bool) (a b : Standing) → size' ≡ size → structured' ≡ structured → Goes size' structured' a b → Goes size structured a b
+pub goes_under : (size size' : ℕ) (structured structured' : Bool) (a b : Standing) → size' ≡ size → structured' ≡ structured → Goes size' structured' a b → Goes size structured a b
 goes_under size size' structured structured' a b same also goes =
     let P : ℕ → Type 0 = λ n. Goes n structured' a b in
     let Q : Bool → Type 0 = λ s. Goes size s a b in

@@ -1,9 +1,10 @@
 // A client is served.
-ghost use Rattle.std.specs.Prelude.{◌≡◌, [], false, IfOk, IfSome, None, Some};
+ghost use Rattle.std.specs.Prelude.{◌≡◌, ℕ, List, [], false, IfOk, IfSome, None, Some};
 ghost use Rattle.nbd_jobs.specs.Held.{requests_of};
-ghost use Rattle.std.specs.Io.KnownBytes.{IsAtEnd};
+ghost use Rattle.std.specs.Io.KnownBytes.{Appends, IsAtEnd};
 ghost use Rattle.nbd_session.specs.Asked.{IsOver};
 ghost use Rattle.nbd_session.specs.Moved.{Moves, MovesHearing};
+ghost use Rattle.nbd_session.specs.Session.{IsSession};
 ghost use Rattle.nbd_session.specs.Stream.{left};
 ghost use Rattle.nbd_session.specs.Took.{IsOverAt};
 ghost use Rattle.nbd_session.specs.declared.ended.Finish.TheVariants.{Client};
@@ -111,15 +112,17 @@ pub fn serve<A: Array, R: Read, W: Write>(
     exports: &[Export<'_>],
     reader: &mut R,
     writer: &mut W,
-) -> Result<Finish, Ended> {
+) -> Result<Finish, Ended>
+    ensures { IfOk result (λ finish. IfSome (R.remaining reader.old) (λ bytes. (said : List ℕ) × IsSession exports.now finish bytes said × Appends (W.contents writer.old) (W.contents writer.new) said)) }
+{
     let mut input = Input::new(alloc)?;
     let Some((place, structured)) = chosen(alloc, exports, &mut input, reader, writer)? else {
         return Ok(Finish::Client);
     };
-    if !array.choose(place) {
-        return Ok(Finish::Client);
+    if !array.choose(place.export) {
+        return Err(Ended::Stuck);
     }
     let chunk = array.chunk();
-    let mut line = Line::new(alloc, input, array.size(), chunk, structured)?;
+    let mut line = Line::new(alloc, input, place.size, chunk, structured)?;
     line.run(alloc, array, reader, writer)
 }

@@ -27,11 +27,11 @@ returns-then-eq-clause-moves g c = worked _ _ _ _ _ _ _ _ _ c.loop.invariant.mov
 pub loop-preserved : goal.loop-preserved
 loop-preserved g c =
     elim c.if-len-eq0.branch [
-      then-len-eq0+in_ok-say+in_ok-more+in-Some w ↦ record {
+      | then-len-eq0+in_ok-say+in_ok-more+in-Some w ↦ record {
         moves = rw w.self-is (rw w.reader-is (rw w.writer-is (turned _ _ _ _ _ _ _ _ _ _ _ c.loop.invariant.moves c.in_ok-took.ensures.moves w.in_ok-say.ensures.moves w.in_ok-more.ensures.moves)));
         end = search rules;
       }
-    | else-len-eq0+in_ok-work+else-eq w ↦ record {
+      | else-len-eq0+in_ok-work+else-eq w ↦ record {
         moves = rw w.self-is (rw w.reader-is (rw w.writer-is (worked _ _ _ _ _ _ _ _ _ c.loop.invariant.moves c.in_ok-took.ensures.moves w.in_ok-work.ensures.moves)));
         end = search rules;
       }
