@@ -13,4 +13,4 @@ pub returns-in-Ok-false-clause-keeps : goal.returns-in-Ok-false-clause-keeps
 returns-in-Ok-false-clause-keeps g c = Keeps-trans _ _ _ c.loop.invariant c.in-Ok-false.ensures.0
 
 pub returns-in-Ok-false-clause-short : goal.returns-in-Ok-false-clause-short
-returns-in-Ok-false-clause-short g c = ended_heard _ _ _ _ c.args.count c.in-Ok-false.field-0-test c.in-Ok-false.ensures.1 (search rules)
+returns-in-Ok-false-clause-short g c = λ _. ended_heard _ _ _ _ c.args.count c.in-Ok-false.field-0-test c.in-Ok-false.ensures.1 (search rules)
