@@ -2,9 +2,10 @@
 //! arrive, are done in pieces, and are answered in any order. It stands on `nbd_messages`, `nbd_options` and `nbd_jobs`; the array
 //! is any that does pieces, by the trait `Array`.
 //!
-//! Each request that is taken from the front of what the client said has one reply under its cookie, or is open still, and nothing
-//! else is said once an export is chosen: `specs/Moved`, `specs/Answered`. Where serving ends well, or the array ends, none is open.
-//! At most `nbd_jobs::MOST_JOBS` requests are held, and `MOST_BYTES` of their bytes before the last.
+//! It promises of a whole session, where it ends well: what is said is the greeting, the answers to options, and one reply to each
+//! request that was taken, under its cookie, and nothing else; where the client ends it, no whole request is left but one that
+//! disconnects. `specs/Session` says so. At most `nbd_jobs::MOST_JOBS` requests are held, and `MOST_BYTES` of their bytes before the
+//! last. Which pieces the array is handed is no clause.
 #![tactic(auto)]
 
 mod ended;
