@@ -1,2 +1,6 @@
+pub mod Answered
+pub mod Asked
 pub mod Heard
-pub mod Jobs
+pub mod Moved
+pub mod Come
+pub mod Served

@@ -1,3 +1,8 @@
 pub mod Stream
+pub mod Asked
+pub mod Answered
+pub mod Moved
 pub mod Took
-pub mod Same
+pub mod Haggling
+pub mod Session
+pub mod Come

@@ -1,5 +1,6 @@
 -- What a client said, and what was not taken of it yet.
-use Rattle.std.specs.Prelude.{◌≡◌, ℕ, ◌-◌, min, List, length, drop}
+use Rattle.std.specs.Prelude.{◌≡◌, ℕ, ◌-◌, min, List, ◌++◌, length, drop, Option}
+use Rattle.std.specs.Option.{option_map}
 
 -- Bytes that were heard and not taken, and how many that nobody wants are to come next.
 pub record Stream : Type 0 where
@@ -20,3 +21,11 @@ thinned s = record {
 -- so many of the next bytes are not wanted
 abbrev pub lessened : ℕ → Stream → Stream
 lessened count s = thinned (record { heard = s.heard; unwanted = count })
+
+-- what is left for requests where these bytes are still to be heard
+abbrev pub rest_of : Stream → List ℕ → List ℕ
+rest_of s bytes = drop s.unwanted (s.heard ++ bytes)
+
+-- the same where it is known what is still to be heard
+abbrev pub left : Stream → Option (List ℕ) → Option (List ℕ)
+left s known = option_map (rest_of s) known

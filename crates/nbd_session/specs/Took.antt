@@ -1,11 +1,12 @@
 -- What came of a look for the next request.
-use Rattle.std.specs.Prelude.{◌≡◌, ℕ, ◌+◌, Bool, true, false, List, [], ◌∷◌, ◌++◌, replicate, slice_range}
+use Rattle.std.specs.Prelude.{◌≡◌, ℕ, ◌+◌, Bool, true, false, ⊤, List, [], ◌∷◌, ◌++◌, replicate, slice_range}
 use Rattle.nbd_messages.specs.declared.command.Command.{Command}
 use Rattle.nbd_messages.specs.declared.command.Command.TheVariants.{Read, Write, Disconnect, Flush, Trim, WriteZeroes, BlockStatus, Other}
 use Rattle.nbd_messages.specs.declared.request.Request.{Request}
 use Rattle.nbd_messages.specs.Writing.{payload}
 use Rattle.nbd_jobs.specs.Held.{Held, next_serial, opened}
-use Rattle.nbd_session.specs.Stream.{Stream, dropped}
+use Rattle.nbd_session.specs.Asked.{IsOver}
+use Rattle.nbd_session.specs.Stream.{Stream, dropped, rest_of}
 use Rattle.nbd_session.specs.declared.taking.Took.{Took}
 use Rattle.nbd_session.specs.declared.taking.Took.TheVariants.{One, None, Full, Over}
 
@@ -33,3 +34,10 @@ IsTakenIn request input input' jobs jobs' =
     (input' ≡ dropped (28 + payload request) input)
     × (jobs'.out ≡ jobs.out)
     × (jobs'.jobs ≡ jobs.jobs ++ opened request (next_serial jobs.given) (kept_by request.command request.length (slice_range input.heard 28 (28 + payload request))) ∷ [])
+
+-- Where none is there as a whole, nothing more is asked if nothing more comes; where the client goes, whatever comes.
+abbrev pub IsOverAt : ℕ → Took → Stream → Type 0
+IsOverAt size One input = ⊤
+IsOverAt size None input = IsOver size (rest_of input [])
+IsOverAt size Full input = ⊤
+IsOverAt size Over input = (bytes : List ℕ) → IsOver size (rest_of input bytes)

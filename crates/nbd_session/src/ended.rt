@@ -25,7 +25,7 @@ pub enum Ended {
     NoClient,
     /// Memory is refused.
     NoMemory,
-    /// The array has nothing to do, and a request is not answered.
+    /// The array has nothing to do, and a request is not answered; or it does not serve the export that was chosen.
     Stuck,
 }
 

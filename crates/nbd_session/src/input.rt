@@ -1,7 +1,7 @@
 // What a client said, and what was not taken of it yet.
-ghost use Rattle.std.specs.Prelude.{◌≡◌, ◌==◌, ◌<◌, ◌≤◌, [], IfOk, false, length};
-ghost use Rattle.std.specs.Io.KnownBytes.{IsAtEnd};
-ghost use Rattle.nbd_session.specs.Stream.{Stream, dropped, lessened};
+ghost use Rattle.std.specs.Prelude.{◌≡◌, ◌==◌, ◌+◌, ◌-◌, ◌<◌, ◌≤◌, [], IfOk, MatchBool, ⊤, length};
+ghost use Rattle.std.specs.Io.KnownBytes.{IsAtEnd, Keeps};
+ghost use Rattle.nbd_session.specs.Stream.{Stream, dropped, left, lessened, thinned};
 
 use std::alloc::{AllocError, Global};
 use std::io;
@@ -103,7 +103,8 @@ impl Input {
 
     /// Hears what has arrived, or waits for it. Of what nobody wants, as much goes as is there. `false` at the end of the input.
     pub fn hear<R: Read>(&mut self, reader: &mut R) -> io::Result<bool>
-        ensures { IfOk result (λ more. more ≡ false → IsAtEnd (R.remaining reader.new)) }
+        ensures { IfOk result (λ more. Keeps (left self.old (R.remaining reader.old)) (left self.new (R.remaining reader.new))
+            × MatchBool more ⊤ (IsAtEnd (R.remaining reader.new) × (self.new ≡ self.old))) }
     {
         self.make_room();
         let out = &mut self.room.as_mut_slice()[self.to..];

@@ -2,10 +2,10 @@
 //! arrive, are done in pieces, and are answered in any order. It stands on `nbd_messages`, `nbd_options` and `nbd_jobs`; the array
 //! is any that does pieces, by the trait `Array`.
 //!
-//! It promises that where serving ends well, or the array ends, no request is open and all that was to be said is said; that what is
-//! to be said is said as it stands; that a request which is refused at once is said just its failure, and its payload is skipped; that one
-//! which is taken in is a job behind all others, with its payload; and that no work of the array takes or answers one. At most
-//! `nbd_jobs::MOST_JOBS` requests are held, and `MOST_BYTES` of their bytes before the last. That each request has one reply is no clause.
+//! It promises of a whole session, where it ends well: what is said is the greeting, the answers to options, and one reply to each
+//! request that was taken, under its cookie, and nothing else; where the client ends it, no whole request is left but one that
+//! disconnects. `specs/Session` says so. At most `nbd_jobs::MOST_JOBS` requests are held, and `MOST_BYTES` of their bytes before the
+//! last. Which pieces the array is handed is no clause.
 #![tactic(auto)]
 
 mod ended;

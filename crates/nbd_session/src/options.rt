@@ -1,11 +1,16 @@
 // A client comes to an export.
-ghost use Rattle.std.specs.Prelude.{◌≡◌, ◌<◌, ◌≤◌, [], IfOk, length, true};
+ghost use Rattle.std.specs.Prelude.{◌≡◌, ◌<◌, ◌≤◌, [], false, true, IfOk, IfSome, MatchBool, OnOk, None, length};
+ghost use Rattle.std.specs.Io.KnownBytes.{Keeps};
+ghost use Rattle.nbd_options.specs.Haggled.{IsReaction};
+ghost use Rattle.nbd_session.specs.Come.{AsksNone, Comes, Haggles, Opens};
+ghost use Rattle.nbd_session.specs.Haggling.{IsOpened, goes_on, is_passed, passed};
+ghost use Rattle.nbd_session.specs.Stream.{left};
 
 use crate::ended::Ended;
 use crate::input::Input;
 use crate::line::said;
 use nbd_messages::{ASKED_BYTES, Asked, asked_in, push_bare_reply, push_greeting, u32_at};
-use nbd_options::{Export, Session, Stage, haggle, haggle_unread};
+use nbd_options::{Export, Place, Session, Stage, haggle, haggle_unread};
 use std::alloc::Global;
 use std::io::{Read, Write};
 
@@ -14,8 +19,10 @@ const LONGEST_TEXT: u32 = 65536;
 
 /// Hears until so many bytes are there. `false` where the input ends before.
 fn waited<R: Read>(input: &mut Input, reader: &mut R, count: usize) -> Result<bool, Ended>
+    ensures keeps { IfOk result (λ _. Keeps (left input.old (R.remaining reader.old)) (left input.new (R.remaining reader.new))) }
     ensures there { IfOk result (λ there. there ≡ true → count ≤ length input.new.heard) }
     ensures wanted { IfOk result (λ there. there ≡ true → 0 < count → input.new.unwanted ≡ 0) }
+    ensures short { IfOk result (λ there. there ≡ false → IfSome (left input.new (R.remaining reader.new)) (λ bytes. length bytes < count)) }
 {
     for _ in 0..u64::MAX {
         if count <= input.len() {
@@ -31,11 +38,18 @@ fn waited<R: Read>(input: &mut Input, reader: &mut R, count: usize) -> Result<bo
 }
 
 /// Hears the client's flags. `false` where it goes.
-fn open<R: Read>(input: &mut Input, reader: &mut R, session: &mut Session) -> Result<bool, Ended> {
+fn open<R: Read>(input: &mut Input, reader: &mut R, session: &mut Session) -> Result<bool, Ended>
+    requires structured { session.old.structured ≡ false }
+    requires described { session.old.described ≡ None }
+    ensures opens { IfOk result (λ went. MatchBool went
+        (Opens session.new (left input.old (R.remaining reader.old)) (left input.new (R.remaining reader.new)))
+        (IfSome (left input.old (R.remaining reader.old)) (λ bytes. IsOpened bytes → ⊥))) }
+    ensures stage { IfOk result (λ went. went ≡ true → goes_on session.new.stage ≡ true) }
+{
     if !waited(input, reader, 4)? {
         return Ok(false);
     }
-    let flags = u32_at(input.heard(), 0);
+    let flags = u32_at(&input.heard()[..4], 0);
     if 4 <= flags {
         return Err(Ended::NoClient);
     }
@@ -51,6 +65,7 @@ const UNSUPPORTED: u32 = 2_147_483_649;
 /// Answers an option whose data are not looked at: of contexts, as there are none, and one whose data are too long.
 fn decline(session: &mut Session, asked: Asked, answer: &mut Vec<u8>) -> Result<(), Ended>
     requires { answer.old.items ≡ [] }
+    ensures { OnOk result (IsReaction answer.new.items session.new (passed session.old asked)) }
 {
     if LONGEST_TEXT < asked.length {
         haggle_unread(session, asked.option, answer)?;
@@ -61,7 +76,9 @@ fn decline(session: &mut Session, asked: Asked, answer: &mut Vec<u8>) -> Result<
 }
 
 /// Whether an option's data are not looked at.
-fn is_declined(asked: Asked) -> bool {
+fn is_declined(asked: Asked) -> bool
+    ensures { result ≡ is_passed asked }
+{
     LONGEST_TEXT < asked.length || asked.option == 9 || asked.option == 10
 }
 
@@ -72,7 +89,12 @@ fn hear_option<R: Read>(
     reader: &mut R,
     session: &mut Session,
     answer: &mut Vec<u8>,
-) -> Result<bool, Ended> {
+) -> Result<bool, Ended>
+    requires { goes_on session.old.stage ≡ true }
+    ensures { IfOk result (λ went. MatchBool went
+        (Haggles exports.now session.old session.new (left input.old (R.remaining reader.old)) (left input.new (R.remaining reader.new)) answer.new.items)
+        (AsksNone (left input.old (R.remaining reader.old)) × (session.new ≡ session.old))) }
+{
     if !waited(input, reader, ASKED_BYTES)? {
         return Ok(false);
     }
@@ -101,14 +123,16 @@ fn hear_option<R: Read>(
     Ok(true)
 }
 
-/// A client comes to an export, whose number is told, and whether it takes structured replies. `None` where it goes.
+/// A client comes to an export, and it is told which one, and whether the client takes structured replies. `None` where it goes.
 pub fn chosen<R: Read, W: Write>(
     alloc: Global,
     exports: &[Export<'_>],
     input: &mut Input,
     reader: &mut R,
     writer: &mut W,
-) -> Result<Option<(usize, bool)>, Ended> {
+) -> Result<Option<(Place, bool)>, Ended>
+    ensures { IfOk result (λ got. Comes exports.now got (left input.old (R.remaining reader.old)) (left input.new (R.remaining reader.new)) (W.contents writer.old) (W.contents writer.new)) }
+{
     let mut session = Session {
         no_zeroes: false,
         structured: false,
@@ -127,11 +151,11 @@ pub fn chosen<R: Read, W: Write>(
         }
         said(writer, answer.as_slice())?;
         match session.stage {
-            Stage::Serving(place) => return Ok(Some((place.export, session.structured))),
+            Stage::Serving(place) => return Ok(Some((place, session.structured))),
             Stage::Over => return Ok(None),
             Stage::Opening => {}
             Stage::Haggling => {}
         }
     }
-    Ok(None)
+    Err(Ended::Stuck)
 }

@@ -1,7 +1,13 @@
 // A client is served.
-ghost use Rattle.std.specs.Prelude.{◌≡◌, [], false, IfOk, None, Ok, Some};
+ghost use Rattle.std.specs.Prelude.{◌≡◌, ℕ, List, [], false, IfOk, IfSome, None, Some};
 ghost use Rattle.nbd_jobs.specs.Held.{requests_of};
-ghost use Rattle.std.specs.Io.KnownBytes.{IsAtEnd};
+ghost use Rattle.std.specs.Io.KnownBytes.{Appends, IsAtEnd};
+ghost use Rattle.nbd_session.specs.Asked.{IsOver};
+ghost use Rattle.nbd_session.specs.Moved.{Moves, MovesHearing};
+ghost use Rattle.nbd_session.specs.Session.{IsSession};
+ghost use Rattle.nbd_session.specs.Stream.{left};
+ghost use Rattle.nbd_session.specs.Took.{IsOverAt};
+ghost use Rattle.nbd_session.specs.declared.ended.Finish.TheVariants.{Client};
 
 use crate::ended::{Ended, Finish};
 use crate::input::Input;
@@ -24,6 +30,7 @@ impl Line {
 
     /// Hears what arrives, and goes on hearing while a request is there in part. `false` at the end of the input.
     fn hear_all<R: Read>(&mut self, alloc: Global, reader: &mut R) -> Result<bool, Ended>
+        ensures moves { IfOk result (λ _. MovesHearing self.old self.new (R.remaining reader.old) (R.remaining reader.new)) }
         ensures end { IfOk result (λ more. more ≡ false → IsAtEnd (R.remaining reader.new)) }
     {
         for _ in 0..u64::MAX {
@@ -48,9 +55,11 @@ impl Line {
         hears: bool,
         reader: &mut R,
     ) -> Result<Option<bool>, Ended>
+        requires over { IsOverAt self.old.size took self.old.input }
         requires end { hears ≡ false → IsAtEnd (R.remaining reader.old) }
+        ensures moves { IfOk result (λ _. MovesHearing self.old self.new (R.remaining reader.old) (R.remaining reader.new)) }
         ensures end { result ≡ Ok (Some false) → IsAtEnd (R.remaining reader.new) }
-        ensures over { result ≡ Ok None → self.new ≡ self.old }
+        ensures over { result ≡ Ok None → (self.new ≡ self.old) × IfSome (left self.new.input (R.remaining reader.new)) (IsOver self.old.size) }
     {
         match took {
             Took::Over => Ok(None),
@@ -66,7 +75,7 @@ impl Line {
     }
 
     /// Serves requests until the client goes.
-    #[tactic(auto, using(crate::proofs::Jobs::asked_none))]
+    #[tactic(auto, using(crate::proofs::Moved::asked_none))]
     fn run<A: Array, R: Read, W: Write>(
         &mut self,
         alloc: Global,
@@ -74,7 +83,9 @@ impl Line {
         reader: &mut R,
         writer: &mut W,
     ) -> Result<Finish, Ended>
+        ensures moves { IfOk result (λ _. Moves self.old self.new (R.remaining reader.old) (R.remaining reader.new) (W.contents writer.old) (W.contents writer.new)) }
         ensures none { IfOk result (λ _. (requests_of self.new.jobs ≡ []) × (self.new.out.items ≡ [])) }
+        ensures over { result ≡ Ok Client → IfSome (left self.new.input (R.remaining reader.new)) (IsOver self.old.size) }
     {
         let mut hears = true;
         for _ in 0..u64::MAX {
@@ -101,15 +112,17 @@ pub fn serve<A: Array, R: Read, W: Write>(
     exports: &[Export<'_>],
     reader: &mut R,
     writer: &mut W,
-) -> Result<Finish, Ended> {
+) -> Result<Finish, Ended>
+    ensures { IfOk result (λ finish. IfSome (R.remaining reader.old) (λ bytes. (said : List ℕ) × IsSession exports.now finish bytes said × Appends (W.contents writer.old) (W.contents writer.new) said)) }
+{
     let mut input = Input::new(alloc)?;
     let Some((place, structured)) = chosen(alloc, exports, &mut input, reader, writer)? else {
         return Ok(Finish::Client);
     };
-    if !array.choose(place) {
-        return Ok(Finish::Client);
+    if !array.choose(place.export) {
+        return Err(Ended::Stuck);
     }
     let chunk = array.chunk();
-    let mut line = Line::new(alloc, input, array.size(), chunk, structured)?;
+    let mut line = Line::new(alloc, input, place.size, chunk, structured)?;
     line.run(alloc, array, reader, writer)
 }

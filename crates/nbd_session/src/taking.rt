@@ -1,11 +1,12 @@
 // Requests that arrived become jobs, or are refused at once.
-ghost use Rattle.std.specs.Prelude.{◌≡◌, ◌≤◌, ◌++◌, IfOk, MatchBool, OnOk, length, take};
+ghost use Rattle.std.specs.Prelude.{◌≡◌, ◌+◌, ◌≤◌, ◌++◌, IfOk, MatchBool, None, OnOk, Some, length, take};
 ghost use Rattle.nbd_messages.specs.Requests.{request_in as request_in_of};
 ghost use Rattle.nbd_messages.specs.Writing.{payload as payload_of};
-ghost use Rattle.nbd_jobs.specs.Replied.{failure_reply};
+ghost use Rattle.nbd_messages.specs.declared.command.Command.TheVariants.{Disconnect};
+ghost use Rattle.nbd_jobs.specs.Refused.{refusal_of};
 ghost use Rattle.nbd_jobs.specs.Steps.{room_of};
-ghost use Rattle.nbd_session.specs.Stream.{dropped, lessened};
-ghost use Rattle.nbd_session.specs.Took.{IsTakenIn, is_one, kept_by};
+ghost use Rattle.nbd_session.specs.Moved.{MovesUnsaid};
+ghost use Rattle.nbd_session.specs.Took.{IsOverAt, IsTakenIn, is_one, kept_by};
 
 use crate::ended::Ended;
 use crate::line::Line;
@@ -68,9 +69,10 @@ impl Line {
     fn refuse(&mut self, request: &Request, error: ErrorValue) -> Result<(), AllocError>
         requires header { 28 ≤ length self.old.input.heard }
         requires wanted { self.old.input.unwanted ≡ 0 }
-        ensures out { OnOk result (self.new.out.items ≡ self.old.out.items ++ failure_reply self.old.structured error request.now) }
-        ensures jobs { self.new.jobs ≡ self.old.jobs }
-        ensures input { OnOk result (self.new.input ≡ lessened (payload_of request.now) (dropped 28 self.old.input)) }
+        requires is { request_in_of (take 28 self.old.input.heard) ≡ Some request.now }
+        requires stays { request.now.command ≡ Disconnect → ⊥ }
+        requires refused { refusal_of self.old.size request.now ≡ Some error }
+        ensures { OnOk result (MovesUnsaid self.old self.new) }
     {
         push_failure(&mut self.out, self.structured, error, request)?;
         self.input.take(REQUEST_BYTES);
@@ -82,8 +84,13 @@ impl Line {
     fn take_good(&mut self, alloc: Global, request: Request) -> Result<Took, Ended>
         requires header { 28 ≤ length self.old.input.heard }
         requires wanted { self.old.input.unwanted ≡ 0 }
+        requires is { request_in_of (take 28 self.old.input.heard) ≡ Some request }
+        requires stays { request.command ≡ Disconnect → ⊥ }
+        requires good { refusal_of self.old.size request ≡ None }
         requires short { room_of request ≤ 33_554_432 }
         ensures took { IfOk result (λ took. MatchBool (is_one took) (IsTakenIn request self.old.input self.new.input self.old.jobs self.new.jobs) (self.new ≡ self.old)) }
+        ensures moves { IfOk result (λ _. MovesUnsaid self.old self.new) }
+        ensures over { IfOk result (λ took. IsOverAt self.new.size took self.new.input) }
     {
         if MOST_JOBS <= self.jobs.len() || MOST_BYTES <= self.held {
             return Ok(Took::Full);
@@ -112,6 +119,10 @@ impl Line {
     fn take_asked(&mut self, alloc: Global, request: Request) -> Result<Took, Ended>
         requires header { 28 ≤ length self.old.input.heard }
         requires wanted { self.old.input.unwanted ≡ 0 }
+        requires is { request_in_of (take 28 self.old.input.heard) ≡ Some request }
+        requires stays { request.command ≡ Disconnect → ⊥ }
+        ensures moves { IfOk result (λ _. MovesUnsaid self.old self.new) }
+        ensures over { IfOk result (λ took. IsOverAt self.new.size took self.new.input) }
     {
         match refusal(self.size, &request) {
             Some(error) => {
@@ -123,7 +134,10 @@ impl Line {
     }
 
     /// Takes the next request, if it is there as a whole.
-    fn take(&mut self, alloc: Global) -> Result<Took, Ended> {
+    fn take(&mut self, alloc: Global) -> Result<Took, Ended>
+        ensures moves { IfOk result (λ _. MovesUnsaid self.old self.new) }
+        ensures over { IfOk result (λ took. IsOverAt self.new.size took self.new.input) }
+    {
         if self.input.len() < REQUEST_BYTES {
             return Ok(Took::None);
         }
@@ -137,7 +151,10 @@ impl Line {
     }
 
     /// Takes all requests that are there as a whole, and tells why no more are taken.
-    pub fn take_all(&mut self, alloc: Global) -> Result<Took, Ended> {
+    pub fn take_all(&mut self, alloc: Global) -> Result<Took, Ended>
+        ensures moves { IfOk result (λ _. MovesUnsaid self.old self.new) }
+        ensures over { IfOk result (λ took. IsOverAt self.new.size took self.new.input) }
+    {
         for _ in 0..u64::MAX {
             match self.take(alloc)? {
                 Took::One => {}

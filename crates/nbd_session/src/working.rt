@@ -2,8 +2,7 @@
 ghost use Rattle.std.specs.Prelude.{◌≡◌, ◌<◌, [], IfOk, OnOk, length, slice_index_or};
 ghost use Rattle.nbd_jobs.specs.Held.{requests_of};
 ghost use Rattle.nbd_jobs.specs.Steps.{IsInside, JobState};
-ghost use Rattle.std.specs.Io.KnownBytes.{Appends};
-ghost use Rattle.nbd_session.specs.Same.{IsSameBut};
+ghost use Rattle.nbd_session.specs.Moved.{IsSameBut, MovesSaying, MovesUnsaid};
 ghost use Rattle.nbd_session.specs.declared.working.Went.TheVariants.{Stopped};
 
 use crate::ended::{Ended, Finish};
@@ -40,10 +39,11 @@ pub enum Went {
 impl Line {
     /// Says what is to be said.
     pub fn say<W: Write>(&mut self, writer: &mut W) -> Result<(), Ended>
-        ensures said { OnOk result (Appends (W.contents writer.old) (W.contents writer.new) self.old.out.items) }
+        ensures moves { OnOk result (MovesSaying self.old self.new (W.contents writer.old) (W.contents writer.new)) }
         ensures out { OnOk result (self.new.out.items ≡ []) }
         ensures jobs { self.new.jobs ≡ self.old.jobs }
         ensures input { self.new.input ≡ self.old.input }
+        ensures size { self.new.size ≡ self.old.size }
     {
         said(writer, self.out.as_slice())?;
         self.out.clear();
@@ -114,7 +114,9 @@ impl Line {
     }
 
     /// Answers the first job that is done. `false` where there is none.
-    fn answer_one(&mut self) -> Result<bool, AllocError> {
+    fn answer_one(&mut self) -> Result<bool, AllocError>
+        ensures { IfOk result (λ _. MovesUnsaid self.old self.new) }
+    {
         match self.jobs.take_done() {
             Some(job) => {
                 self.held = self.held.saturating_sub(job.bytes.len() as u64);
@@ -126,7 +128,9 @@ impl Line {
     }
 
     /// Answers all jobs that are done.
-    pub fn answer(&mut self) -> Result<(), AllocError> {
+    pub fn answer(&mut self) -> Result<(), AllocError>
+        ensures { OnOk result (MovesUnsaid self.old self.new) }
+    {
         for _ in 0..u64::MAX {
             if !self.answer_one()? {
                 return Ok(());
@@ -136,7 +140,9 @@ impl Line {
     }
 
     /// Answers the first job EIO, whatever is out of it.
-    fn fail_one(&mut self) -> Result<(), AllocError> {
+    fn fail_one(&mut self) -> Result<(), AllocError>
+        ensures { OnOk result (MovesUnsaid self.old self.new) }
+    {
         match self.jobs.take_first() {
             Some(job) => {
                 push_failure(&mut self.out, self.structured, ErrorValue::Io, &job.request)?;
@@ -147,8 +153,9 @@ impl Line {
     }
 
     /// Answers all jobs EIO, whatever is out of them.
-    #[tactic(auto, using(crate::proofs::Jobs::asked_none))]
+    #[tactic(auto, using(crate::proofs::Moved::asked_none))]
     fn fail_all(&mut self) -> Result<(), Ended>
+        ensures moves { OnOk result (MovesUnsaid self.old self.new) }
         ensures none { OnOk result (requests_of self.new.jobs ≡ []) }
     {
         for _ in 0..u64::MAX {
@@ -162,6 +169,7 @@ impl Line {
 
     /// The array is not to be written any more: what is not done is answered EIO.
     fn end<W: Write>(&mut self, writer: &mut W) -> Result<(), Ended>
+        ensures moves { OnOk result (MovesSaying self.old self.new (W.contents writer.old) (W.contents writer.new)) }
         ensures none { OnOk result ((requests_of self.new.jobs ≡ []) × (self.new.out.items ≡ [])) }
     {
         self.answer()?;
@@ -172,6 +180,7 @@ impl Line {
 
     /// Says what is done.
     fn tell<W: Write>(&mut self, writer: &mut W) -> Result<(), Ended>
+        ensures moves { OnOk result (MovesSaying self.old self.new (W.contents writer.old) (W.contents writer.new)) }
         ensures out { OnOk result (self.new.out.items ≡ []) }
     {
         self.answer()?;
@@ -185,7 +194,9 @@ impl Line {
         alloc: Global,
         array: &mut A,
         writer: &mut W,
-    ) -> Result<(), Ended> {
+    ) -> Result<(), Ended>
+        ensures { OnOk result (MovesSaying self.old self.new (W.contents writer.old) (W.contents writer.new)) }
+    {
         self.tell(writer)?;
         self.give_all(alloc, array)?;
         Ok(())
@@ -198,6 +209,7 @@ impl Line {
         array: &mut A,
         writer: &mut W,
     ) -> Result<Went, Ended>
+        ensures moves { IfOk result (λ _. MovesSaying self.old self.new (W.contents writer.old) (W.contents writer.new)) }
         ensures stopped { result ≡ Ok Stopped → (requests_of self.new.jobs ≡ []) × (self.new.out.items ≡ []) }
     {
         match array.step() {
@@ -225,18 +237,18 @@ impl Line {
         array: &mut A,
         writer: &mut W,
     ) -> Result<Went, Ended>
+        ensures moves { IfOk result (λ _. MovesSaying self.old self.new (W.contents writer.old) (W.contents writer.new)) }
         ensures stopped { result ≡ Ok Stopped → (requests_of self.new.jobs ≡ []) × (self.new.out.items ≡ []) }
     {
-        let mut on = false;
+        let mut went = Went::Still;
         for _ in 0..u64::MAX {
             match self.step(alloc, array, writer)? {
-                Went::Still if on => return Ok(Went::On),
-                Went::Still => return Ok(Went::Still),
-                Went::On => on = true,
+                Went::Still => return Ok(went),
+                Went::On => went = Went::On,
                 Went::Stopped => return Ok(Went::Stopped),
             }
         }
-        Ok(Went::On)
+        Ok(went)
     }
 
     /// Does what is given until the array is still, and says what is answered. `Still` where the array was so at once.
@@ -246,6 +258,7 @@ impl Line {
         array: &mut A,
         writer: &mut W,
     ) -> Result<Went, Ended>
+        ensures moves { IfOk result (λ _. MovesSaying self.old self.new (W.contents writer.old) (W.contents writer.new)) }
         ensures out { IfOk result (λ _. self.new.out.items ≡ []) }
         ensures stopped { result ≡ Ok Stopped → requests_of self.new.jobs ≡ [] }
     {
@@ -264,13 +277,14 @@ impl Line {
     }
 
     /// Does all that the jobs ask for, until none is left, and says what is answered.
-    #[tactic(auto, using(crate::proofs::Jobs::asked_none))]
+    #[tactic(auto, using(crate::proofs::Moved::asked_none))]
     pub fn work<A: Array, W: Write>(
         &mut self,
         alloc: Global,
         array: &mut A,
         writer: &mut W,
     ) -> Result<Finish, Ended>
+        ensures moves { IfOk result (λ _. MovesSaying self.old self.new (W.contents writer.old) (W.contents writer.new)) }
         ensures none { IfOk result (λ _. (requests_of self.new.jobs ≡ []) × (self.new.out.items ≡ [])) }
     {
         self.say(writer)?;
