@@ -16,9 +16,6 @@ use std::test::Fail;
 /// More calls than a run has.
 const MOST: u64 = 1_000_000;
 
-/// So many calls of a file lie in turn.
-const LIES: u64 = 120;
-
 /// A disk's bytes as the file of this number, a call of which has a fault.
 fn file_of(alloc: Global, disk: &MemDisk, number: u64, fault: (u64, Fault)) -> Result<Filed, Fail> {
     let sectors = disk.sectors();
@@ -98,18 +95,6 @@ fn cut_at_each(alloc: Global, scenario: &Scenario, place: usize) -> Result<u64, 
     Err(Fail::from("calls without an end"))
 }
 
-/// Has each call of each file lie in turn: no array is promised then, but each run ends, and what is left loads or is refused.
-fn lie_everywhere(alloc: Global, scenario: &Scenario) -> Result<(), Fail> {
-    for place in 0..=scenario.stores.len() {
-        for k in 0..LIES {
-            let mut machine = filed(alloc, scenario, place, k, Fault::Lies)?;
-            let _may_differ = machine.run(alloc, scenario.steps);
-            let _may_differ = loads_again_met(alloc, machine);
-        }
-    }
-    Ok(())
-}
-
 /// A scenario in chunks of so many sectors.
 fn in_chunks(chunk: u32, stores: &'static [u64], steps: &'static [Step]) -> Scenario {
     Scenario {
@@ -171,13 +156,5 @@ fn the_power_is_cut_where_chunks_are_copied(rt: HostRuntime) -> Result<(), Fail>
         count = count.saturating_add(one.saturating_add(whole.saturating_add(full)));
     }
     assert!(rt; count > 2 * 33 * 3, "{count}");
-    Ok(())
-}
-
-#[test]
-fn a_file_that_lies_ends_no_run(rt: HostRuntime) -> Result<(), Fail> {
-    lie_everywhere(rt.alloc(), &in_chunks(2, &[64], &WHOLE_AREA))?;
-    lie_everywhere(rt.alloc(), &in_chunks(2, &[64, 64], &MERGE_BESIDE))?;
-    lie_everywhere(rt.alloc(), &in_chunks(2, &[4], &OVERFLOWED))?;
     Ok(())
 }
