@@ -1,5 +1,5 @@
 -- What is told where a command does not end well. This project's own.
-use Rattle.std.specs.Prelude.{ℕ, ◌*◌, Bool, true, false, Option, Some, None}
+use Rattle.std.specs.Prelude.{ℕ, ◌*◌, Bool, true, false, Option, Some}
 use Rattle.sector.specs.declared.refusal.Refusal.TheVariants.{StoreTooSmall}
 use Rattle.serve_files.specs.declared.trouble.Why.{Why}
 use Rattle.serve_files.specs.declared.trouble.Why.TheVariants as why

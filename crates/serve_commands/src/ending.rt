@@ -1,7 +1,6 @@
 // How a session ended.
-ghost use Rattle.std.specs.Prelude.{◌≡◌, None, Ok, OnOk, Some, find, if◌then◌else◌, map, true};
+ghost use Rattle.std.specs.Prelude.{◌≡◌, None, Ok, OnOk, Some, if◌then◌else◌, map, true};
 ghost use Rattle.std.specs.List.{All, list_all};
-ghost use Rattle.std.specs.Option.{option_map};
 ghost use Rattle.file_calls.specs.Kept.{are_answered};
 ghost use Rattle.file_calls.specs.Note.{call_of};
 ghost use Rattle.nbd_session.specs.declared.ended.Finish.TheVariants.{Client};
@@ -39,9 +38,7 @@ pub fn tell_lost<E: Write>(volume: &Volume<Device<'_>>, errors: &mut E) {
 }
 
 /// The file of the first store that could not be marked, where there is one.
-fn unmarked<'a>(snaps: &[Snapshot<Device<'a>>]) -> Option<&'a str>
-    ensures { text_in result ≡ option_map (λ snap. snap.device.file.name.now) (find (λ snap. snap.stale) snaps.now) }
-{
+fn unmarked<'a>(snaps: &[Snapshot<Device<'a>>]) -> Option<&'a str> {
     for snap in snaps {
         if snap.is_stale() {
             return Some(device_name(snap.device()));

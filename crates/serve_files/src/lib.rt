@@ -5,7 +5,7 @@
 //! `nbd_options` for exports, and on `serve_words` for the sizes that there are. It promises which calls are made of the file of a new
 //! store, that one that is not empty is left as it was, and that zeros are left; that a device and a trouble have the name of their file,
 //! in the order of the names; that devices are made of files that were synced, no two of them one; which export has which name; that at
-//! the end each file is synced, or a trouble told; and the exit status. That a file is the one of its name, and who has locked it, is no clause.
+//! the end each file is synced, or a trouble told; and the exit status. Which file a name has, and who has locked it, is no clause.
 #![tactic(auto)]
 
 mod all_files;
