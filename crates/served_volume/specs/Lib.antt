@@ -1,3 +1,4 @@
 pub mod Seen
 pub mod NotReady
 pub mod Taken
+pub mod Loaded

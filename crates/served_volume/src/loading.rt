@@ -1,5 +1,10 @@
 // A store's snapshot is loaded, or taken where the store is empty.
-ghost use Rattle.std.specs.Prelude.{◌≡◌};
+ghost use Rattle.std.specs.Prelude.{◌≡◌, true, Ok, IfOk};
+ghost use Rattle.sector.specs.Bytes.{sector_at};
+ghost use Rattle.cow_header.specs.HeaderText.{found_in};
+ghost use Rattle.device.specs.Layers.{is_loud};
+ghost use Rattle.served_volume.specs.Loaded.{IsLoaded};
+ghost use Rattle.served_volume.specs.Seen.{IsSeen};
 
 use crate::NotOpened;
 use crate::answering::are_answered;
@@ -14,7 +19,10 @@ use std::alloc::Global;
 use volume::Volume;
 
 /// Reads ahead what the load of a store will read, and gives what its first sector says.
-fn load_ahead<B: Ahead>(alloc: Global, store: &mut B) -> Result<Found, NotOpened> {
+fn load_ahead<B: Ahead>(alloc: Global, store: &mut B) -> Result<Found, NotOpened>
+    ensures seen { IsSeen B.may_hold B.contents B.layers B.size store.old store.new }
+    ensures told { IfOk result (λ found. is_loud (B.layers store.new) ≡ true → found_in (sector_at (B.contents store.new) 0) ≡ Ok found) }
+{
     if store.sectors() == 0 {
         return Err(NotOpened::Refused(Refusal::StoreTooSmall));
     }
@@ -36,7 +44,9 @@ pub fn load<B: Ahead + Drop>(
     mut store: B,
     chunk: u32,
     overflow: bool,
-) -> Result<(SnapId, Found), NotOpened> {
+) -> Result<(SnapId, Found), NotOpened>
+    ensures { IfOk result (λ loaded. IsLoaded B.may_hold (record { contents = B.contents; durable = B.durable; size = B.size; faults = B.fault_count; done = B.done_count }) B.layers B.failed chunk overflow store loaded.0 loaded.1 volume.old volume.new) }
+{
     let found = load_ahead(alloc, &mut store)?;
     if !store.sync_ahead() {
         return Err(NotOpened::StoreFailed);
