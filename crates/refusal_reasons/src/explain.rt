@@ -39,11 +39,11 @@ impl<X: Write> ExplainTo<X> {
         self.writer
     }
 
-    /// Tells of a line of a block that will refuse the block at its end, and gives whether it does.
-    fn told_of_seat(&mut self, number: u64, line: &[u8]) -> io::Result<bool> {
+    /// Tells of a line of a block, where it will refuse the block at its end.
+    fn told_of_seat(&mut self, number: u64, line: &[u8]) -> io::Result<()> {
         let mut sentence = Vec::new(self.alloc);
         if says_nothing(line) || !tell_seat_line(&mut sentence, self.alloc, line)? {
-            return Ok(false);
+            return Ok(());
         }
         write!(self.writer, "{number}: ")?;
         put_two(
@@ -51,8 +51,7 @@ impl<X: Write> ExplainTo<X> {
             sentence.as_slice(),
             b"; the block is refused at its end\n",
         )?;
-        self.writer.flush()?;
-        Ok(true)
+        self.writer.flush()
     }
 
     /// Tells of a line that was refused.
@@ -79,10 +78,7 @@ impl<X: Write> ExplainTo<X> {
         self.refused = refused;
         match session.refusal() {
             Some(refusal) if is_new => self.told_of_line(number, line, refusal, session),
-            _ if self.is_open && session.is_open() => match self.told_of_seat(number, line) {
-                Ok(_) => Ok(()),
-                Err(error) => Err(error),
-            },
+            _ if self.is_open && session.is_open() => self.told_of_seat(number, line),
             _ => Ok(()),
         }
     }
