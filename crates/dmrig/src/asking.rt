@@ -18,6 +18,8 @@ pub struct Asked<'a> {
     pub numbers: bool,
     /// Whether it is told behind each line what is in flight, and which events are due.
     pub trace: bool,
+    /// Whether it is told behind each line that is refused why, and what would be right.
+    pub explain: bool,
 }
 
 /// The number of workers that a word says.
@@ -77,6 +79,7 @@ pub fn file_asks<'a>(words: &'a [String]) -> Option<Asked<'a>>
         workers,
         numbers: false,
         trace: false,
+        explain: false,
     })
 }
 
@@ -103,6 +106,12 @@ pub fn words_ask<'a>(alloc: Global, words: &'a [String]) -> Result<Asked<'a>, Er
             "Tell behind each line, on standard error, what is in flight and which events are due",
         )
         .action(ArgAction::SetTrue);
+    let explain = Arg::new(alloc, "explain")
+        .long("explain")
+        .help(
+            "Tell behind each refused line, on standard error, why it is refused and what would be right",
+        )
+        .action(ArgAction::SetTrue);
     let command = Command::new(alloc, "dmrig")
         .version("1")
         .about("Does lines of commands on devices in memory, and prints what each answers.")
@@ -110,13 +119,15 @@ pub fn words_ask<'a>(alloc: Global, words: &'a [String]) -> Result<Asked<'a>, Er
         .arg(file)?
         .arg(workers)?
         .arg(numbers)?
-        .arg(trace)?;
+        .arg(trace)?
+        .arg(explain)?;
     let matches = command.try_get_matches_from(words)?;
     Ok(Asked {
         file: matches.get_str("FILE"),
         workers: workers_of(matches.get_str("WORKERS")),
         numbers: matches.get_flag("numbers"),
         trace: matches.get_flag("trace"),
+        explain: matches.get_flag("explain"),
     })
 }
 
@@ -222,6 +233,27 @@ mod tests {
                 Ok(asked) => {
                     assert_eq!(rt; asked.file, file);
                     assert_eq!(rt; (asked.workers, asked.numbers), (workers, numbers));
+                }
+                Err(error) => assert!(rt; false, "{error}"),
+            }
+        }
+        Ok(())
+    }
+
+    #[test]
+    fn takes_each_option_alone(rt: HostRuntime) -> Result<(), Fail> {
+        for (word, numbers, trace, explain) in [
+            ("--numbers", true, false, false),
+            ("--trace", false, true, false),
+            ("--explain", false, false, true),
+        ] {
+            let line = line_of(rt.alloc(), ["a.cmd", word].as_slice())?;
+            match any_ask(rt.alloc(), &line) {
+                Ok(asked) => {
+                    assert_eq!(rt;
+                        (asked.numbers, asked.trace, asked.explain),
+                        (numbers, trace, explain)
+                    );
                 }
                 Err(error) => assert!(rt; false, "{error}"),
             }

@@ -1,5 +1,5 @@
-//! The command program `dmrig [--numbers] [--trace] [FILE [WORKERS]]`: it does the command lines of a file, or of standard input, and
-//! prints their answers. Each answer is written out before more input is waited for.
+//! The command program `dmrig [--numbers] [--trace] [--explain] [FILE [WORKERS]]`: it does the command lines of a file, or of standard
+//! input, and prints their answers. Each answer is written out before more input is waited for.
 //!
 //! It stands on `runner`, which says what is printed, and has only what concerns the process: the words of the command
 //! line, the file, standard output and the exit status (0, 1 where a line was refused, 2 where the run ended early or
@@ -17,7 +17,8 @@ mod source;
 
 use crate::asking::{Asked, any_ask};
 use crate::running::done;
-use runner::TraceTo;
+use refusal_reasons::ExplainTo;
+use runner::{Both, TraceTo};
 use std::alloc::Global;
 use std::io::{BufWriter, Printer};
 use std::process::ExitCode;
@@ -39,7 +40,38 @@ fn output<P: Print>(rt: &P, alloc: Global) -> io::Result<BufWriter<Printer<'_, P
     Ok(writer)
 }
 
-/// Who is told of each line, on standard error: nobody, unless a trace is asked for.
+/// Who is told of each line, on standard error: who explains refusals, and who traces, each where it is asked for.
+fn tellers<'a>(
+    alloc: Global,
+    asked: &Asked<'_>,
+    errors: &'a Stderr,
+) -> io::Result<
+    Both<Option<ExplainTo<BufWriter<&'a Stderr>>>, Option<TraceTo<BufWriter<&'a Stderr>>>>,
+>
+    ensures explained { IfOk result (λ told. is_some told.first ≡ asked.now.explain) }
+    ensures traced { IfOk result (λ told. is_some told.second ≡ asked.now.trace) }
+{
+    let first = explainer(alloc, asked.explain, errors)?;
+    let second = tracer(alloc, asked.trace, errors)?;
+    Ok(Both { first, second })
+}
+
+/// Who explains refusals, on standard error: nobody, unless that is asked for.
+fn explainer(
+    alloc: Global,
+    explain: bool,
+    errors: &Stderr,
+) -> io::Result<Option<ExplainTo<BufWriter<&Stderr>>>>
+    ensures { IfOk result (λ explainer. is_some explainer ≡ explain) }
+{
+    if explain {
+        Ok(Some(ExplainTo::new(alloc, BufWriter::new(alloc, errors)?)))
+    } else {
+        Ok(None)
+    }
+}
+
+/// Who traces, on standard error: nobody, unless that is asked for.
 fn tracer(
     alloc: Global,
     trace: bool,
@@ -89,14 +121,14 @@ fn done_here(
     requires few { asked.now.workers ≤ 4 }
 {
     let mut writer = output(rt, rt.alloc())?;
-    let mut tracer = tracer(rt.alloc(), asked.trace, errors)?;
+    let mut told = tellers(rt.alloc(), asked, errors)?;
     Ok(done(
         rt,
         asked,
         rt.reader(),
         |name| fs::open(rt, name),
         &mut writer,
-        &mut tracer,
+        &mut told,
     ))
 }
 

@@ -3,6 +3,7 @@ ghost use Rattle.std.specs.Prelude.{◌≡◌, ◌≤◌, ◌==◌, Result, is_s
 ghost use Rattle.std.specs.Fn.{FnOnceReturnsAt};
 ghost use Rattle.std.specs.Io.KnownBytes.{Keeps};
 ghost use Rattle.runner.specs.Exit.{IsEarly};
+ghost use Rattle.runner.specs.Both.{TellsBoth};
 ghost use Rattle.runner.specs.Told.{TellsIfThere};
 ghost use Rattle.dmrig.specs.Ended.{ended};
 ghost use Rattle.dmrig.specs.Opened.{IsDone, IsOpened, file_named};
@@ -11,7 +12,7 @@ ghost use Rattle.dmrig.specs.Wanted.{text_of};
 
 use crate::asking::Asked;
 use crate::source::Source;
-use runner::{RunError, Summary, Tracer, exit_status, run, run_numbered};
+use runner::{Both, RunError, Summary, Tracer, exit_status, run, run_numbered};
 use std::io;
 use std::io::{Read, Write};
 use std::sync::Wait;
@@ -109,15 +110,15 @@ fn source_of<I: Read + Drop, F: Read, O: FnOnce(&str) -> io::Result<F> + Drop>(
 }
 
 /// Does what is asked for: runs the lines of standard input, or of the file that is named, which `opener` opens, into a writer, and gives
-/// the exit status. What went wrong is told on standard error.
+/// the exit status. Who explains and who traces is told behind each line. What went wrong is told on standard error.
 #[inline(never)]
-pub fn done<T, I, F, O, W, X>(
+pub fn done<T, I, F, O, W, X, Y>(
     rt: &T,
     asked: &Asked<'_>,
     input: I,
     opener: O,
     writer: &mut W,
-    tracer: &mut Option<X>,
+    told: &mut Both<Option<X>, Option<Y>>,
 ) -> u8
 where
     T: Eprint + AllocGlobal + Threads + Wait + Sync,
@@ -126,12 +127,14 @@ where
     O: FnOnce(&str) -> io::Result<F> + Drop,
     W: Write,
     X: Tracer,
+    Y: Tracer,
     requires opens { O.IsAlwaysCallable opener }
     requires some { 1 ≤ asked.now.workers }
     requires few { asked.now.workers ≤ 4 }
-    requires traced { is_some tracer.old ≡ asked.now.trace }
+    requires explained { is_some told.old.first ≡ asked.now.explain }
+    requires traced { is_some told.old.second ≡ asked.now.trace }
     ensures { (source : _) × IsOpened (FnOnceReturnsAt O.FnOnce opener) (file_named (option_map text_of asked.now.file)) input source
-        × IsDone I.remaining F.remaining (TellsIfThere X.tells) asked.now.numbers (W.contents writer.old) (W.contents writer.new) tracer.old tracer.new result source }
+        × IsDone I.remaining F.remaining (TellsBoth (TellsIfThere X.tells) (TellsIfThere Y.tells)) asked.now.numbers (W.contents writer.old) (W.contents writer.new) told.old told.new result source }
 {
     let name = named(asked.file);
     let mut source = match source_of(name, input, opener) {
@@ -141,13 +144,6 @@ where
             return 2;
         }
     };
-    let ran = printed(
-        rt,
-        &mut source,
-        writer,
-        tracer,
-        asked.numbers,
-        asked.workers,
-    );
+    let ran = printed(rt, &mut source, writer, told, asked.numbers, asked.workers);
     finished(rt, name.unwrap_or("-"), ran)
 }

@@ -20,3 +20,4 @@ pub mod Numbered
 pub mod Undoing
 pub mod Traced
 pub mod Told
+pub mod Both

@@ -51,6 +51,7 @@ impl Desk {
     {
         let own = CommandReply::Refused(refusal);
         self.summary = self.summary.with(&own);
+        self.refusal = Some(refusal);
         match own.write_to(writer) {
             Ok(()) => Ok(()),
             Err(error) => Err(RunError::of_writer(error)),
@@ -77,6 +78,7 @@ impl Desk {
     {
         // A block has rooms of its own.
         self.room = Vec::new(self.alloc);
+        self.refusal = None;
         let replies = match run_block(rt, self.alloc, &mut self.held, block, workers) {
             Ok(replies) => replies,
             Err(refusal) => return self.refuse(refusal, writer),

@@ -27,18 +27,20 @@ use crate::summary::Summary;
 use command::CommandReply;
 use device_list::Devices;
 use plain_machine::Replied;
+use sector::Refusal;
 use std::alloc::Global;
 use std::io::Write;
 use std::marker::Model;
 
-/// The devices that the lines so far made, a count of the lines that were printed, and the memory of the last bytes that were
-/// many.
+/// The devices that the lines so far made, a count of the lines that were printed, why the last of them was refused, if it was, and the
+/// memory of the last bytes that were many.
 #[derive(Drop)]
 pub struct Desk {
     pub(crate) alloc: Global,
     pub(crate) held: Devices,
     pub(crate) room: Vec<u8>,
     pub(crate) summary: Summary,
+    pub(crate) refusal: Option<Refusal>,
 }
 
 impl Model for Desk {
@@ -83,6 +85,14 @@ fn outcome(
     }
 }
 
+/// The refusal that an answer is, if it is one.
+fn refusal_in(own: &Option<CommandReply>) -> Option<Refusal> {
+    match own {
+        Some(CommandReply::Refused(refusal)) => Some(*refusal),
+        _ => None,
+    }
+}
+
 impl Desk {
     /// No devices, and room for all that there may be. The one error is `RunError::Memory`.
     #[tactic(auto, using(crate::proofs::DeskLemmas::none_named))]
@@ -94,6 +104,7 @@ impl Desk {
             held: Devices::new(alloc).map_err(|_| RunError::Memory)?,
             room: Vec::new(alloc),
             summary: Summary::of_nothing(),
+            refusal: None,
         })
     }
 
@@ -132,6 +143,7 @@ impl Desk {
             &mut own,
         );
         self.summary = self.summary.with_lines(ended.len()).with_own(&own);
+        self.refusal = refusal_in(&own);
         print_all(self.alloc, writer, &mut ended, &own)
     }
 }

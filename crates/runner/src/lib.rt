@@ -44,5 +44,5 @@ pub use numbered::run_numbered;
 pub use session::Session;
 pub use summary::Summary;
 pub use text::run;
-pub use tracer::{TraceTo, Tracer, Untraced};
+pub use tracer::{Both, TraceTo, Tracer, Untraced, write_out};
 pub use undoing::look_at_undoing;

@@ -67,9 +67,10 @@ pub fn run_numbered<T: Threads + Wait + Sync, R: Read, W: Write, X: Tracer>(
             print_numbered(writer, number, &page)?;
             return Ok(session.summary());
         }
-        session.line(rt, buffer.as_slice(), &mut page)?;
+        let line = buffer.as_slice();
+        session.line(rt, line, &mut page)?;
         print_numbered(writer, number, &page)?;
-        tracer.behind(number, &session, writer);
+        tracer.behind(number, line, &session, writer);
     }
     Err(RunError::Endless)
 }

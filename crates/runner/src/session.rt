@@ -3,6 +3,7 @@ ghost use Rattle.std.specs.Prelude.{◌≡◌, ◌≤◌, None, true, is_some, M
 ghost use Rattle.std.specs.Io.KnownBytes.{Appends};
 ghost use Rattle.command_rules.specs.Naming.{AreNamed};
 ghost use Rattle.command_rules.specs.Sound.{is_sound};
+ghost use Rattle.device_list.specs.Tables.{table_of};
 ghost use Rattle.runner.specs.Exit.{IsMemory, IsWriters};
 ghost use Rattle.runner.specs.Output.{LineOutcome, followed, printed};
 ghost use Rattle.runner.specs.Runs.{begun};
@@ -16,6 +17,8 @@ use crate::error::RunError;
 use crate::summary::Summary;
 use crate::tracing::traced;
 use command::{LINE_LIMIT, LineBlock, is_par, opening_by};
+use device_list::Devices;
+use sector::Refusal;
 use std::alloc::{AllocError, Global};
 use std::io::Write;
 use std::marker::Model;
@@ -63,6 +66,25 @@ impl Session {
         ensures { result ≡ self.now.desk.summary }
     {
         self.desk.summary()
+    }
+
+    /// The devices.
+    pub fn devices(&self) -> &Devices
+        ensures { table_of result.now ≡ self.now.desk.table }
+    {
+        &self.desk.held
+    }
+
+    /// Why the line that printed last was refused, if it was. A line of a block that is open prints nothing.
+    pub fn refusal(&self) -> Option<Refusal> {
+        self.desk.refusal
+    }
+
+    /// Whether a block of lines is open.
+    pub fn is_open(&self) -> bool
+        ensures { result ≡ is_some self.now.block }
+    {
+        self.block.is_some()
     }
 
     /// The lines of a trace of its volumes, one for each in which something is in flight or due. An error says that the allocator

@@ -80,8 +80,9 @@ pub fn run<T: Threads + Wait + Sync, R: Read, W: Write, X: Tracer>(
             session.end(rt, writer)?;
             return Ok(session.summary());
         }
-        session.line(rt, buffer.as_slice(), writer)?;
-        tracer.behind(lines + 1, &session, writer);
+        let line = buffer.as_slice();
+        session.line(rt, line, writer)?;
+        tracer.behind(lines + 1, line, &session, writer);
     }
     Err(RunError::Endless)
 }

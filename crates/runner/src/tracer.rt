@@ -16,9 +16,9 @@ pub trait Tracer {
     /// What it says of being told of a line: what it was, the line's number, what stands behind the line, and what it is then.
     ghost tells: { Self → ℕ → Sitting → Self → Type 0 };
 
-    /// Tells of a line, by its number. What it is told, and that it fails, changes nothing of the run: it may write out what the writer
-    /// holds, and no more.
-    fn behind<W: Write>(&mut self, number: u64, session: &Session, writer: &mut W)
+    /// Tells of a line, by its number and its bytes, as far as these were kept. What it is told, and that it fails, changes nothing of
+    /// the run: it may write out what the writer holds, and no more.
+    fn behind<W: Write>(&mut self, number: u64, line: &[u8], session: &Session, writer: &mut W)
         ensures tells { tells self.old number session.now self.new }
         ensures kept { Keeps (W.contents writer.old) (W.contents writer.new) };
 }
@@ -30,7 +30,13 @@ pub struct Untraced;
 impl Tracer for Untraced {
     ghost tells = { λ before number sitting after. ⊤ };
 
-    fn behind<W: Write>(&mut self, _number: u64, _session: &Session, _writer: &mut W) {}
+    fn behind<W: Write>(
+        &mut self,
+        _number: u64,
+        _line: &[u8],
+        _session: &Session,
+        _writer: &mut W,
+    ) {}
 }
 
 /// Who may not be there: then nobody is told.
@@ -38,10 +44,30 @@ impl<X: Tracer> Tracer for Option<X> {
     ghost tells = { TellsIfThere X.tells };
 
     #[inline(always)]
-    fn behind<W: Write>(&mut self, number: u64, session: &Session, writer: &mut W) {
+    fn behind<W: Write>(&mut self, number: u64, line: &[u8], session: &Session, writer: &mut W) {
         if let Some(tracer) = self {
-            tracer.behind(number, session, writer);
+            tracer.behind(number, line, session, writer);
         }
+    }
+}
+
+/// Two who are told, one after the other.
+#[derive(Drop)]
+pub struct Both<X: Tracer, Y: Tracer> {
+    pub first: X,
+    pub second: Y,
+}
+
+impl<X: Tracer, Y: Tracer> Tracer for Both<X, Y> {
+    ghost use Rattle.runner.specs.Both.{TellsBoth};
+
+    ghost tells = { TellsBoth X.tells Y.tells };
+
+    #[inline(always)]
+    #[tactic(auto, using(words::proofs::Known::keeps_more))]
+    fn behind<W: Write>(&mut self, number: u64, line: &[u8], session: &Session, writer: &mut W) {
+        self.first.behind(number, line, session, writer);
+        self.second.behind(number, line, session, writer);
     }
 }
 
@@ -70,7 +96,7 @@ impl<X: Write> Tracer for TraceTo<X> {
     ghost tells = { λ before number sitting after. after.is_whole ≡ true → (before.is_whole ≡ true) × ((page : List ℕ) × AreTraced page sitting.desk.table.volumes × Appends (X.contents before.writer) (X.contents after.writer) (numbered number page)) };
 
     #[inline(never)]
-    fn behind<W: Write>(&mut self, number: u64, session: &Session, writer: &mut W) {
+    fn behind<W: Write>(&mut self, number: u64, _line: &[u8], session: &Session, writer: &mut W) {
         write_out(writer);
         match trace(&mut self.writer, number, session) {
             Ok(()) => {}
@@ -91,7 +117,7 @@ fn trace<X: Write>(tracer: &mut X, number: u64, session: &Session) -> Result<(),
 
 /// Writes out what a writer holds, where it can: what a line answers comes before what is told behind it. An error comes again
 /// where the next line is asked for.
-fn write_out<W: Write>(writer: &mut W)
+pub fn write_out<W: Write>(writer: &mut W)
     ensures kept { Keeps (W.contents writer.old) (W.contents writer.new) }
 {
     let _ = writer.flush();

@@ -25,23 +25,23 @@ loop-lines-init g c =
 pub loop-lines-preserved : goal.loop-lines-preserved
 loop-lines-preserved g c =
     let d = c.in_ok-line.ensures.done in
-    let over : ReadsLine 65536 (left c.loop-lines.buffer.ahead (g.R.Read.remaining c.loop-lines.reader)) (left c.next_line.new.buffer.ahead (g.R.Read.remaining c.next_line.new.reader)) true c.as_slice.result.now = search rules in
+    let over : ReadsLine 65536 (left c.loop-lines.buffer.ahead (g.R.Read.remaining c.loop-lines.reader)) (left c.next_line.new.buffer.ahead (g.R.Read.remaining c.next_line.new.reader)) true c.as_slice-line.result.now = search rules in
     let more : Appends (g.W.Write.contents c.next_line.new.writer) (g.W.Write.contents c.print_numbered-in-loop-lines.new.writer) (numbered (c.loop-lines.lines + 1) c.deref-in-loop-lines.result.now) = search rules in
     record {
       room = search rules;
       follows = written_each _ _ _ _ (g.W.Write.contents c.behind.new.writer) c.line.new.self (c.loop-lines.lines + 1)
-          (goes_on_each _ _ _ _ _ _ c.as_slice.result.now c.deref-in-loop-lines.result.now c.loop-lines.session c.line.new.self d.0 c.loop-lines.lines (c.loop-lines.lines + 1)
+          (goes_on_each _ _ _ _ _ _ c.as_slice-line.result.now c.deref-in-loop-lines.result.now c.loop-lines.session c.line.new.self d.0 c.loop-lines.lines (c.loop-lines.lines + 1)
           (written_each _ _ _ _ (g.W.Write.contents c.next_line.new.writer) c.loop-lines.session c.loop-lines.lines c.loop-lines.invariant.follows c.next_line.ensures.kept)
           over (record { did = d.1; desk = d.2; sound = c.in_ok-line.ensures.sound }) refl
           (c.deref-in-loop-lines.ensures.value ∙ d.3 ∙ ap (λ xs. xs ++ printed d.0.replies) c.clear.ensures.items) more)
           c.behind.ensures.kept;
       told = written_told (numbered_from 1) g.X.Tracer.tells _ _ _ _ (g.W.Write.contents c.behind.new.writer) c.line.new.self (c.loop-lines.lines + 1) c.args.tracer.now c.behind.new.self
-          (goes_on_told (numbered_from 1) g.X.Tracer.tells _ _ _ _ _ _ c.as_slice.result.now c.loop-lines.session c.line.new.self d.0 c.loop-lines.lines c.args.tracer.now c.loop-lines.tracer c.behind.new.self
+          (goes_on_told (numbered_from 1) g.X.Tracer.tells _ _ _ _ _ _ c.as_slice-line.result.now c.loop-lines.session c.line.new.self d.0 c.loop-lines.lines c.args.tracer.now c.loop-lines.tracer c.behind.new.self
           (written_told (numbered_from 1) g.X.Tracer.tells _ _ _ _ (g.W.Write.contents c.next_line.new.writer) c.loop-lines.session c.loop-lines.lines c.args.tracer.now c.loop-lines.tracer c.loop-lines.invariant.told c.next_line.ensures.kept)
           over (record { did = d.1; desk = d.2; sound = c.in_ok-line.ensures.sound })
           (prints_numbered _ _ _ d.0.replies c.loop-lines.lines c.deref-in-loop-lines.result.now (c.deref-in-loop-lines.ensures.value ∙ d.3 ∙ ap (λ xs. xs ++ printed d.0.replies) c.clear.ensures.items) more) c.behind.ensures.tells)
           c.behind.ensures.kept;
-      taken = line_taken (g.R.Read.remaining c.args.reader.now) (left c.loop-lines.buffer.ahead (g.R.Read.remaining c.loop-lines.reader)) (left c.next_line.new.buffer.ahead (g.R.Read.remaining c.next_line.new.reader)) c.as_slice.result.now c.loop-lines.lines c.loop-lines.invariant.taken over;
+      taken = line_taken (g.R.Read.remaining c.args.reader.now) (left c.loop-lines.buffer.ahead (g.R.Read.remaining c.loop-lines.reader)) (left c.next_line.new.buffer.ahead (g.R.Read.remaining c.next_line.new.reader)) c.as_slice-line.result.now c.loop-lines.lines c.loop-lines.invariant.taken over;
     }
 
 pub returns-then-not-branch-clause-exact : goal.returns-then-not-branch-clause-exact
