@@ -83,10 +83,11 @@ fn tell_range<W: Write>(writer: &mut W, held: &Devices, words: &[&[u8]]) -> io::
         None => put_two(writer, what, name),
         Some(sectors) => {
             put_two(writer, what, name)?;
+            write!(writer, ", which has {sectors} sectors")?;
             if verb == b"start".as_slice() {
-                writer.write_all(b", or lie in more than one piece")?;
+                writer.write_all(b", or they lie in more than one piece")?;
             }
-            write!(writer, ", which has {sectors} sectors")
+            Ok(())
         }
     }
 }
