@@ -39,9 +39,6 @@ pub trait Array {
     fn chunk(&self) -> u32
         ensures { 0 < result };
 
-    /// Its bytes.
-    fn size(&self) -> u64;
-
     /// Takes a piece in, and tells its number. What is written is `part`.
     fn submit(&mut self, alloc: Global, work: Work, part: &[u8]) -> Result<u64, Refused>
         requires { work.kind ≡ Write → length part.now ≡ 512 * work.count };

@@ -6,17 +6,10 @@ ghost use Rattle.volume_nbd.specs.Steps.{DoesServedStep};
 ghost use Rattle.volume_nbd.specs.Submits.{DoesTakeIn};
 
 use crate::VolumeArray;
-use device::{Ahead, Block};
+use device::Ahead;
 use nbd_jobs::Work;
 use served_array::{Array, Refused, Stepped};
 use std::alloc::Global;
-
-/// The bytes of a device.
-fn bytes_of<B: Block>(device: &B) -> u64
-    ensures { result ≡ 512 * B.size device.now }
-{
-    512 * device.sectors()
-}
 
 impl<B: Ahead> Array for VolumeArray<B> {
     /// The client uses the export at this place. `false`, and nothing changes, where there is none, or where requests of another are
@@ -46,13 +39,6 @@ impl<B: Ahead> Array for VolumeArray<B> {
         ensures piece { result ≡ piece_with self.now.volume.merge self.now.volume.snaps }
     {
         self.volume.piece()
-    }
-
-    /// The bytes of the origin.
-    fn size(&self) -> u64
-        ensures { result ≡ 512 * B.size self.now.volume.origin }
-    {
-        bytes_of(self.volume.origin())
     }
 
     /// Takes a piece in, as `take_in` does.
