@@ -3,6 +3,7 @@ ghost use Rattle.std.specs.Prelude.{◌≡◌};
 
 use crate::doing::done;
 use crate::ended::{Ended, status_of};
+use command_line::program_words;
 use image_words::words_ask;
 use std::io;
 use std::io::{BufRead, Write};
@@ -39,32 +40,9 @@ pub fn answer<R: BufRead, W: Write, E: Write>(
     status_of(&done)
 }
 
-/// The words of the command line. `None`, once that is told, where they could not be had.
-fn line(rt: &HostRuntime) -> Option<Vec<String>> {
-    match std::env::args(rt) {
-        Ok(args) => match args.collect(rt.alloc()) {
-            Ok(words) => Some(words),
-            Err(_) => {
-                let _ = eprintln!(rt; "lochknife: no memory");
-                None
-            }
-        },
-        Err(error) => {
-            if error.kind() == io::ErrorKind::InvalidData {
-                let _ = eprintln!(rt;
-                    "lochknife: wrong words: one is no UTF-8; give such a file another name by a link"
-                );
-            } else {
-                let _ = eprintln!(rt; "lochknife: {error}");
-            }
-            None
-        }
-    }
-}
-
 /// The program: answers its command line, from and to the standard streams, and gives the exit status.
 pub fn run(rt: &HostRuntime) -> u8 {
-    let Some(words) = line(rt) else {
+    let Some(words) = program_words(rt, "lochknife") else {
         return 2;
     };
     let mut input = rt.stdin().lock();

@@ -6,9 +6,9 @@ ghost use Rattle.serve_words.specs.Asks.{asked_by};
 
 use crate::serving::{Serving, serve};
 use crate::taking::{Taking, take};
+use command_line::program_words;
 use serve_files::{Trouble, about, new, status_of};
 use serve_words::{Asked, HELP, VERSION, split, words_ask};
-use std::io;
 use std::io::{Read, Write};
 
 /// Does what the words of a command line ask for, from and to these streams, and gives the exit status: 0 where it is done, 1 where a
@@ -86,32 +86,9 @@ fn said<W: Write>(text: &str, output: &mut W) -> Result<(), Trouble<'static>> {
     about("standard output", output.flush())
 }
 
-/// The words of the command line. `None`, once that is told, where they could not be had.
-fn line(rt: &HostRuntime) -> Option<Vec<String>> {
-    match std::env::args(rt) {
-        Ok(args) => match args.collect(rt.alloc()) {
-            Ok(words) => Some(words),
-            Err(_) => {
-                let _ = eprintln!(rt; "lochknife: no memory");
-                None
-            }
-        },
-        Err(error) => {
-            if error.kind() == io::ErrorKind::InvalidData {
-                let _ = eprintln!(rt;
-                    "lochknife: wrong words: one is no UTF-8; give such a file another name by a link"
-                );
-            } else {
-                let _ = eprintln!(rt; "lochknife: {error}");
-            }
-            None
-        }
-    }
-}
-
 /// The program: answers its command line, from and to the standard streams, and gives the exit status.
 pub fn run(rt: &HostRuntime) -> u8 {
-    let Some(words) = line(rt) else {
+    let Some(words) = program_words(rt, "lochknife") else {
         return 2;
     };
     let mut input = rt.stdin();
