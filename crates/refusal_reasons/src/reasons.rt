@@ -185,6 +185,36 @@ fn tell_merge<W: Write>(
     }
 }
 
+/// Tells what failed, or what a merge forbids.
+fn tell_failure<W: Write>(
+    writer: &mut W,
+    held: &Devices,
+    refusal: Refusal,
+    name: &[u8],
+) -> io::Result<()> {
+    match refusal {
+        Refusal::Invalid => tell_of(
+            writer,
+            name,
+            " is lost for good: its store filled up, or a device failed",
+        ),
+        Refusal::Overflow => tell_of(
+            writer,
+            name,
+            "'s store is full, and its line says PO: it takes no write any more",
+        ),
+        Refusal::Io => put_three(
+            writer,
+            b"a layer under ",
+            name,
+            b", or under a store, failed the operation: table tells each layer",
+        ),
+        Refusal::NotDue => writer.write_all(b"the event is not due: dmrig --trace tells which are"),
+        Refusal::NoMemory => writer.write_all(b"the allocator refused memory"),
+        _ => tell_merge(writer, held, refusal, name),
+    }
+}
+
 /// Tells why a line was refused that makes no device.
 fn tell_command<W: Write>(
     writer: &mut W,
@@ -216,25 +246,7 @@ fn tell_command<W: Write>(
             b"checkpoint",
             name,
         ),
-        Refusal::Invalid => tell_of(
-            writer,
-            name,
-            " is lost for good: its store filled up, or a device failed",
-        ),
-        Refusal::Overflow => tell_of(
-            writer,
-            name,
-            "'s store is full, and its line says PO: it takes no write any more",
-        ),
-        Refusal::Io => put_three(
-            writer,
-            b"a layer under ",
-            name,
-            b", or under a store, failed the operation: table tells each layer",
-        ),
-        Refusal::NotDue => writer.write_all(b"the event is not due: dmrig --trace tells which are"),
-        Refusal::NoMemory => writer.write_all(b"the allocator refused memory"),
-        _ => tell_merge(writer, held, refusal, name),
+        _ => tell_failure(writer, held, refusal, name),
     }
 }
 

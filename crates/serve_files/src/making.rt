@@ -11,8 +11,8 @@ use std::fs::File;
 use std::io::ErrorKind;
 use std::{fs, io};
 
-/// Gives an empty file so many bytes, all of them zeros, and makes them last. Where it has some already, their number is told, and nothing is
-/// done to it.
+/// Gives an empty file so many bytes, all of them zeros, and makes them last. Where it has some already, their number is told, and
+/// nothing is done to it.
 pub fn make_store<C: FileCalls>(file: &mut C, bytes: u64) -> io::Result<Option<u64>>
     ensures made { IfOk result (λ had. had ≡ None → IsMade bytes (C.history file.old) (C.history file.new)) }
     ensures refused { IfOk result (λ had. (n : ℕ) → had ≡ Some n → (n ≢ 0) × (C.history file.new ≡ Len (Some n) ∷ C.history file.old)) }

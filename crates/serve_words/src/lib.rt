@@ -1,8 +1,9 @@
 //! The words of `lochknife` for a snapshot of a disk image in use: what a command line asks for, or which of its words is wrong,
 //! and the help.
 //!
-//! It stands on `command_line`, which splits words into names and options, and on `words` and `chunk`. It promises what each command line asks for: which command, which files by which names, which
-//! chunk size, and how many bytes a new store has, and how exports are named; and of wrong words which is told first.
+//! It stands on `command_line`, which splits words into names and options, and on `words` and `chunk`. It promises what each command
+//! line asks for: which command, which files by which names, which chunk size, and how many bytes a new store has, and how exports
+//! are named; and of wrong words which is told first.
 #![tactic(auto)]
 
 mod asked;
