@@ -80,7 +80,7 @@ fn fates(state: State, cut: Cut) -> (bool, bool) {
     match state {
         State::Live | State::Spoilt | State::Merging => (true, false),
         State::Marking => (true, true),
-        State::Marked => (cut == Cut::Unpowered, true),
+        State::Marked => (cut != Cut::Killed, true),
     }
 }
 
@@ -217,16 +217,20 @@ pub fn loads_again_met<B: Stops>(alloc: Global, machine: Machine<B>) -> Result<b
 
 /// Loads again the snapshots of a machine whose power was cut: each shows its array, unless it was spoiled and its mark tried. Tells
 /// whether a device had its fault.
-pub fn snaps_again_met<B: Stops>(alloc: Global, machine: Machine<B>) -> Result<bool, Fail> {
+pub fn snaps_again_met<B: Stops>(
+    alloc: Global,
+    machine: Machine<B>,
+    cut: Cut,
+) -> Result<bool, Fail> {
     let Left {
         mut disks,
         arrays,
         chunk,
         met,
         ..
-    } = stop(alloc, machine, Cut::Unpowered)?;
+    } = stop(alloc, machine, cut)?;
     let mut again = volume_again(alloc, &mut disks, chunk)?;
-    again.take_all_again(alloc, &mut disks, &arrays, Cut::Unpowered)?;
+    again.take_all_again(alloc, &mut disks, &arrays, cut)?;
     again.hold_snaps()?;
     Ok(met)
 }

@@ -41,6 +41,24 @@ pub enum Cut {
     Killed,
     /// What was there at the last sync.
     Unpowered,
+    /// Of each sector one or the other, drawn by this number.
+    Mixed(u64),
+}
+
+impl Cut {
+    /// Whether a sector is as it was written.
+    pub fn is_new(self, sector: u64) -> bool {
+        match self {
+            Cut::Killed => true,
+            Cut::Unpowered => false,
+            Cut::Mixed(number) => {
+                let drawn = sector
+                    .wrapping_add(number)
+                    .wrapping_mul(0x9e37_79b9_7f4a_7c15);
+                drawn >> 63 == 1
+            }
+        }
+    }
 }
 
 /// A device that stops.

@@ -5,7 +5,7 @@ use device::{Ahead, Block, MemDisk};
 use file_calls::MemFile;
 use file_device::{FileDevice, Unknown};
 use plain_machine::{Event, Failure, Outcome, Reply};
-use sector::Range;
+use sector::{Range, SECTOR_BYTES};
 use std::alloc::Global;
 use std::test::Fail;
 use volume::Volume;
@@ -62,9 +62,17 @@ impl Stops for Filed {
 
     fn left(&self, alloc: Global, cut: Cut) -> Result<MemDisk, Fail> {
         let file = self.file();
-        match cut {
-            Cut::Killed => disk_of_bytes(alloc, file.bytes.as_slice()),
-            Cut::Unpowered => disk_of_bytes(alloc, file.synced.as_slice()),
+        let mut left = Vec::new(alloc);
+        for (sector, new) in file.bytes.as_slice().chunks(SECTOR_BYTES).enumerate() {
+            let first = sector.saturating_mul(SECTOR_BYTES);
+            let old = file.synced.get(first..first.saturating_add(new.len()));
+            let kept = if cut.is_new(sector as u64) {
+                new
+            } else {
+                old.unwrap_or(new)
+            };
+            left.extend_from_slice(kept)?;
         }
+        disk_of_bytes(alloc, left.as_slice())
     }
 }

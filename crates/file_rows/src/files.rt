@@ -2,6 +2,7 @@
 use device::{Block, MemDisk};
 use driven_volume::again::{loads_again_met, snaps_again_met};
 use driven_volume::disks::{bytes_of, disks_of};
+use driven_volume::driven::Cut;
 use driven_volume::filed::{Filed, MOST_SECTORS};
 use driven_volume::machine::Machine;
 use driven_volume::scenario::{
@@ -15,6 +16,15 @@ use std::test::Fail;
 
 /// More calls than a run has.
 const MOST: u64 = 1_000_000;
+
+/// What a loss of power leaves: nothing that was not synced, all of it, or some sectors of it.
+const CUTS: [Cut; 5] = [
+    Cut::Unpowered,
+    Cut::Killed,
+    Cut::Mixed(1),
+    Cut::Mixed(2),
+    Cut::Mixed(3),
+];
 
 /// A disk's bytes as the file of this number, a call of which has a fault.
 fn file_of(alloc: Global, disk: &MemDisk, number: u64, fault: (u64, Fault)) -> Result<Filed, Fail> {
@@ -84,11 +94,11 @@ fn fault_everywhere(alloc: Global, scenario: &Scenario) -> Result<u64, Fail> {
 }
 
 /// Cuts the power at each call of a file in turn, and tells how many there were. The snapshots, which nobody writes, show what they did.
-fn cut_at_each(alloc: Global, scenario: &Scenario, place: usize) -> Result<u64, Fail> {
+fn cut_at_each(alloc: Global, scenario: &Scenario, place: usize, cut: Cut) -> Result<u64, Fail> {
     for k in 0..MOST {
         let mut machine = filed(alloc, scenario, place, k, Fault::Fails)?;
         machine.run(alloc, scenario.steps)?;
-        if !snaps_again_met(alloc, machine)? {
+        if !snaps_again_met(alloc, machine, cut)? {
             return Ok(k);
         }
     }
@@ -146,15 +156,25 @@ fn a_fault_of_a_file_under_a_written_store(rt: HostRuntime) -> Result<(), Fail> 
     Ok(())
 }
 
-#[test]
-fn the_power_is_cut_where_chunks_are_copied(rt: HostRuntime) -> Result<(), Fail> {
+/// Cuts the power at each call of the origin's file and of the store's, in each way.
+fn cut_everywhere(alloc: Global, scenario: &Scenario) -> Result<u64, Fail> {
     let mut count = 0u64;
     for place in 0..2 {
-        let one = cut_at_each(rt.alloc(), &in_chunks(2, &[64], &ONE_COPY), place)?;
-        let whole = cut_at_each(rt.alloc(), &in_chunks(1, &[64], &WHOLE_AREA), place)?;
-        let full = cut_at_each(rt.alloc(), &in_chunks(1, &[35], &FULL_STORE), place)?;
-        count = count.saturating_add(one.saturating_add(whole.saturating_add(full)));
+        for cut in CUTS {
+            count = count.saturating_add(cut_at_each(alloc, scenario, place, cut)?);
+        }
     }
-    assert!(rt; count > 2 * 33 * 3, "{count}");
+    Ok(count)
+}
+
+#[test]
+fn the_power_is_cut_where_chunks_are_copied(rt: HostRuntime) -> Result<(), Fail> {
+    let one = cut_everywhere(rt.alloc(), &in_chunks(2, &[64], &ONE_COPY))?;
+    let whole = cut_everywhere(rt.alloc(), &in_chunks(1, &[64], &WHOLE_AREA))?;
+    let full = cut_everywhere(rt.alloc(), &in_chunks(1, &[35], &FULL_STORE))?;
+    assert!(rt;
+        one > 5 * 8 && whole > 5 * 33 * 3 && full > 5 * 32 * 3,
+        "{one} {whole} {full}"
+    );
     Ok(())
 }
