@@ -1,6 +1,7 @@
 // A file of the operating system. Each method makes one call of `std::fs`, and notes it with its answer: these lines are trusted.
-ghost use Rattle.std.specs.Prelude.{◌≡◌, [], map};
+ghost use Rattle.std.specs.Prelude.{◌≡◌, [], map, true, false, is_ok, ◌∷◌};
 ghost use Rattle.file_calls.specs.Note.{call_of};
+ghost use Rattle.file_calls.specs.Calls.{Write, SetLen, Sync};
 
 use crate::FileCalls;
 use crate::kinds::{LEN, READ, SET_LEN, SYNC, WRITE};
@@ -20,7 +21,9 @@ pub struct DiskFile {
 }
 
 /// The answer of a file that is given up.
-fn given_up() -> io::Result<()> {
+fn given_up() -> io::Result<()>
+    ensures { is_ok result ≡ false }
+{
     Err(io::ErrorKind::Other.into())
 }
 
@@ -57,7 +60,11 @@ impl FileCalls for DiskFile {
         answer
     }
 
-    fn write_at(&mut self, at: u64, bytes: &[u8]) -> io::Result<()> {
+    fn write_at(&mut self, at: u64, bytes: &[u8]) -> io::Result<()>
+        ensures noted { map call_of self.new.noted.notes ≡ Write at bytes.now (is_ok result) ∷ map call_of self.old.noted.notes }
+        ensures given_up { self.old.is_given_up ≡ true → is_ok result ≡ false }
+        ensures gives_up { is_ok result ≡ false → self.new.is_given_up ≡ true }
+    {
         let answer = if self.is_given_up {
             given_up()
         } else {
@@ -68,7 +75,11 @@ impl FileCalls for DiskFile {
         answer
     }
 
-    fn set_len(&mut self, len: u64) -> io::Result<()> {
+    fn set_len(&mut self, len: u64) -> io::Result<()>
+        ensures noted { map call_of self.new.noted.notes ≡ SetLen len (is_ok result) ∷ map call_of self.old.noted.notes }
+        ensures given_up { self.old.is_given_up ≡ true → is_ok result ≡ false }
+        ensures gives_up { is_ok result ≡ false → self.new.is_given_up ≡ true }
+    {
         let answer = if self.is_given_up {
             given_up()
         } else {
@@ -80,7 +91,11 @@ impl FileCalls for DiskFile {
     }
 
     // The data, and what is needed to find it: the length too.
-    fn sync(&mut self, promised: bool) -> io::Result<()> {
+    fn sync(&mut self, promised: bool) -> io::Result<()>
+        ensures noted { map call_of self.new.noted.notes ≡ Sync (is_ok result) promised ∷ map call_of self.old.noted.notes }
+        ensures given_up { self.old.is_given_up ≡ true → is_ok result ≡ false }
+        ensures gives_up { is_ok result ≡ false → self.new.is_given_up ≡ true }
+    {
         let answer = if self.is_given_up {
             given_up()
         } else {
