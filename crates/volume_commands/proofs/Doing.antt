@@ -43,15 +43,15 @@ done_by Done e = refl
 done_by Fault e = absurd (true≢false (sym e))
 
 -- what is left of events so far, each done where it was due first
-pub record IsSettling {B : Type 0} (contents : B → List ℕ) (layers : B → List Layer) (faults size : B → ℕ) (reply last : Reply) (start now : Counted B) : Type 0 where
+pub record IsSettling {B : Type 0} (holds : B → ℕ → List ℕ → Type 0) (contents : B → List ℕ) (layers : B → List Layer) (faults size : B → ℕ) (reply last : Reply) (start now : Counted B) : Type 0 where
   pub so : RunsBeside contents layers size (Some reply) (Some last) start.volume now.volume
-  pub did : AreDone contents layers faults reply last start.volume now.volume
+  pub did : AreDone holds contents layers faults size reply last start.volume now.volume
   pub taken : TakesByRequests start now
   pub still : is_quiet_of start.volume ≡ true → now.volume ≡ start.volume
 
-module _ {B : Type 0} (contents : B → List ℕ) (layers : B → List Layer) (faults size : B → ℕ) (before after : Reply) (w u : Counted B) (event : Event) (go : Bool) (d : IsDoneHere contents layers faults size event go before after w u) where
-  pub here_done : AreDone contents layers faults before after w.volume u.volume
-  here_done = subst (λ (r : Reply). AreDone contents layers faults before r w.volume u.volume) (sym d.told) (done_one contents layers faults size before event d.outcome w.volume u.volume d.done)
+module _ {B : Type 0} (holds : B → ℕ → List ℕ → Type 0) (contents : B → List ℕ) (layers : B → List Layer) (faults size : B → ℕ) (before after : Reply) (w u : Counted B) (event : Event) (go : Bool) (d : IsDoneHere holds contents layers faults size event go before after w u) where
+  pub here_done : AreDone holds contents layers faults size before after w.volume u.volume
+  here_done = subst (λ (r : Reply). AreDone holds contents layers faults size before r w.volume u.volume) (sym d.told) (done_one holds contents layers faults size before event d.outcome w.volume u.volume d.done)
 
   module _ (reply : Reply) (v : Volumed B) (so : RunsBeside contents layers size (Some reply) (Some before) v w.volume) (busy : is_quiet_of w.volume ≡ false)
       (first : (replied : Option Reply) → due_all (moving_of contents layers replied w.volume) ≡ Some event)
@@ -85,12 +85,12 @@ module _ {B : Type 0} (contents : B → List ℕ) (layers : B → List Layer) (f
         record { run = on.run; kept = keeps_more size v u.volume x here_beside.kept kept; requests = requests ∙ here_beside.requests; free = on.free }
 
   -- with this one
-  pub here_settling : (reply : Reply) (start : Counted B) → IsSettling contents layers faults size reply before start w → is_quiet_of w.volume ≡ false → ((replied : Option Reply) → due_all (moving_of contents layers replied w.volume) ≡ Some event)
+  pub here_settling : (reply : Reply) (start : Counted B) → IsSettling holds contents layers faults size reply before start w → is_quiet_of w.volume ≡ false → ((replied : Option Reply) → due_all (moving_of contents layers replied w.volume) ≡ Some event)
       → (is_of_merge event ≡ true → has_group_in w.volume.merge ≡ false → is_quiet_of w.volume ≡ true) → (is_of_merge event ≡ true → (m : Merging B) → w.volume.merge ≡ Some m → has_group_of m.group ≡ has_group (merging_books contents true m))
-      → IsSettling contents layers faults size reply after start u
+      → IsSettling holds contents layers faults size reply after start u
   here_settling reply start was busy first calm seen = record {
     so = here_beside reply start.volume was.so busy first calm seen;
-    did = done_then contents layers faults size reply before after start.volume w.volume u.volume was.did here_done;
+    did = done_then holds contents layers faults size reply before after start.volume w.volume u.volume was.did here_done;
     taken = takes_then start w u was.taken d.taken;
     still = still_never start.volume w.volume u.volume was.still busy;
   }

@@ -50,3 +50,4 @@ pub mod LayersChanged
 mod AtOnce
 pub mod MergeDrains
 pub mod Starving
+pub mod Closing

@@ -70,8 +70,8 @@ returns-in-Err-clause-untaken g c = c.in-Err.ensures.untaken
 pub returns-in-Ok-clause-answered : goal.returns-in-Ok-clause-answered
 returns-in-Ok-clause-answered g c =
     let b = c.in-Ok.ensures.begun in
-    answered g.B.Block.contents g.B.Block.layers g.B.Block.fault_count g.B.Block.size c.args.request b.failure c.args.volume.now.volume b.mid (quiet_flights c.args.volume.now.volume c.requires.between.quiet) c.settle.result c.settle.new.volume.volume b.entered
-    (done_then g.B.Block.contents g.B.Block.layers g.B.Block.fault_count g.B.Block.size (Refused b.failure) c.in-Ok.reply c.settle.result b.mid c.begin.new.volume.volume c.settle.new.volume.volume b.did c.settle.ensures.did)
+    answered g.B.Block.may_hold g.B.Block.contents g.B.Block.layers g.B.Block.fault_count g.B.Block.size c.args.request b.failure c.args.volume.now.volume b.mid (quiet_flights c.args.volume.now.volume c.requires.between.quiet) c.settle.result c.settle.new.volume.volume b.entered
+    (done_then g.B.Block.may_hold g.B.Block.contents g.B.Block.layers g.B.Block.fault_count g.B.Block.size (Refused b.failure) c.in-Ok.reply c.settle.result b.mid c.begin.new.volume.volume c.settle.new.volume.volume b.did c.settle.ensures.did)
     (λ quiet. c.settle.ensures.still (ap (λ (x : Volumed g.row.B.Denot). is_quiet_of x) (b.still quiet) ∙ quiet) ∙ b.still quiet)
 
 pub returns-in-Ok-clause-taken : goal.returns-in-Ok-clause-taken

@@ -10,7 +10,7 @@ use Rattle.volume_commands.proofs.serving.settle.Given as goal
 abbrev pub invariant-loop-volume : goal.invariant-loop-volume
 invariant-loop-volume g l = record {
   so : RunsBeside g.B.Block.contents g.B.Block.layers g.B.Block.size (Some l.fn.reply) (Some l.reply) l.fn.volume.volume l.volume.volume;
-  did : AreDone g.B.Block.contents g.B.Block.layers g.B.Block.fault_count l.fn.reply l.reply l.fn.volume.volume l.volume.volume;
+  did : AreDone g.B.Block.may_hold g.B.Block.contents g.B.Block.layers g.B.Block.fault_count g.B.Block.size l.fn.reply l.reply l.fn.volume.volume l.volume.volume;
   taken : TakesByRequests l.fn.volume l.volume;
   still : is_quiet_of l.fn.volume.volume ≡ true → l.volume.volume ≡ l.fn.volume.volume;
 }
