@@ -1,5 +1,5 @@
 -- What calls do to a volume whatever is in flight in it: that of the volume of events behind its names.
-use Rattle.std.specs.Prelude.{◌≡◌, ◌≢◌, ◌⊎◌, ◌≤◌, ℕ, true, List, None, Some, MatchResult, Result, map}
+use Rattle.std.specs.Prelude.{◌≡◌, ◌≢◌, ◌⊎◌, ◌≤◌, ℕ, true, List, Some, MatchResult, Result, map}
 use Rattle.sector.specs.declared.refusal.Refusal.{Refusal}
 use Rattle.chunk.specs.Pieces.{pieces_of}
 use Rattle.layers.specs.declared.stack.Stack.{Stack}
@@ -7,7 +7,6 @@ use Rattle.layers.specs.Stack.{stack_contents, stack_layers, stack_size, stack_f
 use Rattle.plain_machine.specs.declared.event.Event.{Event}
 use Rattle.plain_machine.specs.declared.event.Outcome.{Outcome}
 use Rattle.plain_machine.specs.declared.request.Dev.{Dev}
-use Rattle.plain_machine.specs.declared.request.Dev.TheVariants.{Origin}
 use Rattle.plain_machine.specs.declared.request.Op.{Op}
 use Rattle.plain_machine.specs.declared.request.Request.{Request}
 use Rattle.plain_machine.specs.declared.request.Failure.{Failure}
@@ -117,9 +116,9 @@ IsWrittenAtRest bytes result old new asks =
     (λ done. AreWrittenAtRest stack_may_hold stack_contents stack_layers stack_faults stack_size asks.dev (pieces_of (piece_with before.merge before.snaps) asks.span) bytes before after)
     (λ refusal. IsWriteCut stack_may_hold stack_contents stack_layers stack_faults stack_size asks.dev (pieces_of (piece_with before.merge before.snaps) asks.span) bytes refusal before after)) old new
 
--- where no device drops writes, it closes the array that was asked for: of the origin's, where no merge is begun
+-- where no device drops writes, it closes the array that was asked for
 abbrev pub ClosesFor : Dev → Volumed Stack → Volumed Stack → Type 0
-ClosesFor dev before after = is_loud_in_all stack_layers before ≡ true → (dev ≡ Origin → before.merge ≡ None) → IsClosed stack_may_hold stack_size after (array_of dev)
+ClosesFor dev before after = is_loud_in_all stack_layers before ≡ true → IsClosed stack_may_hold stack_size after (array_of dev)
 
 abbrev pub IsFlushedAtRest : Result (Unit {0}) Refusal → Volume → Volume → Asked → Type 0
 IsFlushedAtRest result old new asks =

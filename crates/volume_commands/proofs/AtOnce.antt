@@ -69,6 +69,7 @@ module _ {B : Type 0} (holds : B → ℕ → List ℕ → Type 0) (contents : B 
     entered = entered;
     exact = exact;
     did = done_none holds contents layers faults size (Refused failure) w;
+    led = inl (refl, refl);
     run = record { reaches = λ all. reaches_none (moving_of contents layers (Some (Refused failure)) w); loud = refl };
     still = λ quiet. refl;
     loud = loud;
@@ -86,6 +87,7 @@ module _ {B : Type 0} (holds : B → ℕ → List ℕ → Type 0) (contents : B 
         entered = inl (number, refl, does.submits.ok);
         exact = does.submits.exact (Some (Refused Invalid));
         did = done_one holds contents layers faults size (Refused Invalid) (Issue number) (Replied number reply) mid w step;
+        led = inr (Issue number, Replied number reply, w, does.machine, step, done_none holds contents layers faults size reply w);
         run = record {
           reaches = λ all.
               reaches_more (moving_of contents layers (Some (Refused Invalid)) mid) (moving_of contents layers (Some (Refused Invalid)) mid) (moving_of contents layers (Some reply) w) (Issue number) (reaches_none (moving_of contents layers (Some (Refused Invalid)) mid))

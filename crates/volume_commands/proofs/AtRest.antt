@@ -24,13 +24,16 @@ use Rattle.in_flight.specs.Kinds.{in_flight}
 use Rattle.in_flight.specs.Routes.{refused_of}
 use Rattle.in_flight.specs.declared.flights.Flight.{Flight}
 use Rattle.big_steps.specs.Refusals.{IsStarved, is_starved}
+use Rattle.event_machine.specs.Submitting.{submitted}
 use Rattle.volume.specs.Flying.{Fits, IsFlown, IsTakenOut}
 use Rattle.volume.specs.Leaving.{is_quiet_of}
+use Rattle.volume.specs.Moved.{moving_of}
 use Rattle.volume.specs.Submitting.{IsRefusedAs}
 use Rattle.volume.specs.Volumed.{Volumed}
 use Rattle.volume_commands.specs.Among.{IsRequestOf}
 use Rattle.counted_volume.specs.DoneDue.{AreDone, AreDoneDue, last_told, told_by}
-use Rattle.volume_commands.specs.AtRest.{IsAnswered, IsEntered, IsPieceAnswered, IsPieceUndone}
+use Rattle.counted_volume.proofs.DoneDue.{done_then}
+use Rattle.volume_commands.specs.AtRest.{IsLed, IsAnswered, IsEntered, IsPieceAnswered, IsPieceUndone}
 use Rattle.volume_commands.specs.Serving.{IsGood}
 
 -- an event that does not reply leaves which requests are in flight
@@ -103,6 +106,12 @@ kept_fits Flush range (Refused failure) f = f
 pub still_never : {B : Type 0} (old v w : Volumed B) → (is_quiet_of old ≡ true → v ≡ old) → is_quiet_of v ≡ false → is_quiet_of old ≡ true → w ≡ old
 still_never {B} old v w still busy quiet = absurd (true≢false (sym (ap (λ (x : Volumed B). is_quiet_of x) (still quiet) ∙ quiet) ∙ busy))
 
+-- what was done so far, and others that were due first, or were done behind such a one
+module _ {B : Type 0} (holds : B → ℕ → List ℕ → Type 0) (contents : B → List ℕ) (layers : B → List Layer) (faults size : B → ℕ) where
+  pub led_then : (before now after : Reply) (u v w : Volumed B) → IsLed holds contents layers faults size before now u v → IsLed holds contents layers faults size now after v w → AreDone holds contents layers faults size now after v w → IsLed holds contents layers faults size before after u w
+  led_then before now after u v w (inl same) next more = subst (λ (x : Volumed B). IsLed holds contents layers faults size before after x w) same.0 (subst (λ (r : Reply). IsLed holds contents layers faults size r after v w) same.1 next)
+  led_then before now after u v w (inr led) next more = inr (led.0, led.1, led.2, led.3, led.4, done_then holds contents layers faults size (told_by led.1 before) now after led.2 v w led.5 more)
+
 module _ {B : Type 0} (holds : B → ℕ → List ℕ → Type 0) (contents : B → List ℕ) (layers : B → List Layer) (faults size : B → ℕ) where
   -- the last reply is one to that request
   all_fit : (own : InFlight) (before : Reply) (done : List (Event × Outcome)) (old new : Volumed B) → AtMost own (map in_flight old.flights) → AreDoneDue holds contents layers faults size done old new → Fits own.request.op own.request.range before
@@ -133,17 +142,21 @@ module _ {B : Type 0} (holds : B → ℕ → List ℕ → Type 0) (contents : B 
         (own, inr (accepted.2.flown ∙ ap (λ (fs : List Flight). map in_flight fs ++ own ∷ []) none), refl)
     entered_few (inr refused) = (record { number = 0; request = kept request }, inl (ap (λ (fs : List Flight). map in_flight fs) (refused_none request (refusal_of failure) old mid none refused)), refl)
 
-    pub answered : (reply : Reply) (new : Volumed B) → IsEntered contents layers size request failure old mid → AreDone holds contents layers faults size (Refused failure) reply mid new → (is_quiet_of mid ≡ true → new ≡ mid)
+    pub answered : (number : ℕ) (reply : Reply) (new : Volumed B) → IsEntered contents layers size request failure old mid → submitted number request (moving_of contents layers (Some (Refused failure)) old) ≡ moving_of contents layers (Some (Refused failure)) mid
+        → AreDone holds contents layers faults size (Refused failure) reply mid new → IsLed holds contents layers faults size (Refused failure) reply mid new → (is_quiet_of mid ≡ true → new ≡ mid)
         → IsAnswered holds contents layers faults size request reply old new
-    answered reply new entered did still =
+    answered number reply new entered exact did led still =
         let few = entered_few entered in
         let last = all_fit few.0 (Refused failure) did.done mid new few.1 did.chain tt in
         let mine = subst (λ (r : Request). Fits r.op r.range (last_told (Refused failure) did.done)) few.2 last in
         record {
           failure = failure;
+          number = number;
           mid = mid;
           entered = entered;
+          exact = exact;
           did = did;
+          led = led;
           still = still;
           fits = kept_fits request.op request.range reply (subst (λ (r : Reply). Fits request.op (kept_range request.op request.range) r) (sym did.reply_is) mine);
         }

@@ -58,7 +58,7 @@ own_asked own n old r (inr one) asked = elim (cases_Bool (own.number == n)) [
 ]
 
 -- an outcome replies, or the last reply is the one before
-told_case : (outcome : Outcome) (before : Reply) → ((n : ℕ) × (reply : Reply) × (outcome ≡ Answered n reply)) ⊎ (told_by outcome before ≡ before)
+pub told_case : (outcome : Outcome) (before : Reply) → ((n : ℕ) × (reply : Reply) × (outcome ≡ Answered n reply)) ⊎ (told_by outcome before ≡ before)
 told_case (Answered n reply) before = inl (n, reply, refl)
 told_case Done before = inr refl
 told_case Fault before = inr refl
@@ -70,7 +70,7 @@ none_next event Done before old new none f = (stays_done event old new f ∙ non
 none_next event Fault before old new none f = (stays_fault event old new f ∙ none, refl)
 
 -- a flush gives no value
-none_given : (own : InFlight) → own.request.op ≡ Flush → (rs : List InFlight) → AtMost own rs → (array : Option ℕ) (s : ℕ) (x : List ℕ) → IsSomeOf (GivesAsked array s x) rs → ⊥
+pub none_given : (own : InFlight) → own.request.op ≡ Flush → (rs : List InFlight) → AtMost own rs → (array : Option ℕ) (s : ℕ) (x : List ℕ) → IsSomeOf (GivesAsked array s x) rs → ⊥
 none_given own flush rs (inl none) array s x given = subst (IsSomeOf (GivesAsked array s x)) none given
 none_given own flush rs (inr one) array s x given = by (subst (IsSomeOf (GivesAsked array s x)) one given)
   where
@@ -89,7 +89,7 @@ none_merged (Some m) e = absurd (none_some (m.number, m.state.chunk) (sym e))
 
 module _ {B : Type 0} (holds : B → ℕ → List ℕ → Type 0) (contents : B → List ℕ) (layers : B → List Layer) (faults size : B → ℕ) (whole : (d : B) → length (contents d) ≡ 512 * size d) (here : (d : B) (s : ℕ) → s < size d → holds d s (sector_at (contents d) s)) where
   -- an event opens nothing then
-  opens_less : (event : Event) (outcome : Outcome) (v w : Volumed B) → is_loud_in_all layers v ≡ true → IsDoneDue holds contents layers faults size event outcome v w
+  pub opens_less : (event : Event) (outcome : Outcome) (v w : Volumed B) → is_loud_in_all layers v ≡ true → IsDoneDue holds contents layers faults size event outcome v w
       → ((array : Option ℕ) (s : ℕ) (x : List ℕ) → IsSomeOf (GivesAsked array s x) (map in_flight v.flights) → ⊥) → (array : Option ℕ) (s : ℕ) (x : List ℕ) → IsOpenIn holds size w array s x → IsOpenIn holds size v array s x
   opens_less event outcome v w loud did none array s x may = by (opens_event holds contents layers size event outcome faults v w did.kept did.cause (did.stops loud) whole here [] array s x may)
     where
@@ -110,7 +110,7 @@ module _ {B : Type 0} (holds : B → ℕ → List ℕ → Type 0) (contents : B 
   closed_less event outcome v w loud did none array closed s x y mx my = closed s x y (opens_less event outcome v w loud did none array s x mx) (opens_less event outcome v w loud did none array s y my)
 
   module _ (own : InFlight) (flush : own.request.op ≡ Flush) where
-    few_next : (event : Event) (outcome : Outcome) (v w : Volumed B) → AtMost own (map in_flight v.flights) → IsDoneDue holds contents layers faults size event outcome v w → AtMost own (map in_flight w.flights)
+    pub few_next : (event : Event) (outcome : Outcome) (v w : Volumed B) → AtMost own (map in_flight v.flights) → IsDoneDue holds contents layers faults size event outcome v w → AtMost own (map in_flight w.flights)
     few_next event outcome v w few did = (flown_next own (Refused Invalid) event outcome (map in_flight v.flights) (map in_flight w.flights) few did.flown tt).0
 
     -- what is done behind it
@@ -119,7 +119,7 @@ module _ {B : Type 0} (holds : B → ℕ → List ℕ → Type 0) (contents : B 
     rest_closed (x ∷ done) v w few loud chain array closed =
         rest_closed done chain.0 w (few_next x.0 x.1 v chain.0 few chain.1) (chain.1.loud ∙ loud) chain.2 array (closed_less x.0 x.1 v chain.0 loud chain.1 (none_given own flush (map in_flight v.flights) few) array closed)
 
-  none_told : (before : Reply) (done : List (Event × Outcome)) (v w : Volumed B) → map in_flight v.flights ≡ [] → AreDoneDue holds contents layers faults size done v w → last_told before done ≡ before
+  pub none_told : (before : Reply) (done : List (Event × Outcome)) (v w : Volumed B) → map in_flight v.flights ≡ [] → AreDoneDue holds contents layers faults size done v w → last_told before done ≡ before
   none_told before [] v w none chain = refl
   none_told before (x ∷ done) v w none chain =
       let next = none_next x.0 x.1 before (map in_flight v.flights) (map in_flight chain.0.flights) none chain.1.flown in
@@ -158,17 +158,16 @@ module _ {B : Type 0} (holds : B → ℕ → List ℕ → Type 0) (contents : B 
         is z may = (let o = may.1 in closes o.place o.snap o.at.within o.at.is o.mine origin_loud (snap_loud o.place o.snap o.at) s z may.0 o.shows)
 
   module _ (own : InFlight) (flush : own.request.op ≡ Flush) where
-    answered_closes : (n : ℕ) (reply : Reply) (event : Event) (done : List (Event × Outcome)) (v mid w : Volumed B) → AtMost own (map in_flight v.flights) → is_loud_in_all layers mid ≡ true → AllPairs (λ a b. a < b) (map number_of_snap mid.snaps) → (own.request.dev ≡ Origin → mid.merge ≡ None)
+    pub answered_closes : (n : ℕ) (reply : Reply) (event : Event) (done : List (Event × Outcome)) (v mid w : Volumed B) → AtMost own (map in_flight v.flights) → is_loud_in_all layers mid ≡ true → (ClosesArray holds contents layers size own.request.dev mid.origin mid.snaps → IsClosed holds size mid (array_of own.request.dev))
         → IsDoneDue holds contents layers faults size event (Answered n reply) v mid → AreDoneDue holds contents layers faults size done mid w → last_told reply done ≡ Flushed → IsClosed holds size w (array_of own.request.dev)
-    answered_closes n reply event done v mid w few loud ascending alone did chain told =
+    answered_closes n reply event done v mid w few loud closed did chain told =
         let out = did.flown.1 in
         let gone : map in_flight mid.flights ≡ [] = (one_answered own n reply (map in_flight v.flights) (map in_flight mid.flights) few out).0 in
         let flushed : reply ≡ Flushed = sym (none_told reply done mid w gone chain) ∙ told in
         let closes : ClosesBy holds contents layers size (Issue n) (Answered n Flushed) (map in_flight v.flights) mid =
         subst (λ (e : Event). ClosesBy holds contents layers size e (Answered n Flushed) (map in_flight v.flights) mid) did.flown.0 (subst (λ (r : Reply). ClosesBy holds contents layers size event (Answered n r) (map in_flight v.flights) mid) flushed did.closes) in
         let mine : out.request ≡ own.request = own_asked own n (map in_flight v.flights) out.request few out.asked in
-        let array : ClosesArray holds contents layers size own.request.dev mid.origin mid.snaps = subst (λ (r : Request). ClosesArray holds contents layers size r.dev mid.origin mid.snaps) mine (closes out.request out.asked) in
-        rest_closed own flush done mid w (inl gone) loud chain (array_of own.request.dev) (here_closed mid loud ascending own.request.dev alone array)
+        rest_closed own flush done mid w (inl gone) loud chain (array_of own.request.dev) (closed (subst (λ (r : Request). ClosesArray holds contents layers size r.dev mid.origin mid.snaps) mine (closes out.request out.asked)))
 
     chain_closes : (before : Reply) → before ≢ Flushed → (done : List (Event × Outcome)) (v w : Volumed B) → AtMost own (map in_flight v.flights) → is_loud_in_all layers v ≡ true → AllPairs (λ a b. a < b) (map number_of_snap v.snaps) → (own.request.dev ≡ Origin → v.merge ≡ None)
         → AreDoneDue holds contents layers faults size done v w → last_told before done ≡ Flushed → IsClosed holds size w (array_of own.request.dev)
@@ -179,11 +178,11 @@ module _ {B : Type 0} (holds : B → ℕ → List ℕ → Type 0) (contents : B 
         let rising : AllPairs (λ a b. a < b) (map number_of_snap chain.0.snaps) = subst (AllPairs (λ a b. a < b)) (sym did.kept.numbers) ascending in
         let still : own.request.dev ≡ Origin → chain.0.merge ≡ None = λ origin. none_merged chain.0.merge (did.kept.merged ∙ ap merged_of (alone origin)) in
         elim (told_case x.1 before) [
-          | inl t ↦ answered_closes t.0 t.1 x.0 done v chain.0 w few later rising still (subst (λ (o : Outcome). IsDoneDue holds contents layers faults size x.0 o v chain.0) t.2 did) chain.2 (sym (ap (λ (o : Outcome). last_told (told_by o before) done) t.2) ∙ told)
+          | inl t ↦ answered_closes t.0 t.1 x.0 done v chain.0 w few later (here_closed chain.0 later rising own.request.dev still) (subst (λ (o : Outcome). IsDoneDue holds contents layers faults size x.0 o v chain.0) t.2 did) chain.2 (sym (ap (λ (o : Outcome). last_told (told_by o before) done) t.2) ∙ told)
           | inr same ↦ chain_closes before no done chain.0 w (few_next own flush x.0 x.1 v chain.0 few did) later rising still chain.2 (sym (ap (λ (r : Reply). last_told r done) same) ∙ told)
         ]
 
-  refused_flushed : (failure : Failure) → Refused failure ≡ Flushed → ⊥
+  pub refused_flushed : (failure : Failure) → Refused failure ≡ Flushed → ⊥
   refused_flushed failure e = cc
 
   -- so does one of a volume in which nothing was in flight

@@ -51,3 +51,4 @@ mod AtOnce
 pub mod MergeDrains
 pub mod Starving
 pub mod Closing
+pub mod ClosingMerge

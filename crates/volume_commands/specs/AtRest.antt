@@ -1,10 +1,12 @@
 -- A read, a write or a flush of a volume in which nothing is in flight, whichever device drops writes: the request of each piece is
 -- submitted, and events that are due are done until nothing is left to do, before the next. This project's own.
-use Rattle.std.specs.Prelude.{◌≡◌, ◌⊎◌, ℕ, ◌*◌, true, List, [], ◌∷◌, ◌++◌, Some, take, drop}
+use Rattle.std.specs.Prelude.{◌≡◌, ◌⊎◌, ℕ, ◌*◌, true, List, [], ◌∷◌, ◌++◌, Option, Some, take, drop}
 use Rattle.sector.specs.declared.refusal.Refusal.{Refusal}
 use Rattle.sector.specs.declared.refusal.Refusal.TheVariants.{NoMemory}
 use Rattle.device.specs.Layers.{Layer}
 use Rattle.chunk.specs.Pieces.{Span}
+use Rattle.plain_machine.specs.declared.event.Event.{Event}
+use Rattle.plain_machine.specs.declared.event.Outcome.{Outcome}
 use Rattle.plain_machine.specs.declared.request.Dev.{Dev}
 use Rattle.plain_machine.specs.declared.request.Op.{Op}
 use Rattle.plain_machine.specs.declared.request.Op.TheVariants.{Read, Write, Flush}
@@ -14,6 +16,7 @@ use Rattle.plain_machine.specs.declared.request.Failure.{Failure}
 use Rattle.plain_machine.specs.declared.request.Failure.TheVariants.{Invalid}
 use Rattle.plain_machine.specs.declared.request.Request.{Request}
 use Rattle.plain_machine.specs.Failures.{refusal_of}
+use Rattle.event_machine.specs.MergeDue.{due_all}
 use Rattle.event_machine.specs.Submitting.{submitted}
 use Rattle.big_steps.specs.Commands.{bytes_in}
 use Rattle.big_steps.specs.Refusals.{IsStarved, is_starved}
@@ -25,12 +28,19 @@ use Rattle.volume.specs.Submitting.{IsAcceptedAs, IsRefusedAs}
 use Rattle.volume.specs.Volumed.{Volumed, is_loud_in_all}
 use Rattle.volume_commands.specs.Among.{IsRequestOf, flush_piece, sectors_of}
 use Rattle.volume_commands.specs.Serving.{IsGood}
-use Rattle.counted_volume.specs.DoneDue.{AreDone}
+use Rattle.counted_volume.specs.DoneDue.{AreDone, IsDoneDue, told_by}
 
 -- a request was accepted, and will be answered; or it was refused as one that failed
 abbrev pub IsEntered : {B : Type 0} → (B → List ℕ) → (B → List Layer) → (B → ℕ) → Request → Failure → Volumed B → Volumed B → Type 0
 IsEntered contents layers size request failure old new =
     ((number : ℕ) × (failure ≡ Invalid) × IsAcceptedAs contents layers request number old new) ⊎ IsRefusedAs contents layers size request (refusal_of failure) old new
+
+-- Nothing was done, and this is the reply that was given before; or the event that was due first was, and then others.
+abbrev pub IsLed : {B : Type 0} → (B → ℕ → List ℕ → Type 0) → (B → List ℕ) → (B → List Layer) → (B → ℕ) → (B → ℕ) → Reply → Reply → Volumed B → Volumed B → Type 0
+IsLed holds contents layers faults size before after old new =
+    ((new ≡ old) × (after ≡ before))
+    ⊎ ((event : Event) × (outcome : Outcome) × (mid : Volumed _) × ((replied : Option Reply) → due_all (moving_of contents layers replied old) ≡ Some event) × IsDoneDue holds contents layers faults size event outcome old mid
+    × AreDone holds contents layers faults size (told_by outcome before) after mid new)
 
 -- A request was begun with: it was accepted, and where it waits for nothing answered at once; or it was refused as one that failed.
 -- What stands for its reply is then its failure, or what it was answered.
@@ -41,16 +51,20 @@ pub record IsBegun {B : Type 0} (holds : B → ℕ → List ℕ → Type 0) (con
   pub entered : IsEntered contents layers size request failure old mid
   pub exact : submitted number request (moving_of contents layers (Some (Refused failure)) old) ≡ moving_of contents layers (Some (Refused failure)) mid
   pub did : AreDone holds contents layers faults size (Refused failure) reply mid new
+  pub led : IsLed holds contents layers faults size (Refused failure) reply mid new
   pub run : IsRun contents layers (Some (Refused failure)) (Some reply) mid new
   pub still : is_quiet_of mid ≡ true → new ≡ mid
   pub loud : is_loud_in_all layers mid ≡ is_loud_in_all layers old
 
--- A request was answered: accepted, and then by an event; or refused. All that was due then was done.
+-- A request was answered: accepted, and then by an event; or refused. All that was due then was done, first what was due first.
 pub record IsAnswered {B : Type 0} (holds : B → ℕ → List ℕ → Type 0) (contents : B → List ℕ) (layers : B → List Layer) (faults size : B → ℕ) (request : Request) (reply : Reply) (old new : Volumed B) : Type 0 where
   pub failure : Failure
+  pub number : ℕ
   pub mid : Volumed B
   pub entered : IsEntered contents layers size request failure old mid
+  pub exact : submitted number request (moving_of contents layers (Some (Refused failure)) old) ≡ moving_of contents layers (Some (Refused failure)) mid
   pub did : AreDone holds contents layers faults size (Refused failure) reply mid new
+  pub led : IsLed holds contents layers faults size (Refused failure) reply mid new
   pub still : is_quiet_of mid ≡ true → new ≡ mid
   pub fits : Fits request.op request.range reply
 

@@ -1,6 +1,5 @@
 // A flush of a device: one request, whether a merge is begun or not.
-ghost use Rattle.std.specs.Prelude.{◌≡◌, ◌⊎◌, ◌+◌, ◌<◌, ◌≤◌, ℕ, IfErr, None, OnOk, true};
-ghost use Rattle.plain_machine.specs.declared.request.Dev.TheVariants.{Origin};
+ghost use Rattle.std.specs.Prelude.{◌≡◌, ◌⊎◌, ◌+◌, ◌<◌, ◌≤◌, ℕ, IfErr, OnOk, true};
 ghost use Rattle.plain_machine.specs.declared.request.Op.TheVariants.{Flush};
 ghost use Rattle.plain_machine.specs.declared.request.Reply.TheVariants.{Flushed};
 ghost use Rattle.volume.specs.Leaving.{is_quiet_of};
@@ -56,7 +55,7 @@ fn flush_device<B: Layered>(volume: &mut CountedVolume<B>, dev: Dev) -> Result<(
     ensures refused { IfErr result (λ refusal. IsFlushRefused B.contents B.layers dev refusal (rested_of volume.old.volume) (rested_of volume.new.volume)) }
     ensures answered { OnOk result (IsFlushDone B.may_hold B.contents B.layers B.fault_count B.size dev volume.old.volume volume.new.volume) }
     ensures undone { IfErr result (λ refusal. IsFlushUndone B.may_hold B.contents B.layers B.fault_count B.size dev refusal volume.old.volume volume.new.volume) }
-    ensures closes { OnOk result (is_loud_in_all B.layers volume.old.volume ≡ true → (dev ≡ Origin → volume.old.volume.merge ≡ None) → IsClosed B.may_hold B.size volume.new.volume (array_of dev)) }
+    ensures closes { OnOk result (is_loud_in_all B.layers volume.old.volume ≡ true → IsClosed B.may_hold B.size volume.new.volume (array_of dev)) }
     ensures shows { OnOk result (IsSettled B.layers (rested_of volume.old.volume) → IsPlainFlush dev (arrays_in B.contents B.layers (rested_of volume.old.volume)) (arrays_in B.contents B.layers (rested_of volume.new.volume))) }
     ensures loses { IfErr result (λ refusal. IsSettled B.layers (rested_of volume.old.volume) → IsPlainReadRefused dev refusal (arrays_in B.contents B.layers (rested_of volume.old.volume)) (arrays_in B.contents B.layers (rested_of volume.new.volume))) }
     ensures kept { KeepsDevices B.layers B.size (rested_of volume.old.volume) (rested_of volume.new.volume) }
@@ -64,9 +63,10 @@ fn flush_device<B: Layered>(volume: &mut CountedVolume<B>, dev: Dev) -> Result<(
     ensures taken { TakesByRequests volume.old volume.new }
     ensures full { IfErr result (λ refusal. refusal ≡ JournalFull → is_full_for 1 volume.new.taken ≡ true) }
 {
-    // Looks: the chunks of all snapshots are as large as a piece, or larger, and their numbers rise.
+    // Looks: the chunks of all snapshots are as large as a piece, or larger, their numbers rise, and a merge has chunks too.
     let _ = volume.piece();
     let _ = volume.is_quiet();
+    let _ = volume.merging();
     match serve(volume, request_of(dev)) {
         Ok(Reply::Refused(failure)) => Err(refusal_for(failure)),
         Ok(Reply::Written) => Ok(()),
@@ -118,7 +118,7 @@ impl<B: Layered> Resting<B> {
         ensures answered { OnOk result (IsFlushDone B.may_hold B.contents B.layers B.fault_count B.size dev self.old.rested.events self.new.rested.events) }
         ensures undone { has_dev dev self.old.rested ≡ true → IfErr result (λ refusal. IsFlushUndone B.may_hold B.contents B.layers B.fault_count B.size dev refusal self.old.rested.events self.new.rested.events) }
         ensures whole { IsWhole self.old.rested × IsWhole self.new.rested }
-        ensures closes { OnOk result (is_loud_in_all B.layers self.old.rested.events ≡ true → (dev ≡ Origin → self.old.rested.events.merge ≡ None) → IsClosed B.may_hold B.size self.new.rested.events (array_of dev)) }
+        ensures closes { OnOk result (is_loud_in_all B.layers self.old.rested.events ≡ true → IsClosed B.may_hold B.size self.new.rested.events (array_of dev)) }
         ensures shows { OnOk result (IsSettled B.layers self.old.rested → IsPlainFlush dev (arrays_in B.contents B.layers self.old.rested) (arrays_in B.contents B.layers self.new.rested)) }
         ensures loses { IfErr result (λ refusal. IsSettled B.layers self.old.rested → IsPlainReadRefused dev refusal (arrays_in B.contents B.layers self.old.rested) (arrays_in B.contents B.layers self.new.rested)) }
         ensures kept { KeepsDevices B.layers B.size self.old.rested self.new.rested }

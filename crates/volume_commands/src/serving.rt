@@ -16,7 +16,7 @@ ghost use Rattle.volume_commands.specs.Rested.{rested_of, merged_of, IsSettled, 
 ghost use Rattle.volume_commands.specs.Kept.{KeepsDevices};
 ghost use Rattle.volume_commands.specs.Between.{IsBetween};
 ghost use Rattle.counted_volume.specs.DoneDue.{AreDone};
-ghost use Rattle.volume_commands.specs.AtRest.{IsAnswered, IsBegun};
+ghost use Rattle.volume_commands.specs.AtRest.{IsAnswered, IsBegun, IsLed};
 ghost use Rattle.volume_commands.specs.Commands.{IsDoneBy};
 ghost use Rattle.counted_volume.specs.Following.{IsDoneHere};
 ghost use Rattle.volume_commands.specs.Serving.{CanServe, part_done};
@@ -57,6 +57,7 @@ fn settle<B: Layered>(volume: &mut CountedVolume<B>, mut reply: Reply) -> Reply
     requires free { has_group_in volume.old.volume.merge ≡ false }
     ensures run { IsRun B.contents B.layers (Some reply) (Some result) volume.old.volume volume.new.volume }
     ensures did { AreDone B.may_hold B.contents B.layers B.fault_count B.size reply result volume.old.volume volume.new.volume }
+    ensures led { IsLed B.may_hold B.contents B.layers B.fault_count B.size reply result volume.old.volume volume.new.volume }
     ensures still { is_quiet_of volume.old.volume ≡ true → volume.new.volume ≡ volume.old.volume }
     ensures none { (replied : Option Reply) → due (moving_of B.contents B.layers replied volume.new.volume) ≡ None }
     ensures quiet { is_quiet_of volume.new.volume ≡ true }

@@ -12,7 +12,9 @@ use Rattle.volume.proofs.Quieted.{quiet_flights}
 use Rattle.volume_commands.specs.Among.{flush_piece}
 use Rattle.volume_commands.specs.AtRest.{IsAnswered}
 use Rattle.volume_commands.proofs.AtRest.{piece_answered, piece_failed, piece_untaken}
-use Rattle.volume_commands.proofs.Closing.{flush_closes, flush_fits}
+use Rattle.volume_commands.proofs.Closing.{flush_fits}
+use Rattle.volume_commands.proofs.ClosingMerge.{all_closes}
+use Rattle.chunk.proofs.Limits.{is_chunk-some}
 use Rattle.volume.proofs.Submits.{not_full}
 use Rattle.volume_commands.proofs.flushing.flush_device.Goals as goal
 
@@ -106,16 +108,17 @@ pub returns-in-Ok-Refused-clause-full : goal.returns-in-Ok-Refused-clause-full
 returns-in-Ok-Refused-clause-full g c = λ is. absurd (not_full c.in-Ok-Refused.failure (sym is ∙ c.refusal_for.ensures))
 
 pub returns-in-Ok-Written-clause-closes : goal.returns-in-Ok-Written-clause-closes
-returns-in-Ok-Written-clause-closes g c = λ loud alone.
+returns-in-Ok-Written-clause-closes g c = λ loud.
     let fits = subst (λ (r : Reply). Fits c.request_of.result.op c.request_of.result.range r) c.in-Ok-Written.field-0-is c.in-Ok-Written.ensures.answered.fits in
     absurd (flush_fits c.request_of.result.op c.request_of.result.range Written c.request_of.ensures.op_is (inl refl) fits)
 
 pub returns-in-Ok-Flushed-clause-closes : goal.returns-in-Ok-Flushed-clause-closes
-returns-in-Ok-Flushed-clause-closes g c = λ loud alone.
-    flush_closes g.B.Block.may_hold g.B.Block.contents g.B.Block.layers g.B.Block.fault_count g.B.Block.size g.met.B.Block.whole g.met.B.Block.holds_now c.args.dev c.request_of.result c.args.volume.now.volume c.serve.new.volume.volume c.request_of.ensures
-    (quiet_flights c.args.volume.now.volume c.requires.between.quiet) loud c.is_quiet.ensures.numbers alone
+returns-in-Ok-Flushed-clause-closes g c = λ loud.
+    let quiet = c.is_quiet.ensures.value ∙ c.requires.between.quiet in
+    all_closes g.B.Block.may_hold g.B.Block.contents g.B.Block.layers g.B.Block.fault_count g.B.Block.size g.met.B.Block.whole g.met.B.Block.holds_now (g.B.Block.size c.args.volume.now.volume.origin) c.args.dev c.request_of.result c.args.volume.now.volume c.serve.new.volume.volume c.request_of.ensures
+    (quiet_flights c.args.volume.now.volume c.requires.between.quiet) loud c.is_quiet.ensures.numbers (λ m is. is_chunk-some m.state.chunk (c.merging.ensures.fine m is).0) (c.is_quiet.ensures.between quiet loud)
     (subst (λ (r : Reply). IsAnswered g.B.Block.may_hold g.B.Block.contents g.B.Block.layers g.B.Block.fault_count g.B.Block.size c.request_of.result r c.args.volume.now.volume c.serve.new.volume.volume) c.in-Ok-Flushed.field-0-is c.in-Ok-Flushed.ensures.answered)
 
 pub returns-in-Ok-Data-clause-closes : goal.returns-in-Ok-Data-clause-closes
-returns-in-Ok-Data-clause-closes g c = λ loud alone.
+returns-in-Ok-Data-clause-closes g c = λ loud.
     absurd (flush_fits c.request_of.result.op c.request_of.result.range c.in-Ok-Data.field-0 c.request_of.ensures.op_is (inr (_, c.in-Ok-Data.field-0-is)) c.in-Ok-Data.ensures.answered.fits)
