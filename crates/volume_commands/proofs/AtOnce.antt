@@ -1,5 +1,5 @@
 -- What was begun with a request that its volume served.
-use Rattle.std.proofs.Common.{◌≡◌, inl, ℕ, ◌+◌, true, List, [], ◌∷◌, length, map, Some, refl, ◌∙◌, ap, arith, length-append, subst}
+use Rattle.std.proofs.Common.{◌≡◌, inl, inr, ℕ, ◌+◌, true, List, [], ◌∷◌, length, map, Some, refl, ◌∙◌, ap, arith, length-append, subst}
 use Rattle.std.specs.Prelude.{Ok}
 use Rattle.device.specs.Layers.{Layer}
 use Rattle.plain_machine.specs.Kept.{kept}

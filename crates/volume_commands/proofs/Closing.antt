@@ -28,14 +28,12 @@ use Rattle.in_flight.specs.Kinds.{in_flight}
 use Rattle.snapshot.specs.Kept.{Kept, books_of as snap_books}
 use Rattle.snapshot_list.specs.Numbers.{number_of_snap}
 use Rattle.merge.specs.Merging.{Merging}
-use Rattle.loss_laws.specs.Lost.{IsFirmOn}
-use Rattle.volume.specs.AddedUp.{GivesAsked, IsFrom, IsLeftAt, IsOpenIn, IsOpenOrigin, IsOpenSnap, IsSomeOf}
+use Rattle.volume.specs.AddedUp.{GivesAsked, IsFrom, IsLeftAt, IsOpenIn, IsOpenOrigin, IsSomeOf}
 use Rattle.volume.specs.Causes.{IsAt}
 use Rattle.volume.specs.Closing.{ClosesArray, ClosesBy}
 use Rattle.volume.specs.Flying.{Fits, IsFlown}
 use Rattle.volume.specs.Stepping.{merged_of}
 use Rattle.volume.specs.Stopping.{array_of, given_as}
-use Rattle.volume.specs.Submitting.{IsAcceptedAs, IsRefusedAs}
 use Rattle.volume.specs.Volumed.{Volumed, is_loud_in_all}
 use Rattle.volume.proofs.LastCloses.{apart_numbers}
 use Rattle.volume.proofs.OpenedCalls.{opens_event}

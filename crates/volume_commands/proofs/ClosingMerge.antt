@@ -36,14 +36,13 @@ use Rattle.in_flight.specs.Kinds.{in_flight}
 use Rattle.in_flight.specs.declared.flights.Route.TheVariants.{Origin, Whole}
 use Rattle.big_steps.specs.Devices.{answers, met}
 use Rattle.big_steps.proofs.Each.{Each, each_from, each_weaker}
-use Rattle.event_machine.specs.Due.{due, is_issuable}
+use Rattle.event_machine.specs.Due.{due}
 use Rattle.event_machine.specs.Held.{Going, MergeHeld, Moving, on_device, with_merge}
 use Rattle.event_machine.specs.MergeDue.{due_all}
 use Rattle.event_machine.specs.MergeRest.{IsBetween}
 use Rattle.event_machine.specs.MergeStepping.{stepped_all}
 use Rattle.event_machine.specs.Rest.{IsResting}
-use Rattle.event_machine.specs.Seen.{replied_by}
-use Rattle.event_machine.specs.Stepping.{answer, flush_merging, for_some, issue, with_first}
+use Rattle.event_machine.specs.Stepping.{answer, for_some, issue, with_first}
 use Rattle.event_machine.specs.Submitting.{submitted}
 use Rattle.event_machine.proofs.Around.{IsIdle, at_with, due_request}
 use Rattle.event_machine.proofs.Lists.{same_number}
@@ -52,8 +51,7 @@ use Rattle.snapshot.specs.Kept.{Kept}
 use Rattle.snapshot_list.specs.Numbers.{number_of_snap}
 use Rattle.merge.specs.Merging.{Merging}
 use Rattle.volume.specs.AddedUp.{GivesAsked, IsOpenIn, IsOpenOrigin, IsSomeOf}
-use Rattle.volume.specs.Closing.{ClosesArray, ClosesBy, ClosesMerging}
-use Rattle.volume.specs.Flying.{IsFlown}
+use Rattle.volume.specs.Closing.{ClosesArray, ClosesMerging}
 use Rattle.volume.specs.Moved.{moving_of}
 use Rattle.volume.specs.Stepping.{merged_of}
 use Rattle.volume.specs.Stopping.{IsOut, StopsOrigin, array_of, given_by}
