@@ -98,6 +98,7 @@ module _ {B : Type 0} (holds : B → ℕ → List ℕ → Type 0) (contents : B 
     kept = record { whole = good.whole; lasting = record { snaps = both.lasts; merge = both.merge } };
     does = stepped_by holds contents layers size faults done (Issue f.number) (Ok (Replied f.number reply)) mid w (sym issue_due) (λ next. issue_due) good.stepped exact tt closes
         (λ loud. volume_stops holds contents layers size whole here (given_by (Issue f.number) (map in_flight mid.flights)) mid w loud both.stops_snaps both.stops_origin)
+        (record { snaps = both.stops_snaps; origin = both.stops_origin })
         (λ loud. ap is_finished_in (same ∙ alone) ∙ sym (ap (is_finished_on contents) (same ∙ alone))) tt;
   }
 

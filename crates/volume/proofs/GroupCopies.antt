@@ -218,7 +218,7 @@ module _ {B : Type 0} (holds : B → ℕ → List ℕ → Type 0) (contents dura
             step = λ loud replied. read_moved contents layers replied v m was (faults base.device) (faults d) (done base.device) (done d) ((merged_in contents layers size v m was k.whole).goes true).staged taken q (waiting_of taken.group) due (step true).0 (step true).1
                 (k.whole.holds.whole ∙ ap (λ n. 512 * n) (sym (merged_in contents layers size v m was k.whole).origin)) one next.bytes_are refl;
           })
-          tt tt (λ loud. volume_stops holds contents layers size whole here None v read_to loud goes.stops_snaps goes.stops_origin) (λ loud. unfinished_in contents taken (full_at first n copied) refl) tt
+          tt tt (λ loud. volume_stops holds contents layers size whole here None v read_to loud goes.stops_snaps goes.stops_origin) (record { snaps = goes.stops_snaps; origin = goes.stops_origin }) (λ loud. unfinished_in contents taken (full_at first n copied) refl) tt
 
       pub read_in_turn : IsDoneInTurn holds contents layers size faults done MergeRead v read_to
       read_in_turn = record { does = read_does; first = turn; machine = λ replied. due_all_is contents layers size v k.whole replied ∙ turn }
@@ -293,7 +293,7 @@ module _ {B : Type 0} (holds : B → ℕ → List ℕ → Type 0) (contents dura
       written_does : DoesStep holds contents layers size faults done true MergeWrite (Ok Done) v written_to
       written_does = stepped_by holds contents layers size faults done MergeWrite (Ok Done) v written_to (sym is_due_too) (λ _. is_due_too) good_write.stepped
           (written_exact contents layers size v k.whole full was o stays written.group p can wrote written refl refl (faults v.origin) (faults o) (done v.origin) (done o) one_write (λ _. next.bytes_are) v.snaps v.copies v.flights saved)
-          tt tt (λ loud. volume_stops holds contents layers size whole here None v written_to loud goes_write.stops_snaps goes_write.stops_origin) (λ loud. unfinished_in contents written (open_at first n (copied + 1)) refl) tt
+          tt tt (λ loud. volume_stops holds contents layers size whole here None v written_to loud goes_write.stops_snaps goes_write.stops_origin) (record { snaps = goes_write.stops_snaps; origin = goes_write.stops_origin }) (λ loud. unfinished_in contents written (open_at first n (copied + 1)) refl) tt
 
       pub written_in_turn : IsDoneInTurn holds contents layers size faults done MergeWrite v written_to
       written_in_turn = record { does = written_does; first = turn_write; machine = λ replied. due_all_is contents layers size v k.whole replied ∙ turn_write }

@@ -10,6 +10,7 @@ use Rattle.volume.specs.Asking.{is_finished_in}
 use Rattle.volume.specs.Closing.{ClosesBy}
 use Rattle.volume.specs.DoesStep.{DoesStep}
 use Rattle.volume.specs.Exact.{IsExact}
+use Rattle.volume.specs.Lasting.{StopsEach}
 use Rattle.volume.specs.Layering.{Measures}
 use Rattle.volume.specs.Running.{IsStepReturned}
 use Rattle.volume.specs.Stepping.{IsStepped}
@@ -37,6 +38,7 @@ not_stepped holds contents layers size faults done may event early old new same 
   finished = tt;
   closes = tt;
   stops = tt;
+  each = tt;
   same = same;
 }
 
@@ -56,8 +58,9 @@ pub stepped_by : {B : Type 0} (holds : B → ℕ → List ℕ → Type 0) (conte
     → is_ok result ≡ is_due_of contents layers old event → (next_of contents layers old ≡ Some event → is_due_of contents layers old event ≡ true)
     → IfOk result (λ outcome. IsStepped contents layers size faults done event outcome old new) → IfOk result (λ outcome. IsExact contents layers event outcome old new) → IfOk result (λ outcome. RemovesPairs contents layers event outcome old new)
     → IfOk result (λ outcome. ClosesBy holds contents layers size event outcome (map in_flight old.flights) new) → OnOk result (is_loud_in_all layers old ≡ true → StopsVolume holds size (given_by event (map in_flight old.flights)) old new)
+    → OnOk result (StopsEach holds layers size (given_by event (map in_flight old.flights)) old new)
     → (is_loud_in_all layers new ≡ true → is_finished_in new.merge ≡ is_finished_on contents new.merge) → OnErr result (new ≡ old) → DoesStep holds contents layers size faults done true event result old new
-stepped_by holds contents layers size faults done event (Ok outcome) old new due first step exact removes closes stops finished same = record {
+stepped_by holds contents layers size faults done event (Ok outcome) old new due first step exact removes closes stops each finished same = record {
   due = due;
   first = λ next. refl;
   legal = step.legal;
@@ -75,9 +78,10 @@ stepped_by holds contents layers size faults done event (Ok outcome) old new due
   finished = finished;
   closes = closes;
   stops = stops;
+  each = each;
   same = tt;
 }
-stepped_by holds contents layers size faults done event (Err early) old new due first step exact removes closes stops finished same =
+stepped_by holds contents layers size faults done event (Err early) old new due first step exact removes closes stops each finished same =
     not_stepped holds contents layers size faults done true event early old new same due (λ next. due ∙ first next)
 
 -- what follows where it was due from two facts that are so then

@@ -86,12 +86,13 @@ module _ {B : Type 0} (contents : B → List ℕ) (layers : B → List Layer) (s
     lives = lives_same v v.origin k s s' flights within is parts.1
 
     -- the failure of its write, or of the flush after it
-    fails : s.number ≡ number → stale ≡ true → faults d ≡ next_count (faults s.device) → MarkFails faults number v (changed v v.origin k s' flights)
-    fails mine now faulty = record {
+    fails : s.number ≡ number → s.untried ≡ true → stale ≡ true → faults d ≡ next_count (faults s.device) → MarkFails faults number v (changed v v.origin k s' flights)
+    fails mine untried now faulty = record {
       place = k;
       snap = s;
       at = record { within = within; is = is };
       mine = mine;
+      untried = untried;
       stale = ap (λ xs. get_or xs k false) (map-set (λ (x : Kept B). x.stale) v.snaps k s') ∙ get_or-set_same (map (λ (x : Kept B). x.stale) v.snaps) k s'.stale false (omega (arith, within, length-map v.snaps (λ (x : Kept B). x.stale)))
           ∙ ap (λ (x : Kept B). x.stale) f ∙ now;
       fails = record { counts = counts_store v v.origin k s s' flights within is faults refl (ap faults device ∙ faulty); lives = lives };
@@ -99,7 +100,7 @@ module _ {B : Type 0} (contents : B → List ℕ) (layers : B → List Layer) (s
 
     pub marked_fault : is_trying number s ≡ true → stale ≡ true → faults d ≡ next_count (faults s.device) → IsGood contents layers size faults done (WriteInvalid number) Fault v (changed v v.origin k s' flights)
     marked_fault found now faulty = tried_good contents layers size faults done v h number k s s' within is (WriteInvalid number) Fault (λ p q x. x) (λ xs ys e. e) (λ b. refl) parts t (trying_untried contents layers size faults done v h number k s s' within is found)
-        (ap (λ x. is_loud (layers x)) device ∙ loud) (ap size device ∙ sized) (ap done device ∙ counted) counted_so (fails (trying_number contents layers size faults done v h number k s s' within is found) now faulty)
+        (ap (λ x. is_loud (layers x)) device ∙ loud) (ap size device ∙ sized) (ap done device ∙ counted) counted_so (fails (trying_number contents layers size faults done v h number k s s' within is found) (trying_untried contents layers size faults done v h number k s s' within is found) now faulty)
 
     pub tried_done : is_flushing number s ≡ true → s.untried ≡ true → faults d ≡ faults s.device → IsGood contents layers size faults done (FlushStore number) Done v (changed v v.origin k s' flights)
     tried_done found untried faulty = tried_good contents layers size faults done v h number k s s' within is (FlushStore number) Done (λ p q x. x) (λ xs ys e. e) (λ b. refl) parts t untried
@@ -107,4 +108,4 @@ module _ {B : Type 0} (contents : B → List ℕ) (layers : B → List Layer) (s
 
     pub tried_fault : is_flushing number s ≡ true → s.untried ≡ true → stale ≡ true → faults d ≡ next_count (faults s.device) → IsGood contents layers size faults done (FlushStore number) Fault v (changed v v.origin k s' flights)
     tried_fault found untried now faulty = tried_good contents layers size faults done v h number k s s' within is (FlushStore number) Fault (λ p q x. x) (λ xs ys e. e) (λ b. refl) parts t untried
-        (ap (λ x. is_loud (layers x)) device ∙ loud) (ap size device ∙ sized) (ap done device ∙ counted) counted_so (inr (fails (flushing_number number s found) now faulty))
+        (ap (λ x. is_loud (layers x)) device ∙ loud) (ap size device ∙ sized) (ap done device ∙ counted) counted_so (inr (fails (flushing_number number s found) untried now faulty))

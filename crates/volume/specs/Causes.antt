@@ -102,6 +102,7 @@ pub record MarkFails {B : Type 0} (faults : B → ℕ) (number : ℕ) (old new :
   pub snap : Kept B
   pub at : IsAt place snap old
   pub mine : snap.number ≡ number
+  pub untried : snap.untried ≡ true
   pub stale : slice_index_or (map (λ s. s.stale) new.snaps) place false ≡ true
   pub fails : FailsAlone faults (suc place) old new
 

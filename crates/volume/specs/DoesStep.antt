@@ -12,6 +12,7 @@ use Rattle.volume.specs.Causes.{HasCause, IsOneAtMost}
 use Rattle.volume.specs.Closing.{ClosesBy}
 use Rattle.volume.specs.Exact.{IsExact}
 use Rattle.volume.specs.Flying.{IsFlown}
+use Rattle.volume.specs.Lasting.{StopsEach}
 use Rattle.volume.specs.Stepping.{KeepsAll, failed_by, has_failed, starts_by}
 use Rattle.volume.specs.Stopping.{StopsVolume, given_by}
 use Rattle.volume.specs.Stored.{RemovesPairs, is_finished_on}
@@ -20,8 +21,8 @@ use Rattle.volume.specs.Volumed.{Volumed, is_due_of, is_loud_in_all, left_in_all
 -- An event is done where it is due and who asks for it `may` do it; the one that is due first is due. Of one that is done, whatever
 -- the devices do: a whole number falls, the cause is counted, a request leaves only where it is answered, at most one operation of
 -- a device is done, and no snapshot is marked for a full store. Where no device drops writes, it is a legal step of the plain
--- machine, and the event machine's own; and so are what a stop within it may leave, and what an answered flush closes. One that is
--- not done changes nothing.
+-- machine, and the event machine's own; and so are what a stop within it may leave, and what an answered flush closes. What a stop
+-- may leave is said of each array by itself too, whose own devices drop no writes. One that is not done changes nothing.
 pub record DoesStep {B : Type 0} (holds : B → ℕ → List ℕ → Type 0) (contents : B → List ℕ) (layers : B → List Layer) (size faults done : B → ℕ) (may : Bool) (event : Event) (result : Result Outcome NotDue) (old new : Volumed B) : Type 0 where
   pub due : is_ok result ≡ (may && is_due_of contents layers old event)
   pub first : next_of contents layers old ≡ Some event → is_ok result ≡ may
@@ -40,4 +41,5 @@ pub record DoesStep {B : Type 0} (holds : B → ℕ → List ℕ → Type 0) (co
   pub finished : OnOk result (is_loud_in_all layers new ≡ true → is_finished_in new.merge ≡ is_finished_on contents new.merge)
   pub closes : IfOk result (λ outcome. ClosesBy holds contents layers size event outcome (map in_flight old.flights) new)
   pub stops : IfOk result (λ outcome. is_loud_in_all layers old ≡ true → StopsVolume holds size (given_by event (map in_flight old.flights)) old new)
+  pub each : OnOk result (StopsEach holds layers size (given_by event (map in_flight old.flights)) old new)
   pub same : OnErr result (new ≡ old)

@@ -14,5 +14,6 @@ returns g c =
     (λ next. ap (λ (x : Volumed _). is_due_of g.B.Block.contents g.B.Block.layers x c.args.event) (sym c.self.view_is) ∙ first_due g.B.Block.contents g.B.Block.layers v c.args.event c.self.invariant.whole.waits.numbers (ap (λ (x : Volumed _). next_of g.B.Block.contents g.B.Block.layers x) c.self.view_is ∙ next))
     by.ensures.step by.ensures.exact by.ensures.removes by.ensures.closes
     (both_of by.result by.ensures.stops_snaps by.ensures.stops_origin (λ snaps origin loud. volume_stops g.B.Block.may_hold g.B.Block.contents g.B.Block.layers g.B.Block.size g.met.B.Block.whole g.met.B.Block.holds_now _ c.args.self.now by.new.self loud snaps origin))
+    (both_of by.result by.ensures.stops_snaps by.ensures.stops_origin (λ snaps origin. record { snaps = snaps; origin = origin }))
     c.look_at_merge.ensures.finished by.ensures.same in
     record { does = does }
