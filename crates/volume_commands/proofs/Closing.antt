@@ -169,15 +169,15 @@ module _ {B : Type 0} (holds : B → ℕ → List ℕ → Type 0) (contents : B 
 
     chain_closes : (before : Reply) → before ≢ Flushed → (done : List (Event × Outcome)) (v w : Volumed B) → AtMost own (map in_flight v.flights) → is_loud_in_all layers v ≡ true → AllPairs (λ a b. a < b) (map number_of_snap v.snaps) → (own.request.dev ≡ Origin → v.merge ≡ None)
         → AreDoneDue holds contents layers faults size done v w → last_told before done ≡ Flushed → IsClosed holds size w (array_of own.request.dev)
-    chain_closes before no [] v w few loud ascending alone chain told = absurd (no told)
-    chain_closes before no (x ∷ done) v w few loud ascending alone chain told =
+    chain_closes before other [] v w few loud ascending alone chain told = absurd (other told)
+    chain_closes before other (x ∷ done) v w few loud ascending alone chain told =
         let did = chain.1 in
         let later : is_loud_in_all layers chain.0 ≡ true = did.loud ∙ loud in
         let rising : AllPairs (λ a b. a < b) (map number_of_snap chain.0.snaps) = subst (AllPairs (λ a b. a < b)) (sym did.kept.numbers) ascending in
         let still : own.request.dev ≡ Origin → chain.0.merge ≡ None = λ origin. none_merged chain.0.merge (did.kept.merged ∙ ap merged_of (alone origin)) in
         elim (told_case x.1 before) [
           | inl t ↦ answered_closes t.0 t.1 x.0 done v chain.0 w few later (here_closed chain.0 later rising own.request.dev still) (subst (λ (o : Outcome). IsDoneDue holds contents layers faults size x.0 o v chain.0) t.2 did) chain.2 (sym (ap (λ (o : Outcome). last_told (told_by o before) done) t.2) ∙ told)
-          | inr same ↦ chain_closes before no done chain.0 w (few_next own flush x.0 x.1 v chain.0 few did) later rising still chain.2 (sym (ap (λ (r : Reply). last_told r done) same) ∙ told)
+          | inr same ↦ chain_closes before other done chain.0 w (few_next own flush x.0 x.1 v chain.0 few did) later rising still chain.2 (sym (ap (λ (r : Reply). last_told r done) same) ∙ told)
         ]
 
   pub refused_flushed : (failure : Failure) → Refused failure ≡ Flushed → ⊥

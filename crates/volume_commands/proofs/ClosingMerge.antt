@@ -177,8 +177,8 @@ module _ {B : Type 0} (holds : B → ℕ → List ℕ → Type 0) (contents : B 
     -- from the first Issue on
     chain_half : (before : Reply) → before ≢ Flushed → (done : List (Event × Outcome)) (v w : Volumed B) (m : Merging B) → v.merge ≡ Some m → 0 < m.state.chunk → AtMost own (map in_flight v.flights) → is_loud_in_all layers v ≡ true → Half v m
         → AreDoneDue holds contents layers faults size done v w → last_told before done ≡ Flushed → IsClosed holds size w None
-    chain_half before no [] v w m is pos few loud half chain told = absurd (no told)
-    chain_half before no (x ∷ done) v w m is pos few loud half chain told =
+    chain_half before other [] v w m is pos few loud half chain told = absurd (other told)
+    chain_half before other (x ∷ done) v w m is pos few loud half chain told =
         let did = chain.1 in
         let none = none_given own flush (map in_flight v.flights) few in
         let next = merge_next x.0 x.1 v chain.0 m is loud did none in
@@ -190,7 +190,7 @@ module _ {B : Type 0} (holds : B → ℕ → List ℕ → Type 0) (contents : B 
               (answered_closes holds contents layers faults size whole here own flush t.0 t.1 x.0 done v chain.0 w few later
               (λ closes. subst (λ (a : Dev). IsClosed holds size chain.0 (array_of a)) (sym dev) (half_closes chain.0 next.0 next.1 pos' half' (subst (λ (a : Dev). ClosesArray holds contents layers size a chain.0.origin chain.0.snaps) dev closes (loud_books contents layers size chain.0 later).origin)))
               (subst (λ (o : Outcome). IsDoneDue holds contents layers faults size x.0 o v chain.0) t.2 did) chain.2 (sym (ap (λ (o : Outcome). last_told (told_by o before) done) t.2) ∙ told))
-          | inr same ↦ chain_half before no done chain.0 w next.0 next.1 pos' (few_next holds contents layers faults size whole here own flush x.0 x.1 v chain.0 few did) later half' chain.2 (sym (ap (λ (r : Reply). last_told r done) same) ∙ told)
+          | inr same ↦ chain_half before other done chain.0 w next.0 next.1 pos' (few_next holds contents layers faults size whole here own flush x.0 x.1 v chain.0 few did) later half' chain.2 (sym (ap (λ (r : Reply). last_told r done) same) ∙ told)
         ]
 
     -- the first event
