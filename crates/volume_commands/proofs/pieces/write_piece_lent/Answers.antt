@@ -1,15 +1,26 @@
 -- The piece was written, or was not.
-use Rattle.std.proofs.Common.{refl, sym, ◌∙◌}
+use Rattle.std.proofs.Common.{inl, refl, subst, sym, ◌∙◌}
 use Rattle.chunk.specs.Pieces.{span_of}
+use Rattle.plain_machine.specs.declared.request.Dev.{Dev}
+use Rattle.plain_machine.specs.declared.request.Dev.TheVariants.{Origin}
 use Rattle.plain_machine.specs.declared.request.Op.TheVariants.{Write}
-use Rattle.plain_machine.specs.declared.request.Reply.TheVariants.{Written, Flushed}
+use Rattle.plain_machine.specs.declared.request.Reply.{Reply}
+use Rattle.plain_machine.specs.declared.request.Reply.TheVariants.{Written, Flushed, Refused}
 use Rattle.volume.specs.Lent.{origin_write}
 use Rattle.volume.proofs.Submits.{not_full}
+use Rattle.volume_commands.specs.Commands.{IsDoneBy}
+use Rattle.volume_commands.specs.Rested.{rested_of}
+use Rattle.volume_commands.specs.Serving.{part_written}
 use Rattle.volume_commands.proofs.AtRest.{piece_answered, piece_failed, piece_untaken}
 use Rattle.volume_commands.proofs.pieces.write_piece_lent.Goals as goal
 
 pub serve_lent-requires-clause-can : goal.serve_lent-requires-clause-can
 serve_lent-requires-clause-can g c = rw (← c.requires.origin) c.requires.can
+
+pub returns-in-Ok-Refused-clause-refused : goal.returns-in-Ok-Refused-clause-refused
+returns-in-Ok-Refused-clause-refused g c =
+    let done : Dev → Reply → Type 0 = λ dev reply. IsDoneBy g.B.Block.contents g.B.Block.layers (part_written dev (span_of c.args.piece) c.args.bytes.now) reply (rested_of c.args.volume.now.volume) (rested_of c.serve_lent.new.volume.volume) in
+    inl (c.in-Ok-Refused.failure, c.refusal_for.ensures, subst (λ (dev : Dev). done dev (Refused c.in-Ok-Refused.failure)) (sym c.requires.origin) (subst (done Origin) c.in-Ok-Refused.field-0-is c.in-Ok-Refused.ensures.answer))
 
 pub returns-in-Ok-Refused-clause-undone : goal.returns-in-Ok-Refused-clause-undone
 returns-in-Ok-Refused-clause-undone g c =
