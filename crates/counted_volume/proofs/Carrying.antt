@@ -30,9 +30,9 @@ goes_after (Answered n given) = false
 goes_after Done = true
 goes_after Fault = false
 
-module _ {B : Type 0} (contents : B → List ℕ) (layers : B → List Layer) (faults size : B → ℕ) where
+module _ {B : Type 0} (holds : B → ℕ → List ℕ → Type 0) (contents : B → List ℕ) (layers : B → List Layer) (faults size : B → ℕ) where
   -- what is said of all is said whichever events they are
-  pub so_is : (which other : Type 0) (before after : Reply) (v w : Counted B) → other → AreDoneSo contents layers faults size which before after v w → AreDoneSo contents layers faults size other before after v w
+  pub so_is : (which other : Type 0) (before after : Reply) (v w : Counted B) → other → AreDoneSo holds contents layers faults size which before after v w → AreDoneSo holds contents layers faults size other before after v w
   so_is which other before after v w is all = record { so = is; did = all.did; loud = all.loud; kept = all.kept; requests = all.requests; left = all.left; taken = all.taken }
 
   -- none of the events is done
@@ -40,10 +40,10 @@ module _ {B : Type 0} (contents : B → List ℕ) (layers : B → List Layer) (f
   none_carried [] reply after v w same told = (same, told)
   none_carried (e ∷ events) reply after v w same told = inl (same, told)
 
-  pub none_so : (which : Type 0) (reply : Reply) (v w : Counted B) → w.volume ≡ v.volume → TakesByRequests v w → which → AreDoneSo contents layers faults size which reply reply v w
+  pub none_so : (which : Type 0) (reply : Reply) (v w : Counted B) → w.volume ≡ v.volume → TakesByRequests v w → which → AreDoneSo holds contents layers faults size which reply reply v w
   none_so which reply v w same taken is = record {
     so = is;
-    did = subst (λ (x : Volumed B). AreDone contents layers faults reply reply v.volume x) (sym same) (done_none contents layers faults size reply v.volume);
+    did = subst (λ (x : Volumed B). AreDone holds contents layers faults size reply reply v.volume x) (sym same) (done_none holds contents layers faults size reply v.volume);
     loud = ap (is_loud_in_all layers) same;
     kept = subst (KeepsAll size v.volume) (sym same) (keeps_none size v.volume);
     requests = ap (λ (x : Volumed B). x.requests) same;
@@ -52,7 +52,7 @@ module _ {B : Type 0} (contents : B → List ℕ) (layers : B → List Layer) (f
   }
 
   -- one event that is not due
-  pub not_carried : (event : Event) (reply : Reply) (v w : Counted B) → w.volume ≡ v.volume → TakesByRequests v w → IsCarried contents layers faults size event false reply reply v w
+  pub not_carried : (event : Event) (reply : Reply) (v w : Counted B) → w.volume ≡ v.volume → TakesByRequests v w → IsCarried holds contents layers faults size event false reply reply v w
   not_carried event reply v w same taken = record { ends = none_so _ reply v w same taken (inl (same, refl)); goes_on = λ on. absurd (true≢false (sym on)) }
 
   -- and one that was done
@@ -63,12 +63,12 @@ module _ {B : Type 0} (contents : B → List ℕ) (layers : B → List Layer) (f
   goes_done event Fault reply v w exact lower on = absurd (true≢false (sym on))
 
   pub done_carried : (event : Event) (outcome : Outcome) (reply : Reply) (v w : Counted B) → is_loud_in_all layers w.volume ≡ is_loud_in_all layers v.volume → KeepsAll size v.volume w.volume
-      → left_in_all contents layers w.volume < left_in_all contents layers v.volume → TakesByRequests v w → IsDoneDue contents layers faults event outcome v.volume w.volume
-      → IsCarried contents layers faults size event (goes_after outcome) reply (told_by outcome reply) v w
+      → left_in_all contents layers w.volume < left_in_all contents layers v.volume → TakesByRequests v w → IsDoneDue holds contents layers faults size event outcome v.volume w.volume
+      → IsCarried holds contents layers faults size event (goes_after outcome) reply (told_by outcome reply) v w
   done_carried event outcome reply v w loud kept lower taken due = record {
     ends = record {
       so = inr (outcome, w.volume, due.exact, loud, inl (refl, told_same outcome reply));
-      did = done_one contents layers faults size reply event outcome v.volume w.volume due;
+      did = done_one holds contents layers faults size reply event outcome v.volume w.volume due;
       loud = loud;
       kept = kept;
       requests = due.requests;
@@ -84,18 +84,18 @@ module _ {B : Type 0} (contents : B → List ℕ) (layers : B → List Layer) (f
   more_carried event rest before after v w (inr (outcome, mid, exact, loud, inl last)) = inr (outcome, mid, exact, loud, inl last)
   more_carried event rest before after v w (inr (outcome, mid, exact, loud, inr (is, (same, told)))) = inr (outcome, mid, exact, loud, inr (is, none_carried rest before after mid w same told))
 
-module _ {B : Type 0} {contents : B → List ℕ} {layers : B → List Layer} {faults size : B → ℕ} where
+module _ {B : Type 0} {holds : B → ℕ → List ℕ → Type 0} {contents : B → List ℕ} {layers : B → List Layer} {faults size : B → ℕ} where
   -- where they do not go on after an event, none of those that come after it is done
-  pub out_at : {event : Event} (rest : List Event) {go : Bool} {before after : Reply} {v w : Counted B} → IsCarried contents layers faults size event go before after v w
-      → AreDoneSo contents layers faults size (AreCarried contents layers (event ∷ rest) before after v.volume w.volume) before after v w
-  out_at {event} rest {go} {before} {after} {v} {w} one = so_is contents layers faults size _ _ before after v w (more_carried contents layers faults size event rest before after v.volume w.volume one.ends.so) one.ends
+  pub out_at : {event : Event} (rest : List Event) {go : Bool} {before after : Reply} {v w : Counted B} → IsCarried holds contents layers faults size event go before after v w
+      → AreDoneSo holds contents layers faults size (AreCarried contents layers (event ∷ rest) before after v.volume w.volume) before after v w
+  out_at {event} rest {go} {before} {after} {v} {w} one = so_is holds contents layers faults size _ _ before after v w (more_carried holds contents layers faults size event rest before after v.volume w.volume one.ends.so) one.ends
 
   -- where they do, those of them that are done are done after it
-  pub out_after : {event : Event} (rest : List Event) {go : Bool} {before mid after : Reply} {u v w : Counted B} → go ≡ true → IsCarried contents layers faults size event go before mid u v
-      → AreDoneSo contents layers faults size (AreCarried contents layers rest mid after v.volume w.volume) mid after v w → AreDoneSo contents layers faults size (AreCarried contents layers (event ∷ rest) before after u.volume w.volume) before after u w
+  pub out_after : {event : Event} (rest : List Event) {go : Bool} {before mid after : Reply} {u v w : Counted B} → go ≡ true → IsCarried holds contents layers faults size event go before mid u v
+      → AreDoneSo holds contents layers faults size (AreCarried contents layers rest mid after v.volume w.volume) mid after v w → AreDoneSo holds contents layers faults size (AreCarried contents layers (event ∷ rest) before after u.volume w.volume) before after u w
   out_after {event} rest {go} {before} {mid} {after} {u} {v} {w} on one all = record {
     so = inr (Done, v.volume, (one.goes_on on).1, one.ends.loud, inr (refl, subst (λ (r : Reply). AreCarried contents layers rest r after v.volume w.volume) (one.goes_on on).0 all.so));
-    did = done_then contents layers faults size before mid after u.volume v.volume w.volume one.ends.did all.did;
+    did = done_then holds contents layers faults size before mid after u.volume v.volume w.volume one.ends.did all.did;
     loud = all.loud ∙ one.ends.loud;
     kept = keeps_more size u.volume v.volume w.volume one.ends.kept all.kept;
     requests = all.requests ∙ one.ends.requests;
@@ -104,11 +104,11 @@ module _ {B : Type 0} {contents : B → List ℕ} {layers : B → List Layer} {f
   }
 
   -- those that were done after others
-  pub so_then : {some more : Type 0} (which : Type 0) {before mid after : Reply} {u v w : Counted B} → AreDoneSo contents layers faults size some before mid u v → AreDoneSo contents layers faults size more mid after v w → which
-      → AreDoneSo contents layers faults size which before after u w
+  pub so_then : {some more : Type 0} (which : Type 0) {before mid after : Reply} {u v w : Counted B} → AreDoneSo holds contents layers faults size some before mid u v → AreDoneSo holds contents layers faults size more mid after v w → which
+      → AreDoneSo holds contents layers faults size which before after u w
   so_then which {before} {mid} {after} {u} {v} {w} one all is = record {
     so = is;
-    did = done_then contents layers faults size before mid after u.volume v.volume w.volume one.did all.did;
+    did = done_then holds contents layers faults size before mid after u.volume v.volume w.volume one.did all.did;
     loud = all.loud ∙ one.loud;
     kept = keeps_more size u.volume v.volume w.volume one.kept all.kept;
     requests = all.requests ∙ one.requests;
@@ -117,10 +117,10 @@ module _ {B : Type 0} {contents : B → List ℕ} {layers : B → List Layer} {f
   }
 
   -- and they follow the read of a copy's chunk
-  pub read_followed : (n s : ℕ) {before after : Reply} {v w : Counted B} → AreDoneSo contents layers faults size (AreCarried contents layers (following (CopyRead n) s) before after v.volume w.volume) before after v w
-      → AreDoneSo contents layers faults size (IsFollowed contents layers (CopyRead n) before after v.volume w.volume) before after v w
-  read_followed n s {before} {after} {v} {w} all = so_is contents layers faults size _ _ before after v w (inl (s, all.so)) all
+  pub read_followed : (n s : ℕ) {before after : Reply} {v w : Counted B} → AreDoneSo holds contents layers faults size (AreCarried contents layers (following (CopyRead n) s) before after v.volume w.volume) before after v w
+      → AreDoneSo holds contents layers faults size (IsFollowed contents layers (CopyRead n) before after v.volume w.volume) before after v w
+  read_followed n s {before} {after} {v} {w} all = so_is holds contents layers faults size _ _ before after v w (inl (s, all.so)) all
 
-  pub alone_followed : (n s : ℕ) {before after : Reply} {v w : Counted B} → IsAlone n v.volume → AreDoneSo contents layers faults size (AreCarried contents layers (all_following n s) before after v.volume w.volume) before after v w
-      → AreDoneSo contents layers faults size (IsFollowed contents layers (CopyRead n) before after v.volume w.volume) before after v w
-  alone_followed n s {before} {after} {v} {w} alone all = so_is contents layers faults size _ _ before after v w (inr (n, s, refl, alone, all.so)) all
+  pub alone_followed : (n s : ℕ) {before after : Reply} {v w : Counted B} → IsAlone n v.volume → AreDoneSo holds contents layers faults size (AreCarried contents layers (all_following n s) before after v.volume w.volume) before after v w
+      → AreDoneSo holds contents layers faults size (IsFollowed contents layers (CopyRead n) before after v.volume w.volume) before after v w
+  alone_followed n s {before} {after} {v} {w} alone all = so_is holds contents layers faults size _ _ before after v w (inr (n, s, refl, alone, all.so)) all

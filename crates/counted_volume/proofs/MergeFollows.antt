@@ -26,40 +26,40 @@ use Rattle.counted_volume.proofs.Earns.{stepped_many}
 use Rattle.counted_volume.proofs.Fewer.{stepped_have}
 use Rattle.counted_volume.proofs.Takings.{stepped_takes, takes_none, takes_then}
 
-module _ {B : Type 0} (contents : B → List ℕ) (layers : B → List Layer) (faults size : B → ℕ) where
-  steps_then : (xs ys : List (Event × Outcome)) (u v w : Volumed B) → AreSteps contents layers faults size xs u v → AreSteps contents layers faults size ys v w → AreSteps contents layers faults size (xs ++ ys) u w
-  steps_then [] ys u v w same next = subst (λ (x : Volumed B). AreSteps contents layers faults size ys x w) same next
+module _ {B : Type 0} (holds : B → ℕ → List ℕ → Type 0) (contents : B → List ℕ) (layers : B → List Layer) (faults size : B → ℕ) where
+  steps_then : (xs ys : List (Event × Outcome)) (u v w : Volumed B) → AreSteps holds contents layers faults size xs u v → AreSteps holds contents layers faults size ys v w → AreSteps holds contents layers faults size (xs ++ ys) u w
+  steps_then [] ys u v w same next = subst (λ (x : Volumed B). AreSteps holds contents layers faults size ys x w) same next
   steps_then (x ∷ xs) ys u v w chain next = (chain.0, chain.1, chain.2, chain.3, steps_then xs ys chain.0 v w chain.4 next)
 
-module _ {B : Type 0} {contents : B → List ℕ} {layers : B → List Layer} {faults size : B → ℕ} where
+module _ {B : Type 0} {holds : B → ℕ → List ℕ → Type 0} {contents : B → List ℕ} {layers : B → List Layer} {faults size : B → ℕ} where
   -- one, and one after the other
-  pub merged_one : (event : Event) (outcome : Outcome) (u v : Counted B) → IsStep contents layers faults size event outcome u.volume v.volume → is_of_merge event ≡ true → reply_in outcome ≡ [] → left_in_all contents layers v.volume < left_in_all contents layers u.volume → TakesByRequests u v
-      → AreMerged contents layers faults size u v
+  pub merged_one : (event : Event) (outcome : Outcome) (u v : Counted B) → IsStep holds contents layers faults size event outcome u.volume v.volume → is_of_merge event ≡ true → reply_in outcome ≡ [] → left_in_all contents layers v.volume < left_in_all contents layers u.volume → TakesByRequests u v
+      → AreMerged holds contents layers faults size u v
   merged_one event outcome u v step merges silent lower taken = record { steps = (event, outcome) ∷ []; chain = (v.volume, step, merges, silent, refl); left = omega (arith, lower); taken = taken }
 
-  pub merged_then : {u v w : Counted B} → AreMerged contents layers faults size u v → AreMerged contents layers faults size v w → AreMerged contents layers faults size u w
+  pub merged_then : {u v w : Counted B} → AreMerged holds contents layers faults size u v → AreMerged holds contents layers faults size v w → AreMerged holds contents layers faults size u w
   merged_then {u = u} {v = v} {w = w} first second = record {
     steps = first.steps ++ second.steps;
-    chain = steps_then contents layers faults size first.steps second.steps u.volume v.volume w.volume first.chain second.chain;
+    chain = steps_then holds contents layers faults size first.steps second.steps u.volume v.volume w.volume first.chain second.chain;
     left = (let a = first.left in let b = second.left in omega (arith, a, b));
     taken = takes_then u v w first.taken second.taken;
   }
 
-  pub none_merged : (u : Counted B) → AreMerged contents layers faults size u u
+  pub none_merged : (u : Counted B) → AreMerged holds contents layers faults size u u
   none_merged u = record { steps = []; chain = refl; left = omega arith; taken = takes_none u }
 
 -- the chunks of a group, copied at once: each of their events was done in its turn, and took no place
 module _ {B : Type 0} (holds : B → ℕ → List ℕ → Type 0) (contents : B → List ℕ) (layers : B → List Layer) (size faults done : B → ℕ) where
-  turn_merged : (event : Event) (v w : Volumed B) (places : ℕ) → is_of_merge event ≡ true → IsDoneInTurn holds contents layers size faults done event v w → AreMerged contents layers faults size (counted_with v places) (counted_with w places)
+  turn_merged : (event : Event) (v w : Volumed B) (places : ℕ) → is_of_merge event ≡ true → IsDoneInTurn holds contents layers size faults done event v w → AreMerged holds contents layers faults size (counted_with v places) (counted_with w places)
   turn_merged event v w places merges turn =
-      let step = step_is contents layers faults size event Done Done v w (sym turn.first) turn.machine refl turn.does.exact turn.does.legal turn.does.kept turn.does.loud turn.does.counts.0 turn.does.flown turn.does.cause in
+      let step = step_is holds contents layers faults size event Done Done v w (sym turn.first) turn.machine refl turn.does.exact turn.does.legal turn.does.kept turn.does.loud turn.does.counts.0 turn.does.flown turn.does.cause turn.does.closes turn.does.stops in
       merged_one event Done (counted_with v places) (counted_with w places) step merges refl turn.does.lower (stepped_takes v w holds contents layers size faults done event places (Ok Done) turn.does)
 
   turn_have : (event : Event) (v w : Volumed B) (places : ℕ) → IsDoneInTurn holds contents layers size faults done event v w → HasPlaces v places → HasPlaces w places
   turn_have event v w places turn have = stepped_have v w faults event Done places turn.does.flown turn.does.cause turn.does.overflows (stepped_many v w size turn.does.kept turn.does.counts.0) have
 
-  pub copied_merged : (n : ℕ) (v w : Volumed B) (places : ℕ) → AreCopied holds contents layers size faults done n v w → AreMerged contents layers faults size (counted_with v places) (counted_with w places)
-  copied_merged zero v w places same = subst (λ (x : Volumed B). AreMerged contents layers faults size (counted_with v places) (counted_with x places)) (sym same) (none_merged (counted_with v places))
+  pub copied_merged : (n : ℕ) (v w : Volumed B) (places : ℕ) → AreCopied holds contents layers size faults done n v w → AreMerged holds contents layers faults size (counted_with v places) (counted_with w places)
+  copied_merged zero v w places same = subst (λ (x : Volumed B). AreMerged holds contents layers faults size (counted_with v places) (counted_with x places)) (sym same) (none_merged (counted_with v places))
   copied_merged (suc n) v w places chain =
       merged_then (turn_merged MergeRead v chain.0 places refl chain.2)
       (merged_then (turn_merged MergeWrite chain.0 chain.1 places refl chain.3) (copied_merged n chain.1 w places chain.4))

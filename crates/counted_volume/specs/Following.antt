@@ -116,9 +116,9 @@ pub record IsReadFirst {B : Type 0} (contents : B → List ℕ) (layers : B → 
   pub free : is_loud_in_all layers v ≡ true → grouped (moving_of contents layers None v).merge ≡ []
 
 -- Events were done, each where it was due, and this is the last reply of them, or the one before. `which` says which events.
-pub record AreDoneSo {B : Type 0} (contents : B → List ℕ) (layers : B → List Layer) (faults size : B → ℕ) (which : Type 0) (before after : Reply) (old new : Counted B) : Type 0 where
+pub record AreDoneSo {B : Type 0} (holds : B → ℕ → List ℕ → Type 0) (contents : B → List ℕ) (layers : B → List Layer) (faults size : B → ℕ) (which : Type 0) (before after : Reply) (old new : Counted B) : Type 0 where
   pub so : which
-  pub did : AreDone contents layers faults before after old.volume new.volume
+  pub did : AreDone holds contents layers faults size before after old.volume new.volume
   pub loud : is_loud_in_all layers new.volume ≡ is_loud_in_all layers old.volume
   pub kept : KeepsAll size old.volume new.volume
   pub requests : new.volume.requests ≡ old.volume.requests
@@ -126,8 +126,8 @@ pub record AreDoneSo {B : Type 0} (contents : B → List ℕ) (layers : B → Li
   pub taken : TakesByRequests old new
 
 -- One event was done, or was not due. Where they `go` on, it was done, nothing failed, nothing was answered, and less is left.
-pub record IsCarried {B : Type 0} (contents : B → List ℕ) (layers : B → List Layer) (faults size : B → ℕ) (event : Event) (go : Bool) (before after : Reply) (old new : Counted B) : Type 0 where
-  pub ends : AreDoneSo contents layers faults size (AreCarried contents layers (event ∷ []) before after old.volume new.volume) before after old new
+pub record IsCarried {B : Type 0} (holds : B → ℕ → List ℕ → Type 0) (contents : B → List ℕ) (layers : B → List Layer) (faults size : B → ℕ) (event : Event) (go : Bool) (before after : Reply) (old new : Counted B) : Type 0 where
+  pub ends : AreDoneSo holds contents layers faults size (AreCarried contents layers (event ∷ []) before after old.volume new.volume) before after old new
   pub goes_on : go ≡ true → (after ≡ before) × IsExact contents layers event Done old.volume new.volume × (left_in_all contents layers new.volume < left_in_all contents layers old.volume)
 
 -- nothing failed, and nothing was answered
@@ -138,9 +138,9 @@ is_done Fault = false
 
 -- An event that was due was done: the last reply is its own then, or the one before. They `go` on just where nothing failed, and nothing
 -- was answered.
-pub record IsDoneHere {B : Type 0} (contents : B → List ℕ) (layers : B → List Layer) (faults size : B → ℕ) (event : Event) (go : Bool) (before after : Reply) (old new : Counted B) : Type 0 where
+pub record IsDoneHere {B : Type 0} (holds : B → ℕ → List ℕ → Type 0) (contents : B → List ℕ) (layers : B → List Layer) (faults size : B → ℕ) (event : Event) (go : Bool) (before after : Reply) (old new : Counted B) : Type 0 where
   pub outcome : Outcome
-  pub done : IsDoneDue contents layers faults event outcome old.volume new.volume
+  pub done : IsDoneDue holds contents layers faults size event outcome old.volume new.volume
   pub told : after ≡ told_by outcome before
   pub goes_on : go ≡ is_done outcome
   pub loud : is_loud_in_all layers new.volume ≡ is_loud_in_all layers old.volume
@@ -149,8 +149,8 @@ pub record IsDoneHere {B : Type 0} (contents : B → List ℕ) (layers : B → L
   pub taken : TakesByRequests old new
 
 -- The event that was due first was done, and that was the machine's too.
-pub record IsStep {B : Type 0} (contents : B → List ℕ) (layers : B → List Layer) (faults size : B → ℕ) (event : Event) (outcome : Outcome) (old new : Volumed B) : Type 0 where
-  pub done : IsDoneFirst contents layers faults event outcome old new
+pub record IsStep {B : Type 0} (holds : B → ℕ → List ℕ → Type 0) (contents : B → List ℕ) (layers : B → List Layer) (faults size : B → ℕ) (event : Event) (outcome : Outcome) (old new : Volumed B) : Type 0 where
+  pub done : IsDoneFirst holds contents layers faults size event outcome old new
   pub due : (replied : Option Reply) → due_all (moving_of contents layers replied old) ≡ Some event
   pub kept : KeepsAll size old new
   pub loud : is_loud_in_all layers new ≡ is_loud_in_all layers old
@@ -158,14 +158,14 @@ pub record IsStep {B : Type 0} (contents : B → List ℕ) (layers : B → List 
   pub flown : IsFlown event outcome (map in_flight old.flights) (map in_flight new.flights)
 
 -- these events were done so, in this order: each is one of a merge, and nothing was answered
-abbrev pub AreSteps : {B : Type 0} → (B → List ℕ) → (B → List Layer) → (B → ℕ) → (B → ℕ) → List (Event × Outcome) → Volumed B → Volumed B → Type 0
-AreSteps contents layers faults size [] old new = new ≡ old
-AreSteps contents layers faults size (x ∷ xs) old new =
-    (mid : Volumed _) × IsStep contents layers faults size x.0 x.1 old mid × (is_of_merge x.0 ≡ true) × (reply_in x.1 ≡ []) × AreSteps contents layers faults size xs mid new
+abbrev pub AreSteps : {B : Type 0} → (B → ℕ → List ℕ → Type 0) → (B → List ℕ) → (B → List Layer) → (B → ℕ) → (B → ℕ) → List (Event × Outcome) → Volumed B → Volumed B → Type 0
+AreSteps holds contents layers faults size [] old new = new ≡ old
+AreSteps holds contents layers faults size (x ∷ xs) old new =
+    (mid : Volumed _) × IsStep holds contents layers faults size x.0 x.1 old mid × (is_of_merge x.0 ≡ true) × (reply_in x.1 ≡ []) × AreSteps holds contents layers faults size xs mid new
 
 -- Events of a merge were done, and nothing was answered.
-pub record AreMerged {B : Type 0} (contents : B → List ℕ) (layers : B → List Layer) (faults size : B → ℕ) (old new : Counted B) : Type 0 where
+pub record AreMerged {B : Type 0} (holds : B → ℕ → List ℕ → Type 0) (contents : B → List ℕ) (layers : B → List Layer) (faults size : B → ℕ) (old new : Counted B) : Type 0 where
   pub steps : List (Event × Outcome)
-  pub chain : AreSteps contents layers faults size steps old.volume new.volume
+  pub chain : AreSteps holds contents layers faults size steps old.volume new.volume
   pub left : left_in_all contents layers new.volume ≤ left_in_all contents layers old.volume
   pub taken : TakesByRequests old new

@@ -114,7 +114,7 @@ impl<B: Layered> CountedVolume<B> {
     /// Copies all chunks of a merge's group back at once, as their events would, one after another, where the volume can; else
     /// nothing changes. It takes no place of the journal.
     pub(crate) fn copy_group(&mut self)
-        ensures { AreMerged B.contents B.layers B.fault_count B.size self.old self.new }
+        ensures { AreMerged B.may_hold B.contents B.layers B.fault_count B.size self.old self.new }
     {
         let _ = self.volume.copy_group();
     }

@@ -79,7 +79,7 @@ fn next_due<B: Layered>(volume: &CountedVolume<B>, place: usize) -> Option<Event
 /// then.
 #[inline(always)]
 fn carry_one<B: Layered>(volume: &mut CountedVolume<B>, event: Event, reply: &mut Reply) -> bool
-    ensures { IsCarried B.contents B.layers B.fault_count B.size event result reply.old reply.new volume.old volume.new }
+    ensures { IsCarried B.may_hold B.contents B.layers B.fault_count B.size event result reply.old reply.new volume.old volume.new }
 {
     match volume.step_here(event) {
         Ok(Outcome::Reply(_, given)) => {
@@ -102,7 +102,7 @@ fn follow_read<B: Layered>(
     number: CopyId,
     reply: &mut Reply,
 ) -> Option<Event>
-    ensures did { AreDoneSo B.contents B.layers B.fault_count B.size (IsFollowed B.contents B.layers (CopyRead number) reply.old reply.new volume.old.volume volume.new.volume) reply.old reply.new volume.old volume.new }
+    ensures did { AreDoneSo B.may_hold B.contents B.layers B.fault_count B.size (IsFollowed B.contents B.layers (CopyRead number) reply.old reply.new volume.old.volume volume.new.volume) reply.old reply.new volume.old volume.new }
     ensures next { IfSome result (λ next. IsNextDue B.contents B.layers number next volume.old.volume volume.new.volume) }
 {
     let Some((snap, place, alone)) = holder(volume, number) else {
@@ -135,7 +135,7 @@ fn follow_read<B: Layered>(
 #[inline(always)]
 pub fn follow_reads<B: Layered>(volume: &mut CountedVolume<B>, number: CopyId, reply: &mut Reply)
     requires first { IsReadFirst B.contents B.layers number volume.old.volume }
-    ensures { AreDoneSo B.contents B.layers B.fault_count B.size (GoesOn B.contents B.layers reply.old reply.new volume.old.volume volume.new.volume) reply.old reply.new volume.old volume.new }
+    ensures { AreDoneSo B.may_hold B.contents B.layers B.fault_count B.size (GoesOn B.contents B.layers reply.old reply.new volume.old.volume volume.new.volume) reply.old reply.new volume.old volume.new }
 {
     let mut number = number;
     while let Some(next) = follow_read(volume, number, reply) {
@@ -161,7 +161,7 @@ pub fn follow_reads<B: Layered>(volume: &mut CountedVolume<B>, number: CopyId, r
 #[inline(always)]
 pub fn follow<B: Layered>(volume: &mut CountedVolume<B>, done: Event, reply: Reply) -> Reply
     ensures follows { IsFollowed B.contents B.layers done reply result volume.old.volume volume.new.volume }
-    ensures did { AreDone B.contents B.layers B.fault_count reply result volume.old.volume volume.new.volume }
+    ensures did { AreDone B.may_hold B.contents B.layers B.fault_count B.size reply result volume.old.volume volume.new.volume }
     ensures loud { is_loud_in_all B.layers volume.new.volume ≡ is_loud_in_all B.layers volume.old.volume }
     ensures kept { KeepsAll B.size volume.old.volume volume.new.volume }
     ensures requests { volume.new.volume.requests ≡ volume.old.volume.requests }

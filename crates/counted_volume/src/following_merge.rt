@@ -12,7 +12,7 @@ use plain_machine::{Event, NotDue, Outcome};
 #[inline(always)]
 fn merge_on<B: Layered>(volume: &mut CountedVolume<B>, event: Event) -> bool
     requires merges { is_of_merge event ≡ true }
-    ensures merged { AreMerged B.contents B.layers B.fault_count B.size volume.old volume.new }
+    ensures merged { AreMerged B.may_hold B.contents B.layers B.fault_count B.size volume.old volume.new }
     ensures lower { result ≡ true → left_in_all B.contents B.layers volume.new.volume < left_in_all B.contents B.layers volume.old.volume }
 {
     if !volume.is_only_merging() {
@@ -30,7 +30,7 @@ fn merge_on<B: Layered>(volume: &mut CountedVolume<B>, event: Event) -> bool
 /// disk is flushed, the area is written without the group's slots, and the group ends. One after the other, so that the kind of
 /// each is known where it is done.
 fn follow_group<B: Layered>(volume: &mut CountedVolume<B>)
-    ensures { AreMerged B.contents B.layers B.fault_count B.size volume.old volume.new }
+    ensures { AreMerged B.may_hold B.contents B.layers B.fault_count B.size volume.old volume.new }
 {
     volume.copy_group();
     while merge_on(volume, Event::MergeRead) {
@@ -51,7 +51,7 @@ fn follow_group<B: Layered>(volume: &mut CountedVolume<B>)
 /// can be, and nothing fails: each is then due first. Nothing is answered.
 #[inline(always)]
 pub fn follow_merge<B: Layered>(volume: &mut CountedVolume<B>, done: Event)
-    ensures { AreMerged B.contents B.layers B.fault_count B.size volume.old volume.new }
+    ensures { AreMerged B.may_hold B.contents B.layers B.fault_count B.size volume.old volume.new }
 {
     match done {
         Event::MergeGroup => follow_group(volume),

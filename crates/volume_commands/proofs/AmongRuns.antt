@@ -66,30 +66,30 @@ module _ {B : Type 0} (layers : B → List Layer) (size : B → ℕ) where
   pub among_within : (from count : ℕ) (old new : Volumed B) → GoesAmong from old new → from ≤ 512 * count → new.requests ≤ old.requests + count
   among_within from count old new so le = omega (arith, so.requests, le)
 
-module _ {B : Type 0} (contents : B → List ℕ) (layers : B → List Layer) (faults size : B → ℕ) (dev : Dev) where
+module _ {B : Type 0} (holds : B → ℕ → List ℕ → Type 0) (contents : B → List ℕ) (layers : B → List Layer) (faults size : B → ℕ) (dev : Dev) where
   -- so far: these pieces were read, of all of them
   pub record ReadsAmong (all rest : List Span) (out : List ℕ) (old new : Volumed B) (before after : List Replied) : Type 0 where
     pub passed : List Span
     pub cut : passed ++ rest ≡ all
-    pub did : AreReadAmong contents layers faults dev passed out old new before after
+    pub did : AreReadAmong holds contents layers faults size dev passed out old new before after
 
   pub reads_start : (all rest : List Span) (out : List ℕ) (v : Volumed B) (before : List Replied) → rest ≡ all → out ≡ [] → ReadsAmong all rest out v v before before
   reads_start all rest out v before e none = record { passed = []; cut = e; did = (none, refl, refl) }
 
   pub reads_next : (all rest rest' : List Span) (p : Span) (out out' : List ℕ) (reply : Reply) (u v w : Volumed B) (before now after : List Replied) → ReadsAmong all rest out u v before now → rest ≡ p ∷ rest'
-      → IsPieceServed contents layers faults dev Read p reply v w now after → out' ≡ out ++ take (512 * p.count) (bytes_in reply) → ReadsAmong all rest' out' u w before after
+      → IsPieceServed holds contents layers faults size dev Read p reply v w now after → out' ≡ out ++ take (512 * p.count) (bytes_in reply) → ReadsAmong all rest' out' u w before after
   reads_next all rest rest' p out out' reply u v w before now after so e s more = record {
     passed = so.passed ++ p ∷ [];
     cut = joined so.passed p rest' ∙ ap (λ (xs : List Span). so.passed ++ xs) (sym e) ∙ so.cut;
-    did = subst (λ (bs : List ℕ). AreReadAmong contents layers faults dev (so.passed ++ p ∷ []) bs u w before after) (sym more) (read_more contents layers faults dev so.passed p out reply u v w before now after so.did s);
+    did = subst (λ (bs : List ℕ). AreReadAmong holds contents layers faults size dev (so.passed ++ p ∷ []) bs u w before after) (sym more) (read_more holds contents layers faults size dev so.passed p out reply u v w before now after so.did s);
   }
 
-  pub reads_end : (all rest : List Span) (out : List ℕ) (u v : Volumed B) (before now : List Replied) → ReadsAmong all rest out u v before now → rest ≡ [] → AreReadAmong contents layers faults dev all out u v before now
+  pub reads_end : (all rest : List Span) (out : List ℕ) (u v : Volumed B) (before now : List Replied) → ReadsAmong all rest out u v before now → rest ≡ [] → AreReadAmong holds contents layers faults size dev all out u v before now
   reads_end all rest out u v before now so none =
-      subst (λ (ps : List Span). AreReadAmong contents layers faults dev ps out u v before now) (sym (ends so.passed) ∙ ap (λ (xs : List Span). so.passed ++ xs) (sym none) ∙ so.cut) so.did
+      subst (λ (ps : List Span). AreReadAmong holds contents layers faults size dev ps out u v before now) (sym (ends so.passed) ∙ ap (λ (xs : List Span). so.passed ++ xs) (sym none) ∙ so.cut) so.did
 
   pub reads_stop : (all rest rest' : List Span) (p : Span) (out : List ℕ) (refusal : Refusal) (u v w : Volumed B) (before now after : List Replied) → ReadsAmong all rest out u v before now → rest ≡ p ∷ rest'
-      → IsPieceFailed contents layers faults size dev Read p refusal v w now after → IsReadStopped contents layers faults size dev all refusal u w before after
+      → IsPieceFailed holds contents layers faults size dev Read p refusal v w now after → IsReadStopped holds contents layers faults size dev all refusal u w before after
   reads_stop all rest rest' p out refusal u v w before now after so e failed = record {
     passed = so.passed;
     piece = p;
@@ -107,7 +107,7 @@ module _ {B : Type 0} (contents : B → List ℕ) (layers : B → List Layer) (f
     pub passed : List Span
     pub cut : passed ++ rest ≡ all
     pub at : from ≡ 512 * sectors_of passed
-    pub did : AreWrittenAmong contents layers faults dev passed bytes old new before after
+    pub did : AreWrittenAmong holds contents layers faults size dev passed bytes old new before after
 
   pub writes_start : (all rest : List Span) (bytes : List ℕ) (v : Volumed B) (before : List Replied) → rest ≡ all → WritesAmong all rest 0 bytes v v before before
   writes_start all rest bytes v before e = record { passed = []; cut = e; at = omega arith; did = (refl, refl) }
@@ -121,7 +121,7 @@ module _ {B : Type 0} (contents : B → List ℕ) (layers : B → List Layer) (f
   own_part from count passed bytes part at is = is ∙ ap (λ n. take n (drop from bytes)) (omega arith) ∙ ap (λ n. take (512 * count) (drop n bytes)) at
 
   pub writes_next : (all rest rest' : List Span) (p : Span) (from : ℕ) (bytes part : List ℕ) (reply : Reply) (u v w : Volumed B) (before now after : List Replied) → WritesAmong all rest from bytes u v before now → rest ≡ p ∷ rest'
-      → part ≡ take (from + p.count * 512 - from) (drop from bytes) → IsPieceServed contents layers faults dev (Write part) p reply v w now after → WritesAmong all rest' (from + p.count * 512) bytes u w before after
+      → part ≡ take (from + p.count * 512 - from) (drop from bytes) → IsPieceServed holds contents layers faults size dev (Write part) p reply v w now after → WritesAmong all rest' (from + p.count * 512) bytes u w before after
   writes_next all rest rest' p from bytes part reply u v w before now after so e is s =
       let at = so.at in
       let more = sectors_more so.passed p in
@@ -129,15 +129,15 @@ module _ {B : Type 0} (contents : B → List ℕ) (layers : B → List Layer) (f
         passed = so.passed ++ p ∷ [];
         cut = joined so.passed p rest' ∙ ap (λ (xs : List Span). so.passed ++ xs) (sym e) ∙ so.cut;
         at = omega (arith, at, more);
-        did = written_more contents layers faults dev so.passed p bytes reply u v w before now after so.did (subst (λ (bs : List ℕ). IsPieceServed contents layers faults dev (Write bs) p reply v w now after) (own_part from p.count so.passed bytes part at is) s);
+        did = written_more holds contents layers faults size dev so.passed p bytes reply u v w before now after so.did (subst (λ (bs : List ℕ). IsPieceServed holds contents layers faults size dev (Write bs) p reply v w now after) (own_part from p.count so.passed bytes part at is) s);
       }
 
-  pub writes_end : (all rest : List Span) (from : ℕ) (bytes : List ℕ) (u v : Volumed B) (before now : List Replied) → WritesAmong all rest from bytes u v before now → rest ≡ [] → AreWrittenAmong contents layers faults dev all bytes u v before now
+  pub writes_end : (all rest : List Span) (from : ℕ) (bytes : List ℕ) (u v : Volumed B) (before now : List Replied) → WritesAmong all rest from bytes u v before now → rest ≡ [] → AreWrittenAmong holds contents layers faults size dev all bytes u v before now
   writes_end all rest from bytes u v before now so none =
-      subst (λ (ps : List Span). AreWrittenAmong contents layers faults dev ps bytes u v before now) (sym (ends so.passed) ∙ ap (λ (xs : List Span). so.passed ++ xs) (sym none) ∙ so.cut) so.did
+      subst (λ (ps : List Span). AreWrittenAmong holds contents layers faults size dev ps bytes u v before now) (sym (ends so.passed) ∙ ap (λ (xs : List Span). so.passed ++ xs) (sym none) ∙ so.cut) so.did
 
   pub writes_stop : (all rest rest' : List Span) (p : Span) (from : ℕ) (bytes part : List ℕ) (refusal : Refusal) (u v w : Volumed B) (before now after : List Replied) → WritesAmong all rest from bytes u v before now → rest ≡ p ∷ rest'
-      → part ≡ take (from + p.count * 512 - from) (drop from bytes) → IsPieceFailed contents layers faults size dev (Write part) p refusal v w now after → IsWriteStopped contents layers faults size dev all bytes refusal u w before after
+      → part ≡ take (from + p.count * 512 - from) (drop from bytes) → IsPieceFailed holds contents layers faults size dev (Write part) p refusal v w now after → IsWriteStopped holds contents layers faults size dev all bytes refusal u w before after
   writes_stop all rest rest' p from bytes part refusal u v w before now after so e is failed = record {
     passed = so.passed;
     piece = p;
@@ -146,5 +146,5 @@ module _ {B : Type 0} (contents : B → List ℕ) (layers : B → List Layer) (f
     mid = v;
     ended = now;
     did = so.did;
-    failed = subst (λ (bs : List ℕ). IsPieceFailed contents layers faults size dev (Write bs) p refusal v w now after) (own_part from p.count so.passed bytes part so.at is) failed;
+    failed = subst (λ (bs : List ℕ). IsPieceFailed holds contents layers faults size dev (Write bs) p refusal v w now after) (own_part from p.count so.passed bytes part so.at is) failed;
   }

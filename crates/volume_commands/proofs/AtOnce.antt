@@ -1,5 +1,5 @@
 -- What was begun with a request that its volume served.
-use Rattle.std.proofs.Common.{◌≡◌, inl, ℕ, ◌+◌, true, List, [], ◌∷◌, length, map, Some, refl, ◌∙◌, ap, arith, length-append, subst}
+use Rattle.std.proofs.Common.{◌≡◌, inl, inr, ℕ, ◌+◌, true, List, [], ◌∷◌, length, map, Some, refl, ◌∙◌, ap, arith, length-append, subst}
 use Rattle.std.specs.Prelude.{Ok}
 use Rattle.device.specs.Layers.{Layer}
 use Rattle.plain_machine.specs.Kept.{kept}
@@ -61,31 +61,33 @@ module _ {B : Type 0} (holds : B → ℕ → List ℕ → Type 0) (contents : B 
 
   -- nothing was replied yet
   pub begun_waits : (failure : Failure) (number : ℕ) → IsEntered contents layers size request failure v w → submitted number request (moving_of contents layers (Some (Refused failure)) v) ≡ moving_of contents layers (Some (Refused failure)) w → is_loud_in_all layers w ≡ is_loud_in_all layers v
-      → IsBegun contents layers faults size request (Refused failure) v w
+      → IsBegun holds contents layers faults size request (Refused failure) v w
   begun_waits failure number entered exact loud = record {
     failure = failure;
     number = number;
     mid = w;
     entered = entered;
     exact = exact;
-    did = done_none contents layers faults size (Refused failure) w;
+    did = done_none holds contents layers faults size (Refused failure) w;
+    led = inl (refl, refl);
     run = record { reaches = λ all. reaches_none (moving_of contents layers (Some (Refused failure)) w); loud = refl };
     still = λ quiet. refl;
     loud = loud;
   }
 
   -- it was answered
-  pub begun_answered : (number : ℕ) (reply : Reply) → IsServedAtOnce holds contents layers size faults done request number reply v w → IsBegun contents layers faults size request reply v w
+  pub begun_answered : (number : ℕ) (reply : Reply) → IsServedAtOnce holds contents layers size faults done request number reply v w → IsBegun holds contents layers faults size request reply v w
   begun_answered number reply does =
       let mid : Volumed B = does.mid in
-      let step = due_is contents layers faults size (Issue number) (Replied number reply) (Replied number reply) mid w does.steps.due refl does.steps.exact does.steps.legal does.steps.flown does.steps.cause does.steps.counts.0 in
+      let step = due_is holds contents layers faults size (Issue number) (Replied number reply) (Replied number reply) mid w does.steps.due refl does.steps.exact does.steps.legal does.steps.flown does.steps.cause does.steps.counts.0 does.steps.kept does.steps.loud does.steps.closes does.steps.stops in
       record {
         failure = Invalid;
         number = number;
         mid = mid;
         entered = inl (number, refl, does.submits.ok);
         exact = does.submits.exact (Some (Refused Invalid));
-        did = done_one contents layers faults size (Refused Invalid) (Issue number) (Replied number reply) mid w step;
+        did = done_one holds contents layers faults size (Refused Invalid) (Issue number) (Replied number reply) mid w step;
+        led = inr (Issue number, Replied number reply, w, does.machine, step, done_none holds contents layers faults size reply w);
         run = record {
           reaches = λ all.
               reaches_more (moving_of contents layers (Some (Refused Invalid)) mid) (moving_of contents layers (Some (Refused Invalid)) mid) (moving_of contents layers (Some reply) w) (Issue number) (reaches_none (moving_of contents layers (Some (Refused Invalid)) mid))

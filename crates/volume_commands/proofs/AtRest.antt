@@ -24,17 +24,20 @@ use Rattle.in_flight.specs.Kinds.{in_flight}
 use Rattle.in_flight.specs.Routes.{refused_of}
 use Rattle.in_flight.specs.declared.flights.Flight.{Flight}
 use Rattle.big_steps.specs.Refusals.{IsStarved, is_starved}
+use Rattle.event_machine.specs.Submitting.{submitted}
 use Rattle.volume.specs.Flying.{Fits, IsFlown, IsTakenOut}
 use Rattle.volume.specs.Leaving.{is_quiet_of}
+use Rattle.volume.specs.Moved.{moving_of}
 use Rattle.volume.specs.Submitting.{IsRefusedAs}
 use Rattle.volume.specs.Volumed.{Volumed}
 use Rattle.volume_commands.specs.Among.{IsRequestOf}
 use Rattle.counted_volume.specs.DoneDue.{AreDone, AreDoneDue, last_told, told_by}
-use Rattle.volume_commands.specs.AtRest.{IsAnswered, IsEntered, IsPieceAnswered, IsPieceUndone}
+use Rattle.counted_volume.proofs.DoneDue.{done_then}
+use Rattle.volume_commands.specs.AtRest.{IsLed, IsAnswered, IsEntered, IsPieceAnswered, IsPieceUndone}
 use Rattle.volume_commands.specs.Serving.{IsGood}
 
 -- an event that does not reply leaves which requests are in flight
-stays_done : (event : Event) (old new : List InFlight) → IsFlown event Done old new → new ≡ old
+pub stays_done : (event : Event) (old new : List InFlight) → IsFlown event Done old new → new ≡ old
 stays_done (Issue n) old new f = f.same
 stays_done (CopyRead n) old new f = f
 stays_done (CopyWrite n) old new f = f
@@ -51,7 +54,7 @@ stays_done MergeFlush old new f = f
 stays_done MergeCommit old new f = f
 stays_done MergeRelease old new f = f
 
-stays_fault : (event : Event) (old new : List InFlight) → IsFlown event Fault old new → new ≡ old
+pub stays_fault : (event : Event) (old new : List InFlight) → IsFlown event Fault old new → new ≡ old
 stays_fault (Issue n) old new f = absurd f
 stays_fault (CopyRead n) old new f = f
 stays_fault (CopyWrite n) old new f = f
@@ -69,11 +72,11 @@ stays_fault MergeCommit old new f = f
 stays_fault MergeRelease old new f = f
 
 -- no request is in flight but this one
-abbrev AtMost : InFlight → List InFlight → Type 0
+abbrev pub AtMost : InFlight → List InFlight → Type 0
 AtMost own xs = (xs ≡ []) ⊎ (xs ≡ own ∷ [])
 
 -- so a reply is to it, and then none is
-one_answered : (own : InFlight) (n : ℕ) (reply : Reply) (old new : List InFlight) → AtMost own old → IsTakenOut n reply old new → (new ≡ []) × Fits own.request.op own.request.range reply
+pub one_answered : (own : InFlight) (n : ℕ) (reply : Reply) (old new : List InFlight) → AtMost own old → IsTakenOut n reply old new → (new ≡ []) × Fits own.request.op own.request.range reply
 one_answered own n reply old new (inl none) out =
     absurd (let e : (let r : Option Request = None in r) ≡ Some out.request = sym (ap (asked_under n) none) ∙ out.asked in cc)
 one_answered own n reply old new (inr one) out = elim (cases_Bool (own.number == n)) [
@@ -84,7 +87,7 @@ one_answered own n reply old new (inr one) out = elim (cases_Bool (own.number ==
   | inr other ↦ absurd (let e : (let r : Option Request = None in r) ≡ Some out.request = sym (cond-false _ _ _ other) ∙ sym (ap (asked_under n) one) ∙ out.asked in cc)
 ]
 
-flown_next : (own : InFlight) (before : Reply) (event : Event) (outcome : Outcome) (old new : List InFlight) → AtMost own old → IsFlown event outcome old new → Fits own.request.op own.request.range before
+pub flown_next : (own : InFlight) (before : Reply) (event : Event) (outcome : Outcome) (old new : List InFlight) → AtMost own old → IsFlown event outcome old new → Fits own.request.op own.request.range before
     → AtMost own new × Fits own.request.op own.request.range (told_by outcome before)
 flown_next own before event (Answered n reply) old new few f fits = (let a = one_answered own n reply old new few f.1 in (inl a.0, a.1))
 flown_next own before event Done old new few f fits = (subst (AtMost own) (sym (stays_done event old new f)) few, fits)
@@ -103,9 +106,15 @@ kept_fits Flush range (Refused failure) f = f
 pub still_never : {B : Type 0} (old v w : Volumed B) → (is_quiet_of old ≡ true → v ≡ old) → is_quiet_of v ≡ false → is_quiet_of old ≡ true → w ≡ old
 still_never {B} old v w still busy quiet = absurd (true≢false (sym (ap (λ (x : Volumed B). is_quiet_of x) (still quiet) ∙ quiet) ∙ busy))
 
-module _ {B : Type 0} (contents : B → List ℕ) (layers : B → List Layer) (faults size : B → ℕ) where
+-- what was done so far, and others that were due first, or were done behind such a one
+module _ {B : Type 0} (holds : B → ℕ → List ℕ → Type 0) (contents : B → List ℕ) (layers : B → List Layer) (faults size : B → ℕ) where
+  pub led_then : (before now after : Reply) (u v w : Volumed B) → IsLed holds contents layers faults size before now u v → IsLed holds contents layers faults size now after v w → AreDone holds contents layers faults size now after v w → IsLed holds contents layers faults size before after u w
+  led_then before now after u v w (inl same) next more = subst (λ (x : Volumed B). IsLed holds contents layers faults size before after x w) same.0 (subst (λ (r : Reply). IsLed holds contents layers faults size r after v w) same.1 next)
+  led_then before now after u v w (inr led) next more = inr (led.0, led.1, led.2, led.3, led.4, done_then holds contents layers faults size (told_by led.1 before) now after led.2 v w led.5 more)
+
+module _ {B : Type 0} (holds : B → ℕ → List ℕ → Type 0) (contents : B → List ℕ) (layers : B → List Layer) (faults size : B → ℕ) where
   -- the last reply is one to that request
-  all_fit : (own : InFlight) (before : Reply) (done : List (Event × Outcome)) (old new : Volumed B) → AtMost own (map in_flight old.flights) → AreDoneDue contents layers faults done old new → Fits own.request.op own.request.range before
+  all_fit : (own : InFlight) (before : Reply) (done : List (Event × Outcome)) (old new : Volumed B) → AtMost own (map in_flight old.flights) → AreDoneDue holds contents layers faults size done old new → Fits own.request.op own.request.range before
       → Fits own.request.op own.request.range (last_told before done)
   all_fit own before [] old new few chain fits = fits
   all_fit own before (x ∷ done) old new few chain fits =
@@ -113,7 +122,7 @@ module _ {B : Type 0} (contents : B → List ℕ) (layers : B → List Layer) (f
       all_fit own (told_by x.1 before) done chain.0 new next.0 chain.2 next.1
 
   -- where a request was refused nothing is in flight, as before
-  refused_none : (request : Request) (refusal : Refusal) (old new : Volumed B) → old.flights ≡ [] → IsRefusedAs contents layers size request refusal old new → new.flights ≡ []
+  pub refused_none : (request : Request) (refusal : Refusal) (old new : Volumed B) → old.flights ≡ [] → IsRefusedAs contents layers size request refusal old new → new.flights ≡ []
   refused_none request refusal old new none refused = elim refused [
     | inl first ↦ ap (λ (v : Volumed B). v.flights) first.1 ∙ none
     | inr later ↦ elim later [
@@ -127,47 +136,51 @@ module _ {B : Type 0} (contents : B → List ℕ) (layers : B → List Layer) (f
 
   module _ (request : Request) (failure : Failure) (old mid : Volumed B) (none : old.flights ≡ []) where
     -- an accepted request alone is in flight
-    entered_few : IsEntered contents layers size request failure old mid → (own : InFlight) × AtMost own (map in_flight mid.flights) × (own.request ≡ kept request)
+    pub entered_few : IsEntered contents layers size request failure old mid → (own : InFlight) × AtMost own (map in_flight mid.flights) × (own.request ≡ kept request)
     entered_few (inl accepted) =
         let own : InFlight = record { number = accepted.0; request = kept request } in
         (own, inr (accepted.2.flown ∙ ap (λ (fs : List Flight). map in_flight fs ++ own ∷ []) none), refl)
     entered_few (inr refused) = (record { number = 0; request = kept request }, inl (ap (λ (fs : List Flight). map in_flight fs) (refused_none request (refusal_of failure) old mid none refused)), refl)
 
-    pub answered : (reply : Reply) (new : Volumed B) → IsEntered contents layers size request failure old mid → AreDone contents layers faults (Refused failure) reply mid new → (is_quiet_of mid ≡ true → new ≡ mid)
-        → IsAnswered contents layers faults size request reply old new
-    answered reply new entered did still =
+    pub answered : (number : ℕ) (reply : Reply) (new : Volumed B) → IsEntered contents layers size request failure old mid → submitted number request (moving_of contents layers (Some (Refused failure)) old) ≡ moving_of contents layers (Some (Refused failure)) mid
+        → AreDone holds contents layers faults size (Refused failure) reply mid new → IsLed holds contents layers faults size (Refused failure) reply mid new → (is_quiet_of mid ≡ true → new ≡ mid)
+        → IsAnswered holds contents layers faults size request reply old new
+    answered number reply new entered exact did led still =
         let few = entered_few entered in
         let last = all_fit few.0 (Refused failure) did.done mid new few.1 did.chain tt in
         let mine = subst (λ (r : Request). Fits r.op r.range (last_told (Refused failure) did.done)) few.2 last in
         record {
           failure = failure;
+          number = number;
           mid = mid;
           entered = entered;
+          exact = exact;
           did = did;
+          led = led;
           still = still;
           fits = kept_fits request.op request.range reply (subst (λ (r : Reply). Fits request.op (kept_range request.op request.range) r) (sym did.reply_is) mine);
         }
 
   module _ (dev : Dev) (op : Op) (piece : Span) (request : Request) (asked : IsRequestOf dev op piece request) (old new : Volumed B) where
     -- a piece whose request was answered
-    pub piece_answered : (given reply : Reply) → IsGood reply → given ≡ reply → IsAnswered contents layers faults size request given old new → IsPieceAnswered contents layers faults size dev op piece reply old new
+    pub piece_answered : (given reply : Reply) → IsGood reply → given ≡ reply → IsAnswered holds contents layers faults size request given old new → IsPieceAnswered holds contents layers faults size dev op piece reply old new
     piece_answered given reply good is answered = record {
       request = request;
       asked = asked;
       good = good;
-      answered = subst (λ (r : Reply). IsAnswered contents layers faults size request r old new) is answered;
+      answered = subst (λ (r : Reply). IsAnswered holds contents layers faults size request r old new) is answered;
     }
 
-    pub piece_failed : (given : Reply) (failure : Failure) (refusal : Refusal) → refusal ≡ refusal_of failure → given ≡ Refused failure → IsAnswered contents layers faults size request given old new
-        → IsPieceUndone contents layers faults size dev op piece refusal old new
-    piece_failed given failure refusal why is answered = inr (inl (request, asked, failure, why, subst (λ (r : Reply). IsAnswered contents layers faults size request r old new) is answered))
+    pub piece_failed : (given : Reply) (failure : Failure) (refusal : Refusal) → refusal ≡ refusal_of failure → given ≡ Refused failure → IsAnswered holds contents layers faults size request given old new
+        → IsPieceUndone holds contents layers faults size dev op piece refusal old new
+    piece_failed given failure refusal why is answered = inr (inl (request, asked, failure, why, subst (λ (r : Reply). IsAnswered holds contents layers faults size request r old new) is answered))
 
     -- and one whose was not taken
-    pub piece_untaken : (refusal : Refusal) → is_starved refusal ≡ true → IsStarved refusal old new ⊎ IsRefusedAs contents layers size request refusal old new → IsPieceUndone contents layers faults size dev op piece refusal old new
+    pub piece_untaken : (refusal : Refusal) → is_starved refusal ≡ true → IsStarved refusal old new ⊎ IsRefusedAs contents layers size request refusal old new → IsPieceUndone holds contents layers faults size dev op piece refusal old new
     piece_untaken refusal starved why = inr (inr (request, asked, starved, why))
 
   -- a read is answered with all bytes of its piece
-  pub read_whole : (dev : Dev) (piece : Span) (request : Request) (bytes : List ℕ) (given : Reply) (old new : Volumed B) → IsRequestOf dev Read piece request → given ≡ Data bytes → IsAnswered contents layers faults size request given old new → length bytes ≡ 512 * piece.count
+  pub read_whole : (dev : Dev) (piece : Span) (request : Request) (bytes : List ℕ) (given : Reply) (old new : Volumed B) → IsRequestOf dev Read piece request → given ≡ Data bytes → IsAnswered holds contents layers faults size request given old new → length bytes ≡ 512 * piece.count
   read_whole dev piece request bytes given old new asked is answered =
       let here : Fits request.op request.range (Data bytes) = subst (λ (r : Reply). Fits request.op request.range r) is answered.fits in
       let mine : Fits Read request.range (Data bytes) = subst (λ (o : Op). Fits o request.range (Data bytes)) asked.op_is here in

@@ -1,5 +1,5 @@
 -- An event that was due first was done in the caller's own code.
-use Rattle.std.proofs.Common.{◌≡◌, ℕ, Bool, true, false, List, [], Option, Some, refl, sym, ◌∙◌, ap, subst}
+use Rattle.std.proofs.Common.{◌≡◌, inr, ℕ, Bool, true, false, List, [], Option, Some, refl, sym, ◌∙◌, ap, subst}
 use Rattle.std.proofs.lemmas.Bool.{true≢false}
 use Rattle.device.specs.Layers.{Layer}
 use Rattle.plain_machine.specs.declared.event.Event.{Event}
@@ -23,8 +23,9 @@ use Rattle.counted_volume.specs.DoneDue.{AreDone, told_by}
 use Rattle.counted_volume.specs.Following.{GoesOn, IsDoneHere, IsReadFirst, grouped, is_done}
 use Rattle.counted_volume.specs.Places.{Counted}
 use Rattle.counted_volume.specs.TakesPlaces.{TakesByRequests}
-use Rattle.counted_volume.proofs.DoneDue.{done_one, done_then}
-use Rattle.volume_commands.proofs.AtRest.{still_never}
+use Rattle.counted_volume.proofs.DoneDue.{done_none, done_one, done_then}
+use Rattle.volume_commands.specs.AtRest.{IsLed}
+use Rattle.volume_commands.proofs.AtRest.{led_then, still_never}
 use Rattle.counted_volume.proofs.Freed.{beside_due, beside_steps}
 use Rattle.counted_volume.proofs.Runs.{RunsBeside, beside_more}
 use Rattle.counted_volume.proofs.Settled.{keeps_more}
@@ -43,15 +44,24 @@ done_by Done e = refl
 done_by Fault e = absurd (true≢false (sym e))
 
 -- what is left of events so far, each done where it was due first
-pub record IsSettling {B : Type 0} (contents : B → List ℕ) (layers : B → List Layer) (faults size : B → ℕ) (reply last : Reply) (start now : Counted B) : Type 0 where
+pub record IsSettling {B : Type 0} (holds : B → ℕ → List ℕ → Type 0) (contents : B → List ℕ) (layers : B → List Layer) (faults size : B → ℕ) (reply last : Reply) (start now : Counted B) : Type 0 where
   pub so : RunsBeside contents layers size (Some reply) (Some last) start.volume now.volume
-  pub did : AreDone contents layers faults reply last start.volume now.volume
+  pub did : AreDone holds contents layers faults size reply last start.volume now.volume
+  pub led : IsLed holds contents layers faults size reply last start.volume now.volume
   pub taken : TakesByRequests start now
   pub still : is_quiet_of start.volume ≡ true → now.volume ≡ start.volume
 
-module _ {B : Type 0} (contents : B → List ℕ) (layers : B → List Layer) (faults size : B → ℕ) (before after : Reply) (w u : Counted B) (event : Event) (go : Bool) (d : IsDoneHere contents layers faults size event go before after w u) where
-  pub here_done : AreDone contents layers faults before after w.volume u.volume
-  here_done = subst (λ (r : Reply). AreDone contents layers faults before r w.volume u.volume) (sym d.told) (done_one contents layers faults size before event d.outcome w.volume u.volume d.done)
+module _ {B : Type 0} (holds : B → ℕ → List ℕ → Type 0) (contents : B → List ℕ) (layers : B → List Layer) (faults size : B → ℕ) (before after : Reply) (w u : Counted B) (event : Event) (go : Bool) (d : IsDoneHere holds contents layers faults size event go before after w u) where
+  pub here_done : AreDone holds contents layers faults size before after w.volume u.volume
+  here_done = subst (λ (r : Reply). AreDone holds contents layers faults size before r w.volume u.volume) (sym d.told) (done_one holds contents layers faults size before event d.outcome w.volume u.volume d.done)
+
+  -- with what was done so far, and what is done after it
+  pub here_led : (reply again : Reply) (v x : Volumed B) → IsLed holds contents layers faults size reply before v w.volume → ((replied : Option Reply) → due_all (moving_of contents layers replied w.volume) ≡ Some event) → AreDone holds contents layers faults size after again u.volume x
+      → IsLed holds contents layers faults size reply again v x
+  here_led reply again v x led first more =
+      led_then holds contents layers faults size reply before again v w.volume x led
+      (inr (event, d.outcome, u.volume, first, d.done, subst (λ (r : Reply). AreDone holds contents layers faults size r again u.volume x) d.told more))
+      (done_then holds contents layers faults size before after again w.volume u.volume x here_done more)
 
   module _ (reply : Reply) (v : Volumed B) (so : RunsBeside contents layers size (Some reply) (Some before) v w.volume) (busy : is_quiet_of w.volume ≡ false)
       (first : (replied : Option Reply) → due_all (moving_of contents layers replied w.volume) ≡ Some event)
@@ -85,12 +95,13 @@ module _ {B : Type 0} (contents : B → List ℕ) (layers : B → List Layer) (f
         record { run = on.run; kept = keeps_more size v u.volume x here_beside.kept kept; requests = requests ∙ here_beside.requests; free = on.free }
 
   -- with this one
-  pub here_settling : (reply : Reply) (start : Counted B) → IsSettling contents layers faults size reply before start w → is_quiet_of w.volume ≡ false → ((replied : Option Reply) → due_all (moving_of contents layers replied w.volume) ≡ Some event)
+  pub here_settling : (reply : Reply) (start : Counted B) → IsSettling holds contents layers faults size reply before start w → is_quiet_of w.volume ≡ false → ((replied : Option Reply) → due_all (moving_of contents layers replied w.volume) ≡ Some event)
       → (is_of_merge event ≡ true → has_group_in w.volume.merge ≡ false → is_quiet_of w.volume ≡ true) → (is_of_merge event ≡ true → (m : Merging B) → w.volume.merge ≡ Some m → has_group_of m.group ≡ has_group (merging_books contents true m))
-      → IsSettling contents layers faults size reply after start u
+      → IsSettling holds contents layers faults size reply after start u
   here_settling reply start was busy first calm seen = record {
     so = here_beside reply start.volume was.so busy first calm seen;
-    did = done_then contents layers faults size reply before after start.volume w.volume u.volume was.did here_done;
+    did = done_then holds contents layers faults size reply before after start.volume w.volume u.volume was.did here_done;
+    led = here_led reply after start.volume u.volume was.led first (done_none holds contents layers faults size after u.volume);
     taken = takes_then start w u was.taken d.taken;
     still = still_never start.volume w.volume u.volume was.still busy;
   }

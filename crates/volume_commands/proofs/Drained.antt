@@ -66,8 +66,8 @@ module _ {B : Type 0} (contents : B → List ℕ) (layers : B → List Layer) (s
   none_due : (v : Volumed B) → IsLookedAt v → is_quiet_of v ≡ true → v.merge ≡ None → due_all (moving_of contents layers None v) ≡ None
   none_due v looked quiet alone = due_alone (moving_of contents layers None v) (ap (λ (m : Option (Merging B)). held_in (merge_seen contents layers m)) alone) ∙ looked.calm quiet None
 
-  pub quiet_more : (faults : B → ℕ) (u v w : Volumed B) (event : Event) (outcome : Outcome) (before now after : List Replied) → RunsQuiet u v before now → IsStep contents layers faults size event outcome v w → after ≡ now ++ reply_in outcome → RunsQuiet u w before after
-  quiet_more faults u v w event outcome before now after so step more = record {
+  pub quiet_more : (holds : B → ℕ → List ℕ → Type 0) (faults : B → ℕ) (u v w : Volumed B) (event : Event) (outcome : Outcome) (before now after : List Replied) → RunsQuiet u v before now → IsStep holds contents layers faults size event outcome v w → after ≡ now ++ reply_in outcome → RunsQuiet u w before after
+  quiet_more holds faults u v w event outcome before now after so step more = record {
     looked = so.looked;
     replied = replied_by outcome so.replied;
     run = run_more_all contents layers None so.replied u v w event outcome so.run (step.due so.replied) step.done.exact step.loud;

@@ -107,9 +107,9 @@ told_more : (number : ℕ) (told : Bool) (done : List (Event × Outcome)) (event
 told_more number told [] event outcome = refl
 told_more number told (x ∷ done) event outcome = told_more number (told || tells number x.1) done event outcome
 
-module _ {B : Type 0} (contents : B → List ℕ) (layers : B → List Layer) (faults size : B → ℕ) where
-  chain_more : (done : List (Event × Outcome)) (old mid new : Volumed B) (event : Event) (outcome : Outcome) → IsChain contents layers faults done old mid → IsDoneFirst contents layers faults event outcome mid new → IsChain contents layers faults (done ++ (event, outcome) ∷ []) old new
-  chain_more [] old mid new event outcome same next = (new, subst (λ (v : Volumed B). IsDoneFirst contents layers faults event outcome v new) same next, refl)
+module _ {B : Type 0} (holds : B → ℕ → List ℕ → Type 0) (contents : B → List ℕ) (layers : B → List Layer) (faults size : B → ℕ) where
+  chain_more : (done : List (Event × Outcome)) (old mid new : Volumed B) (event : Event) (outcome : Outcome) → IsChain holds contents layers faults size done old mid → IsDoneFirst holds contents layers faults size event outcome mid new → IsChain holds contents layers faults size (done ++ (event, outcome) ∷ []) old new
+  chain_more [] old mid new event outcome same next = (new, subst (λ (v : Volumed B). IsDoneFirst holds contents layers faults size event outcome v new) same next, refl)
   chain_more (x ∷ done) old mid new event outcome chain next = (chain.0, chain.1, chain_more done chain.0 mid new event outcome chain.2 next)
 
   -- what events leave as it is
@@ -121,37 +121,37 @@ module _ {B : Type 0} (contents : B → List ℕ) (layers : B → List Layer) (f
   pub counts_none : (v : Volumed B) → KeepsCounts v v
   counts_none v = record { kept = keeps_none size v; loud = refl; requests = refl }
 
-  counts_more : (u v w : Volumed B) (event : Event) (outcome : Outcome) → KeepsCounts u v → IsStep contents layers faults size event outcome v w → KeepsCounts u w
+  counts_more : (u v w : Volumed B) (event : Event) (outcome : Outcome) → KeepsCounts u v → IsStep holds contents layers faults size event outcome v w → KeepsCounts u w
   counts_more u v w event outcome h step = record { kept = keeps_more size u v w h.kept step.kept; loud = step.loud ∙ h.loud; requests = step.requests ∙ h.requests }
 
-  pub drained_none : (v : Volumed B) (replies : List Replied) → IsDrained contents layers faults v v replies replies
+  pub drained_none : (v : Volumed B) (replies : List Replied) → IsDrained holds contents layers faults size v v replies replies
   drained_none v replies = record { done = []; chain = refl; told = sym (append-nil replies) }
 
-  drained_more : (u v w : Volumed B) (event : Event) (outcome : Outcome) (before now after : List Replied) → IsDrained contents layers faults u v before now → IsDoneFirst contents layers faults event outcome v w → after ≡ now ++ reply_in outcome
-      → IsDrained contents layers faults u w before after
+  drained_more : (u v w : Volumed B) (event : Event) (outcome : Outcome) (before now after : List Replied) → IsDrained holds contents layers faults size u v before now → IsDoneFirst holds contents layers faults size event outcome v w → after ≡ now ++ reply_in outcome
+      → IsDrained holds contents layers faults size u w before after
   drained_more u v w event outcome before now after so next more = record {
     done = so.done ++ (event, outcome) ∷ [];
     chain = chain_more so.done u v w event outcome so.chain next;
     told = more ∙ ap (λ (rs : List Replied). rs ++ reply_in outcome) so.told ∙ append_assoc before (replied_in so.done) (reply_in outcome) ∙ ap (λ (rs : List Replied). before ++ rs) (sym (replied_more so.done event outcome));
   }
 
-  pub apart_none : (v : Volumed B) (replies : List Replied) → IsDrainedApart contents layers faults v v replies replies
+  pub apart_none : (v : Volumed B) (replies : List Replied) → IsDrainedApart holds contents layers faults size v v replies replies
   apart_none v replies = record { done = []; chain = refl; told = sym (append-nil replies); apart = refl }
 
   -- Between two events of a drain: what was done so far, and that there is room for the replies to come.
   pub record DrainsSo (len cap : ℕ) (old v : Volumed B) (before now : List Replied) : Type 0 where
-    pub so : IsDrained contents layers faults old v before now
+    pub so : IsDrained holds contents layers faults size old v before now
     pub counts : KeepsCounts old v
     pub room : len + length v.flights ≤ cap
 
   pub drains_start : (len cap : ℕ) (v : Volumed B) (before now : List Replied) → now ≡ before → len + length v.flights ≤ cap → DrainsSo len cap v v before now
   drains_start len cap v before now same room = record {
-    so = subst (λ (rs : List Replied). IsDrained contents layers faults v v before rs) (sym same) (drained_none v before);
+    so = subst (λ (rs : List Replied). IsDrained holds contents layers faults size v v before rs) (sym same) (drained_none v before);
     counts = counts_none v;
     room = room;
   }
 
-  pub drains_more : (len len' cap cap' : ℕ) (u v w : Volumed B) (event : Event) (outcome : Outcome) (before now after : List Replied) → DrainsSo len cap u v before now → IsStep contents layers faults size event outcome v w → after ≡ now ++ reply_in outcome
+  pub drains_more : (len len' cap cap' : ℕ) (u v w : Volumed B) (event : Event) (outcome : Outcome) (before now after : List Replied) → DrainsSo len cap u v before now → IsStep holds contents layers faults size event outcome v w → after ≡ now ++ reply_in outcome
       → len' ≡ len + length (reply_in outcome) → cap' ≡ cap → DrainsSo len' cap' u w before after
   drains_more len len' cap cap' u v w event outcome before now after so step more longer same = record {
     so = drained_more u v w event outcome before now after so.so step.done more;
@@ -161,14 +161,14 @@ module _ {B : Type 0} (contents : B → List ℕ) (layers : B → List Layer) (f
 
   -- the same of a drain of no event of a merge
   pub record DrainsApart (len cap : ℕ) (old v : Volumed B) (before now : List Replied) : Type 0 where
-    pub so : IsDrainedApart contents layers faults old v before now
+    pub so : IsDrainedApart holds contents layers faults size old v before now
     pub counts : KeepsCounts old v
     pub room : len + length v.flights ≤ cap
 
   pub apart_start : (len cap : ℕ) (v : Volumed B) (before : List Replied) → len + length v.flights ≤ cap → DrainsApart len cap v v before before
   apart_start len cap v before room = record { so = apart_none v before; counts = counts_none v; room = room }
 
-  pub apart_next : (len len' cap cap' : ℕ) (u v w : Volumed B) (event : Event) (outcome : Outcome) (before now after : List Replied) → DrainsApart len cap u v before now → is_of_merge event ≡ false → IsStep contents layers faults size event outcome v w → after ≡ now ++ reply_in outcome
+  pub apart_next : (len len' cap cap' : ℕ) (u v w : Volumed B) (event : Event) (outcome : Outcome) (before now after : List Replied) → DrainsApart len cap u v before now → is_of_merge event ≡ false → IsStep holds contents layers faults size event outcome v w → after ≡ now ++ reply_in outcome
       → len' ≡ len + length (reply_in outcome) → cap' ≡ cap → DrainsApart len' cap' u w before after
   unfolding drained_more
   apart_next len len' cap cap' u v w event outcome before now after so other step more longer same =
@@ -181,7 +181,7 @@ module _ {B : Type 0} (contents : B → List ℕ) (layers : B → List Layer) (f
 
   -- and of one that ends with the reply to a request; told says whether that was given
   pub record DrainsFor (number : ℕ) (reply : Reply) (told : Bool) (len cap : ℕ) (old v : Volumed B) (before now : List Replied) : Type 0 where
-    pub so : IsAnsweredAmong contents layers faults number reply old v before now
+    pub so : IsAnsweredAmong holds contents layers faults size number reply old v before now
     pub told_is : told ≡ told_after number false so.done
     pub counts : KeepsCounts old v
     pub room : len + length v.flights ≤ cap
@@ -195,7 +195,7 @@ module _ {B : Type 0} (contents : B → List ℕ) (layers : B → List Layer) (f
   }
 
   pub for_next : (number : ℕ) (reply reply' : Reply) (told told' : Bool) (len len' cap cap' : ℕ) (u v w : Volumed B) (event : Event) (outcome : Outcome) (before now after : List Replied) → DrainsFor number reply told len cap u v before now → told && is_of_merge event ≡ false
-      → IsStep contents layers faults size event outcome v w → after ≡ now ++ others number (reply_in outcome) → reply' ≡ reply_to number reply (reply_in outcome) → told' ≡ told || tells number outcome → len' ≤ len + length (reply_in outcome) → cap' ≡ cap
+      → IsStep holds contents layers faults size event outcome v w → after ≡ now ++ others number (reply_in outcome) → reply' ≡ reply_to number reply (reply_in outcome) → told' ≡ told || tells number outcome → len' ≤ len + length (reply_in outcome) → cap' ≡ cap
       → DrainsFor number reply' told' len' cap' u w before after
   for_next number reply reply' told told' len len' cap cap' u v w event outcome before now after so apart step more new later longer same =
       let all : replied_in (so.so.done ++ (event, outcome) ∷ []) ≡ replied_in so.so.done ++ reply_in outcome = replied_more so.so.done event outcome in

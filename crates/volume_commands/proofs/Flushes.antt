@@ -196,7 +196,7 @@ module _ {B : Type 0} (contents : B → List ℕ) (layers : B → List Layer) (d
   plain_flush_refused refusal why settled = seen contents layers (IsPlainReadRefused dev refusal) (rested_of v) (rested_of w) (refused_by refusal why settled)
 
 -- one that fails among requests in flight
-pub flush_refused_among : {A B : Type 0} (contents : B → List ℕ) (layers : B → List Layer) (faults size : B → ℕ) (dev : Dev) (r : Result A Refusal) (old new : Rested B) (before after : List Ended) → has_dev dev old ≡ true
-    → IfErr r (λ refusal. IsPieceFailed contents layers faults size dev Flush flush_piece refusal old.events new.events before after) → IfErr r (λ refusal. IsFlushRefusedAmong contents layers faults size dev refusal old new before after)
-flush_refused_among contents layers faults size dev (Ok x) old new before after there failed = tt
-flush_refused_among contents layers faults size dev (Err e) old new before after there failed = inr (there, failed)
+pub flush_refused_among : {A B : Type 0} (holds : B → ℕ → List ℕ → Type 0) (contents : B → List ℕ) (layers : B → List Layer) (faults size : B → ℕ) (dev : Dev) (r : Result A Refusal) (old new : Rested B) (before after : List Ended) → has_dev dev old ≡ true
+    → IfErr r (λ refusal. IsPieceFailed holds contents layers faults size dev Flush flush_piece refusal old.events new.events before after) → IfErr r (λ refusal. IsFlushRefusedAmong holds contents layers faults size dev refusal old new before after)
+flush_refused_among holds contents layers faults size dev (Ok x) old new before after there failed = tt
+flush_refused_among holds contents layers faults size dev (Err e) old new before after there failed = inr (there, failed)

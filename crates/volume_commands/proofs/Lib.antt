@@ -50,3 +50,5 @@ pub mod LayersChanged
 mod AtOnce
 pub mod MergeDrains
 pub mod Starving
+pub mod Closing
+pub mod ClosingMerge

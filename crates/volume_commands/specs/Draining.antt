@@ -15,9 +15,9 @@ use Rattle.plain_machine.specs.declared.request.Replied.{Replied}
 use Rattle.counted_volume.specs.DoneDue.{IsDoneFirst}
 
 -- these events were done, in this order
-abbrev pub IsChain : {B : Type 0} → (B → List ℕ) → (B → List Layer) → (B → ℕ) → List (Event × Outcome) → Volumed B → Volumed B → Type 0
-IsChain contents layers faults [] old new = new ≡ old
-IsChain contents layers faults (x ∷ xs) old new = (mid : Volumed _) × IsDoneFirst contents layers faults x.0 x.1 old mid × IsChain contents layers faults xs mid new
+abbrev pub IsChain : {B : Type 0} → (B → ℕ → List ℕ → Type 0) → (B → List ℕ) → (B → List Layer) → (B → ℕ) → (B → ℕ) → List (Event × Outcome) → Volumed B → Volumed B → Type 0
+IsChain holds contents layers faults size [] old new = new ≡ old
+IsChain holds contents layers faults size (x ∷ xs) old new = (mid : Volumed _) × IsDoneFirst holds contents layers faults size x.0 x.1 old mid × IsChain holds contents layers faults size xs mid new
 
 -- the replies that they gave, in this order
 abbrev pub replied_in : List (Event × Outcome) → List Replied
@@ -25,9 +25,9 @@ replied_in [] = []
 replied_in (x ∷ done) = reply_in x.1 ++ replied_in done
 
 -- Events were done from one volume to another, and their replies come after those that were there.
-pub record IsDrained {B : Type 0} (contents : B → List ℕ) (layers : B → List Layer) (faults : B → ℕ) (old new : Volumed B) (before after : List Replied) : Type 0 where
+pub record IsDrained {B : Type 0} (holds : B → ℕ → List ℕ → Type 0) (contents : B → List ℕ) (layers : B → List Layer) (faults size : B → ℕ) (old new : Volumed B) (before after : List Replied) : Type 0 where
   pub done : List (Event × Outcome)
-  pub chain : IsChain contents layers faults done old new
+  pub chain : IsChain holds contents layers faults size done old new
   pub told : after ≡ before ++ replied_in done
 
 -- the replies to other requests than this one
@@ -65,17 +65,17 @@ are_apart [] = true
 are_apart (x ∷ done) = not (is_of_merge x.0) && are_apart done
 
 -- Events were done likewise, none of a merge.
-pub record IsDrainedApart {B : Type 0} (contents : B → List ℕ) (layers : B → List Layer) (faults : B → ℕ) (old new : Volumed B) (before after : List Replied) : Type 0 where
+pub record IsDrainedApart {B : Type 0} (holds : B → ℕ → List ℕ → Type 0) (contents : B → List ℕ) (layers : B → List Layer) (faults size : B → ℕ) (old new : Volumed B) (before after : List Replied) : Type 0 where
   pub done : List (Event × Outcome)
-  pub chain : IsChain contents layers faults done old new
+  pub chain : IsChain holds contents layers faults size done old new
   pub told : after ≡ before ++ replied_in done
   pub apart : are_apart done ≡ true
 
 -- Events were done likewise, those of a merge only until the reply to this request; that reply is given apart, and is Invalid
 -- where none came.
-pub record IsAnsweredAmong {B : Type 0} (contents : B → List ℕ) (layers : B → List Layer) (faults : B → ℕ) (number : ℕ) (reply : Reply) (old new : Volumed B) (before after : List Replied) : Type 0 where
+pub record IsAnsweredAmong {B : Type 0} (holds : B → ℕ → List ℕ → Type 0) (contents : B → List ℕ) (layers : B → List Layer) (faults size : B → ℕ) (number : ℕ) (reply : Reply) (old new : Volumed B) (before after : List Replied) : Type 0 where
   pub done : List (Event × Outcome)
-  pub chain : IsChain contents layers faults done old new
+  pub chain : IsChain holds contents layers faults size done old new
   pub told : after ≡ before ++ others number (replied_in done)
   pub reply_is : reply ≡ reply_to number (Refused Invalid) (replied_in done)
   pub lazy : is_lazy number false done ≡ true

@@ -23,3 +23,4 @@ pub mod SeesFinishMerge
 pub mod SeesRequests
 pub mod ChangesLayers
 pub mod Recorded
+pub mod Closing

@@ -41,7 +41,7 @@ fn is_live<B: Layered>(volume: &CountedVolume<B>, dev: Dev) -> bool
 /// is due then is done, but for events of a merge. There is room in `ended` for a reply to each request in flight.
 fn follow<B: Layered>(volume: &mut CountedVolume<B>, live: bool, ended: &mut Vec<Replied>)
     requires room { vec_len ended.old + length volume.old.volume.flights ≤ vec_capacity ended.old }
-    ensures drained { IsDrainedApart B.contents B.layers B.fault_count volume.old.volume volume.new.volume ended.old.items ended.new.items }
+    ensures drained { IsDrainedApart B.may_hold B.contents B.layers B.fault_count B.size volume.old.volume volume.new.volume ended.old.items ended.new.items }
     ensures dead { live ≡ false → (volume.new.volume ≡ volume.old.volume) × (ended.new.items ≡ ended.old.items) }
     ensures idle { live ≡ true → is_idle_of B.contents B.layers volume.new.volume ≡ true }
     ensures kept { KeepsDevices B.layers B.size (rested_of volume.old.volume) (rested_of volume.new.volume) }
@@ -62,8 +62,8 @@ pub(crate) fn serve_among<B: Layered>(
     ended: &mut Vec<Replied>,
 ) -> Result<Reply, Refusal>
     requires bytes { (bytes : List ℕ) → request.op ≡ Write bytes → length bytes ≡ 512 * request.range.count }
-    ensures served { IfOk result (λ reply. IsServedAmong B.contents B.layers B.fault_count request reply volume.old.volume volume.new.volume ended.old.items ended.new.items) }
-    ensures refused { IfErr result (λ refusal. IsRefusedAmong B.contents B.layers B.fault_count B.size request refusal volume.old.volume volume.new.volume ended.old.items ended.new.items) }
+    ensures served { IfOk result (λ reply. IsServedAmong B.may_hold B.contents B.layers B.fault_count B.size request reply volume.old.volume volume.new.volume ended.old.items ended.new.items) }
+    ensures refused { IfErr result (λ refusal. IsRefusedAmong B.may_hold B.contents B.layers B.fault_count B.size request refusal volume.old.volume volume.new.volume ended.old.items ended.new.items) }
     ensures kept { KeepsDevices B.layers B.size (rested_of volume.old.volume) (rested_of volume.new.volume) }
     ensures requests { volume.new.volume.requests ≤ volume.old.volume.requests + 1 }
     ensures taken { TakesByRequests volume.old volume.new }

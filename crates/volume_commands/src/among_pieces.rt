@@ -40,8 +40,8 @@ fn write_piece_among<B: Layered>(
     requires order { from ≤ to }
     requires inside { to ≤ length bytes.old }
     requires room { length (take (to - from) (drop from bytes.old)) ≡ 512 * piece.count }
-    ensures written { OnOk result ((reply : AnyReply) × IsPieceServed B.contents B.layers B.fault_count dev (Write (take (to - from) (drop from bytes.old))) (span_of piece) reply volume.old.volume volume.new.volume ended.old.items ended.new.items) }
-    ensures failed { IfErr result (λ refusal. IsPieceFailed B.contents B.layers B.fault_count B.size dev (Write (take (to - from) (drop from bytes.old))) (span_of piece) refusal volume.old.volume volume.new.volume ended.old.items ended.new.items) }
+    ensures written { OnOk result ((reply : AnyReply) × IsPieceServed B.may_hold B.contents B.layers B.fault_count B.size dev (Write (take (to - from) (drop from bytes.old))) (span_of piece) reply volume.old.volume volume.new.volume ended.old.items ended.new.items) }
+    ensures failed { IfErr result (λ refusal. IsPieceFailed B.may_hold B.contents B.layers B.fault_count B.size dev (Write (take (to - from) (drop from bytes.old))) (span_of piece) refusal volume.old.volume volume.new.volume ended.old.items ended.new.items) }
     ensures left { drop to bytes.new ≡ drop to bytes.old }
     ensures kept { KeepsDevices B.layers B.size (rested_of volume.old.volume) (rested_of volume.new.volume) }
     ensures requests { volume.new.volume.requests ≤ volume.old.volume.requests + 1 }
@@ -74,8 +74,8 @@ fn read_piece_among<B: Layered>(
     ended: &mut Vec<Replied>,
 ) -> Result<(), Refusal>
     requires room { vec_len out.old + 512 * piece.count ≤ vec_capacity out.old }
-    ensures read { OnOk result ((reply : AnyReply) × IsPieceServed B.contents B.layers B.fault_count dev Read (span_of piece) reply volume.old.volume volume.new.volume ended.old.items ended.new.items × (out.new.items ≡ out.old.items ++ take (512 * piece.count) (bytes_in reply))) }
-    ensures failed { IfErr result (λ refusal. IsPieceFailed B.contents B.layers B.fault_count B.size dev Read (span_of piece) refusal volume.old.volume volume.new.volume ended.old.items ended.new.items) }
+    ensures read { OnOk result ((reply : AnyReply) × IsPieceServed B.may_hold B.contents B.layers B.fault_count B.size dev Read (span_of piece) reply volume.old.volume volume.new.volume ended.old.items ended.new.items × (out.new.items ≡ out.old.items ++ take (512 * piece.count) (bytes_in reply))) }
+    ensures failed { IfErr result (λ refusal. IsPieceFailed B.may_hold B.contents B.layers B.fault_count B.size dev Read (span_of piece) refusal volume.old.volume volume.new.volume ended.old.items ended.new.items) }
     ensures len { vec_len out.new ≤ vec_len out.old + 512 * piece.count }
     ensures capacity { vec_capacity out.old ≤ vec_capacity out.new }
     ensures kept { KeepsDevices B.layers B.size (rested_of volume.old.volume) (rested_of volume.new.volume) }
@@ -114,8 +114,8 @@ fn write_pieces_among<B: Layered>(
     ended: &mut Vec<Replied>,
 ) -> Result<(), Refusal>
     requires room { length bytes.old ≡ 512 * range.count }
-    ensures written { OnOk result (AreWrittenAmong B.contents B.layers B.fault_count dev (pieces_of (piece_with volume.old.volume.merge volume.old.volume.snaps) (span_of range)) bytes.old volume.old.volume volume.new.volume ended.old.items ended.new.items) }
-    ensures stopped { IfErr result (λ refusal. IsWriteStopped B.contents B.layers B.fault_count B.size dev (pieces_of (piece_with volume.old.volume.merge volume.old.volume.snaps) (span_of range)) bytes.old refusal volume.old.volume volume.new.volume ended.old.items ended.new.items) }
+    ensures written { OnOk result (AreWrittenAmong B.may_hold B.contents B.layers B.fault_count B.size dev (pieces_of (piece_with volume.old.volume.merge volume.old.volume.snaps) (span_of range)) bytes.old volume.old.volume volume.new.volume ended.old.items ended.new.items) }
+    ensures stopped { IfErr result (λ refusal. IsWriteStopped B.may_hold B.contents B.layers B.fault_count B.size dev (pieces_of (piece_with volume.old.volume.merge volume.old.volume.snaps) (span_of range)) bytes.old refusal volume.old.volume volume.new.volume ended.old.items ended.new.items) }
     ensures kept { KeepsDevices B.layers B.size (rested_of volume.old.volume) (rested_of volume.new.volume) }
     ensures requests { volume.new.volume.requests ≤ volume.old.volume.requests + range.count }
     ensures taken { TakesByRequests volume.old volume.new }
@@ -148,8 +148,8 @@ fn read_pieces_among<B: Layered>(
     requires empty { out.old.items ≡ [] }
     requires none { vec_len out.old ≡ 0 }
     requires room { 512 * range.count ≤ vec_capacity out.old }
-    ensures read { OnOk result (AreReadAmong B.contents B.layers B.fault_count dev (pieces_of (piece_with volume.old.volume.merge volume.old.volume.snaps) (span_of range)) out.new.items volume.old.volume volume.new.volume ended.old.items ended.new.items) }
-    ensures stopped { IfErr result (λ refusal. IsReadStopped B.contents B.layers B.fault_count B.size dev (pieces_of (piece_with volume.old.volume.merge volume.old.volume.snaps) (span_of range)) refusal volume.old.volume volume.new.volume ended.old.items ended.new.items) }
+    ensures read { OnOk result (AreReadAmong B.may_hold B.contents B.layers B.fault_count B.size dev (pieces_of (piece_with volume.old.volume.merge volume.old.volume.snaps) (span_of range)) out.new.items volume.old.volume volume.new.volume ended.old.items ended.new.items) }
+    ensures stopped { IfErr result (λ refusal. IsReadStopped B.may_hold B.contents B.layers B.fault_count B.size dev (pieces_of (piece_with volume.old.volume.merge volume.old.volume.snaps) (span_of range)) refusal volume.old.volume volume.new.volume ended.old.items ended.new.items) }
     ensures kept { KeepsDevices B.layers B.size (rested_of volume.old.volume) (rested_of volume.new.volume) }
     ensures requests { volume.new.volume.requests ≤ volume.old.volume.requests + range.count }
     ensures taken { TakesByRequests volume.old volume.new }
@@ -185,8 +185,8 @@ impl<B: Layered> Resting<B> {
         requires some { 0 < range.count }
         requires inside { range.first + range.count ≤ B.size self.old.rested.origin }
         requires requests { self.old.rested.requests + range.count < 9_223_372_036_854_775_808 }
-        ensures read { IfOk result (λ bytes. AreReadAmong B.contents B.layers B.fault_count dev (pieces_among (span_of range) self.old.rested) bytes self.old.rested.events self.new.rested.events ended.old.items ended.new.items) }
-        ensures refused { IfErr result (λ refusal. IsReadRefusedAmong B.contents B.layers B.fault_count B.size dev (pieces_among (span_of range) self.old.rested) refusal self.old.rested self.new.rested ended.old.items ended.new.items) }
+        ensures read { IfOk result (λ bytes. AreReadAmong B.may_hold B.contents B.layers B.fault_count B.size dev (pieces_among (span_of range) self.old.rested) bytes self.old.rested.events self.new.rested.events ended.old.items ended.new.items) }
+        ensures refused { IfErr result (λ refusal. IsReadRefusedAmong B.may_hold B.contents B.layers B.fault_count B.size dev (pieces_among (span_of range) self.old.rested) refusal self.old.rested self.new.rested ended.old.items ended.new.items) }
         ensures there { OnOk result (has_dev dev self.old.rested ≡ true) }
         ensures whole { IsWhole self.old.rested × IsWhole self.new.rested }
         ensures kept { KeepsDevices B.layers B.size self.old.rested self.new.rested }
@@ -223,8 +223,8 @@ impl<B: Layered> Resting<B> {
         requires inside { range.first + range.count ≤ B.size self.old.rested.origin }
         requires room { length bytes.old ≡ 512 * range.count }
         requires requests { self.old.rested.requests + range.count < 9_223_372_036_854_775_808 }
-        ensures written { OnOk result (AreWrittenAmong B.contents B.layers B.fault_count dev (pieces_among (span_of range) self.old.rested) bytes.old self.old.rested.events self.new.rested.events ended.old.items ended.new.items) }
-        ensures refused { IfErr result (λ refusal. IsWriteRefusedAmong B.contents B.layers B.fault_count B.size dev (pieces_among (span_of range) self.old.rested) bytes.old refusal self.old.rested self.new.rested ended.old.items ended.new.items) }
+        ensures written { OnOk result (AreWrittenAmong B.may_hold B.contents B.layers B.fault_count B.size dev (pieces_among (span_of range) self.old.rested) bytes.old self.old.rested.events self.new.rested.events ended.old.items ended.new.items) }
+        ensures refused { IfErr result (λ refusal. IsWriteRefusedAmong B.may_hold B.contents B.layers B.fault_count B.size dev (pieces_among (span_of range) self.old.rested) bytes.old refusal self.old.rested self.new.rested ended.old.items ended.new.items) }
         ensures there { OnOk result (has_dev dev self.old.rested ≡ true) }
         ensures whole { IsWhole self.old.rested × IsWhole self.new.rested }
         ensures kept { KeepsDevices B.layers B.size self.old.rested self.new.rested }

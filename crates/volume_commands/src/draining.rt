@@ -37,7 +37,7 @@ pub(crate) fn make_room(ended: &mut Vec<Replied>, replies: usize) -> Result<(), 
 /// Does the events that are due, each time the one that is due first, until none is. Each reply is put at the end of `ended`,
 /// where room for one of each request in flight is taken first: where that is refused, nothing is done.
 fn drain<B: Layered>(volume: &mut CountedVolume<B>, ended: &mut Vec<Replied>) -> Result<(), Refusal>
-    ensures drained { OnOk result (IsDrained B.contents B.layers B.fault_count volume.old.volume volume.new.volume ended.old.items ended.new.items) }
+    ensures drained { OnOk result (IsDrained B.may_hold B.contents B.layers B.fault_count B.size volume.old.volume volume.new.volume ended.old.items ended.new.items) }
     ensures quiet { OnOk result (is_quiet_of volume.new.volume ≡ true) }
     ensures merged { OnOk result (IsSettled B.layers (rested_of volume.old.volume) → merged (merged_of B.contents B.layers (rested_of volume.old.volume)) ≡ merged_of B.contents B.layers (rested_of volume.new.volume)) }
     ensures shows { IsSettled B.layers (rested_of volume.old.volume) → IsGoneOn (arrays_in B.contents B.layers (rested_of volume.old.volume)) (arrays_in B.contents B.layers (rested_of volume.new.volume)) }
@@ -66,7 +66,7 @@ fn drain<B: Layered>(volume: &mut CountedVolume<B>, ended: &mut Vec<Replied>) ->
 /// request in flight.
 pub(crate) fn drain_apart<B: Layered>(volume: &mut CountedVolume<B>, ended: &mut Vec<Replied>)
     requires room { vec_len ended.old + length volume.old.volume.flights ≤ vec_capacity ended.old }
-    ensures drained { IsDrainedApart B.contents B.layers B.fault_count volume.old.volume volume.new.volume ended.old.items ended.new.items }
+    ensures drained { IsDrainedApart B.may_hold B.contents B.layers B.fault_count B.size volume.old.volume volume.new.volume ended.old.items ended.new.items }
     ensures idle { is_idle_of B.contents B.layers volume.new.volume ≡ true }
     ensures kept { KeepsDevices B.layers B.size (rested_of volume.old.volume) (rested_of volume.new.volume) }
     ensures requests { volume.new.volume.requests ≡ volume.old.volume.requests }
@@ -93,7 +93,7 @@ pub(crate) fn drain_for<B: Layered>(
     ended: &mut Vec<Replied>,
 ) -> Reply
     requires room { vec_len ended.old + length volume.old.volume.flights ≤ vec_capacity ended.old }
-    ensures answered { IsAnsweredAmong B.contents B.layers B.fault_count own result volume.old.volume volume.new.volume ended.old.items ended.new.items }
+    ensures answered { IsAnsweredAmong B.may_hold B.contents B.layers B.fault_count B.size own result volume.old.volume volume.new.volume ended.old.items ended.new.items }
     ensures idle { is_idle_of B.contents B.layers volume.new.volume ≡ true }
     ensures kept { KeepsDevices B.layers B.size (rested_of volume.old.volume) (rested_of volume.new.volume) }
     ensures requests { volume.new.volume.requests ≡ volume.old.volume.requests }
@@ -129,7 +129,7 @@ impl<B: Layered> Resting<B> {
     /// left as the settled machine's whole merge leaves it, and as it was where no merge is begun: whatever fails, its origin
     /// shows what it showed, and so does each snapshot that is not spoiled.
     pub fn settle(&mut self, ended: &mut Vec<Replied>) -> Result<(), Refusal>
-        ensures drained { OnOk result (IsDrained B.contents B.layers B.fault_count self.old.rested.events self.new.rested.events ended.old.items ended.new.items) }
+        ensures drained { OnOk result (IsDrained B.may_hold B.contents B.layers B.fault_count B.size self.old.rested.events self.new.rested.events ended.old.items ended.new.items) }
         ensures quiet { OnOk result (is_quiet_of self.new.rested.events ≡ true) }
         ensures merged { OnOk result (IsSettled B.layers self.old.rested → merged (merged_of B.contents B.layers self.old.rested) ≡ merged_of B.contents B.layers self.new.rested) }
         ensures shows { IsSettled B.layers self.old.rested → IsGoneOn (arrays_in B.contents B.layers self.old.rested) (arrays_in B.contents B.layers self.new.rested) }

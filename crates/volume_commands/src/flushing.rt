@@ -3,11 +3,14 @@ ghost use Rattle.std.specs.Prelude.{◌≡◌, ◌⊎◌, ◌+◌, ◌<◌, ◌�
 ghost use Rattle.plain_machine.specs.declared.request.Op.TheVariants.{Flush};
 ghost use Rattle.plain_machine.specs.declared.request.Reply.TheVariants.{Flushed};
 ghost use Rattle.volume.specs.Leaving.{is_quiet_of};
+ghost use Rattle.volume.specs.Stopping.{array_of};
+ghost use Rattle.volume.specs.Volumed.{is_loud_in_all};
 ghost use Rattle.big_steps.specs.Beside.{flushed_beside};
 ghost use Rattle.volume_commands.specs.Rested.{has_dev, rested_of, IsSettled};
 ghost use Rattle.volume_commands.specs.Kept.{KeepsDevices};
 ghost use Rattle.volume_commands.specs.Between.{IsBetween};
 ghost use Rattle.volume_commands.specs.Flying.{IsWhole};
+ghost use Rattle.volume_commands.specs.Closing.{IsClosed};
 ghost use Rattle.volume_commands.specs.Commands.{IsDoneBy, IsFlushRefused};
 ghost use Rattle.volume_commands.specs.Showing.{arrays_in, IsPlainFlush, IsPlainReadRefused};
 ghost use Rattle.volume_commands.specs.AtRest.{IsFlushDone, IsFlushUndone};
@@ -50,8 +53,9 @@ fn flush_device<B: Layered>(volume: &mut CountedVolume<B>, dev: Dev) -> Result<(
     ensures settled { IsSettled B.layers (rested_of volume.old.volume) → IsSettled B.layers (rested_of volume.new.volume) }
     ensures done { OnOk result (IsDoneBy B.contents B.layers (flushed_beside dev) Flushed (rested_of volume.old.volume) (rested_of volume.new.volume)) }
     ensures refused { IfErr result (λ refusal. IsFlushRefused B.contents B.layers dev refusal (rested_of volume.old.volume) (rested_of volume.new.volume)) }
-    ensures answered { OnOk result (IsFlushDone B.contents B.layers B.fault_count B.size dev volume.old.volume volume.new.volume) }
-    ensures undone { IfErr result (λ refusal. IsFlushUndone B.contents B.layers B.fault_count B.size dev refusal volume.old.volume volume.new.volume) }
+    ensures answered { OnOk result (IsFlushDone B.may_hold B.contents B.layers B.fault_count B.size dev volume.old.volume volume.new.volume) }
+    ensures undone { IfErr result (λ refusal. IsFlushUndone B.may_hold B.contents B.layers B.fault_count B.size dev refusal volume.old.volume volume.new.volume) }
+    ensures closes { OnOk result (is_loud_in_all B.layers volume.old.volume ≡ true → IsClosed B.may_hold B.size volume.new.volume (array_of dev)) }
     ensures shows { OnOk result (IsSettled B.layers (rested_of volume.old.volume) → IsPlainFlush dev (arrays_in B.contents B.layers (rested_of volume.old.volume)) (arrays_in B.contents B.layers (rested_of volume.new.volume))) }
     ensures loses { IfErr result (λ refusal. IsSettled B.layers (rested_of volume.old.volume) → IsPlainReadRefused dev refusal (arrays_in B.contents B.layers (rested_of volume.old.volume)) (arrays_in B.contents B.layers (rested_of volume.new.volume))) }
     ensures kept { KeepsDevices B.layers B.size (rested_of volume.old.volume) (rested_of volume.new.volume) }
@@ -59,8 +63,10 @@ fn flush_device<B: Layered>(volume: &mut CountedVolume<B>, dev: Dev) -> Result<(
     ensures taken { TakesByRequests volume.old volume.new }
     ensures full { IfErr result (λ refusal. refusal ≡ JournalFull → is_full_for 1 volume.new.taken ≡ true) }
 {
-    // A look: the chunks of all snapshots are as large as a piece, or larger.
+    // Looks: the chunks of all snapshots are as large as a piece, or larger, their numbers rise, and a merge has chunks too.
     let _ = volume.piece();
+    let _ = volume.is_quiet();
+    let _ = volume.merging();
     match serve(volume, request_of(dev)) {
         Ok(Reply::Refused(failure)) => Err(refusal_for(failure)),
         Ok(Reply::Written) => Ok(()),
@@ -76,8 +82,8 @@ fn flush_device_among<B: Layered>(
     dev: Dev,
     ended: &mut Vec<Replied>,
 ) -> Result<(), Refusal>
-    ensures flushed { OnOk result (IsFlushedAmong B.contents B.layers B.fault_count dev volume.old.volume volume.new.volume ended.old.items ended.new.items) }
-    ensures failed { IfErr result (λ refusal. IsPieceFailed B.contents B.layers B.fault_count B.size dev Flush flush_piece refusal volume.old.volume volume.new.volume ended.old.items ended.new.items) }
+    ensures flushed { OnOk result (IsFlushedAmong B.may_hold B.contents B.layers B.fault_count B.size dev volume.old.volume volume.new.volume ended.old.items ended.new.items) }
+    ensures failed { IfErr result (λ refusal. IsPieceFailed B.may_hold B.contents B.layers B.fault_count B.size dev Flush flush_piece refusal volume.old.volume volume.new.volume ended.old.items ended.new.items) }
     ensures kept { KeepsDevices B.layers B.size (rested_of volume.old.volume) (rested_of volume.new.volume) }
     ensures requests { volume.new.volume.requests ≤ volume.old.volume.requests + 1 }
     ensures taken { TakesByRequests volume.old volume.new }
@@ -109,9 +115,10 @@ impl<B: Layered> Resting<B> {
         ensures done { OnOk result (IsDoneBy B.contents B.layers (flushed_beside dev) Flushed self.old.rested self.new.rested) }
         ensures there { OnOk result (has_dev dev self.old.rested ≡ true) }
         ensures refused { IfErr result (λ refusal. IsFlushRefused B.contents B.layers dev refusal self.old.rested self.new.rested) }
-        ensures answered { OnOk result (IsFlushDone B.contents B.layers B.fault_count B.size dev self.old.rested.events self.new.rested.events) }
-        ensures undone { has_dev dev self.old.rested ≡ true → IfErr result (λ refusal. IsFlushUndone B.contents B.layers B.fault_count B.size dev refusal self.old.rested.events self.new.rested.events) }
+        ensures answered { OnOk result (IsFlushDone B.may_hold B.contents B.layers B.fault_count B.size dev self.old.rested.events self.new.rested.events) }
+        ensures undone { has_dev dev self.old.rested ≡ true → IfErr result (λ refusal. IsFlushUndone B.may_hold B.contents B.layers B.fault_count B.size dev refusal self.old.rested.events self.new.rested.events) }
         ensures whole { IsWhole self.old.rested × IsWhole self.new.rested }
+        ensures closes { OnOk result (is_loud_in_all B.layers self.old.rested.events ≡ true → IsClosed B.may_hold B.size self.new.rested.events (array_of dev)) }
         ensures shows { OnOk result (IsSettled B.layers self.old.rested → IsPlainFlush dev (arrays_in B.contents B.layers self.old.rested) (arrays_in B.contents B.layers self.new.rested)) }
         ensures loses { IfErr result (λ refusal. IsSettled B.layers self.old.rested → IsPlainReadRefused dev refusal (arrays_in B.contents B.layers self.old.rested) (arrays_in B.contents B.layers self.new.rested)) }
         ensures kept { KeepsDevices B.layers B.size self.old.rested self.new.rested }
@@ -134,8 +141,8 @@ impl<B: Layered> Resting<B> {
     pub fn flush_among(&mut self, dev: Dev, ended: &mut Vec<Replied>) -> Result<(), Refusal>
         requires inside { 0 < B.size self.old.rested.origin }
         requires requests { self.old.rested.requests + 1 < 9_223_372_036_854_775_808 }
-        ensures flushed { OnOk result (IsFlushedAmong B.contents B.layers B.fault_count dev self.old.rested.events self.new.rested.events ended.old.items ended.new.items) }
-        ensures refused { IfErr result (λ refusal. IsFlushRefusedAmong B.contents B.layers B.fault_count B.size dev refusal self.old.rested self.new.rested ended.old.items ended.new.items) }
+        ensures flushed { OnOk result (IsFlushedAmong B.may_hold B.contents B.layers B.fault_count B.size dev self.old.rested.events self.new.rested.events ended.old.items ended.new.items) }
+        ensures refused { IfErr result (λ refusal. IsFlushRefusedAmong B.may_hold B.contents B.layers B.fault_count B.size dev refusal self.old.rested self.new.rested ended.old.items ended.new.items) }
         ensures there { OnOk result (has_dev dev self.old.rested ≡ true) }
         ensures whole { IsWhole self.old.rested × IsWhole self.new.rested }
         ensures kept { KeepsDevices B.layers B.size self.old.rested self.new.rested }

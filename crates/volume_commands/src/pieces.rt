@@ -63,8 +63,8 @@ fn write_piece_lent<B: Layered>(
     ensures settled { IsSettled B.layers (rested_of volume.old.volume) → IsSettled B.layers (rested_of volume.new.volume) }
     ensures done { OnOk result (IsPieceDone B.contents B.layers (part_written dev (span_of piece) bytes.now) (rested_of volume.old.volume) (rested_of volume.new.volume)) }
     ensures refused { IfErr result (λ refusal. IsPieceRefused B.contents B.layers (part_written dev (span_of piece) bytes.now) refusal (rested_of volume.old.volume) (rested_of volume.new.volume)) }
-    ensures answered { OnOk result ((reply : AnyReply) × IsPieceAnswered B.contents B.layers B.fault_count B.size dev (Write bytes.now) (span_of piece) reply volume.old.volume volume.new.volume) }
-    ensures undone { IfErr result (λ refusal. IsPieceUndone B.contents B.layers B.fault_count B.size dev (Write bytes.now) (span_of piece) refusal volume.old.volume volume.new.volume) }
+    ensures answered { OnOk result ((reply : AnyReply) × IsPieceAnswered B.may_hold B.contents B.layers B.fault_count B.size dev (Write bytes.now) (span_of piece) reply volume.old.volume volume.new.volume) }
+    ensures undone { IfErr result (λ refusal. IsPieceUndone B.may_hold B.contents B.layers B.fault_count B.size dev (Write bytes.now) (span_of piece) refusal volume.old.volume volume.new.volume) }
     ensures kept { KeepsDevices B.layers B.size (rested_of volume.old.volume) (rested_of volume.new.volume) }
     ensures piece { piece_with volume.new.volume.merge volume.new.volume.snaps ≡ piece_with volume.old.volume.merge volume.old.volume.snaps }
     ensures requests { volume.new.volume.requests ≤ volume.old.volume.requests + 1 }
@@ -99,8 +99,8 @@ fn write_piece<B: Layered>(
     ensures settled { IsSettled B.layers (rested_of volume.old.volume) → IsSettled B.layers (rested_of volume.new.volume) }
     ensures done { OnOk result (IsPieceDone B.contents B.layers (part_written dev (span_of piece) (take (to - from) (drop from bytes.old))) (rested_of volume.old.volume) (rested_of volume.new.volume)) }
     ensures refused { IfErr result (λ refusal. IsPieceRefused B.contents B.layers (part_written dev (span_of piece) (take (to - from) (drop from bytes.old))) refusal (rested_of volume.old.volume) (rested_of volume.new.volume)) }
-    ensures answered { OnOk result ((reply : AnyReply) × IsPieceAnswered B.contents B.layers B.fault_count B.size dev (Write (take (to - from) (drop from bytes.old))) (span_of piece) reply volume.old.volume volume.new.volume) }
-    ensures undone { IfErr result (λ refusal. IsPieceUndone B.contents B.layers B.fault_count B.size dev (Write (take (to - from) (drop from bytes.old))) (span_of piece) refusal volume.old.volume volume.new.volume) }
+    ensures answered { OnOk result ((reply : AnyReply) × IsPieceAnswered B.may_hold B.contents B.layers B.fault_count B.size dev (Write (take (to - from) (drop from bytes.old))) (span_of piece) reply volume.old.volume volume.new.volume) }
+    ensures undone { IfErr result (λ refusal. IsPieceUndone B.may_hold B.contents B.layers B.fault_count B.size dev (Write (take (to - from) (drop from bytes.old))) (span_of piece) refusal volume.old.volume volume.new.volume) }
     ensures left { drop to bytes.new ≡ drop to bytes.old }
     ensures kept { KeepsDevices B.layers B.size (rested_of volume.old.volume) (rested_of volume.new.volume) }
     ensures piece { piece_with volume.new.volume.merge volume.new.volume.snaps ≡ piece_with volume.old.volume.merge volume.old.volume.snaps }
@@ -142,8 +142,8 @@ fn read_piece<B: Layered>(
     ensures settled { IsSettled B.layers (rested_of volume.old.volume) → IsSettled B.layers (rested_of volume.new.volume) }
     ensures done { OnOk result (IsPieceRead B.contents B.layers (part_read dev (span_of piece)) out.old.items out.new.items (rested_of volume.old.volume) (rested_of volume.new.volume)) }
     ensures refused { IfErr result (λ refusal. IsPieceRefused B.contents B.layers (part_read dev (span_of piece)) refusal (rested_of volume.old.volume) (rested_of volume.new.volume)) }
-    ensures answered { OnOk result ((reply : AnyReply) × IsPieceAnswered B.contents B.layers B.fault_count B.size dev Read (span_of piece) reply volume.old.volume volume.new.volume × (out.new.items ≡ out.old.items ++ bytes_in reply)) }
-    ensures undone { IfErr result (λ refusal. IsPieceUndone B.contents B.layers B.fault_count B.size dev Read (span_of piece) refusal volume.old.volume volume.new.volume) }
+    ensures answered { OnOk result ((reply : AnyReply) × IsPieceAnswered B.may_hold B.contents B.layers B.fault_count B.size dev Read (span_of piece) reply volume.old.volume volume.new.volume × (out.new.items ≡ out.old.items ++ bytes_in reply)) }
+    ensures undone { IfErr result (λ refusal. IsPieceUndone B.may_hold B.contents B.layers B.fault_count B.size dev Read (span_of piece) refusal volume.old.volume volume.new.volume) }
     ensures out_err { OnErr result (out.new.items ≡ out.old.items) }
     ensures len { vec_len out.new ≤ vec_len out.old + 512 * piece.count }
     ensures capacity { vec_capacity out.old ≤ vec_capacity out.new }
@@ -197,8 +197,8 @@ fn read_alone<B: Layered>(
     ensures settled { IsSettled B.layers (rested_of volume.old.volume) → IsSettled B.layers (rested_of volume.new.volume) }
     ensures done { IfOk result (λ bytes. IsPieceRead B.contents B.layers (part_read dev (span_of piece)) [] bytes (rested_of volume.old.volume) (rested_of volume.new.volume)) }
     ensures refused { IfErr result (λ refusal. IsPieceRefused B.contents B.layers (part_read dev (span_of piece)) refusal (rested_of volume.old.volume) (rested_of volume.new.volume)) }
-    ensures answered { IfOk result (λ bytes. (reply : AnyReply) × IsPieceAnswered B.contents B.layers B.fault_count B.size dev Read (span_of piece) reply volume.old.volume volume.new.volume × (bytes ≡ bytes_in reply)) }
-    ensures undone { IfErr result (λ refusal. IsPieceUndone B.contents B.layers B.fault_count B.size dev Read (span_of piece) refusal volume.old.volume volume.new.volume) }
+    ensures answered { IfOk result (λ bytes. (reply : AnyReply) × IsPieceAnswered B.may_hold B.contents B.layers B.fault_count B.size dev Read (span_of piece) reply volume.old.volume volume.new.volume × (bytes ≡ bytes_in reply)) }
+    ensures undone { IfErr result (λ refusal. IsPieceUndone B.may_hold B.contents B.layers B.fault_count B.size dev Read (span_of piece) refusal volume.old.volume volume.new.volume) }
     ensures kept { KeepsDevices B.layers B.size (rested_of volume.old.volume) (rested_of volume.new.volume) }
     ensures requests { volume.new.volume.requests ≤ volume.old.volume.requests + 1 }
     ensures taken { TakesByRequests volume.old volume.new }
@@ -234,8 +234,8 @@ pub(crate) fn write_pieces<B: Layered>(
     ensures settled { IsSettled B.layers (rested_of volume.old.volume) → IsSettled B.layers (rested_of volume.new.volume) }
     ensures done { OnOk result (IsDoneBy B.contents B.layers (written_beside dev (span_of range) bytes.old) Written (rested_of volume.old.volume) (rested_of volume.new.volume)) }
     ensures refused { IfErr result (λ refusal. IsWriteRefused B.contents B.layers dev (span_of range) bytes.old refusal (rested_of volume.old.volume) (rested_of volume.new.volume)) }
-    ensures answered { OnOk result (AreWrittenAtRest B.contents B.layers B.fault_count B.size dev (pieces_of (piece_with volume.old.volume.merge volume.old.volume.snaps) (span_of range)) bytes.old volume.old.volume volume.new.volume) }
-    ensures undone { IfErr result (λ refusal. IsWriteCut B.contents B.layers B.fault_count B.size dev (pieces_of (piece_with volume.old.volume.merge volume.old.volume.snaps) (span_of range)) bytes.old refusal volume.old.volume volume.new.volume) }
+    ensures answered { OnOk result (AreWrittenAtRest B.may_hold B.contents B.layers B.fault_count B.size dev (pieces_of (piece_with volume.old.volume.merge volume.old.volume.snaps) (span_of range)) bytes.old volume.old.volume volume.new.volume) }
+    ensures undone { IfErr result (λ refusal. IsWriteCut B.may_hold B.contents B.layers B.fault_count B.size dev (pieces_of (piece_with volume.old.volume.merge volume.old.volume.snaps) (span_of range)) bytes.old refusal volume.old.volume volume.new.volume) }
     ensures shows { OnOk result (IsSettled B.layers (rested_of volume.old.volume) → IsPlainWrite dev (span_of range) bytes.old (arrays_in B.contents B.layers (rested_of volume.old.volume)) (arrays_in B.contents B.layers (rested_of volume.new.volume))) }
     ensures loses { IfErr result (λ refusal. IsSettled B.layers (rested_of volume.old.volume) → IsPlainWriteRefused dev (span_of range) (pieces_for B.contents B.layers (span_of range) (rested_of volume.old.volume)) bytes.old refusal (arrays_in B.contents B.layers (rested_of volume.old.volume)) (arrays_in B.contents B.layers (rested_of volume.new.volume))) }
     ensures kept { KeepsDevices B.layers B.size (rested_of volume.old.volume) (rested_of volume.new.volume) }
@@ -274,8 +274,8 @@ pub(crate) fn read_pieces<B: Layered>(
     ensures settled { IsSettled B.layers (rested_of volume.old.volume) → IsSettled B.layers (rested_of volume.new.volume) }
     ensures done { IfOk result (λ bytes. IsDoneBy B.contents B.layers (read_beside dev (span_of range)) (Data bytes) (rested_of volume.old.volume) (rested_of volume.new.volume)) }
     ensures refused { IfErr result (λ refusal. IsReadRefused B.contents B.layers dev (span_of range) refusal (rested_of volume.old.volume) (rested_of volume.new.volume)) }
-    ensures answered { IfOk result (λ bytes. AreReadAtRest B.contents B.layers B.fault_count B.size dev (pieces_of (piece_with volume.old.volume.merge volume.old.volume.snaps) (span_of range)) bytes volume.old.volume volume.new.volume) }
-    ensures undone { IfErr result (λ refusal. IsReadUndone B.contents B.layers B.fault_count B.size dev (pieces_of (piece_with volume.old.volume.merge volume.old.volume.snaps) (span_of range)) refusal volume.old.volume volume.new.volume) }
+    ensures answered { IfOk result (λ bytes. AreReadAtRest B.may_hold B.contents B.layers B.fault_count B.size dev (pieces_of (piece_with volume.old.volume.merge volume.old.volume.snaps) (span_of range)) bytes volume.old.volume volume.new.volume) }
+    ensures undone { IfErr result (λ refusal. IsReadUndone B.may_hold B.contents B.layers B.fault_count B.size dev (pieces_of (piece_with volume.old.volume.merge volume.old.volume.snaps) (span_of range)) refusal volume.old.volume volume.new.volume) }
     ensures shows { IfOk result (λ bytes. IsSettled B.layers (rested_of volume.old.volume) → IsPlainRead dev (span_of range) bytes (arrays_in B.contents B.layers (rested_of volume.old.volume)) (arrays_in B.contents B.layers (rested_of volume.new.volume))) }
     ensures loses { IfErr result (λ refusal. IsSettled B.layers (rested_of volume.old.volume) → IsPlainReadRefused dev refusal (arrays_in B.contents B.layers (rested_of volume.old.volume)) (arrays_in B.contents B.layers (rested_of volume.new.volume))) }
     ensures kept { KeepsDevices B.layers B.size (rested_of volume.old.volume) (rested_of volume.new.volume) }

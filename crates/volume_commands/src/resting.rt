@@ -94,8 +94,8 @@ impl<B: Layered> Resting<B> {
         ensures done { IfOk result (λ bytes. IsDoneBy B.contents B.layers (read_beside dev (span_of range)) (Data bytes) self.old.rested self.new.rested) }
         ensures there { OnOk result (has_dev dev self.old.rested ≡ true) }
         ensures refused { IfErr result (λ refusal. IsReadRefused B.contents B.layers dev (span_of range) refusal self.old.rested self.new.rested) }
-        ensures answered { IfOk result (λ bytes. AreReadAtRest B.contents B.layers B.fault_count B.size dev (pieces_among (span_of range) self.old.rested) bytes self.old.rested.events self.new.rested.events) }
-        ensures undone { has_dev dev self.old.rested ≡ true → IfErr result (λ refusal. IsReadUndone B.contents B.layers B.fault_count B.size dev (pieces_among (span_of range) self.old.rested) refusal self.old.rested.events self.new.rested.events) }
+        ensures answered { IfOk result (λ bytes. AreReadAtRest B.may_hold B.contents B.layers B.fault_count B.size dev (pieces_among (span_of range) self.old.rested) bytes self.old.rested.events self.new.rested.events) }
+        ensures undone { has_dev dev self.old.rested ≡ true → IfErr result (λ refusal. IsReadUndone B.may_hold B.contents B.layers B.fault_count B.size dev (pieces_among (span_of range) self.old.rested) refusal self.old.rested.events self.new.rested.events) }
         ensures whole { IsWhole self.old.rested × IsWhole self.new.rested }
         ensures shows { IfOk result (λ bytes. IsSettled B.layers self.old.rested → IsPlainRead dev (span_of range) bytes (arrays_in B.contents B.layers self.old.rested) (arrays_in B.contents B.layers self.new.rested)) }
         ensures loses { IfErr result (λ refusal. IsSettled B.layers self.old.rested → IsPlainReadRefused dev refusal (arrays_in B.contents B.layers self.old.rested) (arrays_in B.contents B.layers self.new.rested)) }
@@ -138,8 +138,8 @@ impl<B: Layered> Resting<B> {
         ensures done { OnOk result (IsDoneBy B.contents B.layers (written_beside dev (span_of range) bytes.old) Written self.old.rested self.new.rested) }
         ensures there { OnOk result (has_dev dev self.old.rested ≡ true) }
         ensures refused { IfErr result (λ refusal. IsWriteRefused B.contents B.layers dev (span_of range) bytes.old refusal self.old.rested self.new.rested) }
-        ensures answered { OnOk result (AreWrittenAtRest B.contents B.layers B.fault_count B.size dev (pieces_among (span_of range) self.old.rested) bytes.old self.old.rested.events self.new.rested.events) }
-        ensures undone { has_dev dev self.old.rested ≡ true → IfErr result (λ refusal. IsWriteCut B.contents B.layers B.fault_count B.size dev (pieces_among (span_of range) self.old.rested) bytes.old refusal self.old.rested.events self.new.rested.events) }
+        ensures answered { OnOk result (AreWrittenAtRest B.may_hold B.contents B.layers B.fault_count B.size dev (pieces_among (span_of range) self.old.rested) bytes.old self.old.rested.events self.new.rested.events) }
+        ensures undone { has_dev dev self.old.rested ≡ true → IfErr result (λ refusal. IsWriteCut B.may_hold B.contents B.layers B.fault_count B.size dev (pieces_among (span_of range) self.old.rested) bytes.old refusal self.old.rested.events self.new.rested.events) }
         ensures whole { IsWhole self.old.rested × IsWhole self.new.rested }
         ensures shows { OnOk result (IsSettled B.layers self.old.rested → IsPlainWrite dev (span_of range) bytes.old (arrays_in B.contents B.layers self.old.rested) (arrays_in B.contents B.layers self.new.rested)) }
         ensures loses { IfErr result (λ refusal. IsSettled B.layers self.old.rested → IsPlainWriteRefused dev (span_of range) (pieces_for B.contents B.layers (span_of range) self.old.rested) bytes.old refusal (arrays_in B.contents B.layers self.old.rested) (arrays_in B.contents B.layers self.new.rested)) }

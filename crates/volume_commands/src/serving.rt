@@ -16,7 +16,7 @@ ghost use Rattle.volume_commands.specs.Rested.{rested_of, merged_of, IsSettled, 
 ghost use Rattle.volume_commands.specs.Kept.{KeepsDevices};
 ghost use Rattle.volume_commands.specs.Between.{IsBetween};
 ghost use Rattle.counted_volume.specs.DoneDue.{AreDone};
-ghost use Rattle.volume_commands.specs.AtRest.{IsAnswered, IsBegun};
+ghost use Rattle.volume_commands.specs.AtRest.{IsAnswered, IsBegun, IsLed};
 ghost use Rattle.volume_commands.specs.Commands.{IsDoneBy};
 ghost use Rattle.counted_volume.specs.Following.{IsDoneHere};
 ghost use Rattle.volume_commands.specs.Serving.{CanServe, part_done};
@@ -36,7 +36,7 @@ use volume::Served;
 #[inline(always)]
 fn do_first<B: Layered>(volume: &mut CountedVolume<B>, event: Event, reply: &mut Reply) -> bool
     requires first { next_of B.contents B.layers volume.old.volume ≡ Some event }
-    ensures { IsDoneHere B.contents B.layers B.fault_count B.size event result reply.old reply.new volume.old volume.new }
+    ensures { IsDoneHere B.may_hold B.contents B.layers B.fault_count B.size event result reply.old reply.new volume.old volume.new }
 {
     match volume.step_here(event) {
         Ok(Outcome::Reply(_, given)) => {
@@ -56,7 +56,8 @@ fn do_first<B: Layered>(volume: &mut CountedVolume<B>, event: Event, reply: &mut
 fn settle<B: Layered>(volume: &mut CountedVolume<B>, mut reply: Reply) -> Reply
     requires free { has_group_in volume.old.volume.merge ≡ false }
     ensures run { IsRun B.contents B.layers (Some reply) (Some result) volume.old.volume volume.new.volume }
-    ensures did { AreDone B.contents B.layers B.fault_count reply result volume.old.volume volume.new.volume }
+    ensures did { AreDone B.may_hold B.contents B.layers B.fault_count B.size reply result volume.old.volume volume.new.volume }
+    ensures led { IsLed B.may_hold B.contents B.layers B.fault_count B.size reply result volume.old.volume volume.new.volume }
     ensures still { is_quiet_of volume.old.volume ≡ true → volume.new.volume ≡ volume.old.volume }
     ensures none { (replied : Option Reply) → due (moving_of B.contents B.layers replied volume.new.volume) ≡ None }
     ensures quiet { is_quiet_of volume.new.volume ≡ true }
@@ -97,7 +98,7 @@ fn begin<B: Layered>(volume: &mut CountedVolume<B>, request: Request) -> Result<
     requires quiet { is_quiet_of volume.old.volume ≡ true }
     requires few { length volume.old.volume.snaps ≤ 8 }
     requires can { CanServe B.size request.dev request.op request.range volume.old.volume }
-    ensures begun { IfOk result (λ reply. IsBegun B.contents B.layers B.fault_count B.size request reply volume.old.volume volume.new.volume) }
+    ensures begun { IfOk result (λ reply. IsBegun B.may_hold B.contents B.layers B.fault_count B.size request reply volume.old.volume volume.new.volume) }
     ensures starved { IfErr result (λ refusal. (is_starved refusal ≡ true) × SameButRoom volume.old.volume volume.new.volume × (moving_of B.contents B.layers None volume.new.volume ≡ moving_of B.contents B.layers None volume.old.volume)) }
     ensures untaken { IfErr result (λ refusal. IsUnsent B.contents B.layers B.size request refusal volume.old.volume volume.new.volume) }
     ensures free { has_group_in volume.new.volume.merge ≡ false }
@@ -131,7 +132,7 @@ pub(crate) fn serve<B: Layered>(
     ensures between { IsBetween volume.new.volume }
     ensures settled { IsSettled B.layers (rested_of volume.old.volume) → IsSettled B.layers (rested_of volume.new.volume) }
     ensures answer { IfOk result (λ reply. IsDoneBy B.contents B.layers (part_done request) reply (rested_of volume.old.volume) (rested_of volume.new.volume)) }
-    ensures answered { IfOk result (λ reply. IsAnswered B.contents B.layers B.fault_count B.size request reply volume.old.volume volume.new.volume) }
+    ensures answered { IfOk result (λ reply. IsAnswered B.may_hold B.contents B.layers B.fault_count B.size request reply volume.old.volume volume.new.volume) }
     ensures starved { IfErr result (λ refusal. (is_starved refusal ≡ true) × (merged_of B.contents B.layers (rested_of volume.new.volume) ≡ merged_of B.contents B.layers (rested_of volume.old.volume))) }
     ensures untaken { IfErr result (λ refusal. IsUnsent B.contents B.layers B.size request refusal volume.old.volume volume.new.volume) }
     ensures kept { KeepsDevices B.layers B.size (rested_of volume.old.volume) (rested_of volume.new.volume) }
@@ -160,7 +161,7 @@ pub(crate) fn serve_lent<B: Layered>(
     ensures between { IsBetween volume.new.volume }
     ensures settled { IsSettled B.layers (rested_of volume.old.volume) → IsSettled B.layers (rested_of volume.new.volume) }
     ensures answer { IfOk result (λ reply. IsDoneBy B.contents B.layers (part_done (origin_write piece bytes.now)) reply (rested_of volume.old.volume) (rested_of volume.new.volume)) }
-    ensures answered { IfOk result (λ reply. IsAnswered B.contents B.layers B.fault_count B.size (origin_write piece bytes.now) reply volume.old.volume volume.new.volume) }
+    ensures answered { IfOk result (λ reply. IsAnswered B.may_hold B.contents B.layers B.fault_count B.size (origin_write piece bytes.now) reply volume.old.volume volume.new.volume) }
     ensures starved { IfErr result (λ refusal. (is_starved refusal ≡ true) × (merged_of B.contents B.layers (rested_of volume.new.volume) ≡ merged_of B.contents B.layers (rested_of volume.old.volume))) }
     ensures untaken { IfErr result (λ refusal. IsUnsent B.contents B.layers B.size (origin_write piece bytes.now) refusal volume.old.volume volume.new.volume) }
     ensures kept { KeepsDevices B.layers B.size (rested_of volume.old.volume) (rested_of volume.new.volume) }

@@ -18,7 +18,7 @@ abbrev after_write : ℕ → List Event → List Event
 after_write s last = FlushStore s ∷ after_flush s last
 
 pub returns-in_default-clause-did : goal.returns-in_default-clause-did
-returns-in_default-clause-did g c = none_so g.B.Block.contents g.B.Block.layers g.B.Block.fault_count g.B.Block.size _ c.args.reply.now c.args.volume.now c.args.volume.now refl (takes_none c.args.volume.now) (inl (0, inl (refl, refl)))
+returns-in_default-clause-did g c = none_so g.B.Block.may_hold g.B.Block.contents g.B.Block.layers g.B.Block.fault_count g.B.Block.size _ c.args.reply.now c.args.volume.now c.args.volume.now refl (takes_none c.args.volume.now) (inl (0, inl (refl, refl)))
 
 pub returns-then-not-carry_one-clause-did : goal.returns-then-not-carry_one-clause-did
 returns-then-not-carry_one-clause-did g c = read_followed c.args.number c.in-Some.snap (out_at (after_write c.in-Some.snap []) c.carry_one.ensures)

@@ -5,7 +5,7 @@ use Rattle.counted_volume.proofs.following.follow_reads.Given as goal
 
 abbrev pub invariant-loop-next : goal.invariant-loop-next
 invariant-loop-next g l = record {
-  did : AreDoneSo g.B.Block.contents g.B.Block.layers g.B.Block.fault_count g.B.Block.size (GoesOn g.B.Block.contents g.B.Block.layers l.fn.reply l.reply l.fn.volume.volume l.volume.volume) l.fn.reply l.reply l.fn.volume l.volume;
+  did : AreDoneSo g.B.Block.may_hold g.B.Block.contents g.B.Block.layers g.B.Block.fault_count g.B.Block.size (GoesOn g.B.Block.contents g.B.Block.layers l.fn.reply l.reply l.fn.volume.volume l.volume.volume) l.fn.reply l.reply l.fn.volume l.volume;
   first : IsReadFirst g.B.Block.contents g.B.Block.layers l.number l.volume.volume;
 }
 

@@ -15,7 +15,7 @@ returns-in-Ok-submitted-clause-served g c = record {
   number = c.in-Ok-submitted.number;
   mid = c.submit-submitted.new.self.volume;
   accepted = c.in-Ok-submitted.ensures.does.ok;
-  answered = subst (λ (rs : List Replied). IsAnsweredAmong g.B.Block.contents g.B.Block.layers g.B.Block.fault_count c.in-Ok-submitted.number c.drain_for.result c.submit-submitted.new.self.volume c.drain_for.new.volume.volume rs c.drain_for.new.ended.items)
+  answered = subst (λ (rs : List Replied). IsAnsweredAmong g.B.Block.may_hold g.B.Block.contents g.B.Block.layers g.B.Block.fault_count g.B.Block.size c.in-Ok-submitted.number c.drain_for.result c.submit-submitted.new.self.volume c.drain_for.new.volume.volume rs c.drain_for.new.ended.items)
       c.reserve.ensures.items c.drain_for.ensures.answered;
   idle = c.drain_for.ensures.idle;
 }
@@ -27,7 +27,7 @@ returns-in-Ok-submitted-clause-kept g c =
 
 pub returns-in-Invalid-clause-refused : goal.returns-in-Invalid-clause-refused
 returns-in-Invalid-clause-refused g c =
-    inr (turned_invalid g.B.Block.contents g.B.Block.layers g.B.Block.fault_count g.B.Block.size c.args.request c.in-Err.refusal c.is_live-live.result c.args.volume.now.volume c.submit-submitted.new.self.volume c.follow.new.volume.volume
+    inr (turned_invalid g.B.Block.may_hold g.B.Block.contents g.B.Block.layers g.B.Block.fault_count g.B.Block.size c.args.request c.in-Err.refusal c.is_live-live.result c.args.volume.now.volume c.submit-submitted.new.self.volume c.follow.new.volume.volume
     c.args.ended.now.items c.reserve.new.self.items c.follow.new.ended.items c.is_live-live.ensures c.reserve.ensures.items
     (invalid_refused g.B.Block.contents g.B.Block.layers g.B.Block.size c.args.request c.in-Err.refusal c.args.volume.now.volume c.submit-submitted.new.self.volume c.in-Err.ensures.refused c.in-Invalid.is) c.in-Invalid.is c.follow.ensures.drained c.follow.ensures.dead c.follow.ensures.idle)
 
@@ -41,7 +41,7 @@ returns-in_default-refusal g c = record {
   served = tt;
   refused = elim c.in-Err.ensures.refused [
     | inl starved ↦ inl (starved.0, starved.1, c.reserve.ensures.items)
-    | inr refused ↦ inr (turned_plain g.B.Block.contents g.B.Block.layers g.B.Block.fault_count g.B.Block.size c.args.request c.in-Err.refusal c.args.volume.now.volume c.submit-submitted.new.self.volume c.args.ended.now.items c.reserve.new.self.items
+    | inr refused ↦ inr (turned_plain g.B.Block.may_hold g.B.Block.contents g.B.Block.layers g.B.Block.fault_count g.B.Block.size c.args.request c.in-Err.refusal c.args.volume.now.volume c.submit-submitted.new.self.volume c.args.ended.now.items c.reserve.new.self.items
         c.in_default-refusal.not-Invalid refused c.reserve.ensures.items)
   ];
   kept = devices_kept g.B.Block.size g.B.Block.layers c.args.volume.now.volume c.submit-submitted.new.self.volume c.in-Err.ensures.does.kept c.in-Err.ensures.does.loud;

@@ -25,7 +25,7 @@ loop-piece-init g c = record {
     few = (let none = c.requires.none in omega (arith, none));
     enough = c.requires.room;
   };
-  did = reads_start g.B.Block.contents g.B.Block.layers g.B.Block.fault_count g.B.Block.size c.args.dev (pieces_of (piece_with c.args.volume.now.volume.merge c.args.volume.now.volume.snaps) (span_of c.args.range)) c.into_iter-piece-iterator.result c.args.out.now.items c.args.volume.now.volume c.args.ended.now.items
+  did = reads_start g.B.Block.may_hold g.B.Block.contents g.B.Block.layers g.B.Block.fault_count g.B.Block.size c.args.dev (pieces_of (piece_with c.args.volume.now.volume.merge c.args.volume.now.volume.snaps) (span_of c.args.range)) c.into_iter-piece-iterator.result c.args.out.now.items c.args.volume.now.volume c.args.ended.now.items
       (c.into_iter-piece-iterator.ensures.into_iter_gives ∙ c.pieces-piece-items.ensures.pieces ∙ ap (λ n. pieces_of n (span_of c.args.range)) c.piece.ensures.piece) c.requires.empty;
   taken = takes_none _;
 }
@@ -51,14 +51,14 @@ loop-piece-preserved g c =
         few = (let was = c.loop-piece.invariant.place.few in let more = c.in-Ok.ensures.len in omega (arith, was, more));
         enough = (let was = c.loop-piece.invariant.place.enough in let more = c.in-Ok.ensures.capacity in omega (arith, was, more));
       };
-      did = reads_next g.B.Block.contents g.B.Block.layers g.B.Block.fault_count g.B.Block.size c.args.dev (pieces_of (piece_with c.args.volume.now.volume.merge c.args.volume.now.volume.snaps) (span_of c.args.range)) c.loop-piece.piece-iterator c.next.new.self (span_of c.in-Some.piece) c.loop-piece.out.items c.read_piece_among.new.out.items c.in-Ok.ensures.read.0
+      did = reads_next g.B.Block.may_hold g.B.Block.contents g.B.Block.layers g.B.Block.fault_count g.B.Block.size c.args.dev (pieces_of (piece_with c.args.volume.now.volume.merge c.args.volume.now.volume.snaps) (span_of c.args.range)) c.loop-piece.piece-iterator c.next.new.self (span_of c.in-Some.piece) c.loop-piece.out.items c.read_piece_among.new.out.items c.in-Ok.ensures.read.0
           c.args.volume.now.volume c.loop-piece.volume.volume c.read_piece_among.new.volume.volume c.args.ended.now.items c.loop-piece.ended.items c.read_piece_among.new.ended.items c.loop-piece.invariant.did c.in-Some.ensures.steps c.in-Ok.ensures.read.1 c.in-Ok.ensures.read.2;
       taken = takes_then _ _ _ c.loop-piece.invariant.taken c.in-Ok.ensures.taken;
     }
 
 pub returns-in-Err-clause-stopped : goal.returns-in-Err-clause-stopped
 returns-in-Err-clause-stopped g c =
-    reads_stop g.B.Block.contents g.B.Block.layers g.B.Block.fault_count g.B.Block.size c.args.dev (pieces_of (piece_with c.args.volume.now.volume.merge c.args.volume.now.volume.snaps) (span_of c.args.range)) c.loop-piece.piece-iterator c.next.new.self (span_of c.in-Some.piece) c.loop-piece.out.items c.in-Err.refusal
+    reads_stop g.B.Block.may_hold g.B.Block.contents g.B.Block.layers g.B.Block.fault_count g.B.Block.size c.args.dev (pieces_of (piece_with c.args.volume.now.volume.merge c.args.volume.now.volume.snaps) (span_of c.args.range)) c.loop-piece.piece-iterator c.next.new.self (span_of c.in-Some.piece) c.loop-piece.out.items c.in-Err.refusal
     c.args.volume.now.volume c.loop-piece.volume.volume c.read_piece_among.new.volume.volume c.args.ended.now.items c.loop-piece.ended.items c.read_piece_among.new.ended.items c.loop-piece.invariant.did c.in-Some.ensures.steps c.in-Err.ensures.failed
 
 pub returns-in-Err-clause-kept : goal.returns-in-Err-clause-kept
@@ -75,7 +75,7 @@ returns-in-Err-clause-requests g c =
 
 pub returns-clause-read : goal.returns-clause-read
 returns-clause-read g c =
-    reads_end g.B.Block.contents g.B.Block.layers g.B.Block.fault_count g.B.Block.size c.args.dev (pieces_of (piece_with c.args.volume.now.volume.merge c.args.volume.now.volume.snaps) (span_of c.args.range)) c.loop-piece.piece-iterator c.loop-piece.out.items c.args.volume.now.volume c.loop-piece.volume.volume c.args.ended.now.items c.loop-piece.ended.items
+    reads_end g.B.Block.may_hold g.B.Block.contents g.B.Block.layers g.B.Block.fault_count g.B.Block.size c.args.dev (pieces_of (piece_with c.args.volume.now.volume.merge c.args.volume.now.volume.snaps) (span_of c.args.range)) c.loop-piece.piece-iterator c.loop-piece.out.items c.args.volume.now.volume c.loop-piece.volume.volume c.args.ended.now.items c.loop-piece.ended.items
     c.loop-piece.invariant.did c.in-None.ensures.steps.0
 
 pub returns-clause-kept : goal.returns-clause-kept

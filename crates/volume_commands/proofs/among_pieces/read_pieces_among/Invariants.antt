@@ -11,6 +11,6 @@ invariant-loop-piece g l = record {
   can : (goal.iterator-loop-piece g).can_next l.piece-iterator;
   finite : (goal.iterator-loop-piece g).is_finite l.piece-iterator;
   place : IsUnderWayAmong g.B.Block.layers g.B.Block.size (piece_with l.fn.volume.volume.merge l.fn.volume.volume.snaps) l.fn.range l.piece-iterator (vec_len l.out) (vec_capacity l.out) l.fn.volume.volume l.volume.volume;
-  did : ReadsAmong g.B.Block.contents g.B.Block.layers g.B.Block.fault_count g.B.Block.size l.fn.dev (pieces_of (piece_with l.fn.volume.volume.merge l.fn.volume.volume.snaps) (span_of l.fn.range)) l.piece-iterator l.out.items l.fn.volume.volume l.volume.volume l.fn.ended.items l.ended.items;
+  did : ReadsAmong g.B.Block.may_hold g.B.Block.contents g.B.Block.layers g.B.Block.fault_count g.B.Block.size l.fn.dev (pieces_of (piece_with l.fn.volume.volume.merge l.fn.volume.volume.snaps) (span_of l.fn.range)) l.piece-iterator l.out.items l.fn.volume.volume l.volume.volume l.fn.ended.items l.ended.items;
   taken : TakesByRequests l.fn.volume l.volume;
 }

@@ -9,7 +9,7 @@ use Rattle.volume_commands.proofs.among_pieces.write_piece_among.Goals as goal
 
 pub returns-in-Ok-Refused-clause-failed : goal.returns-in-Ok-Refused-clause-failed
 returns-in-Ok-Refused-clause-failed g c =
-    piece_failed g.B.Block.contents g.B.Block.layers g.B.Block.fault_count g.B.Block.size c.args.dev (Write (take (c.args.to - c.args.from) (drop c.args.from c.args.bytes.now))) (span_of c.args.piece)
+    piece_failed g.B.Block.may_hold g.B.Block.contents g.B.Block.layers g.B.Block.fault_count g.B.Block.size c.args.dev (Write (take (c.args.to - c.args.from) (drop c.args.from c.args.bytes.now))) (span_of c.args.piece)
     (record { dev = c.args.dev; op = Write c.in-Ok.part; range = c.args.piece }) (record { dev_is = refl; op_is = ap (λ bs. Write bs) c.in-Ok.ensures.part; range_is = refl })
     c.args.volume.now.volume c.serve_among.new.volume.volume c.args.ended.now.items c.serve_among.new.ended.items
     c.in-Ok-Refused.field-0 c.in-Ok-Refused.failure c.refusal_for.result c.refusal_for.ensures c.in-Ok-Refused.field-0-is c.in-Ok-Refused.ensures.served
@@ -17,7 +17,7 @@ returns-in-Ok-Refused-clause-failed g c =
 pub returns-in-Ok-Written-clause-written : goal.returns-in-Ok-Written-clause-written
 returns-in-Ok-Written-clause-written g c = (
   Written,
-  piece_served g.B.Block.contents g.B.Block.layers g.B.Block.fault_count g.B.Block.size c.args.dev (Write (take (c.args.to - c.args.from) (drop c.args.from c.args.bytes.now))) (span_of c.args.piece)
+  piece_served g.B.Block.may_hold g.B.Block.contents g.B.Block.layers g.B.Block.fault_count g.B.Block.size c.args.dev (Write (take (c.args.to - c.args.from) (drop c.args.from c.args.bytes.now))) (span_of c.args.piece)
       (record { dev = c.args.dev; op = Write c.in-Ok.part; range = c.args.piece }) (record { dev_is = refl; op_is = ap (λ bs. Write bs) c.in-Ok.ensures.part; range_is = refl })
       c.args.volume.now.volume c.serve_among.new.volume.volume c.args.ended.now.items c.serve_among.new.ended.items
       c.in-Ok-Written.field-0 Written tt c.in-Ok-Written.field-0-is c.in-Ok-Written.ensures.served,
@@ -26,7 +26,7 @@ returns-in-Ok-Written-clause-written g c = (
 pub returns-in-Ok-Flushed-clause-written : goal.returns-in-Ok-Flushed-clause-written
 returns-in-Ok-Flushed-clause-written g c = (
   Flushed,
-  piece_served g.B.Block.contents g.B.Block.layers g.B.Block.fault_count g.B.Block.size c.args.dev (Write (take (c.args.to - c.args.from) (drop c.args.from c.args.bytes.now))) (span_of c.args.piece)
+  piece_served g.B.Block.may_hold g.B.Block.contents g.B.Block.layers g.B.Block.fault_count g.B.Block.size c.args.dev (Write (take (c.args.to - c.args.from) (drop c.args.from c.args.bytes.now))) (span_of c.args.piece)
       (record { dev = c.args.dev; op = Write c.in-Ok.part; range = c.args.piece }) (record { dev_is = refl; op_is = ap (λ bs. Write bs) c.in-Ok.ensures.part; range_is = refl })
       c.args.volume.now.volume c.serve_among.new.volume.volume c.args.ended.now.items c.serve_among.new.ended.items
       c.in-Ok-Flushed.field-0 Flushed tt c.in-Ok-Flushed.field-0-is c.in-Ok-Flushed.ensures.served,
@@ -35,7 +35,7 @@ returns-in-Ok-Flushed-clause-written g c = (
 pub returns-in-Ok-Data-clause-written : goal.returns-in-Ok-Data-clause-written
 returns-in-Ok-Data-clause-written g c = (
   c.in-Ok-Data.field-0,
-  piece_served g.B.Block.contents g.B.Block.layers g.B.Block.fault_count g.B.Block.size c.args.dev (Write (take (c.args.to - c.args.from) (drop c.args.from c.args.bytes.now))) (span_of c.args.piece)
+  piece_served g.B.Block.may_hold g.B.Block.contents g.B.Block.layers g.B.Block.fault_count g.B.Block.size c.args.dev (Write (take (c.args.to - c.args.from) (drop c.args.from c.args.bytes.now))) (span_of c.args.piece)
       (record { dev = c.args.dev; op = Write c.in-Ok.part; range = c.args.piece }) (record { dev_is = refl; op_is = ap (λ bs. Write bs) c.in-Ok.ensures.part; range_is = refl })
       c.args.volume.now.volume c.serve_among.new.volume.volume c.args.ended.now.items c.serve_among.new.ended.items
       c.in-Ok-Data.field-0 c.in-Ok-Data.field-0 (rw c.in-Ok-Data.field-0-is tt) refl c.in-Ok-Data.ensures.served,
@@ -43,7 +43,7 @@ returns-in-Ok-Data-clause-written g c = (
 
 pub returns-clause-failed : goal.returns-clause-failed
 returns-clause-failed g c =
-    piece_refused g.B.Block.contents g.B.Block.layers g.B.Block.fault_count g.B.Block.size c.args.dev (Write (take (c.args.to - c.args.from) (drop c.args.from c.args.bytes.now))) (span_of c.args.piece)
+    piece_refused g.B.Block.may_hold g.B.Block.contents g.B.Block.layers g.B.Block.fault_count g.B.Block.size c.args.dev (Write (take (c.args.to - c.args.from) (drop c.args.from c.args.bytes.now))) (span_of c.args.piece)
     (record { dev = c.args.dev; op = Write c.in-Ok.part; range = c.args.piece }) (record { dev_is = refl; op_is = ap (λ bs. Write bs) c.in-Ok.ensures.part; range_is = refl })
     c.args.volume.now.volume c.serve_among.new.volume.volume c.args.ended.now.items c.serve_among.new.ended.items
     c.in-Err.refusal c.in-Err.ensures.refused

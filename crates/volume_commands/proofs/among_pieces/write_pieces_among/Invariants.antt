@@ -14,6 +14,6 @@ invariant-loop-piece g l = record {
   stands : StandsAt (piece_with l.fn.volume.volume.merge l.fn.volume.volume.snaps) l.fn.range.first (l.fn.range.first + l.fn.range.count) l.from l.piece-iterator;
   same : drop l.from l.bytes ≡ drop l.from l.fn.bytes;
   so : GoesAmong g.B.Block.layers g.B.Block.size l.from l.fn.volume.volume l.volume.volume;
-  did : WritesAmong g.B.Block.contents g.B.Block.layers g.B.Block.fault_count g.B.Block.size l.fn.dev (pieces_of (piece_with l.fn.volume.volume.merge l.fn.volume.volume.snaps) (span_of l.fn.range)) l.piece-iterator l.from l.fn.bytes l.fn.volume.volume l.volume.volume l.fn.ended.items l.ended.items;
+  did : WritesAmong g.B.Block.may_hold g.B.Block.contents g.B.Block.layers g.B.Block.fault_count g.B.Block.size l.fn.dev (pieces_of (piece_with l.fn.volume.volume.merge l.fn.volume.volume.snaps) (span_of l.fn.range)) l.piece-iterator l.from l.fn.bytes l.fn.volume.volume l.volume.volume l.fn.ended.items l.ended.items;
   taken : TakesByRequests l.fn.volume l.volume;
 }

@@ -7,7 +7,7 @@ use Rattle.volume_commands.proofs.draining.drain_for.Given as goal
 
 abbrev pub invariant-loop-event : goal.invariant-loop-event
 invariant-loop-event g l = record {
-  so : DrainsFor g.B.Block.contents g.B.Block.layers g.B.Block.fault_count g.B.Block.size l.fn.own l.answer l.told (vec_len l.ended) (vec_capacity l.ended) l.fn.volume.volume l.volume.volume l.fn.ended.items l.ended.items;
+  so : DrainsFor g.B.Block.may_hold g.B.Block.contents g.B.Block.layers g.B.Block.fault_count g.B.Block.size l.fn.own l.answer l.told (vec_len l.ended) (vec_capacity l.ended) l.fn.volume.volume l.volume.volume l.fn.ended.items l.ended.items;
   taken : TakesByRequests l.fn.volume l.volume;
 }
 

@@ -57,7 +57,7 @@ loop-piece-init g c = record {
       (merged_of g.B.Block.contents g.B.Block.layers (rested_of c.args.volume.now.volume)) (merged_of g.B.Block.contents g.B.Block.layers (rested_of c.args.volume.now.volume))) (sym c.in-Ok.ensures.items)
       (reads_none c.args.dev _ (pieces_of (piece_with c.args.volume.now.volume.merge c.args.volume.now.volume.snaps) (span_of c.args.range)) c.into_iter-piece-iterator.result (merged_of g.B.Block.contents g.B.Block.layers (rested_of c.args.volume.now.volume))
       (c.into_iter-piece-iterator.ensures.into_iter_gives ∙ c.pieces-piece-items.ensures.pieces ∙ ap (λ n. pieces_of n (span_of c.args.range)) c.piece.ensures.piece));
-  met = rest_start g.B.Block.contents g.B.Block.layers g.B.Block.fault_count g.B.Block.size c.args.dev (pieces_of (piece_with c.args.volume.now.volume.merge c.args.volume.now.volume.snaps) (span_of c.args.range)) c.into_iter-piece-iterator.result _ c.args.volume.now.volume
+  met = rest_start g.B.Block.may_hold g.B.Block.contents g.B.Block.layers g.B.Block.fault_count g.B.Block.size c.args.dev (pieces_of (piece_with c.args.volume.now.volume.merge c.args.volume.now.volume.snaps) (span_of c.args.range)) c.into_iter-piece-iterator.result _ c.args.volume.now.volume
       (c.into_iter-piece-iterator.ensures.into_iter_gives ∙ c.pieces-piece-items.ensures.pieces ∙ ap (λ n. pieces_of n (span_of c.args.range)) c.piece.ensures.piece) c.in-Ok.ensures.items;
   taken = takes_none _;
 }
@@ -96,7 +96,7 @@ loop-piece-preserved g c =
       };
       did = got_more g.B.Block.contents g.B.Block.layers g.B.Block.size c.args.dev c.args.range (piece_with c.args.volume.now.volume.merge c.args.volume.now.volume.snaps) c.loop-piece.out.items c.read_piece.new.out.items c.loop-piece.piece-iterator c.next.new.self c.in-Some.piece
           c.args.volume.now.volume c.loop-piece.volume.volume c.read_piece.new.volume.volume c.loop-piece.invariant.did c.in-Some.ensures.steps c.loop-piece.invariant.place.so.settled c.in-Ok-read_piece.ensures.done;
-      met = rest_next g.B.Block.contents g.B.Block.layers g.B.Block.fault_count g.B.Block.size c.args.dev (pieces_of (piece_with c.args.volume.now.volume.merge c.args.volume.now.volume.snaps) (span_of c.args.range)) c.loop-piece.piece-iterator c.next.new.self (span_of c.in-Some.piece) c.loop-piece.out.items c.read_piece.new.out.items c.in-Ok-read_piece.ensures.answered.0
+      met = rest_next g.B.Block.may_hold g.B.Block.contents g.B.Block.layers g.B.Block.fault_count g.B.Block.size c.args.dev (pieces_of (piece_with c.args.volume.now.volume.merge c.args.volume.now.volume.snaps) (span_of c.args.range)) c.loop-piece.piece-iterator c.next.new.self (span_of c.in-Some.piece) c.loop-piece.out.items c.read_piece.new.out.items c.in-Ok-read_piece.ensures.answered.0
           c.args.volume.now.volume c.loop-piece.volume.volume c.read_piece.new.volume.volume c.loop-piece.invariant.met c.in-Some.ensures.steps c.in-Ok-read_piece.ensures.answered.1 c.in-Ok-read_piece.ensures.answered.2;
       taken = takes_then _ _ _ c.loop-piece.invariant.taken c.in-Ok-read_piece.ensures.taken;
     }
@@ -207,31 +207,31 @@ returns-then-is_one_piece-clause-loses g c =
 
 pub returns-in-Err-clause-undone : goal.returns-in-Err-clause-undone
 returns-in-Err-clause-undone g c =
-    rest_stop g.B.Block.contents g.B.Block.layers g.B.Block.fault_count g.B.Block.size c.args.dev (pieces_of (piece_with c.args.volume.now.volume.merge c.args.volume.now.volume.snaps) (span_of c.args.range)) c.loop-piece.piece-iterator c.next.new.self (span_of c.in-Some.piece) c.loop-piece.out.items c.in-Err.refusal
+    rest_stop g.B.Block.may_hold g.B.Block.contents g.B.Block.layers g.B.Block.fault_count g.B.Block.size c.args.dev (pieces_of (piece_with c.args.volume.now.volume.merge c.args.volume.now.volume.snaps) (span_of c.args.range)) c.loop-piece.piece-iterator c.next.new.self (span_of c.in-Some.piece) c.loop-piece.out.items c.in-Err.refusal
     c.args.volume.now.volume c.loop-piece.volume.volume c.read_piece.new.volume.volume c.loop-piece.invariant.met c.in-Some.ensures.steps c.in-Err.ensures.undone
 
 pub returns-clause-answered : goal.returns-clause-answered
 returns-clause-answered g c =
-    subst (λ (bs : List ℕ). AreReadAtRest g.B.Block.contents g.B.Block.layers g.B.Block.fault_count g.B.Block.size c.args.dev (pieces_of (piece_with c.args.volume.now.volume.merge c.args.volume.now.volume.snaps) (span_of c.args.range)) bs c.args.volume.now.volume c.loop-piece.volume.volume) (sym c.from_vec.ensures)
-    (rest_end g.B.Block.contents g.B.Block.layers g.B.Block.fault_count g.B.Block.size c.args.dev (pieces_of (piece_with c.args.volume.now.volume.merge c.args.volume.now.volume.snaps) (span_of c.args.range)) c.loop-piece.piece-iterator c.loop-piece.out.items c.args.volume.now.volume c.loop-piece.volume.volume c.loop-piece.invariant.met c.in-None.ensures.steps.0)
+    subst (λ (bs : List ℕ). AreReadAtRest g.B.Block.may_hold g.B.Block.contents g.B.Block.layers g.B.Block.fault_count g.B.Block.size c.args.dev (pieces_of (piece_with c.args.volume.now.volume.merge c.args.volume.now.volume.snaps) (span_of c.args.range)) bs c.args.volume.now.volume c.loop-piece.volume.volume) (sym c.from_vec.ensures)
+    (rest_end g.B.Block.may_hold g.B.Block.contents g.B.Block.layers g.B.Block.fault_count g.B.Block.size c.args.dev (pieces_of (piece_with c.args.volume.now.volume.merge c.args.volume.now.volume.snaps) (span_of c.args.range)) c.loop-piece.piece-iterator c.loop-piece.out.items c.args.volume.now.volume c.loop-piece.volume.volume c.loop-piece.invariant.met c.in-None.ensures.steps.0)
 
 pub returns-then-is_one_piece-clause-answered : goal.returns-then-is_one_piece-clause-answered
 returns-then-is_one_piece-clause-answered g c =
     let one = subst (λ n. pieces_of n (span_of c.args.range) ≡ span_of c.args.range ∷ []) c.piece.ensures.piece (c.is_one_piece.ensures c.if-is_one_piece.true) in
-    let P : List ℕ → Type 0 = λ bytes. (reply : Reply) × IsPieceAnswered g.B.Block.contents g.B.Block.layers g.B.Block.fault_count g.B.Block.size c.args.dev Read (span_of c.args.range) reply c.args.volume.now.volume c.read_alone.new.volume.volume × (bytes ≡ bytes_in reply) in
-    let Q : List ℕ → Type 0 = λ bytes. AreReadAtRest g.B.Block.contents g.B.Block.layers g.B.Block.fault_count g.B.Block.size c.args.dev (pieces_of (piece_with c.args.volume.now.volume.merge c.args.volume.now.volume.snaps) (span_of c.args.range)) bytes c.args.volume.now.volume c.read_alone.new.volume.volume in
+    let P : List ℕ → Type 0 = λ bytes. (reply : Reply) × IsPieceAnswered g.B.Block.may_hold g.B.Block.contents g.B.Block.layers g.B.Block.fault_count g.B.Block.size c.args.dev Read (span_of c.args.range) reply c.args.volume.now.volume c.read_alone.new.volume.volume × (bytes ≡ bytes_in reply) in
+    let Q : List ℕ → Type 0 = λ bytes. AreReadAtRest g.B.Block.may_hold g.B.Block.contents g.B.Block.layers g.B.Block.fault_count g.B.Block.size c.args.dev (pieces_of (piece_with c.args.volume.now.volume.merge c.args.volume.now.volume.snaps) (span_of c.args.range)) bytes c.args.volume.now.volume c.read_alone.new.volume.volume in
     ok_so P Q c.read_alone.result
-    (λ bytes got. subst (λ (ps : List Span). AreReadAtRest g.B.Block.contents g.B.Block.layers g.B.Block.fault_count g.B.Block.size c.args.dev ps bytes c.args.volume.now.volume c.read_alone.new.volume.volume) (sym one)
-    (rest_alone g.B.Block.contents g.B.Block.layers g.B.Block.fault_count g.B.Block.size c.args.dev (span_of c.args.range) bytes got.0 c.args.volume.now.volume c.read_alone.new.volume.volume got.1 got.2)) c.read_alone.ensures.answered
+    (λ bytes got. subst (λ (ps : List Span). AreReadAtRest g.B.Block.may_hold g.B.Block.contents g.B.Block.layers g.B.Block.fault_count g.B.Block.size c.args.dev ps bytes c.args.volume.now.volume c.read_alone.new.volume.volume) (sym one)
+    (rest_alone g.B.Block.may_hold g.B.Block.contents g.B.Block.layers g.B.Block.fault_count g.B.Block.size c.args.dev (span_of c.args.range) bytes got.0 c.args.volume.now.volume c.read_alone.new.volume.volume got.1 got.2)) c.read_alone.ensures.answered
 
 pub returns-then-is_one_piece-clause-undone : goal.returns-then-is_one_piece-clause-undone
 returns-then-is_one_piece-clause-undone g c =
     let one = subst (λ n. pieces_of n (span_of c.args.range) ≡ span_of c.args.range ∷ []) c.piece.ensures.piece (c.is_one_piece.ensures c.if-is_one_piece.true) in
-    let P : Refusal → Type 0 = λ e. IsPieceUndone g.B.Block.contents g.B.Block.layers g.B.Block.fault_count g.B.Block.size c.args.dev Read (span_of c.args.range) e c.args.volume.now.volume c.read_alone.new.volume.volume in
-    let Q : Refusal → Type 0 = λ e. IsReadUndone g.B.Block.contents g.B.Block.layers g.B.Block.fault_count g.B.Block.size c.args.dev (pieces_of (piece_with c.args.volume.now.volume.merge c.args.volume.now.volume.snaps) (span_of c.args.range)) e c.args.volume.now.volume c.read_alone.new.volume.volume in
+    let P : Refusal → Type 0 = λ e. IsPieceUndone g.B.Block.may_hold g.B.Block.contents g.B.Block.layers g.B.Block.fault_count g.B.Block.size c.args.dev Read (span_of c.args.range) e c.args.volume.now.volume c.read_alone.new.volume.volume in
+    let Q : Refusal → Type 0 = λ e. IsReadUndone g.B.Block.may_hold g.B.Block.contents g.B.Block.layers g.B.Block.fault_count g.B.Block.size c.args.dev (pieces_of (piece_with c.args.volume.now.volume.merge c.args.volume.now.volume.snaps) (span_of c.args.range)) e c.args.volume.now.volume c.read_alone.new.volume.volume in
     err_so P Q c.read_alone.result
-    (λ e undone. subst (λ (ps : List Span). IsReadUndone g.B.Block.contents g.B.Block.layers g.B.Block.fault_count g.B.Block.size c.args.dev ps e c.args.volume.now.volume c.read_alone.new.volume.volume) (sym one)
-    (rest_undone g.B.Block.contents g.B.Block.layers g.B.Block.fault_count g.B.Block.size c.args.dev (span_of c.args.range) e c.args.volume.now.volume c.read_alone.new.volume.volume undone)) c.read_alone.ensures.undone
+    (λ e undone. subst (λ (ps : List Span). IsReadUndone g.B.Block.may_hold g.B.Block.contents g.B.Block.layers g.B.Block.fault_count g.B.Block.size c.args.dev ps e c.args.volume.now.volume c.read_alone.new.volume.volume) (sym one)
+    (rest_undone g.B.Block.may_hold g.B.Block.contents g.B.Block.layers g.B.Block.fault_count g.B.Block.size c.args.dev (span_of c.args.range) e c.args.volume.now.volume c.read_alone.new.volume.volume undone)) c.read_alone.ensures.undone
 
 pub returns-in-Err-clause-taken : goal.returns-in-Err-clause-taken
 returns-in-Err-clause-taken g c = takes_then _ _ _ c.loop-piece.invariant.taken c.in-Err.ensures.taken

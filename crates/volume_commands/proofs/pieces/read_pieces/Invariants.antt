@@ -16,6 +16,6 @@ invariant-loop-piece g l = record {
   place : IsUnderWay g.B.Block.contents g.B.Block.layers g.B.Block.size (piece_with l.fn.volume.volume.merge l.fn.volume.volume.snaps) l.fn.range l.piece-iterator (vec_len l.out) (vec_capacity l.out) l.fn.volume.volume l.volume.volume;
   did : ReadsTo l.fn.dev (IsSettled g.B.Block.layers (rested_of l.fn.volume.volume)) (pieces_of (piece_with l.fn.volume.volume.merge l.fn.volume.volume.snaps) (span_of l.fn.range)) l.piece-iterator l.out.items
       (merged_of g.B.Block.contents g.B.Block.layers (rested_of l.fn.volume.volume)) (merged_of g.B.Block.contents g.B.Block.layers (rested_of l.volume.volume));
-  met : ReadsAtRest g.B.Block.contents g.B.Block.layers g.B.Block.fault_count g.B.Block.size l.fn.dev (pieces_of (piece_with l.fn.volume.volume.merge l.fn.volume.volume.snaps) (span_of l.fn.range)) l.piece-iterator l.out.items l.fn.volume.volume l.volume.volume;
+  met : ReadsAtRest g.B.Block.may_hold g.B.Block.contents g.B.Block.layers g.B.Block.fault_count g.B.Block.size l.fn.dev (pieces_of (piece_with l.fn.volume.volume.merge l.fn.volume.volume.snaps) (span_of l.fn.range)) l.piece-iterator l.out.items l.fn.volume.volume l.volume.volume;
   taken : TakesByRequests l.fn.volume l.volume;
 }

@@ -1,26 +1,37 @@
 -- The piece was written, or was not.
-use Rattle.std.proofs.Common.{refl, sym, ◌∙◌}
+use Rattle.std.proofs.Common.{inl, refl, subst, sym, ◌∙◌}
 use Rattle.chunk.specs.Pieces.{span_of}
+use Rattle.plain_machine.specs.declared.request.Dev.{Dev}
+use Rattle.plain_machine.specs.declared.request.Dev.TheVariants.{Origin}
 use Rattle.plain_machine.specs.declared.request.Op.TheVariants.{Write}
-use Rattle.plain_machine.specs.declared.request.Reply.TheVariants.{Written, Flushed}
+use Rattle.plain_machine.specs.declared.request.Reply.{Reply}
+use Rattle.plain_machine.specs.declared.request.Reply.TheVariants.{Written, Flushed, Refused}
 use Rattle.volume.specs.Lent.{origin_write}
 use Rattle.volume.proofs.Submits.{not_full}
+use Rattle.volume_commands.specs.Commands.{IsDoneBy}
+use Rattle.volume_commands.specs.Rested.{rested_of}
+use Rattle.volume_commands.specs.Serving.{part_written}
 use Rattle.volume_commands.proofs.AtRest.{piece_answered, piece_failed, piece_untaken}
 use Rattle.volume_commands.proofs.pieces.write_piece_lent.Goals as goal
 
 pub serve_lent-requires-clause-can : goal.serve_lent-requires-clause-can
 serve_lent-requires-clause-can g c = rw (← c.requires.origin) c.requires.can
 
+pub returns-in-Ok-Refused-clause-refused : goal.returns-in-Ok-Refused-clause-refused
+returns-in-Ok-Refused-clause-refused g c =
+    let done : Dev → Reply → Type 0 = λ dev reply. IsDoneBy g.B.Block.contents g.B.Block.layers (part_written dev (span_of c.args.piece) c.args.bytes.now) reply (rested_of c.args.volume.now.volume) (rested_of c.serve_lent.new.volume.volume) in
+    inl (c.in-Ok-Refused.failure, c.refusal_for.ensures, subst (λ (dev : Dev). done dev (Refused c.in-Ok-Refused.failure)) (sym c.requires.origin) (subst (done Origin) c.in-Ok-Refused.field-0-is c.in-Ok-Refused.ensures.answer))
+
 pub returns-in-Ok-Refused-clause-undone : goal.returns-in-Ok-Refused-clause-undone
 returns-in-Ok-Refused-clause-undone g c =
-    piece_failed g.B.Block.contents g.B.Block.layers g.B.Block.fault_count g.B.Block.size c.args.dev (Write c.args.bytes.now) (span_of c.args.piece)
+    piece_failed g.B.Block.may_hold g.B.Block.contents g.B.Block.layers g.B.Block.fault_count g.B.Block.size c.args.dev (Write c.args.bytes.now) (span_of c.args.piece)
     (origin_write c.args.piece c.args.bytes.now) (record { dev_is = sym c.requires.origin; op_is = refl; range_is = refl })
     c.args.volume.now.volume c.serve_lent.new.volume.volume c.in-Ok-Refused.field-0 c.in-Ok-Refused.failure c.refusal_for.result c.refusal_for.ensures c.in-Ok-Refused.field-0-is c.in-Ok-Refused.ensures.answered
 
 pub returns-in-Ok-Written-clause-answered : goal.returns-in-Ok-Written-clause-answered
 returns-in-Ok-Written-clause-answered g c = (
   Written,
-  piece_answered g.B.Block.contents g.B.Block.layers g.B.Block.fault_count g.B.Block.size c.args.dev (Write c.args.bytes.now) (span_of c.args.piece)
+  piece_answered g.B.Block.may_hold g.B.Block.contents g.B.Block.layers g.B.Block.fault_count g.B.Block.size c.args.dev (Write c.args.bytes.now) (span_of c.args.piece)
       (origin_write c.args.piece c.args.bytes.now) (record { dev_is = sym c.requires.origin; op_is = refl; range_is = refl })
       c.args.volume.now.volume c.serve_lent.new.volume.volume c.in-Ok-Written.field-0 Written tt c.in-Ok-Written.field-0-is c.in-Ok-Written.ensures.answered,
 )
@@ -28,7 +39,7 @@ returns-in-Ok-Written-clause-answered g c = (
 pub returns-in-Ok-Flushed-clause-answered : goal.returns-in-Ok-Flushed-clause-answered
 returns-in-Ok-Flushed-clause-answered g c = (
   Flushed,
-  piece_answered g.B.Block.contents g.B.Block.layers g.B.Block.fault_count g.B.Block.size c.args.dev (Write c.args.bytes.now) (span_of c.args.piece)
+  piece_answered g.B.Block.may_hold g.B.Block.contents g.B.Block.layers g.B.Block.fault_count g.B.Block.size c.args.dev (Write c.args.bytes.now) (span_of c.args.piece)
       (origin_write c.args.piece c.args.bytes.now) (record { dev_is = sym c.requires.origin; op_is = refl; range_is = refl })
       c.args.volume.now.volume c.serve_lent.new.volume.volume c.in-Ok-Flushed.field-0 Flushed tt c.in-Ok-Flushed.field-0-is c.in-Ok-Flushed.ensures.answered,
 )
@@ -36,14 +47,14 @@ returns-in-Ok-Flushed-clause-answered g c = (
 pub returns-in-Ok-Data-clause-answered : goal.returns-in-Ok-Data-clause-answered
 returns-in-Ok-Data-clause-answered g c = (
   c.in-Ok-Data.field-0,
-  piece_answered g.B.Block.contents g.B.Block.layers g.B.Block.fault_count g.B.Block.size c.args.dev (Write c.args.bytes.now) (span_of c.args.piece)
+  piece_answered g.B.Block.may_hold g.B.Block.contents g.B.Block.layers g.B.Block.fault_count g.B.Block.size c.args.dev (Write c.args.bytes.now) (span_of c.args.piece)
       (origin_write c.args.piece c.args.bytes.now) (record { dev_is = sym c.requires.origin; op_is = refl; range_is = refl })
       c.args.volume.now.volume c.serve_lent.new.volume.volume c.in-Ok-Data.field-0 c.in-Ok-Data.field-0 (rw c.in-Ok-Data.field-0-is tt) refl c.in-Ok-Data.ensures.answered,
 )
 
 pub returns-clause-undone : goal.returns-clause-undone
 returns-clause-undone g c =
-    piece_untaken g.B.Block.contents g.B.Block.layers g.B.Block.fault_count g.B.Block.size c.args.dev (Write c.args.bytes.now) (span_of c.args.piece)
+    piece_untaken g.B.Block.may_hold g.B.Block.contents g.B.Block.layers g.B.Block.fault_count g.B.Block.size c.args.dev (Write c.args.bytes.now) (span_of c.args.piece)
     (origin_write c.args.piece c.args.bytes.now) (record { dev_is = sym c.requires.origin; op_is = refl; range_is = refl })
     c.args.volume.now.volume c.serve_lent.new.volume.volume c.in-Err.refusal c.in-Err.ensures.starved.0 c.in-Err.ensures.untaken
 

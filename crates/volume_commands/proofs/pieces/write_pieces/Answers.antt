@@ -31,7 +31,7 @@ loop-piece-init g c = record {
   so = goes_none g.B.Block.contents g.B.Block.layers g.B.Block.size c.args.volume.now.volume c.requires.between;
   did = writes_none c.args.dev _ (pieces_of (piece_with c.args.volume.now.volume.merge c.args.volume.now.volume.snaps) (span_of c.args.range)) c.into_iter-piece-iterator.result c.args.bytes.now (merged_of g.B.Block.contents g.B.Block.layers (rested_of c.args.volume.now.volume))
       (c.into_iter-piece-iterator.ensures.into_iter_gives ∙ c.pieces-piece-items.ensures.pieces ∙ ap (λ n. pieces_of n (span_of c.args.range)) c.piece.ensures.piece);
-  met = wrote_start g.B.Block.contents g.B.Block.layers g.B.Block.fault_count g.B.Block.size c.args.dev (pieces_of (piece_with c.args.volume.now.volume.merge c.args.volume.now.volume.snaps) (span_of c.args.range)) c.into_iter-piece-iterator.result c.args.bytes.now c.args.volume.now.volume
+  met = wrote_start g.B.Block.may_hold g.B.Block.contents g.B.Block.layers g.B.Block.fault_count g.B.Block.size c.args.dev (pieces_of (piece_with c.args.volume.now.volume.merge c.args.volume.now.volume.snaps) (span_of c.args.range)) c.into_iter-piece-iterator.result c.args.bytes.now c.args.volume.now.volume
       (c.into_iter-piece-iterator.ensures.into_iter_gives ∙ c.pieces-piece-items.ensures.pieces ∙ ap (λ n. pieces_of n (span_of c.args.range)) c.piece.ensures.piece);
   taken = takes_none _;
 }
@@ -102,7 +102,7 @@ loop-piece-preserved g c =
       did = wrote_more g.B.Block.contents g.B.Block.layers g.B.Block.size c.args.dev c.args.range (piece_with c.args.volume.now.volume.merge c.args.volume.now.volume.snaps) c.args.bytes.now c.loop-piece.from c.loop-piece.piece-iterator c.next.new.self c.in-Some.piece
           c.args.volume.now.volume c.loop-piece.volume.volume c.write_piece.new.volume.volume c.loop-piece.invariant.did c.in-Some.ensures.steps c.loop-piece.invariant.so.settled
           (take (c.loop-piece.from + c.in-Some.piece.count * 512 - c.loop-piece.from) (drop c.loop-piece.from c.loop-piece.bytes)) (left_part c.loop-piece.from (c.loop-piece.from + c.in-Some.piece.count * 512) c.loop-piece.bytes c.args.bytes.now c.loop-piece.invariant.same ∙ part_is c.loop-piece.from c.in-Some.piece.count c.args.bytes.now) c.in-Ok.ensures.done;
-      met = wrote_next g.B.Block.contents g.B.Block.layers g.B.Block.fault_count g.B.Block.size c.args.dev (pieces_of (piece_with c.args.volume.now.volume.merge c.args.volume.now.volume.snaps) (span_of c.args.range)) c.loop-piece.piece-iterator c.next.new.self (span_of c.in-Some.piece) c.loop-piece.from c.args.bytes.now
+      met = wrote_next g.B.Block.may_hold g.B.Block.contents g.B.Block.layers g.B.Block.fault_count g.B.Block.size c.args.dev (pieces_of (piece_with c.args.volume.now.volume.merge c.args.volume.now.volume.snaps) (span_of c.args.range)) c.loop-piece.piece-iterator c.next.new.self (span_of c.in-Some.piece) c.loop-piece.from c.args.bytes.now
           (take (c.loop-piece.from + c.in-Some.piece.count * 512 - c.loop-piece.from) (drop c.loop-piece.from c.loop-piece.bytes)) c.in-Ok.ensures.answered.0
           c.args.volume.now.volume c.loop-piece.volume.volume c.write_piece.new.volume.volume c.loop-piece.invariant.met c.in-Some.ensures.steps (left_part c.loop-piece.from (c.loop-piece.from + c.in-Some.piece.count * 512) c.loop-piece.bytes c.args.bytes.now c.loop-piece.invariant.same) c.in-Ok.ensures.answered.1;
       taken = takes_then _ _ _ c.loop-piece.invariant.taken c.in-Ok.ensures.taken;
@@ -147,13 +147,13 @@ returns-in-Err-clause-loses g c = λ settled.
 
 pub returns-in-Err-clause-undone : goal.returns-in-Err-clause-undone
 returns-in-Err-clause-undone g c =
-    wrote_stop g.B.Block.contents g.B.Block.layers g.B.Block.fault_count g.B.Block.size c.args.dev (pieces_of (piece_with c.args.volume.now.volume.merge c.args.volume.now.volume.snaps) (span_of c.args.range)) c.loop-piece.piece-iterator c.next.new.self (span_of c.in-Some.piece) c.loop-piece.from c.args.bytes.now
+    wrote_stop g.B.Block.may_hold g.B.Block.contents g.B.Block.layers g.B.Block.fault_count g.B.Block.size c.args.dev (pieces_of (piece_with c.args.volume.now.volume.merge c.args.volume.now.volume.snaps) (span_of c.args.range)) c.loop-piece.piece-iterator c.next.new.self (span_of c.in-Some.piece) c.loop-piece.from c.args.bytes.now
     (take (c.loop-piece.from + c.in-Some.piece.count * 512 - c.loop-piece.from) (drop c.loop-piece.from c.loop-piece.bytes)) c.in-Err.refusal
     c.args.volume.now.volume c.loop-piece.volume.volume c.write_piece.new.volume.volume c.loop-piece.invariant.met c.in-Some.ensures.steps (left_part c.loop-piece.from (c.loop-piece.from + c.in-Some.piece.count * 512) c.loop-piece.bytes c.args.bytes.now c.loop-piece.invariant.same) c.in-Err.ensures.undone
 
 pub returns-clause-answered : goal.returns-clause-answered
 returns-clause-answered g c =
-    wrote_end g.B.Block.contents g.B.Block.layers g.B.Block.fault_count g.B.Block.size c.args.dev (pieces_of (piece_with c.args.volume.now.volume.merge c.args.volume.now.volume.snaps) (span_of c.args.range)) c.loop-piece.piece-iterator c.loop-piece.from c.args.bytes.now c.args.volume.now.volume c.loop-piece.volume.volume c.loop-piece.invariant.met c.in-None.ensures.steps.0
+    wrote_end g.B.Block.may_hold g.B.Block.contents g.B.Block.layers g.B.Block.fault_count g.B.Block.size c.args.dev (pieces_of (piece_with c.args.volume.now.volume.merge c.args.volume.now.volume.snaps) (span_of c.args.range)) c.loop-piece.piece-iterator c.loop-piece.from c.args.bytes.now c.args.volume.now.volume c.loop-piece.volume.volume c.loop-piece.invariant.met c.in-None.ensures.steps.0
 
 pub returns-in-Err-clause-taken : goal.returns-in-Err-clause-taken
 returns-in-Err-clause-taken g c = takes_then _ _ _ c.loop-piece.invariant.taken c.in-Err.ensures.taken

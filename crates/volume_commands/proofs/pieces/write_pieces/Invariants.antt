@@ -19,6 +19,6 @@ invariant-loop-piece g l = record {
   so : GoesSo g.B.Block.contents g.B.Block.layers g.B.Block.size l.from l.fn.volume.volume l.volume.volume;
   did : WritesTo l.fn.dev (IsSettled g.B.Block.layers (rested_of l.fn.volume.volume)) (pieces_of (piece_with l.fn.volume.volume.merge l.fn.volume.volume.snaps) (span_of l.fn.range)) l.fn.bytes l.from l.piece-iterator
       (merged_of g.B.Block.contents g.B.Block.layers (rested_of l.fn.volume.volume)) (merged_of g.B.Block.contents g.B.Block.layers (rested_of l.volume.volume));
-  met : WritesAtRest g.B.Block.contents g.B.Block.layers g.B.Block.fault_count g.B.Block.size l.fn.dev (pieces_of (piece_with l.fn.volume.volume.merge l.fn.volume.volume.snaps) (span_of l.fn.range)) l.piece-iterator l.from l.fn.bytes l.fn.volume.volume l.volume.volume;
+  met : WritesAtRest g.B.Block.may_hold g.B.Block.contents g.B.Block.layers g.B.Block.fault_count g.B.Block.size l.fn.dev (pieces_of (piece_with l.fn.volume.volume.merge l.fn.volume.volume.snaps) (span_of l.fn.range)) l.piece-iterator l.from l.fn.bytes l.fn.volume.volume l.volume.volume;
   taken : TakesByRequests l.fn.volume l.volume;
 }

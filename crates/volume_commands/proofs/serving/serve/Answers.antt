@@ -13,7 +13,7 @@ use Rattle.counted_volume.proofs.Refusing.{room_quiet}
 use Rattle.volume_commands.proofs.Between.{between_after, starved_between, starved_merged, settles_again, loud_in_all}
 use Rattle.volume_commands.proofs.Served.{served_did}
 use Rattle.volume.proofs.Quieted.{quiet_flights}
-use Rattle.volume_commands.proofs.AtRest.{answered}
+use Rattle.volume_commands.proofs.AtRest.{answered, led_then}
 use Rattle.counted_volume.proofs.DoneDue.{done_then}
 use Rattle.counted_volume.proofs.Takings.{takes_then}
 use Rattle.volume_commands.proofs.serving.serve.Goals as goal
@@ -70,8 +70,9 @@ returns-in-Err-clause-untaken g c = c.in-Err.ensures.untaken
 pub returns-in-Ok-clause-answered : goal.returns-in-Ok-clause-answered
 returns-in-Ok-clause-answered g c =
     let b = c.in-Ok.ensures.begun in
-    answered g.B.Block.contents g.B.Block.layers g.B.Block.fault_count g.B.Block.size c.args.request b.failure c.args.volume.now.volume b.mid (quiet_flights c.args.volume.now.volume c.requires.between.quiet) c.settle.result c.settle.new.volume.volume b.entered
-    (done_then g.B.Block.contents g.B.Block.layers g.B.Block.fault_count g.B.Block.size (Refused b.failure) c.in-Ok.reply c.settle.result b.mid c.begin.new.volume.volume c.settle.new.volume.volume b.did c.settle.ensures.did)
+    answered g.B.Block.may_hold g.B.Block.contents g.B.Block.layers g.B.Block.fault_count g.B.Block.size c.args.request b.failure c.args.volume.now.volume b.mid (quiet_flights c.args.volume.now.volume c.requires.between.quiet) b.number c.settle.result c.settle.new.volume.volume b.entered b.exact
+    (done_then g.B.Block.may_hold g.B.Block.contents g.B.Block.layers g.B.Block.fault_count g.B.Block.size (Refused b.failure) c.in-Ok.reply c.settle.result b.mid c.begin.new.volume.volume c.settle.new.volume.volume b.did c.settle.ensures.did)
+    (led_then g.B.Block.may_hold g.B.Block.contents g.B.Block.layers g.B.Block.fault_count g.B.Block.size (Refused b.failure) c.in-Ok.reply c.settle.result b.mid c.begin.new.volume.volume c.settle.new.volume.volume b.led c.settle.ensures.led c.settle.ensures.did)
     (λ quiet. c.settle.ensures.still (ap (λ (x : Volumed g.row.B.Denot). is_quiet_of x) (b.still quiet) ∙ quiet) ∙ b.still quiet)
 
 pub returns-in-Ok-clause-taken : goal.returns-in-Ok-clause-taken

@@ -51,7 +51,7 @@ returns-in-Ok-clause-answer g c = λ settled.
 pub returns-in-Ok-clause-answered : goal.returns-in-Ok-clause-answered
 returns-in-Ok-clause-answered g c =
     let b = begun_answered g.B.Block.may_hold g.B.Block.contents g.B.Block.layers g.B.Block.size g.B.Block.fault_count g.B.Block.done_count (origin_write c.args.piece c.args.bytes.now) c.args.volume.now.volume c.write_lent.new.self.volume _ c.in-Ok.reply c.in-Ok.ensures.does in
-    answered g.B.Block.contents g.B.Block.layers g.B.Block.fault_count g.B.Block.size (origin_write c.args.piece c.args.bytes.now) b.failure c.args.volume.now.volume b.mid (quiet_flights c.args.volume.now.volume c.requires.between.quiet) c.in-Ok.reply c.write_lent.new.self.volume b.entered b.did b.still
+    answered g.B.Block.may_hold g.B.Block.contents g.B.Block.layers g.B.Block.fault_count g.B.Block.size (origin_write c.args.piece c.args.bytes.now) b.failure c.args.volume.now.volume b.mid (quiet_flights c.args.volume.now.volume c.requires.between.quiet) b.number c.in-Ok.reply c.write_lent.new.self.volume b.entered b.exact b.did b.led b.still
 
 pub returns-in-Err-clause-kept : goal.returns-in-Err-clause-kept
 returns-in-Err-clause-kept g c = same_devices g.B.Block.layers g.B.Block.size c.args.volume.now.volume c.write_lent.new.self.volume c.in-Err.ensures.same

@@ -23,5 +23,5 @@ returns g c =
           (let found = copies_group g.B.Block.layers c.self.inside.volume (sym c.copy_group.ensures.answer ∙ copied) in
           rw (← c.self.view_is) (copied_merged g.B.Block.may_hold g.B.Block.contents g.B.Block.layers g.B.Block.size g.B.Block.fault_count g.B.Block.done_count found.2.waiting c.self.inside.volume c.copy_group.new.self c.self.inside.places (c.copy_group.ensures.copied copied found.0 found.1 found.2 found.3)))
       | inr left ↦
-          rw (← c.self.view_is) (subst (λ (x : Volumed g.row.B.Denot). AreMerged g.B.Block.contents g.B.Block.layers g.B.Block.fault_count g.B.Block.size (counted_with c.self.inside.volume c.self.inside.places) (counted_with x c.self.inside.places)) (sym (c.copy_group.ensures.same left)) (none_merged (counted_with c.self.inside.volume c.self.inside.places)))
+          rw (← c.self.view_is) (subst (λ (x : Volumed g.row.B.Denot). AreMerged g.B.Block.may_hold g.B.Block.contents g.B.Block.layers g.B.Block.fault_count g.B.Block.size (counted_with c.self.inside.volume c.self.inside.places) (counted_with x c.self.inside.places)) (sym (c.copy_group.ensures.same left)) (none_merged (counted_with c.self.inside.volume c.self.inside.places)))
     ]

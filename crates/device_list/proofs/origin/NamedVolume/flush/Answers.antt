@@ -39,7 +39,7 @@ returns-then-is_quiet-clause-at_rest c =
     let fewer : c.flush-did.new.self.rested.requests ≤ c.ask.new.asked = omega (arith, requests, more, taken) in
     rw (← c.self.view_is) (λ quiet.
     flush_rested c.self.inside.volume.rested c.flush-did.new.self.rested _ _ (behind c.self.inside.volume.rested _ c.flush-did.ensures.whole.0 refl (merge_is _ c.self.inside.volume.rested c.self.invariant.begun) refl refl c.self.invariant.requests) (behind c.flush-did.new.self.rested _ c.flush-did.ensures.whole.1 refl (merge_is _ c.flush-did.new.self.rested (c.self.invariant.begun ∙ still_begun c.self.inside.volume.rested c.flush-did.new.self.rested c.flush-did.ensures.kept.merging)) refl refl fewer) c.in-Ok.asks.0 c.in-Ok.asks.1 _ (c.in-Ok.ensures.ok _ refl refl)
-    c.flush-did.result c.flush-did.ensures.answered (c.flush-did.ensures.undone c.in-Ok.ensures.there))
+    c.flush-did.result c.flush-did.ensures.answered (c.flush-did.ensures.undone c.in-Ok.ensures.there) c.flush-did.ensures.closes)
 
 pub returns-then-is_quiet-clause-full : goal.returns-then-is_quiet-clause-full
 returns-then-is_quiet-clause-full c =

@@ -12,4 +12,4 @@ returns-clause-stepped c =
     let fewer = (invariant_of-self c).requests in
     rw (← c.self-2.view_is)
     (stepped c.args.event c.self-2.inside.volume.rested c.step.new.self.rested _ _ (behind c.self-2.inside.volume.rested _ c.step.ensures.whole.0 refl (merge_is _ c.self-2.inside.volume.rested c.self-2.invariant.begun) refl refl c.self-2.invariant.requests) (behind c.step.new.self.rested _ c.step.ensures.whole.1 refl (merge_is _ c.step.new.self.rested (c.self-2.invariant.begun ∙ still_begun c.self-2.inside.volume.rested c.step.new.self.rested c.step.ensures.seen.kept.merging)) refl refl fewer)
-    c.step.result c.step.ensures.does.due c.step.ensures.does.exact c.step.ensures.does.legal c.step.ensures.does.cause c.step.ensures.does.one)
+    c.step.result c.step.ensures.does.due c.step.ensures.does.exact c.step.ensures.does.legal c.step.ensures.does.cause c.step.ensures.does.one c.step.ensures.does.closes c.step.ensures.does.stops)

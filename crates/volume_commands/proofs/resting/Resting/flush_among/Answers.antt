@@ -7,7 +7,7 @@ use Rattle.volume_commands.proofs.resting.Resting.flush_among.Goals as goal
 
 pub returns-clause-refused : goal.returns-clause-refused
 returns-clause-refused g c =
-    rw (← c.self.view_is) (flush_refused_among g.B.Block.contents g.B.Block.layers g.B.Block.fault_count g.B.Block.size c.args.dev c.flush_device_among.result (rested_of c.self.inside.volume.volume) (rested_of c.flush_device_among.new.volume.volume) c.args.ended.now.items c.flush_device_among.new.ended.items
+    rw (← c.self.view_is) (flush_refused_among g.B.Block.may_hold g.B.Block.contents g.B.Block.layers g.B.Block.fault_count g.B.Block.size c.args.dev c.flush_device_among.result (rested_of c.self.inside.volume.volume) (rested_of c.flush_device_among.new.volume.volume) c.args.ended.now.items c.flush_device_among.new.ended.items
     (sym c.is_there.ensures ∙ c.if-not-is_there.false) c.flush_device_among.ensures.failed)
 
 pub returns-clause-taken : goal.returns-clause-taken
