@@ -4,7 +4,22 @@ use Rattle.device_list.proofs.Events.{behind, flush_rested, flush_served}
 use Rattle.device_list.proofs.Serves.{flush_refused, flush_denied, flush_does}
 use Rattle.device_list.proofs.Merges.{goes_on, inside_is, merge_is, still_begun}
 use Rattle.device_list.proofs.Filled.{asked_last}
+use Rattle.device_list.proofs.Holds.{goes_held}
 use Rattle.device_list.proofs.origin.NamedVolume.flush.Goals as goal
+
+pub invariant_of-self-then-is_quiet : goal.invariant_of-self-then-is_quiet
+invariant_of-self-then-is_quiet c =
+    let requests = c.self.invariant.requests in
+    let more = c.in-Ok.ensures.more.0 in
+    let taken = c.flush-did.ensures.requests in
+    goes_held _ _ c.self.inside.volume.rested c.flush-did.new.self.rested _ _ _ c.self.invariant c.flush-did.ensures.kept (omega (arith, requests, more, taken))
+
+pub invariant_of-self-2 : goal.invariant_of-self-2
+invariant_of-self-2 c =
+    let requests = c.self.invariant.requests in
+    let more = c.in-Ok.ensures.more.0 in
+    let taken = c.flush_among-did.ensures.requests in
+    goes_held _ _ c.self.inside.volume.rested c.flush_among-did.new.self.rested _ _ _ c.self.invariant c.flush_among-did.ensures.kept (omega (arith, requests, more, taken))
 
 pub returns-in-Err-clause-done : goal.returns-in-Err-clause-done
 returns-in-Err-clause-done c =
