@@ -1,6 +1,10 @@
 -- Chunks in which two arrays differ, and the store that has their copies.
-use Rattle.std.proofs.Common.{◌≡◌, ◌≢◌, inl, inr, ℕ, zero, suc, ◌+◌, ◌-◌, ◌*◌, ◌/◌, ◌%◌, ◌<◌, ◌≤◌, List, [], ◌∷◌, ◌++◌, length, take, drop, get_or, replicate, arith, rules, refl, ap, ◌∙◌, sym, subst, Option, Some, None}
-use Rattle.std.specs.Prelude.{◌==◌}
+use Rattle.std.proofs.Common.{◌≡◌, ◌≢◌, inl, inr, ℕ, zero, suc, ◌+◌, ◌-◌, ◌*◌, ◌/◌, ◌%◌, ◌<◌, ◌≤◌, List, [], ◌∷◌, ◌++◌, length, take, drop, get_or, arith, rules, refl, ap, ◌∙◌, sym, subst, Option, Some, None, min, length-take, length-drop, Bool, true, false}
+use Rattle.std.specs.Prelude.{◌==◌, not, nat_eq}
+use Rattle.std.specs.Bool.{Decides}
+use Rattle.std.specs.Cmp.{unsigned_Decides}
+use Rattle.std.proofs.lemmas.Slice.Eq.{slice_eq-Decides}
+use lib.Pointwise.{pointwise}
 use Rattle.std.specs.List.{All}
 use Rattle.std.proofs.lemmas.Bool.{cases_lt, cases_eq, cases_Bool, cond-true, cond-false, eq-eqb, eqb-true}
 use Rattle.std.proofs.lemmas.List.{places, same_lists, ext_get_or, get_or_append_left, get_or_push, length_push}
@@ -20,6 +24,7 @@ use Rattle.store_writer.specs.Changed.{IsKept, IsChanged, IsOwnPair, AreChanged,
 use Rattle.store_writer.specs.Padding.{padded}
 use Rattle.store_writer.specs.Written.{place_at, placed_from, IsStoreOf, IsGoodStore}
 use Rattle.store_writer.proofs.Stores.{length-placed, placed-at}
+use Rattle.store_writer.proofs.Padded.{length-padded, padded_at, padded_past}
 
 -- no pairs
 pub none_changed : (chunk : ℕ) (o a : List ℕ) → AreChanged chunk o a 0 []
@@ -92,9 +97,28 @@ chunk_read chunk first count index from room b part is lt at whole =
     ∙ part_in room from (512 * (chunk * first)) (512 * (chunk * count)) (512 * (chunk * (first + index))) b (omega arith) (omega arith)
     ∙ ap (λ n. take n (drop (512 * (chunk * (first + index))) b)) whole
 
--- a byte before the zeros
-padded_at : (b : List ℕ) (i : ℕ) → i < length b → get_or (padded b) i 0 ≡ get_or b i 0
-padded_at b i lt = get_or_append_left b (replicate 524_288 0) 0 i lt
+told_true : (b : Bool) → not b ≡ false → b ≡ true
+told_true true is = refl
+told_true false is = cc
+
+-- what `!=` says of a chunk that was read of two arrays
+module _ (chunk first count index from room : ℕ) (a o ours theirs : List ℕ) (r : Bool) (ours_is : ours ≡ take (512 * (chunk * count)) (drop (512 * (chunk * first)) a)) (theirs_is : theirs ≡ take (512 * (chunk * count)) (drop (512 * (chunk * first)) o)) (lt : index < count) (at : from ≡ 512 * (chunk * index)) (whole : room ≡ 512 * chunk) (is : r ≡ not (pointwise nat_eq (take room (drop from ours)) (take room (drop from theirs)))) where
+  ours_at : take room (drop from ours) ≡ chunk_at chunk a (first + index)
+  ours_at = chunk_read chunk first count index from room a ours ours_is lt at whole
+
+  theirs_at : take room (drop from theirs) ≡ chunk_at chunk o (first + index)
+  theirs_at = chunk_read chunk first count index from room o theirs theirs_is lt at whole
+
+  decided : Decides (pointwise nat_eq (take room (drop from ours)) (take room (drop from theirs))) (take room (drop from ours) ≡ take room (drop from theirs))
+  decided = slice_eq-Decides unsigned_Decides (take room (drop from ours)) (take room (drop from theirs)) _ refl
+
+  pub is_changed : r ≡ true → IsChanged chunk o a (first + index)
+  is_changed other same =
+      let equal : pointwise nat_eq (take room (drop from ours)) (take room (drop from theirs)) ≡ true = decided.1 (ours_at ∙ same ∙ sym theirs_at) in
+      let none : true ≡ false = sym other ∙ is ∙ ap not equal in cc
+
+  pub is_kept : r ≡ false → IsKept chunk o a (first + index)
+  is_kept none = sym ours_at ∙ decided.0 (told_true _ (sym is ∙ none)) ∙ theirs_at
 
 -- a byte of a chunk
 byte_in : (chunk i : ℕ) (b : List ℕ) → 0 < chunk → get_or (chunk_at chunk b (i / (512 * chunk))) (i % (512 * chunk)) 0 ≡ get_or b i 0
@@ -102,16 +126,26 @@ byte_in chunk i b pos =
     let lt : i % (512 * chunk) < 512 * chunk = mod_below i (512 * chunk) (omega arith) in
     byte_read b (chunk * (i / (512 * chunk))) chunk (i % (512 * chunk)) lt ∙ ap (λ n. get_or b n 0) (chunk_and chunk i)
 
+-- the length of a chunk
+length-part : (n at : ℕ) (b : List ℕ) → length (take n (drop at b)) ≡ min n (length b - at)
+length-part n at b = simp (length-take, length-drop)
+
+chunk_length : (chunk c : ℕ) (a b : List ℕ) → length a ≡ length b → length (chunk_at chunk a c) ≡ length (chunk_at chunk b c)
+chunk_length chunk c a b len = length-part (512 * chunk) (512 * (chunk * c)) a ∙ ap (λ n. min (512 * chunk) (n - 512 * (chunk * c))) len ∙ sym (length-part (512 * chunk) (512 * (chunk * c)) b)
+
+chunk_short : (chunk c j : ℕ) (b : List ℕ) → j < length (chunk_at chunk b c) → j < 512 * chunk
+chunk_short chunk c j b lt = let h = length-part (512 * chunk) (512 * (chunk * c)) b in omega arith
+
 -- arrays of one length with the same chunk have it also before zeros
 pub kept_padded : (chunk c : ℕ) (o a : List ℕ) → length a ≡ length o → chunk_at chunk a c ≡ chunk_at chunk o c → chunk_at chunk (padded a) c ≡ chunk_at chunk (padded o) c
-kept_padded chunk c o a len same = ext_get_or 0 _ _ (search (rules, places)) (λ j lt.
-    let short : j < 512 * chunk = (let h : length (chunk_at chunk (padded a) c) ≤ 512 * chunk = search (rules, places) in omega arith) in
+kept_padded chunk c o a len same = ext_get_or 0 _ _ (chunk_length chunk c (padded a) (padded o) (length-padded a ∙ ap (λ n. n + 524_288) len ∙ sym (length-padded o))) (λ j lt.
+    let short : j < 512 * chunk = chunk_short chunk c j (padded a) lt in
     byte_read (padded a) (chunk * c) chunk j short
     ∙ elim (cases_lt (512 * (chunk * c) + j) (length a)) [
       | inl lo ↦
           padded_at a (512 * (chunk * c) + j) lo ∙ sym (byte_read a (chunk * c) chunk j short) ∙ ap (λ y. get_or y j 0) same ∙ byte_read o (chunk * c) chunk j short
           ∙ sym (padded_at o (512 * (chunk * c) + j) (omega arith))
-      | inr hi ↦ grind (arith, places)
+      | inr hi ↦ padded_past a (512 * (chunk * c) + j) hi ∙ sym (padded_past o (512 * (chunk * c) + j) (omega arith))
     ]
     ∙ sym (byte_read (padded o) (chunk * c) chunk j short))
 

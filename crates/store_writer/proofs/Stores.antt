@@ -8,13 +8,13 @@ use Rattle.sector.proofs.Numbers.{length-number_bytes}
 use Rattle.store_bytes.specs.Slots.{pair_in}
 use Rattle.store_bytes.specs.Places.{chunk_at, area_place, slot}
 use Rattle.store_bytes.specs.Pairs.{pairs_of}
-use Rattle.store_bytes.proofs.AreaPlaces.{rows_below, places_below}
+use Rattle.store_bytes.proofs.AreaPlaces.{places_below}
 use Rattle.store_bytes.proofs.Slots.{slot-at, pairs-are}
 use Rattle.cow_header.specs.HeaderText.{header_bytes}
 use Rattle.metadata_area.specs.Cleared.{no_pair}
 use Rattle.store_writer.specs.Parts.{moved, AreCopies, IsAreaOf, IsFrontOf}
 use Rattle.store_writer.specs.Written.{place_at, placed_from, IsStoreOf}
-use Rattle.store_writer.proofs.Chunks.{chunk_front, chunk_back, length-more, pair_among}
+use Rattle.store_writer.proofs.Chunks.{chunk_front, chunk_back, length-more, pair_among, length-slice}
 
 -- the place of a slot of an area
 pub place_in : (chunk a j : ℕ) → j < 32 * chunk → place_at chunk (a * (32 * chunk) + j) ≡ area_place chunk a + 1 + j
@@ -167,20 +167,19 @@ place_behind : (chunk a : ℕ) → a * (32 * chunk) + a + 2 ≡ area_place chunk
 place_behind chunk a = let e : a * (32 * chunk + 1) ≡ a * (32 * chunk) + a = grind arith in omega arith
 
 -- a full area more that was written
-pub full_more : (chunk number place : ℕ) (b s x : List ℕ) (pairs part : List Pair) → 0 < chunk → number < length pairs / (32 * chunk) → place ≡ number * (32 * chunk) + number + 2 → part ≡ take (32 * chunk) (drop (number * (32 * chunk)) pairs) → IsFrontOf chunk b pairs number s → IsAreaOf chunk b place part x → IsFrontOf chunk b pairs (number + 1) (s ++ x)
-full_more chunk number place b s x pairs part pos below at is front area =
-    let split = slot_split chunk (length pairs) in
-    let rows : number * (32 * chunk) + 32 * chunk ≤ length pairs / (32 * chunk) * (32 * chunk) = rows_below number (length pairs / (32 * chunk)) (32 * chunk) below in
-    let rest = length-drop (number * (32 * chunk)) pairs in
-    let len : length part ≡ 32 * chunk = ap length is ∙ length-take-le (32 * chunk) (drop (number * (32 * chunk)) pairs) (omega arith) in
-    front_more chunk number b s x pairs part pos len (λ j d lt. ap (λ ps. get_or ps j d) is ∙ pair_among pairs (number * (32 * chunk)) (32 * chunk) j d (omega arith)) front
-    (subst (λ (n : ℕ). IsAreaOf chunk b n part x) (at ∙ place_behind chunk number) area)
+pub full_more : (chunk number first place m : ℕ) (b s x : List ℕ) (pairs part : List Pair) → 0 < chunk → first ≡ number * (32 * chunk) → first + 32 * chunk ≤ length pairs → place ≡ first + number + 2 → m ≡ 32 * chunk → part ≡ take m (drop first pairs) → IsFrontOf chunk b pairs number s → IsAreaOf chunk b place part x → IsFrontOf chunk b pairs (number + 1) (s ++ x)
+full_more chunk number first place m b s x pairs part pos at fits place_is m_is is front area =
+    let len : length part ≡ m = ap length is ∙ length-slice first m pairs (omega arith) in
+    let behind : place ≡ area_place chunk number + 1 = (let h = place_behind chunk number in omega arith) in
+    front_more chunk number b s x pairs part pos (omega arith)
+    (λ j d lt. ap (λ ps. get_or ps j d) is ∙ pair_among pairs first m j d (omega arith) ∙ ap (λ n. get_or pairs (n + j) d) at) front
+    (subst (λ (n : ℕ). IsAreaOf chunk b n part x) behind area)
 
 -- the last area that was written
-pub store_written : (chunk full place : ℕ) (b s x : List ℕ) (pairs part : List Pair) → 0 < chunk → full ≡ length pairs / (32 * chunk) → place ≡ full * (32 * chunk) + full + 2 → part ≡ drop (full * (32 * chunk)) pairs → IsFrontOf chunk b pairs full s → IsAreaOf chunk b place part x → IsStoreOf chunk b pairs (s ++ x)
-store_written chunk full place b s x pairs part pos areas at is front area =
-    let split = slot_split chunk (length pairs) in
-    let low : length pairs % (32 * chunk) < 32 * chunk = mod_below (length pairs) (32 * chunk) (omega arith) in
-    let same : full * (32 * chunk) ≡ length pairs / (32 * chunk) * (32 * chunk) = ap (λ n. n * (32 * chunk)) areas in
-    let len : length part ≡ length pairs - full * (32 * chunk) = ap length is ∙ length-drop (full * (32 * chunk)) pairs in
-    store_ends chunk full b s x pairs part pos areas is (omega arith) (omega arith) front (subst (λ (n : ℕ). IsAreaOf chunk b n part x) (at ∙ place_behind chunk full) area)
+pub store_written : (chunk number first place : ℕ) (b s x : List ℕ) (pairs part : List Pair) → 0 < chunk → first ≡ number * (32 * chunk) → first ≤ length pairs → length pairs - first < 32 * chunk → place ≡ first + number + 2 → part ≡ drop first pairs → IsFrontOf chunk b pairs number s → IsAreaOf chunk b place part x → IsStoreOf chunk b pairs (s ++ x)
+store_written chunk number first place b s x pairs part pos at low few place_is is front area =
+    let len : length part ≡ length pairs - first = ap length is ∙ length-drop first pairs in
+    let split : length pairs ≡ number * (32 * chunk) + (length pairs - first) = omega arith in
+    let areas : number ≡ length pairs / (32 * chunk) = sym (ap (λ n. n / (32 * chunk)) split ∙ div-mul-add number (32 * chunk) (length pairs - first) few) in
+    let behind : place ≡ area_place chunk number + 1 = (let h = place_behind chunk number in omega arith) in
+    store_ends chunk number b s x pairs part pos areas (is ∙ ap (λ n. drop n pairs) at) (omega arith) (omega arith) front (subst (λ (n : ℕ). IsAreaOf chunk b n part x) behind area)

@@ -2,7 +2,7 @@
 use Rattle.std.specs.Prelude.{ℕ, ◌==◌, List, ◌++◌, length, replicate, Option, Some, None, if◌then◌else◌}
 
 -- as many zeros as the largest chunk has bytes
-abbrev pub padded : List ℕ → List ℕ
+unfoldable pub padded : List ℕ → List ℕ
 padded bytes = bytes ++ replicate 524_288 0
 
 -- the bytes that are known, where they are so many

@@ -1,5 +1,5 @@
 // An image with zeros behind its end.
-ghost use Rattle.std.specs.Prelude.{◌≡◌};
+ghost use Rattle.std.specs.Prelude.{◌≡◌, ◌-◌, ◌≤◌, ◌++◌, List, ℕ, length, take, drop, replicate, OnOk, Some};
 ghost use Rattle.store_writer.specs.Padding.{known_padded};
 
 use image::Image;
@@ -13,6 +13,26 @@ const ZEROS: u64 = 524_288;
 pub(crate) struct Padded<'a, I: Image> {
     pub below: &'a mut I,
     pub end: u64,
+}
+
+impl<'a, I: Image> Padded<'a, I> {
+    /// Reads across the end: so many bytes before it, and zeros, if there are as many.
+    fn read_across(&mut self, at: u64, left: usize, out: &mut [u8]) -> io::Result<()>
+        requires { left ≤ length out.old }
+        ensures data { OnOk result ((b : List ℕ) → I.bytes self.old.below.now ≡ Some b → out.new ≡ take left (drop at b) ++ replicate (length out.old - left) 0) }
+        ensures few { OnOk result (length out.old - left ≤ 524_288) }
+        ensures bytes { I.bytes self.new.below.now ≡ I.bytes self.old.below.now }
+        ensures end { self.new.end ≡ self.old.end }
+    {
+        if ZEROS < (out.len() - left) as u64 {
+            return Err(io::ErrorKind::UnexpectedEof.into());
+        }
+        out.fill(0);
+        match self.below.read_at(at, &mut out[..left]) {
+            Ok(()) => Ok(()),
+            Err(error) => Err(error),
+        }
+    }
 }
 
 impl<'a, I: Image> Image for Padded<'a, I> {
@@ -41,15 +61,8 @@ impl<'a, I: Image> Image for Padded<'a, I> {
                 Err(error) => Err(error),
             };
         }
-        if ZEROS < count - left {
-            return Err(io::ErrorKind::UnexpectedEof.into());
-        }
-        let left = left as usize;
-        match self.below.read_at(at, &mut out[..left]) {
-            Ok(()) => {
-                out[left..].fill(0);
-                Ok(())
-            }
+        match self.read_across(at, left as usize, out) {
+            Ok(()) => Ok(()),
             Err(error) => Err(error),
         }
     }

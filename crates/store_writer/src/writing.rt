@@ -1,5 +1,5 @@
 // A store is written from its front to its end.
-ghost use Rattle.std.specs.Prelude.{◌≡◌, ℕ, ◌*◌, ◌<◌, ◌≤◌, List, length, true, OnOk, Some};
+ghost use Rattle.std.specs.Prelude.{◌≡◌, ℕ, ◌*◌, ◌<◌, ◌≤◌, ◌++◌, List, length, true, OnOk, Some};
 ghost use Rattle.std.specs.Io.KnownBytes.{Appends};
 ghost use Rattle.chunk.specs.Sizes.{is_chunk};
 ghost use Rattle.cow_header.specs.HeaderText.{header_bytes};
@@ -33,8 +33,8 @@ fn write_header<S: Sink>(alloc: Global, chunk: u32, sink: &mut S) -> Result<(), 
     }
 }
 
-/// Writes the areas of these pairs that are full, and their copies.
-fn write_full<I: Image, S: Sink>(
+/// Writes the areas of these pairs, and their copies, behind a header: full ones, and one that is not.
+fn write_areas<I: Image, S: Sink>(
     image: &mut I,
     area: &mut Area,
     pairs: &[Pair],
@@ -42,22 +42,27 @@ fn write_full<I: Image, S: Sink>(
     sink: &mut S,
 ) -> Result<(), Stopped>
     requires room { 512 * area.old.chunk ≤ length room.old }
-    ensures all { OnOk result ((b : List ℕ) → I.bytes image.old ≡ Some b → (front : List ℕ) → IsFrontOf area.old.chunk b pairs.now 0 front → (x : List ℕ) × IsFrontOf area.old.chunk b pairs.now (length pairs.now / (32 * area.old.chunk)) (front ++ x) × Appends (S.contents sink.old) (S.contents sink.new) x) }
-    ensures chunk { area.new.chunk ≡ area.old.chunk }
-    ensures room { length room.new ≡ length room.old }
+    ensures all { OnOk result ((b : List ℕ) → I.bytes image.old ≡ Some b → (front : List ℕ) → IsFrontOf area.old.chunk b pairs.now 0 front → (x : List ℕ) × IsStoreOf area.old.chunk b pairs.now (front ++ x) × Appends (S.contents sink.old) (S.contents sink.new) x) }
     ensures bytes { I.bytes image.new ≡ I.bytes image.old }
 {
-    let slots = 32 * area.chunk as usize;
-    for number in 0..pairs.len() / slots {
-        let first = number * slots;
-        let place = (first + number + 2) as u64;
+    let slots = area.slots() as usize;
+    let mut first: usize = 0;
+    let mut number: u64 = 0;
+    while first + slots <= pairs.len() {
+        let place = first as u64 + number + 2;
         let part = &pairs[first..first + slots];
         match write_area(image, area, place, part, room, sink) {
             Ok(()) => {}
             Err(stopped) => return Err(stopped),
         }
+        first += slots;
+        number += 1;
     }
-    Ok(())
+    let place = first as u64 + number + 2;
+    match write_area(image, area, place, &pairs[first..], room, sink) {
+        Ok(()) => Ok(()),
+        Err(stopped) => Err(stopped),
+    }
 }
 
 /// Writes the store of these pairs, with copies of the image's chunks that are their new ones.
@@ -79,19 +84,11 @@ pub fn write_store<I: Image, S: Sink>(
         return Err(Stopped::NoMemory);
     };
     let room = room.as_mut_slice();
-    let slots = 32 * chunk as usize;
-    let full = pairs.len() / slots;
-    let first = full * slots;
-    let place = (first + full + 2) as u64;
     match write_header(alloc, chunk, sink) {
         Ok(()) => {}
         Err(stopped) => return Err(stopped),
     }
-    match write_full(image, &mut area, pairs, room, sink) {
-        Ok(()) => {}
-        Err(stopped) => return Err(stopped),
-    }
-    match write_area(image, &mut area, place, &pairs[first..], room, sink) {
+    match write_areas(image, &mut area, pairs, room, sink) {
         Ok(()) => Ok(()),
         Err(stopped) => Err(stopped),
     }
