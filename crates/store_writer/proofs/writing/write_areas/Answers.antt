@@ -1,4 +1,5 @@
-use Rattle.std.proofs.Common.{◌≡◌, ℕ, ◌+◌, ◌-◌, ◌*◌, ◌<◌, ◌≤◌, ◌++◌, List, [], length, subst, arith, refl, ap, sym, ◌∙◌, append_assoc, append-nil}
+use Rattle.std.proofs.Common.{◌≡◌, ℕ, ◌+◌, ◌-◌, ◌*◌, ◌<◌, ◌≤◌, ◌++◌, List, [], length, take, drop, subst, arith, refl, ap, sym, ◌∙◌, append_assoc, append-nil}
+use Rattle.sector.specs.declared.pair.Pair.{Pair}
 use Rattle.std.proofs.KnownBytes.{Appends-trans, Appends-nil}
 use Rattle.store_writer.specs.Parts.{IsFrontOf, IsAreaOf}
 use Rattle.store_writer.specs.Written.{IsStoreOf}
@@ -23,6 +24,9 @@ loop-first-preserved g c =
     let first : ℕ = c.loop-first.first in
     let number : ℕ = c.loop-first.number in
     let slots = c.slots-slots.ensures in
+    let m : ℕ = first + c.slots-slots.result - first in
+    let part : List Pair = take (first + c.slots-slots.result - first) (drop first c.args.pairs.now) in
+    let whole : first + c.slots-slots.result - first ≡ 32 * a.chunk = omega arith in
     let test = c.loop-first-test.true in
     let inside = i.inside in
     let few = i.few in
@@ -42,7 +46,7 @@ loop-first-preserved g c =
           let (y, area, more) = c.in-Ok.ensures.all b (i.bytes ∙ is) in (
             x ++ y,
             subst (IsFrontOf a.chunk b c.args.pairs.now (number + 1)) (append_assoc front x y)
-                (full_more a.chunk number first (first + number + 2) _ b (front ++ x) y c.args.pairs.now _ a.some at (omega arith) refl (omega arith) refl before (subst (λ (n : ℕ). IsAreaOf n b (first + number + 2) _ y) i.chunk area)),
+                (full_more a.chunk number first (first + number + 2) m b (front ++ x) y c.args.pairs.now part a.some at (omega arith) refl whole refl before (subst (λ (n : ℕ). IsAreaOf n b (first + number + 2) part y) i.chunk area)),
             Appends-trans _ _ _ _ _ appends more,
           );
     }
@@ -61,6 +65,6 @@ returns-in-Ok-write_area-clause-all g c = λ b is front begins.
     let (y, area, more) = c.in-Ok-write_area.ensures.all b (i.bytes ∙ is) in (
       x ++ y,
       subst (IsStoreOf a.chunk b c.args.pairs.now) (append_assoc front x y)
-          (store_written a.chunk number first (first + number + 2) b (front ++ x) y c.args.pairs.now _ a.some at inside (omega arith) refl refl before (subst (λ (n : ℕ). IsAreaOf n b (first + number + 2) _ y) i.chunk area)),
+          (store_written a.chunk number first (first + number + 2) b (front ++ x) y c.args.pairs.now (drop first c.args.pairs.now) a.some at inside (omega arith) refl refl before (subst (λ (n : ℕ). IsAreaOf n b (first + number + 2) (drop first c.args.pairs.now) y) i.chunk area)),
       Appends-trans _ _ _ _ _ appends more,
     )
