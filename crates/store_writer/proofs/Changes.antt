@@ -1,21 +1,20 @@
 -- Chunks in which two arrays differ, and the store that has their copies.
-use Rattle.std.proofs.Common.{◌≡◌, ◌≢◌, inl, inr, ℕ, zero, suc, ◌+◌, ◌-◌, ◌*◌, ◌/◌, ◌%◌, ◌<◌, ◌≤◌, List, [], ◌∷◌, ◌++◌, length, take, drop, get_or, arith, rules, refl, ap, ◌∙◌, sym, subst, Option, Some, None, min, length-take, length-drop, Bool, true, false}
+use Rattle.std.proofs.Common.{◌≡◌, ◌≢◌, inl, inr, ℕ, ◌+◌, ◌-◌, ◌*◌, ◌/◌, ◌%◌, ◌<◌, ◌≤◌, List, [], ◌∷◌, ◌++◌, length, take, drop, get_or, arith, rules, refl, ap, ◌∙◌, sym, subst, Option, Some, None, min, length-take, length-drop, Bool, true, false}
 use Rattle.std.specs.Prelude.{◌==◌, not, nat_eq}
 use Rattle.std.specs.Bool.{Decides}
 use Rattle.std.specs.Cmp.{unsigned_Decides}
 use Rattle.std.proofs.lemmas.Slice.Eq.{slice_eq-Decides}
 use lib.Pointwise.{pointwise}
 use Rattle.std.specs.List.{All}
-use Rattle.std.proofs.lemmas.Bool.{cases_lt, cases_eq, cases_Bool, cond-true, cond-false, eq-eqb, eqb-true}
+use Rattle.std.proofs.lemmas.Bool.{cases_lt, cases_Bool, cond-true, cond-false, eq-eqb}
 use Rattle.std.proofs.lemmas.List.{places, same_lists, ext_get_or, get_or_append_left, get_or_push, length_push}
 use Rattle.std.proofs.lemmas.Nat.{div_below, mod_below}
 use Rattle.sector.specs.declared.pair.Pair.{Pair}
 use Rattle.sector.proofs.Sectors.{byte_read}
 use Rattle.store_bytes.specs.Places.{chunk_at}
-use Rattle.store_bytes.specs.Pairs.{pairs_of}
-use Rattle.store_bytes.specs.Picture.{place_of, byte_of, picture}
+use Rattle.store_bytes.specs.Picture.{place_of, byte_of}
 use Rattle.store_bytes.proofs.Pictures.{place_found}
-use Rattle.cow_image.specs.Sorted.{IsRisingBy, old_of}
+use Rattle.cow_image.specs.Sorted.{old_of}
 use Rattle.cow_image.proofs.Sorts.{rising_differ}
 use Rattle.cow_image.proofs.Exports.{bytes_shown}
 use Rattle.cow_image.proofs.Ranges.{chunk_and}

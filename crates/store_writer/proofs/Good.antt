@@ -1,5 +1,5 @@
 -- A new store is one that a load accepts, and shows what its pairs show over the image.
-use Rattle.std.proofs.Common.{◌≡◌, ◌≢◌, inl, inr, ℕ, zero, suc, ◌+◌, ◌-◌, ◌*◌, ◌/◌, ◌%◌, ◌<◌, ◌≤◌, List, [], ◌∷◌, length, map, get_or, arith, refl, ap, ◌∙◌, sym, subst, true, false}
+use Rattle.std.proofs.Common.{◌≡◌, inl, inr, ℕ, suc, ◌+◌, ◌*◌, ◌/◌, ◌%◌, ◌<◌, ◌≤◌, List, [], ◌∷◌, length, map, get_or, arith, refl, ap, ◌∙◌, sym, subst, true, false}
 use Rattle.std.specs.Prelude.{◌==◌, Ok}
 use Rattle.std.specs.List.{range_with_len}
 use Rattle.std.proofs.lemmas.Bool.{cases_lt, cases_Bool, cond-true, cond-false, ne_eqb}
@@ -13,14 +13,12 @@ use Rattle.sector.proofs.Sectors.{byte_read}
 use Rattle.chunk.specs.Sizes.{is_chunk}
 use Rattle.chunk.proofs.Limits.{is_chunk-some}
 use Rattle.store_bytes.specs.Places.{chunk_at, area_place, is_area_place}
-use Rattle.store_bytes.specs.Pairs.{pairs_of, IsInside, AreWellFormed}
+use Rattle.store_bytes.specs.Pairs.{IsInside, AreWellFormed}
 use Rattle.store_bytes.specs.Picture.{place_of, byte_of, picture_at, picture}
 use Rattle.cow_header.specs.HeaderText.{found_in, header_bytes}
 use Rattle.cow_header.specs.declared.found.Found.TheVariants.{Header}
 use Rattle.cow_header.proofs.Source.{found-header_bytes}
 use Rattle.cow_image.specs.Shown.{shown}
-use Rattle.cow_image.specs.Maps.{IsSound}
-use Rattle.store_writer.specs.Parts.{moved}
 use Rattle.store_writer.specs.Written.{place_at, placed_from, IsStoreOf, IsGoodStore}
 use Rattle.store_writer.proofs.Stores.{place_in, slot_split, length-placed, placed-at}
 

@@ -1,9 +1,9 @@
 -- Bytes with zeros behind them, as they are read.
-use Rattle.std.proofs.Common.{◌≡◌, inl, inr, ℕ, ◌+◌, ◌-◌, ◌<◌, ◌≤◌, List, ◌++◌, length, take, drop, get_or, replicate, Bool, true, false, arith, rules, refl, ap, ◌∙◌, sym, Option, Some, None, if◌then◌else◌, length-append}
+use Rattle.std.proofs.Common.{◌≡◌, ℕ, ◌+◌, ◌-◌, ◌<◌, ◌≤◌, List, ◌++◌, length, take, drop, get_or, replicate, Bool, true, false, arith, rules, refl, ap, ◌∙◌, sym, Option, Some, None, if◌then◌else◌, length-append}
 use Rattle.std.specs.Prelude.{◌==◌}
 use Rattle.std.specs.Option.{IfSome}
 use Rattle.std.proofs.lemmas.Bool.{eqb-true, eq-eqb, cond-true}
-use Rattle.std.proofs.lemmas.List.{places, same_lists, get_or_append_left, get_or-append-add, length-replicate}
+use Rattle.std.proofs.lemmas.List.{places, same_lists, get_or_append_left, length-replicate}
 use Rattle.store_writer.specs.Padding.{padded, known_padded}
 
 -- a fact of bytes with zeros behind them, where they are known

@@ -1,13 +1,12 @@
 -- A store, from its front and its areas.
-use Rattle.std.proofs.Common.{◌≡◌, ◌≢◌, inl, inr, ℕ, zero, suc, ◌+◌, ◌-◌, ◌*◌, ◌/◌, ◌%◌, ◌<◌, ◌≤◌, List, [], ◌∷◌, ◌++◌, length, take, drop, get_or, arith, rules, refl, ap, ◌∙◌, sym, subst, true, length-append}
+use Rattle.std.proofs.Common.{◌≡◌, inl, inr, ℕ, zero, suc, ◌+◌, ◌-◌, ◌*◌, ◌/◌, ◌%◌, ◌<◌, ◌≤◌, List, [], ◌∷◌, ◌++◌, length, take, drop, get_or, arith, refl, ap, ◌∙◌, sym, subst, true, length-append}
 use Rattle.std.proofs.lemmas.Bool.{cases_lt}
 use Rattle.std.proofs.lemmas.Nat.{div-mul-add, div-add-mod', mod_below, div_below}
-use Rattle.std.proofs.lemmas.List.{get_or-drop, length-take-le, length-drop, length-replicate, take_all}
+use Rattle.std.proofs.lemmas.List.{get_or-drop, length-drop, length-replicate, take_all}
 use Rattle.sector.specs.declared.pair.Pair.{Pair}
 use Rattle.sector.proofs.Numbers.{length-number_bytes}
 use Rattle.store_bytes.specs.Slots.{pair_in}
 use Rattle.store_bytes.specs.Places.{chunk_at, area_place, slot}
-use Rattle.store_bytes.specs.Pairs.{pairs_of}
 use Rattle.store_bytes.proofs.AreaPlaces.{places_below}
 use Rattle.store_bytes.proofs.Slots.{slot-at, pairs-are}
 use Rattle.cow_header.specs.HeaderText.{header_bytes}

@@ -1,9 +1,8 @@
 -- To be believed: what `repair` and `store` write is said in these words.
 -- A new store, of pairs whose new chunks are chunks of another image. The format is that of dm-snap-persistent.c; that places
 -- are handed out in the order of the slots is its allocator's way.
-use Rattle.std.specs.Prelude.{◌≡◌, ℕ, ◌+◌, ◌*◌, ◌/◌, ◌<◌, ◌≤◌, List, [], ◌∷◌, length, slice_index_or, true, Ok}
+use Rattle.std.specs.Prelude.{◌≡◌, ℕ, ◌+◌, ◌*◌, ◌/◌, ◌<◌, ◌≤◌, List, [], ◌∷◌, length, slice_index_or, true}
 use Rattle.std.specs.List.{All}
-use Rattle.sector.specs.Bytes.{sector_at}
 use Rattle.sector.specs.declared.pair.Pair.{Pair}
 use Rattle.store_bytes.specs.Places.{chunk_at, slot}
 use Rattle.store_bytes.specs.Pairs.{pairs_of, AreWellFormed}

@@ -1,4 +1,4 @@
-use Rattle.std.proofs.Common.{◌≡◌, ℕ, ◌*◌, ◌++◌, List, length, subst, ◌∙◌}
+use Rattle.std.proofs.Common.{ℕ, ◌++◌, List, subst}
 use Rattle.std.specs.Io.KnownBytes.{Appends}
 use Rattle.std.proofs.KnownBytes.{Appends-trans}
 use Rattle.store_writer.specs.Parts.{IsAreaOf}

@@ -1,4 +1,4 @@
-use Rattle.std.proofs.Common.{◌≡◌, ℕ, ◌+◌, ◌-◌, ◌*◌, ◌<◌, List, arith, refl, sym, subst, add-zero, ◌∙◌}
+use Rattle.std.proofs.Common.{◌≡◌, ℕ, ◌+◌, ◌-◌, ◌*◌, arith, sym, subst}
 use Rattle.store_writer.specs.Changed.{AreChanged}
 use Rattle.store_writer.proofs.Changes.{is_changed, is_kept, changed_more, kept_more}
 use Rattle.store_writer.proofs.changing.compare.Goals as goal

@@ -1,6 +1,5 @@
-use Rattle.std.proofs.Common.{◌≡◌, ℕ, ◌*◌, List, subst, sym, ◌∙◌}
+use Rattle.std.proofs.Common.{ℕ, ◌*◌, subst, sym, ◌∙◌}
 use Rattle.chunk.proofs.Limits.{is_chunk-some}
-use Rattle.sector.specs.declared.pair.Pair.{Pair}
 use Rattle.store_writer.specs.Changed.{AreChanged}
 use Rattle.store_writer.specs.Padding.{padded}
 use Rattle.store_writer.proofs.Changes.{store_between}

@@ -1,4 +1,4 @@
-use Rattle.std.proofs.Common.{◌≡◌, List, ℕ, subst, sym, ◌∙◌}
+use Rattle.std.proofs.Common.{List, subst, ◌∙◌}
 use Rattle.sector.specs.declared.pair.Pair.{Pair}
 use Rattle.cow_salvage.proofs.Orders.{differ_if}
 use Rattle.store_writer.specs.Written.{IsRepairOf}

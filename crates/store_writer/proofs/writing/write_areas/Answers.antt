@@ -1,4 +1,6 @@
-use Rattle.std.proofs.Common.{◌≡◌, ℕ, ◌+◌, ◌-◌, ◌*◌, ◌<◌, ◌≤◌, ◌++◌, List, [], length, take, drop, subst, arith, refl, ap, sym, ◌∙◌, append_assoc, append-nil}
+use Rattle.std.proofs.Common.{◌≡◌, ℕ, ◌+◌, ◌-◌, ◌*◌, ◌++◌, List, [], length, take, drop, subst, arith, refl, ap, sym, ◌∙◌, append_assoc, append-nil}
+use Rattle.std.proofs.Math.Seq.{take-length}
+use Rattle.std.proofs.lemmas.List.{length-drop}
 use Rattle.sector.specs.declared.pair.Pair.{Pair}
 use Rattle.std.proofs.KnownBytes.{Appends-trans, Appends-nil}
 use Rattle.store_writer.specs.Parts.{IsFrontOf, IsAreaOf}
@@ -61,10 +63,12 @@ returns-in-Ok-write_area-clause-all g c = λ b is front begins.
     let test = c.loop-first-test.false in
     let inside = i.inside in
     let at = i.at in
+    let rest : List Pair = drop first c.args.pairs.now in
+    let all : take (length c.args.pairs.now - first) rest ≡ rest = ap (λ n. take n rest) (sym (length-drop first c.args.pairs.now)) ∙ take-length rest in
     let (x, before, appends) = i.written b is front begins in
     let (y, area, more) = c.in-Ok-write_area.ensures.all b (i.bytes ∙ is) in (
       x ++ y,
       subst (IsStoreOf a.chunk b c.args.pairs.now) (append_assoc front x y)
-          (store_written a.chunk number first (first + number + 2) b (front ++ x) y c.args.pairs.now (drop first c.args.pairs.now) a.some at inside (omega arith) refl refl before (subst (λ (n : ℕ). IsAreaOf n b (first + number + 2) (drop first c.args.pairs.now) y) i.chunk area)),
+          (store_written a.chunk number first (first + number + 2) b (front ++ x) y c.args.pairs.now (drop first c.args.pairs.now) a.some at inside (omega arith) refl refl before (subst (λ (n : ℕ). IsAreaOf n b (first + number + 2) (drop first c.args.pairs.now) y) i.chunk (subst (λ xs. IsAreaOf c.loop-first.area.chunk b (first + number + 2) xs y) all area))),
       Appends-trans _ _ _ _ _ appends more,
     )

@@ -1,4 +1,4 @@
-use Rattle.std.proofs.Common.{◌≡◌, ℕ, ◌*◌, ◌++◌, List, true, subst, sym, ◌∙◌}
+use Rattle.std.proofs.Common.{ℕ, ◌*◌, ◌++◌, List, true, subst, sym}
 use Rattle.std.proofs.KnownBytes.{Appends-trans}
 use Rattle.chunk.proofs.Limits.{is_chunk-some}
 use Rattle.cow_header.specs.HeaderText.{header_bytes}

@@ -1,4 +1,4 @@
-use Rattle.std.proofs.Common.{◌≡◌, ℕ, ◌-◌, ◌≤◌, List, length, take, drop, replicate, arith, refl, ap, sym, ◌∙◌}
+use Rattle.std.proofs.Common.{◌≡◌, ℕ, ◌-◌, length, take, drop, arith, refl, ap, ◌∙◌}
 use Rattle.std.proofs.lemmas.List.{length-take-le, length-replicate}
 use Rattle.store_writer.proofs.Padded.{over_zeros}
 use Rattle.store_writer.proofs.padding.Padded.read_across.Goals as goal

@@ -1,4 +1,4 @@
-use Rattle.std.proofs.Common.{◌≡◌, ℕ, length, arith}
+use Rattle.std.proofs.Common.{◌≡◌, length, arith}
 use Rattle.store_writer.proofs.Padded.{if_padded, length-padded}
 use Rattle.store_writer.proofs.padding.PaddedImage.len.Goals as goal
 

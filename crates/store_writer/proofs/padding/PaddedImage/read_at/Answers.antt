@@ -1,4 +1,4 @@
-use Rattle.std.proofs.Common.{◌≡◌, ℕ, ◌+◌, ◌-◌, ◌≤◌, List, length, take, drop, arith, ap, sym, ◌∙◌}
+use Rattle.std.proofs.Common.{◌≡◌, ℕ, ◌+◌, ◌-◌, ◌≤◌, length, take, drop, arith, ap, sym, ◌∙◌}
 use Rattle.store_writer.specs.Padding.{padded}
 use Rattle.store_writer.proofs.Padded.{if_padded, length-padded, read_front, read_across}
 use Rattle.store_writer.proofs.padding.PaddedImage.read_at.Goals as goal
