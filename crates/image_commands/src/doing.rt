@@ -5,10 +5,12 @@ use crate::differing::diff;
 use crate::ended::Ended;
 use crate::merging::{Words, merge};
 use crate::printing::printed;
+use crate::repairing::repair_store;
 use crate::rolling::export;
 use crate::salvaging::{Salvage, salvage_array};
 use crate::seaming::{hear, spell};
 use crate::serving::serve;
+use crate::storing;
 use image_words::{Asked, HELP, VERSION};
 use opened_files::Trouble;
 use std::io::{BufRead, Write};
@@ -64,6 +66,35 @@ pub fn done<'a, R: BufRead, W: Write, E: Write>(
                 form,
             };
             return merge(rt, words, output);
+        }
+        Asked::Repair {
+            cow,
+            new,
+            chunk,
+            behind,
+            form,
+        } => {
+            let asked = Salvage {
+                out: new,
+                chunk,
+                behind,
+                form,
+            };
+            repair_store(rt, cow, asked, output, errors)?
+        }
+        Asked::Store {
+            origin,
+            array,
+            new,
+            chunk,
+        } => {
+            let words = storing::Words {
+                origin,
+                array,
+                new,
+                chunk,
+            };
+            storing::store(rt, words, output)?
         }
         Asked::Serve { origin, cow } => serve(rt, origin, cow, input, output, errors)?,
         Asked::Words { disk, image } => spell(rt, disk, image, output)?,

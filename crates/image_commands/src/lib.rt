@@ -1,7 +1,7 @@
 //! The program `lochknife`, but for its `main`: what the image of a snapshot's store holds, and the array that it shows with the
 //! image of its origin.
 //!
-//! It stands on `image_words`, `cow_answers`, `cow_image`, `cow_salvage`, `cow_merge`, `cow_nbd` and `image_script`, which say what is
+//! It stands on `image_words`, `cow_answers`, `cow_image`, `cow_salvage`, `cow_merge`, `store_writer`, `cow_nbd` and `image_script`, which say what is
 //! asked for, read, written and printed, and on `opened_files`, which opens, locks and watches its files. It has the commands' order,
 //! and the exit status: 0 for a store that is good, 1 for one that is refused, 2 where something could not be read or written, 3
 //! where a merge is done but not told. No contract says what a file holds. `lochknife_rows` runs its commands.
@@ -14,10 +14,12 @@ mod doing;
 mod ended;
 mod merging;
 mod printing;
+mod repairing;
 mod rolling;
 mod running;
 mod salvaging;
 mod seaming;
 mod serving;
+mod storing;
 
 pub use running::{answer, run};

@@ -77,7 +77,7 @@ fn blank<'a>(rt: &HostRuntime, both: &mut Both<'a>) -> Result<(), Trouble<'a>> {
 }
 
 /// The sectors of an input that can't be read.
-fn unread<'a>(rt: &HostRuntime, input: &mut Input<'a>) -> Result<Vec<Span>, Trouble<'a>> {
+pub fn unread<'a>(rt: &HostRuntime, input: &mut Input<'a>) -> Result<Vec<Span>, Trouble<'a>> {
     let size = size_of(input)?;
     held(input.name, unreadable(rt.alloc(), input, size))
 }
@@ -294,7 +294,7 @@ fn are_lasting<'a, W: Write>(
 }
 
 /// The slots whose pairs are taken: those before the first empty one, or all.
-fn taken(used: &Used, behind: bool) -> &[Slot] {
+pub fn taken(used: &Used, behind: bool) -> &[Slot] {
     let slots = used.slots.as_slice();
     if behind {
         return slots;

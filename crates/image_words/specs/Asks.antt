@@ -26,6 +26,8 @@ pub data Wanted : Type 0 where
   Export : (origin cow out : List ℕ) (form : Form) → Wanted
   Salvage : (origin cow out : List ℕ) (chunk : Option ℕ) (behind : Bool) (form : Form) → Wanted
   Merge : (origin cow : List ℕ) (dry : Bool) (form : Form) → Wanted
+  Repair : (cow new : List ℕ) (chunk : Option ℕ) (behind : Bool) (form : Form) → Wanted
+  Store : (origin array new : List ℕ) (chunk : Option ℕ) → Wanted
   Serve : (origin cow : List ℕ) → Wanted
   Words : (disk image : List ℕ) → Wanted
   Image : (out : List ℕ) → Wanted
@@ -49,6 +51,8 @@ wanted_of (asked.Differ origin cow form) = Differ origin.now cow.now form
 wanted_of (asked.Export origin cow out form) = Export origin.now cow.now out.now form
 wanted_of (asked.Salvage origin cow out chunk behind form) = Salvage origin.now cow.now out.now chunk behind form
 wanted_of (asked.Merge origin cow dry form) = Merge origin.now cow.now dry form
+wanted_of (asked.Repair cow new chunk behind form) = Repair cow.now new.now chunk behind form
+wanted_of (asked.Store origin array new chunk) = Store origin.now array.now new.now chunk
 wanted_of (asked.Serve origin cow) = Serve origin.now cow.now
 wanted_of (asked.Words disk image) = Words disk.now image.now
 wanted_of (asked.Image out) = Image out.now
@@ -120,6 +124,12 @@ export_as s origin cow out chunk =
 abbrev pub export_by : Split → Result Wanted Fault
 export_by s = then_ask (three s (codes "ORIGIN") (codes "COW") (codes "OUT")) (λ names. and_then (chunk_by s) (export_as s names.0 names.1 names.2))
 
+abbrev pub repair_by : Split → Result Wanted Fault
+repair_by s = then_ask (two s (codes "COW") (codes "NEW")) (λ names. and_then (chunk_by s) (λ chunk. Ok (Repair names.0 names.1 chunk (has s (codes "--behind")) (form_by s))))
+
+abbrev pub store_by : Split → Result Wanted Fault
+store_by s = then_ask (three s (codes "ORIGIN") (codes "SNAPSHOT") (codes "NEW")) (λ names. and_then (chunk_by s) (λ chunk. Ok (Store names.0 names.1 names.2 chunk)))
+
 abbrev pub words_by : Split → Result Wanted Fault
 words_by s = then_ask (two s (codes "NAME") (codes "IMAGE")) (λ names. if is_name names.0 then Ok (Words names.0 names.1) else Err (NoDisk names.0))
 
@@ -136,7 +146,9 @@ options_by command =
     else (if bytes_eq command (codes "export") then codes "--json" ∷ codes "--salvage" ∷ codes "--chunk" ∷ codes "--behind" ∷ []
     else (if bytes_eq command (codes "rollback") then codes "--json" ∷ []
     else (if bytes_eq command (codes "merge") then codes "--json" ∷ codes "--dry-run" ∷ []
-    else []))))))
+    else (if bytes_eq command (codes "repair") then codes "--json" ∷ codes "--chunk" ∷ codes "--behind" ∷ []
+    else (if bytes_eq command (codes "store") then codes "--chunk" ∷ []
+    else []))))))))
 
 -- a command by its name
 abbrev pub command_by : Split → List ℕ → Result Wanted Fault
@@ -148,10 +160,12 @@ command_by s name =
     else (if bytes_eq name (codes "diff") then differ_by s
     else (if bytes_eq name (codes "export") || bytes_eq name (codes "rollback") then export_by s
     else (if bytes_eq name (codes "merge") then merge_by s
+    else (if bytes_eq name (codes "repair") then repair_by s
+    else (if bytes_eq name (codes "store") then store_by s
     else (if bytes_eq name (codes "nbd") then serve_by s
     else (if bytes_eq name (codes "words") then words_by s
     else (if bytes_eq name (codes "image") then image_by s
-    else Err (OfLine (NoCommand name)))))))))))
+    else Err (OfLine (NoCommand name)))))))))))))
 
 -- words that are split: help and the version come before all else, and then the options of the command are all taken
 abbrev pub request_asks : Split → Requested → Result Wanted Fault

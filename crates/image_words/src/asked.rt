@@ -2,7 +2,7 @@
 ghost use Rattle.std.specs.Prelude.{◌≡◌, map};
 ghost use Rattle.std.specs.String.{string_bytes};
 ghost use Rattle.command_line.specs.Reading.{split_of};
-ghost use Rattle.image_words.specs.Asks.{WithMemory, told, asked_by, split_asks, command_by, show_by, map_by, check_by, differ_by, export_by, merge_by, serve_by, words_by, image_by};
+ghost use Rattle.image_words.specs.Asks.{WithMemory, told, asked_by, split_asks, command_by, show_by, map_by, check_by, differ_by, export_by, merge_by, repair_by, store_by, serve_by, words_by, image_by};
 
 use crate::options::{VALUED, chunk_of, form_of, options_of};
 use crate::wrong::Wrong;
@@ -77,6 +77,21 @@ pub enum Asked<'a> {
         dry: bool,
         form: Form,
     },
+    /// A new store of the pairs that are kept of one, damaged or not, with the words of a salvage.
+    Repair {
+        cow: &'a str,
+        new: &'a str,
+        chunk: Option<u32>,
+        behind: bool,
+        form: Form,
+    },
+    /// A new store whose snapshot of this origin is this array, with chunks of so many sectors, where they are given.
+    Store {
+        origin: &'a str,
+        array: &'a str,
+        new: &'a str,
+        chunk: Option<u32>,
+    },
     /// The snapshot and its origin served to a client on standard input and output.
     Serve {
         origin: &'a str,
@@ -130,6 +145,8 @@ fn ask<'a>(words: &Words<'a>, command: &'a str) -> Result<Asked<'a>, Wrong<'a>>
         "export" => export(words),
         "rollback" => export(words),
         "merge" => merge(words),
+        "repair" => repair(words),
+        "store" => store(words),
         "nbd" => serve(words),
         "words" => spell(words),
         "image" => hear(words),
@@ -214,6 +231,35 @@ fn merge<'a>(words: &Words<'a>) -> Result<Asked<'a>, Wrong<'a>>
         cow,
         dry,
         form,
+    })
+}
+
+fn repair<'a>(words: &Words<'a>) -> Result<Asked<'a>, Wrong<'a>>
+    ensures { told result ≡ repair_by (split_of words.now) }
+{
+    let (cow, new) = words.two("COW", "NEW")?;
+    let chunk = chunk_of(words)?;
+    let behind = words.has("--behind");
+    let form = form_of(words);
+    Ok(Asked::Repair {
+        cow,
+        new,
+        chunk,
+        behind,
+        form,
+    })
+}
+
+fn store<'a>(words: &Words<'a>) -> Result<Asked<'a>, Wrong<'a>>
+    ensures { told result ≡ store_by (split_of words.now) }
+{
+    let (origin, array, new) = words.three("ORIGIN", "SNAPSHOT", "NEW")?;
+    let chunk = chunk_of(words)?;
+    Ok(Asked::Store {
+        origin,
+        array,
+        new,
+        chunk,
     })
 }
 

@@ -14,6 +14,8 @@ usage: lochknife show COW [--json]
        lochknife export ORIGIN COW OUT [--salvage [--chunk N] [--behind]] [--json]
        lochknife rollback ORIGIN COW OUT [--json]
        lochknife merge ORIGIN COW [--dry-run] [--json]
+       lochknife repair COW NEW [--chunk N] [--behind] [--json]
+       lochknife store ORIGIN SNAPSHOT NEW [--chunk N]
        lochknife nbd ORIGIN COW
        lochknife words NAME IMAGE
        lochknife image OUT
@@ -24,19 +26,21 @@ usage: lochknife show COW [--json]
   check     as show, for this origin, and every fault of the pairs
   diff      the bytes in which snapshot and origin differ, neighbours joined: differs START LENGTH
   export    the array that the snapshot shows, into a new file OUT
-  rollback  the same file: what the origin holds after the whole merge
+  rollback  the same file as export: what the origin holds after the whole merge; merge is what changes ORIGIN
   merge     takes the copies back into ORIGIN itself, and its pairs away from COW; stopped at any moment, run it again
+  repair    a new store NEW of the pairs that a salvage of COW keeps, which a kernel loads
+  store     a new store NEW whose snapshot of ORIGIN is the array SNAPSHOT: of ORIGIN from before a merge, it undoes that
   nbd       serves the snapshot, for reading, to a client on standard input and output
   words     the lines of commands that make a disk NAME of dmrig with the bytes of any image
   image     the bytes that dmrig's answers to save tell, from standard input, into a new file OUT
 
-COW is an image of a snapshot's store, ORIGIN one of its origin: files or block devices. OUT must not be there; as - it
-is standard output. Options stand anywhere, a value behind its option or as --option=VALUE; after -- there are names only.
+COW is an image of a snapshot's store, ORIGIN one of its origin: files or block devices. OUT and NEW must not be there; as -
+they are standard output. Options stand anywhere, a value behind its option or as --option=VALUE; after -- there are names only.
 
   --json      the answer as JSON: an object, or one a line
   --raw       whether the store is good or not
   --salvage   of a store that is refused, or can't be read everywhere: what is known of the array, and a list of what is not
-  --chunk N   the sectors of a chunk, where the header is gone
+  --chunk N   the sectors of a chunk, where the header is gone; of store, else 8
   --behind    also by the pairs behind the first empty slot
   --dry-run   what a merge would do; nothing is written
   -h, --help, -V, --version

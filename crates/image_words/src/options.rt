@@ -23,6 +23,8 @@ pub fn options_of(command: &str) -> &'static [&'static str]
         "export" => &["--json", "--salvage", "--chunk", "--behind"],
         "rollback" => &["--json"],
         "merge" => &["--json", "--dry-run"],
+        "repair" => &["--json", "--chunk", "--behind"],
+        "store" => &["--chunk"],
         _ => &[],
     }
 }

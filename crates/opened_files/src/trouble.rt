@@ -56,6 +56,10 @@ pub enum Why {
     NoFile,
     /// It was opened in the place of a standard stream.
     NoStream,
+    /// No header says how many sectors its chunks have.
+    NoChunk,
+    /// It has so many sectors, and the origin so many.
+    Unequal(u64, u64),
     /// It has so many sectors, and no disk of `dmrig` has.
     NoDisk(u64),
     /// This line of it, counted from 1, is no answer of `dmrig` to `save`, `load` or `disk`, or has no end.
@@ -162,6 +166,16 @@ impl fmt::Display for Why {
             }
             Why::NoFile => write!(f, "no file: only files are merged"),
             Why::NoStream => write!(f, "standard input, output or error is closed"),
+            Why::NoChunk => write!(
+                f,
+                "no header says how many sectors a chunk has: give them by --chunk"
+            ),
+            Why::Unequal(own, origin) => {
+                write!(
+                    f,
+                    "{own} sectors, and the origin has {origin}: both must have as many"
+                )
+            }
             Why::NoDisk(sectors) => {
                 write!(f, "{sectors} sectors: a disk of dmrig has 1 to 16777216")
             }

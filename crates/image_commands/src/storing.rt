@@ -1,0 +1,80 @@
+// A new store is made of two arrays.
+ghost use Rattle.std.specs.Prelude.{◌≡◌, ◌≤◌, true};
+ghost use Rattle.chunk.specs.Sizes.{is_chunk};
+
+use crate::rolling::why_stopped;
+use chunk::is_chunk_size;
+use cow_image::MAX_IMAGE;
+use opened_files::{
+    Inputs, Trouble, Watched, Why, about, file_begun, file_ended, is_free, size_of,
+};
+use std::io::Write;
+use store_writer::write_between;
+
+/// The words of it.
+#[derive(Clone, Copy, PartialEq, Eq)]
+pub struct Words<'a> {
+    pub origin: &'a str,
+    pub array: &'a str,
+    pub new: &'a str,
+    pub chunk: Option<u32>,
+}
+
+/// The sectors of a chunk where none are given, as LVM takes them.
+const CHUNK: u32 = 8;
+
+/// Writes a new store whose snapshot of an origin is an array, which is as long.
+pub fn store<'a, W: Write>(
+    rt: &'a HostRuntime,
+    words: Words<'a>,
+    output: &mut W,
+) -> Result<bool, Trouble<'a>> {
+    is_free(rt, words.new)?;
+    let mut inputs = Inputs::open(rt, words.origin, words.array)?;
+    inputs.are_unused(rt, true)?;
+    let size = size_of(&mut inputs.origin)?;
+    let other = size_of(&mut inputs.cow)?;
+    if other != size {
+        let name = words.array;
+        let why = Why::Unequal(other, size);
+        return Err(Trouble { name, why });
+    }
+    let mut watched = file_begun(rt, words.new, 0, output)?;
+    let put = put_store(rt, &mut inputs, words, size, &mut watched);
+    file_ended(rt, words.new, put)?;
+    Ok(true)
+}
+
+/// The sectors of a chunk.
+fn chunk_in(words: Words<'_>) -> u32
+    ensures { is_chunk result ≡ true }
+{
+    match words.chunk {
+        Some(chunk) if is_chunk_size(chunk) => chunk,
+        _ => CHUNK,
+    }
+}
+
+/// Writes the store, makes it last, and sees that the inputs are still as they were read.
+fn put_store<'a, W: Write>(
+    rt: &HostRuntime,
+    inputs: &mut Inputs<'a>,
+    words: Words<'a>,
+    size: u64,
+    watched: &mut Watched<'_, '_, W>,
+) -> Result<(), Trouble<'a>>
+    requires { size ≤ MAX_IMAGE }
+{
+    inputs.cow.hush();
+    watched.hush();
+    let chunk = chunk_in(words);
+    let origin = &mut inputs.origin;
+    let array = &mut inputs.cow;
+    let put = write_between(rt.alloc(), origin, array, chunk, size, watched);
+    inputs.origin.hush();
+    if let Err(stopped) = put {
+        return Err(why_stopped(&inputs.origin, &inputs.cow, stopped, words.new));
+    }
+    about(words.new, watched.finish())?;
+    inputs.are_unchanged()
+}
