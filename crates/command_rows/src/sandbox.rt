@@ -6,8 +6,9 @@ use std::os::unix::fs::PermissionsExt;
 use std::{fs, io};
 
 /// Their names.
-const NAMES: [&str; 16] = [
+const NAMES: [&str; 18] = [
     "o.img",
+    "o.img.snapshots",
     "c.img",
     "c0.img",
     "c1.img",
@@ -20,6 +21,7 @@ const NAMES: [&str; 16] = [
     "out.img",
     "out.img.partial",
     "d/o.img",
+    "d/o.img.snapshots",
     "d/c.img",
     "d/out.img",
     "d/out.img.partial",

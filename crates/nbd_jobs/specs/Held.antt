@@ -1,5 +1,5 @@
 -- The jobs of a connection, and the pieces of them that are out, as contracts see them; and what becomes of both.
-use Rattle.std.specs.Prelude.{◌≡◌, ◌==◌, ℕ, ◌+◌, ◌≤◌, List, [], ◌∷◌, ◌++◌, length, map, min, Option, Some, None, MatchOption, slice_index_or, slice_set}
+use Rattle.std.specs.Prelude.{◌≡◌, ◌==◌, ℕ, List, [], ◌∷◌, ◌++◌, length, map, Option, Some, None, MatchOption, slice_index_or, slice_set}
 use Rattle.std.specs.List.{position, remove}
 use Rattle.nbd_messages.specs.declared.errors.ErrorValue.{ErrorValue}
 use Rattle.nbd_messages.specs.declared.request.Request.{Request}
@@ -19,10 +19,6 @@ asked_by jobs = map (λ j. j.request) jobs
 -- the requests that are not answered
 abbrev pub requests_of : Held → List Request
 requests_of held = asked_by held.jobs
-
--- the number of the next job; the last one stays
-abbrev pub next_serial : ℕ → ℕ
-next_serial given = min (given + 1) 18_446_744_073_709_551_615
 
 -- a job that begins
 abbrev pub opened : Request → ℕ → List ℕ → JobState

@@ -1,24 +1,13 @@
 -- To be believed: the replies to a job, by doc/proto.md of the NBD project: "Simple reply message", "Structured reply chunk
 -- message". Of the commands that are served, a read alone has a structured reply.
-use Rattle.std.specs.Prelude.{ℕ, Bool, true, false, List, ◌++◌, Option, Some, None, if◌then◌else◌}
+use Rattle.std.specs.Prelude.{ℕ, Bool, false, List, ◌++◌, Option, Some, None, if◌then◌else◌}
 use Rattle.nbd_messages.specs.declared.command.Command.{Command}
-use Rattle.nbd_messages.specs.declared.command.Command.TheVariants.{Read, Write, Disconnect, Flush, Trim, WriteZeroes, BlockStatus, Other}
 use Rattle.nbd_messages.specs.declared.errors.ErrorValue.{ErrorValue}
 use Rattle.nbd_messages.specs.declared.request.Request.{Request}
 use Rattle.nbd_messages.specs.Errors.{error_number}
 use Rattle.nbd_messages.specs.Reading.{data_start, error_reply}
 use Rattle.nbd_messages.specs.Replies.{simple_reply}
-use Rattle.nbd_jobs.specs.Steps.{JobState}
-
-abbrev pub is_read : Command → Bool
-is_read Read = true
-is_read Write = false
-is_read Disconnect = false
-is_read Flush = false
-is_read Trim = false
-is_read WriteZeroes = false
-is_read BlockStatus = false
-is_read Other = false
+use Rattle.nbd_jobs.specs.Steps.{JobState, is_read}
 
 -- the reply to a request that failed
 abbrev pub failure_reply : Bool → ErrorValue → Request → List ℕ

@@ -83,18 +83,19 @@ IsBegun sectors Done = true
 abbrev pub piece_len : ℕ → ℕ → ℕ → ℕ
 piece_len chunk first left = min left (chunk - first % chunk)
 
--- the next piece of a request of which so many sectors were handed out
-abbrev pub next_piece : ℕ → Request → ℕ → Work
-next_piece chunk request sent = record {
+-- the next piece of a request, which has a number, and of which so many sectors were handed out
+abbrev pub next_piece : ℕ → Request → ℕ → ℕ → Work
+next_piece chunk request serial sent = record {
+  serial = serial;
   kind = kind_by request.command;
   first = first_of request + sent;
   count = piece_len chunk (first_of request + sent) (sectors_of request - sent);
   at = sent;
 }
 
--- a flush, which has no range
-abbrev pub a_flush : Work
-a_flush = record { kind = ToFlush; first = 0; count = 0; at = 0 }
+-- a flush for it, which has no range
+abbrev pub a_flush : ℕ → Work
+a_flush serial = record { serial = serial; kind = ToFlush; first = 0; count = 0; at = 0 }
 
 -- a piece lies within so many bytes
 abbrev pub IsWithin : ℕ → Work → Type 0
@@ -105,11 +106,11 @@ abbrev pub IsInside : ℕ → Work → Type 0
 IsInside bytes work = work.kind ≡ ToWrite → IsWithin bytes work
 
 -- What is to be done next of a job, if anything.
-abbrev pub work_at : ℕ → Request → Stage → Option Work
-work_at chunk request (Moving sent) = if nat_lt sent (sectors_of request) then Some (next_piece chunk request sent) else None
-work_at chunk request Lasting = Some a_flush
-work_at chunk request Flushing = None
-work_at chunk request Done = None
+abbrev pub work_at : ℕ → Request → ℕ → Stage → Option Work
+work_at chunk request serial (Moving sent) = if nat_lt sent (sectors_of request) then Some (next_piece chunk request serial sent) else None
+work_at chunk request serial Lasting = Some (a_flush serial)
+work_at chunk request serial Flushing = None
+work_at chunk request serial Done = None
 
 abbrev pub has_work_at : Request → Stage → Bool
 has_work_at request (Moving sent) = nat_lt sent (sectors_of request)
@@ -185,14 +186,29 @@ failed error job = record {
   bytes = job.bytes;
 }
 
--- a job with the bytes of a piece, from a sector of it on, where they have their place in it
+-- whether a request is answered bytes
+abbrev pub is_read : Command → Bool
+is_read Read = true
+is_read Write = false
+is_read Disconnect = false
+is_read Flush = false
+is_read Trim = false
+is_read WriteZeroes = false
+is_read BlockStatus = false
+is_read Other = false
+
+-- bytes with those of a piece, from a sector on, where they have their place in it
+abbrev pub filled_bytes : ℕ → List ℕ → List ℕ → List ℕ
+filled_bytes at part bytes = if nat_lt (length bytes) (512 * at + length part) then bytes else with_bytes bytes (512 * at) part
+
+-- a job with the bytes of a piece; one that is no read keeps its own
 abbrev pub filled : ℕ → List ℕ → JobState → JobState
 filled at part job = record {
   request = job.request;
   serial = job.serial;
   stage = job.stage;
   error = job.error;
-  bytes = if nat_lt (length job.bytes) (512 * at + length part) then job.bytes else with_bytes job.bytes (512 * at) part;
+  bytes = if is_read job.request.command then filled_bytes at part job.bytes else job.bytes;
 }
 
 -- whether a piece of a job is out

@@ -140,10 +140,11 @@ impl Job {
     fn next_piece(&self, chunk: u32, sent: u32) -> Work
         requires some { 0 < chunk }
         requires left { sent < sectors_of self.now.request }
-        ensures { result ≡ next_piece_of chunk self.now.request sent }
+        ensures { result ≡ next_piece_of chunk self.now.request self.now.serial sent }
     {
         let first = self.request.offset / 512 + sent as u64;
         Work {
+            serial: self.serial,
             kind: kind_of(self.request.command),
             first,
             count: piece_len(chunk, first, self.sectors() - sent),
@@ -165,7 +166,7 @@ impl Job {
     /// What is to be done next of it.
     pub fn work(&self, chunk: u32) -> Option<Work>
         requires { 0 < chunk }
-        ensures is { result ≡ work_at chunk self.now.request self.now.stage }
+        ensures is { result ≡ work_at chunk self.now.request self.now.serial self.now.stage }
         ensures inside { IfSome result (IsInside (length self.now.bytes)) }
     {
         match self.stage {
@@ -177,6 +178,7 @@ impl Job {
                 }
             }
             Stage::Lasting => Some(Work {
+                serial: self.serial,
                 kind: Kind::Flush,
                 first: 0,
                 count: 0,
@@ -291,10 +293,13 @@ impl Job {
         }
     }
 
-    /// The bytes of a piece came, from a sector of it on. Such as have no place in it are left out.
+    /// The bytes of a piece of a read came, from a sector of it on. Such as have no place in it are left out.
     pub fn fill(&mut self, at: u32, part: &[u8])
         ensures { self.new ≡ filled at part.now self.old }
     {
+        if self.request.command != Command::Read {
+            return;
+        }
         let from = 512 * at as usize;
         let Some(end) = from.checked_add(part.len()) else {
             return;

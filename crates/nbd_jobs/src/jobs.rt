@@ -3,7 +3,7 @@ ghost use Rattle.std.specs.Prelude.{◌≡◌, ◌==◌, ℕ, ◌+◌, ◌<◌, 
 ghost use Rattle.std.specs.List.{position, remove};
 ghost use Rattle.nbd_jobs.specs.declared.jobs.Piece.{Piece as PieceOf};
 ghost use Rattle.nbd_jobs.specs.Steps.{JobState, room_of, has_work, is_done, is_out as is_out_of, sent_of, handed, failed, filled, settled};
-ghost use Rattle.nbd_jobs.specs.Held.{Held, opened, next_serial, Became, IsBackAt, asked_by, failed_by, requests_of, taken_back};
+ghost use Rattle.nbd_jobs.specs.Held.{Held, opened, Became, IsBackAt, asked_by, failed_by, requests_of, taken_back};
 
 use crate::bytes::Bytes;
 use crate::job::{Job, Stage};
@@ -91,15 +91,17 @@ impl Jobs {
         &self.list[place]
     }
 
-    /// A request is taken in. Without memory nothing changes.
+    /// A request is taken in. Without memory, or where no number is left, nothing changes.
     pub fn take_in(&mut self, request: Request, bytes: Bytes) -> Result<(), AllocError>
         requires few { length self.old.jobs < 256 }
         requires sized { length bytes ≡ room_of request }
         requires short { length bytes ≤ 33_554_432 }
-        ensures ok { OnOk result (self.new ≡ record { jobs = self.old.jobs ++ opened request (next_serial self.old.given) bytes ∷ []; out = self.old.out; given = next_serial self.old.given }) }
+        ensures ok { OnOk result (self.new ≡ record { jobs = self.old.jobs ++ opened request (self.old.given + 1) bytes ∷ []; out = self.old.out; given = self.old.given + 1 }) }
         ensures err { OnErr result (self.new ≡ self.old) }
     {
-        let serial = self.given.saturating_add(1);
+        let Some(serial) = self.given.checked_add(1) else {
+            return Err(AllocError);
+        };
         match self.list.push(Job::new(request, serial, bytes)) {
             Ok(()) => {
                 self.given = serial;

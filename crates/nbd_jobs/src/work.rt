@@ -11,9 +11,10 @@ pub enum Kind {
     Flush,
 }
 
-/// A piece of a job that is to be done: sectors of the array, of which the first is so many behind the job's first.
+/// A piece of the job with this number that is to be done: sectors of the array, of which the first is so many behind the job's first.
 #[derive(Clone, Copy, PartialEq, Eq)]
 pub struct Work {
+    pub serial: u64,
     pub kind: Kind,
     pub first: u64,
     pub count: u32,

@@ -9,28 +9,38 @@ use Rattle.nbd_messages.specs.Requests.{request_in}
 use Rattle.nbd_messages.specs.Writing.{payload}
 use Rattle.nbd_jobs.specs.Refused.{refusal_of}
 use Rattle.nbd_session.specs.Asked.{Asks, AreAsked, IsNext, IsOver}
+use Rattle.nbd_session.specs.Owed.{Owed, given_with, owed_for}
 use Rattle.nbd_session.specs.Stream.{Stream, dropped, left, lessened, rest_of, thinned}
 
 -- nothing is asked
-pub asks_none : (size : ℕ) (known : Option (List ℕ)) → Asks size [] known known
-asks_none size None = tt
-asks_none size (Some bytes) = refl
+pub asks_none : (size given : ℕ) (known : Option (List ℕ)) → Asks size given [] known known given
+asks_none size given None = tt
+asks_none size given (Some bytes) = (refl, refl)
 
-are_asked_then : (size : ℕ) (first second : List Request) (bytes middle rest : List ℕ) → AreAsked size first bytes middle → AreAsked size second middle rest → AreAsked size (first ++ second) bytes rest
-are_asked_then size [] second bytes middle rest now later = let P : List ℕ → Type 0 = λ l. AreAsked size second l rest in subst P (sym now) later
-are_asked_then size (request ∷ first) second bytes middle rest now later = (now.0, now.1, are_asked_then size first second (drop (28 + payload request) bytes) middle rest now.2 later)
+are_asked_then : (size given middle_given last : ℕ) (first second : List Owed) (bytes middle rest : List ℕ) → AreAsked size given first bytes middle middle_given → AreAsked size middle_given second middle rest last → AreAsked size given (first ++ second) bytes rest last
+are_asked_then size given middle_given last [] second bytes middle rest (now, count) later =
+    let P : List ℕ → Type 0 = λ l. AreAsked size given second l rest last in
+    let Q : ℕ → Type 0 = λ n. AreAsked size n second middle rest last in
+    subst P (sym now) (subst Q count later)
+are_asked_then size given middle_given last (owed ∷ first) second bytes middle rest now later =
+    (now.0, now.1, now.2, are_asked_then size (given_with owed.refusal given) middle_given last first second (drop (28 + payload owed.request) bytes) middle rest now.3 later)
 
 -- some is asked, and then more
-pub asks_then : (size : ℕ) (first second : List Request) (a b c : Option (List ℕ)) → Asks size first a b → Asks size second b c → Asks size (first ++ second) a c
-asks_then size first second None b c now later = tt
-asks_then size first second (Some x) None c now later = absurd now
-asks_then size first second (Some x) (Some y) None now later = absurd later
-asks_then size first second (Some x) (Some y) (Some z) now later = are_asked_then size first second x y z now later
+pub asks_then : (size given middle last : ℕ) (first second : List Owed) (a b c : Option (List ℕ)) → Asks size given first a b middle → Asks size middle second b c last → Asks size given (first ++ second) a c last
+asks_then size given middle last first second None b c now later = tt
+asks_then size given middle last first second (Some x) None c now later = absurd now
+asks_then size given middle last first second (Some x) (Some y) None now later = absurd later
+asks_then size given middle last first second (Some x) (Some y) (Some z) now later = are_asked_then size given middle last first second x y z now later
+
+-- what is left to be taken, or what of it was heard
+abbrev pub front_of : Stream → Option (List ℕ) → List ℕ
+front_of s None = s.heard
+front_of s (Some bytes) = rest_of s bytes
 
 -- one request is taken from the front of what was heard
-pub asks_one : (size : ℕ) (request : Request) (old new : Stream) (known : Option (List ℕ)) → ((bytes : List ℕ) → IsNext size request (rest_of old bytes)) → (request.command ≡ Disconnect → ⊥) → ((bytes : List ℕ) → rest_of new bytes ≡ drop (28 + payload request) (rest_of old bytes)) → Asks size (request ∷ []) (left old known) (left new known)
-asks_one size request old new None next stays rest = tt
-asks_one size request old new (Some bytes) next stays rest = (next bytes, stays, sym (rest bytes))
+pub asks_one : (size given with_it : ℕ) (request : Request) (old new : Stream) (known : Option (List ℕ)) → with_it ≡ given_with (refusal_of size request) given → ((bytes : List ℕ) → IsNext size request (rest_of old bytes)) → (request.command ≡ Disconnect → ⊥) → ((bytes : List ℕ) → rest_of new bytes ≡ drop (28 + payload request) (rest_of old bytes)) → Asks size given (owed_for size given request (front_of old known) ∷ []) (left old known) (left new known) with_it
+asks_one size given with_it request old new None count next stays rest = tt
+asks_one size given with_it request old new (Some bytes) count next stays rest = (next bytes, stays, refl, (sym (rest bytes), count))
 
 -- where no byte is unwanted, what was heard is the front of what is left
 rest_calm : (s : Stream) (bytes : List ℕ) → s.unwanted ≡ 0 → rest_of s bytes ≡ s.heard ++ bytes
@@ -60,6 +70,15 @@ next_heard size request s bytes calm header is whole = record {
   is = ap request_in (front_heard s 28 bytes calm header) ∙ is;
   whole = λ none. longer_rest s (28 + payload request) bytes calm (whole none);
 }
+
+-- the payload of the next request, which was heard
+pub payload_heard : (s : Stream) (n : ℕ) (known : Option (List ℕ)) → s.unwanted ≡ 0 → 28 + n ≤ length s.heard → take n (drop 28 (front_of s known)) ≡ take n (drop 28 s.heard)
+payload_heard s n None calm inside = refl
+payload_heard s n (Some bytes) calm inside =
+    let there : 28 ≤ length s.heard = omega (arith, inside) in
+    let behind : length (drop 28 s.heard) ≡ length s.heard - 28 = length-drop 28 s.heard in
+    let few : n ≤ length (drop 28 s.heard) = omega (arith, inside, behind) in
+    ap (λ (l : List ℕ). take n (drop 28 l)) (rest_calm s bytes calm) ∙ ap (take n) (drop-append-le 28 s.heard bytes there) ∙ take-append-le n (drop 28 s.heard) bytes few
 
 -- a request that is served is taken with its payload
 pub rest_taken : (s : Stream) (n : ℕ) (bytes : List ℕ) → s.unwanted ≡ 0 → n ≤ length s.heard → rest_of (dropped n s) bytes ≡ drop n (rest_of s bytes)
@@ -155,10 +174,10 @@ over_ended size s None end over = tt
 over_ended size s (Some bytes) end over = let P : List ℕ → Type 0 = λ l. IsOver size (rest_of s l) in subst P (sym end) over
 
 -- what is left stays, and nothing is asked
-pub asks_kept : (size : ℕ) (a b : Option (List ℕ)) → Keeps a b → Asks size [] a b
-asks_kept size None b kept = tt
-asks_kept size (Some x) None kept = absurd kept
-asks_kept size (Some x) (Some y) kept = sym kept
+pub asks_kept : (size given last : ℕ) (a b : Option (List ℕ)) → last ≡ given → Keeps a b → Asks size given [] a b last
+asks_kept size given last None b same kept = tt
+asks_kept size given last (Some x) None same kept = absurd kept
+asks_kept size given last (Some x) (Some y) same kept = (sym kept, same)
 
 -- bytes come behind what was heard, of which those that nobody wants go: what is left stays
 pub heard_kept : (heard more : List ℕ) (unwanted : ℕ) (old new : Option (List ℕ)) → Consumes old new more → Keeps (left (record { heard = heard; unwanted = unwanted }) old) (left (thinned (record { heard = heard ++ more; unwanted = unwanted })) new)

@@ -14,7 +14,7 @@ use Rattle.nbd_options.specs.declared.session.Stage.{Stage}
 use Rattle.nbd_options.specs.declared.session.Stage.TheVariants.{Opening, Haggling, Serving, Over}
 use Rattle.nbd_session.specs.Come.{AsksNone, Came, Haggles, Left, Opens}
 use Rattle.nbd_session.specs.Haggling.{AreHaggled, IsHaggledTo, IsLeft, IsOpened, IsOption, answer_to, goes_on, is_passed, opened_by, passed}
-use Rattle.nbd_session.specs.Session.{IsGone, IsSession}
+use Rattle.nbd_session.specs.Session.{IsGone, IsLeftSession}
 use Rattle.nbd_session.specs.Stream.{Stream, dropped, left, lessened, rest_of}
 use Rattle.nbd_session.specs.declared.ended.Finish.TheVariants.{Client}
 use Rattle.nbd_session.proofs.Asked.{calm_front, calm_longer, calm_taken, front_heard, longer_rest, rest_passed, rest_taken}
@@ -177,17 +177,17 @@ pub left_over : (session : Session) (known : Option (List ℕ)) → session.stag
 left_over session None over = tt
 left_over session (Some rest) over = let P : Stage → Type 0 = λ s. IsLeft s rest in subst P (sym over) tt
 
-gone : (exports : List Export) (after : Session) (old rest : Option (List ℕ)) (answers : List ℕ) → Came exports after old rest answers → IfSome rest (IsLeft after.stage) → IfSome old (λ bytes. IsSession exports Client bytes (greeting ++ answers))
+gone : (exports : List Export) (after : Session) (old rest : Option (List ℕ)) (answers : List ℕ) → Came exports after old rest answers → IfSome rest (IsLeft after.stage) → IfSome old (λ bytes. IsLeftSession exports bytes (greeting ++ answers))
 gone exports after None rest answers came left = tt
 gone exports after (Some x) None answers came left = absurd came
-gone exports after (Some x) (Some y) answers came left = inr (inl (refl, record { after = after; rest = y; answers = answers; haggled = came; left = left; are = refl }))
+gone exports after (Some x) (Some y) answers came left = inl (record { after = after; rest = y; answers = answers; haggled = came; left = left; are = refl })
 
 pub left_gone : (exports : List Export) (after : Session) (old rest wrote writes : Option (List ℕ)) (answers : List ℕ) → Came exports after old rest answers → IfSome rest (IsLeft after.stage) → Appends wrote writes (greeting ++ answers) → Left exports old wrote writes
 left_gone exports after old rest wrote writes answers came left told = record { said = greeting ++ answers; session = gone exports after old rest answers came left; told = told }
 
-unopened : (exports : List Export) (old : Option (List ℕ)) → IfSome old (λ bytes. IsOpened bytes → ⊥) → IfSome old (λ bytes. IsSession exports Client bytes greeting)
+unopened : (exports : List Export) (old : Option (List ℕ)) → IfSome old (λ bytes. IsOpened bytes → ⊥) → IfSome old (λ bytes. IsLeftSession exports bytes greeting)
 unopened exports None none = tt
-unopened exports (Some x) none = inr (inr (refl, none, refl))
+unopened exports (Some x) none = inr (none, refl)
 
 pub left_unopened : (exports : List Export) (old wrote writes : Option (List ℕ)) → IfSome old (λ bytes. IsOpened bytes → ⊥) → Appends wrote writes greeting → Left exports old wrote writes
 left_unopened exports old wrote writes none told = record { said = greeting; session = unopened exports old none; told = told }

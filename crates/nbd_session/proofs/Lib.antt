@@ -1,6 +1,12 @@
 pub mod Answered
 pub mod Asked
+pub mod Called
+pub mod Calling
+pub mod Counted
+pub mod Dealt
 pub mod Heard
+pub mod Kept
 pub mod Moved
+pub mod Worked
 pub mod Come
 pub mod Served

@@ -1,55 +1,63 @@
 -- To be believed: what is said to a client beside the answers to options, by doc/proto.md of the NBD project: "Transmission".
 -- Each request has one reply, in any order.
-use Rattle.std.specs.Prelude.{◌≡◌, ℕ, ◌⊎◌, Bool, List, ◌++◌, length, map, Option, Some, None, MatchOption}
+use Rattle.std.specs.Prelude.{◌≡◌, ℕ, ◌⊎◌, Bool, List, ◌∷◌, ◌++◌, map, replicate, Option, Some, None, MatchOption, if◌then◌else◌}
 use Rattle.std.specs.List.{All, flat_map}
 use Rattle.std.specs.List.Sorted.{IsPermutation}
 use Rattle.nbd_messages.specs.declared.errors.ErrorValue.{ErrorValue}
+use Rattle.nbd_messages.specs.declared.errors.ErrorValue.TheVariants.{Io}
 use Rattle.nbd_messages.specs.declared.request.Request.{Request}
-use Rattle.nbd_jobs.specs.Held.{Held, requests_of}
-use Rattle.nbd_jobs.specs.Refused.{refusal_of}
-use Rattle.nbd_jobs.specs.Steps.{JobState, room_of}
-use Rattle.nbd_jobs.specs.Replied.{failure_reply, reply_of}
+use Rattle.nbd_messages.specs.Reading.{data_start}
+use Rattle.nbd_messages.specs.Replies.{simple_reply}
+use Rattle.nbd_jobs.specs.Replied.{failure_reply}
+use Rattle.nbd_jobs.specs.Steps.{is_read}
+use Rattle.served_array.specs.Calls.{Call, Step}
+use Rattle.served_array.specs.declared.array.Stepped.TheVariants.{Ended}
+use Rattle.nbd_session.specs.Owed.{Owed}
+use Rattle.nbd_session.specs.Pieces.{Deal, IsDone, asked_count, deals_of, error_in, laid}
 
--- a request that is owed a reply, and why it is refused, if it is
-pub record Owed : Type 0 where
-  pub request : Request
-  pub refusal : Option ErrorValue
+-- the reply to a request that was done; these bytes follow it where it is a read
+abbrev pub success_reply : Bool → Request → List ℕ → List ℕ
+success_reply structured request bytes = if is_read request.command then data_start structured request ++ bytes else simple_reply 0 request.cookie
 
--- what is owed a client for a request, by an export of so many bytes
-abbrev pub owed_for : ℕ → Request → Owed
-owed_for size request = record { request = request; refusal = refusal_of size request }
+-- A request that failed: the first error of its pieces is told, or EIO where the array was not to be written any more.
+pub record IsFailed (structured : Bool) (owed : Owed) (calls : List Call) (said : List ℕ) : Type 0 where
+  pub error : ErrorValue
+  pub is : said ≡ failure_reply structured error owed.request
+  pub why : (error_in (deals_of owed.serial calls) ≡ Some error) ⊎ ((error ≡ Io) × ((earlier : List Call) × (calls ≡ Step Ended ∷ earlier)))
 
--- what is owed for a request that is served
-abbrev pub served : Request → Owed
-served request = record { request = request; refusal = None }
+-- One that was done: all that it asks for is back without an error. A read is answered the bytes that came, each piece's at its place.
+pub record IsAnswered (structured : Bool) (chunk : ℕ) (owed : Owed) (calls : List Call) (said : List ℕ) : Type 0 where
+  pub done : IsDone chunk owed.request owed.serial owed.brought (deals_of owed.serial calls)
+  pub good : error_in (deals_of owed.serial calls) ≡ None
+  pub is : said ≡ success_reply structured owed.request (laid (replicate owed.request.length 0) (deals_of owed.serial calls))
 
--- what is owed for jobs
-abbrev pub owing : Held → List Owed
-owing held = map served (requests_of held)
+abbrev pub IsServedReply : Bool → ℕ → Owed → List Call → List ℕ → Type 0
+IsServedReply structured chunk owed calls said = IsFailed structured owed calls said ⊎ IsAnswered structured chunk owed calls said
 
--- The bytes are a reply to a request that is served: an error of the protocol, or that of a job of it, which for a read has as
--- many bytes as were asked for.
-abbrev pub IsServedReply : Bool → Request → List ℕ → Type 0
-IsServedReply structured request said =
-    ((error : ErrorValue) × (said ≡ failure_reply structured error request))
-    ⊎ ((job : JobState) × (job.request ≡ request) × (length job.bytes ≡ room_of request) × (said ≡ reply_of structured job))
+-- The bytes are the reply that is owed, once these calls were made: that of its refusal where it is refused.
+abbrev pub IsReplyTo : Bool → ℕ → Owed → List Call → List ℕ → Type 0
+IsReplyTo structured chunk owed calls said =
+    MatchOption owed.refusal (IsServedReply structured chunk owed calls said) (λ error. said ≡ failure_reply structured error owed.request)
 
--- They are the reply that is owed: that of its refusal where it is refused.
-abbrev pub IsReplyTo : Bool → Owed → List ℕ → Type 0
-IsReplyTo structured owed said =
-    MatchOption owed.refusal (IsServedReply structured owed.request said) (λ error. said ≡ failure_reply structured error owed.request)
+-- these calls, of which the last stands first, were made at some time
+abbrev pub IsMoment : List Call → List Call → Type 0
+IsMoment moment calls = (later : List Call) × (calls ≡ later ++ moment)
 
--- the bytes of a reply, and what it was owed for
+-- the bytes of a reply, what it was owed for, and the calls when it was given
 pub record Reply : Type 0 where
   pub owed : Owed
+  pub moment : List Call
   pub said : List ℕ
 
-abbrev pub IsReply : Bool → Reply → Type 0
-IsReply structured reply = IsReplyTo structured reply.owed reply.said
+-- It was given at a moment of these calls; no piece of what was served is asked for after that.
+pub record IsReply (structured : Bool) (chunk : ℕ) (calls : List Call) (reply : Reply) : Type 0 where
+  pub moment : IsMoment reply.moment calls
+  pub is : IsReplyTo structured chunk reply.owed reply.moment reply.said
+  pub last : reply.owed.refusal ≡ None → asked_count (deals_of reply.owed.serial calls) ≡ asked_count (deals_of reply.owed.serial reply.moment)
 
 -- Of what was owed before, each has one reply in these bytes or is owed still, and the bytes are just these replies.
-pub record Answers (structured : Bool) (before after : List Owed) (said : List ℕ) : Type 0 where
+pub record Answers (structured : Bool) (chunk : ℕ) (calls : List Call) (before after : List Owed) (said : List ℕ) : Type 0 where
   pub replies : List Reply
-  pub each : All (IsReply structured) replies
+  pub each : All (IsReply structured chunk calls) replies
   pub are : said ≡ flat_map (λ r. r.said) replies
   pub one : IsPermutation before (map (λ r. r.owed) replies ++ after)

@@ -8,8 +8,7 @@ use Rattle.nbd_options.specs.declared.session.Place.{Place}
 use Rattle.nbd_options.specs.declared.session.Session.{Session}
 use Rattle.nbd_options.specs.declared.session.Stage.TheVariants.{Serving}
 use Rattle.nbd_session.specs.Haggling.{AreHaggled, IsHaggledTo, IsOpened, IsOption, opened_by}
-use Rattle.nbd_session.specs.Session.{IsSession}
-use Rattle.nbd_session.specs.declared.ended.Finish.TheVariants.{Client}
+use Rattle.nbd_session.specs.Session.{IsLeftSession}
 
 -- the flags were heard
 abbrev pub Opens : Session → Option (List ℕ) → Option (List ℕ) → Type 0
@@ -45,7 +44,7 @@ pub record Chose (exports : List Export) (place : Place) (structured : Bool) (ol
 -- or it went
 pub record Left (exports : List Export) (old wrote writes : Option (List ℕ)) : Type 0 where
   pub said : List ℕ
-  pub session : IfSome old (λ bytes. IsSession exports Client bytes said)
+  pub session : IfSome old (λ bytes. IsLeftSession exports bytes said)
   pub told : Appends wrote writes said
 
 abbrev pub Comes : List Export → Option (Place × Bool) → Option (List ℕ) → Option (List ℕ) → Option (List ℕ) → Option (List ℕ) → Type 0

@@ -1,6 +1,9 @@
 pub mod Stream
+pub mod Owed
+pub mod Pieces
 pub mod Asked
 pub mod Answered
+pub mod Kept
 pub mod Moved
 pub mod Took
 pub mod Haggling

@@ -4,7 +4,7 @@ use Rattle.nbd_messages.specs.declared.command.Command.{Command}
 use Rattle.nbd_messages.specs.declared.command.Command.TheVariants.{Read, Write, Disconnect, Flush, Trim, WriteZeroes, BlockStatus, Other}
 use Rattle.nbd_messages.specs.declared.request.Request.{Request}
 use Rattle.nbd_messages.specs.Writing.{payload}
-use Rattle.nbd_jobs.specs.Held.{Held, next_serial, opened}
+use Rattle.nbd_jobs.specs.Held.{Held, opened}
 use Rattle.nbd_session.specs.Asked.{IsOver}
 use Rattle.nbd_session.specs.Stream.{Stream, dropped, rest_of}
 use Rattle.nbd_session.specs.declared.taking.Took.{Took}
@@ -33,7 +33,8 @@ abbrev pub IsTakenIn : Request → Stream → Stream → Held → Held → Type 
 IsTakenIn request input input' jobs jobs' =
     (input' ≡ dropped (28 + payload request) input)
     × (jobs'.out ≡ jobs.out)
-    × (jobs'.jobs ≡ jobs.jobs ++ opened request (next_serial jobs.given) (kept_by request.command request.length (slice_range input.heard 28 (28 + payload request))) ∷ [])
+    × (jobs'.given ≡ jobs.given + 1)
+    × (jobs'.jobs ≡ jobs.jobs ++ opened request (jobs.given + 1) (kept_by request.command request.length (slice_range input.heard 28 (28 + payload request))) ∷ [])
 
 -- Where none is there as a whole, nothing more is asked if nothing more comes; where the client goes, whatever comes.
 abbrev pub IsOverAt : ℕ → Took → Stream → Type 0

@@ -5,7 +5,12 @@
 //! It promises of a whole session, where it ends well: what is said is the greeting, the answers to options, and one reply to each
 //! request that was taken, under its cookie, and nothing else; where the client ends it, no whole request is left but one that
 //! disconnects. `specs/Session` says so. At most `nbd_jobs::MOST_JOBS` requests are held, and `MOST_BYTES` of their bytes before the
-//! last. Which pieces the array is handed is no clause.
+//! last.
+//!
+//! Each reply is what the calls of the array say till then: the request's sectors were asked for piece by piece, each once, a write's
+//! with the client's bytes; a read is answered the bytes that came back, each piece's at its place; a flush, or a write that is to last,
+//! is answered once a flush that was asked behind its pieces is back; an error is the first of its pieces, or EIO where the array ended.
+//! `specs/Pieces` and `specs/Answered` say so.
 #![tactic(auto)]
 
 mod ended;

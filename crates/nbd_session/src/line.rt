@@ -1,7 +1,6 @@
 // A connection: what was heard, what is to be said, and the requests that are not answered.
 ghost use Rattle.std.specs.Prelude.{◌≡◌, ◌<◌, [], IfOk, OnOk};
 ghost use Rattle.std.specs.Io.KnownBytes.{Appends};
-ghost use Rattle.nbd_jobs.specs.Held.{requests_of};
 
 use crate::ended::Ended;
 use crate::input::Input;
@@ -37,7 +36,7 @@ impl Line {
         structured: bool,
     ) -> Result<Line, AllocError>
         requires { 0 < chunk }
-        ensures { IfOk result (λ line. (requests_of line.jobs ≡ []) × (line.input ≡ input) × (line.out.items ≡ []) × (line.size ≡ size) × (line.structured ≡ structured)) }
+        ensures { IfOk result (λ line. (line.jobs ≡ record { jobs = []; out = []; given = 0 }) × (line.input ≡ input) × (line.out.items ≡ []) × (line.size ≡ size) × (line.structured ≡ structured) × (line.chunk ≡ chunk)) }
     {
         Ok(Line {
             input,

@@ -1,9 +1,9 @@
 // A client is served.
 ghost use Rattle.std.specs.Prelude.{◌≡◌, ℕ, List, [], false, IfOk, IfSome, None, Some};
-ghost use Rattle.nbd_jobs.specs.Held.{requests_of};
 ghost use Rattle.std.specs.Io.KnownBytes.{Appends, IsAtEnd};
+ghost use Rattle.served_array.specs.Calls.{Call, Called, CallsTo};
 ghost use Rattle.nbd_session.specs.Asked.{IsOver};
-ghost use Rattle.nbd_session.specs.Moved.{Moves, MovesHearing};
+ghost use Rattle.nbd_session.specs.Moved.{Moves, MovesCalling, MovesHearing};
 ghost use Rattle.nbd_session.specs.Session.{IsSession};
 ghost use Rattle.nbd_session.specs.Stream.{left};
 ghost use Rattle.nbd_session.specs.Took.{IsOverAt};
@@ -15,14 +15,53 @@ use crate::line::Line;
 use crate::options::chosen;
 use crate::taking::Took;
 use nbd_options::Export;
-use served_array::Array;
+use served_array::{Array, Stepped};
 use std::alloc::Global;
 use std::io::{Read, Write};
 
 /// Where so many requests are not answered, no rest of another one is waited for.
 const MOST_HEARD: usize = 64;
 
+/// So many steps are done before the client is heard, where nothing of it is open.
+const MOST_IDLE: usize = 16;
+
 impl Line {
+    /// Does something for which no request waits. `false` where nothing is left to do.
+    fn idle_step<A: Array>(&mut self, array: &mut A) -> bool
+        ensures moves { CallsTo A.does array.old array.new (MovesCalling self.old self.new) }
+        ensures input { self.new.input ≡ self.old.input }
+        ensures size { self.new.size ≡ self.old.size }
+        ensures out { self.new.out.items ≡ self.old.out.items }
+        ensures none { self.old.jobs.jobs ≡ [] → self.new.jobs.jobs ≡ [] }
+    {
+        match array.step() {
+            Stepped::Still => false,
+            Stepped::Ended => false,
+            Stepped::Idle => true,
+            Stepped::Done => true,
+            Stepped::Slow => true,
+            Stepped::Back(number, bytes, error) => {
+                self.take_back(number, bytes.as_slice(), error);
+                true
+            }
+        }
+    }
+
+    /// Goes on with what no request waits for, for some steps.
+    fn idle<A: Array>(&mut self, array: &mut A)
+        ensures moves { CallsTo A.does array.old array.new (MovesCalling self.old self.new) }
+        ensures input { self.new.input ≡ self.old.input }
+        ensures size { self.new.size ≡ self.old.size }
+        ensures out { self.new.out.items ≡ self.old.out.items }
+        ensures none { self.old.jobs.jobs ≡ [] → self.new.jobs.jobs ≡ [] }
+    {
+        for _ in 0..MOST_IDLE {
+            if !self.idle_step(array) {
+                return;
+            }
+        }
+    }
+
     /// Whether what was heard is to be served before more is heard.
     fn is_enough(&self, took: Took) -> bool {
         took != Took::None || self.input.is_empty() || MOST_HEARD <= self.jobs.len()
@@ -75,7 +114,7 @@ impl Line {
     }
 
     /// Serves requests until the client goes.
-    #[tactic(auto, using(crate::proofs::Moved::asked_none))]
+    #[tactic(auto, using(crate::proofs::Moved::none_left))]
     fn run<A: Array, R: Read, W: Write>(
         &mut self,
         alloc: Global,
@@ -83,8 +122,8 @@ impl Line {
         reader: &mut R,
         writer: &mut W,
     ) -> Result<Finish, Ended>
-        ensures moves { IfOk result (λ _. Moves self.old self.new (R.remaining reader.old) (R.remaining reader.new) (W.contents writer.old) (W.contents writer.new)) }
-        ensures none { IfOk result (λ _. (requests_of self.new.jobs ≡ []) × (self.new.out.items ≡ [])) }
+        ensures moves { IfOk result (λ _. CallsTo A.does array.old array.new (Moves self.old self.new (R.remaining reader.old) (R.remaining reader.new) (W.contents writer.old) (W.contents writer.new))) }
+        ensures none { IfOk result (λ _. (self.new.jobs.jobs ≡ []) × (self.new.out.items ≡ [])) }
         ensures over { result ≡ Ok Client → IfSome (left self.new.input (R.remaining reader.new)) (IsOver self.old.size) }
     {
         let mut hears = true;
@@ -92,6 +131,7 @@ impl Line {
             let took = self.take_all(alloc)?;
             if self.jobs.len() == 0 {
                 self.say(writer)?;
+                self.idle(array);
                 match self.go_on(alloc, took, hears, reader)? {
                     Some(more) => hears = more,
                     None => return Ok(Finish::Client),
@@ -113,7 +153,7 @@ pub fn serve<A: Array, R: Read, W: Write>(
     reader: &mut R,
     writer: &mut W,
 ) -> Result<Finish, Ended>
-    ensures { IfOk result (λ finish. IfSome (R.remaining reader.old) (λ bytes. (said : List ℕ) × IsSession exports.now finish bytes said × Appends (W.contents writer.old) (W.contents writer.new) said)) }
+    ensures { IfOk result (λ finish. (calls : List Call) × Called A.does array.old calls array.new × IfSome (R.remaining reader.old) (λ bytes. (said : List ℕ) × IsSession exports.now finish calls bytes said × Appends (W.contents writer.old) (W.contents writer.new) said)) }
 {
     let mut input = Input::new(alloc)?;
     let Some((place, structured)) = chosen(alloc, exports, &mut input, reader, writer)? else {

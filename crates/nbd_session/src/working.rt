@@ -1,8 +1,10 @@
 // Pieces of jobs are given to the array, and come back.
-ghost use Rattle.std.specs.Prelude.{◌≡◌, ◌<◌, [], IfOk, OnOk, length, slice_index_or};
-ghost use Rattle.nbd_jobs.specs.Held.{requests_of};
-ghost use Rattle.nbd_jobs.specs.Steps.{IsInside, JobState};
-ghost use Rattle.nbd_session.specs.Moved.{IsSameBut, MovesSaying, MovesUnsaid};
+ghost use Rattle.std.specs.Prelude.{◌≡◌, ◌<◌, ◌∷◌, [], IfOk, List, OnOk, Some, length, slice_index_or};
+ghost use Rattle.nbd_jobs.specs.Steps.{IsInside, JobState, work_at};
+ghost use Rattle.served_array.specs.Calls.{Call, CallsTo, Step, Submit};
+ghost use Rattle.served_array.specs.declared.array.Stepped.TheVariants.{Back as Returned, Ended as IsEnded};
+ghost use Rattle.nbd_session.specs.Moved.{MovesCalling, MovesEnded, MovesSaying, MovesUnsaid};
+ghost use Rattle.nbd_session.specs.Pieces.{part_by};
 ghost use Rattle.nbd_session.specs.declared.working.Went.TheVariants.{Stopped};
 
 use crate::ended::{Ended, Finish};
@@ -16,6 +18,7 @@ use std::io::Write;
 /// Gives a piece of a job to the array.
 fn given<A: Array>(alloc: Global, array: &mut A, job: &Job, work: Work) -> Result<u64, Refused>
     requires { IsInside (length job.now.bytes) work }
+    ensures { A.does (Submit work (part_by work.kind job.now.bytes work) result) array.old array.new }
 {
     match work.kind {
         Kind::Write => array.submit(alloc, work, job.part(work)),
@@ -30,6 +33,8 @@ fn given<A: Array>(alloc: Global, array: &mut A, job: &Job, work: Work) -> Resul
 pub enum Went {
     /// Nothing is left to do.
     Still,
+    /// Something was done for which no piece waits.
+    Idle,
     /// Something was done.
     On,
     /// The array is not to be written any more. All that was open is answered.
@@ -39,7 +44,7 @@ pub enum Went {
 impl Line {
     /// Says what is to be said.
     pub fn say<W: Write>(&mut self, writer: &mut W) -> Result<(), Ended>
-        ensures moves { OnOk result (MovesSaying self.old self.new (W.contents writer.old) (W.contents writer.new)) }
+        ensures moves { OnOk result ((calls : List Call) → MovesSaying self.old self.new (W.contents writer.old) (W.contents writer.new) calls calls) }
         ensures out { OnOk result (self.new.out.items ≡ []) }
         ensures jobs { self.new.jobs ≡ self.old.jobs }
         ensures input { self.new.input ≡ self.old.input }
@@ -61,7 +66,8 @@ impl Line {
         requires place { place < length self.old.jobs.jobs }
         requires few { length self.old.jobs.out < 64 }
         requires inside { (d : JobState) → IsInside (length (slice_index_or self.old.jobs.jobs place d).bytes) work }
-        ensures { IsSameBut self.old self.new }
+        requires next { (d : JobState) → work_at self.old.chunk (slice_index_or self.old.jobs.jobs place d).request (slice_index_or self.old.jobs.jobs place d).serial (slice_index_or self.old.jobs.jobs place d).stage ≡ Some work }
+        ensures { IfOk result (λ _. CallsTo A.does array.old array.new (MovesCalling self.old self.new)) }
     {
         match given(alloc, array, self.jobs.get(place), work) {
             Ok(number) => {
@@ -78,7 +84,7 @@ impl Line {
 
     /// Gives the next piece of the first job that has one. `false` where there is none, or no room.
     fn give_next<A: Array>(&mut self, alloc: Global, array: &mut A) -> Result<bool, Ended>
-        ensures { IsSameBut self.old self.new }
+        ensures { IfOk result (λ _. CallsTo A.does array.old array.new (MovesCalling self.old self.new)) }
     {
         if MOST_PIECES <= self.jobs.pieces() {
             return Ok(false);
@@ -94,7 +100,7 @@ impl Line {
 
     /// Gives pieces while there are some, and room.
     pub fn give_all<A: Array>(&mut self, alloc: Global, array: &mut A) -> Result<(), Ended>
-        ensures { IsSameBut self.old self.new }
+        ensures { OnOk result (CallsTo A.does array.old array.new (MovesCalling self.old self.new)) }
     {
         for _ in 0..u64::MAX {
             if !self.give_next(alloc, array)? {
@@ -105,11 +111,16 @@ impl Line {
     }
 
     /// Takes back what came of a piece.
-    fn take_back(&mut self, number: u64, bytes: &[u8], error: Option<ErrorValue>)
-        ensures { IsSameBut self.old self.new }
+    pub fn take_back(&mut self, number: u64, bytes: &[u8], error: Option<ErrorValue>)
+        ensures moves { (calls : List Call) → MovesCalling self.old self.new calls (Step (Returned number bytes.now error) ∷ calls) }
+        ensures input { self.new.input ≡ self.old.input }
+        ensures size { self.new.size ≡ self.old.size }
+        ensures out { self.new.out.items ≡ self.old.out.items }
+        ensures none { self.old.jobs.jobs ≡ [] → self.new.jobs.jobs ≡ [] }
     {
-        if let Some(piece) = self.jobs.take_piece(number) {
-            self.jobs.take_back(piece, bytes, error);
+        match self.jobs.take_piece(number) {
+            Some(piece) => self.jobs.take_back(piece, bytes, error),
+            None => {}
         }
     }
 
@@ -141,7 +152,7 @@ impl Line {
 
     /// Answers the first job EIO, whatever is out of it.
     fn fail_one(&mut self) -> Result<(), AllocError>
-        ensures { OnOk result (MovesUnsaid self.old self.new) }
+        ensures { OnOk result (MovesEnded self.old self.new) }
     {
         match self.jobs.take_first() {
             Some(job) => {
@@ -153,10 +164,10 @@ impl Line {
     }
 
     /// Answers all jobs EIO, whatever is out of them.
-    #[tactic(auto, using(crate::proofs::Moved::asked_none))]
+    #[tactic(auto, using(crate::proofs::Moved::none_left))]
     fn fail_all(&mut self) -> Result<(), Ended>
-        ensures moves { OnOk result (MovesUnsaid self.old self.new) }
-        ensures none { OnOk result (requests_of self.new.jobs ≡ []) }
+        ensures moves { OnOk result (MovesEnded self.old self.new) }
+        ensures none { OnOk result (self.new.jobs.jobs ≡ []) }
     {
         for _ in 0..u64::MAX {
             if self.jobs.len() == 0 {
@@ -169,8 +180,8 @@ impl Line {
 
     /// The array is not to be written any more: what is not done is answered EIO.
     fn end<W: Write>(&mut self, writer: &mut W) -> Result<(), Ended>
-        ensures moves { OnOk result (MovesSaying self.old self.new (W.contents writer.old) (W.contents writer.new)) }
-        ensures none { OnOk result ((requests_of self.new.jobs ≡ []) × (self.new.out.items ≡ [])) }
+        ensures moves { OnOk result ((calls : List Call) → MovesSaying self.old self.new (W.contents writer.old) (W.contents writer.new) (Step IsEnded ∷ calls) (Step IsEnded ∷ calls)) }
+        ensures none { OnOk result ((self.new.jobs.jobs ≡ []) × (self.new.out.items ≡ [])) }
     {
         self.answer()?;
         self.fail_all()?;
@@ -180,7 +191,7 @@ impl Line {
 
     /// Says what is done.
     fn tell<W: Write>(&mut self, writer: &mut W) -> Result<(), Ended>
-        ensures moves { OnOk result (MovesSaying self.old self.new (W.contents writer.old) (W.contents writer.new)) }
+        ensures moves { OnOk result ((calls : List Call) → MovesSaying self.old self.new (W.contents writer.old) (W.contents writer.new) calls calls) }
         ensures out { OnOk result (self.new.out.items ≡ []) }
     {
         self.answer()?;
@@ -195,7 +206,7 @@ impl Line {
         array: &mut A,
         writer: &mut W,
     ) -> Result<(), Ended>
-        ensures { OnOk result (MovesSaying self.old self.new (W.contents writer.old) (W.contents writer.new)) }
+        ensures { OnOk result (CallsTo A.does array.old array.new (MovesSaying self.old self.new (W.contents writer.old) (W.contents writer.new))) }
     {
         self.tell(writer)?;
         self.give_all(alloc, array)?;
@@ -209,11 +220,12 @@ impl Line {
         array: &mut A,
         writer: &mut W,
     ) -> Result<Went, Ended>
-        ensures moves { IfOk result (λ _. MovesSaying self.old self.new (W.contents writer.old) (W.contents writer.new)) }
-        ensures stopped { result ≡ Ok Stopped → (requests_of self.new.jobs ≡ []) × (self.new.out.items ≡ []) }
+        ensures moves { IfOk result (λ _. CallsTo A.does array.old array.new (MovesSaying self.old self.new (W.contents writer.old) (W.contents writer.new))) }
+        ensures stopped { result ≡ Ok Stopped → (self.new.jobs.jobs ≡ []) × (self.new.out.items ≡ []) }
     {
         match array.step() {
             Stepped::Still => Ok(Went::Still),
+            Stepped::Idle => Ok(Went::Idle),
             Stepped::Done => Ok(Went::On),
             Stepped::Slow => {
                 self.pause(alloc, array, writer)?;
@@ -230,20 +242,21 @@ impl Line {
         }
     }
 
-    /// Steps until the array is still. `Still` where it was so at once.
+    /// Steps until no piece waits for the array. `Still` where it was still at once.
     fn go<A: Array, W: Write>(
         &mut self,
         alloc: Global,
         array: &mut A,
         writer: &mut W,
     ) -> Result<Went, Ended>
-        ensures moves { IfOk result (λ _. MovesSaying self.old self.new (W.contents writer.old) (W.contents writer.new)) }
-        ensures stopped { result ≡ Ok Stopped → (requests_of self.new.jobs ≡ []) × (self.new.out.items ≡ []) }
+        ensures moves { IfOk result (λ _. CallsTo A.does array.old array.new (MovesSaying self.old self.new (W.contents writer.old) (W.contents writer.new))) }
+        ensures stopped { result ≡ Ok Stopped → (self.new.jobs.jobs ≡ []) × (self.new.out.items ≡ []) }
     {
         let mut went = Went::Still;
         for _ in 0..u64::MAX {
             match self.step(alloc, array, writer)? {
                 Went::Still => return Ok(went),
+                Went::Idle => return Ok(Went::Idle),
                 Went::On => went = Went::On,
                 Went::Stopped => return Ok(Went::Stopped),
             }
@@ -258,9 +271,9 @@ impl Line {
         array: &mut A,
         writer: &mut W,
     ) -> Result<Went, Ended>
-        ensures moves { IfOk result (λ _. MovesSaying self.old self.new (W.contents writer.old) (W.contents writer.new)) }
+        ensures moves { IfOk result (λ _. CallsTo A.does array.old array.new (MovesSaying self.old self.new (W.contents writer.old) (W.contents writer.new))) }
         ensures out { IfOk result (λ _. self.new.out.items ≡ []) }
-        ensures stopped { result ≡ Ok Stopped → requests_of self.new.jobs ≡ [] }
+        ensures stopped { result ≡ Ok Stopped → self.new.jobs.jobs ≡ [] }
     {
         self.give_all(alloc, array)?;
         match self.go(alloc, array, writer)? {
@@ -268,6 +281,10 @@ impl Line {
             Went::Still => {
                 self.tell(writer)?;
                 Ok(Went::Still)
+            }
+            Went::Idle => {
+                self.tell(writer)?;
+                Ok(Went::On)
             }
             Went::On => {
                 self.tell(writer)?;
@@ -277,15 +294,15 @@ impl Line {
     }
 
     /// Does all that the jobs ask for, until none is left, and says what is answered.
-    #[tactic(auto, using(crate::proofs::Moved::asked_none))]
+    #[tactic(auto, using(crate::proofs::Moved::none_left))]
     pub fn work<A: Array, W: Write>(
         &mut self,
         alloc: Global,
         array: &mut A,
         writer: &mut W,
     ) -> Result<Finish, Ended>
-        ensures moves { IfOk result (λ _. MovesSaying self.old self.new (W.contents writer.old) (W.contents writer.new)) }
-        ensures none { IfOk result (λ _. (requests_of self.new.jobs ≡ []) × (self.new.out.items ≡ [])) }
+        ensures moves { IfOk result (λ _. CallsTo A.does array.old array.new (MovesSaying self.old self.new (W.contents writer.old) (W.contents writer.new))) }
+        ensures none { IfOk result (λ _. (self.new.jobs.jobs ≡ []) × (self.new.out.items ≡ [])) }
     {
         self.say(writer)?;
         for _ in 0..u64::MAX {
@@ -294,6 +311,7 @@ impl Line {
                 return Ok(Finish::Client);
             }
             match self.settle(alloc, array, writer)? {
+                Went::Idle => {}
                 Went::On => {}
                 Went::Still => {
                     if self.jobs.len() == left {

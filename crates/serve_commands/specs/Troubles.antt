@@ -18,6 +18,7 @@ is_of_origin _ = false
 abbrev pub why_by : ℕ → NotOpened → Why
 why_by chunk opening.NoMemory = why.NoMemory
 why_by chunk opening.Written = why.Store fault.Written
+why_by chunk opening.Fresh = why.Store fault.Fresh
 why_by chunk (opening.Refused StoreTooSmall) = why.Store (fault.TooSmall (1024 * chunk))
 why_by chunk (opening.Refused refusal) = why.Store (fault.Refused refusal)
 why_by chunk opening.OriginFailed = why.Failed

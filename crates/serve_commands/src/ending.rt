@@ -3,11 +3,13 @@ ghost use Rattle.std.specs.Prelude.{◌≡◌, None, Ok, OnOk, Some, if◌then�
 ghost use Rattle.std.specs.List.{All, list_all};
 ghost use Rattle.file_calls.specs.Kept.{are_answered};
 ghost use Rattle.file_calls.specs.Note.{call_of};
+ghost use Rattle.merge.specs.Merging.{Merging};
 ghost use Rattle.nbd_session.specs.declared.ended.Finish.TheVariants.{Client};
 ghost use Rattle.serve_files.specs.Ending.{is_synced};
 ghost use Rattle.serve_files.specs.Names.{text_in};
 ghost use Rattle.serve_commands.specs.Troubles.{stop_by};
 
+use crate::merging::merging_store;
 use file_calls::DiskFile;
 use nbd_session::{Ended, Finish};
 use serve_files::{
@@ -47,6 +49,12 @@ fn unmarked<'a>(snaps: &[Snapshot<Device<'a>>]) -> Option<&'a str> {
     None
 }
 
+/// The file of the store that is merged, where there is one.
+fn merged<'a>(volume: &Volume<Device<'a>>) -> Option<&'a str> {
+    let store = merging_store(volume)?;
+    Some(device_name(store))
+}
+
 /// What is told where nothing was to be done any more.
 fn why_stopped(fault: Option<Fault>) -> Why
     ensures { result ≡ stop_by fault }
@@ -58,16 +66,16 @@ fn why_stopped(fault: Option<Fault>) -> Why
     }
 }
 
-/// Why the array was not to be written any more: of a store that could not be marked, and else of the origin.
+/// Why the array was not to be written any more: of a store that could not be marked or is merged, and else of the origin.
 fn trouble_of_array<'a>(array: &VolumeArray<Device<'a>>) -> Trouble<'a> {
     let fault = array.fault();
     let volume = array.volume();
-    let origin = device_name(volume.origin());
-    let name = if fault == Some(Fault::Unmarked) {
-        unmarked(volume.snaps()).unwrap_or(origin)
-    } else {
-        origin
+    let store = match fault {
+        Some(Fault::Unmarked) => unmarked(volume.snaps()),
+        Some(Fault::Merging) => merged(volume),
+        _ => None,
     };
+    let name = store.unwrap_or(device_name(volume.origin()));
     let why = why_stopped(fault);
     Trouble { name, why }
 }
@@ -96,8 +104,12 @@ fn trouble_of_end<'a>(
 fn are_all_answered<'a>(volume: &Volume<Device<'a>>) -> Result<(), Trouble<'a>>
     ensures origin { OnOk result (are_answered (map call_of volume.now.origin.file.file.noted.notes) ≡ true) }
     ensures stores { OnOk result (All (λ snap. are_answered (map call_of snap.device.file.file.noted.notes) ≡ true) volume.now.snaps) }
+    ensures merged { OnOk result ((m : Merging _) → volume.now.merge ≡ Some m → are_answered (map call_of m.device.file.file.noted.notes) ≡ true) }
 {
     is_answered(volume.origin())?;
+    if let Some(store) = merging_store(volume) {
+        is_answered(store)?;
+    }
     let snaps = volume.snaps();
     for snap in snaps {
         is_answered(snap.device())?;
@@ -114,6 +126,7 @@ pub fn end<'a>(
     ensures client { OnOk result (ended ≡ Ok Client) }
     ensures origin { OnOk result (are_answered (map call_of array.now.volume.origin.file.file.noted.notes) ≡ true) }
     ensures stores { OnOk result (All (λ snap. are_answered (map call_of snap.device.file.file.noted.notes) ≡ true) array.now.volume.snaps) }
+    ensures merged { OnOk result ((m : Merging _) → array.now.volume.merge ≡ Some m → are_answered (map call_of m.device.file.file.noted.notes) ≡ true) }
     ensures synced { OnOk result (list_all (λ file. is_synced (map call_of file.file.noted.notes)) held.new ≡ true) }
 {
     trouble_of_end(array, ended)?;

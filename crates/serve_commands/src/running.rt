@@ -63,14 +63,18 @@ fn done<'a, R: Read, W: Write, E: Write>(
         Asked::Serve {
             origin,
             cows,
+            merge,
             chunk,
             refuse,
+            anyway,
         } => {
             let words = Serving {
                 origin,
                 cows,
+                merge,
                 chunk,
                 refuse,
+                anyway,
             };
             match serve(rt, words, input, output, errors) {
                 Ok(_) => Ok(()),

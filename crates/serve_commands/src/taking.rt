@@ -3,7 +3,7 @@ ghost use Rattle.std.specs.Prelude.{◌≡◌, if◌then◌else◌};
 ghost use Rattle.serve_commands.specs.Troubles.{is_of_origin, why_by};
 
 use sector::Refusal;
-use serve_files::{Pair, StoreFault, Trouble, Why, has_streams, opened_pair};
+use serve_files::{Given, Pair, StoreFault, Trouble, Why, has_streams, list_beside, opened_pair};
 use served_volume::NotOpened;
 use std::io::Write;
 
@@ -25,12 +25,20 @@ pub fn take<'a, E: Write>(
     has_streams(rt)?;
     let Taking { origin, cow, chunk } = words;
     let pair = opened_pair(rt, origin, cow)?;
+    let mut list = list_beside(rt, origin)?;
+    let given = Given {
+        merge: None,
+        cows: &[cow],
+        others: true,
+    };
+    list.is_served(rt, given)?;
     let Pair {
         origin: device,
         store,
     } = pair;
     match served_volume::take(rt.alloc(), device, store, chunk) {
-        Ok(_) => {
+        Ok(_volume) => {
+            list.add(rt, cow)?;
             let _ = writeln!(errors, "taken {cow}");
             Ok(())
         }
@@ -45,6 +53,7 @@ fn why_of(why: NotOpened, chunk: u32) -> Why
     match why {
         NotOpened::NoMemory => Why::NoMemory,
         NotOpened::Written => Why::Store(StoreFault::Written),
+        NotOpened::Fresh => Why::Store(StoreFault::Fresh),
         NotOpened::Refused(Refusal::StoreTooSmall) => {
             Why::Store(StoreFault::TooSmall(1024 * u64::from(chunk)))
         }

@@ -1,4 +1,5 @@
 pub mod Ending
+pub mod Listing
 pub mod Making
 pub mod Names
 pub mod Served

@@ -2,11 +2,13 @@
 use Rattle.std.specs.Prelude.{ℕ, Bool, true, false, Result, Ok, Err, if◌then◌else◌}
 use Rattle.serve_files.specs.declared.trouble.Trouble.{Trouble}
 use Rattle.serve_files.specs.declared.trouble.Why.{Why}
-use Rattle.serve_files.specs.declared.trouble.Why.TheVariants.{Store}
+use Rattle.serve_files.specs.declared.trouble.Why.TheVariants.{Store, LeftOut, MergeLeft}
 
--- whether a store was refused
+-- whether a store was refused, or a snapshot left out
 abbrev pub is_of_store : Why → Bool
 is_of_store (Store fault) = true
+is_of_store (LeftOut cow) = true
+is_of_store (MergeLeft cow) = true
 is_of_store _ = false
 
 -- 0 done, 1 a store is refused, 2 it could not run

@@ -11,7 +11,7 @@ pub fn status_of(done: &Result<(), Trouble<'_>>) -> u8
     match done {
         Ok(()) => 0,
         Err(trouble) => match &trouble.why {
-            Why::Store(_) => 1,
+            Why::Store(_) | Why::LeftOut(_) | Why::MergeLeft(_) => 1,
             _ => 2,
         },
     }

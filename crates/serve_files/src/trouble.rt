@@ -57,6 +57,14 @@ pub enum Why {
     Stuck,
     /// It is a store that is refused.
     Store(StoreFault),
+    /// The list of its snapshots could not be read or written.
+    List(io::Error),
+    /// The file of that list holds something else.
+    NoList,
+    /// It has this snapshot, which is left out.
+    LeftOut(String),
+    /// The merge of this store into it is begun, and left out.
+    MergeLeft(String),
 }
 
 /// Why a store is refused.
@@ -64,6 +72,8 @@ pub enum Why {
 pub enum StoreFault {
     /// It has a snapshot already.
     Written,
+    /// It has no snapshot yet, beside a merge.
+    Fresh,
     /// It has less than so many bytes, which a header and an area take.
     TooSmall(u64),
     /// It can't be loaded.
@@ -162,6 +172,19 @@ impl fmt::Display for Why {
             Why::NoClient => write!(f, "no client of the Network Block Device protocol"),
             Why::Stuck => write!(f, "a request is not answered, and nothing is left to do"),
             Why::Store(fault) => write!(f, "{fault}"),
+            Why::List(error) => write!(f, "the list of its snapshots beside it: {error}"),
+            Why::NoList => write!(
+                f,
+                "the file .snapshots beside it is no list of its snapshots"
+            ),
+            Why::LeftOut(cow) => write!(
+                f,
+                "has the snapshot {cow}, which is left out: it would change. Add --snapshot {cow}, or --anyway to give it up"
+            ),
+            Why::MergeLeft(cow) => write!(
+                f,
+                "the merge of {cow} into it is not done: serve it with --merge {cow}"
+            ),
         }
     }
 }
@@ -170,6 +193,10 @@ impl fmt::Display for StoreFault {
     fn fmt<W: fmt::Write>(&self, f: &mut fmt::Formatter<W>) -> fmt::Result {
         match self {
             StoreFault::Written => write!(f, "has a snapshot already: take one over a new store"),
+            StoreFault::Fresh => write!(
+                f,
+                "is empty: a merge wants a snapshot that is there, and none is taken beside it"
+            ),
             StoreFault::TooSmall(least) => {
                 write!(
                     f,

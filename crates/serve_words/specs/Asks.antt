@@ -8,11 +8,11 @@ use Rattle.serve_words.specs.declared.asked.Asked.{Asked}
 use Rattle.serve_words.specs.declared.asked.Asked.TheVariants as asked
 use Rattle.serve_words.specs.declared.wrong.Wrong.{Wrong}
 use Rattle.serve_words.specs.declared.wrong.Wrong.TheVariants as wrong
-use Rattle.serve_words.specs.Exports.{first_unfit}
+use Rattle.serve_words.specs.Exports.{first_unfit, has_export, last_part}
 use Rattle.serve_words.specs.Sizes.{size_by}
 use Rattle.serve_words.specs.Splits.{Split}
-use Rattle.command_line.specs.Splits.{Split as LineSplit, value_of}
-use Rattle.command_line.specs.Reading.{text_of}
+use Rattle.command_line.specs.Splits.{Split as LineSplit, has, value_of}
+use Rattle.command_line.specs.Reading.{text_of, text_in}
 use Rattle.command_line.specs.Asks.{Fault as LineFault, fault_of as line_fault_of, NoCommand, Requested, ForHelp, ForVersion, ForCommand, requested, and_then, one, two, all_taken}
 
 -- what is asked for, by the bytes of names
@@ -21,7 +21,7 @@ pub data Wanted : Type 0 where
   Version : Wanted
   New : (cow : List ℕ) (bytes : ℕ) → Wanted
   Take : (origin cow : List ℕ) (chunk : ℕ) → Wanted
-  Serve : (origin : List ℕ) (cows : List (List ℕ)) (chunk : ℕ) (refuse : Bool) → Wanted
+  Serve : (origin : List ℕ) (cows : List (List ℕ)) (merge : Option (List ℕ)) (chunk : ℕ) (refuse anyway : Bool) → Wanted
 
 -- what is wrong, by the bytes of words
 pub data Fault : Type 0 where
@@ -30,6 +30,8 @@ pub data Fault : Type 0 where
   NoSize : (word : List ℕ) → Fault
   NotFull : (word : List ℕ) → Fault
   Ninth : (cow : List ℕ) → Fault
+  SecondMerge : (cow : List ℕ) → Fault
+  MergedToo : (cow : List ℕ) → Fault
   Unfit : (cow : List ℕ) → Fault
 
 abbrev pub wanted_of : Asked → Wanted
@@ -37,7 +39,7 @@ wanted_of asked.Help = Help
 wanted_of asked.Version = Version
 wanted_of (asked.New cow bytes) = New cow.now bytes
 wanted_of (asked.Take origin cow chunk) = Take origin.now cow.now chunk
-wanted_of (asked.Serve origin cows chunk refuse) = Serve origin.now (map text_of cows.now) chunk refuse
+wanted_of (asked.Serve origin cows merge chunk refuse anyway) = Serve origin.now (map text_of cows.now) (text_in merge) chunk refuse anyway
 
 abbrev pub fault_of : Wrong → Fault
 fault_of (wrong.Line fault) = OfLine (line_fault_of fault)
@@ -45,6 +47,8 @@ fault_of (wrong.Chunk word) = NoChunk word.now
 fault_of (wrong.Size word) = NoSize word.now
 fault_of (wrong.Full word) = NotFull word.now
 fault_of (wrong.Snapshot word) = Ninth word.now
+fault_of (wrong.Merge word) = SecondMerge word.now
+fault_of (wrong.Both word) = MergedToo word.now
 fault_of (wrong.Export word) = Unfit word.now
 
 -- what is answered, and what an option gives
@@ -56,6 +60,10 @@ told_chunk answer = result_map_both (λ x. x) fault_of answer
 
 abbrev pub told_full : Result Bool Wrong → Result Bool Fault
 told_full answer = result_map_both (λ x. x) fault_of answer
+
+abbrev pub told_store : Option Wrong → Option Fault
+told_store None = None
+told_store (Some wrong) = Some (fault_of wrong)
 
 -- what follows where nothing is wrong with the line
 abbrev pub then_ask : {A B : Type 0} → Result A LineFault → (A → Result B Fault) → Result B Fault
@@ -93,23 +101,45 @@ new_by s = then_ask (two s.line (codes "COW") (codes "SIZE")) (λ names. new_fro
 abbrev pub take_by : Split → Result Wanted Fault
 take_by s = then_ask (two s.line (codes "ORIGIN") (codes "COW")) (λ names. and_then (chunk_by s.line) (λ chunk. Ok (Take names.0 names.1 chunk)))
 
--- eight snapshots at most, whose exports have names of their own
-abbrev pub fit_or : List ℕ → List (List ℕ) → ℕ → Bool → Option (List ℕ) → Result Wanted Fault
-fit_or origin cows chunk refuse None = Ok (Serve origin cows chunk refuse)
-fit_or origin cows chunk refuse (Some cow) = Err (Unfit cow)
+-- the exports of snapshots have names of their own
+abbrev pub fit_by : Option (List ℕ) → Option Fault
+fit_by None = None
+fit_by (Some cow) = Some (Unfit cow)
 
-abbrev pub eight_or : List ℕ → List (List ℕ) → ℕ → Bool → Option (List ℕ) → Result Wanted Fault
-eight_or origin cows chunk refuse None = fit_or origin cows chunk refuse (first_unfit [] cows)
-eight_or origin cows chunk refuse (Some cow) = Err (Ninth cow)
+-- there are eight stores at most
+abbrev pub eight_by : List (List ℕ) → Option (List ℕ) → Option Fault
+eight_by snapshots None = fit_by (first_unfit [] snapshots)
+eight_by snapshots (Some cow) = Some (Ninth cow)
+
+-- one that is merged has the name of no snapshot
+abbrev pub apart_by : List (List ℕ) → Option Fault → Option (List ℕ) → Option Fault
+apart_by snapshots others None = others
+apart_by snapshots others (Some cow) = if has_export snapshots (last_part [] cow) then Some (MergedToo cow) else others
+
+-- one is merged at most
+abbrev pub one_by : Option Fault → Option (List ℕ) → Option Fault
+one_by others None = others
+one_by others (Some cow) = Some (SecondMerge cow)
+
+-- what is wrong with the stores, the first of these
+abbrev pub wrong_store : Split → Option Fault
+wrong_store s = one_by (apart_by s.snapshots (eight_by s.snapshots (slice_get s.cows 8)) (slice_get s.merges 0)) (slice_get s.merges 1)
+
+abbrev pub unless_wrong : Option Fault → Wanted → Result Wanted Fault
+unless_wrong None wanted = Ok wanted
+unless_wrong (Some fault) wanted = Err fault
+
+abbrev pub serve_with : Split → List ℕ → ℕ → Bool → Wanted
+serve_with s origin chunk refuse = Serve origin s.cows (slice_get s.merges 0) chunk refuse (has s.line (codes "--anyway"))
 
 abbrev pub serve_by : Split → Result Wanted Fault
-serve_by s = then_ask (one s.line (codes "ORIGIN")) (λ origin. and_then (chunk_by s.line) (λ chunk. and_then (full_by s.line) (λ refuse. eight_or origin s.snapshots chunk refuse (slice_get s.snapshots 8))))
+serve_by s = then_ask (one s.line (codes "ORIGIN")) (λ origin. and_then (chunk_by s.line) (λ chunk. and_then (full_by s.line) (λ refuse. unless_wrong (wrong_store s) (serve_with s origin chunk refuse))))
 
 -- which options a command takes
 abbrev pub options_by : List ℕ → List (List ℕ)
 options_by command =
     if bytes_eq command (codes "take") then codes "--chunk" ∷ []
-    else (if bytes_eq command (codes "serve") then codes "--chunk" ∷ codes "--full" ∷ codes "--snapshot" ∷ []
+    else (if bytes_eq command (codes "serve") then codes "--anyway" ∷ codes "--chunk" ∷ codes "--full" ∷ codes "--merge" ∷ codes "--snapshot" ∷ []
     else [])
 
 -- a command by its name

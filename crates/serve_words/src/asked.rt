@@ -1,9 +1,9 @@
 // What is asked for.
 ghost use Rattle.std.specs.Prelude.{◌≡◌};
 ghost use Rattle.serve_words.specs.Splits.{split_of};
-ghost use Rattle.serve_words.specs.Asks.{told, asked_by, command_by, new_by, take_by, serve_by};
+ghost use Rattle.serve_words.specs.Asks.{told, told_store, asked_by, command_by, new_by, take_by, serve_by, wrong_store as wrong_store_by};
 
-use crate::exports::unfit;
+use crate::exports::{export_name, has_name, unfit};
 use crate::options::{chunk_of, options_of, refuses};
 use crate::sizes::size_of;
 use crate::splitting::Words;
@@ -28,13 +28,16 @@ pub enum Asked<'w, 'a> {
         cow: &'a str,
         chunk: u32,
     },
-    /// An origin and its snapshots are served. An empty store gets chunks of so many sectors. `refuse`: a write of a snapshot that finds
-    /// its store full is refused.
+    /// An origin and the snapshots of its stores are served. The one that is merged is the first of these. An empty store gets chunks of
+    /// so many sectors. `refuse`: a write of a snapshot that finds its store full is refused. `anyway`: a snapshot of the origin that is
+    /// left out is given up.
     Serve {
         origin: &'a str,
         cows: &'w [&'a str],
+        merge: Option<&'a str>,
         chunk: u32,
         refuse: bool,
+        anyway: bool,
     },
 }
 
@@ -89,17 +92,38 @@ fn serve<'w, 'a>(words: &'w Words<'a>) -> Result<Asked<'w, 'a>, Wrong<'a>>
     let origin = words.line.one("ORIGIN")?;
     let chunk = chunk_of(&words.line)?;
     let refuse = refuses(&words.line)?;
-    let cows = words.snapshots.as_slice();
-    if let Some(cow) = cows.get(8) {
-        return Err(Wrong::Snapshot(*cow));
-    }
-    match unfit(cows) {
-        Some(cow) => Err(Wrong::Export(cow)),
+    match wrong_store(words) {
+        Some(wrong) => Err(wrong),
         None => Ok(Asked::Serve {
             origin,
-            cows,
+            cows: words.cows.as_slice(),
+            merge: words.merges.first().copied(),
             chunk,
             refuse,
+            anyway: words.line.has("--anyway"),
         }),
+    }
+}
+
+/// What is wrong with the stores that are given, if anything is: two are to be merged; one is to be merged and served; they are more
+/// than eight; or an export has no name of its own.
+fn wrong_store<'a>(words: &Words<'a>) -> Option<Wrong<'a>>
+    ensures { told_store result ≡ wrong_store_by (split_of words.now) }
+{
+    if let Some(cow) = words.merges.get(1) {
+        return Some(Wrong::Merge(*cow));
+    }
+    let snapshots = words.snapshots.as_slice();
+    if let Some(cow) = words.merges.first()
+        && has_name(snapshots, export_name(cow.as_bytes()))
+    {
+        return Some(Wrong::Both(*cow));
+    }
+    if let Some(cow) = words.cows.get(8) {
+        return Some(Wrong::Snapshot(*cow));
+    }
+    match unfit(snapshots) {
+        Some(cow) => Some(Wrong::Export(cow)),
+        None => None,
     }
 }

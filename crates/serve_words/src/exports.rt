@@ -17,7 +17,7 @@ pub fn export_name(cow: &[u8]) -> &[u8]
 }
 
 /// Whether the export of one of these snapshots has this name.
-fn has_name(cows: &[&str], name: &[u8]) -> bool
+pub fn has_name(cows: &[&str], name: &[u8]) -> bool
     ensures { result ≡ has_export (map text_of cows.now) name.now }
 {
     for cow in cows {

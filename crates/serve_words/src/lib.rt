@@ -15,7 +15,7 @@ mod splitting;
 mod wrong;
 
 pub use asked::{Asked, words_ask};
-pub use exports::export_name;
+pub use exports::{export_name, has_name};
 pub use help::{HELP, VERSION};
 pub use options::CHUNK;
 pub use sizes::{LEAST_BYTES, MOST_BYTES, size_of};

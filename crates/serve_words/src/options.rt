@@ -9,7 +9,7 @@ use command_line::Words;
 use words::number;
 
 /// The options that take a value.
-pub const VALUED: &[&str] = &["--chunk", "--full", "--snapshot"];
+pub const VALUED: &[&str] = &["--chunk", "--full", "--merge", "--snapshot"];
 
 /// The sectors of a chunk where none are given: 4 KiB, as `lvcreate` takes.
 pub const CHUNK: u32 = 8;
@@ -20,7 +20,7 @@ pub fn options_of(command: &str) -> &'static [&'static str]
 {
     match command {
         "take" => &["--chunk"],
-        "serve" => &["--chunk", "--full", "--snapshot"],
+        "serve" => &["--anyway", "--chunk", "--full", "--merge", "--snapshot"],
         _ => &[],
     }
 }

@@ -1,6 +1,7 @@
 // Words are split into names and options.
-ghost use Rattle.std.specs.Prelude.{◌≡◌, map, drop, IfOk};
+ghost use Rattle.std.specs.Prelude.{◌≡◌, ◌++◌, map, drop, IfOk};
 ghost use Rattle.std.specs.String.{string_bytes};
+ghost use Rattle.command_line.specs.Reading.{texts_of};
 ghost use Rattle.serve_words.specs.Splits.{split_by, split_of};
 
 use crate::options::VALUED;
@@ -11,8 +12,26 @@ use std::alloc::{AllocError, Global};
 pub struct Words<'a> {
     /// Its names and options.
     pub(crate) line: command_line::Words<'a>,
+    /// The values of each `--merge`, in their order.
+    pub(crate) merges: Vec<&'a str>,
     /// The values of each `--snapshot`, in their order.
     pub(crate) snapshots: Vec<&'a str>,
+    /// Those of each `--merge`, and then those of each `--snapshot`.
+    pub(crate) cows: Vec<&'a str>,
+}
+
+/// Names, and others behind them.
+fn joined<'a>(
+    alloc: Global,
+    first: &[&'a str],
+    then: &[&'a str],
+) -> Result<Vec<&'a str>, AllocError>
+    ensures { IfOk result (λ all. texts_of all.items ≡ texts_of first.now ++ texts_of then.now) }
+{
+    let mut all = Vec::new(alloc);
+    all.extend_from_slice(first)?;
+    all.extend_from_slice(then)?;
+    Ok(all)
 }
 
 /// Splits words, the first of which is the program's own name.
@@ -20,6 +39,13 @@ pub fn split<'a>(alloc: Global, words: &'a [String]) -> Result<Words<'a>, AllocE
     ensures { IfOk result (λ split. split_of split ≡ split_by (drop 1 (map string_bytes words.now))) }
 {
     let line = command_line::split(alloc, VALUED, words)?;
+    let merges = line.values(alloc, "--merge")?;
     let snapshots = line.values(alloc, "--snapshot")?;
-    Ok(Words { line, snapshots })
+    let cows = joined(alloc, merges.as_slice(), snapshots.as_slice())?;
+    Ok(Words {
+        line,
+        merges,
+        snapshots,
+        cows,
+    })
 }

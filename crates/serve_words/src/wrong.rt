@@ -17,6 +17,10 @@ pub enum Wrong<'a> {
     Full(&'a str),
     /// This snapshot is one too many.
     Snapshot(&'a str),
+    /// This one is to be merged besides another one.
+    Merge(&'a str),
+    /// This one is to be merged, and one of its name is to be served.
+    Both(&'a str),
     /// This snapshot's export has the name of another one, or none.
     Export(&'a str),
 }
@@ -45,6 +49,14 @@ impl fmt::Display for Wrong<'_> {
             Wrong::Snapshot(word) => write!(
                 f,
                 "{word} is the ninth snapshot: eight are served at most"
+            ),
+            Wrong::Merge(word) => write!(
+                f,
+                "{word} is the second behind --merge: one snapshot is merged at a time"
+            ),
+            Wrong::Both(word) => write!(
+                f,
+                "{word} is to be merged, so it is no snapshot any more: it stands behind --merge alone"
             ),
             Wrong::Export(word) => write!(
                 f,

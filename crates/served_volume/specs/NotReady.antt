@@ -7,13 +7,14 @@ use Rattle.chunk.specs.Sizes.{is_chunk}
 use Rattle.cow_header.specs.HeaderText.{found_in}
 use Rattle.cow_header.specs.declared.found.Found.TheVariants.{Header}
 use Rattle.served_volume.specs.declared.not_opened.NotOpened.{NotOpened}
-use Rattle.served_volume.specs.declared.not_opened.NotOpened.TheVariants.{NoMemory, Written, Refused, OriginFailed, StoreFailed}
+use Rattle.served_volume.specs.declared.not_opened.NotOpened.TheVariants.{NoMemory, Written, Fresh, Refused, OriginFailed, StoreFailed}
 
 -- why a store of so many sectors, with these bytes, takes no snapshot with chunks of so many: these are named in this order
 abbrev pub IsNotReady : ℕ → ℕ → List ℕ → NotOpened → Type 0
 IsNotReady chunk size bytes NoMemory = Unit {0}
 IsNotReady chunk size bytes OriginFailed = Unit {0}
 IsNotReady chunk size bytes StoreFailed = Unit {0}
+IsNotReady chunk size bytes Fresh = ⊥
 IsNotReady chunk size bytes Written = (own : ℕ) × (found_in (sector_at bytes 0) ≡ Ok (Header own))
 IsNotReady chunk size bytes (Refused refusal) =
     ((refusal ≡ BadChunk) × (is_chunk chunk ≡ false))

@@ -9,6 +9,8 @@ pub enum NotOpened {
     NoMemory,
     /// The store has a snapshot, and one is to be taken.
     Written,
+    /// The store is empty, and a snapshot is to be loaded.
+    Fresh,
     /// The store is refused, or the volume takes no more.
     Refused(Refusal),
     /// The origin could not be synced.

@@ -10,12 +10,12 @@ use Rattle.volume.specs.DoesStep.{DoesStep}
 use Rattle.volume.specs.Volumed.{Volumed, is_due_of, is_loud_in_all, plain_of}
 use Rattle.volume_nbd.specs.Answers.{stepped_as}
 use Rattle.volume_nbd.specs.Faults.{is_failed_at}
-use Rattle.volume_nbd.specs.Steps.{DoesEvent}
+use Rattle.volume_nbd.specs.Steps.{DoesEvent, is_idle}
 
 module _ {B : Type 0} (holds : B → ℕ → List ℕ → Type 0) (contents : B → List ℕ) (layers : B → List Layer) (size faults done : B → ℕ) (failed : B → Bool) (chosen : Dev) where
   pub event_done : (event : Event) (outcome : Outcome) (stepped : Stepped) (old between new : Volumed B) → is_due_of contents layers old event ≡ true → DoesAhead holds contents layers size faults done old between
       → DoesStep holds contents layers size faults done true event (Ok outcome) between new
-      → stepped ≡ stepped_as (is_failed_at failed chosen new) outcome → DoesEvent holds contents layers size faults done failed chosen stepped old new
+      → stepped ≡ stepped_as (is_idle old event) (is_failed_at failed chosen new) outcome → DoesEvent holds contents layers size faults done failed chosen stepped old new
   event_done event outcome stepped old between new due ahead step told = record {
     event = event;
     outcome = outcome;

@@ -1,3 +1,4 @@
 pub mod Events
 pub mod Gathers
+pub mod Merged
 pub mod Sizes

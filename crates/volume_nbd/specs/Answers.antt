@@ -14,7 +14,7 @@ use Rattle.nbd_messages.specs.declared.errors.ErrorValue.TheVariants.{Io, NoMemo
 use Rattle.served_array.specs.declared.array.Refused.{Refused}
 use Rattle.served_array.specs.declared.array.Refused.TheVariants.{Full, Error}
 use Rattle.served_array.specs.declared.array.Stepped.{Stepped}
-use Rattle.served_array.specs.declared.array.Stepped.TheVariants.{Done as StepDone, Back}
+use Rattle.served_array.specs.declared.array.Stepped.TheVariants.{Done as StepDone, Idle, Back}
 
 -- why a piece is not taken in, from the volume's refusal
 abbrev pub refused_as : Refusal → Refused
@@ -40,11 +40,16 @@ abbrev pub back_with : Bool → ℕ → List ℕ → Stepped
 back_with false number bytes = Back number bytes None
 back_with true number bytes = Back number [] (Some Io)
 
+-- an event that replies to nobody, and one for which nobody waits
+abbrev pub done_as : Bool → Stepped
+done_as false = StepDone
+done_as true = Idle
+
 -- What came of an event: only a reply comes back, under the request's number, a read's with all the bytes that the volume answered.
-abbrev pub stepped_as : Bool → Outcome → Stepped
-stepped_as failed Done = StepDone
-stepped_as failed Fault = StepDone
-stepped_as failed (Replied number (Data bytes)) = back_with failed number bytes
-stepped_as failed (Replied number Written) = back_with failed number []
-stepped_as failed (Replied number Flushed) = back_with failed number []
-stepped_as failed (Replied number (Failed failure)) = Back number [] (Some (error_as failure))
+abbrev pub stepped_as : Bool → Bool → Outcome → Stepped
+stepped_as idle failed Done = done_as idle
+stepped_as idle failed Fault = done_as idle
+stepped_as idle failed (Replied number (Data bytes)) = back_with failed number bytes
+stepped_as idle failed (Replied number Written) = back_with failed number []
+stepped_as idle failed (Replied number Flushed) = back_with failed number []
+stepped_as idle failed (Replied number (Failed failure)) = Back number [] (Some (error_as failure))

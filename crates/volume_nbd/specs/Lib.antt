@@ -1,4 +1,5 @@
 pub mod Answers
+pub mod Calls
 pub mod Faults
 pub mod Gathering
 pub mod Served

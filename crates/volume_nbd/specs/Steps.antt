@@ -1,12 +1,12 @@
 -- A step: an event of the volume that is due, or nothing. This project's own.
-use Rattle.std.specs.Prelude.{◌≡◌, ◌⊎◌, ℕ, Bool, true, false, List, Ok, Option, Some, None}
+use Rattle.std.specs.Prelude.{◌≡◌, ◌⊎◌, ◌==◌, ◌&&◌, ℕ, Bool, true, false, List, length, Ok}
 use Rattle.device.specs.Layers.{Layer}
 use Rattle.plain_machine.specs.declared.event.Event.{Event}
 use Rattle.plain_machine.specs.declared.event.Outcome.{Outcome}
 use Rattle.plain_machine.specs.declared.request.Dev.{Dev}
 use Rattle.plain_machine.specs.Legal.{IsLegalStep}
 use Rattle.served_array.specs.declared.array.Stepped.{Stepped}
-use Rattle.served_array.specs.declared.array.Stepped.TheVariants.{Still, Done, Slow, Back, Ended}
+use Rattle.served_array.specs.declared.array.Stepped.TheVariants.{Still, Idle, Done, Slow, Back, Ended}
 use Rattle.volume.specs.DoesAhead.{DoesAhead}
 use Rattle.volume.specs.DoesStep.{DoesStep}
 use Rattle.volume.specs.EventKinds.{is_of_merge}
@@ -17,10 +17,15 @@ use Rattle.volume_nbd.specs.Faults.{is_failed_at}
 -- whether something comes back of a step
 abbrev pub is_back : Stepped → Bool
 is_back Still = false
+is_back Idle = false
 is_back Done = false
 is_back Slow = false
 is_back (Back number bytes error) = true
 is_back Ended = false
+
+-- whether no request waits for an event: it is a merge's, and none is in flight
+abbrev pub is_idle : {B : Type 0} → Volumed B → Event → Bool
+is_idle v event = is_of_merge event && (length v.flights == 0)
 
 -- An event that was due was done ahead and then done, and its outcome is told. Where no file lost what was written to it, that is
 -- a legal step of the plain machine: a read's bytes are what its one array holds.
@@ -32,14 +37,9 @@ pub record DoesEvent {B : Type 0} (holds : B → ℕ → List ℕ → Type 0) (c
   pub ahead : DoesAhead holds contents layers size faults done old between
   pub step : DoesStep holds contents layers size faults done true event (Ok outcome) between new
   pub legal : is_loud_in_all layers new ≡ true → IsLegalStep (plain_of contents layers old) event outcome (plain_of contents layers new)
-  pub told : stepped ≡ stepped_as (is_failed_at failed chosen new) outcome
+  pub told : stepped ≡ stepped_as (is_idle old event) (is_failed_at failed chosen new) outcome
 
 -- One event, or none: then nothing comes back.
 abbrev pub DoesServedStep : {B : Type 0} → (B → ℕ → List ℕ → Type 0) → (B → List ℕ) → (B → List Layer) → (B → ℕ) → (B → ℕ) → (B → ℕ) → (B → Bool) → Dev → Stepped → Volumed B → Volumed B → Type 0
 DoesServedStep holds contents layers size faults done failed chosen stepped old new =
     DoesEvent holds contents layers size faults done failed chosen stepped old new ⊎ ((new ≡ old) × (is_back stepped ≡ false))
-
--- whether nothing is due but events of a merge
-abbrev pub is_idle : Option Event → Bool
-is_idle None = true
-is_idle (Some event) = is_of_merge event

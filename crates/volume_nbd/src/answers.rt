@@ -1,6 +1,6 @@
 // What a client is told.
 ghost use Rattle.std.specs.Prelude.{◌≡◌};
-ghost use Rattle.volume_nbd.specs.Answers.{back_with, error_as, refused_as, stepped_as};
+ghost use Rattle.volume_nbd.specs.Answers.{back_with, done_as, error_as, refused_as, stepped_as};
 
 use nbd_jobs::Bytes;
 use nbd_messages::ErrorValue;
@@ -47,12 +47,19 @@ fn back(alloc: Global, failed: bool, number: u64, bytes: Vec<u8>) -> Stepped
     }
 }
 
-/// What came of an event.
-pub(crate) fn stepped(alloc: Global, failed: bool, outcome: Outcome) -> Stepped
-    ensures { result ≡ stepped_as failed outcome }
+/// An event replied to nobody; `idle` tells whether nobody waited for it.
+fn done(idle: bool) -> Stepped
+    ensures { result ≡ done_as idle }
+{
+    if idle { Stepped::Idle } else { Stepped::Done }
+}
+
+/// What came of an event; `idle` tells whether nobody waited for it.
+pub(crate) fn stepped(alloc: Global, idle: bool, failed: bool, outcome: Outcome) -> Stepped
+    ensures { result ≡ stepped_as idle failed outcome }
 {
     match outcome {
-        Outcome::Done | Outcome::Fault => Stepped::Done,
+        Outcome::Done | Outcome::Fault => done(idle),
         Outcome::Reply(number, Reply::Data(bytes)) => {
             back(alloc, failed, number, bytes.into_vec())
         }

@@ -1,7 +1,7 @@
 // What ends serving, and what makes a reply an error.
 ghost use Rattle.std.specs.Prelude.{◌≡◌, ◌==◌, ◌&&◌};
 ghost use Rattle.std.specs.List.{list_any};
-ghost use Rattle.volume_nbd.specs.Faults.{fault_of, is_failed_at as is_failed_there, is_store_failed as has_failed_store, is_stopped as is_stopped_by};
+ghost use Rattle.volume_nbd.specs.Faults.{fault_of, is_failed_at as is_failed_there, is_merging_failed as has_failed_merging, is_origin_failed as has_failed_origin, is_store_failed as has_failed_store, is_stopped as is_stopped_by};
 
 use crate::VolumeArray;
 use device::Ahead;
@@ -14,6 +14,8 @@ use volume::Volume;
 pub enum Fault {
     /// The origin's file left a write or a sync unanswered.
     Origin,
+    /// The file of the store that is being merged did.
+    Merging,
     /// A store can't be marked as invalid, and its snapshot is lost.
     Unmarked,
     /// Memory was refused for a round.
@@ -39,15 +41,34 @@ fn is_store_failed<B: Ahead>(snaps: &[Snapshot<B>], number: u32) -> bool
     false
 }
 
+/// Whether the file of the store that is being merged failed.
+#[tactic(auto, using(crate::proofs::Merged::failed_of_store, crate::proofs::Merged::none_of_store))]
+fn is_merging_failed<B: Ahead>(volume: &Volume<B>) -> bool
+    ensures { result ≡ has_failed_merging B.failed volume.now.merge }
+{
+    let Some(number) = volume.merging() else {
+        return false;
+    };
+    match volume.store(number) {
+        Ok(store) => store.is_failed(),
+        Err(_) => false,
+    }
+}
+
+/// Whether a file failed that holds what the origin shows.
+fn is_origin_failed<B: Ahead>(volume: &Volume<B>) -> bool
+    ensures { result ≡ has_failed_origin B.failed volume.now }
+{
+    volume.origin().is_failed() || is_merging_failed(volume)
+}
+
 /// Whether a file failed on which the replies of a device rest.
 pub(crate) fn is_failed_at<B: Ahead>(volume: &Volume<B>, dev: Dev) -> bool
     ensures { result ≡ is_failed_there B.failed dev volume.now }
 {
     match dev {
-        Dev::Origin => volume.origin().is_failed(),
-        Dev::Snap(number) => {
-            volume.origin().is_failed() || is_store_failed(volume.snaps(), number)
-        }
+        Dev::Origin => is_origin_failed(volume),
+        Dev::Snap(number) => is_origin_failed(volume) || is_store_failed(volume.snaps(), number),
     }
 }
 
@@ -67,7 +88,7 @@ fn is_unmarked<B: Ahead>(snaps: &[Snapshot<B>]) -> bool
 pub(crate) fn is_stopped<B: Ahead>(volume: &Volume<B>) -> bool
     ensures { result ≡ is_stopped_by B.failed volume.now }
 {
-    volume.origin().is_failed() || is_unmarked(volume.snaps())
+    is_origin_failed(volume) || is_unmarked(volume.snaps())
 }
 
 impl<B: Ahead> VolumeArray<B> {
@@ -77,6 +98,9 @@ impl<B: Ahead> VolumeArray<B> {
     {
         if self.volume.origin().is_failed() {
             return Some(Fault::Origin);
+        }
+        if is_merging_failed(&self.volume) {
+            return Some(Fault::Merging);
         }
         if is_unmarked(self.volume.snaps()) {
             return Some(Fault::Unmarked);

@@ -1,9 +1,9 @@
 // The array of a session.
 ghost use Rattle.std.specs.Prelude.{◌≡◌, ◌&&◌, ◌*◌, ◌==◌, ◌<◌, Some, false, length, nat_lt, slice_get, true};
 ghost use Rattle.nbd_jobs.specs.declared.work.Kind.TheVariants.{Write as AsksWrite};
+ghost use Rattle.served_array.specs.Calls.{Choose, Submit, Step};
 ghost use Rattle.volume.specs.Volumed.{piece_with};
-ghost use Rattle.volume_nbd.specs.Steps.{DoesServedStep};
-ghost use Rattle.volume_nbd.specs.Submits.{DoesTakeIn};
+ghost use Rattle.volume_nbd.specs.Calls.{does_by};
 
 use crate::VolumeArray;
 use device::Ahead;
@@ -11,10 +11,10 @@ use nbd_jobs::Work;
 use served_array::{Array, Refused, Stepped};
 use std::alloc::Global;
 
-impl<B: Ahead> Array for VolumeArray<B> {
-    /// The client uses the export at this place. `false`, and nothing changes, where there is none, or where requests of another are
+impl<B: Ahead> VolumeArray<B> {
+    /// Chooses the device of the export at a place. `false`, and nothing changes, where there is none, or where requests of another are
     /// in flight.
-    fn choose(&mut self, place: usize) -> bool
+    fn choose_at(&mut self, place: usize) -> bool
         ensures told { result ≡ (nat_lt place (length self.old.exports) && (length self.old.volume.flights == 0)) }
         ensures chosen { result ≡ true → Some self.new.chosen ≡ slice_get self.old.exports place }
         ensures same { result ≡ false → self.new ≡ self.old }
@@ -31,6 +31,17 @@ impl<B: Ahead> Array for VolumeArray<B> {
             None => false,
         }
     }
+}
+
+impl<B: Ahead> Array for VolumeArray<B> {
+    ghost does = { does_by B.may_hold B.contents B.layers B.size B.fault_count B.done_count B.failed };
+
+    /// The client uses the export at this place, as `choose_at` says.
+    fn choose(&mut self, place: usize) -> bool
+        ensures { does_by B.may_hold B.contents B.layers B.size B.fault_count B.done_count B.failed (Choose place result) self.old self.new }
+    {
+        self.choose_at(place)
+    }
 
     /// The least chunk of all snapshots.
     #[tactic(auto, using(crate::proofs::Sizes::chunk_some))]
@@ -44,16 +55,14 @@ impl<B: Ahead> Array for VolumeArray<B> {
     /// Takes a piece in, as `take_in` does.
     fn submit(&mut self, alloc: Global, work: Work, part: &[u8]) -> Result<u64, Refused>
         requires { work.kind ≡ AsksWrite → length part.now ≡ 512 * work.count }
-        ensures does { DoesTakeIn B.contents B.layers B.size self.old.chosen work part.now result self.old.volume self.new.volume }
-        ensures kept { self.new ≡ record self.old { volume = self.new.volume } }
+        ensures { does_by B.may_hold B.contents B.layers B.size B.fault_count B.done_count B.failed (Submit work part.now result) self.old self.new }
     {
         self.take_in(alloc, work, part)
     }
 
     /// Does an event or none, as `go_on` does.
     fn step(&mut self) -> Stepped
-        ensures does { DoesServedStep B.may_hold B.contents B.layers B.size B.fault_count B.done_count B.failed self.old.chosen result self.old.volume self.new.volume }
-        ensures kept { self.new ≡ record self.old { volume = self.new.volume; starved = self.new.starved } }
+        ensures { does_by B.may_hold B.contents B.layers B.size B.fault_count B.done_count B.failed (Step result) self.old self.new }
     {
         self.go_on()
     }

@@ -1,9 +1,9 @@
 // The events of a round are done.
-ghost use Rattle.std.specs.Prelude.{◌≡◌, ◌≢◌, IfNone, IfSome, Some, false, true};
+ghost use Rattle.std.specs.Prelude.{◌≡◌, ◌≢◌, ◌==◌, ◌&&◌, IfNone, IfSome, None, Some, false, length, true};
 ghost use Rattle.served_array.specs.declared.array.Stepped.TheVariants.{Ended, Still};
 ghost use Rattle.volume.specs.Volumed.{is_due_of, next_of};
 ghost use Rattle.volume_nbd.specs.Faults.{is_stopped as is_stopped_by};
-ghost use Rattle.volume_nbd.specs.Steps.{DoesEvent, DoesServedStep, is_idle};
+ghost use Rattle.volume_nbd.specs.Steps.{DoesEvent, DoesServedStep};
 
 use crate::VolumeArray;
 use crate::answers::stepped;
@@ -36,13 +36,14 @@ impl<B: Ahead> VolumeArray<B> {
         if !self.volume.is_due(event) {
             return None;
         }
+        let idle = is_of_merge(event) && self.volume.flights().is_empty();
         self.volume.ahead(event);
         let Ok(outcome) = self.volume.step(event) else {
             return None;
         };
         self.went = true;
         let failed = is_failed_at(&self.volume, self.dev);
-        Some(stepped(self.alloc, failed, outcome))
+        Some(stepped(self.alloc, idle, failed, outcome))
     }
 
     /// Gathers the events of a batch. `false` where memory is refused.
@@ -59,7 +60,7 @@ impl<B: Ahead> VolumeArray<B> {
     /// Goes to the next batch, or to the next round.
     fn turn(&mut self) -> Option<Stepped>
         ensures some { IfSome result (λ stepped. DoesServedStep B.may_hold B.contents B.layers B.size B.fault_count B.done_count B.failed self.old.chosen stepped self.old.volume self.new.volume) }
-        ensures still { result ≡ Some Still → is_idle (next_of B.contents B.layers self.old.volume) ≡ true }
+        ensures still { result ≡ Some Still → next_of B.contents B.layers self.old.volume ≡ None }
         ensures ended { result ≡ Some Ended → self.new.starved ≡ true }
         ensures none { IfNone result (self.new.volume ≡ self.old.volume) }
         ensures kept { self.new ≡ record self.old { volume = self.new.volume; starved = self.new.starved } }
@@ -76,10 +77,10 @@ impl<B: Ahead> VolumeArray<B> {
         None
     }
 
-    /// The end of a round. Where the round did no event, the one that is due first is done.
+    /// The end of a round. Where the round did no event, the one that is due first is done; what is to be said is said before a merge's.
     fn end_round(&mut self) -> Stepped
         ensures does { DoesServedStep B.may_hold B.contents B.layers B.size B.fault_count B.done_count B.failed self.old.chosen result self.old.volume self.new.volume }
-        ensures still { result ≡ Still → is_idle (next_of B.contents B.layers self.old.volume) ≡ true }
+        ensures still { result ≡ Still → next_of B.contents B.layers self.old.volume ≡ None }
         ensures ended { result ≡ Ended → self.new.starved ≡ true }
         ensures kept { self.new ≡ record self.old { volume = self.new.volume; starved = self.new.starved } }
     {
@@ -88,34 +89,38 @@ impl<B: Ahead> VolumeArray<B> {
         if !self.gather(Batch::Issues) {
             return Stepped::Ended;
         }
-        if went { Stepped::Done } else { self.do_first() }
+        if !went {
+            return self.do_first();
+        }
+        if self.volume.merging().is_some() {
+            Stepped::Slow
+        } else {
+            Stepped::Done
+        }
     }
 
-    /// Does the event that is due first, unless it is a merge's.
+    /// Does the event that is due first: a merge's where no other is.
     fn do_first(&mut self) -> Stepped
         ensures does { DoesServedStep B.may_hold B.contents B.layers B.size B.fault_count B.done_count B.failed self.old.chosen result self.old.volume self.new.volume }
-        ensures still { result ≡ Still → is_idle (next_of B.contents B.layers self.old.volume) ≡ true }
+        ensures still { result ≡ Still → next_of B.contents B.layers self.old.volume ≡ None }
         ensures goes { result ≢ Ended }
         ensures kept { self.new ≡ record self.old { volume = self.new.volume } }
     {
-        match self.volume.due() {
-            Some(event) => {
-                if is_of_merge(event) {
-                    return Stepped::Still;
-                }
-                match self.do_event(event) {
-                    Some(stepped) => stepped,
-                    None => Stepped::Done,
-                }
-            }
-            None => Stepped::Still,
+        let Some(event) = self.volume.due() else {
+            return Stepped::Still;
+        };
+        let done = self.do_event(event);
+        self.went = !is_of_merge(event);
+        match done {
+            Some(stepped) => stepped,
+            None => Stepped::Done,
         }
     }
 
     /// Looks at the next event of the batch, and does it where it is due; or goes on to the next batch.
     fn look(&mut self) -> Option<Stepped>
         ensures some { IfSome result (λ stepped. DoesServedStep B.may_hold B.contents B.layers B.size B.fault_count B.done_count B.failed self.old.chosen stepped self.old.volume self.new.volume) }
-        ensures still { result ≡ Some Still → is_idle (next_of B.contents B.layers self.old.volume) ≡ true }
+        ensures still { result ≡ Some Still → next_of B.contents B.layers self.old.volume ≡ None }
         ensures ended { result ≡ Some Ended → self.new.starved ≡ true }
         ensures none { IfNone result (self.new.volume ≡ self.old.volume) }
         ensures kept { self.new ≡ record self.old { volume = self.new.volume; starved = self.new.starved } }
@@ -136,7 +141,7 @@ impl<B: Ahead> VolumeArray<B> {
         ensures stopped { is_stopped_by B.failed self.old.volume ≡ true → (result ≡ Ended) × (self.new ≡ self.old) }
         ensures starved { self.old.starved ≡ true → (result ≡ Ended) × (self.new ≡ self.old) }
         ensures ended { result ≡ Ended → is_stopped_by B.failed self.old.volume ≡ false → self.new.starved ≡ true }
-        ensures still { result ≡ Still → is_idle (next_of B.contents B.layers self.old.volume) ≡ true }
+        ensures still { result ≡ Still → next_of B.contents B.layers self.old.volume ≡ None }
         ensures kept { self.new ≡ record self.old { volume = self.new.volume; starved = self.new.starved } }
     {
         if self.starved || is_stopped(&self.volume) {

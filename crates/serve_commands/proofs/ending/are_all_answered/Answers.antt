@@ -9,9 +9,10 @@ use Rattle.serve_commands.proofs.ending.are_all_answered.Goals as goal
 pub loop-snap-preserved : goal.loop-snap-preserved
 loop-snap-preserved c = record {
   origin = c.loop-snap.invariant.origin;
+  merged = c.loop-snap.invariant.merged;
   stores = All-more (λ snap. are_answered (map call_of snap.device.file.file.noted.notes) ≡ true) c.snaps-snaps.result.now c.loop-snap.snap-index c.snap-item.result c.loop-snap-test.true c.loop-snap.invariant.stores
       (subst (λ snap. are_answered (map call_of snap.device.file.file.noted.notes) ≡ true) c.snap-item.is
-      (subst (λ device. are_answered (map call_of device.file.file.noted.notes) ≡ true) c.device.ensures c.in_ok-is_answered-2.ensures.ok));
+      (subst (λ device. are_answered (map call_of device.file.file.noted.notes) ≡ true) c.device.ensures c.in_ok-is_answered-3.ensures.ok));
 }
 
 pub returns-clause-stores : goal.returns-clause-stores

@@ -1,18 +1,5 @@
-use Rattle.std.proofs.Common.{ap, ◌∙◌}
-use Rattle.sector.specs.Bytes.{sector_at}
-use Rattle.cow_header.specs.HeaderText.{found_in}
-use Rattle.served_volume.proofs.Seen.{ahead_seen, seen_more}
+-- It was looked at first.
 use Rattle.served_volume.proofs.loading.load.Goals as goal
 
 pub returns : goal.returns
-returns g c =
-    let does = c.sync_ahead.ensures.does in
-    let more = seen_more g.B.Block.may_hold g.B.Block.contents g.B.Block.layers g.B.Block.size _ _ _ in
-    record {
-      seen = c.sync_ahead.new.self;
-      looked = more c.load_ahead.ensures.seen (ahead_seen g.B.Block.may_hold g.B.Block.contents g.B.Block.layers g.B.Block.size g.B.Block.fault_count g.B.Block.done_count _ _ does);
-      told = λ is. ap (λ bytes. found_in (sector_at bytes 0)) (does.same is) ∙ c.in_ok-found.ensures.told (does.loud is);
-      attached = c.in-Ok.ensures.does;
-      origin = c.in_ok-are_answered.ensures.origin;
-      stores = c.in_ok-are_answered.ensures.stores;
-    }
+returns g c = c.in_ok-number.ensures c.in_ok-found.found c.args.store c.load_ahead.ensures.seen c.in_ok-found.ensures.told

@@ -1,15 +1,18 @@
 use Rattle.std.proofs.Common.{rules}
-use Rattle.nbd_session.proofs.Moved.{saying_then, unsaid_none}
+use Rattle.nbd_session.proofs.Calling.{saying, still_saying}
 use Rattle.nbd_session.proofs.line.Line.go.Goals as goal
 
 pub loop-init : goal.loop-init
-loop-init g c = record { moves = λ known. unsaid_none _ known _; goes = search rules }
+loop-init g c = record { moves = still_saying g.A.Array.does _ _ _; goes = search rules }
 
 pub loop-preserved : goal.loop-preserved
-loop-preserved g c = record { moves = saying_then _ _ _ _ _ _ c.loop.invariant.moves c.in_ok-step.ensures.moves; goes = search rules }
+loop-preserved g c = record { moves = saying g.A.Array.does _ _ _ _ _ _ _ _ _ c.loop.invariant.moves c.in_ok-step.ensures.moves; goes = search rules }
 
 pub returns-in-Still-clause-moves : goal.returns-in-Still-clause-moves
-returns-in-Still-clause-moves g c = saying_then _ _ _ _ _ _ c.loop.invariant.moves c.in_ok-step.ensures.moves
+returns-in-Still-clause-moves g c = saying g.A.Array.does _ _ _ _ _ _ _ _ _ c.loop.invariant.moves c.in_ok-step.ensures.moves
+
+pub returns-in-Idle-clause-moves : goal.returns-in-Idle-clause-moves
+returns-in-Idle-clause-moves g c = saying g.A.Array.does _ _ _ _ _ _ _ _ _ c.loop.invariant.moves c.in_ok-step.ensures.moves
 
 pub returns-in-Stopped-clause-moves : goal.returns-in-Stopped-clause-moves
-returns-in-Stopped-clause-moves g c = saying_then _ _ _ _ _ _ c.loop.invariant.moves c.in_ok-step.ensures.moves
+returns-in-Stopped-clause-moves g c = saying g.A.Array.does _ _ _ _ _ _ _ _ _ c.loop.invariant.moves c.in_ok-step.ensures.moves

@@ -1,13 +1,13 @@
 use Rattle.std.proofs.Common.{rules, refl, sym, ap, ◌∙◌}
 use Rattle.nbd_session.proofs.Asked.{over_gone_on}
-use Rattle.nbd_session.proofs.Moved.{unsaid_same}
+use Rattle.nbd_session.proofs.Moved.{moves_still}
 use Rattle.nbd_session.proofs.line.Line.take.Goals as goal
 
 pub returns-then-len-lt-REQUEST_BYTES-clause-moves : goal.returns-then-len-lt-REQUEST_BYTES-clause-moves
-returns-then-len-lt-REQUEST_BYTES-clause-moves c = unsaid_same _ _ (refl, refl, refl, refl, refl)
+returns-then-len-lt-REQUEST_BYTES-clause-moves c = moves_still _ _ refl refl refl refl refl refl
 
 pub returns-in-Disconnect-clause-moves : goal.returns-in-Disconnect-clause-moves
-returns-in-Disconnect-clause-moves c = unsaid_same _ _ (refl, refl, refl, refl, refl)
+returns-in-Disconnect-clause-moves c = moves_still _ _ refl refl refl refl refl refl
 
 pub returns-in-Disconnect-clause-over : goal.returns-in-Disconnect-clause-over
 returns-in-Disconnect-clause-over c = λ bytes.
