@@ -10,7 +10,7 @@ use cow_salvage::Span;
 use std::alloc::AllocError;
 
 /// Adds one member more: a key and a number.
-pub(crate) fn push_member(text: &mut Vec<u8>, key: &[u8], number: u64) -> Result<(), AllocError>
+pub fn push_member(text: &mut Vec<u8>, key: &[u8], number: u64) -> Result<(), AllocError>
     ensures { OnOk result (text.new.items ≡ text.old.items ++ member_text key.now number) }
 {
     text.extend_from_slice(b",\"")?;

@@ -25,11 +25,11 @@ mod text;
 
 pub use faults_json::{push_behind_json, push_faults_json, push_unread_json};
 pub use forms::{checked, mapped, push_behind, raw, salvaged, shown};
-pub use json::{push_json, push_spans_json};
+pub use json::{push_json, push_member, push_spans_json};
 pub use listing::{push_listed, push_runs_lines, push_slots};
 pub use listing_json::{push_listed_json, push_runs_json, push_slots_json};
 pub use looking::{Seen, all_faults, chunk_listed, chunk_of, is_good, look, numbers_of};
-pub use members::push_number_json;
+pub use members::{push_first, push_number_json};
 pub use merges::{push_bytes, push_left, push_runs};
 pub use notes::{Behind, Notes, is_whole, notes_of};
 pub use reasons::push_faults;
@@ -38,4 +38,4 @@ pub use salvage::{push_behind_lines, push_skipped, push_spans};
 pub use showing::{
     Numbers, push_numbers, push_sectors, push_show, push_told, push_usage, slots_of,
 };
-pub use text::push_line;
+pub use text::{push_line, push_number};

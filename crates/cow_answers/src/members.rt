@@ -8,7 +8,7 @@ use sector::Pair;
 use std::alloc::AllocError;
 
 /// Begins an object with a key and a number.
-pub(crate) fn push_first(text: &mut Vec<u8>, key: &[u8], number: u64) -> Result<(), AllocError>
+pub fn push_first(text: &mut Vec<u8>, key: &[u8], number: u64) -> Result<(), AllocError>
     ensures { OnOk result (text.new.items ≡ text.old.items ++ first_member key.now number) }
 {
     text.extend_from_slice(b"{\"")?;

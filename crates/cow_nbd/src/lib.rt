@@ -4,10 +4,13 @@
 //! that an image changed.
 #![tactic(auto)]
 
+mod live;
+mod marking;
 mod pictures;
 mod serving;
 mod watching;
 
+pub use live::{LivePicture, serve_live};
 pub use pictures::Pictures;
 pub use serving::{serve_fresh, serve_pictures, serve_written};
 pub use watching::{Still, Watch};

@@ -4,9 +4,10 @@ ghost use Rattle.cow_image.specs.Sorted.{IsRisingBy, old_of};
 ghost use Rattle.cow_image.specs.Fails.{ShownFails};
 ghost use Rattle.cow_nbd.specs.Shows.{known_at, known_shown, FailsAt};
 
+use crate::marking::marked;
 use cow_image::show_range;
 use image::Image;
-use nbd_server::{Fault, Served};
+use nbd_server::{Fault, Marked, Served};
 use sector::Pair;
 use std::io;
 
@@ -43,7 +44,7 @@ impl<O: Image, C: Image> Pictures<O, C> {
     /// Reads an array.
     fn read_from(&mut self, export: usize, at: u64, out: &mut [u8]) -> io::Result<()>
         requires { at + length out.old < 2 ^ 64 }
-        ensures data { OnOk result (IfSome (known_at self.old.chunk self.old.pairs.items self.old.size (O.bytes self.old.origin) (C.bytes self.old.cow) export) (λ b. out.new ≡ take (length out.old) (drop at b))) }
+        ensures data { OnOk result (IfSome (known_at self.old.chunk self.old.pairs.items self.old.size (O.bytes self.old.origin) (C.bytes self.old.cow) export) (λ b. out.new ≡ take (length out.old) (drop at b.bytes))) }
         ensures fails { OnErr result (FailsAt (O.may_fail self.old.origin) (C.may_fail self.old.cow) self.old.chunk self.old.pairs.items self.old.size export at (length out.old)) }
         ensures bytes { (k : ℕ) → known_at self.new.chunk self.new.pairs.items self.new.size (O.bytes self.new.origin) (C.bytes self.new.cow) k ≡ known_at self.old.chunk self.old.pairs.items self.old.size (O.bytes self.old.origin) (C.bytes self.old.cow) k }
         ensures calm { (k : ℕ) (from : ℕ) (count : ℕ) → FailsAt (O.may_fail self.new.origin) (C.may_fail self.new.cow) self.new.chunk self.new.pairs.items self.new.size k from count → FailsAt (O.may_fail self.old.origin) (C.may_fail self.old.cow) self.old.chunk self.old.pairs.items self.old.size k from count }
@@ -59,7 +60,7 @@ impl<O: Image, C: Image> Pictures<O, C> {
 }
 
 impl<O: Image, C: Image> Served for Pictures<O, C> {
-    ghost bytes = { λ p k. known_at p.chunk p.pairs.items p.size (O.bytes p.origin) (C.bytes p.cow) k };
+    ghost shows = { λ p k. known_at p.chunk p.pairs.items p.size (O.bytes p.origin) (C.bytes p.cow) k };
 
     ghost may_fail = { λ p k at n. FailsAt (O.may_fail p.origin) (C.may_fail p.cow) p.chunk p.pairs.items p.size k at n };
 
@@ -68,5 +69,9 @@ impl<O: Image, C: Image> Served for Pictures<O, C> {
             Ok(()) => Ok(()),
             Err(_) => Err(Fault::Io),
         }
+    }
+
+    fn marks(&mut self, _export: usize, at: u64, most: u32) -> Result<Marked, Fault> {
+        Ok(marked(self.chunk, self.pairs.as_slice(), at, most))
     }
 }

@@ -3,8 +3,8 @@ ghost use Rattle.std.specs.Prelude.{◌≡◌, ℕ, ◌*◌, ◌≤◌, List, le
 ghost use Rattle.cow_image.specs.Maps.{IsMapOf};
 ghost use Rattle.cow_image.specs.Shown.{shown};
 ghost use Rattle.store_bytes.specs.Picture.{picture};
-ghost use Rattle.std.specs.Prelude.{Bool};
-ghost use Rattle.cow_nbd.specs.Shows.{IsServedBy, FailsAt, FailsFresh, OrChanged};
+ghost use Rattle.std.specs.Prelude.{Bool, false};
+ghost use Rattle.cow_nbd.specs.Shows.{IsServedBy, has_copy, FailsAt, FailsFresh, OrChanged};
 
 use crate::pictures::Pictures;
 use crate::watching::{Watch, Watched};
@@ -25,7 +25,7 @@ pub fn serve_pictures<O: Image, C: Image, V: Watch, R: Read, W: Write>(
     reader: &mut R,
     writer: &mut W,
 ) -> Result<(), Stopped>
-    ensures { OnOk result ((o : List ℕ) → (b : List ℕ) → (heard : List ℕ) → O.bytes pictures.old.origin ≡ Some o → C.bytes pictures.old.cow ≡ Some b → R.remaining reader.old ≡ Some heard → IsServedBy (OrChanged (V.has_told watch.old) (V.may_change watch.old) (FailsAt (O.may_fail pictures.old.origin) (C.may_fail pictures.old.cow) pictures.old.chunk pictures.old.pairs.items pictures.old.size)) pictures.old.size (shown pictures.old.chunk o b pictures.old.pairs.items 0 (512 * pictures.old.size)) o heard (W.contents writer.old) (W.contents writer.new)) }
+    ensures { OnOk result ((o : List ℕ) → (b : List ℕ) → (heard : List ℕ) → O.bytes pictures.old.origin ≡ Some o → C.bytes pictures.old.cow ≡ Some b → R.remaining reader.old ≡ Some heard → IsServedBy (OrChanged (V.has_told watch.old) (V.may_change watch.old) (FailsAt (O.may_fail pictures.old.origin) (C.may_fail pictures.old.cow) pictures.old.chunk pictures.old.pairs.items pictures.old.size)) pictures.old.size (shown pictures.old.chunk o b pictures.old.pairs.items 0 (512 * pictures.old.size)) o (has_copy pictures.old.chunk pictures.old.pairs.items) heard (W.contents writer.old) (W.contents writer.new)) }
 {
     let size = 512 * pictures.size;
     let snapshot = Export {
@@ -33,12 +33,14 @@ pub fn serve_pictures<O: Image, C: Image, V: Watch, R: Read, W: Write>(
         size,
         flags: READ_FLAGS,
         blocks: None,
+        bitmap: true,
     };
     let origin = Export {
         name: b"origin".as_slice(),
         size,
         flags: READ_FLAGS,
         blocks: None,
+        bitmap: true,
     };
     let exports = [snapshot, origin];
     let mut watched = Watched {
@@ -63,7 +65,7 @@ pub fn serve_written<O: Image + Drop, C: Image + Drop, V: Watch, R: Read, W: Wri
     writer: &mut W,
 ) -> Result<(), Stopped>
     requires { size ≤ 68_719_476_736 }
-    ensures { OnOk result ((o : List ℕ) → (b : List ℕ) → (heard : List ℕ) → O.bytes origin ≡ Some o → C.bytes cow ≡ Some b → R.remaining reader.old ≡ Some heard → length o ≡ 512 * size → IsMapOf size b map → IsServedBy (OrChanged (V.has_told watch.old) (V.may_change watch.old) (FailsAt (O.may_fail origin) (C.may_fail cow) map.chunk map.pairs.items size)) size (picture map.chunk o b) o heard (W.contents writer.old) (W.contents writer.new)) }
+    ensures { OnOk result ((o : List ℕ) → (b : List ℕ) → (heard : List ℕ) → O.bytes origin ≡ Some o → C.bytes cow ≡ Some b → R.remaining reader.old ≡ Some heard → length o ≡ 512 * size → IsMapOf size b map → IsServedBy (OrChanged (V.has_told watch.old) (V.may_change watch.old) (FailsAt (O.may_fail origin) (C.may_fail cow) map.chunk map.pairs.items size)) size (picture map.chunk o b) o (has_copy map.chunk map.pairs.items) heard (W.contents writer.old) (W.contents writer.new)) }
 {
     let mut pictures = Pictures {
         origin,
@@ -91,7 +93,7 @@ pub fn serve_fresh<O: Image + Drop, V: Watch, R: Read, W: Write>(
     writer: &mut W,
 ) -> Result<(), Stopped>
     requires { size ≤ 68_719_476_736 }
-    ensures { OnOk result ((o : List ℕ) → (heard : List ℕ) → O.bytes origin ≡ Some o → R.remaining reader.old ≡ Some heard → length o ≡ 512 * size → IsServedBy (OrChanged (V.has_told watch.old) (V.may_change watch.old) (FailsFresh (O.may_fail origin) size)) size o o heard (W.contents writer.old) (W.contents writer.new)) }
+    ensures { OnOk result ((o : List ℕ) → (heard : List ℕ) → O.bytes origin ≡ Some o → R.remaining reader.old ≡ Some heard → length o ≡ 512 * size → IsServedBy (OrChanged (V.has_told watch.old) (V.may_change watch.old) (FailsFresh (O.may_fail origin) size)) size o o (λ _. false) heard (W.contents writer.old) (W.contents writer.new)) }
 {
     let cow = MemImage {
         bytes: Vec::new(alloc),

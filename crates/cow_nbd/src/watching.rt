@@ -1,8 +1,9 @@
 // Whether the images that are served are still as they were.
-ghost use Rattle.std.specs.Prelude.{◌≡◌, ◌⊎◌, ℕ, ◌+◌, ◌^◌, ◌<◌, List, length, take, drop, Bool, false, IfSome, IsTrue, OnOk, Err};
+ghost use Rattle.std.specs.Prelude.{◌≡◌, ◌⊎◌, ℕ, ◌+◌, ◌^◌, ◌<◌, length, take, drop, Bool, false, IfOk, IfSome, IsTrue, OnOk, Err};
+ghost use Rattle.nbd_server.specs.Blocks.{marked_for};
 ghost use Rattle.nbd_server.specs.declared.served.Fault.{Fault as FaultOf};
 
-use nbd_server::{Fault, Served};
+use nbd_server::{Fault, Marked, Served};
 
 /// What tells whether images are still as they were when their serving began.
 pub trait Watch {
@@ -43,16 +44,16 @@ pub struct Watched<'s, 'w, S: Served, W: Watch> {
 }
 
 impl<S: Served, W: Watch> Served for Watched<'_, '_, S, W> {
-    ghost bytes = { λ w. S.bytes w.served.now };
+    ghost shows = { λ w. S.shows w.served.now };
 
     ghost may_fail = { λ w k at n. S.may_fail w.served.now k at n ⊎ (IsTrue (W.has_told w.watch.now) ⊎ W.may_change w.watch.now) };
 
     fn read(&mut self, export: usize, at: u64, out: &mut [u8]) -> Result<(), Fault>
         requires { at + length out.old < 2 ^ 64 }
-        ensures data { OnOk result (IfSome (S.bytes self.old.served.now export) (λ b. out.new ≡ take (length out.old) (drop at b))) }
+        ensures data { OnOk result (IfSome (S.shows self.old.served.now export) (λ b. out.new ≡ take (length out.old) (drop at b.bytes))) }
         ensures unchanged { OnOk result (W.has_told self.new.watch.now ≡ false) }
         ensures fails { result ≡ Err Fault.Io → S.may_fail self.old.served.now export at (length out.old) ⊎ (IsTrue (W.has_told self.old.watch.now) ⊎ W.may_change self.old.watch.now) }
-        ensures bytes { (k : ℕ) → S.bytes self.new.served.now k ≡ S.bytes self.old.served.now k }
+        ensures shows { (k : ℕ) → S.shows self.new.served.now k ≡ S.shows self.old.served.now k }
         ensures calm { (k : ℕ) (from : ℕ) (count : ℕ) → S.may_fail self.new.served.now k from count ⊎ (IsTrue (W.has_told self.new.watch.now) ⊎ W.may_change self.new.watch.now) → S.may_fail self.old.served.now k from count ⊎ (IsTrue (W.has_told self.old.watch.now) ⊎ W.may_change self.old.watch.now) }
     {
         match self.served.read(export, at, out) {
@@ -63,5 +64,23 @@ impl<S: Served, W: Watch> Served for Watched<'_, '_, S, W> {
             return Err(Fault::Io);
         }
         Ok(())
+    }
+
+    fn marks(&mut self, export: usize, at: u64, most: u32) -> Result<Marked, Fault>
+        requires { at + most < 2 ^ 64 }
+        ensures data { IfOk result (λ told. IfSome (S.shows self.old.served.now export) (λ b. (told.marked ≡ b.marks at) × (told.len ≡ marked_for b.marks (b.marks at) most at))) }
+        ensures unchanged { OnOk result (W.has_told self.new.watch.now ≡ false) }
+        ensures fails { result ≡ Err Fault.Io → S.may_fail self.old.served.now export at most ⊎ (IsTrue (W.has_told self.old.watch.now) ⊎ W.may_change self.old.watch.now) }
+        ensures shows { (k : ℕ) → S.shows self.new.served.now k ≡ S.shows self.old.served.now k }
+        ensures calm { (k : ℕ) (from : ℕ) (count : ℕ) → S.may_fail self.new.served.now k from count ⊎ (IsTrue (W.has_told self.new.watch.now) ⊎ W.may_change self.new.watch.now) → S.may_fail self.old.served.now k from count ⊎ (IsTrue (W.has_told self.old.watch.now) ⊎ W.may_change self.old.watch.now) }
+    {
+        let told = match self.served.marks(export, at, most) {
+            Ok(told) => told,
+            Err(fault) => return Err(fault),
+        };
+        if self.watch.has_changed() {
+            return Err(Fault::Io);
+        }
+        Ok(told)
     }
 }

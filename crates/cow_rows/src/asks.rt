@@ -67,17 +67,34 @@ fn words_are_asked_in_any_place(rt: HostRuntime) -> Result<(), Fail> {
         image: "-",
     };
     let heard = Asked::Image { out: "--json" };
+    let svg = Some("d.svg");
+    let drawn = Asked::Picture { origin, cow, svg };
+    let compared = Asked::Compare {
+        one: "o",
+        other: "c",
+        form,
+    };
     for (line, wanted) in [
         ("--help", Ok(Asked::Help)),
-        ("show -h", Ok(Asked::Help)),
+        ("show -h", Ok(Asked::HelpOf { command: "show" })),
         ("-V", Ok(Asked::Version)),
-        ("help", Ok(Asked::Help)),
         ("show c --json", Ok(Asked::Show { cow, form })),
         ("--json show c", Ok(Asked::Show { cow, form })),
         ("map --raw c --json", Ok(Asked::RawMap { cow, form })),
         ("map c --json", Ok(Asked::Map { cow, form })),
         ("check --json o c", Ok(Asked::Check { origin, cow, form })),
         ("merge o --json c --dry-run", Ok(tried)),
+        (
+            "map c --json --over=o",
+            Ok(Asked::Ranges { origin, cow, form }),
+        ),
+        ("map --over o c --svg d.svg", Ok(drawn)),
+        ("map c --svg d.svg", Err(Wrong::Without("--svg", "--over"))),
+        ("compare o c --json", Ok(compared)),
+        ("table o c", Ok(Asked::Table { origin, cow })),
+        ("show c --human", Ok(Asked::Human { cow })),
+        ("help", Ok(Asked::Help)),
+        ("help nbd", Ok(Asked::HelpOf { command: "nbd" })),
         ("map -- --raw", Ok(dashed)),
         ("map c --json=1", Err(Wrong::Line(Line::Option("--json=1")))),
         ("check o c", Ok(check)),

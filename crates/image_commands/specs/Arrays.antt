@@ -1,7 +1,7 @@
 -- What the snapshot of a store shows, and where a read of it may fail.
-use Rattle.std.specs.Prelude.{ℕ, List, []}
+use Rattle.std.specs.Prelude.{ℕ, Bool, false, List, []}
 use Rattle.store_bytes.specs.Picture.{picture}
-use Rattle.cow_nbd.specs.Shows.{FailsAt, FailsFresh}
+use Rattle.cow_nbd.specs.Shows.{FailsAt, FailsFresh, has_copy}
 use Rattle.cow_image.specs.declared.found.Told.{Told}
 use Rattle.cow_image.specs.declared.found.Told.TheVariants.{Fresh, Refused, Written}
 
@@ -10,6 +10,12 @@ abbrev pub array_of : Told → List ℕ → List ℕ → List ℕ
 array_of Fresh origin store = origin
 array_of (Refused reason) origin store = []
 array_of (Written map) origin store = picture map.chunk origin store
+
+-- whether a byte lies in a chunk of which the store has a copy
+abbrev pub marks_of : Told → ℕ → Bool
+marks_of Fresh i = false
+marks_of (Refused reason) i = false
+marks_of (Written map) i = has_copy map.chunk map.pairs.items i
 
 -- a read of the snapshot, or of the origin, of so many sectors, may fail
 abbrev pub FailsTold : Told → (ℕ → ℕ → Type 0) → (ℕ → ℕ → Type 0) → ℕ → ℕ → ℕ → ℕ → Type 0

@@ -1,3 +1,4 @@
 pub mod Arrays
 pub mod Differing
 pub mod Status
+pub mod Maps

@@ -8,7 +8,7 @@ use cow_answers::{
 };
 use cow_image::{MAX_IMAGE, Reason, Told, read_slots};
 use cow_salvage::read_used;
-use image_words::Form;
+use image_words::{Form, Telling};
 use opened_files::{Input, Inputs, Trouble, held, of_input, size_of};
 use std::alloc::AllocError;
 use std::io::Write;
@@ -35,8 +35,13 @@ pub fn seen_both<'a>(rt: &HostRuntime, inputs: &mut Inputs<'a>) -> Result<(u64, 
 }
 
 /// Opens a store, and reads it for an origin of any size.
-fn seen_alone<'a>(rt: &'a HostRuntime, cow: &'a str) -> Result<(Input<'a>, Seen), Trouble<'a>> {
+pub fn seen_alone<'a>(
+    rt: &'a HostRuntime,
+    cow: &'a str,
+    telling: Telling,
+) -> Result<(Input<'a>, Seen), Trouble<'a>> {
     let mut input = Input::open(rt, cow)?;
+    input.tell(rt, telling);
     let seen = seen_in(rt, &mut input, u64::MAX)?;
     Ok((input, seen))
 }
@@ -58,9 +63,10 @@ pub fn show<'a, W: Write>(
     rt: &'a HostRuntime,
     cow: &'a str,
     form: Form,
+    telling: Telling,
     output: &mut W,
 ) -> Result<bool, Trouble<'a>> {
-    let (_input, seen) = seen_alone(rt, cow)?;
+    let (_input, seen) = seen_alone(rt, cow, telling)?;
     put_text(cow, shown(rt.alloc(), &seen, form), &seen, output)
 }
 
@@ -69,9 +75,10 @@ pub fn map<'a, W: Write>(
     rt: &'a HostRuntime,
     cow: &'a str,
     form: Form,
+    telling: Telling,
     output: &mut W,
 ) -> Result<bool, Trouble<'a>> {
-    let (_input, seen) = seen_alone(rt, cow)?;
+    let (_input, seen) = seen_alone(rt, cow, telling)?;
     put_text(cow, mapped(rt.alloc(), &seen, form), &seen, output)
 }
 
@@ -81,9 +88,10 @@ pub fn raw_map<'a, W: Write>(
     rt: &'a HostRuntime,
     cow: &'a str,
     form: Form,
+    telling: Telling,
     output: &mut W,
 ) -> Result<bool, Trouble<'a>> {
-    let (mut input, seen) = seen_alone(rt, cow)?;
+    let (mut input, seen) = seen_alone(rt, cow, telling)?;
     let Some(chunk) = chunk_of(seen.numbers) else {
         return put_text(cow, mapped(rt.alloc(), &seen, form), &seen, output);
     };
@@ -100,9 +108,11 @@ pub fn check<'a, W: Write>(
     origin: &'a str,
     cow: &'a str,
     form: Form,
+    telling: Telling,
     output: &mut W,
 ) -> Result<bool, Trouble<'a>> {
     let mut inputs = Inputs::open(rt, origin, cow)?;
+    inputs.tell(rt, telling);
     let (size, seen) = seen_both(rt, &mut inputs)?;
     let mut text = held(cow, shown(rt.alloc(), &seen, form))?;
     match seen.told {

@@ -12,7 +12,7 @@ use cow_answers::{push_spans, push_spans_json, shown};
 use cow_image::{Stopped, Told};
 use cow_salvage::{Span, Undone, differences};
 use image::Image;
-use image_words::Form;
+use image_words::{Form, Telling};
 use opened_files::{Inputs, Trouble};
 use std::alloc::{AllocError, Global};
 use std::io::Write;
@@ -54,9 +54,11 @@ pub fn diff<'a, W: Write>(
     origin: &'a str,
     cow: &'a str,
     form: Form,
+    telling: Telling,
     output: &mut W,
 ) -> Result<bool, Trouble<'a>> {
     let mut inputs = Inputs::open(rt, origin, cow)?;
+    inputs.tell(rt, telling);
     let (size, seen) = seen_both(rt, &mut inputs)?;
     if let Told::Refused(_) = seen.told {
         return put_text(cow, shown(rt.alloc(), &seen, form), &seen, output);

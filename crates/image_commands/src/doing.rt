@@ -1,9 +1,12 @@
 // What is asked for is done.
 
 use crate::commands::{check, map, raw_map, show};
+use crate::comparing::compare;
 use crate::differing::diff;
 use crate::ended::Ended;
+use crate::living::serve_in_use;
 use crate::merging::{Words, merge};
+use crate::over::{human, picture, ranged_map, table};
 use crate::printing::printed;
 use crate::repairing::repair_store;
 use crate::rolling::export;
@@ -11,7 +14,8 @@ use crate::salvaging::{Salvage, salvage_array};
 use crate::seaming::{hear, spell};
 use crate::serving::serve;
 use crate::storing;
-use image_words::{Asked, HELP, VERSION};
+use crate::topics::topic;
+use image_words::{Asked, HELP, Telling, VERSION};
 use opened_files::Trouble;
 use std::io::{BufRead, Write};
 
@@ -19,24 +23,31 @@ use std::io::{BufRead, Write};
 pub fn done<'a, R: BufRead, W: Write, E: Write>(
     rt: &'a HostRuntime,
     asked: Asked<'a>,
+    telling: Telling,
     input: &mut R,
     output: &mut W,
     errors: &mut E,
 ) -> Result<Ended<'a>, Trouble<'a>> {
     let good = match asked {
         Asked::Help => said(HELP, output)?,
+        Asked::HelpOf { command } => said(topic(command), output)?,
         Asked::Version => said(VERSION, output)?,
-        Asked::Show { cow, form } => show(rt, cow, form, output)?,
-        Asked::Map { cow, form } => map(rt, cow, form, output)?,
-        Asked::RawMap { cow, form } => raw_map(rt, cow, form, output)?,
-        Asked::Check { origin, cow, form } => check(rt, origin, cow, form, output)?,
-        Asked::Differ { origin, cow, form } => diff(rt, origin, cow, form, output)?,
+        Asked::Show { cow, form } => show(rt, cow, form, telling, output)?,
+        Asked::Human { cow } => human(rt, cow, telling, output)?,
+        Asked::Map { cow, form } => map(rt, cow, form, telling, output)?,
+        Asked::Ranges { origin, cow, form } => ranged_map(rt, origin, cow, form, telling, output)?,
+        Asked::Picture { origin, cow, svg } => picture(rt, origin, cow, svg, telling, output)?,
+        Asked::RawMap { cow, form } => raw_map(rt, cow, form, telling, output)?,
+        Asked::Check { origin, cow, form } => check(rt, origin, cow, form, telling, output)?,
+        Asked::Differ { origin, cow, form } => diff(rt, origin, cow, form, telling, output)?,
+        Asked::Compare { one, other, form } => compare(rt, one, other, form, telling, output)?,
+        Asked::Table { origin, cow } => table(rt, origin, cow, telling, output)?,
         Asked::Export {
             origin,
             cow,
             out,
             form,
-        } => export(rt, origin, cow, out, form, output, errors)?,
+        } => export(rt, origin, cow, out, form, telling, output, errors)?,
         Asked::Salvage {
             origin,
             cow,
@@ -50,6 +61,7 @@ pub fn done<'a, R: BufRead, W: Write, E: Write>(
                 chunk,
                 behind,
                 form,
+                telling,
             };
             salvage_array(rt, origin, cow, asked, output, errors)?
         }
@@ -64,6 +76,7 @@ pub fn done<'a, R: BufRead, W: Write, E: Write>(
                 cow,
                 dry,
                 form,
+                telling,
             };
             return merge(rt, words, output);
         }
@@ -79,6 +92,7 @@ pub fn done<'a, R: BufRead, W: Write, E: Write>(
                 chunk,
                 behind,
                 form,
+                telling,
             };
             repair_store(rt, cow, asked, output, errors)?
         }
@@ -93,10 +107,20 @@ pub fn done<'a, R: BufRead, W: Write, E: Write>(
                 array,
                 new,
                 chunk,
+                telling,
             };
             storing::store(rt, words, output)?
         }
-        Asked::Serve { origin, cow } => serve(rt, origin, cow, input, output, errors)?,
+        Asked::Serve {
+            origin,
+            cow,
+            live: false,
+        } => serve(rt, origin, cow, input, output, errors)?,
+        Asked::Serve {
+            origin,
+            cow,
+            live: true,
+        } => serve_in_use(rt, origin, cow, input, output)?,
         Asked::Words { disk, image } => spell(rt, disk, image, output)?,
         Asked::Image { out } => hear(rt, out, input, output)?,
     };

@@ -9,10 +9,13 @@
 
 mod array;
 mod commands;
+mod comparing;
 mod differing;
 mod doing;
 mod ended;
+mod living;
 mod merging;
+mod over;
 mod printing;
 mod repairing;
 mod rolling;
@@ -21,5 +24,6 @@ mod salvaging;
 mod seaming;
 mod serving;
 mod storing;
+mod topics;
 
 pub use running::{answer, run};

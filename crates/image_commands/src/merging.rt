@@ -8,7 +8,7 @@ use cow_image::{CowMap, Told, read_store};
 use cow_merge::{ORIGIN, Room, Stopped};
 use file_calls::DiskFile;
 use image_files::{Asked, DiskFiles, OriginFile, StoreFile};
-use image_words::Form;
+use image_words::{Form, Telling};
 use opened_files::{InPlace, Input, Teller, Trouble, WatchedFile, Why, held, name_lasts, of_input};
 use std::alloc::{AllocError, Global};
 use std::io;
@@ -22,6 +22,7 @@ pub struct Words<'a> {
     /// Whether nothing is to be written.
     pub dry: bool,
     pub form: Form,
+    pub telling: Telling,
 }
 
 /// Merges a snapshot into its origin, or prints why its store is refused.
@@ -35,6 +36,7 @@ pub fn merge<'a, W: Write>(
         store,
         mut inputs,
     } = InPlace::open(rt, words.origin, words.cow, words.dry)?;
+    inputs.tell(rt, words.telling);
     let (size, seen) = seen_both(rt, &mut inputs)?;
     inputs.are_unchanged()?;
     let text = told_before(rt, words, &seen, size);
@@ -47,8 +49,10 @@ pub fn merge<'a, W: Write>(
         return Ok(Ended::Good);
     }
     let bytes = bytes_of(map, size);
-    let origin = WatchedFile::new(DiskFile::new(origin), Teller::new(rt), bytes);
-    let store = WatchedFile::new(DiskFile::new(store), Teller::quiet(rt), 0);
+    let teller = Teller::new(rt, words.telling);
+    let origin = WatchedFile::new(DiskFile::new(origin), teller, bytes);
+    let quiet = Teller::new(rt, Telling::Never);
+    let store = WatchedFile::new(DiskFile::new(store), quiet, 0);
     let files = DiskFiles::new(OriginFile(origin), StoreFile(store));
     merge_files(rt, words, files, &mut inputs.cow, map, size, output)
 }

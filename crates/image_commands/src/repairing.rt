@@ -2,15 +2,14 @@
 ghost use Rattle.std.specs.Prelude.{◌≡◌, ◌≤◌, IfSome, true};
 ghost use Rattle.chunk.specs.Sizes.{is_chunk};
 
-use crate::printing::told_beside;
 use crate::rolling::why_stopped;
-use crate::salvaging::{Salvage, taken, unread};
+use crate::salvaging::{Lost, Salvage, taken, tell, unread};
 use chunk::is_chunk_size;
-use cow_answers::{Seen, chunk_listed, is_good, is_whole, look, notes_of, salvaged};
+use cow_answers::{Seen, chunk_listed, is_good, look};
 use cow_image::MAX_IMAGE;
 use cow_salvage::{Blanked, Saved, Used, front_of, read_used};
 use opened_files::{
-    Input, Trouble, Watched, Why, about, file_begun, file_ended, held, is_free, of_input, size_of,
+    Input, Trouble, Watched, Why, about, file_begun, file_ended, is_free, of_input, size_of,
 };
 use std::io::Write;
 use store_writer::repair;
@@ -25,7 +24,8 @@ pub fn repair_store<'a, W: Write, E: Write>(
     errors: &mut E,
 ) -> Result<bool, Trouble<'a>> {
     is_free(rt, asked.out)?;
-    let below = Input::open(rt, cow)?;
+    let mut below = Input::open(rt, cow)?;
+    below.tell(rt, asked.telling);
     below.is_unused(rt, true)?;
     let spans = Vec::new(rt.alloc());
     let mut cow = Blanked { below, spans };
@@ -61,7 +61,11 @@ fn attempt<'a, W: Write, E: Write>(
     if is_good(&seen.told) && is_plain(cow, asked) {
         return Ok(true);
     }
-    tell(rt, cow, asked, &used, &saved, chunk, output, errors)
+    let lost = Lost {
+        origin: &[],
+        cow: cow.spans.as_slice(),
+    };
+    tell(rt, lost, asked, &used, &saved, chunk, output, errors)
 }
 
 /// The sectors of a chunk: as they are asked for, else by a header that says them, whatever else is wrong.
@@ -97,6 +101,7 @@ fn write_repaired<'a, W: Write>(
 {
     let most = sectors_for(taken(used, asked.behind).len() as u64, chunk);
     let mut watched = file_begun(rt, asked.out, most, output)?;
+    watched.tell(rt, asked.telling);
     let put = put_repaired(rt, cow, asked, used, chunk, sectors, &mut watched);
     file_ended(rt, asked.out, put)
 }
@@ -144,26 +149,4 @@ fn put_repaired<'a, W: Write>(
         }
         Err(stopped) => Err(why_stopped(&cow.below, &cow.below, stopped, asked.out)),
     }
-}
-
-/// Prints which pairs are kept, and what is not known, and tells whether all is.
-fn tell<'a, W: Write, E: Write>(
-    rt: &HostRuntime,
-    cow: &Blanked<Input<'a>>,
-    asked: Salvage<'a>,
-    used: &Used,
-    saved: &Saved,
-    chunk: u32,
-    output: &mut W,
-    errors: &mut E,
-) -> Result<bool, Trouble<'a>>
-    requires { is_chunk chunk ≡ true }
-{
-    let slots = 32 * chunk as u64;
-    let notes = notes_of(used, slots, asked.behind);
-    let spans = cow.spans.as_slice();
-    let text = salvaged(rt.alloc(), slots, saved, &[], spans, notes, asked.form);
-    let text = held(asked.out, text)?;
-    told_beside(output, errors, asked.out, text.as_slice())?;
-    Ok(is_whole(saved, &[], spans, notes))
 }

@@ -6,7 +6,7 @@ use crate::commands::seen_both;
 use crate::printing::told_beside;
 use cow_answers::{Seen, is_good, shown};
 use cow_image::{Failure, MAX_IMAGE, Stopped, Told, read_store};
-use image_words::Form;
+use image_words::{Form, Telling};
 use opened_files::{
     Input, Inputs, Trouble, Watched, Why, about, file_begun, file_ended, held, is_free, of_input,
 };
@@ -20,11 +20,13 @@ pub fn export<'a, W: Write, E: Write>(
     cow: &'a str,
     out: &'a str,
     form: Form,
+    telling: Telling,
     output: &mut W,
     errors: &mut E,
 ) -> Result<bool, Trouble<'a>> {
     is_free(rt, out)?;
     let mut inputs = Inputs::open(rt, origin, cow)?;
+    inputs.tell(rt, telling);
     inputs.are_unused(rt, true)?;
     let (size, seen) = seen_both(rt, &mut inputs)?;
     if let Told::Refused(_) = seen.told {
@@ -51,6 +53,7 @@ pub fn roll<'a, W: Write>(
     requires { size ≤ MAX_IMAGE }
 {
     let mut watched = file_begun(rt, out, size, output)?;
+    watched.tell(rt, origin.telling());
     let rolled = rolled(rt, origin, cow, seen, size, &mut watched, out);
     file_ended(rt, out, rolled)
 }

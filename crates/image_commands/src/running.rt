@@ -4,7 +4,7 @@ ghost use Rattle.std.specs.Prelude.{◌≡◌};
 use crate::doing::done;
 use crate::ended::{Ended, status_of};
 use command_line::program_words;
-use image_words::words_ask;
+use image_words::{Asked, Telling, Wrong, words_ask, words_tell};
 use std::io;
 use std::io::{BufRead, Write};
 
@@ -17,7 +17,7 @@ pub fn answer<R: BufRead, W: Write, E: Write>(
     output: &mut W,
     errors: &mut E,
 ) -> u8 {
-    let asked = match words_ask(rt.alloc(), words) {
+    let (asked, telling) = match asked_of(rt, words) {
         Ok(asked) => asked,
         Err(wrong) => {
             let _ = writeln!(
@@ -27,7 +27,11 @@ pub fn answer<R: BufRead, W: Write, E: Write>(
             return 2;
         }
     };
-    let done = done(rt, asked, input, output, errors);
+    let done = if is_silent(asked, telling) {
+        done(rt, asked, telling, input, &mut io::sink(), errors)
+    } else {
+        done(rt, asked, telling, input, output, errors)
+    };
     match &done {
         Ok(Ended::Untold(trouble)) => {
             let _ = writeln!(errors, "lochknife: merged, but {trouble}");
@@ -38,6 +42,24 @@ pub fn answer<R: BufRead, W: Write, E: Write>(
         }
     }
     status_of(&done)
+}
+
+/// What the words ask for, and when they want it to be told how far that is.
+fn asked_of<'a>(rt: &HostRuntime, words: &'a [String]) -> Result<(Asked<'a>, Telling), Wrong<'a>> {
+    let asked = words_ask(rt.alloc(), words)?;
+    let telling = words_tell(rt.alloc(), words)?;
+    Ok((asked, telling))
+}
+
+/// Whether nothing is to be printed: a command is to be quiet whose exit status says whether all is well.
+fn is_silent(asked: Asked<'_>, telling: Telling) -> bool {
+    let tells = match asked {
+        Asked::Check { .. } => true,
+        Asked::Compare { .. } => true,
+        Asked::Merge { .. } => true,
+        _ => false,
+    };
+    tells && telling == Telling::Never
 }
 
 /// The program: answers its command line, from and to the standard streams, and gives the exit status.

@@ -6,7 +6,7 @@ use crate::rolling::{put_seen, roll, why_stopped};
 use cow_answers::{Seen, chunk_listed, is_good, is_whole, look, notes_of, salvaged};
 use cow_image::{MAX_IMAGE, Told};
 use cow_salvage::{Blanked, Saved, Slot, Span, Used, export_kept, front_of, read_used, unreadable};
-use image_words::Form;
+use image_words::{Form, Telling};
 use opened_files::{
     Input, Inputs, Trouble, Watched, about, file_begun, file_ended, held, is_free, of_input,
     size_of,
@@ -22,6 +22,7 @@ pub struct Salvage<'a> {
     /// Whether pairs are taken that stand behind the first empty slot.
     pub behind: bool,
     pub form: Form,
+    pub telling: Telling,
 }
 
 /// The two inputs, of which some sectors are not read.
@@ -41,7 +42,7 @@ pub fn salvage_array<'a, W: Write, E: Write>(
     errors: &mut E,
 ) -> Result<bool, Trouble<'a>> {
     is_free(rt, asked.out)?;
-    let mut both = opened(rt, origin, cow)?;
+    let mut both = opened(rt, origin, cow, asked.telling)?;
     let tried = attempt(rt, &mut both, asked, output, errors);
     if let Err(trouble) = &tried {
         if trouble.is_unreadable() {
@@ -52,9 +53,22 @@ pub fn salvage_array<'a, W: Write, E: Write>(
     tried
 }
 
+/// The sectors of both inputs that can't be read.
+#[derive(Clone, Copy)]
+pub(crate) struct Lost<'s> {
+    pub(crate) origin: &'s [Span],
+    pub(crate) cow: &'s [Span],
+}
+
 /// Opens both inputs, of which all sectors are read.
-fn opened<'a>(rt: &'a HostRuntime, origin: &'a str, cow: &'a str) -> Result<Both<'a>, Trouble<'a>> {
-    let inputs = Inputs::open(rt, origin, cow)?;
+fn opened<'a>(
+    rt: &'a HostRuntime,
+    origin: &'a str,
+    cow: &'a str,
+    telling: Telling,
+) -> Result<Both<'a>, Trouble<'a>> {
+    let mut inputs = Inputs::open(rt, origin, cow)?;
+    inputs.tell(rt, telling);
     inputs.are_unused(rt, true)?;
     let Inputs { origin, cow } = inputs;
     Ok(Both {
@@ -163,7 +177,11 @@ fn salvage_by<'a, W: Write, E: Write>(
 {
     let used = used_in(rt, both, asked, seen, chunk, sectors)?;
     let saved = write_kept(rt, both, asked, &used, chunk, size, sectors, output)?;
-    tell(rt, both, asked, &used, &saved, chunk, output, errors)
+    let lost = Lost {
+        origin: both.origin.spans.as_slice(),
+        cow: both.cow.spans.as_slice(),
+    };
+    tell(rt, lost, asked, &used, &saved, chunk, output, errors)
 }
 
 /// The slots of a store that are not empty: of a fresh one none, where no chunk size is asked for.
@@ -189,9 +207,9 @@ fn used_in<'a>(
 }
 
 /// Prints which pairs are kept, and what is not known, and tells whether all is.
-fn tell<'a, W: Write, E: Write>(
+pub(crate) fn tell<'a, W: Write, E: Write>(
     rt: &HostRuntime,
-    both: &Both<'a>,
+    lost: Lost<'_>,
     asked: Salvage<'a>,
     used: &Used,
     saved: &Saved,
@@ -204,12 +222,18 @@ fn tell<'a, W: Write, E: Write>(
 {
     let slots = 32 * chunk as u64;
     let notes = notes_of(used, slots, asked.behind);
-    let origin = both.origin.spans.as_slice();
-    let cow = both.cow.spans.as_slice();
-    let text = salvaged(rt.alloc(), slots, saved, origin, cow, notes, asked.form);
+    let text = salvaged(
+        rt.alloc(),
+        slots,
+        saved,
+        lost.origin,
+        lost.cow,
+        notes,
+        asked.form,
+    );
     let text = held(asked.out, text)?;
     told_beside(output, errors, asked.out, text.as_slice())?;
-    Ok(is_whole(saved, origin, cow, notes))
+    Ok(is_whole(saved, lost.origin, lost.cow, notes))
 }
 
 /// The slots of a fresh store.
@@ -236,6 +260,7 @@ fn write_kept<'a, W: Write>(
     requires small { size ≤ MAX_IMAGE }
 {
     let mut watched = file_begun(rt, asked.out, size, output)?;
+    watched.tell(rt, asked.telling);
     let put = put_kept(rt, both, asked, used, chunk, size, sectors, &mut watched);
     file_ended(rt, asked.out, put)
 }

@@ -77,10 +77,20 @@ pub fn hear<'a, R: BufRead, W: Write>(
         let why = Why::PartOfSector(len);
         return Err(Trouble { name, why });
     }
-    let mut output = file_begun(rt, out, len / 512, printer)?;
-    let written = put_image(&mut output, out, bytes.as_slice());
-    file_ended(rt, out, written)?;
+    put_file(rt, out, bytes.as_slice(), printer)?;
     Ok(true)
+}
+
+/// Writes a new file, or to standard output.
+pub fn put_file<'a, W: Write>(
+    rt: &'a HostRuntime,
+    out: &'a str,
+    bytes: &[u8],
+    printer: &mut W,
+) -> Result<(), Trouble<'a>> {
+    let mut output = file_begun(rt, out, bytes.len() as u64 / 512, printer)?;
+    let written = put_image(&mut output, out, bytes);
+    file_ended(rt, out, written)
 }
 
 /// Writes an image, and makes it last.

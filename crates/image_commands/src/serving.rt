@@ -2,7 +2,7 @@
 ghost use Rattle.std.specs.Prelude.{◌≡◌, ℕ, ◌*◌, ◌≤◌, List, length, OnOk, IsTrue, Some};
 ghost use Rattle.cow_image.specs.Maps.{IsToldOf};
 ghost use Rattle.cow_nbd.specs.Shows.{IsServedBy, OrChanged};
-ghost use Rattle.image_commands.specs.Arrays.{array_of, FailsTold};
+ghost use Rattle.image_commands.specs.Arrays.{array_of, marks_of, FailsTold};
 ghost use Rattle.cow_answers.specs.Answers.{is_good};
 
 use crate::commands::seen_both;
@@ -70,7 +70,7 @@ fn serve_told<O: Image + Drop, C: Image + Drop, V: Watch, R: Read, W: Write>(
 ) -> Result<(), Stopped>
     requires size { size ≤ 68_719_476_736 }
     requires good { IsTrue (is_good told) }
-    ensures { OnOk result ((o : List ℕ) → (b : List ℕ) → (heard : List ℕ) → O.bytes origin ≡ Some o → C.bytes cow ≡ Some b → R.remaining reader.old ≡ Some heard → length o ≡ 512 * size → IsToldOf size b told → IsServedBy (OrChanged (V.has_told watch.old) (V.may_change watch.old) (FailsTold told (O.may_fail origin) (C.may_fail cow) size)) size (array_of told o b) o heard (W.contents writer.old) (W.contents writer.new)) }
+    ensures { OnOk result ((o : List ℕ) → (b : List ℕ) → (heard : List ℕ) → O.bytes origin ≡ Some o → C.bytes cow ≡ Some b → R.remaining reader.old ≡ Some heard → length o ≡ 512 * size → IsToldOf size b told → IsServedBy (OrChanged (V.has_told watch.old) (V.may_change watch.old) (FailsTold told (O.may_fail origin) (C.may_fail cow) size)) size (array_of told o b) o (marks_of told) heard (W.contents writer.old) (W.contents writer.new)) }
 {
     match told {
         Told::Fresh => match serve_fresh(alloc, origin, size, watch, reader, writer) {
@@ -88,7 +88,7 @@ fn serve_told<O: Image + Drop, C: Image + Drop, V: Watch, R: Read, W: Write>(
 }
 
 /// Why a client is served no more.
-fn trouble_of(stopped: Stopped) -> Trouble<'static> {
+pub(crate) fn trouble_of(stopped: Stopped) -> Trouble<'static> {
     match stopped {
         Stopped::Unheard(error) => Trouble {
             name: "standard input",

@@ -5,6 +5,7 @@ ghost use Rattle.chunk.specs.Sizes.{is_chunk};
 use crate::rolling::why_stopped;
 use chunk::is_chunk_size;
 use cow_image::MAX_IMAGE;
+use image_words::Telling;
 use opened_files::{
     Inputs, Trouble, Watched, Why, about, file_begun, file_ended, is_free, size_of,
 };
@@ -18,6 +19,7 @@ pub struct Words<'a> {
     pub array: &'a str,
     pub new: &'a str,
     pub chunk: Option<u32>,
+    pub telling: Telling,
 }
 
 /// The sectors of a chunk where none are given, as LVM takes them.
@@ -31,6 +33,7 @@ pub fn store<'a, W: Write>(
 ) -> Result<bool, Trouble<'a>> {
     is_free(rt, words.new)?;
     let mut inputs = Inputs::open(rt, words.origin, words.array)?;
+    inputs.tell(rt, words.telling);
     inputs.are_unused(rt, true)?;
     let size = size_of(&mut inputs.origin)?;
     let other = size_of(&mut inputs.cow)?;

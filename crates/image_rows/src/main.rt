@@ -2,7 +2,7 @@
 //!
 //! **Clients.** NAME.heard are all bytes that a client sent, and NAME.said all that it is to be answered, over the images `origin` and
 //! `store`, by a plain server in another language (bench/nbd_plain). For each name `NAME ok` is printed, or what is wrong:
-//! an answer that differs, or one that is no front of it where the client left after any byte. Eleven are connections of
+//! an answer that differs, or one that is no front of it where the client left after any byte. Thirteen are connections of
 //! real clients, recorded byte by byte (nbdinfo and nbdcopy of libnbd 1.14.2, qemu-img and qemu-io 7.2), of a server without
 //! CAN_MULTI_CONN, whose flag alone is added to what they are answered; the others are worked out by the protocol's public
 //! specification. A read that fails between two that do not is tried too, and reads of images that change meanwhile.

@@ -4,7 +4,9 @@ ghost use Rattle.std.specs.String.{string_bytes};
 ghost use Rattle.command_line.specs.Reading.{split_of};
 ghost use Rattle.image_words.specs.Asks.{WithMemory, told, asked_by, split_asks, command_by, show_by, map_by, check_by, differ_by, export_by, merge_by, repair_by, store_by, serve_by, words_by, image_by};
 
-use crate::options::{VALUED, chunk_of, form_of, options_of};
+use crate::helping::{help, help_beside};
+use crate::options::{VALUED, are_apart, chunk_of, form_of, has_with, options_of};
+use crate::over::{compare, map_over, table};
 use crate::wrong::Wrong;
 use command_line::{Request, Words, split};
 use std::alloc::Global;
@@ -24,6 +26,10 @@ pub enum Form {
 pub enum Asked<'a> {
     /// The words that are taken.
     Help,
+    /// Those of this command.
+    HelpOf {
+        command: &'a str,
+    },
     /// The program's name and version.
     Version,
     /// A store's header, its numbers, and whether it is good.
@@ -31,10 +37,26 @@ pub enum Asked<'a> {
         cow: &'a str,
         form: Form,
     },
+    /// Some of this in units for a reader.
+    Human {
+        cow: &'a str,
+    },
     /// Its pairs.
     Map {
         cow: &'a str,
         form: Form,
+    },
+    /// Where each byte of the snapshot's array stands: in ranges, from the front to the end.
+    Ranges {
+        origin: &'a str,
+        cow: &'a str,
+        form: Form,
+    },
+    /// Which parts of the origin have copies, as rows of cells, or as a drawing in a new file.
+    Picture {
+        origin: &'a str,
+        cow: &'a str,
+        svg: Option<&'a str>,
     },
     /// Its slots, whether it is good or not.
     RawMap {
@@ -52,6 +74,17 @@ pub enum Asked<'a> {
         origin: &'a str,
         cow: &'a str,
         form: Form,
+    },
+    /// Whether two images are the same.
+    Compare {
+        one: &'a str,
+        other: &'a str,
+        form: Form,
+    },
+    /// The lines of tables that a kernel is given for both.
+    Table {
+        origin: &'a str,
+        cow: &'a str,
     },
     /// The snapshot's array.
     Export {
@@ -92,10 +125,12 @@ pub enum Asked<'a> {
         new: &'a str,
         chunk: Option<u32>,
     },
-    /// The snapshot and its origin served to a client on standard input and output.
+    /// The snapshot and its origin served to a client on standard input and output; or the snapshot alone, while another
+    /// program writes both files.
     Serve {
         origin: &'a str,
         cow: &'a str,
+        live: bool,
     },
     /// The lines of commands that give a disk of `dmrig` an image's bytes.
     Words {
@@ -123,7 +158,7 @@ fn split_ask<'a>(words: &Words<'a>) -> Result<Asked<'a>, Wrong<'a>>
     ensures { told result ≡ split_asks (split_of words.now) }
 {
     match words.request()? {
-        Request::Help => Ok(Asked::Help),
+        Request::Help => Ok(help_beside(words)),
         Request::Version => Ok(Asked::Version),
         Request::Command(command) => {
             words.take_only(options_of(command))?;
@@ -137,11 +172,13 @@ fn ask<'a>(words: &Words<'a>, command: &'a str) -> Result<Asked<'a>, Wrong<'a>>
     ensures { told result ≡ command_by (split_of words.now) command.now }
 {
     match command {
-        "help" => Ok(Asked::Help),
+        "help" => help(words),
         "show" => show(words),
         "map" => map(words),
         "check" => check(words),
         "diff" => differ(words),
+        "compare" => compare(words),
+        "table" => table(words),
         "export" => export(words),
         "rollback" => export(words),
         "merge" => merge(words),
@@ -159,6 +196,10 @@ fn show<'a>(words: &Words<'a>) -> Result<Asked<'a>, Wrong<'a>>
 {
     let cow = words.one("COW")?;
     let form = form_of(words);
+    if words.has("--human") {
+        are_apart(words, "--human", "--json")?;
+        return Ok(Asked::Human { cow });
+    }
     Ok(Asked::Show { cow, form })
 }
 
@@ -167,6 +208,11 @@ fn map<'a>(words: &Words<'a>) -> Result<Asked<'a>, Wrong<'a>>
 {
     let cow = words.one("COW")?;
     let form = form_of(words);
+    if let Some(origin) = words.value("--over") {
+        return map_over(words, origin, cow, form);
+    }
+    has_with(words, "--picture", "--over")?;
+    has_with(words, "--svg", "--over")?;
     if words.has("--raw") {
         return Ok(Asked::RawMap { cow, form });
     }
@@ -267,7 +313,8 @@ fn serve<'a>(words: &Words<'a>) -> Result<Asked<'a>, Wrong<'a>>
     ensures { told result ≡ serve_by (split_of words.now) }
 {
     let (origin, cow) = words.two("ORIGIN", "COW")?;
-    Ok(Asked::Serve { origin, cow })
+    let live = words.has("--live");
+    Ok(Asked::Serve { origin, cow, live })
 }
 
 fn spell<'a>(words: &Words<'a>) -> Result<Asked<'a>, Wrong<'a>>

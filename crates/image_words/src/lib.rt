@@ -7,9 +7,13 @@
 
 mod asked;
 mod help;
+mod helping;
 mod options;
+mod over;
+mod telling;
 mod wrong;
 
 pub use asked::{Asked, Form, words_ask};
 pub use help::{HELP, VERSION};
+pub use telling::{Telling, words_tell};
 pub use wrong::Wrong;

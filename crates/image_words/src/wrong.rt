@@ -11,6 +11,10 @@ pub enum Wrong<'a> {
     Line(command_line::Wrong<'a>),
     /// This option goes with `--salvage`.
     Alone(&'static str),
+    /// The first option goes with the second.
+    Without(&'static str, &'static str),
+    /// These two options go not together.
+    Apart(&'static str, &'static str),
     /// This is no chunk size.
     Chunk(&'a str),
     /// No disk of `dmrig` has this name.
@@ -30,10 +34,9 @@ impl<'a> From<command_line::Wrong<'a>> for Wrong<'a> {
 impl fmt::Display for Wrong<'_> {
     fn fmt<W: fmt::Write>(&self, f: &mut fmt::Formatter<W>) -> fmt::Result {
         match self {
-            Wrong::Line(command_line::Wrong::NoValue(option)) => {
-                write!(f, "the number behind {option} is missing")
-            }
             Wrong::Line(wrong) => write!(f, "{wrong}"),
+            Wrong::Without(option, other) => write!(f, "{option} goes with {other}"),
+            Wrong::Apart(option, other) => write!(f, "{option} does not go with {other}"),
             Wrong::Alone(option) => write!(f, "{option} goes with --salvage"),
             Wrong::Chunk(word) => write!(
                 f,

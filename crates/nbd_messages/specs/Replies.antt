@@ -1,6 +1,6 @@
 -- To be believed: what a server says, by doc/proto.md of the NBD project: "Newstyle negotiation", "Option reply types",
 -- "Simple reply message", "Structured reply chunk message" and its types, "Error values".
-use Rattle.std.specs.Prelude.{ℕ, ◌+◌, List, [], ◌++◌, length, replicate}
+use Rattle.std.specs.Prelude.{ℕ, ◌+◌, Bool, true, false, List, [], ◌++◌, length, replicate}
 use Rattle.byteorder.specs.Endian.{big_bytes}
 
 -- What a server says first: NBDMAGIC, IHAVEOPT, and that it knows the fixed newstyle and clients that want no zeros.
@@ -39,30 +39,34 @@ export_reply size flags zeros = big_bytes 8 size ++ big_bytes 2 flags ++ replica
 unfoldable pub simple_reply : ℕ → ℕ → List ℕ
 simple_reply error cookie = big_bytes 4 0x6744_6698 ++ big_bytes 4 error ++ big_bytes 8 cookie
 
--- The front of a structured reply of one chunk: the magic number, that it is the last chunk, its type, the request's
+-- The front of a chunk of a structured reply: the magic number, whether it is the reply's last chunk, its type, the request's
 -- cookie, and the length of its data.
-unfoldable pub chunk_kind : ℕ → List ℕ
-chunk_kind kind = big_bytes 4 0x668e_33ef ++ big_bytes 2 1 ++ big_bytes 2 kind
+abbrev pub last_flag : Bool → ℕ
+last_flag false = 0
+last_flag true = 1
 
-unfoldable pub chunk_front : ℕ → ℕ → ℕ → List ℕ
-chunk_front kind cookie len = chunk_kind kind ++ big_bytes 8 cookie ++ big_bytes 4 len
+unfoldable pub chunk_kind : Bool → ℕ → List ℕ
+chunk_kind last kind = big_bytes 4 0x668e_33ef ++ big_bytes 2 (last_flag last) ++ big_bytes 2 kind
+
+unfoldable pub chunk_front : Bool → ℕ → ℕ → ℕ → List ℕ
+chunk_front last kind cookie len = chunk_kind last kind ++ big_bytes 8 cookie ++ big_bytes 4 len
 
 -- a chunk without data
 abbrev pub bare_chunk : ℕ → List ℕ
-bare_chunk cookie = chunk_front 0 cookie 0
+bare_chunk cookie = chunk_front true 0 cookie 0
 
 -- a chunk that tells an error: the error, and that no words follow
 abbrev pub error_chunk : ℕ → ℕ → List ℕ
-error_chunk error cookie = chunk_front 32769 cookie 6 ++ big_bytes 4 error ++ big_bytes 2 0
+error_chunk error cookie = chunk_front true 32769 cookie 6 ++ big_bytes 4 error ++ big_bytes 2 0
 
 -- the front of a chunk with so many bytes of an export: their offset
 abbrev pub data_front : ℕ → ℕ → ℕ → List ℕ
-data_front cookie offset len = chunk_front 1 cookie (8 + len) ++ big_bytes 8 offset
+data_front cookie offset len = chunk_front true 1 cookie (8 + len) ++ big_bytes 8 offset
 
 -- the data of a reply on the state of blocks: the context's number, and one range: how many bytes it has, and its state
 unfoldable pub block_state : ℕ → ℕ → ℕ → List ℕ
 block_state context len state = big_bytes 4 context ++ big_bytes 4 len ++ big_bytes 4 state
 
--- a chunk that tells the state of blocks
-abbrev pub state_chunk : ℕ → ℕ → ℕ → ℕ → List ℕ
-state_chunk cookie context len state = chunk_front 5 cookie 12 ++ block_state context len state
+-- a chunk that tells the state of blocks, the last one of its reply or not
+abbrev pub state_chunk : Bool → ℕ → ℕ → ℕ → ℕ → List ℕ
+state_chunk last cookie context len state = chunk_front last 5 cookie 12 ++ block_state context len state

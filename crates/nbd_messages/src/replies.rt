@@ -1,6 +1,6 @@
 // What a server says is written.
 ghost use Rattle.std.specs.Prelude.{◌≡◌, ◌+◌, ◌^◌, ◌<◌, [], ◌++◌, length, OnOk};
-ghost use Rattle.nbd_messages.specs.Replies.{greeting, option_front, option_reply, listed_name, context_info, export_info, blocks_info, export_reply, simple_reply, chunk_kind, chunk_front, bare_chunk, error_chunk, data_front, block_state, state_chunk};
+ghost use Rattle.nbd_messages.specs.Replies.{greeting, option_front, option_reply, listed_name, context_info, export_info, blocks_info, export_reply, simple_reply, last_flag, chunk_kind, chunk_front, bare_chunk, error_chunk, data_front, block_state, state_chunk};
 
 use crate::blocks::BlockSizes;
 use crate::numbers::{push_u16, push_u32, push_u64};
@@ -144,22 +144,36 @@ pub fn push_simple_reply(out: &mut Vec<u8>, error: u32, cookie: u64) -> Result<(
     push_u64(out, cookie)
 }
 
-/// Adds the front of a chunk of a structured reply: its type, the request's cookie, and the length of its data.
-#[tactic(auto, unfolding(crate::specs::Replies::chunk_front))]
-fn push_chunk_front(out: &mut Vec<u8>, kind: u16, cookie: u64, len: u32) -> Result<(), AllocError>
-    ensures { OnOk result (out.new.items ≡ out.old.items ++ chunk_front kind cookie len) }
+/// The flags of a chunk: whether it is the reply's last one.
+fn last_flag_of(last: bool) -> u16
+    ensures { result ≡ last_flag last }
 {
-    push_chunk_kind(out, kind)?;
+    if last { 1 } else { 0 }
+}
+
+/// Adds the front of a chunk of a structured reply: whether it is the last one, its type, the request's cookie, and the length of
+/// its data.
+#[tactic(auto, unfolding(crate::specs::Replies::chunk_front))]
+fn push_chunk_front(
+    out: &mut Vec<u8>,
+    last: bool,
+    kind: u16,
+    cookie: u64,
+    len: u32,
+) -> Result<(), AllocError>
+    ensures { OnOk result (out.new.items ≡ out.old.items ++ chunk_front last kind cookie len) }
+{
+    push_chunk_kind(out, last, kind)?;
     push_u64(out, cookie)?;
     push_u32(out, len)
 }
 
 #[tactic(auto, unfolding(crate::specs::Replies::chunk_kind))]
-fn push_chunk_kind(out: &mut Vec<u8>, kind: u16) -> Result<(), AllocError>
-    ensures { OnOk result (out.new.items ≡ out.old.items ++ chunk_kind kind) }
+fn push_chunk_kind(out: &mut Vec<u8>, last: bool, kind: u16) -> Result<(), AllocError>
+    ensures { OnOk result (out.new.items ≡ out.old.items ++ chunk_kind last kind) }
 {
     push_u32(out, 0x668e_33ef)?;
-    push_u16(out, 1)?;
+    push_u16(out, last_flag_of(last))?;
     push_u16(out, kind)
 }
 
@@ -167,14 +181,14 @@ fn push_chunk_kind(out: &mut Vec<u8>, kind: u16) -> Result<(), AllocError>
 pub fn push_bare_chunk(out: &mut Vec<u8>, cookie: u64) -> Result<(), AllocError>
     ensures { OnOk result (out.new.items ≡ out.old.items ++ bare_chunk cookie) }
 {
-    push_chunk_front(out, 0, cookie, 0)
+    push_chunk_front(out, true, 0, cookie, 0)
 }
 
 /// Adds a structured reply that tells an error, without words.
 pub fn push_error_chunk(out: &mut Vec<u8>, error: u32, cookie: u64) -> Result<(), AllocError>
     ensures { OnOk result (out.new.items ≡ out.old.items ++ error_chunk error cookie) }
 {
-    push_chunk_front(out, 32769, cookie, 6)?;
+    push_chunk_front(out, true, 32769, cookie, 6)?;
     push_u32(out, error)?;
     push_u16(out, 0)
 }
@@ -189,21 +203,22 @@ pub fn push_data_front(
     requires { len < 2 ^ 31 }
     ensures { OnOk result (out.new.items ≡ out.old.items ++ data_front cookie offset len) }
 {
-    push_chunk_front(out, 1, cookie, 8 + len)?;
+    push_chunk_front(out, true, 1, cookie, 8 + len)?;
     push_u64(out, offset)
 }
 
-/// Adds a structured reply that tells the state of so many bytes.
+/// Adds a chunk of a structured reply, the last one or not, that tells the state of so many bytes.
 pub fn push_state_chunk(
     out: &mut Vec<u8>,
+    last: bool,
     cookie: u64,
     context: u32,
     len: u32,
     state: u32,
 ) -> Result<(), AllocError>
-    ensures { OnOk result (out.new.items ≡ out.old.items ++ state_chunk cookie context len state) }
+    ensures { OnOk result (out.new.items ≡ out.old.items ++ state_chunk last cookie context len state) }
 {
-    push_chunk_front(out, 5, cookie, 12)?;
+    push_chunk_front(out, last, 5, cookie, 12)?;
     push_block_state(out, context, len, state)
 }
 

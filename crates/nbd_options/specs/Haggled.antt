@@ -5,7 +5,11 @@ use Rattle.std.specs.List.{flat_map}
 use Rattle.nbd_messages.specs.Layout.{number_at}
 use Rattle.nbd_messages.specs.Replies.{option_reply, listed_name, context_info, export_info, blocks_info, export_reply}
 use Rattle.nbd_messages.specs.declared.blocks.BlockSizes.{BlockSizes}
+use Rattle.nbd_options.specs.declared.context.Context.{Context}
+use Rattle.nbd_options.specs.declared.context.Context.TheVariants.{Allocation, Bitmap}
 use Rattle.nbd_options.specs.declared.export.Export.{Export}
+use Rattle.nbd_options.specs.declared.session.Contexts.{Contexts}
+use Rattle.nbd_options.specs.declared.session.Described.{Described}
 use Rattle.nbd_options.specs.declared.session.Place.{Place}
 use Rattle.nbd_options.specs.declared.session.Stage.{Stage}
 use Rattle.nbd_options.specs.declared.session.Stage.TheVariants.{Serving, Over}
@@ -39,7 +43,7 @@ telling = 4
 
 -- an export that was found, by its number
 abbrev pub place_at : ℕ → Export → Place
-place_at number e = record { export = number; size = e.size; flags = e.flags; blocks = e.blocks }
+place_at number e = record { export = number; size = e.size; flags = e.flags; blocks = e.blocks; bitmap = e.bitmap }
 
 -- the first export of this name, from a number on
 abbrev pub named_from : ℕ → List Export → List ℕ → Option Place
@@ -127,36 +131,56 @@ with_structure session = record {
 abbrev pub without_data : Session → ℕ → List ℕ → Reaction → Reaction
 without_data session option text reaction = if length text == 0 then reaction else bare session option malformed
 
--- The data of an option on contexts: an export's name behind its length, how many queries, and each behind its length. There
--- is one context, base:allocation. A query in a list may also be of all contexts that begin so, and no query is of all.
+-- The data of an option on contexts: an export's name behind its length, how many queries, and each behind its length.
 abbrev pub context_name : List ℕ → Option (List ℕ)
 context_name text =
     if nat_lt (length text) 8 then None else
     if nat_lt (length text) (8 + name_len text) then None else
     Some (slice_range text 4 (4 + name_len text))
 
-abbrev pub allocation : List ℕ
-allocation = codes "base:allocation"
+-- There are two contexts: which bytes are zeros, and which are marked, as QEMU's server tells the bits of a bitmap
+-- (docs/interop/nbd.rst of QEMU); here that of the store, cow.
+abbrev pub name_of : Context → List ℕ
+name_of Allocation = codes "base:allocation"
+name_of Bitmap = codes "qemu:dirty-bitmap:cow"
 
-abbrev pub is_fitting : Bool → List ℕ → Bool
-is_fitting chooses query = if bytes_eq query allocation then true else not chooses && bytes_eq query (codes "base:")
+-- A query in a list may also be of all contexts that begin so, and no query is of all.
+abbrev pub is_front : Context → List ℕ → Bool
+is_front Allocation query = bytes_eq query (codes "base:")
+is_front Bitmap query = if bytes_eq query (codes "qemu:") then true else bytes_eq query (codes "qemu:dirty-bitmap:")
+
+abbrev pub is_fitting : Context → Bool → List ℕ → Bool
+is_fitting context chooses query = if bytes_eq query (name_of context) then true else not chooses && is_front context query
 
 -- whether one of so many queries is of the context, or one before was; nothing where they are malformed
-unfoldable pub asked_by : Bool → Bool → ℕ → List ℕ → Option Bool
-asked_by chooses found zero text = if length text == 0 then Some found else None
-asked_by chooses found (suc count) text =
+unfoldable pub asked_by : Context → Bool → Bool → ℕ → List ℕ → Option Bool
+asked_by context chooses found zero text = if length text == 0 then Some found else None
+asked_by context chooses found (suc count) text =
     if nat_lt (length text) 4 then None else
     if nat_lt (length text) (4 + number_at text 0 4) then None else
-    asked_by chooses (if is_fitting chooses (slice_range text 4 (4 + number_at text 0 4)) then true else found) count (drop (4 + number_at text 0 4) text)
+    asked_by context chooses (if is_fitting context chooses (slice_range text 4 (4 + number_at text 0 4)) then true else found) count (drop (4 + number_at text 0 4) text)
 
 abbrev pub query_count : List ℕ → ℕ
 query_count text = number_at text (4 + name_len text) 4
 
-abbrev pub asks_allocation : Bool → List ℕ → Option Bool
-asks_allocation chooses text = asked_by chooses (not chooses && (query_count text == 0)) (query_count text) (drop (8 + name_len text) text)
+abbrev pub asks_for : Context → Bool → List ℕ → Option Bool
+asks_for context chooses text = asked_by context chooses (not chooses && (query_count text == 0)) (query_count text) (drop (8 + name_len text) text)
 
--- A session in which this export's blocks may be asked about, where it was chosen; a list chooses nothing.
-abbrev pub choosing : Bool → Session → Option ℕ → Session
+-- the contexts that are asked for; nothing where the queries are malformed
+abbrev pub both : Option Bool → Option Bool → Option Contexts
+both None bitmap = None
+both (Some allocation) None = None
+both (Some allocation) (Some bitmap) = Some (record { allocation = allocation; bitmap = bitmap })
+
+abbrev pub asks : Bool → List ℕ → Option Contexts
+asks chooses text = both (asks_for Allocation chooses text) (asks_for Bitmap chooses text)
+
+-- those of them that an export has
+abbrev pub offered : Bool → Contexts → Contexts
+offered bitmap contexts = record { allocation = contexts.allocation; bitmap = bitmap && contexts.bitmap }
+
+-- A session in which these contexts may be asked about, where they are chosen; a list chooses nothing.
+abbrev pub choosing : Bool → Session → Option Described → Session
 choosing false session described = session
 choosing true session described = record { no_zeroes = session.no_zeroes; structured = session.structured; described = described; stage = session.stage }
 
@@ -164,23 +188,31 @@ choosing true session described = record { no_zeroes = session.no_zeroes; struct
 abbrev pub refused : ℕ → Bool → Session → ℕ → Reaction
 refused option chooses session kind = record { answer = option_reply option kind []; after = choosing chooses session None }
 
--- the context, which has the number 1 once it is chosen
-abbrev pub told_context : ℕ → Bool → Bool → List ℕ
-told_context option chooses false = []
-told_context option false true = option_reply option telling (context_info 0 allocation)
-told_context option true true = option_reply option telling (context_info 1 allocation)
+-- a context's number in a session that has chosen it; a list has no numbers
+abbrev pub number_of : Bool → Context → ℕ
+number_of false context = 0
+number_of true Allocation = 1
+number_of true Bitmap = 2
 
-abbrev pub contexts_at : ℕ → Bool → Session → Option Place → Option Bool → Reaction
+abbrev pub told_context : ℕ → Bool → Context → Bool → List ℕ
+told_context option chooses context false = []
+told_context option chooses context true = option_reply option telling (context_info (number_of chooses context) (name_of context))
+
+-- the contexts, one after the other
+abbrev pub told_contexts : ℕ → Bool → Contexts → List ℕ
+told_contexts option chooses contexts = told_context option chooses Allocation contexts.allocation ++ told_context option chooses Bitmap contexts.bitmap
+
+abbrev pub contexts_at : ℕ → Bool → Session → Option Place → Option Contexts → Reaction
 contexts_at option chooses session place None = refused option chooses session malformed
 contexts_at option chooses session None (Some asks) = refused option chooses session unknown
 contexts_at option chooses session (Some place) (Some asks) = record {
-  answer = told_context option chooses asks ++ option_reply option acknowledged [];
-  after = choosing chooses session (if asks then Some place.export else None);
+  answer = told_contexts option chooses (offered place.bitmap asks) ++ option_reply option acknowledged [];
+  after = choosing chooses session (Some (record { export = place.export; contexts = offered place.bitmap asks }));
 }
 
 abbrev pub contexts_named : ℕ → Bool → List Export → Session → List ℕ → Option (List ℕ) → Reaction
 contexts_named option chooses exports session text None = refused option chooses session malformed
-contexts_named option chooses exports session text (Some name) = contexts_at option chooses session (named exports name) (asks_allocation chooses text)
+contexts_named option chooses exports session text (Some name) = contexts_at option chooses session (named exports name) (asks chooses text)
 
 -- What an option on contexts is answered: a list of them, or a choice. They want structured replies.
 abbrev pub on_contexts : ℕ → Bool → List Export → Session → List ℕ → Reaction

@@ -13,5 +13,7 @@ pub struct Export<'a> {
     pub flags: u16,
     /// The lengths of requests, where they are told.
     pub blocks: Option<BlockSizes>,
+    /// Whether a client may ask which of its bytes are marked.
+    pub bitmap: bool,
     pub ghost short: { length name.now < 2 ^ 31 },
 }

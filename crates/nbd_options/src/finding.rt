@@ -36,5 +36,6 @@ fn place_of(export: usize, it: &Export<'_>) -> Place
         size: it.size,
         flags: it.flags,
         blocks: it.blocks,
+        bitmap: it.bitmap,
     }
 }

@@ -2,12 +2,13 @@
 ghost use Rattle.std.specs.Prelude.{◌≡◌, ◌+◌, ◌≤◌, [], ◌++◌, OnOk, IfOk, length, true, if◌then◌else◌};
 ghost use Rattle.std.specs.Option.{option_map};
 ghost use Rattle.nbd_messages.specs.Layout.{number_at};
-ghost use Rattle.nbd_options.specs.Haggled.{named, IsReaction, haggled, haggled_unread, named_export, listed, asked_name as asked_name_of, informed, on_export, without_data, with_structure, on_contexts, context_name as context_name_of, asked_by as asked_by_of, asks_allocation as asks_allocation_of, is_fitting as is_fitting_of, contexts_at, told_blocks, told_context, choosing, refused, aborted};
+ghost use Rattle.nbd_options.specs.Haggled.{named, IsReaction, haggled, haggled_unread, named_export, listed, asked_name as asked_name_of, informed, on_export, without_data, with_structure, on_contexts, context_name as context_name_of, asked_by as asked_by_of, asks_for as asks_for_of, asks as asks_of, offered as offered_of, is_fitting as is_fitting_of, contexts_at, told_blocks, told_context, told_contexts, choosing, refused, aborted};
 ghost use Rattle.nbd_options.specs.declared.session.Place.{Place as PlaceOf};
 
+use crate::context::Context;
 use crate::export::Export;
 use crate::finding::found;
-use crate::session::{Place, Session, Stage};
+use crate::session::{Contexts, Described, Place, Session, Stage};
 use nbd_messages::{
     BlockSizes, push_bare_reply, push_blocks_info, push_context, push_export_info,
     push_export_reply, push_listed_name, u16_at, u32_at,
@@ -194,20 +195,14 @@ fn context_name(text: &[u8]) -> Option<&[u8]>
     Some(&text[4..4 + len])
 }
 
-/// The one context: which bytes are zeros.
-const ALLOCATION: &[u8] = b"base:allocation";
-
-/// All contexts that begin so.
-const BASE: &[u8] = b"base:";
-
-/// Whether a query is of the context.
-fn is_fitting(chooses: bool, query: &[u8]) -> bool
-    ensures { result ≡ is_fitting_of chooses query.now }
+/// Whether a query is of a context.
+fn is_fitting(context: Context, chooses: bool, query: &[u8]) -> bool
+    ensures { result ≡ is_fitting_of context chooses query.now }
 {
-    if query == ALLOCATION {
+    if query == context.name() {
         return true;
     }
-    !chooses && query == BASE
+    !chooses && context.is_front(query)
 }
 
 /// Whether a query fits, or one before did.
@@ -220,9 +215,9 @@ fn once(fits: bool, found: bool) -> bool
     found
 }
 
-/// Whether one of so many queries is of the context. `None` where they are malformed.
-fn asked_by(chooses: bool, start: bool, count: u32, text: &[u8]) -> Option<bool>
-    ensures { result ≡ asked_by_of chooses start count text.now }
+/// Whether one of so many queries is of a context. `None` where they are malformed.
+fn asked_by(context: Context, chooses: bool, start: bool, count: u32, text: &[u8]) -> Option<bool>
+    ensures { result ≡ asked_by_of context chooses start count text.now }
 {
     let mut found = start;
     let mut left = count;
@@ -235,7 +230,7 @@ fn asked_by(chooses: bool, start: bool, count: u32, text: &[u8]) -> Option<bool>
         if rest.len() - 4 < len {
             return None;
         }
-        found = once(is_fitting(chooses, &rest[4..4 + len]), found);
+        found = once(is_fitting(context, chooses, &rest[4..4 + len]), found);
         rest = &rest[4 + len..];
         left -= 1;
     }
@@ -245,31 +240,82 @@ fn asked_by(chooses: bool, start: bool, count: u32, text: &[u8]) -> Option<bool>
     Some(found)
 }
 
-/// Whether the data of an option on contexts ask for the one that there is. `None` where they are malformed.
-fn asks_allocation(chooses: bool, text: &[u8], len: usize) -> Option<bool>
+/// Whether the data of an option on contexts ask for one. `None` where they are malformed.
+fn asks_for(context: Context, chooses: bool, text: &[u8], len: usize) -> Option<bool>
     requires name { len ≡ number_at text.now 0 4 }
     requires inside { 8 + len ≤ length text.now }
-    ensures { result ≡ asks_allocation_of chooses text.now }
+    ensures { result ≡ asks_for_of context chooses text.now }
 {
     let count = u32_at(text, 4 + len);
     let start = !chooses && count == 0;
-    asked_by(chooses, start, count, &text[8 + len..])
+    asked_by(context, chooses, start, count, &text[8 + len..])
 }
 
-/// Tells the context, where it was asked for.
-fn push_told(option: u32, chooses: bool, asks: bool, answer: &mut Vec<u8>) -> Result<(), AllocError>
-    requires { answer.old.items ≡ [] }
-    ensures { OnOk result (answer.new.items ≡ told_context option chooses asks) }
+/// The contexts for which the data of an option ask. `None` where they are malformed.
+fn asks(chooses: bool, text: &[u8], len: usize) -> Option<Contexts>
+    requires name { len ≡ number_at text.now 0 4 }
+    requires inside { 8 + len ≤ length text.now }
+    ensures { result ≡ asks_of chooses text.now }
+{
+    let allocation = asks_for(Context::Allocation, chooses, text, len)?;
+    let bitmap = asks_for(Context::Bitmap, chooses, text, len)?;
+    Some(Contexts { allocation, bitmap })
+}
+
+/// The contexts that are asked for, of those that an export has.
+fn offered(bitmap: bool, asks: Contexts) -> Contexts
+    ensures { result ≡ offered_of bitmap asks }
+{
+    Contexts {
+        allocation: asks.allocation,
+        bitmap: bitmap && asks.bitmap,
+    }
+}
+
+/// Tells a context, where it was asked for.
+fn push_told(
+    option: u32,
+    chooses: bool,
+    context: Context,
+    asks: bool,
+    answer: &mut Vec<u8>,
+) -> Result<(), AllocError>
+    ensures { OnOk result (answer.new.items ≡ answer.old.items ++ told_context option chooses context asks) }
 {
     if !asks {
         return Ok(());
     }
-    let number = if chooses { 1 } else { 0 };
-    push_context(answer, option, TELLING, number, ALLOCATION)
+    push_context(
+        answer,
+        option,
+        TELLING,
+        context.number(chooses),
+        context.name(),
+    )
 }
 
-/// A session in which this export's blocks may be asked about, where it was chosen.
-fn choose(session: &mut Session, chooses: bool, described: Option<usize>)
+/// Tells the contexts that were asked for.
+fn push_all(
+    option: u32,
+    chooses: bool,
+    contexts: Contexts,
+    answer: &mut Vec<u8>,
+) -> Result<(), AllocError>
+    requires { answer.old.items ≡ [] }
+    ensures { OnOk result (answer.new.items ≡ told_contexts option chooses contexts) }
+{
+    push_told(
+        option,
+        chooses,
+        Context::Allocation,
+        contexts.allocation,
+        answer,
+    )?;
+    push_told(option, chooses, Context::Bitmap, contexts.bitmap, answer)
+}
+
+/// A session in which these contexts may be asked about, where they were chosen.
+fn choose(session: &mut Session, chooses: bool, described: Option<Described>)
     ensures { session.new ≡ choosing chooses session.old described }
 {
     if chooses {
@@ -298,7 +344,7 @@ fn tell(
     option: u32,
     chooses: bool,
     place: Option<Place>,
-    asks: Option<bool>,
+    asks: Option<Contexts>,
     answer: &mut Vec<u8>,
 ) -> Result<(), AllocError>
     requires { answer.old.items ≡ [] }
@@ -310,9 +356,13 @@ fn tell(
     let Some(place) = place else {
         return refuse(session, option, chooses, UNKNOWN, answer);
     };
-    let described = if asks { Some(place.export) } else { None };
-    choose(session, chooses, described);
-    push_told(option, chooses, asks, answer)?;
+    let contexts = offered(place.bitmap, asks);
+    let described = Described {
+        export: place.export,
+        contexts,
+    };
+    choose(session, chooses, Some(described));
+    push_all(option, chooses, contexts, answer)?;
     push_bare_reply(answer, option, ACKNOWLEDGED)
 }
 
@@ -335,7 +385,7 @@ fn contexts(
         return refuse(session, option, chooses, MALFORMED, answer);
     };
     let place = found(exports, name);
-    let asks = asks_allocation(chooses, text, name.len());
+    let asks = asks(chooses, text, name.len());
     tell(session, option, chooses, place, asks, answer)
 }
 

@@ -5,12 +5,14 @@
 //! session is then so.
 #![tactic(auto)]
 
+mod context;
 mod export;
 mod finding;
 mod haggling;
 mod session;
 
+pub use context::Context;
 pub use export::Export;
 pub use finding::found;
 pub use haggling::{haggle, haggle_unread};
-pub use session::{Place, Session, Stage};
+pub use session::{Contexts, Described, Place, Session, Stage};

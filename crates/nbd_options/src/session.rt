@@ -9,6 +9,23 @@ pub struct Place {
     pub size: u64,
     pub flags: u16,
     pub blocks: Option<BlockSizes>,
+    pub bitmap: bool,
+}
+
+/// Of which contexts of an export's blocks a client asks.
+#[derive(Clone, Copy, PartialEq, Eq)]
+pub struct Contexts {
+    /// Which bytes are zeros.
+    pub allocation: bool,
+    /// Which bytes are marked.
+    pub bitmap: bool,
+}
+
+/// The contexts that were chosen, and the export whose they are.
+#[derive(Clone, Copy, PartialEq, Eq)]
+pub struct Described {
+    pub export: usize,
+    pub contexts: Contexts,
 }
 
 /// What a session waits for.
@@ -31,7 +48,7 @@ pub struct Session {
     pub no_zeroes: bool,
     /// Reads are answered by structured replies.
     pub structured: bool,
-    /// The export whose client may ask which bytes are zeros.
-    pub described: Option<usize>,
+    /// The contexts of which the client may ask.
+    pub described: Option<Described>,
     pub stage: Stage,
 }

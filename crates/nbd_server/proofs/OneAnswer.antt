@@ -10,6 +10,7 @@ use Rattle.nbd_options.specs.declared.session.Stage.TheVariants.{Opening, Haggli
 use Rattle.nbd_options.specs.Haggled.{Reaction}
 use Rattle.nbd_server.specs.Talk.{Talk, Turn, HaveMemory, NoneFails, NoneIsWhole, IsWhole, IsCaused, reaction}
 use Rattle.nbd_server.proofs.Wholes.{one_message}
+use Rattle.nbd_server.specs.Blocks.{Array}
 
 -- no fault without a cause
 no_fault_at : (may_fail : ℕ → ℕ → ℕ → Type 0) (export : ℕ) (fault : Option Fault) (request : Rattle.nbd_messages.specs.declared.request.Request.Request) → NoneFails may_fail → Rattle.nbd_server.specs.Replied.HasCause may_fail export fault request → (fault ≡ Some NoMemory → ⊥) → fault ≡ None
@@ -23,7 +24,7 @@ no_fault may_fail Haggling message fault never cause memory = cause
 no_fault may_fail (Serving place) message fault never (request, is, cause) memory = no_fault_at may_fail place.export fault request never cause memory
 no_fault may_fail Over message fault never cause memory = cause
 
-pub one_answer_is : (exports : List Export) (arrays : ℕ → List ℕ) (may_fail : ℕ → ℕ → ℕ → Type 0) (session : Session) (heard said said' : List ℕ) (turns turns' : List Turn) → NoneFails may_fail → Talk exports arrays may_fail session heard said turns → Talk exports arrays may_fail session heard said' turns' → HaveMemory turns → HaveMemory turns' → said ≡ said'
+pub one_answer_is : (exports : List Export) (arrays : ℕ → Array) (may_fail : ℕ → ℕ → ℕ → Type 0) (session : Session) (heard said said' : List ℕ) (turns turns' : List Turn) → NoneFails may_fail → Talk exports arrays may_fail session heard said turns → Talk exports arrays may_fail session heard said' turns' → HaveMemory turns → HaveMemory turns' → said ≡ said'
 one_answer_is exports arrays may_fail session heard said said' [] [] never talk talk' good good' = talk.1 ∙ sym talk'.1
 one_answer_is exports arrays may_fail session heard said said' [] (turn' ∷ turns') never talk (rest', more', whole', heard_is', said_is', later', cause') good good' = absurd (talk.0 turn'.message rest' heard_is' whole')
 one_answer_is exports arrays may_fail session heard said said' (turn ∷ turns) [] never (rest, more, whole, heard_is, said_is, later, cause) talk' good good' = absurd (talk'.0 turn.message rest heard_is whole)

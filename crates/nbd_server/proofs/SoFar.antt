@@ -7,20 +7,21 @@ use Rattle.nbd_options.specs.declared.export.Export.{Export}
 use Rattle.nbd_options.specs.declared.session.Session.{Session}
 use Rattle.nbd_server.specs.Talk.{Talk, Turn, NoneIsWhole, AreArrays, beginning}
 use Rattle.nbd_server.specs.Turns.{IsTurn, IsEnd}
+use Rattle.nbd_server.specs.Blocks.{Array}
 
 -- a talk from here on makes one from the beginning
-abbrev pub Leads : List Export → (ℕ → List ℕ) → (ℕ → ℕ → ℕ → Type 0) → List ℕ → List ℕ → Session → List ℕ → Type 0
+abbrev pub Leads : List Export → (ℕ → Array) → (ℕ → ℕ → ℕ → Type 0) → List ℕ → List ℕ → Session → List ℕ → Type 0
 Leads exports arrays may_fail heard said session rest = (more : List ℕ) (turns : List Turn) → Talk exports arrays may_fail session rest more turns → (all : List Turn) × Talk exports arrays may_fail beginning heard (said ++ more) all
 
 -- what was read and written so far
-pub record IsSoFar (exports : List Export) (arrays : ℕ → List ℕ) (may_fail : ℕ → ℕ → ℕ → Type 0) (heard : List ℕ) (reader : Option (List ℕ)) (old new : Option (List ℕ)) (session : Session) : Type 0 where
+pub record IsSoFar (exports : List Export) (arrays : ℕ → Array) (may_fail : ℕ → ℕ → ℕ → Type 0) (heard : List ℕ) (reader : Option (List ℕ)) (old new : Option (List ℕ)) (session : Session) : Type 0 where
   pub said : List ℕ
   pub rest : List ℕ
   pub left : reader ≡ Some rest
   pub written : Appends old new (greeting ++ said)
   pub leads : Leads exports arrays may_fail heard said session rest
 
-pub so_far_begins : (exports : List Export) (arrays : ℕ → List ℕ) (may_fail : ℕ → ℕ → ℕ → Type 0) (heard : List ℕ) (reader old new : Option (List ℕ)) → reader ≡ Some heard → Appends old new greeting → IsSoFar exports arrays may_fail heard reader old new beginning
+pub so_far_begins : (exports : List Export) (arrays : ℕ → Array) (may_fail : ℕ → ℕ → ℕ → Type 0) (heard : List ℕ) (reader old new : Option (List ℕ)) → reader ≡ Some heard → Appends old new greeting → IsSoFar exports arrays may_fail heard reader old new beginning
 so_far_begins exports arrays may_fail heard reader old new is written = record {
   said = [];
   rest = heard;
@@ -35,7 +36,7 @@ consumed None b xs bytes is consumes = let bad : None ≡ Some xs = is in (cc)
 consumed (Some zs) None xs bytes is consumes = absurd consumes
 consumed (Some zs) (Some ys) xs bytes is consumes = let same : zs ≡ xs = (cc) in (ys, refl, sym same ∙ consumes)
 
-pub so_far_goes : (exports : List Export) (arrays : ℕ → List ℕ) (may_fail : ℕ → ℕ → ℕ → Type 0) (heard : List ℕ) (reader reader' old mid new : Option (List ℕ)) (session session' : Session) (answer : List ℕ) → IsSoFar exports arrays may_fail heard reader old mid session → IsTurn exports arrays may_fail reader reader' session session' answer → Appends mid new answer → IsSoFar exports arrays may_fail heard reader' old new session'
+pub so_far_goes : (exports : List Export) (arrays : ℕ → Array) (may_fail : ℕ → ℕ → ℕ → Type 0) (heard : List ℕ) (reader reader' old mid new : Option (List ℕ)) (session session' : Session) (answer : List ℕ) → IsSoFar exports arrays may_fail heard reader old mid session → IsTurn exports arrays may_fail reader reader' session session' answer → Appends mid new answer → IsSoFar exports arrays may_fail heard reader' old new session'
 so_far_goes exports arrays may_fail heard reader reader' old mid new session session' answer before (message, fault, consumes, whole, (answered, then), cause) written =
     let (rest, left, is) = consumed reader reader' before.rest message before.left consumes in
     record {
@@ -56,7 +57,7 @@ ends_with : (a : Option (List ℕ)) (session : Session) (xs : List ℕ) → a �
 ends_with None session xs is ends = let bad : None ≡ Some xs = is in (cc)
 ends_with (Some ys) session xs is ends = let same : ys ≡ xs = (cc) in subst (NoneIsWhole session.stage) same ends
 
-pub so_far_ends : (exports : List Export) (arrays : ℕ → List ℕ) (may_fail : ℕ → ℕ → ℕ → Type 0) (heard : List ℕ) (reader old new : Option (List ℕ)) (session : Session) → IsSoFar exports arrays may_fail heard reader old new session → IsEnd reader session → (said : List ℕ) × (turns : List Turn) × Talk exports arrays may_fail beginning heard said turns × Appends old new (greeting ++ said)
+pub so_far_ends : (exports : List Export) (arrays : ℕ → Array) (may_fail : ℕ → ℕ → ℕ → Type 0) (heard : List ℕ) (reader old new : Option (List ℕ)) (session : Session) → IsSoFar exports arrays may_fail heard reader old new session → IsEnd reader session → (said : List ℕ) × (turns : List Turn) × Talk exports arrays may_fail beginning heard said turns × Appends old new (greeting ++ said)
 so_far_ends exports arrays may_fail heard reader old new session so_far ends =
     let (all, talk) = so_far.leads [] [] (ends_with reader session so_far.rest so_far.left ends, refl) in
     (so_far.said, all, subst (λ (l : List ℕ). Talk exports arrays may_fail beginning heard l all) (append-nil so_far.said) talk, so_far.written)

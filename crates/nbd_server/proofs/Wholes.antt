@@ -18,6 +18,7 @@ use Rattle.nbd_options.specs.Haggled.{IsReaction, Reaction, haggled_any}
 use Rattle.nbd_messages.specs.Writing.{payload}
 use Rattle.nbd_server.specs.Talk.{IsWhole, NoneIsWhole, IsCaused, AreArrays, opened, reaction_at, option_reaction, request_reaction}
 use Rattle.nbd_server.specs.Turns.{IsTurn, IsOpened, IsEnd, IsAsked, IsRequested, IsHaggledFor, IsReplied}
+use Rattle.nbd_server.specs.Blocks.{Array}
 
 -- two headers at the front of what is heard are one
 same_asked : (head ys message rest : List ℕ) → head ++ ys ≡ message ++ rest → 16 ≤ length head → 16 ≤ length message → asked_in message ≡ asked_in head
@@ -73,7 +74,7 @@ moved_reaction : (answer : List ℕ) (after : Session) (r s : Reaction) → r �
 moved_reaction answer after r s e is = subst (λ (t : Reaction). IsReaction answer after t) (sym e) is
 
 -- an option and its data are a message
-pub option_turn : (exports : List Export) (arrays : ℕ → List ℕ) (may_fail : ℕ → ℕ → ℕ → Type 0) (a b c : Option (List ℕ)) (asked : Asked) (session after : Session) (answer : List ℕ) → session.stage ≡ Haggling → IsAsked a b asked → IsHaggledFor exports b c asked session after answer → IsTurn exports arrays may_fail a c session after answer
+pub option_turn : (exports : List Export) (arrays : ℕ → Array) (may_fail : ℕ → ℕ → ℕ → Type 0) (a b c : Option (List ℕ)) (asked : Asked) (session after : Session) (answer : List ℕ) → session.stage ≡ Haggling → IsAsked a b asked → IsHaggledFor exports b c asked session after answer → IsTurn exports arrays may_fail a c session after answer
 option_turn exports arrays may_fail a b c asked session after answer at (head, len, is, consumes) (text, text_len, text_consumes, reacts) =
     let front : asked_in (head ++ text) ≡ Some asked = asked_front head text (omega arith) ∙ is in
     let whole : length (head ++ text) ≡ 16 + asked.length = length-append head text ∙ omega arith in
@@ -90,7 +91,7 @@ option_turn exports arrays may_fail a b c asked session after answer at (head, l
     )
 
 -- the client's flags are a message
-pub open_turn : (exports : List Export) (arrays : ℕ → List ℕ) (may_fail : ℕ → ℕ → ℕ → Type 0) (a b : Option (List ℕ)) (session after : Session) (answer : List ℕ) → session.stage ≡ Opening → answer ≡ [] → IsOpened a b session after → IsTurn exports arrays may_fail a b session after answer
+pub open_turn : (exports : List Export) (arrays : ℕ → Array) (may_fail : ℕ → ℕ → ℕ → Type 0) (a b : Option (List ℕ)) (session after : Session) (answer : List ℕ) → session.stage ≡ Opening → answer ≡ [] → IsOpened a b session after → IsTurn exports arrays may_fail a b session after answer
 open_turn exports arrays may_fail a b session after answer at none (message, consumes, whole, then) = (
   message,
   None,
@@ -101,8 +102,8 @@ open_turn exports arrays may_fail a b session after answer at none (message, con
 )
 
 -- a request and its bytes are a message
-pub request_turn : (exports : List Export) (arrays : ℕ → List ℕ) (may_fail : ℕ → ℕ → ℕ → Type 0) (bytes : ℕ → Option (List ℕ)) (a b c : Option (List ℕ)) (request : Request) (place : Place) (session after : Session) (answer : List ℕ) → session.stage ≡ Serving place → IsRequested a b request → IsRead b c (payload request) → AreArrays bytes arrays → IsReplied bytes may_fail place request session after answer → IsTurn exports arrays may_fail a c session after answer
-request_turn exports arrays may_fail bytes a b c request place session after answer at (head, len, is, consumes) (text, text_len, text_consumes) known (replied, then) =
+pub request_turn : (exports : List Export) (arrays : ℕ → Array) (may_fail : ℕ → ℕ → ℕ → Type 0) (shows : ℕ → Option Array) (a b c : Option (List ℕ)) (request : Request) (place : Place) (session after : Session) (answer : List ℕ) → session.stage ≡ Serving place → IsRequested a b request → IsRead b c (payload request) → AreArrays shows arrays → IsReplied shows may_fail place request session after answer → IsTurn exports arrays may_fail a c session after answer
+request_turn exports arrays may_fail shows a b c request place session after answer at (head, len, is, consumes) (text, text_len, text_consumes) known (replied, then) =
     let front : request_in (head ++ text) ≡ Some request = request_front head text (omega arith) ∙ is in
     let whole : length (head ++ text) ≡ 28 + payload request = length-append head text ∙ omega arith in
     let (fault, cause, answered) = replied (arrays place.export) (known place.export) in (

@@ -1,7 +1,7 @@
 -- To be believed: what a client is told of blocks, by doc/proto.md of the NBD project: "Block status chunk" and the context
--- "base:allocation". That a block is told as zeros just where all its bytes are zeros, and that one range is told at a time,
--- is this project's choice where that page leaves it open.
-use Rattle.std.specs.Prelude.{◌==◌, ℕ, zero, suc, ◌+◌, Bool, true, false, not, List, length, take, drop, if◌then◌else◌}
+-- "base:allocation", and by docs/interop/nbd.rst of QEMU: "qemu:dirty-bitmap". That a block is told as zeros just where all its
+-- bytes are zeros, and that one range is told at a time, is this project's choice where those pages leave it open.
+use Rattle.std.specs.Prelude.{◌==◌, ℕ, zero, suc, ◌+◌, Bool, true, false, not, List, length, take, drop, Option, None, Some, if◌then◌else◌}
 use Rattle.std.specs.List.{list_all}
 
 -- the bytes of a block, which are counted from a request's offset
@@ -41,3 +41,18 @@ first_alike bytes = alike most_blocks (first_kind bytes) bytes
 abbrev pub state_of : Bool → ℕ
 state_of true = 2
 state_of false = 0
+
+-- what an export shows: its bytes, and which of them are marked
+pub record Array : Type 0 where
+  pub bytes : List ℕ
+  pub marks : ℕ → Bool
+
+-- How many bytes from one on, at most so many, are marked, or are not.
+unfoldable pub marked_for : (ℕ → Bool) → Bool → ℕ → ℕ → ℕ
+marked_for marks kind zero at = 0
+marked_for marks kind (suc most) at = if same_kind (marks at) kind then suc (marked_for marks kind most (at + 1)) else 0
+
+-- the state of a range in a bitmap: 1 where it is marked, else 0
+abbrev pub mark_of : Bool → ℕ
+mark_of true = 1
+mark_of false = 0

@@ -1,13 +1,15 @@
 -- To be believed: what a request is answered, by doc/proto.md of the NBD project: "Simple reply message", "Structured reply
 -- chunk message", "Request types", "Error values". Which requests are served is this project's choice where that page leaves
 -- it open: flags that were not offered and lengths over 32 MiB are invalid.
-use Rattle.std.specs.Prelude.{◌≡◌, ◌==◌, ℕ, ◌+◌, ◌≤◌, Bool, true, false, List, [], ◌++◌, take, drop, nat_lt, Option, Some, None, if◌then◌else◌}
+use Rattle.std.specs.Prelude.{◌≡◌, ◌==◌, ℕ, ◌+◌, ◌≤◌, ◌||◌, Bool, true, false, List, [], ◌++◌, take, drop, nat_lt, Option, Some, None, if◌then◌else◌}
 use Rattle.nbd_messages.specs.Reading.{data_start, error_reply}
 use Rattle.nbd_messages.specs.Replies.{simple_reply, state_chunk}
 use Rattle.nbd_messages.specs.declared.command.Command.{Command}
 use Rattle.nbd_messages.specs.declared.command.Command.TheVariants.{Read, Write, Disconnect, Flush, Trim, WriteZeroes, BlockStatus, Other}
 use Rattle.nbd_messages.specs.declared.request.Request.{Request}
-use Rattle.nbd_server.specs.Blocks.{asked_bytes, first_kind, first_alike, state_of}
+use Rattle.nbd_options.specs.declared.session.Contexts.{Contexts}
+use Rattle.nbd_server.specs.Blocks.{Array, asked_bytes, first_kind, first_alike, state_of, marked_for, mark_of}
+use Rattle.nbd_server.specs.declared.describing.State.{State}
 use Rattle.nbd_server.specs.declared.served.Fault.{Fault}
 use Rattle.nbd_server.specs.declared.served.Fault.TheVariants.{Io, NoMemory}
 
@@ -55,34 +57,50 @@ is_invalid_state size request =
     if request.flags == 8 then nat_lt size (request.offset + request.length) else
     true
 
--- a range and its state, of the context 1
-abbrev pub told_state : List ℕ → Request → List ℕ
-told_state bytes request = state_chunk request.cookie 1 (first_alike bytes) (state_of (first_kind bytes))
+-- The first range that a request asks about, and its state, in a context that was chosen: of the bytes that are zeros, and of
+-- those that are marked.
+abbrev pub zeros_in : List ℕ → State
+zeros_in bytes = record { len = first_alike bytes; state = state_of (first_kind bytes) }
+
+abbrev pub zeros_told : Bool → Array → Request → Option State
+zeros_told false array request = None
+zeros_told true array request = Some (zeros_in (asked_bytes request.offset request.length array.bytes))
+
+abbrev pub marks_told : Bool → Array → Request → Option State
+marks_told false array request = None
+marks_told true array request = Some (record { len = marked_for array.marks (array.marks request.offset) request.length request.offset; state = mark_of (array.marks request.offset) })
+
+-- a chunk for each context: 1 of zeros, 2 of marks
+abbrev pub states_told : ℕ → Option State → Option State → List ℕ
+states_told cookie None None = []
+states_told cookie None (Some marks) = state_chunk true cookie 2 marks.len marks.state
+states_told cookie (Some zeros) None = state_chunk true cookie 1 zeros.len zeros.state
+states_told cookie (Some zeros) (Some marks) = state_chunk false cookie 1 zeros.len zeros.state ++ state_chunk true cookie 2 marks.len marks.state
 
 -- what a good request about blocks is answered
-abbrev pub given_state : Bool → Option Fault → List ℕ → Request → List ℕ
-given_state structured None bytes request = told_state (asked_bytes request.offset request.length bytes) request
-given_state structured (Some fault) bytes request = error_reply structured (fault_error fault) request
+abbrev pub given_state : Contexts → Bool → Option Fault → Array → Request → List ℕ
+given_state contexts structured None array request = states_told request.cookie (zeros_told contexts.allocation array request) (marks_told contexts.bitmap array request)
+given_state contexts structured (Some fault) array request = error_reply structured (fault_error fault) request
 
 -- The same of any request: it is invalid where no context was chosen for this export.
-abbrev pub state_reply : Bool → Bool → Option Fault → ℕ → List ℕ → Request → List ℕ
-state_reply described structured fault size bytes request =
-    if described then (if is_invalid_state size request then error_reply structured invalid request else given_state structured fault bytes request) else
+abbrev pub state_reply : Contexts → Bool → Option Fault → ℕ → Array → Request → List ℕ
+state_reply contexts structured fault size array request =
+    if contexts.allocation || contexts.bitmap then (if is_invalid_state size request then error_reply structured invalid request else given_state contexts structured fault array request) else
     error_reply structured invalid request
 
 -- What a request is answered, by an export of these bytes that is only read. Its own fault comes in place of a read's bytes.
-abbrev pub reply_by : Command → Bool → Bool → Option Fault → ℕ → List ℕ → Request → List ℕ
-reply_by Read described structured fault size bytes request = read_reply structured fault size bytes request
-reply_by Write described structured fault size bytes request = simple_reply not_permitted request.cookie
-reply_by Disconnect described structured fault size bytes request = []
-reply_by Flush described structured fault size bytes request = simple_reply (if nat_lt 0 request.flags then invalid else 0) request.cookie
-reply_by Trim described structured fault size bytes request = simple_reply not_permitted request.cookie
-reply_by WriteZeroes described structured fault size bytes request = simple_reply not_permitted request.cookie
-reply_by BlockStatus described structured fault size bytes request = state_reply described structured fault size bytes request
-reply_by Other described structured fault size bytes request = simple_reply invalid request.cookie
+abbrev pub reply_by : Command → Contexts → Bool → Option Fault → ℕ → Array → Request → List ℕ
+reply_by Read contexts structured fault size array request = read_reply structured fault size array.bytes request
+reply_by Write contexts structured fault size array request = simple_reply not_permitted request.cookie
+reply_by Disconnect contexts structured fault size array request = []
+reply_by Flush contexts structured fault size array request = simple_reply (if nat_lt 0 request.flags then invalid else 0) request.cookie
+reply_by Trim contexts structured fault size array request = simple_reply not_permitted request.cookie
+reply_by WriteZeroes contexts structured fault size array request = simple_reply not_permitted request.cookie
+reply_by BlockStatus contexts structured fault size array request = state_reply contexts structured fault size array request
+reply_by Other contexts structured fault size array request = simple_reply invalid request.cookie
 
-abbrev pub reply_to : Bool → Bool → Option Fault → ℕ → List ℕ → Request → List ℕ
-reply_to described structured fault size bytes request = reply_by request.command described structured fault size bytes request
+abbrev pub reply_to : Contexts → Bool → Option Fault → ℕ → Array → Request → List ℕ
+reply_to contexts structured fault size array request = reply_by request.command contexts structured fault size array request
 
 -- a read of some of so many bytes, from one on, may fail
 abbrev pub MayFail : (ℕ → ℕ → ℕ → Type 0) → ℕ → ℕ → ℕ → Type 0

@@ -14,8 +14,11 @@ use Rattle.nbd_options.specs.declared.session.Place.{Place}
 use Rattle.nbd_options.specs.declared.session.Stage.{Stage}
 use Rattle.nbd_options.specs.declared.session.Stage.TheVariants.{Opening, Haggling, Serving, Over}
 use Rattle.nbd_options.specs.declared.session.Session.{Session}
+use Rattle.nbd_options.specs.declared.session.Contexts.{Contexts}
+use Rattle.nbd_options.specs.declared.session.Described.{Described}
 use Rattle.nbd_messages.specs.Writing.{payload}
 use Rattle.nbd_options.specs.Haggled.{Reaction, moved, haggled_any}
+use Rattle.nbd_server.specs.Blocks.{Array}
 use Rattle.nbd_server.specs.Replied.{reply_to, HasCause}
 
 -- Bytes that are one whole message: first the client's flags, of which there are two; then options with their data; then
@@ -52,26 +55,29 @@ served session WriteZeroes = session
 served session BlockStatus = session
 served session Other = session
 
--- whether an export's blocks may be asked about
-abbrev pub is_chosen : Option ℕ → ℕ → Bool
-is_chosen None export = false
-is_chosen (Some chosen) export = chosen == export
+-- the contexts in which an export's blocks may be asked about
+abbrev pub no_contexts : Contexts
+no_contexts = record { allocation = false; bitmap = false }
 
-abbrev pub request_reaction : (ℕ → List ℕ) → Session → Place → Option Fault → Option Request → Reaction
+abbrev pub chosen : Option Described → ℕ → Contexts
+chosen None export = no_contexts
+chosen (Some described) export = if described.export == export then described.contexts else no_contexts
+
+abbrev pub request_reaction : (ℕ → Array) → Session → Place → Option Fault → Option Request → Reaction
 request_reaction arrays session place fault None = record { answer = []; after = session }
 request_reaction arrays session place fault (Some request) = record {
-  answer = reply_to (is_chosen session.described place.export) session.structured fault place.size (arrays place.export) request;
+  answer = reply_to (chosen session.described place.export) session.structured fault place.size (arrays place.export) request;
   after = served session request.command;
 }
 
--- What a message is answered, where the arrays have these bytes, or a read of them has this fault.
-abbrev pub reaction_at : Stage → List Export → (ℕ → List ℕ) → Session → Option Fault → List ℕ → Reaction
+-- What a message is answered, where these are the arrays, or a read of them has this fault.
+abbrev pub reaction_at : Stage → List Export → (ℕ → Array) → Session → Option Fault → List ℕ → Reaction
 reaction_at Opening exports arrays session fault message = opened session message
 reaction_at Haggling exports arrays session fault message = option_reaction exports session (asked_in message) message
 reaction_at (Serving place) exports arrays session fault message = request_reaction arrays session place fault (request_in message)
 reaction_at Over exports arrays session fault message = record { answer = []; after = session }
 
-abbrev pub reaction : List Export → (ℕ → List ℕ) → Session → Option Fault → List ℕ → Reaction
+abbrev pub reaction : List Export → (ℕ → Array) → Session → Option Fault → List ℕ → Reaction
 reaction exports arrays session fault message = reaction_at session.stage exports arrays session fault message
 
 -- a message, and the fault that a read for its answer had
@@ -87,7 +93,7 @@ IsCaused may_fail (Serving place) message fault = (request : Request) × (reques
 IsCaused may_fail Over message fault = fault ≡ None
 
 -- What is heard begins with these messages, in turn, and no other comes after them; what is said are their answers.
-abbrev pub Talk : List Export → (ℕ → List ℕ) → (ℕ → ℕ → ℕ → Type 0) → Session → List ℕ → List ℕ → List Turn → Type 0
+abbrev pub Talk : List Export → (ℕ → Array) → (ℕ → ℕ → ℕ → Type 0) → Session → List ℕ → List ℕ → List Turn → Type 0
 Talk exports arrays may_fail session heard said [] = NoneIsWhole session.stage heard × (said ≡ [])
 Talk exports arrays may_fail session heard said (turn ∷ turns) =
     (rest : List ℕ) × (more : List ℕ) × IsWhole session.stage turn.message
@@ -100,9 +106,9 @@ Talk exports arrays may_fail session heard said (turn ∷ turns) =
 abbrev pub beginning : Session
 beginning = record { no_zeroes = false; structured = false; described = None; stage = Opening }
 
--- the bytes of the arrays that are served
-abbrev pub AreArrays : (ℕ → Option (List ℕ)) → (ℕ → List ℕ) → Type 0
-AreArrays bytes arrays = (k : ℕ) → bytes k ≡ Some (arrays k)
+-- the arrays that are served
+abbrev pub AreArrays : (ℕ → Option Array) → (ℕ → Array) → Type 0
+AreArrays shows arrays = (k : ℕ) → shows k ≡ Some (arrays k)
 
 -- no answer lacked memory
 abbrev pub HaveMemory : List Turn → Type 0

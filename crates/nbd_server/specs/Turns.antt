@@ -10,11 +10,12 @@ use Rattle.nbd_messages.specs.declared.asked.Asked.{Asked}
 use Rattle.nbd_messages.specs.declared.request.Request.{Request}
 use Rattle.nbd_options.specs.declared.session.Place.{Place}
 use Rattle.nbd_options.specs.Haggled.{IsReaction, haggled_any}
+use Rattle.nbd_server.specs.Blocks.{Array}
 use Rattle.nbd_server.specs.Replied.{reply_to, HasCause}
-use Rattle.nbd_server.specs.Talk.{IsWhole, NoneIsWhole, IsCaused, is_chosen, opened, reaction, served}
+use Rattle.nbd_server.specs.Talk.{IsWhole, NoneIsWhole, IsCaused, chosen, opened, reaction, served}
 
 -- a whole message was read, and this is its answer
-abbrev pub IsTurn : List Export → (ℕ → List ℕ) → (ℕ → ℕ → ℕ → Type 0) → Option (List ℕ) → Option (List ℕ) → Session → Session → List ℕ → Type 0
+abbrev pub IsTurn : List Export → (ℕ → Array) → (ℕ → ℕ → ℕ → Type 0) → Option (List ℕ) → Option (List ℕ) → Session → Session → List ℕ → Type 0
 IsTurn exports arrays may_fail old new before after answer =
     (message : List ℕ) × (fault : Option Fault) × Consumes old new message × IsWhole before.stage message × IsReaction answer after (reaction exports arrays before fault message) × IsCaused may_fail before.stage message fault
 
@@ -45,6 +46,6 @@ IsAskedTurn exports old new before after answer =
     (middle : Option (List ℕ)) × (asked : Asked) × IsAsked old middle asked × IsHaggledFor exports middle new asked before after answer
 
 -- a request is answered, and the session is then so
-abbrev pub IsReplied : (ℕ → Option (List ℕ)) → (ℕ → ℕ → ℕ → Type 0) → Place → Request → Session → Session → List ℕ → Type 0
-IsReplied bytes may_fail place request before after answer =
-    ((b : List ℕ) → bytes place.export ≡ Some b → (fault : Option Fault) × HasCause may_fail place.export fault request × (answer ≡ reply_to (is_chosen before.described place.export) before.structured fault place.size b request)) × (after ≡ served before request.command)
+abbrev pub IsReplied : (ℕ → Option Array) → (ℕ → ℕ → ℕ → Type 0) → Place → Request → Session → Session → List ℕ → Type 0
+IsReplied shows may_fail place request before after answer =
+    ((b : Array) → shows place.export ≡ Some b → (fault : Option Fault) × HasCause may_fail place.export fault request × (answer ≡ reply_to (chosen before.described place.export) before.structured fault place.size b request)) × (after ≡ served before request.command)

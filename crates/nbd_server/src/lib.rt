@@ -16,6 +16,6 @@ mod stopped;
 mod turning;
 
 pub use laws::one_answer;
-pub use served::{Fault, Served};
+pub use served::{Fault, Marked, Served};
 pub use serving::serve;
 pub use stopped::Stopped;

@@ -1,15 +1,16 @@
 // A request is answered.
-ghost use Rattle.std.specs.Prelude.{◌≡◌, ℕ, ◌+◌, ◌^◌, ◌<◌, ◌≤◌, List, [], ◌++◌, length, take, drop, OnOk, Some, Err, Option, nat_lt};
+ghost use Rattle.std.specs.Prelude.{◌≡◌, ℕ, ◌+◌, ◌^◌, ◌<◌, ◌≤◌, [], ◌++◌, length, take, drop, OnOk, Some, Err, Option, nat_lt};
 ghost use Rattle.nbd_server.specs.declared.served.Fault.{Fault as FaultOf};
 ghost use Rattle.nbd_messages.specs.Reading.{data_start, error_reply};
-ghost use Rattle.nbd_server.specs.Replied.{is_invalid_read, data_reply, given_reply, read_reply, is_invalid_state as is_invalid_state_of, told_state, given_state, state_reply, reply_to, fault_error, MayFail, HasCause};
-ghost use Rattle.nbd_server.specs.Blocks.{asked_bytes, state_of as state_by};
+ghost use Rattle.nbd_server.specs.Replied.{is_invalid_read, data_reply, given_reply, read_reply, is_invalid_state as is_invalid_state_of, states_told, given_state, state_reply, reply_to, fault_error, MayFail, HasCause};
+ghost use Rattle.nbd_server.specs.Blocks.{Array};
 
-use crate::describing::first_kind_at;
+use crate::describing::{State, marks_at, zeros_at};
 use crate::{Fault, Served};
 use nbd_messages::{
     Command, Request, push_data_start, push_error, push_simple_reply, push_state_chunk,
 };
+use nbd_options::Contexts;
 use std::alloc::AllocError;
 
 /// The longest read: 32 MiB.
@@ -65,9 +66,9 @@ fn push_data<T: Served>(
     answer: &mut Vec<u8>,
 ) -> Result<(), Fault>
     requires inside { request.now.offset + request.now.length < 2 ^ 64 }
-    ensures data { OnOk result ((b : List ℕ) → T.bytes served.old export ≡ Some b → answer.new.items ≡ answer.old.items ++ take request.now.length (drop request.now.offset b)) }
+    ensures data { OnOk result ((b : Array) → T.shows served.old export ≡ Some b → answer.new.items ≡ answer.old.items ++ take request.now.length (drop request.now.offset b.bytes)) }
     ensures fails { result ≡ Err Fault.Io → T.may_fail served.old export request.now.offset request.now.length }
-    ensures bytes { (k : ℕ) → T.bytes served.new k ≡ T.bytes served.old k }
+    ensures shows { (k : ℕ) → T.shows served.new k ≡ T.shows served.old k }
     ensures calm { (k : ℕ) (from : ℕ) (count : ℕ) → T.may_fail served.new k from count → T.may_fail served.old k from count }
 {
     let start = answer.len();
@@ -94,8 +95,8 @@ fn reply_read<T: Served>(
     answer: &mut Vec<u8>,
 ) -> Result<(), AllocError>
     requires { answer.old.items ≡ [] }
-    ensures reply { OnOk result ((b : List ℕ) → T.bytes served.old export ≡ Some b → (fault : Option FaultOf) × HasCause (T.may_fail served.old) export fault request.now × (answer.new.items ≡ read_reply structured fault size b request.now)) }
-    ensures bytes { (k : ℕ) → T.bytes served.new k ≡ T.bytes served.old k }
+    ensures reply { OnOk result ((b : Array) → T.shows served.old export ≡ Some b → (fault : Option FaultOf) × HasCause (T.may_fail served.old) export fault request.now × (answer.new.items ≡ read_reply structured fault size b.bytes request.now)) }
+    ensures shows { (k : ℕ) → T.shows served.new k ≡ T.shows served.old k }
     ensures calm { (k : ℕ) (from : ℕ) (count : ℕ) → T.may_fail served.new k from count → T.may_fail served.old k from count }
 {
     if is_invalid(size, request) {
@@ -131,29 +132,45 @@ fn is_invalid_state(size: u64, request: &Request) -> bool
     is_past(size, request)
 }
 
-/// The state of a range that reads as zeros, or of another.
-fn state_of(blank: bool) -> u32
-    ensures { result ≡ state_by blank }
+/// Adds a chunk for each context of which something is told.
+fn push_states(
+    cookie: u64,
+    zeros: Option<State>,
+    marks: Option<State>,
+    answer: &mut Vec<u8>,
+) -> Result<(), AllocError>
+    ensures { OnOk result (answer.new.items ≡ answer.old.items ++ states_told cookie zeros marks) }
 {
-    if blank { 2 } else { 0 }
+    if let Some(zeros) = zeros {
+        push_state_chunk(answer, marks.is_none(), cookie, 1, zeros.len, zeros.state)?;
+    }
+    if let Some(marks) = marks {
+        push_state_chunk(answer, true, cookie, 2, marks.len, marks.state)?;
+    }
+    Ok(())
 }
 
 /// Answers a good request about blocks.
 fn tell_state<T: Served>(
     served: &mut T,
     export: usize,
+    contexts: Contexts,
     structured: bool,
     request: &Request,
     answer: &mut Vec<u8>,
 ) -> Result<(), AllocError>
     requires none { answer.old.items ≡ [] }
     requires inside { request.now.offset + request.now.length < 2 ^ 64 }
-    ensures reply { OnOk result ((b : List ℕ) → T.bytes served.old export ≡ Some b → (fault : Option FaultOf) × HasCause (T.may_fail served.old) export fault request.now × (answer.new.items ≡ given_state structured fault b request.now)) }
-    ensures bytes { (k : ℕ) → T.bytes served.new k ≡ T.bytes served.old k }
+    ensures reply { OnOk result ((b : Array) → T.shows served.old export ≡ Some b → (fault : Option FaultOf) × HasCause (T.may_fail served.old) export fault request.now × (answer.new.items ≡ given_state contexts structured fault b request.now)) }
+    ensures shows { (k : ℕ) → T.shows served.new k ≡ T.shows served.old k }
     ensures calm { (k : ℕ) (from : ℕ) (count : ℕ) → T.may_fail served.new k from count → T.may_fail served.old k from count }
 {
-    match first_kind_at(served, export, request.offset, request.length) {
-        Ok(kind) => push_state_chunk(answer, request.cookie, 1, kind.len, state_of(kind.blank)),
+    let zeros = match zeros_at(served, export, contexts.allocation, request) {
+        Ok(zeros) => zeros,
+        Err(fault) => return push_error(answer, structured, error_of(fault), request),
+    };
+    match marks_at(served, export, contexts.bitmap, request) {
+        Ok(marks) => push_states(request.cookie, zeros, marks, answer),
         Err(fault) => push_error(answer, structured, error_of(fault), request),
     }
 }
@@ -163,23 +180,23 @@ fn reply_state<T: Served>(
     served: &mut T,
     export: usize,
     size: u64,
-    described: bool,
+    contexts: Contexts,
     structured: bool,
     request: &Request,
     answer: &mut Vec<u8>,
 ) -> Result<(), AllocError>
     requires { answer.old.items ≡ [] }
-    ensures reply { OnOk result ((b : List ℕ) → T.bytes served.old export ≡ Some b → (fault : Option FaultOf) × HasCause (T.may_fail served.old) export fault request.now × (answer.new.items ≡ state_reply described structured fault size b request.now)) }
-    ensures bytes { (k : ℕ) → T.bytes served.new k ≡ T.bytes served.old k }
+    ensures reply { OnOk result ((b : Array) → T.shows served.old export ≡ Some b → (fault : Option FaultOf) × HasCause (T.may_fail served.old) export fault request.now × (answer.new.items ≡ state_reply contexts structured fault size b request.now)) }
+    ensures shows { (k : ℕ) → T.shows served.new k ≡ T.shows served.old k }
     ensures calm { (k : ℕ) (from : ℕ) (count : ℕ) → T.may_fail served.new k from count → T.may_fail served.old k from count }
 {
-    if !described {
+    if !contexts.allocation && !contexts.bitmap {
         return push_error(answer, structured, INVALID, request);
     }
     if is_invalid_state(size, request) {
         return push_error(answer, structured, INVALID, request);
     }
-    tell_state(served, export, structured, request, answer)
+    tell_state(served, export, contexts, structured, request, answer)
 }
 
 /// Answers a request, with arrays that are only read.
@@ -187,14 +204,14 @@ pub fn reply<T: Served>(
     served: &mut T,
     export: usize,
     size: u64,
-    described: bool,
+    contexts: Contexts,
     structured: bool,
     request: &Request,
     answer: &mut Vec<u8>,
 ) -> Result<(), AllocError>
     requires { answer.old.items ≡ [] }
-    ensures reply { OnOk result ((b : List ℕ) → T.bytes served.old export ≡ Some b → (fault : Option FaultOf) × HasCause (T.may_fail served.old) export fault request.now × (answer.new.items ≡ reply_to described structured fault size b request.now)) }
-    ensures bytes { (k : ℕ) → T.bytes served.new k ≡ T.bytes served.old k }
+    ensures reply { OnOk result ((b : Array) → T.shows served.old export ≡ Some b → (fault : Option FaultOf) × HasCause (T.may_fail served.old) export fault request.now × (answer.new.items ≡ reply_to contexts structured fault size b request.now)) }
+    ensures shows { (k : ℕ) → T.shows served.new k ≡ T.shows served.old k }
     ensures calm { (k : ℕ) (from : ℕ) (count : ℕ) → T.may_fail served.new k from count → T.may_fail served.old k from count }
 {
     match request.command {
@@ -208,7 +225,7 @@ pub fn reply<T: Served>(
             push_simple_reply(answer, error, request.cookie)
         }
         Command::BlockStatus => reply_state(
-            served, export, size, described, structured, request, answer,
+            served, export, size, contexts, structured, request, answer,
         ),
         Command::Other => push_simple_reply(answer, INVALID, request.cookie),
     }

@@ -1,5 +1,6 @@
 // What is served.
-ghost use Rattle.std.specs.Prelude.{◌≡◌, ℕ, ◌+◌, ◌^◌, ◌<◌, List, take, drop, length, Option, IfSome, OnOk, Err};
+ghost use Rattle.std.specs.Prelude.{◌≡◌, ℕ, ◌+◌, ◌^◌, ◌<◌, take, drop, length, Option, IfOk, IfSome, OnOk, Err};
+ghost use Rattle.nbd_server.specs.Blocks.{Array, marked_for};
 
 /// Why bytes were not given.
 #[derive(Clone, Copy, PartialEq, Eq)]
@@ -10,10 +11,17 @@ pub enum Fault {
     NoMemory,
 }
 
-/// Arrays of bytes that are read, by their numbers from 0 on. Any read may fail.
+/// Bytes in a row that are marked, or are not.
+#[derive(Clone, Copy, PartialEq, Eq)]
+pub struct Marked {
+    pub marked: bool,
+    pub len: u32,
+}
+
+/// Arrays of bytes that are read, some of which are marked, by their numbers from 0 on. Any read may fail.
 pub trait Served {
-    /// The bytes of an array, where they are known.
-    ghost bytes: { Self → ℕ → Option (List ℕ) };
+    /// An array, where it is known.
+    ghost shows: { Self → ℕ → Option Array };
 
     /// Whether a read of an array may fail: from a byte on, of so many.
     ghost may_fail: { Self → ℕ → ℕ → ℕ → Type 0 };
@@ -21,8 +29,15 @@ pub trait Served {
     /// Reads as many bytes of an array as the buffer has, from an offset on.
     fn read(&mut self, export: usize, at: u64, out: &mut [u8]) -> Result<(), Fault>
         requires { at + length out.old < 2 ^ 64 }
-        ensures data { OnOk result (IfSome (bytes self.old export) (λ b. out.new ≡ take (length out.old) (drop at b))) }
+        ensures data { OnOk result (IfSome (shows self.old export) (λ b. out.new ≡ take (length out.old) (drop at b.bytes))) }
         ensures fails { result ≡ Err Fault.Io → may_fail self.old export at (length out.old) }
-        ensures bytes { (k : ℕ) → bytes self.new k ≡ bytes self.old k }
+        ensures shows { (k : ℕ) → shows self.new k ≡ shows self.old k }
+        ensures calm { (k : ℕ) (from : ℕ) (count : ℕ) → may_fail self.new k from count → may_fail self.old k from count };
+    /// Whether a byte of an array is marked, and how many from it on are as it is, up to so many.
+    fn marks(&mut self, export: usize, at: u64, most: u32) -> Result<Marked, Fault>
+        requires { at + most < 2 ^ 64 }
+        ensures data { IfOk result (λ told. IfSome (shows self.old export) (λ b. (told.marked ≡ b.marks at) × (told.len ≡ marked_for b.marks (b.marks at) most at))) }
+        ensures fails { result ≡ Err Fault.Io → may_fail self.old export at most }
+        ensures shows { (k : ℕ) → shows self.new k ≡ shows self.old k }
         ensures calm { (k : ℕ) (from : ℕ) (count : ℕ) → may_fail self.new k from count → may_fail self.old k from count };
 }

@@ -2,6 +2,7 @@
 ghost use Rattle.std.specs.Prelude.{◌≡◌, ℕ, List, ◌++◌, OnOk, Some};
 ghost use Rattle.std.specs.Io.KnownBytes.{Appends};
 ghost use Rattle.nbd_messages.specs.Replies.{greeting};
+ghost use Rattle.nbd_server.specs.Blocks.{Array};
 ghost use Rattle.nbd_server.specs.Talk.{AreArrays, Talk, Turn, beginning};
 
 use crate::Served;
@@ -33,7 +34,7 @@ pub fn serve<T: Served, R: Read, W: Write>(
     reader: &mut R,
     writer: &mut W,
 ) -> Result<(), Stopped>
-    ensures answers { OnOk result ((arrays : ℕ → List ℕ) → (heard : List ℕ) → AreArrays (T.bytes served.old) arrays → R.remaining reader.old ≡ Some heard →
+    ensures answers { OnOk result ((arrays : ℕ → Array) → (heard : List ℕ) → AreArrays (T.shows served.old) arrays → R.remaining reader.old ≡ Some heard →
         (said : List ℕ) × (turns : List Turn) × Talk exports.now arrays (T.may_fail served.old) beginning heard said turns × Appends (W.contents writer.old) (W.contents writer.new) (greeting ++ said)) }
 {
     let mut session = Session {

@@ -3,7 +3,8 @@ ghost use Rattle.std.specs.Prelude.{◌≡◌, ◌<◌, ◌≤◌, ℕ, List, []
 ghost use Rattle.std.specs.Io.KnownBytes.{Consumes};
 ghost use Rattle.nbd_server.specs.Heard.{IsShort, IsRead};
 ghost use Rattle.nbd_messages.specs.Writing.{payload};
-ghost use Rattle.nbd_server.specs.Talk.{AreArrays, NoneIsWhole, is_chosen as is_chosen_of};
+ghost use Rattle.nbd_server.specs.Blocks.{Array};
+ghost use Rattle.nbd_server.specs.Talk.{AreArrays, NoneIsWhole, chosen as chosen_of};
 ghost use Rattle.nbd_options.specs.declared.export.Export.{Export as ExportOf};
 ghost use Rattle.nbd_options.specs.declared.session.Place.{Place as PlaceOf};
 ghost use Rattle.nbd_server.specs.Turns.{IsTurn, IsOpened, IsAskedTurn, IsEnd, IsAsked, IsRequested, IsHaggledFor, IsReplied};
@@ -16,7 +17,7 @@ use crate::stopped::Stopped;
 use nbd_messages::{
     ASKED_BYTES, Asked, Command, REQUEST_BYTES, Request, asked_in, request_in, u32_at,
 };
-use nbd_options::{Export, Place, Session, Stage, haggle, haggle_unread};
+use nbd_options::{Contexts, Described, Export, Place, Session, Stage, haggle, haggle_unread};
 use std::io::Read;
 
 /// The longest data of an option that are looked at.
@@ -117,13 +118,19 @@ fn haggle_for<R: Read>(
     Ok(true)
 }
 
-/// Whether an export's blocks may be asked about.
-fn is_chosen(described: Option<usize>, export: usize) -> bool
-    ensures { result ≡ is_chosen_of described export }
+/// No context.
+const NO_CONTEXTS: Contexts = Contexts {
+    allocation: false,
+    bitmap: false,
+};
+
+/// The contexts in which an export's blocks may be asked about.
+fn chosen(described: Option<Described>, export: usize) -> Contexts
+    ensures { result ≡ chosen_of described export }
 {
     match described {
-        Some(chosen) => chosen == export,
-        None => false,
+        Some(described) if described.export == export => described.contexts,
+        _ => NO_CONTEXTS,
     }
 }
 
@@ -136,15 +143,15 @@ fn serve_request<T: Served>(
     answer: &mut Vec<u8>,
 ) -> Result<(), Stopped>
     requires { answer.old.items ≡ [] }
-    ensures replied { OnOk result (IsReplied (T.bytes served.old) (T.may_fail served.old) place request.now session.old session.new answer.new.items) }
-    ensures bytes { (k : ℕ) → T.bytes served.new k ≡ T.bytes served.old k }
+    ensures replied { OnOk result (IsReplied (T.shows served.old) (T.may_fail served.old) place request.now session.old session.new answer.new.items) }
+    ensures shows { (k : ℕ) → T.shows served.new k ≡ T.shows served.old k }
     ensures calm { (k : ℕ) (from : ℕ) (count : ℕ) → T.may_fail served.new k from count → T.may_fail served.old k from count }
 {
     reply(
         served,
         place.export,
         place.size,
-        is_chosen(session.described, place.export),
+        chosen(session.described, place.export),
         session.structured,
         request,
         answer,
@@ -199,9 +206,9 @@ fn request<T: Served, R: Read>(
     requires stage { session.old.stage ≡ Serving place }
     requires none { answer.old.items ≡ [] }
     ensures turn { IfOk result (λ went. MatchBool went
-        ((exports : List ExportOf) (arrays : ℕ → List ℕ) → AreArrays (T.bytes served.old) arrays → IsTurn exports arrays (T.may_fail served.old) (R.remaining reader.old) (R.remaining reader.new) session.old session.new answer.new.items)
+        ((exports : List ExportOf) (arrays : ℕ → Array) → AreArrays (T.shows served.old) arrays → IsTurn exports arrays (T.may_fail served.old) (R.remaining reader.old) (R.remaining reader.new) session.old session.new answer.new.items)
         (IsEnd (R.remaining reader.old) session.old)) }
-    ensures bytes { (k : ℕ) → T.bytes served.new k ≡ T.bytes served.old k }
+    ensures shows { (k : ℕ) → T.shows served.new k ≡ T.shows served.old k }
     ensures calm { (k : ℕ) (from : ℕ) (count : ℕ) → T.may_fail served.new k from count → T.may_fail served.old k from count }
 {
     let Some(request) = hear_request(reader)? else {
@@ -225,9 +232,9 @@ pub fn turn<T: Served, R: Read>(
 ) -> Result<bool, Stopped>
     requires { answer.old.items ≡ [] }
     ensures turn { IfOk result (λ went. MatchBool went
-        ((arrays : ℕ → List ℕ) → AreArrays (T.bytes served.old) arrays → IsTurn exports.now arrays (T.may_fail served.old) (R.remaining reader.old) (R.remaining reader.new) session.old session.new answer.new.items)
+        ((arrays : ℕ → Array) → AreArrays (T.shows served.old) arrays → IsTurn exports.now arrays (T.may_fail served.old) (R.remaining reader.old) (R.remaining reader.new) session.old session.new answer.new.items)
         (IsEnd (R.remaining reader.old) session.old)) }
-    ensures bytes { (k : ℕ) → T.bytes served.new k ≡ T.bytes served.old k }
+    ensures shows { (k : ℕ) → T.shows served.new k ≡ T.shows served.old k }
     ensures calm { (k : ℕ) (from : ℕ) (count : ℕ) → T.may_fail served.new k from count → T.may_fail served.old k from count }
 {
     match session.stage {

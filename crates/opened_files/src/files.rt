@@ -1,10 +1,10 @@
 // A file is made, and made to last.
 
+use crate::partial::partial_file;
 use crate::target::OUTPUT;
-use crate::trouble::{Trouble, Why, about, held};
+use crate::trouble::{Trouble, Why, about};
 use file_calls::DiskFile;
 use image_files::FileSink;
-use std::fs::File;
 use std::io::ErrorKind;
 use std::{fs, io};
 
@@ -17,11 +17,6 @@ pub fn is_free<'a>(rt: &HostRuntime, name: &'a str) -> Result<(), Trouble<'a>> {
     Ok(())
 }
 
-/// The name that a file has until it is whole.
-pub(crate) fn partial_name<'a>(rt: &HostRuntime, out: &'a str) -> Result<String, Trouble<'a>> {
-    held(out, format!(in rt.alloc(); "{out}.partial"))
-}
-
 /// Makes a file, which must not be there, under the name that it has until it is whole, and locks it.
 pub(crate) fn made<'a>(
     rt: &HostRuntime,
@@ -29,22 +24,8 @@ pub(crate) fn made<'a>(
     partial: &str,
 ) -> Result<FileSink<DiskFile>, Trouble<'a>> {
     is_free(rt, out)?;
-    let why = match File::create_new(rt, partial) {
-        Ok(file) => {
-            let _ = file.try_lock();
-            return Ok(FileSink::new(DiskFile::new(file)));
-        }
-        Err(error) => why_not_made(error),
-    };
-    Err(Trouble { name: out, why })
-}
-
-/// Why a file was not made under the name that it has until it is whole.
-fn why_not_made(error: io::Error) -> Why {
-    match error.kind() {
-        ErrorKind::AlreadyExists => Why::PartialExists,
-        _ => Why::File(error),
-    }
+    let file = partial_file(rt, out, partial)?;
+    Ok(FileSink::new(DiskFile::new(file)))
 }
 
 /// Gives a whole file its name, and makes the name last. A file that has this name already stays as it is.

@@ -10,6 +10,7 @@ use file_calls::DiskFile;
 use file_users::{holder_of, user_of};
 use image::Image;
 use image_files::FileImage;
+use image_words::Telling;
 use std::fs::File;
 use std::os::unix::fs::{FileTypeExt, MetadataExt};
 use std::{fs, io};
@@ -46,6 +47,17 @@ impl<'a> Input<'a> {
         Input::of(rt, name, file)
     }
 
+    /// Opens a file that another program writes and has locked. Only files are taken: what is read of a block device may be old.
+    pub fn unlocked(rt: &'a HostRuntime, name: &'a str) -> Result<Input<'a>, Trouble<'a>> {
+        let metadata = about(name, fs::metadata(rt, name))?;
+        if !metadata.is_file() {
+            let why = Why::NoLiveFile;
+            return Err(Trouble { name, why });
+        }
+        let file = about(name, fs::open(rt, name))?;
+        Input::of(rt, name, file)
+    }
+
     /// An input over a file that is open, and is locked elsewhere.
     pub fn over(rt: &'a HostRuntime, name: &'a str, file: &File) -> Result<Input<'a>, Trouble<'a>> {
         Input::of(rt, name, about(name, file.try_clone())?)
@@ -59,7 +71,7 @@ impl<'a> Input<'a> {
             name,
             image,
             kept,
-            teller: Teller::new(rt),
+            teller: Teller::new(rt, Telling::Terminal),
             read: 0,
             failed: None,
         })
@@ -97,6 +109,16 @@ impl<'a> Input<'a> {
     /// Its file, to be looked at while it is read elsewhere.
     pub fn kept(&self) -> Result<Kept<'a>, Trouble<'a>> {
         self.kept.again()
+    }
+
+    /// Tells from now on how much is read, when this is wanted.
+    pub fn tell(&mut self, rt: &'a HostRuntime, telling: Telling) {
+        self.teller = Teller::new(rt, telling);
+    }
+
+    /// When it is told how much is read.
+    pub fn telling(&self) -> Telling {
+        self.teller.telling()
     }
 
     /// Tells no more how much is read.

@@ -2,6 +2,7 @@
 
 use crate::input::Input;
 use crate::trouble::Trouble;
+use image_words::Telling;
 
 /// An origin and its store, two files that are only read.
 #[derive(Drop)]
@@ -33,6 +34,12 @@ impl<'a> Inputs<'a> {
     pub fn are_unchanged(&self) -> Result<(), Trouble<'a>> {
         self.cow.is_unchanged()?;
         self.origin.is_unchanged()
+    }
+
+    /// Tells from now on how much is read of either, when this is wanted.
+    pub fn tell(&mut self, rt: &'a HostRuntime, telling: Telling) {
+        self.origin.tell(rt, telling);
+        self.cow.tell(rt, telling);
     }
 
     /// Tells no more how much is read of either.

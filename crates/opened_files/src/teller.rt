@@ -1,12 +1,17 @@
 // How far a command is, on standard error.
 
+use image_words::Telling;
 use std::io::IsTerminal;
 use std::time::Instant;
 
-/// Tells once in a second how far a command is, where standard error is a terminal. What goes wrong with that is no matter.
+/// Tells once in a second how far a command is, where standard error is a terminal or it is always wanted: there on one line, else on
+/// a line each time. What goes wrong with that is no matter.
 #[derive(Drop)]
 pub struct Teller<'a> {
     rt: &'a HostRuntime,
+    telling: Telling,
+    /// Whether standard error is a terminal.
+    terminal: bool,
     /// When it was told last, or begun; none where nobody looks.
     since: Option<Instant>,
     /// Whether a line is begun.
@@ -15,26 +20,25 @@ pub struct Teller<'a> {
 
 impl<'a> Teller<'a> {
     /// One that begins now.
-    pub fn new(rt: &'a HostRuntime) -> Teller<'a> {
-        let since = if rt.stderr().is_terminal() {
+    pub fn new(rt: &'a HostRuntime, telling: Telling) -> Teller<'a> {
+        let terminal = rt.stderr().is_terminal();
+        let since = if telling == Telling::Always || (telling == Telling::Terminal && terminal) {
             Instant::now(rt).ok()
         } else {
             None
         };
         Teller {
             rt,
+            telling,
+            terminal,
             since,
             told: false,
         }
     }
 
-    /// One that tells nothing.
-    pub fn quiet(rt: &'a HostRuntime) -> Teller<'a> {
-        Teller {
-            rt,
-            since: None,
-            told: false,
-        }
+    /// When it is told.
+    pub fn telling(&self) -> Telling {
+        self.telling
     }
 
     /// Whether a second has passed since it was told last.
@@ -49,15 +53,25 @@ impl<'a> Teller<'a> {
             return false;
         }
         self.since = Some(now);
-        self.told = true;
+        self.told = self.terminal;
         true
+    }
+
+    /// What stands before and behind what is told.
+    fn ends(&self) -> (&'static str, &'static str) {
+        if self.terminal {
+            ("\r", "")
+        } else {
+            ("", "\n")
+        }
     }
 
     /// Tells how many bytes of an input are read.
     pub fn tell_read(&mut self, name: &str, bytes: u64) {
         if self.is_due() {
             let mebibytes = bytes / 1_048_576;
-            let _ = eprint!(self.rt; "\rlochknife: {name}: {mebibytes} MiB read");
+            let (before, behind) = self.ends();
+            let _ = eprint!(self.rt; "{before}lochknife: {name}: {mebibytes} MiB read{behind}");
         }
     }
 
@@ -65,7 +79,8 @@ impl<'a> Teller<'a> {
     pub fn tell_written(&mut self, bytes: u64, all: u64) {
         if self.is_due() {
             let percent = bytes as u128 * 100 / all.max(1) as u128;
-            let _ = eprint!(self.rt; "\rlochknife: {percent} % written");
+            let (before, behind) = self.ends();
+            let _ = eprint!(self.rt; "{before}lochknife: {percent} % written{behind}");
         }
     }
 

@@ -54,6 +54,12 @@ pub enum Why {
     ButFolder(io::Error),
     /// It is no file, and is to be written in place.
     NoFile,
+    /// It is no file, and is to be read while it is written.
+    NoLiveFile,
+    /// A snapshot is to be read while it is in use, and this store has none, or has lost it.
+    NoSnapshot,
+    /// Pairs that it had are gone.
+    NoPairs,
     /// It was opened in the place of a standard stream.
     NoStream,
     /// No header says how many sectors its chunks have.
@@ -165,6 +171,12 @@ impl fmt::Display for Why {
                 write!(f, "is there, whole, but cannot sync its folder: {error}")
             }
             Why::NoFile => write!(f, "no file: only files are merged"),
+            Why::NoLiveFile => write!(f, "no file: only files are read while they are written"),
+            Why::NoSnapshot => write!(f, "its header is that of no snapshot that is in use"),
+            Why::NoPairs => write!(
+                f,
+                "pairs that it had are gone: end this before a merge, and before COW is used again"
+            ),
             Why::NoStream => write!(f, "standard input, output or error is closed"),
             Why::NoChunk => write!(
                 f,
@@ -186,7 +198,7 @@ impl fmt::Display for Why {
             Why::NoData => write!(f, "no line has data: nothing is written"),
             Why::PartialExists => write!(
                 f,
-                "the file of this name and .partial is there already: remove it if no export runs"
+                "the file of this name and .partial is not what an export left, or one is at work on it: see to it first"
             ),
         }
     }

@@ -4,6 +4,7 @@ ghost use Rattle.std.specs.Prelude.{None};
 use crate::target::Target;
 use crate::teller::Teller;
 use image::Sink;
+use image_words::Telling;
 use std::io;
 use std::io::Write;
 
@@ -22,10 +23,15 @@ impl<'a, 'w, W: Write> Watched<'a, 'w, W> {
     pub fn new(rt: &'a HostRuntime, sink: Target<'w, W>, size: u64) -> Watched<'a, 'w, W> {
         Watched {
             sink,
-            teller: Teller::new(rt),
+            teller: Teller::new(rt, Telling::Terminal),
             size,
             written: 0,
         }
+    }
+
+    /// Tells from now on how much is written, when this is wanted.
+    pub fn tell(&mut self, rt: &'a HostRuntime, telling: Telling) {
+        self.teller = Teller::new(rt, telling);
     }
 
     /// Makes a file last through a stop, with its whole length.

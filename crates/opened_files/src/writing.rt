@@ -1,6 +1,7 @@
 // A new file is written whole, or not at all; or standard output is.
 
-use crate::files::{is_free, made, named, partial_name};
+use crate::files::{is_free, made, named};
+use crate::partial::partial_name;
 use crate::target::{OUTPUT, Target};
 use crate::trouble::Trouble;
 use crate::watched::Watched;

@@ -42,6 +42,7 @@ fn export<'a>(name: &'a [u8], size: u64) -> Export<'a>
         size,
         flags: WRITE_FLAGS,
         blocks: Some(BLOCKS),
+        bitmap: false,
     }
 }
 

@@ -16,5 +16,5 @@ returns-in_ok-push_error-in-Err-clause-reply g c = λ b bis. (
   Some c.in-Err.fault,
   λ e. (let same : c.in-Err.fault ≡ Rattle.nbd_server.specs.declared.served.Fault.TheVariants.Io = (cc) in inside_self (g.T.Served.may_fail c.args.served.now) c.args.export c.args.request.now (c.in-Err.ensures.fails (ap Err same))),
   error_alone _ _ c.args.structured _ (fault_error c.in-Err.fault) c.args.request.now c.in_ok-push_error-in-Err.ensures c.clear.ensures.items c.error_of.ensures
-      ∙ ap (λ (t : Bool). cond t (error_reply c.args.structured invalid c.args.request.now) (given_reply c.args.structured (Some c.in-Err.fault) b c.args.request.now)) (sym (sym c.is_invalid.ensures ∙ c.if-is_invalid.false)),
+      ∙ ap (λ (t : Bool). cond t (error_reply c.args.structured invalid c.args.request.now) (given_reply c.args.structured (Some c.in-Err.fault) b.bytes c.args.request.now)) (sym (sym c.is_invalid.ensures ∙ c.if-is_invalid.false)),
 )

@@ -2,10 +2,11 @@ use Rattle.std.proofs.Common.{◌≡◌, ℕ, List, Some}
 use Rattle.nbd_server.specs.Talk.{AreArrays}
 use Rattle.nbd_server.proofs.SoFar.{IsSoFar}
 use Rattle.nbd_server.proofs.serving.serve.Given as goal
+use Rattle.nbd_server.specs.Blocks.{Array}
 
 abbrev pub invariant-loop : goal.invariant-loop
 invariant-loop g l = record {
-  bytes : (k : ℕ) → g.T.Served.bytes l.served k ≡ g.T.Served.bytes l.fn.served k;
+  shows : (k : ℕ) → g.T.Served.shows l.served k ≡ g.T.Served.shows l.fn.served k;
   calm : (k : ℕ) (from : ℕ) (count : ℕ) → g.T.Served.may_fail l.served k from count → g.T.Served.may_fail l.fn.served k from count;
-  so_far : (arrays : ℕ → List ℕ) (heard : List ℕ) → AreArrays (g.T.Served.bytes l.fn.served) arrays → g.R.Read.remaining l.fn.reader ≡ Some heard → IsSoFar l.exports arrays (g.T.Served.may_fail l.fn.served) heard (g.R.Read.remaining l.reader) (g.W.Write.contents l.fn.writer) (g.W.Write.contents l.writer) l.session;
+  so_far : (arrays : ℕ → Array) (heard : List ℕ) → AreArrays (g.T.Served.shows l.fn.served) arrays → g.R.Read.remaining l.fn.reader ≡ Some heard → IsSoFar l.exports arrays (g.T.Served.may_fail l.fn.served) heard (g.R.Read.remaining l.reader) (g.W.Write.contents l.fn.writer) (g.W.Write.contents l.writer) l.session;
 }

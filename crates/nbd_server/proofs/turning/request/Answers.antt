@@ -15,4 +15,4 @@ pub returns-clause-turn : goal.returns-clause-turn
 returns-clause-turn g c = λ exports arrays known.
     let is : IsRequested (g.R.Read.remaining c.args.reader.now) (g.R.Read.remaining c.hear_request.new.reader) c.in-Some.request = rw c.in-Some.is at c.in_ok-request.ensures in
     let read : IsRead (g.R.Read.remaining c.hear_request.new.reader) (g.R.Read.remaining c.hear_payload.new.reader) (payload c.in-Some.request) = rw c.if-not-branch.false at c.in_ok-hear_payload.ensures in
-    request_turn exports arrays (g.T.Served.may_fail c.args.served.now) (g.T.Served.bytes c.args.served.now) _ _ _ c.in-Some.request c.args.place c.args.session.now c.serve_request.new.session c.serve_request.new.answer.items c.requires.stage is read known c.in_ok-serve_request.ensures.replied
+    request_turn exports arrays (g.T.Served.may_fail c.args.served.now) (g.T.Served.shows c.args.served.now) _ _ _ c.in-Some.request c.args.place c.args.session.now c.serve_request.new.session c.serve_request.new.answer.items c.requires.stage is read known c.in_ok-serve_request.ensures.replied

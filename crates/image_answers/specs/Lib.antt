@@ -1,0 +1,5 @@
+pub mod Comparing
+pub mod Ranging
+pub mod Names
+pub mod Tables
+pub mod Human
