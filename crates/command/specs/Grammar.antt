@@ -16,7 +16,7 @@ use Rattle.table.specs.Grammar.{line_in}
 use Rattle.command.specs.Messages.{message_in}
 use Rattle.command.specs.Events.{event_in}
 use Rattle.command.specs.declared.grammar.Command.{Command}
-use Rattle.command.specs.declared.grammar.Command.TheVariants.{Disk, Create, Remove, Load, Save, Message, Tick, Read, Write, Flush, StartRead, StartWrite, Step, Settle, Merge, Resume, Finish, Checkpoint, Stop, StopLosing, Status, Table}
+use Rattle.command.specs.declared.grammar.Command.TheVariants.{Disk, Create, Remove, Load, Save, Copy, List as Listing, Message, Tick, Read, Write, Flush, StartRead, StartWrite, Step, Settle, Merge, Resume, Finish, Checkpoint, Stop, StopLosing, Status, Table}
 
 -- a name and a first sector
 abbrev pub place_of : List ℕ → List ℕ → Result (List ℕ × ℕ) Refusal
@@ -87,6 +87,20 @@ load_of words = patch_of words >>= λ patch. Ok (Load patch.0 patch.1 patch.2)
 -- `save DISK S N`
 abbrev pub save_of : List (List ℕ) → Result Command Refusal
 save_of words = span_of words >>= λ span. Ok (Save span.0 span.1 span.2)
+
+-- `copy DISK S DISK N`
+abbrev pub copy_of : List (List ℕ) → Result Command Refusal
+copy_of (from ∷ first ∷ to ∷ words) = do
+  place ← place_of from first
+  to ← name_of to
+  count ← amount_of words
+  Ok (Copy place.0 place.1 to count)
+copy_of words = Err BadTable
+
+-- `ls`
+abbrev pub list_of : List (List ℕ) → Result Command Refusal
+list_of [] = Ok Listing
+list_of words = Err BadTable
 
 -- `message DEV 0 WORDS`; the 0 is the word in which dmsetup takes a sector
 abbrev pub message_of : List (List ℕ) → Result Command Refusal
@@ -195,6 +209,8 @@ command_of (verb ∷ words) =
     if bytes_eq verb (codes "remove") then remove_of words else
     if bytes_eq verb (codes "load") then load_of words else
     if bytes_eq verb (codes "save") then save_of words else
+    if bytes_eq verb (codes "copy") then copy_of words else
+    if bytes_eq verb (codes "ls") then list_of words else
     if bytes_eq verb (codes "message") then message_of words else
     if bytes_eq verb (codes "tick") then tick_of words else
     if bytes_eq verb (codes "read") then read_of words else

@@ -3,7 +3,7 @@ ghost use Rattle.std.specs.Prelude.{◌≡◌, ◌≤◌, [], ◌∷◌, length}
 ghost use Rattle.words.specs.Given.{Gives};
 ghost use Rattle.words.specs.Texts.{texts};
 ghost use Rattle.words.specs.Words.{words_of};
-ghost use Rattle.command.specs.Grammar.{place_of, amount_of, span_of, patch_of, alone_of, disk_of, is_merge, made_line_of, create_of, remove_of, load_of, save_of, message_of, tick_of, read_of, write_of, flush_of, start_read_of, start_write_of, start_of, step_of, settle_of, merge_of, resume_of, finish_of, checkpoint_of, stop_of, status_of, table_of, volume_command_of, command_of};
+ghost use Rattle.command.specs.Grammar.{place_of, amount_of, span_of, patch_of, alone_of, disk_of, is_merge, made_line_of, create_of, remove_of, load_of, save_of, copy_of, list_of, message_of, tick_of, read_of, write_of, flush_of, start_read_of, start_write_of, start_of, step_of, settle_of, merge_of, resume_of, finish_of, checkpoint_of, stop_of, status_of, table_of, volume_command_of, command_of};
 
 use super::data_words::{payload, sectors};
 use super::events::{EventWords, event_in};
@@ -18,49 +18,118 @@ use words::{Name, next_word, numeral, words_in};
 #[derive(Drop)]
 pub enum Command {
     /// `disk NAME N`: a disk of N zero sectors. Any N stands here, also one outside the limits of disks.
-    Disk { name: Name, sectors: u32 },
+    Disk {
+        name: Name,
+        sectors: u32,
+    },
     /// `create NAME LINE`: a device by its table line, which is not that of a merge.
-    Create { name: Name, line: Line },
+    Create {
+        name: Name,
+        line: Line,
+    },
     /// `remove NAME`: takes a device away.
-    Remove { name: Name },
+    Remove {
+        name: Name,
+    },
     /// `load DISK S DATA`: writes raw sectors of a disk. 1 to 2048 of them.
-    Load { disk: Name, first: u32, bytes: Buf },
+    Load {
+        disk: Name,
+        first: u32,
+        bytes: Buf,
+    },
     /// `save DISK S N`: prints raw sectors of a disk. `count` is 1 to 2048.
-    Save { disk: Name, first: u32, count: u32 },
+    Save {
+        disk: Name,
+        first: u32,
+        count: u32,
+    },
+    /// `copy DISK S DISK N`: copies raw sectors of a disk to the same place of another. `count` is 1 to 2048.
+    Copy {
+        from: Name,
+        first: u32,
+        to: Name,
+        count: u32,
+    },
+    /// `ls`: names each device, what it is, and what it stands on.
+    List,
     /// `message DEV 0 WORDS`: a message to a layer.
-    Message { name: Name, message: Message },
+    Message {
+        name: Name,
+        message: Message,
+    },
     /// `tick N`: so many seconds pass for every flakey layer.
-    Tick { seconds: u32 },
+    Tick {
+        seconds: u32,
+    },
     /// `read DEV S N`: reads an origin or snapshot. `count` is 1 to 2048.
-    Read { name: Name, first: u32, count: u32 },
+    Read {
+        name: Name,
+        first: u32,
+        count: u32,
+    },
     /// `write DEV S DATA`: writes an origin or snapshot. 1 to 2048 sectors.
-    Write { name: Name, first: u32, bytes: Buf },
+    Write {
+        name: Name,
+        first: u32,
+        bytes: Buf,
+    },
     /// `flush DEV`: makes what was written to an origin or snapshot last.
-    Flush { name: Name },
+    Flush {
+        name: Name,
+    },
     /// `start DEV read S N`: starts a read of an origin or snapshot, inside one piece. `count` is 1 to 2048.
-    StartRead { name: Name, first: u32, count: u32 },
+    StartRead {
+        name: Name,
+        first: u32,
+        count: u32,
+    },
     /// `start DEV write S DATA`: starts a write of an origin or snapshot, inside one piece. 1 to 2048 sectors.
-    StartWrite { name: Name, first: u32, bytes: Buf },
+    StartWrite {
+        name: Name,
+        first: u32,
+        bytes: Buf,
+    },
     /// `step VOL EVENT`: one event of the volume of an origin.
-    Step { volume: Name, event: EventWords },
+    Step {
+        volume: Name,
+        event: EventWords,
+    },
     /// `settle VOL`: the events that are due in the volume of an origin, until there is none.
-    Settle { volume: Name },
+    Settle {
+        volume: Name,
+    },
     /// `merge SNAP`: begins to merge a snapshot into its origin.
-    Merge { name: Name },
+    Merge {
+        name: Name,
+    },
     /// `resume VOL`: lets a failed merge of the volume of an origin go on.
-    Resume { volume: Name },
+    Resume {
+        volume: Name,
+    },
     /// `finish VOL`: ends the merge of the volume of an origin that has come to its end.
-    Finish { volume: Name },
+    Finish {
+        volume: Name,
+    },
     /// `checkpoint VOL`: the journal of the volume of an origin is folded.
-    Checkpoint { volume: Name },
+    Checkpoint {
+        volume: Name,
+    },
     /// `stop VOL`: the volume of an origin ends, whatever is in flight in it.
-    Stop { volume: Name },
+    Stop {
+        volume: Name,
+    },
     /// `stop VOL lose`: the same, and its disks lose what was not flushed.
-    StopLosing { volume: Name },
+    StopLosing {
+        volume: Name,
+    },
     /// `status DEV`: prints the status line.
-    Status { name: Name },
+    Status {
+        name: Name,
+    },
     /// `table DEV`: prints the table line.
-    Table { name: Name },
+    Table {
+        name: Name,
+    },
 }
 
 fn place(name: &[u8], first: &[u8]) -> Result<(Name, u32), Refusal>
@@ -227,6 +296,45 @@ fn save(text: &[u8]) -> Result<Command, Refusal>
 {
     let (disk, first, count) = span(text)?;
     Ok(Command::Save { disk, first, count })
+}
+
+// A copy to what is named, of sectors from a place on.
+fn copy_to(from: &[u8], first: &[u8], to: &[u8], text: &[u8]) -> Result<Command, Refusal>
+    ensures { result ≡ copy_of (from.now ∷ first.now ∷ to.now ∷ words_of text.now) }
+{
+    let (from, first) = place(from, first)?;
+    let to = Name::new(to)?;
+    let count = amount(text)?;
+    Ok(Command::Copy {
+        from,
+        first,
+        to,
+        count,
+    })
+}
+
+fn copy(text: &[u8]) -> Result<Command, Refusal>
+    ensures { result ≡ copy_of (words_of text.now) }
+{
+    let Some((from, rest)) = next_word(text) else {
+        return Err(Refusal::BadTable);
+    };
+    let Some((first, rest)) = next_word(rest) else {
+        return Err(Refusal::BadTable);
+    };
+    let Some((to, rest)) = next_word(rest) else {
+        return Err(Refusal::BadTable);
+    };
+    copy_to(from, first, to, rest)
+}
+
+fn list(text: &[u8]) -> Result<Command, Refusal>
+    ensures { result ≡ list_of (words_of text.now) }
+{
+    if next_word(text).is_some() {
+        return Err(Refusal::BadTable);
+    }
+    Ok(Command::List)
 }
 
 // A message to what is named.
@@ -444,6 +552,10 @@ fn command_by(alloc: Global, verb: &[u8], text: &[u8]) -> Result<Command, Refusa
         load(alloc, text)
     } else if verb == b"save".as_slice() {
         save(text)
+    } else if verb == b"copy".as_slice() {
+        copy(text)
+    } else if verb == b"ls".as_slice() {
+        list(text)
     } else if verb == b"message".as_slice() {
         message(text)
     } else if verb == b"tick".as_slice() {

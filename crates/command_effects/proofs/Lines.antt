@@ -6,6 +6,7 @@ use Rattle.sector.specs.declared.refusal.Refusal.{Refusal}
 use Rattle.sector.specs.declared.refusal.Refusal.TheVariants.{BadTable, NoSuchDevice, OutOfRange, Busy, MergeInProgress}
 use Rattle.layers.specs.declared.message.Message.{Message}
 use Rattle.layers.specs.declared.message.Answer.{Answer}
+use Rattle.words.specs.Given.{◌>>=◌}
 use Rattle.command.specs.Words.{sectors_of}
 use Rattle.command.specs.declared.grammar.Command.{Command}
 use Rattle.command.specs.declared.grammar.Command.TheVariants as commands
@@ -18,7 +19,7 @@ use Rattle.command_rules.specs.State.{Volume, Table, merged_in}
 use Rattle.command_rules.specs.Changes.{Did, kept, changed}
 use Rattle.command_rules.specs.Places.{place_of, found, stack_at, volume_at}
 use Rattle.command_rules.specs.Messages.{put_volume, told_at, told_free, told_mounted, tell}
-use Rattle.command_rules.specs.Raw.{whole, load, loaded_at, loaded_free, in_use, raw_under, fits}
+use Rattle.command_rules.specs.Raw.{whole, load, save, copied, loaded_at, loaded_free, in_use, raw_under, fits}
 use Rattle.command_rules.specs.Sectors.{Asked, asked_of, at_role, in_volume, flush, flush_by, flushed_in, read_by, read_in, read_some, after_asking, read, written_in, write_some, write, IsPartWritten, IsReadAsked, IsFlushStarved, IsReadStarved, IsWriteStarved, IsAtRole, IsInVolume, IsWriteStarvedBy}
 use Rattle.command_rules.specs.Events.{origin_at, origin_by, merge_done, settle}
 use Rattle.command_rules.specs.Merging.{begun, begun_at, merge_begun, resumed, merge_resumed, finished, merge_finished}
@@ -317,3 +318,12 @@ load_line name first bytes table = by (load name first bytes table) refl
         let a = came_by (whole bytes) _ new is in
         let b = came_by (found (place_of name table)) _ new a.2 in
         by_place b.0 a.0 new b.2
+
+-- `copy DISK S DISK N`
+pub copy_line : (from : List ℕ) (first : ℕ) (to : List ℕ) (count : ℕ) (table : Table) → arrays_in (changed table (copied from first to count table)).left ≡ arrays_in table
+unfolding copied
+copy_line from first to count table = by (save from first count table)
+  where
+    by : (saved : Result (List ℕ) Refusal) → arrays_in (changed table (saved >>= λ bytes. load to first bytes table)).left ≡ arrays_in table
+    by (Ok bytes) = load_line to first bytes table
+    by (Err e) = refl

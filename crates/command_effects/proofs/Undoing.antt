@@ -184,6 +184,8 @@ module _ (name origin array : List ℕ) where
   answered (commands.Disk device sectors) table new spares how all = same (arrays_in table) new how all
   answered (commands.Load disk first bytes) table new spares how all = same (arrays_in table) new how all
   answered (commands.Save disk first count) table new spares how all = same (arrays_in table) new how all
+  answered (commands.Copy from first to count) table new spares how all = same (arrays_in table) new how all
+  answered commands.List table new spares how all = same (arrays_in table) new how all
   answered (commands.Message device message) table new spares how all = same (arrays_in table) new how all
   answered (commands.Tick seconds) table new spares how all = same (arrays_in table) new how all
   answered (commands.Read device first count) table new spares how all = same (arrays_in table) new how all
@@ -211,6 +213,8 @@ module _ (name origin array : List ℕ) where
   denied (commands.Disk device sectors) table refusal new spares how all = same (arrays_in table) new how all
   denied (commands.Load disk first bytes) table refusal new spares how all = same (arrays_in table) new how all
   denied (commands.Save disk first count) table refusal new spares how all = same (arrays_in table) new how all
+  denied (commands.Copy from first to count) table refusal new spares how all = same (arrays_in table) new how all
+  denied commands.List table refusal new spares how all = same (arrays_in table) new how all
   denied (commands.Message device message) table refusal new spares how all = same (arrays_in table) new how all
   denied (commands.Tick seconds) table refusal new spares how all = same (arrays_in table) new how all
   denied (commands.Read device first count) table refusal new spares how all = same (arrays_in table) new how all

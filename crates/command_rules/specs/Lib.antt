@@ -11,6 +11,7 @@ pub mod Snapshots
 pub mod Creating
 pub mod Removing
 pub mod Lines
+pub mod Listing
 pub mod Sectors
 pub mod Starting
 pub mod Events

@@ -1,5 +1,5 @@
 -- To be believed: `run`'s output, a volume's steps or its attach are said in these words.
--- Loading and saving raw sectors of disks, past all layers. The commands are this project's own.
+-- Loading, saving and copying raw sectors of disks, past all layers. The commands are this project's own.
 use Rattle.std.specs.Prelude.{◌==◌, ℕ, ◌+◌, ◌/◌, ◌%◌, ◌&&◌, Bool, false, List, [], ◌∷◌, length, nat_lt, slice_get, if◌then◌else◌, Option, Some, None, Result, Ok, Err}
 use Rattle.sector.specs.Bytes.{sectors_at, with_sectors}
 use Rattle.sector.specs.declared.refusal.Refusal.{Refusal}
@@ -119,3 +119,9 @@ load name first bytes table = do
   count ← whole bytes
   place ← found (place_of name table)
   loaded_at place first count bytes table
+
+-- `copy DISK S DISK N`: raw sectors of a disk, used or not, written to the same place of one that nothing uses
+unfoldable pub copied : List ℕ → ℕ → List ℕ → ℕ → Table → Result Table Refusal
+copied from first to count table = do
+  bytes ← save from first count table
+  load to first bytes table

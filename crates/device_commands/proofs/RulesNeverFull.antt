@@ -25,7 +25,7 @@ use Rattle.command_rules.specs.Changes.{Changes, Steps}
 use Rattle.command_rules.specs.Disks.{make}
 use Rattle.command_rules.specs.Layers.{unused, top, laid, broken}
 use Rattle.command_rules.specs.Origins.{origin_made}
-use Rattle.command_rules.specs.Raw.{names_at, raw_in, raw_in_store, raw_in_merging, raw_under, raw_at, save, loaded_under, loaded_free, in_use, loaded_at, load}
+use Rattle.command_rules.specs.Raw.{copied, names_at, raw_in, raw_in_store, raw_in_merging, raw_under, raw_at, save, loaded_under, loaded_free, in_use, loaded_at, load}
 use Rattle.command_rules.specs.Messages.{with_layers, told_in, told_free, told_under, snap_at, told_snap, told_store, told_merge, told_merging, told_role, told_mounted, told_at, tell}
 use Rattle.command_rules.specs.Lines.{named, over, target_of, line_if, line_in, line_in_store, line_in_merging, origin_target, origin_line, snapshot_line, merging_line, line_of_role, line_at, line_text}
 use Rattle.command_rules.specs.Events.{origin_at, snapshot_at, origin_by, event_at, event_asked, none_due, step_event}
@@ -182,6 +182,10 @@ loaded_at_never (In v role) first count bytes table = search (never, volume_neve
 pub load_never : (name : List ℕ) (first : ℕ) (bytes : List ℕ) (table : Table) → IsNeverFull (load name first bytes table)
 unfolding load
 load_never name first bytes table = search (never, found_never, loaded_at_never) depth 12
+
+pub copied_never : (from : List ℕ) (first : ℕ) (to : List ℕ) (count : ℕ) (table : Table) → IsNeverFull (copied from first to count table)
+unfolding copied
+copied_never from first to count table = search (never, save_never, load_never) depth 12
 
 -- messages to layers
 abbrev IsOther : {X : Type 0} → Told X → Type 0

@@ -32,3 +32,13 @@ pub fn checkpoint_device(held: &mut Devices, name: &Name) -> Result<(), Refusal>
     let v = origin_at(place)?;
     checkpoint_at(held, v)
 }
+
+/// Folds the journal of each volume, as `checkpoint_device` does of one, so that all have room again; no device is changed.
+pub fn checkpoint_all(held: &mut Devices)
+    ensures { table_of held.new ≡ table_of held.old }
+{
+    for v in 0..held.volumes.len() {
+        // Memory may be refused for one: then its journal stays as it is.
+        let _ = checkpoint_at(held, v);
+    }
+}

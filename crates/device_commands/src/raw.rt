@@ -1,4 +1,4 @@
-// Loading and saving raw sectors of disks, past all layers.
+// Loading, saving and copying raw sectors of disks, past all layers.
 ghost use Rattle.std.specs.Prelude.{◌≡◌, ◌≤◌, ◌<◌, ◌+◌, ◌*◌, ◌/◌, length, slice_get, MatchResult, Ok, Err, true};
 ghost use Rattle.device.specs.Disk.{disk_contents};
 ghost use Rattle.words.specs.Given.{Gives};
@@ -7,7 +7,7 @@ ghost use Rattle.command_rules.specs.Naming.{AreNamed};
 ghost use Rattle.command_rules.specs.Sound.{is_sound};
 ghost use Rattle.device_list.specs.Tables.{table_of};
 ghost use Rattle.command_rules.specs.Places.{IsPlaceIn, IsRoleIn};
-ghost use Rattle.command_rules.specs.Raw.{cut, in_use, load, loaded_at, raw_at, save};
+ghost use Rattle.command_rules.specs.Raw.{copied, cut, in_use, load, loaded_at, raw_at, save};
 ghost use Rattle.command_rules.specs.declared.place.Place.TheVariants.{Free};
 
 use command_rules::{Place, Role};
@@ -112,4 +112,24 @@ pub fn load_disk(held: &mut Devices, name: &Name, first: u32, bytes: &Buf) -> Re
         Place::Free(i, depth) => load_free(held, i, depth, first, count, bytes),
         Place::In(v, role) => Err(refuse_load(&held.volumes[v], role, first, count)),
     }
+}
+
+/// `copy DISK S DISK N`: raw sectors of a disk, used or not, written to the same place of a disk that nothing uses: what `save_disk`
+/// gives of the first is what `load_disk` writes to the second. It is refused as these two are, in this order; a refusal changes
+/// nothing.
+#[tactic(auto, unfolding(command_rules::specs::Raw::copied))]
+pub fn copy_disk(
+    alloc: Global,
+    held: &mut Devices,
+    from: &Name,
+    first: u32,
+    to: &Name,
+    count: u32,
+) -> Result<(), Refusal>
+    ensures done { Changes result (table_of held.old) (table_of held.new) (copied from.now first to.now count (table_of held.old)) }
+    ensures sound { is_sound (table_of held.old) ≡ true → is_sound (table_of held.new) ≡ true }
+    ensures named { AreNamed (table_of held.old) → AreNamed (table_of held.new) }
+{
+    let bytes = save_disk(alloc, held, from, first, count)?;
+    load_disk(held, to, first, &bytes)
 }

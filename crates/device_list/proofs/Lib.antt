@@ -20,5 +20,7 @@ pub mod Stops
 pub mod Orders
 pub mod Begun
 pub mod Statuses
+pub mod Listed
+pub mod Lost
 mod Firsts
 pub mod Traces

@@ -1,6 +1,6 @@
--- What a trace says of a volume: what is in flight in it, and which events are due. The form is this project's own; the words of
+-- What a trace says of a volume: what is in flight in it, which of its snapshots are lost, and which events are due. The form is this project's own; the words of
 -- events are those of `step`.
-use Rattle.std.specs.Prelude.{◌≡◌, ℕ, List, [], ◌∷◌, ◌++◌, Option, Some, None, codes, decimal, slice_get}
+use Rattle.std.specs.Prelude.{◌≡◌, ℕ, ◌+◌, ◌*◌, Bool, nat_lt, if◌then◌else◌, List, [], ◌∷◌, ◌++◌, Option, Some, None, codes, decimal, slice_get}
 use Rattle.std.specs.List.{flat_map}
 use Rattle.words.specs.Words.{spaced}
 use Rattle.layers.specs.declared.stack.Stack.{Stack}
@@ -61,8 +61,19 @@ marks_text name marks = flat_map (mark_text name) marks
 abbrev pub copies_text : List ℕ → List ChunkCopy → List ℕ
 copies_text name copies = flat_map (copy_text name) copies
 
+-- A snapshot that is lost, whether its store was full or a device failed. Where it is `full`, its store has no room for one chunk
+-- more.
+abbrev pub is_full : Kept Stack → Bool
+is_full s = nat_lt s.state.size (s.state.chunk * (s.next + 1))
+
+abbrev pub lost_words : Bool → List (List ℕ)
+lost_words full = if full then codes "full" ∷ [] else []
+
+abbrev pub lost_text : List ℕ → Kept Stack → List ℕ
+lost_text name s = if s.live then [] else item_of (codes "lost" ∷ name ∷ lost_words (is_full s))
+
 abbrev pub snap_text : List ℕ → Kept Stack → List ℕ
-snap_text name s = marks_text name s.marks ++ copies_text name s.copies
+snap_text name s = lost_text name s ++ marks_text name s.marks ++ copies_text name s.copies
 
 -- the copies of a snapshot under its name, and of some of the snapshots that have these names
 unfoldable pub told_text : List Names → List (Kept Stack) → Kept Stack → List ℕ
@@ -121,7 +132,7 @@ abbrev pub line_of : List ℕ → List ℕ → List ℕ
 line_of name [] = []
 line_of name (b ∷ items) = name ++ (b ∷ items) ++ codes "\n"
 
--- the requests, the copies and the events of a volume of events
+-- the requests, the losses, the copies and the events of a volume of events
 abbrev pub items_of : List ℕ → List Names → Volumed Stack → List Event → List ℕ
 items_of origin names v events =
     flights_text origin names v.snaps v.flights ++ (copied_text names v.snaps v.snaps ++ dues_text names v.snaps events)

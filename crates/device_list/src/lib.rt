@@ -12,6 +12,7 @@ mod checkpointing;
 mod finding;
 mod flights;
 mod held;
+mod listing;
 mod merging;
 mod order;
 mod origin;

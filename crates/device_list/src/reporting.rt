@@ -70,7 +70,7 @@ impl NamedVolume {
 
     /// The line of the snapshot that is being merged: that of any other.
     #[tactic(auto, unfolding(command_rules::specs::Lines::merging_line))]
-    fn line_of_merging(&self) -> Result<Line, Refusal>
+    pub(crate) fn line_of_merging(&self) -> Result<Line, Refusal>
         requires { is_some self.now.merging ≡ true }
         ensures { result ≡ merging_line_of self.now }
     {
@@ -136,7 +136,7 @@ impl NamedVolume {
     }
 
     /// The line of the origin.
-    fn line_of_origin(&self) -> Result<Line, Refusal>
+    pub(crate) fn line_of_origin(&self) -> Result<Line, Refusal>
         ensures { result ≡ origin_line_of self.now }
     {
         match &self.merging {
@@ -147,7 +147,7 @@ impl NamedVolume {
 
     /// The line of a snapshot.
     #[tactic(auto, unfolding(command_rules::specs::Lines::snapshot_line))]
-    fn line_of_snapshot(&self, k: usize) -> Result<Line, Refusal>
+    pub(crate) fn line_of_snapshot(&self, k: usize) -> Result<Line, Refusal>
         requires { k < length self.now.snaps }
         ensures { result ≡ snapshot_line_of k self.now }
     {

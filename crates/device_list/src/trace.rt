@@ -1,11 +1,11 @@
-// What is in flight in a volume, and which events are due, in the words of the command language.
+// What is in flight in a volume, which snapshots are lost, and which events are due, in the words of the command language.
 ghost use Rattle.std.specs.Prelude.{◌≡◌, ◌++◌, ◌∷◌, [], List, OnOk, IfOk, codes, decimal};
 ghost use Rattle.std.specs.List.{flat_map};
 ghost use Rattle.layers.specs.declared.stack.Stack.{Stack as AnyStack};
 ghost use Rattle.volume.specs.Volumed.{Volumed};
 ghost use Rattle.words.specs.Texts.{texts};
 ghost use Rattle.words.specs.Words.{spaced};
-ghost use Rattle.device_list.specs.Trace.{IsTraced, copied_text, copies_text, copy_text, due_text, dues_text, flight_text, flights_text, item_of, line_of, mark_text, marks_text, name_of, named_dev, route_word, snap_text, stage_word, told_text};
+ghost use Rattle.device_list.specs.Trace.{IsTraced, copied_text, copies_text, copy_text, due_text, dues_text, flight_text, flights_text, item_of, line_of, lost_text, mark_text, marks_text, name_of, named_dev, route_word, snap_text, stage_word, told_text};
 
 use crate::origin::NamedVolume;
 use device_stacks::SnapNames;
@@ -107,10 +107,26 @@ fn add_copies(out: &mut Vec<u8>, name: &[u8], copies: &[ChunkCopy]) -> Result<()
     Ok(())
 }
 
-/// Adds the copies of a snapshot, in the order in which they began.
+/// Adds that a snapshot is lost, where it is, and whether its store is full.
+#[tactic(auto, using(crate::proofs::Lost::none_lost, crate::proofs::Lost::lost_full, crate::proofs::Lost::lost_else))]
+fn add_lost(out: &mut Vec<u8>, name: &[u8], snap: &Snapshot<Stack>) -> Result<(), AllocError>
+    ensures { OnOk result (out.new.items ≡ out.old.items ++ lost_text name.now snap.now) }
+{
+    if snap.is_live() {
+        return Ok(());
+    }
+    if snap.is_full() {
+        add_item(out, &[b"lost".as_slice(), name, b"full"])
+    } else {
+        add_item(out, &[b"lost".as_slice(), name])
+    }
+}
+
+/// Adds that a snapshot is lost, where it is, and its copies, in the order in which they began.
 fn add_snap(out: &mut Vec<u8>, name: &[u8], snap: &Snapshot<Stack>) -> Result<(), AllocError>
     ensures { OnOk result (out.new.items ≡ out.old.items ++ snap_text name.now snap.now) }
 {
+    add_lost(out, name, snap)?;
     add_marks(out, name, snap.marks())?;
     add_copies(out, name, snap.copies())
 }
@@ -331,7 +347,7 @@ fn line_of(alloc: Global, name: &Name, items: Vec<u8>) -> Result<Text, AllocErro
 }
 
 impl NamedVolume {
-    /// The line of a trace: the origin's name, the requests in flight, the copies that are not published, and all events that are
+    /// The line of a trace: the origin's name, the requests in flight, the snapshots that are lost, the copies that are not published, and all events that are
     /// due, under the words that `step` takes. No bytes where there is none of them. An error says that the allocator refused room.
     pub fn trace(&self, alloc: Global) -> Result<Text, AllocError>
         ensures { IfOk result (λ text. IsTraced text self.now) }

@@ -9,6 +9,7 @@
 mod bottom;
 mod device_names;
 mod lines;
+mod listing;
 mod sizes;
 mod snap_names;
 mod stack;
@@ -17,6 +18,7 @@ mod told;
 pub use bottom::disk_in;
 pub use device_names::{depth_in, one_name};
 pub use lines::{line_in, sectors_of};
+pub use listing::{add_device, add_stack};
 pub use sizes::{range_in, some_sectors, whole_sectors};
 pub use snap_names::SnapNames;
 pub use stack::NamedStack;

@@ -1,5 +1,5 @@
 // Stacks that nothing uses.
-ghost use Rattle.std.specs.Prelude.{◌≡◌, ◌≤◌, ◌<◌, ◌+◌, ◌*◌, ◌/◌, true, false, [], ◌∷◌, length, nat_le, is_some, Some, Ok, Err, MatchResult, IsTrue, OnOk, OnErr, IfErr, IfOk, IfSome};
+ghost use Rattle.std.specs.Prelude.{◌≡◌, ◌≤◌, ◌<◌, ◌+◌, ◌*◌, ◌/◌, ◌++◌, true, false, [], ◌∷◌, length, nat_le, is_some, Some, Ok, Err, MatchResult, IsTrue, OnOk, OnErr, IfErr, IfOk, IfSome};
 ghost use Rattle.device.specs.Disk.{disk_contents};
 ghost use Rattle.device.specs.Layers.{Dusty, is_loud};
 ghost use Rattle.big_steps.specs.Devices.{sectors_of};
@@ -8,6 +8,7 @@ ghost use Rattle.command_rules.specs.Layers.{layered, under};
 ghost use Rattle.command_rules.specs.Messages.{stack_ticked, told_free};
 ghost use Rattle.command_rules.specs.Lines.{line_in};
 ghost use Rattle.command_rules.specs.Losing.{lasting};
+ghost use Rattle.command_rules.specs.Listing.{free_items};
 ghost use Rattle.command_rules.specs.Raw.{loaded_free, raw_in};
 ghost use Rattle.command_rules.specs.Removing.{lowered_device, lowered_to};
 ghost use Rattle.layers.specs.Windows.{layers_below};
@@ -21,6 +22,7 @@ ghost use Rattle.command_rules.specs.Places.{depth_in, is_among};
 use crate::bottom::disk_in;
 use crate::device_names::{depth_in, one_name};
 use crate::lines::line_in;
+use crate::listing::add_stack;
 use crate::sizes::range_in;
 use crate::told::tell_stack;
 use device::{Block, MemDisk};
@@ -203,6 +205,14 @@ impl NamedStack {
         ensures { result ≡ line_in depth self.now.names self.now.device }
     {
         line_in(depth, &self.names, &self.stack)
+    }
+
+    /// Adds its devices to a list of devices, from the top. The one error is `NoMemory`.
+    pub fn list(&self, out: &mut Vec<u8>) -> Result<(), Refusal>
+        ensures added { OnOk result (out.new.items ≡ out.old.items ++ free_items self.now) }
+        ensures error { IfErr result (λ e. e ≡ NoMemory) }
+    {
+        add_stack(out, &self.names, &self.stack)
     }
 
     /// Writes raw sectors of the disk at a depth, which then count as flushed. In this order: `BadTable` for another

@@ -12,12 +12,13 @@ pub record Wanted : Type 0 where
   pub numbers : Bool
   pub trace : Bool
   pub explain : Bool
+  pub checkpoint : Bool
 
 abbrev pub text_of : Bor (List ℕ) → List ℕ
 text_of text = text.now
 
 abbrev pub wanted_of : Asked → Wanted
-wanted_of a = record { file = option_map text_of a.file; workers = a.workers; numbers = a.numbers; trace = a.trace; explain = a.explain }
+wanted_of a = record { file = option_map text_of a.file; workers = a.workers; numbers = a.numbers; trace = a.trace; explain = a.explain; checkpoint = a.checkpoint }
 
 -- the number of workers that a word says
 abbrev pub workers_by : List ℕ → Option ℕ
@@ -35,7 +36,7 @@ is_name (byte ∷ bytes) = not (byte == 45)
 -- a file, and so many workers
 abbrev pub file_with : List ℕ → Option ℕ → Option Wanted
 file_with file None = None
-file_with file (Some workers) = if is_name file then Some (record { file = Some file; workers = workers; numbers = false; trace = false; explain = false }) else None
+file_with file (Some workers) = if is_name file then Some (record { file = Some file; workers = workers; numbers = false; trace = false; explain = false; checkpoint = false }) else None
 
 -- what words ask for, the first of which is the program's own name
 abbrev pub file_wanted : List (List ℕ) → Option Wanted

@@ -20,6 +20,8 @@ pub struct Asked<'a> {
     pub trace: bool,
     /// Whether it is told behind each line that is refused why, and what would be right.
     pub explain: bool,
+    /// Whether the journals are folded before each line.
+    pub checkpoint: bool,
 }
 
 /// The number of workers that a word says.
@@ -80,6 +82,7 @@ pub fn file_asks<'a>(words: &'a [String]) -> Option<Asked<'a>>
         numbers: false,
         trace: false,
         explain: false,
+        checkpoint: false,
     })
 }
 
@@ -112,6 +115,10 @@ pub fn words_ask<'a>(alloc: Global, words: &'a [String]) -> Result<Asked<'a>, Er
             "Tell behind each refused line, on standard error, why it is refused and what would be right",
         )
         .action(ArgAction::SetTrue);
+    let checkpoint = Arg::new(alloc, "checkpoint")
+        .long("checkpoint")
+        .help("Make room in the journals before each line, so that none is refused for them")
+        .action(ArgAction::SetTrue);
     let command = Command::new(alloc, "dmrig")
         .version("1")
         .about("Does lines of commands on devices in memory, and prints what each answers.")
@@ -120,7 +127,8 @@ pub fn words_ask<'a>(alloc: Global, words: &'a [String]) -> Result<Asked<'a>, Er
         .arg(workers)?
         .arg(numbers)?
         .arg(trace)?
-        .arg(explain)?;
+        .arg(explain)?
+        .arg(checkpoint)?;
     let matches = command.try_get_matches_from(words)?;
     Ok(Asked {
         file: matches.get_str("FILE"),
@@ -128,6 +136,7 @@ pub fn words_ask<'a>(alloc: Global, words: &'a [String]) -> Result<Asked<'a>, Er
         numbers: matches.get_flag("numbers"),
         trace: matches.get_flag("trace"),
         explain: matches.get_flag("explain"),
+        checkpoint: matches.get_flag("checkpoint"),
     })
 }
 
@@ -242,17 +251,18 @@ mod tests {
 
     #[test]
     fn takes_each_option_alone(rt: HostRuntime) -> Result<(), Fail> {
-        for (word, numbers, trace, explain) in [
-            ("--numbers", true, false, false),
-            ("--trace", false, true, false),
-            ("--explain", false, false, true),
+        for (word, numbers, trace, explain, checkpoint) in [
+            ("--numbers", true, false, false, false),
+            ("--trace", false, true, false, false),
+            ("--explain", false, false, true, false),
+            ("--checkpoint", false, false, false, true),
         ] {
             let line = line_of(rt.alloc(), ["a.cmd", word].as_slice())?;
             match any_ask(rt.alloc(), &line) {
                 Ok(asked) => {
                     assert_eq!(rt;
-                        (asked.numbers, asked.trace, asked.explain),
-                        (numbers, trace, explain)
+                        (asked.numbers, asked.trace, asked.explain, asked.checkpoint),
+                        (numbers, trace, explain, checkpoint)
                     );
                 }
                 Err(error) => assert!(rt; false, "{error}"),

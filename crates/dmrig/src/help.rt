@@ -7,6 +7,8 @@ pub const NOTES: &str = "Commands, a line each:
   remove NAME           takes a device away
   load DISK S DATA      writes sectors of a disk that nothing uses, from sector S on
   save DISK S N         N sectors of a disk, past all layers
+  copy DISK S DISK N    N sectors of a disk, written to the same place of another, which nothing uses
+  ls                    all devices, each with its table line
   read DEV S N          N sectors of an origin or a snapshot
   write DEV S DATA      writes sectors of an origin or a snapshot
   flush DEV             makes what was written to an origin or a snapshot last

@@ -1,5 +1,5 @@
-//! The command program `dmrig [--numbers] [--trace] [--explain] [FILE [WORKERS]]`: it does the command lines of a file, or of standard
-//! input, and prints their answers. Each answer is written out before more input is waited for.
+//! The command program `dmrig [--numbers] [--trace] [--explain] [--checkpoint] [FILE [WORKERS]]`: it does the command lines of a file, or
+//! of standard input, and prints their answers. Each answer is written out before more input is waited for.
 //!
 //! It stands on `runner`, which says what is printed, and has only what concerns the process: the words of the command
 //! line, the file, standard output and the exit status (0, 1 where a line was refused, 2 where the run ended early or

@@ -26,6 +26,7 @@ fn run_either<T: AllocGlobal + Threads + Wait + Sync, R: Read, W: Write, X: Trac
     tracer: &mut X,
     numbers: bool,
     workers: u32,
+    checkpoints: bool,
 ) -> Result<Summary, RunError>
     requires some { 1 ≤ workers }
     requires few { workers ≤ 4 }
@@ -36,9 +37,9 @@ fn run_either<T: AllocGlobal + Threads + Wait + Sync, R: Read, W: Write, X: Trac
 {
     let alloc = rt.alloc();
     if numbers {
-        run_numbered(rt, alloc, reader, writer, tracer, workers)
+        run_numbered(rt, alloc, reader, writer, tracer, workers, checkpoints)
     } else {
-        run(rt, alloc, reader, writer, tracer, workers)
+        run(rt, alloc, reader, writer, tracer, workers, checkpoints)
     }
 }
 
@@ -51,12 +52,13 @@ fn printed<T: AllocGlobal + Threads + Wait + Sync, R: Read, W: Write, X: Tracer>
     tracer: &mut X,
     numbers: bool,
     workers: u32,
+    checkpoints: bool,
 ) -> io::Result<Result<Summary, RunError>>
     requires some { 1 ≤ workers }
     requires few { workers ≤ 4 }
     ensures { IsRun X.tells numbers (R.remaining reader.old) (R.remaining reader.new) (W.contents writer.old) (W.contents writer.new) tracer.old tracer.new result }
 {
-    let ran = run_either(rt, reader, writer, tracer, numbers, workers);
+    let ran = run_either(rt, reader, writer, tracer, numbers, workers, checkpoints);
     writer.flush()?;
     Ok(ran)
 }
@@ -144,6 +146,14 @@ where
             return 2;
         }
     };
-    let ran = printed(rt, &mut source, writer, told, asked.numbers, asked.workers);
+    let ran = printed(
+        rt,
+        &mut source,
+        writer,
+        told,
+        asked.numbers,
+        asked.workers,
+        asked.checkpoint,
+    );
     finished(rt, name.unwrap_or("-"), ran)
 }

@@ -140,6 +140,10 @@ pub fn form_of(words: &[&[u8]]) -> Option<&'static str> {
         Some("load DISK S DATA")
     } else if verb == b"save".as_slice() {
         Some("save DISK S N")
+    } else if verb == b"copy".as_slice() {
+        Some("copy DISK S DISK N")
+    } else if verb == b"ls".as_slice() {
+        Some("ls")
     } else if verb == b"message".as_slice() {
         Some(message_form(word_at(words, 3)))
     } else if verb == b"tick".as_slice() {

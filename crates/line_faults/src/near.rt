@@ -2,12 +2,14 @@
 ghost use Rattle.std.specs.Prelude.{◌≤◌, length};
 
 /// The commands, and the word that opens a block.
-const COMMANDS: [&str; 21] = [
+const COMMANDS: [&str; 23] = [
     "disk",
     "create",
     "remove",
     "load",
     "save",
+    "copy",
+    "ls",
     "read",
     "write",
     "flush",

@@ -82,8 +82,8 @@ fn meant_by(word: &[u8]) -> Option<&'static str> {
         Some("no device is suspended here; settle VOL does what is due, so that a volume is quiet")
     } else if word == b"reload".as_slice() {
         Some("a line stays as it is: remove NAME, and create NAME with the other")
-    } else if word == b"ls".as_slice() || word == b"info".as_slice() || word == b"deps".as_slice() {
-        Some("none lists devices; table NAME and status NAME tell of one")
+    } else if word == b"info".as_slice() || word == b"deps".as_slice() {
+        Some("ls lists the devices; table NAME and status NAME tell of one")
     } else if word == b"targets".as_slice() {
         Some("targets are snapshot-origin, snapshot, flakey, dust, error")
     } else if word == b"dmsetup".as_slice() {

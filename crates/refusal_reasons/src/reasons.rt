@@ -4,7 +4,7 @@ use crate::creating::tell_create;
 use crate::kinds::{Kind, known, use_of};
 use crate::naming::{put_for_origin, sectors_at, word_at};
 use device_list::Devices;
-use line_faults::{put_three, put_two};
+use line_faults::{put_four, put_three, put_two};
 use sector::Refusal;
 use std::alloc::Global;
 use std::io;
@@ -20,6 +20,8 @@ pub fn tell_missing<W: Write>(writer: &mut W, name: &[u8]) -> io::Result<()> {
 fn taken_by(verb: &[u8]) -> &'static [u8] {
     if verb == b"load".as_slice() || verb == b"save".as_slice() {
         b" takes a disk"
+    } else if verb == b"copy".as_slice() {
+        b" takes two disks"
     } else if verb == b"message".as_slice() {
         b" takes a dust layer"
     } else if verb == b"merge".as_slice() {
@@ -38,6 +40,14 @@ fn taken_by(verb: &[u8]) -> &'static [u8] {
     }
 }
 
+/// Whether a name is that of a disk.
+fn is_disk(held: &Devices, name: &[u8]) -> bool {
+    match known(held, name) {
+        Some(device) => device.kind == Kind::Disk,
+        None => false,
+    }
+}
+
 /// Tells that a device is of another kind than a command takes.
 fn tell_kind<W: Write>(writer: &mut W, held: &Devices, words: &[&[u8]]) -> io::Result<()> {
     let (verb, name) = (word_at(words, 0), word_at(words, 1));
@@ -46,11 +56,13 @@ fn tell_kind<W: Write>(writer: &mut W, held: &Devices, words: &[&[u8]]) -> io::R
             Some(device) if device.kind == Kind::Origin => (word_at(words, 2), 3),
             _ => (verb, 1),
         }
+    } else if verb == b"copy".as_slice() && is_disk(held, name) {
+        (verb, 3)
     } else {
         (verb, 1)
     };
     let name = word_at(words, place);
-    let takes = if place == 3 {
+    let takes = if verb == b"step".as_slice() && place == 3 {
         b" takes a snapshot of that origin".as_slice()
     } else {
         taken_by(verb)
@@ -72,6 +84,15 @@ fn tell_range<W: Write>(writer: &mut W, held: &Devices, words: &[&[u8]]) -> io::
             writer,
             word_at(words, 2),
             b" sectors: a disk has 1 to 16777216",
+        );
+    }
+    if verb == b"copy".as_slice() {
+        return put_four(
+            writer,
+            b"the sectors pass the end of ",
+            name,
+            b", or of ",
+            word_at(words, 3),
         );
     }
     let what = if verb == b"message".as_slice() {
@@ -98,6 +119,11 @@ fn tell_busy<W: Write>(writer: &mut W, held: &Devices, words: &[&[u8]]) -> io::R
     if verb == b"disk".as_slice() {
         return put_three(writer, b"the name ", name, b" is in use");
     }
+    let name = if verb == b"copy".as_slice() {
+        word_at(words, 3)
+    } else {
+        name
+    };
     match known(held, name) {
         Some(device) => put_three(
             writer,
@@ -215,6 +241,12 @@ fn tell_failure<W: Write>(
     }
 }
 
+/// Tells that a journal is full, and what makes room.
+fn tell_full<W: Write>(writer: &mut W, held: &Devices, name: &[u8]) -> io::Result<()> {
+    tell_left(writer, held, "the journal is full: ", b"checkpoint", name)?;
+    writer.write_all(b", or dmrig --checkpoint")
+}
+
 /// Tells why a line was refused that makes no device.
 fn tell_command<W: Write>(
     writer: &mut W,
@@ -239,13 +271,7 @@ fn tell_command<W: Write>(
             b"settle",
             name,
         ),
-        Refusal::JournalFull => tell_left(
-            writer,
-            held,
-            "the journal is full: ",
-            b"checkpoint",
-            name,
-        ),
+        Refusal::JournalFull => tell_full(writer, held, name),
         _ => tell_failure(writer, held, refusal, name),
     }
 }

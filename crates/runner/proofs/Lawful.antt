@@ -20,7 +20,7 @@ use Rattle.table.specs.Grammar.{times, are_features, features_among, features_in
 use Rattle.table.specs.Lawful.{is_target, is_line}
 use Rattle.command.specs.declared.grammar.Command.{Command}
 use Rattle.command.specs.declared.grammar.Command.TheVariants.{Message}
-use Rattle.command.specs.Grammar.{span_of, patch_of, alone_of, is_merge, made_line_of, disk_of, create_of, message_of, tick_of, start_of, step_of, stop_of, command_of}
+use Rattle.command.specs.Grammar.{span_of, patch_of, alone_of, is_merge, made_line_of, amount_of, place_of, disk_of, create_of, copy_of, list_of, message_of, tick_of, start_of, step_of, stop_of, command_of}
 use Rattle.command.specs.Messages.{message_in}
 use Rattle.command.specs.Events.{event_in}
 use Rattle.command.specs.Line.{is_silent, is_printable, said_of}
@@ -169,6 +169,17 @@ disk_lawful (name ∷ []) = tt
 disk_lawful (name ∷ sectors ∷ []) = after (name_of name) _ IsLawful (λ n. after (numeral_of sectors) _ IsLawful (λ s. refl))
 disk_lawful (name ∷ sectors ∷ word ∷ words) = tt
 
+copy_lawful : (words : List (List ℕ)) → IfOk (copy_of words) IsLawful
+copy_lawful [] = tt
+copy_lawful (from ∷ []) = tt
+copy_lawful (from ∷ first ∷ []) = tt
+copy_lawful (from ∷ first ∷ to ∷ words) =
+    after (place_of from first) _ IsLawful (λ p. after (name_of to) _ IsLawful (λ t. after (amount_of words) _ IsLawful (λ n. refl)))
+
+list_lawful : (words : List (List ℕ)) → IfOk (list_of words) IsLawful
+list_lawful [] = refl
+list_lawful (word ∷ words) = tt
+
 message_lawful : (words : List (List ℕ)) → IfOk (message_of words) IsLawful
 message_lawful [] = tt
 message_lawful (device ∷ []) = tt
@@ -207,6 +218,8 @@ command_lawful (verb ∷ words) =
     (either (bytes_eq verb (codes "remove")) _ _ IsLawful (λ is. after (alone_of words) _ IsLawful (λ name. refl))
     (either (bytes_eq verb (codes "load")) _ _ IsLawful (λ is. after (patch_of words) _ IsLawful (λ patch. refl))
     (either (bytes_eq verb (codes "save")) _ _ IsLawful (λ is. after (span_of words) _ IsLawful (λ span. refl))
+    (either (bytes_eq verb (codes "copy")) _ _ IsLawful (λ is. copy_lawful words)
+    (either (bytes_eq verb (codes "ls")) _ _ IsLawful (λ is. list_lawful words)
     (either (bytes_eq verb (codes "message")) _ _ IsLawful (λ is. message_lawful words)
     (either (bytes_eq verb (codes "tick")) _ _ IsLawful (λ is. tick_lawful words)
     (either (bytes_eq verb (codes "read")) _ _ IsLawful (λ is. after (span_of words) _ IsLawful (λ span. refl))
@@ -221,7 +234,7 @@ command_lawful (verb ∷ words) =
     (either (bytes_eq verb (codes "checkpoint")) _ _ IsLawful (λ is. after (alone_of words) _ IsLawful (λ name. refl))
     (either (bytes_eq verb (codes "stop")) _ _ IsLawful (λ is. stop_lawful words)
     (either (bytes_eq verb (codes "status")) _ _ IsLawful (λ is. after (alone_of words) _ IsLawful (λ name. refl))
-    (either (bytes_eq verb (codes "table")) _ _ IsLawful (λ is. after (alone_of words) _ IsLawful (λ name. refl)) tt)))))))))))))))))))
+    (either (bytes_eq verb (codes "table")) _ _ IsLawful (λ is. after (alone_of words) _ IsLawful (λ name. refl)) tt)))))))))))))))))))))
 
 -- what a line says, if it says anything
 abbrev IsSaidLawful : Option Command → Type 0

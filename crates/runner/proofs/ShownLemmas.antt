@@ -15,7 +15,7 @@ use Rattle.command_effects.specs.Arrays.{Arrays, arrays_in}
 use Rattle.command_effects.specs.Commands.{IsAnswered, IsRefused, IsShown}
 use Rattle.command_effects.specs.Well.{IsWellOf}
 use Rattle.command_effects.proofs.Layers.{ticked_shows}
-use Rattle.command_effects.proofs.Lines.{settle_line, merge_line, resume_line, finish_line, checkpoint_line, stop_line, write_line, write_starved, read_line, read_starved, flush_line, flush_starved, tell_line, load_line}
+use Rattle.command_effects.proofs.Lines.{settle_line, merge_line, resume_line, finish_line, checkpoint_line, stop_line, write_line, write_starved, read_line, read_starved, flush_line, flush_starved, tell_line, load_line, copy_line}
 use Rattle.command_effects.proofs.Devices.{disk_line, remove_line, create_line}
 use Rattle.runner.specs.Steps.{reworded, step, obeyed, answer_of}
 use Rattle.runner.specs.Output.{LineOutcome, told, outcome, outcome_of, IsPartDone, IsPartSaid, IsStarved, MayBe}
@@ -44,6 +44,8 @@ step_shown (commands.Create name line) table well = as_done (commands.Create nam
 step_shown (commands.Remove name) table well = as_done (commands.Remove name) table _ _ _ (remove_line name table well)
 step_shown (commands.Load disk first bytes) table well = let e = load_line disk first bytes table in in_both (commands.Load disk first bytes) table _ _ e (λ r. e) _
 step_shown (commands.Save disk first count) table well = in_both (commands.Save disk first count) table _ _ refl (λ r. refl) _
+step_shown (commands.Copy from first to count) table well = let e = copy_line from first to count table in in_both (commands.Copy from first to count) table _ _ e (λ r. e) _
+step_shown commands.List table well = in_both commands.List table _ _ refl (λ r. refl) _
 step_shown (commands.Message device message) table well = let e = tell_line device message table in in_both (commands.Message device message) table _ _ e (λ r. e) _
 step_shown (commands.Tick seconds) table well = ticked_shows seconds table
 step_shown (commands.Read device first count) table well = let e = read_line device first count table in in_both (commands.Read device first count) table _ _ e (λ r. e) _
@@ -75,6 +77,8 @@ starved_shown (commands.Create name line) table new e wanting well same = ap arr
 starved_shown (commands.Remove name) table new e wanting well same = ap arrays_in same
 starved_shown (commands.Load disk first bytes) table new e wanting well same = ap arrays_in same
 starved_shown (commands.Save disk first count) table new e wanting well same = ap arrays_in same
+starved_shown (commands.Copy from first to count) table new e wanting well same = ap arrays_in same
+starved_shown commands.List table new e wanting well same = ap arrays_in same
 starved_shown (commands.Message device message) table new e wanting well same = ap arrays_in same
 starved_shown (commands.Tick seconds) table new e wanting well same = ap arrays_in same
 starved_shown (commands.StartRead device first count) table new e wanting well same = ap arrays_in same
@@ -132,6 +136,8 @@ unread (commands.Create name line) table shows = refl
 unread (commands.Remove name) table shows = refl
 unread (commands.Load disk first bytes) table shows = refl
 unread (commands.Save disk first count) table shows = refl
+unread (commands.Copy from first to count) table shows = refl
+unread commands.List table shows = refl
 unread (commands.Message device message) table shows = refl
 unread (commands.Tick seconds) table shows = refl
 unread (commands.StartRead device first count) table shows = refl

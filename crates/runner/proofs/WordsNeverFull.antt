@@ -5,7 +5,7 @@ use Rattle.words.specs.Names.{name_of}
 use Rattle.table.specs.Grammar.{features_in, seconds_of, origin_in, overflow_of, store_in, flakey_in, dust_in, error_in, target_in, line_in}
 use Rattle.command.specs.Messages.{message_in}
 use Rattle.command.specs.Events.{event_of, merge_event_of, event_in}
-use Rattle.command.specs.Grammar.{span_of, patch_of, alone_of, disk_of, create_of, message_of, tick_of, start_of, step_of, stop_of, volume_command_of, command_of}
+use Rattle.command.specs.Grammar.{span_of, patch_of, alone_of, disk_of, create_of, copy_of, list_of, message_of, tick_of, start_of, step_of, stop_of, volume_command_of, command_of}
 use Rattle.command.specs.Line.{said_of}
 use Rattle.device_commands.proofs.NeverFull.{IsNeverFull, never}
 
@@ -80,6 +80,15 @@ create_never : (words : List (List ℕ)) → IsNeverFull (create_of words)
 create_never (name ∷ words) = search (never, name_never, line_never) depth 12
 create_never words = search never
 
+copy_never : (words : List (List ℕ)) → IsNeverFull (copy_of words)
+copy_never (from ∷ first ∷ to ∷ count ∷ []) = search (never, name_never, numeral_never) depth 16
+copy_never (from ∷ first ∷ to ∷ words) = search (never, name_never, numeral_never) depth 16
+copy_never words = search never
+
+list_never : (words : List (List ℕ)) → IsNeverFull (list_of words)
+list_never [] = search never
+list_never words = search never
+
 message_in_never : (words : List (List ℕ)) → IsNeverFull (message_in words)
 message_in_never (kind ∷ []) = search never depth 12
 message_in_never (kind ∷ block ∷ []) = search (never, numeral_never) depth 12
@@ -124,7 +133,7 @@ volume_command_never verb words = search (never, start_never, step_never, alone_
 
 command_never : (words : List (List ℕ)) → IsNeverFull (command_of words)
 command_never [] = search never
-command_never (verb ∷ words) = search (never, disk_never, create_never, alone_never, patch_never, span_never, message_never, tick_never, volume_command_never) depth 20
+command_never (verb ∷ words) = search (never, disk_never, create_never, alone_never, patch_never, span_never, copy_never, list_never, message_never, tick_never, volume_command_never) depth 20
 
 pub said_never : (max : ℕ) (line : List ℕ) → IsNeverFull (said_of max line)
 unfolding said_of

@@ -16,11 +16,12 @@ use Rattle.command_rules.specs.Changes.{Did, refused, kept, changed}
 use Rattle.command_rules.specs.Disks.{make}
 use Rattle.command_rules.specs.Creating.{create}
 use Rattle.command_rules.specs.Removing.{take_away}
-use Rattle.command_rules.specs.Raw.{load, save}
+use Rattle.command_rules.specs.Raw.{copied, load, save}
 use Rattle.command_rules.specs.Messages.{tell, ticked}
 use Rattle.command_rules.specs.Sectors.{flush, read, write}
 use Rattle.command_rules.specs.Status.{status_text}
 use Rattle.command_rules.specs.Lines.{line_text}
+use Rattle.command_rules.specs.Listing.{listed}
 use Rattle.command_rules.specs.Events.{settle, step_event}
 use Rattle.command_rules.specs.Merging.{merge_begun, merge_resumed, merge_finished}
 use Rattle.command_rules.specs.Stopping.{volume_stopped}
@@ -49,6 +50,8 @@ step (commands.Create name line) table = done_as (create name line table)
 step (commands.Remove name) table = done_as (changed table (take_away name table))
 step (commands.Load disk first bytes) table = done_as (changed table (load disk first bytes table))
 step (commands.Save disk first count) table = told_as Data (seen table (save disk first count table))
+step (commands.Copy from first to count) table = done_as (changed table (copied from first to count table))
+step commands.List table = told_as Said (seen table (Ok (listed table)))
 step (commands.Message device message) table = told_as reply_to (kept table (tell device message table))
 step (commands.Tick seconds) table = record { answer = Ok Done; left = ticked seconds table }
 step (commands.Read device first count) table = told_as Data (read device first count table)

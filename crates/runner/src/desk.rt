@@ -25,6 +25,7 @@ use crate::error::RunError;
 use crate::step::answer;
 use crate::summary::Summary;
 use command::CommandReply;
+use device_commands::checkpoint_all;
 use device_list::Devices;
 use plain_machine::Replied;
 use sector::Refusal;
@@ -113,6 +114,13 @@ impl Desk {
         ensures { result ≡ self.now.summary }
     {
         self.summary
+    }
+
+    /// Folds the journal of each volume, so that all have room again; no device is changed.
+    pub(crate) fn fold_journals(&mut self)
+        ensures { self.new ≡ self.old }
+    {
+        checkpoint_all(&mut self.held);
     }
 
     /// Does what a line says, the line given without its end, and prints the lines of the requests that ended in it, and then

@@ -34,6 +34,7 @@ pub fn run_numbered<T: Threads + Wait + Sync, R: Read, W: Write, X: Tracer>(
     writer: &mut W,
     tracer: &mut X,
     workers: u32,
+    checkpoints: bool,
 ) -> Result<Summary, RunError>
     requires some { 1 ≤ workers }
     requires few { workers ≤ 4 }
@@ -57,7 +58,7 @@ pub fn run_numbered<T: Threads + Wait + Sync, R: Read, W: Write, X: Tracer>(
     ensures cause { IfErr result (IsEarly (R.remaining reader.old) (R.remaining reader.new) (W.contents writer.old) (W.contents writer.new)) }
 {
     let mut buffer = LineBuffer::new(alloc, LINE_LIMIT).map_err(|_| RunError::Memory)?;
-    let mut session = Session::new(alloc, workers)?;
+    let mut session = Session::new(alloc, workers, checkpoints)?;
     let mut page = Vec::new(alloc);
     for lines in 0..u64::MAX {
         let number = lines + 1;

@@ -32,6 +32,8 @@ pub struct Session {
     desk: Desk,
     block: Option<LineBlock>,
     workers: u32,
+    /// Whether all journals are folded before each line.
+    checkpoints: bool,
 }
 
 impl Model for Session {
@@ -46,9 +48,10 @@ impl Model for Session {
 }
 
 impl Session {
-    /// No devices, room for all that there may be, and no block. A block is run with so many copy workers. The one error is
+    /// No devices, room for all that there may be, and no block. A block is run with so many copy workers. With `checkpoints` the
+    /// journal of each volume is folded before each line. The one error is
     /// `RunError::Memory`.
-    pub fn new(alloc: Global, workers: u32) -> Result<Session, RunError>
+    pub fn new(alloc: Global, workers: u32, checkpoints: bool) -> Result<Session, RunError>
         requires some { 1 ≤ workers }
         requires few { workers ≤ 4 }
         ensures { MatchResult result (λ session. session ≡ begun) IsMemory }
@@ -58,6 +61,7 @@ impl Session {
             desk: Desk::new(alloc)?,
             block: None,
             workers,
+            checkpoints,
         })
     }
 
@@ -87,12 +91,21 @@ impl Session {
         self.block.is_some()
     }
 
-    /// The lines of a trace of its volumes, one for each in which something is in flight or due. An error says that the allocator
+    /// The lines of a trace of its volumes, one for each in which something is in flight, lost or due. An error says that the allocator
     /// refused room.
     pub fn traced(&self) -> Result<Vec<u8>, AllocError>
         ensures { IfOk result (λ page. AreTraced page.items self.now.desk.table.volumes) }
     {
         traced(self.alloc, &self.desk.held.volumes)
+    }
+
+    /// Folds the journal of each volume where that is asked for. No device is changed, and nothing is printed.
+    fn make_room(&mut self)
+        ensures { self.new ≡ self.old }
+    {
+        if self.checkpoints {
+            self.desk.fold_journals();
+        }
     }
 
     /// Opens a block by a line that begins with the word `par`, or answers why it opens none.
@@ -143,8 +156,24 @@ impl Session {
     /// opens one, or is refused, and each other line is the desk's. Where one is open, each line is one of the block's, which
     /// prints nothing, until one that says `end`: then the block is run. The one error is `RunError::Write`, the writer's own;
     /// then the line was done all the same, and part of what it prints may be printed.
-    #[tactic(auto, using(crate::proofs::SessionLemmas::none_open))]
     pub fn line<R: Threads + Wait + Sync, W: Write>(
+        &mut self,
+        rt: &R,
+        line: &[u8],
+        writer: &mut W,
+    ) -> Result<(), RunError>
+        ensures done { (done : LineOutcome) × IsSessionDone line.now self.old self.new done × (self.new.desk ≡ followed self.old.desk done)
+            × OnOk result (Appends (W.contents writer.old) (W.contents writer.new) (printed done.replies)) }
+        ensures sound { is_sound self.old.desk.table ≡ true → is_sound_line line.now ≡ true → is_sound self.new.desk.table ≡ true }
+        ensures error { IfErr result IsWriters }
+    {
+        self.make_room();
+        self.line_with_room(rt, line, writer)
+    }
+
+    /// Does what a line says, whose journals have room.
+    #[tactic(auto, using(crate::proofs::SessionLemmas::none_open))]
+    fn line_with_room<R: Threads + Wait + Sync, W: Write>(
         &mut self,
         rt: &R,
         line: &[u8],
@@ -166,6 +195,21 @@ impl Session {
 
     /// Runs the block that is open, if one is, as its end would. The one error is `RunError::Write`, the writer's own.
     pub fn end<R: Threads + Wait + Sync, W: Write>(
+        &mut self,
+        rt: &R,
+        writer: &mut W,
+    ) -> Result<(), RunError>
+        ensures done { (done : LineOutcome) × IsEndedBy self.old.block self.old.desk.table done × (self.new.desk ≡ followed self.old.desk done)
+            × OnOk result (Appends (W.contents writer.old) (W.contents writer.new) (printed done.replies)) }
+        ensures closed { self.new.block ≡ None }
+        ensures error { IfErr result IsWriters }
+    {
+        self.make_room();
+        self.end_with_room(rt, writer)
+    }
+
+    /// Runs the block that is open, if one is, whose journals have room.
+    fn end_with_room<R: Threads + Wait + Sync, W: Write>(
         &mut self,
         rt: &R,
         writer: &mut W,

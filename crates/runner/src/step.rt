@@ -27,14 +27,15 @@ ghost use Rattle.runner.specs.Wants.{enters, enters_line};
 use crate::events::step_volume;
 use crate::room::{ends_writes, take_back};
 use command::Command::{
-    Checkpoint, Create, Disk, Finish, Flush, Load, Merge, Read, Remove, Resume, Save, Settle,
-    StartRead, StartWrite, Status, Step, Stop, StopLosing, Table, Tick, Write,
+    Checkpoint, Copy, Create, Disk, Finish, Flush, List, Load, Merge, Read, Remove, Resume, Save,
+    Settle, StartRead, StartWrite, Status, Step, Stop, StopLosing, Table, Tick, Write,
 };
 use command::{Command, CommandReply, LINE_LIMIT, said};
 use device_commands::{
-    checkpoint_device, create_device, finish_device, flush_device, line_text, load_disk, make_disk,
-    merge_device, read_device, remove_device, resume_device, save_disk, settle_device, start_read,
-    start_write, status_text, stop_device, stop_losing, tell, tick, write_device,
+    checkpoint_device, copy_disk, create_device, finish_device, flush_device, line_text, list_text,
+    load_disk, make_disk, merge_device, read_device, remove_device, resume_device, save_disk,
+    settle_device, start_read, start_write, status_text, stop_device, stop_losing, tell, tick,
+    write_device,
 };
 use device_list::Devices;
 use layers::{Answer, Message};
@@ -130,6 +131,12 @@ fn obey_any(
         Remove { name } => did(remove_device(held, &name)),
         Load { disk, first, bytes } => did(load_disk(held, &disk, first, &bytes)),
         Save { disk, first, count } => given(save_disk(alloc, held, &disk, first, count)),
+        Copy {
+            from,
+            first,
+            to,
+            count,
+        } => did(copy_disk(alloc, held, &from, first, &to, count)),
         Command::Message { name, message } => tell_device(alloc, held, &name, &message),
         Tick { seconds } => did(Ok(tick(held, seconds))),
         Read { name, first, count } => given(read_device(alloc, held, &name, first, count, ended)),
@@ -151,6 +158,7 @@ fn obey_any(
         StopLosing { volume } => did(stop_losing(held, &volume)),
         Status { name } => text(status_text(alloc, held, &name)),
         Table { name } => text(line_text(alloc, held, &name)),
+        List => text(list_text(alloc, held)),
     }
 }
 

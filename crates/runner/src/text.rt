@@ -29,6 +29,10 @@ use words::LineBuffer;
 /// Each time before the reader is asked for more, the writer is flushed (`next_line`), so that a program, or a person, that waits for an
 /// answer before it writes its next line is answered. What was printed last is flushed by the caller.
 ///
+/// With `checkpoints` the journal of each volume is folded before each line and each block, as `checkpoint` does, and nothing is
+/// printed for it: then no line outside of a block finds its journal full. As a checkpoint changes no device, what is printed is what
+/// the same contract says.
+///
 /// Behind each line the tracer is told of it, by its number, counted from 1; of the text's end it is not.
 pub fn run<T: Threads + Wait + Sync, R: Read, W: Write, X: Tracer>(
     rt: &T,
@@ -37,6 +41,7 @@ pub fn run<T: Threads + Wait + Sync, R: Read, W: Write, X: Tracer>(
     writer: &mut W,
     tracer: &mut X,
     workers: u32,
+    checkpoints: bool,
 ) -> Result<Summary, RunError>
     requires some { 1 ≤ workers }
     requires few { workers ≤ 4 }
@@ -74,7 +79,7 @@ pub fn run<T: Threads + Wait + Sync, R: Read, W: Write, X: Tracer>(
     ensures cause { IfErr result (IsEarly (R.remaining reader.old) (R.remaining reader.new) (W.contents writer.old) (W.contents writer.new)) }
 {
     let mut buffer = LineBuffer::new(alloc, LINE_LIMIT).map_err(|_| RunError::Memory)?;
-    let mut session = Session::new(alloc, workers)?;
+    let mut session = Session::new(alloc, workers, checkpoints)?;
     for lines in 0..u64::MAX {
         if !next_line(reader, writer, &mut buffer)? {
             session.end(rt, writer)?;

@@ -5,7 +5,7 @@ ghost use Rattle.runner.specs.Traced.{AreTraced};
 use device_list::NamedVolume;
 use std::alloc::{AllocError, Global};
 
-/// The lines of a trace, one for each volume in which something is in flight or due. An error says that the allocator refused
+/// The lines of a trace, one for each volume in which something is in flight, lost or due. An error says that the allocator refused
 /// room.
 pub fn traced(alloc: Global, volumes: &[NamedVolume]) -> Result<Vec<u8>, AllocError>
     ensures { IfOk result (λ page. AreTraced page.items volumes.now) }

@@ -41,7 +41,15 @@ fn run_all<T: Threads + Wait + Sync, R: Read + Drop>(
 {
     let mut reader = BufReader::new(alloc, reader)?;
     let mut printed = Vec::new(alloc);
-    let ran = run(rt, alloc, &mut reader, &mut printed, &mut Untraced, workers);
+    let ran = run(
+        rt,
+        alloc,
+        &mut reader,
+        &mut printed,
+        &mut Untraced,
+        workers,
+        false,
+    );
     let status = exit_status(&ran);
     Ok(Ended { printed, status })
 }

@@ -35,7 +35,15 @@ fn a_text_cut_at_any_byte_does_its_whole_lines(rt: HostRuntime) -> Result<(), Fa
         for byte in line.bytes() {
             let mut reader = text.as_slice();
             let mut out = Vec::new(rt.alloc());
-            run(&rt, rt.alloc(), &mut reader, &mut out, &mut Untraced, 1)?;
+            run(
+                &rt,
+                rt.alloc(),
+                &mut reader,
+                &mut out,
+                &mut Untraced,
+                1,
+                false,
+            )?;
             assert!(rt;
                 is_front(out.as_slice(), want.as_slice()),
                 "cut at {} bytes",

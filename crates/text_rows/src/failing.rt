@@ -37,7 +37,15 @@ fn ends_where_the_reader_fails_and_not_as_at_the_end(rt: HostRuntime) -> Result<
             left,
         };
         let mut out = Vec::new(rt.alloc());
-        let ran = run(&rt, rt.alloc(), &mut reader, &mut out, &mut Untraced, 1);
+        let ran = run(
+            &rt,
+            rt.alloc(),
+            &mut reader,
+            &mut out,
+            &mut Untraced,
+            1,
+            false,
+        );
         assert!(rt;
             matches!(&ran, Err(RunError::Read(_))),
             "after {left} bytes"
@@ -62,7 +70,7 @@ fn ends_in_each_room(
         let mut out = [0u8; 64];
         let ran = {
             let mut writer = &mut out[..room];
-            run(rt, alloc, &mut reader, &mut writer, &mut Untraced, 1)
+            run(rt, alloc, &mut reader, &mut writer, &mut Untraced, 1, false)
         };
         assert!(rt; matches!(&ran, Err(RunError::Write(_))), "in {room} bytes");
         assert_eq!(rt; exit_status(&ran), 2);
@@ -126,7 +134,15 @@ fn counts_what_was_printed(rt: HostRuntime) -> Result<(), Fail> {
     ] {
         let mut reader = text.as_bytes();
         let mut out = Vec::new(rt.alloc());
-        let summary = run(&rt, rt.alloc(), &mut reader, &mut out, &mut Untraced, 4)?;
+        let summary = run(
+            &rt,
+            rt.alloc(),
+            &mut reader,
+            &mut out,
+            &mut Untraced,
+            4,
+            false,
+        )?;
         assert_eq!(rt; (summary.lines, summary.refused), (lines, refused));
         assert_eq!(rt; (summary.no_memory, summary.journal_full), (0, 0));
     }

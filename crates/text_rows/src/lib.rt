@@ -1,11 +1,13 @@
 //! The command program where a file of commands can't show it: readers and writers that fail, what is said of that, what was written
-//! out by the time that more is read, the numbers of lines, the trace behind them, why lines are refused, the counts of a summary, and a
-//! text that is cut at any byte.
+//! out by the time that more is read, the numbers of lines, the trace behind them, why lines are refused, journals that are folded, the
+//! counts of a summary, and a text that is cut at any byte.
 //!
 //! It stands on `runner` and `refusal_reasons`, and has tests only. Whole texts of commands with the answers that are wanted for them are
 //! the files of `stored_rows`.
 #![tactic(auto)]
 
+#[cfg(test)]
+mod checkpointed;
 #[cfg(test)]
 mod cut;
 #[cfg(test)]

@@ -75,7 +75,15 @@ fn writes_each_answer_out_before_it_asks_for_more(rt: HostRuntime) {
         out: Vec::new(rt.alloc()),
         heard: &heard,
     };
-    let ran = run(&rt, rt.alloc(), &mut reader, &mut writer, &mut Untraced, 1);
+    let ran = run(
+        &rt,
+        rt.alloc(),
+        &mut reader,
+        &mut writer,
+        &mut Untraced,
+        1,
+        false,
+    );
     assert_eq!(rt; exit_status(&ran), 1);
     assert_eq!(rt; missed.get(), 0);
     let want = b"ok\nok 512*00\nerr 2 OutOfRange\nok 512*00\n";
@@ -103,7 +111,15 @@ fn writes_each_numbered_answer_out_before_it_asks_for_more(rt: HostRuntime) {
         out: Vec::new(rt.alloc()),
         heard: &heard,
     };
-    let ran = run_numbered(&rt, rt.alloc(), &mut reader, &mut writer, &mut Untraced, 1);
+    let ran = run_numbered(
+        &rt,
+        rt.alloc(),
+        &mut reader,
+        &mut writer,
+        &mut Untraced,
+        1,
+        false,
+    );
     assert_eq!(rt; exit_status(&ran), 1);
     assert_eq!(rt; missed.get(), 0);
     let want = b"1 ok\n3 err 2 OutOfRange\n4 ok 512*00\n";
@@ -129,7 +145,15 @@ const TEXT: &str = "\
 fn numbers_lines_from_one_comments_and_empty_lines_too(rt: HostRuntime) -> Result<(), Fail> {
     let mut reader = TEXT.as_bytes();
     let mut out = Vec::new(rt.alloc());
-    let summary = run_numbered(&rt, rt.alloc(), &mut reader, &mut out, &mut Untraced, 2)?;
+    let summary = run_numbered(
+        &rt,
+        rt.alloc(),
+        &mut reader,
+        &mut out,
+        &mut Untraced,
+        2,
+        false,
+    )?;
     let want =
         b"2 ok\n4 ok\n5 ok 1\n6 reply 1 512*00\n6 ok\n10 1 ok\n10 1 ok 512*aa\n10 ok\n13 err 10 BadTable\n";
     assert_eq!(rt; out.as_slice(), want.as_slice());
@@ -154,9 +178,25 @@ impl Write for Torn {
 #[test]
 fn ends_where_an_answer_cannot_be_written_out(rt: HostRuntime) {
     let mut reader = TEXT.as_bytes();
-    let ran = run(&rt, rt.alloc(), &mut reader, &mut Torn, &mut Untraced, 1);
+    let ran = run(
+        &rt,
+        rt.alloc(),
+        &mut reader,
+        &mut Torn,
+        &mut Untraced,
+        1,
+        false,
+    );
     assert!(rt; matches!(&ran, Err(RunError::Write(_))));
-    let ran = run_numbered(&rt, rt.alloc(), &mut reader, &mut Torn, &mut Untraced, 1);
+    let ran = run_numbered(
+        &rt,
+        rt.alloc(),
+        &mut reader,
+        &mut Torn,
+        &mut Untraced,
+        1,
+        false,
+    );
     assert!(rt; matches!(&ran, Err(RunError::Write(_))));
     assert_eq!(rt; exit_status(&ran), 2);
 }

@@ -54,6 +54,7 @@ fn tells_what_is_in_flight_and_due_behind_each_line(rt: HostRuntime) -> Result<(
         &mut plain,
         &mut Untraced,
         1,
+        false,
     )?;
     let summary = run(
         &rt,
@@ -62,6 +63,7 @@ fn tells_what_is_in_flight_and_due_behind_each_line(rt: HostRuntime) -> Result<(
         &mut out,
         &mut trace,
         1,
+        false,
     )?;
     assert_eq!(rt; trace.writer.as_slice(), TRACE.as_bytes());
     assert_eq!(rt; out.as_slice(), plain.as_slice());
@@ -81,6 +83,7 @@ fn tells_the_same_beside_numbered_answers(rt: HostRuntime) -> Result<(), Fail> {
         &mut plain,
         &mut Untraced,
         1,
+        false,
     )?;
     run_numbered(
         &rt,
@@ -89,9 +92,49 @@ fn tells_the_same_beside_numbered_answers(rt: HostRuntime) -> Result<(), Fail> {
         &mut out,
         &mut trace,
         1,
+        false,
     )?;
     assert_eq!(rt; trace.writer.as_slice(), TRACE.as_bytes());
     assert_eq!(rt; out.as_slice(), plain.as_slice());
+    Ok(())
+}
+
+/// A store that fills up, and then one whose device fails.
+const LOST: &str = "\
+    disk base 8\n\
+    disk cow 3\n\
+    create vol 0 8 snapshot-origin base\n\
+    create snap 0 8 snapshot base cow P 1\n\
+    write vol 0 512*aa\n\
+    write vol 1 512*bb\n\
+    status vol\n\
+    remove snap\n\
+    disk more 64\n\
+    create fl 0 64 flakey more 0 1 1 1 error_writes\n\
+    create snap 0 8 snapshot base fl P 1\n\
+    tick 1\n\
+    write vol 2 512*cc\n";
+
+/// What is told behind these lines: the first snapshot lacks room for the second chunk, the other has some.
+const LOST_TRACE: &str = "\
+    6 vol; lost snap full\n\
+    7 vol; lost snap full\n\
+    13 vol; lost snap\n";
+
+#[test]
+fn tells_which_snapshots_are_lost(rt: HostRuntime) -> Result<(), Fail> {
+    let mut out = Vec::new(rt.alloc());
+    let mut trace = TraceTo::new(Vec::new(rt.alloc()));
+    run(
+        &rt,
+        rt.alloc(),
+        &mut LOST.as_bytes(),
+        &mut out,
+        &mut trace,
+        1,
+        false,
+    )?;
+    assert_eq!(rt; trace.writer.as_slice(), LOST_TRACE.as_bytes());
     Ok(())
 }
 
@@ -120,6 +163,7 @@ fn goes_on_where_nothing_can_be_told(rt: HostRuntime) -> Result<(), Fail> {
         &mut plain,
         &mut Untraced,
         1,
+        false,
     )?;
     let ran = run(
         &rt,
@@ -128,6 +172,7 @@ fn goes_on_where_nothing_can_be_told(rt: HostRuntime) -> Result<(), Fail> {
         &mut out,
         &mut TraceTo::new(Deaf),
         1,
+        false,
     );
     assert_eq!(rt; exit_status(&ran), 0);
     assert_eq!(rt; out.as_slice(), plain.as_slice());

@@ -31,7 +31,7 @@ use Rattle.sector.specs.declared.refusal.Refusal.TheVariants.{JournalFull}
 use Rattle.device_commands.specs.Asked.{IsAskedMuch}
 use Rattle.runner.specs.Full.{entered_by}
 use Rattle.device_commands.proofs.NeverFull.{answer_never}
-use Rattle.device_commands.proofs.RulesNeverFull.{changes_never, checkpointed_never, gives_never, line_text_never, load_never, make_never, merge_resumed_never, origin_by_never, save_never, stops_never, tell_never, volume_stopped_never}
+use Rattle.device_commands.proofs.RulesNeverFull.{changes_never, checkpointed_never, copied_never, gives_never, line_text_never, load_never, make_never, merge_resumed_never, origin_by_never, save_never, stops_never, tell_never, volume_stopped_never}
 use Rattle.runner.proofs.FullLemmas.{data_other, done_other, number_other, said_other, settled_never, stepped_never, told_never, worded_full, worded_never}
 use Rattle.runner.proofs.step.obey_any.Goals as goal
 
@@ -313,6 +313,11 @@ returns-in-Save-clause-full c =
     let P : Command → Type 0 = λ command. told (reworded Some c.given.result) ≡ Refused JournalFull ∷ [] → IsAskedMuch (entered_by command) (table_of c.args.held.now) (table_of c.args.held.now) in
     subst P (sym c.in-Save.is) (worded_never Data c.save_disk.result c.given.result data_other (gives_never c.save_disk.result _ c.save_disk.ensures (save_never c.in-Save.disk c.in-Save.first c.in-Save.count (table_of c.args.held.now))) c.given.ensures)
 
+pub returns-in-Copy-clause-full : goal.returns-in-Copy-clause-full
+returns-in-Copy-clause-full c =
+    let P : Command → Type 0 = λ command. told (reworded Some c.did-in-Copy.result) ≡ Refused JournalFull ∷ [] → IsAskedMuch (entered_by command) (table_of c.args.held.now) (table_of c.copy_disk.new.held) in
+    subst P (sym c.in-Copy.is) (worded_never (λ _. Done) c.copy_disk.result c.did-in-Copy.result done_other (changes_never c.copy_disk.result (table_of c.args.held.now) (table_of c.copy_disk.new.held) _ c.copy_disk.ensures.done (copied_never c.in-Copy.from c.in-Copy.first c.in-Copy.to c.in-Copy.count (table_of c.args.held.now))) c.did-in-Copy.ensures)
+
 pub returns-in-Message-clause-full : goal.returns-in-Message-clause-full
 returns-in-Message-clause-full c =
     let P : Command → Type 0 = λ command. told (reworded Some c.tell_device.result) ≡ Refused JournalFull ∷ [] → IsAskedMuch (entered_by command) (table_of c.args.held.now) (table_of c.tell_device.new.held) in
@@ -362,3 +367,8 @@ pub returns-in-Tick-clause-full : goal.returns-in-Tick-clause-full
 returns-in-Tick-clause-full c =
     let P : Command → Type 0 = λ command. told (reworded Some c.did-in-Tick.result) ≡ Refused JournalFull ∷ [] → IsAskedMuch (entered_by command) (table_of c.args.held.now) (table_of c.tick.new.held) in
     subst P (sym c.in-Tick.is) (worded_never (λ _. Done) (Ok (tt {0})) c.did-in-Tick.result done_other answer_never c.did-in-Tick.ensures)
+
+pub returns-in-List-clause-full : goal.returns-in-List-clause-full
+returns-in-List-clause-full c =
+    let P : Command → Type 0 = λ command. told (reworded Some c.text-in-List.result) ≡ Refused JournalFull ∷ [] → IsAskedMuch (entered_by command) (table_of c.args.held.now) (table_of c.args.held.now) in
+    subst P (sym c.in-List.is) (worded_never Said c.list_text.result c.text-in-List.result said_other (gives_never c.list_text.result _ c.list_text.ensures answer_never) c.text-in-List.ensures)

@@ -1,10 +1,13 @@
--- No block is open.
-use Rattle.std.proofs.Common.{rules, ◌≡◌, None, ap, sym, ◌∙◌}
-use Rattle.runner.specs.Sessions.{Sitting}
-use Rattle.runner.proofs.SessionLemmas.{none_ended}
+-- Journals that are folded first change nothing.
+use Rattle.std.proofs.Common.{◌≡◌, subst}
+use Rattle.std.specs.Prelude.{OnOk}
+use Rattle.std.specs.Io.KnownBytes.{Appends}
+use Rattle.runner.specs.Output.{LineOutcome, followed, printed}
+use Rattle.runner.specs.Sessions.{IsEndedBy, Sitting}
 use Rattle.runner.proofs.session.Session.end.Goals as goal
 
-pub returns-in-None-clause-done : goal.returns-in-None-clause-done
-returns-in-None-clause-done g c =
-    let none : c.self.inside.block ≡ None = search rules in
-    none_ended c.args.self.now c.self.inside.desk (g.W.Write.contents c.args.writer.now) (ap (λ (s : Sitting). s.desk) c.self.view_is) (sym (ap (λ (s : Sitting). s.block) c.self.view_is) ∙ none)
+pub returns-clause-done : goal.returns-clause-done
+returns-clause-done g c =
+    let P : Sitting → Type 0 = λ s. (done : LineOutcome) × IsEndedBy s.block s.desk.table done × (c.end_with_room.new.self.desk ≡ followed s.desk done)
+    × OnOk c.end_with_room.result (Appends (g.W.Write.contents c.args.writer.now) (g.W.Write.contents c.end_with_room.new.writer) (printed done.replies)) in
+    subst P c.make_room.ensures c.end_with_room.ensures.done
