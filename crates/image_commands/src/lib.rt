@@ -24,6 +24,5 @@ mod salvaging;
 mod seaming;
 mod serving;
 mod storing;
-mod topics;
 
 pub use running::{answer, run};

@@ -11,9 +11,11 @@ mod helping;
 mod options;
 mod over;
 mod telling;
+mod topics;
 mod wrong;
 
 pub use asked::{Asked, Form, words_ask};
 pub use help::{HELP, VERSION};
 pub use telling::{Telling, words_tell};
+pub use topics::topic;
 pub use wrong::Wrong;

@@ -1,6 +1,6 @@
 // What is said of one command.
 
-use image_words::HELP;
+use crate::help::HELP;
 
 const SHOW: &[u8] = b"usage: lochknife show COW [--json | --human] [-q | --progress]
 
