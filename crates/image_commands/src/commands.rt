@@ -8,6 +8,7 @@ use cow_answers::{
 };
 use cow_image::{MAX_IMAGE, Reason, Told, read_slots};
 use cow_salvage::read_used;
+use image_answers::told_human;
 use image_words::{Form, Telling};
 use opened_files::{Input, Inputs, Trouble, held, of_input, size_of};
 use std::alloc::AllocError;
@@ -40,8 +41,7 @@ pub fn seen_alone<'a>(
     cow: &'a str,
     telling: Telling,
 ) -> Result<(Input<'a>, Seen), Trouble<'a>> {
-    let mut input = Input::open(rt, cow)?;
-    input.tell(rt, telling);
+    let mut input = Input::open(rt, cow, telling)?;
     let seen = seen_in(rt, &mut input, u64::MAX)?;
     Ok((input, seen))
 }
@@ -58,28 +58,32 @@ pub fn put_text<'a, W: Write>(
     Ok(is_good(&seen.told))
 }
 
-/// Prints what a store holds, for an origin of any size.
+/// What is printed of a store that is good.
+#[derive(Clone, Copy, PartialEq, Eq)]
+pub enum Part {
+    /// Its numbers.
+    Numbers(Form),
+    /// Some of them in units for a reader.
+    Units,
+    /// Its pairs in runs.
+    Runs(Form),
+}
+
+/// Prints a part of what a store holds, for an origin of any size, or why it is refused.
 pub fn show<'a, W: Write>(
     rt: &'a HostRuntime,
     cow: &'a str,
-    form: Form,
+    part: Part,
     telling: Telling,
     output: &mut W,
 ) -> Result<bool, Trouble<'a>> {
     let (_input, seen) = seen_alone(rt, cow, telling)?;
-    put_text(cow, shown(rt.alloc(), &seen, form), &seen, output)
-}
-
-/// Prints the pairs of a store in runs, or why it is refused.
-pub fn map<'a, W: Write>(
-    rt: &'a HostRuntime,
-    cow: &'a str,
-    form: Form,
-    telling: Telling,
-    output: &mut W,
-) -> Result<bool, Trouble<'a>> {
-    let (_input, seen) = seen_alone(rt, cow, telling)?;
-    put_text(cow, mapped(rt.alloc(), &seen, form), &seen, output)
+    let text = match part {
+        Part::Numbers(form) => shown(rt.alloc(), &seen, form),
+        Part::Units => told_human(rt.alloc(), &seen),
+        Part::Runs(form) => mapped(rt.alloc(), &seen, form),
+    };
+    put_text(cow, text, &seen, output)
 }
 
 /// Prints the slots of a store up to the first that is empty, whether it is good or not, and why it is refused, if it is. Of
@@ -111,8 +115,7 @@ pub fn check<'a, W: Write>(
     telling: Telling,
     output: &mut W,
 ) -> Result<bool, Trouble<'a>> {
-    let mut inputs = Inputs::open(rt, origin, cow)?;
-    inputs.tell(rt, telling);
+    let mut inputs = Inputs::open(rt, origin, cow, telling)?;
     let (size, seen) = seen_both(rt, &mut inputs)?;
     let mut text = held(cow, shown(rt.alloc(), &seen, form))?;
     match seen.told {

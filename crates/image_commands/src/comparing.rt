@@ -17,10 +17,8 @@ pub fn compare<'a, W: Write>(
     telling: Telling,
     output: &mut W,
 ) -> Result<bool, Trouble<'a>> {
-    let mut first = Input::open(rt, one)?;
-    let mut second = Input::open(rt, other)?;
-    first.tell(rt, telling);
-    second.tell(rt, telling);
+    let mut first = Input::open(rt, one, telling)?;
+    let mut second = Input::open(rt, other, telling)?;
     let size = size_of(&mut first)?;
     let other_size = size_of(&mut second)?;
     let found = compare_images(rt.alloc(), &mut first, &mut second, size, other_size);

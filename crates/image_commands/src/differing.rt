@@ -7,7 +7,7 @@ ghost use Rattle.image_commands.specs.Differing.{differing_by};
 ghost use Rattle.image_commands.specs.Arrays.{array_of};
 
 use crate::commands::{put_text, seen_both};
-use crate::rolling::why_stopped;
+use crate::rolling::of_put;
 use cow_answers::{push_spans, push_spans_json, shown};
 use cow_image::{Stopped, Told};
 use cow_salvage::{Span, Undone, differences};
@@ -57,24 +57,16 @@ pub fn diff<'a, W: Write>(
     telling: Telling,
     output: &mut W,
 ) -> Result<bool, Trouble<'a>> {
-    let mut inputs = Inputs::open(rt, origin, cow)?;
-    inputs.tell(rt, telling);
+    let mut inputs = Inputs::open(rt, origin, cow, telling)?;
     let (size, seen) = seen_both(rt, &mut inputs)?;
     if let Told::Refused(_) = seen.told {
         return put_text(cow, shown(rt.alloc(), &seen, form), &seen, output);
     }
     inputs.origin.hush();
-    let Inputs {
-        origin: mut array,
-        cow: mut store,
-    } = inputs;
-    let found = found(rt.alloc(), &mut array, &mut store, &seen.told, size);
-    let spans = match found {
-        Ok(spans) => spans,
-        Err(undone) => return Err(why_stopped(&array, &store, stopped(undone), cow)),
-    };
-    store.is_unchanged()?;
-    array.is_unchanged()?;
+    let Inputs { origin, cow: store } = &mut inputs;
+    let found = found(rt.alloc(), origin, store, &seen.told, size);
+    let spans = of_put(&inputs.origin, &inputs.cow, cow, found.map_err(stopped))?;
+    inputs.are_unchanged()?;
     let text = differing(rt.alloc(), spans.as_slice(), form);
     put_text(cow, text, &seen, output)
 }

@@ -1,12 +1,12 @@
 // What is asked for is done.
 
-use crate::commands::{check, map, raw_map, show};
+use crate::commands::{Part, check, raw_map, show};
 use crate::comparing::compare;
 use crate::differing::diff;
 use crate::ended::Ended;
 use crate::living::serve_in_use;
 use crate::merging::{Words, merge};
-use crate::over::{human, picture, ranged_map, table};
+use crate::over::{picture, ranged_map, table};
 use crate::printing::printed;
 use crate::repairing::repair_store;
 use crate::rolling::export;
@@ -31,9 +31,9 @@ pub fn done<'a, R: BufRead, W: Write, E: Write>(
         Asked::Help => said(HELP, output)?,
         Asked::HelpOf { command } => said(topic(command), output)?,
         Asked::Version => said(VERSION, output)?,
-        Asked::Show { cow, form } => show(rt, cow, form, telling, output)?,
-        Asked::Human { cow } => human(rt, cow, telling, output)?,
-        Asked::Map { cow, form } => map(rt, cow, form, telling, output)?,
+        Asked::Show { cow, form } => show(rt, cow, Part::Numbers(form), telling, output)?,
+        Asked::Human { cow } => show(rt, cow, Part::Units, telling, output)?,
+        Asked::Map { cow, form } => show(rt, cow, Part::Runs(form), telling, output)?,
         Asked::Ranges { origin, cow, form } => ranged_map(rt, origin, cow, form, telling, output)?,
         Asked::Picture { origin, cow, svg } => picture(rt, origin, cow, svg, telling, output)?,
         Asked::RawMap { cow, form } => raw_map(rt, cow, form, telling, output)?,

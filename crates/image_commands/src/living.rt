@@ -1,7 +1,7 @@
 // A snapshot is served while another program writes its files.
 ghost use Rattle.std.specs.Prelude.{◌<◌, ◌≤◌, IfOk};
 
-use crate::serving::trouble_of;
+use crate::serving::of_served;
 use cow_header::{Found, decode};
 use cow_image::read_first;
 use cow_nbd::{LivePicture, serve_live};
@@ -27,17 +27,11 @@ pub fn serve_in_use<'a, R: Read, W: Write>(
         ended: None,
     };
     let served = serve_live(rt.alloc(), &mut picture, reader, writer);
-    let why = match picture.ended {
-        Some(Lost::Header) => Why::NoSnapshot,
-        Some(_) => Why::NoPairs,
-        None => {
-            return match served {
-                Ok(()) => Ok(true),
-                Err(stopped) => Err(trouble_of(stopped)),
-            };
-        }
-    };
-    Err(Trouble { name: cow, why })
+    match picture.ended {
+        Some(Lost::Header) => Err(Trouble::new(cow, Why::NoSnapshot)),
+        Some(_) => Err(Trouble::new(cow, Why::NoPairs)),
+        None => of_served(served),
+    }
 }
 
 /// The sectors of a chunk, by the header of a store.
@@ -50,10 +44,6 @@ fn chunk_in<'a>(cow: &mut Input<'a>) -> Result<u32, Trouble<'a>>
     of_input(cow, read)?;
     match decode(first.as_slice()) {
         Ok(Found::Header { chunk }) => Ok(chunk),
-        _ => {
-            let why = Why::NoSnapshot;
-            let name = cow.name;
-            Err(Trouble { name, why })
-        }
+        _ => Err(Trouble::new(cow.name, Why::NoSnapshot)),
     }
 }

@@ -35,8 +35,7 @@ pub fn merge<'a, W: Write>(
         origin,
         store,
         mut inputs,
-    } = InPlace::open(rt, words.origin, words.cow, words.dry)?;
-    inputs.tell(rt, words.telling);
+    } = InPlace::open(rt, words.origin, words.cow, words.dry, words.telling)?;
     let (size, seen) = seen_both(rt, &mut inputs)?;
     inputs.are_unchanged()?;
     let text = told_before(rt, words, &seen, size);
@@ -87,10 +86,7 @@ fn merge_files<'a, W: Write>(
 ) -> Result<Ended<'a>, Trouble<'a>> {
     let text = held(words.cow, done_text(rt.alloc(), map, words.form))?;
     let Ok(room) = Room::new(rt.alloc(), map.chunk) else {
-        return Err(Trouble {
-            name: words.cow,
-            why: Why::NoMemory,
-        });
+        return Err(Trouble::new(words.cow, Why::NoMemory));
     };
     name_lasts(rt, words.origin)?;
     name_lasts(rt, words.cow)?;
@@ -132,10 +128,7 @@ fn put_left<'a, W: Write>(
     let again = read_store(rt.alloc(), cow, size);
     let again = of_input(cow, again)?;
     let Told::Written(again) = &again else {
-        return Err(Trouble {
-            name: words.cow,
-            why: Why::Changed,
-        });
+        return Err(Trouble::new(words.cow, Why::Changed));
     };
     let left = again.pairs.len();
     let gone = map.pairs.len().saturating_sub(left);
@@ -154,10 +147,7 @@ fn why_stopped<'a>(
     stopped: Stopped,
 ) -> Trouble<'a> {
     let Some(failed) = files.failed else {
-        return Trouble {
-            name: words.cow,
-            why: Why::Changed,
-        };
+        return Trouble::new(words.cow, Why::Changed);
     };
     let name = if failed.file == ORIGIN {
         words.origin
@@ -168,7 +158,7 @@ fn why_stopped<'a>(
         Stopped::Failed(error) => why_failed(has_begun(files), failed.asked, error),
         Stopped::Changed => Why::Changed,
     };
-    Trouble { name, why }
+    Trouble::new(name, why)
 }
 
 /// Whether a write of either file was asked for.

@@ -1,32 +1,21 @@
-// What is told of a store over its origin, and in units.
+// What is told of a store over its origin.
 ghost use Rattle.std.specs.Prelude.{◌≡◌, ◌+◌, ◌-◌, ◌*◌, ◌/◌, ◌<◌, ◌≤◌, IfOk};
 ghost use Rattle.cow_ranges.specs.Ranges.{AreRanges};
 ghost use Rattle.cow_picture.specs.Cells.{AreCells};
 ghost use Rattle.image_commands.specs.Maps.{chunk_told as chunk_told_by, pairs_told};
 
-use crate::commands::{put_text, seen_alone, seen_both};
+use crate::commands::{put_text, seen_both};
 use crate::seaming::put_file;
 use cow_answers::{Seen, is_good, shown};
 use cow_image::{MAX_IMAGE, Told};
 use cow_picture::{Cells, cell_drawing, cell_rows, count_cells};
 use cow_ranges::{Range, ranges};
-use image_answers::{ranged, table_lines, told_human};
+use image_answers::{ranged, table_lines};
 use image_words::{Form, Telling};
 use opened_files::{Inputs, Trouble, held};
 use sector::Pair;
 use std::alloc::{AllocError, Global};
 use std::io::Write;
-
-/// Prints what a store holds in units for a reader.
-pub fn human<'a, W: Write>(
-    rt: &'a HostRuntime,
-    cow: &'a str,
-    telling: Telling,
-    output: &mut W,
-) -> Result<bool, Trouble<'a>> {
-    let (_input, seen) = seen_alone(rt, cow, telling)?;
-    put_text(cow, told_human(rt.alloc(), &seen), &seen, output)
-}
 
 /// The chunk size of a fresh store, of which a kernel is given one by its table: 4 KiB. Without pairs any is the same.
 const FRESH_CHUNK: u32 = 8;
@@ -90,8 +79,7 @@ fn looked<'a>(
 ) -> Result<(u64, Seen), Trouble<'a>>
     ensures { IfOk result (λ both. both.0 ≤ MAX_IMAGE) }
 {
-    let mut inputs = Inputs::open(rt, origin, cow)?;
-    inputs.tell(rt, telling);
+    let mut inputs = Inputs::open(rt, origin, cow, telling)?;
     let (size, seen) = seen_both(rt, &mut inputs)?;
     inputs.are_unchanged()?;
     Ok((size, seen))

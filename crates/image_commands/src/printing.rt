@@ -10,14 +10,7 @@ use std::io::Write;
 pub fn printed<W: Write>(output: &mut W, text: &[u8]) -> Result<(), Trouble<'static>>
     ensures { OnOk result (Appends (W.contents output.old) (W.contents output.new) text.now) }
 {
-    match written(output, text) {
-        Ok(()) => Ok(()),
-        Err(error) => {
-            let why = Why::Unwritable(error);
-            let name = "standard output";
-            Err(Trouble { name, why })
-        }
-    }
+    put_on("standard output", output, text)
 }
 
 /// Writes a text where the array that is asked for is not written: to standard error where that goes to standard output.
@@ -30,13 +23,16 @@ pub fn told_beside<'a, W: Write, E: Write>(
     if out != OUTPUT {
         return printed(output, text);
     }
-    match written(errors, text) {
+    put_on("standard error", errors, text)
+}
+
+/// Writes a text to the stream of this name.
+fn put_on<W: Write>(name: &'static str, stream: &mut W, text: &[u8]) -> Result<(), Trouble<'static>>
+    ensures { OnOk result (Appends (W.contents stream.old) (W.contents stream.new) text.now) }
+{
+    match written(stream, text) {
         Ok(()) => Ok(()),
-        Err(error) => {
-            let why = Why::Unwritable(error);
-            let name = "standard error";
-            Err(Trouble { name, why })
-        }
+        Err(error) => Err(Trouble::new(name, Why::Unwritable(error))),
     }
 }
 

@@ -2,8 +2,8 @@
 ghost use Rattle.std.specs.Prelude.{◌≡◌, ◌≤◌, IfSome, true};
 ghost use Rattle.chunk.specs.Sizes.{is_chunk};
 
-use crate::rolling::why_stopped;
-use crate::salvaging::{Lost, Salvage, taken, tell, unread};
+use crate::rolling::of_put;
+use crate::salvaging::{Lost, Salvage, all_read, taken, tell, unread};
 use chunk::is_chunk_size;
 use cow_answers::{Seen, chunk_listed, is_good, look};
 use cow_image::MAX_IMAGE;
@@ -24,11 +24,9 @@ pub fn repair_store<'a, W: Write, E: Write>(
     errors: &mut E,
 ) -> Result<bool, Trouble<'a>> {
     is_free(rt, asked.out)?;
-    let mut below = Input::open(rt, cow)?;
-    below.tell(rt, asked.telling);
+    let below = Input::open(rt, cow, asked.telling)?;
     below.is_unused(rt, true)?;
-    let spans = Vec::new(rt.alloc());
-    let mut cow = Blanked { below, spans };
+    let mut cow = all_read(rt, below);
     let tried = attempt(rt, &mut cow, asked, output, errors);
     if let Err(trouble) = &tried {
         if trouble.is_unreadable() {
@@ -51,9 +49,7 @@ fn attempt<'a, W: Write, E: Write>(
     let seen = look(rt.alloc(), cow, u64::MAX);
     let seen = of_input(&mut cow.below, seen)?;
     let Some(chunk) = chunk_of_store(asked, &seen) else {
-        let name = cow.below.name;
-        let why = Why::NoChunk;
-        return Err(Trouble { name, why });
+        return Err(Trouble::new(cow.below.name, Why::NoChunk));
     };
     let used = read_used(rt.alloc(), cow, chunk, sectors);
     let used = of_input(&mut cow.below, used)?;
@@ -100,8 +96,7 @@ fn write_repaired<'a, W: Write>(
     requires { is_chunk chunk ≡ true }
 {
     let most = sectors_for(taken(used, asked.behind).len() as u64, chunk);
-    let mut watched = file_begun(rt, asked.out, most, output)?;
-    watched.tell(rt, asked.telling);
+    let mut watched = file_begun(rt, asked.out, most, asked.telling, output)?;
     let put = put_repaired(rt, cow, asked, used, chunk, sectors, &mut watched);
     file_ended(rt, asked.out, put)
 }
@@ -141,12 +136,8 @@ fn put_repaired<'a, W: Write>(
         watched,
     );
     watched.hush();
-    match put {
-        Ok(saved) => {
-            about(asked.out, watched.finish())?;
-            cow.below.is_unchanged()?;
-            Ok(saved)
-        }
-        Err(stopped) => Err(why_stopped(&cow.below, &cow.below, stopped, asked.out)),
-    }
+    let saved = of_put(&cow.below, &cow.below, asked.out, put)?;
+    about(asked.out, watched.finish())?;
+    cow.below.is_unchanged()?;
+    Ok(saved)
 }

@@ -8,7 +8,7 @@ use cow_answers::{Seen, is_good, shown};
 use cow_image::{Failure, MAX_IMAGE, Stopped, Told, read_store};
 use image_words::{Form, Telling};
 use opened_files::{
-    Input, Inputs, Trouble, Watched, Why, about, file_begun, file_ended, held, is_free, of_input,
+    Input, Inputs, Trouble, Watched, Why, about, file_begun, file_ended, held, of_input,
 };
 use std::io::Write;
 
@@ -24,19 +24,13 @@ pub fn export<'a, W: Write, E: Write>(
     output: &mut W,
     errors: &mut E,
 ) -> Result<bool, Trouble<'a>> {
-    is_free(rt, out)?;
-    let mut inputs = Inputs::open(rt, origin, cow)?;
-    inputs.tell(rt, telling);
-    inputs.are_unused(rt, true)?;
+    let mut inputs = Inputs::open_for(rt, origin, cow, out, telling)?;
     let (size, seen) = seen_both(rt, &mut inputs)?;
     if let Told::Refused(_) = seen.told {
         return put_seen(rt, out, &seen, form, output, errors);
     }
-    let Inputs {
-        origin: mut array,
-        cow: mut store,
-    } = inputs;
-    roll(rt, &mut array, &mut store, &seen, size, out, output)?;
+    let Inputs { origin, cow } = &mut inputs;
+    roll(rt, origin, cow, &seen, size, out, output)?;
     Ok(true)
 }
 
@@ -52,8 +46,7 @@ pub fn roll<'a, W: Write>(
 ) -> Result<(), Trouble<'a>>
     requires { size ≤ MAX_IMAGE }
 {
-    let mut watched = file_begun(rt, out, size, output)?;
-    watched.tell(rt, origin.telling());
+    let mut watched = file_begun(rt, out, size, origin.telling(), output)?;
     let rolled = rolled(rt, origin, cow, seen, size, &mut watched, out);
     file_ended(rt, out, rolled)
 }
@@ -88,9 +81,7 @@ fn rolled<'a, W: Write>(
     cow.hush();
     let put = put_array(rt.alloc(), origin, cow, &seen.told, size, watched);
     watched.hush();
-    if let Err(stopped) = put {
-        return Err(why_stopped(origin, cow, stopped, out));
-    }
+    of_put(origin, cow, out, put)?;
     about(out, watched.finish())?;
     let again = read_store(rt.alloc(), cow, size);
     let again = of_input(cow, again)?;
@@ -101,13 +92,17 @@ fn rolled<'a, W: Write>(
     origin.is_unchanged()
 }
 
-/// With which file an export stopped.
-pub fn why_stopped<'a>(
+/// Says with which file an export stopped.
+pub fn of_put<'a, T: Drop>(
     origin: &Input<'a>,
     cow: &Input<'a>,
-    stopped: Stopped,
     out: &'a str,
-) -> Trouble<'a> {
+    put: Result<T, Stopped>,
+) -> Result<T, Trouble<'a>> {
+    let stopped = match put {
+        Ok(value) => return Ok(value),
+        Err(stopped) => stopped,
+    };
     let (name, at) = match &stopped {
         Stopped::Unreadable(_) => match cow.failed() {
             Some(at) => (cow.name, Some(at)),
@@ -116,8 +111,7 @@ pub fn why_stopped<'a>(
         Stopped::Unwritable(_) => (out, None),
         Stopped::NoMemory => (out, None),
     };
-    let why = Why::of_stopped(stopped, at);
-    Trouble { name, why }
+    Err(Trouble::new(name, Why::of_stopped(stopped, at)))
 }
 
 /// Whether two looks at a store told the same header and the same pairs.

@@ -2,14 +2,13 @@
 ghost use Rattle.std.specs.Prelude.{◌<◌, ◌≤◌, IfSome};
 
 use crate::printing::told_beside;
-use crate::rolling::{put_seen, roll, why_stopped};
+use crate::rolling::{of_put, put_seen, roll};
 use cow_answers::{Seen, chunk_listed, is_good, is_whole, look, notes_of, salvaged};
 use cow_image::{MAX_IMAGE, Told};
 use cow_salvage::{Blanked, Saved, Slot, Span, Used, export_kept, front_of, read_used, unreadable};
 use image_words::{Form, Telling};
 use opened_files::{
-    Input, Inputs, Trouble, Watched, about, file_begun, file_ended, held, is_free, of_input,
-    size_of,
+    Input, Inputs, Trouble, Watched, about, file_begun, file_ended, held, of_input, size_of,
 };
 use std::io::Write;
 
@@ -41,8 +40,11 @@ pub fn salvage_array<'a, W: Write, E: Write>(
     output: &mut W,
     errors: &mut E,
 ) -> Result<bool, Trouble<'a>> {
-    is_free(rt, asked.out)?;
-    let mut both = opened(rt, origin, cow, asked.telling)?;
+    let Inputs { origin, cow } = Inputs::open_for(rt, origin, cow, asked.out, asked.telling)?;
+    let mut both = Both {
+        origin: all_read(rt, origin),
+        cow: all_read(rt, cow),
+    };
     let tried = attempt(rt, &mut both, asked, output, errors);
     if let Err(trouble) = &tried {
         if trouble.is_unreadable() {
@@ -60,27 +62,10 @@ pub(crate) struct Lost<'s> {
     pub(crate) cow: &'s [Span],
 }
 
-/// Opens both inputs, of which all sectors are read.
-fn opened<'a>(
-    rt: &'a HostRuntime,
-    origin: &'a str,
-    cow: &'a str,
-    telling: Telling,
-) -> Result<Both<'a>, Trouble<'a>> {
-    let mut inputs = Inputs::open(rt, origin, cow)?;
-    inputs.tell(rt, telling);
-    inputs.are_unused(rt, true)?;
-    let Inputs { origin, cow } = inputs;
-    Ok(Both {
-        origin: Blanked {
-            below: origin,
-            spans: Vec::new(rt.alloc()),
-        },
-        cow: Blanked {
-            below: cow,
-            spans: Vec::new(rt.alloc()),
-        },
-    })
+/// An input of which all sectors are read.
+pub(crate) fn all_read<'a>(rt: &HostRuntime, below: Input<'a>) -> Blanked<Input<'a>> {
+    let spans = Vec::new(rt.alloc());
+    Blanked { below, spans }
 }
 
 /// Finds the sectors of both inputs that can't be read.
@@ -259,8 +244,7 @@ fn write_kept<'a, W: Write>(
     requires allowed { chunk ≤ 1024 }
     requires small { size ≤ MAX_IMAGE }
 {
-    let mut watched = file_begun(rt, asked.out, size, output)?;
-    watched.tell(rt, asked.telling);
+    let mut watched = file_begun(rt, asked.out, size, asked.telling, output)?;
     let put = put_kept(rt, both, asked, used, chunk, size, sectors, &mut watched);
     file_ended(rt, asked.out, put)
 }
@@ -298,24 +282,11 @@ fn put_kept<'a, W: Write>(
         watched,
     );
     watched.hush();
-    match put {
-        Ok(saved) => match are_lasting(both, watched, asked.out) {
-            Ok(()) => Ok(saved),
-            Err(trouble) => Err(trouble),
-        },
-        Err(stopped) => Err(why_stopped(&both.origin.below, &both.cow.below, stopped, asked.out)),
-    }
-}
-
-/// Makes what is written last, and sees that the inputs are still as they were read.
-fn are_lasting<'a, W: Write>(
-    both: &Both<'a>,
-    watched: &mut Watched<'_, '_, W>,
-    out: &'a str,
-) -> Result<(), Trouble<'a>> {
-    about(out, watched.finish())?;
+    let saved = of_put(&both.origin.below, &both.cow.below, asked.out, put)?;
+    about(asked.out, watched.finish())?;
     both.cow.below.is_unchanged()?;
-    both.origin.below.is_unchanged()
+    both.origin.below.is_unchanged()?;
+    Ok(saved)
 }
 
 /// The slots whose pairs are taken: those before the first empty one, or all.

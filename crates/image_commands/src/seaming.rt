@@ -2,6 +2,7 @@
 
 use image::Sink;
 use image_script::{MOST_SECTORS, Stopped, Untold, put_words, read_told};
+use image_words::Telling;
 use opened_files::{
     Input, OUTPUT, Trouble, Watched, Why, about, file_begun, file_ended, is_free, size_of,
 };
@@ -15,16 +16,15 @@ pub fn spell<'a, W: Write>(
     image: &'a str,
     printer: &mut W,
 ) -> Result<bool, Trouble<'a>> {
-    let mut input = Input::open(rt, image)?;
+    let mut input = Input::open(rt, image, Telling::Terminal)?;
     let size = size_of(&mut input)?;
     let Ok(name) = Name::new(disk.as_bytes()) else {
-        return Err(no_disk(image, size));
+        return Err(Trouble::new(image, Why::NoDisk(size)));
     };
     if size == 0 || MOST_SECTORS < size {
-        return Err(no_disk(image, size));
+        return Err(Trouble::new(image, Why::NoDisk(size)));
     }
-    let mut output = file_begun(rt, OUTPUT, size, printer)?;
-    output.hush();
+    let mut output = file_begun(rt, OUTPUT, size, Telling::Never, printer)?;
     if let Err(stopped) = put_words(rt.alloc(), &name, &mut input, size, &mut output) {
         return Err(why_unput(&input, stopped));
     }
@@ -34,21 +34,15 @@ pub fn spell<'a, W: Write>(
     Ok(true)
 }
 
-/// Why an image of so many sectors is no disk.
-fn no_disk(image: &str, size: u64) -> Trouble<'_> {
-    let why = Why::NoDisk(size);
-    let name = image;
-    Trouble { name, why }
-}
-
 /// Why not all lines were printed.
 fn why_unput<'a>(input: &Input<'a>, stopped: Stopped) -> Trouble<'a> {
-    let (name, why) = match stopped {
-        Stopped::Unreadable(error) => (input.name, Why::Unreadable(input.failed(), error)),
-        Stopped::Unwritable(error) => ("standard output", Why::Unwritable(error)),
-        Stopped::NoMemory => (input.name, Why::NoMemory),
-    };
-    Trouble { name, why }
+    match stopped {
+        Stopped::Unreadable(error) => {
+            Trouble::new(input.name, Why::Unreadable(input.failed(), error))
+        }
+        Stopped::Unwritable(error) => Trouble::new("standard output", Why::Unwritable(error)),
+        Stopped::NoMemory => Trouble::new(input.name, Why::NoMemory),
+    }
 }
 
 /// What answers are read from.
@@ -68,14 +62,10 @@ pub fn hear<'a, R: BufRead, W: Write>(
     };
     let len = bytes.len() as u64;
     if len == 0 {
-        let name = HEARD;
-        let why = Why::NoData;
-        return Err(Trouble { name, why });
+        return Err(Trouble::new(HEARD, Why::NoData));
     }
     if len % 512 != 0 {
-        let name = HEARD;
-        let why = Why::PartOfSector(len);
-        return Err(Trouble { name, why });
+        return Err(Trouble::new(HEARD, Why::PartOfSector(len)));
     }
     put_file(rt, out, bytes.as_slice(), printer)?;
     Ok(true)
@@ -88,7 +78,8 @@ pub fn put_file<'a, W: Write>(
     bytes: &[u8],
     printer: &mut W,
 ) -> Result<(), Trouble<'a>> {
-    let mut output = file_begun(rt, out, bytes.len() as u64 / 512, printer)?;
+    let size = bytes.len() as u64 / 512;
+    let mut output = file_begun(rt, out, size, Telling::Terminal, printer)?;
     let written = put_image(&mut output, out, bytes);
     file_ended(rt, out, written)
 }
@@ -102,20 +93,17 @@ fn put_image<'a, W: Write>(
     let put = output.put(bytes);
     output.hush();
     if let Err(error) = put {
-        let name = out;
-        let why = Why::Unwritable(error);
-        return Err(Trouble { name, why });
+        return Err(Trouble::new(out, Why::Unwritable(error)));
     }
     about(out, output.finish())
 }
 
 /// Why answers tell no image.
 fn why_untold(untold: Untold) -> Trouble<'static> {
-    let name = HEARD;
     let why = match untold {
         Untold::Unreadable(error) => Why::Unreadable(None, error),
         Untold::Line(number) => Why::NoAnswer(number),
         Untold::NoMemory => Why::NoMemory,
     };
-    Trouble { name, why }
+    Trouble::new(HEARD, why)
 }

@@ -10,7 +10,7 @@ use cow_answers::shown;
 use cow_image::Told;
 use cow_nbd::{Watch, serve_fresh, serve_written};
 use image::Image;
-use image_words::Form;
+use image_words::{Form, Telling};
 use nbd_server::Stopped;
 use opened_files::{Inputs, Trouble, Why, Witness, held};
 use std::alloc::Global;
@@ -26,7 +26,7 @@ pub fn serve<'a, R: Read, W: Write, E: Write>(
     writer: &mut W,
     errors: &mut E,
 ) -> Result<bool, Trouble<'a>> {
-    let mut inputs = Inputs::open(rt, origin, cow)?;
+    let mut inputs = Inputs::open(rt, origin, cow, Telling::Terminal)?;
     let (size, seen) = seen_both(rt, &mut inputs)?;
     if let Told::Refused(_) = seen.told {
         let text = held(cow, shown(rt.alloc(), &seen, Form::Lines))?;
@@ -47,13 +47,9 @@ pub fn serve<'a, R: Read, W: Write, E: Write>(
         writer,
     );
     if let Some(name) = watch.changed() {
-        let why = Why::Changed;
-        return Err(Trouble { name, why });
+        return Err(Trouble::new(name, Why::Changed));
     }
-    match ended {
-        Ok(()) => Ok(true),
-        Err(stopped) => Err(trouble_of(stopped)),
-    }
+    of_served(ended)
 }
 
 /// Serves the snapshot of a store of which this was told, and its origin, which has so many sectors, while they are as they
@@ -87,20 +83,16 @@ fn serve_told<O: Image + Drop, C: Image + Drop, V: Watch, R: Read, W: Write>(
     }
 }
 
-/// Why a client is served no more.
-pub(crate) fn trouble_of(stopped: Stopped) -> Trouble<'static> {
-    match stopped {
-        Stopped::Unheard(error) => Trouble {
-            name: "standard input",
-            why: Why::Unreadable(None, error),
-        },
-        Stopped::Unsaid(error) => Trouble {
-            name: "standard output",
-            why: Why::Unwritable(error),
-        },
-        Stopped::NoMemory => Trouble {
-            name: "a client's request",
-            why: Why::NoMemory,
-        },
+/// Says why a client is served no more, where it did not leave.
+pub(crate) fn of_served(served: Result<(), Stopped>) -> Result<bool, Trouble<'static>> {
+    match served {
+        Ok(()) => Ok(true),
+        Err(Stopped::Unheard(error)) => {
+            Err(Trouble::new("standard input", Why::Unreadable(None, error)))
+        }
+        Err(Stopped::Unsaid(error)) => {
+            Err(Trouble::new("standard output", Why::Unwritable(error)))
+        }
+        Err(Stopped::NoMemory) => Err(Trouble::new("a client's request", Why::NoMemory)),
     }
 }

@@ -2,13 +2,11 @@
 ghost use Rattle.std.specs.Prelude.{◌≡◌, ◌≤◌, true};
 ghost use Rattle.chunk.specs.Sizes.{is_chunk};
 
-use crate::rolling::why_stopped;
+use crate::rolling::of_put;
 use chunk::is_chunk_size;
 use cow_image::MAX_IMAGE;
 use image_words::Telling;
-use opened_files::{
-    Inputs, Trouble, Watched, Why, about, file_begun, file_ended, is_free, size_of,
-};
+use opened_files::{Inputs, Trouble, Watched, Why, about, file_begun, file_ended, size_of};
 use std::io::Write;
 use store_writer::write_between;
 
@@ -31,18 +29,13 @@ pub fn store<'a, W: Write>(
     words: Words<'a>,
     output: &mut W,
 ) -> Result<bool, Trouble<'a>> {
-    is_free(rt, words.new)?;
-    let mut inputs = Inputs::open(rt, words.origin, words.array)?;
-    inputs.tell(rt, words.telling);
-    inputs.are_unused(rt, true)?;
+    let mut inputs = Inputs::open_for(rt, words.origin, words.array, words.new, words.telling)?;
     let size = size_of(&mut inputs.origin)?;
     let other = size_of(&mut inputs.cow)?;
     if other != size {
-        let name = words.array;
-        let why = Why::Unequal(other, size);
-        return Err(Trouble { name, why });
+        return Err(Trouble::new(words.array, Why::Unequal(other, size)));
     }
-    let mut watched = file_begun(rt, words.new, 0, output)?;
+    let mut watched = file_begun(rt, words.new, 0, Telling::Never, output)?;
     let put = put_store(rt, &mut inputs, words, size, &mut watched);
     file_ended(rt, words.new, put)?;
     Ok(true)
@@ -69,15 +62,12 @@ fn put_store<'a, W: Write>(
     requires { size ≤ MAX_IMAGE }
 {
     inputs.cow.hush();
-    watched.hush();
     let chunk = chunk_in(words);
     let origin = &mut inputs.origin;
     let array = &mut inputs.cow;
     let put = write_between(rt.alloc(), origin, array, chunk, size, watched);
     inputs.origin.hush();
-    if let Err(stopped) = put {
-        return Err(why_stopped(&inputs.origin, &inputs.cow, stopped, words.new));
-    }
+    of_put(&inputs.origin, &inputs.cow, words.new, put)?;
     about(words.new, watched.finish())?;
     inputs.are_unchanged()
 }

@@ -11,8 +11,7 @@ use std::{fs, io};
 /// Sees that no file has this name, or that it stands for standard output.
 pub fn is_free<'a>(rt: &HostRuntime, name: &'a str) -> Result<(), Trouble<'a>> {
     if name != OUTPUT && about(name, fs::exists(rt, name))? {
-        let why = Why::Exists;
-        return Err(Trouble { name, why });
+        return Err(Trouble::new(name, Why::Exists));
     }
     Ok(())
 }
@@ -33,8 +32,7 @@ pub(crate) fn named<'a>(rt: &HostRuntime, partial: &str, out: &'a str) -> Result
     match fs::hard_link(rt, partial, out) {
         Ok(()) => about(out, fs::remove_file(rt, partial))?,
         Err(error) if error.kind() == ErrorKind::AlreadyExists => {
-            let why = Why::Exists;
-            return Err(Trouble { name: out, why });
+            return Err(Trouble::new(out, Why::Exists));
         }
         // Where the files have one name each.
         Err(_) => {
@@ -44,10 +42,7 @@ pub(crate) fn named<'a>(rt: &HostRuntime, partial: &str, out: &'a str) -> Result
     }
     match folder_synced(rt, out) {
         Ok(()) => Ok(()),
-        Err(error) => {
-            let why = Why::ButFolder(error);
-            Err(Trouble { name: out, why })
-        }
+        Err(error) => Err(Trouble::new(out, Why::ButFolder(error))),
     }
 }
 
@@ -67,9 +62,6 @@ pub fn name_lasts<'a>(rt: &HostRuntime, name: &'a str) -> Result<(), Trouble<'a>
     let file = about(name, fs::canonicalize(rt, name))?;
     match folder_synced(rt, file.as_str()) {
         Ok(()) => Ok(()),
-        Err(error) => {
-            let why = Why::Folder(error);
-            Err(Trouble { name, why })
-        }
+        Err(error) => Err(Trouble::new(name, Why::Folder(error))),
     }
 }

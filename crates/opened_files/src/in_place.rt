@@ -4,6 +4,7 @@ use crate::input::Input;
 use crate::inputs::Inputs;
 use crate::locking::{Lock, is_locked};
 use crate::trouble::{Trouble, Why, about};
+use image_words::Telling;
 use std::fs;
 use std::fs::File;
 use std::os::fd::AsRawFd;
@@ -24,14 +25,14 @@ impl<'a> InPlace<'a> {
         origin: &'a str,
         cow: &'a str,
         dry: bool,
+        telling: Telling,
     ) -> Result<InPlace<'a>, Trouble<'a>> {
         let first = opened(rt, origin, dry)?;
         let second = opened(rt, cow, dry)?;
-        let inputs = Inputs {
-            origin: Input::over(rt, origin, &first)?,
-            cow: Input::over(rt, cow, &second)?,
-        };
-        inputs.origin.is_apart(&inputs.cow)?;
+        let inputs = Inputs::apart(
+            Input::over(rt, origin, &first, telling)?,
+            Input::over(rt, cow, &second, telling)?,
+        )?;
         let lock = if dry { Lock::Shared } else { Lock::Alone };
         is_locked(origin, &first, lock)?;
         is_locked(cow, &second, lock)?;
@@ -49,8 +50,7 @@ impl<'a> InPlace<'a> {
 fn opened<'a>(rt: &HostRuntime, name: &'a str, dry: bool) -> Result<File, Trouble<'a>> {
     let metadata = about(name, fs::metadata(rt, name))?;
     if !metadata.is_file() {
-        let why = Why::NoFile;
-        return Err(Trouble { name, why });
+        return Err(Trouble::new(name, Why::NoFile));
     }
     let file = if dry {
         fs::open(rt, name)
@@ -59,8 +59,7 @@ fn opened<'a>(rt: &HostRuntime, name: &'a str, dry: bool) -> Result<File, Troubl
     };
     let file = about(name, file)?;
     if file.as_raw_fd() < 3 {
-        let why = Why::NoStream;
-        return Err(Trouble { name, why });
+        return Err(Trouble::new(name, Why::NoStream));
     }
     Ok(file)
 }

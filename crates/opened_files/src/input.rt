@@ -32,46 +32,59 @@ pub struct Input<'a> {
 
 impl<'a> Input<'a> {
     /// Opens an input, and locks it against programs that ask for a lock to write. What is neither a file nor a block
-    /// device is not opened, nor a block device that a device holds.
-    pub fn open(rt: &'a HostRuntime, name: &'a str) -> Result<Input<'a>, Trouble<'a>> {
+    /// device is not opened, nor a block device that a device holds. It is told how much is read, when this is wanted.
+    pub fn open(
+        rt: &'a HostRuntime,
+        name: &'a str,
+        telling: Telling,
+    ) -> Result<Input<'a>, Trouble<'a>> {
         let metadata = about(name, fs::metadata(rt, name))?;
         if !metadata.is_file() && !metadata.file_type().is_block_device() {
-            let why = Why::NoImage;
-            return Err(Trouble { name, why });
+            return Err(Trouble::new(name, Why::NoImage));
         }
         if metadata.file_type().is_block_device() {
             is_unheld(name, holder_of(rt, metadata.rdev()))?;
         }
         let file = about(name, fs::open(rt, name))?;
         is_locked(name, &file, Lock::Shared)?;
-        Input::of(rt, name, file)
+        Input::of(rt, name, file, telling)
     }
 
-    /// Opens a file that another program writes and has locked. Only files are taken: what is read of a block device may be old.
+    /// Opens a file that another program writes and has locked. Only files are taken: what is read of a block device may be old. It
+    /// is not told how much is read.
     pub fn unlocked(rt: &'a HostRuntime, name: &'a str) -> Result<Input<'a>, Trouble<'a>> {
         let metadata = about(name, fs::metadata(rt, name))?;
         if !metadata.is_file() {
-            let why = Why::NoLiveFile;
-            return Err(Trouble { name, why });
+            return Err(Trouble::new(name, Why::NoLiveFile));
         }
         let file = about(name, fs::open(rt, name))?;
-        Input::of(rt, name, file)
+        Input::of(rt, name, file, Telling::Never)
     }
 
     /// An input over a file that is open, and is locked elsewhere.
-    pub fn over(rt: &'a HostRuntime, name: &'a str, file: &File) -> Result<Input<'a>, Trouble<'a>> {
-        Input::of(rt, name, about(name, file.try_clone())?)
+    pub fn over(
+        rt: &'a HostRuntime,
+        name: &'a str,
+        file: &File,
+        telling: Telling,
+    ) -> Result<Input<'a>, Trouble<'a>> {
+        Input::of(rt, name, about(name, file.try_clone())?, telling)
     }
 
     // An input over a file that is open, of which nothing is read yet.
-    fn of(rt: &'a HostRuntime, name: &'a str, file: File) -> Result<Input<'a>, Trouble<'a>> {
+    fn of(
+        rt: &'a HostRuntime,
+        name: &'a str,
+        file: File,
+        telling: Telling,
+    ) -> Result<Input<'a>, Trouble<'a>> {
         let image = FileImage::new(DiskFile::new(about(name, file.try_clone())?));
         let kept = Kept::of(name, file)?;
         Ok(Input {
             name,
             image,
             kept,
-            teller: Teller::new(rt, Telling::Terminal),
+            teller: Teller::new(rt, telling),
             read: 0,
             failed: None,
         })
@@ -80,11 +93,7 @@ impl<'a> Input<'a> {
     /// Sees that a store, which is another input, is not the same file: `SameFile` else.
     pub fn is_apart(&self, cow: &Input<'a>) -> Result<(), Trouble<'a>> {
         if self.kept.which() == cow.kept.which() {
-            let why = Why::SameFile;
-            return Err(Trouble {
-                name: cow.name,
-                why,
-            });
+            return Err(Trouble::new(cow.name, Why::SameFile));
         }
         Ok(())
     }
@@ -93,11 +102,7 @@ impl<'a> Input<'a> {
     pub fn is_unused(&self, rt: &HostRuntime, writers: bool) -> Result<(), Trouble<'a>> {
         match about(self.name, user_of(rt, self.kept.which(), writers))? {
             None => Ok(()),
-            Some(user) => {
-                let why = Why::Used(user);
-                let name = self.name;
-                Err(Trouble { name, why })
-            }
+            Some(user) => Err(Trouble::new(self.name, Why::Used(user))),
         }
     }
 
@@ -109,11 +114,6 @@ impl<'a> Input<'a> {
     /// Its file, to be looked at while it is read elsewhere.
     pub fn kept(&self) -> Result<Kept<'a>, Trouble<'a>> {
         self.kept.again()
-    }
-
-    /// Tells from now on how much is read, when this is wanted.
-    pub fn tell(&mut self, rt: &'a HostRuntime, telling: Telling) {
-        self.teller = Teller::new(rt, telling);
     }
 
     /// When it is told how much is read.
@@ -138,11 +138,7 @@ impl<'a> Input<'a> {
 
     /// Why nothing is told of it.
     pub fn trouble(&self, failure: Failure) -> Trouble<'a> {
-        let why = Why::of_failure(failure, self.failed);
-        Trouble {
-            name: self.name,
-            why,
-        }
+        Trouble::new(self.name, Why::of_failure(failure, self.failed))
     }
 }
 
@@ -172,10 +168,7 @@ pub fn size_of<'a>(input: &mut Input<'a>) -> Result<u64, Trouble<'a>>
 fn is_unheld<'a>(name: &'a str, holder: io::Result<Option<String>>) -> Result<(), Trouble<'a>> {
     match about(name, holder)? {
         None => Ok(()),
-        Some(holder) => {
-            let why = Why::Held(holder);
-            Err(Trouble { name, why })
-        }
+        Some(holder) => Err(Trouble::new(name, Why::Held(holder))),
     }
 }
 

@@ -1,5 +1,6 @@
 // An origin and its store, which are read.
 
+use crate::files::is_free;
 use crate::input::Input;
 use crate::trouble::Trouble;
 use image_words::Telling;
@@ -12,14 +13,34 @@ pub struct Inputs<'a> {
 }
 
 impl<'a> Inputs<'a> {
-    /// Opens both, and sees that they are not the same file.
+    /// Opens both, and sees that they are not the same file. It is told how much is read of either, when this is wanted.
     pub fn open(
         rt: &'a HostRuntime,
         origin: &'a str,
         cow: &'a str,
+        telling: Telling,
     ) -> Result<Inputs<'a>, Trouble<'a>> {
-        let origin = Input::open(rt, origin)?;
-        let cow = Input::open(rt, cow)?;
+        let origin = Input::open(rt, origin, telling)?;
+        let cow = Input::open(rt, cow, telling)?;
+        Inputs::apart(origin, cow)
+    }
+
+    /// Opens both for a new file that is made of them: sees that its name is free, and that nobody writes to either.
+    pub fn open_for(
+        rt: &'a HostRuntime,
+        origin: &'a str,
+        cow: &'a str,
+        out: &'a str,
+        telling: Telling,
+    ) -> Result<Inputs<'a>, Trouble<'a>> {
+        is_free(rt, out)?;
+        let inputs = Inputs::open(rt, origin, cow, telling)?;
+        inputs.are_unused(rt, true)?;
+        Ok(inputs)
+    }
+
+    /// Two that are open, and are seen to be not the same file.
+    pub(crate) fn apart(origin: Input<'a>, cow: Input<'a>) -> Result<Inputs<'a>, Trouble<'a>> {
         origin.is_apart(&cow)?;
         Ok(Inputs { origin, cow })
     }
@@ -34,12 +55,6 @@ impl<'a> Inputs<'a> {
     pub fn are_unchanged(&self) -> Result<(), Trouble<'a>> {
         self.cow.is_unchanged()?;
         self.origin.is_unchanged()
-    }
-
-    /// Tells from now on how much is read of either, when this is wanted.
-    pub fn tell(&mut self, rt: &'a HostRuntime, telling: Telling) {
-        self.origin.tell(rt, telling);
-        self.cow.tell(rt, telling);
     }
 
     /// Tells no more how much is read of either.

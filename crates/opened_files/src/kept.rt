@@ -70,10 +70,7 @@ impl<'a> Kept<'a> {
     pub fn is_unchanged(&self) -> Result<(), Trouble<'a>> {
         let now = about(self.name, self.file.metadata())?;
         if Stamp::of(&now) != self.stamp {
-            return Err(Trouble {
-                name: self.name,
-                why: Why::Changed,
-            });
+            return Err(Trouble::new(self.name, Why::Changed));
         }
         Ok(())
     }

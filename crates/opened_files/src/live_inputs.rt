@@ -2,6 +2,7 @@
 ghost use Rattle.std.specs.Prelude.{None};
 
 use crate::input::Input;
+use crate::inputs::Inputs;
 use crate::trouble::Trouble;
 use image::Image;
 use live_snapshot::MovingFiles;
@@ -21,11 +22,9 @@ impl<'a> LiveInputs<'a> {
         origin: &'a str,
         cow: &'a str,
     ) -> Result<LiveInputs<'a>, Trouble<'a>> {
-        let mut origin = Input::unlocked(rt, origin)?;
-        let mut cow = Input::unlocked(rt, cow)?;
-        origin.is_apart(&cow)?;
-        origin.hush();
-        cow.hush();
+        let origin = Input::unlocked(rt, origin)?;
+        let cow = Input::unlocked(rt, cow)?;
+        let Inputs { origin, cow } = Inputs::apart(origin, cow)?;
         Ok(LiveInputs { origin, cow })
     }
 }

@@ -23,5 +23,5 @@ pub(crate) fn is_locked<'a>(name: &'a str, file: &File, lock: Lock) -> Result<()
         Err(TryLockError::WouldBlock) => Why::Locked,
         Err(TryLockError::Error(error)) => Why::File(error),
     };
-    Err(Trouble { name, why })
+    Err(Trouble::new(name, why))
 }

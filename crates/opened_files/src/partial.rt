@@ -22,10 +22,7 @@ pub(crate) fn partial_file<'a>(
     let file = match File::create_new(rt, partial) {
         Ok(file) => file,
         Err(error) if error.kind() == ErrorKind::AlreadyExists => left_file(rt, out, partial)?,
-        Err(error) => {
-            let why = Why::File(error);
-            return Err(Trouble { name: out, why });
-        }
+        Err(error) => return Err(Trouble::new(out, Why::File(error))),
     };
     if file.try_lock().is_err() || !about(out, is_only_name(rt, partial, &file))? {
         return Err(in_use(out));
@@ -54,6 +51,5 @@ fn is_only_name(rt: &HostRuntime, name: &str, file: &File) -> io::Result<bool> {
 }
 
 fn in_use(out: &str) -> Trouble<'_> {
-    let why = Why::PartialExists;
-    Trouble { name: out, why }
+    Trouble::new(out, Why::PartialExists)
 }

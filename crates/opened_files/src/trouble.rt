@@ -1,4 +1,5 @@
 // Why nothing is told of a store, or nothing is written.
+ghost use Rattle.std.specs.Prelude.{◌≡◌};
 
 use cow_image::{Failure, Stopped};
 use image_files::Asked;
@@ -78,10 +79,7 @@ pub enum Why {
 pub fn about<'a, T: Drop>(name: &'a str, asked: io::Result<T>) -> Result<T, Trouble<'a>> {
     match asked {
         Ok(value) => Ok(value),
-        Err(error) => {
-            let why = Why::File(error);
-            Err(Trouble { name, why })
-        }
+        Err(error) => Err(Trouble::new(name, Why::File(error))),
     }
 }
 
@@ -89,14 +87,19 @@ pub fn about<'a, T: Drop>(name: &'a str, asked: io::Result<T>) -> Result<T, Trou
 pub fn held<'a, T: Drop>(name: &'a str, asked: Result<T, AllocError>) -> Result<T, Trouble<'a>> {
     match asked {
         Ok(value) => Ok(value),
-        Err(_) => {
-            let why = Why::NoMemory;
-            Err(Trouble { name, why })
-        }
+        Err(_) => Err(Trouble::new(name, Why::NoMemory)),
     }
 }
 
-impl Trouble<'_> {
+impl<'a> Trouble<'a> {
+    /// What went wrong with what has this name.
+    pub fn new(name: &'a str, why: Why) -> Trouble<'a>
+        ensures name { result.name.now ≡ name.now }
+        ensures why { result.why ≡ why }
+    {
+        Trouble { name, why }
+    }
+
     /// Whether a read failed.
     pub fn is_unreadable(&self) -> bool {
         matches!(&self.why, Why::Unreadable(_, _))

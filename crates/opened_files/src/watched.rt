@@ -4,7 +4,6 @@ ghost use Rattle.std.specs.Prelude.{None};
 use crate::target::Target;
 use crate::teller::Teller;
 use image::Sink;
-use image_words::Telling;
 use std::io;
 use std::io::Write;
 
@@ -20,18 +19,13 @@ pub struct Watched<'a, 'w, W: Write> {
 
 impl<'a, 'w, W: Write> Watched<'a, 'w, W> {
     /// A file of so many bytes, of which none is written.
-    pub fn new(rt: &'a HostRuntime, sink: Target<'w, W>, size: u64) -> Watched<'a, 'w, W> {
+    pub fn new(sink: Target<'w, W>, size: u64, teller: Teller<'a>) -> Watched<'a, 'w, W> {
         Watched {
             sink,
-            teller: Teller::new(rt, Telling::Terminal),
+            teller,
             size,
             written: 0,
         }
-    }
-
-    /// Tells from now on how much is written, when this is wanted.
-    pub fn tell(&mut self, rt: &'a HostRuntime, telling: Telling) {
-        self.teller = Teller::new(rt, telling);
     }
 
     /// Makes a file last through a stop, with its whole length.
