@@ -1,5 +1,5 @@
--- What a trace says of a volume: what is in flight in it, which of its snapshots are lost, and which events are due. The form is this project's own; the words of
--- events are those of `step`.
+-- What a trace says of a volume: what is in flight in it, which of its snapshots are lost, and which events are due. The form is
+-- this project's own; the words of events are those of `step`.
 use Rattle.std.specs.Prelude.{◌≡◌, ℕ, ◌+◌, ◌*◌, Bool, nat_lt, if◌then◌else◌, List, [], ◌∷◌, ◌++◌, Option, Some, None, codes, decimal, slice_get}
 use Rattle.std.specs.List.{flat_map}
 use Rattle.words.specs.Words.{spaced}
@@ -61,8 +61,8 @@ marks_text name marks = flat_map (mark_text name) marks
 abbrev pub copies_text : List ℕ → List ChunkCopy → List ℕ
 copies_text name copies = flat_map (copy_text name) copies
 
--- A snapshot that is lost, whether its store was full or a device failed. Where it is `full`, its store has no room for one chunk
--- more.
+-- A snapshot that is lost, whether its store was full or a device failed. Where it is `full`, its store has no room for one
+-- chunk more.
 abbrev pub is_full : Kept Stack → Bool
 is_full s = nat_lt s.state.size (s.state.chunk * (s.next + 1))
 

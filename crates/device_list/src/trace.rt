@@ -347,8 +347,9 @@ fn line_of(alloc: Global, name: &Name, items: Vec<u8>) -> Result<Text, AllocErro
 }
 
 impl NamedVolume {
-    /// The line of a trace: the origin's name, the requests in flight, the snapshots that are lost, the copies that are not published, and all events that are
-    /// due, under the words that `step` takes. No bytes where there is none of them. An error says that the allocator refused room.
+    /// The line of a trace: the origin's name, the requests in flight, the snapshots that are lost, the copies that are not
+    /// published, and all events that are due, under the words that `step` takes. No bytes where there is none of them. An error says
+    /// that the allocator refused room.
     pub fn trace(&self, alloc: Global) -> Result<Text, AllocError>
         ensures { IfOk result (λ text. IsTraced text self.now) }
     {
