@@ -106,7 +106,7 @@ pub fn words_ask<'a>(alloc: Global, words: &'a [String]) -> Result<Asked<'a>, Er
     let trace = Arg::new(alloc, "trace")
         .long("trace")
         .help(
-            "Tell behind each line, on standard error, what is in flight and which events are due",
+            "Tell behind each line, on standard error, what is in flight or lost, and which events are due",
         )
         .action(ArgAction::SetTrue);
     let explain = Arg::new(alloc, "explain")
@@ -117,7 +117,9 @@ pub fn words_ask<'a>(alloc: Global, words: &'a [String]) -> Result<Asked<'a>, Er
         .action(ArgAction::SetTrue);
     let checkpoint = Arg::new(alloc, "checkpoint")
         .long("checkpoint")
-        .help("Make room in the journals before each line, so that none is refused for them")
+        .help(
+            "Make room in the journals before each line, so that none outside of a block finds one full",
+        )
         .action(ArgAction::SetTrue);
     let command = Command::new(alloc, "dmrig")
         .version("1")

@@ -48,9 +48,8 @@ impl Model for Session {
 }
 
 impl Session {
-    /// No devices, room for all that there may be, and no block. A block is run with so many copy workers. With `checkpoints` the
-    /// journal of each volume is folded before each line. The one error is
-    /// `RunError::Memory`.
+    /// No devices, room for all that there may be, and no block. A block is run with so many copy workers. With `checkpoints`
+    /// the journal of each volume is folded before each line. The one error is `RunError::Memory`.
     pub fn new(alloc: Global, workers: u32, checkpoints: bool) -> Result<Session, RunError>
         requires some { 1 ≤ workers }
         requires few { workers ≤ 4 }

@@ -5,7 +5,7 @@ use runner::{Untraced, run};
 use std::test::Fail;
 
 /// Lines, and why each is refused; no word for one that is not.
-const LINES: [(&str, &str); 48] = [
+const LINES: [(&str, &str); 55] = [
     (
         "help",
         "help is no command: dmrig --help lists the commands",
@@ -131,6 +131,25 @@ const LINES: [(&str, &str); 48] = [
         "load cow 0 512*00",
         "cow is in use: it is the store of a snapshot",
     ),
+    ("copy base 0 cow", "N is missing: copy DISK S DISK N"),
+    (
+        "copy base 0 cow 2049",
+        "2049 sectors: a line moves 1 to 2048",
+    ),
+    ("copy base 0 cow2 1", "no device is named cow2"),
+    (
+        "copy base 0 vol 1",
+        "vol is an origin; copy takes two disks",
+    ),
+    (
+        "copy base 64 cow 1",
+        "the sectors pass the end of base, or of cow",
+    ),
+    (
+        "copy base 0 cow 1",
+        "cow is in use: it is the store of a snapshot",
+    ),
+    ("ls vol", "vol is a word too many: ls"),
     (
         "remove vol",
         "vol is in use: it has snapshots, or a merge: remove or finish these first",
@@ -193,6 +212,6 @@ fn tells_why_each_line_is_refused(rt: HostRuntime) -> Result<(), Fail> {
     )?;
     assert_eq!(rt; told.into_writer().as_slice(), wanted.as_slice());
     assert_eq!(rt; out.as_slice(), plain.as_slice());
-    assert_eq!(rt; summary.refused, 41);
+    assert_eq!(rt; summary.refused, 48);
     Ok(())
 }
