@@ -299,3 +299,166 @@ module _ (event : Event) where
 
     publish_still : (its : Mark → Bool) → AreEach IsStill v.snaps (publish test its h v).snaps
     publish_still its = put_still (record h { marks = without_first its h.marks }) (record { number = refl; chunk = refl; bytes_are = refl; pairs_are = refl })
+
+  -- an event of a copy, or of a snapshot
+  on_copy_changes : (stage : Stage) (m : ℕ) (f : (SnapHeld → Bool) → (Copying → Bool) → SnapHeld → Copying → Moving → Moving) (v : Moving) → ((test : SnapHeld → Bool) (its : Copying → Bool) (h : SnapHeld) (p : Copying) → first_that test v.snaps ≡ Some h → StandsIn h.copies p → Changes event v (f test its h p v)) → Changes event v (on_copy stage m f v)
+  on_copy_changes stage m f v each =
+      let test : SnapHeld → Bool = λ k. list_any (is_copy stage m) k.copies in
+      for_changes (first_that test v.snaps) (λ h. for_some (first_that (is_copy stage m) h.copies) (λ p. f test (is_copy stage m) h p v) v) v v
+      (λ h at. for_changes (first_that (is_copy stage m) h.copies) (λ p. f test (is_copy stage m) h p v) v v (λ p is. each test (is_copy stage m) h p at (first_stands (is_copy stage m) h.copies p is)) (same v)) (same v)
+
+  on_snap_changes : (test : SnapHeld → Bool) (f : (SnapHeld → Bool) → SnapHeld → Moving → Moving) (v : Moving) → ((h : SnapHeld) → first_that test v.snaps ≡ Some h → Changes event v (f test h v)) → Changes event v (on_snap test f v)
+  on_snap_changes test f v each = for_changes (first_that test v.snaps) (λ h. f test h v) v v each (same v)
+
+  -- an Issue
+  module _ (m : ℕ) (r : Going) (v : Moving) (issued : event ≡ Issue m) (taken : first_that (takes m) v.requests ≡ Some r) (mine : Going → Bool) where
+    disk_changes : (op : Op) → r.request.op ≡ op → r.route ≡ Origin → Changes event v (on_disk op r.request.range.first r.request.range.count mine v)
+    disk_changes ReadOp is route = same v
+    disk_changes (WriteOp bytes) is route = by (answers v.origin (Writes r.request.range.first r.request.range.count))
+      where
+        by : (b : Bool) → AreEach IsStill v.snaps v.snaps × IsOriginChanged v (if b then with_sectors v.origin.bytes r.request.range.first bytes else v.origin.bytes) ⊎ (((if b then with_sectors v.origin.bytes r.request.range.first bytes else v.origin.bytes) ≡ v.origin.bytes) × AreEach (IsChanged event v.requests) v.snaps v.snaps)
+        by true = inl (all_still v.snaps, OnDisk (record { number = m; request = r; found = taken; route = route; bytes = bytes; op = is; now = refl }))
+        by false = same v
+    disk_changes FlushOp is route = same v
+
+    on_store_changes : (op : Op) → r.request.op ≡ op → (first count : ℕ) (test : SnapHeld → Bool) (h : SnapHeld) → first_that test v.snaps ≡ Some h → r.request.dev ≡ ToSnap h.snap.number → Changes event v (on_store op first count mine test h v)
+    on_store_changes ReadOp is first count test h found dev = rests v (put test (with_store h (met h.snap.store (Reads first count))) v) (put_still test h v found (with_store h (met h.snap.store (Reads first count))) (record { number = refl; chunk = refl; bytes_are = refl; pairs_are = refl })) refl
+    on_store_changes (WriteOp bytes) is first count test h found dev =
+        inr (refl, first_put (IsChanged event v.requests) (stays v.requests) test v.snaps h (with_store h (written_by h.snap.store (Writes first count) (with_sectors h.snap.store.bytes first bytes))) found
+        (Issued (record { number = m; issued = issued; request = r; found = taken; dev = dev; bytes = bytes; op = is })))
+    on_store_changes FlushOp is first count test h found dev = same v
+
+    on_merging_changes : (op : Op) (first count : ℕ) (g : MergeHeld) → Changes event v (on_merging op first count mine g v)
+    on_merging_changes ReadOp first count g = same v
+    on_merging_changes (WriteOp bytes) first count g = same v
+    on_merging_changes FlushOp first count g = same v
+
+    named : (k : ℕ) (h : SnapHeld) → first_that (λ x. x.snap.number == k) v.snaps ≡ Some h → h.snap.number ≡ k
+    named k h found = eqb-true h.snap.number k (first_passes (λ x. x.snap.number == k) v.snaps h found)
+
+    place_changes : (dev : Dev) → r.request.dev ≡ dev → (op : Op) → r.request.op ≡ op → (place first count : ℕ) → Changes event v (on_place dev op place first count mine v)
+    place_changes ToOrigin at op is place first count = for_changes v.merge (λ g. on_merging op (g.merge.chunk * place + first % g.merge.chunk) count mine g v) v v (λ g is. on_merging_changes op (g.merge.chunk * place + first % g.merge.chunk) count g) (same v)
+    place_changes (ToSnap k) at op is place first count =
+        let test : SnapHeld → Bool = λ h. h.snap.number == k in
+        for_changes (first_that test v.snaps) (λ h. on_store op (h.snap.chunk * place + first % h.snap.chunk) count mine test h v) v v
+        (λ h found. on_store_changes op is (h.snap.chunk * place + first % h.snap.chunk) count test h found (at ∙ ap ToSnap (sym (named k h found)))) (same v)
+
+    merging_changes : (g : MergeHeld) → Changes event v (flush_merging mine r g v)
+    merging_changes g =
+        let w : Moving = with_merge (on_device g (met g.merge.store Flushes)) v in
+        if_changes (answers g.merge.store Flushes) (record w { requests = with_first mine (record r { route = Origin }) w.requests }) (answer mine (Declined Io) w) v (same v) (same v)
+
+    asked_changes : (test : SnapHeld → Bool) (h : SnapHeld) → first_that test v.snaps ≡ Some h → Changes event v (flush_asked mine test h v)
+    asked_changes test h found =
+        let done : SnapHeld = with_store h (met h.snap.store Flushes) in
+        if_changes (answers h.snap.store Flushes) (answer mine Flushed (put test (flushed_held done) v)) (answer mine (Declined Io) (put test done v)) v
+        (rests v (answer mine Flushed (put test (flushed_held done) v)) (put_still test h v found (flushed_held done) (record { number = refl; chunk = refl; bytes_are = refl; pairs_are = refl })) refl)
+        (rests v (answer mine (Declined Io) (put test done v)) (put_still test h v found done (record { number = refl; chunk = refl; bytes_are = refl; pairs_are = refl })) refl)
+
+    whole_changes : (dev : Dev) → Changes event v (on_whole dev mine r v)
+    whole_changes ToOrigin = for_changes v.merge (λ g. flush_merging mine r g v) v v (λ g at. merging_changes g) (same v)
+    whole_changes (ToSnap k) =
+        let test : SnapHeld → Bool = λ h. h.snap.number == k in
+        for_changes (first_that test v.snaps) (λ h. flush_asked mine test h v) v v (λ h found. asked_changes test h found) (same v)
+
+    issue_changes : (route : Route) → r.route ≡ route → Changes event v (issue route mine r v)
+    issue_changes Waits is = same v
+    issue_changes Origin is = disk_changes r.request.op refl is
+    issue_changes (Store place) is = place_changes r.request.dev refl r.request.op refl place r.request.range.first r.request.range.count
+    issue_changes Whole is = whole_changes r.request.dev
+    issue_changes Refused is = same v
+
+  -- copies are started
+  next_still : (chunk : ℕ) (o : Option Pair) (v : Moving) → AreEach IsStill v.snaps (start_next chunk o v).snaps
+  next_still chunk None v = all_still v.snaps
+  next_still chunk (Some q) v = started_still (next_over (chunk * q.old) (count_of chunk (sectors_of v.origin) q.old)) v.started v.snaps
+
+  next_origin : (chunk : ℕ) (o : Option Pair) (v : Moving) → (start_next chunk o v).origin.bytes ≡ v.origin.bytes
+  next_origin chunk None v = refl
+  next_origin chunk (Some q) v = refl
+
+  waiting_rests : (v w : Moving) → AreEach IsStill v.snaps w.snaps → w.origin.bytes ≡ v.origin.bytes → Changes event v (start_waiting w)
+  waiting_rests v w each origin = for_changes w.merge (λ g. start_next g.merge.chunk (next_of g) w) w v
+      (λ g is. rests v (start_next g.merge.chunk (next_of g) w) (each_after v.snaps w.snaps (start_next g.merge.chunk (next_of g) w).snaps each (next_still g.merge.chunk (next_of g) w)) (next_origin g.merge.chunk (next_of g) w ∙ origin))
+      (rests v w each origin)
+
+  -- events of a merge
+  on_merge_changes : (test : MergeHeld → Bool) (f : MergeHeld → Moving → Moving) (v : Moving) → ((g : MergeHeld) → v.merge ≡ Some g → test g ≡ true → Changes event v (f g v)) → Changes event v (on_merge test f v)
+  on_merge_changes test f v each = for_changes v.merge (λ g. if test g then f g v else v) v v (λ g is. by g is (test g) refl) (same v)
+    where
+      by : (g : MergeHeld) → v.merge ≡ Some g → (b : Bool) → test g ≡ b → Changes event v (if b then f g v else v)
+      by g is true passes = each g is passes
+      by g is false passes = same v
+
+  read_changes : (o : Option Pair) (g : MergeHeld) (v : Moving) → Changes event v (read_chunk o g v)
+  read_changes None g v = same v
+  read_changes (Some q) g v =
+      let place : ℕ = g.merge.chunk * q.new in
+      let op : Operation = Reads place (sectors_in q g v) in
+      let done : MergeHeld = on_device g (met g.merge.store op) in
+      if_changes (answers g.merge.store op) (with_merge (record done { waiting = without_last g.waiting; reading = q ∷ []; buffer = sectors_at g.merge.store.bytes place (sectors_in q g v) }) v) (stop done v) v (same v) (same v)
+
+  write_changes : (qs : List Pair) (g : MergeHeld) (v : Moving) → v.merge ≡ Some g → g.reading ≡ qs → is_writable v.snaps g.merge.chunk (sectors_of v.origin) qs ≡ true → Changes event v (write_chunk qs g v)
+  write_changes [] g v is reading clear = same v
+  write_changes (q ∷ qs) g v is reading clear = by (answers v.origin (Writes (g.merge.chunk * q.old) (sectors_in q g v)))
+    where
+      by : (b : Bool) → Changes event v (let w : Moving = record v { origin = record { bytes = if b then with_sectors v.origin.bytes (g.merge.chunk * q.old) g.buffer else v.origin.bytes; layers = layers_after v.origin.layers (Writes (g.merge.chunk * q.old) (sectors_in q g v)) } } in if b then start_next g.merge.chunk (last_of g.waiting) (with_merge (record g { reading = []; buffer = []; copied = q ∷ g.copied }) w) else stop g w)
+      by true =
+          let w : Moving = record v { origin = record { bytes = with_sectors v.origin.bytes (g.merge.chunk * q.old) g.buffer; layers = layers_after v.origin.layers (Writes (g.merge.chunk * q.old) (sectors_in q g v)) } } in
+          let u : Moving = with_merge (record g { reading = []; buffer = []; copied = q ∷ g.copied }) w in
+          inl (next_still g.merge.chunk (last_of g.waiting) u, MergedBack (record { merge = g; is = is; pair = q; rest = qs; reading = reading; clear = clear; now = next_origin g.merge.chunk (last_of g.waiting) u }))
+      by false = same v
+
+  form_changes : (g : MergeHeld) (v : Moving) → Changes event v (form_group g v)
+  form_changes g v =
+      let group : List Pair = last_run (in_area g) in
+      let w : Moving = with_merge (record g { waiting = group }) v in
+      rests v (start_next g.merge.chunk (last_of group) w) (next_still g.merge.chunk (last_of group) w) (next_origin g.merge.chunk (last_of group) w)
+
+  area_changes : (g : MergeHeld) (v : Moving) → Changes event v (read_area g v)
+  area_changes g v =
+      let op : Operation = Reads (g.merge.chunk * area_place g.merge.chunk (g.merge.current - 1)) g.merge.chunk in
+      let done : MergeHeld = on_device g (met g.merge.store op) in
+      if_changes (answers g.merge.store op) (with_merge (record done { merge = record done.merge { current = g.merge.current - 1 } }) v) (stop done v) v (same v) (same v)
+
+  disk_flush_changes : (g : MergeHeld) (v : Moving) → Changes event v (flush_origin g v)
+  disk_flush_changes g v =
+      let w : Moving = record v { origin = met v.origin Flushes } in
+      if_changes (answers v.origin Flushes) (with_merge (record g { flushed = true }) w) (stop g w) v (same v) (same v)
+
+  commit_group_changes : (g : MergeHeld) (v : Moving) → Changes event v (commit_group g v)
+  commit_group_changes g v =
+      let count : ℕ = length g.copied in
+      let kept : ℕ = length (in_area g) - count in
+      let op : Operation = Writes (g.merge.chunk * area_place g.merge.chunk g.merge.current) g.merge.chunk in
+      let done : MergeHeld = on_device g (written_by g.merge.store op (without_slots g.merge.chunk g.merge.store.bytes g.merge.current kept count)) in
+      let committed : Moving = with_merge (record done { merge = record done.merge { next = area_place g.merge.chunk g.merge.current + kept + 1 }; pairs = take (length g.pairs - count) g.pairs; copied = []; released = g.copied }) v in
+      if_changes (answers g.merge.store op) committed (stop done v) v (same v) (same v)
+
+-- any event
+pub event_changes : (event : Event) (v : Moving) → Changes event v (stepped_all event v)
+event_changes (WriteInvalid m) v = on_snap_changes (WriteInvalid m) (λ h. (h.snap.number == m) && can_mark h) mark_invalid v (λ h found.
+    (let can : can_mark h ≡ true = and_last (h.snap.number == m) (can_mark h) (first_passes (λ k. (k.snap.number == m) && can_mark k) v.snaps h found) in
+    mark_changes (WriteInvalid m) (λ k. (k.snap.number == m) && can_mark k) h v found (and_first h.untried (not h.marked) can) (not_true h.marked (and_last h.untried (not h.marked) can))))
+event_changes (FlushStore m) v = on_snap_changes (FlushStore m) (λ h. (h.snap.number == m) && can_flush_store h) flush_store v (λ h found. flush_changes (FlushStore m) (λ k. (k.snap.number == m) && can_flush_store k) h v found)
+event_changes (Publish m) v = for_changes (Publish m) (first_that (publishes v.requests m) v.snaps) (λ h. start_waiting (stepped (Publish m) v)) v v
+    (λ h found.
+    (let its : Mark → Bool = λ k. k.number == m in
+    let e : stepped (Publish m) v ≡ publish (publishes v.requests m) its h v = ap (λ o. for_some o (λ k. publish (publishes v.requests m) its k v) v) found in
+    subst (λ w. Changes (Publish m) v (start_waiting w)) (sym e) (waiting_rests (Publish m) v (publish (publishes v.requests m) its h v) (publish_still (Publish m) (publishes v.requests m) h v found its) refl))) (same (Publish m) v)
+event_changes (WriteArea m) v = on_snap_changes (WriteArea m) (λ h. (h.snap.number == m) && can_commit h) (λ test h. commit (batch_of h) test h) v (λ h found.
+    (let can : can_commit h ≡ true = and_last (h.snap.number == m) (can_commit h) (first_passes (λ k. (k.snap.number == m) && can_commit k) v.snaps h found) in
+    commit_changes (WriteArea m) (λ k. (k.snap.number == m) && can_commit k) h v found (and_first (is_front_ready h.copies) _ can)))
+event_changes (ZeroNext m) v = on_snap_changes (ZeroNext m) (λ h. (h.snap.number == m) && can_zero h) zero_next v (λ h found.
+    (let can : can_zero h ≡ true = and_last (h.snap.number == m) (can_zero h) (first_passes (λ k. (k.snap.number == m) && can_zero k) v.snaps h found) in
+    zero_changes (ZeroNext m) (λ k. (k.snap.number == m) && can_zero k) h v found (and_first (is_front_ready h.copies) _ can)))
+event_changes (CopyWrite m) v = on_copy_changes (CopyWrite m) IsRead m write_copy v (λ test its h p found stands. write_copy_changes (CopyWrite m) test h v found its p stands)
+event_changes (CopyRead m) v = on_copy_changes (CopyRead m) IsWaiting m read_copy v (λ test its h p found stands. read_copy_changes (CopyRead m) test h v found its p)
+event_changes (Issue m) v = for_changes (Issue m) (first_that (takes m) v.requests) (λ r. issue r.route (λ k. k.number == m) r v) v v (λ r taken. issue_changes (Issue m) m r v refl taken (λ k. k.number == m) r.route refl) (same (Issue m) v)
+event_changes MergeGroup v = on_merge_changes MergeGroup can_group form_group v (λ g is can. form_changes MergeGroup g v)
+event_changes MergeAreaRead v = on_merge_changes MergeAreaRead can_read_area read_area v (λ g is can. area_changes MergeAreaRead g v)
+event_changes MergeRead v = on_merge_changes MergeRead (can_read v.requests) (λ m. read_chunk (last_of m.waiting) m) v (λ g is can. read_changes MergeRead (last_of g.waiting) g v)
+event_changes MergeWrite v = on_merge_changes MergeWrite (can_write (sectors_of v.origin) v.snaps) (λ m. write_chunk m.reading m) v (λ g is can. write_changes MergeWrite g.reading g v is refl can)
+event_changes MergeFlush v = on_merge_changes MergeFlush can_flush flush_origin v (λ g is can. disk_flush_changes MergeFlush g v)
+event_changes MergeCommit v = on_merge_changes MergeCommit can_commit_group commit_group v (λ g is can. commit_group_changes MergeCommit g v)
+event_changes MergeRelease v = on_merge_changes MergeRelease (can_release v.requests) end_group v (λ g is can. same MergeRelease v)
