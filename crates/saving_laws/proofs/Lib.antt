@@ -1,2 +1,4 @@
 pub mod Copies
 pub mod Changes
+pub mod Writes
+pub mod Snaps
