@@ -12,7 +12,7 @@ use Rattle.sector.specs.declared.pair.Pair.{Pair}
 use Rattle.cow_header.specs.HeaderText.{found_in}
 use Rattle.cow_header.specs.declared.found.Found.TheVariants.{Header}
 use Rattle.store_bytes.specs.Places.{slot, area_place, chunk_at}
-use Rattle.store_bytes.specs.Pairs.{pairs_of, AreWellFormed, IsInside}
+use Rattle.store_bytes.specs.Pairs.{pairs_of, AreWellFormed}
 use Rattle.store_bytes.specs.Picture.{place_of, IsCopied}
 use Rattle.in_flight.specs.Copies.{count_of}
 use Rattle.in_flight.specs.Due.{is_stage}
@@ -35,7 +35,7 @@ use Rattle.event_machine.specs.Due.{batch_of, filled_of, is_front_ready, is_read
 use Rattle.event_machine.specs.Stepping.{pair_of}
 use Rattle.event_machine.specs.Seen.{Seen, copying_of, held_of}
 use Rattle.saving_laws.proofs.Changes.{StandsIn, Becomes, IsStill, IsCopyWritten, IsZeroed, IsCommitted, IsMarked, IsWrittenBy, IsChanged, Stays, Copied, Zeroed, Committed, Marked, Issued, committed_now}
-use Rattle.saving_laws.proofs.Writes.{IsSafe, same_pairs, copy_safe, zero_safe, mark_safe, commit_safe}
+use Rattle.saving_laws.proofs.Writes.{IsBeside, IsSafe, same_pairs, copy_safe, zero_safe, mark_safe, commit_safe}
 
 none_here : {X : Type 0} (xs : List X) (k : ℕ) → xs ≡ [] → k < length xs → ⊥
 none_here xs k none lt = omega (arith, lt, ap length none)
@@ -50,7 +50,7 @@ stored Written e = refl
 stored Flushed e = refl
 
 -- what stands at an index
-there_is : {X : Type 0} (xs : List X) (k : ℕ) → k < length xs → (x : X) × (x ≡ get_or xs k x)
+pub there_is : {X : Type 0} (xs : List X) (k : ℕ) → k < length xs → (x : X) × (x ≡ get_or xs k x)
 there_is [] k lt = absurd (omega (arith, lt))
 there_is (x ∷ xs) zero lt = (x, refl)
 there_is (x ∷ xs) (suc k) lt = there_is xs k (omega (arith, lt))
@@ -75,7 +75,7 @@ pub record IsSeen (sectors size : ℕ) (o : List ℕ) (rs : List Flight) (b : Sn
   pub good : b.untried ≡ true → b.marked ≡ false → found_in (sector_at b.store 0) ≡ Ok (Header b.chunk)
 
 module _ (sectors size : ℕ) (o : List ℕ) (rs : List Flight) (s : Seen) (seen : IsSeen sectors size o rs s.due.books) (event : Event) (gs : List Going) (t : SnapHeld)
-    (inside' : All (IsInside s.due.books.chunk sectors size) t.pairs) (listed' : pairs_of s.due.books.chunk t.snap.store.bytes ≡ t.pairs) where
+    (inside' : All (IsBeside s.due.books.chunk) t.pairs) (listed' : pairs_of s.due.books.chunk t.snap.store.bytes ≡ t.pairs) where
   abbrev b : SnapBooks
   b = s.due.books
 
@@ -94,8 +94,8 @@ module _ (sectors size : ℕ) (o : List ℕ) (rs : List Flight) (s : Seen) (seen
       let up : b.chunk * (area_place b.chunk n + 1) ≡ b.chunk * area_place b.chunk n + b.chunk = grind arith in
       let r = seen.formed.room in omega (arith, r, up)
 
-  kept_inside : t.pairs ≡ b.pairs → All (IsInside b.chunk sectors size) b.pairs
-  kept_inside same = subst (All (IsInside b.chunk sectors size)) same inside'
+  kept_inside : t.pairs ≡ b.pairs → All (IsBeside b.chunk) b.pairs
+  kept_inside same = subst (All (IsBeside b.chunk)) same inside'
 
   kept_listed : t.pairs ≡ b.pairs → pairs_of b.chunk t.snap.store.bytes ≡ b.pairs
   kept_listed same = listed' ∙ same
@@ -131,7 +131,7 @@ module _ (sectors size : ℕ) (o : List ℕ) (rs : List Flight) (s : Seen) (seen
           let few : length (take (batch_of h) h.copies) ≤ batch_of h = omega (arith, length-take (batch_of h) h.copies) in
           let left : length b.pairs % (32 * b.chunk) ≤ 32 * b.chunk = (let lt = mod_below (length b.pairs) (32 * b.chunk) (let pos = seen.some in omega (arith, pos)) in omega (arith, lt)) in
           let fits : length b.pairs % (32 * b.chunk) + length (committed_now h) ≤ 32 * b.chunk = omega (arith, long, few, left) in
-          commit_safe b.chunk sectors size o b.store t.snap.store.bytes b.pairs seen.some seen.long seen.listed (committed_now h) fits seen.formed.room e.now.bytes_are (listed' ∙ e.now.pairs_are) (subst (All (IsInside b.chunk sectors size)) e.now.pairs_are inside') (seen.past live) (copies live)
+          commit_safe b.chunk sectors size o b.store t.snap.store.bytes b.pairs seen.some seen.long seen.listed (committed_now h) fits seen.formed.room e.now.bytes_are (listed' ∙ e.now.pairs_are) (subst (All (IsBeside b.chunk)) e.now.pairs_are inside') (seen.past live) (copies live)
         where
           copies : b.live ≡ true → All (IsCopied b.chunk o b.store) (committed_now h)
           copies live k x lt =

@@ -49,9 +49,17 @@ none_copied chunk o d k x lt = absurd (omega arith)
 up : (chunk n : ℕ) → chunk * (n + 1) ≡ chunk * n + chunk
 up chunk n = grind arith
 
+-- a pair's copy stands neither on the header nor on an area
+pub record IsBeside (chunk : ℕ) (q : Pair) : Type 0 where
+  pub low : 0 < q.new
+  pub free : is_area_place chunk q.new ≡ false
+
+pub inside_beside : (chunk sectors size : ℕ) (ps : List Pair) → All (IsInside chunk sectors size) ps → All (IsBeside chunk) ps
+inside_beside chunk sectors size ps inside k x lt = record { low = (inside k x lt).low; free = (inside k x lt).free }
+
 -- no pair stands on an area
-off_area : (chunk sectors size a : ℕ) (ps : List Pair) → 0 < chunk → All (IsInside chunk sectors size) ps → All (λ q. q.new ≢ area_place chunk a) ps
-off_area chunk sectors size a ps pos inside k x lt same = true≢false (sym (place_is chunk a pos) ∙ ap (is_area_place chunk) (sym same) ∙ (inside k x lt).free)
+off_area : (chunk a : ℕ) (ps : List Pair) → 0 < chunk → All (IsBeside chunk) ps → All (λ q. q.new ≢ area_place chunk a) ps
+off_area chunk a ps pos inside k x lt same = true≢false (sym (place_is chunk a pos) ∙ ap (is_area_place chunk) (sym same) ∙ (inside k x lt).free)
 
 area_some : (chunk a : ℕ) → area_place chunk a ≢ 0
 area_some chunk a e = omega arith
@@ -82,13 +90,13 @@ module _ (chunk sectors size : ℕ) (o d d' : List ℕ) (ps : List Pair) (pos : 
       same_pairs q.new only now away (kept_header q.new (λ e. (let low = inside.low in omega (arith, e, low))) only)
 
   -- an area is zeroed
-  pub zero_safe : (a : ℕ) → 512 * (chunk * (area_place chunk a + 1)) ≤ length d → d' ≡ zeroed chunk d a → pairs_of chunk d' ≡ ps → All (IsInside chunk sectors size) ps → IsSafe chunk o d d' ps []
+  pub zero_safe : (a : ℕ) → 512 * (chunk * (area_place chunk a + 1)) ≤ length d → d' ≡ zeroed chunk d a → pairs_of chunk d' ≡ ps → All (IsBeside chunk) ps → IsSafe chunk o d d' ps []
   zero_safe a room is now inside =
       let only : ChangesOnly chunk (area_place chunk a) d d' = subst (ChangesOnly chunk (area_place chunk a) d) (sym is) (zeroed_only chunk a d (omega (arith, up chunk (area_place chunk a), room))) in
-      same_pairs (area_place chunk a) only now (off_area chunk sectors size a ps pos inside) (kept_header (area_place chunk a) (area_some chunk a) only)
+      same_pairs (area_place chunk a) only now (off_area chunk a ps pos inside) (kept_header (area_place chunk a) (area_some chunk a) only)
 
   -- the header is marked
-  pub mark_safe : chunk ≤ size → d' ≡ marked chunk d → pairs_of chunk d' ≡ ps → All (IsInside chunk sectors size) ps → found_in (sector_at d 0) ≡ Ok (Header chunk) → IsSafe chunk o d d' ps []
+  pub mark_safe : chunk ≤ size → d' ≡ marked chunk d → pairs_of chunk d' ≡ ps → All (IsBeside chunk) ps → found_in (sector_at d 0) ≡ Ok (Header chunk) → IsSafe chunk o d d' ps []
   mark_safe room is now inside good =
       let len = length-header_bytes (512 * chunk) false chunk (omega arith) in
       let at : 512 * (chunk * 0) + 0 ≡ 0 = omega arith in
@@ -98,7 +106,7 @@ module _ (chunk sectors size : ℕ) (o d d' : List ℕ) (ps : List Pair) (pos : 
       same_pairs 0 only now (λ k x lt e. (let low = (inside k x lt).low in omega (arith, e, low))) (λ _. good)
 
   -- pairs are committed to the current area, behind which it is empty
-  pub commit_safe : (qs : List Pair) → length ps % (32 * chunk) + length qs ≤ 32 * chunk → chunk * (area_place chunk (length ps / (32 * chunk)) + 1) ≤ size → d' ≡ all_paired chunk d (length ps) qs → pairs_of chunk d' ≡ ps ++ qs → All (IsInside chunk sectors size) (ps ++ qs)
+  pub commit_safe : (qs : List Pair) → length ps % (32 * chunk) + length qs ≤ 32 * chunk → chunk * (area_place chunk (length ps / (32 * chunk)) + 1) ≤ size → d' ≡ all_paired chunk d (length ps) qs → pairs_of chunk d' ≡ ps ++ qs → All (IsBeside chunk) (ps ++ qs)
       → ((k : ℕ) → length ps ≤ k → k < (length ps / (32 * chunk) + 1) * (32 * chunk) → (slot chunk d k).new ≡ 0) → All (IsCopied chunk o d) qs → IsSafe chunk o d d' ps qs
   commit_safe qs fits room is now inside past copied =
       let a : ℕ = length ps / (32 * chunk) in
@@ -122,7 +130,7 @@ module _ (chunk sectors size : ℕ) (o d d' : List ℕ) (ps : List Pair) (pos : 
             ])
             (λ k x lt e. (let low = (inside k x lt).low in omega (arith, e, low)));
         now = now;
-        away = off_area chunk sectors size a (ps ++ qs) pos inside;
+        away = off_area chunk a (ps ++ qs) pos inside;
         copied = copied;
         back = kept_header (area_place chunk a) (area_some chunk a) only;
       }
