@@ -58,7 +58,7 @@ all_right : {X : Type 0} (P : X → Type 0) (xs ys : List X) → All P (xs ++ ys
 all_right P xs ys all k x lt = subst P (get_or-append-add xs ys k x) (all (length xs + k) x (omega (arith, lt, length-append xs ys)))
 
 -- where all pass a test, each does
-each_passes : {X : Type 0} (test : X → Bool) (xs : List X) → list_all test xs ≡ true → All (λ x. test x ≡ true) xs
+pub each_passes : {X : Type 0} (test : X → Bool) (xs : List X) → list_all test xs ≡ true → All (λ x. test x ≡ true) xs
 each_passes test [] e k x lt = absurd (omega (arith, lt))
 each_passes test (y ∷ ys) e zero x lt = (and_both (test y) (list_all test ys) e).0
 each_passes test (y ∷ ys) e (suc k) x lt = each_passes test ys (and_both (test y) (list_all test ys) e).1 k x (omega (arith, lt))
