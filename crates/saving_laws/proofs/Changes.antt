@@ -279,8 +279,11 @@ module _ (event : Event) where
     mark_changes untried unmarked = by (answers h.snap.store (Writes 0 h.snap.chunk))
       where
         by : (b : Bool) → Changes event v (let after : SnapHeld = with_store h (record { bytes = if b then marked h.snap.chunk h.snap.store.bytes else h.snap.store.bytes; layers = layers_after h.snap.store.layers (Writes 0 h.snap.chunk) }) in if b then put test (record after { marked = true }) v else rerouted (put test (record after { snap = record after.snap { stale = true }; untried = false }) v))
-        by true = inr (refl, first_put (IsChanged event v.requests) (stays v.requests) test v.snaps h (record (with_store h (record { bytes = marked h.snap.chunk h.snap.store.bytes; layers = layers_after h.snap.store.layers (Writes 0 h.snap.chunk) })) { marked = true }) found
-            (Marked (record { untried = untried; unmarked = unmarked; now = record { number = refl; chunk = refl; bytes_are = refl; pairs_are = refl } })))
+        by true = inr (
+          refl,
+          first_put (IsChanged event v.requests) (stays v.requests) test v.snaps h (record (with_store h (record { bytes = marked h.snap.chunk h.snap.store.bytes; layers = layers_after h.snap.store.layers (Writes 0 h.snap.chunk) })) { marked = true }) found
+              (Marked (record { untried = untried; unmarked = unmarked; now = record { number = refl; chunk = refl; bytes_are = refl; pairs_are = refl } })),
+        )
         by false =
             let after : SnapHeld = with_store h (record { bytes = h.snap.store.bytes; layers = layers_after h.snap.store.layers (Writes 0 h.snap.chunk) }) in
             let t : SnapHeld = record after { snap = record after.snap { stale = true }; untried = false } in
@@ -324,8 +327,11 @@ module _ (event : Event) where
     on_store_changes : (op : Op) → r.request.op ≡ op → (first count : ℕ) (test : SnapHeld → Bool) (h : SnapHeld) → first_that test v.snaps ≡ Some h → r.request.dev ≡ ToSnap h.snap.number → Changes event v (on_store op first count mine test h v)
     on_store_changes ReadOp is first count test h found dev = rests v (put test (with_store h (met h.snap.store (Reads first count))) v) (put_still test h v found (with_store h (met h.snap.store (Reads first count))) (record { number = refl; chunk = refl; bytes_are = refl; pairs_are = refl })) refl
     on_store_changes (WriteOp bytes) is first count test h found dev =
-        inr (refl, first_put (IsChanged event v.requests) (stays v.requests) test v.snaps h (with_store h (written_by h.snap.store (Writes first count) (with_sectors h.snap.store.bytes first bytes))) found
-        (Issued (record { number = m; issued = issued; request = r; found = taken; dev = dev; bytes = bytes; op = is })))
+        inr (
+          refl,
+          first_put (IsChanged event v.requests) (stays v.requests) test v.snaps h (with_store h (written_by h.snap.store (Writes first count) (with_sectors h.snap.store.bytes first bytes))) found
+              (Issued (record { number = m; issued = issued; request = r; found = taken; dev = dev; bytes = bytes; op = is })),
+        )
     on_store_changes FlushOp is first count test h found dev = same v
 
     on_merging_changes : (op : Op) (first count : ℕ) (g : MergeHeld) → Changes event v (on_merging op first count mine g v)

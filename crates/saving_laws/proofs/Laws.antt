@@ -166,9 +166,10 @@ module _ (sectors size : ℕ) (event : Event) (v w : Moving) (ss : List Seen) (f
           let kind = disk_kind (books_in ms) o fs (map (λ s. s.due.books) ss) all.holds i f lt at waits route e.bytes op in
           let inside = request.inside in
           let becomes : o' ≡ with_sectors o f.request.range.first e.bytes = e.now ∙ ap (λ (g : Going). with_sectors o g.request.range.first e.bytes) same in
-          let wrote = disk_written o e.bytes f.request.range.first f.request.range.count (omega (arith, long)) (omega (arith, long, inside, all.long)) in
-          (ap length becomes ∙ wrote.len ∙ all.long,
-          λ j none. ap (λ b. get_or b j 0) becomes ∙ origin_safe chunk f.request.range.first f.request.range.count o (with_sectors o f.request.range.first e.bytes) s.due.books.pairs wrote (disk_placed o fs s.due.books seen.some seen.holds some i f lt at kind route) j (listed_none j none))
+          let wrote = disk_written o e.bytes f.request.range.first f.request.range.count (omega (arith, long)) (omega (arith, long, inside, all.long)) in (
+            ap length becomes ∙ wrote.len ∙ all.long,
+            λ j none. ap (λ b. get_or b j 0) becomes ∙ origin_safe chunk f.request.range.first f.request.range.count o (with_sectors o f.request.range.first e.bytes) s.due.books.pairs wrote (disk_placed o fs s.due.books seen.some seen.holds some i f lt at kind route) j (listed_none j none),
+          )
 
   -- a pair whose chunk is in the buffer
   grouped : (x : MergeSeen) → MergeHolds o fs x.due.books → {q : Pair} {rest : List Pair} → x.due.books.reading ≡ q ∷ rest → IsInside x.due.books.chunk x.due.books.sectors x.due.books.size q
@@ -228,9 +229,10 @@ module _ (sectors size : ℕ) (event : Event) (v w : Moving) (ss : List Seen) (f
               let clear : is_clear_over_in (map (λ s. s.due.books) ss) first n ≡ true =
               sym (clear_over_seen first n ss) ∙ ap (λ xs. is_clear_over xs first n) (sym snaps_are)
               ∙ subst (λ z. is_clear_over v.snaps (x.due.books.chunk * e.pair.old) (count_of x.due.books.chunk z e.pair.old) ≡ true) sectors_are
-              (subst (λ (m : MergeHeld). is_clear_over v.snaps (m.merge.chunk * e.pair.old) (count_of m.merge.chunk (sectors_of v.origin) e.pair.old) ≡ true) same e.clear) in
-              (ap length becomes ∙ wrote.len ∙ all.long,
-              λ j none. ap (λ b. get_or b j 0) becomes ∙ origin_safe chunk first n o (with_sectors o first bytes) s.due.books.pairs wrote (clear_placed some first n clear) j (listed_none j none))
+              (subst (λ (m : MergeHeld). is_clear_over v.snaps (m.merge.chunk * e.pair.old) (count_of m.merge.chunk (sectors_of v.origin) e.pair.old) ≡ true) same e.clear) in (
+                ap length becomes ∙ wrote.len ∙ all.long,
+                λ j none. ap (λ b. get_or b j 0) becomes ∙ origin_safe chunk first n o (with_sectors o first bytes) s.due.books.pairs wrote (clear_placed some first n clear) j (listed_none j none),
+              )
 
   origin_goes : IsSome → IsOriginChanged v o' → IsSafeOrigin
   origin_goes some (Untouched e) = (ap length e ∙ all.long, λ i none. ap (λ b. get_or b i 0) e)
@@ -252,9 +254,11 @@ module _ (sectors size : ℕ) (event : Event) (v w : Moving) (ss : List Seen) (f
           let first : m ≡ d = torn_still size d m (subst (λ x. IsTorn size d x m) same store) seen.long in
           let last : m' ≡ d = torn_still size d m' (subst (λ x. IsTorn size x d m') first (subst (λ x. IsTorn size m x m') same store')) seen.long in
           let lives = live_between size chunk d d' m m' o om om' some_sectors store store' (λ good. sym (ap (λ l. found_in (sector_at l 0)) same) ∙ good) live in
-          let safe = origin_goes (is_some lives.1) origin in
-          (lives.0, subst (λ x. IsSavedFirst chunk (record { origin = om; store = x }) (record { origin = om'; store = m' })) (sym first)
-          (subst (λ x. IsSavedFirst chunk (record { origin = om; store = d }) (record { origin = om'; store = x })) (sym last) (origin_between sectors chunk o o' om om' d all.long safe.0 torn later safe.1)))
+          let safe = origin_goes (is_some lives.1) origin in (
+            lives.0,
+            subst (λ x. IsSavedFirst chunk (record { origin = om; store = x }) (record { origin = om'; store = m' })) (sym first)
+                (subst (λ x. IsSavedFirst chunk (record { origin = om; store = d }) (record { origin = om'; store = x })) (sym last) (origin_between sectors chunk o o' om om' d all.long safe.0 torn later safe.1)),
+          )
       by (inr (same, each)) = put same (changed_safe sectors size o fs s seen event v.requests t beside listed (each_at (IsChanged event v.requests) v.snaps w.snaps each k (held_of s) t low here at))
         where
           put : o' ≡ o → IsWrittenBy event v.requests (held_of s) ⊎ ((qs : List Pair) × IsSafe chunk o d d' s.due.books.pairs qs) → IsLive chunk (record { origin = om; store = m }) × IsSavedFirst chunk (record { origin = om; store = m }) (record { origin = om'; store = m' })
@@ -262,7 +266,9 @@ module _ (sectors size : ℕ) (event : Event) (v w : Moving) (ss : List Seen) (f
           put same (inr (qs, safe)) =
               let first : om ≡ o = torn_still sectors o om (subst (λ x. IsTorn sectors o x om) same torn) all.long in
               let last : om' ≡ o = torn_still sectors o om' (subst (λ x. IsTorn sectors x o om') first (subst (λ x. IsTorn sectors om x om') same later)) all.long in
-              let lives = live_between size chunk d d' m m' o om om' some_sectors store store' safe.back live in
-              (lives.0, subst (λ x. IsSavedFirst chunk (record { origin = x; store = m }) (record { origin = om'; store = m' })) (sym first)
-              (subst (λ x. IsSavedFirst chunk (record { origin = o; store = m }) (record { origin = x; store = m' })) (sym last)
-              (store_between size chunk safe.place o d d' m m' s.due.books.pairs qs seen.some seen.long store store' safe.only safe.was safe.now safe.away safe.copied)))
+              let lives = live_between size chunk d d' m m' o om om' some_sectors store store' safe.back live in (
+                lives.0,
+                subst (λ x. IsSavedFirst chunk (record { origin = x; store = m }) (record { origin = om'; store = m' })) (sym first)
+                    (subst (λ x. IsSavedFirst chunk (record { origin = o; store = m }) (record { origin = x; store = m' })) (sym last)
+                    (store_between size chunk safe.place o d d' m m' s.due.books.pairs qs seen.some seen.long store store' safe.only safe.was safe.now safe.away safe.copied)),
+              )

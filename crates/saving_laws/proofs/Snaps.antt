@@ -101,9 +101,12 @@ module _ (sectors size : ℕ) (o : List ℕ) (rs : List Flight) (s : Seen) (seen
   kept_listed same = listed' ∙ same
 
   stays_safe : IsStill h t → Safe
-  stays_safe e = ([], same_pairs b.chunk sectors size o b.store t.snap.store.bytes b.pairs seen.some seen.long seen.listed 0
-      (record { len = ap length e.bytes_are; rest = λ m ne. ap (λ (l : List ℕ). chunk_at b.chunk l m) e.bytes_are }) (kept_listed e.pairs_are)
-      (λ k x lt same. (let low = (kept_inside e.pairs_are k x lt).low in omega (arith, same, low))) (λ good. ap (λ (l : List ℕ). found_in (sector_at l 0)) (sym e.bytes_are) ∙ good))
+  stays_safe e = (
+    [],
+    same_pairs b.chunk sectors size o b.store t.snap.store.bytes b.pairs seen.some seen.long seen.listed 0
+        (record { len = ap length e.bytes_are; rest = λ m ne. ap (λ (l : List ℕ). chunk_at b.chunk l m) e.bytes_are }) (kept_listed e.pairs_are)
+        (λ k x lt same. (let low = (kept_inside e.pairs_are k x lt).low in omega (arith, same, low))) (λ good. ap (λ (l : List ℕ). found_in (sector_at l 0)) (sym e.bytes_are) ∙ good),
+  )
 
   copy_is_safe : IsCopyWritten h t → Safe
   copy_is_safe e =

@@ -85,8 +85,8 @@ module _ (chunk sectors size : ℕ) (o d d' : List ℕ) (ps : List Pair) (pos : 
   copy_safe q bytes inside short is now away =
       let fits : 512 * (chunk * q.new) + length bytes ≤ length d = (let room = inside.new in omega (arith, up chunk q.new, room, long, short)) in
       let only : ChangesOnly chunk q.new d d' = subst (ChangesOnly chunk q.new d) (sym is)
-          (changes_only chunk q.new (chunk * q.new) chunk d (with_sectors d (chunk * q.new) bytes) (length-with_sectors d (chunk * q.new) bytes fits) (omega arith) (omega arith)
-          (λ i out. byte_outside d (chunk * q.new) bytes i fits (elim out [ inl lo ↦ inl lo | inr hi ↦ inr (omega (arith, hi, short)) ]))) in
+      (changes_only chunk q.new (chunk * q.new) chunk d (with_sectors d (chunk * q.new) bytes) (length-with_sectors d (chunk * q.new) bytes fits) (omega arith) (omega arith)
+      (λ i out. byte_outside d (chunk * q.new) bytes i fits (elim out [ inl lo ↦ inl lo | inr hi ↦ inr (omega (arith, hi, short)) ]))) in
       same_pairs q.new only now away (kept_header q.new (λ e. (let low = inside.low in omega (arith, e, low))) only)
 
   -- an area is zeroed
@@ -101,8 +101,8 @@ module _ (chunk sectors size : ℕ) (o d d' : List ℕ) (ps : List Pair) (pos : 
       let len = length-header_bytes (512 * chunk) false chunk (omega arith) in
       let at : 512 * (chunk * 0) + 0 ≡ 0 = omega arith in
       let only : ChangesOnly chunk 0 d d' = subst (ChangesOnly chunk 0 d) (sym is)
-          (subst (λ (x : ℕ). ChangesOnly chunk 0 d (with_part d x (header_bytes (512 * chunk) false chunk))) at
-          (part_only chunk 0 0 d (header_bytes (512 * chunk) false chunk) (omega arith) (omega (arith, room, long, len)))) in
+      (subst (λ (x : ℕ). ChangesOnly chunk 0 d (with_part d x (header_bytes (512 * chunk) false chunk))) at
+      (part_only chunk 0 0 d (header_bytes (512 * chunk) false chunk) (omega arith) (omega (arith, room, long, len)))) in
       same_pairs 0 only now (λ k x lt e. (let low = (inside k x lt).low in omega (arith, e, low))) (λ _. good)
 
   -- pairs are committed to the current area, behind which it is empty
@@ -114,7 +114,7 @@ module _ (chunk sectors size : ℕ) (o d d' : List ℕ) (ps : List Pair) (pos : 
       let split : length ps / (32 * chunk) * (32 * chunk) + length ps % (32 * chunk) ≡ length ps = div-add-mod' (length ps) (32 * chunk) in
       let more : (length ps / (32 * chunk) + 1) * (32 * chunk) ≡ length ps / (32 * chunk) * (32 * chunk) + 32 * chunk = grind arith in
       let only : ChangesOnly chunk (area_place chunk a) d d' = subst (ChangesOnly chunk (area_place chunk a) d) (sym is)
-          (part_only chunk (area_place chunk a) (16 * j) d (flat_map pair_bytes qs) (omega (arith, fits, pairs_long qs)) (omega (arith, fits, pairs_long qs, up chunk (area_place chunk a), room, long))) in
+      (part_only chunk (area_place chunk a) (16 * j) d (flat_map pair_bytes qs) (omega (arith, fits, pairs_long qs)) (omega (arith, fits, pairs_long qs, up chunk (area_place chunk a), room, long))) in
       record {
         place = area_place chunk a;
         only = only;
