@@ -1,9 +1,8 @@
 -- What devices do ahead is not seen: an event that comes after it saves first.
-use Rattle.std.proofs.Common.{◌≡◌, ◌≢◌, inl, inr, ℕ, ◌*◌, ◌<◌, Bool, true, false, List, length, map, get_or, Some, arith, ap, ◌∙◌, sym, subst}
-use Rattle.std.specs.List.{All}
+use Rattle.std.proofs.Common.{◌≡◌, ℕ, ◌*◌, ◌<◌, true, false, List, length, map, get_or, Some, arith, ap, ◌∙◌, sym, subst}
 use Rattle.std.proofs.lemmas.List.{get_or_default}
 use Rattle.sector.specs.Bytes.{sector_at}
-use Rattle.device.specs.Layers.{Layer, is_loud}
+use Rattle.device.specs.Layers.{Layer}
 use Rattle.stop_laws.specs.Stop.{IsTorn}
 use Rattle.plain_machine.specs.declared.event.Event.{Event}
 use Rattle.in_flight.specs.Kinds.{in_flight}

@@ -1,6 +1,6 @@
 -- What an event changes of the origin's bytes, and of each snapshot's store and pairs: the event machine's own.
 use Rattle.std.proofs.Common.{◌≡◌, ◌⊎◌, inl, inr, ℕ, suc, ◌+◌, ◌-◌, ◌*◌, ◌/◌, ◌%◌, ◌<◌, length, take, drop, Bool, true, false, List, [], ◌∷◌, ◌++◌, map, get_or, Option, None, Some, refl, sym, ◌∙◌, ap, subst, arith}
-use Rattle.std.specs.Prelude.{◌==◌, ◌&&◌, ◌||◌, not, if◌then◌else◌}
+use Rattle.std.specs.Prelude.{◌==◌, ◌&&◌, not, if◌then◌else◌}
 use Rattle.std.specs.List.{list_any}
 use Rattle.std.proofs.lemmas.Bool.{cases_Bool, cond-true, cond-false, eqb-true}
 use Rattle.sector.specs.declared.pair.Pair.{Pair}
@@ -27,14 +27,14 @@ use Rattle.plain_machine.specs.declared.request.Dev.TheVariants.{Origin as ToOri
 use Rattle.plain_machine.specs.declared.request.Op.{Op}
 use Rattle.plain_machine.specs.declared.request.Op.TheVariants.{Read as ReadOp, Write as WriteOp, Flush as FlushOp}
 use Rattle.plain_machine.specs.declared.request.Reply.TheVariants.{Flushed, Refused as Declined}
-use Rattle.plain_machine.specs.declared.request.Failure.TheVariants.{Invalid, Io}
+use Rattle.plain_machine.specs.declared.request.Failure.TheVariants.{Io}
 use Rattle.event_machine.specs.Held.{Copying, SnapHeld, Going, MergeHeld, Moving, flushed_held, spoiled, with_store, with_merge, on_device}
 use Rattle.event_machine.specs.Again.{is_clear_over, next_over, rerouted}
 use Rattle.event_machine.specs.Due.{batch_of, can_commit, can_flush_store, can_mark, can_zero, filled_of, is_front_ready, is_issuable}
 use Rattle.event_machine.specs.MergeDue.{can_commit_group, can_flush, can_group, can_read, can_read_area, can_release, can_write, in_area, is_writable, next_of}
 use Rattle.event_machine.specs.Stepping.{all_paired, answer, commit, mark_of, pair_of, publishes, first_that, flush_asked, flush_merging, flush_store, for_some, is_copy, issue, mark_invalid, on_copy, on_disk, on_merging, on_place, on_snap, on_store, on_whole, publish, put, read_copy, spoil, stepped, store_write, with_first, without_first, write_copy, zero_next}
-use Rattle.event_machine.specs.Submitting.{is_filled, needs_none, start_copies, started_all, with_copy}
-use Rattle.event_machine.specs.MergeStepping.{commit_group, end_group, flush_origin, form_group, on_merge, publish_all, read_area, read_chunk, sectors_in, start_next, start_waiting, stepped_all, stop, without_last, write_chunk}
+use Rattle.event_machine.specs.Submitting.{is_filled, needs_none, started_all, with_copy}
+use Rattle.event_machine.specs.MergeStepping.{commit_group, end_group, flush_origin, form_group, on_merge, read_area, read_chunk, sectors_in, start_next, start_waiting, stepped_all, stop, without_last, write_chunk}
 
 none_some : {X : Type 0} (x : X) → None ≡ Some x → ⊥
 none_some x e = cc

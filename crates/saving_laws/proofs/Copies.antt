@@ -1,6 +1,6 @@
 -- A write of the origin whose chunks have their copies, and a write of one chunk of a store that no pair names, save first: at any
 -- two moments of the write.
-use Rattle.std.proofs.Common.{◌≡◌, ◌≢◌, ◌⊎◌, inl, inr, ℕ, ◌+◌, ◌*◌, ◌/◌, ◌%◌, ◌<◌, ◌≤◌, List, [], ◌∷◌, ◌++◌, length, take, drop, get_or, Bool, true, false, Option, None, Some, Ok, refl, arith, ap, ◌∙◌, sym, subst, append_assoc, length-append}
+use Rattle.std.proofs.Common.{◌≡◌, ◌≢◌, inl, inr, ℕ, ◌+◌, ◌*◌, ◌/◌, ◌%◌, ◌<◌, List, [], ◌∷◌, ◌++◌, length, take, drop, get_or, Bool, true, false, None, Some, Ok, refl, arith, ap, ◌∙◌, sym, subst, append_assoc, length-append}
 use Rattle.std.specs.List.{All}
 use Rattle.std.specs.Prelude.{◌==◌, if◌then◌else◌}
 use Rattle.std.proofs.Math.Nat.{mod-lt}
@@ -17,11 +17,11 @@ use Rattle.store_bytes.proofs.Slots.{IsListed-of}
 use Rattle.store_bytes.proofs.Pictures.{place_found}
 use Rattle.store_bytes.proofs.Views.{byte_same}
 use Rattle.stop_laws.specs.Stop.{IsTorn}
-use Rattle.stop_laws.proofs.Torn.{torn_byte, torn_only, torn_still}
-use Rattle.stop_laws.proofs.Between.{IsBetween, pairs_between}
+use Rattle.stop_laws.proofs.Torn.{torn_byte, torn_only}
+use Rattle.stop_laws.proofs.Between.{IsBetween}
 use Rattle.stop_laws.proofs.Areas.{between_all, torn_between, torn_pairs}
 use Rattle.volume_laws.proofs.Stores.{copied_kept, unnamed_by}
-use Rattle.live_snapshot.specs.Moments.{Files, IsLive, IsSavedFirst}
+use Rattle.live_snapshot.specs.Moments.{IsLive, IsSavedFirst}
 use Rattle.live_snapshot.proofs.Places.{place_front}
 use Rattle.live_snapshot.proofs.Slots.{front}
 

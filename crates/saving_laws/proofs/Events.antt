@@ -1,9 +1,9 @@
 -- An event of a volume saves first: what the volume keeps, in the event machine's words.
-use Rattle.std.proofs.Common.{◌≡◌, ◌≢◌, ◌⊎◌, inl, inr, ℕ, zero, suc, ◌+◌, ◌-◌, ◌*◌, ◌/◌, ◌<◌, ◌≤◌, Bool, true, false, List, [], ◌∷◌, length, map, get_or, Option, None, Some, Result, Ok, Err, refl, arith, ap, ◌∙◌, sym, subst}
-use Rattle.std.specs.Prelude.{◌==◌, ◌&&◌, AllPairs, if◌then◌else◌}
+use Rattle.std.proofs.Common.{◌≡◌, ◌≢◌, ◌⊎◌, inl, inr, ℕ, suc, ◌+◌, ◌*◌, ◌/◌, ◌<◌, ◌≤◌, Bool, true, false, List, [], ◌∷◌, length, map, get_or, Option, None, Some, Result, Ok, Err, refl, arith, ap, ◌∙◌, sym, subst}
+use Rattle.std.specs.Prelude.{◌==◌, ◌&&◌, AllPairs}
 use Rattle.std.specs.List.{All, list_all}
 use Rattle.std.proofs.lemmas.Bool.{cases_Bool, cond-true, cond-false, eqb-true, false≢true}
-use Rattle.std.proofs.lemmas.List.{get_or-map, get_or_default, length-map}
+use Rattle.std.proofs.lemmas.List.{get_or-map, length-map}
 use Rattle.std.proofs.lemmas.Simd.{map-map}
 use Rattle.sector.specs.Bytes.{sector_at}
 use Rattle.cow_header.specs.HeaderText.{found_in}
@@ -18,29 +18,22 @@ use Rattle.store_bytes.specs.Pairs.{pairs_of}
 use Rattle.store_bytes.proofs.AreaPlaces.{area_of}
 use Rattle.stop_laws.specs.Clauses.{Given}
 use Rattle.stop_laws.specs.Stop.{IsTorn}
-use Rattle.stop_laws.specs.May.{number_of, sector_of}
+use Rattle.stop_laws.specs.May.{sector_of}
 use Rattle.stop_laws.proofs.May.{slot_there}
-use Rattle.loss_laws.specs.Kept.{SnapLasts, SnapRefused, last_of, last_slot}
+use Rattle.loss_laws.specs.Kept.{SnapLasts, last_of, last_slot}
 use Rattle.plain_machine.specs.declared.event.Event.{Event}
-use Rattle.plain_machine.specs.declared.event.Event.TheVariants.{Issue}
 use Rattle.plain_machine.specs.declared.event.Outcome.{Outcome}
-use Rattle.plain_machine.specs.declared.request.Dev.{Dev}
 use Rattle.plain_machine.specs.declared.request.Dev.TheVariants.{Snap as ToSnap}
-use Rattle.plain_machine.specs.declared.request.Op.{Op}
-use Rattle.plain_machine.specs.declared.request.Op.TheVariants.{Write}
-use Rattle.plain_machine.specs.declared.request.Request.{Request}
-use Rattle.plain_machine.specs.Plain.{InFlight, asked_under}
+use Rattle.plain_machine.specs.Plain.{asked_under}
 use Rattle.in_flight.specs.Kinds.{in_flight}
 use Rattle.in_flight.specs.declared.flights.Flight.{Flight}
 use Rattle.volume_laws.specs.Books.{SnapBooks}
-use Rattle.volume_laws.specs.Held.{RequestHolds, SnapHolds}
-use Rattle.volume_laws.specs.Merging.{MergeHolds}
+use Rattle.volume_laws.specs.Held.{SnapHolds}
 use Rattle.volume_laws.specs.Waits.{WaitsHolds}
 use Rattle.volume_laws.specs.Whole.{OriginHolds}
-use Rattle.event_machine.specs.Held.{SnapHeld, Going, Moving}
+use Rattle.event_machine.specs.Held.{Going, Moving}
 use Rattle.event_machine.specs.Due.{is_issuable}
-use Rattle.event_machine.specs.MergeSeen.{MergeSeen, books_in, held_in}
-use Rattle.event_machine.specs.MergeStepping.{stepped_all}
+use Rattle.event_machine.specs.MergeSeen.{MergeSeen, books_in}
 use Rattle.event_machine.specs.Seen.{Seen, going_of, held_of as held_seen, replied_by}
 use Rattle.event_machine.specs.Stepping.{first_that}
 use Rattle.snapshot.specs.Kept.{Kept, books_of as snap_books}

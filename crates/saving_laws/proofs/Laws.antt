@@ -1,5 +1,5 @@
 -- An event saves first: of one snapshot among the others, in the event machine's words.
-use Rattle.std.proofs.Common.{◌≡◌, ◌≢◌, ◌⊎◌, inl, inr, ℕ, zero, suc, ◌+◌, ◌-◌, ◌*◌, ◌/◌, ◌<◌, ◌≤◌, Bool, true, false, List, [], ◌∷◌, ◌++◌, length, map, take, min, get_or, Option, None, Some, Ok, refl, arith, ap, ◌∙◌, sym, subst, length-append}
+use Rattle.std.proofs.Common.{◌≡◌, ◌≢◌, ◌⊎◌, inl, inr, ℕ, zero, suc, ◌+◌, ◌*◌, ◌/◌, ◌<◌, ◌≤◌, Bool, true, false, List, [], ◌∷◌, ◌++◌, length, map, take, get_or, Option, None, Some, Ok, refl, arith, ap, ◌∙◌, sym, subst, length-append}
 use Rattle.std.specs.Prelude.{◌&&◌, not}
 use Rattle.std.specs.List.{All, list_all, list_any}
 use Rattle.std.proofs.lemmas.Bool.{cases_Bool, false≢true}
@@ -16,13 +16,11 @@ use Rattle.stop_laws.proofs.Torn.{torn_still}
 use Rattle.plain_machine.specs.declared.event.Event.{Event}
 use Rattle.plain_machine.specs.declared.request.Dev.{Dev}
 use Rattle.plain_machine.specs.declared.request.Dev.TheVariants.{Origin as ToOrigin, Snap as ToSnap}
-use Rattle.plain_machine.specs.declared.request.Op.{Op}
 use Rattle.plain_machine.specs.declared.request.Op.TheVariants.{Write}
 use Rattle.in_flight.specs.Copies.{count_of}
 use Rattle.in_flight.specs.Kinds.{kind_at, kind_of}
 use Rattle.in_flight.specs.declared.flights.Flight.{Flight}
 use Rattle.in_flight.specs.declared.flights.Kind.TheVariants.{OriginWrite, SnapWrite}
-use Rattle.in_flight.specs.declared.flights.Route.{Route}
 use Rattle.in_flight.specs.declared.flights.Route.TheVariants.{Origin, Refused}
 use Rattle.volume_laws.specs.Books.{SnapBooks, MergeBooks}
 use Rattle.volume_laws.specs.Published.{IsSavedOver, is_clear_over as is_clear_over_in, is_saved_over}
@@ -37,9 +35,9 @@ use Rattle.event_machine.specs.Held.{SnapHeld, Going, MergeHeld, Moving}
 use Rattle.event_machine.specs.Seen.{Seen, going_of, held_of}
 use Rattle.event_machine.specs.MergeSeen.{MergeSeen, books_in, buffered, held_in, merge_held_of}
 use Rattle.event_machine.proofs.Tied.{clear_over_seen}
-use Rattle.live_snapshot.specs.Moments.{Files, IsLive, IsSavedFirst}
+use Rattle.live_snapshot.specs.Moments.{IsLive, IsSavedFirst}
 use Rattle.saving_laws.proofs.Copies.{live_between, origin_between, store_between}
-use Rattle.saving_laws.proofs.Changes.{AreEach, Becomes, Changes, IsChanged, IsDiskWritten, IsMergedBack, IsOriginChanged, IsStill, IsWrittenBy, Untouched, OnDisk, MergedBack, first_stands, takes}
+use Rattle.saving_laws.proofs.Changes.{AreEach, Changes, IsChanged, IsDiskWritten, IsMergedBack, IsOriginChanged, IsStill, IsWrittenBy, Untouched, OnDisk, MergedBack, first_stands, takes}
 use Rattle.saving_laws.proofs.Snaps.{IsSeen, changed_safe, disk_placed, merged_placed, there_is}
 use Rattle.saving_laws.proofs.Writes.{IsBeside, IsSafe, disk_written, origin_safe}
 

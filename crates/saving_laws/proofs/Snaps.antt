@@ -1,11 +1,11 @@
 -- Why what becomes of a snapshot saves first: what its books keep.
-use Rattle.std.proofs.Common.{◌≡◌, ◌≢◌, ◌⊎◌, inl, inr, ℕ, zero, suc, ◌+◌, ◌-◌, ◌*◌, ◌/◌, ◌%◌, ◌<◌, ◌≤◌, Bool, true, false, List, [], ◌∷◌, ◌++◌, length, map, take, min, get_or, Option, None, Some, Ok, nat_lt, refl, arith, ap, ◌∙◌, sym, subst, append-nil}
-use Rattle.std.specs.Prelude.{◌&&◌, not, if◌then◌else◌}
+use Rattle.std.proofs.Common.{◌≡◌, ◌≢◌, ◌⊎◌, inl, inr, ℕ, zero, suc, ◌+◌, ◌*◌, ◌/◌, ◌%◌, ◌<◌, ◌≤◌, Bool, true, false, List, [], ◌∷◌, length, map, take, get_or, None, Ok, refl, arith, ap, ◌∙◌, sym, subst}
+use Rattle.std.specs.Prelude.{◌&&◌, if◌then◌else◌}
 use Rattle.std.proofs.lemmas.Nat.{mod_below}
 use Rattle.std.specs.List.{All, prefix_len}
 use Rattle.std.proofs.lemmas.Bool.{cases_Bool, false≢true}
 use Rattle.std.proofs.lemmas.Bool.Decides.{nat_tests}
-use Rattle.std.proofs.lemmas.List.{get_or-map, get_or-take, get_or_default, length-map, length-take, length-take-le}
+use Rattle.std.proofs.lemmas.List.{get_or-map, get_or-take, length-map, length-take}
 use Rattle.std.proofs.lemmas.List.Sums.{prefix_len_passes, prefix_len-le-length}
 use Rattle.sector.specs.Bytes.{sector_at, with_sectors}
 use Rattle.sector.specs.declared.pair.Pair.{Pair}
@@ -14,7 +14,6 @@ use Rattle.cow_header.specs.declared.found.Found.TheVariants.{Header}
 use Rattle.store_bytes.specs.Places.{slot, area_place, chunk_at}
 use Rattle.store_bytes.specs.Pairs.{pairs_of, AreWellFormed}
 use Rattle.store_bytes.specs.Picture.{place_of, IsCopied}
-use Rattle.in_flight.specs.Copies.{count_of}
 use Rattle.in_flight.specs.Due.{is_stage}
 use Rattle.in_flight.specs.Kinds.{kind_of}
 use Rattle.in_flight.specs.declared.copies.ChunkCopy.{ChunkCopy}
@@ -31,10 +30,10 @@ use Rattle.volume_laws.proofs.Bytes.{sector_in}
 use Rattle.volume_laws.proofs.Stores.{apart_from_pairs, copy_holds, inside_at}
 use Rattle.loss_laws.proofs.Copied.{none_before}
 use Rattle.event_machine.specs.Held.{Copying, SnapHeld, Going}
-use Rattle.event_machine.specs.Due.{batch_of, filled_of, is_front_ready, is_ready}
+use Rattle.event_machine.specs.Due.{batch_of, is_front_ready, is_ready}
 use Rattle.event_machine.specs.Stepping.{pair_of}
 use Rattle.event_machine.specs.Seen.{Seen, copying_of, held_of}
-use Rattle.saving_laws.proofs.Changes.{StandsIn, Becomes, IsStill, IsCopyWritten, IsZeroed, IsCommitted, IsMarked, IsWrittenBy, IsChanged, Stays, Copied, Zeroed, Committed, Marked, Issued, committed_now}
+use Rattle.saving_laws.proofs.Changes.{IsStill, IsCopyWritten, IsZeroed, IsCommitted, IsMarked, IsWrittenBy, IsChanged, Stays, Copied, Zeroed, Committed, Marked, Issued, committed_now}
 use Rattle.saving_laws.proofs.Writes.{IsBeside, IsSafe, same_pairs, copy_safe, zero_safe, mark_safe, commit_safe}
 
 none_here : {X : Type 0} (xs : List X) (k : ℕ) → xs ≡ [] → k < length xs → ⊥
