@@ -48,7 +48,7 @@ module _ {B : Type 0} (holds : B → ℕ → List ℕ → Type 0) (contents : B 
     same_chunk = ap (λ (x : Kept B). x.state.chunk) one.same
 
     not_written : IsNotWritten event old s → IsNotWritten event between u
-    not_written none g given named = none g (ap (λ fs. given_by event (map in_flight fs)) (sym flights_are) ∙ given) (named ∙ ap Some same_number)
+    not_written none live g given named = none (sym (ap (λ (x : Kept B). x.live) one.same) ∙ live) g (ap (λ fs. given_by event (map in_flight fs)) (sym flights_are) ∙ given) (named ∙ ap Some same_number)
 
     moment : (a b : Files) → IsBetween (size old.origin) (size s.device) a (files_of contents new t) b → IsBetween (size between.origin) (size u.device) a (files_of contents new t) b
     moment a b x = record {

@@ -119,6 +119,8 @@ pub record IsWrittenBy (event : Event) (rs : List Going) (h : SnapHeld) : Type 0
   pub issued : event ≡ Issue number
   pub request : Going
   pub found : first_that (takes number) rs ≡ Some request
+  pub place : ℕ
+  pub route : request.route ≡ Store place
   pub dev : request.request.dev ≡ ToSnap h.snap.number
   pub bytes : List ℕ
   pub op : request.request.op ≡ WriteOp bytes
@@ -324,15 +326,15 @@ module _ (event : Event) where
         by false = same v
     disk_changes FlushOp is route = same v
 
-    on_store_changes : (op : Op) → r.request.op ≡ op → (first count : ℕ) (test : SnapHeld → Bool) (h : SnapHeld) → first_that test v.snaps ≡ Some h → r.request.dev ≡ ToSnap h.snap.number → Changes event v (on_store op first count mine test h v)
-    on_store_changes ReadOp is first count test h found dev = rests v (put test (with_store h (met h.snap.store (Reads first count))) v) (put_still test h v found (with_store h (met h.snap.store (Reads first count))) (record { number = refl; chunk = refl; bytes_are = refl; pairs_are = refl })) refl
-    on_store_changes (WriteOp bytes) is first count test h found dev =
+    on_store_changes : (place : ℕ) → r.route ≡ Store place → (op : Op) → r.request.op ≡ op → (first count : ℕ) (test : SnapHeld → Bool) (h : SnapHeld) → first_that test v.snaps ≡ Some h → r.request.dev ≡ ToSnap h.snap.number → Changes event v (on_store op first count mine test h v)
+    on_store_changes place route ReadOp is first count test h found dev = rests v (put test (with_store h (met h.snap.store (Reads first count))) v) (put_still test h v found (with_store h (met h.snap.store (Reads first count))) (record { number = refl; chunk = refl; bytes_are = refl; pairs_are = refl })) refl
+    on_store_changes place route (WriteOp bytes) is first count test h found dev =
         inr (
           refl,
           first_put (IsChanged event v.requests) (stays v.requests) test v.snaps h (with_store h (written_by h.snap.store (Writes first count) (with_sectors h.snap.store.bytes first bytes))) found
-              (Issued (record { number = m; issued = issued; request = r; found = taken; dev = dev; bytes = bytes; op = is })),
+              (Issued (record { number = m; issued = issued; request = r; found = taken; place = place; route = route; dev = dev; bytes = bytes; op = is })),
         )
-    on_store_changes FlushOp is first count test h found dev = same v
+    on_store_changes place route FlushOp is first count test h found dev = same v
 
     on_merging_changes : (op : Op) (first count : ℕ) (g : MergeHeld) → Changes event v (on_merging op first count mine g v)
     on_merging_changes ReadOp first count g = same v
@@ -342,12 +344,12 @@ module _ (event : Event) where
     named : (k : ℕ) (h : SnapHeld) → first_that (λ x. x.snap.number == k) v.snaps ≡ Some h → h.snap.number ≡ k
     named k h found = eqb-true h.snap.number k (first_passes (λ x. x.snap.number == k) v.snaps h found)
 
-    place_changes : (dev : Dev) → r.request.dev ≡ dev → (op : Op) → r.request.op ≡ op → (place first count : ℕ) → Changes event v (on_place dev op place first count mine v)
-    place_changes ToOrigin at op is place first count = for_changes v.merge (λ g. on_merging op (g.merge.chunk * place + first % g.merge.chunk) count mine g v) v v (λ g is. on_merging_changes op (g.merge.chunk * place + first % g.merge.chunk) count g) (same v)
-    place_changes (ToSnap k) at op is place first count =
+    place_changes : (dev : Dev) → r.request.dev ≡ dev → (op : Op) → r.request.op ≡ op → (place : ℕ) → r.route ≡ Store place → (first count : ℕ) → Changes event v (on_place dev op place first count mine v)
+    place_changes ToOrigin at op is place route first count = for_changes v.merge (λ g. on_merging op (g.merge.chunk * place + first % g.merge.chunk) count mine g v) v v (λ g is. on_merging_changes op (g.merge.chunk * place + first % g.merge.chunk) count g) (same v)
+    place_changes (ToSnap k) at op is place route first count =
         let test : SnapHeld → Bool = λ h. h.snap.number == k in
         for_changes (first_that test v.snaps) (λ h. on_store op (h.snap.chunk * place + first % h.snap.chunk) count mine test h v) v v
-        (λ h found. on_store_changes op is (h.snap.chunk * place + first % h.snap.chunk) count test h found (at ∙ ap ToSnap (sym (named k h found)))) (same v)
+        (λ h found. on_store_changes place route op is (h.snap.chunk * place + first % h.snap.chunk) count test h found (at ∙ ap ToSnap (sym (named k h found)))) (same v)
 
     merging_changes : (g : MergeHeld) → Changes event v (flush_merging mine r g v)
     merging_changes g =
@@ -370,7 +372,7 @@ module _ (event : Event) where
     issue_changes : (route : Route) → r.route ≡ route → Changes event v (issue route mine r v)
     issue_changes Waits is = same v
     issue_changes Origin is = disk_changes r.request.op refl is
-    issue_changes (Store place) is = place_changes r.request.dev refl r.request.op refl place r.request.range.first r.request.range.count
+    issue_changes (Store place) is = place_changes r.request.dev refl r.request.op refl place is r.request.range.first r.request.range.count
     issue_changes Whole is = whole_changes r.request.dev
     issue_changes Refused is = same v
 

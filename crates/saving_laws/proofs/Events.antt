@@ -25,10 +25,12 @@ use Rattle.plain_machine.specs.declared.event.Event.{Event}
 use Rattle.plain_machine.specs.declared.event.Outcome.{Outcome}
 use Rattle.plain_machine.specs.declared.request.Dev.TheVariants.{Snap as ToSnap}
 use Rattle.plain_machine.specs.Plain.{asked_under}
-use Rattle.in_flight.specs.Kinds.{in_flight}
+use Rattle.in_flight.specs.Kinds.{in_flight, kind_at, kind_of}
+use Rattle.in_flight.specs.declared.flights.Kind.TheVariants.{SnapWrite}
+use Rattle.in_flight.specs.declared.flights.Route.TheVariants.{Refused, Store}
 use Rattle.in_flight.specs.declared.flights.Flight.{Flight}
 use Rattle.volume_laws.specs.Books.{SnapBooks}
-use Rattle.volume_laws.specs.Held.{SnapHolds}
+use Rattle.volume_laws.specs.Held.{RefusedHolds, SnapHolds}
 use Rattle.volume_laws.specs.Waits.{WaitsHolds}
 use Rattle.volume_laws.specs.Whole.{OriginHolds}
 use Rattle.event_machine.specs.Held.{Going, Moving}
@@ -87,6 +89,9 @@ all_mapped P f xs all k y lt =
     let within : k < length xs = omega (arith, lt, length-map xs f) in
     let (x, is) = there_is xs k within in
     subst P (sym (get_or-map f xs k x y within)) (all k x within)
+
+refused_elsewhere : (place : ℕ) → Refused ≡ Store place → ⊥
+refused_elsewhere place e = cc
 
 bad_header : (chunk : ℕ) (r : Result Found Refusal) → r ≡ Err Invalid → r ≡ Ok (Header chunk) → ⊥
 bad_header chunk r bad good = let e : Err Invalid ≡ Ok (Header chunk) = sym bad ∙ good in cc
@@ -224,12 +229,22 @@ module _ {B : Type 0} (holds : B → ℕ → List ℕ → Type 0) (contents : B 
 
       -- a write of its array is what the event issues
       not_written : (event : Event) → IsNotWritten event v s → IsWrittenBy event (map going_of v.flights) (held_of contents layers s) → ⊥
-      not_written event none e =
-          let g : Given = record { array = Some s.number; first = e.request.request.range.first; count = e.request.request.range.count; bytes = e.bytes } in
-          let asked : asked_under e.number (map in_flight v.flights) ≡ Some e.request.request = asked_found e.number e.request v.flights kept.whole.waits.numbers e.found in
-          let gives : given_as e.request.request.dev e.request.request.range e.request.request.op ≡ Some g =
-          ap (λ dev. given_as dev e.request.request.range e.request.request.op) e.dev ∙ ap (given_as (ToSnap s.number) e.request.request.range) e.op in
-          none g (ap (λ x. given_by x (map in_flight v.flights)) e.issued ∙ ap given_in asked ∙ gives) refl
+      not_written event none e = elim (cases_Bool s.live) [
+        | inl live ↦
+            (let g : Given = record { array = Some s.number; first = e.request.request.range.first; count = e.request.request.range.count; bytes = e.bytes } in
+            let asked : asked_under e.number (map in_flight v.flights) ≡ Some e.request.request = asked_found e.number e.request v.flights kept.whole.waits.numbers e.found in
+            let gives : given_as e.request.request.dev e.request.request.range e.request.request.op ≡ Some g =
+            ap (λ dev. given_as dev e.request.request.range e.request.request.op) e.dev ∙ ap (given_as (ToSnap s.number) e.request.request.range) e.op in
+            none live g (ap (λ x. given_by x (map in_flight v.flights)) e.issued ∙ ap given_in asked ∙ gives) refl)
+        | inr dead ↦
+            (let stands = first_stands (takes e.number) (map going_of v.flights) e.request e.found in
+            let lt : stands.index < length v.flights = (let x = stands.within in omega (arith, x, length-map v.flights going_of)) in
+            let (f, at) = there_is v.flights stands.index lt in
+            let same : e.request ≡ going_of f = stands.is ∙ get_or-map going_of v.flights stands.index f e.request lt ∙ ap going_of (sym at) in
+            let kind : kind_of f.request ≡ SnapWrite s.number = sym (ap (λ (g : Going). kind_of g.request) same) ∙ ap (λ dev. kind_at dev e.request.request.op) e.dev ∙ ap (kind_at (ToSnap s.number)) e.op in
+            let refused : RefusedHolds s.number f = subst (RefusedHolds s.number) (sym at) ((held.spoilt dead).routes stands.index f lt) in
+            refused_elsewhere e.place (sym (refused.write kind) ∙ sym (ap (λ (g : Going). g.route) same) ∙ e.route))
+      ]
 
   module _ (event : Event) (outcome : Outcome) (v w : Volumed B) (kept : IsKept holds contents layers size v) (kept' : IsKept holds contents layers size w) (loud : is_loud_in_all layers v ≡ true) (loud' : is_loud_in_all layers w ≡ true) (same : KeepsAll size v w) (exact : IsExact contents layers event outcome v w) where
     abbrev before : Moving

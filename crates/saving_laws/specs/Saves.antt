@@ -20,9 +20,9 @@ pub record IsBetween (sectors size : ℕ) (old new mid : Files) : Type 0 where
   pub origin : IsTorn sectors old.origin new.origin mid.origin
   pub store : IsTorn size old.store new.store mid.store
 
--- the event issues no write of this snapshot's array
+-- the event issues no write of this snapshot's array, if that is live: those of a spoiled one are refused
 abbrev pub IsNotWritten : {B : Type 0} → Event → Volumed B → Kept B → Type 0
-IsNotWritten event v s = (g : Given) → given_by event (map in_flight v.flights) ≡ Some g → g.array ≢ Some s.number
+IsNotWritten event v s = s.live ≡ true → (g : Given) → given_by event (map in_flight v.flights) ≡ Some g → g.array ≢ Some s.number
 
 -- Each snapshot whose store is not stale, and that the event does not write, is saved first: from any moment of the event to any
 -- later one. Where it is live later, it was before. That is said where no device drops writes.
