@@ -9,6 +9,7 @@ use Rattle.plain_machine.specs.declared.request.Dev.{Dev}
 use Rattle.volume.specs.DoesAhead.{DoesAhead}
 use Rattle.volume.specs.DoesStep.{DoesStep}
 use Rattle.volume.specs.Volumed.{Volumed, is_due_of, is_loud_in_all, plain_of}
+use Rattle.volume.proofs.Aheads.{kept_ahead}
 use Rattle.saving_laws.proofs.Aheads.{ahead_saves}
 use Rattle.saving_laws.proofs.Events.{event_saves}
 use Rattle.volume_nbd.specs.Answers.{stepped_as}
@@ -33,7 +34,7 @@ module _ {B : Type 0} (holds : B → ℕ → List ℕ → Type 0) (contents : B 
     saves = λ kept kept'. record {
       each = λ k s t within is at loud.
           (ahead_saves holds contents layers size faults done whole here event old between new ahead step.loud
-          (event_saves holds contents layers size whole here event outcome between new kept kept' (sym step.loud ∙ loud) loud step.kept step.exact)).each k s t within is at loud;
+          (event_saves holds contents layers size whole here event outcome between new (kept_ahead holds contents layers size faults done whole old between ahead.devices kept) kept' (sym step.loud ∙ loud) loud step.kept step.exact)).each k s t within is at loud;
     };
     told = told;
   }

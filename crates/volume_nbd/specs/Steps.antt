@@ -40,7 +40,7 @@ pub record DoesEvent {B : Type 0} (holds : B → ℕ → List ℕ → Type 0) (c
   pub ahead : DoesAhead holds contents layers size faults done old between
   pub step : DoesStep holds contents layers size faults done true event (Ok outcome) between new
   pub legal : is_loud_in_all layers new ≡ true → IsLegalStep (plain_of contents layers old) event outcome (plain_of contents layers new)
-  pub saves : IsKept holds contents layers size between → IsKept holds contents layers size new → SavesFirst contents layers size event old new
+  pub saves : IsKept holds contents layers size old → IsKept holds contents layers size new → SavesFirst contents layers size event old new
   pub told : stepped ≡ stepped_as (is_idle old event) (is_failed_at failed chosen new) outcome
 
 -- One event, or none: then nothing comes back.
