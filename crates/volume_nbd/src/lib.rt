@@ -1,6 +1,7 @@
 //! A volume as an array that a client reads and writes: pieces of requests become requests of the volume, and its events are done
 //! in rounds. It stands on `served_array`, `nbd_jobs` and `nbd_messages` (what a session asks, and what it is told), on
-//! `event_rounds` and `in_flight` (which events are done together), and on `volume` with what that is made of.
+//! `event_rounds` and `in_flight` (which events are done together), on `saving_laws` (why an event saves first), and on `volume` with
+//! what that is made of.
 //!
 //! It promises that a piece is handed on as just the request that it asks for, under the number that the volume gives it, or is
 //! refused with the error that stands for the volume's reason; that a step does one event that is due, or none; and that what comes back
