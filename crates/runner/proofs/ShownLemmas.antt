@@ -45,7 +45,7 @@ step_shown (commands.Remove name) table well = as_done (commands.Remove name) ta
 step_shown (commands.Load disk first bytes) table well = let e = load_line disk first bytes table in in_both (commands.Load disk first bytes) table _ _ e (λ r. e) _
 step_shown (commands.Save disk first count) table well = in_both (commands.Save disk first count) table _ _ refl (λ r. refl) _
 step_shown (commands.Copy from first to count) table well = let e = copy_line from first to count table in in_both (commands.Copy from first to count) table _ _ e (λ r. e) _
-step_shown commands.List table well = in_both commands.List table _ _ refl (λ r. refl) _
+step_shown commands.List table well = in_both commands.List table (arrays_in (step commands.List table).left) _ refl (λ r. refl) (printed_as (step commands.List table).answer)
 step_shown (commands.Message device message) table well = let e = tell_line device message table in in_both (commands.Message device message) table _ _ e (λ r. e) _
 step_shown (commands.Tick seconds) table well = ticked_shows seconds table
 step_shown (commands.Read device first count) table well = let e = read_line device first count table in in_both (commands.Read device first count) table _ _ e (λ r. e) _
