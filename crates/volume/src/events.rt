@@ -10,7 +10,7 @@ ghost use Rattle.volume.specs.DoesStep.{DoesStep};
 ghost use Rattle.volume.specs.Exact.{IsExact};
 ghost use Rattle.volume.specs.Whole.{IsWhole};
 ghost use Rattle.volume.specs.Closing.{ClosesBy};
-ghost use Rattle.volume.specs.Lasting.{StopsSnaps};
+ghost use Rattle.volume.specs.Lasting.{IsKept, StopsSnaps};
 ghost use Rattle.volume.specs.MergeLasting.{StopsOriginOn};
 
 use crate::Volume;
@@ -78,6 +78,15 @@ impl<B: Block> Volume<B> {
     /// A look at all of it, which does nothing: what its type keeps.
     fn look_inside(&self)
         ensures whole { IsWhole B.contents B.layers B.size self.now }
+    {
+        let _ = &self.flights;
+    }
+
+    /// A look at all of it, which does nothing, for callers: what its type keeps, of its books and of what its devices may
+    /// hold after a stop.
+    #[inline(always)]
+    pub fn look(&self)
+        ensures kept { IsKept B.may_hold B.contents B.layers B.size self.now }
     {
         let _ = &self.flights;
     }

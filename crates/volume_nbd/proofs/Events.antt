@@ -8,6 +8,7 @@ use Rattle.served_array.specs.declared.array.Stepped.{Stepped}
 use Rattle.plain_machine.specs.declared.request.Dev.{Dev}
 use Rattle.volume.specs.DoesAhead.{DoesAhead}
 use Rattle.volume.specs.DoesStep.{DoesStep}
+use Rattle.volume.specs.Lasting.{IsKept}
 use Rattle.volume.specs.Volumed.{Volumed, is_due_of, is_loud_in_all, plain_of}
 use Rattle.volume.proofs.Aheads.{kept_ahead}
 use Rattle.saving_laws.proofs.Aheads.{ahead_saves}
@@ -20,8 +21,9 @@ module _ {B : Type 0} (holds : B → ℕ → List ℕ → Type 0) (contents : B 
     (whole : (d : B) → length (contents d) ≡ 512 * size d) (here : (d : B) (s : ℕ) → s < size d → holds d s (sector_at (contents d) s)) where
   pub event_done : (event : Event) (outcome : Outcome) (stepped : Stepped) (old between new : Volumed B) → is_due_of contents layers old event ≡ true → DoesAhead holds contents layers size faults done old between
       → DoesStep holds contents layers size faults done true event (Ok outcome) between new
+      → IsKept holds contents layers size old → IsKept holds contents layers size new
       → stepped ≡ stepped_as (is_idle old event) (is_failed_at failed chosen new) outcome → DoesEvent holds contents layers size faults done failed chosen stepped old new
-  event_done event outcome stepped old between new due ahead step told = record {
+  event_done event outcome stepped old between new due ahead step kept kept' told = record {
     event = event;
     outcome = outcome;
     between = between;
@@ -31,7 +33,7 @@ module _ {B : Type 0} (holds : B → ℕ → List ℕ → Type 0) (contents : B 
     legal = λ loud. let was : is_loud_in_all layers between ≡ true = sym step.loud ∙ loud in
         let e : plain_of contents layers between ≡ plain_of contents layers old = ahead.plain was in
         rw e at step.legal was;
-    saves = λ kept kept'. record {
+    saves = record {
       each = λ k s t within is at loud.
           (ahead_saves holds contents layers size faults done whole here event old between new ahead step.loud
           (event_saves holds contents layers size whole here event outcome between new (kept_ahead holds contents layers size faults done whole old between ahead.devices kept) kept' (sym step.loud ∙ loud) loud step.kept step.exact)).each k s t within is at loud;

@@ -37,10 +37,13 @@ impl<B: Ahead> VolumeArray<B> {
             return None;
         }
         let idle = is_of_merge(event) && self.volume.flights().is_empty();
+        // Looks, before and after: what the volume keeps true.
+        self.volume.look();
         self.volume.ahead(event);
         let Ok(outcome) = self.volume.step(event) else {
             return None;
         };
+        self.volume.look();
         self.went = true;
         let failed = is_failed_at(&self.volume, self.dev);
         Some(stepped(self.alloc, idle, failed, outcome))
