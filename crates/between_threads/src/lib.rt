@@ -1,5 +1,6 @@
-//! What goes between threads, and knows no volume: a queue of tickets for pending copies, with what a worker does with them; and a
-//! board, which says how much of one snapshot's store is in use, as one word that one thread publishes and any others read.
+//! What goes between threads, and knows no volume: a queue of tickets for pending copies, with what a worker does with them; a
+//! board, which says how much of one snapshot's store is in use, as one word that one thread publishes and any others read; and
+//! `never`, by which the crates above wait for ever in a branch that never comes, though no proof says that it doesn't.
 //!
 //! It stands on the bounded channel of `crossbeam_channel` that keeps a rule, and on `atomic_table` for the word's single steps. It
 //! promises that what was taken or is left in the queue is what was put, each as often, however many threads put and take, and that a
@@ -18,6 +19,7 @@ mod queue;
 mod rule;
 mod ticket;
 mod tickets;
+mod unreached;
 mod usage;
 mod worker;
 
@@ -27,6 +29,7 @@ pub use counting::Count;
 pub use pass::TicketPass;
 pub use queue::Tickets;
 pub use ticket::{PendingCopy, Ticket};
+pub use unreached::never;
 pub use usage::{PlaceState, PlaceUsage};
 pub use worker::{Copies, Gate, WorkerEnd, work};
 

@@ -111,7 +111,7 @@ fn at_once<R: Threads + Wait + Sync>(
     take_all(&mut held.volumes, used, &mut slots, &mut audits);
     let (mut audits, ran) = run(rt, alloc, audits, count_used(used), workers, hold, tasks);
     while let Some(slot) = slots.pop() {
-        held.volumes.push_reserved(put_back(rt, slot, &mut audits));
+        held.volumes.push_reserved(put_back(slot, &mut audits));
     }
     if ran { Ok(()) } else { Err(Refusal::NoMemory) }
 }

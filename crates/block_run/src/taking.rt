@@ -1,8 +1,10 @@
 // Volumes that are taken out of the table while their seats run, and put back.
-ghost use Rattle.std.specs.Prelude.{◌≡◌, ◌+◌, ◌<◌, ◌≤◌, Bool, List, [], true, drop, length, vec_len, vec_capacity};
+ghost use Rattle.std.specs.Prelude.{◌≡◌, ◌+◌, ◌<◌, ◌≤◌, Bool, IfNone, IfSome, List, Some, [], true, drop, length, vec_len, vec_capacity};
 ghost use Rattle.layers.specs.declared.stack.Stack.{Stack as StackShape};
+ghost use Rattle.layers.specs.Stack.{stack_contents, stack_layers};
 ghost use Rattle.audit.specs.Books.{AuditShape};
 ghost use Rattle.volume.specs.Leaving.{is_quiet_of};
+ghost use Rattle.volume.specs.Volumed.{left_in_all, next_of};
 ghost use Rattle.command_rules.specs.State.{Volume};
 ghost use Rattle.block_run.specs.Played.{Story};
 ghost use Rattle.block_run.specs.Taking.{AreSlots, IsBack, IsBackAt, IsMade, IsPutAt, IsRested, IsSlot};
@@ -10,8 +12,7 @@ ghost use Rattle.block_run.specs.Taking.{AreSlots, IsBack, IsBackAt, IsMade, IsP
 use audit::Audit;
 use device_list::{NamedParts, NamedVolume};
 use layers::Stack;
-use std::sync::Wait;
-use volume::is_of_merge;
+use plain_machine::{Event, NotDue};
 use volume_commands::Resting;
 
 /// What a place of the table has while a block is run.
@@ -80,49 +81,58 @@ pub fn take_all(
     }
 }
 
-/// Does the events that are due in an audit's volume, until none is but one of a merge. No request is in flight.
-fn drain(audit: &mut Audit<Stack>)
-    requires none { audit.old.held ≡ [] }
-    ensures { IsRested audit.old audit.new }
+/// The event that is due first in an audit's volume that is not quiet.
+fn left(audit: &Audit<Stack>) -> Option<Event>
+    ensures due { IfSome result (λ event. next_of stack_contents stack_layers audit.now.volume ≡ Some event) }
+    ensures quiet { IfNone result (is_quiet_of audit.now.volume ≡ true) }
 {
-    while let Some(event) = audit.volume().due() {
-        if is_of_merge(event) {
-            break;
-        }
-        // It is due, and is no request's, since none is in flight.
-        if audit.apply(1, event).is_err() {
-            break;
-        }
+    let volume = audit.volume();
+    if volume.is_quiet() {
+        return None;
+    }
+    volume.due()
+}
+
+/// Does the event that is due first. No request is in flight, so it is none of a request, and it is done.
+fn do_first(audit: &mut Audit<Stack>, event: Event)
+    requires none { audit.old.held ≡ [] }
+    requires due { next_of stack_contents stack_layers audit.old.volume ≡ Some event }
+    ensures rested { (before : AuditShape StackShape) → IsRested before audit.old → IsRested before audit.new }
+    ensures lower { left_in_all stack_contents stack_layers audit.new.volume < left_in_all stack_contents stack_layers audit.old.volume }
+{
+    audit.look_at_requests();
+    match audit.apply(1, event) {
+        Ok(_) => {}
+        Err(NotDue) => unreachable!(),
     }
 }
 
-/// Does what is left to do in an audit's volume, but for a merge. No request is in flight, so that memory is asked for nothing,
-/// and no group of a merge is formed, so that it is quiet then.
-fn rest<R: Wait>(rt: &R, audit: &mut Audit<Stack>)
+/// Does what is left to do in an audit's volume until it is quiet: of a merge only what ends a group that is formed. No request is
+/// in flight, so that memory is asked for nothing.
+fn rest(audit: &mut Audit<Stack>)
     requires none { audit.old.held ≡ [] }
     ensures quiet { is_quiet_of audit.new.volume ≡ true }
     ensures rested { IsRested audit.old audit.new }
 {
-    drain(audit);
-    if !audit.volume().is_quiet() {
-        for _ in rt.forever() {}
+    while let Some(event) = left(audit) {
+        do_first(audit, event);
     }
 }
 
 /// The volume of an audit under its names again.
-fn name<R: Wait>(rt: &R, parts: NamedParts, audit: Audit<Stack>) -> NamedVolume
+fn name(parts: NamedParts, audit: Audit<Stack>) -> NamedVolume
     requires { (before : AuditShape StackShape) × (old : Volume) × IsBack before parts audit old }
     ensures { (before : AuditShape StackShape) (old : Volume) → IsBack before parts audit old → (story : Story) × IsMade before audit story old result }
 {
     let mut audit = audit;
-    rest(rt, &mut audit);
+    rest(&mut audit);
     // A look: what its entries say.
     let _ = audit.entries();
     NamedVolume::of_parts(parts, Resting::of_audit(audit))
 }
 
 /// What a place of the table has, put back into it: a volume that is taken out is that of the last audit.
-pub fn put_back<R: Wait>(rt: &R, slot: Slot, audits: &mut Vec<Audit<Stack>>) -> NamedVolume
+pub fn put_back(slot: Slot, audits: &mut Vec<Audit<Stack>>) -> NamedVolume
     requires { (used : Bool) × (befores : List (AuditShape StackShape)) × (first : List (AuditShape StackShape)) × (others : List (AuditShape StackShape)) × (old : Volume) × IsBackAt used slot befores audits.old.items first others old }
     ensures put { (used : Bool) (befores first others : List (AuditShape StackShape)) (old : Volume) → IsBackAt used slot befores audits.old.items first others old → IsPutAt slot befores audits.old.items first others old result }
     ensures others { (used : Bool) (befores first others : List (AuditShape StackShape)) (old : Volume) → IsBackAt used slot befores audits.old.items first others old → audits.new.items ≡ others }
@@ -133,7 +143,7 @@ pub fn put_back<R: Wait>(rt: &R, slot: Slot, audits: &mut Vec<Audit<Stack>>) -> 
             let Some(audit) = audits.pop() else {
                 unreachable!()
             };
-            name(rt, parts, audit)
+            name(parts, audit)
         }
     }
 }

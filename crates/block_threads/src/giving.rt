@@ -49,6 +49,7 @@ pub(crate) fn begin_all<J: Plan>(
     ensures many { length tasks.new.items ≡ length tasks.old.items }
     ensures others { (i : ℕ) → 8 ≤ i → tasks_at tasks.new.items i ≡ tasks_at tasks.old.items i }
     ensures unbegun { All (λ run. run.done ≡ 0) runs.new.items }
+    ensures eight { length runs.new.items ≡ 8 }
 {
     let mut seats = seats;
     for i in 0..SEATS {
@@ -58,15 +59,13 @@ pub(crate) fn begin_all<J: Plan>(
     }
 }
 
-/// The first of them. There are as many as seats; else this would wait for ever.
-fn next<J: Plan, R: Wait>(rt: &R, runs: &mut Vec<SeatRun<J>>) -> SeatRun<J>
+/// The first of them.
+fn next<J: Plan>(runs: &mut Vec<SeatRun<J>>) -> SeatRun<J>
+    requires { 0 < length runs.old.items }
     ensures first { All (λ run. run.done ≡ 0) runs.old.items → result.done ≡ 0 }
     ensures rest { All (λ run. run.done ≡ 0) runs.old.items → All (λ run. run.done ≡ 0) runs.new.items }
+    ensures fewer { length runs.new.items + 1 ≡ length runs.old.items }
 {
-    if runs.is_empty() {
-        for _ in rt.forever() {}
-        unreachable!()
-    }
     runs.remove(0)
 }
 
@@ -77,7 +76,8 @@ pub(crate) fn end_all<J: Plan, R: Wait>(
     tasks: &mut Vec<Vec<Task>>,
     seats: &mut Vec<Seat<J>>,
 )
-    requires { (seats.old.items ≡ []) × (8 ≤ vec_capacity seats.old) }
+    requires eight { length runs.items ≡ 8 }
+    requires room { (seats.old.items ≡ []) × (8 ≤ vec_capacity seats.old) }
     ensures many { (length tasks.new.items ≡ length tasks.old.items) × (length seats.new.items ≡ 8) }
     ensures ended { (i : ℕ) (d : SeatShape) → i < 8 → i < length tasks.old.items → IsEnded (denied_of J.start J.fixed) (pieces_at J.fixed) (J.tasks (i + 1)) (tasks_at tasks.new.items i) (i + 1) (slice_index_or seats.new.items i d) }
     ensures numbers { (i : ℕ) (d : SeatShape) → i < 8 → (slice_index_or seats.new.items i d).number ≡ i + 1 }
@@ -87,7 +87,7 @@ pub(crate) fn end_all<J: Plan, R: Wait>(
 {
     let mut runs = runs;
     for i in 0..SEATS {
-        let (seat, list) = next(rt, &mut runs).into_parts(rt, i + 1);
+        let (seat, list) = next(&mut runs).into_parts(rt, i + 1);
         put_tasks(tasks, i, list);
         seats.push_reserved(seat);
     }

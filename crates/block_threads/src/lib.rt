@@ -9,7 +9,8 @@
 //! calls come is decided by the threads.
 //!
 //! Nothing is promised of waiting: not that a run ever ends, that a worker ever runs, that threads take turns, nor how long
-//! anything takes. A branch that never comes waits for ever, so that it answers no false refusal.
+//! anything takes. A branch that never comes, though no proof says so, goes through `never` of `between_threads`: it answers no false
+//! refusal.
 #![tactic(auto)]
 
 mod giving;

@@ -68,7 +68,8 @@ fn end<B: Layered, G: Gate + Drop, J: Plan, R: Wait>(
     rig: &Rig<B, G, J>,
     runs: &mut Vec<SeatRun<J>>,
 )
-    ensures { All (λ run. run.done ≡ 0) runs.old.items → All (λ run. run.done ≡ 0) runs.new.items }
+    ensures many { length runs.new.items ≡ length runs.old.items }
+    ensures unbegun { All (λ run. run.done ≡ 0) runs.old.items → All (λ run. run.done ≡ 0) runs.new.items }
 {
     if let Some(run) = runs.first_mut() {
         rig.end(rt, &mut run.seat);
@@ -89,6 +90,7 @@ where
     J: Plan + Send + Sync,
     R: Threads + Wait + Sync,
     requires { volumes ≡ J.volumes }
+    ensures { length runs.new.items ≡ length runs.old.items }
 {
     seat_all(rt, rig, runs, volumes, hold);
     end(rt, rig, runs);
@@ -121,7 +123,9 @@ where
     R: Threads + Wait + Sync,
     requires volumes { volumes ≡ J.volumes }
     requires unbegun { All (λ run. run.done ≡ 0) runs.items }
-    ensures { result.1 ≡ false → All (λ run. run.done ≡ 0) result.0.items }
+    requires eight { length runs.items ≡ 8 }
+    ensures eight { length result.0.items ≡ 8 }
+    ensures unbegun { result.1 ≡ false → All (λ run. run.done ≡ 0) result.0.items }
 {
     thread::scope(
         thread::scope_env(),
@@ -129,8 +133,10 @@ where
         move |scope|
             requires volumes { volumes ≡ J.volumes }
             requires unbegun { All (λ run. run.done ≡ 0) runs.items }
+            requires eight { length runs.items ≡ 8 }
             requires crosses { IsSend B.row × IsSync B.row × IsSync G.row × IsSend J.row × IsSync J.row × IsSync R.row }
-            ensures { result.1 ≡ false → All (λ run. run.done ≡ 0) result.0.items }
+            ensures eight { length result.0.items ≡ 8 }
+            ensures unbegun { result.1 ≡ false → All (λ run. run.done ≡ 0) result.0.items }
         {
             let mut runs = runs;
             let mut started = true;

@@ -5,6 +5,7 @@ ghost use Rattle.block_threads.specs.Tasks.{AreUnderWay, IsEnded, IsNew, IsUnbeg
 
 use crate::plan::Plan;
 use crate::task::Task;
+use between_threads::never;
 use std::alloc::Global;
 use std::sync::Wait;
 use volume_threads::Seat;
@@ -43,15 +44,14 @@ impl<J: Plan> SeatRun<J> {
         self.done == self.tasks.len() || self.done == 0
     }
 
-    /// The seat and its tasks, where it is of this number and its thread did all of them, or was not started; else this would
-    /// wait for ever. A seat of which none is done made no request.
+    /// The seat and its tasks. It is of this number, and its thread did all of them or was not started. A seat of which none is
+    /// done made no request.
     pub(crate) fn into_parts<R: Wait>(self, rt: &R, number: usize) -> (Seat<J>, Vec<Task>)
         ensures ended { IsEnded (denied_of J.start J.fixed) (pieces_at J.fixed) (J.tasks number) result.1.items number result.0 }
         ensures unbegun { self.done ≡ 0 → IsUnbegun (J.tasks number) result.1.items result.0 }
     {
         if usize::from(self.seat.number()) != number || !self.is_over() {
-            for _ in rt.forever() {}
-            unreachable!()
+            never(rt);
         }
         let SeatRun {
             alloc: _,

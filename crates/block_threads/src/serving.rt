@@ -6,7 +6,7 @@ use crate::hold::Hold;
 use crate::plan::Plan;
 use crate::seat_run::SeatRun;
 use crate::task::{Job, Task};
-use between_threads::Gate;
+use between_threads::{Gate, never};
 use command::{SeatAnswer, words_of_data};
 use layers::Layered;
 use locked_volume::Room;
@@ -16,26 +16,22 @@ use std::alloc::Global;
 use std::sync::Wait;
 use volume_threads::{Rig, Seat};
 
-/// A volume is one of the rig's; where it were none, this would wait for ever.
+/// A volume is one of the rig's, as the caller of the run counted it.
 fn among<R: Wait>(rt: &R, volume: usize, volumes: usize)
     ensures { volume < volumes }
 {
-    if volume < volumes {
-        return;
+    if volumes <= volume {
+        never(rt);
     }
-    for _ in rt.forever() {}
-    unreachable!()
 }
 
-/// A write has as many bytes as its range; where it had others, this would wait for ever.
+/// A write has as many bytes as its range, as the caller of the run made it.
 fn fits<R: Wait>(rt: &R, range: Range, bytes: &Buf)
     ensures { length bytes.now ≡ 512 * range.count }
 {
-    if bytes.len() == SECTOR_BYTES * range.count as usize {
-        return;
+    if bytes.len() != SECTOR_BYTES * range.count as usize {
+        never(rt);
     }
-    for _ in rt.forever() {}
-    unreachable!()
 }
 
 /// Reads, and puts what was read into words here, beside the other seats.

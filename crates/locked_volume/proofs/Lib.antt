@@ -4,6 +4,7 @@ mod Staying
 mod Matched
 mod Passes
 mod Shown
+mod Fitting
 mod Posting
 mod Denied
 mod Held

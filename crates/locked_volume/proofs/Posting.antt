@@ -16,6 +16,7 @@ use Rattle.plain_machine.specs.declared.request.Op.TheVariants.{Read, Write, Flu
 use Rattle.plain_machine.specs.declared.request.Reply.{Reply}
 use Rattle.plain_machine.specs.declared.request.Request.{Request}
 use Rattle.sector.specs.declared.refusal.Refusal.{Refusal}
+use Rattle.volume.specs.Flying.{Fits}
 use Rattle.audit.specs.declared.entry.Answered.{Answered as AnsweredEntry}
 use Rattle.audit.specs.declared.entry.Entry.{Entry}
 use Rattle.audit.specs.declared.entry.Entry.TheVariants.{Answered}
@@ -131,8 +132,8 @@ module _ {B : Type 0} (size : B → ℕ) (layers : B → List Layer) (history : 
   pub receipted : (a b : AuditShape B) (keeper me after : Seat Told View) (seat number : ℕ) (reply : Reply) (r : Receipt) (e : Entry) → PostHolds size layers history start fixed a keeper
       → IsSeat history seat me → after.table_id ≡ history → after.me.1 ≡ [] → after.me.0 ≡ looking_of (answered_by number e (seated_with keeper.me.0 me.me.0)) → e ≡ Answered (answered_of r) → HasReceipt seat number reply r a b
       → seated_under number me.me.0.waits ≡ seated_under number keeper.me.0.flying → entries_by me.me.0.seat keeper.me.0.all ≡ entries_by me.me.0.seat me.me.0.old ++ me.me.0.mine → Begins me.me.0.seen keeper.me.0.all
-      → IsReceipted history (count_at fixed start seat) seat me after reply r
-  receipted a b keeper me after seat number reply r e h sits table bare looks is done knows own later = record {
+      → Fits r.request.op r.request.range r.reply → IsReceipted history (count_at fixed start seat) seat me after reply r
+  receipted a b keeper me after seat number reply r e h sits table bare looks is done knows own later fits = record {
     is_seat = record {
       table = table;
       bare = bare;
@@ -142,6 +143,7 @@ module _ {B : Type 0} (size : B → ℕ) (layers : B → List Layer) (history : 
     old = ap (λ (v : View). v.old) looks;
     mine = ap (λ (v : View). v.mine) looks ∙ ap (λ (x : Entry). me.me.0.mine ++ entries_by me.me.0.seat (x ∷ [])) is ∙ ap (λ l. me.me.0.mine ++ l) (one_by me.me.0.seat (answered_of r) (done.by ∙ sym sits.number));
     reply = done.answer;
+    fits = fits;
     by = done.by;
     count = counted_from start keeper.me.0.all a.entries me.me.0.old me.me.0.mine seat me.me.0.seat fixed.folded a.folded r.count h.knows sits.number h.stays.folded own done.count;
     number = number;

@@ -4,6 +4,7 @@ use Rattle.atomic_table.specs.Seated.{TableId}
 use Rattle.atomic_table.specs.declared.shared.Seat.{Seat}
 use Rattle.plain_machine.specs.declared.request.Reply.{Reply}
 use Rattle.plain_machine.specs.declared.request.Request.{Request}
+use Rattle.volume.specs.Flying.{Fits}
 use Rattle.audit.specs.declared.entry.Receipt.{Receipt}
 use Rattle.audit.specs.Entries.{answered_of, entries_by}
 use Rattle.audit.specs.Seats.{seated_under, without_seated}
@@ -34,13 +35,14 @@ pub record IsAsked (history : TableId) (seat number : ℕ) (request : Request) (
   pub waits : after.me.0.waits ≡ before.me.0.waits ++ record { number = number; seat = seat; request = request } ∷ []
   pub later : Begins before.me.0.seen after.me.0.seen
 
--- The seat has one entry more, which the receipt is for: it answers the request that the seat waited for. Its count is the entry's
+-- The seat has one entry more, which the receipt is for: it answers the request that the seat waited for, as that asks. Its count is the entry's
 -- place among the seat's, of which there were so many at first, before those of its pass.
 pub record IsReceipted (history : TableId) (first seat : ℕ) (before after : Seat Told View) (answer : Reply) (receipt : Receipt) : Type 0 where
   pub is_seat : IsSeat history seat after
   pub old : after.me.0.old ≡ before.me.0.old
   pub mine : after.me.0.mine ≡ before.me.0.mine ++ answered_of receipt ∷ []
   pub reply : receipt.reply ≡ answer
+  pub fits : Fits receipt.request.op receipt.request.range receipt.reply
   pub by : receipt.seat ≡ seat
   pub count : receipt.count ≡ first + length (entries_by seat before.me.0.old ++ before.me.0.mine) + 1
   pub number : ℕ

@@ -37,7 +37,6 @@ use plain_machine::{CopyId, Event, NotDue, Outcome, Reply, ReqId, Request, SnapI
 use sector::Refusal;
 use std::marker::PhantomData;
 use std::snapshot::Snapshot;
-use std::sync::Wait;
 
 /// A look at what a journal may keep places for, which does nothing: 64 requests in flight, and eight snapshots, at most.
 fn look_at_bounds<B: Layered>(audit: &Audit<B>)
@@ -123,8 +122,8 @@ impl<B: Layered, J: Room> Post<B, J> {
     }
 
     /// Issues a request of a seat, where it is due. Its entry is one more of the journal, and of the seat's own. A flush may go to
-    /// its next device in place of a reply: then the seat waits for it still. The receipt's count is the place of its entry among
-    /// the seat's.
+    /// its next device in place of a reply: then the seat waits for it still. The reply fits what was asked, and the receipt's count is
+    /// the place of its entry among the seat's.
     pub fn issue(
         &mut self,
         beside: &Beside,
@@ -142,6 +141,7 @@ impl<B: Layered, J: Room> Post<B, J> {
         ensures still { ((x : Seated) → seated_under number self.old.audit.held ≡ Some x → x.request.op ≢ Flush) → IfNone result.1 (self.new ≡ self.old) }
         ensures told { AreKeptUp self.new.audit.volume self.old.told self.new.told }
     {
+        self.audit.look_at_requests();
         let from = self.audit.entries().len();
         let (outcome, receipt) = match self.audit.apply(seat, Event::Issue(number)) {
             Ok(pair) => pair,
@@ -166,7 +166,7 @@ impl<B: Layered, J: Room> Post<B, J> {
     }
 
     /// Does an event that is no seat's, where it is due, and tells whether it is.
-    pub fn work<R: Wait>(&mut self, rt: &R, beside: &Beside, event: Event) -> bool
+    pub fn work(&mut self, beside: &Beside, event: Event) -> bool
         requires beside { IsBeside (J.history self.old.volume) (J.boards self.old.volume) beside.now }
         requires event { (n : ℕ) → event ≢ Issue n }
         ensures volume { self.new.volume ≡ self.old.volume }
@@ -183,18 +183,15 @@ impl<B: Layered, J: Room> Post<B, J> {
                 beside.keep_up(&mut self.publishers, &self.audit);
                 true
             }
-            Ok((_, Some(_))) => {
-                // Seat 0 has no request.
-                for _ in rt.forever() {}
-                unreachable!()
-            }
+            // Only Issue has a receipt.
+            Ok((_, Some(_))) => unreachable!(),
             Err(NotDue) => false,
         }
     }
 
     /// Does the event that is due first, where any thread may do it: a request is issued by its seat, and a copy is done by
     /// the worker that has its ticket. Tells whether it did one.
-    pub fn advance<R: Wait>(&mut self, rt: &R, beside: &Beside) -> bool
+    pub fn advance(&mut self, beside: &Beside) -> bool
         requires beside { IsBeside (J.history self.old.volume) (J.boards self.old.volume) beside.now }
         ensures volume { self.new.volume ≡ self.old.volume }
         ensures done { result ≡ true → (event : EventShape) × (outcome : OutcomeShape) × (next_of B.contents B.layers self.old.audit.volume ≡ Some event) × IsExact B.contents B.layers event outcome self.old.audit.volume self.new.audit.volume }
@@ -208,18 +205,18 @@ impl<B: Layered, J: Room> Post<B, J> {
             Event::Issue(_) => false,
             Event::CopyRead(_) => false,
             Event::CopyWrite(_) => false,
-            Event::ZeroNext(number) => self.work(rt, beside, Event::ZeroNext(number)),
-            Event::WriteArea(number) => self.work(rt, beside, Event::WriteArea(number)),
-            Event::Publish(number) => self.work(rt, beside, Event::Publish(number)),
-            Event::WriteInvalid(number) => self.work(rt, beside, Event::WriteInvalid(number)),
-            Event::FlushStore(number) => self.work(rt, beside, Event::FlushStore(number)),
-            Event::MergeGroup => self.work(rt, beside, Event::MergeGroup),
-            Event::MergeAreaRead => self.work(rt, beside, Event::MergeAreaRead),
-            Event::MergeRead => self.work(rt, beside, Event::MergeRead),
-            Event::MergeWrite => self.work(rt, beside, Event::MergeWrite),
-            Event::MergeFlush => self.work(rt, beside, Event::MergeFlush),
-            Event::MergeCommit => self.work(rt, beside, Event::MergeCommit),
-            Event::MergeRelease => self.work(rt, beside, Event::MergeRelease),
+            Event::ZeroNext(number) => self.work(beside, Event::ZeroNext(number)),
+            Event::WriteArea(number) => self.work(beside, Event::WriteArea(number)),
+            Event::Publish(number) => self.work(beside, Event::Publish(number)),
+            Event::WriteInvalid(number) => self.work(beside, Event::WriteInvalid(number)),
+            Event::FlushStore(number) => self.work(beside, Event::FlushStore(number)),
+            Event::MergeGroup => self.work(beside, Event::MergeGroup),
+            Event::MergeAreaRead => self.work(beside, Event::MergeAreaRead),
+            Event::MergeRead => self.work(beside, Event::MergeRead),
+            Event::MergeWrite => self.work(beside, Event::MergeWrite),
+            Event::MergeFlush => self.work(beside, Event::MergeFlush),
+            Event::MergeCommit => self.work(beside, Event::MergeCommit),
+            Event::MergeRelease => self.work(beside, Event::MergeRelease),
         }
     }
 

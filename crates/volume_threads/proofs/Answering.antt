@@ -1,8 +1,12 @@
 -- A seat's request is answered.
-use Rattle.std.proofs.Common.{◌≡◌, ◌==◌, if◌then◌else◌, ℕ, Bool, true, false, [], ◌∷◌, ◌++◌, Option, Some, None, refl, sym, ap, ◌∙◌}
+use Rattle.std.proofs.Common.{◌≡◌, ◌==◌, if◌then◌else◌, ℕ, Bool, true, false, List, [], ◌∷◌, ◌++◌, Option, Some, None, refl, sym, ap, ◌∙◌, subst}
 use Rattle.atomic_table.specs.Seated.{TableId}
 use Rattle.atomic_table.specs.declared.shared.Seat.{Seat}
+use Rattle.sector.specs.declared.range.Range.{Range}
+use Rattle.plain_machine.specs.declared.request.Op.TheVariants.{Read, Write}
 use Rattle.plain_machine.specs.declared.request.Reply.{Reply}
+use Rattle.plain_machine.specs.declared.request.Reply.TheVariants.{Data, Flushed, Written}
+use Rattle.volume.specs.Flying.{Fits}
 use Rattle.audit.specs.declared.entry.Receipt.{Receipt}
 use Rattle.audit.specs.Seats.{Seated, seated_under, without_seated}
 use Rattle.locked_volume.specs.declared.rule.View.{View}
@@ -42,10 +46,24 @@ answered_at history first seat me after reply r old new h was now volume same by
       receipts = receipts;
       waits = now ∙ h.waits ∙ ap (without_seated h.number) (sym was ∙ one.1) ∙ (found one.0 one.1).1;
       answer = h.reply;
+      fits = subst (Fits r.request.op r.request.range) h.reply h.fits;
       by = h.by ∙ sym by;
       asked = λ x is. sym (ap (λ (z : Seated). z.request) (found x is).0);
       later = later;
     }
+
+-- no read is answered as a write or a flush is, and no write as a read or a flush is
+pub no_read_written : (range : Range) (reply : Reply) → reply ≡ Written → Fits Read range reply → ⊥
+no_read_written range reply is fits = subst (Fits Read range) is fits
+
+pub no_read_flushed : (range : Range) (reply : Reply) → reply ≡ Flushed → Fits Read range reply → ⊥
+no_read_flushed range reply is fits = subst (Fits Read range) is fits
+
+pub no_write_read : (range : Range) (own bytes : List ℕ) (reply : Reply) → reply ≡ Data bytes → Fits (Write own) range reply → ⊥
+no_write_read range own bytes reply is fits = subst (Fits (Write own) range) is fits
+
+pub no_write_flushed : (range : Range) (own : List ℕ) (reply : Reply) → reply ≡ Flushed → Fits (Write own) range reply → ⊥
+no_write_flushed range own reply is fits = subst (Fits (Write own) range) is fits
 
 -- a worker's pass stays one of its queue
 pub worked_queue : {C : Type 0} (does : C → PendingCopy → C → Type 0) (ended : WorkerEnd) (p q : Passed) (c d : C) → IsWorked does ended p c q d → q.queue ≡ p.queue

@@ -1,4 +1,4 @@
-mod Answering
+pub mod Answering
 mod UnderWay
 mod Asking
 mod Parts

@@ -4,6 +4,7 @@ use Rattle.atomic_table.specs.Seated.{TableId}
 use Rattle.atomic_table.specs.declared.badge.Badge.{Badge}
 use Rattle.plain_machine.specs.declared.request.Reply.{Reply}
 use Rattle.plain_machine.specs.declared.request.Request.{Request}
+use Rattle.volume.specs.Flying.{Fits}
 use Rattle.audit.specs.declared.entry.Receipt.{Receipt}
 use Rattle.audit.specs.Entries.{answered_of}
 use Rattle.audit.specs.declared.entry.Entry.{Entry}
@@ -71,24 +72,26 @@ pub record IsWaiting (number : ℕ) (request : Request) (old new : SittingShape)
   pub room : new.room ≡ old.room
   pub later : Begins old.seen new.seen
 
--- the request that was in flight is answered, and there is a receipt of it
+-- the request that was in flight is answered as it asks, and there is a receipt of it
 pub record IsAnswered (reply : Reply) (receipt : Receipt) (old new : SittingShape) : Type 0 where
   pub volume : new.volume ≡ old.volume
   pub seat : new.seat ≡ old.seat
   pub receipts : new.receipts ≡ old.receipts ++ receipt ∷ []
   pub waits : new.waits ≡ []
   pub answer : receipt.reply ≡ reply
+  pub fits : Fits receipt.request.op receipt.request.range reply
   pub by : receipt.seat ≡ old.seat
   pub asked : (x : Seated) → old.waits ≡ x ∷ [] → receipt.request ≡ x.request
   pub later : Begins old.seen new.seen
 
--- a request was made and answered, and there is a receipt of it
+-- a request was made and answered as it asks, and there is a receipt of it
 pub record IsPerformed (request : Request) (reply : Reply) (receipt : Receipt) (old new : SittingShape) : Type 0 where
   pub volume : new.volume ≡ old.volume
   pub seat : new.seat ≡ old.seat
   pub receipts : new.receipts ≡ old.receipts ++ receipt ∷ []
   pub waits : new.waits ≡ []
   pub answer : receipt.reply ≡ reply
+  pub fits : Fits receipt.request.op receipt.request.range reply
   pub by : receipt.seat ≡ old.seat
   pub asked : receipt.request ≡ request
   pub later : Begins old.seen new.seen

@@ -3,6 +3,7 @@ ghost use Rattle.std.specs.Prelude.{◌≡◌, ◌≢◌, ◌*◌, ◌<◌, ◌�
 ghost use Rattle.chunk.specs.Pieces.{span_of};
 ghost use Rattle.plain_machine.specs.declared.request.Op.TheVariants.{Flush, Read, Write};
 ghost use Rattle.plain_machine.specs.declared.request.Reply.TheVariants.{Data, Written};
+ghost use Rattle.volume.specs.Flying.{Fits};
 ghost use Rattle.audit.specs.declared.entry.Receipt.{Receipt};
 ghost use Rattle.locked_volume.specs.Denying.{Begin, Serve, WasBegun, WasDenied};
 ghost use Rattle.locked_volume.specs.Fixed.{piece_at};
@@ -42,7 +43,7 @@ impl<J: Room> Seat<J> {
         self.sittings[volume].receipts()
     }
 
-    /// Makes one read or write, and works until it is answered.
+    /// Makes one read or write, and works until it is answered, as it asks.
     fn ask<B: Layered, G: Gate + Drop, R: Wait>(
         &mut self,
         rt: &R,
@@ -54,6 +55,7 @@ impl<J: Room> Seat<J> {
         requires plain { request.op ≢ Flush }
         requires bytes { (bytes : List ℕ) → request.op ≡ Write bytes → length bytes ≡ 512 * request.range.count }
         ensures ok { IfOk result (λ reply. (r : Receipt) × (r.request ≡ request) × (r.reply ≡ reply) × HasAdded volume (r ∷ []) self.old self.new) }
+        ensures fits { IfOk result (λ reply. Fits request.op request.range reply) }
         ensures err { IfErr result (λ refusal. HasAdded volume [] self.old self.new × WasDenied (J.start volume) (J.fixed volume) (seen_at self.new volume) (Serve request) refusal) }
     {
         let place = &rig.places[volume];
@@ -68,6 +70,7 @@ impl<J: Room> Seat<J> {
     }
 
     /// Reads one piece to the end of `out`.
+    #[tactic(auto, using(crate::proofs::Answering::no_read_written, crate::proofs::Answering::no_read_flushed))]
     fn read_piece<B: Layered, G: Gate + Drop, R: Wait>(
         &mut self,
         rt: &R,
@@ -92,16 +95,15 @@ impl<J: Room> Seat<J> {
                 Err(_) => Err(Refusal::NoMemory),
             },
             Ok(Reply::Refused(failure)) => Err(refusal_for(failure)),
-            Ok(_) => {
-                // No read is answered so.
-                for _ in rt.forever() {}
-                unreachable!()
-            }
+            // No read is answered so.
+            Ok(Reply::Written) => unreachable!(),
+            Ok(Reply::Flushed) => unreachable!(),
             Err(refusal) => Err(refusal),
         }
     }
 
     /// Writes one piece.
+    #[tactic(auto, using(crate::proofs::Answering::no_write_read, crate::proofs::Answering::no_write_flushed))]
     fn write_piece<B: Layered, G: Gate + Drop, R: Wait>(
         &mut self,
         rt: &R,
@@ -127,11 +129,9 @@ impl<J: Room> Seat<J> {
         match self.ask(rt, rig, volume, request) {
             Ok(Reply::Written) => Ok(()),
             Ok(Reply::Refused(failure)) => Err(refusal_for(failure)),
-            Ok(_) => {
-                // No write is answered so.
-                for _ in rt.forever() {}
-                unreachable!()
-            }
+            // No write is answered so.
+            Ok(Reply::Data(_)) => unreachable!(),
+            Ok(Reply::Flushed) => unreachable!(),
             Err(refusal) => Err(refusal),
         }
     }

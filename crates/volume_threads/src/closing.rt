@@ -12,7 +12,7 @@ use crate::rig::Rig;
 use crate::seat::Seat;
 use crate::worker::Worker;
 use audit::Audit;
-use between_threads::Gate;
+use between_threads::{Gate, never};
 use layers::Layered;
 use locked_volume::{Beside, Post, Room};
 use std::sync::Wait;
@@ -50,13 +50,13 @@ fn settle_all<B: Layered, J: Room>(
     }
 }
 
-/// What stood under a volume's lock. Every request was issued, so none is in flight; else it would wait for ever.
+/// What stood under a volume's lock. It is of this volume, and every request of a seat was issued, so that none is in flight; no
+/// type says either.
 fn checked<B: Layered, J: Room, R: Wait>(rt: &R, post: Post<B, J>, volume: usize) -> Post<B, J>
     ensures { (result.volume ≡ volume) × (result.audit.held ≡ []) }
 {
     if post.volume() != volume || post.in_flight() != 0 {
-        for _ in rt.forever() {}
-        unreachable!()
+        never(rt);
     }
     post
 }

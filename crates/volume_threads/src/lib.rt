@@ -11,7 +11,8 @@
 //!
 //! Nothing is promised of waiting: not that a call ever returns, that a waiting thread is woken, that a worker ever runs, that
 //! threads take turns, nor how long anything takes. That a copy is done by the worker that took its ticket is how the code is
-//! written, and no clause. A branch that never comes waits for ever, so that it answers no false refusal.
+//! written, and no clause. A branch that never comes, though no proof says so, goes through `never` of `between_threads`: it answers
+//! no false refusal.
 #![tactic(auto)]
 
 mod calls;

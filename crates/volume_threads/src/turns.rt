@@ -12,13 +12,14 @@ ghost use Rattle.sector.specs.declared.refusal.Refusal.TheVariants.{NotQuiet};
 use crate::place::VolumePlace;
 use crate::queueing::Started;
 use crate::sitting::Sitting;
+use between_threads::never;
 use layers::Layered;
 use locked_volume::{Post, Room};
 use plain_machine::{Event, Reply, ReqId, Request, SnapId};
 use sector::Refusal;
 use std::sync::{MutexGuard, Wait};
 
-/// Takes a volume's lock. That what lies under it is of another volume never comes: there it would wait for ever.
+/// Takes a volume's lock. What lies under it is of this volume, which no type says.
 pub(crate) fn locked<'a, B: Layered, J: Room, R: Wait>(
     rt: &R,
     place: &'a VolumePlace<B, J>,
@@ -26,11 +27,10 @@ pub(crate) fn locked<'a, B: Layered, J: Room, R: Wait>(
     ensures { (mutex_guard_value result).volume ≡ place.now.volume }
 {
     let post = place.lock.lock(rt);
-    if post.volume() == place.volume {
-        return post;
+    if post.volume() != place.volume {
+        never(rt);
     }
-    for _ in rt.forever() {}
-    unreachable!()
+    post
 }
 
 /// What a seat that makes a read or a write does under the lock: it submits it, and issues it where that is due at once. Tells the
@@ -84,8 +84,7 @@ pub(crate) fn submit<B: Layered, J: Room, R: Wait>(
 
 /// What a seat that waits for its request does under the lock: its own Issue, or another event that is due and that any thread
 /// may do. Tells the reply, and whether it did anything.
-fn act<B: Layered, J: Room, R: Wait>(
-    rt: &R,
+fn act<B: Layered, J: Room>(
     place: &VolumePlace<B, J>,
     post: &mut Post<B, J>,
     sitting: &mut Sitting<J>,
@@ -101,7 +100,7 @@ fn act<B: Layered, J: Room, R: Wait>(
 {
     match sitting.issue(post, &place.beside, number) {
         Some(reply) => (Some(reply), true),
-        None => (None, post.advance(rt, &place.beside)),
+        None => (None, post.advance(&place.beside)),
     }
 }
 
@@ -122,7 +121,7 @@ pub(crate) fn turn<B: Layered, J: Room, R: Wait>(
 {
     let mut post = locked(rt, place);
     let after = post.last_copy();
-    let (reply, has_moved) = act(rt, place, &mut post, sitting, number);
+    let (reply, has_moved) = act(place, &mut post, sitting, number);
     if !has_moved {
         let _post = place.moved.wait(rt, post);
         return (reply, Started { after, last: after });
@@ -137,7 +136,7 @@ pub(crate) fn copy<B: Layered, J: Room, R: Wait>(rt: &R, place: &VolumePlace<B, 
     requires { (n : ℕ) → event ≢ Issue n }
 {
     let mut post = locked(rt, place);
-    post.work(rt, &place.beside, event);
+    post.work(&place.beside, event);
     place.moved.notify_all();
 }
 
@@ -158,7 +157,7 @@ pub(crate) fn begin<B: Layered, J: Room, R: Wait>(
     let mut post = locked(rt, place);
     let after = post.last_copy();
     let got = sitting.begin_merge(&mut post, &place.beside, number);
-    if got == Err(Refusal::NotQuiet) && !post.advance(rt, &place.beside) {
+    if got == Err(Refusal::NotQuiet) && !post.advance(&place.beside) {
         let _post = place.moved.wait(rt, post);
         return (got, Started { after, last: after });
     }
@@ -177,7 +176,7 @@ pub(crate) fn merge_turn<B: Layered, J: Room, R: Wait>(
     if post.is_merge_over() {
         return (true, Started { after, last: after });
     }
-    if !post.advance(rt, &place.beside) {
+    if !post.advance(&place.beside) {
         let _post = place.moved.wait(rt, post);
         return (false, Started { after, last: after });
     }

@@ -11,18 +11,18 @@ use Rattle.block_run.proofs.Plays.{is_made}
 use Rattle.block_run.proofs.taking.name.Goals as goal
 
 pub rest-requires : goal.rest-requires
-rest-requires g c = record { none = c.requires.2.left.held }
+rest-requires c = record { none = c.requires.2.left.held }
 
 pub of_parts-requires-clause-fits : goal.of_parts-requires-clause-fits
-of_parts-requires-clause-fits g c =
+of_parts-requires-clause-fits c =
     fits c.requires.0 c.args.parts c.args.audit c.requires.1 c.of_audit.result.rested c.requires.2 (subst (λ (v : Rested Stack). KeepsDevices stack_layers stack_size (rested_of c.args.audit.volume) v) (sym c.of_audit.ensures.rested) c.rest.ensures.rested.kept)
 
 pub of_parts-requires-clause-loud : goal.of_parts-requires-clause-loud
-of_parts-requires-clause-loud g c =
+of_parts-requires-clause-loud c =
     loud c.requires.0 c.args.parts c.args.audit c.requires.1 c.of_audit.result.rested c.requires.2 (subst (λ (v : Rested Stack). KeepsDevices stack_layers stack_size (rested_of c.args.audit.volume) v) (sym c.of_audit.ensures.rested) c.rest.ensures.rested.kept)
 
 pub returns : goal.returns
-returns g c before old back =
+returns c before old back =
     let p = c.args.parts in
     let result = c.of_parts.result in
     let rested = c.rest.new.audit in

@@ -22,6 +22,7 @@ loop-i-preserved g c =
     record {
       many = c.put_tasks.ensures.many ∙ c.loop-i.invariant.many;
       count = ap length c.push_reserved.ensures.items ∙ count;
+      rest = omega (arith, c.next.ensures.fewer, c.loop-i.invariant.rest);
       room = c.push_reserved.ensures.capacity ∙ c.loop-i.invariant.room;
       ended = subst (HaveGiven Ended places (i + 1) c.put_tasks.new.tasks.items) (sym c.push_reserved.ensures.items)
           (given_more Ended places i c.loop-i.tasks.items c.put_tasks.new.tasks.items seats list seat c.loop-i.invariant.count c.loop-i.invariant.ended

@@ -10,6 +10,7 @@ abbrev pub invariant-loop-i : goal.invariant-loop-i
 invariant-loop-i g l = record {
   many : length l.tasks.items ≡ length l.fn.tasks.items;
   count : length l.seats.items ≡ l.i;
+  rest : length l.runs.items + l.i ≡ 8;
   room : vec_capacity l.seats ≡ vec_capacity l.fn.seats;
   ended : HaveGiven (λ i list seat. IsEnded (denied_of g.J.Room.start g.J.Room.fixed) (pieces_at g.J.Room.fixed) (g.J.Plan.tasks (i + 1)) list (i + 1) seat) (length l.fn.tasks.items) l.i l.tasks.items l.seats.items;
   left : All (λ run. run.done ≡ 0) l.fn.runs.items → All (λ run. run.done ≡ 0) l.runs.items;

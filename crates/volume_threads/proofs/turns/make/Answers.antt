@@ -29,6 +29,7 @@ returns-in-Some g c =
         receipts = h.1.receipts ∙ ap (λ l. l ++ h.0 ∷ []) waits.receipts;
         waits = h.1.waits;
         answer = h.1.answer;
+        fits = h.1.fits;
         by = h.1.by ∙ waits.seat;
         asked = h.1.asked _ waits.waits;
         later = begins_then _ _ _ waits.later h.1.later;

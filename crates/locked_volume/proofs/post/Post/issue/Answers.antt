@@ -10,6 +10,7 @@ use Rattle.locked_volume.specs.Seats.{IsReceipted, IsSeat}
 use Rattle.std.proofs.lemmas.List.Elements.{All-same}
 use Rattle.locked_volume.specs.AskedFor.{IsAskedFor}
 use Rattle.locked_volume.proofs.AskedFor.{more_asked, one_asked, spoils_asked}
+use Rattle.locked_volume.proofs.Fitting.{fitting}
 use Rattle.locked_volume.proofs.Fresh.{fresh_spoils}
 use Rattle.locked_volume.proofs.Passes.{kept_still, shown_as}
 use Rattle.locked_volume.proofs.Posting.{answered_holds, flush_done, has_asked, noted_holds, receipt_of, receipted, silent_done}
@@ -81,7 +82,8 @@ returns-in-Some-clause-seat g c =
     (receipted g.B.Block.size g.B.Block.layers (g.J.Room.history v) (g.J.Room.start v) (g.J.Room.fixed v) a b c.self.inside.keeper c.args.me c.answer-me.result seat c.in-Reply.which c.in-Reply.reply r c.last_of-entry.result.now
     c.self.invariant.0 (subst (λ p. IsSeat (g.J.Room.history p.volume) seat c.args.me) (sym c.self.view_is) c.requires.seat)
     (c.answer-me.ensures.seat.0.0 ∙ named) c.answer-me.ensures.seat.0.1 c.answer-me.ensures.seat.1
-    (c.last_of-entry.ensures a.entries (Answered (answered_of r)) (c.entries.ensures.value ∙ done.added)) done c.answer-me.ensures.knows c.answer-me.ensures.own c.answer-me.ensures.later)
+    (c.last_of-entry.ensures a.entries (Answered (answered_of r)) (c.entries.ensures.value ∙ done.added)) done c.answer-me.ensures.knows c.answer-me.ensures.own c.answer-me.ensures.later
+    (fitting (Issue c.args.number) seat c.in-Reply.which c.in-Reply.reply r c.in-Ok.pair.0 a b _ _ c.in-Reply.is done c.look_at_requests.ensures c.in-Ok.ensures.does.flown))
 
 pub invariant_of-self-in-Done-3 : goal.invariant_of-self-in-Done-3
 invariant_of-self-in-Done-3 g c =

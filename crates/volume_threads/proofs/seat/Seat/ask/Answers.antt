@@ -1,6 +1,8 @@
 use Rattle.std.proofs.Common.{◌≡◌, ℕ, ◌<◌, List, get_or, length, set, [], ◌∷◌, ◌++◌, sym, ap, ◌∙◌, subst}
 use Rattle.std.proofs.lemmas.List.{append-nil, get_or_default}
 use Rattle.locked_volume.specs.Keeping.{Begins}
+use Rattle.plain_machine.specs.declared.request.Request.{Request}
+use Rattle.volume.specs.Flying.{Fits}
 use Rattle.audit.specs.declared.entry.Entry.{Entry}
 use Rattle.locked_volume.specs.Denying.{Serve}
 use Rattle.volume_threads.specs.Rigs.{HasAdded}
@@ -23,6 +25,9 @@ returns-clause-ok g c =
           (λ d. subst (λ (l : List Entry). Begins l c.perform.new.sitting.seen) (ap (λ s. s.seen) (was d)) h.1.later)),
     ))
     c.perform.ensures.ok
+
+pub returns-clause-fits : goal.returns-clause-fits
+returns-clause-fits g c = ok_mapped _ _ c.perform.result (λ reply h. subst (λ (q : Request). Fits q.op q.range reply) h.1.asked h.1.fits) c.perform.ensures.ok
 
 pub returns-clause-err : goal.returns-clause-err
 returns-clause-err g c =

@@ -3,15 +3,15 @@ use Rattle.chunk.specs.Pieces.{span_of}
 use Rattle.plain_machine.specs.declared.request.Op.TheVariants.{Read}
 use Rattle.volume_threads.proofs.seat.Seat.read_piece.Goals as goal
 
-pub returns-in-Ok-extend_from_slice-clause-ok : goal.returns-in-Ok-extend_from_slice-clause-ok
-returns-in-Ok-extend_from_slice-clause-ok g c =
+pub returns-in-Ok-clause-ok : goal.returns-in-Ok-clause-ok
+returns-in-Ok-clause-ok g c =
     let h = c.in-Ok-Data.ensures.ok in (
       c.in-Ok-Data.bytes,
       h.0,
       record { goes_to = ap (λ q. q.dev) h.1; asks = ap (λ q. q.op) h.1; covers = ap (λ q. span_of q.range) h.1 },
       h.2 ∙ c.in-Ok-Data.field-0-is,
       h.3,
-      c.in-Ok-extend_from_slice.ensures.items ∙ ap (λ l. c.args.out.now.items ++ l) c.as_slice.ensures,
+      c.in-Ok.ensures.items ∙ ap (λ l. c.args.out.now.items ++ l) c.as_slice.ensures,
     )
 
 pub returns-in-Ok-Data-clause-err : goal.returns-in-Ok-Data-clause-err

@@ -2,7 +2,7 @@
 use Rattle.layers.specs.Stack.{stack_contents, stack_layers}
 use Rattle.volume.specs.Volumed.{left_in_all}
 use Rattle.block_run.specs.Taking.{IsRested}
-use Rattle.block_run.proofs.taking.drain.Given as goal
+use Rattle.block_run.proofs.taking.rest.Given as goal
 
 abbrev pub invariant-loop-event : goal.invariant-loop-event
 invariant-loop-event l = IsRested l.fn.audit l.audit
