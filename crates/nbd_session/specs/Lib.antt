@@ -9,3 +9,4 @@ pub mod Took
 pub mod Haggling
 pub mod Session
 pub mod Come
+pub mod Reached

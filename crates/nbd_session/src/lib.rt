@@ -11,6 +11,9 @@
 //! with the client's bytes; a read is answered the bytes that came back, each piece's at its place; a flush, or a write that is to last,
 //! is answered once a flush that was asked behind its pieces is back; an error is the first of its pieces, or EIO where the array ended.
 //! `specs/Pieces` and `specs/Answered` say so.
+//!
+//! However a session ends, well or with an error, the array came to its state by calls of the trait, and by nothing else
+//! (`specs/Reached`).
 #![tactic(auto)]
 
 mod ended;

@@ -1,9 +1,10 @@
 // A client is served.
-ghost use Rattle.std.specs.Prelude.{◌≡◌, ℕ, List, [], false, IfOk, IfSome, None, Some};
+ghost use Rattle.std.specs.Prelude.{◌≡◌, ℕ, List, [], false, IfOk, IfSome, None, OnErr, Some};
 ghost use Rattle.std.specs.Io.KnownBytes.{Appends, IsAtEnd};
 ghost use Rattle.served_array.specs.Calls.{Call, Called, CallsTo};
 ghost use Rattle.nbd_session.specs.Asked.{IsOver};
 ghost use Rattle.nbd_session.specs.Moved.{Moves, MovesCalling, MovesHearing};
+ghost use Rattle.nbd_session.specs.Reached.{Reaches};
 ghost use Rattle.nbd_session.specs.Session.{IsSession};
 ghost use Rattle.nbd_session.specs.Stream.{left};
 ghost use Rattle.nbd_session.specs.Took.{IsOverAt};
@@ -123,6 +124,7 @@ impl Line {
         writer: &mut W,
     ) -> Result<Finish, Ended>
         ensures moves { IfOk result (λ _. CallsTo A.does array.old array.new (Moves self.old self.new (R.remaining reader.old) (R.remaining reader.new) (W.contents writer.old) (W.contents writer.new))) }
+        ensures called { OnErr result (Reaches A.does array.old array.new) }
         ensures none { IfOk result (λ _. (self.new.jobs.jobs ≡ []) × (self.new.out.items ≡ [])) }
         ensures over { result ≡ Ok Client → IfSome (left self.new.input (R.remaining reader.new)) (IsOver self.old.size) }
     {
@@ -145,7 +147,8 @@ impl Line {
 }
 
 /// Serves a client: it comes to one of the exports, and is served until it goes. All that it
-/// asked for is answered then.
+/// asked for is answered then. Where it ends with an error, the array came to its state by calls
+/// of the trait too, and by nothing else.
 pub fn serve<A: Array, R: Read, W: Write>(
     alloc: Global,
     array: &mut A,
@@ -153,7 +156,8 @@ pub fn serve<A: Array, R: Read, W: Write>(
     reader: &mut R,
     writer: &mut W,
 ) -> Result<Finish, Ended>
-    ensures { IfOk result (λ finish. (calls : List Call) × Called A.does array.old calls array.new × IfSome (R.remaining reader.old) (λ bytes. (said : List ℕ) × IsSession exports.now finish calls bytes said × Appends (W.contents writer.old) (W.contents writer.new) said)) }
+    ensures session { IfOk result (λ finish. (calls : List Call) × Called A.does array.old calls array.new × IfSome (R.remaining reader.old) (λ bytes. (said : List ℕ) × IsSession exports.now finish calls bytes said × Appends (W.contents writer.old) (W.contents writer.new) said)) }
+    ensures called { OnErr result (Reaches A.does array.old array.new) }
 {
     let mut input = Input::new(alloc)?;
     let Some((place, structured)) = chosen(alloc, exports, &mut input, reader, writer)? else {

@@ -1,10 +1,11 @@
 // Pieces of jobs are given to the array, and come back.
-ghost use Rattle.std.specs.Prelude.{◌≡◌, ◌<◌, ◌∷◌, [], IfOk, List, OnOk, Some, length, slice_index_or};
+ghost use Rattle.std.specs.Prelude.{◌≡◌, ◌<◌, ◌∷◌, [], IfOk, List, OnErr, OnOk, Some, length, slice_index_or};
 ghost use Rattle.nbd_jobs.specs.Steps.{IsInside, JobState, work_at};
 ghost use Rattle.served_array.specs.Calls.{Call, CallsTo, Step, Submit};
 ghost use Rattle.served_array.specs.declared.array.Stepped.TheVariants.{Back as Returned, Ended as IsEnded};
 ghost use Rattle.nbd_session.specs.Moved.{MovesCalling, MovesEnded, MovesSaying, MovesUnsaid};
 ghost use Rattle.nbd_session.specs.Pieces.{part_by};
+ghost use Rattle.nbd_session.specs.Reached.{Reaches};
 ghost use Rattle.nbd_session.specs.declared.working.Went.TheVariants.{Stopped};
 
 use crate::ended::{Ended, Finish};
@@ -67,7 +68,8 @@ impl Line {
         requires few { length self.old.jobs.out < 64 }
         requires inside { (d : JobState) → IsInside (length (slice_index_or self.old.jobs.jobs place d).bytes) work }
         requires next { (d : JobState) → work_at self.old.chunk (slice_index_or self.old.jobs.jobs place d).request (slice_index_or self.old.jobs.jobs place d).serial (slice_index_or self.old.jobs.jobs place d).stage ≡ Some work }
-        ensures { IfOk result (λ _. CallsTo A.does array.old array.new (MovesCalling self.old self.new)) }
+        ensures moves { IfOk result (λ _. CallsTo A.does array.old array.new (MovesCalling self.old self.new)) }
+        ensures called { OnErr result (Reaches A.does array.old array.new) }
     {
         match given(alloc, array, self.jobs.get(place), work) {
             Ok(number) => {
@@ -84,7 +86,8 @@ impl Line {
 
     /// Gives the next piece of the first job that has one. `false` where there is none, or no room.
     fn give_next<A: Array>(&mut self, alloc: Global, array: &mut A) -> Result<bool, Ended>
-        ensures { IfOk result (λ _. CallsTo A.does array.old array.new (MovesCalling self.old self.new)) }
+        ensures moves { IfOk result (λ _. CallsTo A.does array.old array.new (MovesCalling self.old self.new)) }
+        ensures called { OnErr result (Reaches A.does array.old array.new) }
     {
         if MOST_PIECES <= self.jobs.pieces() {
             return Ok(false);
@@ -100,7 +103,8 @@ impl Line {
 
     /// Gives pieces while there are some, and room.
     pub fn give_all<A: Array>(&mut self, alloc: Global, array: &mut A) -> Result<(), Ended>
-        ensures { OnOk result (CallsTo A.does array.old array.new (MovesCalling self.old self.new)) }
+        ensures moves { OnOk result (CallsTo A.does array.old array.new (MovesCalling self.old self.new)) }
+        ensures called { OnErr result (Reaches A.does array.old array.new) }
     {
         for _ in 0..u64::MAX {
             if !self.give_next(alloc, array)? {
@@ -206,7 +210,8 @@ impl Line {
         array: &mut A,
         writer: &mut W,
     ) -> Result<(), Ended>
-        ensures { OnOk result (CallsTo A.does array.old array.new (MovesSaying self.old self.new (W.contents writer.old) (W.contents writer.new))) }
+        ensures moves { OnOk result (CallsTo A.does array.old array.new (MovesSaying self.old self.new (W.contents writer.old) (W.contents writer.new))) }
+        ensures called { OnErr result (Reaches A.does array.old array.new) }
     {
         self.tell(writer)?;
         self.give_all(alloc, array)?;
@@ -221,6 +226,7 @@ impl Line {
         writer: &mut W,
     ) -> Result<Went, Ended>
         ensures moves { IfOk result (λ _. CallsTo A.does array.old array.new (MovesSaying self.old self.new (W.contents writer.old) (W.contents writer.new))) }
+        ensures called { OnErr result (Reaches A.does array.old array.new) }
         ensures stopped { result ≡ Ok Stopped → (self.new.jobs.jobs ≡ []) × (self.new.out.items ≡ []) }
     {
         match array.step() {
@@ -250,6 +256,7 @@ impl Line {
         writer: &mut W,
     ) -> Result<Went, Ended>
         ensures moves { IfOk result (λ _. CallsTo A.does array.old array.new (MovesSaying self.old self.new (W.contents writer.old) (W.contents writer.new))) }
+        ensures called { OnErr result (Reaches A.does array.old array.new) }
         ensures stopped { result ≡ Ok Stopped → (self.new.jobs.jobs ≡ []) × (self.new.out.items ≡ []) }
     {
         let mut went = Went::Still;
@@ -272,6 +279,7 @@ impl Line {
         writer: &mut W,
     ) -> Result<Went, Ended>
         ensures moves { IfOk result (λ _. CallsTo A.does array.old array.new (MovesSaying self.old self.new (W.contents writer.old) (W.contents writer.new))) }
+        ensures called { OnErr result (Reaches A.does array.old array.new) }
         ensures out { IfOk result (λ _. self.new.out.items ≡ []) }
         ensures stopped { result ≡ Ok Stopped → self.new.jobs.jobs ≡ [] }
     {
@@ -302,6 +310,7 @@ impl Line {
         writer: &mut W,
     ) -> Result<Finish, Ended>
         ensures moves { IfOk result (λ _. CallsTo A.does array.old array.new (MovesSaying self.old self.new (W.contents writer.old) (W.contents writer.new))) }
+        ensures called { OnErr result (Reaches A.does array.old array.new) }
         ensures none { IfOk result (λ _. (self.new.jobs.jobs ≡ []) × (self.new.out.items ≡ [])) }
     {
         self.say(writer)?;

@@ -1,4 +1,5 @@
 use Rattle.std.proofs.Common.{rules}
+use Rattle.nbd_session.proofs.Called.{reaches_at, reaches_by, reaches_then}
 use Rattle.nbd_session.proofs.Calling.{saying, still_saying}
 use Rattle.nbd_session.proofs.line.Line.go.Goals as goal
 
@@ -16,3 +17,6 @@ returns-in-Idle-clause-moves g c = saying g.A.Array.does _ _ _ _ _ _ _ _ _ c.loo
 
 pub returns-in-Stopped-clause-moves : goal.returns-in-Stopped-clause-moves
 returns-in-Stopped-clause-moves g c = saying g.A.Array.does _ _ _ _ _ _ _ _ _ c.loop.invariant.moves c.in_ok-step.ensures.moves
+
+pub returns-in_err-step-clause-called : goal.returns-in_err-step-clause-called
+returns-in_err-step-clause-called g c = reaches_at g.A.Array.does _ _ _ (reaches_then g.A.Array.does _ _ _ (reaches_by g.A.Array.does _ _ _ c.loop.invariant.moves) c.in_err-step.ensures.called)

@@ -3,6 +3,7 @@ use Rattle.nbd_jobs.specs.Held.{Held}
 use Rattle.nbd_session.specs.declared.line.Line.{Line}
 use Rattle.nbd_session.specs.Asked.{IsOver}
 use Rattle.nbd_session.specs.Stream.{left}
+use Rattle.nbd_session.proofs.Called.{reaches_at, reaches_by, reaches_then}
 use Rattle.nbd_session.proofs.Calling.{still_whole, turning, working}
 use Rattle.nbd_session.proofs.Moved.{none_left}
 use Rattle.nbd_session.proofs.line.Line.run.Goals as goal
@@ -48,3 +49,9 @@ loop-preserved g c =
         end = search rules;
       }
     ]
+
+pub returns-in_err-more-clause-called : goal.returns-in_err-more-clause-called
+returns-in_err-more-clause-called g c = reaches_at g.A.Array.does _ _ _ (reaches_then g.A.Array.does _ _ _ (reaches_by g.A.Array.does _ _ _ c.loop.invariant.moves) (reaches_by g.A.Array.does _ _ _ c.idle.ensures.moves))
+
+pub returns-in_err-work-clause-called : goal.returns-in_err-work-clause-called
+returns-in_err-work-clause-called g c = reaches_at g.A.Array.does _ _ _ (reaches_then g.A.Array.does _ _ _ (reaches_by g.A.Array.does _ _ _ c.loop.invariant.moves) c.in_err-work.ensures.called)

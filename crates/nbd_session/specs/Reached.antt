@@ -1,0 +1,7 @@
+-- To be believed: what is said of an array by a session that ends with an error.
+use Rattle.std.specs.Prelude.{List}
+use Rattle.served_array.specs.Calls.{Call, Called}
+
+-- An array came from one state to another by some calls, and by nothing else.
+abbrev pub Reaches : {S : Type 0} → (Call → S → S → Type 0) → S → S → Type 0
+Reaches does old new = (calls : List Call) × Called does old calls new
