@@ -1,5 +1,5 @@
 // The snapshots of a session are loaded, and one of them is merged.
-ghost use Rattle.std.specs.Prelude.{◌≡◌, ℕ, None, Some, IfOk, IfSome, OnOk, slice_index_or};
+ghost use Rattle.std.specs.Prelude.{◌≡◌, ℕ, None, Some, IfOk, IfSome, slice_index_or};
 ghost use Rattle.snapshot.specs.Kept.{Kept};
 ghost use Rattle.snapshot_list.specs.Finding.{place_of_snap};
 ghost use Rattle.serve_files.specs.Names.{text_in};
@@ -11,9 +11,10 @@ use cow_header::Found;
 use plain_machine::SnapId;
 use sector::Refusal;
 use serve_files::{Device, StoreFault, Trouble, Why, device_name, pushed};
-use served_volume::{NotOpened, load, load_written, merge};
+use served_volume::NotOpened;
 use std::io::Write;
 use volume::Volume;
+use volume_session::OpenedVolume;
 
 /// A store whose snapshot is there: its file, whether the snapshot was taken just now, and how many pairs it has.
 #[derive(Clone, Copy)]
@@ -37,48 +38,49 @@ pub fn tell_opened<E: Write>(all: &[Opened<'_>], merge: Option<&str>, errors: &m
     }
 }
 
-/// Attaches the snapshot of a store, and gives whether it was taken just now. Beside a merge none is taken: it would show what is
+/// Attaches the snapshot of a store, and gives the volume and whether it was taken just now. Beside a merge none is taken: it would show what is
 /// neither the origin nor the snapshot that is merged.
 #[tactic(auto, using(crate::proofs::Merged::loaded_keeps, crate::proofs::Merged::written_keeps))]
 fn attached<'a>(
     rt: &'a HostRuntime,
     words: Serving<'_, 'a>,
-    volume: &mut Volume<Device<'a>>,
+    volume: OpenedVolume<Device<'a>>,
     store: Device<'a>,
-) -> Result<bool, NotOpened>
-    ensures { OnOk result (volume.new.merge ≡ volume.old.merge) }
+) -> Result<(OpenedVolume<Device<'a>>, bool), NotOpened>
+    ensures { IfOk result (λ both. both.0.merge ≡ volume.entry.merge) }
 {
     let Serving { chunk, refuse, .. } = words;
     if words.merge.is_some() {
-        load_written(rt.alloc(), volume, store, chunk, refuse)?;
-        return Ok(false);
+        let volume = volume.load_written(rt.alloc(), store, chunk, refuse)?;
+        return Ok((volume, false));
     }
-    let (_, found) = load(rt.alloc(), volume, store, chunk, refuse)?;
-    Ok(found == Found::Fresh)
+    let (volume, found) = volume.load(rt.alloc(), store, chunk, refuse)?;
+    Ok((volume, found == Found::Fresh))
 }
 
 /// Attaches the snapshots of stores to a volume, in their order.
 fn attached_all<'a>(
     rt: &'a HostRuntime,
     words: Serving<'_, 'a>,
-    volume: &mut Volume<Device<'a>>,
+    mut volume: OpenedVolume<Device<'a>>,
     stores: Vec<Device<'a>>,
-) -> Result<Vec<Opened<'a>>, Trouble<'a>>
-    ensures { OnOk result (volume.new.merge ≡ volume.old.merge) }
+) -> Result<(OpenedVolume<Device<'a>>, Vec<Opened<'a>>), Trouble<'a>>
+    ensures { IfOk result (λ both. both.0.merge ≡ volume.entry.merge) }
 {
     let Serving { origin, chunk, .. } = words;
     let mut all = Vec::new(rt.alloc());
     for store in stores {
         let cow = device_name(&store);
         match attached(rt, words, volume, store) {
-            Ok(is_new) => {
-                let pairs = last_pairs(volume);
+            Ok((next, is_new)) => {
+                volume = next;
+                let pairs = last_pairs(volume.volume());
                 pushed(cow, &mut all, Opened { cow, is_new, pairs })?;
             }
             Err(why) => return Err(trouble_of(why, Taking { origin, cow, chunk })),
         }
     }
-    Ok(all)
+    Ok((volume, all))
 }
 
 /// How many pairs the last snapshot has.
@@ -117,18 +119,18 @@ fn number_of<'a>(volume: &Volume<Device<'a>>, cow: &str) -> Option<SnapId>
 fn begun<'a>(
     rt: &'a HostRuntime,
     words: Serving<'_, 'a>,
-    volume: &mut Volume<Device<'a>>,
+    volume: OpenedVolume<Device<'a>>,
     cow: &'a str,
-) -> Result<(), Trouble<'a>>
-    ensures { OnOk result (merging_name (λ device. device.file.name.now) volume.new.merge ≡ Some cow.now) }
+) -> Result<OpenedVolume<Device<'a>>, Trouble<'a>>
+    ensures { IfOk result (λ opened. merging_name (λ device. device.file.name.now) opened.merge ≡ Some cow.now) }
 {
     let Serving { origin, chunk, .. } = words;
-    let Some(number) = number_of(volume, cow) else {
+    let Some(number) = number_of(volume.volume(), cow) else {
         let why = Why::Store(StoreFault::Refused(Refusal::NoSuchDevice));
         return Err(Trouble { name: cow, why });
     };
-    match merge(rt.alloc(), volume, number) {
-        Ok(()) => Ok(()),
+    match volume.merge(rt.alloc(), number) {
+        Ok(volume) => Ok(volume),
         Err(why) => Err(trouble_of(why, Taking { origin, cow, chunk })),
     }
 }
@@ -140,17 +142,17 @@ pub fn opened_volume<'a>(
     words: Serving<'_, 'a>,
     origin: Device<'a>,
     stores: Vec<Device<'a>>,
-) -> Result<(Volume<Device<'a>>, Vec<Opened<'a>>), Trouble<'a>>
+) -> Result<(OpenedVolume<Device<'a>>, Vec<Opened<'a>>), Trouble<'a>>
     ensures { IfOk result (λ both. merging_name (λ device. device.file.name.now) both.0.merge ≡ text_in words.entry.merge) }
 {
-    let Ok(mut volume) = Volume::new(rt.alloc(), origin) else {
+    let Ok(volume) = OpenedVolume::new(rt.alloc(), origin) else {
         let name = words.origin;
         let why = Why::NoMemory;
         return Err(Trouble { name, why });
     };
-    let all = attached_all(rt, words, &mut volume, stores)?;
-    if let Some(cow) = words.merge {
-        begun(rt, words, &mut volume, cow)?;
+    let (volume, all) = attached_all(rt, words, volume, stores)?;
+    match words.merge {
+        Some(cow) => Ok((begun(rt, words, volume, cow)?, all)),
+        None => Ok((volume, all)),
     }
-    Ok((volume, all))
 }

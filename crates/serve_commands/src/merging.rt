@@ -7,10 +7,8 @@ ghost use Rattle.serve_commands.specs.Merging.{left_by};
 use crate::loading::{Opened, pairs_of};
 use chunk_alloc::Usage;
 use serve_files::Device;
-use served_array::Stepped;
 use std::io::Write;
 use volume::Volume;
-use volume_nbd::VolumeArray;
 
 /// The device of the store that is merged.
 #[tactic(auto, using(crate::proofs::Merged::store_of_merge, crate::proofs::Merged::no_merge, crate::proofs::Merged::not_none))]
@@ -22,20 +20,6 @@ pub fn merging_store<'v, 'a>(volume: &'v Volume<Device<'a>>) -> Option<&'v Devic
     match volume.store(number) {
         Ok(device) => Some(device),
         Err(_) => None,
-    }
-}
-
-/// Goes on with a merge, where there is one, once the client is gone: for as many steps as a group of an area's pairs takes. So each
-/// session takes a merge further, however short it is.
-pub fn go_on(array: &mut VolumeArray<Device<'_>>) {
-    let Some(chunk) = array.volume().merging_chunk() else {
-        return;
-    };
-    for _ in 0..64 * u64::from(chunk) + 16 {
-        match array.go_on() {
-            Stepped::Still | Stepped::Ended => return,
-            Stepped::Idle | Stepped::Done | Stepped::Slow | Stepped::Back(..) => {}
-        }
     }
 }
 

@@ -8,7 +8,7 @@ ghost use Rattle.serve_commands.specs.Merging.{merging_name};
 use crate::ending::{end, tell_lost};
 use crate::exports::exports_of;
 use crate::loading::{Opened, opened_volume, tell_opened};
-use crate::merging::{go_on, tell_merge};
+use crate::merging::tell_merge;
 use nbd_options::Export;
 use nbd_session::{Ended, Finish};
 use serve_files::{
@@ -18,6 +18,7 @@ use serve_files::{
 use std::io::{Read, Write};
 use volume::Volume;
 use volume_nbd::VolumeArray;
+use volume_session::ReadyArray;
 
 /// The words of a session.
 #[derive(Clone, Copy)]
@@ -53,7 +54,7 @@ fn looked_at<'a>(rt: &HostRuntime, words: Serving<'_, 'a>) -> Result<OriginList<
 /// An origin's volume as the array of a session, its exports, and what is to be told of its snapshots.
 #[derive(Drop)]
 struct Prepared<'a> {
-    array: VolumeArray<Device<'a>>,
+    array: ReadyArray<Device<'a>>,
     named: Vec<Export<'a>>,
     all: Vec<Opened<'a>>,
 }
@@ -68,8 +69,8 @@ fn prepared_array<'a>(
     ensures { IfOk result (λ prepared. merging_name (λ device. device.file.name.now) prepared.array.volume.merge ≡ text_in words.entry.merge) }
 {
     let (volume, all) = opened_volume(rt, words, origin, stores)?;
-    let Exports { named, devices, .. } = exports_of(rt.alloc(), &volume)?;
-    match VolumeArray::new(rt.alloc(), volume, devices) {
+    let Exports { named, devices, .. } = exports_of(rt.alloc(), volume.volume())?;
+    match ReadyArray::new(rt.alloc(), volume, devices) {
         Ok(array) => Ok(Prepared { array, named, all }),
         Err(_) => {
             let name = words.origin;
@@ -79,20 +80,24 @@ fn prepared_array<'a>(
     }
 }
 
+/// How a client's session ended, and what it left.
+#[derive(Drop)]
+struct Session<'a> {
+    array: VolumeArray<Device<'a>>,
+    ended: Result<Finish, Ended>,
+}
+
 /// A client is served, once the list beside the origin names what it may write.
-fn session<R: Read, W: Write>(
+fn served<'a, R: Read, W: Write>(
     rt: &HostRuntime,
     _listed: Listed,
-    prepared: &mut Prepared<'_>,
+    array: ReadyArray<Device<'a>>,
+    named: &[Export<'a>],
     reader: &mut R,
     writer: &mut W,
-) -> Result<Finish, Ended> {
-    let Prepared { array, named, .. } = prepared;
-    let ended = nbd_session::serve(rt.alloc(), array, named.as_slice(), reader, writer);
-    if let Ok(Finish::Client) = &ended {
-        go_on(array);
-    }
-    ended
+) -> Session<'a> {
+    let (array, ended) = array.serve(rt.alloc(), named, reader, writer);
+    Session { array, ended }
 }
 
 /// Takes a store whose merge is done out of the list, and nothing where none is.
@@ -129,11 +134,10 @@ pub fn serve<'a, R: Read, W: Write, E: Write>(
         mut held,
     } = session_files(rt, words.origin, words.cows)?;
     let mut list = looked_at(rt, words)?;
-    let mut prepared = prepared_array(rt, words, origin, stores)?;
+    let Prepared { array, named, all } = prepared_array(rt, words, origin, stores)?;
     let listed = list.hold(rt, words.merge, words.cows)?;
-    tell_opened(prepared.all.as_slice(), words.merge, errors);
-    let ended = session(rt, listed, &mut prepared, reader, writer);
-    let Prepared { array, all, .. } = prepared;
+    tell_opened(all.as_slice(), words.merge, errors);
+    let Session { array, ended } = served(rt, listed, array, named.as_slice(), reader, writer);
     tell_lost(array.volume(), errors);
     tell_merge(array.volume(), words.merge, all.as_slice(), errors);
     let synced = end(&array, ended, held.as_mut_slice())?;

@@ -15,15 +15,16 @@ use Rattle.saving_laws.proofs.Aheads.{ahead_saves}
 use Rattle.saving_laws.proofs.Events.{event_saves}
 use Rattle.volume_nbd.specs.Answers.{stepped_as}
 use Rattle.volume_nbd.specs.Faults.{is_failed_at}
+use Rattle.volume_nbd.specs.Looked.{IsLookedAt}
 use Rattle.volume_nbd.specs.Steps.{DoesEvent, is_idle}
 
 module _ {B : Type 0} (holds : B → ℕ → List ℕ → Type 0) (contents : B → List ℕ) (layers : B → List Layer) (size faults done : B → ℕ) (failed : B → Bool) (chosen : Dev)
     (whole : (d : B) → length (contents d) ≡ 512 * size d) (here : (d : B) (s : ℕ) → s < size d → holds d s (sector_at (contents d) s)) where
   pub event_done : (event : Event) (outcome : Outcome) (stepped : Stepped) (old between new : Volumed B) → is_due_of contents layers old event ≡ true → DoesAhead holds contents layers size faults done old between
       → DoesStep holds contents layers size faults done true event (Ok outcome) between new
-      → IsKept holds contents layers size old → IsKept holds contents layers size new
+      → IsKept holds contents layers size old → IsLookedAt holds contents layers size new
       → stepped ≡ stepped_as (is_idle old event) (is_failed_at failed chosen new) outcome → DoesEvent holds contents layers size faults done failed chosen stepped old new
-  event_done event outcome stepped old between new due ahead step kept kept' told = record {
+  event_done event outcome stepped old between new due ahead step kept looked told = record {
     event = event;
     outcome = outcome;
     between = between;
@@ -36,7 +37,8 @@ module _ {B : Type 0} (holds : B → ℕ → List ℕ → Type 0) (contents : B 
     saves = record {
       each = λ k s t within is at loud.
           (ahead_saves holds contents layers size faults done whole here event old between new ahead step.loud
-          (event_saves holds contents layers size whole here event outcome between new (kept_ahead holds contents layers size faults done whole old between ahead.devices kept) kept' (sym step.loud ∙ loud) loud step.kept step.exact)).each k s t within is at loud;
+          (event_saves holds contents layers size whole here event outcome between new (kept_ahead holds contents layers size faults done whole old between ahead.devices kept) looked.kept (sym step.loud ∙ loud) loud step.kept step.exact)).each k s t within is at loud;
     };
+    looked = looked;
     told = told;
   }

@@ -19,7 +19,7 @@ does_by holds contents layers size faults done failed (Choose place told) old ne
     × (told ≡ false → new ≡ old)
     × (new ≡ record old { chosen = new.chosen })
 does_by holds contents layers size faults done failed (Submit work part told) old new =
-    DoesTakeIn contents layers size old.chosen work part told old.volume new.volume × (new ≡ record old { volume = new.volume })
+    DoesTakeIn holds contents layers size old.chosen work part told old.volume new.volume × (new ≡ record old { volume = new.volume })
 does_by holds contents layers size faults done failed (Step told) old new =
     DoesServedStep holds contents layers size faults done failed old.chosen told old.volume new.volume
     × (told ≡ Still → next_of contents layers old.volume ≡ None)

@@ -14,6 +14,7 @@ use Rattle.volume.specs.Volumed.{Volumed, is_due_of, is_loud_in_all, plain_of}
 use Rattle.saving_laws.specs.Saves.{SavesFirst}
 use Rattle.volume_nbd.specs.Answers.{stepped_as}
 use Rattle.volume_nbd.specs.Faults.{is_failed_at}
+use Rattle.volume_nbd.specs.Looked.{IsLookedAt}
 
 -- whether something comes back of a step
 abbrev pub is_back : Stepped → Bool
@@ -30,7 +31,8 @@ is_idle v event = is_of_merge event && (length v.flights == 0)
 
 -- An event that was due was done ahead and then done, and its outcome is told. Where no file lost what was written to it, that is
 -- a legal step of the plain machine: a read's bytes are what its one array holds. And each snapshot is saved first: what is written over
--- has its copy by then, and a lost snapshot its mark.
+-- has its copy by then, and a lost snapshot its mark. What a volume keeps true it keeps, and so what a stop
+-- then leaves is known.
 pub record DoesEvent {B : Type 0} (holds : B → ℕ → List ℕ → Type 0) (contents : B → List ℕ) (layers : B → List Layer) (size faults done : B → ℕ) (failed : B → Bool) (chosen : Dev) (stepped : Stepped) (old new : Volumed B) : Type 0 where
   pub event : Event
   pub outcome : Outcome
@@ -40,6 +42,7 @@ pub record DoesEvent {B : Type 0} (holds : B → ℕ → List ℕ → Type 0) (c
   pub step : DoesStep holds contents layers size faults done true event (Ok outcome) between new
   pub legal : is_loud_in_all layers new ≡ true → IsLegalStep (plain_of contents layers old) event outcome (plain_of contents layers new)
   pub saves : SavesFirst contents layers size event old new
+  pub looked : IsLookedAt holds contents layers size new
   pub told : stepped ≡ stepped_as (is_idle old event) (is_failed_at failed chosen new) outcome
 
 -- One event, or none: then nothing comes back.

@@ -17,6 +17,7 @@ use Rattle.volume.specs.DoesSubmit.{DoesSubmit}
 use Rattle.volume.specs.Submitting.{IsRefusedAs}
 use Rattle.volume.specs.Volumed.{Volumed}
 use Rattle.volume_nbd.specs.Answers.{taken_as}
+use Rattle.volume_nbd.specs.Looked.{IsLookedAt}
 
 -- what is asked of the volume: zeros are written
 abbrev pub op_of : Kind → ℕ → List ℕ → Op
@@ -33,14 +34,15 @@ pub record IsOf (chosen : Dev) (work : Work) (part : List ℕ) (sectors : ℕ) (
   pub count : request.range.count ≡ work.count
   pub sectors_are : request.range.size ≡ sectors
 
--- The volume was asked for just this piece, and what it answered is told.
-pub record IsHandedOn {B : Type 0} (contents : B → List ℕ) (layers : B → List Layer) (size : B → ℕ) (chosen : Dev) (work : Work) (part : List ℕ) (result : Result ℕ Refused) (old new : Volumed B) : Type 0 where
+-- The volume was asked for just this piece, and what it answered is told. What a volume keeps true it keeps, and so what a stop then leaves is known.
+pub record IsHandedOn {B : Type 0} (holds : B → ℕ → List ℕ → Type 0) (contents : B → List ℕ) (layers : B → List Layer) (size : B → ℕ) (chosen : Dev) (work : Work) (part : List ℕ) (result : Result ℕ Refused) (old new : Volumed B) : Type 0 where
   pub request : Request
   pub is : IsOf chosen work part (size old.origin) request
   pub answer : Result ℕ Refusal
   pub does : DoesSubmit contents layers size request answer old new
   pub reasons : IfErr answer (λ refusal. IsRefusedAs contents layers size request refusal old new)
   pub told : result ≡ taken_as answer
+  pub looked : IsLookedAt holds contents layers size new
 
 -- whether a write that starts a copy for each snapshot would find no room
 abbrev pub IsCrowded : {B : Type 0} → Volumed B → Type 0
@@ -53,6 +55,6 @@ IsTurnedAway size work result v =
     ⊎ ((result ≡ Err (Error Invalid)) × (size v.origin < work.first + work.count))
     ⊎ (result ≡ Err (Error NoMemory))
 
-abbrev pub DoesTakeIn : {B : Type 0} → (B → List ℕ) → (B → List Layer) → (B → ℕ) → Dev → Work → List ℕ → Result ℕ Refused → Volumed B → Volumed B → Type 0
-DoesTakeIn contents layers size chosen work part result old new =
-    IsHandedOn contents layers size chosen work part result old new ⊎ ((new ≡ old) × IsTurnedAway size work result old)
+abbrev pub DoesTakeIn : {B : Type 0} → (B → ℕ → List ℕ → Type 0) → (B → List ℕ) → (B → List Layer) → (B → ℕ) → Dev → Work → List ℕ → Result ℕ Refused → Volumed B → Volumed B → Type 0
+DoesTakeIn holds contents layers size chosen work part result old new =
+    IsHandedOn holds contents layers size chosen work part result old new ⊎ ((new ≡ old) × IsTurnedAway size work result old)

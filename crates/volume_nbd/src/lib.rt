@@ -12,10 +12,12 @@
 mod answers;
 mod faults;
 mod gathering;
+mod looking;
 mod serving;
 mod stepping;
 mod submitting;
 mod volume_array;
 
 pub use faults::Fault;
+pub use looking::look_at;
 pub use volume_array::VolumeArray;

@@ -9,6 +9,7 @@ use crate::VolumeArray;
 use crate::answers::stepped;
 use crate::faults::{is_failed_at, is_stopped};
 use crate::gathering::gather;
+use crate::looking::look_at;
 use device::Ahead;
 use event_rounds::{Batch, after};
 use plain_machine::Event;
@@ -37,13 +38,12 @@ impl<B: Ahead> VolumeArray<B> {
             return None;
         }
         let idle = is_of_merge(event) && self.volume.flights().is_empty();
-        // Looks, before and after: what the volume keeps true.
-        self.volume.look();
+        look_at(&self.volume);
         self.volume.ahead(event);
         let Ok(outcome) = self.volume.step(event) else {
             return None;
         };
-        self.volume.look();
+        look_at(&self.volume);
         self.went = true;
         let failed = is_failed_at(&self.volume, self.dev);
         Some(stepped(self.alloc, idle, failed, outcome))

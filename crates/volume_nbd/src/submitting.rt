@@ -8,6 +8,7 @@ ghost use Rattle.volume_nbd.specs.Submits.{DoesTakeIn, IsCrowded, IsHandedOn, op
 
 use crate::VolumeArray;
 use crate::answers::refused;
+use crate::looking::look_at;
 use device::{Ahead, Block};
 use in_flight::MAX_COPIES;
 use nbd_jobs::{Kind, Work};
@@ -65,7 +66,7 @@ impl<B: Ahead> VolumeArray<B> {
     /// Asks the volume for a piece, and tells what it answered.
     fn hand_on(&mut self, alloc: Global, op: Op, range: Range) -> Result<u64, Refused>
         requires bytes { (bytes : List ℕ) → op ≡ Write bytes → length bytes ≡ 512 * range.count }
-        ensures does { (work : Work) (part : List ℕ) → op ≡ op_of work.kind work.count part → range.first ≡ work.first → range.count ≡ work.count → range.size ≡ B.size self.old.volume.origin → IsHandedOn B.contents B.layers B.size self.old.chosen work part result self.old.volume self.new.volume }
+        ensures does { (work : Work) (part : List ℕ) → op ≡ op_of work.kind work.count part → range.first ≡ work.first → range.count ≡ work.count → range.size ≡ B.size self.old.volume.origin → IsHandedOn B.may_hold B.contents B.layers B.size self.old.chosen work part result self.old.volume self.new.volume }
         ensures kept { self.new ≡ record self.old { volume = self.new.volume } }
     {
         let request = Request {
@@ -73,7 +74,9 @@ impl<B: Ahead> VolumeArray<B> {
             op,
             range,
         };
-        match self.volume.submit(alloc, request) {
+        let answer = self.volume.submit(alloc, request);
+        look_at(&self.volume);
+        match answer {
             Ok(number) => Ok(number),
             Err(refusal) => Err(refused(refusal)),
         }
@@ -83,7 +86,7 @@ impl<B: Ahead> VolumeArray<B> {
     /// done (`Full`); past the end (`Invalid`); without memory (`NoMemory`); and as the volume refuses it.
     pub fn take_in(&mut self, alloc: Global, work: Work, part: &[u8]) -> Result<u64, Refused>
         requires { work.kind ≡ AsksWrite → length part.now ≡ 512 * work.count }
-        ensures does { DoesTakeIn B.contents B.layers B.size self.old.chosen work part.now result self.old.volume self.new.volume }
+        ensures does { DoesTakeIn B.may_hold B.contents B.layers B.size self.old.chosen work part.now result self.old.volume self.new.volume }
         ensures kept { self.new ≡ record self.old { volume = self.new.volume } }
     {
         if is_crowded(&self.volume) {

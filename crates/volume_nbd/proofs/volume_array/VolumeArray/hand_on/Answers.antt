@@ -8,11 +8,12 @@ pub returns-clause-does : goal.returns-clause-does
 returns-clause-does g c = λ work part op first count sectors. record {
   request = record { dev = c.args.self.now.chosen; op = c.args.op; range = c.args.range };
   is = record { dev = search rules; op = op; first = first; count = count; sectors_are = sectors };
-  answer = c.submit.result;
+  answer = c.submit-answer.result;
   does = search rules;
   reasons = search rules;
-  told = elim c.match-submit.branch [
+  told = elim c.match-answer.branch [
     | in-Ok w ↦ w.result-is ∙ sym (ap taken_as w.in-Ok.is)
     | in-Err w ↦ w.result-is ∙ ap Err w.refused.ensures ∙ sym (ap taken_as w.in-Err.is)
   ];
+  looked = c.look_at.ensures;
 }

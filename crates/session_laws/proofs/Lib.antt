@@ -1,0 +1,4 @@
+pub mod Ahead
+pub mod Calls
+pub mod Opened
+pub mod Loaded
