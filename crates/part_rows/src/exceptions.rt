@@ -124,6 +124,17 @@ fn pairs_in_a_row_are_found_and_taken_away(rt: HostRuntime) -> Result<(), Fail> 
     Ok(())
 }
 
+// Each pair asks for room of its own. Were all pairs hung anew each time, this would be 2^39 steps, which no test has the time for.
+#[test]
+fn a_million_pairs_one_by_one(rt: HostRuntime) -> Result<(), Fail> {
+    let mut arena = Arena::new(rt.alloc());
+    commit_in_order(&mut arena, 1_048_576)?;
+    assert!(rt; arena.len() == 1_048_576 && arena.get(199).is_none());
+    assert!(rt; arena.get(200) == Some(1_000) && arena.get(524_488) == Some(525_288));
+    assert!(rt; arena.get(1_048_775) == Some(1_049_575) && arena.get(1_048_776).is_none());
+    Ok(())
+}
+
 // Pairs of chunks 1, 5 and 9, which share one bucket of four.
 fn commit_three<E: Exceptions>(exceptions: &mut E) -> Result<(), Refusal>
     requires { E.pending exceptions.old ≡ [] }
