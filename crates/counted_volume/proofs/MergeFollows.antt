@@ -1,8 +1,8 @@
 -- Events of a merge that are done in straight line, and take no place of a journal.
-use Rattle.std.proofs.Common.{◌≡◌, ℕ, zero, suc, ◌+◌, ◌<◌, true, false, List, [], ◌∷◌, ◌++◌, Option, None, Some, sym, refl, subst, arith}
+use Rattle.std.proofs.Common.{◌≡◌, ℕ, zero, suc, ◌+◌, ◌<◌, Bool, true, false, List, [], ◌∷◌, ◌++◌, Option, None, Some, sym, refl, subst, arith}
 use Rattle.std.specs.Prelude.{◌&&◌, Ok}
 use Rattle.std.proofs.lemmas.Bool.{false≢true}
-use Rattle.device.specs.Bare.{is_bare}
+use Rattle.device.specs.Bare.{can_copy_run}
 use Rattle.device.specs.Layers.{Layer}
 use Rattle.plain_machine.specs.Replies.{reply_in}
 use Rattle.plain_machine.specs.declared.event.Event.{Event}
@@ -69,9 +69,9 @@ module _ {B : Type 0} (holds : B → ℕ → List ℕ → Type 0) (contents : B 
   copied_have (suc n) v w places chain have = copied_have n chain.1 w places chain.4 (turn_have MergeWrite chain.0 chain.1 places chain.3 (turn_have MergeRead v chain.0 places chain.2 have))
 
 -- one whose chunks were copied at once has a merge and a group
-copies_to : {B : Type 0} (layers : B → List Layer) (origin : B) (o : Option (Merging B)) → can_copy_to layers origin o ≡ true → (m : Merging B) × (o ≡ Some m) × (g : Group) × (m.group ≡ Some g)
-copies_to layers origin None e = absurd (false≢true e)
-copies_to layers origin (Some m) e = (let g = copied_group m.group m.state.chunk m.state.origin (and_left (can_copy_of m.group m.state.chunk m.state.origin) (is_bare (layers origin) && is_bare (layers m.device)) e) in (m, refl, g.0, g.1))
+copies_to : {B : Type 0} (runs : Bool) (layers : B → List Layer) (origin : B) (o : Option (Merging B)) → can_copy_to runs layers origin o ≡ true → (m : Merging B) × (o ≡ Some m) × (g : Group) × (m.group ≡ Some g)
+copies_to runs layers origin None e = absurd (false≢true e)
+copies_to runs layers origin (Some m) e = (let g = copied_group m.group m.state.chunk m.state.origin (and_left (can_copy_of m.group m.state.chunk m.state.origin) (can_copy_run runs (layers origin) (layers m.device)) e) in (m, refl, g.0, g.1))
 
-pub copies_group : {B : Type 0} (layers : B → List Layer) (v : Volumed B) → can_copy_group layers v ≡ true → (m : Merging B) × (v.merge ≡ Some m) × (g : Group) × (m.group ≡ Some g)
-copies_group layers v e = copies_to layers v.origin v.merge (and_right (is_none v.flights) (can_copy_to layers v.origin v.merge) (and_right (is_none v.snaps) (is_none v.flights && can_copy_to layers v.origin v.merge) e))
+pub copies_group : {B : Type 0} (runs : Bool) (layers : B → List Layer) (v : Volumed B) → can_copy_group runs layers v ≡ true → (m : Merging B) × (v.merge ≡ Some m) × (g : Group) × (m.group ≡ Some g)
+copies_group runs layers v e = copies_to runs layers v.origin v.merge (and_right (is_none v.flights) (can_copy_to runs layers v.origin v.merge) (and_right (is_none v.snaps) (is_none v.flights && can_copy_to runs layers v.origin v.merge) e))

@@ -1,5 +1,5 @@
 -- Devices without layers: what a stop may leave in their sectors, and which there are. This project's own.
-use Rattle.std.specs.Prelude.{◌≡◌, ◌⊎◌, ℕ, ◌+◌, ◌%◌, ◌^◌, Bool, true, false, List, [], ◌∷◌}
+use Rattle.std.specs.Prelude.{◌≡◌, ◌⊎◌, ℕ, ◌+◌, ◌%◌, ◌^◌, ◌&&◌, Bool, true, false, List, [], ◌∷◌}
 use Rattle.sector.specs.Bytes.{sector_at}
 use Rattle.device.specs.Layers.{Layer}
 
@@ -7,6 +7,10 @@ use Rattle.device.specs.Layers.{Layer}
 abbrev pub is_bare : List Layer → Bool
 is_bare [] = true
 is_bare (layer ∷ layers) = false
+
+-- whether a device copies a run of another: their kind does so, and no layer stands above either
+abbrev pub can_copy_run : Bool → List Layer → List Layer → Bool
+can_copy_run copies_runs to from = copies_runs && (is_bare to && is_bare from)
 
 -- the value of a count of 64 bits after so many more
 abbrev pub count_after : ℕ → ℕ → ℕ

@@ -1,9 +1,9 @@
 // A device of sectors: what every layer, disk and test device is to the code above it.
-ghost use Rattle.std.specs.Prelude.{◌≡◌, ◌⊎◌, ℕ, ◌+◌, ◌*◌, ◌-◌, ◌^◌, ◌<◌, ◌≤◌, ◌&&◌, true, false, List, [], length, slice_index, if◌then◌else◌, is_ok, OnOk, OnErr, IsTrue};
+ghost use Rattle.std.specs.Prelude.{◌≡◌, ◌⊎◌, ℕ, ◌+◌, ◌*◌, ◌-◌, ◌^◌, ◌<◌, ◌≤◌, Bool, true, false, List, [], length, slice_index, if◌then◌else◌, is_ok, OnOk, OnErr, IsTrue};
 ghost use Rattle.sector.specs.Bytes.{sectors_at, with_sectors, sector_at, next_count};
 ghost use Rattle.device.specs.declared.operation.Operation.TheVariants.{Reads, Writes, Flushes};
 ghost use Rattle.device.specs.declared.operation.Fate.TheVariants.{Pass, Drop};
-ghost use Rattle.device.specs.Bare.{HasLike, HoldsTwo, count_after, is_bare};
+ghost use Rattle.device.specs.Bare.{HasLike, HoldsTwo, can_copy_run, count_after};
 ghost use Rattle.device.specs.Layers.{Layer, fate, is_answered, is_passed, layers_after, is_loud};
 
 use crate::Io;
@@ -35,6 +35,11 @@ pub trait Block {
 
     /// What a stop at this moment may leave in a sector, each sector by itself.
     ghost may_hold: { Self → ℕ → List ℕ → Type 0 };
+
+    /// Whether devices of this kind copy runs of sectors by one call where no layer stands above them. Then a stop leaves of such a
+    /// device what is there or what was there at the last flush, and nothing else. A device whose cache may write out any value since
+    /// the last flush is a `Block` like any other, and needs no layer: it just copies no runs.
+    ghost copies_runs: { Bool };
 
     /// How many sectors it has.
     fn sectors(&self) -> u64
@@ -110,8 +115,8 @@ pub trait Block {
         ensures flushed { OnOk result (IsTrue (is_loud (layers self.old)) → (s : ℕ) (v : List ℕ) → s < size self.new → may_hold self.new s v → v ≡ sector_at (contents self.new) s) };
 
     /// Copies sectors of another device over as many of its own, from `to` on, as reads there and writes here would, one after
-    /// another: so many of each, which together are of all these sectors. It does so where no layer stands above either device,
-    /// so that none of them can fail; else it does nothing, and answers `false`.
+    /// another: so many of each, which together are of all these sectors. It does so where the kind copies runs and no layer stands
+    /// above either device, so that none of them can fail; else it does nothing, and answers `false`.
     fn copy_sectors(
         &mut self,
         to: Range,
@@ -124,7 +129,7 @@ pub trait Block {
         requires inside { to.first + to.count ≤ size self.old }
         requires there { first + to.count ≤ size from.old }
 
-        ensures answer { result ≡ (is_bare (layers self.old) && is_bare (layers from.old)) }
+        ensures answer { result ≡ can_copy_run copies_runs (layers self.old) (layers from.old) }
         ensures undone { result ≡ false → (self.new ≡ self.old) × (from.new ≡ from.old) }
         ensures layers { (layers self.new ≡ layers self.old) × (layers from.new ≡ layers from.old) }
 
@@ -149,10 +154,9 @@ pub trait Block {
     /// A stop may leave what was there at the last flush.
     ghost holds_durable: { (d : Self) (s : ℕ) → s < size d → may_hold d s (sector_at (durable d) s) };
 
-    /// A stop may leave no more than these two in a sector of a device without layers. A device whose cache may write out any value
-    /// since the last flush shows a layer that passes everything.
-    ghost holds_two: { (d : Self) → layers d ≡ [] → HoldsTwo (may_hold d) (contents d) (durable d) };
+    /// Where the kind copies runs, a stop may leave no more than these two in a sector of a device without layers.
+    ghost holds_two: { copies_runs ≡ true → (d : Self) → layers d ≡ [] → HoldsTwo (may_hold d) (contents d) (durable d) };
 
-    /// A device without layers may have any bytes, and have done any number of operations, whatever it had at the last flush.
-    ghost has_like: { (d : Self) (bytes : List ℕ) (count : ℕ) → layers d ≡ [] → length bytes ≡ 512 * size d → count < 2 ^ 64 → HasLike size contents durable layers fault_count done_count d bytes count };
+    /// And there such a device may have any bytes, and have done any number of operations, whatever it had at the last flush.
+    ghost has_like: { copies_runs ≡ true → (d : Self) (bytes : List ℕ) (count : ℕ) → layers d ≡ [] → length bytes ≡ 512 * size d → count < 2 ^ 64 → HasLike size contents durable layers fault_count done_count d bytes count };
 }

@@ -1,5 +1,5 @@
 // A device that fails once, for tests of what one fault does.
-ghost use Rattle.std.specs.Prelude.{◌≡◌, ◌∷◌, if◌then◌else◌, Some};
+ghost use Rattle.std.specs.Prelude.{◌≡◌, ◌∷◌, if◌then◌else◌, false, Some};
 ghost use Rattle.sector.specs.Bytes.{next_count};
 ghost use Rattle.device.specs.Layers.{Counted, counted_passes, counted_after};
 
@@ -68,6 +68,8 @@ impl<B: Block> Block for FailAt<B> {
 
     ghost may_hold = { λ d. B.may_hold d.inner };
 
+    ghost copies_runs = { false };
+
     fn sectors(&self) -> u64 {
         self.inner.sectors()
     }
@@ -129,7 +131,7 @@ impl<B: Block> Block for FailAt<B> {
 
     ghost holds_durable = { λ d. B.holds_durable d.inner };
 
-    ghost holds_two = { λ d bare. cc };
+    ghost holds_two = { λ copies. cc };
 
-    ghost has_like = { λ d bytes count bare whole few. cc };
+    ghost has_like = { λ copies. cc };
 }

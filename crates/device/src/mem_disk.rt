@@ -1,5 +1,5 @@
 // A disk in memory, with a volatile cache.
-ghost use Rattle.std.specs.Prelude.{◌≡◌, ℕ, ◌+◌, ◌*◌, ◌<◌, ◌≤◌, [], length, replicate, IfOk, IfErr, refl};
+ghost use Rattle.std.specs.Prelude.{◌≡◌, ℕ, ◌+◌, ◌*◌, ◌<◌, ◌≤◌, [], length, replicate, true, IfOk, IfErr, refl};
 ghost use Rattle.std.proofs.Common.{inl, inr};
 ghost use Rattle.sector.specs.declared.refusal.Refusal.TheVariants.{NoMemory};
 ghost use Rattle.sector.specs.Bytes.{sectors_at, with_sectors};
@@ -158,6 +158,8 @@ impl Block for MemDisk {
 
     ghost may_hold = { disk_may_hold };
 
+    ghost copies_runs = { true };
+
     #[inline(always)]
     fn sectors(&self) -> u64 {
         self.sectors.count()
@@ -218,7 +220,7 @@ impl Block for MemDisk {
 
     ghost holds_durable = { λ d s lt. inr refl };
 
-    ghost holds_two = { λ d bare. record { only = λ s v held. held; holds_now = λ s. inl refl; holds_flushed = λ s. inr refl } };
+    ghost holds_two = { λ copies d bare. record { only = λ s v held. held; holds_now = λ s. inl refl; holds_flushed = λ s. inr refl } };
 
-    ghost has_like = { λ d bytes count bare whole few. disk_like d bytes count whole few };
+    ghost has_like = { λ copies d bytes count bare whole few. disk_like d bytes count whole few };
 }

@@ -1,4 +1,4 @@
--- Laws of a file's layers: some layer stands above it, and what is kept is found so.
+-- Laws of a file's layers: what is kept is found so.
 use Rattle.std.specs.Prelude.{◌≡◌, Bool, true, false, List, [], ◌∷◌, ◌++◌, refl}
 use Rattle.std.proofs.Common.{◌∙◌}
 use Rattle.std.specs.Prelude.{◌&&◌, ◌||◌, not, map, if◌then◌else◌, ℕ}
@@ -14,10 +14,6 @@ use Rattle.file_calls.specs.Kept.{is_kept}
 use Rattle.file_calls.specs.Laws.{kept_before}
 use Rattle.file_device.specs.declared.pieces.Pieces.{Pieces}
 use Rattle.file_device.specs.Layers.{is_found_kept, file_layers}
-
-pub never_bare : (broken : Bool) (pieces : Pieces) (kept : Bool) → file_layers broken pieces kept ≡ [] → ⊥
-never_bare true pieces kept is = let no : ⊥ = cc in no
-never_bare false pieces kept is = let no : ⊥ = cc in no
 
 -- the layers are loud just where it was found that what is written is kept
 pub loud_of : (broken : Bool) (pieces : Pieces) (kept : Bool) → is_loud (file_layers broken pieces kept) ≡ kept

@@ -3,7 +3,6 @@ ghost use Rattle.std.specs.Prelude.{◌≡◌, false};
 ghost use Rattle.file_calls.specs.Kept.{now_in, kept_in, MayHold};
 ghost use Rattle.file_calls.specs.Laws.{now_held, kept_held};
 ghost use Rattle.file_device.specs.Layers.{at_first, is_found_kept, file_layers};
-ghost use Rattle.file_device.specs.Laws.{never_bare};
 
 use crate::file_device::fail;
 use crate::{FileDevice, Start};
@@ -25,6 +24,8 @@ impl<C: FileCalls, S: Start> Block for FileDevice<C, S> {
     ghost done_count = { λ d. d.done };
 
     ghost may_hold = { λ d. MayHold (at_first (S.first d.number) d.sectors) (C.history d.file) };
+
+    ghost copies_runs = { false };
 
     fn sectors(&self) -> u64 {
         self.sectors
@@ -92,7 +93,7 @@ impl<C: FileCalls, S: Start> Block for FileDevice<C, S> {
 
     ghost holds_durable = { λ d s lt. kept_held (at_first (S.first d.number) d.sectors) (C.history d.file) s };
 
-    ghost holds_two = { λ d bare. absurd (never_bare _ _ _ bare) };
+    ghost holds_two = { λ copies. cc };
 
-    ghost has_like = { λ d bytes count bare whole few. absurd (never_bare _ _ _ bare) };
+    ghost has_like = { λ copies. cc };
 }

@@ -21,7 +21,7 @@ pub enum Stack {
 impl Block for Stack {
     ghost use Rattle.layers.specs.Stack.{stack_size, stack_contents, stack_durable, stack_layers, stack_faults, stack_done, stack_may_hold};
     ghost use Rattle.layers.specs.Whole.{stack_whole, stack_bounded, stack_holds_now, stack_holds_durable, stack_holds_two, stack_has_like};
-    ghost use Rattle.std.specs.Prelude.{◌≡◌, ◌⊎◌, ℕ, ◌+◌, ◌*◌, ◌-◌, ◌<◌, ◌≤◌, List, length, slice_index, if◌then◌else◌, is_ok, OnOk, OnErr, IsTrue};
+    ghost use Rattle.std.specs.Prelude.{◌≡◌, ◌⊎◌, ℕ, ◌+◌, ◌*◌, ◌-◌, ◌<◌, ◌≤◌, true, List, length, slice_index, if◌then◌else◌, is_ok, OnOk, OnErr, IsTrue};
     ghost use Rattle.sector.specs.Bytes.{sectors_at, with_sectors, sector_at, next_count};
     ghost use Rattle.device.specs.declared.operation.Operation.TheVariants.{Reads, Writes, Flushes};
     ghost use Rattle.device.specs.declared.operation.Fate.TheVariants.{Pass, Drop};
@@ -41,6 +41,8 @@ impl Block for Stack {
     ghost done_count = { stack_done };
 
     ghost may_hold = { stack_may_hold };
+
+    ghost copies_runs = { true };
 
     #[inline(always)]
     fn sectors(&self) -> u64 {
@@ -168,9 +170,9 @@ impl Block for Stack {
 
     ghost holds_durable = { stack_holds_durable };
 
-    ghost holds_two = { stack_holds_two };
+    ghost holds_two = { λ copies. stack_holds_two };
 
-    ghost has_like = { stack_has_like };
+    ghost has_like = { λ copies. stack_has_like };
 }
 
 impl Stack {

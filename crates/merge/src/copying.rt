@@ -3,7 +3,7 @@ ghost use Rattle.std.specs.Prelude.{◌≡◌, ◌+◌, ◌*◌, ◌^◌, ◌<�
 ghost use Rattle.sector.specs.Bytes.{sectors_at, with_sectors, with_part};
 ghost use Rattle.sector.specs.declared.pair.Pair.{Pair};
 ghost use Rattle.device.specs.declared.operation.Operation.TheVariants.{Reads, Writes, Flushes};
-ghost use Rattle.device.specs.Bare.{count_after, is_bare};
+ghost use Rattle.device.specs.Bare.{can_copy_run, count_after};
 ghost use Rattle.device.specs.Layers.{fate, is_passed, is_loud};
 ghost use Rattle.store_bytes.specs.Pairs.{IsInside};
 ghost use Rattle.in_flight.specs.Copies.{count_of};
@@ -87,12 +87,12 @@ impl<B: Block> Merge<B> {
     }
 
     /// Copies the chunks of all pairs that wait back to the origin disk, as their reads and writes would, one after another, from
-    /// the last on. It does so where at least two wait, no chunk is in the buffer, each lies whole on the origin, and no layer stands
-    /// above either device; else nothing changes, and it answers `false`.
+    /// the last on. It does so where at least two wait, no chunk is in the buffer, each lies whole on the origin, devices of this kind
+    /// copy runs, and no layer stands above either of the two; else nothing changes, and it answers `false`.
     pub fn copy_chunks(&mut self, origin: &mut B) -> bool
         requires sectors { B.size origin.old ≡ self.old.state.origin }
 
-        ensures answer { result ≡ (can_copy_of self.old.group self.old.state.chunk self.old.state.origin && (is_bare (B.layers origin.old) && is_bare (B.layers self.old.device))) }
+        ensures answer { result ≡ (can_copy_of self.old.group self.old.state.chunk self.old.state.origin && can_copy_run B.copies_runs (B.layers origin.old) (B.layers self.old.device)) }
         ensures undone { result ≡ false → (origin.new ≡ origin.old) × (self.new ≡ self.old) }
         ensures waits { result ≡ true → (g : Group) → self.old.group ≡ Some g → IsWaiting g self.old }
         ensures copied { result ≡ true → (g : Group) → self.old.group ≡ Some g → B.contents origin.new ≡ with_sectors (B.contents origin.old) (self.old.state.chunk * g.first.old) (sectors_at (B.contents self.old.device) (self.old.state.chunk * g.first.new) (self.old.state.chunk * g.waiting)) }

@@ -1,9 +1,9 @@
 // A merge takes pairs away, from the last backwards, and the areas that become empty with them.
-ghost use Rattle.std.specs.Prelude.{◌≡◌, ℕ, ◌+◌, ◌-◌, ◌*◌, ◌<◌, ◌≤◌, ◌&&◌, List, length, take, replicate, slice_index_or, is_ok, OnOk, OnErr, IsTrue, true, false};
+ghost use Rattle.std.specs.Prelude.{◌≡◌, ℕ, ◌+◌, ◌-◌, ◌*◌, ◌<◌, ◌≤◌, List, length, take, replicate, slice_index_or, is_ok, OnOk, OnErr, IsTrue, true, false};
 ghost use Rattle.sector.specs.Bytes.{sectors_at, with_part, with_sectors};
 ghost use Rattle.sector.specs.declared.pair.Pair.{Pair};
 ghost use Rattle.device.specs.declared.operation.Operation.TheVariants.{Reads, Writes};
-ghost use Rattle.device.specs.Bare.{count_after, is_bare};
+ghost use Rattle.device.specs.Bare.{can_copy_run, count_after};
 ghost use Rattle.device.specs.Layers.{is_loud};
 ghost use Rattle.store_bytes.specs.Places.{area_place, ChangesOnly};
 ghost use Rattle.store.specs.declared.state.Left.TheVariants.{Nothing};
@@ -72,8 +72,8 @@ impl<B: Block> Store<B> {
     }
 
     /// Copies sectors, from the first of a place on, to a device, as reads here and writes there would, one after another: so
-    /// many of each, which together are of all these sectors. It does so where no layer stands above either device; else nothing
-    /// changes, and it answers `false`.
+    /// many of each, which together are of all these sectors. It does so where devices of this kind copy runs and no layer stands above
+    /// either of the two; else nothing changes, and it answers `false`.
     pub fn copy_to(
         &mut self,
         origin: &mut B,
@@ -86,7 +86,7 @@ impl<B: Block> Store<B> {
         requires inside { to.first + to.count ≤ B.size origin.old }
         requires there { self.old.state.chunk * place + to.count ≤ self.old.state.size }
 
-        ensures answer { result ≡ (is_bare (B.layers origin.old) && is_bare (B.layers self.old.device)) }
+        ensures answer { result ≡ can_copy_run B.copies_runs (B.layers origin.old) (B.layers self.old.device) }
         ensures undone { result ≡ false → (origin.new ≡ origin.old) × (self.new.device ≡ self.old.device) }
         ensures layers { (B.layers origin.new ≡ B.layers origin.old) × (B.layers self.new.device ≡ B.layers self.old.device) }
         ensures copied { result ≡ true → B.contents origin.new ≡ with_sectors (B.contents origin.old) to.first (sectors_at (B.contents self.old.device) (self.old.state.chunk * place) to.count) }

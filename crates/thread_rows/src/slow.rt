@@ -26,6 +26,8 @@ impl<'a, B: Block> Block for Slow<'a, B> {
 
     ghost may_hold = { λ d. B.may_hold d.inner };
 
+    ghost copies_runs = { B.copies_runs };
+
     fn sectors(&self) -> u64 {
         self.inner.sectors()
     }
@@ -71,9 +73,9 @@ impl<'a, B: Block> Block for Slow<'a, B> {
 
     ghost holds_durable = { λ d. B.holds_durable d.inner };
 
-    ghost holds_two = { λ d. B.holds_two d.inner };
+    ghost holds_two = { λ copies d. B.holds_two copies d.inner };
 
-    ghost has_like = { λ d bytes count bare whole few. (let other = B.has_like d.inner bytes count bare whole few in record { like = record d { inner = other.like }; bytes_are = other.bytes_are; flushed = other.flushed; bare = other.bare; sized = other.sized; faulty = other.faulty; counted = other.counted }) };
+    ghost has_like = { λ copies d bytes count bare whole few. (let other = B.has_like copies d.inner bytes count bare whole few in record { like = record d { inner = other.like }; bytes_are = other.bytes_are; flushed = other.flushed; bare = other.bare; sized = other.sized; faulty = other.faulty; counted = other.counted }) };
 }
 
 impl<'a, B: Layered> Layered for Slow<'a, B> {

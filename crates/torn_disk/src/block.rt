@@ -1,6 +1,6 @@
 // What a fuse does with the operations of a device. The clauses of `Block` stand here again, by what the fuse shows; after them
 // stands what becomes of the disk that is kept aside.
-ghost use Rattle.std.specs.Prelude.{◌≡◌, ◌⊎◌, ℕ, ◌+◌, ◌*◌, ◌-◌, ◌<◌, ◌≤◌, List, [], ◌∷◌, Some, length, slice_index, if◌then◌else◌, is_ok, IfSome, OnOk, OnErr, IsTrue, refl};
+ghost use Rattle.std.specs.Prelude.{◌≡◌, ◌⊎◌, ℕ, ◌+◌, ◌*◌, ◌-◌, ◌<◌, ◌≤◌, false, List, [], ◌∷◌, Some, length, slice_index, if◌then◌else◌, is_ok, IfSome, OnOk, OnErr, IsTrue, refl};
 ghost use Rattle.std.proofs.Common.{inl, inr};
 ghost use Rattle.sector.specs.Bytes.{sectors_at, with_sectors, sector_at, next_count};
 ghost use Rattle.device.specs.declared.operation.Operation.TheVariants.{Reads, Writes, Flushes};
@@ -29,6 +29,8 @@ impl Block for TornDisk {
     ghost done_count = { λ f. f.done };
 
     ghost may_hold = { torn_disk_may_hold };
+
+    ghost copies_runs = { false };
 
     fn sectors(&self) -> u64 {
         self.disk.sectors()
@@ -158,7 +160,7 @@ impl Block for TornDisk {
 
     ghost holds_durable = { λ f s lt. inr refl };
 
-    ghost holds_two = { λ f bare. cc };
+    ghost holds_two = { λ copies. cc };
 
-    ghost has_like = { λ f bytes count bare whole few. cc };
+    ghost has_like = { λ copies. cc };
 }

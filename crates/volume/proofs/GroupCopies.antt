@@ -8,7 +8,7 @@ use Rattle.sector.proofs.Sectors.{byte_inside, byte_outside, byte_read, length-w
 use Rattle.std.specs.List.{All}
 use Rattle.sector.specs.Bytes.{next_count, sector_at, sectors_at, with_part, with_sectors}
 use Rattle.sector.specs.declared.pair.Pair.{Pair}
-use Rattle.device.specs.Bare.{HasLike, HoldsTwo, count_after, is_bare}
+use Rattle.device.specs.Bare.{HasLike, HoldsTwo, can_copy_run, count_after}
 use Rattle.device.specs.Layers.{Layer, fate, is_answered, is_loud, layers_after}
 use Rattle.device.specs.declared.operation.Operation.{Operation}
 use Rattle.device.specs.declared.operation.Operation.TheVariants.{Reads, Writes}
@@ -84,10 +84,18 @@ none_loud xs ys x y = ap is_loud y ∙ sym (ap is_loud x)
 less : (n : ℕ) → suc n - 1 ≡ n
 less n = omega arith
 
--- no layer stands above
-bare_of : (ls : List Layer) → is_bare ls ≡ true → ls ≡ []
-bare_of [] e = refl
-bare_of (l ∷ ls) e = absurd (false≢true e)
+-- a run is copied by devices that do so, without layers
+run_copied : (copies_runs : Bool) (to from : List Layer) → can_copy_run copies_runs to from ≡ true → (copies_runs ≡ true) × (to ≡ []) × (from ≡ [])
+run_copied true [] [] e = (refl, refl, refl)
+run_copied true [] (l ∷ ls) e = absurd (false≢true e)
+run_copied true (l ∷ ls) from e = absurd (false≢true e)
+run_copied false to from e = absurd (false≢true e)
+
+-- and a group besides where its chunks can be
+pub group_copies : (o : Option Group) (chunk sectors : ℕ) (copies_runs : Bool) (to from : List Layer) → (can_copy_of o chunk sectors && can_copy_run copies_runs to from) ≡ true → (can_copy_of o chunk sectors ≡ true) × (copies_runs ≡ true) × (to ≡ []) × (from ≡ [])
+group_copies o chunk sectors copies_runs to from e =
+    let run = run_copied copies_runs to from (and_right (can_copy_of o chunk sectors) (can_copy_run copies_runs to from) e) in
+    (and_left (can_copy_of o chunk sectors) (can_copy_run copies_runs to from) e, run.0, run.1, run.2)
 
 -- a list is empty where it has no length
 pub none_is : {A : Type 0} (xs : List A) → is_none xs ≡ (length xs == 0)
@@ -516,7 +524,7 @@ module _ {B : Type 0} (holds : B → ℕ → List ℕ → Type 0) (contents dura
 
   -- The merge copied all chunks that wait, as its contract says.
   module _ (v : Volumed B) (k : IsKept holds contents layers size v) (snaps : v.snaps ≡ []) (flights : v.flights ≡ []) (m : Merging B) (was : v.merge ≡ Some m) (m' : Merging B) (o : B)
-      (can : (can_copy_of m.group m.state.chunk m.state.origin && (is_bare (layers v.origin) && is_bare (layers m.device))) ≡ true) (g : Group) (grouped : m.group ≡ Some g) (waits : IsWaiting g m)
+      (can : can_copy_of m.group m.state.chunk m.state.origin ≡ true) (disk_bare : layers v.origin ≡ []) (store_bare : layers m.device ≡ []) (g : Group) (grouped : m.group ≡ Some g) (waits : IsWaiting g m)
       (copied : contents o ≡ with_sectors (contents v.origin) (m.state.chunk * g.first.old) (sectors_at (contents m.device) (m.state.chunk * g.first.new) (m.state.chunk * g.waiting)))
       (fields : m' ≡ record m { device = m'.device; group = Some (copied_in g); buffer = sectors_at (contents m.device) (m.state.chunk * g.first.new) m.state.chunk })
       (same : contents m'.device ≡ contents m.device) (above : (layers o ≡ layers v.origin) × (layers m'.device ≡ layers m.device)) (kept : (durable o ≡ durable v.origin) × (durable m'.device ≡ durable m.device))
@@ -524,14 +532,8 @@ module _ {B : Type 0} (holds : B → ℕ → List ℕ → Type 0) (contents dura
     abbrev end : Volumed B
     end = record v { origin = o; merge = Some m' }
 
-    disk_bare : layers v.origin ≡ []
-    disk_bare = bare_of (layers v.origin) (and_left (is_bare (layers v.origin)) (is_bare (layers m.device)) (and_right (can_copy_of m.group m.state.chunk m.state.origin) (is_bare (layers v.origin) && is_bare (layers m.device)) can))
-
-    store_bare : layers m.device ≡ []
-    store_bare = bare_of (layers m.device) (and_right (is_bare (layers v.origin)) (is_bare (layers m.device)) (and_right (can_copy_of m.group m.state.chunk m.state.origin) (is_bare (layers v.origin) && is_bare (layers m.device)) can))
-
     may : CopiesAll g m.state.chunk m.state.origin
-    may = copies_all g m.state.chunk m.state.origin (sym (ap (λ x. can_copy_of x m.state.chunk m.state.origin) grouped) ∙ and_left (can_copy_of m.group m.state.chunk m.state.origin) (is_bare (layers v.origin) && is_bare (layers m.device)) can)
+    may = copies_all g m.state.chunk m.state.origin (sym (ap (λ x. can_copy_of x m.state.chunk m.state.origin) grouped) ∙ can)
 
     by : (n : ℕ) → g.waiting ≡ n → AreCopied holds contents layers size faults done n v end × IsKept holds contents layers size end
     by zero e = absurd (let two = may.two in omega (arith, e))

@@ -2,7 +2,7 @@
 -- The chunks of a merge's group, copied back at once: each is read and written as `step` does it, one after another.
 use Rattle.std.specs.Prelude.{◌≡◌, ◌&&◌, ℕ, zero, suc, Bool, true, false, List, Option, Some, None, Ok}
 use Rattle.device.specs.Layers.{Layer}
-use Rattle.device.specs.Bare.{is_bare}
+use Rattle.device.specs.Bare.{can_copy_run}
 use Rattle.plain_machine.specs.declared.event.Event.{Event}
 use Rattle.plain_machine.specs.declared.event.Event.TheVariants.{MergeRead, MergeWrite}
 use Rattle.plain_machine.specs.declared.event.Outcome.TheVariants.{Done}
@@ -15,14 +15,14 @@ use Rattle.volume.specs.DoesStep.{DoesStep}
 use Rattle.volume.specs.Moved.{moving_of}
 use Rattle.volume.specs.Volumed.{Volumed, next_of}
 
--- no other snapshot is attached, nothing is in flight, no layer stands above a device, and the chunks of a group wait that lie whole
--- on the origin, two at least
-abbrev pub can_copy_to : {B : Type 0} → (B → List Layer) → B → Option (Merging B) → Bool
-can_copy_to layers origin None = false
-can_copy_to layers origin (Some m) = can_copy_of m.group m.state.chunk m.state.origin && (is_bare (layers origin) && is_bare (layers m.device))
+-- no other snapshot is attached, nothing is in flight, devices of this kind copy runs, no layer stands above one, and the chunks of a
+-- group wait that lie whole on the origin, two at least
+abbrev pub can_copy_to : {B : Type 0} → Bool → (B → List Layer) → B → Option (Merging B) → Bool
+can_copy_to copies_runs layers origin None = false
+can_copy_to copies_runs layers origin (Some m) = can_copy_of m.group m.state.chunk m.state.origin && can_copy_run copies_runs (layers origin) (layers m.device)
 
-abbrev pub can_copy_group : {B : Type 0} → (B → List Layer) → Volumed B → Bool
-can_copy_group layers v = is_none v.snaps && (is_none v.flights && can_copy_to layers v.origin v.merge)
+abbrev pub can_copy_group : {B : Type 0} → Bool → (B → List Layer) → Volumed B → Bool
+can_copy_group copies_runs layers v = is_none v.snaps && (is_none v.flights && can_copy_to copies_runs layers v.origin v.merge)
 
 -- an event that is due first was done, and nothing failed
 pub record IsDoneInTurn {B : Type 0} (holds : B → ℕ → List ℕ → Type 0) (contents : B → List ℕ) (layers : B → List Layer) (size faults done : B → ℕ) (event : Event) (old new : Volumed B) : Type 0 where

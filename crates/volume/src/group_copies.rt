@@ -9,11 +9,11 @@ use device::Block;
 
 impl<B: Block> Volume<B> {
     /// Copies all chunks of the merge's group that wait back to the origin, as `step` reads and writes each, one after another.
-    /// It does so where no other snapshot is attached, nothing is in flight, no layer stands above the origin's device or the
-    /// merging store's, so that none of them can fail, and two chunks wait at least, each whole on the origin; else nothing
-    /// changes, and it answers `false`.
+    /// It does so where no other snapshot is attached, nothing is in flight, devices of this kind copy runs, no layer stands above
+    /// the origin's or the merging store's, so that none of them can fail, and two chunks wait at least, each whole on the origin;
+    /// else nothing changes, and it answers `false`.
     pub fn copy_group(&mut self) -> bool
-        ensures answer { result ≡ can_copy_group B.layers self.old }
+        ensures answer { result ≡ can_copy_group B.copies_runs B.layers self.old }
         ensures copied { result ≡ true → (m : Merging B) → self.old.merge ≡ Some m → (g : Group) → m.group ≡ Some g → AreCopied B.may_hold B.contents B.layers B.size B.fault_count B.done_count g.waiting self.old self.new }
         ensures beside { self.new ≡ record self.old { origin = self.new.origin; merge = self.new.merge } }
         ensures same { result ≡ false → self.new ≡ self.old }
