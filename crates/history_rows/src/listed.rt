@@ -1,4 +1,5 @@
-// A list of calls as one call: the first write of a chunk under a snapshot, event by event, leaves what its calls leave.
+// A list of calls as one call: the first write of a chunk under a snapshot, event by event, leaves what its calls leave. A read is then
+// answered at once.
 ghost use Rattle.std.specs.Prelude.{IfOk};
 ghost use Rattle.std.specs.List.{All};
 ghost use Rattle.volume.specs.Running.{IsFitCall};
@@ -12,8 +13,8 @@ use snapshot::StoreDev;
 use std::alloc::Global;
 use std::process::Abort;
 use std::test::Fail;
-use volume::{Call, Returned, Volume};
-use volume_history::{Deed, Done};
+use volume::{Call, Returned, Served, Volume};
+use volume_history::{Deed, Done, run, serve};
 
 /// A write of sector 5 of the origin, the events that it is done by, and its Issue once more.
 fn first_write(alloc: Global) -> Result<Vec<Call>, Refusal>
@@ -64,7 +65,7 @@ fn do_list(rt: &impl Abort, alloc: Global, volume: &mut Volume<MemDisk>) -> Resu
         Deed::Attach(StoreDev { device, stale }, 1, false),
     )?;
     assert!(rt; matches!(taken, Some(Done::Attached(Ok(1)))));
-    let returned = volume.run(alloc, first_write(alloc)?)?;
+    let returned = run(alloc, volume, first_write(alloc)?)?;
     assert!(rt; returned.len() == 9);
     assert!(rt;
         matches!(
@@ -78,6 +79,10 @@ fn do_list(rt: &impl Abort, alloc: Global, volume: &mut Volume<MemDisk>) -> Resu
         )
     );
     assert!(rt; is_filled(volume, 5, 0x32)? && is_stored(volume, 2, 0x31)?);
+    let range = Range::new(5, 1, SECTORS)?;
+    let (dev, op) = (Dev::Origin, Op::Read);
+    let served = serve(alloc, volume, Request { dev, op, range })?;
+    assert!(rt; matches!(served, Served::Answered(3, Reply::Data(_))));
     Ok(())
 }
 

@@ -1,4 +1,5 @@
 pub mod Ahead
+pub mod Keeping
 pub mod Calls
 pub mod Opened
 pub mod Loaded

@@ -25,6 +25,7 @@ use Rattle.volume_nbd.specs.Faults.{is_failed_at}
 use Rattle.volume_nbd.specs.Served.{Served}
 use Rattle.volume_nbd.specs.Steps.{is_back, is_idle}
 use Rattle.volume_nbd.specs.Submits.{IsOf}
+use Rattle.session_laws.specs.Keeping.{KeepsNow}
 
 -- What is noted of a call: a piece that is taken in is a request of the volume, and a step is an event of it, or none.
 abbrev pub Notes : {B : Type 0} → Measures B → (B → List Layer) → (B → Bool) → Call → History → Served B → Served B → History → Type 0
@@ -50,11 +51,12 @@ abbrev pub LosesNow : {B : Type 0} → (B → ℕ → List ℕ → Type 0) → M
 LosesNow holds m layers h v = is_loud_in_all layers v.volume ≡ true → LosesNothing holds m.size h.made v.volume v.volume
 
 -- Calls one after another, the last of which stands first: from what is known to last before all of them to what is known behind them.
+-- Behind each call nothing is lost, and what the calls so far wrote nothing of is kept.
 abbrev pub LosesThrough : {B : Type 0} → (B → ℕ → List ℕ → Type 0) → Measures B → (B → List Layer) → (B → Bool) → History → Served B → List Call → Served B → History → Type 0
-LosesThrough holds m layers failed first start [] new after = (new ≡ start) × (after ≡ first) × LosesNow holds m layers after new
+LosesThrough holds m layers failed first start [] new after = (new ≡ start) × (after ≡ first) × LosesNow holds m layers after new × KeepsNow holds m layers failed start [] new
 LosesThrough {B} holds m layers failed first start (call ∷ calls) new after =
     (old : Served B) × (before : History) × LosesThrough holds m layers failed first start calls old before × does_by holds m.contents layers m.size m.faults m.done failed call old new
-    × LosesInCall holds m layers call before old new × Notes m layers failed call before old new after × LosesNow holds m layers after new
+    × LosesInCall holds m layers call before old new × Notes m layers failed call before old new after × LosesNow holds m layers after new × KeepsNow holds m layers failed start (call ∷ calls) new
 
 -- A volume as it is opened: of each file that kept all that it answered, a stop leaves nothing but what is there.
 pub record AreFirm {B : Type 0} (holds : B → ℕ → List ℕ → Type 0) (m : Measures B) (layers : B → List Layer) (v : Volumed B) : Type 0 where

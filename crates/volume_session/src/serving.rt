@@ -1,7 +1,8 @@
 // A client is served.
-ghost use Rattle.nbd_session.specs.Reached.{Reaches};
+ghost use Rattle.served_array.specs.Calls.{Step};
+ghost use Rattle.served_array.specs.declared.array.Stepped.{Stepped as Told};
 ghost use Rattle.volume_nbd.specs.Calls.{does_by};
-ghost use Rattle.volume_session.specs.Served.{IsServed};
+ghost use Rattle.volume_session.specs.Served.{IsServed, StepsTo};
 
 use crate::ReadyArray;
 use device::Ahead;
@@ -14,7 +15,7 @@ use volume_nbd::{VolumeArray, look_at};
 
 /// Does a step. `false` where nothing is left to do.
 fn goes_on<B: Ahead>(array: &mut VolumeArray<B>) -> bool
-    ensures { Reaches (does_by B.may_hold B.contents B.layers B.size B.fault_count B.done_count B.failed) array.old array.new }
+    ensures { (told : Told) × does_by B.may_hold B.contents B.layers B.size B.fault_count B.done_count B.failed (Step told) array.old array.new }
 {
     match array.step() {
         Stepped::Still | Stepped::Ended => false,
@@ -25,7 +26,7 @@ fn goes_on<B: Ahead>(array: &mut VolumeArray<B>) -> bool
 /// Goes on with a merge, where there is one, once the client is gone: for as many steps as a group of an area's pairs takes. So each
 /// session takes a merge further, however short it is.
 fn go_on<B: Ahead>(array: &mut VolumeArray<B>)
-    ensures { Reaches (does_by B.may_hold B.contents B.layers B.size B.fault_count B.done_count B.failed) array.old array.new }
+    ensures { StepsTo (does_by B.may_hold B.contents B.layers B.size B.fault_count B.done_count B.failed) array.old array.new }
 {
     let Some(chunk) = array.volume().merging_chunk() else {
         return;
