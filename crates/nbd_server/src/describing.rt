@@ -1,7 +1,8 @@
 // Blocks are told apart: which are zeros, and which are marked.
-ghost use Rattle.std.specs.Prelude.{◌≡◌, ℕ, ◌+◌, ◌^◌, ◌<◌, ◌≤◌, length, take, drop, IfOk, Some, Err};
+ghost use Rattle.std.specs.Prelude.{◌≡◌, ◌+◌, ◌^◌, ◌<◌, ◌≤◌, length, take, drop, IfOk, Some, Err};
 ghost use Rattle.std.specs.List.{list_all};
 ghost use Rattle.nbd_server.specs.Blocks.{Array, state_of as state_by, mark_of as mark_by, is_blank as is_blank_of, same_kind as same_kind_of, first_kind, first_alike, alike, most_blocks, asked_bytes};
+ghost use Rattle.nbd_server.specs.Kept.{ShowsSame, StaysCalm};
 ghost use Rattle.nbd_server.specs.Replied.{MayFail, zeros_told, marks_told};
 
 use crate::{Fault, Served};
@@ -47,8 +48,8 @@ fn is_blank_at<T: Served>(served: &mut T, export: usize, at: u64, len: u32) -> R
     requires inside { at + len < 2 ^ 64 }
     ensures data { IfOk result (λ blank. (b : Array) → T.shows served.old export ≡ Some b → (blank ≡ is_blank_of (take len (drop at b.bytes))) × (length (take len (drop at b.bytes)) ≡ len)) }
     ensures fails { result ≡ Err Fault.Io → T.may_fail served.old export at len }
-    ensures shows { (k : ℕ) → T.shows served.new k ≡ T.shows served.old k }
-    ensures calm { (k : ℕ) (from : ℕ) (count : ℕ) → T.may_fail served.new k from count → T.may_fail served.old k from count }
+    ensures shows { ShowsSame T.shows served.old served.new }
+    ensures calm { StaysCalm T.may_fail served.old served.new }
 {
     let mut room = [0u8; 4096];
     let out = &mut room[..len as usize];
@@ -69,8 +70,8 @@ fn alike_at<T: Served>(
     requires inside { offset + count < 2 ^ 64 }
     ensures data { IfOk result (λ n. (b : Array) → T.shows served.old export ≡ Some b → n ≡ alike most_blocks blank (asked_bytes offset count b.bytes)) }
     ensures fails { result ≡ Err Fault.Io → MayFail (T.may_fail served.old) export offset count }
-    ensures shows { (k : ℕ) → T.shows served.new k ≡ T.shows served.old k }
-    ensures calm { (k : ℕ) (from : ℕ) (count : ℕ) → T.may_fail served.new k from count → T.may_fail served.old k from count }
+    ensures shows { ShowsSame T.shows served.old served.new }
+    ensures calm { StaysCalm T.may_fail served.old served.new }
 {
     let mut done = 0;
     let mut left = MOST_BLOCKS;
@@ -99,8 +100,8 @@ fn first_kind_at<T: Served>(
     requires inside { offset + count < 2 ^ 64 }
     ensures data { IfOk result (λ kind. (b : Array) → T.shows served.old export ≡ Some b → (kind.len ≡ first_alike (asked_bytes offset count b.bytes)) × (kind.blank ≡ first_kind (asked_bytes offset count b.bytes))) }
     ensures fails { result ≡ Err Fault.Io → MayFail (T.may_fail served.old) export offset count }
-    ensures shows { (k : ℕ) → T.shows served.new k ≡ T.shows served.old k }
-    ensures calm { (k : ℕ) (from : ℕ) (count : ℕ) → T.may_fail served.new k from count → T.may_fail served.old k from count }
+    ensures shows { ShowsSame T.shows served.old served.new }
+    ensures calm { StaysCalm T.may_fail served.old served.new }
 {
     let blank = is_blank_at(served, export, offset, count.min(BLOCK))?;
     let len = alike_at(served, export, offset, count, blank)?;
@@ -124,8 +125,8 @@ pub fn zeros_at<T: Served>(
     requires inside { request.now.offset + request.now.length < 2 ^ 64 }
     ensures data { IfOk result (λ told. (b : Array) → T.shows served.old export ≡ Some b → told ≡ zeros_told wanted b request.now) }
     ensures fails { result ≡ Err Fault.Io → MayFail (T.may_fail served.old) export request.now.offset request.now.length }
-    ensures shows { (k : ℕ) → T.shows served.new k ≡ T.shows served.old k }
-    ensures calm { (k : ℕ) (from : ℕ) (count : ℕ) → T.may_fail served.new k from count → T.may_fail served.old k from count }
+    ensures shows { ShowsSame T.shows served.old served.new }
+    ensures calm { StaysCalm T.may_fail served.old served.new }
 {
     if !wanted {
         return Ok(None);
@@ -154,8 +155,8 @@ pub fn marks_at<T: Served>(
     requires inside { request.now.offset + request.now.length < 2 ^ 64 }
     ensures data { IfOk result (λ told. (b : Array) → T.shows served.old export ≡ Some b → told ≡ marks_told wanted b request.now) }
     ensures fails { result ≡ Err Fault.Io → MayFail (T.may_fail served.old) export request.now.offset request.now.length }
-    ensures shows { (k : ℕ) → T.shows served.new k ≡ T.shows served.old k }
-    ensures calm { (k : ℕ) (from : ℕ) (count : ℕ) → T.may_fail served.new k from count → T.may_fail served.old k from count }
+    ensures shows { ShowsSame T.shows served.old served.new }
+    ensures calm { StaysCalm T.may_fail served.old served.new }
 {
     if !wanted {
         return Ok(None);

@@ -1,5 +1,6 @@
 // A request is answered.
-ghost use Rattle.std.specs.Prelude.{◌≡◌, ℕ, ◌+◌, ◌^◌, ◌<◌, ◌≤◌, [], ◌++◌, length, take, drop, OnOk, Some, Err, Option, nat_lt};
+ghost use Rattle.std.specs.Prelude.{◌≡◌, ◌+◌, ◌^◌, ◌<◌, ◌≤◌, [], ◌++◌, length, take, drop, OnOk, Some, Err, Option, nat_lt};
+ghost use Rattle.nbd_server.specs.Kept.{ShowsSame, StaysCalm};
 ghost use Rattle.nbd_server.specs.declared.served.Fault.{Fault as FaultOf};
 ghost use Rattle.nbd_messages.specs.Reading.{data_start, error_reply};
 ghost use Rattle.nbd_server.specs.Replied.{is_invalid_read, data_reply, given_reply, read_reply, is_invalid_state as is_invalid_state_of, states_told, given_state, state_reply, reply_to, fault_error, MayFail, HasCause};
@@ -68,8 +69,8 @@ fn push_data<T: Served>(
     requires inside { request.now.offset + request.now.length < 2 ^ 64 }
     ensures data { OnOk result ((b : Array) → T.shows served.old export ≡ Some b → answer.new.items ≡ answer.old.items ++ take request.now.length (drop request.now.offset b.bytes)) }
     ensures fails { result ≡ Err Fault.Io → T.may_fail served.old export request.now.offset request.now.length }
-    ensures shows { (k : ℕ) → T.shows served.new k ≡ T.shows served.old k }
-    ensures calm { (k : ℕ) (from : ℕ) (count : ℕ) → T.may_fail served.new k from count → T.may_fail served.old k from count }
+    ensures shows { ShowsSame T.shows served.old served.new }
+    ensures calm { StaysCalm T.may_fail served.old served.new }
 {
     let start = answer.len();
     let Some(end) = start.checked_add(request.length as usize) else {
@@ -96,8 +97,8 @@ fn reply_read<T: Served>(
 ) -> Result<(), AllocError>
     requires { answer.old.items ≡ [] }
     ensures reply { OnOk result ((b : Array) → T.shows served.old export ≡ Some b → (fault : Option FaultOf) × HasCause (T.may_fail served.old) export fault request.now × (answer.new.items ≡ read_reply structured fault size b.bytes request.now)) }
-    ensures shows { (k : ℕ) → T.shows served.new k ≡ T.shows served.old k }
-    ensures calm { (k : ℕ) (from : ℕ) (count : ℕ) → T.may_fail served.new k from count → T.may_fail served.old k from count }
+    ensures shows { ShowsSame T.shows served.old served.new }
+    ensures calm { StaysCalm T.may_fail served.old served.new }
 {
     if is_invalid(size, request) {
         return push_error(answer, structured, INVALID, request);
@@ -162,8 +163,8 @@ fn tell_state<T: Served>(
     requires none { answer.old.items ≡ [] }
     requires inside { request.now.offset + request.now.length < 2 ^ 64 }
     ensures reply { OnOk result ((b : Array) → T.shows served.old export ≡ Some b → (fault : Option FaultOf) × HasCause (T.may_fail served.old) export fault request.now × (answer.new.items ≡ given_state contexts structured fault b request.now)) }
-    ensures shows { (k : ℕ) → T.shows served.new k ≡ T.shows served.old k }
-    ensures calm { (k : ℕ) (from : ℕ) (count : ℕ) → T.may_fail served.new k from count → T.may_fail served.old k from count }
+    ensures shows { ShowsSame T.shows served.old served.new }
+    ensures calm { StaysCalm T.may_fail served.old served.new }
 {
     let zeros = match zeros_at(served, export, contexts.allocation, request) {
         Ok(zeros) => zeros,
@@ -187,8 +188,8 @@ fn reply_state<T: Served>(
 ) -> Result<(), AllocError>
     requires { answer.old.items ≡ [] }
     ensures reply { OnOk result ((b : Array) → T.shows served.old export ≡ Some b → (fault : Option FaultOf) × HasCause (T.may_fail served.old) export fault request.now × (answer.new.items ≡ state_reply contexts structured fault size b request.now)) }
-    ensures shows { (k : ℕ) → T.shows served.new k ≡ T.shows served.old k }
-    ensures calm { (k : ℕ) (from : ℕ) (count : ℕ) → T.may_fail served.new k from count → T.may_fail served.old k from count }
+    ensures shows { ShowsSame T.shows served.old served.new }
+    ensures calm { StaysCalm T.may_fail served.old served.new }
 {
     if !contexts.allocation && !contexts.bitmap {
         return push_error(answer, structured, INVALID, request);
@@ -211,8 +212,8 @@ pub fn reply<T: Served>(
 ) -> Result<(), AllocError>
     requires { answer.old.items ≡ [] }
     ensures reply { OnOk result ((b : Array) → T.shows served.old export ≡ Some b → (fault : Option FaultOf) × HasCause (T.may_fail served.old) export fault request.now × (answer.new.items ≡ reply_to contexts structured fault size b request.now)) }
-    ensures shows { (k : ℕ) → T.shows served.new k ≡ T.shows served.old k }
-    ensures calm { (k : ℕ) (from : ℕ) (count : ℕ) → T.may_fail served.new k from count → T.may_fail served.old k from count }
+    ensures shows { ShowsSame T.shows served.old served.new }
+    ensures calm { StaysCalm T.may_fail served.old served.new }
 {
     match request.command {
         Command::Read => reply_read(served, export, size, structured, request, answer),

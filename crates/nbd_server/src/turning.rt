@@ -4,6 +4,7 @@ ghost use Rattle.std.specs.Io.KnownBytes.{Consumes};
 ghost use Rattle.nbd_server.specs.Heard.{IsShort, IsRead};
 ghost use Rattle.nbd_messages.specs.Writing.{payload};
 ghost use Rattle.nbd_server.specs.Blocks.{Array};
+ghost use Rattle.nbd_server.specs.Kept.{ShowsSame, StaysCalm};
 ghost use Rattle.nbd_server.specs.Talk.{AreArrays, NoneIsWhole, chosen as chosen_of};
 ghost use Rattle.nbd_options.specs.declared.export.Export.{Export as ExportOf};
 ghost use Rattle.nbd_options.specs.declared.session.Place.{Place as PlaceOf};
@@ -144,8 +145,8 @@ fn serve_request<T: Served>(
 ) -> Result<(), Stopped>
     requires { answer.old.items ≡ [] }
     ensures replied { OnOk result (IsReplied (T.shows served.old) (T.may_fail served.old) place request.now session.old session.new answer.new.items) }
-    ensures shows { (k : ℕ) → T.shows served.new k ≡ T.shows served.old k }
-    ensures calm { (k : ℕ) (from : ℕ) (count : ℕ) → T.may_fail served.new k from count → T.may_fail served.old k from count }
+    ensures shows { ShowsSame T.shows served.old served.new }
+    ensures calm { StaysCalm T.may_fail served.old served.new }
 {
     reply(
         served,
@@ -208,8 +209,8 @@ fn request<T: Served, R: Read>(
     ensures turn { IfOk result (λ went. MatchBool went
         ((exports : List ExportOf) (arrays : ℕ → Array) → AreArrays (T.shows served.old) arrays → IsTurn exports arrays (T.may_fail served.old) (R.remaining reader.old) (R.remaining reader.new) session.old session.new answer.new.items)
         (IsEnd (R.remaining reader.old) session.old)) }
-    ensures shows { (k : ℕ) → T.shows served.new k ≡ T.shows served.old k }
-    ensures calm { (k : ℕ) (from : ℕ) (count : ℕ) → T.may_fail served.new k from count → T.may_fail served.old k from count }
+    ensures shows { ShowsSame T.shows served.old served.new }
+    ensures calm { StaysCalm T.may_fail served.old served.new }
 {
     let Some(request) = hear_request(reader)? else {
         return Ok(false);
@@ -234,8 +235,8 @@ pub fn turn<T: Served, R: Read>(
     ensures turn { IfOk result (λ went. MatchBool went
         ((arrays : ℕ → Array) → AreArrays (T.shows served.old) arrays → IsTurn exports.now arrays (T.may_fail served.old) (R.remaining reader.old) (R.remaining reader.new) session.old session.new answer.new.items)
         (IsEnd (R.remaining reader.old) session.old)) }
-    ensures shows { (k : ℕ) → T.shows served.new k ≡ T.shows served.old k }
-    ensures calm { (k : ℕ) (from : ℕ) (count : ℕ) → T.may_fail served.new k from count → T.may_fail served.old k from count }
+    ensures shows { ShowsSame T.shows served.old served.new }
+    ensures calm { StaysCalm T.may_fail served.old served.new }
 {
     match session.stage {
         Stage::Opening => {

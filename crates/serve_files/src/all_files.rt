@@ -3,7 +3,7 @@ ghost use Rattle.std.specs.Prelude.{◌≡◌, ◌≢◌, ◌⊎◌, ◌∷◌, 
 ghost use Rattle.std.specs.List.{All, AllPairs};
 ghost use Rattle.file_calls.specs.Calls.{Sync};
 ghost use Rattle.file_calls.specs.Note.{call_of};
-ghost use Rattle.serve_files.specs.Names.{text_of};
+ghost use Rattle.serve_files.specs.Names.{IsAbout, text_of};
 
 use crate::held_file::HeldFile;
 use crate::opening::{OpenFile, are_apart, is_apart, opened};
@@ -22,7 +22,7 @@ fn part_of<'a>(
     ensures number { IfOk result (λ part. part.device.number ≡ number) }
     ensures held { IfOk result (λ part. part.held.name.now ≡ opened.entry.name.now) }
     ensures synced { IfOk result (λ part. map call_of part.held.file.noted.notes ≡ Sync true false ∷ []) }
-    ensures told { IfErr result (λ trouble. trouble.name.now ≡ opened.entry.name.now) }
+    ensures told { IfErr result (IsAbout opened.entry.name.now) }
 {
     synced(served(rt, opened)?)?.part(rt, number)
 }

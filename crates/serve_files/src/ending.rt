@@ -2,6 +2,7 @@
 ghost use Rattle.std.specs.Prelude.{◌≡◌, ◌<◌, ◌&&◌, ℕ, IfErr, IsErr, is_ok, length, slice_index_or};
 ghost use Rattle.std.specs.List.{list_all};
 ghost use Rattle.serve_files.specs.Ending.{IsAsked, is_synced};
+ghost use Rattle.serve_files.specs.Names.{IsAbout};
 ghost use Rattle.serve_files.specs.declared.held_file.HeldFile.{HeldFile};
 
 use crate::held_file::HeldFile;
@@ -18,7 +19,7 @@ pub struct AllSynced {
 fn finished<'a, C: FileCalls>(file: &mut HeldFile<'a, C>) -> Result<(), Trouble<'a>>
     ensures asked { IsAsked (C.history file.old.file) (C.history file.new.file) }
     ensures done { is_ok result ≡ is_synced (C.history file.new.file) }
-    ensures told { IfErr result (λ trouble. trouble.name.now ≡ file.old.name.now) }
+    ensures told { IfErr result (IsAbout file.old.name.now) }
     ensures named { file.new.name ≡ file.old.name }
 {
     match file.sync() {

@@ -3,6 +3,7 @@ ghost use Rattle.std.specs.Prelude.{◌≡◌, ◌∷◌, ◌++◌, ◌≤◌, I
 ghost use Rattle.std.specs.List.{All};
 ghost use Rattle.plain_machine.specs.declared.request.Dev.TheVariants.{Origin, Snap};
 ghost use Rattle.serve_words.specs.Exports.{last_part};
+ghost use Rattle.serve_files.specs.Names.{IsAbout};
 ghost use Rattle.serve_files.specs.Served.{IsServed};
 
 use crate::trouble::{Trouble, Why, pushed};
@@ -69,7 +70,7 @@ impl<'a> Exports<'a> {
         ensures size { self.new.size ≡ self.old.size }
         ensures names { OnOk result (map (λ export. export.name.now) self.new.named.items ≡ map (λ export. export.name.now) self.old.named.items ++ last_part [] cow.now ∷ []) }
         ensures devices { OnOk result (self.new.devices.items ≡ self.old.devices.items ++ Snap number ∷ []) }
-        ensures told { IfErr result (λ trouble. trouble.name.now ≡ cow.now) }
+        ensures told { IfErr result (IsAbout cow.now) }
     {
         let name = export_name(cow.as_bytes());
         if LONGEST_NAME < name.len() {

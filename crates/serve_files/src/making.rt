@@ -3,6 +3,7 @@ ghost use Rattle.std.specs.Prelude.{◌≡◌, ◌∷◌, ◌≢◌, ℕ, None, 
 ghost use Rattle.file_calls.specs.Calls.{Len, SetLen, Sync};
 ghost use Rattle.file_calls.specs.Kept.{now_in};
 ghost use Rattle.serve_files.specs.Making.{IsMade, IsLeft};
+ghost use Rattle.serve_files.specs.Names.{IsAbout};
 
 use crate::opening::{OpenFile, folder_synced, has_streams, opened};
 use crate::trouble::{Trouble, Why, about};
@@ -30,7 +31,7 @@ pub fn make_store<C: FileCalls>(file: &mut C, bytes: u64) -> io::Result<Option<u
 
 /// Makes the file of a store, or opens an empty one, and gives whether it was made.
 fn file_for<'a>(rt: &HostRuntime, cow: &'a str) -> Result<(File, bool), Trouble<'a>>
-    ensures told { IfErr result (λ trouble. trouble.name.now ≡ cow.now) }
+    ensures told { IfErr result (IsAbout cow.now) }
 {
     match File::create_new(rt, cow) {
         Ok(file) => Ok((file, true)),
@@ -49,7 +50,7 @@ fn file_for<'a>(rt: &HostRuntime, cow: &'a str) -> Result<(File, bool), Trouble<
 
 /// Makes a store of so many bytes in a file that is open.
 fn made_in<'a>(cow: &'a str, file: File, bytes: u64) -> Result<(), Trouble<'a>>
-    ensures told { IfErr result (λ trouble. trouble.name.now ≡ cow.now) }
+    ensures told { IfErr result (IsAbout cow.now) }
 {
     let mut file = DiskFile::new(file);
     match about(cow, make_store(&mut file, bytes))? {

@@ -1,6 +1,7 @@
 // A file is opened to be written in place, and locked.
 ghost use Rattle.std.specs.Prelude.{◌≡◌, ◌≢◌, IfErr, IfOk, OnOk};
 ghost use Rattle.std.specs.List.{All};
+ghost use Rattle.serve_files.specs.Names.{IsAbout};
 
 use crate::trouble::{Trouble, Why, about};
 use file_users::{UsedFile, user_of};
@@ -30,7 +31,7 @@ pub struct OpenFile<'a> {
 /// Opens a file that is there. What is no file is not opened: nothing tells whether a block device is in use.
 pub fn opened<'a>(rt: &HostRuntime, name: &'a str) -> Result<OpenFile<'a>, Trouble<'a>>
     ensures named { IfOk result (λ opened. opened.name.now ≡ name.now) }
-    ensures told { IfErr result (λ trouble. trouble.name.now ≡ name.now) }
+    ensures told { IfErr result (IsAbout name.now) }
 {
     let metadata = about(name, fs::metadata(rt, name))?;
     if !metadata.is_file() {
@@ -46,7 +47,7 @@ pub fn opened<'a>(rt: &HostRuntime, name: &'a str) -> Result<OpenFile<'a>, Troub
 impl<'a> OpenFile<'a> {
     /// Locks it against all other programs that lock it, and sees that nobody uses it, as far as that can be told.
     pub(crate) fn is_alone(&self, rt: &HostRuntime) -> Result<(), Trouble<'a>>
-        ensures told { IfErr result (λ trouble. trouble.name.now ≡ self.now.name.now) }
+        ensures told { IfErr result (IsAbout self.now.name.now) }
     {
         let name = self.name;
         let why = match self.file.try_lock() {
@@ -59,7 +60,7 @@ impl<'a> OpenFile<'a> {
 
     /// Sees that nobody uses it.
     fn is_unused(&self, rt: &HostRuntime) -> Result<(), Trouble<'a>>
-        ensures told { IfErr result (λ trouble. trouble.name.now ≡ self.now.name.now) }
+        ensures told { IfErr result (IsAbout self.now.name.now) }
     {
         let name = self.name;
         match about(name, user_of(rt, self.which, false))? {
@@ -75,7 +76,7 @@ impl<'a> OpenFile<'a> {
 /// Sees that two files are not one.
 pub(crate) fn is_apart<'a>(other: &OpenFile<'a>, file: &OpenFile<'a>) -> Result<(), Trouble<'a>>
     ensures apart { OnOk result (other.now.which ≢ file.now.which) }
-    ensures told { IfErr result (λ trouble. trouble.name.now ≡ file.now.name.now) }
+    ensures told { IfErr result (IsAbout file.now.name.now) }
 {
     if other.which == file.which {
         let name = file.name;

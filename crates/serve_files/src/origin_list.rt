@@ -1,7 +1,7 @@
 // The list beside an origin, and the file that it stands in.
 ghost use Rattle.std.specs.Prelude.{◌≡◌, ℕ, List, [], IfErr, IfOk, None, Ok, OnErr, OnOk, map, true};
 ghost use Rattle.serve_files.specs.Listing.{IsBehindHead, added, left_out, listed_as};
-ghost use Rattle.serve_files.specs.Names.{text_in, text_of};
+ghost use Rattle.serve_files.specs.Names.{IsAbout, text_in, text_of};
 ghost use Rattle.serve_files.specs.Status.{is_of_store};
 
 use crate::list_file::{NewList, new_list, read_list};
@@ -29,7 +29,7 @@ pub struct OriginList<'a> {
 
 /// Says that a list could not be read or written.
 fn about_list<'a, T: Drop>(origin: &'a str, asked: io::Result<T>) -> Result<T, Trouble<'a>>
-    ensures told { IfErr result (λ trouble. trouble.name.now ≡ origin.now) }
+    ensures told { IfErr result (IsAbout origin.now) }
     ensures same { IfOk result (λ value. asked ≡ Ok value) }
 {
     match asked {
@@ -43,7 +43,7 @@ fn about_list<'a, T: Drop>(origin: &'a str, asked: io::Result<T>) -> Result<T, T
 
 /// What the file of a list holds; nothing where it is not there.
 fn text_at<'a>(rt: &HostRuntime, origin: &'a str, path: &str) -> Result<Vec<u8>, Trouble<'a>>
-    ensures told { IfErr result (λ trouble. trouble.name.now ≡ origin.now) }
+    ensures told { IfErr result (IsAbout origin.now) }
 {
     match File::open(rt, path) {
         Ok(file) => about_list(origin, read_list(rt.alloc(), &mut DiskFile::new(file))),
@@ -55,7 +55,7 @@ fn text_at<'a>(rt: &HostRuntime, origin: &'a str, path: &str) -> Result<Vec<u8>,
 /// Reads the list of an origin, which stands beside the file itself where that is given by a link.
 pub fn list_beside<'a>(rt: &HostRuntime, origin: &'a str) -> Result<OriginList<'a>, Trouble<'a>>
     ensures origin { IfOk result (λ list. list.origin.now ≡ origin.now) }
-    ensures told { IfErr result (λ trouble. trouble.name.now ≡ origin.now) }
+    ensures told { IfErr result (IsAbout origin.now) }
 {
     let file = about(origin, fs::canonicalize(rt, origin))?;
     let file = file.as_str();
@@ -103,7 +103,7 @@ impl<'a> OriginList<'a> {
     /// What stands behind its first line.
     fn lines(&self) -> Result<&[u8], Trouble<'a>>
         ensures lines { IfOk result (λ lines. IsBehindHead lines.now self.now.text.items) }
-        ensures told { IfErr result (λ trouble. trouble.name.now ≡ self.now.origin.now) }
+        ensures told { IfErr result (IsAbout self.now.origin.now) }
     {
         let text = self.text.as_slice();
         if text.is_empty() {
@@ -124,7 +124,7 @@ impl<'a> OriginList<'a> {
     /// Sees that a command serves all that it names.
     pub fn is_served(&self, rt: &HostRuntime, given: Given<'_, '_>) -> Result<(), Trouble<'a>>
         ensures ok { OnOk result ((lines : List ℕ) × IsBehindHead lines self.now.text.items × (left_out (record { merge = text_in given.entry.merge; cows = map text_of given.entry.cows.now; others = given.entry.others }) [] lines ≡ None)) }
-        ensures told { IfErr result (λ trouble. trouble.name.now ≡ self.now.origin.now) }
+        ensures told { IfErr result (IsAbout self.now.origin.now) }
     {
         match given.leaves_out(self.lines()?) {
             None => Ok(()),
@@ -142,7 +142,7 @@ impl<'a> OriginList<'a> {
     fn renew(&mut self, rt: &HostRuntime, text: Vec<u8>) -> Result<Listed, Trouble<'a>>
         ensures text { OnOk result (self.new.text.items ≡ text.items) }
         ensures same { OnErr result (self.new.text ≡ self.old.text) }
-        ensures told { IfErr result (λ trouble. trouble.name.now ≡ self.old.origin.now) }
+        ensures told { IfErr result (IsAbout self.old.origin.now) }
         ensures origin { self.new.origin ≡ self.old.origin }
     {
         if text.as_slice() != self.text.as_slice() {
@@ -162,7 +162,7 @@ impl<'a> OriginList<'a> {
     ) -> Result<Listed, Trouble<'a>>
         ensures text { OnOk result (self.new.text.items ≡ listed_as (text_in merge.entry) (map text_of cows.now) self.old.text.items) }
         ensures same { OnErr result (self.new.text ≡ self.old.text) }
-        ensures told { IfErr result (λ trouble. trouble.name.now ≡ self.old.origin.now) }
+        ensures told { IfErr result (IsAbout self.old.origin.now) }
     {
         if cows.is_empty() && self.text.is_empty() {
             return Ok(Listed { made: () });
@@ -175,7 +175,7 @@ impl<'a> OriginList<'a> {
     pub fn add(&mut self, rt: &HostRuntime, cow: &str) -> Result<Listed, Trouble<'a>>
         ensures text { OnOk result (self.new.text.items ≡ added cow.now self.old.text.items) }
         ensures same { OnErr result (self.new.text ≡ self.old.text) }
-        ensures told { IfErr result (λ trouble. trouble.name.now ≡ self.old.origin.now) }
+        ensures told { IfErr result (IsAbout self.old.origin.now) }
     {
         let text = held(
             self.origin,

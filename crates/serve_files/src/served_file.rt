@@ -1,5 +1,6 @@
 // A file that is locked, and of a size that is served.
 ghost use Rattle.std.specs.Prelude.{◌≡◌, ◌*◌, ◌<◌, ◌≤◌, IfErr, IfOk};
+ghost use Rattle.serve_files.specs.Names.{IsAbout};
 
 use crate::opening::OpenFile;
 use crate::trouble::{Trouble, Why, about};
@@ -19,7 +20,7 @@ pub struct ServedFile<'a> {
 /// Locks a file that is to be served, and looks how long it is.
 pub fn served<'a>(rt: &HostRuntime, opened: OpenFile<'a>) -> Result<ServedFile<'a>, Trouble<'a>>
     ensures named { IfOk result (λ served. served.name.now ≡ opened.entry.name.now) }
-    ensures told { IfErr result (λ trouble. trouble.name.now ≡ opened.entry.name.now) }
+    ensures told { IfErr result (IsAbout opened.entry.name.now) }
 {
     opened.is_alone(rt)?;
     let OpenFile { name, file, .. } = opened;
@@ -35,7 +36,7 @@ pub fn served<'a>(rt: &HostRuntime, opened: OpenFile<'a>) -> Result<ServedFile<'
 /// How many sectors so many bytes are.
 fn sectors_of<'a>(name: &'a str, bytes: u64) -> Result<u64, Trouble<'a>>
     ensures ok { IfOk result (λ sectors. (0 < sectors) × (sectors ≤ 2_147_483_648) × (512 * sectors ≡ bytes)) }
-    ensures told { IfErr result (λ trouble. trouble.name.now ≡ name.now) }
+    ensures told { IfErr result (IsAbout name.now) }
 {
     let why = if bytes == 0 {
         Why::Empty

@@ -3,6 +3,7 @@ ghost use Rattle.std.specs.Prelude.{◌≡◌, ◌∷◌, ◌≤◌, [], IfErr, 
 ghost use Rattle.file_calls.specs.Calls.{Sync};
 ghost use Rattle.file_calls.specs.Kept.{are_answered};
 ghost use Rattle.file_calls.specs.Note.{call_of};
+ghost use Rattle.serve_files.specs.Names.{IsAbout};
 
 use crate::held_file::HeldFile;
 use crate::served_file::ServedFile;
@@ -26,7 +27,7 @@ pub fn device_name<'a>(device: &Device<'a>) -> &'a str
 /// Sees that the file of a device left no write and no sync unanswered.
 pub fn is_answered<'a>(device: &Device<'a>) -> Result<(), Trouble<'a>>
     ensures ok { OnOk result (are_answered (map call_of device.now.file.file.noted.notes) ≡ true) }
-    ensures told { IfErr result (λ trouble. trouble.name.now ≡ device.now.file.name.now) }
+    ensures told { IfErr result (IsAbout device.now.file.name.now) }
 {
     if device.is_failed() {
         let name = device_name(device);
@@ -50,7 +51,7 @@ pub struct SyncedFile<'a> {
 pub fn synced<'a>(served: ServedFile<'a>) -> Result<SyncedFile<'a>, Trouble<'a>>
     ensures named { IfOk result (λ synced. synced.held.name.now ≡ served.entry.name.now) }
     ensures sectors { IfOk result (λ synced. synced.sectors ≡ served.entry.sectors) }
-    ensures told { IfErr result (λ trouble. trouble.name.now ≡ served.entry.name.now) }
+    ensures told { IfErr result (IsAbout served.entry.name.now) }
 {
     let ServedFile {
         name,
@@ -87,7 +88,7 @@ impl<'a> SyncedFile<'a> {
         ensures sectors { IfOk result (λ part. part.device.sectors ≡ self.entry.sectors) }
         ensures held { IfOk result (λ part. part.held.name.now ≡ self.entry.held.name.now) }
         ensures synced { IfOk result (λ part. map call_of part.held.file.noted.notes ≡ Sync true false ∷ []) }
-        ensures told { IfErr result (λ trouble. trouble.name.now ≡ self.entry.held.name.now) }
+        ensures told { IfErr result (IsAbout self.entry.held.name.now) }
     {
         let SyncedFile {
             file,

@@ -1,6 +1,7 @@
 // Why a command does not do what it is asked for.
 
 ghost use Rattle.std.specs.Prelude.{◌≡◌, ◌∷◌, ◌++◌, IfErr, IfOk, Ok, OnErr, OnOk, [], is_ok};
+ghost use Rattle.serve_files.specs.Names.{IsAbout};
 
 use sector::Refusal;
 use std::alloc::AllocError;
@@ -84,7 +85,7 @@ pub enum StoreFault {
 pub fn about<'a, T: Drop>(name: &'a str, asked: io::Result<T>) -> Result<T, Trouble<'a>>
     ensures ok { is_ok result ≡ is_ok asked }
     ensures same { IfOk result (λ value. asked ≡ Ok value) }
-    ensures told { IfErr result (λ trouble. trouble.name.now ≡ name.now) }
+    ensures told { IfErr result (IsAbout name.now) }
 {
     match asked {
         Ok(value) => Ok(value),
@@ -99,7 +100,7 @@ pub fn about<'a, T: Drop>(name: &'a str, asked: io::Result<T>) -> Result<T, Trou
 pub fn held<'a, T: Drop>(name: &'a str, asked: Result<T, AllocError>) -> Result<T, Trouble<'a>>
     ensures ok { is_ok result ≡ is_ok asked }
     ensures same { IfOk result (λ value. asked ≡ Ok value) }
-    ensures told { IfErr result (λ trouble. trouble.name.now ≡ name.now) }
+    ensures told { IfErr result (IsAbout name.now) }
 {
     match asked {
         Ok(value) => Ok(value),
@@ -114,7 +115,7 @@ pub fn held<'a, T: Drop>(name: &'a str, asked: Result<T, AllocError>) -> Result<
 pub fn pushed<'a, T: Drop>(name: &'a str, all: &mut Vec<T>, item: T) -> Result<(), Trouble<'a>>
     ensures ok { OnOk result (all.new.items ≡ all.old.items ++ item ∷ []) }
     ensures err { OnErr result (all.new.items ≡ all.old.items) }
-    ensures told { IfErr result (λ trouble. trouble.name.now ≡ name.now) }
+    ensures told { IfErr result (IsAbout name.now) }
 {
     match all.push(item) {
         Ok(()) => Ok(()),
