@@ -50,7 +50,7 @@ one_taken used all left volume n is_used slots slot audits others many low as_ma
     (subst (λ (os : List Volume). AreSlots (is_used ∷ drop (n + 1) used) (slots ++ slot ∷ []) audits os) (sym olds)
     (slots, slot, others, refl, one, more))
 
-pub front_left : (all left : List Volume) (volume : Volume) (n : ℕ) → n < length all → left ++ volume ∷ [] ≡ take (n + 1) all → left ≡ take n all
+pub front_left : {X : Type 0} (all left : List X) (volume : X) (n : ℕ) → n < length all → left ++ volume ∷ [] ≡ take (n + 1) all → left ≡ take n all
 front_left all left volume n low front = (same_from_push left (take n all) volume (get_or all n volume) (front ∙ take_more all n volume low)).0
 
 -- Nothing is in flight in them.

@@ -12,8 +12,8 @@ use native.Mathlib.Nat.{ℕ_set}
 use Rattle.command.specs.declared.seat_line.SeatLine.{SeatLine}
 use Rattle.block_run.specs.Played.{Story}
 use Rattle.command_rules.specs.State.{Table}
-use Rattle.command.specs.declared.command_reply.CommandReply.{CommandReply}
-use Rattle.command.specs.declared.command_reply.CommandReply.TheVariants.{Gate}
+use Rattle.command_replies.specs.declared.command_reply.CommandReply.{CommandReply}
+use Rattle.command_replies.specs.declared.command_reply.CommandReply.TheVariants.{Gate}
 use Rattle.volume_threads.specs.Rigs.{SeatShape}
 use Rattle.block_threads.specs.declared.task.Task.{Task}
 use Rattle.audit.specs.declared.entry.Entry.{Entry}

@@ -5,10 +5,10 @@ use Rattle.sector.specs.declared.refusal.Refusal.TheVariants.{NoMemory}
 use Rattle.command.specs.Blocks.{Lines}
 use Rattle.command.specs.declared.seat_line.SeatLine.{SeatLine}
 use Rattle.command_rules.specs.State.{Table}
-use Rattle.command.specs.declared.command_reply.CommandReply.{CommandReply}
-use Rattle.command.specs.declared.command_reply.CommandReply.TheVariants.{Seat, Gate}
-use Rattle.command.specs.declared.seated.SeatAnswer.{SeatAnswer}
-use Rattle.command.specs.declared.seated.SeatAnswer.TheVariants.{Refused}
+use Rattle.command_replies.specs.declared.command_reply.CommandReply.{CommandReply}
+use Rattle.command_replies.specs.declared.command_reply.CommandReply.TheVariants.{Seat, Gate}
+use Rattle.command_replies.specs.declared.seated.SeatAnswer.{SeatAnswer}
+use Rattle.command_replies.specs.declared.seated.SeatAnswer.TheVariants.{Refused}
 use Rattle.locked_volume.specs.AskedFor.{IsAskedFor}
 use Rattle.block_threads.specs.declared.task.Task.{Task}
 use Rattle.block_threads.specs.Tasks.{merges_among}

@@ -10,8 +10,8 @@ use Rattle.command_rules.specs.Places.{place_of}
 use Rattle.command_rules.specs.declared.place.Place.{Place}
 use Rattle.command_rules.specs.declared.place.Place.TheVariants.{Free, In}
 use Rattle.device_list.specs.Names.{IsNamedBegun, KeepsNames}
-use Rattle.command.specs.declared.command_reply.CommandReply.{CommandReply}
-use Rattle.command.specs.declared.command_reply.CommandReply.TheVariants.{Done, Data, Said, Number, Fault, Ended, Seat, Gate, Refused}
+use Rattle.command_replies.specs.declared.command_reply.CommandReply.{CommandReply}
+use Rattle.command_replies.specs.declared.command_reply.CommandReply.TheVariants.{Done, Data, Said, Number, Fault, Ended, Seat, Gate, Refused}
 use Rattle.block_run.specs.Looking.{block_refusal, name_in}
 
 -- the line of a seat, or of the gate

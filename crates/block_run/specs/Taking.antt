@@ -74,7 +74,7 @@ pub record IsMade (before audit : AuditShape Stack) (story : Story) (old new : V
 
 -- What a place of the table has: its volume, or the names of one that lines use, whose audit is the last of all.
 abbrev pub IsSlot : Bool → Slot → List (AuditShape Stack) → List (AuditShape Stack) → Volume → Type 0
-IsSlot used (Stays volume) audits others old = (volume ≡ old) × (audits ≡ others)
+IsSlot used (Stays volume) audits others old = (volume.shown ≡ old) × (audits ≡ others)
 IsSlot used (Out parts) audits others old = (used ≡ true) × (audit : AuditShape Stack) × (audits ≡ others ++ audit ∷ []) × IsOut parts audit old
 
 -- What all places have, the last of the table first, with the audits in the same order.
@@ -88,7 +88,7 @@ AreSlots (used ∷ uses) slots audits (old ∷ olds) =
 
 -- What a place has once seats ran, by the audits before and as they left them.
 abbrev pub IsBackAt : Bool → Slot → List (AuditShape Stack) → List (AuditShape Stack) → List (AuditShape Stack) → List (AuditShape Stack) → Volume → Type 0
-IsBackAt used (Stays volume) befores audits first others old = (volume ≡ old) × (befores ≡ first) × (audits ≡ others)
+IsBackAt used (Stays volume) befores audits first others old = (volume.shown ≡ old) × (befores ≡ first) × (audits ≡ others)
 IsBackAt used (Out parts) befores audits first others old =
     (used ≡ true) × (before : AuditShape Stack) × (audit : AuditShape Stack) × (befores ≡ first ++ before ∷ []) × (audits ≡ others ++ audit ∷ []) × IsBack before parts audit old
 

@@ -34,6 +34,7 @@ fn serves(work: &Work, role: Role) -> bool
 }
 
 /// What a line finds.
+#[tactic(auto, using(device_list::proofs::Showing::shown_there))]
 fn found(held: &Devices, line: &SeatLine) -> NameFound
     ensures { result ≡ found_in (table_of held.now) line.now }
 {

@@ -15,7 +15,8 @@ ghost use Rattle.block_run.specs.Running.{is_in, used_in};
 
 use crate::looking::name_in;
 use block_threads::{Job, SEATS, Task};
-use command::{CommandReply, SeatLine, Work};
+use command::{SeatLine, Work};
+use command_replies::CommandReply;
 use command_rules::{Place, Role};
 use device_list::{Devices, NamedVolume, find_device};
 use device_stacks::{range_in, whole_sectors};
@@ -44,8 +45,8 @@ fn place_among(used: &[bool], v: usize) -> usize
 /// disks and layers.
 #[tactic(auto, unfolding(command_rules::specs::Sectors::dev_of))]
 fn dev_of(volume: &NamedVolume, role: Role) -> Result<Dev, Refusal>
-    requires { IsRoleIn role volume.now }
-    ensures { result ≡ dev_of role volume.now.state }
+    requires { IsRoleIn role volume.now.shown }
+    ensures { result ≡ dev_of role volume.now.shown.state }
 {
     match role {
         Role::Origin => Ok(Dev::Origin),
@@ -58,9 +59,9 @@ fn dev_of(volume: &NamedVolume, role: Role) -> Result<Dev, Refusal>
 /// The device and the range of so many sectors from `first` on. In this order: `OutOfRange` for sectors past the end, and
 /// `MergingSnapshot` for a snapshot that is being merged.
 fn asked(volume: &NamedVolume, role: Role, first: u32, count: u32) -> Result<(Dev, Range), Refusal>
-    requires { IsRoleIn role volume.now }
-    ensures ok { IfOk result (λ asks. asks_of role first count volume.now ≡ Ok (record { dev = asks.0; span = span_of asks.1 })) }
-    ensures err { IfErr result (λ e. asks_of role first count volume.now ≡ Err e) }
+    requires { IsRoleIn role volume.now.shown }
+    ensures ok { IfOk result (λ asks. asks_of role first count volume.now.shown ≡ Ok (record { dev = asks.0; span = span_of asks.1 })) }
+    ensures err { IfErr result (λ e. asks_of role first count volume.now.shown ≡ Err e) }
 {
     let range = range_in(u64::from(volume.sectors()), first, count)?;
     let dev = dev_of(volume, role)?;
@@ -69,8 +70,8 @@ fn asked(volume: &NamedVolume, role: Role, first: u32, count: u32) -> Result<(De
 
 /// A read of sectors of a volume, which has this place among those that are taken out.
 fn read_job(volume: &NamedVolume, place: usize, role: Role, first: u32, count: u32) -> Job
-    requires { IsRoleIn role volume.now }
-    ensures { IsReadAs place (asks_of role first count volume.now) result }
+    requires { IsRoleIn role volume.now.shown }
+    ensures { IsReadAs place (asks_of role first count volume.now.shown) result }
 {
     match asked(volume, role, first, count) {
         Ok((dev, range)) => Job::Read {
@@ -84,8 +85,8 @@ fn read_job(volume: &NamedVolume, place: usize, role: Role, first: u32, count: u
 
 /// A write of so many sectors.
 fn sectors_job(volume: &NamedVolume, place: usize, role: Role, at: (u32, u32), bytes: Buf) -> Job
-    requires { IsRoleIn role volume.now }
-    ensures { IsWriteAs place bytes (asks_of role at.0 at.1 volume.now) result }
+    requires { IsRoleIn role volume.now.shown }
+    ensures { IsWriteAs place bytes (asks_of role at.0 at.1 volume.now.shown) result }
 {
     match asked(volume, role, at.0, at.1) {
         Ok((dev, range)) => Job::Write {
@@ -100,8 +101,8 @@ fn sectors_job(volume: &NamedVolume, place: usize, role: Role, at: (u32, u32), b
 
 /// A write of whole sectors.
 fn write_job(volume: &NamedVolume, place: usize, role: Role, first: u32, bytes: Buf) -> Job
-    requires { IsRoleIn role volume.now }
-    ensures { IsWriteAs place bytes (writes_of role first bytes volume.now) result }
+    requires { IsRoleIn role volume.now.shown }
+    ensures { IsWriteAs place bytes (writes_of role first bytes volume.now.shown) result }
 {
     match whole_sectors(bytes.as_slice()) {
         Ok(count) => sectors_job(volume, place, role, (first, count), bytes),
@@ -111,8 +112,8 @@ fn write_job(volume: &NamedVolume, place: usize, role: Role, first: u32, bytes: 
 
 /// A merge of a snapshot. `MergeInProgress` for one that is being merged.
 fn merge_job(volume: &NamedVolume, place: usize, role: Role) -> Job
-    requires { IsRoleIn role volume.now }
-    ensures { IsMergeAs place (merges_of role volume.now) result }
+    requires { IsRoleIn role volume.now.shown }
+    ensures { IsMergeAs place (merges_of role volume.now.shown) result }
 {
     match role {
         Role::Snapshot(k) => Job::Merge {
@@ -125,8 +126,8 @@ fn merge_job(volume: &NamedVolume, place: usize, role: Role) -> Job
 
 /// What a line asks of a volume, which has this place among those that are taken out.
 fn job(volume: &NamedVolume, place: usize, role: Role, work: Work) -> Job
-    requires { IsRoleIn role volume.now }
-    ensures { IsJob place role volume.now work result }
+    requires { IsRoleIn role volume.now.shown }
+    ensures { IsJob place role volume.now.shown work result }
 {
     match work {
         Work::Read {
@@ -180,6 +181,7 @@ fn waiting(job: Job) -> Task
 }
 
 /// The task that a line is. The lines of a block that is not refused each name a device of a volume.
+#[tactic(auto, using(device_list::proofs::Showing::shown_there))]
 fn task(held: &Devices, used: &[bool], work: Work) -> Task
     requires { length used.now ≡ length (table_of held.now).volumes }
     ensures { IsTask used.now (table_of held.now) work result }

@@ -5,9 +5,7 @@ ghost use Rattle.sector.specs.declared.refusal.Refusal.TheVariants.{NoMemory};
 ghost use Rattle.layers.specs.declared.stack.Stack.{Stack as StackShape};
 ghost use Rattle.layers.specs.Stack.{stack_layers, stack_size};
 ghost use Rattle.audit.specs.Books.{AuditShape};
-ghost use Rattle.command_rules.specs.Naming.{AreNamed};
-ghost use Rattle.command_rules.specs.Sound.{is_sound};
-ghost use Rattle.device_list.specs.Tables.{table_of};
+ghost use Rattle.device_list.specs.Tables.{StaysNamed, StaysSound, table_of};
 ghost use Rattle.block_threads.specs.Left.{AllAddAskedFor};
 ghost use Rattle.block_threads.specs.Tasks.{AreTold, tasks_at};
 ghost use Rattle.block_run.specs.Answering.{AreAnswered, AreEnded, AreForTasks, AreReplied, gate_replies, replies_of, reply_of};
@@ -22,7 +20,8 @@ use crate::planning::{BlockPlan, planned};
 use crate::taking::{put_back, take_all};
 use audit::Audit;
 use block_threads::{Hold, Task, run_seats};
-use command::{CommandReply, LineBlock, SeatAnswer, Seated, refusal_among};
+use command::{LineBlock, refusal_among};
+use command_replies::{CommandReply, SeatAnswer, Seated};
 use device_list::Devices;
 use layers::Stack;
 use sector::Refusal;
@@ -221,8 +220,8 @@ pub fn run_block<R: Threads + Wait + Sync>(
     ensures spared { OnErr result (AreSpared (table_of held.old).volumes (table_of held.new).volumes) }
     ensures stays { IfSome (block_refusal block (table_of held.old)) (λ _. table_of held.new ≡ table_of held.old) }
     ensures run { IsTableRun block.lines (table_of held.old) (table_of held.new) }
-    ensures sound { is_sound (table_of held.old) ≡ true → is_sound (table_of held.new) ≡ true }
-    ensures named { AreNamed (table_of held.old) → AreNamed (table_of held.new) }
+    ensures sound { StaysSound held.old held.new }
+    ensures named { StaysNamed held.old held.new }
 {
     refused(alloc, held, &block)?;
     let ticket = block.opening().hold;

@@ -1,5 +1,5 @@
 // Volumes that are taken out of the table while their seats run, and put back.
-ghost use Rattle.std.specs.Prelude.{◌≡◌, ◌+◌, ◌<◌, ◌≤◌, Bool, IfNone, IfSome, List, Some, [], true, drop, length, vec_len, vec_capacity};
+ghost use Rattle.std.specs.Prelude.{◌≡◌, ◌+◌, ◌<◌, ◌≤◌, Bool, IfNone, IfSome, List, Some, [], true, drop, length, map, vec_len, vec_capacity};
 ghost use Rattle.layers.specs.declared.stack.Stack.{Stack as StackShape};
 ghost use Rattle.layers.specs.Stack.{stack_contents, stack_layers};
 ghost use Rattle.audit.specs.Books.{AuditShape};
@@ -26,9 +26,9 @@ pub enum Slot {
 
 /// Takes a quiet volume out, and puts its audit after the others. Where memory is refused for its audit, it stays.
 fn take_out(volume: NamedVolume, audits: &mut Vec<Audit<Stack>>) -> Slot
-    requires quiet { volume.quiet ≡ true }
+    requires quiet { volume.shown.quiet ≡ true }
     requires room { vec_len audits.old < vec_capacity audits.old }
-    ensures slot { IsSlot true result audits.new.items audits.old.items volume }
+    ensures slot { IsSlot true result audits.new.items audits.old.items volume.shown }
     ensures few { vec_len audits.new ≤ vec_len audits.old + 1 }
     ensures room { vec_capacity audits.new ≡ vec_capacity audits.old }
 {
@@ -48,7 +48,7 @@ fn take_out(volume: NamedVolume, audits: &mut Vec<Audit<Stack>>) -> Slot
 /// Takes a volume out if it is used, and is quiet.
 fn take(volume: NamedVolume, is_used: bool, audits: &mut Vec<Audit<Stack>>) -> Slot
     requires room { vec_len audits.old < vec_capacity audits.old }
-    ensures slot { IsSlot is_used result audits.new.items audits.old.items volume }
+    ensures slot { IsSlot is_used result audits.new.items audits.old.items volume.shown }
     ensures few { vec_len audits.new ≤ vec_len audits.old + 1 }
     ensures room { vec_capacity audits.new ≡ vec_capacity audits.old }
 {
@@ -70,7 +70,7 @@ pub fn take_all(
     requires none { (slots.old.items ≡ []) × (audits.old.items ≡ []) }
     requires slot_room { vec_len volumes.old ≤ vec_capacity slots.old }
     requires audit_room { vec_len volumes.old ≤ vec_capacity audits.old }
-    ensures slots { AreSlots used.now slots.new.items audits.new.items volumes.old.items }
+    ensures slots { AreSlots used.now slots.new.items audits.new.items (map (λ v. v.shown) volumes.old.items) }
     ensures empty { volumes.new.items ≡ [] }
     ensures few { vec_len slots.new ≡ vec_len volumes.old }
     ensures room { vec_capacity volumes.new ≡ vec_capacity volumes.old }
@@ -122,7 +122,7 @@ fn rest(audit: &mut Audit<Stack>)
 /// The volume of an audit under its names again.
 fn name(parts: NamedParts, audit: Audit<Stack>) -> NamedVolume
     requires { (before : AuditShape StackShape) × (old : Volume) × IsBack before parts audit old }
-    ensures { (before : AuditShape StackShape) (old : Volume) → IsBack before parts audit old → (story : Story) × IsMade before audit story old result }
+    ensures { (before : AuditShape StackShape) (old : Volume) → IsBack before parts audit old → (story : Story) × IsMade before audit story old result.shown }
 {
     let mut audit = audit;
     rest(&mut audit);
@@ -134,7 +134,7 @@ fn name(parts: NamedParts, audit: Audit<Stack>) -> NamedVolume
 /// What a place of the table has, put back into it: a volume that is taken out is that of the last audit.
 pub fn put_back(slot: Slot, audits: &mut Vec<Audit<Stack>>) -> NamedVolume
     requires { (used : Bool) × (befores : List (AuditShape StackShape)) × (first : List (AuditShape StackShape)) × (others : List (AuditShape StackShape)) × (old : Volume) × IsBackAt used slot befores audits.old.items first others old }
-    ensures put { (used : Bool) (befores first others : List (AuditShape StackShape)) (old : Volume) → IsBackAt used slot befores audits.old.items first others old → IsPutAt slot befores audits.old.items first others old result }
+    ensures put { (used : Bool) (befores first others : List (AuditShape StackShape)) (old : Volume) → IsBackAt used slot befores audits.old.items first others old → IsPutAt slot befores audits.old.items first others old result.shown }
     ensures others { (used : Bool) (befores first others : List (AuditShape StackShape)) (old : Volume) → IsBackAt used slot befores audits.old.items first others old → audits.new.items ≡ others }
 {
     match slot {

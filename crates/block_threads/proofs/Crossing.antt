@@ -7,7 +7,7 @@ use denote.Struct.Declared.{shape}
 use denote.Struct.Tuple.{TupleAt, field_at, type_at}
 use Rattle.std.proofs.Crossing.{crosses, Vec-send}
 use Rattle.std.proofs.alloc.Global.TheSendSync as Heap
-use Rattle.command.specs.contracts.seated.SeatAnswer as Answered
+use Rattle.command_replies.specs.contracts.seated.SeatAnswer as Answered
 use Rattle.locked_volume.specs.declared.room.Room as Room
 use Rattle.volume_threads.proofs.Crossing.{seat_send}
 use Rattle.block_threads.specs.declared.plan.Plan as Plan

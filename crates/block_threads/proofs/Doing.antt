@@ -5,8 +5,8 @@ use native.Mathlib.Nat.{ℕ_set}
 use Rattle.audit.specs.declared.entry.Receipt.{Receipt}
 use Rattle.std.proofs.Math.Seq.{take-length}
 use Rattle.std.proofs.lemmas.List.{drop_more, drop-set-lt, get_or-drop, take_more, take_more_set}
-use Rattle.command.specs.declared.seated.SeatAnswer.{SeatAnswer}
-use Rattle.command.specs.declared.seated.SeatAnswer.TheVariants as answered
+use Rattle.command_replies.specs.declared.seated.SeatAnswer.{SeatAnswer}
+use Rattle.command_replies.specs.declared.seated.SeatAnswer.TheVariants as answered
 use Rattle.volume_threads.specs.Rigs.{SeatShape, receipts_at}
 use Rattle.block_threads.specs.declared.task.Job.{Job}
 use Rattle.block_threads.specs.declared.task.Job.TheVariants.{Read, Write, Merge, RefusedRead, Refused}

@@ -10,8 +10,8 @@ use Rattle.sector.specs.declared.refusal.Refusal.{Refusal}
 use Rattle.audit.specs.declared.entry.Entry.{Entry}
 use Rattle.audit.specs.declared.entry.Receipt.{Receipt}
 use Rattle.locked_volume.specs.Denying.{Wish, Serve}
-use Rattle.command.specs.declared.seated.SeatAnswer.{SeatAnswer}
-use Rattle.command.specs.declared.seated.SeatAnswer.TheVariants as answered
+use Rattle.command_replies.specs.declared.seated.SeatAnswer.{SeatAnswer}
+use Rattle.command_replies.specs.declared.seated.SeatAnswer.TheVariants as answered
 use Rattle.volume_threads.specs.Rigs.{SeatShape, seen_at}
 use Rattle.plain_machine.specs.declared.request.Op.TheVariants as op
 use Rattle.plain_machine.specs.declared.request.Reply.TheVariants as reply

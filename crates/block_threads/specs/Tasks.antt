@@ -12,9 +12,9 @@ use Rattle.audit.specs.declared.entry.Receipt.{Receipt}
 use Rattle.locked_volume.specs.Denying.{Wish, Serve, Begin, WasBegun, WasDenied}
 use Rattle.locked_volume.specs.Fixed.{Fixed, piece_at}
 use Rattle.audit.specs.Books.{AuditShape}
-use Rattle.command.specs.declared.seated.SeatAnswer.{SeatAnswer}
-use Rattle.command.specs.declared.seated.SeatAnswer.TheVariants as answered
-use Rattle.command.specs.Runs.{data_words}
+use Rattle.command_replies.specs.declared.seated.SeatAnswer.{SeatAnswer}
+use Rattle.command_replies.specs.declared.seated.SeatAnswer.TheVariants as answered
+use Rattle.command_replies.specs.Runs.{data_words}
 use Rattle.volume_threads.specs.Rigs.{HasAdded, IsSettledAt, SeatShape, fixed_in, receipts_at, seen_at, start_in}
 use Rattle.volume_threads.specs.Served.{IsReadBy, IsReadCut, IsWriteCut, IsWrittenBy}
 use Rattle.block_threads.specs.declared.task.Job.{Job}

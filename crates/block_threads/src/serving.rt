@@ -7,7 +7,7 @@ use crate::plan::Plan;
 use crate::seat_run::SeatRun;
 use crate::task::{Job, Task};
 use between_threads::{Gate, never};
-use command::{SeatAnswer, words_of_data};
+use command_replies::{SeatAnswer, words_of_data};
 use layers::Layered;
 use locked_volume::Room;
 use plain_machine::{Dev, SnapId};

@@ -1,6 +1,6 @@
 // What a seat is to do.
 
-use command::SeatAnswer;
+use command_replies::SeatAnswer;
 use plain_machine::{Dev, SnapId};
 use sector::{Buf, Range, Refusal};
 

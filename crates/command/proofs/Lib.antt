@@ -5,9 +5,3 @@ pub mod Verbs
 pub mod Printed
 pub mod Par
 pub mod BlockKept
-pub mod RunLemmas
-pub mod RunWord
-pub mod WordsAgain
-pub mod RunsAgain
-pub mod DataAgain
-pub mod RunLine

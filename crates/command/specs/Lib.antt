@@ -8,9 +8,3 @@ pub mod Opening
 pub mod Lines
 pub mod Blocks
 pub mod Founds
-pub mod Runs
-pub mod Refusals
-pub mod Ended
-pub mod Seated
-pub mod Texts
-pub mod Answers

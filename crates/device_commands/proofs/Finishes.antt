@@ -1,6 +1,6 @@
 -- The merge of the volume at a place is finished, and its store is left.
 use Rattle.std.proofs.Common.{◌≡◌, ◌≢◌, ℕ, ◌<◌, List, [], ◌∷◌, ◌++◌, true, length, get_or, set, refl, sym, ap, ◌∙◌, subst}
-use Rattle.std.specs.Prelude.{Err}
+use Rattle.std.specs.Prelude.{Result, Ok, Err}
 use Rattle.sector.specs.declared.refusal.Refusal.{Refusal}
 use Rattle.sector.specs.declared.refusal.Refusal.TheVariants.{JournalFull}
 use Rattle.device.specs.Layers.{is_loud}
@@ -16,7 +16,7 @@ use Rattle.big_steps.proofs.Starved.{other_full}
 use Rattle.command_rules.proofs.SoundFrames.{given_by_sound, of_both, volume_sound}
 use Rattle.device_list.specs.Flights.{IsUnfinished}
 use Rattle.device_list.specs.Names.{IsNamedLess}
-use Rattle.device_commands.specs.Merging.{IsUnfinishedIn, finished_at}
+use Rattle.device_commands.specs.Merging.{IsFinishedIn, IsUnfinishedIn, finished_at}
 
 -- it is refused
 stays_as : (table : Table) (v : ℕ) (stacks : List Stacked) (old new : Volume) → old ≡ get_or table.volumes v old → new ≡ old → stacks ≡ table.stacks → record { stacks = stacks; volumes = set table.volumes v new } ≡ table
@@ -30,6 +30,17 @@ finished_stays table v e stacks old new lt at refused same kept =
 
 pub unfinished_in : (table : Table) (v : ℕ) (e : Refusal) (old : Volume) → v < length table.volumes → old ≡ get_or table.volumes v old → IsUnfinished e old → IsUnfinishedIn e (volume_at v table)
 unfinished_in table v e old lt at why = let there = volume_here table v old lt at in rw there why
+
+-- it is done
+pub finished_goes : (table : Table) (v : ℕ) (stacked : Stacked) (stacks : List Stacked) (old new : Volume) → v < length table.volumes → old ≡ get_or table.volumes v old → finished old ≡ Ok (stacked, new) → stacks ≡ table.stacks ++ stacked ∷ [] → finished_at v table ≡ Ok (record { stacks = stacks; volumes = set table.volumes v new })
+finished_goes table v stacked stacks old new lt at parted more =
+    let there = volume_here table v old lt at in
+    let by_stacks : List Stacked → Result Table Refusal = λ ss. Ok (record { stacks = ss; volumes = set table.volumes v new }) in
+    rw there (rw parted (ap by_stacks (sym more)))
+
+pub finished_in : (table : Table) (v : ℕ) (stacked : Stacked) (stacks : List Stacked) (old new : Volume) → v < length table.volumes → old ≡ get_or table.volumes v old → IsNamedLess stacked old new → stacks ≡ table.stacks ++ stacked ∷ [] → IsFinishedIn v table (record { stacks = stacks; volumes = set table.volumes v new }) (volume_at v table)
+finished_in table v stacked stacks old new lt at less more =
+    let there = volume_here table v old lt at in rw there (stacked, new, less, ap (λ (ss : List Stacked). record { stacks = ss; volumes = set table.volumes v new }) more)
 
 -- the names then
 pub left_named : (table : Table) (v : ℕ) (stacked : Stacked) (stacks : List Stacked) (old new : Volume) → v < length table.volumes → old ≡ get_or table.volumes v old → IsNamedLess stacked old new → stacks ≡ table.stacks ++ stacked ∷ [] → AreNamed table → AreNamed (record { stacks = stacks; volumes = set table.volumes v new })

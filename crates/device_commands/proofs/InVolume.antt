@@ -49,6 +49,11 @@ serves_in {A = A} (Err e) holds command v table old new lt at did = (
 pub changed_in : (holds : Volume → Volume → Type 0) (v : ℕ) (table : Table) (old new : Volume) → v < length table.volumes → old ≡ get_or table.volumes v old → holds old new → IsInVolume holds v table (put_volume v new table) (volume_at v table)
 changed_in holds v table old new lt at did = let there = volume_here table v old lt at in rw there (new, did, refl)
 
+-- a request is in flight in it
+pub flies_in : (r : Result ℕ Refusal) (v : ℕ) (table : Table) (old new : Volume) → v < length table.volumes → old ≡ get_or table.volumes v old → OnOk r (new.quiet ≡ false) → OnOk r (IsInVolume (λ was now. now.quiet ≡ false) v table (put_volume v new table) (volume_at v table))
+flies_in (Err e) v table old new lt at flies = tt
+flies_in (Ok number) v table old new lt at flies = changed_in (λ was now. now.quiet ≡ false) v table old new lt at flies
+
 -- what is refused before the volume is asked
 pub asked_in : (P : Refusal → Type 0) (v : ℕ) (role : Role) (first count : ℕ) (table : Table) (old : Volume) → v < length table.volumes → old ≡ get_or table.volumes v old → IfErr (asked_of role first count old) P → IfErr (asked_at (In v role) first count table) P
 asked_in P v role first count table old lt at did = let there = volume_here table v old lt at in rw there did

@@ -15,3 +15,5 @@ pub mod Denied
 pub mod Fills
 pub mod NeverFull
 pub mod RulesNeverFull
+pub mod Loses
+pub mod Made

@@ -1,12 +1,16 @@
 -- What calls leave of the devices, and what they look for among them.
-use Rattle.std.specs.Prelude.{◌≡◌, ◌⊎◌, ℕ, false, List, Result, Ok}
+use Rattle.std.specs.Prelude.{◌≡◌, ◌⊎◌, ℕ, false, List, nat_le, None, Result, Ok, Err, IfErr}
 use Rattle.sector.specs.declared.refusal.Refusal.{Refusal}
 use Rattle.words.specs.Given.{◌>>=◌}
 use Rattle.command_rules.specs.State.{Table}
 use Rattle.command_rules.specs.Places.{place_of, found, stack_at, volume_at}
-use Rattle.command_rules.specs.Sectors.{IsAtRole}
+use Rattle.command_rules.specs.Disks.{device_count}
+use Rattle.command_rules.specs.Events.{origin_by}
+use Rattle.command_rules.specs.Sectors.{IsAtRole, IsInVolume}
 use Rattle.command_rules.specs.Snapshots.{Named}
 use Rattle.device_list.specs.Names.{KeepsNames}
+use Rattle.device_list.specs.Tables.{StaysNamed, table_of}
+use Rattle.device_list.specs.declared.held.Devices.{Devices}
 
 -- a volume and a stack that are there, for a snapshot of the one with the other as its store
 abbrev pub named_at : ℕ → ℕ → Table → Result Named Refusal
@@ -14,6 +18,18 @@ named_at v i table = do
   stacked ← stack_at i table
   volume ← volume_at v table
   Ok (record { v = v; i = i; stacked = stacked; volume = volume })
+
+-- a name must be that of an origin: where it is not, what it is refused with is answered
+abbrev pub NeedsOrigin : {A : Type 0} → List ℕ → Devices → Result A Refusal → Type 0
+NeedsOrigin name held result = IfErr (origin_by name (table_of held)) (λ e. result ≡ Err e)
+
+-- where a name was no device's, and there were fewer than 64 devices, names stay apart
+abbrev pub StaysNamedWith : List ℕ → Devices → Devices → Type 0
+StaysNamedWith name old new = place_of name (table_of old) ≡ None → nat_le 64 (device_count (table_of old)) ≡ false → StaysNamed old new
+
+-- the volume at a place is changed, but not in its names, marks and counts, and no other device is
+abbrev pub KeepsNamesAt : ℕ → Devices → Devices → Type 0
+KeepsNamesAt v old new = IsInVolume KeepsNames v (table_of old) (table_of new) (volume_at v (table_of old))
 
 -- all devices are as they were, or the volume is changed that has the device of a name, but not in its names, marks and counts
 unfoldable pub KeepsOthers : List ℕ → Table → Table → Type 0

@@ -1,18 +1,15 @@
 // Snapshots: taken over an origin, and taken away again.
-ghost use Rattle.std.specs.Prelude.{◌≡◌, ◌≢◌, ◌<◌, length, nat_le, true, false, slice_get, None, Some, IfErr, IfOk};
+ghost use Rattle.std.specs.Prelude.{◌≡◌, ◌≢◌, ◌<◌, length, true, slice_get, Some, IfErr, IfOk};
 ghost use Rattle.sector.specs.declared.refusal.Refusal.TheVariants.{JournalFull};
 ghost use Rattle.command_rules.specs.Changes.{Enters, Serves};
-ghost use Rattle.command_rules.specs.Disks.{device_count};
-ghost use Rattle.command_rules.specs.Naming.{AreNamed};
-ghost use Rattle.command_rules.specs.Places.{IsPlaceIn, place_of, volume_at};
+ghost use Rattle.command_rules.specs.Places.{IsPlaceIn, place_of};
 ghost use Rattle.command_rules.specs.Snapshots.{left_by, named_in, over, snapshot_by, snapshot_made};
-ghost use Rattle.command_rules.specs.Sound.{is_sound};
 ghost use Rattle.command_rules.specs.declared.place.Place.TheVariants.{In};
 ghost use Rattle.command_rules.specs.declared.place.Role.TheVariants.{Snapshot, Under};
 ghost use Rattle.device_commands.specs.Busy.{IsBusyRefused};
-ghost use Rattle.device_list.specs.Tables.{table_of};
-ghost use Rattle.device_commands.specs.Asked.{has_asked_much_for, has_asked_much_in};
-ghost use Rattle.device_commands.specs.Devices.{named_at};
+ghost use Rattle.device_list.specs.Tables.{StaysSound, table_of};
+ghost use Rattle.device_commands.specs.Asked.{IsFullAt, IsFullFor};
+ghost use Rattle.device_commands.specs.Devices.{StaysNamedWith, named_at};
 ghost use Rattle.device_commands.specs.Meeting.{IsMetBy};
 ghost use Rattle.device_commands.specs.Ruled.{is_sound_for};
 
@@ -28,7 +25,7 @@ use words::Name;
 /// The volume whose origin stands on the device of a name.
 fn volume_over(held: &Devices, name: &Name) -> Result<usize, Refusal>
     ensures volume { result ≡ over (place_of name.now (table_of held.now)) }
-    ensures within { IfOk result (λ v. v < length held.now.volumes.items) }
+    ensures within { IfOk result (λ v. v < length (table_of held.now).volumes) }
     ensures place { IfOk result (λ v. place_of name.now (table_of held.now) ≡ Some (In v (Under 0))) }
     ensures room { IfErr result (λ e. e ≢ JournalFull) }
 {
@@ -49,12 +46,12 @@ fn meet(
     i: usize,
 ) -> Result<(), Refusal>
     requires stack { i < length held.old.stacks.items }
-    requires volume { v < length held.old.volumes.items }
+    requires volume { v < length (table_of held.old).volumes }
     ensures done { is_sound_for (named_at v i (table_of held.old)) ≡ true → Serves result (table_of held.new) (λ t. t ≡ table_of held.old) (snapshot_by name chunk overflow (table_of held.old) (named_at v i (table_of held.old))) }
     ensures busy { IsBusyRefused result (table_of held.old) (table_of held.new) (named_at v i (table_of held.old)) }
     ensures made { IsMetBy name chunk overflow result (table_of held.old) (table_of held.new) (named_at v i (table_of held.old)) }
-    ensures named { place_of name (table_of held.old) ≡ None → nat_le 64 (device_count (table_of held.old)) ≡ false → AreNamed (table_of held.old) → AreNamed (table_of held.new) }
-    ensures full { IfErr result (λ e. e ≡ JournalFull → has_asked_much_in (volume_at v (table_of held.new)) ≡ true) }
+    ensures named { StaysNamedWith name held.old held.new }
+    ensures full { IsFullAt v result held.new }
 {
     let stack = held.stacks.remove(i);
     match held.volumes[v].attach(alloc, name, stack, chunk, overflow) {
@@ -68,7 +65,7 @@ fn meet(
 
 /// A snapshot of the origin on the device of a name, with the stack that another is the top of as its store, which may
 /// overflow or not.
-#[tactic(auto, unfolding(command_rules::specs::Snapshots::snapshot_made, command_rules::specs::Snapshots::named_in))]
+#[tactic(auto, using(device_list::proofs::Showing::shown_there), unfolding(command_rules::specs::Snapshots::snapshot_made, command_rules::specs::Snapshots::named_in))]
 pub fn make_snapshot(
     alloc: Global,
     held: &mut Devices,
@@ -82,8 +79,8 @@ pub fn make_snapshot(
     ensures done { is_sound_for (named_in sectors device.now store.now (table_of held.old)) ≡ true → Serves result (table_of held.new) (λ t. t ≡ table_of held.old) (snapshot_made name sectors device.now store.now chunk overflow (table_of held.old)) }
     ensures busy { IsBusyRefused result (table_of held.old) (table_of held.new) (named_in sectors device.now store.now (table_of held.old)) }
     ensures made { IsMetBy name chunk overflow result (table_of held.old) (table_of held.new) (named_in sectors device.now store.now (table_of held.old)) }
-    ensures named { place_of name (table_of held.old) ≡ None → nat_le 64 (device_count (table_of held.old)) ≡ false → AreNamed (table_of held.old) → AreNamed (table_of held.new) }
-    ensures full { IfErr result (λ e. e ≡ JournalFull → has_asked_much_for device.now (table_of held.old) (table_of held.new) ≡ true) }
+    ensures named { StaysNamedWith name held.old held.new }
+    ensures full { IsFullFor device.now result held.old held.new }
 {
     let v = volume_over(held, device)?;
     let i = top(held, store)?;
@@ -96,8 +93,8 @@ pub fn make_snapshot(
 pub fn detach(held: &mut Devices, v: usize, k: usize) -> Result<(), Refusal>
     requires { IsPlaceIn (In v (Snapshot k)) (table_of held.old) }
     ensures done { Enters result (table_of held.old) (table_of held.new) (left_by v k (table_of held.old)) }
-    ensures sound { is_sound (table_of held.old) ≡ true → is_sound (table_of held.new) ≡ true }
-    ensures full { IfErr result (λ e. e ≡ JournalFull → has_asked_much_in (volume_at v (table_of held.new)) ≡ true) }
+    ensures sound { StaysSound held.old held.new }
+    ensures full { IsFullAt v result held.new }
 {
     held.stacks.reserve(1).map_err(|_| Refusal::NoMemory)?;
     match held.volumes[v].detach(k) {

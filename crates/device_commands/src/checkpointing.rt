@@ -1,9 +1,10 @@
 // The journal of a volume.
-ghost use Rattle.std.specs.Prelude.{◌≡◌, ◌<◌, Ok, Err, IfErr, length};
+ghost use Rattle.std.specs.Prelude.{◌≡◌, ◌<◌, Ok, length};
 ghost use Rattle.command_rules.specs.Changes.{Changes};
 ghost use Rattle.command_rules.specs.Events.{origin_by};
 ghost use Rattle.command_rules.specs.Journal.{checkpointed};
 ghost use Rattle.device_list.specs.Tables.{table_of};
+ghost use Rattle.device_commands.specs.Devices.{NeedsOrigin};
 
 use crate::flights::origin_at;
 use device_list::{Devices, find_device};
@@ -12,7 +13,7 @@ use words::Name;
 
 /// The journal of a volume is folded.
 fn checkpoint_at(held: &mut Devices, v: usize) -> Result<(), Refusal>
-    requires { v < length held.old.volumes.items }
+    requires { v < length (table_of held.old).volumes }
     ensures done { Changes result (table_of held.old) (table_of held.new) (Ok (table_of held.old)) }
     ensures same { table_of held.new ≡ table_of held.old }
 {
@@ -24,7 +25,7 @@ fn checkpoint_at(held: &mut Devices, v: usize) -> Result<(), Refusal>
 /// where the allocator refuses what is needed. A refusal changes nothing.
 #[tactic(auto, unfolding(command_rules::specs::Events::origin_by, command_rules::specs::Journal::checkpointed))]
 pub fn checkpoint_device(held: &mut Devices, name: &Name) -> Result<(), Refusal>
-    ensures asks { IfErr (origin_by name.now (table_of held.old)) (λ e. result ≡ Err e) }
+    ensures asks { NeedsOrigin name.now held.old result }
     ensures done { Changes result (table_of held.old) (table_of held.new) (checkpointed name.now (table_of held.old)) }
     ensures same { table_of held.new ≡ table_of held.old }
 {

@@ -6,12 +6,12 @@ ghost use Rattle.command_rules.specs.Changes.{ServesIf};
 ghost use Rattle.command_rules.specs.Creating.{create, is_merge, made};
 ghost use Rattle.command_rules.specs.Disks.{device_count};
 ghost use Rattle.command_rules.specs.Journal.{enters_journal};
-ghost use Rattle.command_rules.specs.Naming.{AreNamed};
 ghost use Rattle.command_rules.specs.Places.{place_of};
 ghost use Rattle.command_rules.specs.Sound.{drops_writes, is_sound};
 ghost use Rattle.device_commands.specs.Asked.{IsAskedMuch};
 ghost use Rattle.device_commands.specs.Busy.{IsBusyTarget};
-ghost use Rattle.device_list.specs.Tables.{table_of};
+ghost use Rattle.device_list.specs.Tables.{StaysNamed, table_of};
+ghost use Rattle.device_commands.specs.Devices.{StaysNamedWith};
 ghost use Rattle.device_commands.specs.Meeting.{IsCreated, IsMadeBy};
 ghost use Rattle.device_commands.specs.Order.{changed_under, IsLookedAt};
 ghost use Rattle.device_commands.specs.Ruled.{is_sound_target};
@@ -40,7 +40,7 @@ fn made(
     ensures done { is_sound_target sectors target (table_of held.old) ≡ true → ServesIf (enters_journal target) result (table_of held.new) (λ t. t ≡ table_of held.old) (made name sectors target (table_of held.old)) }
     ensures busy { IsBusyTarget result (table_of held.old) (table_of held.new) sectors target }
     ensures made { IsMadeBy name sectors target result (table_of held.old) (table_of held.new) }
-    ensures named { place_of name (table_of held.old) ≡ None → nat_le 64 (device_count (table_of held.old)) ≡ false → AreNamed (table_of held.old) → AreNamed (table_of held.new) }
+    ensures named { StaysNamedWith name held.old held.new }
     ensures full { IfErr result (λ e. e ≡ JournalFull → IsAskedMuch (changed_under target) (table_of held.old) (table_of held.new)) }
 {
     match target {
@@ -92,7 +92,7 @@ pub fn create_device(
     ensures made { IsCreated name line result (table_of held.old) (table_of held.new) }
     ensures ordered { IsLookedAt (table_of held.old) (changed_under line.target) }
     ensures sound { is_sound (table_of held.old) ≡ true → drops_writes line.target ≡ false → is_sound (table_of held.new) ≡ true }
-    ensures named { AreNamed (table_of held.old) → AreNamed (table_of held.new) }
+    ensures named { StaysNamed held.old held.new }
     ensures full { IfErr result (λ e. e ≡ JournalFull → IsAskedMuch (changed_under line.target) (table_of held.old) (table_of held.new)) }
 {
     look_under(held, &line.target);

@@ -1,10 +1,8 @@
 // Raw disks: making one.
-ghost use Rattle.std.specs.Prelude.{◌≡◌, ◌≤◌, length, true};
+ghost use Rattle.std.specs.Prelude.{◌≤◌, length};
 ghost use Rattle.command_rules.specs.Changes.{Changes};
-ghost use Rattle.device_list.specs.Tables.{table_of};
+ghost use Rattle.device_list.specs.Tables.{StaysNamed, StaysSound, table_of};
 ghost use Rattle.command_rules.specs.Disks.{make};
-ghost use Rattle.command_rules.specs.Naming.{AreNamed};
-ghost use Rattle.command_rules.specs.Sound.{is_sound};
 
 use device::{MAX_SECTORS, MemDisk};
 use device_list::{Devices, find, is_full};
@@ -19,8 +17,8 @@ use words::Name;
 #[tactic(auto, unfolding(command_rules::specs::Disks::make))]
 pub fn make_disk(alloc: Global, held: &mut Devices, name: Name, sectors: u32) -> Result<(), Refusal>
     ensures done { Changes result (table_of held.old) (table_of held.new) (make name sectors (table_of held.old)) }
-    ensures sound { is_sound (table_of held.old) ≡ true → is_sound (table_of held.new) ≡ true }
-    ensures named { AreNamed (table_of held.old) → AreNamed (table_of held.new) }
+    ensures sound { StaysSound held.old held.new }
+    ensures named { StaysNamed held.old held.new }
 {
     if find(held, &name).is_some() {
         return Err(Refusal::Busy);

@@ -5,7 +5,6 @@ ghost use Rattle.plain_machine.specs.declared.request.Op.TheVariants.{Read, Writ
 ghost use Rattle.sector.specs.declared.refusal.Refusal.TheVariants.{JournalFull, NoMemory};
 ghost use Rattle.command_rules.specs.Changes.{Changes, Does, refused};
 ghost use Rattle.command_rules.specs.Events.{event_asked, event_at, is_merge_event, none_due, numbered, origin_at, origin_by, rested, settle, snapshot_at, snapshot_named, step_event};
-ghost use Rattle.command_rules.specs.Naming.{AreNamed};
 ghost use Rattle.command_rules.specs.Places.{IsPlaceIn, volume_at};
 ghost use Rattle.command_rules.specs.Sectors.{IsInVolume};
 ghost use Rattle.command_rules.specs.Sound.{is_sound};
@@ -13,10 +12,9 @@ ghost use Rattle.command_rules.specs.Starting.{asked_at, read_asked, write_asked
 ghost use Rattle.command_rules.specs.declared.place.Place.TheVariants.{In};
 ghost use Rattle.command_rules.specs.declared.place.Role.TheVariants.{Merging, Origin, Snapshot};
 ghost use Rattle.device_list.specs.Flights.{IsSettledBy, IsStepped};
-ghost use Rattle.device_list.specs.Names.{KeepsNames};
-ghost use Rattle.device_list.specs.Tables.{table_of};
-ghost use Rattle.device_commands.specs.Asked.{has_asked_much_for, has_asked_much_in};
-ghost use Rattle.device_commands.specs.Devices.{Flies, KeepsOthers};
+ghost use Rattle.device_list.specs.Tables.{StaysNamed, StaysSound, table_of};
+ghost use Rattle.device_commands.specs.Asked.{IsFullAt, IsFullFor};
+ghost use Rattle.device_commands.specs.Devices.{Flies, KeepsNamesAt, KeepsOthers, NeedsOrigin};
 ghost use Rattle.device_commands.specs.Flights.{IsDoneFor, IsNotDueIn, IsNotStartedAs, IsStartedAs, event_of, is_about_merging, number_about};
 ghost use Rattle.device_commands.specs.Merging.{settled_at};
 ghost use Rattle.device_commands.specs.Order.{IsInOrderFor};
@@ -52,9 +50,9 @@ fn start_at(
     ensures started { IfOk result (λ number. IfOk (asked_at (In v role) first count (table_of held.old)) (λ asks. IsInVolume (IsStartedAs op number asks) v (table_of held.old) (table_of held.new) (volume_at v (table_of held.old)))) }
     ensures refused { IfErr result (λ e. IfOk (asked_at (In v role) first count (table_of held.old)) (λ asks. IsInVolume (IsNotStartedAs op e asks) v (table_of held.old) (table_of held.new) (volume_at v (table_of held.old)))) }
     ensures flies { OnOk result (IsInVolume (λ was now. now.quiet ≡ false) v (table_of held.old) (table_of held.new) (volume_at v (table_of held.old))) }
-    ensures one { IsInVolume KeepsNames v (table_of held.old) (table_of held.new) (volume_at v (table_of held.old)) }
-    ensures named { AreNamed (table_of held.old) → AreNamed (table_of held.new) }
-    ensures full { IfErr result (λ e. e ≡ JournalFull → has_asked_much_in (volume_at v (table_of held.new)) ≡ true) }
+    ensures one { KeepsNamesAt v held.old held.new }
+    ensures named { StaysNamed held.old held.new }
+    ensures full { IsFullAt v result held.new }
 {
     held.volumes[v].start(alloc, role, first, count, op)
 }
@@ -77,8 +75,8 @@ pub fn start_read(
     ensures refused { IfErr result (λ e. IfOk (read_asked name.now first count (table_of held.old)) (λ asks. IsDoneFor name.now (IsNotStartedAs Read e asks) (table_of held.old) (table_of held.new))) }
     ensures flies { OnOk result (Flies name.now (table_of held.old) (table_of held.new)) }
     ensures one { KeepsOthers name.now (table_of held.old) (table_of held.new) }
-    ensures named { AreNamed (table_of held.old) → AreNamed (table_of held.new) }
-    ensures full { IfErr result (λ e. e ≡ JournalFull → has_asked_much_for name.now (table_of held.old) (table_of held.new) ≡ true) }
+    ensures named { StaysNamed held.old held.new }
+    ensures full { IsFullFor name.now result held.old held.new }
 {
     let count = some_sectors(count)?;
     match find_device(held, name)? {
@@ -103,8 +101,8 @@ pub fn start_write(
     ensures refused { IfErr result (λ e. IfOk (write_asked name.now first bytes (table_of held.old)) (λ asks. IsDoneFor name.now (IsNotStartedAs (Write bytes) e asks) (table_of held.old) (table_of held.new))) }
     ensures flies { OnOk result (Flies name.now (table_of held.old) (table_of held.new)) }
     ensures one { KeepsOthers name.now (table_of held.old) (table_of held.new) }
-    ensures named { AreNamed (table_of held.old) → AreNamed (table_of held.new) }
-    ensures full { IfErr result (λ e. e ≡ JournalFull → has_asked_much_for name.now (table_of held.old) (table_of held.new) ≡ true) }
+    ensures named { StaysNamed held.old held.new }
+    ensures full { IsFullFor name.now result held.old held.new }
 {
     let count = whole_sectors(bytes.as_slice())?;
     match find_device(held, name)? {
@@ -184,10 +182,11 @@ fn numbered(event: &EventWords, number: SnapId) -> plain_machine::Event
 
 /// The volume of the origin at a place, and the number of the snapshot of a name in it. `NotDue` for a snapshot of another
 /// volume, and for one that is being merged.
+#[tactic(auto, using(device_list::proofs::Showing::shown_there))]
 fn about(held: &Devices, place: Place, snapshot: &Name) -> Result<(usize, SnapId), Refusal>
     requires { IsPlaceIn place (table_of held.now) }
     ensures value { MatchResult result (λ at. event_at place (Some snapshot.now) (table_of held.now) ≡ Ok at.0) (λ e. none_due (event_at place (Some snapshot.now) (table_of held.now)) ≡ e) }
-    ensures within { IfOk result (λ at. at.0 < length held.now.volumes.items) }
+    ensures within { IfOk result (λ at. at.0 < length (table_of held.now).volumes) }
     ensures place { IfOk result (λ at. place ≡ In at.0 Origin) }
     ensures number { IfOk result (λ at. at.1 ≡ number_about (Some snapshot.now) (table_of held.now)) }
     ensures other { IfOk result (λ at. is_about_merging (Some snapshot.now) (table_of held.now) ≡ false) }
@@ -210,7 +209,7 @@ fn about(held: &Devices, place: Place, snapshot: &Name) -> Result<(usize, SnapId
 fn asked(held: &Devices, place: Place, event: &EventWords) -> Result<(usize, SnapId), Refusal>
     requires { IsPlaceIn place (table_of held.now) }
     ensures value { MatchResult result (λ at. event_at place (snapshot_named event.now) (table_of held.now) ≡ Ok at.0) (λ e. none_due (event_at place (snapshot_named event.now) (table_of held.now)) ≡ e) }
-    ensures within { IfOk result (λ at. at.0 < length held.now.volumes.items) }
+    ensures within { IfOk result (λ at. at.0 < length (table_of held.now).volumes) }
     ensures place { IfOk result (λ at. place ≡ In at.0 Origin) }
     ensures number { IfOk result (λ at. at.1 ≡ number_about (snapshot_named event.now) (table_of held.now)) }
     ensures other { IfOk result (λ at. is_about_merging (snapshot_named event.now) (table_of held.now) ≡ false) }
@@ -224,14 +223,14 @@ fn asked(held: &Devices, place: Place, event: &EventWords) -> Result<(usize, Sna
 
 /// Does an event of a volume.
 fn step_at(held: &mut Devices, v: usize, event: plain_machine::Event) -> Result<Outcome, NotDue>
-    requires { v < length held.old.volumes.items }
+    requires { v < length (table_of held.old).volumes }
     ensures idle { is_quiet_in (volume_at v (table_of held.old)) ≡ true → is_of_merge event ≡ false → is_ok result ≡ false }
     ensures stepped { IfOk result (λ outcome. IsInVolume (IsStepped event outcome) v (table_of held.old) (table_of held.new) (volume_at v (table_of held.old))) }
     ensures due { (not (is_of_merge event) && is_quiet_in (volume_at v (table_of held.old))) ≡ false → OnErr result (IsNotDueIn event (volume_at v (table_of held.old))) }
     ensures same { OnErr result (table_of held.new ≡ table_of held.old) }
-    ensures one { IsInVolume KeepsNames v (table_of held.old) (table_of held.new) (volume_at v (table_of held.old)) }
+    ensures one { KeepsNamesAt v held.old held.new }
     ensures sound { is_of_merge event ≡ false → is_sound (table_of held.old) ≡ true → is_sound (table_of held.new) ≡ true }
-    ensures named { AreNamed (table_of held.old) → AreNamed (table_of held.new) }
+    ensures named { StaysNamed held.old held.new }
 {
     held.volumes[v].step(event)
 }
@@ -250,7 +249,7 @@ pub fn step_device(held: &mut Devices, name: &Name, event: &EventWords) -> Resul
     ensures err { OnErr result (table_of held.new ≡ table_of held.old) }
     ensures one { KeepsOthers name.now (table_of held.old) (table_of held.new) }
     ensures sound { is_merge_event event.now ≡ false → is_sound (table_of held.old) ≡ true → is_sound (table_of held.new) ≡ true }
-    ensures named { AreNamed (table_of held.old) → AreNamed (table_of held.new) }
+    ensures named { StaysNamed held.old held.new }
 {
     let place = find_device(held, name)?;
     let (v, number) = asked(held, place, event)?;
@@ -262,7 +261,7 @@ pub fn step_device(held: &mut Devices, name: &Name, event: &EventWords) -> Resul
 
 /// Does all events of a volume that are left to do, those of its merge too.
 fn settle_at(held: &mut Devices, v: usize, ended: &mut Vec<Replied>) -> Result<(), Refusal>
-    requires { v < length held.old.volumes.items }
+    requires { v < length (table_of held.old).volumes }
     ensures done { is_sound_in (volume_at v (table_of held.old)) ≡ true → Changes result (table_of held.old) (table_of held.new) (settled_at v (table_of held.old)) }
     ensures told { is_quiet_in (volume_at v (table_of held.old)) ≡ true → ended.new.items ≡ ended.old.items }
     ensures idle { is_quiet_in (volume_at v (table_of held.old)) ≡ true → is_ok result ≡ true }
@@ -270,9 +269,9 @@ fn settle_at(held: &mut Devices, v: usize, ended: &mut Vec<Replied>) -> Result<(
     ensures drained { OnOk result (IsInVolume (IsSettledBy ended.old.items ended.new.items) v (table_of held.old) (table_of held.new) (volume_at v (table_of held.old))) }
     ensures err { IfErr result (λ e. (e ≡ NoMemory) × (table_of held.new ≡ table_of held.old) × (ended.new.items ≡ ended.old.items)) }
     ensures rested { OnOk result (rests_at v (table_of held.new) ≡ Ok tt) }
-    ensures one { IsInVolume KeepsNames v (table_of held.old) (table_of held.new) (volume_at v (table_of held.old)) }
-    ensures sound { is_sound (table_of held.old) ≡ true → is_sound (table_of held.new) ≡ true }
-    ensures named { AreNamed (table_of held.old) → AreNamed (table_of held.new) }
+    ensures one { KeepsNamesAt v held.old held.new }
+    ensures sound { StaysSound held.old held.new }
+    ensures named { StaysNamed held.old held.new }
 {
     held.volumes[v].settle(ended)
 }
@@ -288,7 +287,7 @@ pub fn settle_device(
     name: &Name,
     ended: &mut Vec<Replied>,
 ) -> Result<(), Refusal>
-    ensures asks { IfErr (origin_by name.now (table_of held.old)) (λ e. result ≡ Err e) }
+    ensures asks { NeedsOrigin name.now held.old result }
     ensures stays { IfErr (origin_by name.now (table_of held.old)) (λ _. (table_of held.new ≡ table_of held.old) × (ended.new.items ≡ ended.old.items)) }
     ensures done { is_sound_in (volume_for name.now (table_of held.old)) ≡ true → Changes result (table_of held.old) (table_of held.new) (settle name.now (table_of held.old)) }
     ensures told { is_quiet_in (volume_for name.now (table_of held.old)) ≡ true → ended.new.items ≡ ended.old.items }
@@ -300,8 +299,8 @@ pub fn settle_device(
     ensures rested { OnOk result (rested name.now (table_of held.old) (table_of held.new) ≡ Ok tt) }
     ensures one { KeepsOthers name.now (table_of held.old) (table_of held.new) }
     ensures ordered { IsInOrderFor name.now (table_of held.old) }
-    ensures sound { is_sound (table_of held.old) ≡ true → is_sound (table_of held.new) ≡ true }
-    ensures named { AreNamed (table_of held.old) → AreNamed (table_of held.new) }
+    ensures sound { StaysSound held.old held.new }
+    ensures named { StaysNamed held.old held.new }
 {
     let place = find_in_order(held, name)?;
     let v = origin_at(place)?;

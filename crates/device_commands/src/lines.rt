@@ -13,7 +13,7 @@ use table::{Line, print};
 use words::{Name, Text};
 
 /// The line of the device at a place. `BadTable` for a disk.
-#[tactic(auto, unfolding(command_rules::specs::Lines::line_at))]
+#[tactic(auto, using(device_list::proofs::Showing::shown_there), unfolding(command_rules::specs::Lines::line_at))]
 fn line_at(held: &Devices, place: Place) -> Result<Line, Refusal>
     requires { IsPlaceIn place (table_of held.now) }
     ensures { result ≡ line_at place (table_of held.now) }

@@ -1,5 +1,5 @@
 // The list of all devices.
-ghost use Rattle.std.specs.Prelude.{◌≡◌, ◌++◌, IfErr, OnOk, Ok};
+ghost use Rattle.std.specs.Prelude.{◌≡◌, ◌++◌, IfErr, OnOk, Ok, map};
 ghost use Rattle.std.specs.List.{flat_map};
 ghost use Rattle.sector.specs.declared.refusal.Refusal.TheVariants.{NoMemory};
 ghost use Rattle.words.specs.Given.{Gives};
@@ -25,7 +25,7 @@ fn add_stacks(out: &mut Vec<u8>, stacks: &[NamedStack]) -> Result<(), Refusal>
 
 /// Adds the devices of the volumes.
 fn add_volumes(out: &mut Vec<u8>, volumes: &[NamedVolume]) -> Result<(), Refusal>
-    ensures added { OnOk result (out.new.items ≡ out.old.items ++ flat_map volume_items volumes.now) }
+    ensures added { OnOk result (out.new.items ≡ out.old.items ++ flat_map volume_items (map (λ v. v.shown) volumes.now)) }
     ensures error { IfErr result (λ e. e ≡ NoMemory) }
 {
     for volume in volumes {

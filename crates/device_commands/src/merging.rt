@@ -5,14 +5,13 @@ ghost use Rattle.big_steps.specs.Refusals.{is_starved};
 ghost use Rattle.command_rules.specs.Changes.{Changes, Enters};
 ghost use Rattle.command_rules.specs.Events.{origin_by};
 ghost use Rattle.command_rules.specs.Merging.{begun_at, merge_begun, merge_finished, merge_resumed};
-ghost use Rattle.command_rules.specs.Naming.{AreNamed};
 ghost use Rattle.command_rules.specs.Places.{IsPlaceIn, volume_at};
 ghost use Rattle.command_rules.specs.Sectors.{IsInVolume};
-ghost use Rattle.command_rules.specs.Sound.{is_sound};
 ghost use Rattle.command_rules.specs.declared.place.Place.TheVariants.{In};
 ghost use Rattle.command_rules.specs.declared.place.Role.TheVariants.{Snapshot};
-ghost use Rattle.device_list.specs.Tables.{table_of};
-ghost use Rattle.device_commands.specs.Asked.{has_asked_much_for, has_asked_much_in};
+ghost use Rattle.device_list.specs.Tables.{StaysNamed, StaysSound, table_of};
+ghost use Rattle.device_commands.specs.Asked.{IsFullAt, IsFullFor};
+ghost use Rattle.device_commands.specs.Devices.{NeedsOrigin};
 ghost use Rattle.device_commands.specs.Flights.{IsDoneFor};
 ghost use Rattle.device_commands.specs.Merging.{IsBegunIn, IsFinishedIn, IsUnfinishedIn, finished_at, resumed_at};
 ghost use Rattle.device_commands.specs.Order.{IsInOrderFor};
@@ -47,9 +46,9 @@ fn begin_at(alloc: Global, held: &mut Devices, v: usize, k: usize) -> Result<(),
     ensures done { is_sound_in (volume_at v (table_of held.old)) ≡ true → Enters result (table_of held.old) (table_of held.new) (begun_at (In v (Snapshot k)) (table_of held.old)) }
     ensures refused { IfErr result (λ e. (table_of held.new ≡ table_of held.old) × (is_starved e ≡ false → begun_at (In v (Snapshot k)) (table_of held.old) ≡ Err e)) }
     ensures begun { OnOk result (IsInVolume IsBegunIn v (table_of held.old) (table_of held.new) (volume_at v (table_of held.old))) }
-    ensures sound { is_sound (table_of held.old) ≡ true → is_sound (table_of held.new) ≡ true }
-    ensures named { AreNamed (table_of held.old) → AreNamed (table_of held.new) }
-    ensures full { IfErr result (λ e. e ≡ JournalFull → has_asked_much_in (volume_at v (table_of held.new)) ≡ true) }
+    ensures sound { StaysSound held.old held.new }
+    ensures named { StaysNamed held.old held.new }
+    ensures full { IsFullAt v result held.new }
 {
     held.volumes[v].begin_merge(alloc, k)
 }
@@ -67,9 +66,9 @@ pub fn merge_device(alloc: Global, held: &mut Devices, name: &Name) -> Result<()
     ensures refused { IfErr result (λ e. (table_of held.new ≡ table_of held.old) × (is_starved e ≡ false → merge_begun name.now (table_of held.old) ≡ Err e)) }
     ensures begun { OnOk result (IsDoneFor name.now IsBegunIn (table_of held.old) (table_of held.new)) }
     ensures ordered { IsInOrderFor name.now (table_of held.old) }
-    ensures sound { is_sound (table_of held.old) ≡ true → is_sound (table_of held.new) ≡ true }
-    ensures named { AreNamed (table_of held.old) → AreNamed (table_of held.new) }
-    ensures full { IfErr result (λ e. e ≡ JournalFull → has_asked_much_for name.now (table_of held.old) (table_of held.new) ≡ true) }
+    ensures sound { StaysSound held.old held.new }
+    ensures named { StaysNamed held.old held.new }
+    ensures full { IsFullFor name.now result held.old held.new }
 {
     let place = find_in_order(held, name)?;
     let (v, k) = to_merge(held, place)?;
@@ -78,10 +77,10 @@ pub fn merge_device(alloc: Global, held: &mut Devices, name: &Name) -> Result<()
 
 /// The merge of a volume goes on after a fault.
 fn resume_at(held: &mut Devices, v: usize) -> Result<(), Refusal>
-    requires { v < length held.old.volumes.items }
+    requires { v < length (table_of held.old).volumes }
     ensures done { Changes result (table_of held.old) (table_of held.new) (resumed_at v (table_of held.old)) }
-    ensures sound { is_sound (table_of held.old) ≡ true → is_sound (table_of held.new) ≡ true }
-    ensures named { AreNamed (table_of held.old) → AreNamed (table_of held.new) }
+    ensures sound { StaysSound held.old held.new }
+    ensures named { StaysNamed held.old held.new }
 {
     held.volumes[v].resume_merge()
 }
@@ -92,8 +91,8 @@ fn resume_at(held: &mut Devices, v: usize) -> Result<(), Refusal>
 #[tactic(auto, unfolding(command_rules::specs::Events::origin_by, command_rules::specs::Merging::merge_resumed))]
 pub fn resume_device(held: &mut Devices, name: &Name) -> Result<(), Refusal>
     ensures done { Changes result (table_of held.old) (table_of held.new) (merge_resumed name.now (table_of held.old)) }
-    ensures sound { is_sound (table_of held.old) ≡ true → is_sound (table_of held.new) ≡ true }
-    ensures named { AreNamed (table_of held.old) → AreNamed (table_of held.new) }
+    ensures sound { StaysSound held.old held.new }
+    ensures named { StaysNamed held.old held.new }
 {
     let place = find_device(held, name)?;
     let v = origin_at(place)?;
@@ -102,14 +101,14 @@ pub fn resume_device(held: &mut Devices, name: &Name) -> Result<(), Refusal>
 
 /// The merge of a volume is finished, and nothing uses its store any more.
 fn finish_at(held: &mut Devices, v: usize) -> Result<(), Refusal>
-    requires { v < length held.old.volumes.items }
+    requires { v < length (table_of held.old).volumes }
     ensures done { is_sound_in (volume_at v (table_of held.old)) ≡ true → Enters result (table_of held.old) (table_of held.new) (finished_at v (table_of held.old)) }
     ensures unfinished { IfErr result (λ e. is_starved e ≡ false → IsUnfinishedIn e (volume_at v (table_of held.old))) }
     ensures finished { OnOk result (IsFinishedIn v (table_of held.old) (table_of held.new) (volume_at v (table_of held.old))) }
     ensures err { OnErr result (table_of held.new ≡ table_of held.old) }
-    ensures sound { is_sound (table_of held.old) ≡ true → is_sound (table_of held.new) ≡ true }
-    ensures named { AreNamed (table_of held.old) → AreNamed (table_of held.new) }
-    ensures full { IfErr result (λ e. e ≡ JournalFull → has_asked_much_in (volume_at v (table_of held.new)) ≡ true) }
+    ensures sound { StaysSound held.old held.new }
+    ensures named { StaysNamed held.old held.new }
+    ensures full { IsFullAt v result held.new }
 {
     held.stacks.reserve(1).map_err(|_| Refusal::NoMemory)?;
     match held.volumes[v].finish_merge() {
@@ -129,14 +128,14 @@ fn finish_at(held: &mut Devices, v: usize) -> Result<(), Refusal>
 #[inline(never)]
 #[tactic(auto, unfolding(command_rules::specs::Events::origin_by, command_rules::specs::Merging::merge_finished))]
 pub fn finish_device(held: &mut Devices, name: &Name) -> Result<(), Refusal>
-    ensures asks { IfErr (origin_by name.now (table_of held.old)) (λ e. result ≡ Err e) }
+    ensures asks { NeedsOrigin name.now held.old result }
     ensures done { is_sound_in (volume_for name.now (table_of held.old)) ≡ true → Enters result (table_of held.old) (table_of held.new) (merge_finished name.now (table_of held.old)) }
     ensures unfinished { IfErr result (λ e. IfOk (origin_by name.now (table_of held.old)) (λ v. is_starved e ≡ false → IsUnfinishedIn e (volume_at v (table_of held.old)))) }
     ensures finished { OnOk result (IfOk (origin_by name.now (table_of held.old)) (λ v. IsFinishedIn v (table_of held.old) (table_of held.new) (volume_at v (table_of held.old)))) }
     ensures err { OnErr result (table_of held.new ≡ table_of held.old) }
-    ensures sound { is_sound (table_of held.old) ≡ true → is_sound (table_of held.new) ≡ true }
-    ensures named { AreNamed (table_of held.old) → AreNamed (table_of held.new) }
-    ensures full { IfErr result (λ e. e ≡ JournalFull → has_asked_much_for name.now (table_of held.old) (table_of held.new) ≡ true) }
+    ensures sound { StaysSound held.old held.new }
+    ensures named { StaysNamed held.old held.new }
+    ensures full { IsFullFor name.now result held.old held.new }
 {
     let place = find_device(held, name)?;
     let v = origin_at(place)?;

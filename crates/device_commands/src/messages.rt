@@ -1,9 +1,7 @@
 // Messages to dust layers, and the time.
-ghost use Rattle.std.specs.Prelude.{◌≡◌, ◌<◌, length, map, true};
+ghost use Rattle.std.specs.Prelude.{◌≡◌, ◌<◌, length, map};
 ghost use Rattle.command_rules.specs.Changes.{Steps};
-ghost use Rattle.command_rules.specs.Naming.{AreNamed};
-ghost use Rattle.command_rules.specs.Sound.{is_sound};
-ghost use Rattle.device_list.specs.Tables.{table_of};
+ghost use Rattle.device_list.specs.Tables.{StaysNamed, StaysSound, table_of};
 ghost use Rattle.command_rules.specs.Messages.{stack_ticked, tell, ticked, told_at, volume_ticked};
 ghost use Rattle.command_rules.specs.Places.{IsPlaceIn};
 ghost use Rattle.command_rules.specs.declared.place.Place.TheVariants.{Free, In};
@@ -42,8 +40,8 @@ fn tell_in(held: &mut Devices, v: usize, role: Role, message: &Message) -> Resul
 #[tactic(auto, unfolding(command_rules::specs::Messages::tell))]
 pub fn tell(held: &mut Devices, name: &Name, message: &Message) -> Result<Answer, Refusal>
     ensures done { Steps result (table_of held.old) (table_of held.new) (tell name.now message.now (table_of held.old)) }
-    ensures sound { is_sound (table_of held.old) ≡ true → is_sound (table_of held.new) ≡ true }
-    ensures named { AreNamed (table_of held.old) → AreNamed (table_of held.new) }
+    ensures sound { StaysSound held.old held.new }
+    ensures named { StaysNamed held.old held.new }
 {
     match find_device(held, name)? {
         Place::Free(i, depth) => tell_free(held, i, depth, message),
@@ -60,7 +58,7 @@ fn tick_stacks(stacks: &mut [NamedStack], seconds: u32)
 }
 
 fn tick_volumes(volumes: &mut [NamedVolume], seconds: u32)
-    ensures { volumes.new ≡ map (volume_ticked seconds) volumes.old }
+    ensures { map (λ v. v.shown) volumes.new ≡ map (volume_ticked seconds) (map (λ v. v.shown) volumes.old) }
 {
     for volume in volumes.iter_mut() {
         volume.tick(seconds);

@@ -14,7 +14,7 @@ use words::Name;
 
 /// A look at the volume at a place.
 fn look_in(held: &Devices, v: usize)
-    requires { v < length held.now.volumes.items }
+    requires { v < length (table_of held.now).volumes }
     ensures { IsInOrderIn (volume_at v (table_of held.now)) }
 {
     held.volumes[v].look_at_snapshots();

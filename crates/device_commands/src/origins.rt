@@ -1,10 +1,9 @@
 // Origins: made over a stack, and taken away again.
-ghost use Rattle.std.specs.Prelude.{◌≡◌, ◌≢◌, ◌<◌, length, true, IfErr};
+ghost use Rattle.std.specs.Prelude.{◌≡◌, ◌≢◌, ◌<◌, length, IfErr};
 ghost use Rattle.sector.specs.declared.refusal.Refusal.TheVariants.{JournalFull};
 ghost use Rattle.command_rules.specs.Changes.{Changes};
 ghost use Rattle.command_rules.specs.Origins.{closed, origin_made, same_size};
-ghost use Rattle.command_rules.specs.Sound.{is_sound};
-ghost use Rattle.device_list.specs.Tables.{table_of};
+ghost use Rattle.device_list.specs.Tables.{StaysSound, table_of};
 
 use crate::back::{put_stack_back, put_volume_back};
 use crate::lay::top;
@@ -55,9 +54,9 @@ pub fn make_origin(
 /// An origin without snapshots goes, and nothing uses its stack any more. In this order: `Busy` where there is a snapshot or a
 /// merge is begun, `NotQuiet` where something is left to do.
 pub fn close(held: &mut Devices, v: usize) -> Result<(), Refusal>
-    requires { v < length held.old.volumes.items }
+    requires { v < length (table_of held.old).volumes }
     ensures done { Changes result (table_of held.old) (table_of held.new) (closed v (table_of held.old)) }
-    ensures sound { is_sound (table_of held.old) ≡ true → is_sound (table_of held.new) ≡ true }
+    ensures sound { StaysSound held.old held.new }
     ensures room { IfErr result (λ e. e ≢ JournalFull) }
 {
     held.stacks.reserve(1).map_err(|_| Refusal::NoMemory)?;

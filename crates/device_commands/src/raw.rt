@@ -1,11 +1,9 @@
 // Loading, saving and copying raw sectors of disks, past all layers.
-ghost use Rattle.std.specs.Prelude.{◌≡◌, ◌≤◌, ◌<◌, ◌+◌, ◌*◌, ◌/◌, length, slice_get, MatchResult, Ok, Err, true};
+ghost use Rattle.std.specs.Prelude.{◌≡◌, ◌≤◌, ◌<◌, ◌+◌, ◌*◌, ◌/◌, length, slice_get, MatchResult, Ok, Err};
 ghost use Rattle.device.specs.Disk.{disk_contents};
 ghost use Rattle.words.specs.Given.{Gives};
 ghost use Rattle.command_rules.specs.Changes.{Changes};
-ghost use Rattle.command_rules.specs.Naming.{AreNamed};
-ghost use Rattle.command_rules.specs.Sound.{is_sound};
-ghost use Rattle.device_list.specs.Tables.{table_of};
+ghost use Rattle.device_list.specs.Tables.{StaysNamed, StaysSound, table_of};
 ghost use Rattle.command_rules.specs.Places.{IsPlaceIn, IsRoleIn};
 ghost use Rattle.command_rules.specs.Raw.{copied, cut, in_use, load, loaded_at, raw_at, save};
 ghost use Rattle.command_rules.specs.declared.place.Place.TheVariants.{Free};
@@ -19,7 +17,7 @@ use std::alloc::Global;
 use words::Name;
 
 /// The disk at a place. `BadTable` for another device.
-#[tactic(auto, unfolding(command_rules::specs::Raw::raw_at))]
+#[tactic(auto, using(device_list::proofs::Showing::shown_there), unfolding(command_rules::specs::Raw::raw_at))]
 fn disk_at(held: &Devices, place: Place) -> Result<&MemDisk, Refusal>
     requires { IsPlaceIn place (table_of held.now) }
     ensures { MatchResult result (λ disk. raw_at place (table_of held.now) ≡ Ok (disk_contents disk.now)) (λ e. raw_at place (table_of held.now) ≡ Err e) }
@@ -82,8 +80,8 @@ fn load_free(
 /// Refuses to write raw sectors of a device of a volume.
 #[tactic(auto, using(device::specs::Laws::disk_whole), unfolding(command_rules::specs::Raw::in_use))]
 fn refuse_load(volume: &NamedVolume, role: Role, first: u32, count: u32) -> Refusal
-    requires { IsRoleIn role volume.now }
-    ensures { in_use role first count volume.now ≡ Err result }
+    requires { IsRoleIn role volume.now.shown }
+    ensures { in_use role first count volume.now.shown ≡ Err result }
 {
     let size = match volume.disk(role) {
         Ok(disk) => disk.sectors(),
@@ -103,8 +101,8 @@ fn refuse_load(volume: &NamedVolume, role: Role, first: u32, count: u32) -> Refu
 #[tactic(auto, unfolding(command_rules::specs::Raw::load, command_rules::specs::Raw::loaded_at))]
 pub fn load_disk(held: &mut Devices, name: &Name, first: u32, bytes: &Buf) -> Result<(), Refusal>
     ensures done { Changes result (table_of held.old) (table_of held.new) (load name.now first bytes.now (table_of held.old)) }
-    ensures sound { is_sound (table_of held.old) ≡ true → is_sound (table_of held.new) ≡ true }
-    ensures named { AreNamed (table_of held.old) → AreNamed (table_of held.new) }
+    ensures sound { StaysSound held.old held.new }
+    ensures named { StaysNamed held.old held.new }
 {
     let bytes = bytes.as_slice();
     let count = whole_sectors(bytes)?;
@@ -127,8 +125,8 @@ pub fn copy_disk(
     count: u32,
 ) -> Result<(), Refusal>
     ensures done { Changes result (table_of held.old) (table_of held.new) (copied from.now first to.now count (table_of held.old)) }
-    ensures sound { is_sound (table_of held.old) ≡ true → is_sound (table_of held.new) ≡ true }
-    ensures named { AreNamed (table_of held.old) → AreNamed (table_of held.new) }
+    ensures sound { StaysSound held.old held.new }
+    ensures named { StaysNamed held.old held.new }
 {
     let bytes = save_disk(alloc, held, from, first, count)?;
     load_disk(held, to, first, &bytes)

@@ -1,14 +1,12 @@
 // Taking devices away.
-ghost use Rattle.std.specs.Prelude.{◌≡◌, ◌<◌, length, true, IfErr};
+ghost use Rattle.std.specs.Prelude.{◌≡◌, ◌<◌, length};
 ghost use Rattle.sector.specs.declared.refusal.Refusal.TheVariants.{JournalFull};
 ghost use Rattle.command_rules.specs.Changes.{Enters};
-ghost use Rattle.command_rules.specs.Naming.{AreNamed};
 ghost use Rattle.command_rules.specs.Places.{IsPlaceIn};
 ghost use Rattle.command_rules.specs.Removing.{lowered, take_away};
-ghost use Rattle.command_rules.specs.Sound.{is_sound};
 ghost use Rattle.command_rules.specs.declared.place.Place.TheVariants.{Free};
-ghost use Rattle.device_list.specs.Tables.{table_of};
-ghost use Rattle.device_commands.specs.Asked.{has_asked_much_for};
+ghost use Rattle.device_list.specs.Tables.{StaysNamed, StaysSound, table_of};
+ghost use Rattle.device_commands.specs.Asked.{IsFullFor};
 ghost use Rattle.device_commands.specs.Order.{IsInOrderFor};
 
 use crate::attaching::detach;
@@ -41,9 +39,9 @@ fn take_top(held: &mut Devices, i: usize)
 pub fn remove_device(held: &mut Devices, name: &Name) -> Result<(), Refusal>
     ensures done { Enters result (table_of held.old) (table_of held.new) (take_away name.now (table_of held.old)) }
     ensures ordered { IsInOrderFor name.now (table_of held.old) }
-    ensures sound { is_sound (table_of held.old) ≡ true → is_sound (table_of held.new) ≡ true }
-    ensures named { AreNamed (table_of held.old) → AreNamed (table_of held.new) }
-    ensures full { IfErr result (λ e. e ≡ JournalFull → has_asked_much_for name.now (table_of held.old) (table_of held.new) ≡ true) }
+    ensures sound { StaysSound held.old held.new }
+    ensures named { StaysNamed held.old held.new }
+    ensures full { IsFullFor name.now result held.old held.new }
 {
     match find_in_order(held, name)? {
         Place::Free(i, 0) => {

@@ -2,17 +2,14 @@
 ghost use Rattle.std.specs.Prelude.{◌≡◌, ◌⊎◌, ◌<◌, ◌≤◌, ◌*◌, length, true, Err, IfErr, IfOk};
 ghost use Rattle.sector.specs.declared.refusal.Refusal.TheVariants.{JournalFull};
 ghost use Rattle.command_rules.specs.Changes.{Serves};
-ghost use Rattle.command_rules.specs.Naming.{AreNamed};
 ghost use Rattle.command_rules.specs.Places.{IsPlaceIn, volume_at};
 ghost use Rattle.command_rules.specs.Sectors.{IsFlushStarved, IsInVolume, IsPartWritten, IsReadAsked, IsReadStarved, IsWriteStarved, flush, flushed_in, in_volume, read, read_in, write, written_in};
-ghost use Rattle.command_rules.specs.Sound.{is_sound};
 ghost use Rattle.command_rules.specs.Starting.{asked_at, flush_asked, read_asked, write_asked};
 ghost use Rattle.command_rules.specs.declared.place.Place.TheVariants.{In};
 ghost use Rattle.device_list.specs.Flights.{IsDenied};
-ghost use Rattle.device_list.specs.Names.{KeepsNames};
-ghost use Rattle.device_list.specs.Tables.{table_of};
-ghost use Rattle.device_commands.specs.Asked.{has_asked_much_for, has_asked_much_in};
-ghost use Rattle.device_commands.specs.Devices.{KeepsOthers};
+ghost use Rattle.device_list.specs.Tables.{StaysNamed, StaysSound, table_of};
+ghost use Rattle.device_commands.specs.Asked.{IsFullAt, IsFullFor};
+ghost use Rattle.device_commands.specs.Devices.{KeepsNamesAt, KeepsOthers};
 ghost use Rattle.device_commands.specs.Flights.{IsDoneFor, IsFlushedAmong, IsReadAmong, IsWrittenAmong};
 ghost use Rattle.device_commands.specs.Order.{IsInOrderFor};
 ghost use Rattle.device_commands.specs.Ruled.{is_quiet_in, is_sound_in, volume_for};
@@ -45,10 +42,10 @@ fn read_at(
     ensures stays { IfErr (asked_at (In v role) first count (table_of held.old)) (λ _. (table_of held.new ≡ table_of held.old) × (ended.new.items ≡ ended.old.items)) }
     ensures among { IfOk (asked_at (In v role) first count (table_of held.old)) (λ asks. IsInVolume (IsReadAmong result ended.old.items ended.new.items asks) v (table_of held.old) (table_of held.new) (volume_at v (table_of held.old))) }
     ensures denied { is_quiet_in (volume_at v (table_of held.old)) ≡ true → IfErr result (λ e. IfOk (asked_at (In v role) first count (table_of held.old)) (λ _. IsDenied e)) }
-    ensures one { IsInVolume KeepsNames v (table_of held.old) (table_of held.new) (volume_at v (table_of held.old)) }
-    ensures sound { is_sound (table_of held.old) ≡ true → is_sound (table_of held.new) ≡ true }
-    ensures named { AreNamed (table_of held.old) → AreNamed (table_of held.new) }
-    ensures full { IfErr result (λ e. e ≡ JournalFull → has_asked_much_in (volume_at v (table_of held.new)) ≡ true) }
+    ensures one { KeepsNamesAt v held.old held.new }
+    ensures sound { StaysSound held.old held.new }
+    ensures named { StaysNamed held.old held.new }
+    ensures full { IsFullAt v result held.new }
 {
     held.volumes[v].read(alloc, role, first, count, ended)
 }
@@ -75,9 +72,9 @@ pub fn read_device(
     ensures among { IfOk (read_asked name.now first count (table_of held.old)) (λ asks. IsDoneFor name.now (IsReadAmong result ended.old.items ended.new.items asks) (table_of held.old) (table_of held.new)) }
     ensures denied { is_quiet_in (volume_for name.now (table_of held.old)) ≡ true → IfErr result (λ e. IfOk (read_asked name.now first count (table_of held.old)) (λ _. IsDenied e)) }
     ensures one { KeepsOthers name.now (table_of held.old) (table_of held.new) }
-    ensures sound { is_sound (table_of held.old) ≡ true → is_sound (table_of held.new) ≡ true }
-    ensures named { AreNamed (table_of held.old) → AreNamed (table_of held.new) }
-    ensures full { IfErr result (λ e. e ≡ JournalFull → has_asked_much_for name.now (table_of held.old) (table_of held.new) ≡ true) }
+    ensures sound { StaysSound held.old held.new }
+    ensures named { StaysNamed held.old held.new }
+    ensures full { IsFullFor name.now result held.old held.new }
 {
     let count = some_sectors(count)?;
     let Place::In(v, role) = find_device(held, name)? else {
@@ -107,10 +104,10 @@ fn write_at(
     ensures stays { IfErr (asked_at (In v role) first count (table_of held.old)) (λ _. (table_of held.new ≡ table_of held.old) × (ended.new.items ≡ ended.old.items)) }
     ensures among { IfOk (asked_at (In v role) first count (table_of held.old)) (λ asks. IsInVolume (IsWrittenAmong bytes.old result ended.old.items ended.new.items asks) v (table_of held.old) (table_of held.new) (volume_at v (table_of held.old))) }
     ensures denied { is_quiet_in (volume_at v (table_of held.old)) ≡ true → IfErr result (λ e. IfOk (asked_at (In v role) first count (table_of held.old)) (λ _. IsDenied e)) }
-    ensures one { IsInVolume KeepsNames v (table_of held.old) (table_of held.new) (volume_at v (table_of held.old)) }
-    ensures sound { is_sound (table_of held.old) ≡ true → is_sound (table_of held.new) ≡ true }
-    ensures named { AreNamed (table_of held.old) → AreNamed (table_of held.new) }
-    ensures full { IfErr result (λ e. e ≡ JournalFull → has_asked_much_in (volume_at v (table_of held.new)) ≡ true) }
+    ensures one { KeepsNamesAt v held.old held.new }
+    ensures sound { StaysSound held.old held.new }
+    ensures named { StaysNamed held.old held.new }
+    ensures full { IsFullAt v result held.new }
 {
     held.volumes[v].write(alloc, role, first, count, bytes, ended)
 }
@@ -138,9 +135,9 @@ pub fn write_device(
     ensures denied { is_quiet_in (volume_for name.now (table_of held.old)) ≡ true → IfErr result (λ e. IfOk (write_asked name.now first bytes.old (table_of held.old)) (λ _. IsDenied e)) }
     ensures one { KeepsOthers name.now (table_of held.old) (table_of held.new) }
     ensures ordered { IsInOrderFor name.now (table_of held.old) }
-    ensures sound { is_sound (table_of held.old) ≡ true → is_sound (table_of held.new) ≡ true }
-    ensures named { AreNamed (table_of held.old) → AreNamed (table_of held.new) }
-    ensures full { IfErr result (λ e. e ≡ JournalFull → has_asked_much_for name.now (table_of held.old) (table_of held.new) ≡ true) }
+    ensures sound { StaysSound held.old held.new }
+    ensures named { StaysNamed held.old held.new }
+    ensures full { IsFullFor name.now result held.old held.new }
 {
     let place = find_in_order(held, name);
     let count = whole_sectors(bytes.as_slice())?;
@@ -164,10 +161,10 @@ fn flush_at(
     ensures stays { IfErr (asked_at (In v role) 0 1 (table_of held.old)) (λ _. (table_of held.new ≡ table_of held.old) × (ended.new.items ≡ ended.old.items)) }
     ensures among { IfOk (asked_at (In v role) 0 1 (table_of held.old)) (λ asks. IsInVolume (IsFlushedAmong result ended.old.items ended.new.items asks) v (table_of held.old) (table_of held.new) (volume_at v (table_of held.old))) }
     ensures denied { is_quiet_in (volume_at v (table_of held.old)) ≡ true → IfErr result (λ e. IfOk (asked_at (In v role) 0 1 (table_of held.old)) (λ _. IsDenied e)) }
-    ensures one { IsInVolume KeepsNames v (table_of held.old) (table_of held.new) (volume_at v (table_of held.old)) }
-    ensures sound { is_sound (table_of held.old) ≡ true → is_sound (table_of held.new) ≡ true }
-    ensures named { AreNamed (table_of held.old) → AreNamed (table_of held.new) }
-    ensures full { IfErr result (λ e. e ≡ JournalFull → has_asked_much_in (volume_at v (table_of held.new)) ≡ true) }
+    ensures one { KeepsNamesAt v held.old held.new }
+    ensures sound { StaysSound held.old held.new }
+    ensures named { StaysNamed held.old held.new }
+    ensures full { IsFullAt v result held.new }
 {
     held.volumes[v].flush(role, ended)
 }
@@ -191,9 +188,9 @@ pub fn flush_device(
     ensures among { IfOk (flush_asked name.now (table_of held.old)) (λ asks. IsDoneFor name.now (IsFlushedAmong result ended.old.items ended.new.items asks) (table_of held.old) (table_of held.new)) }
     ensures denied { is_quiet_in (volume_for name.now (table_of held.old)) ≡ true → IfErr result (λ e. IfOk (flush_asked name.now (table_of held.old)) (λ _. IsDenied e)) }
     ensures one { KeepsOthers name.now (table_of held.old) (table_of held.new) }
-    ensures sound { is_sound (table_of held.old) ≡ true → is_sound (table_of held.new) ≡ true }
-    ensures named { AreNamed (table_of held.old) → AreNamed (table_of held.new) }
-    ensures full { IfErr result (λ e. e ≡ JournalFull → has_asked_much_for name.now (table_of held.old) (table_of held.new) ≡ true) }
+    ensures sound { StaysSound held.old held.new }
+    ensures named { StaysNamed held.old held.new }
+    ensures full { IsFullFor name.now result held.old held.new }
 {
     match find_device(held, name)? {
         Place::Free(_, _) => Err(Refusal::BadTable),

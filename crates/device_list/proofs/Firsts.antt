@@ -1,14 +1,15 @@
 -- The first volume that has a name: each is asked in turn.
-use Rattle.std.proofs.Common.{◌≡◌, ℕ, ◌+◌, ◌<◌, ◌≤◌, Bool, true, false, List, Some, None, length, get_or, drop, nat_lt, refl, ◌∙◌, ap, arith, cond}
-use Rattle.std.specs.Prelude.{Option, is_some, not, slice_get}
+use Rattle.std.proofs.Common.{◌≡◌, ℕ, ◌+◌, ◌<◌, ◌≤◌, Bool, true, false, List, Some, None, length, get_or, drop, nat_lt, refl, sym, ◌∙◌, ap, arith, cond}
+use Rattle.std.specs.Prelude.{Option, is_some, not}
 use Rattle.std.specs.List.{position, position_or_len}
 use Rattle.std.proofs.lemmas.List.{drop_more}
 use Rattle.std.proofs.lemmas.List.Sums.{prefix_len-drop_all}
-use Rattle.std.proofs.lemmas.Option.{get_or_from_slice_get, slice_get_within}
 use Rattle.command_rules.specs.declared.place.Place.TheVariants.{In}
 use Rattle.command_rules.specs.declared.place.Role.{Role}
 use Rattle.command_rules.specs.Places.{in_first, in_volume, named_in, place_among, role_of}
 use Rattle.command_rules.specs.State.{Volume}
+use Rattle.device_list.specs.Backed.{Backed}
+use Rattle.device_list.proofs.Showing.{position_shown, shown_in, shown_there}
 
 -- one that does not pass is left behind
 pub passed_by : {X : Type 0} (test : X → Bool) (xs : List X) (i : ℕ) (d : X) → i < length xs → test (get_or xs i d) ≡ false → position_or_len test (drop i xs) ≡ 1 + position_or_len test (drop (i + 1) xs)
@@ -45,16 +46,14 @@ is_here : (o : Option Role) (role : Role) → o ≡ Some role → is_some o ≡ 
 is_here o role is = rw is refl
 
 -- so that is the place of the name
-pub found_here : (name : List ℕ) (volumes : List Volume) (i : ℕ) (volume : Volume) (role : Role) → position_or_len (has name) volumes ≡ i + position_or_len (has name) (drop i volumes) → slice_get volumes i ≡ Some volume → role_of name volume ≡ Some role
-    → place_among name volumes ≡ Some (In i role)
+pub found_here : (name : List ℕ) (volumes : List Backed) (i : ℕ) (volume : Backed) (role : Role) → position_or_len (λ (v : Backed). has name v.shown) volumes ≡ i + position_or_len (λ (v : Backed). has name v.shown) (drop i volumes) → i < length volumes → volume ≡ get_or volumes i volume → role_of name volume.shown ≡ Some role
+    → place_among name (shown_in volumes) ≡ Some (In i role)
 unfolding place_among
-found_here name volumes i volume role so there is =
-    let at = get_or_from_slice_get volumes i volume volume there in
-    let lt = slice_get_within volumes i volume there in
-    ap (in_first name volumes) (position_here (has name) volumes i volume so lt (ap (has name) at ∙ is_here (role_of name volume) role is))
-    ∙ ap (named_in i name) there ∙ ap (in_volume i) is
+found_here name volumes i volume role so lt at is =
+    ap (in_first name (shown_in volumes)) (position_shown (has name) volumes ∙ position_here (λ (v : Backed). has name v.shown) volumes i volume so lt (ap (λ (v : Backed). has name v.shown) (sym at) ∙ is_here (role_of name volume.shown) role is))
+    ∙ ap (named_in i name) (shown_there volumes i volume lt at) ∙ ap (in_volume i) is
 
 -- or it has none
-pub found_nowhere : (name : List ℕ) (volumes : List Volume) (i : ℕ) → position_or_len (has name) volumes ≡ i + position_or_len (has name) (drop i volumes) → length volumes ≤ i → place_among name volumes ≡ None
+pub found_nowhere : (name : List ℕ) (volumes : List Backed) (i : ℕ) → position_or_len (λ (v : Backed). has name v.shown) volumes ≡ i + position_or_len (λ (v : Backed). has name v.shown) (drop i volumes) → length volumes ≤ i → place_among name (shown_in volumes) ≡ None
 unfolding place_among
-found_nowhere name volumes i so le = ap (in_first name volumes) (position_nowhere (has name) volumes i so le)
+found_nowhere name volumes i so le = ap (in_first name (shown_in volumes)) (position_shown (has name) volumes ∙ position_nowhere (λ (v : Backed). has name v.shown) volumes i so le)

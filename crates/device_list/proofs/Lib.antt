@@ -21,6 +21,6 @@ pub mod Orders
 pub mod Begun
 pub mod Statuses
 pub mod Listed
-pub mod Lost
+pub mod Showing
 mod Firsts
 pub mod Traces

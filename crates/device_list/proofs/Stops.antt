@@ -1,5 +1,5 @@
 -- A volume that is stopped, and what is left of it to take.
-use Rattle.std.proofs.Common.{◌≡◌, ◌⊎◌, inl, inr, ℕ, zero, suc, ◌+◌, ◌<◌, ◌≤◌, Bool, true, false, List, [], ◌∷◌, length, map, drop, get_or, Option, Some, None, refl, sym, ap, ◌∙◌, arith}
+use Rattle.std.proofs.Common.{◌≡◌, ◌⊎◌, inl, inr, ℕ, zero, suc, ◌+◌, ◌*◌, ◌<◌, ◌≤◌, Bool, true, false, List, [], ◌∷◌, length, map, drop, get_or, Option, Some, None, refl, sym, ap, ◌∙◌, arith}
 use Rattle.std.specs.Prelude.{◌&&◌, nat_lt, is_some, if◌then◌else◌}
 use Rattle.std.specs.List.{list_all}
 use Rattle.std.proofs.lemmas.Bool.{cases_Bool, cond-true, cond-false, lt-ltb, le-ltb}
@@ -9,14 +9,17 @@ use Rattle.device_list.proofs.Places.{here}
 use Rattle.layers.specs.declared.stack.Stack.{Stack}
 use Rattle.big_steps.specs.Snaps.{Snap, Volume as Settled}
 use Rattle.volume_commands.specs.Rested.{Attached, Rested, attached_of, snap_of, is_loud_in}
-use Rattle.layers.specs.Stack.{stack_contents, stack_layers}
+use Rattle.layers.specs.Stack.{stack_contents, stack_durable, stack_layers, stack_size}
+use Rattle.layers.specs.Whole.{stack_whole}
+use Rattle.layers.specs.Windows.{without_windows}
 use Rattle.event_machine.specs.MergeSeen.{merge_held_of}
 use Rattle.snapshot.specs.Kept.{Kept}
 use Rattle.merge.specs.Merging.{Merging, due_of as merging_due}
 use Rattle.volume.specs.Asking.{merging_number}
-use Rattle.device.specs.Layers.{is_loud}
+use Rattle.device.specs.Layers.{Layer, is_loud}
 use Rattle.volume.specs.Volumed.{is_loud_with}
 use Rattle.volume.proofs.Shown.{and_left, and_right}
+use Rattle.command_rules.specs.Losing.{Lasting, lasting}
 use Rattle.command_rules.specs.Sound.{is_sound_stack}
 use Rattle.command_rules.specs.Stacks.{device_of}
 use Rattle.command_rules.specs.Stopping.{freed, store_freed, merging_freed, snap_stores, stores_among, stores_left, stopped}
@@ -24,7 +27,7 @@ use Rattle.volume.specs.Stopped.{stores_by, devices_of}
 use Rattle.device_list.specs.Held.{merging_with, with_names, settled_in}
 use Rattle.device_list.proofs.Merges.{merge_by, begun_too}
 use Rattle.command_rules.specs.State.{Stacked, Names, Merging as Begun, Volume}
-use Rattle.device_list.specs.Stopping.{earlier, earlier_than, freed_by, names_among, names_with, store_names}
+use Rattle.device_list.specs.Stopping.{IsTakenLost, earlier, earlier_than, freed_by, names_among, names_with, store_names}
 
 -- the names of the merge come first where it stands after none, or no other is left
 pub merging_next : (before : ℕ) (o p : Option Names) (merging : Names) (store : List (List ℕ)) (snaps : List Names) → o ≡ Some merging → p ≡ None → merging.store ≡ store → (before ≡ 0) ⊎ (snaps ≡ [])
@@ -206,3 +209,30 @@ stopped_loud names v devices whole is loud =
     ap (λ (w : Rested Stack). is_loud_with stack_layers v.events.merge (is_loud (stack_layers w.origin) && list_all (λ (s : Attached Stack). is_loud (stack_layers s.store)) w.snaps)) whole
     ∙ ap (λ b. is_loud_with stack_layers v.events.merge (is_loud_stack v.events.origin && b)) (snaps_loud v.events.snaps) in
     freed_loud names devices (ap (λ (xs : List Stack). list_all is_loud_stack xs) is ∙ devices_loud v.events.origin v.events.snaps v.events.merge (sym all ∙ loud))
+
+-- as many stacks as devices
+pub freed_count : (names : List (List (List ℕ))) (devices : List Stack) → length names ≡ length devices → length (freed_by names devices) ≡ length devices
+freed_count [] [] many = refl
+freed_count [] (d ∷ devices) many = absurd (cc)
+freed_count (n ∷ names) [] many = absurd (cc)
+freed_count (n ∷ names) (d ∷ devices) many = ap suc (freed_count names devices (omega (arith, many)))
+
+-- A stack that was taken, and lost what was not flushed: it has its names, its layers and its size, and what was durable.
+module _ (names : List (List ℕ)) (device lost : Stack) (contents : stack_contents lost ≡ stack_durable device) (layers : without_windows (stack_layers lost) ≡ without_windows (stack_layers device)) (size : stack_size lost ≡ stack_size device) where
+  lost_lasting : lasting (freed names (device_of lost)) ≡ lasting (freed names (device_of device))
+  lost_lasting =
+      let by_layers : List Layer → Lasting = λ ls. record { names = names; layers = ls; bytes = length (stack_contents lost); stale = false } in
+      let by_bytes : ℕ → Lasting = λ n. record { names = names; layers = without_windows (stack_layers device); bytes = n; stale = false } in
+      let long : length (stack_contents lost) ≡ length (stack_contents device) = stack_whole lost ∙ ap (λ n. 512 * n) size ∙ sym (stack_whole device) in
+      ap by_layers layers ∙ ap by_bytes long
+
+  pub taken_lost : (stack : Stacked) (all rest : List (List (List ℕ))) (devices others : List Stack) → stack ≡ freed names (device_of lost) → all ≡ names ∷ rest → devices ≡ device ∷ others
+      → IsTakenLost stack (record { shown = freed_by all devices; devices = devices }) (record { shown = freed_by rest others; devices = others })
+  taken_lost stack all rest devices others is named first = record {
+    was = freed names (device_of device);
+    device = device;
+    shown = ap (λ (ns : List (List (List ℕ))). freed_by ns devices) named ∙ ap (λ (ds : List Stack). freed_by (names ∷ rest) ds) first;
+    devices = first;
+    lasts = ap lasting is ∙ lost_lasting;
+    bytes = ap (λ (s : Stacked). s.device.bytes) is ∙ contents;
+  }

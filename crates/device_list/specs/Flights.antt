@@ -50,15 +50,20 @@ pub record InEvents (holds : Volumed Stack → Volumed Stack → Type 0) (old ne
   pub did : holds before after
 
 -- what was asked for is in flight, under this number
+abbrev pub Starts : Op → ℕ → Asked → Volumed Stack → Volumed Stack → Type 0
+Starts op number asks before after = (request : Request) × IsRequestOf asks.dev op asks.span request × IsAcceptedAs stack_contents stack_layers request number before after
+
 abbrev pub IsStarted : Op → ℕ → Volume → Volume → Asked → Type 0
-IsStarted op number old new asks =
-    InEvents (λ before after. (request : Request) × IsRequestOf asks.dev op asks.span request × IsAcceptedAs stack_contents stack_layers request number before after) old new
+IsStarted op number old new asks = InEvents (Starts op number asks) old new
 
 -- or there was no room for it, or it was refused by the volume
+abbrev pub Declines : Op → Refusal → Asked → Volumed Stack → Volumed Stack → Type 0
+Declines op refusal asks before after =
+    IsStarved refusal before after
+    ⊎ ((request : Request) × IsRequestOf asks.dev op asks.span request × IsRefusedAs stack_contents stack_layers stack_size request refusal before after)
+
 abbrev pub IsNotStarted : Op → Refusal → Volume → Volume → Asked → Type 0
-IsNotStarted op refusal old new asks =
-    InEvents (λ before after. IsStarved refusal before after
-    ⊎ ((request : Request) × IsRequestOf asks.dev op asks.span request × IsRefusedAs stack_contents stack_layers stack_size request refusal before after)) old new
+IsNotStarted op refusal old new asks = InEvents (Declines op refusal asks) old new
 
 -- an event that was due was done, with what a flush closes that it answers, and what a stop before, within or after it may leave
 pub record IsEventDone (event : Event) (outcome : Outcome) (before after : Volumed Stack) : Type 0 where
@@ -80,51 +85,72 @@ pub record IsNotDue (event : Event) (volume : Volume) : Type 0 where
   pub not_due : is_due_of stack_contents stack_layers events event ≢ true
 
 -- all that was due was done, up to where memory was refused
+abbrev pub Settles : List Replied → List Replied → Volumed Stack → Volumed Stack → Type 0
+Settles earlier later before after = IsDrained stack_may_hold stack_contents stack_layers stack_faults stack_size before after earlier later
+
 abbrev pub IsSettledBy : List Replied → List Replied → Volume → Volume → Type 0
-IsSettledBy earlier later old new = InEvents (λ before after. IsDrained stack_may_hold stack_contents stack_layers stack_faults stack_size before after earlier later) old new
+IsSettledBy earlier later old new = InEvents (Settles earlier later) old new
 
 -- what was asked for was read or written, piece after piece, or a piece was refused
-abbrev pub IsReadServed : Result (List ℕ) Refusal → List Replied → List Replied → Volume → Volume → Asked → Type 0
-IsReadServed result earlier later old new asks =
-    InEvents (λ before after. MatchResult result
+abbrev pub ReadsAmong : Result (List ℕ) Refusal → List Replied → List Replied → Asked → Volumed Stack → Volumed Stack → Type 0
+ReadsAmong result earlier later asks before after =
+    MatchResult result
     (λ bytes. AreReadAmong stack_may_hold stack_contents stack_layers stack_faults stack_size asks.dev (pieces_of (piece_with before.merge before.snaps) asks.span) bytes before after earlier later)
-    (λ refusal. IsReadRefusedAmong stack_may_hold stack_contents stack_layers stack_faults stack_size asks.dev (pieces_of (piece_with before.merge before.snaps) asks.span) refusal (rested_of before) (rested_of after) earlier later)) old new
+    (λ refusal. IsReadRefusedAmong stack_may_hold stack_contents stack_layers stack_faults stack_size asks.dev (pieces_of (piece_with before.merge before.snaps) asks.span) refusal (rested_of before) (rested_of after) earlier later)
+
+abbrev pub IsReadServed : Result (List ℕ) Refusal → List Replied → List Replied → Volume → Volume → Asked → Type 0
+IsReadServed result earlier later old new asks = InEvents (ReadsAmong result earlier later asks) old new
+
+abbrev pub WritesAmong : List ℕ → Result (Unit {0}) Refusal → List Replied → List Replied → Asked → Volumed Stack → Volumed Stack → Type 0
+WritesAmong bytes result earlier later asks before after =
+    MatchResult result
+    (λ done. AreWrittenAmong stack_may_hold stack_contents stack_layers stack_faults stack_size asks.dev (pieces_of (piece_with before.merge before.snaps) asks.span) bytes before after earlier later)
+    (λ refusal. IsWriteRefusedAmong stack_may_hold stack_contents stack_layers stack_faults stack_size asks.dev (pieces_of (piece_with before.merge before.snaps) asks.span) bytes refusal (rested_of before) (rested_of after) earlier later)
 
 abbrev pub IsWriteServed : List ℕ → Result (Unit {0}) Refusal → List Replied → List Replied → Volume → Volume → Asked → Type 0
-IsWriteServed bytes result earlier later old new asks =
-    InEvents (λ before after. MatchResult result
-    (λ done. AreWrittenAmong stack_may_hold stack_contents stack_layers stack_faults stack_size asks.dev (pieces_of (piece_with before.merge before.snaps) asks.span) bytes before after earlier later)
-    (λ refusal. IsWriteRefusedAmong stack_may_hold stack_contents stack_layers stack_faults stack_size asks.dev (pieces_of (piece_with before.merge before.snaps) asks.span) bytes refusal (rested_of before) (rested_of after) earlier later)) old new
+IsWriteServed bytes result earlier later old new asks = InEvents (WritesAmong bytes result earlier later asks) old new
 
 -- the device that was asked for was flushed, or its request was refused or failed
-abbrev pub IsFlushServed : Result (Unit {0}) Refusal → List Replied → List Replied → Volume → Volume → Asked → Type 0
-IsFlushServed result earlier later old new asks =
-    InEvents (λ before after. MatchResult result
+abbrev pub FlushesAmong : Result (Unit {0}) Refusal → List Replied → List Replied → Asked → Volumed Stack → Volumed Stack → Type 0
+FlushesAmong result earlier later asks before after =
+    MatchResult result
     (λ done. IsFlushedAmong stack_may_hold stack_contents stack_layers stack_faults stack_size asks.dev before after earlier later)
-    (λ refusal. IsFlushRefusedAmong stack_may_hold stack_contents stack_layers stack_faults stack_size asks.dev refusal (rested_of before) (rested_of after) earlier later)) old new
+    (λ refusal. IsFlushRefusedAmong stack_may_hold stack_contents stack_layers stack_faults stack_size asks.dev refusal (rested_of before) (rested_of after) earlier later)
+
+abbrev pub IsFlushServed : Result (Unit {0}) Refusal → List Replied → List Replied → Volume → Volume → Asked → Type 0
+IsFlushServed result earlier later old new asks = InEvents (FlushesAmong result earlier later asks) old new
 
 -- and the same of a volume in which nothing is in flight, whichever device drops writes
-abbrev pub IsReadAtRest : Result (List ℕ) Refusal → Volume → Volume → Asked → Type 0
-IsReadAtRest result old new asks =
-    InEvents (λ before after. MatchResult result
+abbrev pub ReadsAtRest : Result (List ℕ) Refusal → Asked → Volumed Stack → Volumed Stack → Type 0
+ReadsAtRest result asks before after =
+    MatchResult result
     (λ bytes. AreReadAtRest stack_may_hold stack_contents stack_layers stack_faults stack_size asks.dev (pieces_of (piece_with before.merge before.snaps) asks.span) bytes before after)
-    (λ refusal. IsReadUndone stack_may_hold stack_contents stack_layers stack_faults stack_size asks.dev (pieces_of (piece_with before.merge before.snaps) asks.span) refusal before after)) old new
+    (λ refusal. IsReadUndone stack_may_hold stack_contents stack_layers stack_faults stack_size asks.dev (pieces_of (piece_with before.merge before.snaps) asks.span) refusal before after)
+
+abbrev pub IsReadAtRest : Result (List ℕ) Refusal → Volume → Volume → Asked → Type 0
+IsReadAtRest result old new asks = InEvents (ReadsAtRest result asks) old new
+
+abbrev pub WritesAtRest : List ℕ → Result (Unit {0}) Refusal → Asked → Volumed Stack → Volumed Stack → Type 0
+WritesAtRest bytes result asks before after =
+    MatchResult result
+    (λ done. AreWrittenAtRest stack_may_hold stack_contents stack_layers stack_faults stack_size asks.dev (pieces_of (piece_with before.merge before.snaps) asks.span) bytes before after)
+    (λ refusal. IsWriteCut stack_may_hold stack_contents stack_layers stack_faults stack_size asks.dev (pieces_of (piece_with before.merge before.snaps) asks.span) bytes refusal before after)
 
 abbrev pub IsWrittenAtRest : List ℕ → Result (Unit {0}) Refusal → Volume → Volume → Asked → Type 0
-IsWrittenAtRest bytes result old new asks =
-    InEvents (λ before after. MatchResult result
-    (λ done. AreWrittenAtRest stack_may_hold stack_contents stack_layers stack_faults stack_size asks.dev (pieces_of (piece_with before.merge before.snaps) asks.span) bytes before after)
-    (λ refusal. IsWriteCut stack_may_hold stack_contents stack_layers stack_faults stack_size asks.dev (pieces_of (piece_with before.merge before.snaps) asks.span) bytes refusal before after)) old new
+IsWrittenAtRest bytes result old new asks = InEvents (WritesAtRest bytes result asks) old new
 
 -- where no device drops writes, it closes the array that was asked for
 abbrev pub ClosesFor : Dev → Volumed Stack → Volumed Stack → Type 0
 ClosesFor dev before after = is_loud_in_all stack_layers before ≡ true → IsClosed stack_may_hold stack_size after (array_of dev)
 
-abbrev pub IsFlushedAtRest : Result (Unit {0}) Refusal → Volume → Volume → Asked → Type 0
-IsFlushedAtRest result old new asks =
-    InEvents (λ before after. MatchResult result
+abbrev pub FlushesAtRest : Result (Unit {0}) Refusal → Asked → Volumed Stack → Volumed Stack → Type 0
+FlushesAtRest result asks before after =
+    MatchResult result
     (λ done. IsFlushDone stack_may_hold stack_contents stack_layers stack_faults stack_size asks.dev before after × ClosesFor asks.dev before after)
-    (λ refusal. IsFlushUndone stack_may_hold stack_contents stack_layers stack_faults stack_size asks.dev refusal before after)) old new
+    (λ refusal. IsFlushUndone stack_may_hold stack_contents stack_layers stack_faults stack_size asks.dev refusal before after)
+
+abbrev pub IsFlushedAtRest : Result (Unit {0}) Refusal → Volume → Volume → Asked → Type 0
+IsFlushedAtRest result old new asks = InEvents (FlushesAtRest result asks) old new
 
 -- Why a volume in which nothing is in flight refuses what may be asked of it, whichever device drops writes: memory or the room of
 -- its journal ran out, or the request of a piece failed.

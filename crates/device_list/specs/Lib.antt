@@ -2,6 +2,7 @@ pub mod Names
 pub mod Held
 pub mod Asked
 pub mod Flights
+pub mod Backed
 pub mod Stopping
 pub mod Parting
 pub mod Status

@@ -8,6 +8,7 @@ use Rattle.volume.specs.Leaving.{is_quiet_of}
 use Rattle.volume_commands.specs.Rested.{Rested, is_loud_in}
 use Rattle.command_rules.specs.Naming.{merging_sum, names_sum}
 use Rattle.command_rules.specs.State.{Names, Volume}
+use Rattle.device_list.specs.Backed.{Backed}
 use Rattle.device_list.specs.Held.{flying_in, merging_with, settled_in}
 use Rattle.device_list.specs.Stopping.{earlier_than}
 
@@ -28,6 +29,9 @@ parts_sum f p = f p.origin + sum_by f p.under + sum_by (names_sum f) p.snaps + m
 -- a volume under these names
 abbrev pub named_with : Parts → Rested Stack → Volume
 named_with p v = record { origin = p.origin; under = p.under; stale = p.stale; snaps = p.snaps; merging = merging_with p.merging v; state = settled_in v; given = v.attached; asked = p.asked; sound = p.sound; quiet = is_quiet_of v.events; flying = flying_in v.events }
+
+abbrev pub backed_with : Parts → Rested Stack → Backed
+backed_with p v = record { shown = named_with p v; events = v.events }
 
 -- There is a name for each snapshot, and names for the merge exactly where one is begun.
 pub record HasAll (p : Parts) (v : Rested Stack) : Type 0 where

@@ -1,10 +1,13 @@
 -- A volume that was stopped, as far as its stacks are not taken yet. This project's own.
-use Rattle.std.specs.Prelude.{ℕ, zero, suc, nat_lt, List, [], ◌∷◌, map, Option, Some, None, if◌then◌else◌}
+use Rattle.std.specs.Prelude.{◌≡◌, ℕ, zero, suc, nat_lt, List, [], ◌∷◌, map, Option, Some, None, if◌then◌else◌}
 use Rattle.layers.specs.declared.stack.Stack.{Stack}
+use Rattle.layers.specs.Stack.{stack_durable}
 use Rattle.volume_commands.specs.Rested.{Attached}
 use Rattle.command_rules.specs.Stacks.{device_of}
 use Rattle.command_rules.specs.State.{Stacked, Names}
+use Rattle.command_rules.specs.Losing.{lasting}
 use Rattle.command_rules.specs.Stopping.{freed}
+use Rattle.device_list.specs.Backed.{Left}
 
 abbrev pub store_names : Names → List (List ℕ)
 store_names names = names.store
@@ -38,3 +41,13 @@ earlier number (s ∷ snaps) = if nat_lt number s.number then 0 else suc (earlie
 abbrev pub earlier_than : Option ℕ → List (Attached Stack) → ℕ
 earlier_than None snaps = 0
 earlier_than (Some number) snaps = earlier number snaps
+
+-- The first stack of those that are left is taken, and its bytes are what was durable in its device: it has its names and its layers,
+-- and no mark.
+pub record IsTakenLost (stack : Stacked) (old new : Left) : Type 0 where
+  pub was : Stacked
+  pub device : Stack
+  pub shown : old.shown ≡ was ∷ new.shown
+  pub devices : old.devices ≡ device ∷ new.devices
+  pub lasts : lasting stack ≡ lasting was
+  pub bytes : stack.device.bytes ≡ stack_durable device

@@ -1,6 +1,17 @@
--- The devices as contracts see them.
+-- The devices as contracts see them, and what calls leave of all of them.
+use Rattle.std.specs.Prelude.{◌≡◌, true, map}
 use Rattle.command_rules.specs.State.{Table}
+use Rattle.command_rules.specs.Naming.{AreNamed}
+use Rattle.command_rules.specs.Sound.{is_sound}
 use Rattle.device_list.specs.declared.held.Devices.{Devices}
 
 abbrev pub table_of : Devices → Table
-table_of held = record { stacks = held.stacks.items; volumes = held.volumes.items }
+table_of held = record { stacks = held.stacks.items; volumes = map (λ v. v.shown) held.volumes.items }
+
+-- where no two devices had one name, and there were at most 64, it is so still
+abbrev pub StaysNamed : Devices → Devices → Type 0
+StaysNamed old new = AreNamed (table_of old) → AreNamed (table_of new)
+
+-- where no device dropped writes, and nothing was in flight, it is so still
+abbrev pub StaysSound : Devices → Devices → Type 0
+StaysSound old new = is_sound (table_of old) ≡ true → is_sound (table_of new) ≡ true

@@ -4,7 +4,7 @@ ghost use Rattle.sector.specs.declared.refusal.Refusal.TheVariants.{JournalFull,
 ghost use Rattle.device.specs.Layers.{is_loud};
 ghost use Rattle.big_steps.specs.Refusals.{is_starved};
 ghost use Rattle.command_rules.specs.Snapshots.{meet, parted};
-ghost use Rattle.device_list.specs.Asked.{has_asked_much};
+ghost use Rattle.device_list.specs.Asked.{IsFullIn, has_asked_much};
 ghost use Rattle.device_list.specs.Names.{IsNamedMore};
 ghost use Rattle.device_list.specs.Taking.{IsNotMet};
 
@@ -29,19 +29,19 @@ impl NamedVolume {
         chunk: u32,
         overflow: bool,
     ) -> Result<(), (Refusal, NamedStack)>
-        ensures ok { OnOk result (self.old.sound ≡ true → self.old.quiet ≡ true → is_loud stack.device.layers ≡ true → ((meet name chunk overflow stack self.old).refused ≡ None) × ((meet name chunk overflow stack self.old).volume ≡ self.new)) }
-        ensures err { IfErr result (λ e. is_starved e.0 ≡ false → self.old.sound ≡ true → self.old.quiet ≡ true → is_loud stack.device.layers ≡ true → ((meet name chunk overflow stack self.old).refused ≡ Some e.0) × ((meet name chunk overflow stack self.old).stacked ≡ e.1)) }
-        ensures busy { IfErr result (λ e. self.old.quiet ≡ false → ((is_starved e.0 ≡ true) ⊎ (e.0 ≡ (if stack.stale then Stale else (if is_some self.old.merging then MergeInProgress else NotQuiet)))) × (e.1 ≡ stack)) }
-        ensures refused { IfErr result (λ e. IsNotMet chunk stack e.0 self.old) }
+        ensures ok { OnOk result (self.old.shown.sound ≡ true → self.old.shown.quiet ≡ true → is_loud stack.device.layers ≡ true → ((meet name chunk overflow stack self.old.shown).refused ≡ None) × ((meet name chunk overflow stack self.old.shown).volume ≡ self.new.shown)) }
+        ensures err { IfErr result (λ e. is_starved e.0 ≡ false → self.old.shown.sound ≡ true → self.old.shown.quiet ≡ true → is_loud stack.device.layers ≡ true → ((meet name chunk overflow stack self.old.shown).refused ≡ Some e.0) × ((meet name chunk overflow stack self.old.shown).stacked ≡ e.1)) }
+        ensures busy { IfErr result (λ e. self.old.shown.quiet ≡ false → ((is_starved e.0 ≡ true) ⊎ (e.0 ≡ (if stack.stale then Stale else (if is_some self.old.shown.merging then MergeInProgress else NotQuiet)))) × (e.1 ≡ stack)) }
+        ensures refused { IfErr result (λ e. IsNotMet chunk stack e.0 self.old.shown) }
         ensures starved { IfErr result (λ e. is_starved e.0 ≡ true → e.1 ≡ stack) }
-        ensures named { OnOk result (IsNamedMore name overflow stack self.old self.new) }
+        ensures named { OnOk result (IsNamedMore name overflow stack self.old.shown self.new.shown) }
         ensures names { IfErr result (λ e. e.1.names ≡ stack.names) }
-        ensures same { OnErr result (self.new ≡ self.old) }
-        ensures sound { OnOk result (self.new.sound ≡ self.old.sound && is_loud stack.device.layers) }
+        ensures same { OnErr result (self.new.shown ≡ self.old.shown) }
+        ensures sound { OnOk result (self.new.shown.sound ≡ self.old.shown.sound && is_loud stack.device.layers) }
         ensures loud { IfErr result (λ e. is_loud e.1.device.layers ≡ is_loud stack.device.layers) }
-        ensures quiet { self.new.quiet ≡ self.old.quiet }
-        ensures still { OnOk result (self.old.quiet ≡ true) }
-        ensures full { IfErr result (λ e. e.0 ≡ JournalFull → has_asked_much self.new ≡ true) }
+        ensures quiet { self.new.shown.quiet ≡ self.old.shown.quiet }
+        ensures still { OnOk result (self.old.shown.quiet ≡ true) }
+        ensures full { IfErr result (λ e. e.0 ≡ JournalFull → has_asked_much self.new.shown ≡ true) }
     {
         match self.snaps.reserve(1) {
             Ok(()) => {}
@@ -74,13 +74,13 @@ impl NamedVolume {
     /// Takes the snapshot at a place away, and gives its store back, with a mark where the invalid mark failed. `NotQuiet`
     /// where a request is in flight or anything is left to do, `JournalFull` where the journal has no room; then nothing changed.
     pub fn detach(&mut self, k: usize) -> Result<NamedStack, Refusal>
-        requires { k < length self.old.snaps }
-        ensures parted { IfOk result (λ stack. parted k self.old ≡ Ok (stack, self.new)) }
-        ensures busy { IfErr result (λ e. e ≢ JournalFull → parted k self.old ≡ Err e) }
+        requires { k < length self.old.shown.snaps }
+        ensures parted { IfOk result (λ stack. parted k self.old.shown ≡ Ok (stack, self.new.shown)) }
+        ensures busy { IfErr result (λ e. e ≢ JournalFull → parted k self.old.shown ≡ Err e) }
         ensures same { OnErr result (self.new ≡ self.old) }
-        ensures loud { IfOk result (λ stack. self.old.sound ≡ true → is_loud stack.device.layers ≡ true) }
-        ensures sound { self.new.sound ≡ self.old.sound }
-        ensures full { IfErr result (λ e. e ≡ JournalFull → has_asked_much self.new ≡ true) }
+        ensures loud { IfOk result (λ stack. self.old.shown.sound ≡ true → is_loud stack.device.layers ≡ true) }
+        ensures sound { self.new.shown.sound ≡ self.old.shown.sound }
+        ensures full { IsFullIn result self.new.shown }
     {
         look(&self.volume);
         look_at_places(&self.volume);

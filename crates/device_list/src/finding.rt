@@ -38,7 +38,7 @@ fn place_free(held: &Devices, name: &Name) -> Option<Place>
 /// Where a name stands among the volumes. Each is asked once, up to the first that has it.
 #[tactic(auto, using(crate::proofs::Firsts::passed_by))]
 fn place_among(held: &Devices, name: &Name) -> Option<Place>
-    ensures place { result ≡ place_among name.now held.now.volumes.items }
+    ensures place { result ≡ place_among name.now (table_of held.now).volumes }
     ensures within { IfSome result (λ place. IsPlaceIn place (table_of held.now)) }
 {
     for (v, volume) in held.volumes.iter().enumerate() {
@@ -86,7 +86,7 @@ fn left_after_stacks(stacks: &[NamedStack], most: usize) -> usize
 
 /// What is left of so many devices, those of some volumes taken away.
 fn left_after_volumes(volumes: &[NamedVolume], most: usize) -> usize
-    ensures { result ≡ most - sum_by devices_in volumes.now }
+    ensures { result ≡ most - sum_by (λ v. devices_in v.shown) volumes.now }
 {
     let mut left = most;
     for volume in volumes {
@@ -96,6 +96,7 @@ fn left_after_volumes(volumes: &[NamedVolume], most: usize) -> usize
 }
 
 /// Whether there are as many devices as there may be.
+#[tactic(auto, using(crate::proofs::Showing::shown_sum))]
 pub fn is_full(held: &Devices) -> bool
     ensures { result ≡ nat_le 64 (device_count (table_of held.now)) }
 {

@@ -7,8 +7,9 @@ ghost use Rattle.volume.specs.EventKinds.{is_of_merge};
 ghost use Rattle.command_rules.specs.Events.{merge_done};
 ghost use Rattle.command_rules.specs.Places.{IsRoleIn};
 ghost use Rattle.command_rules.specs.Sectors.{asked_of};
-ghost use Rattle.device_list.specs.Asked.{has_asked_much};
-ghost use Rattle.device_list.specs.Flights.{IsNotDue, IsNotStarted, IsSettledBy, IsStarted, IsStepped};
+ghost use Rattle.device_list.specs.Asked.{IsFullIn};
+ghost use Rattle.device_list.specs.Backed.{InBacked, IsNotDueIn};
+ghost use Rattle.device_list.specs.Flights.{Declines, IsEventDone, Settles, Starts};
 ghost use Rattle.device_list.specs.Names.{KeepsNames};
 
 use crate::origin::NamedVolume;
@@ -24,15 +25,15 @@ use volume_commands::Replied;
 impl NamedVolume {
     /// Whether nothing is in flight or left to do.
     pub fn is_quiet(&self) -> bool
-        ensures { result ≡ self.now.quiet }
+        ensures { result ≡ self.now.shown.quiet }
     {
         self.volume.is_quiet()
     }
 
     /// The number of the snapshot at a place.
     pub fn number(&self, k: usize) -> SnapId
-        requires { k < length self.now.snaps }
-        ensures { (d : Snap) → result ≡ (get_or self.now.state.snaps k d).number }
+        requires { k < length self.now.shown.snaps }
+        ensures { (d : Snap) → result ≡ (get_or self.now.shown.state.snaps k d).number }
     {
         number_at(&self.volume, k)
     }
@@ -51,20 +52,20 @@ impl NamedVolume {
         count: u32,
         op: Op,
     ) -> Result<ReqId, Refusal>
-        requires role { IsRoleIn role self.old }
+        requires role { IsRoleIn role self.old.shown }
         requires some { 0 < count }
         requires few { count ≤ 2048 }
         requires bytes { (bytes : List ℕ) → op ≡ Write bytes → length bytes ≡ 512 * count }
-        ensures asks { IfErr (asked_of role first count self.old) (λ e. result ≡ Err e) }
-        ensures stays { IfErr (asked_of role first count self.old) (λ _. self.new ≡ self.old) }
-        ensures flies { OnOk result (self.new.quiet ≡ false) }
-        ensures started { IfOk result (λ number. IfOk (asked_of role first count self.old) (IsStarted op number self.old self.new)) }
-        ensures refused { IfErr result (λ e. IfOk (asked_of role first count self.old) (IsNotStarted op e self.old self.new)) }
-        ensures counts { IfOk (asked_of role first count self.old) (λ _. self.new.asked ≡ self.old.asked + count) }
-        ensures same { IfErr result (λ e. e ≢ Invalid → e ≢ Overflow → self.new.state ≡ self.old.state) }
-        ensures still { IfErr result (λ e. e ≢ Invalid → self.new.quiet ≡ self.old.quiet) }
-        ensures kept { KeepsNames self.old self.new }
-        ensures full { IfErr result (λ e. e ≡ JournalFull → has_asked_much self.new ≡ true) }
+        ensures asks { IfErr (asked_of role first count self.old.shown) (λ e. result ≡ Err e) }
+        ensures stays { IfErr (asked_of role first count self.old.shown) (λ _. self.new ≡ self.old) }
+        ensures flies { OnOk result (self.new.shown.quiet ≡ false) }
+        ensures started { IfOk result (λ number. IfOk (asked_of role first count self.old.shown) (λ asks. InBacked (Starts op number asks) self.old self.new)) }
+        ensures refused { IfErr result (λ e. IfOk (asked_of role first count self.old.shown) (λ asks. InBacked (Declines op e asks) self.old self.new)) }
+        ensures counts { IfOk (asked_of role first count self.old.shown) (λ _. self.new.shown.asked ≡ self.old.shown.asked + count) }
+        ensures same { IfErr result (λ e. e ≢ Invalid → e ≢ Overflow → self.new.shown.state ≡ self.old.shown.state) }
+        ensures still { IfErr result (λ e. e ≢ Invalid → self.new.shown.quiet ≡ self.old.shown.quiet) }
+        ensures kept { KeepsNames self.old.shown self.new.shown }
+        ensures full { IsFullIn result self.new.shown }
     {
         let (dev, range) = match ask(&self.volume, &mut self.asked, role, first, count) {
             Ok(asks) => asks,
@@ -77,11 +78,11 @@ impl NamedVolume {
     /// Does an event. `NotDue` where it isn't due, and then nothing changed; where nothing is in flight or left to do, none is
     /// but those of a merge.
     pub fn step(&mut self, event: Event) -> Result<Outcome, NotDue>
-        ensures idle { self.old.quiet ≡ true → is_of_merge event ≡ false → is_ok result ≡ false }
-        ensures stepped { IfOk result (λ outcome. IsStepped event outcome self.old self.new) }
-        ensures due { (not (is_of_merge event) && self.old.quiet) ≡ false → OnErr result (IsNotDue event self.old) }
+        ensures idle { self.old.shown.quiet ≡ true → is_of_merge event ≡ false → is_ok result ≡ false }
+        ensures stepped { IfOk result (λ outcome. InBacked (IsEventDone event outcome) self.old self.new) }
+        ensures due { (not (is_of_merge event) && self.old.shown.quiet) ≡ false → OnErr result (IsNotDueIn event self.old) }
         ensures same { OnErr result (self.new ≡ self.old) }
-        ensures kept { KeepsNames self.old self.new }
+        ensures kept { KeepsNames self.old.shown self.new.shown }
     {
         if !is_of_merge(event) && self.is_quiet() {
             return Err(NotDue);
@@ -93,13 +94,13 @@ impl NamedVolume {
     /// end of `ended`. `NoMemory` where the allocator refuses room for that, and then nothing is done. Where nothing is in flight, this is the
     /// whole merge, or up to the first of its operations that fails, and no memory is asked for.
     pub fn settle(&mut self, ended: &mut Vec<Replied>) -> Result<(), Refusal>
-        ensures quiet { OnOk result (self.new.quiet ≡ true) }
-        ensures drained { OnOk result (IsSettledBy ended.old.items ended.new.items self.old self.new) }
-        ensures done { self.old.sound ≡ true → self.old.quiet ≡ true → OnOk result (self.new ≡ merge_done self.old) }
-        ensures idle { self.old.quiet ≡ true → is_ok result ≡ true }
-        ensures still { self.old.quiet ≡ true → ended.new.items ≡ ended.old.items }
-        ensures alone { self.old.quiet ≡ true → self.old.merging ≡ None → self.new ≡ self.old }
-        ensures kept { KeepsNames self.old self.new }
+        ensures quiet { OnOk result (self.new.shown.quiet ≡ true) }
+        ensures drained { OnOk result (InBacked (Settles ended.old.items ended.new.items) self.old self.new) }
+        ensures done { self.old.shown.sound ≡ true → self.old.shown.quiet ≡ true → OnOk result (self.new.shown ≡ merge_done self.old.shown) }
+        ensures idle { self.old.shown.quiet ≡ true → is_ok result ≡ true }
+        ensures still { self.old.shown.quiet ≡ true → ended.new.items ≡ ended.old.items }
+        ensures alone { self.old.shown.quiet ≡ true → self.old.shown.merging ≡ None → self.new ≡ self.old }
+        ensures kept { KeepsNames self.old.shown self.new.shown }
         ensures err { IfErr result (λ e. (e ≡ NoMemory) × (self.new ≡ self.old) × (ended.new.items ≡ ended.old.items)) }
     {
         look(&self.volume);

@@ -30,8 +30,8 @@ fn add_snapshot(
 impl NamedVolume {
     /// Adds a snapshot and its store.
     fn list_snapshot(&self, out: &mut Vec<u8>, k: usize) -> Result<(), Refusal>
-        requires { k < length self.now.snaps }
-        ensures added { OnOk result ((d : Names) → out.new.items ≡ out.old.items ++ snapshot_items k (get_or self.now.snaps k d) self.now) }
+        requires { k < length self.now.shown.snaps }
+        ensures added { OnOk result ((d : Names) → out.new.items ≡ out.old.items ++ snapshot_items k (get_or self.now.shown.snaps k d) self.now.shown) }
         ensures error { IfErr result (λ e. e ≡ NoMemory) }
     {
         let names = &self.snaps[k];
@@ -46,7 +46,7 @@ impl NamedVolume {
     /// Adds the snapshots and their stores.
     #[tactic(auto, using(crate::proofs::Listed::next_snapshot, crate::proofs::Listed::no_snapshot))]
     fn list_snapshots(&self, out: &mut Vec<u8>) -> Result<(), Refusal>
-        ensures added { OnOk result (out.new.items ≡ out.old.items ++ snapshots_from 0 self.now.snaps self.now) }
+        ensures added { OnOk result (out.new.items ≡ out.old.items ++ snapshots_from 0 self.now.shown.snaps self.now.shown) }
         ensures error { IfErr result (λ e. e ≡ NoMemory) }
     {
         for k in 0..self.snaps.len() {
@@ -58,7 +58,7 @@ impl NamedVolume {
     /// Adds the snapshot that is being merged and its store, if there is one.
     #[tactic(auto, using(device_stacks::proofs::Listed::more), unfolding(command_rules::specs::Listing::merging_items))]
     fn list_merging(&self, out: &mut Vec<u8>) -> Result<(), Refusal>
-        ensures added { OnOk result (out.new.items ≡ out.old.items ++ merging_items self.now.merging self.now) }
+        ensures added { OnOk result (out.new.items ≡ out.old.items ++ merging_items self.now.shown.merging self.now.shown) }
         ensures error { IfErr result (λ e. e ≡ NoMemory) }
     {
         match &self.merging {
@@ -77,7 +77,7 @@ impl NamedVolume {
     /// being merged with its own. The one error is `NoMemory`.
     #[tactic(auto, using(device_stacks::proofs::Listed::more), unfolding(command_rules::specs::Listing::volume_items))]
     pub fn list(&self, out: &mut Vec<u8>) -> Result<(), Refusal>
-        ensures added { OnOk result (out.new.items ≡ out.old.items ++ volume_items self.now) }
+        ensures added { OnOk result (out.new.items ≡ out.old.items ++ volume_items self.now.shown) }
         ensures error { IfErr result (λ e. e ≡ NoMemory) }
     {
         add_device(out, &self.origin, self.line_of_origin())?;

@@ -5,7 +5,7 @@ ghost use Rattle.device.specs.Layers.{is_loud};
 ghost use Rattle.big_steps.specs.Refusals.{is_starved};
 ghost use Rattle.command_rules.specs.Changes.{Changes, Enters};
 ghost use Rattle.command_rules.specs.Merging.{begun, finished, resumed};
-ghost use Rattle.device_list.specs.Asked.{has_asked_much};
+ghost use Rattle.device_list.specs.Asked.{IsFullIn};
 ghost use Rattle.device_list.specs.Flights.{IsUnfinished};
 ghost use Rattle.device_list.specs.Names.{IsNamedBegun, IsNamedLess};
 
@@ -20,13 +20,13 @@ impl NamedVolume {
     /// merge is begun, `Invalid` for a spoiled snapshot, `NotQuiet`, `NoMemory`; then nothing that is seen changed. `JournalFull`
     /// may come before all but the first.
     pub fn begin_merge(&mut self, alloc: Global, k: usize) -> Result<(), Refusal>
-        requires { k < length self.old.snaps }
-        ensures done { self.old.sound ≡ true → Enters result self.old self.new (begun k self.old) }
-        ensures err { IfErr result (λ e. (self.new ≡ self.old) × (is_starved e ≡ false → begun k self.old ≡ Err e)) }
-        ensures named { OnOk result (IsNamedBegun k self.old self.new) }
-        ensures sound { self.new.sound ≡ self.old.sound }
-        ensures quiet { self.new.quiet ≡ self.old.quiet }
-        ensures full { IfErr result (λ e. e ≡ JournalFull → has_asked_much self.new ≡ true) }
+        requires { k < length self.old.shown.snaps }
+        ensures done { self.old.shown.sound ≡ true → Enters result self.old.shown self.new.shown (begun k self.old.shown) }
+        ensures err { IfErr result (λ e. (self.new.shown ≡ self.old.shown) × (is_starved e ≡ false → begun k self.old.shown ≡ Err e)) }
+        ensures named { OnOk result (IsNamedBegun k self.old.shown self.new.shown) }
+        ensures sound { self.new.shown.sound ≡ self.old.shown.sound }
+        ensures quiet { self.new.shown.quiet ≡ self.old.shown.quiet }
+        ensures full { IsFullIn result self.new.shown }
     {
         if self.merging.is_some() {
             return Err(Refusal::MergeInProgress);
@@ -45,7 +45,7 @@ impl NamedVolume {
 
     /// Lets a merge that failed go on. `NotMerging` where none is begun.
     pub fn resume_merge(&mut self) -> Result<(), Refusal>
-        ensures done { Changes result self.old self.new (resumed self.old) }
+        ensures done { Changes result self.old.shown self.new.shown (resumed self.old.shown) }
     {
         self.volume.resume_merge()
     }
@@ -54,15 +54,15 @@ impl NamedVolume {
     /// `JournalFull` where the journal has no room, `NotFinished` where none is begun, or a pair or a group is left, `NotQuiet`; then
     /// nothing changed.
     pub fn finish_merge(&mut self) -> Result<NamedStack, Refusal>
-        ensures parted { self.old.sound ≡ true → IfOk result (λ stack. finished self.old ≡ Ok (stack, self.new)) }
-        ensures refused { self.old.sound ≡ true → self.old.quiet ≡ true → IfErr result (λ e. e ≢ JournalFull → finished self.old ≡ Err e) }
-        ensures unfinished { IfErr result (λ e. e ≢ JournalFull → IsUnfinished e self.old) }
-        ensures named { IfOk result (λ stack. IsNamedLess stack self.old self.new) }
+        ensures parted { self.old.shown.sound ≡ true → IfOk result (λ stack. finished self.old.shown ≡ Ok (stack, self.new.shown)) }
+        ensures refused { self.old.shown.sound ≡ true → self.old.shown.quiet ≡ true → IfErr result (λ e. e ≢ JournalFull → finished self.old.shown ≡ Err e) }
+        ensures unfinished { IfErr result (λ e. e ≢ JournalFull → IsUnfinished e self.old.shown) }
+        ensures named { IfOk result (λ stack. IsNamedLess stack self.old.shown self.new.shown) }
         ensures same { OnErr result (self.new ≡ self.old) }
-        ensures loud { IfOk result (λ stack. self.old.sound ≡ true → is_loud stack.device.layers ≡ true) }
-        ensures sound { self.new.sound ≡ self.old.sound }
-        ensures quiet { OnOk result ((self.old.quiet ≡ true) × (self.new.quiet ≡ true)) }
-        ensures full { IfErr result (λ e. e ≡ JournalFull → has_asked_much self.new ≡ true) }
+        ensures loud { IfOk result (λ stack. self.old.shown.sound ≡ true → is_loud stack.device.layers ≡ true) }
+        ensures sound { self.new.shown.sound ≡ self.old.shown.sound }
+        ensures quiet { OnOk result ((self.old.shown.quiet ≡ true) × (self.new.shown.quiet ≡ true)) }
+        ensures full { IsFullIn result self.new.shown }
     {
         look(&self.volume);
         look_at_places(&self.volume);

@@ -31,13 +31,17 @@ pub struct NamedVolume {
 }
 
 impl Model for NamedVolume {
+    ghost use Rattle.std.specs.Coded.{codes};
+    ghost use Rattle.layers.specs.contracts.stack.Stack as stacks;
     ghost use Rattle.volume.specs.Leaving.{is_quiet_of};
-    ghost use Rattle.command_rules.specs.State.{Volume};
+    ghost use Rattle.device_list.specs.Backed.{Backed};
     ghost use Rattle.device_list.specs.Held.{flying_in, merging_with, settled_in, IsHeld};
 
-    ghost Value = { Volume };
+    ghost Value = { Backed };
 
-    ghost view = { λ m. record { origin = m.origin; under = m.under.items; stale = m.stale; snaps = m.snaps.items; merging = merging_with m.merging m.volume.rested; state = settled_in m.volume.rested; given = m.volume.rested.attached; asked = m.asked; sound = m.sound; quiet = is_quiet_of m.volume.rested.events; flying = flying_in m.volume.rested.events } };
+    ghost coded = { Prim.hlevel (codes, stacks.the_row.coded) };
+
+    ghost view = { λ m. record { shown = record { origin = m.origin; under = m.under.items; stale = m.stale; snaps = m.snaps.items; merging = merging_with m.merging m.volume.rested; state = settled_in m.volume.rested; given = m.volume.rested.attached; asked = m.asked; sound = m.sound; quiet = is_quiet_of m.volume.rested.events; flying = flying_in m.volume.rested.events }; events = m.volume.rested.events } };
 
     ghost invariant = { λ m. IsHeld m.snaps.items m.merging m.volume.rested m.asked m.sound };
 }
@@ -131,7 +135,7 @@ impl NamedVolume {
         name: Name,
         stack: NamedStack,
     ) -> Result<NamedVolume, (Refusal, NamedStack)>
-        ensures ok { IfOk result (λ v. v ≡ origin_on name stack) }
+        ensures ok { IfOk result (λ v. v.shown ≡ origin_on name stack) }
         ensures err { IfErr result (λ e. e ≡ record { 0 = NoMemory; 1 = stack }) }
     {
         let sound = stack.is_loud();
@@ -154,9 +158,9 @@ impl NamedVolume {
     /// Gives the stack under the origin back. In this order: `Busy` where there is a snapshot or a merge is begun, `NotQuiet` where a request is in
     /// flight.
     pub fn close(self) -> Result<NamedStack, (Refusal, NamedVolume)>
-        ensures ok { IfOk result (λ stack. (self.snaps ≡ []) × (self.merging ≡ None) × (self.quiet ≡ true) × (stack ≡ stack_under self)) }
-        ensures sound { IfOk result (λ stack. self.sound ≡ true → is_loud stack.device.layers ≡ true) }
-        ensures err { IfErr result (λ e. (((e.0 ≡ Busy) × ((self.snaps ≢ []) ⊎ (is_some self.merging ≡ true))) ⊎ ((e.0 ≡ NotQuiet) × (self.snaps ≡ []) × (self.merging ≡ None) × (self.quiet ≡ false))) × (e.1 ≡ self)) }
+        ensures ok { IfOk result (λ stack. (self.shown.snaps ≡ []) × (self.shown.merging ≡ None) × (self.shown.quiet ≡ true) × (stack ≡ stack_under self.shown)) }
+        ensures sound { IfOk result (λ stack. self.shown.sound ≡ true → is_loud stack.device.layers ≡ true) }
+        ensures err { IfErr result (λ e. (((e.0 ≡ Busy) × ((self.shown.snaps ≢ []) ⊎ (is_some self.shown.merging ≡ true))) ⊎ ((e.0 ≡ NotQuiet) × (self.shown.snaps ≡ []) × (self.shown.merging ≡ None) × (self.shown.quiet ≡ false))) × (e.1 ≡ self)) }
     {
         let NamedVolume {
             origin,
@@ -188,14 +192,14 @@ impl NamedVolume {
 
     /// How many sectors the origin has.
     pub fn sectors(&self) -> u32
-        ensures { result ≡ size_of self.now.state.origin }
+        ensures { result ≡ size_of self.now.shown.state.origin }
     {
         sectors_of(self.volume.origin())
     }
 
     /// What is left of so many devices, its own taken away.
     pub fn left_of(&self, most: usize) -> usize
-        ensures { result ≡ most - devices_in self.now }
+        ensures { result ≡ most - devices_in self.now.shown }
     {
         let left = most.saturating_sub(1).saturating_sub(self.under.len());
         without_merging(&self.merging, left_after(&self.snaps, left))
@@ -204,8 +208,8 @@ impl NamedVolume {
     /// What a name is in the volume.
     #[tactic(auto, unfolding(command_rules::specs::Places::role_of))]
     pub fn role(&self, name: &Name) -> Option<Role>
-        ensures role { result ≡ role_of name.now self.now }
-        ensures within { IfSome result (λ role. IsRoleIn role self.now) }
+        ensures role { result ≡ role_of name.now self.now.shown }
+        ensures within { IfSome result (λ role. IsRoleIn role self.now.shown) }
     {
         if self.origin.is_same(name) {
             return Some(Role::Origin);

@@ -5,7 +5,7 @@ ghost use Rattle.layers.specs.Stack.{stack_layers};
 ghost use Rattle.volume_commands.specs.Rested.{is_loud_in};
 ghost use Rattle.command_rules.specs.Naming.{merging_sum, names_sum, volume_sum};
 ghost use Rattle.volume.specs.Leaving.{is_quiet_of};
-ghost use Rattle.device_list.specs.Parting.{HasAll, HasBegun, IsParted, named_with, parts_sum, place_begun, with_begun, with_requests};
+ghost use Rattle.device_list.specs.Parting.{HasAll, HasBegun, IsParted, backed_with, parts_sum, place_begun, with_begun, with_requests};
 
 use crate::origin::NamedVolume;
 use crate::stopping::earlier;
@@ -82,9 +82,9 @@ impl NamedVolume {
     /// The names of its devices, and the volume itself.
     #[tactic(auto, using(crate::proofs::Begun::named_sum))]
     pub fn into_parts(self) -> (NamedParts, Resting<Stack>)
-        ensures named { self ≡ named_with result.0 result.1.rested }
+        ensures named { self ≡ backed_with result.0 result.1.rested }
         ensures parted { IsParted result.0 result.1.rested }
-        ensures names { (f : List ℕ → ℕ) → parts_sum f result.0 ≡ volume_sum f self }
+        ensures names { (f : List ℕ → ℕ) → parts_sum f result.0 ≡ volume_sum f self.shown }
     {
         let NamedVolume {
             origin,
@@ -113,11 +113,11 @@ impl NamedVolume {
     pub fn of_parts(parts: NamedParts, volume: Resting<Stack>) -> NamedVolume
         requires fits { HasAll parts volume.rested ⊎ HasBegun parts volume.rested }
         requires loud { parts.sound ≡ true → is_loud_in stack_layers volume.rested ≡ true }
-        ensures names { (f : List ℕ → ℕ) → volume_sum f result ≡ parts_sum f parts }
-        ensures sound { result.sound ≡ parts.sound }
-        ensures quiet { result.quiet ≡ is_quiet_of volume.rested.events }
-        ensures same { HasAll parts volume.rested → result ≡ named_with (with_requests volume.rested.requests parts) volume.rested }
-        ensures begun { HasBegun parts volume.rested → result ≡ named_with (with_requests volume.rested.requests (with_begun (place_begun volume.rested) parts)) volume.rested }
+        ensures names { (f : List ℕ → ℕ) → volume_sum f result.shown ≡ parts_sum f parts }
+        ensures sound { result.shown.sound ≡ parts.sound }
+        ensures quiet { result.shown.quiet ≡ is_quiet_of volume.rested.events }
+        ensures same { HasAll parts volume.rested → result ≡ backed_with (with_requests volume.rested.requests parts) volume.rested }
+        ensures begun { HasBegun parts volume.rested → result ≡ backed_with (with_requests volume.rested.requests (with_begun (place_begun volume.rested) parts)) volume.rested }
     {
         let NamedParts {
             origin,

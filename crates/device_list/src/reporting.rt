@@ -27,8 +27,8 @@ impl NamedVolume {
     /// The disk of this role. `BadTable` for another device.
     #[tactic(auto, unfolding(command_rules::specs::Raw::raw_in_store))]
     pub fn disk(&self, role: Role) -> Result<&MemDisk, Refusal>
-        requires { IsRoleIn role self.now }
-        ensures { MatchResult result (λ disk. raw_under role self.now ≡ Ok (disk_contents disk.now)) (λ e. raw_under role self.now ≡ Err e) }
+        requires { IsRoleIn role self.now.shown }
+        ensures { MatchResult result (λ disk. raw_under role self.now.shown ≡ Ok (disk_contents disk.now)) (λ e. raw_under role self.now.shown ≡ Err e) }
     {
         match role {
             Role::Under(depth) => disk_in(depth, &self.under, self.volume.origin()),
@@ -41,8 +41,8 @@ impl NamedVolume {
     /// The disk so deep in the store of the snapshot that is being merged. `BadTable` for another device.
     #[tactic(auto, unfolding(command_rules::specs::Raw::raw_in_merging))]
     fn disk_of_merging(&self, depth: usize) -> Result<&MemDisk, Refusal>
-        requires { IsRoleMerging (MergingStore depth) (names_in self.now.merging) }
-        ensures { MatchResult result (λ disk. raw_in_merging depth self.now ≡ Ok (disk_contents disk.now)) (λ e. raw_in_merging depth self.now ≡ Err e) }
+        requires { IsRoleMerging (MergingStore depth) (names_in self.now.shown.merging) }
+        ensures { MatchResult result (λ disk. raw_in_merging depth self.now.shown ≡ Ok (disk_contents disk.now)) (λ e. raw_in_merging depth self.now.shown ≡ Err e) }
     {
         match &self.merging {
             None => unreachable!(),
@@ -56,8 +56,8 @@ impl NamedVolume {
     /// The line of the device so deep in that store. `BadTable` for a disk.
     #[tactic(auto, unfolding(command_rules::specs::Lines::line_in_merging))]
     fn line_in_merging(&self, depth: usize) -> Result<Line, Refusal>
-        requires { IsRoleMerging (MergingStore depth) (names_in self.now.merging) }
-        ensures { result ≡ line_in_merging depth self.now }
+        requires { IsRoleMerging (MergingStore depth) (names_in self.now.shown.merging) }
+        ensures { result ≡ line_in_merging depth self.now.shown }
     {
         match &self.merging {
             None => unreachable!(),
@@ -71,8 +71,8 @@ impl NamedVolume {
     /// The line of the snapshot that is being merged: that of any other.
     #[tactic(auto, unfolding(command_rules::specs::Lines::merging_line))]
     pub(crate) fn line_of_merging(&self) -> Result<Line, Refusal>
-        requires { is_some self.now.merging ≡ true }
-        ensures { result ≡ merging_line_of self.now }
+        requires { is_some self.now.shown.merging ≡ true }
+        ensures { result ≡ merging_line_of self.now.shown }
     {
         let names = match &self.merging {
             None => unreachable!(),
@@ -98,8 +98,8 @@ impl NamedVolume {
     /// The origin's line where no merge is begun.
     #[tactic(auto, unfolding(command_rules::specs::Lines::origin_line, command_rules::specs::Lines::origin_target))]
     fn line_of_plain_origin(&self) -> Result<Line, Refusal>
-        requires { self.now.merging ≡ None }
-        ensures { result ≡ origin_line_of self.now }
+        requires { self.now.shown.merging ≡ None }
+        ensures { result ≡ origin_line_of self.now.shown }
     {
         match self.under.get(0) {
             None => Err(Refusal::BadTable),
@@ -115,8 +115,8 @@ impl NamedVolume {
     /// The origin's line while a merge is begun.
     #[tactic(auto, unfolding(command_rules::specs::Lines::origin_line, command_rules::specs::Lines::origin_target))]
     fn line_of_merged_origin(&self, names: &SnapNames) -> Result<Line, Refusal>
-        requires { (g : Begun) × (self.now.merging ≡ Some g) × (g.names ≡ names.now) }
-        ensures { result ≡ origin_line_of self.now }
+        requires { (g : Begun) × (self.now.shown.merging ≡ Some g) × (g.names ≡ names.now) }
+        ensures { result ≡ origin_line_of self.now.shown }
     {
         let chunk = match merging_chunk(&self.volume) {
             None => unreachable!(),
@@ -137,7 +137,7 @@ impl NamedVolume {
 
     /// The line of the origin.
     pub(crate) fn line_of_origin(&self) -> Result<Line, Refusal>
-        ensures { result ≡ origin_line_of self.now }
+        ensures { result ≡ origin_line_of self.now.shown }
     {
         match &self.merging {
             Some(names) => self.line_of_merged_origin(names),
@@ -148,8 +148,8 @@ impl NamedVolume {
     /// The line of a snapshot.
     #[tactic(auto, unfolding(command_rules::specs::Lines::snapshot_line))]
     pub(crate) fn line_of_snapshot(&self, k: usize) -> Result<Line, Refusal>
-        requires { k < length self.now.snaps }
-        ensures { result ≡ snapshot_line_of k self.now }
+        requires { k < length self.now.shown.snaps }
+        ensures { result ≡ snapshot_line_of k self.now.shown }
     {
         let device = self.under.get(0).ok_or(Refusal::BadTable)?;
         let names = &self.snaps[k];
@@ -168,8 +168,8 @@ impl NamedVolume {
     /// The line of the device of this role. `BadTable` for a disk.
     #[tactic(auto, unfolding(command_rules::specs::Lines::line_in_store))]
     pub fn line(&self, role: Role) -> Result<Line, Refusal>
-        requires { IsRoleIn role self.now }
-        ensures { result ≡ line_of_role role self.now }
+        requires { IsRoleIn role self.now.shown }
+        ensures { result ≡ line_of_role role self.now.shown }
     {
         match role {
             Role::Origin => self.line_of_origin(),
@@ -186,10 +186,10 @@ impl NamedVolume {
     #[inline(never)]
     #[tactic(auto, unfolding(command_rules::specs::Status::status_in, crate::specs::Status::status_flying))]
     pub fn status(&self, alloc: Global, role: Role) -> Result<Text, Refusal>
-        requires { IsRoleIn role self.now }
-        ensures done { self.now.sound ≡ true → self.now.quiet ≡ true → Gives result (status_in role self.now) }
-        ensures among { (moving : Moving) → self.now.flying ≡ Some moving → Gives result (status_flying role self.now moving) }
-        ensures held { IsStatusOf result role self.now }
+        requires { IsRoleIn role self.now.shown }
+        ensures done { self.now.shown.sound ≡ true → self.now.shown.quiet ≡ true → Gives result (status_in role self.now.shown) }
+        ensures among { (moving : Moving) → self.now.shown.flying ≡ Some moving → Gives result (status_flying role self.now.shown moving) }
+        ensures held { IsStatusOf result role self.now.shown }
     {
         look(&self.volume);
         let sectors = u64::from(sectors_of(self.volume.origin()));

@@ -8,8 +8,9 @@ ghost use Rattle.command_rules.specs.State.{Volume};
 ghost use Rattle.command_rules.specs.Changes.{Serves};
 ghost use Rattle.command_rules.specs.Places.{HasRole, IsRoleIn};
 ghost use Rattle.command_rules.specs.Sectors.{asked_of, dev_of, serves, takes, flushed_in, read_in, written_in, IsReadAsked, IsPartWritten};
-ghost use Rattle.device_list.specs.Asked.{has_asked_much};
-ghost use Rattle.device_list.specs.Flights.{IsDenied, IsFlushServed, IsFlushedAtRest, IsReadAtRest, IsReadServed, IsWriteServed, IsWrittenAtRest};
+ghost use Rattle.device_list.specs.Asked.{IsFullIn};
+ghost use Rattle.device_list.specs.Backed.{InBacked};
+ghost use Rattle.device_list.specs.Flights.{FlushesAmong, FlushesAtRest, IsDenied, ReadsAmong, ReadsAtRest, WritesAmong, WritesAtRest};
 ghost use Rattle.device_list.specs.Held.{settled_in};
 ghost use Rattle.device_list.specs.Names.{KeepsNames};
 
@@ -121,20 +122,20 @@ impl NamedVolume {
         count: u32,
         ended: &mut Vec<Replied>,
     ) -> Result<Buf, Refusal>
-        requires role { IsRoleIn role self.old }
+        requires role { IsRoleIn role self.old.shown }
         requires some { 0 < count }
         requires few { count ≤ 2048 }
-        ensures done { self.old.sound ≡ true → self.old.quiet ≡ true → Serves result self.new (λ v. (v ≡ self.old) ⊎ IsReadAsked count self.old v) (read_in role first count self.old) }
-        ensures among { self.old.quiet ≡ false → IfOk (asked_of role first count self.old) (IsReadServed result ended.old.items ended.new.items self.old self.new) }
-        ensures at_rest { self.old.quiet ≡ true → IfOk (asked_of role first count self.old) (IsReadAtRest result self.old self.new) }
-        ensures counts { IfOk (asked_of role first count self.old) (λ _. self.new.asked ≡ self.old.asked + count) }
-        ensures told { self.old.quiet ≡ true → ended.new.items ≡ ended.old.items }
-        ensures asks { IfErr (asked_of role first count self.old) (λ e. result ≡ Err e) }
-        ensures denied { self.old.quiet ≡ true → IfErr result (λ e. IfOk (asked_of role first count self.old) (λ _. IsDenied e)) }
-        ensures stays { IfErr (asked_of role first count self.old) (λ _. (self.new ≡ self.old) × (ended.new.items ≡ ended.old.items)) }
-        ensures quiet { self.old.quiet ≡ true → self.new.quiet ≡ true }
-        ensures kept { KeepsNames self.old self.new }
-        ensures full { IfErr result (λ e. e ≡ JournalFull → has_asked_much self.new ≡ true) }
+        ensures done { self.old.shown.sound ≡ true → self.old.shown.quiet ≡ true → Serves result self.new.shown (λ v. (v ≡ self.old.shown) ⊎ IsReadAsked count self.old.shown v) (read_in role first count self.old.shown) }
+        ensures among { self.old.shown.quiet ≡ false → IfOk (asked_of role first count self.old.shown) (λ asks. InBacked (ReadsAmong result ended.old.items ended.new.items asks) self.old self.new) }
+        ensures at_rest { self.old.shown.quiet ≡ true → IfOk (asked_of role first count self.old.shown) (λ asks. InBacked (ReadsAtRest result asks) self.old self.new) }
+        ensures counts { IfOk (asked_of role first count self.old.shown) (λ _. self.new.shown.asked ≡ self.old.shown.asked + count) }
+        ensures told { self.old.shown.quiet ≡ true → ended.new.items ≡ ended.old.items }
+        ensures asks { IfErr (asked_of role first count self.old.shown) (λ e. result ≡ Err e) }
+        ensures denied { self.old.shown.quiet ≡ true → IfErr result (λ e. IfOk (asked_of role first count self.old.shown) (λ _. IsDenied e)) }
+        ensures stays { IfErr (asked_of role first count self.old.shown) (λ _. (self.new ≡ self.old) × (ended.new.items ≡ ended.old.items)) }
+        ensures quiet { self.old.shown.quiet ≡ true → self.new.shown.quiet ≡ true }
+        ensures kept { KeepsNames self.old.shown self.new.shown }
+        ensures full { IsFullIn result self.new.shown }
     {
         let (dev, range) = match ask(&self.volume, &mut self.asked, role, first, count) {
             Ok(asks) => asks,
@@ -161,21 +162,21 @@ impl NamedVolume {
         bytes: &mut Buf,
         ended: &mut Vec<Replied>,
     ) -> Result<(), Refusal>
-        requires role { IsRoleIn role self.old }
+        requires role { IsRoleIn role self.old.shown }
         requires some { 0 < count }
         requires few { count ≤ 2048 }
         requires room { length bytes.old ≡ 512 * count }
-        ensures done { self.old.sound ≡ true → self.old.quiet ≡ true → Serves result self.new (λ v. (v ≡ self.old) ⊎ IsPartWritten role first count bytes.old self.old v) (written_in role first count bytes.old self.old) }
-        ensures among { self.old.quiet ≡ false → IfOk (asked_of role first count self.old) (IsWriteServed bytes.old result ended.old.items ended.new.items self.old self.new) }
-        ensures at_rest { self.old.quiet ≡ true → IfOk (asked_of role first count self.old) (IsWrittenAtRest bytes.old result self.old self.new) }
-        ensures counts { IfOk (asked_of role first count self.old) (λ _. self.new.asked ≡ self.old.asked + count) }
-        ensures told { self.old.quiet ≡ true → ended.new.items ≡ ended.old.items }
-        ensures asks { IfErr (asked_of role first count self.old) (λ e. result ≡ Err e) }
-        ensures denied { self.old.quiet ≡ true → IfErr result (λ e. IfOk (asked_of role first count self.old) (λ _. IsDenied e)) }
-        ensures stays { IfErr (asked_of role first count self.old) (λ _. (self.new ≡ self.old) × (ended.new.items ≡ ended.old.items)) }
-        ensures quiet { self.old.quiet ≡ true → self.new.quiet ≡ true }
-        ensures kept { KeepsNames self.old self.new }
-        ensures full { IfErr result (λ e. e ≡ JournalFull → has_asked_much self.new ≡ true) }
+        ensures done { self.old.shown.sound ≡ true → self.old.shown.quiet ≡ true → Serves result self.new.shown (λ v. (v ≡ self.old.shown) ⊎ IsPartWritten role first count bytes.old self.old.shown v) (written_in role first count bytes.old self.old.shown) }
+        ensures among { self.old.shown.quiet ≡ false → IfOk (asked_of role first count self.old.shown) (λ asks. InBacked (WritesAmong bytes.old result ended.old.items ended.new.items asks) self.old self.new) }
+        ensures at_rest { self.old.shown.quiet ≡ true → IfOk (asked_of role first count self.old.shown) (λ asks. InBacked (WritesAtRest bytes.old result asks) self.old self.new) }
+        ensures counts { IfOk (asked_of role first count self.old.shown) (λ _. self.new.shown.asked ≡ self.old.shown.asked + count) }
+        ensures told { self.old.shown.quiet ≡ true → ended.new.items ≡ ended.old.items }
+        ensures asks { IfErr (asked_of role first count self.old.shown) (λ e. result ≡ Err e) }
+        ensures denied { self.old.shown.quiet ≡ true → IfErr result (λ e. IfOk (asked_of role first count self.old.shown) (λ _. IsDenied e)) }
+        ensures stays { IfErr (asked_of role first count self.old.shown) (λ _. (self.new ≡ self.old) × (ended.new.items ≡ ended.old.items)) }
+        ensures quiet { self.old.shown.quiet ≡ true → self.new.shown.quiet ≡ true }
+        ensures kept { KeepsNames self.old.shown self.new.shown }
+        ensures full { IsFullIn result self.new.shown }
     {
         let (dev, range) = match ask(&self.volume, &mut self.asked, role, first, count) {
             Ok(asks) => asks,
@@ -193,18 +194,18 @@ impl NamedVolume {
     /// Flushes the origin, or a snapshot: what was written to it lasts. While a merge is begun, the merging store is flushed
     /// before the origin. Refused as a read of the first sector is, before the volume is asked and by it.
     pub fn flush(&mut self, role: Role, ended: &mut Vec<Replied>) -> Result<(), Refusal>
-        requires role { IsRoleIn role self.old }
-        ensures done { self.old.sound ≡ true → self.old.quiet ≡ true → Serves result self.new (λ v. (v ≡ self.old) ⊎ IsReadAsked 1 self.old v) (flushed_in role self.old) }
-        ensures among { self.old.quiet ≡ false → IfOk (asked_of role 0 1 self.old) (IsFlushServed result ended.old.items ended.new.items self.old self.new) }
-        ensures at_rest { self.old.quiet ≡ true → IfOk (asked_of role 0 1 self.old) (IsFlushedAtRest result self.old self.new) }
-        ensures counts { IfOk (asked_of role 0 1 self.old) (λ _. self.new.asked ≡ self.old.asked + 1) }
-        ensures told { self.old.quiet ≡ true → ended.new.items ≡ ended.old.items }
-        ensures asks { IfErr (asked_of role 0 1 self.old) (λ e. result ≡ Err e) }
-        ensures denied { self.old.quiet ≡ true → IfErr result (λ e. IfOk (asked_of role 0 1 self.old) (λ _. IsDenied e)) }
-        ensures stays { IfErr (asked_of role 0 1 self.old) (λ _. (self.new ≡ self.old) × (ended.new.items ≡ ended.old.items)) }
-        ensures quiet { self.old.quiet ≡ true → self.new.quiet ≡ true }
-        ensures kept { KeepsNames self.old self.new }
-        ensures full { IfErr result (λ e. e ≡ JournalFull → has_asked_much self.new ≡ true) }
+        requires role { IsRoleIn role self.old.shown }
+        ensures done { self.old.shown.sound ≡ true → self.old.shown.quiet ≡ true → Serves result self.new.shown (λ v. (v ≡ self.old.shown) ⊎ IsReadAsked 1 self.old.shown v) (flushed_in role self.old.shown) }
+        ensures among { self.old.shown.quiet ≡ false → IfOk (asked_of role 0 1 self.old.shown) (λ asks. InBacked (FlushesAmong result ended.old.items ended.new.items asks) self.old self.new) }
+        ensures at_rest { self.old.shown.quiet ≡ true → IfOk (asked_of role 0 1 self.old.shown) (λ asks. InBacked (FlushesAtRest result asks) self.old self.new) }
+        ensures counts { IfOk (asked_of role 0 1 self.old.shown) (λ _. self.new.shown.asked ≡ self.old.shown.asked + 1) }
+        ensures told { self.old.shown.quiet ≡ true → ended.new.items ≡ ended.old.items }
+        ensures asks { IfErr (asked_of role 0 1 self.old.shown) (λ e. result ≡ Err e) }
+        ensures denied { self.old.shown.quiet ≡ true → IfErr result (λ e. IfOk (asked_of role 0 1 self.old.shown) (λ _. IsDenied e)) }
+        ensures stays { IfErr (asked_of role 0 1 self.old.shown) (λ _. (self.new ≡ self.old) × (ended.new.items ≡ ended.old.items)) }
+        ensures quiet { self.old.shown.quiet ≡ true → self.new.shown.quiet ≡ true }
+        ensures kept { KeepsNames self.old.shown self.new.shown }
+        ensures full { IsFullIn result self.new.shown }
     {
         let (dev, _range) = match ask(&self.volume, &mut self.asked, role, 0, 1) {
             Ok(asks) => asks,

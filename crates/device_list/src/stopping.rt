@@ -3,8 +3,9 @@ ghost use Rattle.std.specs.Prelude.{◌≡◌, [], ◌∷◌, length, true, IfNo
 ghost use Rattle.std.specs.List.{list_all};
 ghost use Rattle.command_rules.specs.Sound.{is_sound_stack};
 ghost use Rattle.command_rules.specs.Stopping.{stopped};
-ghost use Rattle.device_list.specs.Stopping.{earlier_than};
+ghost use Rattle.device_list.specs.Stopping.{IsTakenLost, earlier_than};
 ghost use Rattle.volume.specs.Asking.{merging_number};
+ghost use Rattle.volume.specs.Stopped.{devices_of};
 
 use crate::origin::NamedVolume;
 use crate::stack_names::StackNames;
@@ -23,13 +24,17 @@ pub struct StoppedVolume {
 }
 
 impl Model for StoppedVolume {
-    ghost use Rattle.std.specs.Prelude.{◌≡◌, List, length};
-    ghost use Rattle.command_rules.specs.State.{Stacked};
+    ghost use Rattle.std.specs.Coded.{codes};
+    ghost use Rattle.std.specs.Prelude.{◌≡◌, length};
+    ghost use Rattle.layers.specs.contracts.stack.Stack as stacks;
+    ghost use Rattle.device_list.specs.Backed.{Left};
     ghost use Rattle.device_list.specs.Stopping.{freed_by};
 
-    ghost Value = { List Stacked };
+    ghost Value = { Left };
 
-    ghost view = { λ m. freed_by m.names m.devices };
+    ghost coded = { Prim.hlevel (codes, stacks.the_row.coded) };
+
+    ghost view = { λ m. record { shown = freed_by m.names m.devices; devices = m.devices } };
 
     ghost invariant = { λ m. length m.names ≡ length m.devices };
 }
@@ -54,13 +59,29 @@ pub(crate) fn earlier(volume: &Resting<Stack>) -> usize
 impl StoppedVolume {
     /// Takes the first stack.
     pub fn take(&mut self) -> Option<NamedStack>
-        ensures some { IfSome result (λ stack. self.old ≡ stack ∷ self.new) }
-        ensures none { IfNone result ((self.old ≡ []) × (self.new ≡ [])) }
+        ensures some { IfSome result (λ stack. self.old.shown ≡ stack ∷ self.new.shown) }
+        ensures none { IfNone result ((self.old.shown ≡ []) × (self.new.shown ≡ [])) }
     {
         match (self.names.take(), self.devices.take()) {
             (Some(names), Some(device)) => Some(NamedStack::of_parts(names, device, false)),
             _ => None,
         }
+    }
+
+    /// Takes the first stack, which loses what was not flushed: each sector of the disk at the bottom goes back to its value at
+    /// the last flush that reached it. The layers stay.
+    pub fn take_lost(&mut self) -> Option<NamedStack>
+        ensures some { IfSome result (λ stack. IsTakenLost stack self.old self.new) }
+        ensures none { IfNone result ((self.old ≡ record { shown = []; devices = [] }) × (self.new ≡ record { shown = []; devices = [] })) }
+    {
+        let Some(names) = self.names.take() else {
+            return None;
+        };
+        let Some(mut device) = self.devices.take() else {
+            return None;
+        };
+        device.lose();
+        Some(NamedStack::of_parts(names, device, false))
     }
 }
 
@@ -68,8 +89,10 @@ impl NamedVolume {
     /// Ends without a further event, whatever is in flight, and gives its stacks back one by one, without a mark and with the
     /// layers and bytes that they have. No memory is taken.
     pub fn stop(self) -> StoppedVolume
-        ensures left { result ≡ stopped self }
-        ensures sound { self.sound ≡ true → list_all is_sound_stack result ≡ true }
+        ensures left { result.shown ≡ stopped self.shown }
+        ensures sound { self.shown.sound ≡ true → list_all is_sound_stack result.shown ≡ true }
+        ensures devices { result.devices ≡ devices_of self.events }
+        ensures many { length result.shown ≡ length result.devices }
     {
         let before = earlier(&self.volume);
         let NamedVolume {
@@ -95,7 +118,7 @@ impl NamedVolume {
 
     /// How many stacks it gives back when it is stopped.
     pub fn devices(&self) -> usize
-        ensures { result ≡ length (stopped self.now) }
+        ensures { result ≡ length (stopped self.now.shown) }
     {
         let stores = match &self.merging {
             None => self.snaps.len(),

@@ -31,15 +31,15 @@ fn tell_role(volume: &mut Resting<Stack>, role: Role, message: &Message) -> Resu
 impl NamedVolume {
     /// Tells the layer of this role. `BadTable` for the origin and a snapshot, then as for a stack.
     pub fn tell(&mut self, role: Role, message: &Message) -> Result<Answer, Refusal>
-        requires { IsRoleIn role self.old }
-        ensures { Steps result self.old self.new (told_mounted role message.now self.old) }
+        requires { IsRoleIn role self.old.shown }
+        ensures { Steps result self.old.shown self.new.shown (told_mounted role message.now self.old.shown) }
     {
         tell_role(&mut self.volume, role, message)
     }
 
     /// Lets so many seconds pass for all devices.
     pub fn tick(&mut self, seconds: u32)
-        ensures { self.new ≡ volume_ticked seconds self.old }
+        ensures { self.new.shown ≡ volume_ticked seconds self.old.shown }
     {
         self.volume.tick(seconds);
     }

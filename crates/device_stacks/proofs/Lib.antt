@@ -1,5 +1,4 @@
 pub mod Below
 pub mod DiskBelow
 pub mod StackSizes
-pub mod Losing
 pub mod Listed

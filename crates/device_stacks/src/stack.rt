@@ -7,7 +7,6 @@ ghost use Rattle.command_rules.specs.Disks.{alone, failing};
 ghost use Rattle.command_rules.specs.Layers.{layered, under};
 ghost use Rattle.command_rules.specs.Messages.{stack_ticked, told_free};
 ghost use Rattle.command_rules.specs.Lines.{line_in};
-ghost use Rattle.command_rules.specs.Losing.{lasting};
 ghost use Rattle.command_rules.specs.Listing.{free_items};
 ghost use Rattle.command_rules.specs.Raw.{loaded_free, raw_in};
 ghost use Rattle.command_rules.specs.Removing.{lowered_device, lowered_to};
@@ -239,14 +238,6 @@ impl NamedStack {
             self.stale = false;
         }
         Ok(())
-    }
-
-    /// Loses what was not flushed: each sector of the disk at the bottom goes back to its value at the last flush that reached
-    /// it. The layers and the mark stay.
-    pub fn lose(&mut self)
-        ensures { lasting self.new ≡ lasting self.old }
-    {
-        self.stack.lose();
     }
 
     /// Whether a layer stands on another device.

@@ -1,7 +1,7 @@
 -- What running the lines of a text shows, with the number of its line before each answer or without. It is this project's own.
 use Rattle.std.specs.Prelude.{◌≡◌, ℕ, Bool, true, false, List, Option, Result, IfErr, IfOk, IfSome}
 use Rattle.std.specs.Io.KnownBytes.{Appends}
-use Rattle.command.specs.declared.command_reply.CommandReply.{CommandReply}
+use Rattle.command_replies.specs.declared.command_reply.CommandReply.{CommandReply}
 use Rattle.runner.specs.Counts.{summary_of}
 use Rattle.runner.specs.Exit.{IsEarly, IsWriters}
 use Rattle.runner.specs.Numbered.{IsTextAnswered, IsTextAnsweredTo, all_of, numbered_from}

@@ -3,7 +3,7 @@
 -- That a line has 16 sectors is this project's own choice: of any bytes it is shorter than `dmrig` takes.
 use Rattle.std.specs.Prelude.{◌≡◌, ◌==◌, ℕ, zero, suc, ◌+◌, ◌-◌, ◌*◌, ◌/◌, List, [], ◌++◌, length, take, drop, min, codes, decimal, if◌then◌else◌}
 use Rattle.std.specs.List.{list_all}
-use Rattle.command.specs.Runs.{data_words}
+use Rattle.command_replies.specs.Runs.{data_words}
 
 -- `disk NAME N`
 abbrev pub disk_line : List ℕ → ℕ → List ℕ

@@ -2,7 +2,7 @@
 ghost use Rattle.std.specs.Prelude.{◌≡◌, ◌++◌, IfOk, OnOk, codes, decimal};
 ghost use Rattle.image_script.specs.Loads.{disk_line, load_line};
 
-use command::words_of_data;
+use command_replies::words_of_data;
 use itoa::Buffer;
 use std::alloc::{AllocError, Global};
 use words::Name;

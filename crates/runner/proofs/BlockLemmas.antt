@@ -9,9 +9,9 @@ use Rattle.command_rules.specs.State.{Table}
 use Rattle.block_run.specs.Answering.{AreAnswered}
 use Rattle.block_run.specs.Running.{IsOfBlock, IsTableRun, all_told, seat_in}
 use Rattle.block_run.specs.Spared.{AreSpared}
-use Rattle.command.specs.declared.command_reply.CommandReply.{CommandReply}
-use Rattle.command.specs.declared.command_reply.CommandReply.TheVariants.{Done, Refused}
-use Rattle.command.specs.Texts.{text_of}
+use Rattle.command_replies.specs.declared.command_reply.CommandReply.{CommandReply}
+use Rattle.command_replies.specs.declared.command_reply.CommandReply.TheVariants.{Done, Refused}
+use Rattle.command_replies.specs.Texts.{text_of}
 use Rattle.runner.specs.declared.summary.Summary.{Summary}
 use Rattle.runner.specs.Counts.{with_reply}
 use Rattle.command.specs.Blocks.{Lines}

@@ -3,8 +3,8 @@ use Rattle.std.proofs.Common.{◌≡◌, ℕ, List, [], ◌∷◌, Option, Some,
 use Rattle.std.specs.Prelude.{Bool, Result, Ok, Err, IfSome}
 use Rattle.std.proofs.lemmas.Bool.{cases_Bool}
 use Rattle.sector.specs.declared.refusal.Refusal.{Refusal}
-use Rattle.command.specs.declared.command_reply.CommandReply.{CommandReply}
-use Rattle.command.specs.declared.command_reply.CommandReply.TheVariants.{Refused}
+use Rattle.command_replies.specs.declared.command_reply.CommandReply.{CommandReply}
+use Rattle.command_replies.specs.declared.command_reply.CommandReply.TheVariants.{Refused}
 use Rattle.plain_machine.specs.declared.request.Replied.{Replied}
 use Rattle.runner.specs.declared.summary.Summary.{Summary}
 use Rattle.big_steps.specs.Refusals.{is_starved}

@@ -8,12 +8,12 @@ use Rattle.layers.specs.declared.message.Answer.TheVariants as answers
 use Rattle.plain_machine.specs.declared.event.Outcome.{Outcome}
 use Rattle.plain_machine.specs.declared.event.Outcome.TheVariants as outcomes
 use Rattle.plain_machine.specs.declared.request.Replied.{Replied}
-use Rattle.command.specs.Answers.{reply_to}
+use Rattle.command_replies.specs.Answers.{reply_to}
 use Rattle.command.specs.Line.{said_of}
 use Rattle.command.specs.declared.events.EventWords.{EventWords}
 use Rattle.command.specs.declared.grammar.Command.{Command}
-use Rattle.command.specs.declared.command_reply.CommandReply.{CommandReply}
-use Rattle.command.specs.declared.command_reply.CommandReply.TheVariants.{Data, Done, Number, Refused, Said}
+use Rattle.command_replies.specs.declared.command_reply.CommandReply.{CommandReply}
+use Rattle.command_replies.specs.declared.command_reply.CommandReply.TheVariants.{Data, Done, Number, Refused, Said}
 use Rattle.command_rules.specs.Changes.{Did, Does, kept}
 use Rattle.command_rules.specs.Events.{step_event}
 use Rattle.command_rules.specs.State.{Table}

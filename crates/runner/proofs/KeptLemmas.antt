@@ -13,7 +13,7 @@ use Rattle.command.specs.Blocks.{Lines, ends_block, with_line, with_said}
 use Rattle.command.specs.Lines.{ends_with, said_in}
 use Rattle.command.specs.Opening.{has_par, is_par}
 use Rattle.plain_machine.specs.declared.request.Replied.{Replied}
-use Rattle.command.specs.declared.command_reply.CommandReply.{CommandReply}
+use Rattle.command_replies.specs.declared.command_reply.CommandReply.{CommandReply}
 use Rattle.command_rules.specs.State.{Table}
 use Rattle.command_effects.specs.Arrays.{arrays_in}
 use Rattle.runner.specs.Asking.{IsFirst, line_first, said_first}

@@ -17,7 +17,7 @@ use Rattle.table.specs.declared.lines.Line.{Line}
 use Rattle.table.specs.declared.lines.Target.{Target}
 use Rattle.table.specs.declared.lines.Target.TheVariants.{Flakey, Dust}
 use Rattle.table.specs.Grammar.{times, are_features, features_among, features_in, seconds_of, is_block, are_none, overflow_of, store_in, origin_in, snapshot_in, merge_in, flakey_in, dust_in, error_in, target_in, line_in}
-use Rattle.table.specs.Lawful.{is_target, is_line}
+use Rattle.table.specs.Lawful.{IsTarget, is_target, is_line}
 use Rattle.command.specs.declared.grammar.Command.{Command}
 use Rattle.command.specs.declared.grammar.Command.TheVariants.{Message}
 use Rattle.command.specs.Grammar.{span_of, patch_of, alone_of, is_merge, made_line_of, amount_of, place_of, disk_of, create_of, copy_of, list_of, message_of, tick_of, start_of, step_of, stop_of, command_of}
@@ -67,9 +67,6 @@ features_lawful (count ∷ words) = after (numeral_of count) _ (λ f. not (f.err
     one_of_two (times (codes "error_writes") words) (times (codes "drop_writes") words) (and-split _ (nat_le (times (codes "error_writes") words + times (codes "drop_writes") words) 1) counted).1) tt)
 
 -- the target of a line
-abbrev IsTarget : Target → Type 0
-IsTarget target = is_target target ≡ true
-
 origin_lawful : (words : List (List ℕ)) → IfOk (origin_in words) IsTarget
 origin_lawful [] = tt
 origin_lawful (device ∷ []) = follows (name_of device) _ (λ name. is_name name ≡ true) IsTarget (name_lawful device) (λ name is. is)

@@ -11,7 +11,7 @@ use Rattle.words.proofs.Bools.{and-split}
 use Rattle.command.specs.Opening.{is_par}
 use Rattle.command_rules.specs.Sound.{is_sound}
 use Rattle.command_rules.specs.State.{Table}
-use Rattle.command.specs.declared.command_reply.CommandReply.{CommandReply}
+use Rattle.command_replies.specs.declared.command_reply.CommandReply.{CommandReply}
 use Rattle.runner.specs.declared.summary.Summary.{Summary}
 use Rattle.runner.specs.Counts.{refuses_with, summary_of}
 use Rattle.runner.specs.Numbered.{AreDoneEach, IsTextAnswered, IsTextAnsweredTo, all_of, answers_from, numbered, numbered_from, numbered_output_of}

@@ -10,8 +10,8 @@ use Rattle.words.proofs.Written.{appends_more}
 use Rattle.words.specs.Lines.{left, lines_of, ReadsLine}
 use Rattle.command.specs.Blocks.{Lines}
 use Rattle.command.specs.Opening.{is_par}
-use Rattle.command.specs.declared.command_reply.CommandReply.{CommandReply}
-use Rattle.command.specs.Texts.{text_of}
+use Rattle.command_replies.specs.declared.command_reply.CommandReply.{CommandReply}
+use Rattle.command_replies.specs.Texts.{text_of}
 use Rattle.runner.specs.declared.error.RunError.{RunError}
 use Rattle.runner.specs.declared.summary.Summary.{Summary}
 use Rattle.runner.specs.declared.error.RunError.TheVariants.{Memory, Read, Write, Endless}

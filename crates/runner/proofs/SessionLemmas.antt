@@ -8,8 +8,8 @@ use Rattle.command.specs.Blocks.{Lines, ends_block, opened, with_line}
 use Rattle.command.specs.Opening.{opening_of}
 use Rattle.command.specs.declared.opening.Opening.{Opening}
 use Rattle.command_rules.specs.State.{Table}
-use Rattle.command.specs.declared.command_reply.CommandReply.{CommandReply}
-use Rattle.command.specs.declared.command_reply.CommandReply.TheVariants.{Refused}
+use Rattle.command_replies.specs.declared.command_reply.CommandReply.{CommandReply}
+use Rattle.command_replies.specs.declared.command_reply.CommandReply.TheVariants.{Refused}
 use Rattle.runner.specs.Output.{LineOutcome, Standing, followed, printed}
 use Rattle.runner.specs.Sessions.{IsEndedBy, IsOpenedBy, IsSessionDone, IsTaken, Sitting, refuses, silent}
 use Rattle.runner.proofs.AskingLemmas.{memory_or_not}

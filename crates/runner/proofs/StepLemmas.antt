@@ -9,8 +9,8 @@ use Rattle.layers.specs.declared.message.Answer.TheVariants.{Done}
 use Rattle.command.specs.Line.{said_of}
 use Rattle.command.specs.declared.grammar.Command.{Command}
 use Rattle.command.specs.declared.grammar.Command.TheVariants as commands
-use Rattle.command.specs.declared.command_reply.CommandReply.{CommandReply}
-use Rattle.command.specs.Answers.{reply_to}
+use Rattle.command_replies.specs.declared.command_reply.CommandReply.{CommandReply}
+use Rattle.command_replies.specs.Answers.{reply_to}
 use Rattle.command_rules.specs.State.{Table}
 use Rattle.command_rules.specs.Changes.{Did, Does, ServesIf, kept}
 use Rattle.command_rules.specs.Messages.{tell}

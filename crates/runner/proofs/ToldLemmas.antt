@@ -6,8 +6,8 @@ use Rattle.std.proofs.lemmas.List.{append-nil}
 use Rattle.std.proofs.lemmas.Grind.{flat_map-append}
 use Rattle.words.proofs.Written.{appends_more}
 use Rattle.words.specs.Lines.{left, lines_of, ReadsLine}
-use Rattle.command.specs.declared.command_reply.CommandReply.{CommandReply}
-use Rattle.command.specs.Texts.{text_of}
+use Rattle.command_replies.specs.declared.command_reply.CommandReply.{CommandReply}
+use Rattle.command_replies.specs.Texts.{text_of}
 use Rattle.runner.specs.Numbered.{all_of, numbered, numbered_from}
 use Rattle.runner.specs.Output.{LineOutcome, printed}
 use Rattle.runner.specs.Runs.{IsNext, begun}

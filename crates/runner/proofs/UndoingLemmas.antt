@@ -7,7 +7,7 @@ use Rattle.command.specs.Line.{said_of}
 use Rattle.command.specs.declared.grammar.Command.{Command}
 use Rattle.command.specs.declared.grammar.Command.TheVariants as commands
 use Rattle.table.specs.declared.lines.Target.{Target}
-use Rattle.command.specs.declared.command_reply.CommandReply.TheVariants.{Refused}
+use Rattle.command_replies.specs.declared.command_reply.CommandReply.TheVariants.{Refused}
 use Rattle.command_rules.specs.Changes.{changed}
 use Rattle.command_rules.specs.Merging.{merge_finished}
 use Rattle.command_rules.specs.State.{Table}

@@ -2,8 +2,8 @@
 use Rattle.std.specs.Prelude.{◌≡◌, ℕ, true, List, [], ◌∷◌, ◌++◌, Option, Result, IfSome}
 use Rattle.sector.specs.declared.refusal.Refusal.{Refusal}
 use Rattle.sector.specs.declared.refusal.Refusal.TheVariants.{JournalFull}
-use Rattle.command.specs.declared.command_reply.CommandReply.{CommandReply}
-use Rattle.command.specs.declared.command_reply.CommandReply.TheVariants.{Refused}
+use Rattle.command_replies.specs.declared.command_reply.CommandReply.{CommandReply}
+use Rattle.command_replies.specs.declared.command_reply.CommandReply.TheVariants.{Refused}
 use Rattle.plain_machine.specs.declared.request.Replied.{Replied}
 use Rattle.command_rules.specs.State.{Table}
 use Rattle.runner.specs.Asking.{IsFirst, line_first}

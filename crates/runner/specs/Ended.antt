@@ -2,10 +2,10 @@
 use Rattle.std.specs.Prelude.{List, ◌++◌, map, Option}
 use Rattle.plain_machine.specs.declared.request.Reply.{Reply as Answered}
 use Rattle.plain_machine.specs.declared.request.Reply.TheVariants as answers
-use Rattle.command.specs.declared.command_reply.CommandReply.{CommandReply}
-use Rattle.command.specs.declared.command_reply.CommandReply.TheVariants.{Ended}
-use Rattle.command.specs.declared.ended.Ending.{Ending}
-use Rattle.command.specs.declared.ended.Ending.TheVariants.{Data, Written, Flushed, Refused}
+use Rattle.command_replies.specs.declared.command_reply.CommandReply.{CommandReply}
+use Rattle.command_replies.specs.declared.command_reply.CommandReply.TheVariants.{Ended}
+use Rattle.command_replies.specs.declared.ended.Ending.{Ending}
+use Rattle.command_replies.specs.declared.ended.Ending.TheVariants.{Data, Written, Flushed, Refused}
 use Rattle.plain_machine.specs.declared.request.Replied.{Replied}
 use Rattle.plain_machine.specs.Failures.{refusal_of}
 use Rattle.runner.specs.Output.{answered}

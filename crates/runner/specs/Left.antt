@@ -12,8 +12,8 @@ use Rattle.plain_machine.specs.declared.event.Outcome.TheVariants as outcomes
 use Rattle.plain_machine.specs.declared.request.Op.{Op}
 use Rattle.plain_machine.specs.declared.request.Op.TheVariants.{Read as ReadOp, Write as WriteOp}
 use Rattle.table.specs.declared.lines.Line.{Line}
-use Rattle.command.specs.declared.command_reply.CommandReply.{CommandReply}
-use Rattle.command.specs.declared.command_reply.CommandReply.TheVariants.{Data, Done, Fault, Number, Said}
+use Rattle.command_replies.specs.declared.command_reply.CommandReply.{CommandReply}
+use Rattle.command_replies.specs.declared.command_reply.CommandReply.TheVariants.{Data, Done, Fault, Number, Said}
 use Rattle.plain_machine.specs.Replies.{reply_in}
 use Rattle.plain_machine.specs.declared.request.Replied.{Replied}
 use Rattle.big_steps.specs.Refusals.{is_starved}

@@ -2,7 +2,7 @@
 use Rattle.std.specs.Prelude.{◌≡◌, ℕ, ◌+◌, List, [], ◌∷◌, ◌++◌, codes, decimal}
 use Rattle.std.specs.List.{flat_map}
 use Rattle.words.specs.Lines.{lines_of}
-use Rattle.command.specs.declared.command_reply.CommandReply.{CommandReply}
+use Rattle.command_replies.specs.declared.command_reply.CommandReply.{CommandReply}
 use Rattle.command_rules.specs.State.{Table}
 use Rattle.runner.specs.Output.{LineOutcome, empty, outcome_of, printed}
 use Rattle.runner.specs.Runs.{IsNext, begun}

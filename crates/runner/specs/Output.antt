@@ -8,9 +8,9 @@ use Rattle.words.specs.Lines.{lines_of}
 use Rattle.command.specs.Line.{said_of}
 use Rattle.command.specs.declared.grammar.Command.{Command}
 use Rattle.command.specs.declared.grammar.Command.TheVariants as commands
-use Rattle.command.specs.declared.command_reply.CommandReply.{CommandReply}
-use Rattle.command.specs.declared.command_reply.CommandReply.TheVariants.{Done, Refused}
-use Rattle.command.specs.Texts.{text_of}
+use Rattle.command_replies.specs.declared.command_reply.CommandReply.{CommandReply}
+use Rattle.command_replies.specs.declared.command_reply.CommandReply.TheVariants.{Done, Refused}
+use Rattle.command_replies.specs.Texts.{text_of}
 use Rattle.command_rules.specs.State.{Table}
 use Rattle.command_rules.specs.Changes.{Did}
 use Rattle.command_rules.specs.Sectors.{IsFlushStarved, IsReadStarved, IsWriteStarved}

@@ -2,7 +2,7 @@
 use Rattle.std.specs.Prelude.{◌≡◌, ℕ, true, List, [], ◌∷◌, ◌++◌, None}
 use Rattle.words.specs.Lines.{lines_of}
 use Rattle.command_rules.specs.Sound.{is_sound}
-use Rattle.command.specs.declared.command_reply.CommandReply.{CommandReply}
+use Rattle.command_replies.specs.declared.command_reply.CommandReply.{CommandReply}
 use Rattle.runner.specs.Counts.{summary_of}
 use Rattle.runner.specs.Output.{LineOutcome, empty, followed}
 use Rattle.runner.specs.Sessions.{IsEndedBy, IsSessionDone, Sitting}

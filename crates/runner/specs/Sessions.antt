@@ -11,8 +11,8 @@ use Rattle.block_run.specs.Answering.{AreAnswered}
 use Rattle.block_run.specs.Looking.{block_refusal}
 use Rattle.block_run.specs.Running.{IsOfBlock, IsTableRun, all_told, seat_in}
 use Rattle.block_run.specs.Spared.{AreSpared}
-use Rattle.command.specs.declared.command_reply.CommandReply.{CommandReply}
-use Rattle.command.specs.declared.command_reply.CommandReply.TheVariants.{Done, Refused}
+use Rattle.command_replies.specs.declared.command_reply.CommandReply.{CommandReply}
+use Rattle.command_replies.specs.declared.command_reply.CommandReply.TheVariants.{Done, Refused}
 use Rattle.runner.specs.Done.{IsLineDone}
 use Rattle.runner.specs.Output.{LineOutcome, Standing}
 

@@ -4,8 +4,8 @@ use Rattle.std.specs.Prelude.{◌≡◌, ℕ, List, [], ◌∷◌, Option, Some,
 use Rattle.sector.specs.declared.refusal.Refusal.{Refusal}
 use Rattle.command.specs.Line.{said_of}
 use Rattle.command.specs.declared.grammar.Command.{Command}
-use Rattle.command.specs.declared.command_reply.CommandReply.{CommandReply}
-use Rattle.command.specs.declared.command_reply.CommandReply.TheVariants.{Done, Data, Said, Number, Fault, Ended, Seat, Gate, Refused}
+use Rattle.command_replies.specs.declared.command_reply.CommandReply.{CommandReply}
+use Rattle.command_replies.specs.declared.command_reply.CommandReply.TheVariants.{Done, Data, Said, Number, Fault, Ended, Seat, Gate, Refused}
 use Rattle.command_rules.specs.State.{Table}
 use Rattle.command_effects.specs.Arrays.{Arrays, arrays_in}
 use Rattle.command_effects.specs.Commands.{IsShown}

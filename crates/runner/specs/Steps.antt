@@ -8,9 +8,9 @@ use Rattle.sector.specs.declared.refusal.Refusal.TheVariants.{NotDue}
 use Rattle.command.specs.Line.{said_of}
 use Rattle.command.specs.declared.grammar.Command.{Command}
 use Rattle.command.specs.declared.grammar.Command.TheVariants as commands
-use Rattle.command.specs.declared.command_reply.CommandReply.{CommandReply}
-use Rattle.command.specs.declared.command_reply.CommandReply.TheVariants.{Done, Data, Said}
-use Rattle.command.specs.Answers.{reply_to}
+use Rattle.command_replies.specs.declared.command_reply.CommandReply.{CommandReply}
+use Rattle.command_replies.specs.declared.command_reply.CommandReply.TheVariants.{Done, Data, Said}
+use Rattle.command_replies.specs.Answers.{reply_to}
 use Rattle.command_rules.specs.State.{Table}
 use Rattle.command_rules.specs.Changes.{Did, refused, kept, changed}
 use Rattle.command_rules.specs.Disks.{make}

@@ -1,7 +1,7 @@
 -- A run of a text, and what is told behind each of its lines. This project's own.
 use Rattle.std.specs.Prelude.{◌≡◌, ℕ, ◌+◌, List, [], ◌∷◌, ◌++◌, Option, None, Some}
 use Rattle.words.specs.Lines.{lines_of}
-use Rattle.command.specs.declared.command_reply.CommandReply.{CommandReply}
+use Rattle.command_replies.specs.declared.command_reply.CommandReply.{CommandReply}
 use Rattle.runner.specs.Output.{LineOutcome}
 use Rattle.runner.specs.Runs.{IsNext, begun}
 use Rattle.runner.specs.Sessions.{IsEndedBy, Sitting}

@@ -3,7 +3,7 @@ ghost use Rattle.std.specs.Prelude.{◌≡◌, ◌≤◌, ◌++◌, ◌∷◌, [
 ghost use Rattle.std.specs.Io.KnownBytes.{Appends};
 ghost use Rattle.command_rules.specs.Naming.{AreNamed};
 ghost use Rattle.command_rules.specs.Sound.{is_sound};
-ghost use Rattle.command.specs.declared.command_reply.CommandReply.TheVariants.{Done, Refused};
+ghost use Rattle.command_replies.specs.declared.command_reply.CommandReply.TheVariants.{Done, Refused};
 ghost use Rattle.runner.specs.Exit.{IsWriters};
 ghost use Rattle.runner.specs.Output.{LineOutcome, followed, printed};
 ghost use Rattle.runner.specs.Sessions.{IsBlockDone, refuses};
@@ -11,7 +11,8 @@ ghost use Rattle.runner.specs.Sessions.{IsBlockDone, refuses};
 use crate::desk::Desk;
 use crate::error::RunError;
 use block_run::run_block;
-use command::{CommandReply, LineBlock};
+use command::LineBlock;
+use command_replies::CommandReply;
 use sector::Refusal;
 use std::io;
 use std::io::Write;

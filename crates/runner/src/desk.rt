@@ -3,11 +3,11 @@ ghost use Rattle.std.specs.Prelude.{◌≡◌, [], ◌∷◌, true, None, MatchR
 ghost use Rattle.std.specs.Io.KnownBytes.{Appends};
 ghost use Rattle.sector.specs.declared.refusal.Refusal.{Refusal as AnyRefusal};
 ghost use Rattle.sector.specs.declared.refusal.Refusal.TheVariants.{JournalFull};
-ghost use Rattle.command.specs.declared.command_reply.CommandReply.{CommandReply as AnyReply};
-ghost use Rattle.command.specs.declared.command_reply.CommandReply.TheVariants.{Refused};
+ghost use Rattle.command_replies.specs.declared.command_reply.CommandReply.{CommandReply as AnyReply};
+ghost use Rattle.command_replies.specs.declared.command_reply.CommandReply.TheVariants.{Refused};
 ghost use Rattle.command_rules.specs.Naming.{AreNamed};
 ghost use Rattle.command_rules.specs.Sound.{is_sound};
-ghost use Rattle.device_list.specs.Tables.{table_of};
+ghost use Rattle.device_list.specs.Tables.{StaysNamed, table_of};
 ghost use Rattle.runner.specs.Asking.{IsFirst, line_first};
 ghost use Rattle.runner.specs.Counts.{summary_of};
 ghost use Rattle.runner.specs.Exit.{IsMemory, IsWriters};
@@ -24,7 +24,7 @@ use crate::ended::print_all;
 use crate::error::RunError;
 use crate::step::answer;
 use crate::summary::Summary;
-use command::CommandReply;
+use command_replies::CommandReply;
 use device_commands::checkpoint_all;
 use device_list::Devices;
 use plain_machine::Replied;
@@ -79,7 +79,7 @@ fn outcome(
     ensures left { (answer : Result (Option AnyReply) AnyRefusal) × (answered own.new ≡ told answer) × IsLineLeft line.now answer (table_of held.old) (table_of held.new) ended.old.items ended.new.items }
     ensures full { answered own.new ≡ Refused JournalFull ∷ [] → IsAskedByLine line.now (table_of held.old) (table_of held.new) }
     ensures sound { is_sound (table_of held.old) ≡ true → is_sound_line line.now ≡ true → is_sound (table_of held.new) ≡ true }
-    ensures named { AreNamed (table_of held.old) → AreNamed (table_of held.new) }
+    ensures named { StaysNamed held.old held.new }
 {
     if let Err(refusal) = answer(alloc, held, room, line, ended, own) {
         *own = Some(CommandReply::Refused(refusal));

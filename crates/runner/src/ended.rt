@@ -6,7 +6,7 @@ ghost use Rattle.runner.specs.Exit.{IsWriters};
 ghost use Rattle.runner.specs.Output.{answered, printed};
 
 use crate::error::RunError;
-use command::{CommandReply, Ended, Ending};
+use command_replies::{CommandReply, Ended, Ending};
 use plain_machine::{Replied, Reply as Answered, refusal_for};
 use std::alloc::Global;
 use std::io::Write;

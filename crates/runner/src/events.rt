@@ -2,16 +2,16 @@
 ghost use Rattle.std.specs.Prelude.{◌≡◌, true, false, Some, IfSome, OnErr};
 ghost use Rattle.command_rules.specs.Changes.{Does, refused};
 ghost use Rattle.command_rules.specs.Events.{event_asked, is_merge_event, step_event};
-ghost use Rattle.command_rules.specs.Naming.{AreNamed};
 ghost use Rattle.command_rules.specs.Sound.{is_sound};
-ghost use Rattle.device_list.specs.Tables.{table_of};
+ghost use Rattle.device_list.specs.Tables.{StaysNamed, table_of};
 ghost use Rattle.device_commands.specs.Ruled.{is_quiet_in, volume_for};
 ghost use Rattle.runner.specs.Asking.{IsFirst, refusal_in};
 ghost use Rattle.runner.specs.Left.{IsStepLeft};
 ghost use Rattle.runner.specs.Output.{told};
 ghost use Rattle.runner.specs.Steps.{reworded};
 
-use command::{CommandReply, EventWords};
+use command::EventWords;
+use command_replies::CommandReply;
 use device_commands::step_device;
 use device_list::Devices;
 use plain_machine::{Outcome, Replied};
@@ -35,7 +35,7 @@ pub fn step_volume(
     ensures err { OnErr result (table_of held.new ≡ table_of held.old) }
     ensures kept { OnErr result (ended.new.items ≡ ended.old.items) }
     ensures sound { is_merge_event event.now ≡ false → is_sound (table_of held.old) ≡ true → is_sound (table_of held.new) ≡ true }
-    ensures named { AreNamed (table_of held.old) → AreNamed (table_of held.new) }
+    ensures named { StaysNamed held.old held.new }
 {
     ended.reserve(1).map_err(|_| Refusal::NoMemory)?;
     match step_device(held, name, event)? {

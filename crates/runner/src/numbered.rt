@@ -1,7 +1,7 @@
 // A whole text of lines, and the number of each line before its answers.
 ghost use Rattle.std.specs.Prelude.{◌≡◌, ◌≤◌, true, List, IfOk, IfErr, IfSome};
 ghost use Rattle.std.specs.Io.KnownBytes.{Appends};
-ghost use Rattle.command.specs.declared.command_reply.CommandReply.{CommandReply};
+ghost use Rattle.command_replies.specs.declared.command_reply.CommandReply.{CommandReply};
 ghost use Rattle.runner.specs.Counts.{summary_of};
 ghost use Rattle.runner.specs.Exit.{IsEarly, IsWriters};
 ghost use Rattle.runner.specs.Numbered.{IsTextAnswered, IsTextAnsweredTo, all_of, numbered_from, numbered_output_of};

@@ -2,13 +2,12 @@
 ghost use Rattle.std.specs.Prelude.{◌≡◌, ◌≢◌, [], ◌∷◌, true, None, Some, is_some, IfOk, IfSome, MatchResult};
 ghost use Rattle.sector.specs.declared.refusal.Refusal.TheVariants.{JournalFull, NoMemory};
 ghost use Rattle.layers.specs.declared.message.Answer.TheVariants as answers;
-ghost use Rattle.command.specs.declared.command_reply.CommandReply.TheVariants.{Done, Data, Said, Number, Refused};
-ghost use Rattle.command.specs.Answers.{reply_to};
+ghost use Rattle.command_replies.specs.declared.command_reply.CommandReply.TheVariants.{Done, Data, Said, Number, Refused};
+ghost use Rattle.command_replies.specs.Answers.{reply_to};
 ghost use Rattle.command_rules.specs.Changes.{Does, ServesIf, kept};
 ghost use Rattle.command_rules.specs.Messages.{tell};
-ghost use Rattle.command_rules.specs.Naming.{AreNamed};
 ghost use Rattle.command_rules.specs.Sound.{is_sound};
-ghost use Rattle.device_list.specs.Tables.{table_of};
+ghost use Rattle.device_list.specs.Tables.{StaysNamed, StaysSound, table_of};
 ghost use Rattle.device_commands.specs.Asked.{IsAskedMuch};
 ghost use Rattle.device_commands.specs.Order.{IsLookedAt};
 ghost use Rattle.runner.specs.Asking.{IsFirst, first_refusal, line_first};
@@ -30,7 +29,8 @@ use command::Command::{
     Checkpoint, Copy, Create, Disk, Finish, Flush, List, Load, Merge, Read, Remove, Resume, Save,
     Settle, StartRead, StartWrite, Status, Step, Stop, StopLosing, Table, Tick, Write,
 };
-use command::{Command, CommandReply, LINE_LIMIT, said};
+use command::{Command, LINE_LIMIT, said};
+use command_replies::CommandReply;
 use device_commands::{
     checkpoint_device, copy_disk, create_device, finish_device, flush_device, line_text, list_text,
     load_disk, make_disk, merge_device, read_device, remove_device, resume_device, save_disk,
@@ -93,8 +93,8 @@ fn tell_device(
     message: &Message,
 ) -> Result<CommandReply, Refusal>
     ensures done { Does result (table_of held.new) (λ t. t ≡ table_of held.old) (told_as reply_to (kept (table_of held.old) (tell name.now message.now (table_of held.old)))) }
-    ensures sound { is_sound (table_of held.old) ≡ true → is_sound (table_of held.new) ≡ true }
-    ensures named { AreNamed (table_of held.old) → AreNamed (table_of held.new) }
+    ensures sound { StaysSound held.old held.new }
+    ensures named { StaysNamed held.old held.new }
 {
     match tell(held, name, message) {
         Ok(answer) => worded(alloc, answer),
@@ -123,7 +123,7 @@ fn obey_any(
     ensures left { IsLeft command result (table_of held.old) (table_of held.new) ended.old.items ended.new.items }
     ensures full { told (reworded Some result) ≡ Refused JournalFull ∷ [] → IsAskedMuch (entered_by command) (table_of held.old) (table_of held.new) }
     ensures sound { is_sound (table_of held.old) ≡ true → is_sound_command command ≡ true → is_sound (table_of held.new) ≡ true }
-    ensures named { AreNamed (table_of held.old) → AreNamed (table_of held.new) }
+    ensures named { StaysNamed held.old held.new }
 {
     match command {
         Disk { name, sectors } => did(make_disk(alloc, held, name, sectors)),
@@ -216,7 +216,7 @@ fn obey_other(
     ensures left { IsLeft command.old (replied result own.new) (table_of held.old) (table_of held.new) ended.old.items ended.new.items }
     ensures full { told (reworded Some (replied result own.new)) ≡ Refused JournalFull ∷ [] → IsAskedMuch (entered_by command.old) (table_of held.old) (table_of held.new) }
     ensures sound { is_sound (table_of held.old) ≡ true → is_sound_command command.old ≡ true → is_sound (table_of held.new) ≡ true }
-    ensures named { AreNamed (table_of held.old) → AreNamed (table_of held.new) }
+    ensures named { StaysNamed held.old held.new }
 {
     let command = mem::replace(command, Command::Tick { seconds: 0 });
     let reply = obey_any(alloc, held, command, ended)?;
@@ -248,7 +248,7 @@ fn obey(
     ensures left { IsLeft command.old (replied result own.new) (table_of held.old) (table_of held.new) ended.old.items ended.new.items }
     ensures full { told (reworded Some (replied result own.new)) ≡ Refused JournalFull ∷ [] → IsAskedMuch (entered_by command.old) (table_of held.old) (table_of held.new) }
     ensures sound { is_sound (table_of held.old) ≡ true → is_sound_command command.old ≡ true → is_sound (table_of held.new) ≡ true }
-    ensures named { AreNamed (table_of held.old) → AreNamed (table_of held.new) }
+    ensures named { StaysNamed held.old held.new }
 {
     match command {
         Read { name, first, count } => {
@@ -287,7 +287,7 @@ pub fn answer(
     ensures left { IsLineLeft line.now (placed result own.new) (table_of held.old) (table_of held.new) ended.old.items ended.new.items }
     ensures full { told (placed result own.new) ≡ Refused JournalFull ∷ [] → IsAskedByLine line.now (table_of held.old) (table_of held.new) }
     ensures sound { is_sound (table_of held.old) ≡ true → is_sound_line line.now ≡ true → is_sound (table_of held.new) ≡ true }
-    ensures named { AreNamed (table_of held.old) → AreNamed (table_of held.new) }
+    ensures named { StaysNamed held.old held.new }
 {
     let mut words = said(alloc, room, line, LINE_LIMIT);
     match &mut words {

@@ -3,7 +3,7 @@ ghost use Rattle.std.specs.Prelude.{◌≡◌, []};
 ghost use Rattle.runner.specs.Counts.{more, is_refused, refuses_with, summary_of, with_lines, with_reply};
 ghost use Rattle.runner.specs.Output.{answered, counted};
 
-use command::CommandReply;
+use command_replies::CommandReply;
 use sector::Refusal;
 
 /// How many lines were printed. Each number stops at 2^64 - 1.

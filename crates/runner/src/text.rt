@@ -2,7 +2,7 @@
 ghost use Rattle.std.specs.Prelude.{◌≡◌, ◌≤◌, ◌++◌, true, List, IfOk, IfErr, IfSome};
 ghost use Rattle.std.specs.Io.KnownBytes.{Appends};
 ghost use Rattle.words.specs.Lines.{lines_of};
-ghost use Rattle.command.specs.declared.command_reply.CommandReply.{CommandReply};
+ghost use Rattle.command_replies.specs.declared.command_reply.CommandReply.{CommandReply};
 ghost use Rattle.runner.specs.Counts.{summary_of};
 ghost use Rattle.runner.specs.Exit.{IsEarly, IsWriters};
 ghost use Rattle.runner.specs.Numbered.{all_of};

@@ -5,7 +5,7 @@ ghost use Rattle.words.specs.Given.{Gives};
 ghost use Rattle.words.specs.Texts.{texts};
 ghost use Rattle.words.specs.Names.{is_name};
 ghost use Rattle.chunk.specs.Sizes.{is_chunk};
-ghost use Rattle.table.specs.Lawful.{is_target, is_line};
+ghost use Rattle.table.specs.Lawful.{is_line, IsTarget};
 ghost use Rattle.table.specs.Grammar.{times, is_block, seconds_of, features_in, origin_in, are_none, overflow_of, store_in, snapshot_in, merge_in, flakey_in, dust_in, error_in, target_in, line_in, line_of};
 
 use crate::{FlakeyFeatures, Line, Target};
@@ -54,7 +54,7 @@ fn features(words: &[&[u8]]) -> Result<FlakeyFeatures, Refusal>
 
 fn origin(words: &[&[u8]]) -> Result<Target, Refusal>
     ensures reads { result ≡ origin_in (texts words.now) }
-    ensures lawful { IfOk result (λ target. is_target target ≡ true) }
+    ensures lawful { IfOk result IsTarget }
 {
     match words {
         [device] => {
@@ -114,7 +114,7 @@ fn are_none(words: &[&[u8]]) -> bool
 
 fn snapshot(words: &[&[u8]]) -> Result<Target, Refusal>
     ensures reads { result ≡ snapshot_in (texts words.now) }
-    ensures lawful { IfOk result (λ target. is_target target ≡ true) }
+    ensures lawful { IfOk result IsTarget }
 {
     let (device, store, chunk, overflow) = store(words)?;
     Ok(Target::Snapshot {
@@ -127,7 +127,7 @@ fn snapshot(words: &[&[u8]]) -> Result<Target, Refusal>
 
 fn merge(words: &[&[u8]]) -> Result<Target, Refusal>
     ensures reads { result ≡ merge_in (texts words.now) }
-    ensures lawful { IfOk result (λ target. is_target target ≡ true) }
+    ensures lawful { IfOk result IsTarget }
 {
     let (device, store, chunk, overflow) = store(words)?;
     Ok(Target::Merge {
@@ -153,7 +153,7 @@ fn seconds(word: &[u8]) -> Result<u32, Refusal>
 
 fn flakey(words: &[&[u8]]) -> Result<Target, Refusal>
     ensures reads { result ≡ flakey_in (texts words.now) }
-    ensures lawful { IfOk result (λ target. is_target target ≡ true) }
+    ensures lawful { IfOk result IsTarget }
 {
     match words {
         [device, offset, up, down, words @ ..] => {
@@ -186,7 +186,7 @@ fn is_block_size(bytes: u32) -> bool
 
 fn dust(words: &[&[u8]]) -> Result<Target, Refusal>
     ensures reads { result ≡ dust_in (texts words.now) }
-    ensures lawful { IfOk result (λ target. is_target target ≡ true) }
+    ensures lawful { IfOk result IsTarget }
 {
     match words {
         [device, offset, block] => {
@@ -204,7 +204,7 @@ fn dust(words: &[&[u8]]) -> Result<Target, Refusal>
 
 fn error(words: &[&[u8]]) -> Result<Target, Refusal>
     ensures reads { result ≡ error_in (texts words.now) }
-    ensures lawful { IfOk result (λ target. is_target target ≡ true) }
+    ensures lawful { IfOk result IsTarget }
 {
     match words {
         [] => Ok(Target::Error),
@@ -215,7 +215,7 @@ fn error(words: &[&[u8]]) -> Result<Target, Refusal>
 // A target by its name, and its parameters.
 fn target(kind: &[u8], words: &[&[u8]]) -> Result<Target, Refusal>
     ensures reads { result ≡ target_in kind.now (texts words.now) }
-    ensures lawful { IfOk result (λ target. is_target target ≡ true) }
+    ensures lawful { IfOk result IsTarget }
 {
     if kind == b"snapshot-origin".as_slice() {
         origin(words)

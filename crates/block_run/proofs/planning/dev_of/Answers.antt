@@ -3,4 +3,4 @@ use Rattle.block_run.proofs.Asks.{dev_there}
 use Rattle.block_run.proofs.planning.dev_of.Goals as goal
 
 pub returns-in-Snapshot : goal.returns-in-Snapshot
-returns-in-Snapshot c = dev_there c.in-Snapshot.k c.args.role c.args.volume.now.state c.number.result c.in-Snapshot.is c.number.ensures
+returns-in-Snapshot c = dev_there c.in-Snapshot.k c.args.role c.args.volume.now.shown.state c.number.result c.in-Snapshot.is c.number.ensures

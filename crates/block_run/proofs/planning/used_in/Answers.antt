@@ -10,5 +10,5 @@ use Rattle.block_run.proofs.planning.used_in.Goals as goal
 pub returns : goal.returns
 returns c =
     let all : take c.loop-line.line-index c.args.lines.now ≡ c.args.lines.now = take_all c.loop-line.line-index c.args.lines.now (omega arith) in
-    fill_by_all (λ (v : ℕ). is_used v c.args.lines.now (table_of c.args.held.now)) c.loop-line.used.items (length c.args.held.now.volumes.items) false (omega (arith, c.loop-line.invariant.many))
+    fill_by_all (λ (v : ℕ). is_used v c.args.lines.now (table_of c.args.held.now)) c.loop-line.used.items (length (table_of c.args.held.now).volumes) false (omega (arith, c.loop-line.invariant.many))
     (λ v low. c.loop-line.invariant.marked v low ∙ ap (λ (l : List SeatLine). is_used v l (table_of c.args.held.now)) all)

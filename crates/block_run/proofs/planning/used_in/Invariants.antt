@@ -6,6 +6,6 @@ use Rattle.block_run.proofs.planning.used_in.Given as goal
 
 abbrev pub invariant-loop-line : goal.invariant-loop-line
 invariant-loop-line l = record {
-  many : vec_len l.used ≡ length l.held.volumes.items;
-  marked : (w : ℕ) → w < length l.held.volumes.items → get_or l.used.items w false ≡ is_used w (take l.line-index l.lines) (table_of l.held);
+  many : vec_len l.used ≡ length (table_of l.held).volumes;
+  marked : (w : ℕ) → w < length (table_of l.held).volumes → get_or l.used.items w false ≡ is_used w (take l.line-index l.lines) (table_of l.held);
 }

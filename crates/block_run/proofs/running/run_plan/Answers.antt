@@ -1,7 +1,7 @@
 -- The replies of all seats, and then the gate's.
 use Rattle.std.proofs.Common.{◌++◌, Bool, List, ap, subst, ◌∙◌, arith}
 use Rattle.device_list.specs.Tables.{table_of}
-use Rattle.command.specs.declared.command_reply.CommandReply.{CommandReply}
+use Rattle.command_replies.specs.declared.command_reply.CommandReply.{CommandReply}
 use Rattle.block_threads.specs.Tasks.{tasks_at}
 use Rattle.block_run.specs.Answering.{gate_replies}
 use Rattle.block_run.specs.Played.{ArePlayed}

@@ -1,6 +1,6 @@
 -- The replies of one seat more are told.
 use Rattle.std.proofs.Common.{◌≡◌, ◌<◌, ◌+◌, ◌-◌, ◌++◌, ℕ, List, length, length-set, map, ap, ◌∙◌, arith}
-use Rattle.command.specs.declared.command_reply.CommandReply.{CommandReply}
+use Rattle.command_replies.specs.declared.command_reply.CommandReply.{CommandReply}
 use Rattle.block_threads.specs.declared.task.Task.{Task}
 use Rattle.block_threads.specs.Tasks.{tasks_at}
 use Rattle.block_threads.proofs.Places.{apart, at}

@@ -5,6 +5,7 @@ use Rattle.layers.specs.Stack.{stack_layers, stack_size}
 use Rattle.volume_commands.specs.Kept.{KeepsDevices}
 use Rattle.volume_commands.specs.Rested.{Rested, rested_of}
 use Rattle.volume.specs.Leaving.{is_quiet_of}
+use Rattle.device_list.specs.Backed.{Backed}
 use Rattle.device_list.specs.Parting.{HasAll, HasBegun, named_with, place_begun, with_begun, with_requests}
 use Rattle.block_run.proofs.Backs.{fits, is_run, loud, stands_now}
 use Rattle.block_run.proofs.Plays.{is_made}
@@ -24,12 +25,12 @@ of_parts-requires-clause-loud c =
 pub returns : goal.returns
 returns c before old back =
     let p = c.args.parts in
-    let result = c.of_parts.result in
+    let result = c.of_parts.result.shown in
     let rested = c.rest.new.audit in
     let is = c.of_audit.ensures.rested in
     let kept = c.rest.ensures.rested.kept in
-    let all = subst (λ (v : Rested Stack). HasAll p v → result ≡ named_with (with_requests v.requests p) v) is c.of_parts.ensures.same in
-    let begun = subst (λ (v : Rested Stack). HasBegun p v → result ≡ named_with (with_requests v.requests (with_begun (place_begun v) p)) v) is c.of_parts.ensures.begun in
+    let all = subst (λ (v : Rested Stack). HasAll p v → result ≡ named_with (with_requests v.requests p) v) is (λ has. ap (λ (w : Backed). w.shown) (c.of_parts.ensures.same has)) in
+    let begun = subst (λ (v : Rested Stack). HasBegun p v → result ≡ named_with (with_requests v.requests (with_begun (place_begun v) p)) v) is (λ has. ap (λ (w : Backed). w.shown) (c.of_parts.ensures.begun has)) in
     is_made before p c.args.audit rested old result back c.rest.ensures.rested (record { lawful = c.entries.ensures.lawful; inside = c.entries.ensures.inside; gives = c.entries.ensures.replay })
     (stands_now before p c.args.audit old rested.volume result back kept all begun)
     (is_run before p c.args.audit old (rested_of rested.volume) result back kept c.rest.ensures.quiet c.of_parts.ensures.sound (c.of_parts.ensures.quiet ∙ ap (λ (v : Rested Stack). is_quiet_of v.events) is) all begun)

@@ -13,7 +13,7 @@ name-requires c =
 pub returns-in-Some-clause-put : goal.returns-in-Some-clause-put
 returns-in-Some-clause-put c used befores first others old back =
     let last : c.args.audits.now.items ≡ c.pop.new.self.items ++ c.in-Some.audit ∷ [] = c.pop.ensures.items ∙ ap (λ r. c.pop.new.self.items ++ option_to_list r) c.in-Some.is in
-    put_of c.args.slot c.in-Out.parts used befores c.args.audits.now.items c.pop.new.self.items first others c.in-Some.audit old c.in-Out.is last back c.name.result c.name.ensures
+    put_of c.args.slot c.in-Out.parts used befores c.args.audits.now.items c.pop.new.self.items first others c.in-Some.audit old c.in-Out.is last back c.name.result.shown c.name.ensures
 
 pub returns-in-Some-clause-others : goal.returns-in-Some-clause-others
 returns-in-Some-clause-others c used befores first others old back =

@@ -1,5 +1,6 @@
 -- The volumes that are left are the first of the table, and what was taken has the places after them.
 use Rattle.std.proofs.Common.{◌≡◌, ◌+◌, ◌≤◌, drop, length, take, vec_len, vec_capacity}
+use Rattle.device_list.proofs.Showing.{shown_in}
 use Rattle.block_run.specs.Taking.{AreSlots}
 use Rattle.block_run.proofs.taking.take_all.Given as goal
 
@@ -7,7 +8,7 @@ abbrev pub invariant-loop-volume : goal.invariant-loop-volume
 invariant-loop-volume l = record {
   front : l.volumes.items ≡ take (length l.volumes.items) l.fn.volumes.items;
   few : length l.volumes.items ≤ length l.fn.volumes.items;
-  slots : AreSlots (drop (length l.volumes.items) l.used) l.slots.items l.audits.items (drop (length l.volumes.items) l.fn.volumes.items);
+  slots : AreSlots (drop (length l.volumes.items) l.used) l.slots.items l.audits.items (drop (length l.volumes.items) (shown_in l.fn.volumes.items));
   many : vec_len l.slots + vec_len l.volumes ≡ vec_len l.fn.volumes;
   taken : vec_len l.audits ≤ vec_len l.slots;
   room : vec_capacity l.volumes ≡ vec_capacity l.fn.volumes;

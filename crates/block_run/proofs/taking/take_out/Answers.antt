@@ -5,13 +5,14 @@ use Rattle.layers.specs.Stack.{stack_layers}
 use Rattle.volume.specs.Volumed.{Volumed}
 use Rattle.volume_commands.specs.Recorded.{Recorded}
 use Rattle.volume_commands.specs.Rested.{Rested, is_loud_in, rested_of}
+use Rattle.device_list.specs.Backed.{Backed}
 use Rattle.device_list.specs.Parting.{HasAll, IsParted, named_with}
 use Rattle.block_run.proofs.Backs.{loud_is}
 use Rattle.block_run.proofs.Outs.{as_it_was, idle}
 use Rattle.block_run.proofs.taking.take_out.Goals as goal
 
 pub into_audit-requires : goal.into_audit-requires
-into_audit-requires c = record { quiet = idle c.into_parts-parts.result.0 c.into_parts-parts.result.1.rested c.args.volume c.into_parts-parts.ensures.named c.requires.quiet }
+into_audit-requires c = record { quiet = idle c.into_parts-parts.result.0 c.into_parts-parts.result.1.rested c.args.volume.shown (ap (λ (w : Backed). w.shown) c.into_parts-parts.ensures.named) c.requires.quiet }
 
 pub of_parts-requires-clause-fits : goal.of_parts-requires-clause-fits
 of_parts-requires-clause-fits c = inl (subst (HasAll c.into_parts-parts.result.0) (sym (ap (λ (r : Recorded Stack). r.rested) c.in-Err.ensures.err.1)) c.into_parts-parts.ensures.parted.all)
@@ -21,7 +22,7 @@ of_parts-requires-clause-loud c sound = ap (λ (v : Rested Stack). is_loud_in st
 
 pub returns-in-Err-clause-slot : goal.returns-in-Err-clause-slot
 returns-in-Err-clause-slot c =
-    (as_it_was c.into_parts-parts.result.0 c.into_parts-parts.result.1.rested c.in-Err.resting.rested c.args.volume c.of_parts.result (ap (λ (r : Recorded Stack). r.rested) c.in-Err.ensures.err.1) c.into_parts-parts.ensures.parted c.into_parts-parts.ensures.named c.of_parts.ensures.same, refl)
+    (as_it_was c.into_parts-parts.result.0 c.into_parts-parts.result.1.rested c.in-Err.resting.rested c.args.volume.shown c.of_parts.result.shown (ap (λ (r : Recorded Stack). r.rested) c.in-Err.ensures.err.1) c.into_parts-parts.ensures.parted (ap (λ (w : Backed). w.shown) c.into_parts-parts.ensures.named) (λ has. ap (λ (w : Backed). w.shown) (c.of_parts.ensures.same has)), refl)
 
 pub returns-in-Ok-clause-slot : goal.returns-in-Ok-clause-slot
 returns-in-Ok-clause-slot c =
@@ -31,7 +32,7 @@ returns-in-Ok-clause-slot c =
       c.in-Ok.audit,
       c.push_reserved.ensures.items,
       record {
-        named = c.into_parts-parts.ensures.named ∙ ap (λ (v : Rested Stack). named_with c.into_parts-parts.result.0 v) (sym is);
+        named = ap (λ (w : Backed). w.shown) c.into_parts-parts.ensures.named ∙ ap (λ (v : Rested Stack). named_with c.into_parts-parts.result.0 v) (sym is);
         parted = subst (IsParted c.into_parts-parts.result.0) (sym is) c.into_parts-parts.ensures.parted;
         held = c.in-Ok.ensures.idle;
         earned = (let earned = c.look_at_places.ensures.earned in omega (arith, earned));

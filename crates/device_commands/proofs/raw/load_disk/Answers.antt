@@ -8,6 +8,7 @@ use Rattle.command_rules.proofs.Keeping.{changes_keep}
 use Rattle.command_rules.proofs.NamedRules.{loaded_at_named}
 use Rattle.command_rules.proofs.SoundRules.{IsSound, loaded_at_sound}
 use Rattle.device_list.specs.Tables.{table_of}
+use Rattle.device_list.proofs.Showing.{shown_at, shown_inside}
 use Rattle.device_commands.proofs.InVolume.{load_refused}
 use Rattle.device_commands.proofs.raw.load_disk.Goals as goal
 
@@ -25,6 +26,6 @@ pub returns-in-In-clause-done : goal.returns-in-In-clause-done
 returns-in-In-clause-done c = (
   refl,
   λ other.
-      load_refused c.args.name.now c.args.first c.args.bytes.now (table_of c.args.held.now) c.in_ok-count.count c.in-In.v c.in-In.role c.index.result.now c.refuse_load.result
-      (sym (c.in_ok-count.ensures.value ∙ ap whole c.as_slice-bytes.ensures)) (sym c.in_ok-i.ensures.place ∙ ap (λ (place : Place). Ok place) c.in-In.is) (search rules) c.index.ensures (search rules),
+      load_refused c.args.name.now c.args.first c.args.bytes.now (table_of c.args.held.now) c.in_ok-count.count c.in-In.v c.in-In.role c.index.result.now.shown c.refuse_load.result
+      (sym (c.in_ok-count.ensures.value ∙ ap whole c.as_slice-bytes.ensures)) (sym c.in_ok-i.ensures.place ∙ ap (λ (place : Place). Ok place) c.in-In.is) (search rules) (shown_at c.args.held.now.volumes.items c.in-In.v c.index.result.now (shown_inside c.args.held.now.volumes.items c.in-In.v (search rules)) c.index.ensures) (search rules),
 )

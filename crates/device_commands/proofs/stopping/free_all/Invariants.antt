@@ -4,6 +4,6 @@ use Rattle.device_commands.proofs.stopping.free_all.Given as goal
 
 abbrev pub invariant-loop : goal.invariant-loop
 invariant-loop l =
-    (l.stacks.items ++ l.stopped ≡ l.fn.stacks.items ++ l.fn.stopped)
-    × (length l.stopped + l.counter ≤ l.count)
-    × (vec_len l.stacks + length l.stopped ≤ vec_capacity l.stacks)
+    (l.stacks.items ++ l.stopped.shown ≡ l.fn.stacks.items ++ l.fn.stopped.shown)
+    × (length l.stopped.shown + l.counter ≤ l.count)
+    × (vec_len l.stacks + length l.stopped.shown ≤ vec_capacity l.stacks)

@@ -1,24 +1,15 @@
-use Rattle.std.proofs.Common.{◌≡◌, ◌∙◌, List, length, ap, map, refl, subst, sym}
-use Rattle.std.proofs.lemmas.List.{length-map, with_items_is}
-use Rattle.command_rules.specs.Losing.{HaveLost, Lasting, lasting}
-use Rattle.command_rules.specs.Naming.{AreNamed}
-use Rattle.command_rules.specs.State.{Stacked, Table}
-use Rattle.command_rules.proofs.LosingRules.{lost_named}
 use Rattle.device_list.specs.Tables.{table_of}
+use Rattle.device_commands.proofs.Loses.{asked_origin, durable_as, losing_as, stays_losing}
 use Rattle.device_commands.proofs.stopping.stop_losing.Goals as goal
 
-pub returns-clause-named : goal.returns-clause-named
-returns-clause-named c = λ named.
-    let stopped = table_of c.stop_device.new.held in
-    let was = c.stop_device.new.held.stacks in
-    let stacks : List Stacked = c.lose_from.new.stacks in
-    let last : map lasting stacks ≡ map lasting was.items = rw c.as_mut_slice.ensures.value at c.lose_from.ensures.lost in
-    let many : length stacks ≡ was.len = sym (length-map stacks lasting) ∙ ap (λ (ls : List Lasting). length ls) last ∙ length-map was.items lasting ∙ sym was.ok.0 in
-    let new : Table = record { stacks = stacks; volumes = stopped.volumes } in
-    let lost : HaveLost c.len-first.result stopped new = record {
-      volumes = refl;
-      others = rw c.as_mut_slice.ensures.value at c.lose_from.ensures.others;
-      lost = last;
-    } in
-    let P : List Stacked → Type 0 = λ ss. AreNamed (record { stacks = ss; volumes = stopped.volumes }) in
-    subst P (sym (with_items_is was stacks many)) (lost_named c.len-first.result stopped new lost (c.stop_device.ensures.named named))
+pub returns-clause-done : goal.returns-clause-done
+returns-clause-done c =
+    let table = table_of c.args.held.now in
+    losing_as c.lose_at.result c.args.name.now c.in_ok-v.v table (table_of c.lose_at.new.held) (asked_origin c.args.name.now table c.in_ok-place.place c.in_ok-v.v c.in_ok-place.ensures.place c.in_ok-v.ensures.value) c.lose_at.ensures.done
+
+pub returns-clause-durable : goal.returns-clause-durable
+returns-clause-durable c =
+    durable_as c.lose_at.result c.args.name.now c.in_ok-v.v c.args.held.now c.lose_at.new.held (asked_origin c.args.name.now (table_of c.args.held.now) c.in_ok-place.place c.in_ok-v.v c.in_ok-place.ensures.place c.in_ok-v.ensures.value) c.lose_at.ensures.durable
+
+pub returns-clause-stays : goal.returns-clause-stays
+returns-clause-stays c = stays_losing c.lose_at.result c.in_ok-v.v (table_of c.args.held.now) (table_of c.lose_at.new.held) c.lose_at.ensures.done

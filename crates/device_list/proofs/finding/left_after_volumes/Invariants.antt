@@ -4,4 +4,4 @@ use Rattle.command_rules.specs.Disks.{devices_in}
 use Rattle.device_list.proofs.finding.left_after_volumes.Given as goal
 
 abbrev pub invariant-loop-volume : goal.invariant-loop-volume
-invariant-loop-volume l = l.left - sum_by devices_in (drop l.volume-index l.volumes) ≡ l.most - sum_by devices_in l.volumes
+invariant-loop-volume l = l.left - sum_by (λ v. devices_in v.shown) (drop l.volume-index l.volumes) ≡ l.most - sum_by (λ v. devices_in v.shown) l.volumes

@@ -1,9 +1,8 @@
 -- The first volume that has the name.
 use Rattle.std.proofs.Common.{rules, ◌≡◌, ◌<◌, ◌≤◌, Some, length, get_or, sym, refl}
-use Rattle.std.specs.Prelude.{slice_get}
-use Rattle.std.proofs.lemmas.Option.{slice_get_read}
 use Rattle.command_rules.specs.Places.{role_of}
 use Rattle.device_list.proofs.Firsts.{found_here, found_nowhere}
+use Rattle.device_list.proofs.Showing.{shown_there, shown_within}
 use Rattle.device_list.proofs.finding.place_among.Goals as goal
 
 pub returns-in-Some-clause-place : goal.returns-in-Some-clause-place
@@ -12,8 +11,8 @@ returns-in-Some-clause-place c =
     let volumes = c.args.held.now.volumes.items in
     let lt : c.loop-v.v < length volumes = search rules in
     let at : volume ≡ get_or volumes c.loop-v.v volume = search rules in
-    let is : role_of c.args.name.now volume ≡ Some c.in-Some.role = search rules in
-    sym (found_here c.args.name.now volumes c.loop-v.v volume c.in-Some.role c.loop-v.invariant (slice_get_read volumes (length volumes) c.loop-v.v volume refl lt at) is)
+    let is : role_of c.args.name.now volume.shown ≡ Some c.in-Some.role = search rules in
+    sym (found_here c.args.name.now volumes c.loop-v.v volume c.in-Some.role c.loop-v.invariant lt at is)
 
 pub returns-in-Some-clause-within : goal.returns-in-Some-clause-within
 returns-in-Some-clause-within c =
@@ -21,8 +20,7 @@ returns-in-Some-clause-within c =
     let volumes = c.args.held.now.volumes.items in
     let lt : c.loop-v.v < length volumes = search rules in
     let at : volume ≡ get_or volumes c.loop-v.v volume = search rules in
-    let there : slice_get volumes c.loop-v.v ≡ Some volume = slice_get_read volumes (length volumes) c.loop-v.v volume refl lt at in
-    (lt, rw there c.in-Some.ensures.within)
+    (shown_within volumes c.loop-v.v lt, rw (shown_there volumes c.loop-v.v volume lt at) c.in-Some.ensures.within)
 
 pub returns-clause-place : goal.returns-clause-place
 returns-clause-place c =

@@ -6,4 +6,4 @@ use Rattle.command_rules.specs.Places.{role_of}
 use Rattle.device_list.proofs.finding.place_among.Given as goal
 
 abbrev pub invariant-loop-v : goal.invariant-loop-v
-invariant-loop-v l = position_or_len (λ v. is_some (role_of l.name v)) l.held.volumes.items ≡ l.v + position_or_len (λ v. is_some (role_of l.name v)) (drop l.v l.held.volumes.items)
+invariant-loop-v l = position_or_len (λ v. is_some (role_of l.name v.shown)) l.held.volumes.items ≡ l.v + position_or_len (λ v. is_some (role_of l.name v.shown)) (drop l.v l.held.volumes.items)

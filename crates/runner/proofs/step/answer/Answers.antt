@@ -3,7 +3,7 @@ use Rattle.std.specs.Prelude.{IfSome}
 use Rattle.sector.specs.declared.refusal.Refusal.{Refusal}
 use Rattle.words.specs.Given.{Gives}
 use Rattle.command.specs.declared.grammar.Command.{Command}
-use Rattle.command.specs.declared.command_reply.CommandReply.{CommandReply}
+use Rattle.command_replies.specs.declared.command_reply.CommandReply.{CommandReply}
 use Rattle.command_rules.specs.Changes.{ServesIf}
 use Rattle.device_list.specs.Tables.{table_of}
 use Rattle.runner.proofs.Lawful.{command_said}

@@ -1,6 +1,6 @@
 use Rattle.std.proofs.Common.{◌≡◌, [], ◌∷◌, Some, refl, sym, subst}
 use Rattle.std.specs.Prelude.{IfSome}
-use Rattle.command.specs.declared.command_reply.CommandReply.TheVariants.{Data, Done, Refused, Said}
+use Rattle.command_replies.specs.declared.command_reply.CommandReply.TheVariants.{Data, Done, Refused, Said}
 use Rattle.command.specs.declared.grammar.Command.{Command}
 use Rattle.device_list.specs.Tables.{table_of}
 use Rattle.command_rules.specs.Starting.{read_asked, write_asked}

@@ -1,6 +1,6 @@
 use Rattle.std.proofs.Common.{◌≡◌, [], ◌∷◌, true, Some, refl, sym, subst}
 use Rattle.std.specs.Prelude.{IfSome, Ok}
-use Rattle.command.specs.declared.command_reply.CommandReply.TheVariants.{Data, Done, Number, Refused, Said}
+use Rattle.command_replies.specs.declared.command_reply.CommandReply.TheVariants.{Data, Done, Number, Refused, Said}
 use Rattle.command.specs.declared.grammar.Command.{Command}
 use Rattle.device_list.specs.Tables.{table_of}
 use Rattle.device_commands.specs.Ruled.{volume_for}

@@ -4,6 +4,7 @@ use Rattle.std.proofs.lemmas.Bool.{cases_Bool}
 use Rattle.device.specs.Layers.{is_loud}
 use Rattle.command_rules.specs.Stacks.{device_of}
 use Rattle.command_rules.specs.State.{Stacked, Volume}
+use Rattle.device_list.specs.Backed.{Backed}
 use Rattle.layers.specs.Stack.{stack_contents, stack_size}
 use Rattle.layers.specs.declared.stack.Stack.{Stack}
 use Rattle.big_steps.specs.Refusals.{is_starved}
@@ -94,7 +95,7 @@ returns-in-Err-attach-clause-same c =
       quiet = is_quiet_of m.volume.rested.events;
       flying = flying_in m.volume.rested.events;
     } in
-    rw c.reserve.ensures.items (refused_seen c.in-Err-attach.refusal m.volume.rested c.attach.new.self.rested c.in-Err-attach.ensures.seen.same held m.merging ∙ c.self.view_is)
+    rw c.reserve.ensures.items (refused_seen c.in-Err-attach.refusal m.volume.rested c.attach.new.self.rested c.in-Err-attach.ensures.seen.same held m.merging ∙ ap (λ (v : Backed). v.shown) c.self.view_is)
 
 pub returns-in-Err-attach-clause-full : goal.returns-in-Err-attach-clause-full
 returns-in-Err-attach-clause-full c =

@@ -3,4 +3,4 @@ use Rattle.command_rules.specs.Listing.{snapshots_from}
 use Rattle.device_list.proofs.origin.NamedVolume.list_snapshots.Given as goal
 
 abbrev pub invariant-loop-k : goal.invariant-loop-k
-invariant-loop-k l = l.out.items ++ snapshots_from l.k (drop l.k l.self.snaps) l.self ≡ l.initial.out.items ++ snapshots_from 0 l.self.snaps l.self
+invariant-loop-k l = l.out.items ++ snapshots_from l.k (drop l.k l.self.shown.snaps) l.self.shown ≡ l.initial.out.items ++ snapshots_from 0 l.self.shown.snaps l.self.shown

@@ -4,7 +4,7 @@ use Rattle.std.specs.Prelude.{OnOk, IfSome}
 use Rattle.std.specs.Io.KnownBytes.{Appends}
 use Rattle.device_list.specs.Tables.{table_of}
 use Rattle.plain_machine.specs.declared.request.Replied.{Replied}
-use Rattle.command.specs.declared.command_reply.CommandReply.{CommandReply}
+use Rattle.command_replies.specs.declared.command_reply.CommandReply.{CommandReply}
 use Rattle.runner.specs.Asking.{line_first}
 use Rattle.runner.specs.Ended.{line_replies}
 use Rattle.runner.specs.Output.{printed}

@@ -3,8 +3,8 @@ use Rattle.std.proofs.Common.{rules, ◌∷◌, ◌++◌, List, [], ap, sym, ◌
 use Rattle.std.specs.Prelude.{OnOk}
 use Rattle.std.specs.Io.KnownBytes.{Appends}
 use Rattle.device_list.specs.Tables.{table_of}
-use Rattle.command.specs.declared.command_reply.CommandReply.{CommandReply}
-use Rattle.command.specs.declared.command_reply.CommandReply.TheVariants.{Done}
+use Rattle.command_replies.specs.declared.command_reply.CommandReply.{CommandReply}
+use Rattle.command_replies.specs.declared.command_reply.CommandReply.TheVariants.{Done}
 use Rattle.runner.specs.Counts.{with_reply}
 use Rattle.runner.specs.Output.{counted, printed}
 use Rattle.runner.proofs.BlockLemmas.{block_ran, block_refused}

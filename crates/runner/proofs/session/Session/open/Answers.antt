@@ -2,7 +2,7 @@
 use Rattle.std.proofs.Common.{List, ap, ◌∙◌}
 use Rattle.std.specs.Prelude.{OnOk}
 use Rattle.std.specs.Io.KnownBytes.{Appends}
-use Rattle.command.specs.declared.command_reply.CommandReply.{CommandReply}
+use Rattle.command_replies.specs.declared.command_reply.CommandReply.{CommandReply}
 use Rattle.runner.specs.Output.{printed}
 use Rattle.runner.specs.Sessions.{Sitting}
 use Rattle.runner.proofs.SessionLemmas.{opened_by, refused_by}

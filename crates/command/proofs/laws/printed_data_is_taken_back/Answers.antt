@@ -1,5 +1,0 @@
-use Rattle.command.proofs.DataAgain.{payload_again}
-use Rattle.command.proofs.laws.printed_data_is_taken_back.Goals as goal
-
-pub returns : goal.returns
-returns c = payload_again

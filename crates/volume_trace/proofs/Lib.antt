@@ -1,0 +1,2 @@
+mod Lost
+mod Added
