@@ -16,7 +16,7 @@ use Rattle.table.specs.Grammar.{line_in}
 use Rattle.command.specs.Messages.{message_in}
 use Rattle.command.specs.Events.{event_in}
 use Rattle.command.specs.declared.grammar.Command.{Command}
-use Rattle.command.specs.declared.grammar.Command.TheVariants.{Disk, Create, Remove, Load, Save, Copy, List as Listing, Message, Tick, Read, Write, Flush, StartRead, StartWrite, Step, Settle, Merge, Resume, Finish, Checkpoint, Stop, StopLosing, Status, Table}
+use Rattle.command.specs.declared.grammar.Command.TheVariants.{Disk, Create, Remove, Load, Save, Copy, List as Listing, Message, Tick, Read, Write, Flush, StartRead, StartWrite, Step, Settle, Merge, Resume, Finish, Checkpoint, Stop, StopLosing, Status, Table, Map}
 
 -- a name and a first sector
 abbrev pub place_of : List ℕ → List ℕ → Result (List ℕ × ℕ) Refusal
@@ -185,6 +185,10 @@ status_of words = alone_of words >>= λ name. Ok (Status name)
 abbrev pub table_of : List (List ℕ) → Result Command Refusal
 table_of words = alone_of words >>= λ name. Ok (Table name)
 
+-- `map SNAP`
+abbrev pub map_of : List (List ℕ) → Result Command Refusal
+map_of words = alone_of words >>= λ name. Ok (Map name)
+
 -- the command about a volume that a verb and the words after it say; an unknown one is BadTable
 abbrev pub volume_command_of : List ℕ → List (List ℕ) → Result Command Refusal
 volume_command_of verb words =
@@ -198,6 +202,7 @@ volume_command_of verb words =
     if bytes_eq verb (codes "stop") then stop_of words else
     if bytes_eq verb (codes "status") then status_of words else
     if bytes_eq verb (codes "table") then table_of words else
+    if bytes_eq verb (codes "map") then map_of words else
     Err BadTable
 
 -- the command that some words say

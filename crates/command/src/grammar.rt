@@ -3,7 +3,7 @@ ghost use Rattle.std.specs.Prelude.{◌≡◌, ◌≤◌, [], ◌∷◌, length}
 ghost use Rattle.words.specs.Given.{Gives};
 ghost use Rattle.words.specs.Texts.{texts};
 ghost use Rattle.words.specs.Words.{words_of};
-ghost use Rattle.command.specs.Grammar.{place_of, amount_of, span_of, patch_of, alone_of, disk_of, is_merge, made_line_of, create_of, remove_of, load_of, save_of, copy_of, list_of, message_of, tick_of, read_of, write_of, flush_of, start_read_of, start_write_of, start_of, step_of, settle_of, merge_of, resume_of, finish_of, checkpoint_of, stop_of, status_of, table_of, volume_command_of, command_of};
+ghost use Rattle.command.specs.Grammar.{place_of, amount_of, span_of, patch_of, alone_of, disk_of, is_merge, made_line_of, create_of, remove_of, load_of, save_of, copy_of, list_of, message_of, tick_of, read_of, write_of, flush_of, start_read_of, start_write_of, start_of, step_of, settle_of, merge_of, resume_of, finish_of, checkpoint_of, stop_of, status_of, table_of, map_of, volume_command_of, command_of};
 
 use super::data_words::{payload, sectors};
 use super::events::{EventWords, event_in};
@@ -128,6 +128,10 @@ pub enum Command {
     },
     /// `table DEV`: prints the table line.
     Table {
+        name: Name,
+    },
+    /// `map SNAP`: prints the pairs of a snapshot.
+    Map {
         name: Name,
     },
 }
@@ -507,6 +511,13 @@ fn table(text: &[u8]) -> Result<Command, Refusal>
     Ok(Command::Table { name })
 }
 
+fn map(text: &[u8]) -> Result<Command, Refusal>
+    ensures { result ≡ map_of (words_of text.now) }
+{
+    let name = alone(text)?;
+    Ok(Command::Map { name })
+}
+
 // A command about a volume by its verb, and by the words of the text after it.
 fn volume_command_by(alloc: Global, verb: &[u8], text: &[u8]) -> Result<Command, Refusal>
     requires { length text.now ≤ 65536 }
@@ -532,6 +543,8 @@ fn volume_command_by(alloc: Global, verb: &[u8], text: &[u8]) -> Result<Command,
         status(text)
     } else if verb == b"table".as_slice() {
         table(text)
+    } else if verb == b"map".as_slice() {
+        map(text)
     } else {
         Err(Refusal::BadTable)
     }

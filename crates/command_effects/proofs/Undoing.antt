@@ -200,6 +200,7 @@ module _ (name origin array : List ℕ) where
   answered (commands.StopLosing volume) table new spares how all = subst (λ (shown : List Arrays). Each StillIn shown) (sym how.2) (each_less StillIn (arrays_in table) how.0 all)
   answered (commands.Status device) table new spares how all = same (arrays_in table) new how all
   answered (commands.Table device) table new spares how all = same (arrays_in table) new how all
+  answered (commands.Map device) table new spares how all = same (arrays_in table) new how all
 
   denied : (command : Command) (table : Table) (refusal : Refusal) (new : List Arrays) → Spares name command → IsRefused command table refusal (arrays_in table) new → Each StillIn (arrays_in table) → Each StillIn new
   denied (commands.Write device first bytes) table refusal new spares how all = elim how [
@@ -229,6 +230,7 @@ module _ (name origin array : List ℕ) where
   denied (commands.StopLosing volume) table refusal new spares how all = same (arrays_in table) new how all
   denied (commands.Status device) table refusal new spares how all = same (arrays_in table) new how all
   denied (commands.Table device) table refusal new spares how all = same (arrays_in table) new how all
+  denied (commands.Map device) table refusal new spares how all = same (arrays_in table) new how all
 
   pub from_all : (shown : List Arrays) → ShowsStill name origin array shown → Each StillIn shown
   from_all shown all = each_weaker _ StillIn shown (λ a each. each_from (Still a.name) a.snaps each) (each_from _ shown all)

@@ -88,6 +88,7 @@ IsAnswered (commands.Stop volume) table old new = (v : ℕ) × (origin_by volume
 IsAnswered (commands.StopLosing volume) table old new = (v : ℕ) × (origin_by volume table ≡ Ok v) × (new ≡ remove old v)
 IsAnswered (commands.Status device) table old new = new ≡ old
 IsAnswered (commands.Table device) table old new = new ≡ old
+IsAnswered (commands.Map device) table old new = new ≡ old
 
 -- one that is refused: what a write leaves
 abbrev pub IsRefused : Command → Table → Refusal → List Arrays → List Arrays → Type 0
@@ -116,6 +117,7 @@ IsRefused (commands.Stop volume) table refusal old new = new ≡ old
 IsRefused (commands.StopLosing volume) table refusal old new = new ≡ old
 IsRefused (commands.Status device) table refusal old new = new ≡ old
 IsRefused (commands.Table device) table refusal old new = new ≡ old
+IsRefused (commands.Map device) table refusal old new = new ≡ old
 
 -- by its answer
 abbrev pub IsShown : {A : Type 0} → Command → Table → Result A Refusal → List Arrays → List Arrays → Type 0

@@ -75,3 +75,4 @@ Spares name (commands.Stop volume) = Unit {0}
 Spares name (commands.StopLosing volume) = Unit {0}
 Spares name (commands.Status device) = Unit {0}
 Spares name (commands.Table device) = Unit {0}
+Spares name (commands.Map device) = Unit {0}

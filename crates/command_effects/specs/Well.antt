@@ -66,3 +66,4 @@ IsWellOf (commands.Stop volume) table = Unit {0}
 IsWellOf (commands.StopLosing volume) table = Unit {0}
 IsWellOf (commands.Status device) table = Unit {0}
 IsWellOf (commands.Table device) table = Unit {0}
+IsWellOf (commands.Map device) table = Unit {0}

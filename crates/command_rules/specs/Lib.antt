@@ -22,3 +22,4 @@ pub mod Naming
 pub mod Losing
 pub mod Stopping
 pub mod Journal
+pub mod Mapping

@@ -17,3 +17,4 @@ pub mod NeverFull
 pub mod RulesNeverFull
 pub mod Loses
 pub mod Made
+mod Maps

@@ -16,7 +16,7 @@ use Rattle.command_rules.proofs.Keeping.{volume_there}
 use Rattle.command_rules.proofs.NamedRules.{AreThere, named_there}
 use Rattle.command_rules.proofs.SoundFrames.{both, of_both, stack_sound, volume_whole}
 use Rattle.device_commands.specs.Devices.{named_at}
-use Rattle.device_commands.specs.Ruled.{volume_with, volume_for, is_quiet_in, is_sound_in, is_sound_for, is_sound_target}
+use Rattle.device_commands.specs.Ruled.{volume_with, volume_for, is_loud_in, is_quiet_in, is_sound_in, is_sound_for, is_sound_target}
 
 -- the volume at a place, of which no device drops writes, and in which nothing is in flight
 pub sound_here : (table : Table) (v : ℕ) (old : Volume) → is_sound_in (volume_at v table) ≡ true → v < length table.volumes → old ≡ get_or table.volumes v old → (old.sound ≡ true) × (old.quiet ≡ true)
@@ -24,6 +24,10 @@ sound_here table v old sound lt at = both old.sound old.quiet (sym (ap is_sound_
 
 pub quiet_here : (table : Table) (v : ℕ) (old : Volume) → is_quiet_in (volume_at v table) ≡ true → v < length table.volumes → old ≡ get_or table.volumes v old → old.quiet ≡ true
 quiet_here table v old quiet lt at = sym (ap is_quiet_in (volume_here table v old lt at)) ∙ quiet
+
+-- and of which no device drops writes
+pub loud_here : (table : Table) (v : ℕ) (old : Volume) → is_loud_in (volume_at v table) ≡ true → v < length table.volumes → old ≡ get_or table.volumes v old → old.sound ≡ true
+loud_here table v old loud lt at = sym (ap is_loud_in (volume_here table v old lt at)) ∙ loud
 
 -- a volume and a stack that are there
 pub both_here : (table : Table) (v i : ℕ) (old : Volume) (stacked : Stacked) → is_sound_for (named_at v i table) ≡ true → v < length table.volumes → old ≡ get_or table.volumes v old → i < length table.stacks → stacked ≡ get_or table.stacks i stacked → (old.sound ≡ true) × (old.quiet ≡ true) × (is_loud stacked.device.layers ≡ true)
@@ -53,6 +57,13 @@ quiet_where_sound (Ok volume) sound = (both volume.sound volume.quiet sound).1
 
 pub name_still : (name : List ℕ) (table : Table) → is_sound table ≡ true → is_quiet_in (volume_for name table) ≡ true
 name_still name table sound = quiet_where_sound (volume_for name table) (name_ruled name table sound)
+
+loud_where_sound : (r : Result Volume Refusal) → is_sound_in r ≡ true → is_loud_in r ≡ true
+loud_where_sound (Err e) sound = refl
+loud_where_sound (Ok volume) sound = (both volume.sound volume.quiet sound).0
+
+pub name_loud : (name : List ℕ) (table : Table) → is_sound table ≡ true → is_loud_in (volume_for name table) ≡ true
+name_loud name table sound = loud_where_sound (volume_for name table) (name_ruled name table sound)
 
 named_ruled : (table : Table) (r : Result Named Refusal) → ((n : Named) → r ≡ Ok n → AreThere table n) → is_sound table ≡ true → is_sound_for r ≡ true
 named_ruled table (Err e) there sound = refl

@@ -7,4 +7,5 @@ pub mod Merging
 pub mod Stopping
 pub mod Order
 pub mod Status
+pub mod Mapping
 pub mod Meeting

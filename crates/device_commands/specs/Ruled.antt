@@ -43,6 +43,11 @@ abbrev pub is_sound_in : Result Volume Refusal → Bool
 is_sound_in (Err refusal) = true
 is_sound_in (Ok volume) = is_sound_volume volume
 
+-- no device of it drops writes, whatever is in flight
+abbrev pub is_loud_in : Result Volume Refusal → Bool
+is_loud_in (Err refusal) = true
+is_loud_in (Ok volume) = volume.sound
+
 -- the same of the volume and the stack that a snapshot's line names
 abbrev pub is_sound_for : Result Named Refusal → Bool
 is_sound_for (Err refusal) = true

@@ -20,6 +20,7 @@ pub mod Stops
 pub mod Orders
 pub mod Begun
 pub mod Statuses
+mod Mapped
 pub mod Listed
 pub mod Showing
 mod Firsts

@@ -56,7 +56,7 @@ module _ (volume : Rested Stack) (whole : IsWhole volume) (k : ℕ) (within : k 
   snaps_are : volume.snaps ≡ map attached_of volume.events.snaps
   snaps_are = ap (λ (v : Rested Stack). v.snaps) whole
 
-  inside : k < length volume.events.snaps
+  pub inside : k < length volume.events.snaps
   inside = (let len : length (map attached_of volume.events.snaps) ≡ length volume.events.snaps = length-map volume.events.snaps attached_of in let same : length volume.snaps ≡ length (map attached_of volume.events.snaps) = ap length snaps_are in omega (arith, within, len, same))
 
   -- what is kept of it

@@ -6,6 +6,7 @@ pub mod Backed
 pub mod Stopping
 pub mod Parting
 pub mod Status
+pub mod Mapping
 pub mod Taking
 pub mod Tables
 pub mod Trace

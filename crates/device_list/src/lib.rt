@@ -13,6 +13,7 @@ mod finding;
 mod flights;
 mod held;
 mod listing;
+mod mapping;
 mod merging;
 mod order;
 mod origin;

@@ -24,6 +24,7 @@ pub const NOTES: &str = "Commands, a line each:
   tick N                N seconds pass for the flakey layers
   status DEV            the status line of an origin or a snapshot
   table DEV             the table line of any device but a disk
+  map SNAP              the pairs of a snapshot, in runs: OLD NEW COUNT
   par                   opens a block of lines that run at once, up to a line end; also: par hold K
 DATA is runs of equal bytes, COUNT*HH. A line that begins with # is a comment. Ctrl-D ends a session.
 

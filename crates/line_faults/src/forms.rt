@@ -117,6 +117,8 @@ fn volume_form(words: &[&[u8]]) -> Option<&'static str> {
         Some("status DEV")
     } else if verb == b"table".as_slice() {
         Some("table DEV")
+    } else if verb == b"map".as_slice() {
+        Some("map SNAP")
     } else {
         None
     }

@@ -2,7 +2,7 @@
 ghost use Rattle.std.specs.Prelude.{◌≤◌, length};
 
 /// The commands, and the word that opens a block.
-const COMMANDS: [&str; 23] = [
+const COMMANDS: [&str; 24] = [
     "disk",
     "create",
     "remove",
@@ -25,6 +25,7 @@ const COMMANDS: [&str; 23] = [
     "tick",
     "status",
     "table",
+    "map",
     "par",
 ];
 

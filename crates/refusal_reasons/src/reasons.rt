@@ -24,7 +24,7 @@ fn taken_by(verb: &[u8]) -> &'static [u8] {
         b" takes two disks"
     } else if verb == b"message".as_slice() {
         b" takes a dust layer"
-    } else if verb == b"merge".as_slice() {
+    } else if verb == b"merge".as_slice() || verb == b"map".as_slice() {
         b" takes a snapshot"
     } else if verb == b"table".as_slice() {
         b" takes any device but a disk"

@@ -231,7 +231,8 @@ command_lawful (verb ∷ words) =
     (either (bytes_eq verb (codes "checkpoint")) _ _ IsLawful (λ is. after (alone_of words) _ IsLawful (λ name. refl))
     (either (bytes_eq verb (codes "stop")) _ _ IsLawful (λ is. stop_lawful words)
     (either (bytes_eq verb (codes "status")) _ _ IsLawful (λ is. after (alone_of words) _ IsLawful (λ name. refl))
-    (either (bytes_eq verb (codes "table")) _ _ IsLawful (λ is. after (alone_of words) _ IsLawful (λ name. refl)) tt)))))))))))))))))))))
+    (either (bytes_eq verb (codes "table")) _ _ IsLawful (λ is. after (alone_of words) _ IsLawful (λ name. refl))
+    (either (bytes_eq verb (codes "map")) _ _ IsLawful (λ is. after (alone_of words) _ IsLawful (λ name. refl)) tt))))))))))))))))))))))
 
 -- what a line says, if it says anything
 abbrev IsSaidLawful : Option Command → Type 0

@@ -12,7 +12,7 @@ use Rattle.command_rules.specs.Events.{is_merge_event}
 use Rattle.command_rules.specs.Sound.{is_sound}
 use Rattle.command_rules.specs.State.{Volume, Table}
 use Rattle.device_commands.specs.Ruled.{is_quiet_in, is_sound_in, volume_for}
-use Rattle.device_commands.proofs.Ruled.{name_ruled, name_still, target_ruled}
+use Rattle.device_commands.proofs.Ruled.{name_loud, name_ruled, name_still, target_ruled}
 use Rattle.runner.specs.Ruled.{is_ruled, is_ruled_said, is_ruled_line}
 use Rattle.runner.specs.Sound.{is_sound_command, is_sound_said, is_sound_line}
 
@@ -21,6 +21,7 @@ command_ruled (commands.Read device first count) table sound makes = name_ruled 
 command_ruled (commands.Write device first bytes) table sound makes = name_ruled device table sound
 command_ruled (commands.Flush device) table sound makes = name_ruled device table sound
 command_ruled (commands.Status device) table sound makes = name_ruled device table sound
+command_ruled (commands.Map device) table sound makes = name_loud device table sound
 command_ruled (commands.Step volume event) table sound makes = and-join (not (is_merge_event event)) (is_quiet_in (volume_for volume table)) makes (name_still volume table sound)
 command_ruled (commands.Settle volume) table sound makes = name_ruled volume table sound
 command_ruled (commands.Merge name) table sound makes = name_ruled name table sound

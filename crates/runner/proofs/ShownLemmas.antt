@@ -63,6 +63,7 @@ step_shown (commands.Stop volume) table well = as_done (commands.Stop volume) ta
 step_shown (commands.StopLosing volume) table well = refl
 step_shown (commands.Status device) table well = in_both (commands.Status device) table _ _ refl (λ r. refl) _
 step_shown (commands.Table device) table well = in_both (commands.Table device) table _ _ refl (λ r. refl) _
+step_shown (commands.Map device) table well = in_both (commands.Map device) table _ _ refl (λ r. refl) _
 
 -- where memory or room ran out
 starved_shown : (command : Command) (table new : Table) (e : Refusal) → is_starved e ≡ true → IsWellOf command table → IsPartDone command table new → IsRefused command table e (arrays_in table) (arrays_in new)
@@ -93,6 +94,7 @@ starved_shown (commands.Stop volume) table new e wanting well same = ap arrays_i
 starved_shown (commands.StopLosing volume) table new e wanting well same = ap arrays_in same
 starved_shown (commands.Status device) table new e wanting well same = ap arrays_in same
 starved_shown (commands.Table device) table new e wanting well same = ap arrays_in same
+starved_shown (commands.Map device) table new e wanting well same = ap arrays_in same
 
 -- the volume that a line's command changes is well
 abbrev pub IsWellSaid : Result (Option Command) Refusal → Table → Type 0
@@ -152,6 +154,7 @@ unread (commands.Stop volume) table shows = refl
 unread (commands.StopLosing volume) table shows = refl
 unread (commands.Status device) table shows = refl
 unread (commands.Table device) table shows = refl
+unread (commands.Map device) table shows = refl
 
 unread_said : (said : Result (Option Command) Refusal) (table : Table) (shows : List Arrays) → IsSaidShown said table (Err NoMemory) shows shows
 unread_said (Ok None) table shows = refl

@@ -61,6 +61,7 @@ none_done (commands.Stop volume) table = refl
 none_done (commands.StopLosing volume) table = refl
 none_done (commands.Status device) table = refl
 none_done (commands.Table device) table = refl
+none_done (commands.Map device) table = refl
 
 none_said : (said : Result (Option Command) Refusal) (table : Table) → IsPartSaid said table table
 none_said (Ok None) table = refl
@@ -139,6 +140,7 @@ sound_starts (commands.Stop volume) sound = refl
 sound_starts (commands.StopLosing volume) sound = refl
 sound_starts (commands.Status device) sound = refl
 sound_starts (commands.Table device) sound = refl
+sound_starts (commands.Map device) sound = refl
 
 said_starts : (said : Result (Option Command) Refusal) → is_sound_said said ≡ true → starts_said said ≡ false
 said_starts (Ok None) sound = refl

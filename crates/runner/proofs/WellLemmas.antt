@@ -49,6 +49,7 @@ command_well (commands.Stop volume) table look ruled = tt
 command_well (commands.StopLosing volume) table look ruled = tt
 command_well (commands.Status device) table look ruled = tt
 command_well (commands.Table device) table look ruled = tt
+command_well (commands.Map device) table look ruled = tt
 
 -- by what the line says
 pub line_well : (line : List ℕ) (command : Command) (table : Table) → said_of 65536 line ≡ Ok (Some command) → IsLookedAt table (changed_by command) → is_ruled_line line table ≡ true → IsWellSaid (said_of 65536 line) table

@@ -43,6 +43,7 @@ first_refusal (commands.Stop volume) table = None
 first_refusal (commands.StopLosing volume) table = refusal_in (origin_by volume table)
 first_refusal (commands.Status device) table = None
 first_refusal (commands.Table device) table = None
+first_refusal (commands.Map device) table = None
 
 -- the same of a line, which may be refused for its words too
 abbrev pub said_first : Table → Result (Option Command) Refusal → Option Refusal

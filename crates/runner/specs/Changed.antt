@@ -30,3 +30,4 @@ changed_by (commands.Stop volume) = None
 changed_by (commands.StopLosing volume) = None
 changed_by (commands.Status device) = None
 changed_by (commands.Table device) = None
+changed_by (commands.Map device) = None

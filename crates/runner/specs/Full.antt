@@ -34,6 +34,7 @@ entered_by (commands.Stop volume) = None
 entered_by (commands.StopLosing volume) = None
 entered_by (commands.Status device) = None
 entered_by (commands.Table device) = None
+entered_by (commands.Map device) = None
 
 -- By the end of such a command, its volume was asked for so much that its journal may be full. No other command is told that one is,
 -- and no line that says nothing or is refused for its words.

@@ -30,3 +30,4 @@ is_lawful (commands.Stop volume) = true
 is_lawful (commands.StopLosing volume) = true
 is_lawful (commands.Status device) = true
 is_lawful (commands.Table device) = true
+is_lawful (commands.Map device) = true

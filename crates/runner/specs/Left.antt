@@ -26,6 +26,7 @@ use Rattle.command_rules.specs.Sectors.{Asked}
 use Rattle.command_rules.specs.Starting.{flush_asked, read_asked, write_asked}
 use Rattle.device_commands.specs.Devices.{Flies, KeepsOthers}
 use Rattle.device_commands.specs.Flights.{IsDoneFor, IsEventDoneFor, IsFlushedAmong, IsNotDueIn, IsNotStartedAs, IsReadAmong, IsStartedAs, IsWrittenAmong, event_of, is_about_merging}
+use Rattle.device_commands.specs.Mapping.{IsMapHeld}
 use Rattle.device_commands.specs.Meeting.{IsCreated}
 use Rattle.device_commands.specs.Merging.{IsBegunIn, IsFinishedIn, IsUnfinishedIn}
 use Rattle.device_commands.specs.Ruled.{is_alone_in, is_quiet_in, volume_for}
@@ -137,6 +138,15 @@ pub record IsStatusLeft (device : List ℕ) (answer : Result CommandReply Refusa
   pub stays : new ≡ old
   pub alone : after ≡ before
 
+-- A map changes nothing, and says what is in memory of a snapshot in any case: what its store's bytes say, where no device of its
+-- volume drops writes.
+pub record IsMapLeft (device : List ℕ) (answer : Result CommandReply Refusal) (old new : Table) (before after : List Replied) : Type 0 where
+  pub text : Result (List ℕ) Refusal
+  pub answer_is : answer ≡ reworded Said text
+  pub held : IsMapHeld text device old
+  pub stays : new ≡ old
+  pub alone : after ≡ before
+
 -- A volume that is stopped with a loss: the stacks that are left of it have their names, layers, sizes and marks as by `stop`, and
 -- some bytes; all else is as after `stop`.
 pub record IsStopLeft (volume : List ℕ) (answer : Result CommandReply Refusal) (old new : Table) (before after : List Replied) : Type 0 where
@@ -157,6 +167,7 @@ IsLeft (commands.Settle volume) answer old new before after = IsSettleLeft volum
 IsLeft (commands.Merge name) answer old new before after = IsMergeLeft name answer old new before after
 IsLeft (commands.Finish volume) answer old new before after = IsFinishLeft volume answer old new before after
 IsLeft (commands.Status device) answer old new before after = IsStatusLeft device answer old new before after
+IsLeft (commands.Map device) answer old new before after = IsMapLeft device answer old new before after
 IsLeft (commands.Table device) answer old new before after = (new ≡ old) × (after ≡ before)
 IsLeft (commands.Save disk first count) answer old new before after = (new ≡ old) × (after ≡ before)
 IsLeft (commands.Copy from first to count) answer old new before after = after ≡ before

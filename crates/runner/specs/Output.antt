@@ -100,6 +100,7 @@ IsPartDone (commands.Stop volume) old new = new ≡ old
 IsPartDone (commands.StopLosing volume) old new = new ≡ old
 IsPartDone (commands.Status device) old new = new ≡ old
 IsPartDone (commands.Table device) old new = new ≡ old
+IsPartDone (commands.Map device) old new = new ≡ old
 
 abbrev pub IsPartSaid : Result (Option Command) Refusal → Table → Table → Type 0
 IsPartSaid (Ok None) old new = new ≡ old

@@ -9,13 +9,14 @@ use Rattle.command.specs.declared.grammar.Command.{Command}
 use Rattle.command.specs.declared.grammar.Command.TheVariants as commands
 use Rattle.command_rules.specs.Events.{is_merge_event}
 use Rattle.command_rules.specs.State.{Table}
-use Rattle.device_commands.specs.Ruled.{is_quiet_in, is_sound_in, is_sound_target, volume_for}
+use Rattle.device_commands.specs.Ruled.{is_loud_in, is_quiet_in, is_sound_in, is_sound_target, volume_for}
 
 abbrev pub is_ruled : Command → Table → Bool
 is_ruled (commands.Read device first count) table = is_sound_in (volume_for device table)
 is_ruled (commands.Write device first bytes) table = is_sound_in (volume_for device table)
 is_ruled (commands.Flush device) table = is_sound_in (volume_for device table)
 is_ruled (commands.Status device) table = is_sound_in (volume_for device table)
+is_ruled (commands.Map device) table = is_loud_in (volume_for device table)
 is_ruled (commands.Step volume event) table = not (is_merge_event event) && is_quiet_in (volume_for volume table)
 is_ruled (commands.Settle volume) table = is_sound_in (volume_for volume table)
 is_ruled (commands.Merge name) table = is_sound_in (volume_for name table)

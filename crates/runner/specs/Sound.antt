@@ -38,6 +38,7 @@ is_sound_command (commands.Stop volume) = true
 is_sound_command (commands.StopLosing volume) = false
 is_sound_command (commands.Status device) = true
 is_sound_command (commands.Table device) = true
+is_sound_command (commands.Map device) = true
 
 abbrev pub is_sound_said : Result (Option Command) Refusal → Bool
 is_sound_said (Ok None) = true

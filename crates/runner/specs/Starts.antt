@@ -33,6 +33,7 @@ starts (commands.Stop volume) = false
 starts (commands.StopLosing volume) = false
 starts (commands.Status device) = false
 starts (commands.Table device) = false
+starts (commands.Map device) = false
 
 abbrev pub starts_said : Result (Option Command) Refusal → Bool
 starts_said (Ok None) = false

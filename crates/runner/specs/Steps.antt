@@ -22,6 +22,7 @@ use Rattle.command_rules.specs.Sectors.{flush, read, write}
 use Rattle.command_rules.specs.Status.{status_text}
 use Rattle.command_rules.specs.Lines.{line_text}
 use Rattle.command_rules.specs.Listing.{listed}
+use Rattle.command_rules.specs.Mapping.{map_text}
 use Rattle.command_rules.specs.Events.{settle, step_event}
 use Rattle.command_rules.specs.Merging.{merge_begun, merge_resumed, merge_finished}
 use Rattle.command_rules.specs.Stopping.{volume_stopped}
@@ -69,6 +70,7 @@ step (commands.Stop volume) table = done_as (changed table (volume_stopped volum
 step (commands.StopLosing volume) table = refused table NotDue
 step (commands.Status device) table = told_as Said (seen table (status_text device table))
 step (commands.Table device) table = told_as Said (seen table (line_text device table))
+step (commands.Map device) table = told_as Said (seen table (map_text device table))
 
 -- a line that says nothing answers nothing
 abbrev pub obeyed : Table → Result (Option Command) Refusal → Did (Option CommandReply) Table

@@ -32,6 +32,7 @@ enters (commands.Stop volume) = false
 enters (commands.StopLosing volume) = false
 enters (commands.Status device) = false
 enters (commands.Table device) = false
+enters (commands.Map device) = false
 
 abbrev pub enters_said : Result (Option Command) Refusal → Bool
 enters_said (Ok None) = false

@@ -26,16 +26,16 @@ ghost use Rattle.runner.specs.Wants.{enters, enters_line};
 use crate::events::step_volume;
 use crate::room::{ends_writes, take_back};
 use command::Command::{
-    Checkpoint, Copy, Create, Disk, Finish, Flush, List, Load, Merge, Read, Remove, Resume, Save,
-    Settle, StartRead, StartWrite, Status, Step, Stop, StopLosing, Table, Tick, Write,
+    Checkpoint, Copy, Create, Disk, Finish, Flush, List, Load, Map, Merge, Read, Remove, Resume,
+    Save, Settle, StartRead, StartWrite, Status, Step, Stop, StopLosing, Table, Tick, Write,
 };
 use command::{Command, LINE_LIMIT, said};
 use command_replies::CommandReply;
 use device_commands::{
     checkpoint_device, copy_disk, create_device, finish_device, flush_device, line_text, list_text,
-    load_disk, make_disk, merge_device, read_device, remove_device, resume_device, save_disk,
-    settle_device, start_read, start_write, status_text, stop_device, stop_losing, tell, tick,
-    write_device,
+    load_disk, make_disk, map_text, merge_device, read_device, remove_device, resume_device,
+    save_disk, settle_device, start_read, start_write, status_text, stop_device, stop_losing, tell,
+    tick, write_device,
 };
 use device_list::Devices;
 use layers::{Answer, Message};
@@ -159,6 +159,7 @@ fn obey_any(
         Status { name } => text(status_text(alloc, held, &name)),
         Table { name } => text(line_text(alloc, held, &name)),
         List => text(list_text(alloc, held)),
+        Map { name } => text(map_text(alloc, held, &name)),
     }
 }
 

@@ -2,3 +2,4 @@ pub mod Grammar
 pub mod Printed
 pub mod Lawful
 pub mod Lines
+pub mod Runs

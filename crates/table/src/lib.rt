@@ -10,10 +10,12 @@ mod lines;
 mod printing;
 mod putting;
 mod reading;
+mod runs;
 mod status;
 
 pub use lines::{FlakeyFeatures, Line, Target};
 pub use printing::print;
 pub use putting::{put, put_number};
 pub use reading::{parse, parse_words};
+pub use runs::{Run, end_runs, take_pair};
 pub use status::{StatusState, merge_line, origin_line, snapshot_line};

@@ -197,6 +197,12 @@ returns-in-Status-clause-left c =
     let P : Command → Type 0 = λ command. IsLeft command c.text.result table table c.args.ended.now.items c.args.ended.now.items in
     subst P (sym c.in-Status.is) (record { text = c.status_text.result; answer_is = c.text.ensures; among = c.status_text.ensures.among; held = c.status_text.ensures.held; stays = refl; alone = refl })
 
+pub returns-in-Map-clause-left : goal.returns-in-Map-clause-left
+returns-in-Map-clause-left c =
+    let table = table_of c.args.held.now in
+    let P : Command → Type 0 = λ command. IsLeft command c.text-in-Map.result table table c.args.ended.now.items c.args.ended.now.items in
+    subst P (sym c.in-Map.is) (record { text = c.map_text.result; answer_is = c.text-in-Map.ensures; held = c.map_text.ensures.held; stays = refl; alone = refl })
+
 pub returns-in-Create-clause-done : goal.returns-in-Create-clause-done
 unfolding step
 returns-in-Create-clause-done c =
@@ -372,3 +378,8 @@ pub returns-in-List-clause-full : goal.returns-in-List-clause-full
 returns-in-List-clause-full c =
     let P : Command → Type 0 = λ command. told (reworded Some c.text-in-List.result) ≡ Refused JournalFull ∷ [] → IsAskedMuch (entered_by command) (table_of c.args.held.now) (table_of c.args.held.now) in
     subst P (sym c.in-List.is) (worded_never Said c.list_text.result c.text-in-List.result said_other (gives_never c.list_text.result _ c.list_text.ensures answer_never) c.text-in-List.ensures)
+
+pub returns-in-Map-clause-full : goal.returns-in-Map-clause-full
+returns-in-Map-clause-full c =
+    let P : Command → Type 0 = λ command. told (reworded Some c.text-in-Map.result) ≡ Refused JournalFull ∷ [] → IsAskedMuch (entered_by command) (table_of c.args.held.now) (table_of c.args.held.now) in
+    subst P (sym c.in-Map.is) (worded_never Said c.map_text.result c.text-in-Map.result said_other (record { other = c.map_text.ensures.room }) c.text-in-Map.ensures)
