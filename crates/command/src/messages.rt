@@ -1,7 +1,7 @@
 // Messages to layers.
 ghost use Rattle.std.specs.Prelude.{◌≡◌, [], ◌∷◌};
 ghost use Rattle.words.specs.Words.{words_of};
-ghost use Rattle.command.specs.Messages.{bare_of, about_block_of, message_in};
+ghost use Rattle.command.specs.Messages.{bare_of, about_number_of, message_in};
 
 use layers::Message;
 use sector::Refusal;
@@ -24,27 +24,29 @@ fn bare(kind: &[u8]) -> Result<Message, Refusal>
     }
 }
 
-// A message about a block.
-fn about_block(kind: &[u8], block: u64) -> Result<Message, Refusal>
-    ensures { result ≡ about_block_of kind.now block }
+// A message about a block, or of some seconds.
+fn about_number(kind: &[u8], number: u32) -> Result<Message, Refusal>
+    ensures { result ≡ about_number_of kind.now number }
 {
     if kind == b"addbadblock".as_slice() {
-        Ok(Message::AddBadBlock(block))
+        Ok(Message::AddBadBlock(u64::from(number)))
     } else if kind == b"removebadblock".as_slice() {
-        Ok(Message::RemoveBadBlock(block))
+        Ok(Message::RemoveBadBlock(u64::from(number)))
     } else if kind == b"queryblock".as_slice() {
-        Ok(Message::QueryBlock(block))
+        Ok(Message::QueryBlock(u64::from(number)))
+    } else if kind == b"tick".as_slice() {
+        Ok(Message::Tick(number))
     } else {
         Err(Refusal::BadTable)
     }
 }
 
-// A message about a block, by its word.
-fn about(kind: &[u8], block: &[u8]) -> Result<Message, Refusal>
-    ensures { result ≡ message_in (kind.now ∷ block.now ∷ []) }
+// A message of two words, the second a number.
+fn about(kind: &[u8], number: &[u8]) -> Result<Message, Refusal>
+    ensures { result ≡ message_in (kind.now ∷ number.now ∷ []) }
 {
-    let block = numeral(block)?;
-    about_block(kind, u64::from(block))
+    let number = numeral(number)?;
+    about_number(kind, number)
 }
 
 /// The message that the words of a text say. `BadTable` for words that are none.
@@ -54,11 +56,11 @@ pub fn message_in(text: &[u8]) -> Result<Message, Refusal>
     let Some((kind, rest)) = next_word(text) else {
         return Err(Refusal::BadTable);
     };
-    let Some((block, rest)) = next_word(rest) else {
+    let Some((number, rest)) = next_word(rest) else {
         return bare(kind);
     };
     if next_word(rest).is_some() {
         return Err(Refusal::BadTable);
     }
-    about(kind, block)
+    about(kind, number)
 }

@@ -7,7 +7,7 @@ use Rattle.device.specs.Layers.{Layer, Flaky, Dusty, Broken, Window}
 use Rattle.layers.specs.declared.message.Message.{Message}
 use Rattle.layers.specs.declared.message.Message.TheVariants as messages
 use Rattle.layers.specs.declared.message.Answer.{Answer}
-use Rattle.layers.specs.Messages.{Told, Refused, Answered, dust_told, layer_told, told, told_with}
+use Rattle.layers.specs.Messages.{Told, Refused, Answered, dust_told, flakey_told, layer_told, told, told_with}
 use Rattle.words.specs.Given.{Gives}
 use Rattle.table.specs.declared.lines.Target.{Target}
 use Rattle.command.specs.declared.events.EventWords.{EventWords}
@@ -220,9 +220,21 @@ dust_other sectors size on bad messages.CountBadBlocks = answered_told
 dust_other sectors size on bad messages.ClearBadBlocks = answered_told
 dust_other sectors size on bad messages.Enable = answered_told
 dust_other sectors size on bad messages.Disable = answered_told
+dust_other sectors size on bad (messages.Tick n) = bad_told
+
+flakey_other : (layer : Layer) (message : Message) → IsTold (flakey_told layer message)
+flakey_other layer (messages.AddBadBlock k) = bad_told
+flakey_other layer (messages.RemoveBadBlock k) = bad_told
+flakey_other layer (messages.QueryBlock k) = bad_told
+flakey_other layer messages.CountBadBlocks = bad_told
+flakey_other layer messages.ClearBadBlocks = bad_told
+flakey_other layer messages.Enable = bad_told
+flakey_other layer messages.Disable = bad_told
+flakey_other layer (messages.Tick n) = answered_told
 
 layer_other : (layer : Layer) (message : Message) → IsTold (layer_told layer message)
 layer_other (Dusty sectors size on bad) message = dust_other sectors size on bad message
+layer_other (Flaky moment up down features offset) message = flakey_other (Flaky moment up down features offset) message
 layer_other layer message = bad_told
 
 layers_other : (layers : List Layer) (depth : ℕ) (message : Message) → IsTold (told layers depth message)

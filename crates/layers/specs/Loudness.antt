@@ -3,9 +3,9 @@ use Rattle.std.specs.Prelude.{◌≡◌, ℕ, ◌-◌, ◌==◌, Bool, true, fal
 use Rattle.std.proofs.Common.{ap, ◌∙◌, subst}
 use Rattle.device.specs.Layers.{Layer, Flaky, Dusty, Broken, Counted, Tearing, Window, ReadAhead, is_loud, is_loud_layer}
 use Rattle.layers.specs.declared.message.Message.{Message}
-use Rattle.layers.specs.declared.message.Message.TheVariants.{AddBadBlock, RemoveBadBlock, QueryBlock, CountBadBlocks, ClearBadBlocks, Enable, Disable}
+use Rattle.layers.specs.declared.message.Message.TheVariants.{AddBadBlock, RemoveBadBlock, QueryBlock, CountBadBlocks, ClearBadBlocks, Enable, Disable, Tick}
 use Rattle.layers.specs.declared.message.Answer.{Answer}
-use Rattle.layers.specs.Messages.{Told, Answered, Refused, told, told_with, layer_told, dust_told, is_past, is_listed}
+use Rattle.layers.specs.Messages.{Told, Answered, Refused, told, told_with, layer_told, dust_told, flakey_told, is_past, is_listed}
 use Rattle.layers.specs.Ticks.{ticked, layers_ticked}
 
 loud_layer_ticked : (n : ℕ) (l : Layer) → is_loud_layer (ticked n l) ≡ is_loud_layer l
@@ -44,9 +44,20 @@ dust_loud sectors size on bad CountBadBlocks = refl
 dust_loud sectors size on bad ClearBadBlocks = refl
 dust_loud sectors size on bad Enable = refl
 dust_loud sectors size on bad Disable = refl
+dust_loud sectors size on bad (Tick n) = tt
+
+flakey_loud : (l : Layer) (m : Message) → AsLoudLayer (is_loud_layer l) (flakey_told l m)
+flakey_loud l (AddBadBlock k) = tt
+flakey_loud l (RemoveBadBlock k) = tt
+flakey_loud l (QueryBlock k) = tt
+flakey_loud l CountBadBlocks = tt
+flakey_loud l ClearBadBlocks = tt
+flakey_loud l Enable = tt
+flakey_loud l Disable = tt
+flakey_loud l (Tick n) = loud_layer_ticked n l
 
 layer_loud : (l : Layer) (m : Message) → AsLoudLayer (is_loud_layer l) (layer_told l m)
-layer_loud (Flaky moment up down features offset) m = tt
+layer_loud (Flaky moment up down features offset) m = flakey_loud (Flaky moment up down features offset) m
 layer_loud (Dusty sectors size enabled bad) m = dust_loud sectors size enabled bad m
 layer_loud Broken m = tt
 layer_loud (Counted left) m = tt

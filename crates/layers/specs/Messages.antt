@@ -1,17 +1,18 @@
 -- To be believed: `run`'s output, a volume's steps or its attach are said in these words.
--- What a message does to layers, and what is answered. Source: the kernel's page on dm-dust; the refusals are this
--- project's own.
+-- What a message does to layers, and what is answered. Source: the kernel's page on dm-dust; the refusals, and that the time may be
+-- told to one flakey layer alone, are this project's own.
 use Rattle.std.specs.Prelude.{◌≡◌, Option, Some, None, ℕ, ◌*◌, ◌-◌, Bool, true, false, if◌then◌else◌, List, [], ◌∷◌, length, ◌==◌, nat_le}
 use Rattle.std.specs.List.{list_any}
 use Rattle.std.specs.Ordering.{nat_cmp}
 use Rattle.std.specs.BTreeMap.{is_at}
 use Rattle.std.specs.BTreeSet.{insert_key}
 use Rattle.std.specs.Set.{remove_key}
-use Rattle.device.specs.Layers.{Layer, Dusty, Window}
+use Rattle.device.specs.Layers.{Layer, Flaky, Dusty, Window}
+use Rattle.layers.specs.Ticks.{ticked}
 use Rattle.sector.specs.declared.refusal.Refusal.{Refusal}
 use Rattle.sector.specs.declared.refusal.Refusal.TheVariants.{BadTable, OutOfRange}
 use Rattle.layers.specs.declared.message.Message.{Message}
-use Rattle.layers.specs.declared.message.Message.TheVariants.{AddBadBlock, RemoveBadBlock, QueryBlock, CountBadBlocks, ClearBadBlocks, Enable, Disable}
+use Rattle.layers.specs.declared.message.Message.TheVariants.{AddBadBlock, RemoveBadBlock, QueryBlock, CountBadBlocks, ClearBadBlocks, Enable, Disable, Tick}
 use Rattle.layers.specs.declared.message.Answer.{Answer}
 use Rattle.layers.specs.declared.message.Answer.TheVariants.{Done, Already, Absent, Bad, Good, Count}
 
@@ -42,10 +43,17 @@ dust_told sectors size on bad CountBadBlocks = Answered (Count (length bad)) (Du
 dust_told sectors size on bad ClearBadBlocks = Answered Done (Dusty sectors size on [])
 dust_told sectors size on bad Enable = Answered Done (Dusty sectors size true bad)
 dust_told sectors size on bad Disable = Answered Done (Dusty sectors size false bad)
+dust_told sectors size on bad (Tick n) = Refused BadTable
+
+-- a flakey layer takes the time alone
+abbrev pub flakey_told : Layer → Message → Told Layer
+flakey_told l (Tick n) = Answered Done (ticked n l)
+flakey_told l m = Refused BadTable
 
 -- one layer
 abbrev pub layer_told : Layer → Message → Told Layer
 layer_told (Dusty sectors size on bad) m = dust_told sectors size on bad m
+layer_told (Flaky moment up down features offset) m = flakey_told (Flaky moment up down features offset) m
 layer_told l m = Refused BadTable
 
 -- the layer at a depth, counted from the top, windows aside; there is none below the last
@@ -68,3 +76,4 @@ NeedsRoom CountBadBlocks t = ⊥
 NeedsRoom ClearBadBlocks t = ⊥
 NeedsRoom Enable t = ⊥
 NeedsRoom Disable t = ⊥
+NeedsRoom (Tick n) t = ⊥

@@ -20,8 +20,10 @@ pub struct Dust {
     pub sectors: u64,
     /// The bytes of a block. Block k has the bytes from `k * block_size` on.
     pub block_size: u32,
-    pub(crate) enabled: bool,
-    pub(crate) bad: BTreeSet<u64>,
+    /// Whether reads of bad blocks fail.
+    pub enabled: bool,
+    /// The numbers of the bad blocks.
+    pub bad: BTreeSet<u64>,
     /// How many operations it answered with a fault, modulo 2^64.
     pub faults: u64,
     /// How many operations it was asked for, modulo 2^64.
@@ -102,6 +104,7 @@ impl Dust {
                 self.enabled = false;
                 Ok(Answer::Done)
             }
+            Message::Tick(_) => Err(Refusal::BadTable),
         }
     }
 

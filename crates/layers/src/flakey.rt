@@ -4,8 +4,9 @@ ghost use Rattle.std.specs.Prelude.{◌≡◌, ℕ, ◌+◌, ◌%◌, ◌^◌, �
 ghost use Rattle.device.specs.declared.operation.Operation.TheVariants.{Reads};
 ghost use Rattle.device.specs.declared.operation.Fate.TheVariants.{Pass, Fail};
 
+use crate::{Answer, Message};
 use device::{Fate, Operation};
-use sector::Range;
+use sector::{Range, Refusal};
 
 /// What a flakey layer does while it is unreliable. Without any of them it fails everything.
 #[derive(Clone, Copy, PartialEq, Eq)]
@@ -30,7 +31,8 @@ pub struct Flakey {
     pub up: u32,
     /// The seconds for which it is not.
     pub down: u32,
-    pub(crate) moment: u64,
+    /// The second of its `up` and `down` at which it is, from 0.
+    pub moment: u64,
     /// What it does then.
     pub features: Features,
     /// How many operations it answered with a fault, modulo 2^64.
@@ -45,6 +47,8 @@ impl Flakey {
     ghost use Rattle.device.specs.Layers.{Flaky, layer_fate};
     ghost use Rattle.layers.specs.Layer.{flakey_layer, features_of};
     ghost use Rattle.layers.specs.Ticks.{ticked};
+    ghost use Rattle.layers.specs.Messages.{layer_told, Answered, Refused};
+    ghost use Rattle.std.specs.Prelude.{IfOk, IfErr, OnErr};
 
     /// A layer of so many sectors, those of the device below from `offset` on, at the first second of its `up`. A table
     /// line has an offset of 32 bits.
@@ -117,5 +121,28 @@ impl Flakey {
         ensures rest { (self.new.sectors ≡ self.old.sectors) × (self.new.faults ≡ self.old.faults) × (self.new.done ≡ self.old.done) }
     {
         self.moment = (self.moment + seconds as u64) % (self.up as u64 + self.down as u64);
+    }
+
+    // Answers a message: it knows of the time alone, and refuses any other as `BadTable`. What is refused changes nothing.
+    pub(crate) fn message(&mut self, message: &Message) -> Result<Answer, Refusal>
+        ensures ok { IfOk result (λ a. layer_told (flakey_layer self.old) message.now ≡ Answered a (flakey_layer self.new)) }
+        ensures err { IfErr result (λ r. layer_told (flakey_layer self.old) message.now ≡ Refused r) }
+        ensures unchanged { OnErr result (self.new ≡ self.old) }
+        ensures offset { self.new.offset ≡ self.old.offset }
+        ensures rest { (self.new.sectors ≡ self.old.sectors) × (self.new.faults ≡ self.old.faults) × (self.new.done ≡ self.old.done) }
+    {
+        match message {
+            Message::Tick(seconds) => {
+                self.tick(*seconds);
+                Ok(Answer::Done)
+            }
+            Message::AddBadBlock(_)
+            | Message::RemoveBadBlock(_)
+            | Message::QueryBlock(_)
+            | Message::CountBadBlocks
+            | Message::ClearBadBlocks
+            | Message::Enable
+            | Message::Disable => Err(Refusal::BadTable),
+        }
     }
 }

@@ -121,9 +121,12 @@ impl Layered for Stack {
     fn message(&mut self, depth: usize, message: &Message) -> Result<Answer, Refusal> {
         match self {
             Stack::Disk(_) | Stack::Error(_) => Err(Refusal::BadTable),
-            Stack::Flakey(_, below) => {
+            Stack::Flakey(flakey, below) => {
                 if depth == 0 {
-                    return Err(Refusal::BadTable);
+                    return match flakey.message(message) {
+                        Ok(answer) => Ok(answer),
+                        Err(refusal) => Err(refusal),
+                    };
                 }
                 match below.message(depth - 1, message) {
                     Ok(answer) => Ok(answer),

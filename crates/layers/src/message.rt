@@ -1,7 +1,7 @@
 // What layers are told, and what they answer. The kernel's page on dm-dust has the messages; the texts of the answers are
 // the command program's.
 
-/// A message to a dust layer. A block is told by its number, from 0.
+/// A message to a dust layer, or the time to a flakey layer. A block is told by its number, from 0.
 #[derive(Clone, Copy, PartialEq, Eq)]
 pub enum Message {
     /// Puts a block on the list.
@@ -18,6 +18,8 @@ pub enum Message {
     Enable,
     /// Has everything pass from now on.
     Disable,
+    /// Lets so many seconds pass for a flakey layer, and for no other.
+    Tick(u32),
 }
 
 /// The answer to a message.

@@ -6,10 +6,10 @@ use Rattle.sector.specs.declared.refusal.Refusal.{Refusal}
 use Rattle.sector.specs.declared.refusal.Refusal.TheVariants.{NoSuchDevice}
 use Rattle.device.specs.Layers.{Layer, Flaky, Dusty, Broken, Counted, Tearing, Window, ReadAhead}
 use Rattle.layers.specs.declared.message.Message.{Message}
-use Rattle.layers.specs.declared.message.Message.TheVariants.{AddBadBlock, RemoveBadBlock, QueryBlock, CountBadBlocks, ClearBadBlocks, Enable, Disable}
+use Rattle.layers.specs.declared.message.Message.TheVariants.{AddBadBlock, RemoveBadBlock, QueryBlock, CountBadBlocks, ClearBadBlocks, Enable, Disable, Tick}
 use Rattle.layers.specs.declared.message.Answer.{Answer}
 use Rattle.layers.specs.declared.message.Answer.TheVariants.{Done}
-use Rattle.layers.specs.Messages.{Told, Answered, Refused, told, told_with, layer_told, dust_told, is_past, is_listed}
+use Rattle.layers.specs.Messages.{Told, Answered, Refused, told, told_with, layer_told, dust_told, flakey_told, is_past, is_listed}
 use Rattle.words.specs.Given.{◌>>=◌}
 use Rattle.big_steps.specs.Devices.{Device}
 use Rattle.big_steps.specs.Snaps.{Snap, Volume as Settled}
@@ -45,9 +45,20 @@ dust_quiet sectors size on bad CountBadBlocks = λ other. refl
 dust_quiet sectors size on bad ClearBadBlocks = done_or _ _
 dust_quiet sectors size on bad Enable = done_or _ _
 dust_quiet sectors size on bad Disable = done_or _ _
+dust_quiet sectors size on bad (Tick n) = tt
+
+flakey_quiet : (l : Layer) (m : Message) → IsQuiet l (flakey_told l m)
+flakey_quiet l (AddBadBlock k) = tt
+flakey_quiet l (RemoveBadBlock k) = tt
+flakey_quiet l (QueryBlock k) = tt
+flakey_quiet l CountBadBlocks = tt
+flakey_quiet l ClearBadBlocks = tt
+flakey_quiet l Enable = tt
+flakey_quiet l Disable = tt
+flakey_quiet l (Tick n) = done_or _ _
 
 layer_quiet : (l : Layer) (m : Message) → IsQuiet l (layer_told l m)
-layer_quiet (Flaky moment up down features offset) m = tt
+layer_quiet (Flaky moment up down features offset) m = flakey_quiet (Flaky moment up down features offset) m
 layer_quiet (Dusty sectors size enabled bad) m = dust_quiet sectors size enabled bad m
 layer_quiet Broken m = tt
 layer_quiet (Counted left) m = tt
