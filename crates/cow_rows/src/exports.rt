@@ -31,7 +31,7 @@ fn a_kernel_s_snapshot_is_exported_as_it_showed_it(rt: HostRuntime) -> Result<()
     let mut sink = empty(rt.alloc(), 65536);
     export(rt.alloc(), &mut origin, &mut cow, &map, 128, &mut sink)?;
     let wanted = bytes_of(rt.alloc(), WRITTEN_SHOWN)?;
-    assert_eq!(rt; sink.bytes.as_slice(), wanted.as_slice());
+    assert!(rt; sink.bytes.as_slice() == wanted.as_slice());
     Ok(())
 }
 
@@ -41,7 +41,7 @@ fn a_fresh_store_shows_its_origin(rt: HostRuntime) -> Result<(), Fail> {
     let mut sink = empty(rt.alloc(), 65536);
     export_fresh(rt.alloc(), &mut origin, 128, &mut sink)?;
     let wanted = bytes_of(rt.alloc(), WRITTEN_ORIGIN)?;
-    assert_eq!(rt; sink.bytes.as_slice(), wanted.as_slice());
+    assert!(rt; sink.bytes.as_slice() == wanted.as_slice());
     Ok(())
 }
 
@@ -80,7 +80,7 @@ fn a_write_that_fails_leaves_a_front(rt: HostRuntime) -> Result<(), Fail> {
         let mut sink = empty(rt.alloc(), room);
         let ended = export(rt.alloc(), &mut origin, &mut cow, &map, 128, &mut sink);
         assert!(rt; matches!(ended, Err(Stopped::Unwritable(_))), "room {room}");
-        assert_eq!(rt; sink.bytes.len(), room);
+        assert!(rt; sink.bytes.len() == room);
         assert!(rt; is_front(rt.alloc(), sink.bytes.as_slice())?, "room {room}");
     }
     Ok(())

@@ -76,9 +76,8 @@ fn a_flipped_bit_is_judged_as_in_words(rt: HostRuntime) -> Result<(), Fail> {
             cow.bytes[at] ^= bit;
             let wanted = is_good(rt.alloc(), cow.bytes.as_slice())?;
             let told = read_store(rt.alloc(), &mut cow, SECTORS)?;
-            assert_eq!(rt;
-                matches!(told, Told::Written(_)),
-                wanted,
+            assert!(rt;
+                matches!(told, Told::Written(_)) == wanted,
                 "byte {at} bit {bit}"
             );
             assert!(rt; at < cow.bytes.len());

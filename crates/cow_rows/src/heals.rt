@@ -115,12 +115,11 @@ fn each_flipped_bit_of_a_slot_gives_a_whole_file_and_a_list(rt: HostRuntime) -> 
             &mut sink,
         )?;
         let (shown, skipped) = plain(rt.alloc(), wanted_origin.as_slice(), cow.bytes.as_slice())?;
-        assert_eq!(rt;
-            sink.bytes.as_slice(),
-            shown.as_slice(),
+        assert!(rt;
+            sink.bytes.as_slice() == shown.as_slice(),
             "byte {at} bit {bit}"
         );
-        assert_eq!(rt; saved.skipped.len(), skipped, "byte {at} bit {bit}");
+        assert!(rt; saved.skipped.len() == skipped, "byte {at} bit {bit}");
         if 0 < skipped {
             lost = lost.saturating_add(1);
         }
@@ -137,10 +136,10 @@ fn an_overlapping_pair_is_skipped_with_its_reason(rt: HostRuntime) -> Result<(),
     assert!(rt; 4112 < cow.bytes.len());
     cow.bytes[4112] = 1;
     let used = read_used(rt.alloc(), &mut cow, 8, 128)?;
-    assert_eq!(rt; used.areas, 1);
+    assert!(rt; used.areas == 1);
     let sifted = sift(rt.alloc(), 8, 128, 128, used.slots.as_slice())?;
     let pair = Pair { old: 1, new: 3 };
-    assert_eq!(rt; sifted.kept.len(), 4);
+    assert!(rt; sifted.kept.len() == 4);
     assert!(rt; sifted.skipped.as_slice() == [Fault::OldTwice { slot: 1, pair }].as_slice());
     Ok(())
 }
@@ -151,8 +150,8 @@ fn slots_behind_an_empty_one_are_found(rt: HostRuntime) -> Result<(), Fail> {
     assert!(rt; 4120 < cow.bytes.len());
     cow.bytes[4120] = 0;
     let used = read_used(rt.alloc(), &mut cow, 8, 128)?;
-    assert_eq!(rt; used.slots.len(), 4);
-    assert_eq!(rt; front_of(used.slots.as_slice()), 1);
+    assert!(rt; used.slots.len() == 4);
+    assert!(rt; front_of(used.slots.as_slice()) == 1);
     Ok(())
 }
 
@@ -179,6 +178,6 @@ fn sectors_that_can_t_be_read_are_told_and_give_zeros(rt: HostRuntime) -> Result
     let mut shown = bytes_of(rt.alloc(), WRITTEN_SHOWN)?;
     assert!(rt; shown.len() == 65536);
     shown.as_mut_slice()[5120..6656].fill(0);
-    assert_eq!(rt; room.as_slice(), &shown.as_slice()[4096..8192]);
+    assert!(rt; room.as_slice() == &shown.as_slice()[4096..8192]);
     Ok(())
 }

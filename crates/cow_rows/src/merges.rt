@@ -118,8 +118,8 @@ fn merge_again(
     assert!(rt; merged(rt, files)?.is_ok());
     assert!(rt; files.origin.synced.as_slice() == shown);
     let map = map_of(rt, files.store.synced.as_slice(), shown.len())?;
-    assert_eq!(rt; map.pairs.len(), 0);
-    assert_eq!(rt; map.current, 0);
+    assert!(rt; map.pairs.len() == 0);
+    assert!(rt; map.current == 0);
     Ok(())
 }
 
@@ -217,7 +217,7 @@ fn files_in_memory_are_merged(rt: HostRuntime) -> Result<(), Fail> {
     assert!(rt; merge(&mut files, &map, sectors, room).is_ok());
     assert!(rt; files.files.first.synced.as_slice() == shown.as_slice());
     let map = map_of(&rt, files.files.second.synced.as_slice(), shown.len())?;
-    assert_eq!(rt; map.pairs.len(), 0);
+    assert!(rt; map.pairs.len() == 0);
     Ok(())
 }
 
@@ -232,7 +232,7 @@ fn a_kernel_s_snapshot_is_stopped_anywhere(rt: HostRuntime) -> Result<(), Fail> 
             }
         }
     }
-    assert_eq!(rt; stops, 40);
+    assert!(rt; stops == 40);
     Ok(())
 }
 
@@ -247,7 +247,7 @@ fn two_areas_are_stopped_anywhere(rt: HostRuntime) -> Result<(), Fail> {
             }
         }
     }
-    assert_eq!(rt; stops, 352);
+    assert!(rt; stops == 352);
     Ok(())
 }
 
@@ -262,6 +262,6 @@ fn a_merge_goes_on_where_an_operation_failed(rt: HostRuntime) -> Result<(), Fail
             }
         }
     }
-    assert_eq!(rt; fails, 106);
+    assert!(rt; fails == 106);
     Ok(())
 }

@@ -38,20 +38,19 @@ fn a_kernel_s_store_has_its_status_line(rt: HostRuntime) -> Result<(), Fail> {
             chunk: 4,
         },
     )?;
-    assert_eq!(rt;
-        text.as_slice(),
-        b"sectors 200\nmagic 1\nvalid 2\nversion 3\nchunk 4\n".as_slice()
+    assert!(rt;
+        text.as_slice() == b"sectors 200\nmagic 1\nvalid 2\nversion 3\nchunk 4\n".as_slice()
     );
     let told = read_store(rt.alloc(), &mut cow, 200)?;
-    assert_eq!(rt;
-        lines_of(rt.alloc(), &told)?.as_slice(),
-        b"pairs 1\narea 0\nslot 1\nstatus 24/200 16\n3 2 1\n".as_slice()
+    assert!(rt;
+        lines_of(rt.alloc(), &told)?.as_slice()
+            == b"pairs 1\narea 0\nslot 1\nstatus 24/200 16\n3 2 1\n".as_slice()
     );
     let (slots, listed) = read_slots(rt.alloc(), &mut cow, 8)?;
     assert!(rt; listed == Listed::Ends(0));
     let mut text = Vec::new(rt.alloc());
     push_slots(&mut text, 256, slots.as_slice())?;
-    assert_eq!(rt; text.as_slice(), b"0 0 3 2\n".as_slice());
+    assert!(rt; text.as_slice() == b"0 0 3 2\n".as_slice());
     Ok(())
 }
 
@@ -69,7 +68,7 @@ fn refused_with(
     cow.bytes[at] = byte;
     let told = read_store(rt.alloc(), &mut cow, origin)?;
     assert!(rt; matches!(&told, Told::Refused(reason) if *reason == wanted));
-    assert_eq!(rt; lines_of(rt.alloc(), &told)?.as_slice(), text);
+    assert!(rt; lines_of(rt.alloc(), &told)?.as_slice() == text);
     Ok(())
 }
 
@@ -174,7 +173,7 @@ fn an_image_is_whole_sectors(rt: HostRuntime) -> Result<(), Fail> {
         )
     );
     let mut part = image_of(rt.alloc(), &[(513, 0)])?;
-    assert_eq!(rt; part.len()?, 513);
+    assert!(rt; part.len()? == 513);
     assert!(rt;
         matches!(
             read_store(rt.alloc(), &mut part, 8),
@@ -225,23 +224,23 @@ fn all_faults_are_told_the_first_as_the_reason(rt: HostRuntime) -> Result<(), Fa
     let found = faults(rt.alloc(), 8, 128, 128, slots.as_slice(), usize::MAX)?;
     let mut text = Vec::new(rt.alloc());
     push_faults_json(&mut text, b"fault", 256, found.as_slice())?;
-    assert_eq!(rt;
-        text.as_slice(),
-        b"{\"fault\":\"old_twice\",\"area\":0,\"slot\":1,\"old\":3,\"new\":2}\n{\"fault\":\"new_twice\",\"area\":0,\"slot\":1,\"old\":3,\"new\":2}\n{\"fault\":\"past_origin\",\"area\":0,\"slot\":2,\"old\":40,\"new\":90}\n{\"fault\":\"outside_store\",\"area\":0,\"slot\":2,\"old\":40,\"new\":90}\n".as_slice()
+    assert!(rt;
+        text.as_slice()
+            == b"{\"fault\":\"old_twice\",\"area\":0,\"slot\":1,\"old\":3,\"new\":2}\n{\"fault\":\"new_twice\",\"area\":0,\"slot\":1,\"old\":3,\"new\":2}\n{\"fault\":\"past_origin\",\"area\":0,\"slot\":2,\"old\":40,\"new\":90}\n{\"fault\":\"outside_store\",\"area\":0,\"slot\":2,\"old\":40,\"new\":90}\n".as_slice()
     );
     let mut text = Vec::new(rt.alloc());
     push_runs_json(&mut text, slots.as_slice())?;
     push_listed_json(&mut text, listed)?;
     push_behind_json(&mut text, 256, 5, 260)?;
-    assert_eq!(rt;
-        text.as_slice(),
-        b"{\"old\":3,\"new\":2,\"count\":1}\n{\"old\":3,\"new\":2,\"count\":1}\n{\"old\":40,\"new\":90,\"count\":1}\n{\"ends\":0}\n{\"behind\":5,\"area\":1,\"slot\":4}\n".as_slice()
+    assert!(rt;
+        text.as_slice()
+            == b"{\"old\":3,\"new\":2,\"count\":1}\n{\"old\":3,\"new\":2,\"count\":1}\n{\"old\":40,\"new\":90,\"count\":1}\n{\"ends\":0}\n{\"behind\":5,\"area\":1,\"slot\":4}\n".as_slice()
     );
     let mut text = Vec::new(rt.alloc());
     push_faults(&mut text, 256, found.as_slice())?;
-    assert_eq!(rt;
-        text.as_slice(),
-        b"fault area 0 slot 1: old chunk 3 stands in an earlier slot\nfault area 0 slot 1: new chunk 2 stands in an earlier slot\nfault area 0 slot 2: old chunk 40 begins past the origin's end\nfault area 0 slot 2: new chunk 90 does not lie inside the store\n".as_slice()
+    assert!(rt;
+        text.as_slice()
+            == b"fault area 0 slot 1: old chunk 3 stands in an earlier slot\nfault area 0 slot 1: new chunk 2 stands in an earlier slot\nfault area 0 slot 2: old chunk 40 begins past the origin's end\nfault area 0 slot 2: new chunk 90 does not lie inside the store\n".as_slice()
     );
     Ok(())
 }
@@ -258,21 +257,21 @@ fn a_store_is_shown_in_lines_and_as_an_object(rt: HostRuntime) -> Result<(), Fai
     });
     let mut text = Vec::new(rt.alloc());
     push_show(&mut text, 200, numbers, &told)?;
-    assert_eq!(rt;
-        text.as_slice(),
-        b"sectors 200\nmagic 1883336275\nvalid 1\nversion 1\nchunk 8\npairs 1\narea 0\nslot 1\nstatus 24/200 16\n".as_slice()
+    assert!(rt;
+        text.as_slice()
+            == b"sectors 200\nmagic 1883336275\nvalid 1\nversion 1\nchunk 8\npairs 1\narea 0\nslot 1\nstatus 24/200 16\n".as_slice()
     );
     let mut text = Vec::new(rt.alloc());
     push_json(&mut text, 200, numbers, &told)?;
-    assert_eq!(rt;
-        text.as_slice(),
-        b"{\"sectors\":200,\"magic\":1883336275,\"valid\":1,\"version\":1,\"chunk\":8,\"pairs\":1,\"area\":0,\"slot\":1,\"allocated\":24,\"total\":200,\"metadata\":16}\n".as_slice()
+    assert!(rt;
+        text.as_slice()
+            == b"{\"sectors\":200,\"magic\":1883336275,\"valid\":1,\"version\":1,\"chunk\":8,\"pairs\":1,\"area\":0,\"slot\":1,\"allocated\":24,\"total\":200,\"metadata\":16}\n".as_slice()
     );
     let mut text = Vec::new(rt.alloc());
     push_json(&mut text, 0, None, &Told::Refused(Reason::Empty))?;
-    assert_eq!(rt;
-        text.as_slice(),
-        b"{\"sectors\":0,\"refused\":\"StoreTooSmall\",\"reason\":\"the store has no sector\"}\n".as_slice()
+    assert!(rt;
+        text.as_slice()
+            == b"{\"sectors\":0,\"refused\":\"StoreTooSmall\",\"reason\":\"the store has no sector\"}\n".as_slice()
     );
     Ok(())
 }

@@ -1,23 +1,23 @@
 // Disks in memory, what a flush keeps and a loss leaves, and a device that fails once.
+ghost use Rattle.std.specs.Prelude.{◌≡◌};
+ghost use Rattle.device.specs.Disk.{disk_size};
+
 use crate::bytes::are_all;
+use crate::device_calls::{fill, flush, read};
 use device::{Block, FailAt, MemDisk};
-use sector::Range;
+use sector::{Range, Refusal};
 use std::test::Fail;
 
 #[test]
 fn the_third_operation_fails_and_changes_nothing(rt: HostRuntime) -> Result<(), Fail> {
     let first = Range::new(0, 1, 2)?;
     let mut device = FailAt::new(MemDisk::new(rt.alloc(), 2)?, 2);
-    let mut out = [9; 512];
-    let written = device.write(first, &[1; 512]);
-    let flushed = device.flush();
-    let third = device.write(first, &[2; 512]);
-    let read = device.read(first, &mut out);
-    let last = device.write(first, &[3; 512]);
-    assert!(rt;
-        written.is_ok() && flushed.is_ok() && third.is_err() && read.is_ok() && last.is_ok()
-    );
-    assert!(rt; are_all(&out, 1));
+    let (written, flushed) = (fill(&mut device, first, 1), flush(&mut device));
+    let third = fill(&mut device, first, 2);
+    let read = read(&mut device, first, 1);
+    let last = fill(&mut device, first, 3);
+    assert!(rt; (written, flushed, third, last) == (true, true, false, true));
+    assert!(rt; read == (true, true));
     assert!(rt; (device.sectors(), device.faults(), device.done()) == (2, 1, 5));
     assert!(rt;
         device.inner.done() == 4,
@@ -30,32 +30,8 @@ fn the_third_operation_fails_and_changes_nothing(rt: HostRuntime) -> Result<(), 
 fn a_failed_read_leaves_the_buffer(rt: HostRuntime) -> Result<(), Fail> {
     let first = Range::new(0, 1, 2)?;
     let mut device = FailAt::new(MemDisk::new(rt.alloc(), 2)?, 0);
-    let mut out = [9; 512];
-    let failed = device.read(first, &mut out);
-    assert!(rt; failed.is_err() && are_all(&out, 9));
-    let read = device.read(first, &mut out);
-    assert!(rt; read.is_ok() && are_all(&out, 0));
-    Ok(())
-}
-
-// `raw` does not count.
-#[test]
-fn a_new_disk_is_zero_and_keeps_what_is_written(rt: HostRuntime) -> Result<(), Fail> {
-    let (middle, third, last) = (
-        Range::new(1, 2, 4)?,
-        Range::new(2, 1, 4)?,
-        Range::new(3, 1, 4)?,
-    );
-    let mut disk = MemDisk::new(rt.alloc(), 4)?;
-    let mut out = [9; 512];
-    disk.raw(third, &mut out);
-    assert!(rt; are_all(&out, 0));
-    let written = disk.write(middle, &[7; 1024]);
-    let read = disk.read(third, &mut out);
-    assert!(rt; written.is_ok() && read.is_ok() && are_all(&out, 7));
-    let past = disk.read(last, &mut out);
-    assert!(rt; past.is_ok() && are_all(&out, 0));
-    assert!(rt; (disk.sectors(), disk.faults(), disk.done()) == (4, 0, 3));
+    assert!(rt; read(&mut device, first, 9) == (false, true));
+    assert!(rt; read(&mut device, first, 0) == (true, true));
     Ok(())
 }
 
@@ -67,47 +43,53 @@ fn are_sectors_of(bytes: &[u8; 2048], first: u8, second: u8, third: u8, fourth: 
         && are_all(&bytes[1536..], fourth)
 }
 
+// Whether a disk of four sectors shows these bytes, by `raw`, which does not count.
+fn shows(disk: &MemDisk, first: u8, second: u8, third: u8, fourth: u8) -> Result<bool, Refusal>
+    requires { disk_size disk.now ≡ 4 }
+{
+    let mut out = [9; 2048];
+    disk.raw(Range::new(0, 4, 4)?, &mut out);
+    Ok(are_sectors_of(&out, first, second, third, fourth))
+}
+
+#[test]
+fn a_new_disk_is_zero_and_keeps_what_is_written(rt: HostRuntime) -> Result<(), Fail> {
+    let (middle, third) = (Range::new(1, 2, 4)?, Range::new(2, 1, 4)?);
+    let last = Range::new(3, 1, 4)?;
+    let mut disk = MemDisk::new(rt.alloc(), 4)?;
+    assert!(rt; shows(&disk, 0, 0, 0, 0)?);
+    assert!(rt; fill(&mut disk, middle, 7));
+    assert!(rt; read(&mut disk, third, 7) == (true, true));
+    assert!(rt; read(&mut disk, last, 0) == (true, true));
+    assert!(rt; (disk.sectors(), disk.faults(), disk.done()) == (4, 0, 3));
+    Ok(())
+}
+
 #[test]
 fn a_flush_keeps_each_write_since_the_last(rt: HostRuntime) -> Result<(), Fail> {
-    let (first, third, last) = (
-        Range::new(0, 1, 4)?,
-        Range::new(2, 1, 4)?,
-        Range::new(3, 1, 4)?,
-    );
-    let all = Range::new(0, 4, 4)?;
+    let (first, third) = (Range::new(0, 1, 4)?, Range::new(2, 1, 4)?);
+    let (last, all) = (Range::new(3, 1, 4)?, Range::new(0, 4, 4)?);
     let mut disk = MemDisk::new(rt.alloc(), 4)?;
-    let one = disk.write(last, &[1; 512]);
-    let flushed = disk.flush();
-    let two = disk.write(third, &[2; 512]);
-    let three = disk.write(first, &[3; 512]);
-    let again = disk.flush();
-    let lost = disk.write(all, &[9; 2048]);
+    let (one, flushed) = (fill(&mut disk, last, 1), flush(&mut disk));
+    let (two, three) = (fill(&mut disk, third, 2), fill(&mut disk, first, 3));
+    let (again, lost) = (flush(&mut disk), fill(&mut disk, all, 9));
     disk.lose();
-    let mut out = [9; 2048];
-    disk.raw(all, &mut out);
-    assert!(rt; one.is_ok() && two.is_ok() && three.is_ok() && lost.is_ok());
-    assert!(rt; flushed.is_ok() && again.is_ok() && are_sectors_of(&out, 3, 0, 2, 1));
+    assert!(rt; one && two && three && lost && flushed && again);
+    assert!(rt; shows(&disk, 3, 0, 2, 1)?);
     Ok(())
 }
 
 // `load` and `lose` do not count.
 #[test]
 fn a_loss_leaves_what_was_flushed_or_loaded(rt: HostRuntime) -> Result<(), Fail> {
-    let (first, two, last) = (
-        Range::new(0, 1, 4)?,
-        Range::new(0, 2, 4)?,
-        Range::new(3, 1, 4)?,
-    );
-    let all = Range::new(0, 4, 4)?;
+    let (first, two) = (Range::new(0, 1, 4)?, Range::new(0, 2, 4)?);
+    let last = Range::new(3, 1, 4)?;
     let mut disk = MemDisk::new(rt.alloc(), 4)?;
-    let written = disk.write(first, &[1; 512]);
-    let flushed = disk.flush();
-    let lost = disk.write(two, &[2; 1024]);
+    let (written, flushed) = (fill(&mut disk, first, 1), flush(&mut disk));
+    let lost = fill(&mut disk, two, 2);
     disk.load(last, &[3; 512]);
     disk.lose();
-    let mut out = [9; 2048];
-    disk.raw(all, &mut out);
-    assert!(rt; written.is_ok() && flushed.is_ok() && lost.is_ok());
-    assert!(rt; are_sectors_of(&out, 1, 0, 0, 3) && disk.done() == 3);
+    assert!(rt; written && flushed && lost);
+    assert!(rt; shows(&disk, 1, 0, 0, 3)? && disk.done() == 3);
     Ok(())
 }

@@ -1,8 +1,6 @@
 // Worked values: the short last chunk of a small origin, and the ways of two requests for one chunk.
-ghost use Rattle.std.specs.Prelude.{◌≡◌, IfOk, length};
-
 use in_flight::*;
-use plain_machine::{Dev, Op, Request};
+use plain_machine::{Dev, Op, ReqId, Request};
 use sector::{Buf, Pair, Range};
 use std::alloc::Global;
 use std::test::Fail;
@@ -17,25 +15,68 @@ fn the_last_chunk_is_short(rt: HostRuntime) -> Result<(), Fail> {
     Ok(())
 }
 
-// A read of snapshot 1 and a write of the origin, both of sector 7, in flight under 2 and 3.
-fn read_and_write(alloc: Global, first: Route, second: Route) -> Result<Vec<Flight>, Fail>
-    ensures { IfOk result (λ flights. length flights.items ≡ 2) }
-{
+// A request for sector 7, in flight.
+fn in_flight(alloc: Global, number: ReqId, dev: Dev, op: Op, route: Route) -> Result<Flight, Fail> {
     let range = Range::new(7, 1, 128)?;
-    let mut flights = Vec::with_capacity(alloc, 2)?;
-    let read = Request {
-        dev: Dev::Snap(1),
-        op: Op::Read,
-        range,
-    };
-    flights.push(Flight::new(alloc, 2, read, first)?)?;
-    let write = Request {
-        dev: Dev::Origin,
-        op: Op::Write(Buf::zeroed(alloc, 512)?),
-        range,
-    };
-    flights.push(Flight::new(alloc, 3, write, second)?)?;
+    Ok(Flight::new(alloc, number, Request { dev, op, range }, route)?)
+}
+
+// A read of snapshot 1 and a write of the origin, both of sector 7, in flight under 2 and 3.
+fn read_and_write(alloc: Global, first: Route, second: Route) -> Result<Vec<Flight>, Fail> {
+    let mut flights = Vec::new(alloc);
+    flights.push(in_flight(alloc, 2, Dev::Snap(1), Op::Read, first)?)?;
+    let zeros = Op::Write(Buf::zeroed(alloc, 512)?);
+    flights.push(in_flight(alloc, 3, Dev::Origin, zeros, second)?)?;
     Ok(flights)
+}
+
+// A mark of chunk 7 under number 1, that may be published.
+const MARKS: [Mark; 1] = [Mark {
+    number: 1,
+    chunk: 7,
+    safe: true,
+}];
+
+// Whether they are the read and the write, on these ways.
+fn are_on(flights: &[Flight], first: Route, second: Route) -> bool {
+    let [read, write] = flights else {
+        return false;
+    };
+    request_kind(&read.request) == Kind::SnapRead(1)
+        && request_kind(&write.request) == Kind::OriginWrite
+        && (read.room.len(), write.room.len()) == (512, 0)
+        && (read.route, write.route) == (first, second)
+}
+
+// Whether the copy's pair can't be published, since the read is on its way.
+fn is_delayed(flights: &[Flight]) -> bool {
+    first_publishable(&MARKS, flights, 1, 1).is_none()
+        && publishable_at(&MARKS, flights, 1, 1, 1).is_none()
+        && first_routed(flights) == Some(2)
+}
+
+// Whether it can be, and no request is on its way.
+fn is_free(flights: &[Flight]) -> bool {
+    first_publishable(&MARKS, flights, 1, 1) == Some(1)
+        && publishable_at(&MARKS, flights, 1, 1, 1) == Some(0)
+        && first_routed(flights).is_none()
+}
+
+// Whether the write goes to the origin disk once its chunk is clear, also where snapshot 1 is refused what it holds.
+fn goes_on(flights: &mut Vec<Flight>, held: Route) -> bool {
+    if let Some(write) = flights.first_mut() {
+        write.route = again_route(Kind::OriginWrite, held, write_route(false, None, true));
+    }
+    refuse(flights, 1);
+    match flights.first() {
+        Some(write) => write.route == Route::Origin,
+        None => false,
+    }
+}
+
+#[test]
+fn a_mark_is_of_its_chunk(rt: HostRuntime) {
+    assert!(rt; is_marked(&MARKS, 7) && !is_marked(&MARKS, 6));
 }
 
 // The read is routed to the origin disk, and the write held for the snapshot's copy 1: both of chunk 7.
@@ -43,27 +84,13 @@ fn read_and_write(alloc: Global, first: Route, second: Route) -> Result<Vec<Flig
 fn a_read_of_the_origin_disk_delays_the_publication(rt: HostRuntime) -> Result<(), Fail> {
     let held = write_route(false, None, false);
     let mut flights = read_and_write(rt.alloc(), read_route(None), held)?;
-    assert!(rt; request_kind(&flights[0].request) == Kind::SnapRead(1));
-    assert!(rt; request_kind(&flights[1].request) == Kind::OriginWrite);
-    assert!(rt; (flights[0].room.len(), flights[1].room.len()) == (512, 0));
-    assert!(rt; (flights[0].route, flights[1].route) == (Route::Origin, Route::Held));
+    assert!(rt; are_on(&flights, Route::Origin, Route::Held));
     assert!(rt; flight_at(&flights, 3) == Some(1) && flight_at(&flights, 1).is_none());
-    let marks = [Mark {
-        number: 1,
-        chunk: 7,
-        safe: true,
-    }];
-    assert!(rt; is_marked(&marks, 7) && !is_marked(&marks, 6));
-    assert!(rt; first_publishable(&marks, &flights, 1, 1).is_none());
-    assert!(rt; publishable_at(&marks, &flights, 1, 1, 1).is_none());
-    assert!(rt; first_routed(&flights) == Some(2));
+    assert!(rt; is_delayed(&flights));
+    assert!(rt; !flights.is_empty());
     let _ = flights.remove(0);
-    assert!(rt; first_publishable(&marks, &flights, 1, 1) == Some(1));
-    assert!(rt; publishable_at(&marks, &flights, 1, 1, 1) == Some(0));
-    assert!(rt; first_routed(&flights).is_none());
-    flights[0].route = again_route(Kind::OriginWrite, held, write_route(false, None, true));
-    refuse(&mut flights, 1);
-    assert!(rt; flights[0].route == Route::Origin);
+    assert!(rt; is_free(&flights));
+    assert!(rt; goes_on(&mut flights, held));
     Ok(())
 }
 
@@ -90,24 +117,43 @@ fn a_flush_lets_a_pair_be_published(rt: HostRuntime) {
     assert!(rt; !has_unsafe(&marks) && first_publishable(&marks, &flights, 1, 1) == Some(4));
 }
 
+// Whether the copy of chunk 9 waits.
+fn is_waiting(copies: &[ChunkCopy]) -> bool {
+    has_copy(copies, 9)
+        && !has_copy(copies, 2)
+        && first_copy(copies, Stage::Waiting) == Some(1)
+        && first_copy(copies, Stage::Read).is_none()
+        && !front_ready(copies)
+        && !front_unflushed(copies)
+}
+
+// Whether it is written, and not flushed.
+fn is_written(copies: &[ChunkCopy]) -> bool {
+    !front_ready(copies)
+        && front_unflushed(copies)
+        && batch(copies, 32) == 0
+        && copy_at(copies, Stage::Written, 1) == Some(0)
+        && copy_at(copies, Stage::Waiting, 1).is_none()
+        && least(first_copy(copies, Stage::Written), Some(7)) == Some(1)
+}
+
+// Whether it is flushed.
+fn is_flushed(copies: &[ChunkCopy]) -> bool {
+    front_ready(copies)
+        && !front_unflushed(copies)
+        && (batch(copies, 0), batch(copies, 32)) == (0, 1)
+}
+
 // A copy goes through its stages.
 #[test]
 fn a_copy_goes_through_its_stages(rt: HostRuntime) -> Result<(), Fail> {
     let copy = ChunkCopy::new(rt.alloc(), 1, Pair { old: 9, new: 2 }, 1)?;
     let mut copies = [copy];
-    assert!(rt; has_copy(&copies, 9) && !has_copy(&copies, 2));
-    assert!(rt; first_copy(&copies, Stage::Waiting) == Some(1));
-    assert!(rt; first_copy(&copies, Stage::Read).is_none());
-    assert!(rt; !front_ready(&copies) && !front_unflushed(&copies));
+    assert!(rt; is_waiting(&copies));
     copies[0].stage = Stage::Written;
-    assert!(rt; !front_ready(&copies) && front_unflushed(&copies) && batch(&copies, 32) == 0);
-    assert!(rt; copy_at(&copies, Stage::Written, 1) == Some(0));
-    assert!(rt; copy_at(&copies, Stage::Waiting, 1).is_none());
-    assert!(rt; least(first_copy(&copies, Stage::Written), Some(7)) == Some(1));
+    assert!(rt; is_written(&copies));
     flush_copies(&mut copies);
-    assert!(rt; front_ready(&copies) && !front_unflushed(&copies));
-    assert!(rt; (batch(&copies, 0), batch(&copies, 32)) == (0, 1));
-    assert!(rt; flushed_stage(Stage::Read) == Stage::Read);
+    assert!(rt; is_flushed(&copies) && flushed_stage(Stage::Read) == Stage::Read);
     Ok(())
 }
 

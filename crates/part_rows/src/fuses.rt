@@ -3,6 +3,7 @@ ghost use Rattle.std.specs.Prelude.{◌≡◌, IfOk};
 ghost use Rattle.torn_disk.specs.TornDisk.{torn_disk_size};
 
 use crate::bytes::are_all;
+use crate::device_calls::{fill, flush, read};
 use device::{Block, MemDisk};
 use layers::Layered;
 use sector::Range;
@@ -15,7 +16,9 @@ fn torn_disk_of(alloc: Global, changes: u64, new: &[bool]) -> Result<TornDisk, F
     ensures { IfOk result (λ f. torn_disk_size f ≡ 4) }
 {
     let mut disk = MemDisk::new(alloc, 4)?;
-    disk.write(Range::new(0, 4, 4)?, &[1; 2048])?;
+    if !fill(&mut disk, Range::new(0, 4, 4)?, 1) {
+        return Err(Fail::from("a write"));
+    }
     match TornDisk::new(alloc, disk, changes, Vec::from_slice(alloc, new)?) {
         Ok(fuse) => Ok(fuse),
         Err((refusal, _)) => Err(Fail::from(refusal)),
@@ -39,16 +42,11 @@ fn the_disk_kept_aside_has_the_new_sectors_alone(rt: HostRuntime) -> Result<(), 
     let (first, second) = (Range::new(0, 1, 4)?, Range::new(1, 1, 4)?);
     let (third, three) = (Range::new(2, 1, 4)?, Range::new(0, 3, 4)?);
     let mut fuse = torn_disk_of(rt.alloc(), 2, &[false, true])?;
-    let mut out = [9; 512];
-    let written = fuse.write(first, &[2; 512]);
-    let flushed = fuse.flush();
-    let read = fuse.read(first, &mut out);
-    assert!(rt; written.is_ok() && flushed.is_ok() && read.is_ok() && are_all(&out, 2));
+    assert!(rt; fill(&mut fuse, first, 2) && flush(&mut fuse));
+    assert!(rt; read(&mut fuse, first, 2) == (true, true));
     assert!(rt; fuse.left().is_none());
-    let torn = fuse.write(three, &[3; 1536]);
-    assert!(rt;
-        torn.is_err() && keeps(&fuse, first, 2) && keeps(&fuse, second, 3) && keeps(&fuse, third, 1)
-    );
+    assert!(rt; !fill(&mut fuse, three, 3));
+    assert!(rt; keeps(&fuse, first, 2) && keeps(&fuse, second, 3) && keeps(&fuse, third, 1));
     Ok(())
 }
 
@@ -57,17 +55,11 @@ fn the_disk_kept_aside_has_the_new_sectors_alone(rt: HostRuntime) -> Result<(), 
 fn a_blown_fuse_fails_and_changes_nothing(rt: HostRuntime) -> Result<(), Fail> {
     let one = Range::new(1, 1, 4)?;
     let mut fuse = torn_disk_of(rt.alloc(), 1, &[true])?;
-    let mut out = [9; 512];
-    let written = fuse.write(one, &[2; 512]);
-    let torn = fuse.write(one, &[3; 512]);
-    let read = fuse.read(one, &mut out);
-    let flushed = fuse.flush();
-    let again = fuse.write(one, &[4; 512]);
-    assert!(rt;
-        written.is_ok() && torn.is_err() && read.is_err() && flushed.is_err() && again.is_err()
-    );
-    assert!(rt; are_all(&out, 9));
+    assert!(rt; fill(&mut fuse, one, 2) && !fill(&mut fuse, one, 3));
+    assert!(rt; read(&mut fuse, one, 9) == (false, true));
+    assert!(rt; !flush(&mut fuse) && !fill(&mut fuse, one, 4));
     assert!(rt; (fuse.sectors(), fuse.faults(), fuse.done()) == (4, 4, 5));
+    let mut out = [9; 512];
     fuse.peek(one, &mut out);
     assert!(rt; are_all(&out, 2));
     Ok(())
@@ -77,10 +69,7 @@ fn a_blown_fuse_fails_and_changes_nothing(rt: HostRuntime) -> Result<(), Fail> {
 fn a_fuse_blown_before_a_flush_keeps_the_disk_as_it_was(rt: HostRuntime) -> Result<(), Fail> {
     let one = Range::new(1, 1, 4)?;
     let mut fuse = torn_disk_of(rt.alloc(), 2, &[true])?;
-    let flushed = fuse.flush();
-    let written = fuse.write(one, &[2; 512]);
-    let blown = fuse.flush();
-    assert!(rt; flushed.is_ok() && written.is_ok() && blown.is_err());
+    assert!(rt; flush(&mut fuse) && fill(&mut fuse, one, 2) && !flush(&mut fuse));
     assert!(rt; (fuse.faults(), fuse.done()) == (1, 3));
     let Some(mut left) = fuse.into_left() else {
         return Err(Fail::from("it is blown"));

@@ -14,6 +14,8 @@ mod bytes;
 #[cfg(test)]
 mod chunks;
 #[cfg(test)]
+mod device_calls;
+#[cfg(test)]
 mod disks;
 #[cfg(test)]
 mod exceptions;
