@@ -12,11 +12,10 @@ use std::alloc::Global;
 use std::test::Fail;
 use volume::Stopped;
 
-/// What a stop left: the stores, the last one first, and then the origin disk; the arrays from before; and the snapshot whose store
-/// a merge may find full.
+/// What a stop left: the devices, the origin's first; the arrays from before; and the snapshot whose store a merge may find full.
 #[derive(Drop)]
 struct Left<B: Block> {
-    disks: Vec<B>,
+    devices: Vec<B>,
     arrays: Arrays,
     chunk: u32,
     fills_up: Option<SnapId>,
@@ -24,35 +23,48 @@ struct Left<B: Block> {
     met: bool,
 }
 
-/// The disks that are left of a machine that stops, the origin's first, and whether one stopped or had its fault. A store at whose
-/// attach it did is the last.
-fn disks_left<B: Stops>(
+/// The devices of a machine that stops, the origin's first. A store at whose attach it did is the last.
+fn devices_of<B: Block + Drop>(
     alloc: Global,
     stopped: &mut Stopped<B>,
-    stores: &[B],
+    mut stores: Vec<B>,
     count: usize,
-    cut: Cut,
-) -> Result<(Vec<MemDisk>, bool), Fail> {
-    let mut disks = Vec::new(alloc);
-    let mut met = false;
+) -> Result<Vec<B>, Fail> {
+    let mut devices = Vec::new(alloc);
     for _ in 0..count {
-        match (stopped.take(), stores.last()) {
-            (Some(device), _) => {
-                met = met || device.has_met();
-                disks.push(device.left(alloc, cut)?)?;
-            }
-            (None, Some(device)) => {
-                met = met || device.has_met();
-                disks.push(device.left(alloc, cut)?)?;
-            }
-            (None, None) => return Err(Fail::from("a device is lost")),
+        match stopped.take() {
+            Some(device) => devices.push(device)?,
+            None => match stores.pop() {
+                Some(device) => devices.push(device)?,
+                None => return Err(Fail::from("a device is lost")),
+            },
         }
     }
-    Ok((disks, met))
+    Ok(devices)
+}
+
+/// The disks that are left of devices, the last one's first.
+fn disks_left<B: Stops>(alloc: Global, devices: &[B], cut: Cut) -> Result<Vec<MemDisk>, Fail> {
+    let mut disks = Vec::new(alloc);
+    for device in devices {
+        disks.push(device.left(alloc, cut)?)?;
+    }
+    disks.reverse();
+    Ok(disks)
+}
+
+/// Whether a device stopped, or had its fault.
+fn one_has_met<B: Stops>(devices: &[B]) -> bool {
+    for device in devices {
+        if device.has_met() {
+            return true;
+        }
+    }
+    false
 }
 
 /// Stops a machine.
-fn stop<B: Stops>(alloc: Global, machine: Machine<B>, cut: Cut) -> Result<Left<MemDisk>, Fail> {
+fn stop<B: Stops>(alloc: Global, machine: Machine<B>) -> Result<Left<B>, Fail> {
     let Machine {
         volume,
         arrays,
@@ -63,10 +75,10 @@ fn stop<B: Stops>(alloc: Global, machine: Machine<B>, cut: Cut) -> Result<Left<M
     } = machine;
     let count = arrays.snaps.len().saturating_add(1);
     let mut stopped = volume.stop();
-    let (mut disks, met) = disks_left(alloc, &mut stopped, stores.as_slice(), count, cut)?;
-    disks.reverse();
+    let devices = devices_of(alloc, &mut stopped, stores, count)?;
+    let met = one_has_met(devices.as_slice());
     Ok(Left {
-        disks,
+        devices,
         arrays,
         chunk,
         fills_up,
@@ -180,14 +192,15 @@ fn volume_again<B: Driven>(
 }
 
 /// Loads again what is left, and holds it against the arrays from before.
-fn judged<B: Driven + Layered>(alloc: Global, left: Left<B>) -> Result<Machine<B>, Fail> {
+fn judged<B: Stops>(alloc: Global, left: Left<B>) -> Result<Machine<MemDisk>, Fail> {
     let Left {
-        mut disks,
+        devices,
         arrays,
         chunk,
         fills_up,
         ..
     } = left;
+    let mut disks = disks_left(alloc, devices.as_slice(), Cut::Killed)?;
     let merging = arrays.merging();
     let mut again = volume_again(alloc, &mut disks, chunk)?;
     again.fills_up = fills_up;
@@ -204,33 +217,43 @@ fn judged<B: Driven + Layered>(alloc: Global, left: Left<B>) -> Result<Machine<B
 /// sector up to the write that was under way, unless it was spoiled and its mark tried; and so does the origin, or where a
 /// merge was begun the merging store.
 pub fn load_again<B: Stops>(alloc: Global, machine: Machine<B>) -> Result<Machine<MemDisk>, Fail> {
-    judged(alloc, stop(alloc, machine, Cut::Killed)?)
+    judged(alloc, stop(alloc, machine)?)
 }
 
 /// Stops a machine and loads again what is left, as `load_again` does, and tells whether a device stopped or had its fault.
 pub fn loads_again_met<B: Stops>(alloc: Global, machine: Machine<B>) -> Result<bool, Fail> {
-    let left = stop(alloc, machine, Cut::Killed)?;
+    let left = stop(alloc, machine)?;
     let met = left.met;
     judged(alloc, left)?;
     Ok(met)
 }
 
-/// Loads again the snapshots of a machine whose power was cut: each shows its array, unless it was spoiled and its mark tried. Tells
-/// whether a device had its fault.
+/// Loads again the snapshots that a cut of the power leaves: each shows its array, unless it was spoiled and its mark tried. Where a merge
+/// was begun, it is begun again and finished, and then the origin shows its array.
+fn cut_is_judged<B: Stops>(alloc: Global, left: &Left<B>, cut: Cut) -> Result<(), Fail> {
+    let mut disks = disks_left(alloc, left.devices.as_slice(), cut)?;
+    let mut again = volume_again(alloc, &mut disks, left.chunk)?;
+    again.take_all_again(alloc, &mut disks, &left.arrays, cut)?;
+    match left.arrays.merging() {
+        None => again.hold_snaps(),
+        merging => {
+            again.arrays.show(left.arrays.origin.clone()?);
+            again.hold_all(alloc, merging)
+        }
+    }
+}
+
+/// Cuts the power of a machine in each of these ways, and loads again its snapshots: each shows its array, unless it was spoiled and its
+/// mark tried; a merge goes on to its end. Nobody wrote to a snapshot, or to the origin behind the beginning of a merge. Tells whether
+/// a device had its fault.
 pub fn snaps_again_met<B: Stops>(
     alloc: Global,
     machine: Machine<B>,
-    cut: Cut,
+    cuts: &[Cut],
 ) -> Result<bool, Fail> {
-    let Left {
-        mut disks,
-        arrays,
-        chunk,
-        met,
-        ..
-    } = stop(alloc, machine, cut)?;
-    let mut again = volume_again(alloc, &mut disks, chunk)?;
-    again.take_all_again(alloc, &mut disks, &arrays, cut)?;
-    again.hold_snaps()?;
-    Ok(met)
+    let left = stop(alloc, machine)?;
+    for cut in cuts {
+        cut_is_judged(alloc, &left, *cut)?;
+    }
+    Ok(left.met)
 }

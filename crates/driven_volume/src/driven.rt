@@ -41,16 +41,22 @@ pub enum Cut {
     Killed,
     /// What was there at the last sync.
     Unpowered,
+    /// Of the sectors that were written since the last sync the first one alone is new.
+    First,
+    /// The last one of them alone is.
+    Last,
     /// Of each sector one or the other, drawn by this number.
     Mixed(u64),
 }
 
 impl Cut {
-    /// Whether a sector is as it was written.
-    pub fn is_new(self, sector: u64) -> bool {
+    /// Whether a sector is as it was written, where these are the first and the last that are not as they were synced.
+    pub fn is_new(self, sector: u64, (first, last): (u64, u64)) -> bool {
         match self {
             Cut::Killed => true,
             Cut::Unpowered => false,
+            Cut::First => sector == first,
+            Cut::Last => sector == last,
             Cut::Mixed(number) => {
                 let drawn = sector
                     .wrapping_add(number)

@@ -55,6 +55,24 @@ impl Driven for Filed {
     }
 }
 
+/// The bytes of a sector as they were synced, or as they are where the file was shorter then.
+fn synced_in<'a>(file: &'a MemFile, sector: usize, new: &'a [u8]) -> &'a [u8] {
+    let first = sector.saturating_mul(SECTOR_BYTES);
+    let old = file.synced.get(first..first.saturating_add(new.len()));
+    old.unwrap_or(new)
+}
+
+/// The first and the last sector that are not as they were synced.
+fn changed_in(file: &MemFile) -> (u64, u64) {
+    let mut ends = (u64::MAX, 0);
+    for (sector, new) in file.bytes.as_slice().chunks(SECTOR_BYTES).enumerate() {
+        if synced_in(file, sector, new) != new {
+            ends = (ends.0.min(sector as u64), sector as u64);
+        }
+    }
+    ends
+}
+
 impl Stops for Filed {
     fn has_met(&self) -> bool {
         self.file().fault.is_none()
@@ -62,14 +80,13 @@ impl Stops for Filed {
 
     fn left(&self, alloc: Global, cut: Cut) -> Result<MemDisk, Fail> {
         let file = self.file();
+        let changed = changed_in(file);
         let mut left = Vec::new(alloc);
         for (sector, new) in file.bytes.as_slice().chunks(SECTOR_BYTES).enumerate() {
-            let first = sector.saturating_mul(SECTOR_BYTES);
-            let old = file.synced.get(first..first.saturating_add(new.len()));
-            let kept = if cut.is_new(sector as u64) {
+            let kept = if cut.is_new(sector as u64, changed) {
                 new
             } else {
-                old.unwrap_or(new)
+                synced_in(file, sector, new)
             };
             left.extend_from_slice(kept)?;
         }

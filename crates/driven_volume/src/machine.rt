@@ -219,7 +219,7 @@ impl<B: Driven> Machine<B> {
     }
 
     /// The array of the next snapshot: the origin's, but for a sector that its store has.
-    fn array_with(&self, own: Option<(u64, u8)>) -> Result<Vec<u8>, AllocError> {
+    pub fn array_with(&self, own: Option<(u64, u8)>) -> Result<Vec<u8>, AllocError> {
         let mut array = self.arrays.origin.clone()?;
         if let Some((sector, byte)) = own {
             put(array.as_mut_slice(), sector, byte);

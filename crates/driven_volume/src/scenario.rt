@@ -52,6 +52,15 @@ pub static ATTACH: [Step; 1] = [Step::Attach];
 /// A written store is attached.
 pub static ATTACH_WRITTEN: [Step; 1] = [Step::AttachWritten(5, 0x77)];
 
+/// A written store is attached, and chunks of the origin are copied: the one that it has is not.
+pub static WRITTEN_COPY: [Step; 5] = [
+    Step::AttachWritten(5, 0x77),
+    Step::Fill(Dev::Origin, 4, 3, 0xaa),
+    Step::Read(Dev::Origin, 5),
+    Step::Read(Dev::Snap(1), 5),
+    Step::Read(Dev::Snap(1), 4),
+];
+
 /// One chunk is copied.
 pub static ONE_COPY: [Step; 4] = [
     Step::Attach,
@@ -89,6 +98,18 @@ pub static MERGE_BESIDE: [Step; 10] = [
     Step::Read(Dev::Snap(2), 5),
     Step::Read(Dev::Origin, 9),
     Step::Read(Dev::Origin, 5),
+];
+
+/// A snapshot that was not written is merged beside a second one. Nothing is written before both are attached.
+pub static COPIED_BESIDE: [Step; 8] = [
+    Step::Attach,
+    Step::Attach,
+    Step::Fill(Dev::Origin, 5, 2, 0xaa),
+    Step::Merge(1),
+    Step::Settle,
+    Step::Read(Dev::Snap(2), 5),
+    Step::Read(Dev::Origin, 5),
+    Step::Finish,
 ];
 
 /// A snapshot in chunks of four sectors is merged beside one of smaller chunks.

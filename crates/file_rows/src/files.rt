@@ -6,8 +6,8 @@ use driven_volume::driven::Cut;
 use driven_volume::filed::{Filed, MOST_SECTORS};
 use driven_volume::machine::Machine;
 use driven_volume::scenario::{
-    ATTACH_WRITTEN, FULL_STORE, LONG_MERGE, MERGE_BESIDE, ONE_COPY, OVERFLOWED, Scenario, Step,
-    WHOLE_AREA, WIDE_MERGE, WRITTEN_MERGE,
+    ATTACH_WRITTEN, COPIED_BESIDE, FULL_STORE, LONG_MERGE, MERGE_BESIDE, ONE_COPY, OVERFLOWED,
+    Scenario, Step, WHOLE_AREA, WIDE_MERGE, WRITTEN_COPY, WRITTEN_MERGE,
 };
 use file_calls::{Fault, MemFile};
 use file_device::FileDevice;
@@ -18,9 +18,11 @@ use std::test::Fail;
 const MOST: u64 = 1_000_000;
 
 /// What a loss of power leaves: nothing that was not synced, all of it, or some sectors of it.
-const CUTS: [Cut; 5] = [
+static CUTS: [Cut; 7] = [
     Cut::Unpowered,
     Cut::Killed,
+    Cut::First,
+    Cut::Last,
     Cut::Mixed(1),
     Cut::Mixed(2),
     Cut::Mixed(3),
@@ -38,7 +40,7 @@ fn file_of(alloc: Global, disk: &MemDisk, number: u64, fault: (u64, Fault)) -> R
 }
 
 /// A machine over files. The call `k` of the file at a place (the origin's is 0) has a fault, and no other.
-fn filed(
+pub(crate) fn filed(
     alloc: Global,
     scenario: &Scenario,
     place: usize,
@@ -93,12 +95,13 @@ fn fault_everywhere(alloc: Global, scenario: &Scenario) -> Result<u64, Fail> {
     Ok(count)
 }
 
-/// Cuts the power at each call of a file in turn, and tells how many there were. The snapshots, which nobody writes, show what they did.
-fn cut_at_each(alloc: Global, scenario: &Scenario, place: usize, cut: Cut) -> Result<u64, Fail> {
+/// Cuts the power at each call of a file in turn, in each way, and tells how many there were. The snapshots, which nobody writes, show
+/// what they did.
+fn cut_at_each(alloc: Global, scenario: &Scenario, place: usize) -> Result<u64, Fail> {
     for k in 0..MOST {
         let mut machine = filed(alloc, scenario, place, k, Fault::Fails)?;
         machine.run(alloc, scenario.steps)?;
-        if !snaps_again_met(alloc, machine, cut)? {
+        if !snaps_again_met(alloc, machine, &CUTS)? {
             return Ok(k);
         }
     }
@@ -106,11 +109,21 @@ fn cut_at_each(alloc: Global, scenario: &Scenario, place: usize, cut: Cut) -> Re
 }
 
 /// A scenario in chunks of so many sectors.
-fn in_chunks(chunk: u32, stores: &'static [u64], steps: &'static [Step]) -> Scenario {
+pub(crate) fn in_chunks(chunk: u32, stores: &'static [u64], steps: &'static [Step]) -> Scenario {
     Scenario {
         chunk,
         stores,
         written: false,
+        steps,
+    }
+}
+
+/// A scenario over a written store.
+pub(crate) fn over_written(steps: &'static [Step]) -> Scenario {
+    Scenario {
+        chunk: 1,
+        stores: &[64],
+        written: true,
         steps,
     }
 }
@@ -145,24 +158,17 @@ fn a_fault_of_a_file_in_a_merge(rt: HostRuntime) -> Result<(), Fail> {
 
 #[test]
 fn a_fault_of_a_file_under_a_written_store(rt: HostRuntime) -> Result<(), Fail> {
-    let scenario = Scenario {
-        chunk: 1,
-        stores: &[64],
-        written: true,
-        steps: &ATTACH_WRITTEN,
-    };
-    let count = fault_everywhere(rt.alloc(), &scenario)?;
-    assert!(rt; count > 4, "{count}");
+    let count = fault_everywhere(rt.alloc(), &over_written(&ATTACH_WRITTEN))?;
+    let copied = fault_everywhere(rt.alloc(), &over_written(&WRITTEN_COPY))?;
+    assert!(rt; count > 4 && copied > 8, "{count} {copied}");
     Ok(())
 }
 
-/// Cuts the power at each call of the origin's file and of the store's, in each way.
+/// Cuts the power at each call of each file, in each way.
 fn cut_everywhere(alloc: Global, scenario: &Scenario) -> Result<u64, Fail> {
     let mut count = 0u64;
-    for place in 0..2 {
-        for cut in CUTS {
-            count = count.saturating_add(cut_at_each(alloc, scenario, place, cut)?);
-        }
+    for place in 0..=scenario.stores.len() {
+        count = count.saturating_add(cut_at_each(alloc, scenario, place)?);
     }
     Ok(count)
 }
@@ -172,9 +178,18 @@ fn the_power_is_cut_where_chunks_are_copied(rt: HostRuntime) -> Result<(), Fail>
     let one = cut_everywhere(rt.alloc(), &in_chunks(2, &[64], &ONE_COPY))?;
     let whole = cut_everywhere(rt.alloc(), &in_chunks(1, &[64], &WHOLE_AREA))?;
     let full = cut_everywhere(rt.alloc(), &in_chunks(1, &[35], &FULL_STORE))?;
+    let written = cut_everywhere(rt.alloc(), &over_written(&WRITTEN_COPY))?;
     assert!(rt;
-        one > 5 * 8 && whole > 5 * 33 * 3 && full > 5 * 32 * 3,
-        "{one} {whole} {full}"
+        one > 8 && whole > 33 * 3 && full > 32 * 3 && written > 8,
+        "{one} {whole} {full} {written}"
     );
+    Ok(())
+}
+
+#[test]
+fn the_power_is_cut_in_a_merge(rt: HostRuntime) -> Result<(), Fail> {
+    let long = cut_everywhere(rt.alloc(), &in_chunks(2, &[64], &LONG_MERGE))?;
+    let beside = cut_everywhere(rt.alloc(), &in_chunks(2, &[64, 64], &COPIED_BESIDE))?;
+    assert!(rt; long > 40 * 5 && beside > 20, "{long} {beside}");
     Ok(())
 }
