@@ -1,6 +1,7 @@
 -- A snapshot that was taken and not written since shows its array, or is lost, after every entry; so its merge gives it back.
 use Rattle.std.proofs.Common.{◌≡◌, inl, inr, ℕ, Bool, true, false, List, [], ◌∷◌, ◌++◌, Option, None, Some, refl, sym, ◌∙◌, ap}
 use Rattle.std.specs.Prelude.{◌==◌}
+use Rattle.std.specs.List.{flat_map}
 use Rattle.std.proofs.lemmas.Bool.{cases_Bool, eqb-true}
 use Rattle.plain_machine.specs.Plain.{Plain, Entry as ShownEntry, Saved, Live, Invalid, saved_under, without_saved, Shown, shown_of}
 use Rattle.sector.specs.declared.range.Range.{Range}
@@ -21,8 +22,8 @@ use Rattle.volume.specs.Shown.{shown_begun, shown_origin}
 use Rattle.volume.specs.Volumed.{Volumed, plain_of}
 use Rattle.audit.specs.declared.entry.Entry.{Entry}
 use Rattle.audit.specs.declared.entry.Entry.TheVariants.{Answered, Spoiled, Overflowed, Attached, Detached, Begun, Finished}
-use Rattle.audit.specs.Replay.{plain_in, after, array_in, IsLawful, AllLawful}
-use Rattle.audit.specs.Undone.{Taken, wrote, ends, still, held_back, noted, ShowsTaken, IsUndone, AllUndone}
+use Rattle.audit.specs.Replay.{plain_in, after, array_in, replay, IsLawful, AllLawful}
+use Rattle.audit.specs.Undone.{Taken, wrote, ends, still, held_back, noted, ShowsTaken, IsUndone, AllUndone, live_of, taken_in, left_of, AllShow}
 use Rattle.audit.proofs.Gained.{saved_last}
 
 -- one more, or one less, with another number
@@ -85,11 +86,6 @@ one_keeps (Detached n) number array s lawful free shows = same_shows number arra
 one_keeps (Begun n) number array s lawful free shows = same_shows number array s (after s (Begun n)) (less_other number n s.saved free) shows
 one_keeps Finished number array s lawful free shows = same_shows number array s (after s Finished) refl shows
 
--- each of these snapshots shows its array, or is lost
-abbrev AllShow : List Taken → Shown → Type 0
-AllShow [] s = Unit {0}
-AllShow (t ∷ taken) s = StillShows t.number t.array (plain_in s) × AllShow taken s
-
 still_show : (e : Entry) (taken : List Taken) (s : Shown) → IsLawful s e → AllShow taken s → AllShow (still e taken) (after s e)
 still_show e [] s lawful all = tt
 still_show e (t ∷ taken) s lawful all = elim (cases_Bool (ends e t.number)) [
@@ -151,6 +147,23 @@ disk_shown {B} contents layers v s is none = ap (λ (x : Shown). x.origin) is �
     by None e = refl
     by (Some m) e = absurd (cc)
 
--- the law: lawful entries undo
-pub lawful_undone : (s : Shown) (es : List Entry) → AllLawful s es → AllUndone [] s es
-lawful_undone s es lawful = all_undone [] s es tt lawful
+-- those that are live show what they show
+one_more : (s : Shown) (n : ℕ) (saved : Option Saved) (rest : List Taken) → saved_under n s.saved ≡ saved → AllShow rest s → AllShow (live_of n saved ++ rest) s
+one_more s n (Some (Live array)) rest is all = (inl is, all)
+one_more s n (Some Invalid) rest is all = all
+one_more s n None rest is all = all
+
+taken_show : (s : Shown) (entries : List ShownEntry) → AllShow (flat_map (λ e. live_of e.number (saved_under e.number s.saved)) entries) s
+taken_show s [] = tt
+taken_show s (e ∷ entries) = one_more s e.number (saved_under e.number s.saved) (flat_map (λ x. live_of x.number (saved_under x.number s.saved)) entries) refl (taken_show s entries)
+
+all_shown : (taken : List Taken) (s : Shown) (es : List Entry) → AllShow taken s → AllLawful s es → AllShow (left_of taken s es) (replay s es)
+all_shown taken s [] all lawful = all
+all_shown taken s (e ∷ es) all lawful = all_shown (noted s.origin e taken) (after s e) es (noted_show e taken s lawful.0 all) lawful.1
+
+-- the laws: lawful entries undo, also of what was there before them; and what is not written stays
+pub lawful_undone : (s : Shown) (es : List Entry) → AllLawful s es → AllUndone (taken_in s) s es
+lawful_undone s es lawful = all_undone (taken_in s) s es (taken_show s s.saved) lawful
+
+pub lawful_shown : (s : Shown) (es : List Entry) → AllLawful s es → AllShow (left_of (taken_in s) s es) (replay s es)
+lawful_shown s es lawful = all_shown (taken_in s) s es (taken_show s s.saved) lawful

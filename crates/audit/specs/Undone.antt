@@ -1,14 +1,16 @@
--- Snapshots that were taken and that no request wrote since. Over a fresh store such a one is remembered with what the origin
--- showed when it was taken, over another with what it showed itself; and the merge of one of them makes the origin show just that.
--- So the merge of one over a fresh store undoes all that was written to the origin since. This project's own.
-use Rattle.std.specs.Prelude.{◌≡◌, ◌==◌, ℕ, Bool, true, false, List, [], ◌∷◌, if◌then◌else◌}
+-- Snapshots that no request wrote since they were taken, or since a journal began. One that was taken over a fresh store is remembered
+-- with what the origin showed when it was taken, any other with what it showed itself; each shows that, or is lost, and the merge of one of
+-- them makes the origin show just that. So the merge of one over a fresh store undoes all that was written to the origin since.
+-- This project's own.
+use Rattle.std.specs.Prelude.{◌≡◌, ◌==◌, ℕ, Bool, true, false, List, [], ◌∷◌, Option, Some, None, if◌then◌else◌}
+use Rattle.std.specs.List.{flat_map}
 use Rattle.plain_machine.specs.declared.request.Reply.{Reply}
 use Rattle.plain_machine.specs.declared.request.Reply.TheVariants.{Data, Written, Flushed, Refused}
-use Rattle.plain_machine.specs.Unwritten.{writes}
-use Rattle.plain_machine.specs.Plain.{Shown}
+use Rattle.plain_machine.specs.Unwritten.{writes, StillShows}
+use Rattle.plain_machine.specs.Plain.{Saved, Live, Invalid, saved_under, Shown}
 use Rattle.audit.specs.declared.entry.Entry.{Entry}
 use Rattle.audit.specs.declared.entry.Entry.TheVariants.{Answered, Spoiled, Overflowed, Attached, Detached, Begun, Finished}
-use Rattle.audit.specs.Replay.{after}
+use Rattle.audit.specs.Replay.{after, plain_in}
 
 -- a snapshot that was taken, and what its merge gives the origin
 pub record Taken : Type 0 where
@@ -71,3 +73,22 @@ IsUndone taken Finished s = Unit {0}
 abbrev pub AllUndone : List Taken → Shown → List Entry → Type 0
 AllUndone taken s [] = Unit {0}
 AllUndone taken s (e ∷ es) = IsUndone taken e (after s e) × AllUndone (noted s.origin e taken) (after s e) es
+
+-- the snapshots that are live as a journal begins, each with what it shows
+abbrev pub live_of : ℕ → Option Saved → List Taken
+live_of number (Some (Live array)) = record { number = number; array = array } ∷ []
+live_of number (Some Invalid) = []
+live_of number None = []
+
+abbrev pub taken_in : Shown → List Taken
+taken_in s = flat_map (λ e. live_of e.number (saved_under e.number s.saved)) s.saved
+
+-- those that are left of some after these entries
+abbrev pub left_of : List Taken → Shown → List Entry → List Taken
+left_of taken s [] = taken
+left_of taken s (e ∷ es) = left_of (noted s.origin e taken) (after s e) es
+
+-- each of these shows its array, or is lost
+abbrev pub AllShow : List Taken → Shown → Type 0
+AllShow [] s = Unit {0}
+AllShow (t ∷ taken) s = StillShows t.number t.array (plain_in s) × AllShow taken s

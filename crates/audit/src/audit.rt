@@ -14,7 +14,7 @@ ghost use Rattle.audit.specs.PlacesTaken.{places_of};
 ghost use Rattle.audit.specs.Own.{MeetsOwn};
 ghost use Rattle.audit.specs.Replay.{AllLawful, replay};
 ghost use Rattle.audit.specs.Seats.{flight_in};
-ghost use Rattle.audit.specs.Undone.{AllUndone};
+ghost use Rattle.audit.specs.Undone.{AllShow, AllUndone, left_of, taken_in};
 
 use crate::bases::base_of;
 use crate::entry::{Base, Entry, HeldRequest, Receipt, Verdict};
@@ -25,6 +25,7 @@ use sector::Refusal;
 use std::alloc::Global;
 use std::marker::Model;
 use volume::Volume;
+use volume_history::LivedVolume;
 
 /// A journal has at most so many entries.
 pub const MAX_ENTRIES: usize = 65_536;
@@ -35,7 +36,7 @@ pub const SEATS: usize = 9;
 /// A volume, what it began with, and a journal of its calls.
 #[derive(Drop)]
 pub struct Audit<B: Layered> {
-    pub(crate) volume: Volume<B>,
+    pub(crate) volume: LivedVolume<B>,
     pub(crate) base: Base,
     /// How many places were taken before it began, since the last checkpoint.
     pub(crate) taken: usize,
@@ -73,7 +74,7 @@ impl<B: Layered> Audit<B> {
     /// Takes a volume with no request in flight, with what snapshots there are, and beside a merge too: a copy of each array
     /// that it shows, by `Volume::peek`, and the room of all entries. A spoiled snapshot has no array, nor has the one that is
     /// being merged. Where memory is refused, the volume is given back.
-    pub fn new(alloc: Global, volume: Volume<B>) -> Result<Audit<B>, (Refusal, Volume<B>)>
+    pub fn new(alloc: Global, volume: LivedVolume<B>) -> Result<Audit<B>, (Refusal, LivedVolume<B>)>
         requires quiet { volume.flights ≡ [] }
         ensures ok { IfOk result (λ a. (a.volume ≡ volume) × (a.entries ≡ []) × (a.held ≡ []) × (a.lives ≡ lives_of volume) × (a.may ≡ mays_of volume) × (a.loud ≡ is_loud_in_all B.layers volume)) }
         ensures base { IfOk result (λ a. a.loud ≡ true → a.base ≡ shown_of (plain_of B.contents B.layers volume)) }
@@ -90,9 +91,9 @@ impl<B: Layered> Audit<B> {
     /// overflow, they are 65,536 at most, and no more than what the volume was asked takes.
     pub fn going_on(
         alloc: Global,
-        volume: Volume<B>,
+        volume: LivedVolume<B>,
         taken: usize,
-    ) -> Result<Audit<B>, (Refusal, Volume<B>)>
+    ) -> Result<Audit<B>, (Refusal, LivedVolume<B>)>
         requires quiet { volume.flights ≡ [] }
         requires room { taken + kept_count (lives_of volume) (mays_of volume) ≤ 65_536 }
         requires earned { AreEarned (taken + kept_count (lives_of volume) (mays_of volume)) volume }
@@ -140,20 +141,21 @@ impl<B: Layered> Audit<B> {
     pub fn volume(&self) -> &Volume<B>
         ensures { result.now ≡ self.now.volume }
     {
-        &self.volume
+        self.volume.volume()
     }
 
     /// What stands in the journal. Where no device dropped writes, the entries replayed on the base arrays give the arrays
-    /// and states that the volume's devices stand for, and each reply is the plain machine's at its place. A merge that begins
-    /// of a snapshot that was taken since the base, and that no request wrote since, gives the origin what it showed itself when
-    /// that was taken over a fresh store, and else what that snapshot showed then; and once no merge is begun the origin disk's
+    /// and states that the volume's devices stand for, and each reply is the plain machine's at its place. A snapshot that no request
+    /// wrote since it was taken, or since the base, shows what it showed then, or is lost. The merge of such a one gives the origin what
+    /// it showed itself when that was taken over a fresh store, and else what that snapshot showed; and once no merge is begun the origin disk's
     /// own bytes are what the origin shows. Where a seat reads a byte behind a write of its own, it gets what it wrote, or an entry
     /// between the two changed that.
     pub fn entries(&self) -> &[Entry]
         ensures value { result.now ≡ self.now.entries }
         ensures replay { self.now.loud ≡ true → replay self.now.base self.now.entries ≡ shown_of (plain_of B.contents B.layers self.now.volume) }
         ensures lawful { self.now.loud ≡ true → AllLawful self.now.base self.now.entries }
-        ensures undone { self.now.loud ≡ true → AllUndone [] self.now.base self.now.entries }
+        ensures undone { self.now.loud ≡ true → AllUndone (taken_in self.now.base) self.now.base self.now.entries }
+        ensures keeps { self.now.loud ≡ true → AllShow (left_of (taken_in self.now.base) self.now.base self.now.entries) (replay self.now.base self.now.entries) }
         ensures own { self.now.loud ≡ true → (seat : ℕ) → MeetsOwn seat self.now.entries }
         ensures inside { self.now.loud ≡ true → AllInside self.now.base self.now.entries }
         ensures disk { self.now.loud ≡ true → (replay self.now.base self.now.entries).begun ≡ None → (replay self.now.base self.now.entries).origin ≡ B.contents self.now.volume.origin }

@@ -12,10 +12,10 @@ use layers::Layered;
 use plain_machine::Dev;
 use sector::{Range, SECTOR_BYTES};
 use std::alloc::{AllocError, Global};
-use volume::Volume;
+use volume_history::LivedVolume;
 
 /// All that the origin or a live snapshot shows, into a buffer that is as long.
-pub(crate) fn fill<B: Layered>(volume: &Volume<B>, dev: Dev, out: &mut [u8])
+pub(crate) fn fill<B: Layered>(volume: &LivedVolume<B>, dev: Dev, out: &mut [u8])
     requires there { dev_refusal dev volume.now.merge volume.now.snaps ≡ None }
     requires room { length out.old ≡ 512 * B.size volume.now.origin }
     ensures { is_loud_in_all B.layers volume.now ≡ true → (array : List ℕ) → Shows (plain_of B.contents B.layers volume.now) dev array → out.new ≡ array }
@@ -36,7 +36,7 @@ pub(crate) fn fill<B: Layered>(volume: &Volume<B>, dev: Dev, out: &mut [u8])
 }
 
 /// All that the origin or a live snapshot shows.
-fn whole<B: Layered>(alloc: Global, volume: &Volume<B>, dev: Dev) -> Result<Array, AllocError>
+fn whole<B: Layered>(alloc: Global, volume: &LivedVolume<B>, dev: Dev) -> Result<Array, AllocError>
     requires there { dev_refusal dev volume.now.merge volume.now.snaps ≡ None }
     ensures { IfOk result (λ bytes. is_loud_in_all B.layers volume.now ≡ true → (array : List ℕ) → Shows (plain_of B.contents B.layers volume.now) dev array → bytes ≡ array) }
 {
@@ -47,7 +47,11 @@ fn whole<B: Layered>(alloc: Global, volume: &Volume<B>, dev: Dev) -> Result<Arra
 }
 
 /// What the snapshot at a place shows: its array, or none where it is spoiled.
-fn saved_at<B: Layered>(alloc: Global, volume: &Volume<B>, k: usize) -> Result<Saved, AllocError>
+fn saved_at<B: Layered>(
+    alloc: Global,
+    volume: &LivedVolume<B>,
+    k: usize,
+) -> Result<Saved, AllocError>
     requires { k < length volume.now.snaps }
     ensures { IfOk result (λ s. is_loud_in_all B.layers volume.now ≡ true → (d : ShownEntry) → slice_index_or (plain_of B.contents B.layers volume.now).saved k d ≡ shown_in s) }
 {
@@ -70,7 +74,10 @@ fn saved_at<B: Layered>(alloc: Global, volume: &Volume<B>, k: usize) -> Result<S
 }
 
 /// What a volume shows: its origin, beside a merge too, and each of its snapshots.
-pub(crate) fn base_of<B: Layered>(alloc: Global, volume: &Volume<B>) -> Result<Base, AllocError>
+pub(crate) fn base_of<B: Layered>(
+    alloc: Global,
+    volume: &LivedVolume<B>,
+) -> Result<Base, AllocError>
     ensures { IfOk result (λ b. is_loud_in_all B.layers volume.now ≡ true → shown_in_base b ≡ shown_of (plain_of B.contents B.layers volume.now)) }
 {
     let mut saved = Vec::new(alloc);

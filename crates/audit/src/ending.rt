@@ -11,11 +11,12 @@ use crate::holding::count_places;
 use layers::Layered;
 use sector::Refusal;
 use std::alloc::Global;
-use volume::{Stopped, Volume};
+use volume::Stopped;
+use volume_history::LivedVolume;
 
 impl<B: Layered> Audit<B> {
     /// The volume, whatever is in flight. The journal is dropped.
-    pub fn into_volume(self) -> Volume<B>
+    pub fn into_volume(self) -> LivedVolume<B>
         ensures { result ≡ self.volume }
     {
         let Audit {
@@ -35,7 +36,7 @@ impl<B: Layered> Audit<B> {
     }
 
     /// The volume, whatever is in flight, how many places of the journal are taken, and the allocator. The journal is dropped.
-    pub fn into_counted(self) -> (Volume<B>, usize, Global)
+    pub fn into_counted(self) -> (LivedVolume<B>, usize, Global)
         ensures volume { result.0 ≡ self.volume }
         ensures places { result.1 ≡ places_of self }
         ensures few { result.1 ≤ 65_536 }

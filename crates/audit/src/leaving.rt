@@ -10,15 +10,14 @@ ghost use Rattle.audit.specs.PlacesTaken.{HasLeft, IsNotMerged, IsUnchanged, is_
 use crate::Audit;
 use crate::entry::Entry;
 use crate::holding::is_full;
-use device::Block;
 use layers::Layered;
 use plain_machine::SnapId;
 use sector::Refusal;
 use snapshot::StoreDev;
-use volume::Volume;
+use volume_history::LivedVolume;
 
 /// The place of the snapshot with a number.
-pub(crate) fn place_in<B: Block>(volume: &Volume<B>, number: SnapId) -> Option<usize>
+pub(crate) fn place_in<B: Layered>(volume: &LivedVolume<B>, number: SnapId) -> Option<usize>
     ensures { result ≡ place_of_snap number volume.now.snaps }
 {
     for k in 0..volume.len() {

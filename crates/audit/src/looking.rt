@@ -9,12 +9,12 @@ ghost use Rattle.audit.specs.Noted.{mays_of};
 use layers::Layered;
 use plain_machine::Overflowing;
 use std::alloc::{AllocError, Global};
-use volume::Volume;
+use volume_history::LivedVolume;
 
 /// Which snapshots are live, in order of attaching: eight at most.
 pub(crate) fn lives_in<B: Layered>(
     alloc: Global,
-    volume: &Volume<B>,
+    volume: &LivedVolume<B>,
 ) -> Result<Vec<bool>, AllocError>
     ensures lives { IfOk result (λ lives. lives.items ≡ lives_of volume.now) }
     ensures few { length volume.now.snaps ≤ 8 }
@@ -51,7 +51,7 @@ pub(crate) fn is_marked(overflow: Overflowing) -> bool
 /// Which of the snapshots' stores may still overflow, in order of attaching.
 pub(crate) fn mays_in<B: Layered>(
     alloc: Global,
-    volume: &Volume<B>,
+    volume: &LivedVolume<B>,
 ) -> Result<Vec<bool>, AllocError>
     ensures { IfOk result (λ may. may.items ≡ mays_of volume.now) }
 {
@@ -63,7 +63,7 @@ pub(crate) fn mays_in<B: Layered>(
 }
 
 /// Whether no layer drops writes of the merging store, if there is one.
-fn is_merge_loud<B: Layered>(volume: &Volume<B>) -> bool
+fn is_merge_loud<B: Layered>(volume: &LivedVolume<B>) -> bool
     ensures { result ≡ is_loud_merging B.layers volume.now.merge }
 {
     let Some(number) = volume.merging() else {
@@ -76,7 +76,7 @@ fn is_merge_loud<B: Layered>(volume: &Volume<B>) -> bool
 }
 
 /// Whether no device drops writes.
-pub(crate) fn is_loud_now<B: Layered>(volume: &Volume<B>) -> bool
+pub(crate) fn is_loud_now<B: Layered>(volume: &LivedVolume<B>) -> bool
     ensures { result ≡ is_loud_in_all B.layers volume.now }
 {
     let mut loud = volume.origin().is_loud();

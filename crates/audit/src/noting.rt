@@ -8,12 +8,12 @@ ghost use Rattle.audit.specs.Noted.{Noted, is_live, live_count, may_count};
 use crate::entry::Entry;
 use crate::leaving::place_in;
 use crate::looking::is_marked;
-use device::Block;
+use layers::Layered;
 use plain_machine::{Dev, SnapId};
-use volume::Volume;
+use volume_history::LivedVolume;
 
 /// Whether the snapshot at a place was live and is spoiled now.
-fn is_lost<B: Block>(volume: &Volume<B>, lives: &[bool], k: usize) -> bool
+fn is_lost<B: Layered>(volume: &LivedVolume<B>, lives: &[bool], k: usize) -> bool
     requires snaps { k < length volume.now.snaps }
     requires lives { k < length lives.now }
     ensures { (d : ShownEntry) → result ≡ (slice_index_or lives.now k false && not (is_live (slice_index_or (plain_of B.contents B.layers volume.now).saved k d))) }
@@ -23,7 +23,7 @@ fn is_lost<B: Block>(volume: &Volume<B>, lives: &[bool], k: usize) -> bool
 }
 
 /// Its number, which none before it has.
-fn number_at<B: Block>(volume: &Volume<B>, k: usize) -> SnapId
+fn number_at<B: Layered>(volume: &LivedVolume<B>, k: usize) -> SnapId
     requires { k < length volume.now.snaps }
     ensures number { (d : ShownEntry) → (slice_index_or (plain_of B.contents B.layers volume.now).saved k d).number ≡ result }
     ensures first { (j : ℕ) (d : ShownEntry) → j < k → (slice_index_or (plain_of B.contents B.layers volume.now).saved j d).number ≢ result }
@@ -32,8 +32,8 @@ fn number_at<B: Block>(volume: &Volume<B>, k: usize) -> SnapId
 }
 
 /// Notes each snapshot that was live and is spoiled now.
-pub(crate) fn note_spoils<B: Block>(
-    volume: &Volume<B>,
+pub(crate) fn note_spoils<B: Layered>(
+    volume: &LivedVolume<B>,
     lives: &mut Vec<bool>,
     entries: &mut Vec<Entry>,
 )
@@ -51,8 +51,8 @@ pub(crate) fn note_spoils<B: Block>(
 }
 
 /// Notes that the store of a snapshot overflowed, where it did, and that was not noted before.
-pub(crate) fn note_mark<B: Block>(
-    volume: &Volume<B>,
+pub(crate) fn note_mark<B: Layered>(
+    volume: &LivedVolume<B>,
     dev: Dev,
     lives: &[bool],
     may: &mut Vec<bool>,

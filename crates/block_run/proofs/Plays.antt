@@ -13,8 +13,10 @@ use Rattle.audit.specs.Entries.{entries_by}
 use Rattle.plain_machine.specs.Plain.{Shown, saved_under, overflow_under}
 use Rattle.audit.specs.Inside.{AllInside}
 use Rattle.audit.specs.Replay.{AllLawful, replay}
+use Rattle.audit.specs.Undone.{AllShow, left_of, taken_in}
 use Rattle.audit.proofs.Own.{inside_rest, lawful_rest, meets_own}
 use Rattle.audit.proofs.Replaying.{entries_by_spoils, replay_then}
+use Rattle.audit.proofs.Undone.{lawful_shown, lawful_undone}
 use Rattle.command_rules.specs.State.{Volume}
 use Rattle.device_list.specs.Flights.{IsBehind}
 use Rattle.device_list.specs.Parting.{Parts}
@@ -139,6 +141,7 @@ plays before p audit rested old new back done truth is sound =
     let lawful : AllLawful before.base (before.entries ++ entries) = subst (λ (s : Shown). AllLawful s (before.entries ++ entries)) base (subst (λ (l : List Entry). AllLawful rested.base l) all (truth.lawful loud)) in
     let inside : AllInside before.base (before.entries ++ entries) = subst (λ (s : Shown). AllInside s (before.entries ++ entries)) base (subst (λ (l : List Entry). AllInside rested.base l) all (truth.inside loud)) in
     let rest : AllLawful (shown_by before.volume) entries = subst (λ (s : Shown). AllLawful s entries) shown (lawful_rest before.base before.entries entries lawful) in
+    let gives : replay (shown_by before.volume) entries ≡ shown_by rested.volume = ap (λ (s : Shown). replay s entries) (sym shown) ∙ sym (replay_then before.base before.entries entries) ∙ ap (λ (l : List Entry). replay before.base l) (sym all) ∙ ap (λ (s : Shown). replay s rested.entries) (sym base) ∙ truth.gives loud in
     record {
       before = before.volume;
       after = rested.volume;
@@ -160,7 +163,9 @@ plays before p audit rested old new back done truth is sound =
         earned = back.out.earned;
         lawful = rest;
         own = meets_own (shown_by before.volume) entries rest (subst (λ (s : Shown). AllInside s entries) shown (inside_rest before.base before.entries entries inside));
-        gives = ap (λ (s : Shown). replay s entries) (sym shown) ∙ sym (replay_then before.base before.entries entries) ∙ ap (λ (l : List Entry). replay before.base l) (sym all) ∙ ap (λ (s : Shown). replay s rested.entries) (sym base) ∙ truth.gives loud;
+        gives = gives;
+        undone = lawful_undone (shown_by before.volume) entries rest;
+        keeps = subst (λ (s : Shown). AllShow (left_of (taken_in (shown_by before.volume)) (shown_by before.volume) entries) s) gives (lawful_shown (shown_by before.volume) entries rest);
       };
     }
 

@@ -6,6 +6,7 @@ use Rattle.audit.specs.Earned.{AreEarned}
 use Rattle.audit.specs.Entries.{answered_of, entries_by}
 use Rattle.audit.specs.Own.{MeetsOwn}
 use Rattle.audit.specs.Replay.{AllLawful, replay}
+use Rattle.audit.specs.Undone.{AllShow, AllUndone, left_of, taken_in}
 use Rattle.plain_machine.specs.Plain.{Shown, shown_of}
 use Rattle.layers.specs.declared.stack.Stack.{Stack}
 use Rattle.locked_volume.specs.Keeping.{Begins}
@@ -53,7 +54,8 @@ standing_of taken v = record {
 }
 
 -- Entries that were made at a volume that stood so: each is lawful after those before it, and all of them give what the volume
--- shows; and a seat that reads a byte behind a write of its own gets what it wrote, or an entry between the two changed that. No more
+-- shows; and a seat that reads a byte behind a write of its own gets what it wrote, or an entry between the two changed that. A snapshot
+-- that no entry wrote shows what it showed before, or is lost, and if one began to merge it, the origin showed just that. No more
 -- places of its journal were taken before than the requests that it was asked and the snapshots that it took had taken.
 pub record IsPlayed (story : Story) (before after : Volumed Stack) : Type 0 where
   pub stood : story.stood ≡ standing_of story.stood.taken before
@@ -61,6 +63,8 @@ pub record IsPlayed (story : Story) (before after : Volumed Stack) : Type 0 wher
   pub lawful : AllLawful (shown_by before) story.entries
   pub gives : replay (shown_by before) story.entries ≡ shown_by after
   pub own : (seat : ℕ) → MeetsOwn seat story.entries
+  pub undone : AllUndone (taken_in (shown_by before)) (shown_by before) story.entries
+  pub keeps : AllShow (left_of (taken_in (shown_by before)) (shown_by before) story.entries) (shown_by after)
 
 -- The same of a volume with names, no device of which ever dropped writes.
 abbrev pub IsPlayedIn : Story → Volume → Volume → Type 0

@@ -3,6 +3,8 @@ ghost use Rattle.std.specs.Prelude.{◌≡◌, ◌&&◌, ◌+◌, ◌≤◌, [],
 ghost use Rattle.plain_machine.specs.Plain.{may_overflow};
 ghost use Rattle.sector.specs.declared.refusal.Refusal.TheVariants.{NoMemory};
 ghost use Rattle.volume.specs.Causes.{lives_of};
+ghost use Rattle.volume.specs.Layering.{Measures};
+ghost use Rattle.volume_history.specs.Life.{HasLife};
 ghost use Rattle.volume.specs.Volumed.{is_loud_in_all};
 ghost use Rattle.audit.specs.Earned.{AreEarned};
 ghost use Rattle.audit.specs.PlacesTaken.{places_of};
@@ -15,7 +17,7 @@ use sector::Refusal;
 use snapshot::Snapshot;
 use std::alloc::Global;
 use std::marker::Model;
-use volume::Volume;
+use volume_history::LivedVolume;
 
 /// A volume, and how many places of its journal are taken since the last checkpoint: one by each entry that would stand in it,
 /// by each request in flight, and by each live snapshot. One more is taken by each live snapshot whose store may still overflow,
@@ -23,7 +25,7 @@ use volume::Volume;
 /// taken away, or begins to be merged. An event turns places into entries, and takes none. Contracts see the volume, and the count.
 #[derive(Drop)]
 pub struct CountedVolume<B: Layered> {
-    pub(crate) volume: Volume<B>,
+    pub(crate) volume: LivedVolume<B>,
     /// Those that are taken, but for those of marks to come.
     pub(crate) places: usize,
     pub(crate) alloc: Global,
@@ -40,7 +42,7 @@ impl<B: Layered> Model for CountedVolume<B> {
 }
 
 /// How many snapshots of a volume are live.
-pub(crate) fn count_live<B: Layered>(volume: &Volume<B>) -> usize
+pub(crate) fn count_live<B: Layered>(volume: &LivedVolume<B>) -> usize
     ensures count { result ≡ live_count (lives_of volume.now) }
     ensures few { result ≤ 8 }
 {
@@ -61,7 +63,7 @@ fn may_be_marked<B: Layered>(snap: &Snapshot<B>) -> bool
 }
 
 /// How many live snapshots of a volume may still overflow.
-pub(crate) fn count_may<B: Layered>(volume: &Volume<B>) -> usize
+pub(crate) fn count_may<B: Layered>(volume: &LivedVolume<B>) -> usize
     ensures count { result ≡ may_count (lives_of volume.now) (mays_of volume.now) }
     ensures few { result ≤ 8 }
 {
@@ -82,7 +84,7 @@ impl<B: Layered + Drop> CountedVolume<B> {
         ensures taken { IfOk result (λ v. v.taken ≡ 0) }
         ensures err { IfErr result (λ e. e ≡ record { 0 = NoMemory; 1 = origin }) }
     {
-        let volume = Volume::new(alloc, origin)?;
+        let volume = LivedVolume::new(alloc, origin)?;
         Ok(CountedVolume {
             volume,
             places: 0,
@@ -142,6 +144,14 @@ impl<B: Layered> CountedVolume<B> {
                 },
             )),
         }
+    }
+
+    /// A look at the volume's life, which does nothing: it began over a device, without snapshots, and what it is came of one list of
+    /// deeds, whose answers are those of its calls, also of those that threads made.
+    pub fn look_at_life(&self)
+        ensures { HasLife B.may_hold (record { contents = B.contents; durable = B.durable; size = B.size; faults = B.fault_count; done = B.done_count }) B.layers self.now.volume }
+    {
+        self.volume.look_at_life()
     }
 
     /// A look at the places that are taken, which does nothing: there are no more than the requests and the snapshots that were

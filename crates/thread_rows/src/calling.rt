@@ -8,13 +8,16 @@ use plain_machine::{Dev, Event, NotDue, Op, ReqId, Request, SnapId};
 use sector::{Buf, Range, Refusal, SECTOR_BYTES};
 use snapshot::StoreDev;
 use std::alloc::Global;
-use volume::Volume;
+use volume_history::LivedVolume;
 
 /// The sectors of the origin.
 pub const SECTORS: u64 = 16;
 
 /// An audit of a volume with no request in flight.
-pub fn audit_over<B: Layered + Drop>(alloc: Global, volume: Volume<B>) -> Result<Audit<B>, Refusal>
+pub fn audit_over<B: Layered + Drop>(
+    alloc: Global,
+    volume: LivedVolume<B>,
+) -> Result<Audit<B>, Refusal>
     requires { volume.flights ≡ [] }
 {
     match Audit::new(alloc, volume) {
@@ -25,7 +28,7 @@ pub fn audit_over<B: Layered + Drop>(alloc: Global, volume: Volume<B>) -> Result
 
 /// An audit of a volume whose origin is of zeros.
 pub fn audit_of(alloc: Global) -> Result<Audit<MemDisk>, Refusal> {
-    match Volume::new(alloc, MemDisk::new(alloc, SECTORS)?) {
+    match LivedVolume::new(alloc, MemDisk::new(alloc, SECTORS)?) {
         Ok(volume) => audit_over(alloc, volume),
         Err((refusal, _)) => Err(refusal),
     }

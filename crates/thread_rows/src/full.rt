@@ -45,21 +45,18 @@ fn pages<R: Files + AllocGlobal>(rt: &R) -> Result<u64, Fail> {
 /// What may come to an entry is refused, and changes nothing.
 fn refuse<B: Layered + Drop>(rt: &impl Abort, audit: &mut Audit<B>) {
     let full = Some(Refusal::JournalFull);
-    assert_eq!(rt; submit_read(audit, 1, Dev::Origin, 2).err(), full);
-    assert_eq!(rt; detach(audit, 1).err(), full);
-    assert_eq!(rt; audit.entries().len(), MAX_ENTRIES - 1);
+    assert!(rt; submit_read(audit, 1, Dev::Origin, 2).err() == full);
+    assert!(rt; detach(audit, 1).err() == full);
+    assert!(rt; audit.entries().len() == MAX_ENTRIES - 1);
     assert!(rt; audit.in_flight() == 0 && audit.volume().len() == 1);
 }
 
 /// Fills a journal up. Of its last two places a snapshot takes one for its entry and one for what may come to it; one whose
 /// store may overflow would take three.
 fn fill_up(rt: &impl Abort, alloc: Global, audit: &mut Audit<MemDisk>) -> Result<(), Refusal> {
-    assert_eq!(rt; read_often(audit, ROOM)?, ROOM);
-    assert_eq!(rt;
-        attach(alloc, audit, 64, true).err(),
-        Some(Refusal::JournalFull)
-    );
-    assert_eq!(rt; attach(alloc, audit, 64, false)?, 1);
+    assert!(rt; read_often(audit, ROOM)? == ROOM);
+    assert!(rt; attach(alloc, audit, 64, true).err() == Some(Refusal::JournalFull));
+    assert!(rt; attach(alloc, audit, 64, false)? == 1);
     refuse(rt, audit);
     Ok(())
 }
@@ -93,9 +90,9 @@ fn go_on<R: Abort + Files + AllocGlobal, B: Layered>(
     let most = pages(rt)?.saturating_add(MORE_PAGES);
     for k in 1..=10u64 {
         audit.checkpoint()?;
-        assert_eq!(rt; read_often(audit, READS)?, READS);
-        assert_eq!(rt; audit.entries().len() as u64, READS);
-        assert_eq!(rt; audit.count(1), ROOM + READS * k);
+        assert!(rt; read_often(audit, READS)? == READS);
+        assert!(rt; audit.entries().len() as u64 == READS);
+        assert!(rt; audit.count(1) == ROOM + READS * k);
         assert!(rt; pages(rt)? <= most, "round {k}");
     }
     Ok(())
@@ -107,13 +104,13 @@ fn a_store_that_may_overflow_takes_a_place_more(rt: HostRuntime) -> Result<(), F
     attach(rt.alloc(), &mut audit, 3, true)?;
     write_snap(rt.alloc(), &mut audit, 5)?;
     // Two entries, and two that may come: the store overflows, and the snapshot is spoiled.
-    assert_eq!(rt; read_until_full(&mut audit)?, 65_532);
+    assert!(rt; read_until_full(&mut audit)? == 65_532);
     audit.checkpoint()?;
     let refused = write_snap(rt.alloc(), &mut audit, 6).err();
-    assert_eq!(rt; refused, Some(Refusal::Overflow));
+    assert!(rt; refused == Some(Refusal::Overflow));
     audit.checkpoint()?;
     // It did, and the snapshot may still be spoiled.
-    assert_eq!(rt; read_until_full(&mut audit)?, 65_535);
+    assert!(rt; read_until_full(&mut audit)? == 65_535);
     Ok(())
 }
 

@@ -20,7 +20,7 @@ use std::sync::Wait;
 use std::test::Fail;
 use std::thread;
 use std::thread::Threads;
-use volume::Volume;
+use volume_history::LivedVolume;
 use volume_threads::{Opened, Rig, Room, Seat};
 
 /// The sectors of each disk.
@@ -157,7 +157,7 @@ fn slow(alloc: Global, waiting: &Waiting) -> Result<Slow<'_, MemDisk>, Fail> {
 fn a_look_is_answered_while_a_read_holds_the_lock(rt: HostRuntime) -> Result<(), Fail> {
     let alloc = rt.alloc();
     let waiting = Waiting::new();
-    let Ok(mut volume) = Volume::new(alloc, slow(alloc, &waiting)?) else {
+    let Ok(mut volume) = LivedVolume::new(alloc, slow(alloc, &waiting)?) else {
         return Err(Fail::from("no volume"));
     };
     let store = StoreDev {

@@ -15,13 +15,10 @@ fn the_two_copies_of_a_write_are_at_work_at_once(rt: HostRuntime) -> Result<(), 
     let Ok(audit) = Audit::new(alloc, volume_of_two(alloc)?) else {
         return Err(Fail::from("no audit"));
     };
-    let mut beside = volume_of_two(alloc)?;
+    let mut beside = volume_of_two(alloc)?.into_volume();
     let meeting = Meeting::new();
     let gate = MeetingGate { meeting: &meeting };
-    assert_eq!(rt;
-        watched(&rt, alloc, audit, 2, gate, &mut beside, &WRITE)?,
-        None
-    );
+    assert!(rt; watched(&rt, alloc, audit, 2, gate, &mut beside, &WRITE)?.is_none());
     assert!(rt; meeting.was_held());
     Ok(())
 }

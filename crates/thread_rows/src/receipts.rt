@@ -74,7 +74,7 @@ fn write<B: Layered>(
     submit_write(alloc, audit, seat, Dev::Origin, (sector, 1), 0x31)?;
     match answer(audit, seat) {
         Some(receipt) => {
-            assert_eq!(rt; receipt.count, count);
+            assert!(rt; receipt.count == count);
             assert!(rt; audit.check(&receipt) == Verdict::Agrees);
             Ok(())
         }
@@ -88,8 +88,8 @@ fn overflow(rt: &impl Abort, alloc: Global, audit: &mut Audit<MemDisk>) -> Resul
     let number = attach(alloc, audit, 2, true)?;
     let before = audit.entries().len();
     let refused = submit_write(alloc, audit, 1, Dev::Snap(number), (9, 1), 0x31).err();
-    assert_eq!(rt; refused, Some(Refusal::Overflow));
-    assert_eq!(rt; audit.entries().len(), before + 1);
+    assert!(rt; refused == Some(Refusal::Overflow));
+    assert!(rt; audit.entries().len() == before + 1);
     assert!(rt; audit.count(0) == 0 && audit.count(1) == 1);
     Ok(())
 }
@@ -110,7 +110,7 @@ fn flush<B: Layered>(
     let Some(receipt) = answer(audit, seat) else {
         return Err(Refusal::Invalid);
     };
-    assert_eq!(rt; receipt.count, count);
+    assert!(rt; receipt.count == count);
     assert!(rt; matches!(receipt.reply, Reply::Flushed) && receipt.request.range.count == 1);
     assert!(rt; audit.check(&receipt) == Verdict::Agrees);
     Ok(())

@@ -20,6 +20,7 @@ use std::test::Fail;
 use std::thread;
 use std::thread::Threads;
 use volume::Volume;
+use volume_history::LivedVolume;
 use volume_threads::{Opened, Rig, Room, Seat, Worker};
 
 /// The first snapshot, in chunks of four sectors.
@@ -230,11 +231,11 @@ where
 /// A snapshot more, with this store and chunks of so many sectors.
 fn with_snapshot(
     alloc: Global,
-    volume: Volume<MemDisk>,
+    volume: LivedVolume<MemDisk>,
     device: MemDisk,
     chunk: u32,
     overflow: bool,
-) -> Result<Volume<MemDisk>, Fail>
+) -> Result<LivedVolume<MemDisk>, Fail>
     requires { volume.flights ≡ [] }
     ensures { IfOk result (λ v. v.flights ≡ []) }
 {
@@ -250,10 +251,10 @@ fn with_snapshot(
 }
 
 /// An origin with the first two snapshots.
-pub fn volume_of_two(alloc: Global) -> Result<Volume<MemDisk>, Fail>
+pub fn volume_of_two(alloc: Global) -> Result<LivedVolume<MemDisk>, Fail>
     ensures { IfOk result (λ v. v.flights ≡ []) }
 {
-    let Ok(volume) = Volume::new(alloc, MemDisk::new(alloc, SECTORS)?) else {
+    let Ok(volume) = LivedVolume::new(alloc, MemDisk::new(alloc, SECTORS)?) else {
         return Err(Fail::from("no volume"));
     };
     let volume = with_snapshot(alloc, volume, MemDisk::new(alloc, 64)?, 4, false)?;
@@ -261,7 +262,7 @@ pub fn volume_of_two(alloc: Global) -> Result<Volume<MemDisk>, Fail>
 }
 
 /// An origin with all three.
-fn volume_of_three(alloc: Global) -> Result<Volume<MemDisk>, Fail>
+fn volume_of_three(alloc: Global) -> Result<LivedVolume<MemDisk>, Fail>
     ensures { IfOk result (λ v. v.flights ≡ []) }
 {
     let volume = volume_of_two(alloc)?;
@@ -274,14 +275,11 @@ fn boards_say_what_status_says_after_each_call(rt: HostRuntime) -> Result<(), Fa
     let Ok(audit) = Audit::new(alloc, volume_of_three(alloc)?) else {
         return Err(Fail::from("no audit"));
     };
-    let mut beside = volume_of_three(alloc)?;
+    let mut beside = volume_of_three(alloc)?.into_volume();
     let gate = OpenGate { waits: false };
-    assert_eq!(rt;
-        watched(&rt, alloc, audit, 1, gate, &mut beside, &CALLS)?,
-        None
-    );
+    assert!(rt; watched(&rt, alloc, audit, 1, gate, &mut beside, &CALLS)?.is_none());
     assert!(rt; status_of(&beside, SMALL).state == PlaceState::Invalid);
-    assert_eq!(rt; beside.merging(), Some(LARGE));
+    assert!(rt; beside.merging() == Some(LARGE));
     assert!(rt; status_of(&beside, OTHER).state == PlaceState::Good);
     Ok(())
 }

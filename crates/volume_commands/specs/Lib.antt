@@ -24,3 +24,5 @@ pub mod SeesRequests
 pub mod ChangesLayers
 pub mod Recorded
 pub mod Closing
+pub mod Counting
+pub mod Recording

@@ -1,13 +1,12 @@
 // One request of a command, among requests in flight: it is submitted, and then all that is due is done.
 ghost use Rattle.std.specs.Prelude.{◌≡◌, ◌⊎◌, ◌+◌, ◌*◌, ◌≤◌, ℕ, List, length, vec_capacity, vec_len, IfOk, IfErr, true, false, None};
-ghost use Rattle.sector.specs.declared.refusal.Refusal.TheVariants.{Invalid, NoMemory, JournalFull};
+ghost use Rattle.sector.specs.declared.refusal.Refusal.TheVariants.{Invalid, NoMemory};
 ghost use Rattle.plain_machine.specs.declared.request.Op.TheVariants.{Write};
 ghost use Rattle.volume_commands.specs.Rested.{rested_of};
-ghost use Rattle.volume_commands.specs.Kept.{KeepsDevices};
-ghost use Rattle.volume_commands.specs.Draining.{IsDrainedApart, is_idle_of};
+ghost use Rattle.volume_commands.specs.Draining.{IsDrainedApart};
 ghost use Rattle.volume_commands.specs.Among.{is_live_dev, IsServedAmong, IsRefusedAmong};
-ghost use Rattle.counted_volume.specs.Places.{is_full_for};
 ghost use Rattle.counted_volume.specs.TakesPlaces.{TakesByRequests};
+ghost use Rattle.volume_commands.specs.Counting.{Asks, AsksNothing, IsFullIfTold, IsIdle, Keeps};
 
 use crate::Replied;
 use crate::draining::{drain_apart, drain_for};
@@ -43,9 +42,9 @@ fn follow<B: Layered>(volume: &mut CountedVolume<B>, live: bool, ended: &mut Vec
     requires room { vec_len ended.old + length volume.old.volume.flights ≤ vec_capacity ended.old }
     ensures drained { IsDrainedApart B.may_hold B.contents B.layers B.fault_count B.size volume.old.volume volume.new.volume ended.old.items ended.new.items }
     ensures dead { live ≡ false → (volume.new.volume ≡ volume.old.volume) × (ended.new.items ≡ ended.old.items) }
-    ensures idle { live ≡ true → is_idle_of B.contents B.layers volume.new.volume ≡ true }
-    ensures kept { KeepsDevices B.layers B.size (rested_of volume.old.volume) (rested_of volume.new.volume) }
-    ensures requests { volume.new.volume.requests ≡ volume.old.volume.requests }
+    ensures idle { live ≡ true → IsIdle B.contents B.layers volume.new }
+    ensures kept { Keeps B.layers B.size volume.old volume.new }
+    ensures requests { AsksNothing volume.old volume.new }
     ensures taken { TakesByRequests volume.old volume.new }
 {
     if live {
@@ -64,10 +63,10 @@ pub(crate) fn serve_among<B: Layered>(
     requires bytes { (bytes : List ℕ) → request.op ≡ Write bytes → length bytes ≡ 512 * request.range.count }
     ensures served { IfOk result (λ reply. IsServedAmong B.may_hold B.contents B.layers B.fault_count B.size request reply volume.old.volume volume.new.volume ended.old.items ended.new.items) }
     ensures refused { IfErr result (λ refusal. IsRefusedAmong B.may_hold B.contents B.layers B.fault_count B.size request refusal volume.old.volume volume.new.volume ended.old.items ended.new.items) }
-    ensures kept { KeepsDevices B.layers B.size (rested_of volume.old.volume) (rested_of volume.new.volume) }
-    ensures requests { volume.new.volume.requests ≤ volume.old.volume.requests + 1 }
+    ensures kept { Keeps B.layers B.size volume.old volume.new }
+    ensures requests { Asks 1 volume.old volume.new }
     ensures taken { TakesByRequests volume.old volume.new }
-    ensures full { IfErr result (λ refusal. refusal ≡ JournalFull → is_full_for 1 volume.new.taken ≡ true) }
+    ensures full { IsFullIfTold result volume.new.taken }
 {
     let Ok(()) = ended.reserve(MAX_REQUESTS) else {
         return Err(Refusal::NoMemory);

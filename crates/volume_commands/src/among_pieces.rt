@@ -1,19 +1,15 @@
 // A command of a volume with requests in flight, cut into pieces: each is served before the next, and the first that is not
 // done ends it.
-ghost use Rattle.std.specs.Prelude.{◌≡◌, ◌⊎◌, ℕ, ◌+◌, ◌-◌, ◌*◌, ◌≤◌, ◌<◌, ◌++◌, [], take, drop, length, vec_capacity, vec_len, IfOk, IfErr, OnOk, true, false, None};
+ghost use Rattle.std.specs.Prelude.{◌≡◌, ◌⊎◌, ℕ, ◌+◌, ◌-◌, ◌*◌, ◌≤◌, ◌<◌, ◌++◌, [], take, drop, length, vec_capacity, vec_len, IfOk, IfErr, OnOk, false, None};
 ghost use Rattle.plain_machine.specs.declared.request.Reply.{Reply as AnyReply};
 ghost use Rattle.plain_machine.specs.declared.request.Op.TheVariants.{Read, Write};
 ghost use Rattle.chunk.specs.Pieces.{span_of, pieces_of};
 ghost use Rattle.big_steps.specs.Commands.{bytes_in};
 ghost use Rattle.volume.specs.Volumed.{piece_with};
-ghost use Rattle.volume_commands.specs.Rested.{has_dev, rested_of};
-ghost use Rattle.volume_commands.specs.Flying.{IsWhole};
-ghost use Rattle.volume_commands.specs.Kept.{KeepsDevices};
 ghost use Rattle.volume_commands.specs.Among.{AreReadAmong, AreWrittenAmong, IsPieceFailed, IsPieceServed, IsReadRefusedAmong, IsReadStopped, IsWriteRefusedAmong, IsWriteStopped, pieces_among};
-ghost use Rattle.sector.specs.declared.refusal.Refusal.TheVariants.{JournalFull};
-ghost use Rattle.counted_volume.specs.Places.{is_full_for};
-ghost use Rattle.volume_commands.specs.Recorded.{counted_in};
 ghost use Rattle.counted_volume.specs.TakesPlaces.{TakesByRequests};
+ghost use Rattle.volume_commands.specs.Counting.{Asks, IsFullIfTold, Keeps};
+ghost use Rattle.volume_commands.specs.Recording.{AreWhole, AsksUpTo, IsDoneThere, SameSetup, TakesAsAsked};
 
 use crate::among::serve_among;
 use crate::pieces::part_of;
@@ -43,10 +39,10 @@ fn write_piece_among<B: Layered>(
     ensures written { OnOk result ((reply : AnyReply) × IsPieceServed B.may_hold B.contents B.layers B.fault_count B.size dev (Write (take (to - from) (drop from bytes.old))) (span_of piece) reply volume.old.volume volume.new.volume ended.old.items ended.new.items) }
     ensures failed { IfErr result (λ refusal. IsPieceFailed B.may_hold B.contents B.layers B.fault_count B.size dev (Write (take (to - from) (drop from bytes.old))) (span_of piece) refusal volume.old.volume volume.new.volume ended.old.items ended.new.items) }
     ensures left { drop to bytes.new ≡ drop to bytes.old }
-    ensures kept { KeepsDevices B.layers B.size (rested_of volume.old.volume) (rested_of volume.new.volume) }
-    ensures requests { volume.new.volume.requests ≤ volume.old.volume.requests + 1 }
+    ensures kept { Keeps B.layers B.size volume.old volume.new }
+    ensures requests { Asks 1 volume.old volume.new }
     ensures taken { TakesByRequests volume.old volume.new }
-    ensures full { IfErr result (λ refusal. refusal ≡ JournalFull → is_full_for 1 volume.new.taken ≡ true) }
+    ensures full { IsFullIfTold result volume.new.taken }
 {
     let Ok(part) = part_of(alloc, bytes, from, to) else {
         return Err(Refusal::NoMemory);
@@ -78,10 +74,10 @@ fn read_piece_among<B: Layered>(
     ensures failed { IfErr result (λ refusal. IsPieceFailed B.may_hold B.contents B.layers B.fault_count B.size dev Read (span_of piece) refusal volume.old.volume volume.new.volume ended.old.items ended.new.items) }
     ensures len { vec_len out.new ≤ vec_len out.old + 512 * piece.count }
     ensures capacity { vec_capacity out.old ≤ vec_capacity out.new }
-    ensures kept { KeepsDevices B.layers B.size (rested_of volume.old.volume) (rested_of volume.new.volume) }
-    ensures requests { volume.new.volume.requests ≤ volume.old.volume.requests + 1 }
+    ensures kept { Keeps B.layers B.size volume.old volume.new }
+    ensures requests { Asks 1 volume.old volume.new }
     ensures taken { TakesByRequests volume.old volume.new }
-    ensures full { IfErr result (λ refusal. refusal ≡ JournalFull → is_full_for 1 volume.new.taken ≡ true) }
+    ensures full { IsFullIfTold result volume.new.taken }
 {
     let request = Request {
         dev,
@@ -116,10 +112,10 @@ fn write_pieces_among<B: Layered>(
     requires room { length bytes.old ≡ 512 * range.count }
     ensures written { OnOk result (AreWrittenAmong B.may_hold B.contents B.layers B.fault_count B.size dev (pieces_of (piece_with volume.old.volume.merge volume.old.volume.snaps) (span_of range)) bytes.old volume.old.volume volume.new.volume ended.old.items ended.new.items) }
     ensures stopped { IfErr result (λ refusal. IsWriteStopped B.may_hold B.contents B.layers B.fault_count B.size dev (pieces_of (piece_with volume.old.volume.merge volume.old.volume.snaps) (span_of range)) bytes.old refusal volume.old.volume volume.new.volume ended.old.items ended.new.items) }
-    ensures kept { KeepsDevices B.layers B.size (rested_of volume.old.volume) (rested_of volume.new.volume) }
-    ensures requests { volume.new.volume.requests ≤ volume.old.volume.requests + range.count }
+    ensures kept { Keeps B.layers B.size volume.old volume.new }
+    ensures requests { Asks range.count volume.old volume.new }
     ensures taken { TakesByRequests volume.old volume.new }
-    ensures full { IfErr result (λ refusal. refusal ≡ JournalFull → is_full_for 1 volume.new.taken ≡ true) }
+    ensures full { IsFullIfTold result volume.new.taken }
 {
     let geometry = Geometry {
         chunk: volume.piece(),
@@ -150,10 +146,10 @@ fn read_pieces_among<B: Layered>(
     requires room { 512 * range.count ≤ vec_capacity out.old }
     ensures read { OnOk result (AreReadAmong B.may_hold B.contents B.layers B.fault_count B.size dev (pieces_of (piece_with volume.old.volume.merge volume.old.volume.snaps) (span_of range)) out.new.items volume.old.volume volume.new.volume ended.old.items ended.new.items) }
     ensures stopped { IfErr result (λ refusal. IsReadStopped B.may_hold B.contents B.layers B.fault_count B.size dev (pieces_of (piece_with volume.old.volume.merge volume.old.volume.snaps) (span_of range)) refusal volume.old.volume volume.new.volume ended.old.items ended.new.items) }
-    ensures kept { KeepsDevices B.layers B.size (rested_of volume.old.volume) (rested_of volume.new.volume) }
-    ensures requests { volume.new.volume.requests ≤ volume.old.volume.requests + range.count }
+    ensures kept { Keeps B.layers B.size volume.old volume.new }
+    ensures requests { Asks range.count volume.old volume.new }
     ensures taken { TakesByRequests volume.old volume.new }
-    ensures full { IfErr result (λ refusal. refusal ≡ JournalFull → is_full_for 1 volume.new.taken ≡ true) }
+    ensures full { IsFullIfTold result volume.new.taken }
 {
     let geometry = Geometry {
         chunk: volume.piece(),
@@ -187,12 +183,12 @@ impl<B: Layered> Resting<B> {
         requires requests { self.old.rested.requests + range.count < 9_223_372_036_854_775_808 }
         ensures read { IfOk result (λ bytes. AreReadAmong B.may_hold B.contents B.layers B.fault_count B.size dev (pieces_among (span_of range) self.old.rested) bytes self.old.rested.events self.new.rested.events ended.old.items ended.new.items) }
         ensures refused { IfErr result (λ refusal. IsReadRefusedAmong B.may_hold B.contents B.layers B.fault_count B.size dev (pieces_among (span_of range) self.old.rested) refusal self.old.rested self.new.rested ended.old.items ended.new.items) }
-        ensures there { OnOk result (has_dev dev self.old.rested ≡ true) }
-        ensures whole { IsWhole self.old.rested × IsWhole self.new.rested }
-        ensures kept { KeepsDevices B.layers B.size self.old.rested self.new.rested }
-        ensures requests { self.new.rested.requests ≤ self.old.rested.requests + range.count }
-        ensures taken { TakesByRequests (counted_in self.old) (counted_in self.new) }
-        ensures full { IfErr result (λ refusal. refusal ≡ JournalFull → is_full_for 1 self.new.taken ≡ true) }
+        ensures there { IsDoneThere dev result self.old.rested }
+        ensures whole { AreWhole self.old.rested self.new.rested }
+        ensures kept { SameSetup B.layers B.size self.old self.new }
+        ensures requests { AsksUpTo range.count self.old self.new }
+        ensures taken { TakesAsAsked self.old self.new }
+        ensures full { IsFullIfTold result self.new.taken }
     {
         if !is_there(&self.volume, dev) {
             return Err(Refusal::NoSuchDevice);
@@ -225,12 +221,12 @@ impl<B: Layered> Resting<B> {
         requires requests { self.old.rested.requests + range.count < 9_223_372_036_854_775_808 }
         ensures written { OnOk result (AreWrittenAmong B.may_hold B.contents B.layers B.fault_count B.size dev (pieces_among (span_of range) self.old.rested) bytes.old self.old.rested.events self.new.rested.events ended.old.items ended.new.items) }
         ensures refused { IfErr result (λ refusal. IsWriteRefusedAmong B.may_hold B.contents B.layers B.fault_count B.size dev (pieces_among (span_of range) self.old.rested) bytes.old refusal self.old.rested self.new.rested ended.old.items ended.new.items) }
-        ensures there { OnOk result (has_dev dev self.old.rested ≡ true) }
-        ensures whole { IsWhole self.old.rested × IsWhole self.new.rested }
-        ensures kept { KeepsDevices B.layers B.size self.old.rested self.new.rested }
-        ensures requests { self.new.rested.requests ≤ self.old.rested.requests + range.count }
-        ensures taken { TakesByRequests (counted_in self.old) (counted_in self.new) }
-        ensures full { IfErr result (λ refusal. refusal ≡ JournalFull → is_full_for 1 self.new.taken ≡ true) }
+        ensures there { IsDoneThere dev result self.old.rested }
+        ensures whole { AreWhole self.old.rested self.new.rested }
+        ensures kept { SameSetup B.layers B.size self.old self.new }
+        ensures requests { AsksUpTo range.count self.old self.new }
+        ensures taken { TakesAsAsked self.old self.new }
+        ensures full { IsFullIfTold result self.new.taken }
     {
         if !is_there(&self.volume, dev) {
             return Err(Refusal::NoSuchDevice);

@@ -8,7 +8,6 @@ ghost use Rattle.volume.specs.DoesDetach.{DoesDetach};
 ghost use Rattle.volume.specs.Leaving.{is_quiet_of};
 ghost use Rattle.volume.specs.Submitting.{is_merging};
 ghost use Rattle.counted_volume.specs.Declined.{IsUnattached};
-ghost use Rattle.volume_commands.specs.Flying.{IsWhole};
 ghost use Rattle.volume_commands.specs.Rested.{Attached, has_dev, snap_at};
 ghost use Rattle.volume_commands.specs.SeesAttach.{SeesAttach};
 ghost use Rattle.volume_commands.specs.SeesDetach.{SeesDetach};
@@ -16,6 +15,7 @@ ghost use Rattle.counted_volume.specs.Places.{kept_for_snaps};
 ghost use Rattle.volume_commands.specs.Recorded.{counted_in};
 ghost use Rattle.counted_volume.specs.TakesPlaces.{TakesPlaces, reason_of};
 ghost use Rattle.audit.specs.PlacesTaken.{places_for};
+ghost use Rattle.volume_commands.specs.Recording.{AreWhole, TakesForSnaps};
 
 use crate::Resting;
 use layers::Layered;
@@ -40,7 +40,7 @@ impl<B: Layered> Resting<B> {
         ensures does { DoesAttach B.may_hold (record { contents = B.contents; durable = B.durable; size = B.size; faults = B.fault_count; done = B.done_count }) B.layers store chunk overflow result self.old.rested.events self.new.rested.events }
         ensures seen { SeesAttach B.contents B.layers B.size store chunk overflow result self.old.rested self.new.rested }
         ensures refused { IfErr result (λ e. IsUnattached B.contents B.size store chunk self.old.rested.origin self.old.rested.events e) }
-        ensures whole { IsWhole self.old.rested × IsWhole self.new.rested }
+        ensures whole { AreWhole self.old.rested self.new.rested }
         ensures places { TakesPlaces (places_for overflow) kept_for_snaps (reason_of result) (counted_in self.old) (counted_in self.new) }
     {
         self.volume.attach(store, chunk, overflow)
@@ -51,7 +51,7 @@ impl<B: Layered> Resting<B> {
     pub fn detach(&mut self, number: SnapId) -> Result<StoreDev<B>, Refusal>
         ensures does { DoesDetach B.may_hold B.contents B.layers B.size number result self.old.rested.events self.new.rested.events }
         ensures seen { SeesDetach B.contents B.layers number result self.old.rested self.new.rested }
-        ensures places { TakesPlaces 1 kept_for_snaps result (counted_in self.old) (counted_in self.new) }
+        ensures places { TakesForSnaps result self.old self.new }
     {
         self.volume.detach(number)
     }

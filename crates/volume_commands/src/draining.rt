@@ -4,12 +4,11 @@ ghost use Rattle.sector.specs.declared.refusal.Refusal.TheVariants.{NoMemory};
 ghost use Rattle.volume.specs.Leaving.{is_quiet_of};
 ghost use Rattle.big_steps.specs.Merges.{merged};
 ghost use Rattle.volume_commands.specs.Rested.{rested_of, merged_of, IsSettled};
-ghost use Rattle.volume_commands.specs.Flying.{IsWhole};
-ghost use Rattle.volume_commands.specs.Kept.{KeepsDevices};
 ghost use Rattle.volume_commands.specs.Showing.{arrays_in, IsGoneOn};
-ghost use Rattle.volume_commands.specs.Draining.{IsDrained, IsDrainedApart, IsAnsweredAmong, is_idle_of};
-ghost use Rattle.volume_commands.specs.Recorded.{counted_in};
+ghost use Rattle.volume_commands.specs.Draining.{IsDrained, IsDrainedApart, IsAnsweredAmong};
 ghost use Rattle.counted_volume.specs.TakesPlaces.{TakesByRequests};
+ghost use Rattle.volume_commands.specs.Counting.{AsksNothing, IsIdle, Keeps};
+ghost use Rattle.volume_commands.specs.Recording.{AreWhole, SameSetup, TakesAsAsked};
 
 use crate::{Replied, Resting};
 use counted_volume::{CountedVolume, follow_merge};
@@ -45,8 +44,8 @@ fn drain<B: Layered>(volume: &mut CountedVolume<B>, ended: &mut Vec<Replied>) ->
     ensures still { is_quiet_of volume.old.volume ≡ true → ended.new.items ≡ ended.old.items }
     ensures alone { is_quiet_of volume.old.volume ≡ true → volume.old.volume.merge ≡ None → volume.new.volume ≡ volume.old.volume }
     ensures err { IfErr result (λ refusal. (refusal ≡ NoMemory) × (volume.new.volume ≡ volume.old.volume) × (ended.new.items ≡ ended.old.items)) }
-    ensures kept { KeepsDevices B.layers B.size (rested_of volume.old.volume) (rested_of volume.new.volume) }
-    ensures requests { volume.new.volume.requests ≡ volume.old.volume.requests }
+    ensures kept { Keeps B.layers B.size volume.old volume.new }
+    ensures requests { AsksNothing volume.old volume.new }
     ensures taken { TakesByRequests volume.old volume.new }
 {
     let _ = volume.is_quiet();
@@ -67,9 +66,9 @@ fn drain<B: Layered>(volume: &mut CountedVolume<B>, ended: &mut Vec<Replied>) ->
 pub(crate) fn drain_apart<B: Layered>(volume: &mut CountedVolume<B>, ended: &mut Vec<Replied>)
     requires room { vec_len ended.old + length volume.old.volume.flights ≤ vec_capacity ended.old }
     ensures drained { IsDrainedApart B.may_hold B.contents B.layers B.fault_count B.size volume.old.volume volume.new.volume ended.old.items ended.new.items }
-    ensures idle { is_idle_of B.contents B.layers volume.new.volume ≡ true }
-    ensures kept { KeepsDevices B.layers B.size (rested_of volume.old.volume) (rested_of volume.new.volume) }
-    ensures requests { volume.new.volume.requests ≡ volume.old.volume.requests }
+    ensures idle { IsIdle B.contents B.layers volume.new }
+    ensures kept { Keeps B.layers B.size volume.old volume.new }
+    ensures requests { AsksNothing volume.old volume.new }
     ensures taken { TakesByRequests volume.old volume.new }
 {
     while let Some(event) = volume.due() {
@@ -94,9 +93,9 @@ pub(crate) fn drain_for<B: Layered>(
 ) -> Reply
     requires room { vec_len ended.old + length volume.old.volume.flights ≤ vec_capacity ended.old }
     ensures answered { IsAnsweredAmong B.may_hold B.contents B.layers B.fault_count B.size own result volume.old.volume volume.new.volume ended.old.items ended.new.items }
-    ensures idle { is_idle_of B.contents B.layers volume.new.volume ≡ true }
-    ensures kept { KeepsDevices B.layers B.size (rested_of volume.old.volume) (rested_of volume.new.volume) }
-    ensures requests { volume.new.volume.requests ≡ volume.old.volume.requests }
+    ensures idle { IsIdle B.contents B.layers volume.new }
+    ensures kept { Keeps B.layers B.size volume.old volume.new }
+    ensures requests { AsksNothing volume.old volume.new }
     ensures taken { TakesByRequests volume.old volume.new }
 {
     let mut answer = Reply::Refused(Failure::Invalid);
@@ -137,10 +136,10 @@ impl<B: Layered> Resting<B> {
         ensures still { is_quiet_of self.old.rested.events ≡ true → ended.new.items ≡ ended.old.items }
         ensures alone { is_quiet_of self.old.rested.events ≡ true → self.old.rested.events.merge ≡ None → self.new.rested ≡ self.old.rested }
         ensures err { IfErr result (λ refusal. (refusal ≡ NoMemory) × (self.new.rested ≡ self.old.rested) × (ended.new.items ≡ ended.old.items)) }
-        ensures whole { IsWhole self.old.rested × IsWhole self.new.rested }
-        ensures kept { KeepsDevices B.layers B.size self.old.rested self.new.rested }
+        ensures whole { AreWhole self.old.rested self.new.rested }
+        ensures kept { SameSetup B.layers B.size self.old self.new }
         ensures requests { self.new.rested.requests ≡ self.old.rested.requests }
-        ensures taken { TakesByRequests (counted_in self.old) (counted_in self.new) }
+        ensures taken { TakesAsAsked self.old self.new }
     {
         drain(&mut self.volume, ended)
     }

@@ -5,13 +5,13 @@ ghost use Rattle.volume.specs.DoesStep.{DoesStep};
 ghost use Rattle.volume.specs.DoesSubmit.{DoesSubmit};
 ghost use Rattle.volume.specs.Leaving.{is_quiet_of};
 ghost use Rattle.counted_volume.specs.Declined.{IsUnsent};
-ghost use Rattle.volume_commands.specs.Flying.{IsWhole};
 ghost use Rattle.volume_commands.specs.Ordered.{IsOrdered};
 ghost use Rattle.volume_commands.specs.Rested.{rested_of, merged_of, numbers_of, is_loud_in, IsSettled};
 ghost use Rattle.volume_commands.specs.SeesRequests.{SeesStart, SeesStep};
 ghost use Rattle.counted_volume.specs.Places.{kept_for_marks};
 ghost use Rattle.volume_commands.specs.Recorded.{counted_in};
-ghost use Rattle.counted_volume.specs.TakesPlaces.{TakesByRequests, TakesPlaces};
+ghost use Rattle.counted_volume.specs.TakesPlaces.{TakesPlaces};
+ghost use Rattle.volume_commands.specs.Recording.{AreWhole, TakesAsAsked};
 
 use crate::Resting;
 use crate::serving::look;
@@ -62,7 +62,7 @@ impl<B: Layered> Resting<B> {
         ensures does { DoesSubmit B.contents B.layers B.size request result self.old.rested.events self.new.rested.events }
         ensures seen { SeesStart B.contents B.layers B.size result self.old.rested self.new.rested }
         ensures refused { IfErr result (λ refusal. IsUnsent B.contents B.layers B.size request refusal self.old.rested.events self.new.rested.events) }
-        ensures whole { IsWhole self.old.rested × IsWhole self.new.rested }
+        ensures whole { AreWhole self.old.rested self.new.rested }
         ensures places { TakesPlaces 1 kept_for_marks result (counted_in self.old) (counted_in self.new) }
     {
         look(&self.volume);
@@ -75,8 +75,8 @@ impl<B: Layered> Resting<B> {
     pub fn step(&mut self, event: Event) -> Result<Outcome, NotDue>
         ensures does { DoesStep B.may_hold B.contents B.layers B.size B.fault_count B.done_count true event result self.old.rested.events self.new.rested.events }
         ensures seen { SeesStep B.layers B.size result self.old.rested self.new.rested }
-        ensures whole { IsWhole self.old.rested × IsWhole self.new.rested }
-        ensures taken { TakesByRequests (counted_in self.old) (counted_in self.new) }
+        ensures whole { AreWhole self.old.rested self.new.rested }
+        ensures taken { TakesAsAsked self.old self.new }
     {
         self.volume.step(event)
     }

@@ -1,5 +1,5 @@
 // A flush of a device: one request, whether a merge is begun or not.
-ghost use Rattle.std.specs.Prelude.{◌≡◌, ◌⊎◌, ◌+◌, ◌<◌, ◌≤◌, ℕ, IfErr, OnOk, true};
+ghost use Rattle.std.specs.Prelude.{◌≡◌, ◌⊎◌, ◌+◌, ◌<◌, ℕ, IfErr, OnOk, true};
 ghost use Rattle.plain_machine.specs.declared.request.Op.TheVariants.{Flush};
 ghost use Rattle.plain_machine.specs.declared.request.Reply.TheVariants.{Flushed};
 ghost use Rattle.volume.specs.Leaving.{is_quiet_of};
@@ -7,18 +7,15 @@ ghost use Rattle.volume.specs.Stopping.{array_of};
 ghost use Rattle.volume.specs.Volumed.{is_loud_in_all};
 ghost use Rattle.big_steps.specs.Beside.{flushed_beside};
 ghost use Rattle.volume_commands.specs.Rested.{has_dev, rested_of, IsSettled};
-ghost use Rattle.volume_commands.specs.Kept.{KeepsDevices};
 ghost use Rattle.volume_commands.specs.Between.{IsBetween};
-ghost use Rattle.volume_commands.specs.Flying.{IsWhole};
 ghost use Rattle.volume_commands.specs.Closing.{IsClosed};
 ghost use Rattle.volume_commands.specs.Commands.{IsDoneBy, IsFlushRefused};
 ghost use Rattle.volume_commands.specs.Showing.{arrays_in, IsPlainFlush, IsPlainReadRefused};
 ghost use Rattle.volume_commands.specs.AtRest.{IsFlushDone, IsFlushUndone};
 ghost use Rattle.volume_commands.specs.Among.{IsFlushedAmong, IsFlushRefusedAmong, IsPieceFailed, IsRequestOf, flush_piece};
-ghost use Rattle.sector.specs.declared.refusal.Refusal.TheVariants.{JournalFull};
-ghost use Rattle.counted_volume.specs.Places.{is_full_for};
-ghost use Rattle.volume_commands.specs.Recorded.{counted_in};
 ghost use Rattle.counted_volume.specs.TakesPlaces.{TakesByRequests};
+ghost use Rattle.volume_commands.specs.Counting.{Asks, IsFullIfTold, Keeps, KeepsRest};
+ghost use Rattle.volume_commands.specs.Recording.{AreWhole, AsksUpTo, IsDoneThere, SameSetup, StaysSettled, TakesAsAsked};
 
 use crate::among::serve_among;
 use crate::serving::{is_there, look, serve};
@@ -50,7 +47,7 @@ fn flush_device<B: Layered>(volume: &mut CountedVolume<B>, dev: Dev) -> Result<(
     requires some { 0 < B.size volume.old.volume.origin }
     requires requests { volume.old.volume.requests < 9_223_372_036_854_775_808 }
     ensures between { IsBetween volume.new.volume }
-    ensures settled { IsSettled B.layers (rested_of volume.old.volume) → IsSettled B.layers (rested_of volume.new.volume) }
+    ensures settled { KeepsRest B.layers volume.old volume.new }
     ensures done { OnOk result (IsDoneBy B.contents B.layers (flushed_beside dev) Flushed (rested_of volume.old.volume) (rested_of volume.new.volume)) }
     ensures refused { IfErr result (λ refusal. IsFlushRefused B.contents B.layers dev refusal (rested_of volume.old.volume) (rested_of volume.new.volume)) }
     ensures answered { OnOk result (IsFlushDone B.may_hold B.contents B.layers B.fault_count B.size dev volume.old.volume volume.new.volume) }
@@ -58,10 +55,10 @@ fn flush_device<B: Layered>(volume: &mut CountedVolume<B>, dev: Dev) -> Result<(
     ensures closes { OnOk result (is_loud_in_all B.layers volume.old.volume ≡ true → IsClosed B.may_hold B.size volume.new.volume (array_of dev)) }
     ensures shows { OnOk result (IsSettled B.layers (rested_of volume.old.volume) → IsPlainFlush dev (arrays_in B.contents B.layers (rested_of volume.old.volume)) (arrays_in B.contents B.layers (rested_of volume.new.volume))) }
     ensures loses { IfErr result (λ refusal. IsSettled B.layers (rested_of volume.old.volume) → IsPlainReadRefused dev refusal (arrays_in B.contents B.layers (rested_of volume.old.volume)) (arrays_in B.contents B.layers (rested_of volume.new.volume))) }
-    ensures kept { KeepsDevices B.layers B.size (rested_of volume.old.volume) (rested_of volume.new.volume) }
-    ensures requests { volume.new.volume.requests ≤ volume.old.volume.requests + 1 }
+    ensures kept { Keeps B.layers B.size volume.old volume.new }
+    ensures requests { Asks 1 volume.old volume.new }
     ensures taken { TakesByRequests volume.old volume.new }
-    ensures full { IfErr result (λ refusal. refusal ≡ JournalFull → is_full_for 1 volume.new.taken ≡ true) }
+    ensures full { IsFullIfTold result volume.new.taken }
 {
     // Looks: the chunks of all snapshots are as large as a piece, or larger, their numbers rise, and a merge has chunks too.
     let _ = volume.piece();
@@ -84,10 +81,10 @@ fn flush_device_among<B: Layered>(
 ) -> Result<(), Refusal>
     ensures flushed { OnOk result (IsFlushedAmong B.may_hold B.contents B.layers B.fault_count B.size dev volume.old.volume volume.new.volume ended.old.items ended.new.items) }
     ensures failed { IfErr result (λ refusal. IsPieceFailed B.may_hold B.contents B.layers B.fault_count B.size dev Flush flush_piece refusal volume.old.volume volume.new.volume ended.old.items ended.new.items) }
-    ensures kept { KeepsDevices B.layers B.size (rested_of volume.old.volume) (rested_of volume.new.volume) }
-    ensures requests { volume.new.volume.requests ≤ volume.old.volume.requests + 1 }
+    ensures kept { Keeps B.layers B.size volume.old volume.new }
+    ensures requests { Asks 1 volume.old volume.new }
     ensures taken { TakesByRequests volume.old volume.new }
-    ensures full { IfErr result (λ refusal. refusal ≡ JournalFull → is_full_for 1 volume.new.taken ≡ true) }
+    ensures full { IsFullIfTold result volume.new.taken }
 {
     match serve_among(volume, request_of(dev), ended) {
         Ok(Reply::Refused(failure)) => Err(refusal_for(failure)),
@@ -111,20 +108,20 @@ impl<B: Layered> Resting<B> {
         requires inside { 0 < B.size self.old.rested.origin }
         requires requests { self.old.rested.requests + 1 < 9_223_372_036_854_775_808 }
         ensures quiet { is_quiet_of self.new.rested.events ≡ true }
-        ensures settled { IsSettled B.layers self.old.rested → IsSettled B.layers self.new.rested }
+        ensures settled { StaysSettled B.layers self.old self.new }
         ensures done { OnOk result (IsDoneBy B.contents B.layers (flushed_beside dev) Flushed self.old.rested self.new.rested) }
-        ensures there { OnOk result (has_dev dev self.old.rested ≡ true) }
+        ensures there { IsDoneThere dev result self.old.rested }
         ensures refused { IfErr result (λ refusal. IsFlushRefused B.contents B.layers dev refusal self.old.rested self.new.rested) }
         ensures answered { OnOk result (IsFlushDone B.may_hold B.contents B.layers B.fault_count B.size dev self.old.rested.events self.new.rested.events) }
         ensures undone { has_dev dev self.old.rested ≡ true → IfErr result (λ refusal. IsFlushUndone B.may_hold B.contents B.layers B.fault_count B.size dev refusal self.old.rested.events self.new.rested.events) }
-        ensures whole { IsWhole self.old.rested × IsWhole self.new.rested }
+        ensures whole { AreWhole self.old.rested self.new.rested }
         ensures closes { OnOk result (is_loud_in_all B.layers self.old.rested.events ≡ true → IsClosed B.may_hold B.size self.new.rested.events (array_of dev)) }
         ensures shows { OnOk result (IsSettled B.layers self.old.rested → IsPlainFlush dev (arrays_in B.contents B.layers self.old.rested) (arrays_in B.contents B.layers self.new.rested)) }
         ensures loses { IfErr result (λ refusal. IsSettled B.layers self.old.rested → IsPlainReadRefused dev refusal (arrays_in B.contents B.layers self.old.rested) (arrays_in B.contents B.layers self.new.rested)) }
-        ensures kept { KeepsDevices B.layers B.size self.old.rested self.new.rested }
-        ensures requests { self.new.rested.requests ≤ self.old.rested.requests + 1 }
-        ensures taken { TakesByRequests (counted_in self.old) (counted_in self.new) }
-        ensures full { IfErr result (λ refusal. refusal ≡ JournalFull → is_full_for 1 self.new.taken ≡ true) }
+        ensures kept { SameSetup B.layers B.size self.old self.new }
+        ensures requests { AsksUpTo 1 self.old self.new }
+        ensures taken { TakesAsAsked self.old self.new }
+        ensures full { IsFullIfTold result self.new.taken }
     {
         look(&self.volume);
         if !is_there(&self.volume, dev) {
@@ -143,12 +140,12 @@ impl<B: Layered> Resting<B> {
         requires requests { self.old.rested.requests + 1 < 9_223_372_036_854_775_808 }
         ensures flushed { OnOk result (IsFlushedAmong B.may_hold B.contents B.layers B.fault_count B.size dev self.old.rested.events self.new.rested.events ended.old.items ended.new.items) }
         ensures refused { IfErr result (λ refusal. IsFlushRefusedAmong B.may_hold B.contents B.layers B.fault_count B.size dev refusal self.old.rested self.new.rested ended.old.items ended.new.items) }
-        ensures there { OnOk result (has_dev dev self.old.rested ≡ true) }
-        ensures whole { IsWhole self.old.rested × IsWhole self.new.rested }
-        ensures kept { KeepsDevices B.layers B.size self.old.rested self.new.rested }
-        ensures requests { self.new.rested.requests ≤ self.old.rested.requests + 1 }
-        ensures taken { TakesByRequests (counted_in self.old) (counted_in self.new) }
-        ensures full { IfErr result (λ refusal. refusal ≡ JournalFull → is_full_for 1 self.new.taken ≡ true) }
+        ensures there { IsDoneThere dev result self.old.rested }
+        ensures whole { AreWhole self.old.rested self.new.rested }
+        ensures kept { SameSetup B.layers B.size self.old self.new }
+        ensures requests { AsksUpTo 1 self.old self.new }
+        ensures taken { TakesAsAsked self.old self.new }
+        ensures full { IsFullIfTold result self.new.taken }
     {
         if !is_there(&self.volume, dev) {
             return Err(Refusal::NoSuchDevice);

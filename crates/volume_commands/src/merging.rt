@@ -1,5 +1,5 @@
 // A merge of one snapshot into the origin: it begins, goes on after a fault, and is taken out at its end.
-ghost use Rattle.std.specs.Prelude.{◌≡◌, ◌⊎◌, IfErr, IfNone, IfSome, None, Some};
+ghost use Rattle.std.specs.Prelude.{◌≡◌, ◌⊎◌, IfErr, IfSome, None, Some};
 ghost use Rattle.sector.specs.declared.refusal.Refusal.TheVariants.{JournalFull};
 ghost use Rattle.merge.specs.Merging.{Merging};
 ghost use Rattle.volume.specs.Asking.{merging_number, merging_usage};
@@ -8,13 +8,10 @@ ghost use Rattle.volume.specs.DoesFinishMerge.{DoesFinishMerge};
 ghost use Rattle.volume.specs.DoesResumeMerge.{DoesResumeMerge};
 ghost use Rattle.volume.specs.Finishing.{finish_refusal};
 ghost use Rattle.volume.specs.Stepping.{has_failed};
-ghost use Rattle.volume_commands.specs.Flying.{IsWhole};
 ghost use Rattle.volume_commands.specs.SeesBeginMerge.{SeesBeginMerge};
 ghost use Rattle.volume_commands.specs.SeesFinishMerge.{SeesFinishMerge};
 ghost use Rattle.volume_commands.specs.SeesResumeMerge.{SeesResumeMerge};
-ghost use Rattle.counted_volume.specs.Places.{kept_for_snaps};
-ghost use Rattle.volume_commands.specs.Recorded.{counted_in};
-ghost use Rattle.counted_volume.specs.TakesPlaces.{TakesPlaces};
+ghost use Rattle.volume_commands.specs.Recording.{AreWhole, TakesForSnaps, TellsNoMerge};
 
 use crate::Resting;
 use chunk_alloc::Usage;
@@ -34,8 +31,8 @@ impl<B: Layered> Resting<B> {
     pub fn begin_merge(&mut self, alloc: Global, number: SnapId) -> Result<(), Refusal>
         ensures does { DoesBeginMerge B.may_hold B.contents B.layers B.size number result self.old.rested.events self.new.rested.events }
         ensures seen { SeesBeginMerge B.contents B.layers number result self.old.rested self.new.rested }
-        ensures whole { IsWhole self.old.rested × IsWhole self.new.rested }
-        ensures places { TakesPlaces 1 kept_for_snaps result (counted_in self.old) (counted_in self.new) }
+        ensures whole { AreWhole self.old.rested self.new.rested }
+        ensures places { TakesForSnaps result self.old self.new }
     {
         // What a quiet volume is.
         let _ = self.volume.is_quiet();
@@ -60,8 +57,8 @@ impl<B: Layered> Resting<B> {
         ensures does { DoesFinishMerge B.may_hold B.contents B.layers B.size result self.old.rested.events self.new.rested.events }
         ensures seen { SeesFinishMerge B.contents B.layers result self.old.rested self.new.rested }
         ensures refused { IfErr result (λ refusal. (finish_refusal self.old.rested.events ≡ Some refusal) ⊎ (refusal ≡ JournalFull)) }
-        ensures whole { IsWhole self.old.rested × IsWhole self.new.rested }
-        ensures places { TakesPlaces 1 kept_for_snaps result (counted_in self.old) (counted_in self.new) }
+        ensures whole { AreWhole self.old.rested self.new.rested }
+        ensures places { TakesForSnaps result self.old self.new }
     {
         // What a quiet volume is.
         let _ = self.volume.is_quiet();
@@ -85,7 +82,7 @@ impl<B: Layered> Resting<B> {
     /// The device of the store of the snapshot that is being merged.
     pub fn merging_store(&self) -> Option<&B>
         ensures some { IfSome result (λ device. (m : Merging B) × (self.now.rested.events.merge ≡ Some m) × (device.now ≡ m.device)) }
-        ensures none { IfNone result (self.now.rested.events.merge ≡ None) }
+        ensures none { TellsNoMerge result self.now.rested }
     {
         let Some(number) = self.volume.merging() else {
             return None;
@@ -99,7 +96,7 @@ impl<B: Layered> Resting<B> {
     /// The sectors of its own chunks, of which a piece may be a part.
     pub fn merging_chunk(&self) -> Option<u32>
         ensures some { IfSome result (λ chunk. (m : Merging B) × (self.now.rested.events.merge ≡ Some m) × (chunk ≡ m.state.chunk)) }
-        ensures none { IfNone result (self.now.rested.events.merge ≡ None) }
+        ensures none { TellsNoMerge result self.now.rested }
     {
         self.volume.merging_chunk()
     }
@@ -107,7 +104,7 @@ impl<B: Layered> Resting<B> {
     /// The sectors in use on its store, by the numbers that are kept in memory.
     pub fn merging_usage(&self) -> Option<Usage>
         ensures some { IfSome result (λ usage. (m : Merging B) × (self.now.rested.events.merge ≡ Some m) × (usage ≡ merging_usage m)) }
-        ensures none { IfNone result (self.now.rested.events.merge ≡ None) }
+        ensures none { TellsNoMerge result self.now.rested }
     {
         let Some(number) = self.volume.merging() else {
             return None;

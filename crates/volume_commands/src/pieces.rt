@@ -12,13 +12,11 @@ ghost use Rattle.big_steps.specs.Commands.{bytes_in};
 ghost use Rattle.volume_commands.specs.AtRest.{AreReadAtRest, AreWrittenAtRest, IsPieceAnswered, IsPieceUndone, IsReadUndone, IsWriteCut};
 ghost use Rattle.volume_commands.specs.Serving.{part_written, part_read, CanAsk, CanServe, IsPieceDone, IsPieceRead, IsPieceRefused};
 ghost use Rattle.volume_commands.specs.Rested.{rested_of, IsSettled};
-ghost use Rattle.volume_commands.specs.Kept.{KeepsDevices};
 ghost use Rattle.volume_commands.specs.Between.{IsBetween};
 ghost use Rattle.volume_commands.specs.Commands.{IsDoneBy, IsWriteRefused, IsReadRefused};
 ghost use Rattle.volume_commands.specs.Showing.{arrays_in, pieces_for, IsPlainRead, IsPlainReadRefused, IsPlainWrite, IsPlainWriteRefused};
-ghost use Rattle.sector.specs.declared.refusal.Refusal.TheVariants.{JournalFull};
-ghost use Rattle.counted_volume.specs.Places.{is_full_for};
 ghost use Rattle.counted_volume.specs.TakesPlaces.{TakesByRequests};
+ghost use Rattle.volume_commands.specs.Counting.{Asks, IsFullIfTold, Keeps, KeepsPiece, KeepsRest};
 
 use crate::serving::{serve, serve_lent};
 use chunk::Geometry;
@@ -60,16 +58,16 @@ fn write_piece_lent<B: Layered>(
     requires origin { dev ≡ Origin }
     requires can { CanServe B.size dev (Write bytes.now) piece volume.old.volume }
     ensures between { IsBetween volume.new.volume }
-    ensures settled { IsSettled B.layers (rested_of volume.old.volume) → IsSettled B.layers (rested_of volume.new.volume) }
+    ensures settled { KeepsRest B.layers volume.old volume.new }
     ensures done { OnOk result (IsPieceDone B.contents B.layers (part_written dev (span_of piece) bytes.now) (rested_of volume.old.volume) (rested_of volume.new.volume)) }
     ensures refused { IfErr result (λ refusal. IsPieceRefused B.contents B.layers (part_written dev (span_of piece) bytes.now) refusal (rested_of volume.old.volume) (rested_of volume.new.volume)) }
     ensures answered { OnOk result ((reply : AnyReply) × IsPieceAnswered B.may_hold B.contents B.layers B.fault_count B.size dev (Write bytes.now) (span_of piece) reply volume.old.volume volume.new.volume) }
     ensures undone { IfErr result (λ refusal. IsPieceUndone B.may_hold B.contents B.layers B.fault_count B.size dev (Write bytes.now) (span_of piece) refusal volume.old.volume volume.new.volume) }
-    ensures kept { KeepsDevices B.layers B.size (rested_of volume.old.volume) (rested_of volume.new.volume) }
-    ensures piece { piece_with volume.new.volume.merge volume.new.volume.snaps ≡ piece_with volume.old.volume.merge volume.old.volume.snaps }
-    ensures requests { volume.new.volume.requests ≤ volume.old.volume.requests + 1 }
+    ensures kept { Keeps B.layers B.size volume.old volume.new }
+    ensures piece { KeepsPiece volume.old volume.new }
+    ensures requests { Asks 1 volume.old volume.new }
     ensures taken { TakesByRequests volume.old volume.new }
-    ensures full { IfErr result (λ refusal. refusal ≡ JournalFull → is_full_for 1 volume.new.taken ≡ true) }
+    ensures full { IsFullIfTold result volume.new.taken }
 {
     match serve_lent(volume, piece, bytes) {
         Ok(Reply::Refused(failure)) => Err(refusal_for(failure)),
@@ -96,17 +94,17 @@ fn write_piece<B: Layered>(
     requires inside { to ≤ length bytes.old }
     requires can { CanServe B.size dev (Write (take (to - from) (drop from bytes.old))) piece volume.old.volume }
     ensures between { IsBetween volume.new.volume }
-    ensures settled { IsSettled B.layers (rested_of volume.old.volume) → IsSettled B.layers (rested_of volume.new.volume) }
+    ensures settled { KeepsRest B.layers volume.old volume.new }
     ensures done { OnOk result (IsPieceDone B.contents B.layers (part_written dev (span_of piece) (take (to - from) (drop from bytes.old))) (rested_of volume.old.volume) (rested_of volume.new.volume)) }
     ensures refused { IfErr result (λ refusal. IsPieceRefused B.contents B.layers (part_written dev (span_of piece) (take (to - from) (drop from bytes.old))) refusal (rested_of volume.old.volume) (rested_of volume.new.volume)) }
     ensures answered { OnOk result ((reply : AnyReply) × IsPieceAnswered B.may_hold B.contents B.layers B.fault_count B.size dev (Write (take (to - from) (drop from bytes.old))) (span_of piece) reply volume.old.volume volume.new.volume) }
     ensures undone { IfErr result (λ refusal. IsPieceUndone B.may_hold B.contents B.layers B.fault_count B.size dev (Write (take (to - from) (drop from bytes.old))) (span_of piece) refusal volume.old.volume volume.new.volume) }
     ensures left { drop to bytes.new ≡ drop to bytes.old }
-    ensures kept { KeepsDevices B.layers B.size (rested_of volume.old.volume) (rested_of volume.new.volume) }
-    ensures piece { piece_with volume.new.volume.merge volume.new.volume.snaps ≡ piece_with volume.old.volume.merge volume.old.volume.snaps }
-    ensures requests { volume.new.volume.requests ≤ volume.old.volume.requests + 1 }
+    ensures kept { Keeps B.layers B.size volume.old volume.new }
+    ensures piece { KeepsPiece volume.old volume.new }
+    ensures requests { Asks 1 volume.old volume.new }
     ensures taken { TakesByRequests volume.old volume.new }
-    ensures full { IfErr result (λ refusal. refusal ≡ JournalFull → is_full_for 1 volume.new.taken ≡ true) }
+    ensures full { IsFullIfTold result volume.new.taken }
 {
     if dev == Dev::Origin && volume.is_bare() {
         return write_piece_lent(volume, dev, piece, &bytes.as_slice()[from..to]);
@@ -139,7 +137,7 @@ fn read_piece<B: Layered>(
     requires can { CanServe B.size dev Read piece volume.old.volume }
     requires room { vec_len out.old + 512 * piece.count ≤ vec_capacity out.old }
     ensures between { IsBetween volume.new.volume }
-    ensures settled { IsSettled B.layers (rested_of volume.old.volume) → IsSettled B.layers (rested_of volume.new.volume) }
+    ensures settled { KeepsRest B.layers volume.old volume.new }
     ensures done { OnOk result (IsPieceRead B.contents B.layers (part_read dev (span_of piece)) out.old.items out.new.items (rested_of volume.old.volume) (rested_of volume.new.volume)) }
     ensures refused { IfErr result (λ refusal. IsPieceRefused B.contents B.layers (part_read dev (span_of piece)) refusal (rested_of volume.old.volume) (rested_of volume.new.volume)) }
     ensures answered { OnOk result ((reply : AnyReply) × IsPieceAnswered B.may_hold B.contents B.layers B.fault_count B.size dev Read (span_of piece) reply volume.old.volume volume.new.volume × (out.new.items ≡ out.old.items ++ bytes_in reply)) }
@@ -147,11 +145,11 @@ fn read_piece<B: Layered>(
     ensures out_err { OnErr result (out.new.items ≡ out.old.items) }
     ensures len { vec_len out.new ≤ vec_len out.old + 512 * piece.count }
     ensures capacity { vec_capacity out.old ≤ vec_capacity out.new }
-    ensures kept { KeepsDevices B.layers B.size (rested_of volume.old.volume) (rested_of volume.new.volume) }
-    ensures piece { piece_with volume.new.volume.merge volume.new.volume.snaps ≡ piece_with volume.old.volume.merge volume.old.volume.snaps }
-    ensures requests { volume.new.volume.requests ≤ volume.old.volume.requests + 1 }
+    ensures kept { Keeps B.layers B.size volume.old volume.new }
+    ensures piece { KeepsPiece volume.old volume.new }
+    ensures requests { Asks 1 volume.old volume.new }
     ensures taken { TakesByRequests volume.old volume.new }
-    ensures full { IfErr result (λ refusal. refusal ≡ JournalFull → is_full_for 1 volume.new.taken ≡ true) }
+    ensures full { IsFullIfTold result volume.new.taken }
 {
     let request = Request {
         dev,
@@ -194,15 +192,15 @@ fn read_alone<B: Layered>(
     requires between { IsBetween volume.old.volume }
     requires can { CanServe B.size dev Read piece volume.old.volume }
     ensures between { IsBetween volume.new.volume }
-    ensures settled { IsSettled B.layers (rested_of volume.old.volume) → IsSettled B.layers (rested_of volume.new.volume) }
+    ensures settled { KeepsRest B.layers volume.old volume.new }
     ensures done { IfOk result (λ bytes. IsPieceRead B.contents B.layers (part_read dev (span_of piece)) [] bytes (rested_of volume.old.volume) (rested_of volume.new.volume)) }
     ensures refused { IfErr result (λ refusal. IsPieceRefused B.contents B.layers (part_read dev (span_of piece)) refusal (rested_of volume.old.volume) (rested_of volume.new.volume)) }
     ensures answered { IfOk result (λ bytes. (reply : AnyReply) × IsPieceAnswered B.may_hold B.contents B.layers B.fault_count B.size dev Read (span_of piece) reply volume.old.volume volume.new.volume × (bytes ≡ bytes_in reply)) }
     ensures undone { IfErr result (λ refusal. IsPieceUndone B.may_hold B.contents B.layers B.fault_count B.size dev Read (span_of piece) refusal volume.old.volume volume.new.volume) }
-    ensures kept { KeepsDevices B.layers B.size (rested_of volume.old.volume) (rested_of volume.new.volume) }
-    ensures requests { volume.new.volume.requests ≤ volume.old.volume.requests + 1 }
+    ensures kept { Keeps B.layers B.size volume.old volume.new }
+    ensures requests { Asks 1 volume.old volume.new }
     ensures taken { TakesByRequests volume.old volume.new }
-    ensures full { IfErr result (λ refusal. refusal ≡ JournalFull → is_full_for 1 volume.new.taken ≡ true) }
+    ensures full { IsFullIfTold result volume.new.taken }
 {
     let request = Request {
         dev,
@@ -231,17 +229,17 @@ pub(crate) fn write_pieces<B: Layered>(
     requires can { CanAsk B.size dev range volume.old.volume }
     requires room { length bytes.old ≡ 512 * range.count }
     ensures between { IsBetween volume.new.volume }
-    ensures settled { IsSettled B.layers (rested_of volume.old.volume) → IsSettled B.layers (rested_of volume.new.volume) }
+    ensures settled { KeepsRest B.layers volume.old volume.new }
     ensures done { OnOk result (IsDoneBy B.contents B.layers (written_beside dev (span_of range) bytes.old) Written (rested_of volume.old.volume) (rested_of volume.new.volume)) }
     ensures refused { IfErr result (λ refusal. IsWriteRefused B.contents B.layers dev (span_of range) bytes.old refusal (rested_of volume.old.volume) (rested_of volume.new.volume)) }
     ensures answered { OnOk result (AreWrittenAtRest B.may_hold B.contents B.layers B.fault_count B.size dev (pieces_of (piece_with volume.old.volume.merge volume.old.volume.snaps) (span_of range)) bytes.old volume.old.volume volume.new.volume) }
     ensures undone { IfErr result (λ refusal. IsWriteCut B.may_hold B.contents B.layers B.fault_count B.size dev (pieces_of (piece_with volume.old.volume.merge volume.old.volume.snaps) (span_of range)) bytes.old refusal volume.old.volume volume.new.volume) }
     ensures shows { OnOk result (IsSettled B.layers (rested_of volume.old.volume) → IsPlainWrite dev (span_of range) bytes.old (arrays_in B.contents B.layers (rested_of volume.old.volume)) (arrays_in B.contents B.layers (rested_of volume.new.volume))) }
     ensures loses { IfErr result (λ refusal. IsSettled B.layers (rested_of volume.old.volume) → IsPlainWriteRefused dev (span_of range) (pieces_for B.contents B.layers (span_of range) (rested_of volume.old.volume)) bytes.old refusal (arrays_in B.contents B.layers (rested_of volume.old.volume)) (arrays_in B.contents B.layers (rested_of volume.new.volume))) }
-    ensures kept { KeepsDevices B.layers B.size (rested_of volume.old.volume) (rested_of volume.new.volume) }
-    ensures requests { volume.new.volume.requests ≤ volume.old.volume.requests + range.count }
+    ensures kept { Keeps B.layers B.size volume.old volume.new }
+    ensures requests { Asks range.count volume.old volume.new }
     ensures taken { TakesByRequests volume.old volume.new }
-    ensures full { IfErr result (λ refusal. refusal ≡ JournalFull → is_full_for 1 volume.new.taken ≡ true) }
+    ensures full { IsFullIfTold result volume.new.taken }
 {
     // A quiet volume, no device of which drops writes, is at rest.
     let _ = volume.is_quiet();
@@ -271,17 +269,17 @@ pub(crate) fn read_pieces<B: Layered>(
     requires between { IsBetween volume.old.volume }
     requires can { CanAsk B.size dev range volume.old.volume }
     ensures between { IsBetween volume.new.volume }
-    ensures settled { IsSettled B.layers (rested_of volume.old.volume) → IsSettled B.layers (rested_of volume.new.volume) }
+    ensures settled { KeepsRest B.layers volume.old volume.new }
     ensures done { IfOk result (λ bytes. IsDoneBy B.contents B.layers (read_beside dev (span_of range)) (Data bytes) (rested_of volume.old.volume) (rested_of volume.new.volume)) }
     ensures refused { IfErr result (λ refusal. IsReadRefused B.contents B.layers dev (span_of range) refusal (rested_of volume.old.volume) (rested_of volume.new.volume)) }
     ensures answered { IfOk result (λ bytes. AreReadAtRest B.may_hold B.contents B.layers B.fault_count B.size dev (pieces_of (piece_with volume.old.volume.merge volume.old.volume.snaps) (span_of range)) bytes volume.old.volume volume.new.volume) }
     ensures undone { IfErr result (λ refusal. IsReadUndone B.may_hold B.contents B.layers B.fault_count B.size dev (pieces_of (piece_with volume.old.volume.merge volume.old.volume.snaps) (span_of range)) refusal volume.old.volume volume.new.volume) }
     ensures shows { IfOk result (λ bytes. IsSettled B.layers (rested_of volume.old.volume) → IsPlainRead dev (span_of range) bytes (arrays_in B.contents B.layers (rested_of volume.old.volume)) (arrays_in B.contents B.layers (rested_of volume.new.volume))) }
     ensures loses { IfErr result (λ refusal. IsSettled B.layers (rested_of volume.old.volume) → IsPlainReadRefused dev refusal (arrays_in B.contents B.layers (rested_of volume.old.volume)) (arrays_in B.contents B.layers (rested_of volume.new.volume))) }
-    ensures kept { KeepsDevices B.layers B.size (rested_of volume.old.volume) (rested_of volume.new.volume) }
-    ensures requests { volume.new.volume.requests ≤ volume.old.volume.requests + range.count }
+    ensures kept { Keeps B.layers B.size volume.old volume.new }
+    ensures requests { Asks range.count volume.old volume.new }
     ensures taken { TakesByRequests volume.old volume.new }
-    ensures full { IfErr result (λ refusal. refusal ≡ JournalFull → is_full_for 1 volume.new.taken ≡ true) }
+    ensures full { IsFullIfTold result volume.new.taken }
 {
     // A quiet volume, no device of which drops writes, is at rest.
     let _ = volume.is_quiet();

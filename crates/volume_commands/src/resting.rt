@@ -1,21 +1,20 @@
 // A volume by whole commands, and what callers ask of it.
 ghost use Rattle.std.specs.Prelude.{◌≡◌, ◌+◌, ◌*◌, ◌<◌, ◌≤◌, true, [], length, IfErr, IfOk, OnOk, Ok, Err, None};
-ghost use Rattle.sector.specs.declared.refusal.Refusal.TheVariants.{NoMemory, JournalFull};
+ghost use Rattle.sector.specs.declared.refusal.Refusal.TheVariants.{NoMemory};
 ghost use Rattle.device.specs.Layers.{is_loud};
 ghost use Rattle.plain_machine.specs.declared.request.Reply.TheVariants.{Data, Written};
 ghost use Rattle.chunk.specs.Pieces.{span_of};
+ghost use Rattle.volume.specs.Layering.{Measures};
 ghost use Rattle.volume.specs.Leaving.{is_quiet_of};
+ghost use Rattle.volume_history.specs.Life.{HasLife};
 ghost use Rattle.big_steps.specs.Beside.{written_beside, read_beside};
 ghost use Rattle.volume_commands.specs.Rested.{has_dev, rested_of, IsSettled};
-ghost use Rattle.volume_commands.specs.Kept.{KeepsDevices};
-ghost use Rattle.volume_commands.specs.Flying.{IsWhole};
 ghost use Rattle.volume_commands.specs.Among.{pieces_among};
 ghost use Rattle.volume_commands.specs.AtRest.{AreReadAtRest, AreWrittenAtRest, IsReadUndone, IsWriteCut};
 ghost use Rattle.volume_commands.specs.Commands.{IsDoneBy, IsWriteRefused, IsReadRefused};
 ghost use Rattle.volume_commands.specs.Showing.{arrays_in, pieces_for, IsPlainRead, IsPlainReadRefused, IsPlainWrite, IsPlainWriteRefused};
-ghost use Rattle.counted_volume.specs.Places.{is_full_for};
-ghost use Rattle.volume_commands.specs.Recorded.{counted_in};
-ghost use Rattle.counted_volume.specs.TakesPlaces.{TakesByRequests};
+ghost use Rattle.volume_commands.specs.Counting.{IsFullIfTold};
+ghost use Rattle.volume_commands.specs.Recording.{AreWhole, AsksUpTo, IsDoneThere, SameSetup, StaysSettled, TakesAsAsked};
 
 use crate::pieces::{read_pieces, write_pieces};
 use crate::serving::{is_there, look};
@@ -60,6 +59,13 @@ impl<B: Layered + Drop> Resting<B> {
 }
 
 impl<B: Layered> Resting<B> {
+    /// A look at the volume's life, which does nothing: what it is came of one list of deeds, with its own answers.
+    pub fn look_at_life(&self)
+        ensures { HasLife B.may_hold (record { contents = B.contents; durable = B.durable; size = B.size; faults = B.fault_count; done = B.done_count }) B.layers self.now.rested.events }
+    {
+        self.volume.look_at_life()
+    }
+
     /// The origin disk.
     pub fn origin(&self) -> &B
         ensures { result.now ≡ self.now.rested.origin }
@@ -90,19 +96,19 @@ impl<B: Layered> Resting<B> {
         requires inside { range.first + range.count ≤ B.size self.old.rested.origin }
         requires requests { self.old.rested.requests + range.count < 9_223_372_036_854_775_808 }
         ensures quiet { is_quiet_of self.new.rested.events ≡ true }
-        ensures settled { IsSettled B.layers self.old.rested → IsSettled B.layers self.new.rested }
+        ensures settled { StaysSettled B.layers self.old self.new }
         ensures done { IfOk result (λ bytes. IsDoneBy B.contents B.layers (read_beside dev (span_of range)) (Data bytes) self.old.rested self.new.rested) }
-        ensures there { OnOk result (has_dev dev self.old.rested ≡ true) }
+        ensures there { IsDoneThere dev result self.old.rested }
         ensures refused { IfErr result (λ refusal. IsReadRefused B.contents B.layers dev (span_of range) refusal self.old.rested self.new.rested) }
         ensures answered { IfOk result (λ bytes. AreReadAtRest B.may_hold B.contents B.layers B.fault_count B.size dev (pieces_among (span_of range) self.old.rested) bytes self.old.rested.events self.new.rested.events) }
         ensures undone { has_dev dev self.old.rested ≡ true → IfErr result (λ refusal. IsReadUndone B.may_hold B.contents B.layers B.fault_count B.size dev (pieces_among (span_of range) self.old.rested) refusal self.old.rested.events self.new.rested.events) }
-        ensures whole { IsWhole self.old.rested × IsWhole self.new.rested }
+        ensures whole { AreWhole self.old.rested self.new.rested }
         ensures shows { IfOk result (λ bytes. IsSettled B.layers self.old.rested → IsPlainRead dev (span_of range) bytes (arrays_in B.contents B.layers self.old.rested) (arrays_in B.contents B.layers self.new.rested)) }
         ensures loses { IfErr result (λ refusal. IsSettled B.layers self.old.rested → IsPlainReadRefused dev refusal (arrays_in B.contents B.layers self.old.rested) (arrays_in B.contents B.layers self.new.rested)) }
-        ensures kept { KeepsDevices B.layers B.size self.old.rested self.new.rested }
-        ensures requests { self.new.rested.requests ≤ self.old.rested.requests + range.count }
-        ensures taken { TakesByRequests (counted_in self.old) (counted_in self.new) }
-        ensures full { IfErr result (λ refusal. refusal ≡ JournalFull → is_full_for 1 self.new.taken ≡ true) }
+        ensures kept { SameSetup B.layers B.size self.old self.new }
+        ensures requests { AsksUpTo range.count self.old self.new }
+        ensures taken { TakesAsAsked self.old self.new }
+        ensures full { IsFullIfTold result self.new.taken }
     {
         look(&self.volume);
         if !is_there(&self.volume, dev) {
@@ -134,19 +140,19 @@ impl<B: Layered> Resting<B> {
         requires room { length bytes.old ≡ 512 * range.count }
         requires requests { self.old.rested.requests + range.count < 9_223_372_036_854_775_808 }
         ensures quiet { is_quiet_of self.new.rested.events ≡ true }
-        ensures settled { IsSettled B.layers self.old.rested → IsSettled B.layers self.new.rested }
+        ensures settled { StaysSettled B.layers self.old self.new }
         ensures done { OnOk result (IsDoneBy B.contents B.layers (written_beside dev (span_of range) bytes.old) Written self.old.rested self.new.rested) }
-        ensures there { OnOk result (has_dev dev self.old.rested ≡ true) }
+        ensures there { IsDoneThere dev result self.old.rested }
         ensures refused { IfErr result (λ refusal. IsWriteRefused B.contents B.layers dev (span_of range) bytes.old refusal self.old.rested self.new.rested) }
         ensures answered { OnOk result (AreWrittenAtRest B.may_hold B.contents B.layers B.fault_count B.size dev (pieces_among (span_of range) self.old.rested) bytes.old self.old.rested.events self.new.rested.events) }
         ensures undone { has_dev dev self.old.rested ≡ true → IfErr result (λ refusal. IsWriteCut B.may_hold B.contents B.layers B.fault_count B.size dev (pieces_among (span_of range) self.old.rested) bytes.old refusal self.old.rested.events self.new.rested.events) }
-        ensures whole { IsWhole self.old.rested × IsWhole self.new.rested }
+        ensures whole { AreWhole self.old.rested self.new.rested }
         ensures shows { OnOk result (IsSettled B.layers self.old.rested → IsPlainWrite dev (span_of range) bytes.old (arrays_in B.contents B.layers self.old.rested) (arrays_in B.contents B.layers self.new.rested)) }
         ensures loses { IfErr result (λ refusal. IsSettled B.layers self.old.rested → IsPlainWriteRefused dev (span_of range) (pieces_for B.contents B.layers (span_of range) self.old.rested) bytes.old refusal (arrays_in B.contents B.layers self.old.rested) (arrays_in B.contents B.layers self.new.rested)) }
-        ensures kept { KeepsDevices B.layers B.size self.old.rested self.new.rested }
-        ensures requests { self.new.rested.requests ≤ self.old.rested.requests + range.count }
-        ensures taken { TakesByRequests (counted_in self.old) (counted_in self.new) }
-        ensures full { IfErr result (λ refusal. refusal ≡ JournalFull → is_full_for 1 self.new.taken ≡ true) }
+        ensures kept { SameSetup B.layers B.size self.old self.new }
+        ensures requests { AsksUpTo range.count self.old self.new }
+        ensures taken { TakesAsAsked self.old self.new }
+        ensures full { IsFullIfTold result self.new.taken }
     {
         look(&self.volume);
         if !is_there(&self.volume, dev) {

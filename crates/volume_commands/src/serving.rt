@@ -1,19 +1,18 @@
 // One piece of a command: it is served, and the events that are due are done until none is.
-ghost use Rattle.std.specs.Prelude.{◌≡◌, ℕ, ◌+◌, ◌≤◌, length, Option, None, Some, IfOk, IfErr, true, false};
+ghost use Rattle.std.specs.Prelude.{◌≡◌, ℕ, ◌≤◌, length, Option, None, Some, IfOk, IfErr, true, false};
 ghost use Rattle.plain_machine.specs.declared.request.Dev.TheVariants.{Origin};
 ghost use Rattle.plain_machine.specs.declared.request.Op.TheVariants.{Write};
 ghost use Rattle.plain_machine.specs.declared.request.Reply.{Reply};
 ghost use Rattle.big_steps.specs.Refusals.{is_starved};
 ghost use Rattle.event_machine.specs.Due.{due};
-ghost use Rattle.volume.specs.Volumed.{is_loud_in_all, next_of, piece_with};
+ghost use Rattle.volume.specs.Volumed.{next_of};
 ghost use Rattle.volume.specs.Moved.{moving_of};
 ghost use Rattle.volume.specs.Reaching.{IsRun};
 ghost use Rattle.volume.specs.Leaving.{has_group_in, is_quiet_of};
 ghost use Rattle.volume.specs.Lent.{is_bare, origin_write};
 ghost use Rattle.volume.specs.Submitting.{SameButRoom};
 ghost use Rattle.counted_volume.specs.Declined.{IsUnsent};
-ghost use Rattle.volume_commands.specs.Rested.{rested_of, merged_of, IsSettled, has_dev};
-ghost use Rattle.volume_commands.specs.Kept.{KeepsDevices};
+ghost use Rattle.volume_commands.specs.Rested.{rested_of, merged_of, has_dev};
 ghost use Rattle.volume_commands.specs.Between.{IsBetween};
 ghost use Rattle.counted_volume.specs.DoneDue.{AreDone};
 ghost use Rattle.volume_commands.specs.AtRest.{IsAnswered, IsBegun, IsLed};
@@ -21,9 +20,8 @@ ghost use Rattle.volume_commands.specs.Commands.{IsDoneBy};
 ghost use Rattle.counted_volume.specs.Following.{IsDoneHere};
 ghost use Rattle.volume_commands.specs.Serving.{CanServe, part_done};
 ghost use Rattle.volume.specs.Stepping.{KeepsAll};
-ghost use Rattle.sector.specs.declared.refusal.Refusal.TheVariants.{JournalFull};
-ghost use Rattle.counted_volume.specs.Places.{is_full_for};
 ghost use Rattle.counted_volume.specs.TakesPlaces.{TakesByRequests};
+ghost use Rattle.volume_commands.specs.Counting.{Asks, AsksNothing, IsFullIfTold, Keeps, KeepsLoud, KeepsPiece, KeepsRest};
 
 use counted_volume::{CountedVolume, follow, follow_reads};
 use layers::Layered;
@@ -62,7 +60,7 @@ fn settle<B: Layered>(volume: &mut CountedVolume<B>, mut reply: Reply) -> Reply
     ensures none { (replied : Option Reply) → due (moving_of B.contents B.layers replied volume.new.volume) ≡ None }
     ensures quiet { is_quiet_of volume.new.volume ≡ true }
     ensures kept { KeepsAll B.size volume.old.volume volume.new.volume }
-    ensures requests { volume.new.volume.requests ≡ volume.old.volume.requests }
+    ensures requests { AsksNothing volume.old volume.new }
     ensures taken { TakesByRequests volume.old volume.new }
 {
     while !volume.is_quiet() {
@@ -102,11 +100,11 @@ fn begin<B: Layered>(volume: &mut CountedVolume<B>, request: Request) -> Result<
     ensures starved { IfErr result (λ refusal. (is_starved refusal ≡ true) × SameButRoom volume.old.volume volume.new.volume × (moving_of B.contents B.layers None volume.new.volume ≡ moving_of B.contents B.layers None volume.old.volume)) }
     ensures untaken { IfErr result (λ refusal. IsUnsent B.contents B.layers B.size request refusal volume.old.volume volume.new.volume) }
     ensures free { has_group_in volume.new.volume.merge ≡ false }
-    ensures loud { is_loud_in_all B.layers volume.new.volume ≡ is_loud_in_all B.layers volume.old.volume }
+    ensures loud { KeepsLoud B.layers volume.old volume.new }
     ensures kept { KeepsAll B.size volume.old.volume volume.new.volume }
-    ensures requests { volume.new.volume.requests ≤ volume.old.volume.requests + 1 }
+    ensures requests { Asks 1 volume.old volume.new }
     ensures taken { TakesByRequests volume.old volume.new }
-    ensures full { IfErr result (λ refusal. refusal ≡ JournalFull → is_full_for 1 volume.new.taken ≡ true) }
+    ensures full { IsFullIfTold result volume.new.taken }
 {
     // Of the snapshots that a request may go to, none is the one that is being merged.
     let _ = volume.merging();
@@ -130,16 +128,16 @@ pub(crate) fn serve<B: Layered>(
     requires between { IsBetween volume.old.volume }
     requires can { CanServe B.size request.dev request.op request.range volume.old.volume }
     ensures between { IsBetween volume.new.volume }
-    ensures settled { IsSettled B.layers (rested_of volume.old.volume) → IsSettled B.layers (rested_of volume.new.volume) }
+    ensures settled { KeepsRest B.layers volume.old volume.new }
     ensures answer { IfOk result (λ reply. IsDoneBy B.contents B.layers (part_done request) reply (rested_of volume.old.volume) (rested_of volume.new.volume)) }
     ensures answered { IfOk result (λ reply. IsAnswered B.may_hold B.contents B.layers B.fault_count B.size request reply volume.old.volume volume.new.volume) }
     ensures starved { IfErr result (λ refusal. (is_starved refusal ≡ true) × (merged_of B.contents B.layers (rested_of volume.new.volume) ≡ merged_of B.contents B.layers (rested_of volume.old.volume))) }
     ensures untaken { IfErr result (λ refusal. IsUnsent B.contents B.layers B.size request refusal volume.old.volume volume.new.volume) }
-    ensures kept { KeepsDevices B.layers B.size (rested_of volume.old.volume) (rested_of volume.new.volume) }
-    ensures piece { piece_with volume.new.volume.merge volume.new.volume.snaps ≡ piece_with volume.old.volume.merge volume.old.volume.snaps }
-    ensures requests { volume.new.volume.requests ≤ volume.old.volume.requests + 1 }
+    ensures kept { Keeps B.layers B.size volume.old volume.new }
+    ensures piece { KeepsPiece volume.old volume.new }
+    ensures requests { Asks 1 volume.old volume.new }
     ensures taken { TakesByRequests volume.old volume.new }
-    ensures full { IfErr result (λ refusal. refusal ≡ JournalFull → is_full_for 1 volume.new.taken ≡ true) }
+    ensures full { IsFullIfTold result volume.new.taken }
 {
     // A quiet volume, no device of which drops writes, is at rest.
     let _ = volume.is_quiet();
@@ -159,16 +157,16 @@ pub(crate) fn serve_lent<B: Layered>(
     requires bare { is_bare volume.old.volume ≡ true }
     requires can { CanServe B.size Origin (Write bytes.now) piece volume.old.volume }
     ensures between { IsBetween volume.new.volume }
-    ensures settled { IsSettled B.layers (rested_of volume.old.volume) → IsSettled B.layers (rested_of volume.new.volume) }
+    ensures settled { KeepsRest B.layers volume.old volume.new }
     ensures answer { IfOk result (λ reply. IsDoneBy B.contents B.layers (part_done (origin_write piece bytes.now)) reply (rested_of volume.old.volume) (rested_of volume.new.volume)) }
     ensures answered { IfOk result (λ reply. IsAnswered B.may_hold B.contents B.layers B.fault_count B.size (origin_write piece bytes.now) reply volume.old.volume volume.new.volume) }
     ensures starved { IfErr result (λ refusal. (is_starved refusal ≡ true) × (merged_of B.contents B.layers (rested_of volume.new.volume) ≡ merged_of B.contents B.layers (rested_of volume.old.volume))) }
     ensures untaken { IfErr result (λ refusal. IsUnsent B.contents B.layers B.size (origin_write piece bytes.now) refusal volume.old.volume volume.new.volume) }
-    ensures kept { KeepsDevices B.layers B.size (rested_of volume.old.volume) (rested_of volume.new.volume) }
-    ensures piece { piece_with volume.new.volume.merge volume.new.volume.snaps ≡ piece_with volume.old.volume.merge volume.old.volume.snaps }
-    ensures requests { volume.new.volume.requests ≤ volume.old.volume.requests + 1 }
+    ensures kept { Keeps B.layers B.size volume.old volume.new }
+    ensures piece { KeepsPiece volume.old volume.new }
+    ensures requests { Asks 1 volume.old volume.new }
     ensures taken { TakesByRequests volume.old volume.new }
-    ensures full { IfErr result (λ refusal. refusal ≡ JournalFull → is_full_for 1 volume.new.taken ≡ true) }
+    ensures full { IsFullIfTold result volume.new.taken }
 {
     // A quiet volume, no device of which drops writes, is at rest.
     let _ = volume.is_quiet();

@@ -8,3 +8,4 @@ pub mod Closes
 pub mod Stepped
 pub mod Noted
 pub mod Loses
+pub mod Life

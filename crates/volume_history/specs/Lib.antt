@@ -4,3 +4,4 @@ pub mod Lasted
 pub mod AtOnce
 pub mod Flushed
 pub mod Doing
+pub mod Life

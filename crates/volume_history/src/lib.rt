@@ -8,10 +8,13 @@
 //! It stands on `volume`, whose contracts it joins, and adds nothing to what a volume does.
 #![tactic(auto)]
 
+mod asking;
 mod at_once;
 mod deed;
+mod lived_volume;
 mod living;
 
 pub use at_once::{copy_group, run, serve, write_lent};
 pub use deed::{Deed, Done};
+pub use lived_volume::LivedVolume;
 pub use living::live;

@@ -1,10 +1,13 @@
 -- What was taken and not written is undone by its merge.
-use Rattle.audit.proofs.Undone.{disk_shown, lawful_undone}
+use Rattle.audit.proofs.Undone.{disk_shown, lawful_shown, lawful_undone}
 use Rattle.audit.proofs.Own.{meets_own}
 use Rattle.audit.proofs.audit.Audit.entries.Goals as goal
 
 pub returns-clause-undone : goal.returns-clause-undone
 returns-clause-undone g c = rw (← c.self.view_is) (λ loud. lawful_undone _ _ (c.self.invariant.audit.replays loud).lawful)
+
+pub returns-clause-keeps : goal.returns-clause-keeps
+returns-clause-keeps g c = rw (← c.self.view_is) (λ loud. lawful_shown _ _ (c.self.invariant.audit.replays loud).lawful)
 
 pub returns-clause-disk : goal.returns-clause-disk
 returns-clause-disk g c = rw (← c.self.view_is) (λ loud none. disk_shown g.B.Block.contents g.B.Block.layers c.self.inside.volume _ (c.self.invariant.audit.replays loud).replay_is none)
