@@ -25,3 +25,4 @@ pub mod Listed
 pub mod Showing
 mod Firsts
 pub mod Traces
+mod Layered

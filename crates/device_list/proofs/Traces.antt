@@ -10,9 +10,9 @@ use Rattle.counted_volume.specs.Trace.{IsAllDue}
 use Rattle.command_rules.specs.State.{Volume}
 use Rattle.volume_trace.specs.Trace.{trace_of}
 use Rattle.device_list.specs.Flights.{IsBehind}
-use Rattle.device_list.specs.Trace.{IsTraced}
+use Rattle.device_list.specs.Trace.{IsTraced, merge_text}
 
 pub traced : (events : Volumed Stack) (volume : Volume) (due : List Event) → IsBehind events volume → IsAllDue stack_contents stack_layers events due
-    → (r : Result (List ℕ) AllocError) → IfOk r (λ text. text ≡ trace_of volume.origin volume.snaps events.snaps events.flights due) → IfOk r (λ text. IsTraced text volume)
+    → (r : Result (List ℕ) AllocError) → IfOk r (λ text. text ≡ trace_of volume.origin volume.snaps events.snaps events.flights (merge_text volume.merging) due) → IfOk r (λ text. IsTraced text volume)
 traced events volume due behind all (Ok text) is = record { events = events; behind = behind; due = due; all = all; is = is }
 traced events volume due behind all (Err e) is = tt

@@ -10,3 +10,4 @@ pub mod Mapping
 pub mod Taking
 pub mod Tables
 pub mod Trace
+pub mod Layers

@@ -12,6 +12,7 @@ mod checkpointing;
 mod finding;
 mod flights;
 mod held;
+mod layering;
 mod listing;
 mod mapping;
 mod merging;
@@ -28,6 +29,7 @@ mod trace;
 
 pub use finding::{find, find_device, is_full};
 pub use held::{Devices, MOST_DEVICES};
+pub use layering::trace_layers;
 pub use origin::NamedVolume;
 pub use parting::NamedParts;
 pub use stopping::StoppedVolume;

@@ -1,15 +1,20 @@
 // A volume with the names of its devices.
-ghost use Rattle.std.specs.Prelude.{◌≡◌, ◌≢◌, ◌⊎◌, ◌<◌, ◌-◌, true, false, None, [], sum_by, Option, IfOk, IfErr, IfSome, is_some, length, position};
-ghost use Rattle.std.specs.Str.{bytes_eq};
+ghost use Rattle.std.specs.Prelude.{◌≡◌, ◌≢◌, ◌⊎◌, ◌<◌, ◌-◌, true, false, None, [], Option, IfOk, IfErr, IfSome, is_some};
 ghost use Rattle.sector.specs.declared.refusal.Refusal.TheVariants.{NoMemory, Busy, NotQuiet};
 ghost use Rattle.device.specs.Layers.{is_loud};
+ghost use Rattle.layers.specs.Stack.{stack_contents, stack_done, stack_durable, stack_faults, stack_layers, stack_may_hold, stack_size};
+ghost use Rattle.volume.specs.Layering.{Measures};
+ghost use Rattle.volume_history.specs.Life.{HasLife};
 ghost use Rattle.big_steps.specs.Devices.{sectors_of as size_of};
-ghost use Rattle.command_rules.specs.Places.{role_of, role_among, role_merging, store_among, is_among, IsRoleAmong, IsRoleMerging, IsRoleIn};
-ghost use Rattle.command_rules.specs.Disks.{devices_in, devices_merging, devices_under};
+ghost use Rattle.command_rules.specs.Places.{role_of, role_among, role_merging, IsRoleIn};
+ghost use Rattle.command_rules.specs.Disks.{devices_in};
 ghost use Rattle.command_rules.specs.Origins.{origin_on, stack_under};
 
 use command_rules::Role;
-use device_stacks::{NamedStack, SnapNames, depth_in, sectors_of};
+use device_stacks::{
+    NamedStack, SnapNames, depth_in, left_after, role_among, role_merging, sectors_of,
+    without_merging,
+};
 use layers::Stack;
 use sector::Refusal;
 use std::alloc::Global;
@@ -46,89 +51,15 @@ impl Model for NamedVolume {
     ghost invariant = { λ m. IsHeld m.snaps.items m.merging m.volume.rested m.asked m.sound };
 }
 
-fn snapshot_of(snaps: &[SnapNames], name: &Name) -> Option<usize>
-    ensures place { result ≡ position (λ n. bytes_eq n.snapshot name.now) snaps.now }
-    ensures within { IfSome result (λ k. k < length snaps.now) }
-{
-    snaps.iter().position(|names| names.is_snapshot(name))
-}
-
-fn store_of(snaps: &[SnapNames], name: &Name) -> Option<usize>
-    ensures place { result ≡ position (λ n. is_among name.now n.store) snaps.now }
-    ensures within { IfSome result (λ k. k < length snaps.now) }
-{
-    snaps.iter().position(|names| names.depth(name).is_some())
-}
-
-/// What a name is among the stores.
-#[tactic(auto, unfolding(command_rules::specs::Places::store_among))]
-fn store_among(snaps: &[SnapNames], name: &Name) -> Option<Role>
-    ensures role { result ≡ store_among name.now snaps.now }
-    ensures within { IfSome result (λ role. IsRoleAmong role snaps.now) }
-{
-    match store_of(snaps, name) {
-        None => None,
-        Some(k) => match snaps[k].depth(name) {
-            None => None,
-            Some(depth) => Some(Role::Store(k, depth)),
-        },
-    }
-}
-
-/// What a name is among the snapshots and their stores.
-#[tactic(auto, unfolding(command_rules::specs::Places::role_among))]
-fn role_among(snaps: &[SnapNames], name: &Name) -> Option<Role>
-    ensures role { result ≡ role_among name.now snaps.now }
-    ensures within { IfSome result (λ role. IsRoleAmong role snaps.now) }
-{
-    match snapshot_of(snaps, name) {
-        Some(k) => Some(Role::Snapshot(k)),
-        None => store_among(snaps, name),
-    }
-}
-
-/// What a name is of the snapshot that is being merged and its store.
-#[tactic(auto, unfolding(command_rules::specs::Places::role_merging))]
-fn role_merging(merging: &Option<SnapNames>, name: &Name) -> Option<Role>
-    ensures role { result ≡ role_merging name.now merging.now }
-    ensures within { IfSome result (λ role. IsRoleMerging role merging.now) }
-{
-    match merging {
-        None => None,
-        Some(names) => {
-            if names.is_snapshot(name) {
-                return Some(Role::Merging);
-            }
-            match names.depth(name) {
-                None => None,
-                Some(depth) => Some(Role::MergingStore(depth)),
-            }
-        }
-    }
-}
-
-/// What is left of so many devices, those of the snapshot that is being merged taken away.
-fn without_merging(merging: &Option<SnapNames>, most: usize) -> usize
-    ensures { result ≡ most - devices_merging merging.now }
-{
-    match merging {
-        None => most,
-        Some(names) => most.saturating_sub(1).saturating_sub(names.devices()),
-    }
-}
-
-/// What is left of so many devices, those of some snapshots and their stores taken away.
-fn left_after(snaps: &[SnapNames], most: usize) -> usize
-    ensures { result ≡ most - sum_by devices_under snaps.now }
-{
-    let mut left = most;
-    for names in snaps {
-        left = left.saturating_sub(1).saturating_sub(names.devices());
-    }
-    left
-}
-
 impl NamedVolume {
+    /// A look at its life, which does nothing: it began over a stack, without snapshots, and all that lines and threads did to it since is
+    /// one list of deeds, each with the volume's own answer.
+    pub fn look_at_life(&self)
+        ensures { HasLife stack_may_hold (record { contents = stack_contents; durable = stack_durable; size = stack_size; faults = stack_faults; done = stack_done }) stack_layers self.now.events }
+    {
+        self.volume.look_at_life()
+    }
+
     /// An origin over a stack. `NoMemory` where the allocator refuses room; then the stack is given back.
     pub fn open(
         alloc: Global,

@@ -97,6 +97,20 @@ impl NamedStack {
         (names, stack, stale)
     }
 
+    /// The names of its devices, from the top.
+    pub fn names(&self) -> &[Name]
+        ensures { result.now ≡ self.now.names }
+    {
+        &self.names
+    }
+
+    /// Its layers, and the disk below them.
+    pub fn stack(&self) -> &Stack
+        ensures { device_of result.now ≡ self.now.device }
+    {
+        &self.stack
+    }
+
     /// Whether no layer drops writes.
     pub fn is_loud(&self) -> bool
         ensures { result ≡ is_loud self.now.device.layers }

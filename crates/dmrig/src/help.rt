@@ -20,7 +20,7 @@ pub const NOTES: &str = "Commands, a line each:
   finish VOL            takes out a merge that has come to its end
   checkpoint VOL        makes room in the volume's journal
   stop VOL              ends a volume at once; stop VOL lose: its disks lose their caches too
-  message DEV 0 WORDS   tells a dust layer
+  message DEV 0 WORDS   tells a layer
   tick N                N seconds pass for the flakey layers
   status DEV            the status line of an origin or a snapshot
   table DEV             the table line of any device but a disk

@@ -45,8 +45,10 @@ fn message_form(word: &[u8]) -> &'static str {
         "message DEV 0 removebadblock K"
     } else if word == b"queryblock".as_slice() {
         "message DEV 0 queryblock K"
+    } else if word == b"tick".as_slice() {
+        "message DEV 0 tick SECONDS"
     } else {
-        "message DEV 0 addbadblock|removebadblock|queryblock|countbadblocks|clearbadblocks|enable|disable"
+        "message DEV 0 addbadblock|removebadblock|queryblock|countbadblocks|clearbadblocks|enable|disable|tick"
     }
 }
 

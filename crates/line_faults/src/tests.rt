@@ -4,7 +4,7 @@ use crate::tell_line;
 use std::test::Fail;
 
 /// Lines, and what is said of each.
-const TOLD: [(&str, &str); 12] = [
+const TOLD: [(&str, &str); 14] = [
     ("stats", "stats is no command; the nearest is status"),
     ("Read vol 0 1", "Read is no command; the nearest is read"),
     (
@@ -39,6 +39,14 @@ const TOLD: [(&str, &str); 12] = [
     (
         "create s 0 8 snapshot-merge d c P 8",
         "a snapshot-merge line makes no device: merge SNAP begins a merge",
+    ),
+    (
+        "message fl 0 tick 3s",
+        "3s is no number: 1 to 10 digits, below 4294967296",
+    ),
+    (
+        "message fl 0 tick",
+        "SECONDS is missing: message DEV 0 tick SECONDS",
     ),
     ("par held 1", "held stands where hold should: par hold K"),
 ];

@@ -64,6 +64,8 @@ fn tell_kind<W: Write>(writer: &mut W, held: &Devices, words: &[&[u8]]) -> io::R
     let name = word_at(words, place);
     let takes = if verb == b"step".as_slice() && place == 3 {
         b" takes a snapshot of that origin".as_slice()
+    } else if verb == b"message".as_slice() && word_at(words, 3) == b"tick".as_slice() {
+        b" tick takes a flakey layer"
     } else {
         taken_by(verb)
     };

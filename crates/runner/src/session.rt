@@ -9,7 +9,7 @@ ghost use Rattle.runner.specs.Output.{LineOutcome, followed, printed};
 ghost use Rattle.runner.specs.Runs.{begun};
 ghost use Rattle.runner.specs.Sessions.{IsEndedBy, IsOpenedBy, IsSessionDone};
 ghost use Rattle.runner.specs.Sound.{is_sound_line};
-ghost use Rattle.runner.specs.Traced.{AreTraced};
+ghost use Rattle.runner.specs.Traced.{IsTrace};
 ghost use Rattle.command.specs.Opening.{opening_of};
 
 use crate::desk::Desk;
@@ -90,12 +90,12 @@ impl Session {
         self.block.is_some()
     }
 
-    /// The lines of a trace of its volumes, one for each in which something is in flight, lost or due. An error says that the allocator
-    /// refused room.
+    /// The lines of a trace of its devices: one for each volume in which something is in flight, lost, being merged or due, and one
+    /// for each layer that may fail. An error says that the allocator refused room.
     pub fn traced(&self) -> Result<Vec<u8>, AllocError>
-        ensures { IfOk result (λ page. AreTraced page.items self.now.desk.table.volumes) }
+        ensures { IfOk result (λ page. IsTrace page.items self.now.desk.table) }
     {
-        traced(self.alloc, &self.desk.held.volumes)
+        traced(self.alloc, &self.desk.held)
     }
 
     /// Folds the journal of each volume where that is asked for. No device is changed, and nothing is printed.

@@ -4,7 +4,7 @@ ghost use Rattle.std.specs.Io.KnownBytes.{Appends, Keeps};
 ghost use Rattle.runner.specs.Numbered.{numbered};
 ghost use Rattle.runner.specs.Sessions.{Sitting};
 ghost use Rattle.runner.specs.Told.{TellsIfThere};
-ghost use Rattle.runner.specs.Traced.{AreTraced};
+ghost use Rattle.runner.specs.Traced.{IsTrace};
 
 use crate::error::RunError;
 use crate::numbering::print_numbered;
@@ -71,7 +71,8 @@ impl<X: Tracer, Y: Tracer> Tracer for Both<X, Y> {
     }
 }
 
-/// A writer is told what is in flight in each volume and which events are due (`trace`), behind what the line answers.
+/// A writer is told what is in flight in each volume, how far its merge is and which events are due, and what layers are at that may
+/// fail (`trace`), behind what the line answers.
 #[derive(Drop)]
 pub struct TraceTo<X: Write> {
     pub writer: X,
@@ -92,8 +93,8 @@ impl<X: Write> TraceTo<X> {
 }
 
 impl<X: Write> Tracer for TraceTo<X> {
-    // Where it is whole then, it was before, and these are the lines of all volumes, one after the other, each with the number.
-    ghost tells = { λ before number sitting after. after.is_whole ≡ true → (before.is_whole ≡ true) × ((page : List ℕ) × AreTraced page sitting.desk.table.volumes × Appends (X.contents before.writer) (X.contents after.writer) (numbered number page)) };
+    // Where it is whole then, it was before, and these are the lines of all volumes and layers, one after the other, each with the number.
+    ghost tells = { λ before number sitting after. after.is_whole ≡ true → (before.is_whole ≡ true) × ((page : List ℕ) × IsTrace page sitting.desk.table × Appends (X.contents before.writer) (X.contents after.writer) (numbered number page)) };
 
     #[inline(never)]
     fn behind<W: Write>(&mut self, number: u64, _line: &[u8], session: &Session, writer: &mut W) {
@@ -105,10 +106,10 @@ impl<X: Write> Tracer for TraceTo<X> {
     }
 }
 
-/// Tells a writer what is in flight in each volume and which events are due, with the line's number before each line. The error is
+/// Tells a writer of all volumes and layers, with the line's number before each line. The error is
 /// `RunError::Memory`, and then nothing is told, or the writer's own.
 fn trace<X: Write>(tracer: &mut X, number: u64, session: &Session) -> Result<(), RunError>
-    ensures told { OnOk result ((page : List ℕ) × AreTraced page session.now.desk.table.volumes × Appends (X.contents tracer.old) (X.contents tracer.new) (numbered number page)) }
+    ensures told { OnOk result ((page : List ℕ) × IsTrace page session.now.desk.table × Appends (X.contents tracer.old) (X.contents tracer.new) (numbered number page)) }
 {
     let page = session.traced().map_err(|_| RunError::Memory)?;
     print_numbered(tracer, number, &page)?;

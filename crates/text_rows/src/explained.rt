@@ -5,7 +5,7 @@ use runner::{Untraced, run};
 use std::test::Fail;
 
 /// Lines, and why each is refused; no word for one that is not.
-const LINES: [(&str, &str); 55] = [
+const LINES: [(&str, &str); 60] = [
     (
         "help",
         "help is no command: dmrig --help lists the commands",
@@ -175,6 +175,20 @@ const LINES: [(&str, &str); 55] = [
         "lvconvert is no command: merge SNAP begins a merge, settle VOL does it, finish VOL takes it out",
     ),
     ("quit", "quit is no command: Ctrl-D ends a session"),
+    ("create fl 0 64 flakey cow 0 3 3", ""),
+    (
+        "message fl 0 tick",
+        "SECONDS is missing: message DEV 0 tick SECONDS",
+    ),
+    (
+        "message fl 0 ticks 3",
+        "ticks is none of addbadblock|removebadblock|queryblock|countbadblocks|clearbadblocks|enable|disable|tick",
+    ),
+    ("message fl 0 tick 3", ""),
+    (
+        "message vol 0 tick 3",
+        "vol is an origin; message tick takes a flakey layer",
+    ),
 ];
 
 #[test]
@@ -212,6 +226,6 @@ fn tells_why_each_line_is_refused(rt: HostRuntime) -> Result<(), Fail> {
     )?;
     assert_eq!(rt; told.into_writer().as_slice(), wanted.as_slice());
     assert_eq!(rt; out.as_slice(), plain.as_slice());
-    assert_eq!(rt; summary.refused, 48);
+    assert_eq!(rt; summary.refused, 51);
     Ok(())
 }

@@ -1,2 +1,3 @@
 mod Lost
 mod Added
+mod Named

@@ -1,1 +1,3 @@
 pub mod Trace
+pub mod Layers
+pub mod Merging

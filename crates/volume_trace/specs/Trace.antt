@@ -1,5 +1,5 @@
--- What a trace says of a volume: what is in flight in it, which of its snapshots are lost, and which events are due. The form is
--- this project's own; the words of events are those of `step`.
+-- What a trace says of a volume: what is in flight in it, which of its snapshots are lost, how far its merge is, and which events are
+-- due. The form is this project's own; the words of events are those of `step`.
 use Rattle.std.specs.Prelude.{◌≡◌, ℕ, ◌+◌, ◌*◌, Bool, nat_lt, if◌then◌else◌, List, [], ◌∷◌, ◌++◌, Option, Some, None, codes, decimal, slice_get}
 use Rattle.std.specs.List.{flat_map}
 use Rattle.words.specs.Words.{spaced}
@@ -128,11 +128,11 @@ abbrev pub line_of : List ℕ → List ℕ → List ℕ
 line_of name [] = []
 line_of name (b ∷ items) = name ++ (b ∷ items) ++ codes "\n"
 
--- the requests, the losses, the copies and the events of a volume
-abbrev pub items_of : List ℕ → List Names → List (Kept Stack) → List Flight → List Event → List ℕ
-items_of origin names snaps flights events =
-    flights_text origin names snaps flights ++ (copied_text names snaps snaps ++ dues_text names snaps events)
+-- the requests, the losses and the copies, the merge and the events of a volume
+abbrev pub items_of : List ℕ → List Names → List (Kept Stack) → List Flight → List ℕ → List Event → List ℕ
+items_of origin names snaps flights merge events =
+    flights_text origin names snaps flights ++ (copied_text names snaps snaps ++ (merge ++ dues_text names snaps events))
 
--- the line of a volume
-abbrev pub trace_of : List ℕ → List Names → List (Kept Stack) → List Flight → List Event → List ℕ
-trace_of origin names snaps flights events = line_of origin (items_of origin names snaps flights events)
+-- the line of a volume, with the item of its merge, if one is begun
+abbrev pub trace_of : List ℕ → List Names → List (Kept Stack) → List Flight → List ℕ → List Event → List ℕ
+trace_of origin names snaps flights merge events = line_of origin (items_of origin names snaps flights merge events)

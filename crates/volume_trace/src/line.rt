@@ -28,21 +28,23 @@ fn line_of(alloc: Global, name: &Name, items: Vec<u8>) -> Result<Text, AllocErro
 }
 
 /// The line of a trace: the origin's name, the requests in flight, the snapshots that are lost, the copies that are not published,
-/// and the events that are due, under the words that `step` takes. No bytes where there is none of them. An error says that the
-/// allocator refused room.
+/// the item of a merge, and the events that are due, under the words that `step` takes. No bytes where there is none of them. An error
+/// says that the allocator refused room.
 pub fn trace_line(
     alloc: Global,
     origin: &Name,
     names: &[SnapNames],
     snaps: &[Snapshot<Stack>],
     flights: &[Flight],
+    merge: &[u8],
     due: &[Event],
 ) -> Result<Text, AllocError>
-    ensures { IfOk result (λ text. text ≡ trace_of origin.now names.now snaps.now flights.now due.now) }
+    ensures { IfOk result (λ text. text ≡ trace_of origin.now names.now snaps.now flights.now merge.now due.now) }
 {
     let mut items = Vec::new(alloc);
     add_flights(&mut items, origin, names, snaps, flights)?;
     add_snaps(&mut items, names, snaps, snaps)?;
+    items.extend_from_slice(merge)?;
     add_dues(&mut items, names, snaps, due)?;
     line_of(alloc, origin, items)
 }

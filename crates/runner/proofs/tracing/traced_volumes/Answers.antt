@@ -4,7 +4,7 @@ use Rattle.command_rules.specs.State.{Volume}
 use Rattle.device_list.proofs.Showing.{shown_at, shown_in, shown_within}
 use Rattle.runner.specs.Traced.{AreTraced}
 use Rattle.runner.proofs.TracedLemmas.{traced_more}
-use Rattle.runner.proofs.tracing.traced.Goals as goal
+use Rattle.runner.proofs.tracing.traced_volumes.Goals as goal
 
 pub loop-volume-preserved : goal.loop-volume-preserved
 loop-volume-preserved c =
