@@ -8,3 +8,9 @@ abbrev pub CanDoAhead : ℕ → Operation → Type 0
 CanDoAhead size (Reads first count) = (0 < count) × (count ≤ 1024) × (first + count ≤ size)
 CanDoAhead size (Writes first count) = Unit {0}
 CanDoAhead size Flushes = Unit {0}
+
+-- whether an operation is a write: one that is answered says that all are
+abbrev pub IsWrite : Operation → Type 0
+IsWrite (Reads first count) = ⊥
+IsWrite (Writes first count) = Unit {0}
+IsWrite Flushes = ⊥

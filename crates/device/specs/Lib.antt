@@ -7,3 +7,5 @@ pub mod Layers
 pub mod Listed
 pub mod Marks
 pub mod Sectors
+pub mod Changes
+pub mod Counting

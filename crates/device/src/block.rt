@@ -5,6 +5,7 @@ ghost use Rattle.device.specs.declared.operation.Operation.TheVariants.{Reads, W
 ghost use Rattle.device.specs.declared.operation.Fate.TheVariants.{Pass, Drop};
 ghost use Rattle.device.specs.Bare.{HasLike, HoldsTwo, can_copy_run, count_after};
 ghost use Rattle.device.specs.Layers.{Layer, fate, is_answered, is_passed, layers_after, is_loud};
+ghost use Rattle.device.specs.Counting.{CountsOne, IsAsLoud};
 
 use crate::Io;
 use sector::{Range, Sector};
@@ -61,7 +62,7 @@ pub trait Block {
 
         ensures answer { is_ok result ≡ is_answered (fate (layers self.old) (Reads range.first range.count)) }
         ensures layers { layers self.new ≡ layers_after (layers self.old) (Reads range.first range.count) }
-        ensures loud { is_loud (layers self.new) ≡ is_loud (layers self.old) }
+        ensures loud { IsAsLoud layers self.old self.new }
 
         ensures data { OnOk result (out.new ≡ sectors_at (contents self.old) range.first range.count) }
         ensures data_err { OnErr result (out.new ≡ out.old) }
@@ -70,7 +71,7 @@ pub trait Block {
         ensures durable { durable self.new ≡ durable self.old }
         ensures size { size self.new ≡ size self.old }
         ensures faults { fault_count self.new ≡ (if is_ok result then fault_count self.old else next_count (fault_count self.old)) }
-        ensures done { done_count self.new ≡ next_count (done_count self.old) }
+        ensures done { CountsOne done_count self.old self.new }
         ensures stop { (s : ℕ) (v : List ℕ) → may_hold self.new s v → may_hold self.old s v };
 
     /// Writes sectors from a buffer that is as long. What is written may be lost until the next flush. A device with a
@@ -83,7 +84,7 @@ pub trait Block {
 
         ensures answer { is_ok result ≡ is_answered (fate (layers self.old) (Writes range.first range.count)) }
         ensures layers { layers self.new ≡ layers_after (layers self.old) (Writes range.first range.count) }
-        ensures loud { is_loud (layers self.new) ≡ is_loud (layers self.old) }
+        ensures loud { IsAsLoud layers self.old self.new }
 
         // Done, as a loud device does whatever it answers; and dropped; and failed.
         ensures passed { fate (layers self.old) (Writes range.first range.count) ≡ Pass → contents self.new ≡ with_sectors (contents self.old) range.first bytes.now }
@@ -96,7 +97,7 @@ pub trait Block {
         ensures durable { durable self.new ≡ durable self.old }
         ensures size { size self.new ≡ size self.old }
         ensures faults { fault_count self.new ≡ (if is_ok result then fault_count self.old else next_count (fault_count self.old)) }
-        ensures done { done_count self.new ≡ next_count (done_count self.old) }
+        ensures done { CountsOne done_count self.old self.new }
         ensures stop { (s : ℕ) (v : List ℕ) → may_hold self.new s v → may_hold self.old s v ⊎ ((range.first ≤ s) × (s < range.first + range.count) × (v ≡ sector_at bytes.now (s - range.first))) }
         ensures stop_err { OnErr result ((s : ℕ) (v : List ℕ) → may_hold self.new s v → may_hold self.old s v) };
 
@@ -104,13 +105,13 @@ pub trait Block {
     fn flush(&mut self) -> Result<(), Io>
         ensures answer { is_ok result ≡ is_answered (fate (layers self.old) Flushes) }
         ensures layers { layers self.new ≡ layers_after (layers self.old) Flushes }
-        ensures loud { is_loud (layers self.new) ≡ is_loud (layers self.old) }
+        ensures loud { IsAsLoud layers self.old self.new }
 
         ensures contents { contents self.new ≡ contents self.old }
         ensures durable { durable self.new ≡ (if is_passed (fate (layers self.old) Flushes) then contents self.old else durable self.old) }
         ensures size { size self.new ≡ size self.old }
         ensures faults { fault_count self.new ≡ (if is_ok result then fault_count self.old else next_count (fault_count self.old)) }
-        ensures done { done_count self.new ≡ next_count (done_count self.old) }
+        ensures done { CountsOne done_count self.old self.new }
         ensures stop { (s : ℕ) (v : List ℕ) → may_hold self.new s v → may_hold self.old s v }
         ensures flushed { OnOk result (IsTrue (is_loud (layers self.old)) → (s : ℕ) (v : List ℕ) → s < size self.new → may_hold self.new s v → v ≡ sector_at (contents self.new) s) };
 

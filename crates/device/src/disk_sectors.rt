@@ -24,6 +24,7 @@ pub struct DiskSectors {
 
 impl DiskSectors {
     ghost use Rattle.device.specs.Sectors.{now_in, flushed_in};
+    ghost use Rattle.device.specs.Changes.{IsWritten, KeepsFlushed};
 
     /// So many sectors, all zero and flushed. `NoMemory` where the allocator refuses the room: 1041 bytes a sector, of which 513, its
     /// value and its mark, are written, and the others stay untouched before there is something to keep. No later call takes
@@ -72,8 +73,8 @@ impl DiskSectors {
     pub fn write(&mut self, range: Range, bytes: &[u8])
         requires inside { range.first + range.count ≤ self.old.count }
         requires room { length bytes.now ≡ 512 * range.count }
-        ensures now { now_in self.new ≡ with_sectors (now_in self.old) range.first bytes.now }
-        ensures flushed { flushed_in self.new ≡ flushed_in self.old }
+        ensures now { IsWritten range bytes.now self.old self.new }
+        ensures flushed { KeepsFlushed self.old self.new }
         ensures count { self.new.count ≡ self.old.count }
     {
         self.undo
@@ -86,7 +87,7 @@ impl DiskSectors {
         requires inside { to.first + to.count ≤ self.old.count }
         requires there { first + to.count ≤ from.now.count }
         ensures now { now_in self.new ≡ with_sectors (now_in self.old) to.first (sectors_at (now_in from.now) first to.count) }
-        ensures flushed { flushed_in self.new ≡ flushed_in self.old }
+        ensures flushed { KeepsFlushed self.old self.new }
         ensures count { self.new.count ≡ self.old.count }
     {
         self.write(
@@ -99,7 +100,7 @@ impl DiskSectors {
     pub fn load(&mut self, range: Range, bytes: &[u8])
         requires inside { range.first + range.count ≤ self.old.count }
         requires room { length bytes.now ≡ 512 * range.count }
-        ensures now { now_in self.new ≡ with_sectors (now_in self.old) range.first bytes.now }
+        ensures now { IsWritten range bytes.now self.old self.new }
         ensures flushed { flushed_in self.new ≡ with_sectors (flushed_in self.old) range.first bytes.now }
         ensures count { self.new.count ≡ self.old.count }
     {
@@ -123,7 +124,7 @@ impl DiskSectors {
         requires some { 1 ≤ range.count }
         requires inside { range.first + range.count ≤ self.old.count }
         requires room { length bytes.now ≡ 512 * range.count }
-        ensures now { now_in self.new ≡ with_sectors (now_in self.old) range.first bytes.now }
+        ensures now { IsWritten range bytes.now self.old self.new }
         ensures flushed { flushed_in self.new ≡ with_sectors (now_in self.old) range.first bytes.now }
         ensures count { self.new.count ≡ self.old.count }
     {
@@ -135,7 +136,7 @@ impl DiskSectors {
     /// Makes the values of the last flush those now.
     pub fn lose(&mut self)
         ensures now { now_in self.new ≡ flushed_in self.old }
-        ensures flushed { flushed_in self.new ≡ flushed_in self.old }
+        ensures flushed { KeepsFlushed self.old self.new }
         ensures count { self.new.count ≡ self.old.count }
     {
         self.undo.take_back(&mut self.present);

@@ -1,9 +1,10 @@
 // The values that were kept aside, in the order of the list of their sectors.
-ghost use Rattle.std.specs.Prelude.{◌≡◌, ◌≢◌, ◌⊎◌, ℕ, ◌+◌, ◌*◌, ◌-◌, ◌<◌, ◌≤◌, length, slice_index};
+ghost use Rattle.std.specs.Prelude.{◌≡◌, ◌⊎◌, ℕ, ◌+◌, ◌*◌, ◌-◌, ◌<◌, ◌≤◌, length, slice_index};
 ghost use Rattle.sector.specs.Bytes.{sector_at};
 ghost use Rattle.device.specs.declared.mark.Mark.TheVariants.{Kept};
 ghost use Rattle.device.specs.Listed.{listed, place_in};
 ghost use Rattle.device.specs.Marks.{mark_at};
+ghost use Rattle.device.specs.Changes.{ChangesOnlyKept};
 
 use crate::bytes::{sectors_of, write_sectors};
 use crate::mark::Mark;
@@ -19,7 +20,7 @@ pub fn restore_all(now: &mut [u8], marks: &[Mark], aside: &[u8], kept: &[Span])
     requires once { (j : ℕ) → j < length (listed kept.now) → place_in (listed kept.now) (slice_index (listed kept.now) j) ≡ j }
     ensures len { length now.new ≡ length now.old }
     ensures back { (t : ℕ) → mark_at marks.now t ≡ Kept → place_in (listed kept.now) t < length (listed kept.now) → sector_at now.new t ≡ sector_at aside.now (place_in (listed kept.now) t) }
-    ensures others { (t : ℕ) → mark_at marks.now t ≢ Kept → sector_at now.new t ≡ sector_at now.old t }
+    ensures others { ChangesOnlyKept marks.now now.old now.new }
 {
     let mut place = 0;
     for span in kept {
@@ -36,7 +37,7 @@ fn restore(now: &mut [u8], marks: &[Mark], aside: &[u8], place: usize, span: Spa
     ensures len { length now.new ≡ length now.old }
     ensures back { (i : ℕ) → i < span.count → mark_at marks.now (span.first + i) ≡ Kept → sector_at now.new (span.first + i) ≡ sector_at aside.now (place + i) }
     ensures outside { (t : ℕ) → (t < span.first) ⊎ (span.first + span.count ≤ t) → sector_at now.new t ≡ sector_at now.old t }
-    ensures others { (t : ℕ) → mark_at marks.now t ≢ Kept → sector_at now.new t ≡ sector_at now.old t }
+    ensures others { ChangesOnlyKept marks.now now.old now.new }
 {
     for i in 0..span.count as usize {
         let s = span.first as usize + i;

@@ -2,6 +2,7 @@
 ghost use Rattle.std.specs.Prelude.{◌≡◌, ◌+◌, ◌<◌, ◌≤◌, ◌++◌, length, vec_capacity};
 ghost use Rattle.std.specs.List.{range_with_len};
 ghost use Rattle.device.specs.Listed.{listed};
+ghost use Rattle.device.specs.Changes.{GainsRoom};
 
 use crate::span::Span;
 
@@ -13,7 +14,7 @@ pub fn list(spans: &mut Vec<Span>, first: usize, count: usize)
     requires inside { first + count ≤ 16_777_216 }
     requires room { length spans.old.items < vec_capacity spans.old }
     ensures listed { listed spans.new.items ≡ listed spans.old.items ++ range_with_len first count }
-    ensures room { vec_capacity spans.old ≤ vec_capacity spans.new }
+    ensures room { GainsRoom spans.old spans.new }
 {
     let len = spans.len();
     if len > 0 {

@@ -1,8 +1,9 @@
 // The marks of many sectors at once.
-ghost use Rattle.std.specs.Prelude.{◌≡◌, ◌≢◌, ◌⊎◌, ℕ, ◌+◌, ◌<◌, ◌≤◌, [], true, false, length, slice_index, vec_capacity};
+ghost use Rattle.std.specs.Prelude.{◌≡◌, ◌≢◌, ◌⊎◌, ℕ, ◌+◌, ◌<◌, ◌≤◌, [], true, false, length, slice_index};
 ghost use Rattle.device.specs.declared.mark.Mark.TheVariants.{Same};
 ghost use Rattle.device.specs.Listed.{listed, place_in};
 ghost use Rattle.device.specs.Marks.{mark_at, put_mark};
+ghost use Rattle.device.specs.Changes.{ChangesIn, GainsRoom, KeepsLen, MakesSame};
 
 use crate::mark::Mark;
 use crate::span::Span;
@@ -38,9 +39,9 @@ pub fn run_len(marks: &[Mark], first: usize, end: usize) -> usize
 pub fn mark_all(marks: &mut Vec<Mark>, first: usize, count: usize, mark: Mark)
     requires some { 1 ≤ count }
     requires inside { first + count ≤ length marks.old.items }
-    ensures len { length marks.new.items ≡ length marks.old.items }
+    ensures len { KeepsLen marks.old marks.new }
     ensures set { (t : ℕ) → first ≤ t → t < first + count → mark_at marks.new.items t ≡ mark }
-    ensures others { (t : ℕ) → (t < first) ⊎ (first + count ≤ t) → mark_at marks.new.items t ≡ mark_at marks.old.items t }
+    ensures others { ChangesIn first count marks.old marks.new }
 {
     fill(marks, first, count, mark);
 }
@@ -63,9 +64,9 @@ fn fill(marks: &mut [Mark], first: usize, count: usize, mark: Mark)
 /// Marks sectors whose values now were made those of the last flush.
 pub fn put_all(marks: &mut Vec<Mark>, first: usize, count: usize)
     requires { first + count ≤ length marks.old.items }
-    ensures len { length marks.new.items ≡ length marks.old.items }
+    ensures len { KeepsLen marks.old marks.new }
     ensures put { (t : ℕ) → first ≤ t → t < first + count → mark_at marks.new.items t ≡ put_mark (mark_at marks.old.items t) }
-    ensures others { (t : ℕ) → (t < first) ⊎ (first + count ≤ t) → mark_at marks.new.items t ≡ mark_at marks.old.items t }
+    ensures others { ChangesIn first count marks.old marks.new }
 {
     for s in first..first + count {
         marks[s] = mark_put(marks[s]);
@@ -87,11 +88,11 @@ fn mark_put(mark: Mark) -> Mark
 #[inline(always)]
 pub fn settle(marks: &mut Vec<Mark>, spans: &mut Vec<Span>)
     requires { (j : ℕ) → j < length (listed spans.old.items) → slice_index (listed spans.old.items) j < length marks.old.items }
-    ensures len { length marks.new.items ≡ length marks.old.items }
+    ensures len { KeepsLen marks.old marks.new }
     ensures settled { (t : ℕ) → place_in (listed spans.old.items) t < length (listed spans.old.items) → mark_at marks.new.items t ≡ Same }
-    ensures others { (t : ℕ) → (mark_at marks.new.items t ≡ Same) ⊎ (mark_at marks.new.items t ≡ mark_at marks.old.items t) }
+    ensures others { MakesSame marks.old marks.new }
     ensures empty { spans.new.items ≡ [] }
-    ensures room { vec_capacity spans.old ≤ vec_capacity spans.new }
+    ensures room { GainsRoom spans.old spans.new }
 {
     if spans.is_empty() {
         return;
@@ -110,9 +111,9 @@ pub fn settle(marks: &mut Vec<Mark>, spans: &mut Vec<Span>)
 #[inline(never)]
 fn settle_all(marks: &mut Vec<Mark>, spans: &[Span])
     requires { (j : ℕ) → j < length (listed spans.now) → slice_index (listed spans.now) j < length marks.old.items }
-    ensures len { length marks.new.items ≡ length marks.old.items }
+    ensures len { KeepsLen marks.old marks.new }
     ensures settled { (t : ℕ) → place_in (listed spans.now) t < length (listed spans.now) → mark_at marks.new.items t ≡ Same }
-    ensures others { (t : ℕ) → (mark_at marks.new.items t ≡ Same) ⊎ (mark_at marks.new.items t ≡ mark_at marks.old.items t) }
+    ensures others { MakesSame marks.old marks.new }
 {
     for span in spans {
         mark_all(marks, span.first as usize, span.count as usize, Mark::Same);

@@ -31,6 +31,7 @@ pub struct MemDisk {
 impl MemDisk {
     ghost use Rattle.device.specs.Disk.{disk_size, disk_contents, disk_durable, disk_done};
     ghost use Rattle.device.specs.Sectors.{now_in};
+    ghost use Rattle.device.specs.Changes.{KeepsContents, KeepsDurable};
 
     /// A disk of so many sectors, all zero and flushed. `NoMemory` where the allocator refuses the room: 1041 bytes a
     /// sector, of which 513, its value and its mark, are written, and the others stay untouched before there is something
@@ -80,7 +81,7 @@ impl MemDisk {
     /// Loses what was not flushed: each sector goes back to its value at the last flush. It counts no operation.
     pub fn lose(&mut self)
         ensures contents { disk_contents self.new ≡ disk_durable self.old }
-        ensures durable { disk_durable self.new ≡ disk_durable self.old }
+        ensures durable { KeepsDurable self.old self.new }
         ensures size { disk_size self.new ≡ disk_size self.old }
         ensures done { disk_done self.new ≡ disk_done self.old }
     {
@@ -93,8 +94,8 @@ impl MemDisk {
     fn write_late(&mut self)
         ensures none { self.new.late.bytes.items ≡ [] }
         ensures now { now_in self.new.sectors ≡ disk_contents self.old }
-        ensures contents { disk_contents self.new ≡ disk_contents self.old }
-        ensures durable { disk_durable self.new ≡ disk_durable self.old }
+        ensures contents { KeepsContents self.old self.new }
+        ensures durable { KeepsDurable self.old self.new }
         ensures size { disk_size self.new ≡ disk_size self.old }
         ensures done { disk_done self.new ≡ disk_done self.old }
     {
@@ -108,7 +109,7 @@ impl MemDisk {
     // Makes all that was written last, what waits too.
     #[inline(always)]
     fn flush_all(&mut self)
-        ensures contents { disk_contents self.new ≡ disk_contents self.old }
+        ensures contents { KeepsContents self.old self.new }
         ensures durable { disk_durable self.new ≡ disk_contents self.old }
         ensures size { disk_size self.new ≡ disk_size self.old }
         ensures done { disk_done self.new ≡ disk_done self.old }
@@ -129,7 +130,7 @@ impl MemDisk {
         requires inside { range.first + range.count ≤ disk_size self.old }
         requires room { length bytes.now ≡ 512 * range.count }
         ensures contents { disk_contents self.new ≡ with_sectors (now_in self.old.sectors) range.first bytes.now }
-        ensures durable { disk_durable self.new ≡ disk_durable self.old }
+        ensures durable { KeepsDurable self.old self.new }
         ensures size { disk_size self.new ≡ disk_size self.old }
         ensures done { disk_done self.new ≡ disk_done self.old }
     {

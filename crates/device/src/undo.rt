@@ -1,11 +1,11 @@
 // What brings a disk back to its last flush: a mark for each sector, and the values that were written over.
-ghost use Rattle.std.specs.Prelude.{◌≡◌, ◌≢◌, ◌⊎◌, ℕ, List, ◌+◌, ◌*◌, ◌<◌, ◌≤◌, ◌++◌, [], true, false, length, replicate, vec_capacity, IfOk, IfErr};
+ghost use Rattle.std.specs.Prelude.{◌≡◌, ◌≢◌, ◌⊎◌, ℕ, List, ◌+◌, ◌*◌, ◌<◌, ◌≤◌, ◌++◌, [], length, replicate, vec_capacity, IfOk, IfErr};
 ghost use Rattle.std.specs.List.{range_with_len};
 ghost use Rattle.sector.specs.declared.refusal.Refusal.TheVariants.{NoMemory};
 ghost use Rattle.sector.specs.Bytes.{sector_at};
-ghost use Rattle.device.specs.declared.mark.Mark.TheVariants.{Fresh, Same, Zero, Kept, Loaded};
+ghost use Rattle.device.specs.declared.mark.Mark.TheVariants.{Fresh, Same, Zero, Loaded};
 ghost use Rattle.device.specs.Listed.{listed};
-ghost use Rattle.device.specs.Marks.{mark_at, flushed_at, is_settled, AreKept, AreZeroed};
+ghost use Rattle.device.specs.Marks.{mark_at, flushed_at, AreKept, AreZeroed};
 
 use crate::bytes::{append, sectors_of};
 use crate::kept::{replace_all, restore_all};
@@ -37,6 +37,8 @@ pub struct Undo {
 }
 
 impl Undo {
+    ghost use Rattle.device.specs.Changes.{AreKeptIn, AreSettled, AreUnsettledIn, FreshBeside, MakesNoneFresh, MarksAsMany, MarksOnly, UndoesAlike};
+
     /// For a disk of so many sectors that were never written. `NoMemory` where the room is refused: 529 bytes a sector,
     /// of which only the mark is written before there is something to keep. No later call takes memory.
     pub fn new(alloc: Global, sectors: usize) -> Result<Undo, Refusal>
@@ -70,9 +72,9 @@ impl Undo {
         requires some { 1 ≤ count }
         requires inside { first + count ≤ length self.old.marks.items }
         requires fresh { (t : ℕ) → first ≤ t → t < first + count → mark_at self.old.marks.items t ≡ Fresh }
-        ensures len { length self.new.marks.items ≡ length self.old.marks.items }
+        ensures len { MarksAsMany self.old self.new }
         ensures set { (t : ℕ) → first ≤ t → t < first + count → mark_at self.new.marks.items t ≡ Zero }
-        ensures others { (t : ℕ) → (t < first) ⊎ (first + count ≤ t) → mark_at self.new.marks.items t ≡ mark_at self.old.marks.items t }
+        ensures others { MarksOnly first count self.old self.new }
         ensures kept { self.new.kept.items ≡ self.old.kept.items }
         ensures aside { self.new.aside.items ≡ self.old.aside.items }
     {
@@ -87,9 +89,9 @@ impl Undo {
         requires inside { first + count ≤ length self.old.marks.items }
         requires same { (t : ℕ) → first ≤ t → t < first + count → mark_at self.old.marks.items t ≡ Same }
         requires whole { length values.now ≡ 512 * count }
-        ensures len { length self.new.marks.items ≡ length self.old.marks.items }
-        ensures set { (t : ℕ) → first ≤ t → t < first + count → mark_at self.new.marks.items t ≡ Kept }
-        ensures others { (t : ℕ) → (t < first) ⊎ (first + count ≤ t) → mark_at self.new.marks.items t ≡ mark_at self.old.marks.items t }
+        ensures len { MarksAsMany self.old self.new }
+        ensures set { AreKeptIn first count self.new }
+        ensures others { MarksOnly first count self.old self.new }
         ensures kept { listed self.new.kept.items ≡ listed self.old.kept.items ++ range_with_len first count }
         ensures aside { self.new.aside.items ≡ self.old.aside.items ++ values.now }
     {
@@ -106,10 +108,10 @@ impl Undo {
         requires inside { first + count ≤ length self.old.marks.items }
         requires loaded { (t : ℕ) → first ≤ t → t < first + count → mark_at self.old.marks.items t ≡ Loaded }
         requires whole { length now.now ≡ 512 * length self.old.marks.items }
-        ensures len { length self.new.marks.items ≡ length self.old.marks.items }
-        ensures set { (t : ℕ) → first ≤ t → t < first + count → mark_at self.new.marks.items t ≡ Kept }
-        ensures others { (t : ℕ) → (t < first) ⊎ (first + count ≤ t) → mark_at self.new.marks.items t ≡ mark_at self.old.marks.items t }
-        ensures flushed { (t : ℕ) → flushed_at now.now (listed self.new.kept.items) self.new.aside.items self.new.marks.items t ≡ flushed_at now.now (listed self.old.kept.items) self.old.aside.items self.old.marks.items t }
+        ensures len { MarksAsMany self.old self.new }
+        ensures set { AreKeptIn first count self.new }
+        ensures others { MarksOnly first count self.old self.new }
+        ensures flushed { UndoesAlike now.now self.old self.new }
     {
         replace_all(&mut self.aside, &self.kept, now, first, count);
         mark_all(&mut self.marks, first, count, Mark::Kept);
@@ -123,10 +125,10 @@ impl Undo {
         requires same { (t : ℕ) → first ≤ t → t < first + count → mark_at self.old.marks.items t ≡ mark_at self.old.marks.items first }
         requires whole { length now.now ≡ 512 * length self.old.marks.items }
         requires fresh { (t : ℕ) → mark_at self.old.marks.items t ≡ Fresh → sector_at now.now t ≡ replicate 512 0 }
-        ensures len { length self.new.marks.items ≡ length self.old.marks.items }
-        ensures kept { (t : ℕ) → first ≤ t → t < first + count → is_settled (mark_at self.new.marks.items t) ≡ false }
-        ensures others { (t : ℕ) → (t < first) ⊎ (first + count ≤ t) → mark_at self.new.marks.items t ≡ mark_at self.old.marks.items t }
-        ensures flushed { (t : ℕ) → flushed_at now.now (listed self.new.kept.items) self.new.aside.items self.new.marks.items t ≡ flushed_at now.now (listed self.old.kept.items) self.old.aside.items self.old.marks.items t }
+        ensures len { MarksAsMany self.old self.new }
+        ensures kept { AreUnsettledIn first count self.new }
+        ensures others { MarksOnly first count self.old self.new }
+        ensures flushed { UndoesAlike now.now self.old self.new }
     {
         match self.marks[first] {
             Mark::Fresh => self.note_zero(first, count),
@@ -143,10 +145,10 @@ impl Undo {
         requires inside { first + count ≤ length self.old.marks.items }
         requires whole { length now.now ≡ 512 * length self.old.marks.items }
         requires fresh { (t : ℕ) → mark_at self.old.marks.items t ≡ Fresh → sector_at now.now t ≡ replicate 512 0 }
-        ensures len { length self.new.marks.items ≡ length self.old.marks.items }
-        ensures kept { (t : ℕ) → first ≤ t → t < first + count → is_settled (mark_at self.new.marks.items t) ≡ false }
-        ensures others { (t : ℕ) → (t < first) ⊎ (first + count ≤ t) → mark_at self.new.marks.items t ≡ mark_at self.old.marks.items t }
-        ensures flushed { (t : ℕ) → flushed_at now.now (listed self.new.kept.items) self.new.aside.items self.new.marks.items t ≡ flushed_at now.now (listed self.old.kept.items) self.old.aside.items self.old.marks.items t }
+        ensures len { MarksAsMany self.old self.new }
+        ensures kept { AreUnsettledIn first count self.new }
+        ensures others { MarksOnly first count self.old self.new }
+        ensures flushed { UndoesAlike now.now self.old self.new }
     {
         if count == 1 {
             self.keep_run(now, first, 1);
@@ -161,10 +163,10 @@ impl Undo {
         requires inside { first + count ≤ length self.old.marks.items }
         requires whole { length now.now ≡ 512 * length self.old.marks.items }
         requires fresh { (t : ℕ) → mark_at self.old.marks.items t ≡ Fresh → sector_at now.now t ≡ replicate 512 0 }
-        ensures len { length self.new.marks.items ≡ length self.old.marks.items }
-        ensures kept { (t : ℕ) → first ≤ t → t < first + count → is_settled (mark_at self.new.marks.items t) ≡ false }
-        ensures others { (t : ℕ) → (t < first) ⊎ (first + count ≤ t) → mark_at self.new.marks.items t ≡ mark_at self.old.marks.items t }
-        ensures flushed { (t : ℕ) → flushed_at now.now (listed self.new.kept.items) self.new.aside.items self.new.marks.items t ≡ flushed_at now.now (listed self.old.kept.items) self.old.aside.items self.old.marks.items t }
+        ensures len { MarksAsMany self.old self.new }
+        ensures kept { AreUnsettledIn first count self.new }
+        ensures others { MarksOnly first count self.old self.new }
+        ensures flushed { UndoesAlike now.now self.old self.new }
     {
         let end = first + count;
         let mut done = first;
@@ -178,10 +180,10 @@ impl Undo {
     /// Makes the values that sectors have now, whatever they are, those of the last flush.
     pub fn put(&mut self, first: usize, count: usize)
         requires inside { first + count ≤ length self.old.marks.items }
-        ensures len { length self.new.marks.items ≡ length self.old.marks.items }
+        ensures len { MarksAsMany self.old self.new }
         ensures flushed { (now : List ℕ) → (t : ℕ) → first ≤ t → t < first + count → flushed_at now (listed self.new.kept.items) self.new.aside.items self.new.marks.items t ≡ sector_at now t }
         ensures others { (now : List ℕ) → (t : ℕ) → (t < first) ⊎ (first + count ≤ t) → flushed_at now (listed self.new.kept.items) self.new.aside.items self.new.marks.items t ≡ flushed_at now (listed self.old.kept.items) self.old.aside.items self.old.marks.items t }
-        ensures fresh { (t : ℕ) → mark_at self.new.marks.items t ≡ Fresh → (mark_at self.old.marks.items t ≡ Fresh) × ((t < first) ⊎ (first + count ≤ t)) }
+        ensures fresh { FreshBeside first count self.old self.new }
     {
         put_all(&mut self.marks, first, count);
     }
@@ -189,9 +191,9 @@ impl Undo {
     /// Makes the values that all sectors have now those of the last flush.
     #[inline(always)]
     pub fn forget(&mut self)
-        ensures len { length self.new.marks.items ≡ length self.old.marks.items }
-        ensures settled { (t : ℕ) → is_settled (mark_at self.new.marks.items t) ≡ true }
-        ensures fresh { (t : ℕ) → mark_at self.new.marks.items t ≡ Fresh → mark_at self.old.marks.items t ≡ Fresh }
+        ensures len { MarksAsMany self.old self.new }
+        ensures settled { AreSettled self.new }
+        ensures fresh { MakesNoneFresh self.old self.new }
         ensures zeroed { self.new.zeroed.items ≡ [] }
         ensures kept { self.new.kept.items ≡ [] }
         ensures aside { self.new.aside.items ≡ [] }
@@ -206,9 +208,9 @@ impl Undo {
     pub fn forget_written(&mut self, first: usize, count: usize)
         requires some { 1 ≤ count }
         requires inside { first + count ≤ length self.old.marks.items }
-        ensures len { length self.new.marks.items ≡ length self.old.marks.items }
-        ensures settled { (t : ℕ) → is_settled (mark_at self.new.marks.items t) ≡ true }
-        ensures fresh { (t : ℕ) → mark_at self.new.marks.items t ≡ Fresh → (mark_at self.old.marks.items t ≡ Fresh) × ((t < first) ⊎ (first + count ≤ t)) }
+        ensures len { MarksAsMany self.old self.new }
+        ensures settled { AreSettled self.new }
+        ensures fresh { FreshBeside first count self.old self.new }
     {
         self.forget();
         mark_all(&mut self.marks, first, count, Mark::Same);
@@ -217,10 +219,10 @@ impl Undo {
     /// Puts the values of the last flush back into the bytes of the disk.
     pub fn take_back(&mut self, now: &mut [u8])
         requires whole { length now.old ≡ 512 * length self.old.marks.items }
-        ensures len { length self.new.marks.items ≡ length self.old.marks.items }
-        ensures settled { (t : ℕ) → is_settled (mark_at self.new.marks.items t) ≡ true }
+        ensures len { MarksAsMany self.old self.new }
+        ensures settled { AreSettled self.new }
         ensures back { (t : ℕ) → sector_at now.new t ≡ flushed_at now.old (listed self.old.kept.items) self.old.aside.items self.old.marks.items t }
-        ensures fresh { (t : ℕ) → mark_at self.new.marks.items t ≡ Fresh → mark_at self.old.marks.items t ≡ Fresh }
+        ensures fresh { MakesNoneFresh self.old self.new }
     {
         zero_all(now, &self.marks, &self.zeroed);
         restore_all(now, &self.marks, &self.aside, &self.kept);

@@ -5,6 +5,7 @@ ghost use Rattle.store_bytes.specs.Picture.{place_of};
 ghost use Rattle.exception_arena.specs.Links.{pairs_on, AreHung};
 ghost use Rattle.exception_arena.specs.Arenas.{HasRoom};
 ghost use Rattle.sector.specs.declared.refusal.Refusal.TheVariants.{NoMemory};
+ghost use Rattle.exception_arena.specs.Keeping.{AllHang, KeepsLen, KeepsPairs, KeepsRoom};
 
 use crate::link::Link;
 use crate::node::Node;
@@ -34,11 +35,11 @@ fn hang(nodes: &mut Vec<Node>, heads: &mut Vec<Link>, place: usize)
     requires some { 0 < length heads.old.items }
     requires hung { AreHung nodes.old.items heads.old.items place }
     ensures hung { AreHung nodes.new.items heads.new.items (place + 1) }
-    ensures pairs { pairs_on nodes.new.items ≡ pairs_on nodes.old.items }
-    ensures len { length nodes.new.items ≡ length nodes.old.items }
-    ensures buckets { length heads.new.items ≡ length heads.old.items }
-    ensures capacity { vec_capacity nodes.new ≡ vec_capacity nodes.old }
-    ensures heads_capacity { vec_capacity heads.new ≡ vec_capacity heads.old }
+    ensures pairs { KeepsPairs nodes.old nodes.new }
+    ensures len { KeepsLen nodes.old nodes.new }
+    ensures buckets { KeepsLen heads.old heads.new }
+    ensures capacity { KeepsRoom nodes.old nodes.new }
+    ensures heads_capacity { KeepsRoom heads.old heads.new }
 {
     let bucket = bucket_of(nodes[place].old as u64, heads.len());
     nodes[place].next = heads[bucket];
@@ -51,12 +52,12 @@ pub fn push(nodes: &mut Vec<Node>, heads: &mut Vec<Link>, pair: Pair)
     requires new { pair.new < 2 ^ 32 }
     requires room { HasRoom nodes.old.items heads.old.items 1 (vec_capacity nodes.old) }
     requires hung { AreHung nodes.old.items heads.old.items (length nodes.old.items) }
-    ensures hung { AreHung nodes.new.items heads.new.items (length nodes.new.items) }
+    ensures hung { AllHang nodes.new heads.new }
     ensures pairs { pairs_on nodes.new.items ≡ pairs_on nodes.old.items ++ pair ∷ [] }
     ensures len { length nodes.new.items ≡ length nodes.old.items + 1 }
-    ensures buckets { length heads.new.items ≡ length heads.old.items }
-    ensures capacity { vec_capacity nodes.new ≡ vec_capacity nodes.old }
-    ensures heads_capacity { vec_capacity heads.new ≡ vec_capacity heads.old }
+    ensures buckets { KeepsLen heads.old heads.new }
+    ensures capacity { KeepsRoom nodes.old nodes.new }
+    ensures heads_capacity { KeepsRoom heads.old heads.new }
 {
     let place = nodes.len();
     nodes.push_reserved(Node {
@@ -72,11 +73,11 @@ pub fn pop(nodes: &mut Vec<Node>, heads: &mut Vec<Link>)
     requires some { 0 < length nodes.old.items }
     requires buckets { 0 < length heads.old.items }
     requires hung { AreHung nodes.old.items heads.old.items (length nodes.old.items) }
-    ensures hung { AreHung nodes.new.items heads.new.items (length nodes.new.items) }
+    ensures hung { AllHang nodes.new heads.new }
     ensures nodes { nodes.new.items ≡ take (length nodes.old.items - 1) nodes.old.items }
-    ensures buckets { length heads.new.items ≡ length heads.old.items }
-    ensures capacity { vec_capacity nodes.new ≡ vec_capacity nodes.old }
-    ensures heads_capacity { vec_capacity heads.new ≡ vec_capacity heads.old }
+    ensures buckets { KeepsLen heads.old heads.new }
+    ensures capacity { KeepsRoom nodes.old nodes.new }
+    ensures heads_capacity { KeepsRoom heads.old heads.new }
 {
     let Some(node) = nodes.pop() else {
         unreachable!()
@@ -90,11 +91,11 @@ fn hang_all(nodes: &mut Vec<Node>, heads: &mut Vec<Link>, buckets: usize)
     requires some { 0 < buckets }
     requires room { buckets ≤ vec_capacity heads.old }
     requires small { length nodes.old.items < 2 ^ 32 }
-    ensures hung { AreHung nodes.new.items heads.new.items (length nodes.new.items) }
+    ensures hung { AllHang nodes.new heads.new }
     ensures buckets { length heads.new.items ≡ buckets }
-    ensures pairs { pairs_on nodes.new.items ≡ pairs_on nodes.old.items }
-    ensures len { length nodes.new.items ≡ length nodes.old.items }
-    ensures capacity { vec_capacity nodes.new ≡ vec_capacity nodes.old }
+    ensures pairs { KeepsPairs nodes.old nodes.new }
+    ensures len { KeepsLen nodes.old nodes.new }
+    ensures capacity { KeepsRoom nodes.old nodes.new }
 {
     heads.clear();
     let _ = heads.resize(buckets, Link::NOWHERE);
@@ -109,9 +110,9 @@ fn hang_all(nodes: &mut Vec<Node>, heads: &mut Vec<Link>, buckets: usize)
 pub fn make_room(nodes: &mut Vec<Node>, heads: &mut Vec<Link>, more: usize) -> Result<(), Refusal>
     requires small { length nodes.old.items < 2 ^ 32 }
     requires hung { AreHung nodes.old.items heads.old.items (length nodes.old.items) }
-    ensures hung { AreHung nodes.new.items heads.new.items (length nodes.new.items) }
-    ensures pairs { pairs_on nodes.new.items ≡ pairs_on nodes.old.items }
-    ensures len { length nodes.new.items ≡ length nodes.old.items }
+    ensures hung { AllHang nodes.new heads.new }
+    ensures pairs { KeepsPairs nodes.old nodes.new }
+    ensures len { KeepsLen nodes.old nodes.new }
     ensures room { OnOk result (HasRoom nodes.new.items heads.new.items more (vec_capacity nodes.new)) }
     ensures capacity { vec_capacity nodes.old ≤ vec_capacity nodes.new }
     ensures buckets { length heads.old.items ≤ length heads.new.items }

@@ -5,6 +5,7 @@ ghost use Rattle.sector.specs.declared.refusal.Refusal.TheVariants.{NoMemory};
 ghost use Rattle.store_bytes.specs.Picture.{place_of};
 ghost use Rattle.exception_arena.specs.Pending.{begun_under, without};
 ghost use Rattle.exception_arena.specs.declared.begun.Begun.{Begun};
+ghost use Rattle.exception_arena.specs.Keeping.{Keeps};
 
 use crate::{Begun, Id};
 use sector::{Chunk, Pair, Refusal};
@@ -33,8 +34,8 @@ pub trait Exceptions: Drop {
 
     /// Makes room for so many more pairs to begin; `NoMemory` where that is refused, and then nothing changed.
     fn reserve(&mut self, count: usize) -> Result<(), Refusal>
-        ensures committed { committed self.new ≡ committed self.old }
-        ensures pending { pending self.new ≡ pending self.old }
+        ensures committed { Keeps committed self.old self.new }
+        ensures pending { Keeps pending self.old self.new }
         ensures ok { OnOk result (reserved self.new ≡ reserved self.old + count) }
         ensures err { OnErr result (reserved self.new ≡ reserved self.old) }
         ensures refusal { IfErr result (λ e. e ≡ NoMemory) };
@@ -44,27 +45,27 @@ pub trait Exceptions: Drop {
         requires reserved { 0 < reserved self.old }
         requires old { old_chunk < 2 ^ 32 }
         requires new { new_chunk < 2 ^ 32 }
-        ensures committed { committed self.new ≡ committed self.old }
+        ensures committed { Keeps committed self.old self.new }
         ensures pending { pending self.new ≡ pending self.old ++ (record { id = result; pair = record { old = old_chunk; new = new_chunk } }) ∷ [] }
         ensures own { begun_under result (pending self.old) ≡ None }
         ensures reserved { reserved self.new + 1 ≡ reserved self.old }
-        ensures memory { memory self.new ≡ memory self.old };
+        ensures memory { Keeps memory self.old self.new };
 
     /// Commits a pending pair: it goes to the end of the list.
     fn finish(&mut self, id: Id)
         requires { IsSome (begun_under id (pending self.old)) }
         ensures committed { IfSome (begun_under id (pending self.old)) (λ pair. committed self.new ≡ committed self.old ++ pair ∷ []) }
         ensures pending { pending self.new ≡ without id (pending self.old) }
-        ensures reserved { reserved self.new ≡ reserved self.old }
-        ensures memory { memory self.new ≡ memory self.old };
+        ensures reserved { Keeps reserved self.old self.new }
+        ensures memory { Keeps memory self.old self.new };
 
     /// Drops a pending pair. The places that are reserved stay as many.
     fn abandon(&mut self, id: Id)
         requires { IsSome (begun_under id (pending self.old)) }
-        ensures committed { committed self.new ≡ committed self.old }
+        ensures committed { Keeps committed self.old self.new }
         ensures pending { pending self.new ≡ without id (pending self.old) }
-        ensures reserved { reserved self.new ≡ reserved self.old }
-        ensures memory { memory self.new ≡ memory self.old };
+        ensures reserved { Keeps reserved self.old self.new }
+        ensures memory { Keeps memory self.old self.new };
 
     /// The chunk of the store with the committed copy of a chunk of the origin.
     fn get(&self, old_chunk: Chunk) -> Option<Chunk>
@@ -75,9 +76,9 @@ pub trait Exceptions: Drop {
         requires some { 0 < length (committed self.old) }
         requires last { (d : Pair) → (slice_index_or (committed self.old) (length (committed self.old) - 1) d).old ≡ old_chunk }
         ensures committed { committed self.new ≡ take (length (committed self.old) - 1) (committed self.old) }
-        ensures pending { pending self.new ≡ pending self.old }
-        ensures reserved { reserved self.new ≡ reserved self.old }
-        ensures memory { memory self.new ≡ memory self.old };
+        ensures pending { Keeps pending self.old self.new }
+        ensures reserved { Keeps reserved self.old self.new }
+        ensures memory { Keeps memory self.old self.new };
 
     /// How many pairs are committed.
     fn len(&self) -> usize

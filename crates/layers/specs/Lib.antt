@@ -8,3 +8,5 @@ pub mod Stack
 pub mod Ticks
 pub mod Whole
 pub mod Windows
+pub mod Calls
+pub mod Keeping

@@ -33,12 +33,13 @@ pub struct Dust {
 }
 
 impl Dust {
-    ghost use Rattle.std.specs.Prelude.{◌⊎◌, false, [], if◌then◌else◌, true, IfOk, IfErr, OnErr};
+    ghost use Rattle.std.specs.Prelude.{◌⊎◌, false, [], if◌then◌else◌, true, IfOk, IfErr};
     ghost use Rattle.device.specs.Layers.{Dusty, layer_fate, layer_after};
     ghost use Rattle.layers.specs.Layer.{dust_layer};
     ghost use Rattle.layers.specs.Messages.{layer_told, is_past, Answered, Refused, NeedsRoom};
     ghost use Rattle.layers.specs.declared.message.Message.TheVariants.{AddBadBlock, RemoveBadBlock, QueryBlock};
     ghost use Rattle.sector.specs.declared.refusal.Refusal.TheVariants.{NoMemory};
+    ghost use Rattle.layers.specs.Calls.{DustKeepsCounts, LeavesDust};
 
     /// A layer over the first sectors of a device, with blocks of so many bytes, none of them bad. It is not enabled.
     pub fn new(alloc: Global, sectors: u64, block_size: u32) -> Dust
@@ -72,7 +73,7 @@ impl Dust {
         requires some { 0 < range.count }
         requires small { range.first + range.count ≤ 16_777_216 }
         ensures layer { dust_layer self.new ≡ layer_after (dust_layer self.old) (Writes range.first range.count) true }
-        ensures rest { (self.new.sectors ≡ self.old.sectors) × (self.new.faults ≡ self.old.faults) × (self.new.done ≡ self.old.done) }
+        ensures rest { DustKeepsCounts self.old self.new }
     {
         if self.enabled {
             take_touched_off(&mut self.bad, self.block_size, range.first, range.count);
@@ -84,8 +85,8 @@ impl Dust {
     pub(crate) fn message(&mut self, message: &Message) -> Result<Answer, Refusal>
         ensures ok { IfOk result (λ a. layer_told (dust_layer self.old) message.now ≡ Answered a (dust_layer self.new)) }
         ensures err { IfErr result (λ r. (layer_told (dust_layer self.old) message.now ≡ Refused r) ⊎ ((r ≡ NoMemory) × NeedsRoom message.now (layer_told (dust_layer self.old) message.now))) }
-        ensures unchanged { OnErr result (dust_layer self.new ≡ dust_layer self.old) }
-        ensures rest { (self.new.sectors ≡ self.old.sectors) × (self.new.faults ≡ self.old.faults) × (self.new.done ≡ self.old.done) }
+        ensures unchanged { LeavesDust result self.old self.new }
+        ensures rest { DustKeepsCounts self.old self.new }
     {
         match message {
             Message::AddBadBlock(block) => self.add(*block),
@@ -112,8 +113,8 @@ impl Dust {
     fn add(&mut self, block: u64) -> Result<Answer, Refusal>
         ensures ok { IfOk result (λ a. layer_told (dust_layer self.old) (AddBadBlock block) ≡ Answered a (dust_layer self.new)) }
         ensures err { IfErr result (λ r. (layer_told (dust_layer self.old) (AddBadBlock block) ≡ Refused r) ⊎ ((r ≡ NoMemory) × NeedsRoom (AddBadBlock block) (layer_told (dust_layer self.old) (AddBadBlock block)))) }
-        ensures unchanged { OnErr result (dust_layer self.new ≡ dust_layer self.old) }
-        ensures rest { (self.new.sectors ≡ self.old.sectors) × (self.new.faults ≡ self.old.faults) × (self.new.done ≡ self.old.done) }
+        ensures unchanged { LeavesDust result self.old self.new }
+        ensures rest { DustKeepsCounts self.old self.new }
     {
         if self.is_past(block) {
             return Err(Refusal::OutOfRange);
@@ -129,8 +130,8 @@ impl Dust {
     fn remove(&mut self, block: u64) -> Result<Answer, Refusal>
         ensures ok { IfOk result (λ a. layer_told (dust_layer self.old) (RemoveBadBlock block) ≡ Answered a (dust_layer self.new)) }
         ensures err { IfErr result (λ r. layer_told (dust_layer self.old) (RemoveBadBlock block) ≡ Refused r) }
-        ensures unchanged { OnErr result (dust_layer self.new ≡ dust_layer self.old) }
-        ensures rest { (self.new.sectors ≡ self.old.sectors) × (self.new.faults ≡ self.old.faults) × (self.new.done ≡ self.old.done) }
+        ensures unchanged { LeavesDust result self.old self.new }
+        ensures rest { DustKeepsCounts self.old self.new }
     {
         if self.is_past(block) {
             return Err(Refusal::OutOfRange);

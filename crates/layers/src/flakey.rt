@@ -49,6 +49,7 @@ impl Flakey {
     ghost use Rattle.layers.specs.Ticks.{ticked};
     ghost use Rattle.layers.specs.Messages.{layer_told, Answered, Refused};
     ghost use Rattle.std.specs.Prelude.{IfOk, IfErr, OnErr};
+    ghost use Rattle.layers.specs.Calls.{FlakeyKeepsCounts};
 
     /// A layer of so many sectors, those of the device below from `offset` on, at the first second of its `up`. A table
     /// line has an offset of 32 bits.
@@ -118,7 +119,7 @@ impl Flakey {
     pub(crate) fn tick(&mut self, seconds: u32)
         ensures layer { flakey_layer self.new ≡ ticked seconds (flakey_layer self.old) }
         ensures offset { self.new.offset ≡ self.old.offset }
-        ensures rest { (self.new.sectors ≡ self.old.sectors) × (self.new.faults ≡ self.old.faults) × (self.new.done ≡ self.old.done) }
+        ensures rest { FlakeyKeepsCounts self.old self.new }
     {
         self.moment = (self.moment + seconds as u64) % (self.up as u64 + self.down as u64);
     }
@@ -129,7 +130,7 @@ impl Flakey {
         ensures err { IfErr result (λ r. layer_told (flakey_layer self.old) message.now ≡ Refused r) }
         ensures unchanged { OnErr result (self.new ≡ self.old) }
         ensures offset { self.new.offset ≡ self.old.offset }
-        ensures rest { (self.new.sectors ≡ self.old.sectors) × (self.new.faults ≡ self.old.faults) × (self.new.done ≡ self.old.done) }
+        ensures rest { FlakeyKeepsCounts self.old self.new }
     {
         match message {
             Message::Tick(seconds) => {

@@ -1,10 +1,11 @@
 // What the layers of a device are asked and told besides its operations.
-ghost use Rattle.std.specs.Prelude.{◌≡◌, ◌⊎◌, ℕ, ◌+◌, ◌*◌, ◌<◌, ◌≤◌, List, length, IfOk, IfErr, OnErr};
+ghost use Rattle.std.specs.Prelude.{◌≡◌, ◌⊎◌, ◌+◌, ◌*◌, ◌<◌, ◌≤◌, length, IfOk, IfErr, OnErr};
 ghost use Rattle.sector.specs.Bytes.{sectors_at};
 ghost use Rattle.sector.specs.declared.refusal.Refusal.TheVariants.{NoMemory};
 ghost use Rattle.device.specs.Layers.{is_loud as is_loud_list};
 ghost use Rattle.layers.specs.Messages.{told, Answered, Refused, NeedsRoom};
 ghost use Rattle.layers.specs.Ticks.{layers_ticked};
+ghost use Rattle.layers.specs.Keeping.{HoldsNoMore, Keeps};
 
 use crate::{Answer, Message, Stack};
 use device::{Block, FailAt, MemDisk};
@@ -15,12 +16,12 @@ pub trait Layered: Block {
     /// Lets so many seconds pass: the moment of each flakey layer moves on, and nothing else changes.
     fn tick(&mut self, seconds: u32)
         ensures layers { Self.layers self.new ≡ layers_ticked seconds (Self.layers self.old) }
-        ensures contents { Self.contents self.new ≡ Self.contents self.old }
-        ensures durable { Self.durable self.new ≡ Self.durable self.old }
-        ensures size { Self.size self.new ≡ Self.size self.old }
-        ensures faults { Self.fault_count self.new ≡ Self.fault_count self.old }
-        ensures done { Self.done_count self.new ≡ Self.done_count self.old }
-        ensures stop { (s : ℕ) (v : List ℕ) → Self.may_hold self.new s v → Self.may_hold self.old s v };
+        ensures contents { Keeps Self.contents self.old self.new }
+        ensures durable { Keeps Self.durable self.old self.new }
+        ensures size { Keeps Self.size self.old self.new }
+        ensures faults { Keeps Self.fault_count self.old self.new }
+        ensures done { Keeps Self.done_count self.old self.new }
+        ensures stop { HoldsNoMore Self.may_hold self.old self.new };
 
     /// Whether no layer answers writes that it does not do.
     fn is_loud(&self) -> bool
@@ -40,12 +41,12 @@ pub trait Layered: Block {
         ensures ok { IfOk result (λ a. told (Self.layers self.old) depth message.now ≡ Answered a (Self.layers self.new)) }
         ensures err { IfErr result (λ r. (told (Self.layers self.old) depth message.now ≡ Refused r) ⊎ ((r ≡ NoMemory) × NeedsRoom message.now (told (Self.layers self.old) depth message.now))) }
         ensures unchanged { OnErr result (Self.layers self.new ≡ Self.layers self.old) }
-        ensures contents { Self.contents self.new ≡ Self.contents self.old }
-        ensures durable { Self.durable self.new ≡ Self.durable self.old }
-        ensures size { Self.size self.new ≡ Self.size self.old }
-        ensures faults { Self.fault_count self.new ≡ Self.fault_count self.old }
-        ensures done { Self.done_count self.new ≡ Self.done_count self.old }
-        ensures stop { (s : ℕ) (v : List ℕ) → Self.may_hold self.new s v → Self.may_hold self.old s v };
+        ensures contents { Keeps Self.contents self.old self.new }
+        ensures durable { Keeps Self.durable self.old self.new }
+        ensures size { Keeps Self.size self.old self.new }
+        ensures faults { Keeps Self.fault_count self.old self.new }
+        ensures done { Keeps Self.done_count self.old self.new }
+        ensures stop { HoldsNoMore Self.may_hold self.old self.new };
 }
 
 impl Layered for MemDisk {

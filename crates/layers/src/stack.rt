@@ -21,12 +21,10 @@ pub enum Stack {
 impl Block for Stack {
     ghost use Rattle.layers.specs.Stack.{stack_size, stack_contents, stack_durable, stack_layers, stack_faults, stack_done, stack_may_hold};
     ghost use Rattle.layers.specs.Whole.{stack_whole, stack_bounded, stack_holds_now, stack_holds_durable, stack_holds_two, stack_has_like};
-    ghost use Rattle.std.specs.Prelude.{◌≡◌, ◌⊎◌, ℕ, ◌+◌, ◌*◌, ◌-◌, ◌<◌, ◌≤◌, true, List, length, slice_index, if◌then◌else◌, is_ok, OnOk, OnErr, IsTrue};
-    ghost use Rattle.sector.specs.Bytes.{sectors_at, with_sectors, sector_at, next_count};
-    ghost use Rattle.device.specs.declared.operation.Operation.TheVariants.{Reads, Writes, Flushes};
-    ghost use Rattle.device.specs.declared.operation.Fate.TheVariants.{Pass, Drop};
-    ghost use Rattle.device.specs.Layers.{fate, is_answered, is_passed, layers_after, is_loud};
-    ghost use Rattle.layers.specs.Counts.{counts_of, counts_after};
+    ghost use Rattle.std.specs.Prelude.{◌≡◌, ◌+◌, ◌*◌, ◌<◌, ◌≤◌, true, length, OnOk, OnErr, IsTrue};
+    ghost use Rattle.sector.specs.Bytes.{sectors_at, with_sectors};
+    ghost use Rattle.device.specs.Layers.{is_loud};
+    ghost use Rattle.layers.specs.Calls.{AddsOnly, AnswersFlush, AnswersRead, AnswersWrite, ChangesOnly, CountsFault, CountsFlush, CountsOne, CountsRead, CountsWrite, Drops, FirmOnOk, FlushesLayers, GivesSectors, HoldsNoMore, IsFlushed, KeepsContents, KeepsDurable, NoMoreOnErr, Passes, ReadsLayers, SameOnErr, StaysAsLoud, WritesLayers};
 
     ghost size = { stack_size };
 
@@ -76,18 +74,18 @@ impl Block for Stack {
         requires some { 0 < range.count }
         requires inside { range.first + range.count ≤ stack_size self.old }
         requires room { length out.old ≡ 512 * range.count }
-        ensures answer { is_ok result ≡ is_answered (fate (stack_layers self.old) (Reads range.first range.count)) }
-        ensures layers { stack_layers self.new ≡ layers_after (stack_layers self.old) (Reads range.first range.count) }
-        ensures loud { is_loud (stack_layers self.new) ≡ is_loud (stack_layers self.old) }
-        ensures data { OnOk result (out.new ≡ sectors_at (stack_contents self.old) range.first range.count) }
+        ensures answer { AnswersRead range result self.old }
+        ensures layers { ReadsLayers range self.old self.new }
+        ensures loud { StaysAsLoud self.old self.new }
+        ensures data { GivesSectors range result out.new self.old }
         ensures data_err { OnErr result (out.new ≡ out.old) }
-        ensures contents { stack_contents self.new ≡ stack_contents self.old }
-        ensures durable { stack_durable self.new ≡ stack_durable self.old }
+        ensures contents { KeepsContents self.old self.new }
+        ensures durable { KeepsDurable self.old self.new }
         ensures size { stack_size self.new ≡ stack_size self.old }
-        ensures faults { stack_faults self.new ≡ (if is_ok result then stack_faults self.old else next_count (stack_faults self.old)) }
-        ensures done { stack_done self.new ≡ next_count (stack_done self.old) }
-        ensures stop { (s : ℕ) (v : List ℕ) → stack_may_hold self.new s v → stack_may_hold self.old s v }
-        ensures counts { counts_of self.new ≡ counts_after self.old (Reads range.first range.count) }
+        ensures faults { CountsFault result self.old self.new }
+        ensures done { CountsOne self.old self.new }
+        ensures stop { HoldsNoMore self.old self.new }
+        ensures counts { CountsRead range self.old self.new }
     {
         if let Stack::Disk(disk) = self {
             disk.read(range, out)
@@ -101,21 +99,21 @@ impl Block for Stack {
         requires some { 0 < range.count }
         requires inside { range.first + range.count ≤ stack_size self.old }
         requires room { length bytes.now ≡ 512 * range.count }
-        ensures answer { is_ok result ≡ is_answered (fate (stack_layers self.old) (Writes range.first range.count)) }
-        ensures layers { stack_layers self.new ≡ layers_after (stack_layers self.old) (Writes range.first range.count) }
-        ensures loud { is_loud (stack_layers self.new) ≡ is_loud (stack_layers self.old) }
-        ensures passed { fate (stack_layers self.old) (Writes range.first range.count) ≡ Pass → stack_contents self.new ≡ with_sectors (stack_contents self.old) range.first bytes.now }
+        ensures answer { AnswersWrite range result self.old }
+        ensures layers { WritesLayers range self.old self.new }
+        ensures loud { StaysAsLoud self.old self.new }
+        ensures passed { Passes range bytes.now self.old self.new }
         ensures written { OnOk result (IsTrue (is_loud (stack_layers self.old)) → stack_contents self.new ≡ with_sectors (stack_contents self.old) range.first bytes.now) }
-        ensures dropped { fate (stack_layers self.old) (Writes range.first range.count) ≡ Drop → stack_contents self.new ≡ stack_contents self.old }
-        ensures err { OnErr result (stack_contents self.new ≡ stack_contents self.old) }
-        ensures rest { (i : ℕ) → (i < 512 * range.first) ⊎ (512 * (range.first + range.count) ≤ i) → slice_index (stack_contents self.new) i ≡ slice_index (stack_contents self.old) i }
-        ensures durable { stack_durable self.new ≡ stack_durable self.old }
+        ensures dropped { Drops range self.old self.new }
+        ensures err { SameOnErr result self.old self.new }
+        ensures rest { ChangesOnly range self.old self.new }
+        ensures durable { KeepsDurable self.old self.new }
         ensures size { stack_size self.new ≡ stack_size self.old }
-        ensures faults { stack_faults self.new ≡ (if is_ok result then stack_faults self.old else next_count (stack_faults self.old)) }
-        ensures done { stack_done self.new ≡ next_count (stack_done self.old) }
-        ensures stop { (s : ℕ) (v : List ℕ) → stack_may_hold self.new s v → stack_may_hold self.old s v ⊎ ((range.first ≤ s) × (s < range.first + range.count) × (v ≡ sector_at bytes.now (s - range.first))) }
-        ensures stop_err { OnErr result ((s : ℕ) (v : List ℕ) → stack_may_hold self.new s v → stack_may_hold self.old s v) }
-        ensures counts { counts_of self.new ≡ counts_after self.old (Writes range.first range.count) }
+        ensures faults { CountsFault result self.old self.new }
+        ensures done { CountsOne self.old self.new }
+        ensures stop { AddsOnly range bytes.now self.old self.new }
+        ensures stop_err { NoMoreOnErr result self.old self.new }
+        ensures counts { CountsWrite range self.old self.new }
     {
         if let Stack::Disk(disk) = self {
             disk.write(range, bytes)
@@ -126,17 +124,17 @@ impl Block for Stack {
 
     #[inline(always)]
     fn flush(&mut self) -> Result<(), Io>
-        ensures answer { is_ok result ≡ is_answered (fate (stack_layers self.old) Flushes) }
-        ensures layers { stack_layers self.new ≡ layers_after (stack_layers self.old) Flushes }
-        ensures loud { is_loud (stack_layers self.new) ≡ is_loud (stack_layers self.old) }
-        ensures contents { stack_contents self.new ≡ stack_contents self.old }
-        ensures durable { stack_durable self.new ≡ (if is_passed (fate (stack_layers self.old) Flushes) then stack_contents self.old else stack_durable self.old) }
+        ensures answer { AnswersFlush result self.old }
+        ensures layers { FlushesLayers self.old self.new }
+        ensures loud { StaysAsLoud self.old self.new }
+        ensures contents { KeepsContents self.old self.new }
+        ensures durable { IsFlushed self.old self.new }
         ensures size { stack_size self.new ≡ stack_size self.old }
-        ensures faults { stack_faults self.new ≡ (if is_ok result then stack_faults self.old else next_count (stack_faults self.old)) }
-        ensures done { stack_done self.new ≡ next_count (stack_done self.old) }
-        ensures stop { (s : ℕ) (v : List ℕ) → stack_may_hold self.new s v → stack_may_hold self.old s v }
-        ensures flushed { OnOk result (IsTrue (is_loud (stack_layers self.old)) → (s : ℕ) (v : List ℕ) → s < stack_size self.new → stack_may_hold self.new s v → v ≡ sector_at (stack_contents self.new) s) }
-        ensures counts { counts_of self.new ≡ counts_after self.old Flushes }
+        ensures faults { CountsFault result self.old self.new }
+        ensures done { CountsOne self.old self.new }
+        ensures stop { HoldsNoMore self.old self.new }
+        ensures flushed { FirmOnOk result self.old self.new }
+        ensures counts { CountsFlush self.old self.new }
     {
         if let Stack::Disk(disk) = self {
             disk.flush()
@@ -176,37 +174,34 @@ impl Block for Stack {
 }
 
 impl Stack {
-    ghost use Rattle.std.specs.Prelude.{◌≡◌, ◌⊎◌, ◌<◌, ◌≤◌, ◌+◌, ◌*◌, ◌-◌, [], ◌∷◌, ℕ, List, Some, length, None, IfOk, IfErr, IfSome, IfNone, IsTrue, OnOk, OnErr, if◌then◌else◌, is_ok, slice_index};
+    ghost use Rattle.std.specs.Prelude.{◌≡◌, ◌<◌, ◌≤◌, ◌+◌, ◌*◌, [], ◌∷◌, Some, length, None, IfOk, IfSome, IfNone, IsTrue, OnOk, OnErr};
     ghost use Rattle.std.specs.Option.{option_copied};
-    ghost use Rattle.sector.specs.Bytes.{next_count, sector_at, sectors_at, with_sectors};
-    ghost use Rattle.sector.specs.declared.refusal.Refusal.TheVariants.{NoMemory};
-    ghost use Rattle.device.specs.declared.operation.Operation.TheVariants.{Reads, Writes, Flushes};
-    ghost use Rattle.device.specs.declared.operation.Fate.TheVariants.{Pass, Drop};
-    ghost use Rattle.device.specs.Layers.{Window, fate, is_answered, is_loud, is_passed, layers_after};
-    ghost use Rattle.layers.specs.Counts.{counts_after, counts_of};
-    ghost use Rattle.layers.specs.Disk.{disk_of, with_disk, HasSectors, IsLoaded, IsLost};
+    ghost use Rattle.sector.specs.Bytes.{sectors_at, with_sectors};
+    ghost use Rattle.device.specs.Layers.{Window, is_loud};
+    ghost use Rattle.layers.specs.Disk.{disk_of, HasSectors, IsLoaded, IsLost};
     ghost use Rattle.layers.specs.Layer.{flakey_layer, dust_layer};
     ghost use Rattle.layers.specs.Stack.{below_of, stack_size, stack_contents, stack_durable, stack_layers, stack_faults, stack_done, stack_may_hold};
     ghost use Rattle.layers.specs.Beneath.{IsOver};
-    ghost use Rattle.layers.specs.Windows.{beside, layers_below, without_windows};
+    ghost use Rattle.layers.specs.Windows.{beside, layers_below};
+    ghost use Rattle.layers.specs.Calls.{AddsOnly, AnswersFlush, AnswersRead, AnswersWrite, ChangesOnly, ChangesOnlyDisk, CountsFault, CountsFlush, CountsOne, CountsRead, CountsWrite, Drops, FirmOnOk, FlushesLayers, GivesBack, GivesSectors, HoldsNoMore, IsFlushed, KeepsContents, KeepsCounts, KeepsDurable, KeepsLayers, NoMoreOnErr, Passes, ReadsLayers, SameOnErr, StaysAsLoud, WritesLayers};
 
     // The same of a stack in which layers may stand above the disk.
     fn read_under_layers(&mut self, range: Range, out: &mut [u8]) -> Result<(), Io>
         requires some { 0 < range.count }
         requires inside { range.first + range.count ≤ stack_size self.old }
         requires room { length out.old ≡ 512 * range.count }
-        ensures answer { is_ok result ≡ is_answered (fate (stack_layers self.old) (Reads range.first range.count)) }
-        ensures layers { stack_layers self.new ≡ layers_after (stack_layers self.old) (Reads range.first range.count) }
-        ensures loud { is_loud (stack_layers self.new) ≡ is_loud (stack_layers self.old) }
-        ensures data { OnOk result (out.new ≡ sectors_at (stack_contents self.old) range.first range.count) }
+        ensures answer { AnswersRead range result self.old }
+        ensures layers { ReadsLayers range self.old self.new }
+        ensures loud { StaysAsLoud self.old self.new }
+        ensures data { GivesSectors range result out.new self.old }
         ensures data_err { OnErr result (out.new ≡ out.old) }
-        ensures contents { stack_contents self.new ≡ stack_contents self.old }
-        ensures durable { stack_durable self.new ≡ stack_durable self.old }
+        ensures contents { KeepsContents self.old self.new }
+        ensures durable { KeepsDurable self.old self.new }
         ensures size { stack_size self.new ≡ stack_size self.old }
-        ensures faults { stack_faults self.new ≡ (if is_ok result then stack_faults self.old else next_count (stack_faults self.old)) }
-        ensures done { stack_done self.new ≡ next_count (stack_done self.old) }
-        ensures stop { (s : ℕ) (v : List ℕ) → stack_may_hold self.new s v → stack_may_hold self.old s v }
-        ensures counts { counts_of self.new ≡ counts_after self.old (Reads range.first range.count) }
+        ensures faults { CountsFault result self.old self.new }
+        ensures done { CountsOne self.old self.new }
+        ensures stop { HoldsNoMore self.old self.new }
+        ensures counts { CountsRead range self.old self.new }
     {
         match self {
             Stack::Disk(disk) => disk.read(range, out),
@@ -243,21 +238,21 @@ impl Stack {
         requires some { 0 < range.count }
         requires inside { range.first + range.count ≤ stack_size self.old }
         requires room { length bytes.now ≡ 512 * range.count }
-        ensures answer { is_ok result ≡ is_answered (fate (stack_layers self.old) (Writes range.first range.count)) }
-        ensures layers { stack_layers self.new ≡ layers_after (stack_layers self.old) (Writes range.first range.count) }
-        ensures loud { is_loud (stack_layers self.new) ≡ is_loud (stack_layers self.old) }
-        ensures passed { fate (stack_layers self.old) (Writes range.first range.count) ≡ Pass → stack_contents self.new ≡ with_sectors (stack_contents self.old) range.first bytes.now }
+        ensures answer { AnswersWrite range result self.old }
+        ensures layers { WritesLayers range self.old self.new }
+        ensures loud { StaysAsLoud self.old self.new }
+        ensures passed { Passes range bytes.now self.old self.new }
         ensures written { OnOk result (IsTrue (is_loud (stack_layers self.old)) → stack_contents self.new ≡ with_sectors (stack_contents self.old) range.first bytes.now) }
-        ensures dropped { fate (stack_layers self.old) (Writes range.first range.count) ≡ Drop → stack_contents self.new ≡ stack_contents self.old }
-        ensures err { OnErr result (stack_contents self.new ≡ stack_contents self.old) }
-        ensures rest { (i : ℕ) → (i < 512 * range.first) ⊎ (512 * (range.first + range.count) ≤ i) → slice_index (stack_contents self.new) i ≡ slice_index (stack_contents self.old) i }
-        ensures durable { stack_durable self.new ≡ stack_durable self.old }
+        ensures dropped { Drops range self.old self.new }
+        ensures err { SameOnErr result self.old self.new }
+        ensures rest { ChangesOnly range self.old self.new }
+        ensures durable { KeepsDurable self.old self.new }
         ensures size { stack_size self.new ≡ stack_size self.old }
-        ensures faults { stack_faults self.new ≡ (if is_ok result then stack_faults self.old else next_count (stack_faults self.old)) }
-        ensures done { stack_done self.new ≡ next_count (stack_done self.old) }
-        ensures stop { (s : ℕ) (v : List ℕ) → stack_may_hold self.new s v → stack_may_hold self.old s v ⊎ ((range.first ≤ s) × (s < range.first + range.count) × (v ≡ sector_at bytes.now (s - range.first))) }
-        ensures stop_err { OnErr result ((s : ℕ) (v : List ℕ) → stack_may_hold self.new s v → stack_may_hold self.old s v) }
-        ensures counts { counts_of self.new ≡ counts_after self.old (Writes range.first range.count) }
+        ensures faults { CountsFault result self.old self.new }
+        ensures done { CountsOne self.old self.new }
+        ensures stop { AddsOnly range bytes.now self.old self.new }
+        ensures stop_err { NoMoreOnErr result self.old self.new }
+        ensures counts { CountsWrite range self.old self.new }
     {
         match self {
             Stack::Disk(disk) => disk.write(range, bytes),
@@ -297,17 +292,17 @@ impl Stack {
 
     // The same of a stack in which layers may stand above the disk.
     fn flush_under_layers(&mut self) -> Result<(), Io>
-        ensures answer { is_ok result ≡ is_answered (fate (stack_layers self.old) Flushes) }
-        ensures layers { stack_layers self.new ≡ layers_after (stack_layers self.old) Flushes }
-        ensures loud { is_loud (stack_layers self.new) ≡ is_loud (stack_layers self.old) }
-        ensures contents { stack_contents self.new ≡ stack_contents self.old }
-        ensures durable { stack_durable self.new ≡ (if is_passed (fate (stack_layers self.old) Flushes) then stack_contents self.old else stack_durable self.old) }
+        ensures answer { AnswersFlush result self.old }
+        ensures layers { FlushesLayers self.old self.new }
+        ensures loud { StaysAsLoud self.old self.new }
+        ensures contents { KeepsContents self.old self.new }
+        ensures durable { IsFlushed self.old self.new }
         ensures size { stack_size self.new ≡ stack_size self.old }
-        ensures faults { stack_faults self.new ≡ (if is_ok result then stack_faults self.old else next_count (stack_faults self.old)) }
-        ensures done { stack_done self.new ≡ next_count (stack_done self.old) }
-        ensures stop { (s : ℕ) (v : List ℕ) → stack_may_hold self.new s v → stack_may_hold self.old s v }
-        ensures flushed { OnOk result (IsTrue (is_loud (stack_layers self.old)) → (s : ℕ) (v : List ℕ) → s < stack_size self.new → stack_may_hold self.new s v → v ≡ sector_at (stack_contents self.new) s) }
-        ensures counts { counts_of self.new ≡ counts_after self.old Flushes }
+        ensures faults { CountsFault result self.old self.new }
+        ensures done { CountsOne self.old self.new }
+        ensures stop { HoldsNoMore self.old self.new }
+        ensures flushed { FirmOnOk result self.old self.new }
+        ensures counts { CountsFlush self.old self.new }
     {
         match self {
             Stack::Disk(disk) => match disk.flush() {
@@ -370,7 +365,7 @@ impl Stack {
         ensures durable { IfOk result (λ s. stack_durable s ≡ sectors_at (stack_durable self) flakey.offset flakey.sectors) }
         ensures counts { IfOk result (λ s. (stack_faults s ≡ flakey.faults) × (stack_done s ≡ flakey.done)) }
         ensures disk { IfOk result (λ s. disk_of s ≡ disk_of self) }
-        ensures err { IfErr result (λ e. (e.0 ≡ NoMemory) × (e.1 ≡ self)) }
+        ensures err { GivesBack self result }
     {
         match Box::new(alloc, self) {
             Ok(below) => Ok(Stack::Flakey(flakey, below)),
@@ -390,7 +385,7 @@ impl Stack {
         ensures durable { IfOk result (λ s. stack_durable s ≡ sectors_at (stack_durable self) 0 dust.sectors) }
         ensures counts { IfOk result (λ s. (stack_faults s ≡ dust.faults) × (stack_done s ≡ dust.done)) }
         ensures disk { IfOk result (λ s. disk_of s ≡ disk_of self) }
-        ensures err { IfErr result (λ e. (e.0 ≡ NoMemory) × (e.1 ≡ self)) }
+        ensures err { GivesBack self result }
     {
         match Box::new(alloc, self) {
             Ok(below) => Ok(Stack::Dust(dust, below)),
@@ -430,10 +425,10 @@ impl Stack {
         requires room { length bytes.now ≡ 512 * range.count }
         ensures disk { IsLoaded range.first bytes.now (disk_of self.old) (disk_of self.new) }
         ensures bare { stack_layers self.old ≡ [] → (stack_layers self.new ≡ []) × (stack_contents self.new ≡ with_sectors (stack_contents self.old) range.first bytes.now) × (stack_durable self.new ≡ with_sectors (stack_durable self.old) range.first bytes.now) }
-        ensures same { self.new ≡ with_disk self.old (disk_of self.new) }
-        ensures layers { without_windows (stack_layers self.new) ≡ without_windows (stack_layers self.old) }
+        ensures same { ChangesOnlyDisk self.old self.new }
+        ensures layers { KeepsLayers self.old self.new }
         ensures size { stack_size self.new ≡ stack_size self.old }
-        ensures counts { (stack_faults self.new ≡ stack_faults self.old) × (stack_done self.new ≡ stack_done self.old) }
+        ensures counts { KeepsCounts self.old self.new }
     {
         match self {
             Stack::Disk(disk) => disk.load(range, bytes),
@@ -447,12 +442,12 @@ impl Stack {
     /// reached it. The layers stay. It counts no operation.
     pub fn lose(&mut self)
         ensures disk { IsLost (disk_of self.old) (disk_of self.new) }
-        ensures same { self.new ≡ with_disk self.old (disk_of self.new) }
+        ensures same { ChangesOnlyDisk self.old self.new }
         ensures contents { stack_contents self.new ≡ stack_durable self.old }
-        ensures durable { stack_durable self.new ≡ stack_durable self.old }
-        ensures layers { without_windows (stack_layers self.new) ≡ without_windows (stack_layers self.old) }
+        ensures durable { KeepsDurable self.old self.new }
+        ensures layers { KeepsLayers self.old self.new }
         ensures size { stack_size self.new ≡ stack_size self.old }
-        ensures counts { (stack_faults self.new ≡ stack_faults self.old) × (stack_done self.new ≡ stack_done self.old) }
+        ensures counts { KeepsCounts self.old self.new }
     {
         match self {
             Stack::Disk(disk) => disk.lose(),

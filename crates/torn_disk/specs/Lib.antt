@@ -1,3 +1,4 @@
 pub mod Torn
 pub mod TornDisk
 pub mod Laws
+pub mod Calls

@@ -6,10 +6,11 @@ ghost use Rattle.sector.specs.Bytes.{sectors_at, with_sectors, sector_at, next_c
 ghost use Rattle.device.specs.declared.operation.Operation.TheVariants.{Reads, Writes, Flushes};
 ghost use Rattle.device.specs.declared.operation.Fate.TheVariants.{Pass, Drop};
 ghost use Rattle.device.specs.Disk.{disk_size, disk_contents, disk_durable};
-ghost use Rattle.device.specs.Layers.{Tearing, fate, is_answered, is_passed, layers_after, is_loud, counted_after};
+ghost use Rattle.device.specs.Layers.{Tearing, fate, is_answered, is_passed, layers_after, is_loud};
 ghost use Rattle.torn_disk.specs.TornDisk.{changes_left, new_sectors, kept_aside, torn_disk_contents, torn_disk_size, torn_disk_durable, torn_disk_may_hold, torn_disk_layers};
 ghost use Rattle.torn_disk.specs.Laws.{torn_disk_whole, torn_disk_small};
 ghost use Rattle.torn_disk.specs.Torn.{IsTornBy};
+ghost use Rattle.torn_disk.specs.Calls.{CountsFault, HoldsNoMore, KeepsAside, KeepsContents, KeepsDurable, KeepsNew, KeepsSize, LeavesFewer, StaysAsLoud};
 
 use crate::torn_disk::TornDisk;
 use device::{Block, Io};
@@ -51,21 +52,21 @@ impl Block for TornDisk {
 
         ensures answer { is_ok result ≡ is_answered (fate (torn_disk_layers self.old) (Reads range.first range.count)) }
         ensures layers { torn_disk_layers self.new ≡ layers_after (torn_disk_layers self.old) (Reads range.first range.count) }
-        ensures loud { is_loud (torn_disk_layers self.new) ≡ is_loud (torn_disk_layers self.old) }
+        ensures loud { StaysAsLoud self.old self.new }
 
         ensures data { OnOk result (out.new ≡ sectors_at (torn_disk_contents self.old) range.first range.count) }
         ensures data_err { OnErr result (out.new ≡ out.old) }
 
-        ensures contents { torn_disk_contents self.new ≡ torn_disk_contents self.old }
-        ensures durable { torn_disk_durable self.new ≡ torn_disk_durable self.old }
-        ensures size { torn_disk_size self.new ≡ torn_disk_size self.old }
-        ensures faults { self.new.faults ≡ (if is_ok result then self.old.faults else next_count self.old.faults) }
+        ensures contents { KeepsContents self.old self.new }
+        ensures durable { KeepsDurable self.old self.new }
+        ensures size { KeepsSize self.old self.new }
+        ensures faults { CountsFault result self.old self.new }
         ensures done { self.new.done ≡ next_count self.old.done }
-        ensures stop { (s : ℕ) (v : List ℕ) → torn_disk_may_hold self.new s v → torn_disk_may_hold self.old s v }
+        ensures stop { HoldsNoMore self.old self.new }
 
         ensures left { changes_left self.new ≡ changes_left self.old }
         ensures kept { kept_aside self.new ≡ kept_aside self.old }
-        ensures sectors { new_sectors self.new ≡ new_sectors self.old }
+        ensures sectors { KeepsNew self.old self.new }
     {
         self.done = self.done.wrapping_add(1);
         match self.left {
@@ -81,7 +82,7 @@ impl Block for TornDisk {
 
         ensures answer { is_ok result ≡ is_answered (fate (torn_disk_layers self.old) (Writes range.first range.count)) }
         ensures layers { torn_disk_layers self.new ≡ layers_after (torn_disk_layers self.old) (Writes range.first range.count) }
-        ensures loud { is_loud (torn_disk_layers self.new) ≡ is_loud (torn_disk_layers self.old) }
+        ensures loud { StaysAsLoud self.old self.new }
 
         ensures passed { fate (torn_disk_layers self.old) (Writes range.first range.count) ≡ Pass → torn_disk_contents self.new ≡ with_sectors (torn_disk_contents self.old) range.first bytes.now }
         ensures written { OnOk result (IsTrue (is_loud (torn_disk_layers self.old)) → torn_disk_contents self.new ≡ with_sectors (torn_disk_contents self.old) range.first bytes.now) }
@@ -89,17 +90,17 @@ impl Block for TornDisk {
         ensures err { OnErr result (torn_disk_contents self.new ≡ torn_disk_contents self.old) }
 
         ensures rest { (i : ℕ) → (i < 512 * range.first) ⊎ (512 * (range.first + range.count) ≤ i) → slice_index (torn_disk_contents self.new) i ≡ slice_index (torn_disk_contents self.old) i }
-        ensures durable { torn_disk_durable self.new ≡ torn_disk_durable self.old }
-        ensures size { torn_disk_size self.new ≡ torn_disk_size self.old }
-        ensures faults { self.new.faults ≡ (if is_ok result then self.old.faults else next_count self.old.faults) }
+        ensures durable { KeepsDurable self.old self.new }
+        ensures size { KeepsSize self.old self.new }
+        ensures faults { CountsFault result self.old self.new }
         ensures done { self.new.done ≡ next_count self.old.done }
         ensures stop { (s : ℕ) (v : List ℕ) → torn_disk_may_hold self.new s v → torn_disk_may_hold self.old s v ⊎ ((range.first ≤ s) × (s < range.first + range.count) × (v ≡ sector_at bytes.now (s - range.first))) }
         ensures stop_err { OnErr result ((s : ℕ) (v : List ℕ) → torn_disk_may_hold self.new s v → torn_disk_may_hold self.old s v) }
 
-        ensures left { changes_left self.new ≡ counted_after (changes_left self.old) }
+        ensures left { LeavesFewer self.old self.new }
         ensures torn { changes_left self.old ≡ Some 0 → IfSome (kept_aside self.new) (λ d. IsTornBy (new_sectors self.old) range.first range.count bytes.now (torn_disk_contents self.old) (disk_contents d) × (disk_durable d ≡ torn_disk_durable self.old) × (disk_size d ≡ torn_disk_size self.old)) }
-        ensures kept { IfSome (kept_aside self.old) (λ d. kept_aside self.new ≡ Some d) }
-        ensures sectors { new_sectors self.new ≡ new_sectors self.old }
+        ensures kept { KeepsAside self.old self.new }
+        ensures sectors { KeepsNew self.old self.new }
     {
         self.done = self.done.wrapping_add(1);
         match self.left {
@@ -115,20 +116,20 @@ impl Block for TornDisk {
     fn flush(&mut self) -> Result<(), Io>
         ensures answer { is_ok result ≡ is_answered (fate (torn_disk_layers self.old) Flushes) }
         ensures layers { torn_disk_layers self.new ≡ layers_after (torn_disk_layers self.old) Flushes }
-        ensures loud { is_loud (torn_disk_layers self.new) ≡ is_loud (torn_disk_layers self.old) }
+        ensures loud { StaysAsLoud self.old self.new }
 
-        ensures contents { torn_disk_contents self.new ≡ torn_disk_contents self.old }
+        ensures contents { KeepsContents self.old self.new }
         ensures durable { torn_disk_durable self.new ≡ (if is_passed (fate (torn_disk_layers self.old) Flushes) then torn_disk_contents self.old else torn_disk_durable self.old) }
-        ensures size { torn_disk_size self.new ≡ torn_disk_size self.old }
-        ensures faults { self.new.faults ≡ (if is_ok result then self.old.faults else next_count self.old.faults) }
+        ensures size { KeepsSize self.old self.new }
+        ensures faults { CountsFault result self.old self.new }
         ensures done { self.new.done ≡ next_count self.old.done }
-        ensures stop { (s : ℕ) (v : List ℕ) → torn_disk_may_hold self.new s v → torn_disk_may_hold self.old s v }
+        ensures stop { HoldsNoMore self.old self.new }
         ensures flushed { OnOk result (IsTrue (is_loud (torn_disk_layers self.old)) → (s : ℕ) (v : List ℕ) → s < torn_disk_size self.new → torn_disk_may_hold self.new s v → v ≡ sector_at (torn_disk_contents self.new) s) }
 
-        ensures left { changes_left self.new ≡ counted_after (changes_left self.old) }
+        ensures left { LeavesFewer self.old self.new }
         ensures aside { changes_left self.old ≡ Some 0 → IfSome (kept_aside self.new) (λ d. (disk_contents d ≡ torn_disk_contents self.old) × (disk_durable d ≡ torn_disk_durable self.old) × (disk_size d ≡ torn_disk_size self.old)) }
-        ensures kept { IfSome (kept_aside self.old) (λ d. kept_aside self.new ≡ Some d) }
-        ensures sectors { new_sectors self.new ≡ new_sectors self.old }
+        ensures kept { KeepsAside self.old self.new }
+        ensures sectors { KeepsNew self.old self.new }
     {
         self.done = self.done.wrapping_add(1);
         match self.left {

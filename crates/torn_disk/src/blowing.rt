@@ -6,6 +6,7 @@ ghost use Rattle.sector.specs.declared.refusal.Refusal.TheVariants.{NoMemory};
 ghost use Rattle.device.specs.Disk.{disk_size, disk_contents, disk_durable};
 ghost use Rattle.torn_disk.specs.TornDisk.{changes_left, new_sectors, kept_aside, torn_disk_contents, torn_disk_size, torn_disk_durable};
 ghost use Rattle.torn_disk.specs.Torn.{IsTornBy};
+ghost use Rattle.torn_disk.specs.Calls.{CountsOne, ShowsFormer};
 
 use crate::tear::tear;
 use crate::torn_disk::TornDisk;
@@ -71,9 +72,9 @@ impl TornDisk {
         ensures failed { is_ok result ≡ false }
         ensures blown { self.new.left ≡ None }
         ensures disk { self.new.disk ≡ self.old.disk }
-        ensures before { self.new.before.items ≡ disk_contents self.old.disk }
+        ensures before { ShowsFormer self.old self.new }
         ensures reaching { self.new.reaching ≡ self.old.reaching }
-        ensures faults { self.new.faults ≡ next_count self.old.faults }
+        ensures faults { CountsOne self.old self.new }
         ensures done { self.new.done ≡ self.old.done }
     {
         let sectors = self.disk.sectors();
@@ -97,9 +98,9 @@ impl TornDisk {
         ensures torn { IsTornBy self.old.reaching.items range.first range.count bytes.now (disk_contents self.old.disk) (disk_contents self.new.disk) }
         ensures durable { disk_durable self.new.disk ≡ disk_durable self.old.disk }
         ensures size { disk_size self.new.disk ≡ disk_size self.old.disk }
-        ensures before { self.new.before.items ≡ disk_contents self.old.disk }
+        ensures before { ShowsFormer self.old self.new }
         ensures reaching { self.new.reaching.items ≡ self.old.reaching.items }
-        ensures faults { self.new.faults ≡ next_count self.old.faults }
+        ensures faults { CountsOne self.old self.new }
         ensures done { self.new.done ≡ self.old.done }
     {
         let failed = self.blow();

@@ -1,8 +1,9 @@
 // A write that is torn: some of its sectors reach the disk.
 ghost use Rattle.std.specs.Prelude.{◌≡◌, ◌+◌, ◌*◌, ◌≤◌, length};
 ghost use Rattle.sector.specs.Bytes.{sector_at, with_sectors};
-ghost use Rattle.device.specs.Disk.{disk_size, disk_contents, disk_durable};
+ghost use Rattle.device.specs.Disk.{disk_size, disk_contents};
 ghost use Rattle.torn_disk.specs.Torn.{IsTornBy, is_new};
+ghost use Rattle.torn_disk.specs.Calls.{DiskKeepsDurable};
 
 use device::{Block, MemDisk};
 use sector::{Range, SECTOR_BYTES};
@@ -13,7 +14,7 @@ pub(crate) fn tear(disk: &mut MemDisk, range: Range, bytes: &[u8], new: &[bool])
     requires inside { range.first + range.count ≤ disk_size disk.old }
     requires room { length bytes.now ≡ 512 * range.count }
     ensures torn { IsTornBy new.now range.first range.count bytes.now (disk_contents disk.old) (disk_contents disk.new) }
-    ensures durable { disk_durable disk.new ≡ disk_durable disk.old }
+    ensures durable { DiskKeepsDurable disk.old disk.new }
     ensures size { disk_size disk.new ≡ disk_size disk.old }
 {
     for i in 0..range.count {
@@ -39,7 +40,7 @@ fn write_one(disk: &mut MemDisk, range: Range, i: u32, bytes: &[u8])
     requires inside { range.first + range.count ≤ disk_size disk.old }
     requires room { length bytes.now ≡ 512 * range.count }
     ensures contents { disk_contents disk.new ≡ with_sectors (disk_contents disk.old) (range.first + i) (sector_at bytes.now i) }
-    ensures durable { disk_durable disk.new ≡ disk_durable disk.old }
+    ensures durable { DiskKeepsDurable disk.old disk.new }
     ensures size { disk_size disk.new ≡ disk_size disk.old }
 {
     let at = i as usize * SECTOR_BYTES;
