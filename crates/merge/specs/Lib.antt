@@ -5,3 +5,4 @@ pub mod Lists
 pub mod Looks
 pub mod Merging
 pub mod Steps
+pub mod Devices

@@ -1,8 +1,9 @@
 // A merge does an operation of its store's device ahead.
-ghost use Rattle.std.specs.Prelude.{◌≡◌};
-ghost use Rattle.device.specs.Ahead.{IsAhead};
-ghost use Rattle.device.specs.CanDoAhead.{CanDoAhead};
+ghost use Rattle.std.specs.Prelude.{◌≡◌, ℕ};
+ghost use Rattle.device.specs.CanDoAhead.{CanDoAhead, IsWrite};
 ghost use Rattle.device.specs.Layers.{fate, is_answered};
+ghost use Rattle.device.specs.declared.operation.Operation.TheVariants.{Writes};
+ghost use Rattle.merge.specs.Devices.{ChangesOnlyDevice, IsDoneAhead};
 
 use crate::Merge;
 use device::{Ahead, Operation};
@@ -18,8 +19,9 @@ impl<B: Ahead> Merge<B> {
     /// Does an operation of its store's device ahead, and says whether it will be answered. Nothing else changes.
     pub fn ahead(&mut self, operation: Operation) -> bool
         ensures told { CanDoAhead (B.size self.old.device) operation → result ≡ is_answered (fate (B.layers self.new.device) operation) }
-        ensures does { IsAhead B.may_hold B.contents B.layers B.size B.fault_count B.done_count self.old.device self.new.device }
-        ensures same { self.new ≡ record self.old { device = self.new.device } }
+        ensures writes { (first count : ℕ) → IsWrite operation → result ≡ is_answered (fate (B.layers self.new.device) (Writes first count)) }
+        ensures does { IsDoneAhead B.Block self.old self.new }
+        ensures same { ChangesOnlyDevice self.old self.new }
     {
         self.store.ahead(operation)
     }

@@ -1,5 +1,5 @@
 // An area is written without the group's slots, or the area before an empty one is read.
-ghost use Rattle.std.specs.Prelude.{◌≡◌, ◌+◌, ◌-◌, ◌*◌, ◌<◌, Bool, length, take, replicate, is_ok, OnOk, OnErr, IsTrue, true, false};
+ghost use Rattle.std.specs.Prelude.{◌≡◌, ◌+◌, ◌-◌, ◌*◌, ◌<◌, Bool, length, take, replicate, is_ok, OnOk, IsTrue, true, false};
 ghost use Rattle.sector.specs.Bytes.{with_part};
 ghost use Rattle.device.specs.declared.operation.Operation.TheVariants.{Reads, Writes};
 ghost use Rattle.device.specs.Layers.{is_loud};
@@ -11,7 +11,7 @@ ghost use Rattle.merge.specs.Lists.{changed, committed_in, copied_count};
 ghost use Rattle.volume_laws.specs.MergeSteps.{CommitsGroup, ReadsArea};
 ghost use Rattle.merge.specs.Merging.{books_of, due_of};
 ghost use Rattle.merge.specs.Steps.{WritesArea};
-ghost use Rattle.stop_laws.specs.Firm.{AddsNow};
+ghost use Rattle.merge.specs.Devices.{KeepsBytes, KeepsDurable, KeepsSize, KeptOnErr, MayHoldNowIfLoud, SameOnErr, StaysAsLoud};
 
 use crate::{Group, Merge, Progress};
 use device::{Block, Io};
@@ -23,16 +23,16 @@ impl<B: Block> Merge<B> {
         requires due { can_commit_of self.old.group ≡ true }
 
         ensures operation { IsOneOperation (Writes (self.old.state.chunk * area_place self.old.state.chunk self.old.state.current) self.old.state.chunk) (is_ok result) (B.layers self.old.device) (B.layers self.new.device) (B.fault_count self.old.device) (B.fault_count self.new.device) (B.done_count self.old.device) (B.done_count self.new.device) }
-        ensures loud { is_loud (B.layers self.new.device) ≡ is_loud (B.layers self.old.device) }
+        ensures loud { StaysAsLoud B.Block self.old self.new }
         ensures written { OnOk result (IsTrue (is_loud (B.layers self.old.device)) → B.contents self.new.device ≡ with_part (B.contents self.old.device) (slot_start self.old.state.chunk self.old.state.current (self.old.state.filled - copied_count self.old.group)) (replicate (16 * copied_count self.old.group) 0)) }
-        ensures same { OnErr result (B.contents self.new.device ≡ B.contents self.old.device) }
-        ensures durable { B.durable self.new.device ≡ B.durable self.old.device }
-        ensures adds { IsTrue (is_loud (B.layers self.old.device)) → AddsNow (B.may_hold self.old.device) (B.may_hold self.new.device) (B.contents self.new.device) }
-        ensures size { B.size self.new.device ≡ B.size self.old.device }
+        ensures same { SameOnErr B.Block result self.old self.new }
+        ensures durable { KeepsDurable B.Block self.old self.new }
+        ensures adds { MayHoldNowIfLoud B.Block self.old self.new }
+        ensures size { KeepsSize B.Block self.old self.new }
 
         ensures fields { OnOk result (self.new ≡ record self.old { device = self.new.device; state = record self.old.state { filled = self.old.state.filled - copied_count self.old.group; sure = length (take (length self.old.pairs - copied_count self.old.group) self.old.pairs); copying = false }; next = area_place self.old.state.chunk self.old.state.current + (self.old.state.filled - copied_count self.old.group) + 1; pairs = take (length self.old.pairs - copied_count self.old.group) self.old.pairs; group = changed committed_in self.old.group }) }
         ensures step { OnOk result ((loud : Bool) → (loud ≡ true → is_loud (B.layers self.old.device) ≡ true) → CommitsGroup self.new.pairs (B.contents self.new.device) (due_of B.contents loud self.old) (due_of B.contents loud self.new) × WritesArea self.old.state.current (books_of B.contents loud self.old) (books_of B.contents loud self.new)) }
-        ensures kept { OnErr result (self.new ≡ record self.old { device = self.new.device }) }
+        ensures kept { KeptOnErr result self.old self.new }
     {
         let Some(group) = self.group else {
             unreachable!()
@@ -53,15 +53,15 @@ impl<B: Block> Merge<B> {
         requires due { can_read_area_of self.old ≡ true }
 
         ensures operation { IsOneOperation (Reads (self.old.state.chunk * area_place self.old.state.chunk (self.old.state.current - 1)) self.old.state.chunk) (is_ok result) (B.layers self.old.device) (B.layers self.new.device) (B.fault_count self.old.device) (B.fault_count self.new.device) (B.done_count self.old.device) (B.done_count self.new.device) }
-        ensures loud { is_loud (B.layers self.new.device) ≡ is_loud (B.layers self.old.device) }
-        ensures same { B.contents self.new.device ≡ B.contents self.old.device }
-        ensures durable { B.durable self.new.device ≡ B.durable self.old.device }
-        ensures adds { IsTrue (is_loud (B.layers self.old.device)) → AddsNow (B.may_hold self.old.device) (B.may_hold self.new.device) (B.contents self.new.device) }
-        ensures size { B.size self.new.device ≡ B.size self.old.device }
+        ensures loud { StaysAsLoud B.Block self.old self.new }
+        ensures same { KeepsBytes B.Block self.old self.new }
+        ensures durable { KeepsDurable B.Block self.old self.new }
+        ensures adds { MayHoldNowIfLoud B.Block self.old self.new }
+        ensures size { KeepsSize B.Block self.old self.new }
 
         ensures fields { OnOk result (self.new ≡ record self.old { device = self.new.device; state = record self.old.state { current = self.old.state.current - 1; filled = 32 * self.old.state.chunk; zeroed = false; firm = false; copying = false } }) }
         ensures step { OnOk result ((loud : Bool) → ReadsArea (due_of B.contents loud self.old) (due_of B.contents loud self.new)) }
-        ensures kept { OnErr result (self.new ≡ record self.old { device = self.new.device }) }
+        ensures kept { KeptOnErr result self.old self.new }
     {
         match self.store.merge_area_read() {
             Ok(()) => {}

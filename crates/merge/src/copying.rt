@@ -17,6 +17,9 @@ ghost use Rattle.volume_laws.specs.MergeSteps.{ReadsBack, WritesBack, FlushesBac
 ghost use Rattle.merge.specs.declared.group.Group.{Group};
 ghost use Rattle.merge.specs.Steps.{ReadsInto, WritesOrigin, IsWaiting};
 ghost use Rattle.stop_laws.specs.Firm.{AddsNow, IsFirm};
+ghost use Rattle.merge.specs.Devices.{ChangesOnlyDevice, FirmOnOk, IsFlushed, KeepsBytes, KeepsDurable, KeepsSize, KeptOnErr, MayHoldNowIfLoud, StaysAsLoud};
+ghost use Rattle.store.specs.Calls.{KeepsExceptions};
+ghost use Rattle.store.specs.Devices.{AddsNowIfLoud, IsAsLoud, Keeps};
 
 use crate::group::is_copyable;
 use crate::{Group, Merge, Progress};
@@ -32,15 +35,15 @@ impl<B: Block> Merge<B> {
         requires due { IsSome (next_read_of self.old.group) }
 
         ensures operation { (q : Pair) → next_read_of self.old.group ≡ Some q → IsOneOperation (Reads (self.old.state.chunk * q.new) (count_of self.old.state.chunk self.old.state.origin q.old)) (is_ok result) (B.layers self.old.device) (B.layers self.new.device) (B.fault_count self.old.device) (B.fault_count self.new.device) (B.done_count self.old.device) (B.done_count self.new.device) }
-        ensures loud { is_loud (B.layers self.new.device) ≡ is_loud (B.layers self.old.device) }
-        ensures same { B.contents self.new.device ≡ B.contents self.old.device }
-        ensures durable { B.durable self.new.device ≡ B.durable self.old.device }
-        ensures adds { IsTrue (is_loud (B.layers self.old.device)) → AddsNow (B.may_hold self.old.device) (B.may_hold self.new.device) (B.contents self.new.device) }
-        ensures size { B.size self.new.device ≡ B.size self.old.device }
+        ensures loud { StaysAsLoud B.Block self.old self.new }
+        ensures same { KeepsBytes B.Block self.old self.new }
+        ensures durable { KeepsDurable B.Block self.old self.new }
+        ensures adds { MayHoldNowIfLoud B.Block self.old self.new }
+        ensures size { KeepsSize B.Block self.old self.new }
 
         ensures fields { (q : Pair) → next_read_of self.old.group ≡ Some q → OnOk result (self.new ≡ record self.old { device = self.new.device; group = changed taken_in self.old.group; buffer = with_part self.old.buffer 0 (sectors_at (B.contents self.old.device) (self.old.state.chunk * q.new) (count_of self.old.state.chunk self.old.state.origin q.old)) }) }
         ensures step { (q : Pair) → next_read_of self.old.group ≡ Some q → OnOk result ((loud : Bool) → ReadsBack (waiting_of self.new.group) q self.new.buffer (due_of B.contents loud self.old) (due_of B.contents loud self.new) × ReadsInto q (books_of B.contents loud self.old) (books_of B.contents loud self.new)) }
-        ensures kept { OnErr result (self.new ≡ record self.old { device = self.new.device }) }
+        ensures kept { KeptOnErr result self.old self.new }
     {
         let Some(pair) = self.next_read() else {
             unreachable!()
@@ -61,12 +64,12 @@ impl<B: Block> Merge<B> {
         requires sectors { B.size origin.old ≡ self.old.state.origin }
 
         ensures operation { (q : Pair) → full_of self.old.group ≡ Some q → IsOneOperation (Writes (self.old.state.chunk * q.old) (count_of self.old.state.chunk self.old.state.origin q.old)) (is_ok result) (B.layers origin.old) (B.layers origin.new) (B.fault_count origin.old) (B.fault_count origin.new) (B.done_count origin.old) (B.done_count origin.new) }
-        ensures loud { is_loud (B.layers origin.new) ≡ is_loud (B.layers origin.old) }
+        ensures loud { IsAsLoud B.layers origin.old origin.new }
         ensures written { (q : Pair) → full_of self.old.group ≡ Some q → OnOk result (IsTrue (is_loud (B.layers origin.old)) → B.contents origin.new ≡ with_sectors (B.contents origin.old) (self.old.state.chunk * q.old) (take (512 * count_of self.old.state.chunk self.old.state.origin q.old) self.old.buffer)) }
         ensures same { OnErr result (B.contents origin.new ≡ B.contents origin.old) }
-        ensures durable { B.durable origin.new ≡ B.durable origin.old }
-        ensures adds { IsTrue (is_loud (B.layers origin.old)) → AddsNow (B.may_hold origin.old) (B.may_hold origin.new) (B.contents origin.new) }
-        ensures size { B.size origin.new ≡ B.size origin.old }
+        ensures durable { Keeps B.durable origin.old origin.new }
+        ensures adds { AddsNowIfLoud B.Block origin.old origin.new }
+        ensures size { Keeps B.size origin.old origin.new }
 
         ensures fields { OnOk result (self.new ≡ record self.old { group = changed written_in self.old.group }) }
         ensures step { (q : Pair) → full_of self.old.group ≡ Some q → OnOk result ((loud : Bool) → (loud ≡ true → is_loud (B.layers origin.old) ≡ true) → WritesBack q (due_of B.contents loud self.old) (due_of B.contents loud self.new) × WritesOrigin q (B.contents origin.old) (B.contents origin.new) (books_of B.contents loud self.old)) }
@@ -97,7 +100,7 @@ impl<B: Block> Merge<B> {
         ensures waits { result ≡ true → (g : Group) → self.old.group ≡ Some g → IsWaiting g self.old }
         ensures copied { result ≡ true → (g : Group) → self.old.group ≡ Some g → B.contents origin.new ≡ with_sectors (B.contents origin.old) (self.old.state.chunk * g.first.old) (sectors_at (B.contents self.old.device) (self.old.state.chunk * g.first.new) (self.old.state.chunk * g.waiting)) }
         ensures fields { result ≡ true → (g : Group) → self.old.group ≡ Some g → self.new ≡ record self.old { device = self.new.device; group = Some (copied_in g); buffer = sectors_at (B.contents self.old.device) (self.old.state.chunk * g.first.new) self.old.state.chunk } }
-        ensures same { B.contents self.new.device ≡ B.contents self.old.device }
+        ensures same { KeepsBytes B.Block self.old self.new }
         ensures layers { (B.layers origin.new ≡ B.layers origin.old) × (B.layers self.new.device ≡ B.layers self.old.device) }
         ensures durable { (B.durable origin.new ≡ B.durable origin.old) × (B.durable self.new.device ≡ B.durable self.old.device) }
         ensures size { (B.size origin.new ≡ B.size origin.old) × (B.size self.new.device ≡ B.size self.old.device) }
@@ -139,12 +142,12 @@ impl<B: Block> Merge<B> {
         requires due { can_flush_of self.old.group ≡ true }
 
         ensures operation { IsOneOperation Flushes (is_ok result) (B.layers origin.old) (B.layers origin.new) (B.fault_count origin.old) (B.fault_count origin.new) (B.done_count origin.old) (B.done_count origin.new) }
-        ensures loud { is_loud (B.layers origin.new) ≡ is_loud (B.layers origin.old) }
+        ensures loud { IsAsLoud B.layers origin.old origin.new }
         ensures same { B.contents origin.new ≡ B.contents origin.old }
         ensures durable { B.durable origin.new ≡ (if is_passed (fate (B.layers origin.old) Flushes) then B.contents origin.old else B.durable origin.old) }
-        ensures adds { IsTrue (is_loud (B.layers origin.old)) → AddsNow (B.may_hold origin.old) (B.may_hold origin.new) (B.contents origin.new) }
+        ensures adds { AddsNowIfLoud B.Block origin.old origin.new }
         ensures firm { OnOk result (IsTrue (is_loud (B.layers origin.old)) → IsFirm (B.may_hold origin.new) (B.contents origin.new) (B.size origin.new)) }
-        ensures size { B.size origin.new ≡ B.size origin.old }
+        ensures size { Keeps B.size origin.old origin.new }
 
         ensures fields { OnOk result (self.new ≡ record self.old { group = changed flushed_in self.old.group }) }
         ensures step { OnOk result ((loud : Bool) → FlushesBack (due_of B.contents loud self.old) (due_of B.contents loud self.new)) }
@@ -163,13 +166,13 @@ impl<B: Block> Merge<B> {
     /// changes, and at `Io` nothing but the device's counts and layers.
     pub fn flush_store(&mut self) -> Result<(), Io>
         ensures operation { IsOneOperation Flushes (is_ok result) (B.layers self.old.device) (B.layers self.new.device) (B.fault_count self.old.device) (B.fault_count self.new.device) (B.done_count self.old.device) (B.done_count self.new.device) }
-        ensures loud { is_loud (B.layers self.new.device) ≡ is_loud (B.layers self.old.device) }
-        ensures same { B.contents self.new.device ≡ B.contents self.old.device }
-        ensures durable { B.durable self.new.device ≡ (if is_passed (fate (B.layers self.old.device) Flushes) then B.contents self.old.device else B.durable self.old.device) }
-        ensures adds { IsTrue (is_loud (B.layers self.old.device)) → AddsNow (B.may_hold self.old.device) (B.may_hold self.new.device) (B.contents self.new.device) }
-        ensures firm { OnOk result (IsTrue (is_loud (B.layers self.old.device)) → IsFirm (B.may_hold self.new.device) (B.contents self.new.device) (B.size self.new.device)) }
-        ensures size { B.size self.new.device ≡ B.size self.old.device }
-        ensures fields { self.new ≡ record self.old { device = self.new.device } }
+        ensures loud { StaysAsLoud B.Block self.old self.new }
+        ensures same { KeepsBytes B.Block self.old self.new }
+        ensures durable { IsFlushed B.Block self.old self.new }
+        ensures adds { MayHoldNowIfLoud B.Block self.old self.new }
+        ensures firm { FirmOnOk B.Block result self.old self.new }
+        ensures size { KeepsSize B.Block self.old self.new }
+        ensures fields { ChangesOnlyDevice self.old self.new }
         ensures books { (loud : Bool) → due_of B.contents loud self.new ≡ due_of B.contents loud self.old }
     {
         self.store.flush_last()
@@ -191,7 +194,7 @@ fn fetch<B: Block>(store: &mut Store<B>, buffer: &mut [u8], pair: Pair) -> Resul
     ensures adds { IsTrue (is_loud (B.layers store.old.device)) → AddsNow (B.may_hold store.old.device) (B.may_hold store.new.device) (B.contents store.new.device) }
     ensures size { B.size store.new.device ≡ B.size store.old.device }
 
-    ensures exceptions { store.new.exceptions ≡ store.old.exceptions }
+    ensures exceptions { KeepsExceptions store.old store.new }
     ensures places { store.new.places ≡ store.old.places }
     ensures state { store.new.state ≡ store.old.state }
 {
@@ -219,13 +222,13 @@ fn put_back<B: Block>(
     requires room { length buffer.now ≡ 512 * chunk }
 
     ensures operation { IsOneOperation (Writes (chunk * old) (count_of chunk (B.size origin.old) old)) (is_ok result) (B.layers origin.old) (B.layers origin.new) (B.fault_count origin.old) (B.fault_count origin.new) (B.done_count origin.old) (B.done_count origin.new) }
-    ensures loud { is_loud (B.layers origin.new) ≡ is_loud (B.layers origin.old) }
+    ensures loud { IsAsLoud B.layers origin.old origin.new }
     ensures written { OnOk result (IsTrue (is_loud (B.layers origin.old)) → B.contents origin.new ≡ with_sectors (B.contents origin.old) (chunk * old) (take (512 * count_of chunk (B.size origin.old) old) buffer.now)) }
     ensures disk { WritesDisk (chunk * old) (count_of chunk (B.size origin.old) old) (B.contents origin.old) (B.contents origin.new) }
     ensures same { OnErr result (B.contents origin.new ≡ B.contents origin.old) }
-    ensures durable { B.durable origin.new ≡ B.durable origin.old }
-    ensures adds { IsTrue (is_loud (B.layers origin.old)) → AddsNow (B.may_hold origin.old) (B.may_hold origin.new) (B.contents origin.new) }
-    ensures size { B.size origin.new ≡ B.size origin.old }
+    ensures durable { Keeps B.durable origin.old origin.new }
+    ensures adds { AddsNowIfLoud B.Block origin.old origin.new }
+    ensures size { Keeps B.size origin.old origin.new }
 {
     let count = sectors_of(chunk, size, old);
     let range = Range {

@@ -2,9 +2,7 @@
 ghost use Rattle.std.specs.Prelude.{◌≡◌, ◌⊎◌, IfOk, IfErr, OnErr};
 ghost use Rattle.sector.specs.declared.refusal.Refusal.TheVariants.{NoMemory};
 ghost use Rattle.layers.specs.Messages.{told, Answered, Refused, NeedsRoom};
-ghost use Rattle.layers.specs.Ticks.{layers_ticked};
-ghost use Rattle.store.specs.Layering.{IsRelayered};
-ghost use Rattle.stop_laws.specs.Firm.{AddsNow};
+ghost use Rattle.merge.specs.Devices.{ChangesOnlyDevice, ChangesOnlyLayers, MayHoldNow, Ticks};
 
 use crate::Merge;
 use layers::{Answer, Layered, Message};
@@ -13,10 +11,10 @@ use sector::Refusal;
 impl<B: Layered> Merge<B> {
     /// Lets so many seconds pass for the layers of its store. It counts no operation, and nothing else changes.
     pub fn tick(&mut self, seconds: u32)
-        ensures layers { B.layers self.new.device ≡ layers_ticked seconds (B.layers self.old.device) }
-        ensures rest { IsRelayered B.contents B.durable B.size B.fault_count B.done_count self.old.device self.new.device }
-        ensures adds { AddsNow (B.may_hold self.old.device) (B.may_hold self.new.device) (B.contents self.new.device) }
-        ensures same { self.new ≡ record self.old { device = self.new.device } }
+        ensures layers { Ticks B.Block seconds self.old self.new }
+        ensures rest { ChangesOnlyLayers B.Block self.old self.new }
+        ensures adds { MayHoldNow B.Block self.old self.new }
+        ensures same { ChangesOnlyDevice self.old self.new }
     {
         self.store.tick(seconds)
     }
@@ -28,9 +26,9 @@ impl<B: Layered> Merge<B> {
         ensures ok { IfOk result (λ a. told (B.layers self.old.device) depth message.now ≡ Answered a (B.layers self.new.device)) }
         ensures err { IfErr result (λ r. (told (B.layers self.old.device) depth message.now ≡ Refused r) ⊎ ((r ≡ NoMemory) × NeedsRoom message.now (told (B.layers self.old.device) depth message.now))) }
         ensures unchanged { OnErr result (B.layers self.new.device ≡ B.layers self.old.device) }
-        ensures rest { IsRelayered B.contents B.durable B.size B.fault_count B.done_count self.old.device self.new.device }
-        ensures adds { AddsNow (B.may_hold self.old.device) (B.may_hold self.new.device) (B.contents self.new.device) }
-        ensures same { self.new ≡ record self.old { device = self.new.device } }
+        ensures rest { ChangesOnlyLayers B.Block self.old self.new }
+        ensures adds { MayHoldNow B.Block self.old self.new }
+        ensures same { ChangesOnlyDevice self.old self.new }
     {
         match self.store.message(depth, message) {
             Ok(answer) => Ok(answer),

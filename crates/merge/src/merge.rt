@@ -1,10 +1,11 @@
 // A merge, its beginning and its end, and what callers ask of its store.
-ghost use Rattle.std.specs.Prelude.{◌≡◌, ℕ, ◌+◌, ◌*◌, ◌<◌, ◌≤◌, length, None, true, false};
+ghost use Rattle.std.specs.Prelude.{◌≡◌, ℕ, ◌*◌, ◌<◌, ◌≤◌, length, None, true, false};
 ghost use Rattle.chunk.specs.Sizes.{is_chunk};
 ghost use Rattle.store_bytes.specs.Picture.{place_of as place_in};
 ghost use Rattle.store.specs.declared.state.Left.TheVariants.{Nothing};
 ghost use Rattle.store.specs.Held.{committed, pending as pending_of};
-ghost use Rattle.merge.specs.InStep.{IsInStep};
+ghost use Rattle.merge.specs.Devices.{HasAllocated, StaysInStep};
+ghost use Rattle.store.specs.Usage.{HasMetadata};
 
 use crate::Group;
 use chunk_alloc::Usage;
@@ -64,7 +65,7 @@ impl<B: Block> Merge<B> {
     /// A look at its store, which does nothing: store and merge are in step, after every call. Its pairs are such as a load
     /// accepts; where its layers drop no writes, its bytes hold those pairs and a good header with its chunk size.
     pub fn look_at_store(&self)
-        ensures in_step { IsInStep B.contents B.layers B.size self.now }
+        ensures in_step { StaysInStep B.Block self.now }
     {
         let _ = &self.store;
     }
@@ -121,9 +122,9 @@ impl<B: Block> Merge<B> {
 
     /// The numbers of a status line, in sectors.
     pub fn usage(&self) -> Usage
-        ensures allocated { result.allocated ≡ self.now.next * self.now.state.chunk }
+        ensures allocated { HasAllocated result self.now }
         ensures total { result.total ≡ self.now.state.size }
-        ensures metadata { result.metadata ≡ (self.now.state.current + 2) * self.now.state.chunk }
+        ensures metadata { HasMetadata result self.now.state }
     {
         self.store.usage()
     }

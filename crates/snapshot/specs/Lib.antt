@@ -7,3 +7,4 @@ pub mod Opened
 pub mod Opening
 pub mod Rest
 pub mod StopsOpening
+pub mod Devices

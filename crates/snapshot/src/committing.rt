@@ -1,6 +1,6 @@
 // The first copies are committed, after the next area is zeroed, and the store flushed since, where they fill the current
 // one; and are published.
-ghost use Rattle.std.specs.Prelude.{◌≡◌, ℕ, ◌+◌, ◌*◌, ◌<◌, ◌≤◌, ◌||◌, ◌++◌, length, take, drop, map, replicate, slice_index_or, vec_capacity, is_ok, OnOk, OnErr, IsTrue, false, true};
+ghost use Rattle.std.specs.Prelude.{◌≡◌, ℕ, ◌+◌, ◌*◌, ◌<◌, ◌≤◌, ◌||◌, ◌++◌, length, take, drop, map, replicate, slice_index_or, vec_capacity, is_ok, OnOk, IsTrue, false, true};
 ghost use Rattle.std.specs.List.{All, remove};
 ghost use Rattle.sector.specs.Bytes.{with_part, with_sectors};
 ghost use Rattle.device.specs.declared.operation.Operation.TheVariants.{Writes};
@@ -12,11 +12,10 @@ ghost use Rattle.store.specs.Operations.{IsOneOperation};
 ghost use Rattle.store.specs.Slots.{pairs_bytes, slot_start};
 ghost use Rattle.store.specs.Stored.{after_commit};
 ghost use Rattle.volume_laws.specs.Steps.{ZeroesArea, Commits, Unmarks, mark_of};
-ghost use Rattle.snapshot.specs.InStep.{IsInStep};
 ghost use Rattle.std.specs.Option.{is_some};
 ghost use Rattle.snapshot.specs.Held.{IsSpared};
 ghost use Rattle.snapshot.specs.Kept.{books_of, is_among, needs_area, spare_after, unpublished};
-ghost use Rattle.stop_laws.specs.Firm.{AddsNow};
+ghost use Rattle.snapshot.specs.Devices.{IsZeroedIfFirm, KeepsDurable, KeepsRoom, KeepsSize, KeptOnErr, MayHoldNowIfLoud, SameOnErr, StaysAsLoud, StaysInStep};
 
 use crate::Snapshot;
 use device::{Block, Io};
@@ -33,18 +32,18 @@ impl<B: Block> Snapshot<B> {
         requires inside { self.old.state.chunk * (area_place self.old.state.chunk (self.old.state.current + 1) + 1) ≤ self.old.state.size }
 
         ensures operation { IsOneOperation (Writes (self.old.state.chunk * area_place self.old.state.chunk (self.old.state.current + 1)) self.old.state.chunk) (is_ok result) (B.layers self.old.device) (B.layers self.new.device) (B.fault_count self.old.device) (B.fault_count self.new.device) (B.done_count self.old.device) (B.done_count self.new.device) }
-        ensures loud { is_loud (B.layers self.new.device) ≡ is_loud (B.layers self.old.device) }
+        ensures loud { StaysAsLoud B.Block self.old self.new }
         ensures written { OnOk result (IsTrue (is_loud (B.layers self.old.device)) → B.contents self.new.device ≡ with_sectors (B.contents self.old.device) (self.old.state.chunk * area_place self.old.state.chunk (self.old.state.current + 1)) (replicate (512 * self.old.state.chunk) 0)) }
-        ensures same { OnErr result (B.contents self.new.device ≡ B.contents self.old.device) }
-        ensures durable { B.durable self.new.device ≡ B.durable self.old.device }
-        ensures adds { IsTrue (is_loud (B.layers self.old.device)) → AddsNow (B.may_hold self.old.device) (B.may_hold self.new.device) (B.contents self.new.device) }
-        ensures size { B.size self.new.device ≡ B.size self.old.device }
+        ensures same { SameOnErr B.Block result self.old self.new }
+        ensures durable { KeepsDurable B.Block self.old self.new }
+        ensures adds { MayHoldNowIfLoud B.Block self.old self.new }
+        ensures size { KeepsSize B.Block self.old self.new }
 
         ensures fields { OnOk result (self.new ≡ record self.old { device = self.new.device; state = record self.old.state { zeroed = true; firm = false } }) }
-        ensures ahead { self.old.state.firm ≡ true → self.old.state.zeroed ≡ true }
+        ensures ahead { IsZeroedIfFirm self.old.state }
         ensures zeroes { OnOk result (ZeroesArea (self.old.state.current + 1) (books_of B.contents B.layers self.old) (books_of B.contents B.layers self.new)) }
-        ensures kept { OnErr result (self.new ≡ record self.old { device = self.new.device }) }
-        ensures in_step { IsInStep B.contents B.layers B.size self.new }
+        ensures kept { KeptOnErr result self.old self.new }
+        ensures in_step { StaysInStep B.Block self.new }
     {
         match self.store.zero_next() {
             Ok(()) => Ok(()),
@@ -64,17 +63,17 @@ impl<B: Block> Snapshot<B> {
         requires next { self.old.state.filled + count ≡ 32 * self.old.state.chunk → self.old.state.firm ≡ true }
 
         ensures operation { IsOneOperation (Writes (self.old.state.chunk * area_place self.old.state.chunk self.old.state.current) self.old.state.chunk) (is_ok result) (B.layers self.old.device) (B.layers self.new.device) (B.fault_count self.old.device) (B.fault_count self.new.device) (B.done_count self.old.device) (B.done_count self.new.device) }
-        ensures loud { is_loud (B.layers self.new.device) ≡ is_loud (B.layers self.old.device) }
+        ensures loud { StaysAsLoud B.Block self.old self.new }
         ensures written { OnOk result (IsTrue (is_loud (B.layers self.old.device)) → B.contents self.new.device ≡ with_part (B.contents self.old.device) (slot_start self.old.state.chunk self.old.state.current self.old.state.filled) (pairs_bytes (take count self.old.begun))) }
-        ensures same { OnErr result (B.contents self.new.device ≡ B.contents self.old.device) }
-        ensures durable { B.durable self.new.device ≡ B.durable self.old.device }
-        ensures adds { IsTrue (is_loud (B.layers self.old.device)) → AddsNow (B.may_hold self.old.device) (B.may_hold self.new.device) (B.contents self.new.device) }
-        ensures size { B.size self.new.device ≡ B.size self.old.device }
+        ensures same { SameOnErr B.Block result self.old self.new }
+        ensures durable { KeepsDurable B.Block self.old self.new }
+        ensures adds { MayHoldNowIfLoud B.Block self.old self.new }
+        ensures size { KeepsSize B.Block self.old self.new }
 
         ensures fields { OnOk result (self.new ≡ record self.old { device = self.new.device; state = after_commit self.old.state count; pairs = self.old.pairs ++ take count self.old.begun; begun = drop count self.old.begun; copies = drop count self.old.copies; marks = self.old.marks ++ map mark_of (take count self.old.copies); spare = spare_after count self.old }) }
         ensures commits { OnOk result (Commits count self.old.state.current (books_of B.contents B.layers self.old) (books_of B.contents B.layers self.new)) }
-        ensures kept { OnErr result (self.new ≡ record self.old { device = self.new.device }) }
-        ensures in_step { IsInStep B.contents B.layers B.size self.new }
+        ensures kept { KeptOnErr result self.old self.new }
+        ensures in_step { StaysInStep B.Block self.new }
     {
         match self.store.write_area(count) {
             Ok(()) => {
@@ -130,8 +129,8 @@ fn mark_first(
     ensures marks { marks.new.items ≡ marks.old.items ++ map mark_of (take count copies.old.items) }
     ensures spare { is_some spare.new ≡ (is_some spare.old || is_among merging (take count copies.old.items)) }
     ensures spared { (chunk : ℕ) → IsSpared chunk spare.old merging copies.old.items → IsSpared chunk spare.new merging copies.new.items }
-    ensures copies_capacity { vec_capacity copies.new ≡ vec_capacity copies.old }
-    ensures marks_capacity { vec_capacity marks.new ≡ vec_capacity marks.old }
+    ensures copies_capacity { KeepsRoom copies.old copies.new }
+    ensures marks_capacity { KeepsRoom marks.old marks.new }
 {
     for _i in 0..count {
         mark_one(copies, marks, spare, idle, merging);
@@ -153,8 +152,8 @@ fn mark_one(
     ensures marks { marks.new.items ≡ marks.old.items ++ map mark_of (take 1 copies.old.items) }
     ensures spare { is_some spare.new ≡ (is_some spare.old || is_among merging (take 1 copies.old.items)) }
     ensures spared { (chunk : ℕ) → IsSpared chunk spare.old merging copies.old.items → IsSpared chunk spare.new merging copies.new.items }
-    ensures copies_capacity { vec_capacity copies.new ≡ vec_capacity copies.old }
-    ensures marks_capacity { vec_capacity marks.new ≡ vec_capacity marks.old }
+    ensures copies_capacity { KeepsRoom copies.old copies.new }
+    ensures marks_capacity { KeepsRoom marks.old marks.new }
 {
     let ChunkCopy {
         number,

@@ -1,15 +1,14 @@
 // One copy is read from the origin disk, and written to its place.
-ghost use Rattle.std.specs.Prelude.{◌≡◌, ◌*◌, ◌<◌, length, slice_index_or, is_ok, OnOk, OnErr, IsTrue, true, vec_capacity};
+ghost use Rattle.std.specs.Prelude.{◌≡◌, ◌*◌, ◌<◌, length, slice_index_or, is_ok, OnOk, OnErr, true, vec_capacity};
 ghost use Rattle.sector.specs.Bytes.{sectors_at};
 ghost use Rattle.device.specs.declared.operation.Operation.TheVariants.{Reads, Writes};
-ghost use Rattle.device.specs.Layers.{is_loud};
 ghost use Rattle.in_flight.specs.Copies.{count_of};
 ghost use Rattle.in_flight.specs.declared.copies.ChunkCopy.{ChunkCopy};
 ghost use Rattle.in_flight.specs.declared.copies.Stage.TheVariants.{Read};
 ghost use Rattle.store.specs.Operations.{IsOneOperation};
-ghost use Rattle.snapshot.specs.InStep.{IsInStep};
 ghost use Rattle.snapshot.specs.Calls.{GoesTo, ReadsAt, StaysAt, WritesAt};
-ghost use Rattle.stop_laws.specs.Firm.{AddsNow};
+ghost use Rattle.snapshot.specs.Devices.{KeepsDurable, KeepsSize, KeptOnErr, MayHoldNowIfLoud, SameOnErr, StaysAsLoud, StaysInStep};
+ghost use Rattle.store.specs.Devices.{AddsNowIfLoud, IsAsLoud, Keeps};
 
 use crate::Snapshot;
 use device::{Block, Io};
@@ -23,11 +22,11 @@ impl<B: Block> Snapshot<B> {
         requires sectors { B.size origin.old ≡ self.old.state.origin }
 
         ensures operation { (p : ChunkCopy) → p ≡ slice_index_or self.old.copies index p → IsOneOperation (Reads (self.old.state.chunk * p.pair.old) (count_of self.old.state.chunk self.old.state.origin p.pair.old)) (is_ok result) (B.layers origin.old) (B.layers origin.new) (B.fault_count origin.old) (B.fault_count origin.new) (B.done_count origin.old) (B.done_count origin.new) }
-        ensures contents { B.contents origin.new ≡ B.contents origin.old }
-        ensures durable { B.durable origin.new ≡ B.durable origin.old }
-        ensures adds { IsTrue (is_loud (B.layers origin.old)) → AddsNow (B.may_hold origin.old) (B.may_hold origin.new) (B.contents origin.new) }
-        ensures size { B.size origin.new ≡ B.size origin.old }
-        ensures loud { is_loud (B.layers origin.new) ≡ is_loud (B.layers origin.old) }
+        ensures contents { Keeps B.contents origin.old origin.new }
+        ensures durable { Keeps B.durable origin.old origin.new }
+        ensures adds { AddsNowIfLoud B.Block origin.old origin.new }
+        ensures size { Keeps B.size origin.old origin.new }
+        ensures loud { IsAsLoud B.layers origin.old origin.new }
 
         ensures read { OnOk result ((p : ChunkCopy) × (q : ChunkCopy) × ReadsAt B.contents B.layers (B.contents origin.old) index p q self.old self.new) }
         ensures kept { OnErr result ((p : ChunkCopy) × (q : ChunkCopy) × StaysAt index p q self.old self.new) }
@@ -50,15 +49,15 @@ impl<B: Block> Snapshot<B> {
         requires read { (d : ChunkCopy) → (slice_index_or self.old.copies index d).stage ≡ Read }
 
         ensures operation { (p : ChunkCopy) → p ≡ slice_index_or self.old.copies index p → IsOneOperation (Writes (self.old.state.chunk * p.pair.new) (count_of self.old.state.chunk self.old.state.origin p.pair.old)) (is_ok result) (B.layers self.old.device) (B.layers self.new.device) (B.fault_count self.old.device) (B.fault_count self.new.device) (B.done_count self.old.device) (B.done_count self.new.device) }
-        ensures loud { is_loud (B.layers self.new.device) ≡ is_loud (B.layers self.old.device) }
-        ensures same { OnErr result (B.contents self.new.device ≡ B.contents self.old.device) }
-        ensures durable { B.durable self.new.device ≡ B.durable self.old.device }
-        ensures adds { IsTrue (is_loud (B.layers self.old.device)) → AddsNow (B.may_hold self.old.device) (B.may_hold self.new.device) (B.contents self.new.device) }
-        ensures size { B.size self.new.device ≡ B.size self.old.device }
+        ensures loud { StaysAsLoud B.Block self.old self.new }
+        ensures same { SameOnErr B.Block result self.old self.new }
+        ensures durable { KeepsDurable B.Block self.old self.new }
+        ensures adds { MayHoldNowIfLoud B.Block self.old self.new }
+        ensures size { KeepsSize B.Block self.old self.new }
 
         ensures wrote { OnOk result ((p : ChunkCopy) × (q : ChunkCopy) × WritesAt B.contents B.layers index p q self.old self.new) }
-        ensures kept { OnErr result (self.new ≡ record self.old { device = self.new.device }) }
-        ensures in_step { IsInStep B.contents B.layers B.size self.new }
+        ensures kept { KeptOnErr result self.old self.new }
+        ensures in_step { StaysInStep B.Block self.new }
     {
         let copy = &self.copies[index];
         let count = sectors_of(
@@ -87,10 +86,10 @@ fn fill<B: Block>(origin: &mut B, size: u64, chunk: u32, copy: &mut ChunkCopy) -
     requires whole { length copy.old.buffer.items ≡ 512 * count_of chunk (B.size origin.old) copy.old.pair.old }
 
     ensures operation { IsOneOperation (Reads (chunk * copy.old.pair.old) (count_of chunk (B.size origin.old) copy.old.pair.old)) (is_ok result) (B.layers origin.old) (B.layers origin.new) (B.fault_count origin.old) (B.fault_count origin.new) (B.done_count origin.old) (B.done_count origin.new) }
-    ensures contents { B.contents origin.new ≡ B.contents origin.old }
-    ensures durable { B.durable origin.new ≡ B.durable origin.old }
-    ensures adds { IsTrue (is_loud (B.layers origin.old)) → AddsNow (B.may_hold origin.old) (B.may_hold origin.new) (B.contents origin.new) }
-    ensures size { B.size origin.new ≡ B.size origin.old }
+    ensures contents { Keeps B.contents origin.old origin.new }
+    ensures durable { Keeps B.durable origin.old origin.new }
+    ensures adds { AddsNowIfLoud B.Block origin.old origin.new }
+    ensures size { Keeps B.size origin.old origin.new }
 
     ensures room { length copy.new.buffer.items ≡ length copy.old.buffer.items }
     ensures capacity { vec_capacity copy.new.buffer ≡ vec_capacity copy.old.buffer }

@@ -1,14 +1,12 @@
 // The store is flushed: what was written to it counts as written, and what was committed may be published; or the mark that
 // it is invalid was tried.
-ghost use Rattle.std.specs.Prelude.{◌≡◌, length, map, not, vec_capacity, is_ok, OnOk, OnErr, IsTrue, true, false, if◌then◌else◌};
+ghost use Rattle.std.specs.Prelude.{◌≡◌, length, map, not, is_ok, OnOk, true, false};
 ghost use Rattle.device.specs.declared.operation.Operation.TheVariants.{Flushes};
-ghost use Rattle.device.specs.Layers.{fate, is_passed, is_loud};
 ghost use Rattle.in_flight.specs.Flushed.{flushed_copy, safe_mark};
 ghost use Rattle.store.specs.Operations.{IsOneOperation};
 ghost use Rattle.volume_laws.specs.Steps.{FlushesStore, TriesMark};
-ghost use Rattle.snapshot.specs.InStep.{IsInStep};
 ghost use Rattle.snapshot.specs.Kept.{books_of};
-ghost use Rattle.stop_laws.specs.Firm.{AddsNow, IsFirm};
+ghost use Rattle.snapshot.specs.Devices.{FirmOnOk, IsFlushed, IsZeroedIfFirm, KeepsBytes, KeepsRoom, KeepsSize, KeptOnErr, MayHoldNowIfLoud, StaysAsLoud, StaysInStep};
 
 use crate::Snapshot;
 use device::{Block, Io};
@@ -22,18 +20,18 @@ impl<B: Block> Snapshot<B> {
         requires live { self.old.live ≡ true }
 
         ensures operation { IsOneOperation Flushes (is_ok result) (B.layers self.old.device) (B.layers self.new.device) (B.fault_count self.old.device) (B.fault_count self.new.device) (B.done_count self.old.device) (B.done_count self.new.device) }
-        ensures loud { is_loud (B.layers self.new.device) ≡ is_loud (B.layers self.old.device) }
-        ensures contents { B.contents self.new.device ≡ B.contents self.old.device }
-        ensures durable { B.durable self.new.device ≡ (if is_passed (fate (B.layers self.old.device) Flushes) then B.contents self.old.device else B.durable self.old.device) }
-        ensures adds { IsTrue (is_loud (B.layers self.old.device)) → AddsNow (B.may_hold self.old.device) (B.may_hold self.new.device) (B.contents self.new.device) }
-        ensures firm { OnOk result (IsTrue (is_loud (B.layers self.old.device)) → IsFirm (B.may_hold self.new.device) (B.contents self.new.device) (B.size self.new.device)) }
-        ensures size { B.size self.new.device ≡ B.size self.old.device }
+        ensures loud { StaysAsLoud B.Block self.old self.new }
+        ensures contents { KeepsBytes B.Block self.old self.new }
+        ensures durable { IsFlushed B.Block self.old self.new }
+        ensures adds { MayHoldNowIfLoud B.Block self.old self.new }
+        ensures firm { FirmOnOk B.Block result self.old self.new }
+        ensures size { KeepsSize B.Block self.old self.new }
 
         ensures fields { OnOk result (self.new ≡ record self.old { device = self.new.device; state = record self.old.state { firm = self.old.state.zeroed; sure = length self.old.pairs }; copies = map flushed_copy self.old.copies; marks = map safe_mark self.old.marks }) }
-        ensures ahead { self.old.state.firm ≡ true → self.old.state.zeroed ≡ true }
+        ensures ahead { IsZeroedIfFirm self.old.state }
         ensures flushes { OnOk result (FlushesStore (books_of B.contents B.layers self.old) (books_of B.contents B.layers self.new)) }
-        ensures kept { OnErr result (self.new ≡ record self.old { device = self.new.device }) }
-        ensures in_step { IsInStep B.contents B.layers B.size self.new }
+        ensures kept { KeptOnErr result self.old self.new }
+        ensures in_step { StaysInStep B.Block self.new }
     {
         match self.store.flush() {
             Ok(()) => {
@@ -51,16 +49,16 @@ impl<B: Block> Snapshot<B> {
         requires marked { self.old.marked ≡ true }
 
         ensures operation { IsOneOperation Flushes (is_ok result) (B.layers self.old.device) (B.layers self.new.device) (B.fault_count self.old.device) (B.fault_count self.new.device) (B.done_count self.old.device) (B.done_count self.new.device) }
-        ensures loud { is_loud (B.layers self.new.device) ≡ is_loud (B.layers self.old.device) }
-        ensures contents { B.contents self.new.device ≡ B.contents self.old.device }
-        ensures durable { B.durable self.new.device ≡ (if is_passed (fate (B.layers self.old.device) Flushes) then B.contents self.old.device else B.durable self.old.device) }
-        ensures adds { IsTrue (is_loud (B.layers self.old.device)) → AddsNow (B.may_hold self.old.device) (B.may_hold self.new.device) (B.contents self.new.device) }
-        ensures firm { OnOk result (IsTrue (is_loud (B.layers self.old.device)) → IsFirm (B.may_hold self.new.device) (B.contents self.new.device) (B.size self.new.device)) }
-        ensures size { B.size self.new.device ≡ B.size self.old.device }
+        ensures loud { StaysAsLoud B.Block self.old self.new }
+        ensures contents { KeepsBytes B.Block self.old self.new }
+        ensures durable { IsFlushed B.Block self.old self.new }
+        ensures adds { MayHoldNowIfLoud B.Block self.old self.new }
+        ensures firm { FirmOnOk B.Block result self.old self.new }
+        ensures size { KeepsSize B.Block self.old self.new }
 
         ensures fields { self.new ≡ record self.old { device = self.new.device; untried = false; stale = not (is_ok result) } }
         ensures tries { TriesMark (books_of B.contents B.layers self.old) (books_of B.contents B.layers self.new) }
-        ensures in_step { IsInStep B.contents B.layers B.size self.new }
+        ensures in_step { StaysInStep B.Block self.new }
     {
         self.untried = false;
         match self.store.flush_last() {
@@ -77,8 +75,8 @@ impl<B: Block> Snapshot<B> {
 fn flush_lists(copies: &mut Vec<ChunkCopy>, marks: &mut Vec<Mark>)
     ensures copies { copies.new.items ≡ map flushed_copy copies.old.items }
     ensures marks { marks.new.items ≡ map safe_mark marks.old.items }
-    ensures copies_capacity { vec_capacity copies.new ≡ vec_capacity copies.old }
-    ensures marks_capacity { vec_capacity marks.new ≡ vec_capacity marks.old }
+    ensures copies_capacity { KeepsRoom copies.old copies.new }
+    ensures marks_capacity { KeepsRoom marks.old marks.new }
 {
     flush_copies(copies.as_mut_slice());
     flush_marks(marks.as_mut_slice());

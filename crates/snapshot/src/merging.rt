@@ -1,15 +1,14 @@
 // What a snapshot keeps for the copies that a merge starts, and such a copy is started. A merge's events take no memory.
-ghost use Rattle.std.specs.Prelude.{◌≡◌, ◌==◌, ℕ, ◌+◌, ◌*◌, ◌<◌, ◌≤◌, [], length as len, vec_capacity, OnOk, OnErr, IfErr, MatchBool, None, Some, true, false};
+ghost use Rattle.std.specs.Prelude.{◌≡◌, ◌==◌, ℕ, ◌*◌, ◌<◌, ◌≤◌, [], length as len, vec_capacity, OnOk, OnErr, IfErr, MatchBool, None, Some, true, false};
 ghost use Rattle.std.specs.List.{list_any};
 ghost use Rattle.std.specs.Global.{Vec as GlobalVec};
 ghost use Rattle.sector.specs.declared.refusal.Refusal.TheVariants.{NoMemory};
 ghost use Rattle.chunk.specs.Sizes.{is_chunk};
-ghost use Rattle.store_bytes.specs.NextPlace.{IsFull};
 ghost use Rattle.store_bytes.specs.Picture.{place_of as place_in};
 ghost use Rattle.store.specs.declared.state.Left.TheVariants.{Nothing};
 ghost use Rattle.store.specs.Held.{committed, pending as pending_of};
-ghost use Rattle.snapshot.specs.InStep.{IsInStep};
 ghost use Rattle.snapshot.specs.Calls.{StartsMerging, started};
+ghost use Rattle.snapshot.specs.Devices.{StaysInStep, TellsPlace};
 
 use crate::Snapshot;
 use crate::starting::reserve_slots;
@@ -57,7 +56,7 @@ impl<B: Block> Snapshot<B> {
     /// Keeps nothing for a merge from then on.
     pub fn let_go(&mut self)
         ensures fields { self.new ≡ record self.old { kept_back = 0; spare = false; merging = None } }
-        ensures in_step { IsInStep B.contents B.layers B.size self.new }
+        ensures in_step { StaysInStep B.Block self.new }
     {
         self.left += self.kept_back;
         self.kept_back = 0;
@@ -77,9 +76,9 @@ impl<B: Block> Snapshot<B> {
         requires begins { self.old.state.chunk * chunk < self.old.state.origin }
         requires absent { place_in self.old.pairs chunk ≡ None }
         requires idle { list_any (λ p. p.pair.old == chunk) self.old.copies ≡ false }
-        ensures place { MatchBool result (self.old.state.chunk * (self.old.next + 1) ≤ self.old.state.size) (IsFull self.old.state.chunk self.old.state.size self.old.next) }
+        ensures place { TellsPlace result self.old }
         ensures started { MatchBool result ((buffer : GlobalVec ℕ) × StartsMerging B.contents B.layers (started number chunk self.old.next buffer) self.old self.new) (self.new ≡ self.old) }
-        ensures in_step { IsInStep B.contents B.layers B.size self.new }
+        ensures in_step { StaysInStep B.Block self.new }
     {
         let Some(begun) = self.store.start(chunk) else {
             return false;

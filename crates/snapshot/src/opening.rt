@@ -1,7 +1,7 @@
 // A snapshot is opened over a store: the store's load, then a flush of the origin's device and of the store, and the load's
 // writes, with a flush of the store after each.
-ghost use Rattle.std.specs.Prelude.{◌≡◌, ◌≢◌, ◌⊎◌, ℕ, ◌+◌, ◌*◌, ◌<◌, ◌≤◌, List, [], length, is_ok, OnOk, OnErr, IfOk, IfErr, MatchResult, IsTrue, Ok, Err, true, false};
-ghost use Rattle.sector.specs.Bytes.{next_count, sector_at};
+ghost use Rattle.std.specs.Prelude.{◌≡◌, ◌≢◌, ◌⊎◌, ℕ, ◌+◌, ◌*◌, ◌<◌, ◌≤◌, List, length, is_ok, OnOk, OnErr, IfOk, IfErr, MatchResult, IsTrue, Ok, Err, true, false};
+ghost use Rattle.sector.specs.Bytes.{sector_at};
 ghost use Rattle.cow_header.specs.HeaderText.{found_in};
 ghost use Rattle.sector.specs.declared.refusal.Refusal.TheVariants.{NoMemory, Io as IoRefusal};
 ghost use Rattle.chunk.specs.Sizes.{is_chunk};
@@ -21,10 +21,12 @@ ghost use Rattle.snapshot.specs.Opening.{IsOpenedAs, prepared, shown_array, Chan
 ghost use Rattle.snapshot.specs.Opened.{IsOpened, IsBack, IsFlushedAs, IsOriginBack};
 ghost use Rattle.snapshot.specs.StopsOpening.{Leaves, MayOpen, MayPrepareAll};
 ghost use Rattle.store.specs.Reading.{AreRead};
-ghost use Rattle.stop_laws.specs.Firm.{AddsNow, IsFirm};
+ghost use Rattle.stop_laws.specs.Firm.{IsFirm};
 ghost use Rattle.big_steps.specs.Attaching.{Tried, open_store, refuse, done};
 ghost use Rattle.big_steps.specs.Devices.{Device};
 ghost use Rattle.snapshot.specs.Attaching.{both_by, device_of, next_by, prepared_by};
+ghost use Rattle.store.specs.Calls.{CountsFault, EndsFirm, KeepsExceptions, KeepsSize, StaysAsLoud};
+ghost use Rattle.store.specs.Opened.{EitherAddsNow, EitherAsLoud, EitherCounts, EitherKeeps, HasNoCopies, HasNoRoom};
 
 use crate::Snapshot;
 use device::{Block, Io};
@@ -49,17 +51,17 @@ fn open_unwritten<B: Block>(
 ) -> Result<Store<B>, (Refusal, B)>
     requires { is_chunk chunk ≡ true }
     ensures opened { IfOk result (λ store. IsOpenedAs chunk (B.size origin.now) (B.size device) (B.contents device) store.state (committed store.exceptions)) }
-    ensures pending { IfOk result (λ store. pending store.exceptions ≡ []) }
-    ensures reserved { IfOk result (λ store. reserved store.exceptions ≡ 0) }
+    ensures pending { IfOk result HasNoCopies }
+    ensures reserved { IfOk result HasNoRoom }
     ensures refused { IfErr result (λ refused. IsRefused chunk (B.size origin.now) (B.size device) (B.contents device) refused.0) }
-    ensures contents { MatchResult result (λ store. B.contents store.device ≡ B.contents device) (λ refused. B.contents refused.1 ≡ B.contents device) }
-    ensures size { MatchResult result (λ store. B.size store.device ≡ B.size device) (λ refused. B.size refused.1 ≡ B.size device) }
+    ensures contents { EitherKeeps B.contents device result }
+    ensures size { EitherKeeps B.size device result }
     ensures exact { IfOk result (λ store. open_store chunk (device_of B.contents B.layers origin.now) (device_of B.contents B.layers device) ≡ both_by store.state.left store.state (device_of B.contents B.layers origin.now) (device_of B.contents B.layers store.device)) }
     ensures back { IfErr result (λ e. e.0 ≢ NoMemory → open_store chunk (device_of B.contents B.layers origin.now) (device_of B.contents B.layers device) ≡ refuse e.0 (device_of B.contents B.layers origin.now) (device_of B.contents B.layers e.1)) }
     ensures starved { IfErr result (λ e. e.0 ≡ NoMemory → AreRead (B.layers device) (B.layers e.1)) }
-    ensures adds { MatchResult result (λ store. AddsNow (B.may_hold device) (B.may_hold store.device) (B.contents store.device)) (λ refused. AddsNow (B.may_hold device) (B.may_hold refused.1) (B.contents refused.1)) }
-    ensures loud { MatchResult result (λ store. is_loud (B.layers store.device) ≡ is_loud (B.layers device)) (λ refused. is_loud (B.layers refused.1) ≡ is_loud (B.layers device)) }
-    ensures faults { MatchResult result (λ store. B.fault_count store.device ≡ B.fault_count device) (λ refused. B.fault_count refused.1 ≡ faults_after refused.0 (B.fault_count device)) }
+    ensures adds { EitherAddsNow device result }
+    ensures loud { EitherAsLoud device result }
+    ensures faults { EitherCounts device result }
 {
     match open(alloc, device, chunk, origin.sectors()) {
         Ok((store, _)) => Ok(store),
@@ -86,16 +88,16 @@ fn prepare_next<B: Block>(store: &mut Store<B>) -> Result<bool, Io>
     ensures more { IfOk result (λ more. more ≡ is_left store.old.state.left) }
     ensures state { OnOk result (store.new.state ≡ record store.old.state { left = after_write store.old.state.left; sure = length (committed store.old.exceptions); awaits = is_left store.old.state.left }) }
     ensures kept { OnErr result (store.new.state.left ≡ store.old.state.left) }
-    ensures exceptions { store.new.exceptions ≡ store.old.exceptions }
+    ensures exceptions { KeepsExceptions store.old store.new }
     ensures places { store.new.places ≡ store.old.places }
     ensures written { OnOk result (IsTrue (is_loud (B.layers store.old.device)) → B.contents store.new.device ≡ with_left store.old.state.left store.old.state (B.contents store.old.device)) }
     ensures same { OnErr result (IsTrue (is_loud (B.layers store.old.device)) → B.contents store.new.device ≡ B.contents store.old.device) }
     ensures leaves { store.old.state.valid ≡ true → IsTrue (is_loud (B.layers store.old.device)) → Leaves (B.may_hold store.old.device) (B.may_hold store.new.device) store.old.state.size (MayPrepare store.old.state.left store.old.state.chunk store.old.state.origin store.old.state.size (committed store.old.exceptions)) }
     ensures operations { is_loud (B.layers store.old.device) ≡ true → (origin : Device) (next : Device → Tried) → MatchResult result (λ _. next_by store.old.state.left store.old.state origin next (device_of B.contents B.layers store.old.device) ≡ next (device_of B.contents B.layers store.new.device)) (λ _. next_by store.old.state.left store.old.state origin next (device_of B.contents B.layers store.old.device) ≡ refuse IoRefusal origin (device_of B.contents B.layers store.new.device)) }
     ensures only { ChangesOnly store.old.state.chunk (chunk_left store.old.state.left store.old.state) (B.contents store.old.device) (B.contents store.new.device) }
-    ensures size { B.size store.new.device ≡ B.size store.old.device }
-    ensures loud { is_loud (B.layers store.new.device) ≡ is_loud (B.layers store.old.device) }
-    ensures faults { MatchResult result (λ _. B.fault_count store.new.device ≡ B.fault_count store.old.device) (λ _. B.fault_count store.new.device ≡ next_count (B.fault_count store.old.device)) }
+    ensures size { KeepsSize store.old store.new }
+    ensures loud { StaysAsLoud store.old store.new }
+    ensures faults { CountsFault result store.old store.new }
     ensures firm { IfOk result (λ more. more ≡ false → IsTrue (is_loud (B.layers store.old.device)) → IsFirm (B.may_hold store.new.device) (B.contents store.new.device) (B.size store.new.device)) }
 {
     let more = match store.prepare() {
@@ -116,16 +118,16 @@ fn prepare_next<B: Block>(store: &mut Store<B>) -> Result<bool, Io>
 fn prepare_all<B: Block>(store: &mut Store<B>) -> Result<(), Io>
     requires { store.old.state.awaits ≡ true }
     ensures state { OnOk result (store.new.state ≡ record store.old.state { left = Nothing; sure = length (committed store.old.exceptions); awaits = false }) }
-    ensures exceptions { store.new.exceptions ≡ store.old.exceptions }
+    ensures exceptions { KeepsExceptions store.old store.new }
     ensures places { store.new.places ≡ store.old.places }
     ensures written { OnOk result (IsTrue (is_loud (B.layers store.old.device)) → B.contents store.new.device ≡ prepared store.old.state.left store.old.state (B.contents store.old.device)) }
     ensures leaves { store.old.state.valid ≡ true → IsTrue (is_loud (B.layers store.old.device)) → Leaves (B.may_hold store.old.device) (B.may_hold store.new.device) store.old.state.size (MayPrepareAll store.old.state.left store.old.state.chunk store.old.state.origin store.old.state.size (committed store.old.exceptions)) }
     ensures operations { is_loud (B.layers store.old.device) ≡ true → (origin : Device) → MatchResult result (λ _. prepared_by store.old.state.left store.old.state origin (device_of B.contents B.layers store.old.device) ≡ done store.old.state.chunk origin (device_of B.contents B.layers store.new.device)) (λ _. prepared_by store.old.state.left store.old.state origin (device_of B.contents B.layers store.old.device) ≡ refuse IoRefusal origin (device_of B.contents B.layers store.new.device)) }
     ensures only { ChangesFront store.old.state.chunk store.old.state.current (B.contents store.old.device) (B.contents store.new.device) }
-    ensures size { B.size store.new.device ≡ B.size store.old.device }
-    ensures loud { is_loud (B.layers store.new.device) ≡ is_loud (B.layers store.old.device) }
-    ensures faults { MatchResult result (λ _. B.fault_count store.new.device ≡ B.fault_count store.old.device) (λ _. B.fault_count store.new.device ≡ next_count (B.fault_count store.old.device)) }
-    ensures firm { OnOk result (IsTrue (is_loud (B.layers store.old.device)) → IsFirm (B.may_hold store.new.device) (B.contents store.new.device) (B.size store.new.device)) }
+    ensures size { KeepsSize store.old store.new }
+    ensures loud { StaysAsLoud store.old store.new }
+    ensures faults { CountsFault result store.old store.new }
+    ensures firm { OnOk result (EndsFirm store.old store.new) }
 {
     let more = match prepare_next(store) {
         Ok(more) => more,

@@ -3,8 +3,8 @@ ghost use Rattle.std.specs.Prelude.{◌≡◌, true};
 ghost use Rattle.plain_machine.specs.Plain.{overflow_of};
 ghost use Rattle.plain_machine.specs.declared.request.Overflowing.TheVariants.{Did, May};
 ghost use Rattle.volume_laws.specs.Steps.{Overflows};
-ghost use Rattle.snapshot.specs.InStep.{IsInStep};
 ghost use Rattle.snapshot.specs.Kept.{books_of};
+ghost use Rattle.snapshot.specs.Devices.{StaysInStep};
 
 use crate::Snapshot;
 use device::Block;
@@ -35,7 +35,7 @@ impl<B: Block> Snapshot<B> {
         requires may { self.old.overflow ≡ May }
         ensures fields { self.new ≡ record self.old { overflow = Did } }
         ensures overflows { Overflows (books_of B.contents B.layers self.old) (books_of B.contents B.layers self.new) }
-        ensures in_step { IsInStep B.contents B.layers B.size self.new }
+        ensures in_step { StaysInStep B.Block self.new }
     {
         self.overflow = Overflowing::Did;
     }

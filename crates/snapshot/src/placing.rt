@@ -1,14 +1,12 @@
 // Requests at the place of a copy that is committed.
-ghost use Rattle.std.specs.Prelude.{◌≡◌, ℕ, ◌+◌, ◌*◌, ◌<◌, ◌≤◌, length, is_ok, OnOk, OnErr, IsTrue, Some};
+ghost use Rattle.std.specs.Prelude.{◌≡◌, ℕ, ◌+◌, ◌*◌, ◌<◌, ◌≤◌, length, is_ok, OnOk, OnErr, Some};
 ghost use Rattle.sector.specs.Bytes.{sectors_at};
 ghost use Rattle.device.specs.declared.operation.Operation.TheVariants.{Reads, Writes};
-ghost use Rattle.device.specs.Layers.{is_loud};
 ghost use Rattle.store_bytes.specs.Picture.{place_of as place_in};
 ghost use Rattle.store.specs.Operations.{IsOneOperation};
 ghost use Rattle.volume_laws.specs.Steps.{WritesPlace};
-ghost use Rattle.snapshot.specs.InStep.{IsInStep};
 ghost use Rattle.snapshot.specs.Kept.{books_of};
-ghost use Rattle.stop_laws.specs.Firm.{AddsNow};
+ghost use Rattle.snapshot.specs.Devices.{ChangesOnlyDevice, KeepsBytes, KeepsDurable, KeepsSize, MayHoldNowIfLoud, SameOnErr, StaysAsLoud, StaysInStep};
 
 use crate::Snapshot;
 use device::{Block, Io};
@@ -24,14 +22,14 @@ impl<B: Block> Snapshot<B> {
         requires room { length bytes.now ≡ 512 * count }
 
         ensures operation { IsOneOperation (Writes (self.old.state.chunk * place + first) count) (is_ok result) (B.layers self.old.device) (B.layers self.new.device) (B.fault_count self.old.device) (B.fault_count self.new.device) (B.done_count self.old.device) (B.done_count self.new.device) }
-        ensures loud { is_loud (B.layers self.new.device) ≡ is_loud (B.layers self.old.device) }
+        ensures loud { StaysAsLoud B.Block self.old self.new }
         ensures writes { OnOk result ((c : ℕ) → WritesPlace c place first bytes.now (books_of B.contents B.layers self.old) (books_of B.contents B.layers self.new)) }
-        ensures same { OnErr result (B.contents self.new.device ≡ B.contents self.old.device) }
-        ensures durable { B.durable self.new.device ≡ B.durable self.old.device }
-        ensures adds { IsTrue (is_loud (B.layers self.old.device)) → AddsNow (B.may_hold self.old.device) (B.may_hold self.new.device) (B.contents self.new.device) }
-        ensures size { B.size self.new.device ≡ B.size self.old.device }
-        ensures fields { self.new ≡ record self.old { device = self.new.device } }
-        ensures in_step { IsInStep B.contents B.layers B.size self.new }
+        ensures same { SameOnErr B.Block result self.old self.new }
+        ensures durable { KeepsDurable B.Block self.old self.new }
+        ensures adds { MayHoldNowIfLoud B.Block self.old self.new }
+        ensures size { KeepsSize B.Block self.old self.new }
+        ensures fields { ChangesOnlyDevice self.old self.new }
+        ensures in_step { StaysInStep B.Block self.new }
     {
         match self.store.write_chunk(place, first, count, bytes) {
             Ok(()) => Ok(()),
@@ -53,15 +51,15 @@ impl<B: Block> Snapshot<B> {
         requires room { length out.old ≡ 512 * count }
 
         ensures operation { IsOneOperation (Reads (self.old.state.chunk * place + first) count) (is_ok result) (B.layers self.old.device) (B.layers self.new.device) (B.fault_count self.old.device) (B.fault_count self.new.device) (B.done_count self.old.device) (B.done_count self.new.device) }
-        ensures loud { is_loud (B.layers self.new.device) ≡ is_loud (B.layers self.old.device) }
+        ensures loud { StaysAsLoud B.Block self.old self.new }
         ensures data { OnOk result (out.new ≡ sectors_at (B.contents self.old.device) (self.old.state.chunk * place + first) count) }
         ensures err { OnErr result (out.new ≡ out.old) }
-        ensures same { B.contents self.new.device ≡ B.contents self.old.device }
-        ensures durable { B.durable self.new.device ≡ B.durable self.old.device }
-        ensures adds { IsTrue (is_loud (B.layers self.old.device)) → AddsNow (B.may_hold self.old.device) (B.may_hold self.new.device) (B.contents self.new.device) }
-        ensures size { B.size self.new.device ≡ B.size self.old.device }
-        ensures fields { self.new ≡ record self.old { device = self.new.device } }
-        ensures in_step { IsInStep B.contents B.layers B.size self.new }
+        ensures same { KeepsBytes B.Block self.old self.new }
+        ensures durable { KeepsDurable B.Block self.old self.new }
+        ensures adds { MayHoldNowIfLoud B.Block self.old self.new }
+        ensures size { KeepsSize B.Block self.old self.new }
+        ensures fields { ChangesOnlyDevice self.old self.new }
+        ensures in_step { StaysInStep B.Block self.new }
     {
         match self.store.read_chunk(place, first, count, out) {
             Ok(()) => Ok(()),

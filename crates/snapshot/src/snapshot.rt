@@ -6,9 +6,10 @@ ghost use Rattle.store_bytes.specs.Places.{area_place};
 ghost use Rattle.store_bytes.specs.Picture.{place_of as place_in};
 ghost use Rattle.volume_laws.specs.Published.{is_published as is_published_in};
 ghost use Rattle.device.specs.Layers.{is_loud};
-ghost use Rattle.snapshot.specs.InStep.{IsInStep};
 ghost use Rattle.snapshot.specs.Kept.{batch_of, is_among, needs_area, waits_area};
 ghost use Rattle.snapshot.specs.Rest.{IsStill};
+ghost use Rattle.snapshot.specs.Devices.{HasAllocated, StaysInStep};
+ghost use Rattle.store.specs.Usage.{HasMetadata};
 
 use chunk_alloc::Usage;
 use device::Block;
@@ -156,16 +157,16 @@ impl<B: Block> Snapshot<B> {
 
     /// The numbers of a status line, in sectors.
     pub fn usage(&self) -> Usage
-        ensures allocated { result.allocated ≡ self.now.next * self.now.state.chunk }
+        ensures allocated { HasAllocated result self.now }
         ensures total { result.total ≡ self.now.state.size }
-        ensures metadata { result.metadata ≡ (self.now.state.current + 2) * self.now.state.chunk }
+        ensures metadata { HasMetadata result self.now.state }
     {
         self.store.usage()
     }
 
     /// A look at its store, which does nothing: store and snapshot are in step, after every call.
     pub fn look_at_store(&self)
-        ensures in_step { IsInStep B.contents B.layers B.size self.now }
+        ensures in_step { StaysInStep B.Block self.now }
     {
         let _ = &self.store;
     }

@@ -7,9 +7,8 @@ ghost use Rattle.store_bytes.specs.Places.{ChangesOnly};
 ghost use Rattle.cow_header.specs.HeaderText.{header_bytes};
 ghost use Rattle.store.specs.Operations.{IsOneOperation};
 ghost use Rattle.volume_laws.specs.Steps.{SpoilsSnap, TriesMark, WritesMark};
-ghost use Rattle.snapshot.specs.InStep.{IsInStep};
 ghost use Rattle.snapshot.specs.Kept.{books_of};
-ghost use Rattle.stop_laws.specs.Firm.{AddsNow};
+ghost use Rattle.snapshot.specs.Devices.{KeepsDurable, KeepsSize, MayHoldNowIfLoud, SameOnErr, StaysAsLoud, StaysInStep};
 
 use crate::Snapshot;
 use device::{Block, Io};
@@ -21,7 +20,7 @@ impl<B: Block> Snapshot<B> {
         requires live { self.old.live ≡ true }
         ensures fields { self.new ≡ record self.old { live = false; untried = true; state = record self.old.state { copying = false }; begun = []; copies = []; marks = []; kept_back = 0; spare = false; merging = None } }
         ensures spoils { SpoilsSnap (books_of B.contents B.layers self.old) (books_of B.contents B.layers self.new) }
-        ensures in_step { IsInStep B.contents B.layers B.size self.new }
+        ensures in_step { StaysInStep B.Block self.new }
     {
         self.live = false;
         self.untried = true;
@@ -41,19 +40,19 @@ impl<B: Block> Snapshot<B> {
         requires unmarked { self.old.marked ≡ false }
 
         ensures operation { IsOneOperation (Writes 0 self.old.state.chunk) (is_ok result) (B.layers self.old.device) (B.layers self.new.device) (B.fault_count self.old.device) (B.fault_count self.new.device) (B.done_count self.old.device) (B.done_count self.new.device) }
-        ensures loud { is_loud (B.layers self.new.device) ≡ is_loud (B.layers self.old.device) }
+        ensures loud { StaysAsLoud B.Block self.old self.new }
         ensures written { OnOk result (IsTrue (is_loud (B.layers self.old.device)) → B.contents self.new.device ≡ with_sectors (B.contents self.old.device) 0 (header_bytes (512 * self.old.state.chunk) false self.old.state.chunk)) }
-        ensures same { OnErr result (B.contents self.new.device ≡ B.contents self.old.device) }
+        ensures same { SameOnErr B.Block result self.old self.new }
         ensures only { ChangesOnly self.old.state.chunk 0 (B.contents self.old.device) (B.contents self.new.device) }
-        ensures durable { B.durable self.new.device ≡ B.durable self.old.device }
-        ensures adds { IsTrue (is_loud (B.layers self.old.device)) → AddsNow (B.may_hold self.old.device) (B.may_hold self.new.device) (B.contents self.new.device) }
-        ensures size { B.size self.new.device ≡ B.size self.old.device }
+        ensures durable { KeepsDurable B.Block self.old self.new }
+        ensures adds { MayHoldNowIfLoud B.Block self.old self.new }
+        ensures size { KeepsSize B.Block self.old self.new }
 
         ensures fields { OnOk result (self.new ≡ record self.old { device = self.new.device; marked = true; state = record self.old.state { valid = false } }) }
         ensures writes { OnOk result (WritesMark (books_of B.contents B.layers self.old) (books_of B.contents B.layers self.new)) }
         ensures fails { OnErr result (self.new ≡ record self.old { device = self.new.device; untried = false; stale = true }) }
         ensures tries { OnErr result (TriesMark (books_of B.contents B.layers self.old) (books_of B.contents B.layers self.new)) }
-        ensures in_step { IsInStep B.contents B.layers B.size self.new }
+        ensures in_step { StaysInStep B.Block self.new }
     {
         match self.store.write_invalid() {
             Ok(()) => {

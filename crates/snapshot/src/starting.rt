@@ -3,16 +3,15 @@ ghost use Rattle.std.specs.Prelude.{◌≡◌, ◌==◌, ℕ, ◌+◌, ◌-◌, 
 ghost use Rattle.std.specs.List.{list_any};
 ghost use Rattle.sector.specs.declared.refusal.Refusal.TheVariants.{NoMemory};
 ghost use Rattle.chunk.specs.Sizes.{is_chunk};
-ghost use Rattle.store_bytes.specs.NextPlace.{IsFull};
 ghost use Rattle.store_bytes.specs.Picture.{place_of as place_in};
 ghost use Rattle.plain_machine.specs.Plain.{overflow_of};
 ghost use Rattle.in_flight.specs.Copies.{count_of};
 ghost use Rattle.store.specs.declared.state.Left.TheVariants.{Nothing};
 ghost use Rattle.store.specs.Held.{committed, pending as pending_of, reserved};
 ghost use Rattle.volume_laws.specs.Steps.{IsNewSnap};
-ghost use Rattle.snapshot.specs.InStep.{IsInStep};
 ghost use Rattle.snapshot.specs.Kept.{books_of};
 ghost use Rattle.snapshot.specs.Calls.{StartsAt, started};
+ghost use Rattle.snapshot.specs.Devices.{StaysInStep, TellsPlace};
 
 use crate::Snapshot;
 use crate::overflowing::overflowing;
@@ -44,7 +43,7 @@ impl<B: Block> Snapshot<B> {
         ensures new { (origin : List ℕ) → length origin ≡ 512 * store.state.origin → IsNewSnap origin (books_of B.contents B.layers result) }
         ensures counted { length result.pairs ≡ result.state.current * (32 * result.state.chunk) + result.state.filled }
         ensures unfilled { result.state.filled < 32 * result.state.chunk }
-        ensures in_step { IsInStep B.contents B.layers B.size result }
+        ensures in_step { StaysInStep B.Block result }
     {
         Snapshot {
             number,
@@ -150,9 +149,9 @@ impl<B: Block> Snapshot<B> {
         requires absent { place_in self.old.pairs chunk ≡ None }
         requires idle { list_any (λ p. p.pair.old == chunk) self.old.copies ≡ false }
         requires buffer { length buffer.items ≡ 512 * count_of self.old.state.chunk self.old.state.origin chunk }
-        ensures place { MatchBool result (self.old.state.chunk * (self.old.next + 1) ≤ self.old.state.size) (IsFull self.old.state.chunk self.old.state.size self.old.next) }
+        ensures place { TellsPlace result self.old }
         ensures started { MatchBool result (StartsAt B.contents B.layers (started number chunk self.old.next buffer) self.old self.new) (self.new ≡ self.old) }
-        ensures in_step { IsInStep B.contents B.layers B.size self.new }
+        ensures in_step { StaysInStep B.Block self.new }
     {
         let Some(begun) = self.store.start(chunk) else {
             return false;

@@ -1,5 +1,5 @@
 -- What an event or a request looks for: a snapshot by its number, or a copy or a mark by its own.
-use Rattle.std.specs.Prelude.{◌==◌, ◌&&◌, ◌||◌, not, ℕ, Bool, List, Option}
+use Rattle.std.specs.Prelude.{◌≡◌, ◌==◌, ◌<◌, ◌&&◌, ◌||◌, not, ℕ, Bool, true, false, IfNone, IfSome, List, Option, Some, length, slice_index_or}
 use Rattle.std.specs.List.{list_any, position}
 use Rattle.in_flight.specs.Due.{is_copy_at, is_publishable, front_ready, front_unflushed}
 use Rattle.in_flight.specs.declared.copies.Stage.{Stage}
@@ -47,3 +47,24 @@ is_committing number s = (s.number == number) && (front_ready s.copies && not (w
 -- where it needs its next area zeroed for its first copies
 abbrev pub is_zeroing : {B : Type 0} → ℕ → Kept B → Bool
 is_zeroing number s = (s.number == number) && (front_ready s.copies && needs_area s.state s.copies)
+
+-- a search by a number finds the place of a snapshot that has one of its copies at this stage, and that copy's place; or none has
+abbrev pub FindsCopy : {B : Type 0} → Stage → ℕ → Option (ℕ × ℕ) → List (Kept B) → Type 0
+FindsCopy stage number result snaps = IfSome result (λ p. (p.0 < length snaps) × ((s : Kept _) → position (is_copy_of stage number) (slice_index_or snaps p.0 s).copies ≡ Some p.1))
+
+abbrev pub LacksCopy : {A B : Type 0} → Stage → ℕ → Option A → List (Kept B) → Type 0
+LacksCopy stage number result snaps = IfNone result (list_any (has_copy_at stage number) snaps ≡ false)
+
+-- the place of one that waits for a flush; or none does
+abbrev pub FindsFlushing : {B : Type 0} → ℕ → Option ℕ → List (Kept B) → Type 0
+FindsFlushing number result snaps = IfSome result (λ k. (k < length snaps) × ((s : Kept _) → is_flushing number (slice_index_or snaps k s) ≡ true))
+
+abbrev pub LacksFlushing : {A B : Type 0} → ℕ → Option A → List (Kept B) → Type 0
+LacksFlushing number result snaps = IfNone result (list_any (is_flushing number) snaps ≡ false)
+
+-- the place of one whose first copies can be committed; or of none they can
+abbrev pub FindsCommitting : {B : Type 0} → ℕ → Option ℕ → List (Kept B) → Type 0
+FindsCommitting number result snaps = IfSome result (λ k. (k < length snaps) × ((s : Kept _) → is_committing number (slice_index_or snaps k s) ≡ true))
+
+abbrev pub LacksCommitting : {A B : Type 0} → ℕ → Option A → List (Kept B) → Type 0
+LacksCommitting number result snaps = IfNone result (list_any (is_committing number) snaps ≡ false)

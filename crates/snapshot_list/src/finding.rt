@@ -2,7 +2,7 @@
 ghost use Rattle.std.specs.Prelude.{◌≡◌, ◌<◌, false, length, IfNone, IfSome, slice_index_or, Some, true};
 ghost use Rattle.std.specs.List.{All, list_any, position};
 ghost use Rattle.snapshot.specs.Kept.{Kept};
-ghost use Rattle.snapshot_list.specs.Finding.{place_of_snap, has_copy_at, has_mark_at, is_committing, is_copy_of, is_flushing, is_mark_of, is_trying, is_zeroing};
+ghost use Rattle.snapshot_list.specs.Finding.{FindsCommitting, FindsCopy, FindsFlushing, LacksCommitting, LacksCopy, LacksFlushing, has_mark_at, is_mark_of, is_trying, is_zeroing, place_of_snap};
 
 use crate::due::{can_commit, can_flush_store, can_mark, can_zero};
 use device::Block;
@@ -32,8 +32,8 @@ pub fn trying_at<B: Block>(snaps: &[Snapshot<B>], number: SnapId) -> Option<usiz
 
 /// The place of the first snapshot with this number whose store is to be flushed.
 pub fn flushing_at<B: Block>(snaps: &[Snapshot<B>], number: SnapId) -> Option<usize>
-    ensures found { IfSome result (λ k. (k < length snaps.now) × ((s : Kept B) → is_flushing number (slice_index_or snaps.now k s) ≡ true)) }
-    ensures none { IfNone result (list_any (is_flushing number) snaps.now ≡ false) }
+    ensures found { FindsFlushing number result snaps.now }
+    ensures none { LacksFlushing number result snaps.now }
 {
     for (place, s) in snaps.iter().enumerate() {
         if s.number() == number && can_flush_store(s) {
@@ -45,8 +45,8 @@ pub fn flushing_at<B: Block>(snaps: &[Snapshot<B>], number: SnapId) -> Option<us
 
 /// The place of the first snapshot with this number whose first copy can be committed.
 pub fn committing_at<B: Block>(snaps: &[Snapshot<B>], number: SnapId) -> Option<usize>
-    ensures found { IfSome result (λ k. (k < length snaps.now) × ((s : Kept B) → is_committing number (slice_index_or snaps.now k s) ≡ true)) }
-    ensures none { IfNone result (list_any (is_committing number) snaps.now ≡ false) }
+    ensures found { FindsCommitting number result snaps.now }
+    ensures none { LacksCommitting number result snaps.now }
 {
     for (place, s) in snaps.iter().enumerate() {
         if s.number() == number && can_commit(s) {
@@ -75,8 +75,8 @@ pub fn find_copy<B: Block>(
     stage: Stage,
     number: CopyId,
 ) -> Option<(usize, usize)>
-    ensures found { IfSome result (λ p. (p.0 < length snaps.now) × ((s : Kept B) → position (is_copy_of stage number) (slice_index_or snaps.now p.0 s).copies ≡ Some p.1)) }
-    ensures none { IfNone result (list_any (has_copy_at stage number) snaps.now ≡ false) }
+    ensures found { FindsCopy stage number result snaps.now }
+    ensures none { LacksCopy stage number result snaps.now }
 {
     for (place, s) in snaps.iter().enumerate() {
         match copy_at(s.copies(), stage, number) {

@@ -1,8 +1,8 @@
 // The same searches, with a place that is looked at first: what an event names is mostly where the event before found its own.
-ghost use Rattle.std.specs.Prelude.{◌≡◌, ◌<◌, false, length, IfNone, IfSome, slice_index_or, Some, true};
+ghost use Rattle.std.specs.Prelude.{◌≡◌, ◌<◌, false, length, IfNone, IfSome, slice_index_or, Some};
 ghost use Rattle.std.specs.List.{All, list_any, position};
 ghost use Rattle.snapshot.specs.Kept.{Kept};
-ghost use Rattle.snapshot_list.specs.Finding.{has_copy_at, has_mark_at, is_committing, is_copy_of, is_flushing, is_mark_of};
+ghost use Rattle.snapshot_list.specs.Finding.{FindsCommitting, FindsCopy, FindsFlushing, LacksCommitting, LacksCopy, LacksFlushing, has_mark_at, is_committing, is_flushing, is_mark_of};
 
 use crate::due::{can_commit, can_flush_store};
 use crate::finding::{committing_at, find_copy, find_mark, flushing_at};
@@ -31,8 +31,8 @@ fn is_committing_as<B: Block>(snap: &Snapshot<B>, number: SnapId) -> bool
 /// all.
 #[inline(always)]
 pub fn flushing_near<B: Block>(snaps: &[Snapshot<B>], near: usize, number: SnapId) -> Option<usize>
-    ensures found { IfSome result (λ k. (k < length snaps.now) × ((s : Kept B) → is_flushing number (slice_index_or snaps.now k s) ≡ true)) }
-    ensures none { IfNone result (list_any (is_flushing number) snaps.now ≡ false) }
+    ensures found { FindsFlushing number result snaps.now }
+    ensures none { LacksFlushing number result snaps.now }
 {
     if near < snaps.len() && is_flushing_as(&snaps[near], number) {
         return Some(near);
@@ -48,8 +48,8 @@ pub fn committing_near<B: Block>(
     near: usize,
     number: SnapId,
 ) -> Option<usize>
-    ensures found { IfSome result (λ k. (k < length snaps.now) × ((s : Kept B) → is_committing number (slice_index_or snaps.now k s) ≡ true)) }
-    ensures none { IfNone result (list_any (is_committing number) snaps.now ≡ false) }
+    ensures found { FindsCommitting number result snaps.now }
+    ensures none { LacksCommitting number result snaps.now }
 {
     if near < snaps.len() && is_committing_as(&snaps[near], number) {
         return Some(near);
@@ -66,8 +66,8 @@ pub fn find_copy_near<B: Block>(
     stage: Stage,
     number: CopyId,
 ) -> Option<(usize, usize)>
-    ensures found { IfSome result (λ p. (p.0 < length snaps.now) × ((s : Kept B) → position (is_copy_of stage number) (slice_index_or snaps.now p.0 s).copies ≡ Some p.1)) }
-    ensures none { IfNone result (list_any (has_copy_at stage number) snaps.now ≡ false) }
+    ensures found { FindsCopy stage number result snaps.now }
+    ensures none { LacksCopy stage number result snaps.now }
 {
     if near < snaps.len() {
         match copy_at(snaps[near].copies(), stage, number) {
@@ -110,8 +110,8 @@ pub fn find_copy_from<B: Block>(
     stage: Stage,
     number: CopyId,
 ) -> Option<(usize, usize)>
-    ensures found { IfSome result (λ p. (p.0 < length snaps.now) × ((s : Kept B) → position (is_copy_of stage number) (slice_index_or snaps.now p.0 s).copies ≡ Some p.1)) }
-    ensures none { IfNone result (list_any (has_copy_at stage number) snaps.now ≡ false) }
+    ensures found { FindsCopy stage number result snaps.now }
+    ensures none { LacksCopy stage number result snaps.now }
 {
     if from < snaps.len() {
         match find_copy(&snaps[from..], stage, number) {

@@ -12,3 +12,6 @@ pub mod Starved
 pub mod Stopping
 pub mod Stored
 pub mod Layering
+pub mod Devices
+pub mod Calls
+pub mod Usage

@@ -5,7 +5,7 @@ ghost use Rattle.device.specs.declared.operation.Operation.TheVariants.{Reads, W
 ghost use Rattle.device.specs.Layers.{is_loud};
 ghost use Rattle.store_bytes.specs.Places.{ChangesOnly, chunk_at};
 ghost use Rattle.store.specs.Operations.{IsOneOperation};
-ghost use Rattle.stop_laws.specs.Firm.{AddsNow};
+ghost use Rattle.store.specs.Devices.{AddsNowIfLoud, AddsOnlyNow, IsAsLoud, Keeps};
 
 use device::{Block, Io};
 use metadata_area::Area;
@@ -27,13 +27,13 @@ pub fn write_part<B: Block>(
     requires inside { chunk * (place + 1) ≤ B.size device.old }
     requires room { length bytes.now ≡ 512 * count }
     ensures operation { IsOneOperation (Writes (chunk * place + first) count) (is_ok result) (B.layers device.old) (B.layers device.new) (B.fault_count device.old) (B.fault_count device.new) (B.done_count device.old) (B.done_count device.new) }
-    ensures loud { is_loud (B.layers device.new) ≡ is_loud (B.layers device.old) }
+    ensures loud { IsAsLoud B.layers device.old device.new }
     ensures written { OnOk result (IsTrue (is_loud (B.layers device.old)) → B.contents device.new ≡ with_sectors (B.contents device.old) (chunk * place + first) bytes.now) }
-    ensures err { OnErr result (B.contents device.new ≡ B.contents device.old) }
+    ensures err { OnErr result (Keeps B.contents device.old device.new) }
     ensures only { ChangesOnly chunk place (B.contents device.old) (B.contents device.new) }
-    ensures durable { B.durable device.new ≡ B.durable device.old }
-    ensures adds { IsTrue (is_loud (B.layers device.old)) → AddsNow (B.may_hold device.old) (B.may_hold device.new) (B.contents device.new) }
-    ensures size { B.size device.new ≡ B.size device.old }
+    ensures durable { Keeps B.durable device.old device.new }
+    ensures adds { AddsNowIfLoud B.Block device.old device.new }
+    ensures size { Keeps B.size device.old device.new }
 {
     let range = Range {
         first: chunk as u64 * place + first as u64,
@@ -59,13 +59,13 @@ pub fn read_part<B: Block>(
     requires inside { chunk * (place + 1) ≤ B.size device.old }
     requires room { length out.old ≡ 512 * count }
     ensures operation { IsOneOperation (Reads (chunk * place + first) count) (is_ok result) (B.layers device.old) (B.layers device.new) (B.fault_count device.old) (B.fault_count device.new) (B.done_count device.old) (B.done_count device.new) }
-    ensures loud { is_loud (B.layers device.new) ≡ is_loud (B.layers device.old) }
+    ensures loud { IsAsLoud B.layers device.old device.new }
     ensures data { OnOk result (out.new ≡ sectors_at (B.contents device.old) (chunk * place + first) count) }
     ensures err { OnErr result (out.new ≡ out.old) }
-    ensures contents { B.contents device.new ≡ B.contents device.old }
-    ensures durable { B.durable device.new ≡ B.durable device.old }
-    ensures adds { AddsNow (B.may_hold device.old) (B.may_hold device.new) (B.contents device.new) }
-    ensures size { B.size device.new ≡ B.size device.old }
+    ensures contents { Keeps B.contents device.old device.new }
+    ensures durable { Keeps B.durable device.old device.new }
+    ensures adds { AddsOnlyNow B.Block device.old device.new }
+    ensures size { Keeps B.size device.old device.new }
 {
     let range = Range {
         first: chunk as u64 * place + first as u64,
@@ -88,13 +88,13 @@ pub fn write_whole<B: Block>(
     requires inside { chunk * (place + 1) ≤ B.size device.old }
     requires room { length bytes.now ≡ 512 * chunk }
     ensures operation { IsOneOperation (Writes (chunk * place) chunk) (is_ok result) (B.layers device.old) (B.layers device.new) (B.fault_count device.old) (B.fault_count device.new) (B.done_count device.old) (B.done_count device.new) }
-    ensures loud { is_loud (B.layers device.new) ≡ is_loud (B.layers device.old) }
+    ensures loud { IsAsLoud B.layers device.old device.new }
     ensures written { OnOk result (IsTrue (is_loud (B.layers device.old)) → B.contents device.new ≡ with_sectors (B.contents device.old) (chunk * place) bytes.now) }
-    ensures err { OnErr result (B.contents device.new ≡ B.contents device.old) }
+    ensures err { OnErr result (Keeps B.contents device.old device.new) }
     ensures only { ChangesOnly chunk place (B.contents device.old) (B.contents device.new) }
-    ensures durable { B.durable device.new ≡ B.durable device.old }
-    ensures adds { IsTrue (is_loud (B.layers device.old)) → AddsNow (B.may_hold device.old) (B.may_hold device.new) (B.contents device.new) }
-    ensures size { B.size device.new ≡ B.size device.old }
+    ensures durable { Keeps B.durable device.old device.new }
+    ensures adds { AddsNowIfLoud B.Block device.old device.new }
+    ensures size { Keeps B.size device.old device.new }
 {
     write_part(device, size, chunk, place, 0, chunk, bytes)
 }
@@ -112,13 +112,13 @@ pub fn read_whole<B: Block>(
     requires inside { chunk * (place + 1) ≤ B.size device.old }
     requires room { length out.old ≡ 512 * chunk }
     ensures operation { IsOneOperation (Reads (chunk * place) chunk) (is_ok result) (B.layers device.old) (B.layers device.new) (B.fault_count device.old) (B.fault_count device.new) (B.done_count device.old) (B.done_count device.new) }
-    ensures loud { is_loud (B.layers device.new) ≡ is_loud (B.layers device.old) }
+    ensures loud { IsAsLoud B.layers device.old device.new }
     ensures data { OnOk result (out.new ≡ chunk_at chunk (B.contents device.old) place) }
     ensures err { OnErr result (out.new ≡ out.old) }
-    ensures contents { B.contents device.new ≡ B.contents device.old }
-    ensures durable { B.durable device.new ≡ B.durable device.old }
-    ensures adds { AddsNow (B.may_hold device.old) (B.may_hold device.new) (B.contents device.new) }
-    ensures size { B.size device.new ≡ B.size device.old }
+    ensures contents { Keeps B.contents device.old device.new }
+    ensures durable { Keeps B.durable device.old device.new }
+    ensures adds { AddsOnlyNow B.Block device.old device.new }
+    ensures size { Keeps B.size device.old device.new }
 {
     read_part(device, size, chunk, place, 0, chunk, out)
 }
@@ -134,14 +134,14 @@ pub fn read_area<B: Block>(
     requires size { size ≡ B.size device.old }
     requires inside { area.old.chunk * (place + 1) ≤ B.size device.old }
     ensures operation { IsOneOperation (Reads (area.old.chunk * place) area.old.chunk) (is_ok result) (B.layers device.old) (B.layers device.new) (B.fault_count device.old) (B.fault_count device.new) (B.done_count device.old) (B.done_count device.new) }
-    ensures loud { is_loud (B.layers device.new) ≡ is_loud (B.layers device.old) }
+    ensures loud { IsAsLoud B.layers device.old device.new }
     ensures chunk { area.new.chunk ≡ area.old.chunk }
     ensures data { OnOk result (area.new.bytes.items ≡ chunk_at area.old.chunk (B.contents device.old) place) }
     ensures err { OnErr result (area.new.bytes.items ≡ area.old.bytes.items) }
-    ensures contents { B.contents device.new ≡ B.contents device.old }
-    ensures durable { B.durable device.new ≡ B.durable device.old }
-    ensures adds { AddsNow (B.may_hold device.old) (B.may_hold device.new) (B.contents device.new) }
-    ensures size { B.size device.new ≡ B.size device.old }
+    ensures contents { Keeps B.contents device.old device.new }
+    ensures durable { Keeps B.durable device.old device.new }
+    ensures adds { AddsOnlyNow B.Block device.old device.new }
+    ensures size { Keeps B.size device.old device.new }
     ensures faults { B.fault_count device.new ≡ (if is_ok result then B.fault_count device.old else next_count (B.fault_count device.old)) }
 {
     match read_whole(device, size, area.chunk, place, area.bytes.as_mut_slice()) {

@@ -1,7 +1,6 @@
 // Pairs are committed: they are written into the current area, after the next one is zeroed where they fill it.
-ghost use Rattle.std.specs.Prelude.{◌≡◌, ◌+◌, ◌*◌, ◌<◌, ◌≤◌, ◌↔◌, ◌++◌, length, take, drop, replicate, is_ok, OnOk, OnErr, IsTrue, true, false};
-ghost use Rattle.sector.specs.Bytes.{with_part, with_sectors};
-ghost use Rattle.device.specs.declared.operation.Operation.TheVariants.{Writes};
+ghost use Rattle.std.specs.Prelude.{◌≡◌, ◌+◌, ◌*◌, ◌<◌, ◌≤◌, ◌↔◌, ◌++◌, length, take, drop, OnOk, OnErr, IsTrue, true, false};
+ghost use Rattle.sector.specs.Bytes.{with_part};
 ghost use Rattle.device.specs.Layers.{is_loud};
 ghost use Rattle.store_bytes.specs.Places.{area_place, ChangesOnly};
 ghost use Rattle.store_bytes.specs.NextPlace.{LacksArea};
@@ -10,8 +9,7 @@ ghost use Rattle.exception_arena.specs.Pending.{pairs};
 ghost use Rattle.store.specs.Held.{committed, memory, pending, reserved};
 ghost use Rattle.store.specs.Slots.{IsPut, pairs_bytes, slot_start};
 ghost use Rattle.store.specs.Stored.{after_commit};
-ghost use Rattle.store.specs.Operations.{IsOneOperation};
-ghost use Rattle.stop_laws.specs.Firm.{AddsNow};
+ghost use Rattle.store.specs.Calls.{ChangesOnlyArea, KeepsBytes, KeepsDurable, KeepsExceptions, KeepsMemory, KeepsReserved, KeepsSize, KeepsState, MayHoldNowIfLoud, StaysAsLoud, WritesArea, WritesNext, ZeroesNext};
 
 use crate::Store;
 use crate::chunks::write_whole;
@@ -53,17 +51,17 @@ impl<B: Block> Store<B> {
         requires ready { self.old.state.left ≡ Nothing }
         requires part { self.old.state.filled < 32 * self.old.state.chunk }
         requires room { self.old.state.chunk * (area_place self.old.state.chunk (self.old.state.current + 1) + 1) ≤ self.old.state.size }
-        ensures operation { IsOneOperation (Writes (self.old.state.chunk * area_place self.old.state.chunk (self.old.state.current + 1)) self.old.state.chunk) (is_ok result) (B.layers self.old.device) (B.layers self.new.device) (B.fault_count self.old.device) (B.fault_count self.new.device) (B.done_count self.old.device) (B.done_count self.new.device) }
-        ensures written { OnOk result (IsTrue (is_loud (B.layers self.old.device)) → B.contents self.new.device ≡ with_sectors (B.contents self.old.device) (self.old.state.chunk * area_place self.old.state.chunk (self.old.state.current + 1)) (replicate (512 * self.old.state.chunk) 0)) }
-        ensures same { OnErr result (B.contents self.new.device ≡ B.contents self.old.device) }
+        ensures operation { WritesNext result self.old self.new }
+        ensures written { OnOk result (ZeroesNext self.old self.new) }
+        ensures same { OnErr result (KeepsBytes self.old self.new) }
         ensures only { ChangesOnly self.old.state.chunk (area_place self.old.state.chunk (self.old.state.current + 1)) (B.contents self.old.device) (B.contents self.new.device) }
-        ensures durable { B.durable self.new.device ≡ B.durable self.old.device }
-        ensures adds { IsTrue (is_loud (B.layers self.old.device)) → AddsNow (B.may_hold self.old.device) (B.may_hold self.new.device) (B.contents self.new.device) }
-        ensures size { B.size self.new.device ≡ B.size self.old.device }
-        ensures exceptions { self.new.exceptions ≡ self.old.exceptions }
+        ensures durable { KeepsDurable self.old self.new }
+        ensures adds { MayHoldNowIfLoud self.old self.new }
+        ensures size { KeepsSize self.old self.new }
+        ensures exceptions { KeepsExceptions self.old self.new }
         ensures places { self.new.places ≡ self.old.places }
         ensures zeroed { OnOk result (self.new.state ≡ record self.old.state { zeroed = true; firm = false }) }
-        ensures kept { OnErr result (self.new.state ≡ self.old.state) }
+        ensures kept { OnErr result (KeepsState self.old self.new) }
     {
         let place = (self.state.current + 1) * (32 * self.state.chunk as u64 + 1) + 1;
         self.spare.clear_from(0);
@@ -92,18 +90,18 @@ impl<B: Block> Store<B> {
         requires pending { count ≤ length (pending self.old.exceptions) }
         requires fits { self.old.state.filled + count ≤ 32 * self.old.state.chunk }
         requires next { self.old.state.filled + count ≡ 32 * self.old.state.chunk → self.old.state.firm ≡ true }
-        ensures operation { IsOneOperation (Writes (self.old.state.chunk * area_place self.old.state.chunk self.old.state.current) self.old.state.chunk) (is_ok result) (B.layers self.old.device) (B.layers self.new.device) (B.fault_count self.old.device) (B.fault_count self.new.device) (B.done_count self.old.device) (B.done_count self.new.device) }
+        ensures operation { WritesArea result self.old self.new }
         ensures written { OnOk result (IsTrue (is_loud (B.layers self.old.device)) → B.contents self.new.device ≡ with_part (B.contents self.old.device) (slot_start self.old.state.chunk self.old.state.current self.old.state.filled) (pairs_bytes (pairs (take count (pending self.old.exceptions))))) }
-        ensures same { OnErr result (B.contents self.new.device ≡ B.contents self.old.device) }
-        ensures only { ChangesOnly self.old.state.chunk (area_place self.old.state.chunk self.old.state.current) (B.contents self.old.device) (B.contents self.new.device) }
-        ensures loud { is_loud (B.layers self.new.device) ≡ is_loud (B.layers self.old.device) }
-        ensures durable { B.durable self.new.device ≡ B.durable self.old.device }
-        ensures adds { IsTrue (is_loud (B.layers self.old.device)) → AddsNow (B.may_hold self.old.device) (B.may_hold self.new.device) (B.contents self.new.device) }
-        ensures size { B.size self.new.device ≡ B.size self.old.device }
+        ensures same { OnErr result (KeepsBytes self.old self.new) }
+        ensures only { ChangesOnlyArea self.old self.new }
+        ensures loud { StaysAsLoud self.old self.new }
+        ensures durable { KeepsDurable self.old self.new }
+        ensures adds { MayHoldNowIfLoud self.old self.new }
+        ensures size { KeepsSize self.old self.new }
         ensures committed { OnOk result (committed self.new.exceptions ≡ committed self.old.exceptions ++ pairs (take count (pending self.old.exceptions))) }
         ensures pending { OnOk result (pending self.new.exceptions ≡ drop count (pending self.old.exceptions)) }
-        ensures reserved { reserved self.new.exceptions ≡ reserved self.old.exceptions }
-        ensures memory { memory self.new.exceptions ≡ memory self.old.exceptions }
+        ensures reserved { KeepsReserved self.old self.new }
+        ensures memory { KeepsMemory self.old self.new }
         ensures places { self.new.places ≡ self.old.places }
         ensures state { OnOk result (self.new.state ≡ after_commit self.old.state count) }
         ensures kept { OnErr result ((self.new.state ≡ self.old.state) × (self.new.exceptions ≡ self.old.exceptions)) }

@@ -1,8 +1,7 @@
 // Copies of the origin's chunks: a place is taken, the chunk is written there, and is read again.
-ghost use Rattle.std.specs.Prelude.{◌≡◌, ◌+◌, ◌*◌, ◌<◌, ◌≤◌, [], ◌∷◌, ◌++◌, length, is_ok, OnOk, OnErr, IfErr, MatchOption, IsTrue, None, true, false};
+ghost use Rattle.std.specs.Prelude.{◌≡◌, ◌+◌, ◌*◌, ◌<◌, ◌≤◌, [], ◌∷◌, ◌++◌, length, OnOk, OnErr, IfErr, MatchOption, IsTrue, None, true, false};
 ghost use Rattle.sector.specs.Bytes.{sectors_at, with_sectors};
 ghost use Rattle.sector.specs.declared.refusal.Refusal.TheVariants.{NoMemory};
-ghost use Rattle.device.specs.declared.operation.Operation.TheVariants.{Reads, Writes};
 ghost use Rattle.device.specs.Layers.{is_loud};
 ghost use Rattle.store_bytes.specs.Places.{ChangesOnly, is_area_place};
 ghost use Rattle.store_bytes.specs.Pairs.{IsInside};
@@ -12,8 +11,7 @@ ghost use Rattle.exception_arena.specs.Pending.{begun_under};
 ghost use Rattle.exception_arena.specs.declared.begun.Begun.{Begun};
 ghost use Rattle.store.specs.Held.{committed, memory, pending, pairs_pending, reserved};
 ghost use Rattle.store.specs.declared.state.Left.TheVariants.{Nothing};
-ghost use Rattle.store.specs.Operations.{IsOneOperation};
-ghost use Rattle.stop_laws.specs.Firm.{AddsNow};
+ghost use Rattle.store.specs.Calls.{KeepsBytes, KeepsCommitted, KeepsDurable, KeepsExceptions, KeepsMemory, KeepsPending, KeepsReserved, KeepsSize, KeepsState, MayHoldNowIfLoud, ReadsPlace, StaysAsLoud, WritesPlace};
 
 use crate::Store;
 use crate::chunks::{read_part, write_part};
@@ -27,11 +25,11 @@ impl<B: Block> Store<B> {
         ensures ok { OnOk result (reserved self.new.exceptions ≡ reserved self.old.exceptions + count) }
         ensures err { OnErr result (reserved self.new.exceptions ≡ reserved self.old.exceptions) }
         ensures refusal { IfErr result (λ e. e ≡ NoMemory) }
-        ensures committed { committed self.new.exceptions ≡ committed self.old.exceptions }
-        ensures pending { pending self.new.exceptions ≡ pending self.old.exceptions }
+        ensures committed { KeepsCommitted self.old self.new }
+        ensures pending { KeepsPending self.old self.new }
         ensures device { self.new.device ≡ self.old.device }
         ensures places { self.new.places ≡ self.old.places }
-        ensures state { self.new.state ≡ self.old.state }
+        ensures state { KeepsState self.old self.new }
     {
         self.exceptions.reserve(count)
     }
@@ -60,10 +58,10 @@ impl<B: Block> Store<B> {
         ensures own { MatchOption result (Unit {0}) (λ begun. begun_under begun.id (pending self.old.exceptions) ≡ None) }
         ensures next { MatchOption result (self.new.places.next ≡ self.old.places.next) (λ begun. self.new.places.next ≡ stepped self.old.state.chunk (self.old.places.next + 1)) }
         ensures used { MatchOption result (Unit {0}) (λ begun. reserved self.new.exceptions + 1 ≡ reserved self.old.exceptions) }
-        ensures committed { committed self.new.exceptions ≡ committed self.old.exceptions }
-        ensures memory { memory self.new.exceptions ≡ memory self.old.exceptions }
+        ensures committed { KeepsCommitted self.old self.new }
+        ensures memory { KeepsMemory self.old self.new }
         ensures device { self.new.device ≡ self.old.device }
-        ensures state { self.new.state ≡ self.old.state }
+        ensures state { KeepsState self.old self.new }
     {
         match self.places.take() {
             None => None,
@@ -77,10 +75,10 @@ impl<B: Block> Store<B> {
 
     /// Drops the copies that are under way; from then on no copy starts.
     pub fn drop_copies(&mut self)
-        ensures committed { committed self.new.exceptions ≡ committed self.old.exceptions }
+        ensures committed { KeepsCommitted self.old self.new }
         ensures pending { pending self.new.exceptions ≡ [] }
-        ensures reserved { reserved self.new.exceptions ≡ reserved self.old.exceptions }
-        ensures memory { memory self.new.exceptions ≡ memory self.old.exceptions }
+        ensures reserved { KeepsReserved self.old self.new }
+        ensures memory { KeepsMemory self.old self.new }
         ensures device { self.new.device ≡ self.old.device }
         ensures places { self.new.places ≡ self.old.places }
         ensures state { self.new.state ≡ record self.old.state { copying = false } }
@@ -106,18 +104,18 @@ impl<B: Block> Store<B> {
         requires inside { self.old.state.chunk * (place + 1) ≤ self.old.state.size }
         requires room { length bytes.now ≡ 512 * count }
 
-        ensures operation { IsOneOperation (Writes (self.old.state.chunk * place + first) count) (is_ok result) (B.layers self.old.device) (B.layers self.new.device) (B.fault_count self.old.device) (B.fault_count self.new.device) (B.done_count self.old.device) (B.done_count self.new.device) }
+        ensures operation { WritesPlace place first count result self.old self.new }
         ensures written { OnOk result (IsTrue (is_loud (B.layers self.old.device)) → B.contents self.new.device ≡ with_sectors (B.contents self.old.device) (self.old.state.chunk * place + first) bytes.now) }
-        ensures same { OnErr result (B.contents self.new.device ≡ B.contents self.old.device) }
+        ensures same { OnErr result (KeepsBytes self.old self.new) }
         ensures only { ChangesOnly self.old.state.chunk place (B.contents self.old.device) (B.contents self.new.device) }
-        ensures loud { is_loud (B.layers self.new.device) ≡ is_loud (B.layers self.old.device) }
-        ensures durable { B.durable self.new.device ≡ B.durable self.old.device }
-        ensures adds { IsTrue (is_loud (B.layers self.old.device)) → AddsNow (B.may_hold self.old.device) (B.may_hold self.new.device) (B.contents self.new.device) }
-        ensures size { B.size self.new.device ≡ B.size self.old.device }
+        ensures loud { StaysAsLoud self.old self.new }
+        ensures durable { KeepsDurable self.old self.new }
+        ensures adds { MayHoldNowIfLoud self.old self.new }
+        ensures size { KeepsSize self.old self.new }
 
-        ensures exceptions { self.new.exceptions ≡ self.old.exceptions }
+        ensures exceptions { KeepsExceptions self.old self.new }
         ensures places { self.new.places ≡ self.old.places }
-        ensures state { self.new.state ≡ self.old.state }
+        ensures state { KeepsState self.old self.new }
     {
         write_part(
             &mut self.device,
@@ -143,18 +141,18 @@ impl<B: Block> Store<B> {
         requires inside { self.old.state.chunk * (place + 1) ≤ self.old.state.size }
         requires room { length out.old ≡ 512 * count }
 
-        ensures operation { IsOneOperation (Reads (self.old.state.chunk * place + first) count) (is_ok result) (B.layers self.old.device) (B.layers self.new.device) (B.fault_count self.old.device) (B.fault_count self.new.device) (B.done_count self.old.device) (B.done_count self.new.device) }
+        ensures operation { ReadsPlace place first count result self.old self.new }
         ensures data { OnOk result (out.new ≡ sectors_at (B.contents self.old.device) (self.old.state.chunk * place + first) count) }
         ensures err { OnErr result (out.new ≡ out.old) }
-        ensures same { B.contents self.new.device ≡ B.contents self.old.device }
-        ensures loud { is_loud (B.layers self.new.device) ≡ is_loud (B.layers self.old.device) }
-        ensures durable { B.durable self.new.device ≡ B.durable self.old.device }
-        ensures adds { IsTrue (is_loud (B.layers self.old.device)) → AddsNow (B.may_hold self.old.device) (B.may_hold self.new.device) (B.contents self.new.device) }
-        ensures size { B.size self.new.device ≡ B.size self.old.device }
+        ensures same { KeepsBytes self.old self.new }
+        ensures loud { StaysAsLoud self.old self.new }
+        ensures durable { KeepsDurable self.old self.new }
+        ensures adds { MayHoldNowIfLoud self.old self.new }
+        ensures size { KeepsSize self.old self.new }
 
-        ensures exceptions { self.new.exceptions ≡ self.old.exceptions }
+        ensures exceptions { KeepsExceptions self.old self.new }
         ensures places { self.new.places ≡ self.old.places }
-        ensures state { self.new.state ≡ self.old.state }
+        ensures state { KeepsState self.old self.new }
     {
         let size = self.state.size;
         let chunk = self.state.chunk;

@@ -1,14 +1,13 @@
 // The areas of a written store are read, up to the first empty slot.
 ghost use Rattle.std.specs.Prelude.{◌≡◌, ◌⊎◌, ℕ, ◌+◌, ◌*◌, ◌/◌, ◌%◌, ◌<◌, ◌≤◌, ◌++◌, List, length, IfOk, IfErr, OnOk, MatchResult, IsTrue, Ok, Err};
 ghost use Rattle.sector.specs.declared.refusal.Refusal.TheVariants.{NoMemory, Io as IoRefusal, Damaged};
-ghost use Rattle.device.specs.Layers.{is_loud};
 ghost use Rattle.store.specs.Reading.{all_read, read_pairs, IsEnded};
 ghost use Rattle.store.specs.Starved.{ArePartRead};
 ghost use Rattle.store_bytes.specs.Places.{area_place, chunk_at};
 ghost use Rattle.store_bytes.specs.Pairs.{pairs_of};
 ghost use Rattle.store.specs.Opening.{faults_after};
 ghost use Rattle.store.specs.Loaded.{IsLoaded, IsPrefix, IsRead};
-ghost use Rattle.stop_laws.specs.Firm.{AddsNow};
+ghost use Rattle.store.specs.Devices.{AddsOnlyNow, IsAsLoud, Keeps};
 
 use crate::chunks::read_area;
 use device::Block;
@@ -28,11 +27,11 @@ pub fn read_areas<B: Block>(
     ensures damaged { IfErr result (λ e. e ≡ Damaged → B.size device.old < area.old.chunk * (area_place area.old.chunk (length (pairs_of area.old.chunk (B.contents device.old)) / (32 * area.old.chunk)) + 1)) }
     ensures refusal { IfErr result (λ e. (e ≡ IoRefusal) ⊎ (e ≡ NoMemory) ⊎ (e ≡ Damaged)) }
     ensures chunk { area.new.chunk ≡ area.old.chunk }
-    ensures contents { B.contents device.new ≡ B.contents device.old }
-    ensures durable { B.durable device.new ≡ B.durable device.old }
-    ensures adds { AddsNow (B.may_hold device.old) (B.may_hold device.new) (B.contents device.new) }
-    ensures size { B.size device.new ≡ B.size device.old }
-    ensures loud { is_loud (B.layers device.new) ≡ is_loud (B.layers device.old) }
+    ensures contents { Keeps B.contents device.old device.new }
+    ensures durable { Keeps B.durable device.old device.new }
+    ensures adds { AddsOnlyNow B.Block device.old device.new }
+    ensures size { Keeps B.size device.old device.new }
+    ensures loud { IsAsLoud B.layers device.old device.new }
     ensures starved { IfErr result (λ e. e ≡ NoMemory → ArePartRead area.old.chunk (B.size device.old) (B.contents device.old) (B.layers device.old) (B.layers device.new)) }
     ensures layers { MatchResult result (λ _. read_pairs area.old.chunk (B.size device.old) (B.contents device.old) (B.layers device.old) ≡ all_read (B.layers device.new)) (λ e. IsEnded (read_pairs area.old.chunk (B.size device.old) (B.contents device.old) (B.layers device.old)) e (B.layers device.old) (B.layers device.new)) }
     ensures faults { MatchResult result (λ _. B.fault_count device.new ≡ B.fault_count device.old) (λ e. B.fault_count device.new ≡ faults_after e (B.fault_count device.old)) }

@@ -7,7 +7,8 @@ ghost use Rattle.store_bytes.specs.Places.{ChangesOnly};
 ghost use Rattle.cow_header.specs.HeaderText.{header_bytes};
 ghost use Rattle.store.specs.declared.state.Left.TheVariants.{HeaderChunk, Nothing};
 ghost use Rattle.store.specs.Operations.{IsOneOperation};
-ghost use Rattle.stop_laws.specs.Firm.{AddsNow};
+ghost use Rattle.store.specs.Calls.{ChangesOnlyHeader, KeepsBytes, KeepsDurable, KeepsExceptions, KeepsSize, KeepsState, MarksInvalid, MayHoldNowIfLoud, StaysAsLoud, WritesHeader};
+ghost use Rattle.store.specs.Devices.{AddsNowIfLoud, IsAsLoud, Keeps};
 
 use crate::chunks::write_whole;
 use crate::{Left, Store};
@@ -20,17 +21,17 @@ impl<B: Block> Store<B> {
     /// afterwards.
     pub fn write_invalid(&mut self) -> Result<(), Io>
         requires ready { self.old.state.left ≡ Nothing }
-        ensures operation { IsOneOperation (Writes 0 self.old.state.chunk) (is_ok result) (B.layers self.old.device) (B.layers self.new.device) (B.fault_count self.old.device) (B.fault_count self.new.device) (B.done_count self.old.device) (B.done_count self.new.device) }
-        ensures written { OnOk result (IsTrue (is_loud (B.layers self.old.device)) → B.contents self.new.device ≡ with_sectors (B.contents self.old.device) 0 (header_bytes (512 * self.old.state.chunk) false self.old.state.chunk)) }
-        ensures same { OnErr result (B.contents self.new.device ≡ B.contents self.old.device) }
-        ensures only { ChangesOnly self.old.state.chunk 0 (B.contents self.old.device) (B.contents self.new.device) }
-        ensures durable { B.durable self.new.device ≡ B.durable self.old.device }
-        ensures adds { IsTrue (is_loud (B.layers self.old.device)) → AddsNow (B.may_hold self.old.device) (B.may_hold self.new.device) (B.contents self.new.device) }
-        ensures size { B.size self.new.device ≡ B.size self.old.device }
-        ensures exceptions { self.new.exceptions ≡ self.old.exceptions }
+        ensures operation { WritesHeader result self.old self.new }
+        ensures written { OnOk result (MarksInvalid self.old self.new) }
+        ensures same { OnErr result (KeepsBytes self.old self.new) }
+        ensures only { ChangesOnlyHeader self.old self.new }
+        ensures durable { KeepsDurable self.old self.new }
+        ensures adds { MayHoldNowIfLoud self.old self.new }
+        ensures size { KeepsSize self.old self.new }
+        ensures exceptions { KeepsExceptions self.old self.new }
         ensures places { self.new.places ≡ self.old.places }
         ensures state { OnOk result (self.new.state ≡ record self.old.state { valid = false }) }
-        ensures kept { OnErr result (self.new.state ≡ self.old.state) }
+        ensures kept { OnErr result (KeepsState self.old self.new) }
     {
         match write_header(&mut self.device, self.state.size, &mut self.spare, false) {
             Ok(()) => {
@@ -44,18 +45,18 @@ impl<B: Block> Store<B> {
     /// Writes the header of a fresh store whose area 0 is zeroed, after which no write of its load is left, but a flush.
     pub(crate) fn write_valid(&mut self) -> Result<(), Io>
         requires begun { self.old.state.left ≡ HeaderChunk }
-        ensures operation { IsOneOperation (Writes 0 self.old.state.chunk) (is_ok result) (B.layers self.old.device) (B.layers self.new.device) (B.fault_count self.old.device) (B.fault_count self.new.device) (B.done_count self.old.device) (B.done_count self.new.device) }
-        ensures loud { is_loud (B.layers self.new.device) ≡ is_loud (B.layers self.old.device) }
+        ensures operation { WritesHeader result self.old self.new }
+        ensures loud { StaysAsLoud self.old self.new }
         ensures written { OnOk result (IsTrue (is_loud (B.layers self.old.device)) → B.contents self.new.device ≡ with_sectors (B.contents self.old.device) 0 (header_bytes (512 * self.old.state.chunk) true self.old.state.chunk)) }
-        ensures same { OnErr result (B.contents self.new.device ≡ B.contents self.old.device) }
-        ensures only { ChangesOnly self.old.state.chunk 0 (B.contents self.old.device) (B.contents self.new.device) }
-        ensures durable { B.durable self.new.device ≡ B.durable self.old.device }
-        ensures adds { IsTrue (is_loud (B.layers self.old.device)) → AddsNow (B.may_hold self.old.device) (B.may_hold self.new.device) (B.contents self.new.device) }
-        ensures size { B.size self.new.device ≡ B.size self.old.device }
-        ensures exceptions { self.new.exceptions ≡ self.old.exceptions }
+        ensures same { OnErr result (KeepsBytes self.old self.new) }
+        ensures only { ChangesOnlyHeader self.old self.new }
+        ensures durable { KeepsDurable self.old self.new }
+        ensures adds { MayHoldNowIfLoud self.old self.new }
+        ensures size { KeepsSize self.old self.new }
+        ensures exceptions { KeepsExceptions self.old self.new }
         ensures places { self.new.places ≡ self.old.places }
         ensures state { OnOk result (self.new.state ≡ record self.old.state { left = Nothing; awaits = true }) }
-        ensures kept { OnErr result (self.new.state ≡ self.old.state) }
+        ensures kept { OnErr result (KeepsState self.old self.new) }
     {
         match write_header(&mut self.device, self.state.size, &mut self.spare, true) {
             Ok(()) => {
@@ -75,13 +76,13 @@ fn write_header<B: Block>(device: &mut B, size: u64, room: &mut Area, valid: boo
     requires inside { room.old.chunk ≤ B.size device.old }
     ensures chunk { room.new.chunk ≡ room.old.chunk }
     ensures operation { IsOneOperation (Writes 0 room.old.chunk) (is_ok result) (B.layers device.old) (B.layers device.new) (B.fault_count device.old) (B.fault_count device.new) (B.done_count device.old) (B.done_count device.new) }
-    ensures loud { is_loud (B.layers device.new) ≡ is_loud (B.layers device.old) }
+    ensures loud { IsAsLoud B.layers device.old device.new }
     ensures written { OnOk result (IsTrue (is_loud (B.layers device.old)) → B.contents device.new ≡ with_sectors (B.contents device.old) 0 (header_bytes (512 * room.old.chunk) valid room.old.chunk)) }
-    ensures same { OnErr result (B.contents device.new ≡ B.contents device.old) }
+    ensures same { OnErr result (Keeps B.contents device.old device.new) }
     ensures only { ChangesOnly room.old.chunk 0 (B.contents device.old) (B.contents device.new) }
-    ensures durable { B.durable device.new ≡ B.durable device.old }
-    ensures adds { IsTrue (is_loud (B.layers device.old)) → AddsNow (B.may_hold device.old) (B.may_hold device.new) (B.contents device.new) }
-    ensures size { B.size device.new ≡ B.size device.old }
+    ensures durable { Keeps B.durable device.old device.new }
+    ensures adds { AddsNowIfLoud B.Block device.old device.new }
+    ensures size { Keeps B.size device.old device.new }
 {
     put_header(room, valid);
     match write_whole(device, size, room.chunk, 0, room.encode()) {

@@ -1,16 +1,15 @@
 // A merge takes pairs away, from the last backwards, and the areas that become empty with them.
-ghost use Rattle.std.specs.Prelude.{◌≡◌, ℕ, ◌+◌, ◌-◌, ◌*◌, ◌<◌, ◌≤◌, List, length, take, replicate, slice_index_or, is_ok, OnOk, OnErr, IsTrue, true, false};
+ghost use Rattle.std.specs.Prelude.{◌≡◌, ℕ, ◌+◌, ◌-◌, ◌*◌, ◌<◌, ◌≤◌, List, length, take, replicate, slice_index_or, OnOk, OnErr, IsTrue, true, false};
 ghost use Rattle.sector.specs.Bytes.{sectors_at, with_part, with_sectors};
 ghost use Rattle.sector.specs.declared.pair.Pair.{Pair};
-ghost use Rattle.device.specs.declared.operation.Operation.TheVariants.{Reads, Writes};
 ghost use Rattle.device.specs.Bare.{can_copy_run, count_after};
 ghost use Rattle.device.specs.Layers.{is_loud};
-ghost use Rattle.store_bytes.specs.Places.{area_place, ChangesOnly};
+ghost use Rattle.store_bytes.specs.Places.{area_place};
 ghost use Rattle.store.specs.declared.state.Left.TheVariants.{Nothing};
 ghost use Rattle.store.specs.Held.{committed, memory, pending, reserved};
-ghost use Rattle.store.specs.Operations.{IsOneOperation};
 ghost use Rattle.store.specs.Slots.{slot_start};
-ghost use Rattle.stop_laws.specs.Firm.{AddsNow};
+ghost use Rattle.store.specs.Calls.{ChangesOnlyArea, KeepsBytes, KeepsDurable, KeepsExceptions, KeepsMemory, KeepsPending, KeepsReserved, KeepsState, MayHoldNowIfLoud, ReadsBefore, StaysAsLoud, WritesArea};
+ghost use Rattle.store.specs.Devices.{AddsOnlyNow};
 
 use crate::Store;
 use crate::chunks::{read_area, write_whole};
@@ -30,17 +29,17 @@ impl<B: Block> Store<B> {
         requires some { 0 < count }
         requires fits { count ≤ self.old.state.filled }
         requires falling { (i : ℕ) (d : Pair) → i < count → (slice_index_or (committed self.old.exceptions) (length (committed self.old.exceptions) - (i + 1)) d).old + i ≡ old }
-        ensures operation { IsOneOperation (Writes (self.old.state.chunk * area_place self.old.state.chunk self.old.state.current) self.old.state.chunk) (is_ok result) (B.layers self.old.device) (B.layers self.new.device) (B.fault_count self.old.device) (B.fault_count self.new.device) (B.done_count self.old.device) (B.done_count self.new.device) }
+        ensures operation { WritesArea result self.old self.new }
         ensures written { OnOk result (IsTrue (is_loud (B.layers self.old.device)) → B.contents self.new.device ≡ with_part (B.contents self.old.device) (slot_start self.old.state.chunk self.old.state.current (self.old.state.filled - count)) (replicate (16 * count) 0)) }
-        ensures same { OnErr result (B.contents self.new.device ≡ B.contents self.old.device) }
-        ensures only { ChangesOnly self.old.state.chunk (area_place self.old.state.chunk self.old.state.current) (B.contents self.old.device) (B.contents self.new.device) }
-        ensures loud { is_loud (B.layers self.new.device) ≡ is_loud (B.layers self.old.device) }
-        ensures durable { B.durable self.new.device ≡ B.durable self.old.device }
-        ensures adds { IsTrue (is_loud (B.layers self.old.device)) → AddsNow (B.may_hold self.old.device) (B.may_hold self.new.device) (B.contents self.new.device) }
+        ensures same { OnErr result (KeepsBytes self.old self.new) }
+        ensures only { ChangesOnlyArea self.old self.new }
+        ensures loud { StaysAsLoud self.old self.new }
+        ensures durable { KeepsDurable self.old self.new }
+        ensures adds { MayHoldNowIfLoud self.old self.new }
         ensures committed { OnOk result (committed self.new.exceptions ≡ take (length (committed self.old.exceptions) - count) (committed self.old.exceptions)) }
-        ensures pending { pending self.new.exceptions ≡ pending self.old.exceptions }
-        ensures reserved { reserved self.new.exceptions ≡ reserved self.old.exceptions }
-        ensures memory { memory self.new.exceptions ≡ memory self.old.exceptions }
+        ensures pending { KeepsPending self.old self.new }
+        ensures reserved { KeepsReserved self.old self.new }
+        ensures memory { KeepsMemory self.old self.new }
         ensures next { OnOk result (self.new.places.next ≡ area_place self.old.state.chunk self.old.state.current + (self.old.state.filled - count) + 1) }
         ensures state { OnOk result (self.new.state ≡ record self.old.state { filled = self.old.state.filled - count; sure = length (committed self.new.exceptions); copying = false }) }
         ensures kept { OnErr result ((self.new.state ≡ self.old.state) × (self.new.exceptions ≡ self.old.exceptions) × (self.new.places ≡ self.old.places)) }
@@ -90,17 +89,17 @@ impl<B: Block> Store<B> {
         ensures undone { result ≡ false → (origin.new ≡ origin.old) × (self.new.device ≡ self.old.device) }
         ensures layers { (B.layers origin.new ≡ B.layers origin.old) × (B.layers self.new.device ≡ B.layers self.old.device) }
         ensures copied { result ≡ true → B.contents origin.new ≡ with_sectors (B.contents origin.old) to.first (sectors_at (B.contents self.old.device) (self.old.state.chunk * place) to.count) }
-        ensures same { B.contents self.new.device ≡ B.contents self.old.device }
+        ensures same { KeepsBytes self.old self.new }
         ensures durable { (B.durable origin.new ≡ B.durable origin.old) × (B.durable self.new.device ≡ B.durable self.old.device) }
         ensures size { (B.size origin.new ≡ B.size origin.old) × (B.size self.new.device ≡ B.size self.old.device) }
         ensures faults { (B.fault_count origin.new ≡ B.fault_count origin.old) × (B.fault_count self.new.device ≡ B.fault_count self.old.device) }
         ensures done { result ≡ true → (B.done_count origin.new ≡ count_after (B.done_count origin.old) writes) × (B.done_count self.new.device ≡ count_after (B.done_count self.old.device) reads) }
-        ensures stop { AddsNow (B.may_hold origin.old) (B.may_hold origin.new) (B.contents origin.new) }
+        ensures stop { AddsOnlyNow B.Block origin.old origin.new }
         ensures stop_here { (s : ℕ) (v : List ℕ) → B.may_hold self.new.device s v → B.may_hold self.old.device s v }
 
-        ensures exceptions { self.new.exceptions ≡ self.old.exceptions }
+        ensures exceptions { KeepsExceptions self.old self.new }
         ensures places { self.new.places ≡ self.old.places }
-        ensures state { self.new.state ≡ self.old.state }
+        ensures state { KeepsState self.old self.new }
     {
         let first = self.state.chunk as u64 * place;
         origin.copy_sectors(to, &mut self.device, first, reads, writes)
@@ -111,15 +110,15 @@ impl<B: Block> Store<B> {
         requires ready { self.old.state.left ≡ Nothing }
         requires empty { self.old.state.filled ≡ 0 }
         requires before { 0 < self.old.state.current }
-        ensures operation { IsOneOperation (Reads (self.old.state.chunk * area_place self.old.state.chunk (self.old.state.current - 1)) self.old.state.chunk) (is_ok result) (B.layers self.old.device) (B.layers self.new.device) (B.fault_count self.old.device) (B.fault_count self.new.device) (B.done_count self.old.device) (B.done_count self.new.device) }
-        ensures same { B.contents self.new.device ≡ B.contents self.old.device }
-        ensures loud { is_loud (B.layers self.new.device) ≡ is_loud (B.layers self.old.device) }
-        ensures durable { B.durable self.new.device ≡ B.durable self.old.device }
-        ensures adds { IsTrue (is_loud (B.layers self.old.device)) → AddsNow (B.may_hold self.old.device) (B.may_hold self.new.device) (B.contents self.new.device) }
-        ensures exceptions { self.new.exceptions ≡ self.old.exceptions }
+        ensures operation { ReadsBefore result self.old self.new }
+        ensures same { KeepsBytes self.old self.new }
+        ensures loud { StaysAsLoud self.old self.new }
+        ensures durable { KeepsDurable self.old self.new }
+        ensures adds { MayHoldNowIfLoud self.old self.new }
+        ensures exceptions { KeepsExceptions self.old self.new }
         ensures places { self.new.places ≡ self.old.places }
         ensures state { OnOk result (self.new.state ≡ record self.old.state { current = self.old.state.current - 1; filled = 32 * self.old.state.chunk; zeroed = false; firm = false; copying = false }) }
-        ensures kept { OnErr result (self.new.state ≡ self.old.state) }
+        ensures kept { OnErr result (KeepsState self.old self.new) }
     {
         let place = (self.state.current - 1) * (32 * self.state.chunk as u64 + 1) + 1;
         match read_area(&mut self.device, self.state.size, &mut self.area, place) {

@@ -14,10 +14,11 @@ ghost use Rattle.cow_header.specs.declared.found.Found.TheVariants.{Fresh as Fou
 ghost use Rattle.store.specs.Held.{committed, pending, reserved};
 ghost use Rattle.store.specs.Loaded.{IsCleared};
 ghost use Rattle.store.specs.Opening.{IsRefused, IsOpenedFresh, IsOpenedWritten, IsFirstRefusal, faults_after};
-ghost use Rattle.store.specs.Opened.{MatchLoaded};
+ghost use Rattle.store.specs.Opened.{EitherAddsNow, EitherAsLoud, EitherCounts, EitherKeeps, HasNoCopies, HasNoRoom, MatchLoaded};
 ghost use Rattle.store.specs.Reading.{ended, all_read, read_found, read_pairs, reading, IsEnded};
 ghost use Rattle.store.specs.Starved.{ArePartRead, IsStarved};
 ghost use Rattle.stop_laws.specs.Firm.{AddsNow};
+ghost use Rattle.store.specs.Devices.{AddsOnlyNow, IsAsLoud, Keeps};
 
 use crate::judging::{are_formed, greatest_new};
 use crate::loading::read_areas;
@@ -35,11 +36,11 @@ fn read_header<B: Block>(device: &mut B) -> Result<Found, Refusal>
     ensures found { IfOk result (λ found. (0 < B.size device.old) × (found_in (sector_at (B.contents device.old) 0) ≡ Ok found)) }
     ensures allowed { IfOk result (λ found. (chunk : ℕ) → found ≡ FoundHeader chunk → is_chunk chunk ≡ true) }
     ensures refused { IfErr result (IsFirstRefusal (B.size device.old) (B.contents device.old)) }
-    ensures contents { B.contents device.new ≡ B.contents device.old }
-    ensures durable { B.durable device.new ≡ B.durable device.old }
-    ensures adds { AddsNow (B.may_hold device.old) (B.may_hold device.new) (B.contents device.new) }
-    ensures size { B.size device.new ≡ B.size device.old }
-    ensures loud { is_loud (B.layers device.new) ≡ is_loud (B.layers device.old) }
+    ensures contents { Keeps B.contents device.old device.new }
+    ensures durable { Keeps B.durable device.old device.new }
+    ensures adds { AddsOnlyNow B.Block device.old device.new }
+    ensures size { Keeps B.size device.old device.new }
+    ensures loud { IsAsLoud B.layers device.old device.new }
     ensures one { OnOk result (B.layers device.new ≡ layers_after (B.layers device.old) (Reads 0 1)) }
     ensures answered { OnOk result (is_answered (fate (B.layers device.old) (Reads 0 1)) ≡ true) }
     ensures fed { IfErr result (λ e. e ≡ NoMemory → ⊥) }
@@ -147,8 +148,8 @@ fn open_fresh<B: Block>(
     ensures device { IfOk result (λ store. store.device ≡ device) }
     ensures state { IfOk result (λ store. store.state ≡ record { chunk = chunk; origin = origin; size = B.size device; current = 0; filled = 0; zeroed = false; firm = false; sure = 0; left = Left.FirstArea; awaits = true; copying = true; valid = true }) }
     ensures committed { IfOk result (λ store. committed store.exceptions ≡ []) }
-    ensures pending { IfOk result (λ store. pending store.exceptions ≡ []) }
-    ensures reserved { IfOk result (λ store. reserved store.exceptions ≡ 0) }
+    ensures pending { IfOk result HasNoCopies }
+    ensures reserved { IfOk result HasNoRoom }
     ensures next { IfOk result (λ store. store.places.next ≡ 2) }
     ensures refused { IfErr result (λ e. (e.0 ≡ NoMemory) × (e.1 ≡ device)) }
 {
@@ -228,16 +229,16 @@ fn open_written<B: Block>(
     ensures sure { IfOk result (λ store. store.state.sure ≡ 0) }
     ensures valid { IfOk result (λ store. store.state.valid ≡ true) }
     ensures pending { IfOk result (λ store. length (pending store.exceptions) ≡ 0) }
-    ensures reserved { IfOk result (λ store. reserved store.exceptions ≡ 0) }
+    ensures reserved { IfOk result HasNoRoom }
     ensures refused { IfErr result (λ refused. (refused.0 ≡ IoRefusal) ⊎ (refused.0 ≡ NoMemory) ⊎ ((refused.0 ≡ Damaged) × (AreWellFormed chunk origin (B.size device) (pairs_of chunk (B.contents device)) → ⊥))) }
-    ensures contents { MatchResult result (λ store. B.contents store.device ≡ B.contents device) (λ refused. B.contents refused.1 ≡ B.contents device) }
-    ensures durable { MatchResult result (λ store. B.durable store.device ≡ B.durable device) (λ refused. B.durable refused.1 ≡ B.durable device) }
-    ensures adds { MatchResult result (λ store. AddsNow (B.may_hold device) (B.may_hold store.device) (B.contents store.device)) (λ refused. AddsNow (B.may_hold device) (B.may_hold refused.1) (B.contents refused.1)) }
-    ensures size { MatchResult result (λ store. B.size store.device ≡ B.size device) (λ refused. B.size refused.1 ≡ B.size device) }
-    ensures loud { MatchResult result (λ store. is_loud (B.layers store.device) ≡ is_loud (B.layers device)) (λ refused. is_loud (B.layers refused.1) ≡ is_loud (B.layers device)) }
+    ensures contents { EitherKeeps B.contents device result }
+    ensures durable { EitherKeeps B.durable device result }
+    ensures adds { EitherAddsNow device result }
+    ensures size { EitherKeeps B.size device result }
+    ensures loud { EitherAsLoud device result }
     ensures starved { IfErr result (λ refused. refused.0 ≡ NoMemory → ArePartRead chunk (B.size device) (B.contents device) (B.layers device) (B.layers refused.1)) }
     ensures layers { MatchResult result (λ store. read_pairs chunk (B.size device) (B.contents device) (B.layers device) ≡ all_read (B.layers store.device)) (λ refused. IsEnded (read_pairs chunk (B.size device) (B.contents device) (B.layers device)) refused.0 (B.layers device) (B.layers refused.1)) }
-    ensures faults { MatchResult result (λ store. B.fault_count store.device ≡ B.fault_count device) (λ refused. B.fault_count refused.1 ≡ faults_after refused.0 (B.fault_count device)) }
+    ensures faults { EitherCounts device result }
 {
     let Ok((mut area, spare)) = two_areas(alloc, chunk) else {
         return Err((Refusal::NoMemory, device));

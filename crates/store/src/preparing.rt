@@ -2,13 +2,14 @@
 ghost use Rattle.std.specs.Prelude.{◌≡◌, ◌+◌, ◌*◌, ◌<◌, ◌↔◌, ◌||◌, length, is_ok, OnOk, OnErr, IfOk, IsTrue, Ok, true, false};
 ghost use Rattle.device.specs.declared.operation.Operation.TheVariants.{Writes, Flushes};
 ghost use Rattle.device.specs.Layers.{is_loud};
-ghost use Rattle.store_bytes.specs.Places.{area_place, ChangesOnly};
+ghost use Rattle.store_bytes.specs.Places.{ChangesOnly};
 ghost use Rattle.store.specs.declared.state.Left.TheVariants.{FirstArea, HeaderChunk, Tail, Nothing};
 ghost use Rattle.store.specs.Operations.{IsOneOperation};
 ghost use Rattle.store.specs.Held.{committed};
 ghost use Rattle.store.specs.Stopping.{LeavesPreparing};
 ghost use Rattle.store.specs.Loading.{is_settled, is_begun, is_left, after_write, after_prepare, chunk_left, with_left, with_prepared};
-ghost use Rattle.stop_laws.specs.Firm.{AddsNow, IsFirm};
+ghost use Rattle.stop_laws.specs.Firm.{IsFirm};
+ghost use Rattle.store.specs.Calls.{ChangesOnlyArea, DoesFlush, EndsFirm, KeepsBytes, KeepsDurable, KeepsExceptions, KeepsSize, KeepsState, MayHoldNowIfLoud, StaysAsLoud, WritesArea};
 
 use crate::chunks::write_whole;
 use crate::{Left, Store};
@@ -33,18 +34,18 @@ impl<B: Block> Store<B> {
         ensures operation { self.old.state.awaits ≡ false → is_left self.old.state.left ≡ true → IsOneOperation (Writes (self.old.state.chunk * chunk_left self.old.state.left self.old.state) self.old.state.chunk) (is_ok result) (B.layers self.old.device) (B.layers self.new.device) (B.fault_count self.old.device) (B.fault_count self.new.device) (B.done_count self.old.device) (B.done_count self.new.device) }
         ensures idle { self.old.state.awaits ≡ false → self.old.state.left ≡ Nothing → (result ≡ Ok false) × (self.new.device ≡ self.old.device) }
         ensures written { OnOk result (IsTrue (is_loud (B.layers self.old.device)) → B.contents self.new.device ≡ with_prepared self.old.state (B.contents self.old.device)) }
-        ensures same { OnErr result (B.contents self.new.device ≡ B.contents self.old.device) }
+        ensures same { OnErr result (KeepsBytes self.old self.new) }
         ensures only { ChangesOnly self.old.state.chunk (chunk_left self.old.state.left self.old.state) (B.contents self.old.device) (B.contents self.new.device) }
-        ensures loud { is_loud (B.layers self.new.device) ≡ is_loud (B.layers self.old.device) }
-        ensures size { B.size self.new.device ≡ B.size self.old.device }
-        ensures adds { IsTrue (is_loud (B.layers self.old.device)) → AddsNow (B.may_hold self.old.device) (B.may_hold self.new.device) (B.contents self.new.device) }
+        ensures loud { StaysAsLoud self.old self.new }
+        ensures size { KeepsSize self.old self.new }
+        ensures adds { MayHoldNowIfLoud self.old self.new }
         ensures firm { self.old.state.awaits ≡ true → OnOk result (IsTrue (is_loud (B.layers self.old.device)) → IsFirm (B.may_hold self.new.device) (B.contents self.new.device) (B.size self.new.device)) }
         ensures leaves { self.old.state.valid ≡ true → IsTrue (is_loud (B.layers self.old.device)) → LeavesPreparing (B.may_hold self.old.device) (B.may_hold self.new.device) self.old.state.left self.old.state.chunk self.old.state.origin self.old.state.size (committed self.old.exceptions) }
-        ensures exceptions { self.new.exceptions ≡ self.old.exceptions }
+        ensures exceptions { KeepsExceptions self.old self.new }
         ensures places { self.new.places ≡ self.old.places }
         ensures state { OnOk result (self.new.state ≡ after_prepare self.old.state (length (committed self.old.exceptions))) }
         ensures more { IfOk result (λ more. more ≡ (is_left self.new.state.left || self.new.state.awaits)) }
-        ensures kept { OnErr result (self.new.state ≡ self.old.state) }
+        ensures kept { OnErr result (KeepsState self.old self.new) }
     {
         if self.state.awaits {
             self.flush_load()?;
@@ -70,16 +71,16 @@ impl<B: Block> Store<B> {
     /// Flushes the store, after which no flush is left before the load's next write, and all its pairs were flushed.
     #[tactic(auto, using(crate::proofs::Writes::front_awaited, crate::proofs::Writes::stored_awaited))]
     fn flush_load(&mut self) -> Result<(), Io>
-        ensures operation { IsOneOperation Flushes (is_ok result) (B.layers self.old.device) (B.layers self.new.device) (B.fault_count self.old.device) (B.fault_count self.new.device) (B.done_count self.old.device) (B.done_count self.new.device) }
-        ensures same { B.contents self.new.device ≡ B.contents self.old.device }
-        ensures loud { is_loud (B.layers self.new.device) ≡ is_loud (B.layers self.old.device) }
-        ensures size { B.size self.new.device ≡ B.size self.old.device }
-        ensures adds { IsTrue (is_loud (B.layers self.old.device)) → AddsNow (B.may_hold self.old.device) (B.may_hold self.new.device) (B.contents self.new.device) }
-        ensures firm { OnOk result (IsTrue (is_loud (B.layers self.old.device)) → IsFirm (B.may_hold self.new.device) (B.contents self.new.device) (B.size self.new.device)) }
-        ensures exceptions { self.new.exceptions ≡ self.old.exceptions }
+        ensures operation { DoesFlush result self.old self.new }
+        ensures same { KeepsBytes self.old self.new }
+        ensures loud { StaysAsLoud self.old self.new }
+        ensures size { KeepsSize self.old self.new }
+        ensures adds { MayHoldNowIfLoud self.old self.new }
+        ensures firm { OnOk result (EndsFirm self.old self.new) }
+        ensures exceptions { KeepsExceptions self.old self.new }
         ensures places { self.new.places ≡ self.old.places }
         ensures state { OnOk result (self.new.state ≡ record self.old.state { awaits = false; sure = length (committed self.old.exceptions) }) }
-        ensures kept { OnErr result (self.new.state ≡ self.old.state) }
+        ensures kept { OnErr result (KeepsState self.old self.new) }
     {
         match self.device.flush() {
             Ok(()) => {
@@ -97,17 +98,17 @@ impl<B: Block> Store<B> {
         requires begun { is_begun left ≡ true }
         requires settled { is_settled left ≡ true }
         requires next { left ≡ after_write self.old.state.left }
-        ensures operation { IsOneOperation (Writes (self.old.state.chunk * area_place self.old.state.chunk self.old.state.current) self.old.state.chunk) (is_ok result) (B.layers self.old.device) (B.layers self.new.device) (B.fault_count self.old.device) (B.fault_count self.new.device) (B.done_count self.old.device) (B.done_count self.new.device) }
+        ensures operation { WritesArea result self.old self.new }
         ensures written { OnOk result (IsTrue (is_loud (B.layers self.old.device)) → B.contents self.new.device ≡ with_left self.old.state.left self.old.state (B.contents self.old.device)) }
-        ensures same { OnErr result (B.contents self.new.device ≡ B.contents self.old.device) }
-        ensures only { ChangesOnly self.old.state.chunk (area_place self.old.state.chunk self.old.state.current) (B.contents self.old.device) (B.contents self.new.device) }
-        ensures loud { is_loud (B.layers self.new.device) ≡ is_loud (B.layers self.old.device) }
-        ensures durable { B.durable self.new.device ≡ B.durable self.old.device }
-        ensures adds { IsTrue (is_loud (B.layers self.old.device)) → AddsNow (B.may_hold self.old.device) (B.may_hold self.new.device) (B.contents self.new.device) }
-        ensures exceptions { self.new.exceptions ≡ self.old.exceptions }
+        ensures same { OnErr result (KeepsBytes self.old self.new) }
+        ensures only { ChangesOnlyArea self.old self.new }
+        ensures loud { StaysAsLoud self.old self.new }
+        ensures durable { KeepsDurable self.old self.new }
+        ensures adds { MayHoldNowIfLoud self.old self.new }
+        ensures exceptions { KeepsExceptions self.old self.new }
         ensures places { self.new.places ≡ self.old.places }
         ensures state { OnOk result (self.new.state ≡ record self.old.state { left = left; awaits = true }) }
-        ensures kept { OnErr result (self.new.state ≡ self.old.state) }
+        ensures kept { OnErr result (KeepsState self.old self.new) }
     {
         let place = self.state.current * (32 * self.state.chunk as u64 + 1) + 1;
         match write_whole(

@@ -1,14 +1,13 @@
 // A store: its device, its pairs, the area that the next pair goes to, and the next place.
-ghost use Rattle.std.specs.Prelude.{◌≡◌, ℕ, ◌+◌, ◌*◌, ◌<◌, ◌≤◌, List, length, slice_index_or, is_ok, OnOk, OnErr, if◌then◌else◌, MatchBool, IsTrue, true, false};
-ghost use Rattle.device.specs.Layers.{fate, is_passed, is_loud};
-ghost use Rattle.device.specs.declared.operation.Operation.TheVariants.{Flushes};
+ghost use Rattle.std.specs.Prelude.{◌≡◌, ℕ, ◌+◌, ◌*◌, ◌<◌, ◌≤◌, List, length, slice_index_or, OnOk, OnErr, MatchBool, IsTrue, true, false};
+ghost use Rattle.device.specs.Layers.{is_loud};
 ghost use Rattle.store_bytes.specs.NextPlace.{IsFull};
 ghost use Rattle.exception_arena.specs.declared.begun.Begun.{Begun};
-ghost use Rattle.store.specs.Operations.{IsOneOperation};
 ghost use Rattle.store.specs.Held.{committed, pending, pairs_pending, reserved};
 ghost use Rattle.store.specs.Loading.{is_left};
 ghost use Rattle.store.specs.Stored.{IsFront, IsStored, AreGiven};
-ghost use Rattle.stop_laws.specs.Firm.{AddsNow, IsFirm};
+ghost use Rattle.stop_laws.specs.Firm.{IsFirm};
+ghost use Rattle.store.specs.Usage.{HasMetadata};
 
 use crate::State;
 use chunk_alloc::{Alloc, Usage};
@@ -43,6 +42,8 @@ pub struct Store<B: Block> {
 }
 
 impl<B: Block> Store<B> {
+    ghost use Rattle.store.specs.Calls.{DoesFlush, EndsFirm, IsFlushed, KeepsBytes, KeepsExceptions, KeepsState, MayHoldNowIfLoud, StaysAsLoud};
+
     /// The sectors of a chunk.
     pub fn chunk(&self) -> u32
         ensures { result ≡ self.now.state.chunk }
@@ -84,7 +85,7 @@ impl<B: Block> Store<B> {
     pub fn usage(&self) -> Usage
         ensures allocated { result.allocated ≡ self.now.places.next * self.now.state.chunk }
         ensures total { result.total ≡ self.now.state.size }
-        ensures metadata { result.metadata ≡ (self.now.state.current + 2) * self.now.state.chunk }
+        ensures metadata { HasMetadata result self.now.state }
     {
         self.places.usage(self.state.current)
     }
@@ -100,16 +101,16 @@ impl<B: Block> Store<B> {
     /// that are committed were flushed. At `Io` it is as before.
     #[tactic(auto, using(crate::proofs::Writes::front_flushed, crate::proofs::Writes::stored_flushed))]
     pub fn flush(&mut self) -> Result<(), Io>
-        ensures operation { IsOneOperation Flushes (is_ok result) (B.layers self.old.device) (B.layers self.new.device) (B.fault_count self.old.device) (B.fault_count self.new.device) (B.done_count self.old.device) (B.done_count self.new.device) }
-        ensures same { B.contents self.new.device ≡ B.contents self.old.device }
-        ensures durable { B.durable self.new.device ≡ (if is_passed (fate (B.layers self.old.device) Flushes) then B.contents self.old.device else B.durable self.old.device) }
-        ensures adds { IsTrue (is_loud (B.layers self.old.device)) → AddsNow (B.may_hold self.old.device) (B.may_hold self.new.device) (B.contents self.new.device) }
-        ensures firm { OnOk result (IsTrue (is_loud (B.layers self.old.device)) → IsFirm (B.may_hold self.new.device) (B.contents self.new.device) (B.size self.new.device)) }
-        ensures loud { is_loud (B.layers self.new.device) ≡ is_loud (B.layers self.old.device) }
-        ensures exceptions { self.new.exceptions ≡ self.old.exceptions }
+        ensures operation { DoesFlush result self.old self.new }
+        ensures same { KeepsBytes self.old self.new }
+        ensures durable { IsFlushed self.old self.new }
+        ensures adds { MayHoldNowIfLoud self.old self.new }
+        ensures firm { OnOk result (EndsFirm self.old self.new) }
+        ensures loud { StaysAsLoud self.old self.new }
+        ensures exceptions { KeepsExceptions self.old self.new }
         ensures places { self.new.places ≡ self.old.places }
         ensures state { OnOk result (self.new.state ≡ record self.old.state { firm = self.old.state.zeroed; sure = length (committed self.old.exceptions) }) }
-        ensures kept { OnErr result (self.new.state ≡ self.old.state) }
+        ensures kept { OnErr result (KeepsState self.old self.new) }
     {
         match self.device.flush() {
             Ok(()) => {
@@ -123,15 +124,15 @@ impl<B: Block> Store<B> {
 
     /// The same of a store to which no pair is written any more: what it knows stays as it is.
     pub fn flush_last(&mut self) -> Result<(), Io>
-        ensures operation { IsOneOperation Flushes (is_ok result) (B.layers self.old.device) (B.layers self.new.device) (B.fault_count self.old.device) (B.fault_count self.new.device) (B.done_count self.old.device) (B.done_count self.new.device) }
-        ensures same { B.contents self.new.device ≡ B.contents self.old.device }
-        ensures durable { B.durable self.new.device ≡ (if is_passed (fate (B.layers self.old.device) Flushes) then B.contents self.old.device else B.durable self.old.device) }
-        ensures adds { IsTrue (is_loud (B.layers self.old.device)) → AddsNow (B.may_hold self.old.device) (B.may_hold self.new.device) (B.contents self.new.device) }
-        ensures firm { OnOk result (IsTrue (is_loud (B.layers self.old.device)) → IsFirm (B.may_hold self.new.device) (B.contents self.new.device) (B.size self.new.device)) }
-        ensures loud { is_loud (B.layers self.new.device) ≡ is_loud (B.layers self.old.device) }
-        ensures exceptions { self.new.exceptions ≡ self.old.exceptions }
+        ensures operation { DoesFlush result self.old self.new }
+        ensures same { KeepsBytes self.old self.new }
+        ensures durable { IsFlushed self.old self.new }
+        ensures adds { MayHoldNowIfLoud self.old self.new }
+        ensures firm { OnOk result (EndsFirm self.old self.new) }
+        ensures loud { StaysAsLoud self.old self.new }
+        ensures exceptions { KeepsExceptions self.old self.new }
         ensures places { self.new.places ≡ self.old.places }
-        ensures state { self.new.state ≡ self.old.state }
+        ensures state { KeepsState self.old self.new }
     {
         self.device.flush()
     }
