@@ -25,8 +25,8 @@ kept_for_marks v = may_count (lives_of v) (mays_of v)
 abbrev pub kept_for_snaps : {B : Type 0} → Volumed B → ℕ
 kept_for_snaps v = kept_count (lives_of v) (mays_of v)
 
--- so many are taken but for those for marks, the former among them; and with these there are no more than a journal has, and than
--- the volume's requests and snapshots earned
+-- So many are taken, with those that are kept free but without those for marks. With these too there are no more than a journal has,
+-- and no more than the volume's requests and snapshots earned.
 pub record HasPlaces {B : Type 0} (v : Volumed B) (places : ℕ) : Type 0 where
   pub enough : kept_free v ≤ places
   pub few : places + kept_for_marks v ≤ 65_536

@@ -146,8 +146,8 @@ impl<B: Layered> CountedVolume<B> {
         }
     }
 
-    /// A look at the volume's life, which does nothing: it began over a device, without snapshots, and what it is came of one list of
-    /// deeds, whose answers are those of its calls, also of those that threads made.
+    /// A look at the volume's life, which does nothing: it began over a device, without snapshots, and one list of deeds made it what
+    /// it is, what threads did among them, each with an answer that a volume may give there.
     pub fn look_at_life(&self)
         ensures { HasLife B.may_hold (record { contents = B.contents; durable = B.durable; size = B.size; faults = B.fault_count; done = B.done_count }) B.layers self.now.volume }
     {

@@ -46,3 +46,4 @@ pub mod DoesResumeMerge
 pub mod DoesFinishMerge
 pub mod AddedUp
 pub mod DoesAhead
+pub mod Calls

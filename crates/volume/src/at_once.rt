@@ -1,5 +1,5 @@
 // A request that waits for nothing is answered at once, and is never in flight.
-ghost use Rattle.std.specs.Prelude.{◌≡◌, ◌≢◌, ◌*◌, ◌+◌, ◌^◌, ◌<◌, IfErr, List, None, Ok, [], false, length, map, true, ℕ};
+ghost use Rattle.std.specs.Prelude.{◌≡◌, ◌≢◌, ◌*◌, ◌+◌, ◌^◌, ◌<◌, List, None, Ok, [], false, length, map, true, ℕ};
 ghost use Rattle.plain_machine.specs.declared.event.Event.TheVariants.{Issue};
 ghost use Rattle.plain_machine.specs.declared.event.Outcome.TheVariants.{Reply as Replied};
 ghost use Rattle.plain_machine.specs.declared.request.Op.TheVariants.{Flush as IsFlush, Write};
@@ -10,13 +10,12 @@ ghost use Rattle.in_flight.specs.declared.flights.Kind.TheVariants.{OriginWrite}
 ghost use Rattle.volume_laws.specs.Published.{is_clear as is_clear_in};
 ghost use Rattle.snapshot.specs.Kept.{books_of as snap_books};
 ghost use Rattle.volume.specs.AtDisk.{GoesToDisk};
-ghost use Rattle.volume.specs.DoesServe.{DoesServe};
 ghost use Rattle.volume.specs.DoesStep.{DoesStep};
-ghost use Rattle.volume.specs.DoesSubmit.{DoesSubmit};
 ghost use Rattle.volume.specs.Leaving.{is_quiet_of};
 ghost use Rattle.volume.specs.Lent.{IsNextWrite};
-ghost use Rattle.volume.specs.Submitting.{IsRefusedAs, entered_of};
+ghost use Rattle.volume.specs.Submitting.{entered_of};
 ghost use Rattle.volume.specs.Whole.{IsWhole};
+ghost use Rattle.volume.specs.Calls.{Refuses, Serves, StaysQuiet, Submits};
 
 use crate::Volume;
 use crate::ways::Way;
@@ -43,8 +42,8 @@ impl<B: Block> Volume<B> {
     #[inline(always)]
     pub fn serve(&mut self, alloc: Global, request: Request) -> Result<Served, Refusal>
         requires bytes { (bytes : List ℕ) → request.op ≡ Write bytes → length bytes ≡ 512 * request.range.count }
-        ensures does { DoesServe B.may_hold B.contents B.layers B.size B.fault_count B.done_count request result self.old self.new }
-        ensures refused { IfErr result (λ refusal. IsRefusedAs B.contents B.layers B.size request refusal self.old self.new) }
+        ensures does { Serves B.Block request result self.old self.new }
+        ensures refused { Refuses B.Block request result self.old self.new }
     {
         match self.way_of(&request) {
             Way::Disk => self.serve_at_disk(alloc, request),
@@ -66,8 +65,8 @@ impl<B: Block> Volume<B> {
         requires kind { kind_of request ≡ OriginWrite }
         requires waits { is_clear_in (map (snap_books B.contents B.layers) self.old.snaps) request.range.first ≡ false }
         requires bytes { (bytes : List ℕ) → request.op ≡ Write bytes → length bytes ≡ 512 * request.range.count }
-        ensures does { DoesSubmit B.contents B.layers B.size request result self.old self.new }
-        ensures refused { IfErr result (λ refusal. IsRefusedAs B.contents B.layers B.size request refusal self.old self.new) }
+        ensures does { Submits B.Block request result self.old self.new }
+        ensures refused { Refuses B.Block request result self.old self.new }
     {
         // A look at a field: what the type keeps is known from here on.
         let _ = &self.flights;
@@ -84,8 +83,8 @@ impl<B: Block> Volume<B> {
         requires alone { self.old.merge ≡ None }
         requires goes { GoesToDisk B.contents B.layers request self.old.snaps }
         requires bytes { (bytes : List ℕ) → request.op ≡ Write bytes → length bytes ≡ 512 * request.range.count }
-        ensures does { DoesServe B.may_hold B.contents B.layers B.size B.fault_count B.done_count request result self.old self.new }
-        ensures refused { IfErr result (λ refusal. IsRefusedAs B.contents B.layers B.size request refusal self.old self.new) }
+        ensures does { Serves B.Block request result self.old self.new }
+        ensures refused { Refuses B.Block request result self.old self.new }
     {
         // A look at a field: what the type keeps is known from here on.
         let _ = &self.flights;
@@ -110,7 +109,7 @@ impl<B: Block> Volume<B> {
         requires moves { flight.request.op ≢ IsFlush }
         requires whole { IsWhole B.contents B.layers B.size (entered_of flight self.old) }
         ensures does { DoesStep B.may_hold B.contents B.layers B.size B.fault_count B.done_count true (Issue flight.number) (Ok (Replied flight.number result)) (entered_of flight self.old) self.new }
-        ensures quiet { is_quiet_of self.new ≡ is_quiet_of self.old }
+        ensures quiet { StaysQuiet self.old self.new }
     {
         let Flight {
             number: _,
@@ -140,7 +139,7 @@ impl<B: Block> Volume<B> {
         requires left { self.old.requests + 1 < 2 ^ 64 }
         requires next { (f : Flight) × IsNextWrite B.contents B.layers B.size range bytes.now f self.old }
         ensures does { (f : Flight) → IsNextWrite B.contents B.layers B.size range bytes.now f self.old → DoesStep B.may_hold B.contents B.layers B.size B.fault_count B.done_count true (Issue f.number) (Ok (Replied f.number result)) (entered_of f self.old) self.new }
-        ensures quiet { is_quiet_of self.new ≡ is_quiet_of self.old }
+        ensures quiet { StaysQuiet self.old self.new }
     {
         self.requests += 1;
         match self.origin.write(range, bytes) {

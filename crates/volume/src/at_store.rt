@@ -1,15 +1,15 @@
 // A read of a snapshot is answered at once at its chunk's place on the snapshot's store.
-ghost use Rattle.std.specs.Prelude.{◌≡◌, ◌*◌, ◌+◌, ◌^◌, ◌<◌, IfErr, List, None, Ok, Some, [], length, true, ℕ};
+ghost use Rattle.std.specs.Prelude.{◌≡◌, ◌*◌, ◌+◌, ◌^◌, ◌<◌, List, None, Ok, Some, [], length, true, ℕ};
 ghost use Rattle.plain_machine.specs.declared.event.Event.TheVariants.{Issue};
 ghost use Rattle.plain_machine.specs.declared.event.Outcome.TheVariants.{Reply as Replied};
 ghost use Rattle.plain_machine.specs.declared.request.Op.TheVariants.{Write};
 ghost use Rattle.in_flight.specs.declared.flights.Route.TheVariants.{Store};
 ghost use Rattle.volume.specs.AtDisk.{IsReadOf};
-ghost use Rattle.volume.specs.DoesServe.{DoesServe};
 ghost use Rattle.volume.specs.DoesStep.{DoesStep};
 ghost use Rattle.volume.specs.Leaving.{is_quiet_of};
-ghost use Rattle.volume.specs.Submitting.{IsRefusedAs, entered_of};
+ghost use Rattle.volume.specs.Submitting.{entered_of};
 ghost use Rattle.volume.specs.Whole.{IsWhole};
+ghost use Rattle.volume.specs.Calls.{Refuses, Serves, StaysQuiet};
 
 use crate::Volume;
 use crate::at_once::Served;
@@ -32,8 +32,8 @@ impl<B: Block> Volume<B> {
         requires alone { self.old.merge ≡ None }
         requires read { IsReadOf request k (Some at) self.old.snaps }
         requires bytes { (bytes : List ℕ) → request.op ≡ Write bytes → length bytes ≡ 512 * request.range.count }
-        ensures does { DoesServe B.may_hold B.contents B.layers B.size B.fault_count B.done_count request result self.old self.new }
-        ensures refused { IfErr result (λ refusal. IsRefusedAs B.contents B.layers B.size request refusal self.old self.new) }
+        ensures does { Serves B.Block request result self.old self.new }
+        ensures refused { Refuses B.Block request result self.old self.new }
     {
         // A look at a field: what the type keeps is known from here on.
         let _ = &self.flights;
@@ -59,7 +59,7 @@ impl<B: Block> Volume<B> {
         requires read { IsReadOf flight.request k (Some at) self.old.snaps }
         requires whole { IsWhole B.contents B.layers B.size (entered_of flight self.old) }
         ensures does { DoesStep B.may_hold B.contents B.layers B.size B.fault_count B.done_count true (Issue flight.number) (Ok (Replied flight.number result)) (entered_of flight self.old) self.new }
-        ensures quiet { is_quiet_of self.new ≡ is_quiet_of self.old }
+        ensures quiet { StaysQuiet self.old self.new }
     {
         let Flight {
             number: _,

@@ -1,12 +1,12 @@
 // Calls of a volume as values, what comes of them, and lists of calls that are done one after another.
-ghost use Rattle.std.specs.Prelude.{◌≡◌, ◌∷◌, IfErr, IfOk, OnOk, [], true};
+ghost use Rattle.std.specs.Prelude.{◌≡◌, ◌∷◌, IfOk, OnOk, [], true};
 ghost use Rattle.std.specs.List.{All};
-ghost use Rattle.sector.specs.declared.refusal.Refusal.TheVariants.{NoMemory};
 ghost use Rattle.plain_machine.specs.Runs.{IsRun};
 ghost use Rattle.volume.specs.AddedUp.{OpensNoneUnwritten, OpensOnly};
 ghost use Rattle.volume.specs.Stopping.{StopsNow};
 ghost use Rattle.volume.specs.Volumed.{is_loud_in_all, plain_of};
 ghost use Rattle.volume.specs.Running.{AreReturned, IsFitCall, IsReturned, KeepsUnwritten, MayCall};
+ghost use Rattle.volume.specs.Calls.{LacksMemory};
 
 use crate::Volume;
 use layers::{Answer, Layered, Message};
@@ -85,7 +85,7 @@ impl<B: Layered> Volume<B> {
         ensures opens { OnOk result (is_loud_in_all B.layers self.old ≡ true → OpensOnly B.may_hold B.size calls.items self.old self.new) }
         ensures unwritten { OnOk result (is_loud_in_all B.layers self.old ≡ true → OpensNoneUnwritten B.may_hold B.size calls.items self.old self.new) }
         ensures loud { is_loud_in_all B.layers self.new ≡ is_loud_in_all B.layers self.old }
-        ensures err { IfErr result (λ refusal. (refusal ≡ NoMemory) × (self.new ≡ self.old)) }
+        ensures err { LacksMemory result self.old self.new }
     {
         let Ok(mut returned) = Vec::with_capacity(alloc, calls.len()) else {
             return Err(Refusal::NoMemory);

@@ -1,5 +1,5 @@
 // The events of copies, stores and marks, each a call of its own.
-ghost use Rattle.std.specs.Prelude.{◌≡◌, [], ◌∷◌, ◌<◌, false, IfNone, IfOk, IfSome, OnErr, is_ok, length, map, slice_index_or, Some, true, OnOk, None};
+ghost use Rattle.std.specs.Prelude.{◌≡◌, [], ◌∷◌, ◌<◌, false, IfNone, IfOk, IfSome, OnErr, is_ok, length, map, slice_index_or, Some, true, None};
 ghost use Rattle.std.specs.List.{list_any, position};
 ghost use Rattle.in_flight.specs.declared.copies.Stage.TheVariants.{Read};
 ghost use Rattle.plain_machine.specs.declared.event.Event.TheVariants.{CopyRead, CopyWrite, FlushStore, Publish, WriteArea, WriteInvalid, ZeroNext};
@@ -11,8 +11,7 @@ ghost use Rattle.snapshot_list.specs.Finding.{has_copy_at, is_copy_of};
 ghost use Rattle.volume.specs.Volumed.{dues_of, is_loud_in_all};
 ghost use Rattle.volume.specs.Stepping.{IsStepped};
 ghost use Rattle.volume.specs.Exact.{IsExact};
-ghost use Rattle.volume.specs.Lasting.{StopsSnaps};
-ghost use Rattle.volume.specs.MergeLasting.{StopsOriginOn};
+ghost use Rattle.volume.specs.Calls.{OriginLasts, SnapsLast};
 
 use crate::Volume;
 use device::{Block, Io};
@@ -60,8 +59,8 @@ impl<B: Block> Volume<B> {
     pub(crate) fn copy_read(&mut self, number: CopyId) -> Result<Outcome, NotDue>
         ensures step { IfOk result (λ outcome. IsStepped B.contents B.layers B.size B.fault_count B.done_count (CopyRead number) outcome self.old self.new) }
         ensures exact { IfOk result (λ outcome. IsExact B.contents B.layers (CopyRead number) outcome self.old self.new) }
-        ensures stops_snaps { OnOk result (StopsSnaps B.may_hold B.layers B.size None self.old self.new) }
-        ensures stops_origin { OnOk result (StopsOriginOn B.may_hold B.layers B.size None self.old.origin self.new.origin self.old.merge self.new.merge) }
+        ensures stops_snaps { SnapsLast B.Block result self.old self.new }
+        ensures stops_origin { OriginLasts B.Block result self.old self.new }
         ensures due { is_ok result ≡ is_due (dues_of B.contents B.layers self.old) self.old.flights (CopyRead number) }
         ensures same { OnErr result (self.new ≡ self.old) }
     {
@@ -86,8 +85,8 @@ impl<B: Block> Volume<B> {
     pub(crate) fn copy_write(&mut self, number: CopyId) -> Result<Outcome, NotDue>
         ensures step { IfOk result (λ outcome. IsStepped B.contents B.layers B.size B.fault_count B.done_count (CopyWrite number) outcome self.old self.new) }
         ensures exact { IfOk result (λ outcome. IsExact B.contents B.layers (CopyWrite number) outcome self.old self.new) }
-        ensures stops_snaps { OnOk result (StopsSnaps B.may_hold B.layers B.size None self.old self.new) }
-        ensures stops_origin { OnOk result (StopsOriginOn B.may_hold B.layers B.size None self.old.origin self.new.origin self.old.merge self.new.merge) }
+        ensures stops_snaps { SnapsLast B.Block result self.old self.new }
+        ensures stops_origin { OriginLasts B.Block result self.old self.new }
         ensures due { is_ok result ≡ is_due (dues_of B.contents B.layers self.old) self.old.flights (CopyWrite number) }
         ensures same { OnErr result (self.new ≡ self.old) }
     {
@@ -111,8 +110,8 @@ impl<B: Block> Volume<B> {
     pub(crate) fn zero_next(&mut self, number: SnapId) -> Result<Outcome, NotDue>
         ensures step { IfOk result (λ outcome. IsStepped B.contents B.layers B.size B.fault_count B.done_count (ZeroNext number) outcome self.old self.new) }
         ensures exact { IfOk result (λ outcome. IsExact B.contents B.layers (ZeroNext number) outcome self.old self.new) }
-        ensures stops_snaps { OnOk result (StopsSnaps B.may_hold B.layers B.size None self.old self.new) }
-        ensures stops_origin { OnOk result (StopsOriginOn B.may_hold B.layers B.size None self.old.origin self.new.origin self.old.merge self.new.merge) }
+        ensures stops_snaps { SnapsLast B.Block result self.old self.new }
+        ensures stops_origin { OriginLasts B.Block result self.old self.new }
         ensures due { is_ok result ≡ is_due (dues_of B.contents B.layers self.old) self.old.flights (ZeroNext number) }
         ensures same { OnErr result (self.new ≡ self.old) }
     {
@@ -141,8 +140,8 @@ impl<B: Block> Volume<B> {
     pub(crate) fn write_area(&mut self, number: SnapId) -> Result<Outcome, NotDue>
         ensures step { IfOk result (λ outcome. IsStepped B.contents B.layers B.size B.fault_count B.done_count (WriteArea number) outcome self.old self.new) }
         ensures exact { IfOk result (λ outcome. IsExact B.contents B.layers (WriteArea number) outcome self.old self.new) }
-        ensures stops_snaps { OnOk result (StopsSnaps B.may_hold B.layers B.size None self.old self.new) }
-        ensures stops_origin { OnOk result (StopsOriginOn B.may_hold B.layers B.size None self.old.origin self.new.origin self.old.merge self.new.merge) }
+        ensures stops_snaps { SnapsLast B.Block result self.old self.new }
+        ensures stops_origin { OriginLasts B.Block result self.old self.new }
         ensures due { is_ok result ≡ is_due (dues_of B.contents B.layers self.old) self.old.flights (WriteArea number) }
         ensures same { OnErr result (self.new ≡ self.old) }
     {
@@ -170,8 +169,8 @@ impl<B: Block> Volume<B> {
     pub(crate) fn publish(&mut self, number: CopyId) -> Result<Outcome, NotDue>
         ensures step { IfOk result (λ outcome. IsStepped B.contents B.layers B.size B.fault_count B.done_count (Publish number) outcome self.old self.new) }
         ensures exact { IfOk result (λ outcome. IsExact B.contents B.layers (Publish number) outcome self.old self.new) }
-        ensures stops_snaps { OnOk result (StopsSnaps B.may_hold B.layers B.size None self.old self.new) }
-        ensures stops_origin { OnOk result (StopsOriginOn B.may_hold B.layers B.size None self.old.origin self.new.origin self.old.merge self.new.merge) }
+        ensures stops_snaps { SnapsLast B.Block result self.old self.new }
+        ensures stops_origin { OriginLasts B.Block result self.old self.new }
         ensures due { is_ok result ≡ is_due (dues_of B.contents B.layers self.old) self.old.flights (Publish number) }
         ensures same { OnErr result (self.new ≡ self.old) }
     {
@@ -201,8 +200,8 @@ impl<B: Block> Volume<B> {
     pub(crate) fn write_invalid(&mut self, number: SnapId) -> Result<Outcome, NotDue>
         ensures step { IfOk result (λ outcome. IsStepped B.contents B.layers B.size B.fault_count B.done_count (WriteInvalid number) outcome self.old self.new) }
         ensures exact { IfOk result (λ outcome. IsExact B.contents B.layers (WriteInvalid number) outcome self.old self.new) }
-        ensures stops_snaps { OnOk result (StopsSnaps B.may_hold B.layers B.size None self.old self.new) }
-        ensures stops_origin { OnOk result (StopsOriginOn B.may_hold B.layers B.size None self.old.origin self.new.origin self.old.merge self.new.merge) }
+        ensures stops_snaps { SnapsLast B.Block result self.old self.new }
+        ensures stops_origin { OriginLasts B.Block result self.old self.new }
         ensures due { is_ok result ≡ is_due (dues_of B.contents B.layers self.old) self.old.flights (WriteInvalid number) }
         ensures same { OnErr result (self.new ≡ self.old) }
     {
@@ -229,8 +228,8 @@ impl<B: Block> Volume<B> {
     pub(crate) fn flush_store(&mut self, number: SnapId) -> Result<Outcome, NotDue>
         ensures step { IfOk result (λ outcome. IsStepped B.contents B.layers B.size B.fault_count B.done_count (FlushStore number) outcome self.old self.new) }
         ensures exact { IfOk result (λ outcome. IsExact B.contents B.layers (FlushStore number) outcome self.old self.new) }
-        ensures stops_snaps { OnOk result (StopsSnaps B.may_hold B.layers B.size None self.old self.new) }
-        ensures stops_origin { OnOk result (StopsOriginOn B.may_hold B.layers B.size None self.old.origin self.new.origin self.old.merge self.new.merge) }
+        ensures stops_snaps { SnapsLast B.Block result self.old self.new }
+        ensures stops_origin { OriginLasts B.Block result self.old self.new }
         ensures due { is_ok result ≡ is_due (dues_of B.contents B.layers self.old) self.old.flights (FlushStore number) }
         ensures same { OnErr result (self.new ≡ self.old) }
     {

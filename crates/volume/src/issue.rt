@@ -16,6 +16,7 @@ ghost use Rattle.volume.specs.Closing.{ClosesBy};
 ghost use Rattle.volume.specs.Lasting.{StopsSnaps};
 ghost use Rattle.volume.specs.MergeLasting.{StopsOriginOn};
 ghost use Rattle.volume.specs.Stopping.{given_by};
+ghost use Rattle.volume.specs.Calls.{IssueCloses, IssueIsExact, IssueSteps, OriginLastsBy, SnapsLastBy};
 
 use crate::Volume;
 use device::{Block, Io};
@@ -57,11 +58,11 @@ impl<B: Block> Volume<B> {
     fn issue_disk(&mut self, number: ReqId, place: usize) -> Outcome
         requires found { position (λ f. f.number == number) self.old.flights ≡ Some place }
         requires route { (f : Flight) → (slice_index_or self.old.flights place f).route ≡ Origin }
-        ensures step { IsStepped B.contents B.layers B.size B.fault_count B.done_count (Issue number) result self.old self.new }
-        ensures exact { IsExact B.contents B.layers (Issue number) result self.old self.new }
-        ensures stops_snaps { StopsSnaps B.may_hold B.layers B.size (given_by (Issue number) (map in_flight self.old.flights)) self.old self.new }
-        ensures stops_origin { StopsOriginOn B.may_hold B.layers B.size (given_by (Issue number) (map in_flight self.old.flights)) self.old.origin self.new.origin self.old.merge self.new.merge }
-        ensures closes { ClosesBy B.may_hold B.contents B.layers B.size (Issue number) result (map in_flight self.old.flights) self.new }
+        ensures step { IssueSteps B.Block number result self.old self.new }
+        ensures exact { IssueIsExact B.Block number result self.old self.new }
+        ensures stops_snaps { SnapsLastBy B.Block number self.old self.new }
+        ensures stops_origin { OriginLastsBy B.Block number self.old self.new }
+        ensures closes { IssueCloses B.Block number result self.old self.new }
     {
         let flight = self.flights.remove(place);
         let Flight {
@@ -91,11 +92,11 @@ impl<B: Block> Volume<B> {
     fn issue_refused(&mut self, number: ReqId, place: usize) -> Outcome
         requires found { position (λ f. f.number == number) self.old.flights ≡ Some place }
         requires route { (f : Flight) → (slice_index_or self.old.flights place f).route ≡ Refused }
-        ensures step { IsStepped B.contents B.layers B.size B.fault_count B.done_count (Issue number) result self.old self.new }
-        ensures exact { IsExact B.contents B.layers (Issue number) result self.old self.new }
-        ensures stops_snaps { StopsSnaps B.may_hold B.layers B.size (given_by (Issue number) (map in_flight self.old.flights)) self.old self.new }
-        ensures stops_origin { StopsOriginOn B.may_hold B.layers B.size (given_by (Issue number) (map in_flight self.old.flights)) self.old.origin self.new.origin self.old.merge self.new.merge }
-        ensures closes { ClosesBy B.may_hold B.contents B.layers B.size (Issue number) result (map in_flight self.old.flights) self.new }
+        ensures step { IssueSteps B.Block number result self.old self.new }
+        ensures exact { IssueIsExact B.Block number result self.old self.new }
+        ensures stops_snaps { SnapsLastBy B.Block number self.old self.new }
+        ensures stops_origin { OriginLastsBy B.Block number self.old self.new }
+        ensures closes { IssueCloses B.Block number result self.old self.new }
     {
         let _ = self.flights.remove(place);
         Outcome::Reply(number, Reply::Refused(Failure::Invalid))
@@ -106,11 +107,11 @@ impl<B: Block> Volume<B> {
         requires found { position (λ f. f.number == number) self.old.flights ≡ Some place }
         requires route { (f : Flight) → (slice_index_or self.old.flights place f).route ≡ Store at }
         requires dev { (f : Flight) → (slice_index_or self.old.flights place f).request.dev ≢ ToOrigin }
-        ensures step { IsStepped B.contents B.layers B.size B.fault_count B.done_count (Issue number) result self.old self.new }
-        ensures exact { IsExact B.contents B.layers (Issue number) result self.old self.new }
-        ensures stops_snaps { StopsSnaps B.may_hold B.layers B.size (given_by (Issue number) (map in_flight self.old.flights)) self.old self.new }
-        ensures stops_origin { StopsOriginOn B.may_hold B.layers B.size (given_by (Issue number) (map in_flight self.old.flights)) self.old.origin self.new.origin self.old.merge self.new.merge }
-        ensures closes { ClosesBy B.may_hold B.contents B.layers B.size (Issue number) result (map in_flight self.old.flights) self.new }
+        ensures step { IssueSteps B.Block number result self.old self.new }
+        ensures exact { IssueIsExact B.Block number result self.old self.new }
+        ensures stops_snaps { SnapsLastBy B.Block number self.old self.new }
+        ensures stops_origin { OriginLastsBy B.Block number self.old self.new }
+        ensures closes { IssueCloses B.Block number result self.old self.new }
     {
         let flight = self.flights.remove(place);
         let Flight {
@@ -145,11 +146,11 @@ impl<B: Block> Volume<B> {
         requires found { position (λ f. f.number == number) self.old.flights ≡ Some place }
         requires route { (f : Flight) → (slice_index_or self.old.flights place f).route ≡ Whole }
         requires dev { (f : Flight) → (slice_index_or self.old.flights place f).request.dev ≢ ToOrigin }
-        ensures step { IsStepped B.contents B.layers B.size B.fault_count B.done_count (Issue number) result self.old self.new }
-        ensures exact { IsExact B.contents B.layers (Issue number) result self.old self.new }
-        ensures stops_snaps { StopsSnaps B.may_hold B.layers B.size (given_by (Issue number) (map in_flight self.old.flights)) self.old self.new }
-        ensures stops_origin { StopsOriginOn B.may_hold B.layers B.size (given_by (Issue number) (map in_flight self.old.flights)) self.old.origin self.new.origin self.old.merge self.new.merge }
-        ensures closes { ClosesBy B.may_hold B.contents B.layers B.size (Issue number) result (map in_flight self.old.flights) self.new }
+        ensures step { IssueSteps B.Block number result self.old self.new }
+        ensures exact { IssueIsExact B.Block number result self.old self.new }
+        ensures stops_snaps { SnapsLastBy B.Block number self.old self.new }
+        ensures stops_origin { OriginLastsBy B.Block number self.old self.new }
+        ensures closes { IssueCloses B.Block number result self.old self.new }
     {
         let flight = self.flights.remove(place);
         let index = match holder_at(&self.snaps, flight.request.dev) {

@@ -1,17 +1,10 @@
 // Issue of a request of the origin whose chunk the merging store still has, and the first of a flush of the origin.
-ghost use Rattle.std.specs.Prelude.{◌≡◌, ◌==◌, Some, slice_index_or, map};
+ghost use Rattle.std.specs.Prelude.{◌≡◌, ◌==◌, Some, slice_index_or};
 ghost use Rattle.std.specs.List.{position};
-ghost use Rattle.plain_machine.specs.declared.event.Event.TheVariants.{Issue};
 ghost use Rattle.plain_machine.specs.declared.request.Dev.TheVariants.{Origin as ToOrigin};
 ghost use Rattle.in_flight.specs.declared.flights.Flight.{Flight};
 ghost use Rattle.in_flight.specs.declared.flights.Route.TheVariants.{Store, Whole};
-ghost use Rattle.volume.specs.Stepping.{IsStepped};
-ghost use Rattle.volume.specs.Exact.{IsExact};
-ghost use Rattle.in_flight.specs.Kinds.{in_flight};
-ghost use Rattle.volume.specs.Closing.{ClosesBy};
-ghost use Rattle.volume.specs.Lasting.{StopsSnaps};
-ghost use Rattle.volume.specs.MergeLasting.{StopsOriginOn};
-ghost use Rattle.volume.specs.Stopping.{given_by};
+ghost use Rattle.volume.specs.Calls.{IssueCloses, IssueIsExact, IssueSteps, OriginLastsBy, SnapsLastBy};
 
 use crate::Volume;
 use device::{Block, Io};
@@ -26,11 +19,11 @@ impl<B: Block> Volume<B> {
         requires found { position (λ f. f.number == number) self.old.flights ≡ Some place }
         requires route { (f : Flight) → (slice_index_or self.old.flights place f).route ≡ Store at }
         requires dev { (f : Flight) → (slice_index_or self.old.flights place f).request.dev ≡ ToOrigin }
-        ensures step { IsStepped B.contents B.layers B.size B.fault_count B.done_count (Issue number) result self.old self.new }
-        ensures exact { IsExact B.contents B.layers (Issue number) result self.old self.new }
-        ensures stops_snaps { StopsSnaps B.may_hold B.layers B.size (given_by (Issue number) (map in_flight self.old.flights)) self.old self.new }
-        ensures stops_origin { StopsOriginOn B.may_hold B.layers B.size (given_by (Issue number) (map in_flight self.old.flights)) self.old.origin self.new.origin self.old.merge self.new.merge }
-        ensures closes { ClosesBy B.may_hold B.contents B.layers B.size (Issue number) result (map in_flight self.old.flights) self.new }
+        ensures step { IssueSteps B.Block number result self.old self.new }
+        ensures exact { IssueIsExact B.Block number result self.old self.new }
+        ensures stops_snaps { SnapsLastBy B.Block number self.old self.new }
+        ensures stops_origin { OriginLastsBy B.Block number self.old self.new }
+        ensures closes { IssueCloses B.Block number result self.old self.new }
     {
         let flight = self.flights.remove(place);
         let Flight {
@@ -65,11 +58,11 @@ impl<B: Block> Volume<B> {
         requires found { position (λ f. f.number == number) self.old.flights ≡ Some place }
         requires route { (f : Flight) → (slice_index_or self.old.flights place f).route ≡ Whole }
         requires dev { (f : Flight) → (slice_index_or self.old.flights place f).request.dev ≡ ToOrigin }
-        ensures step { IsStepped B.contents B.layers B.size B.fault_count B.done_count (Issue number) result self.old self.new }
-        ensures exact { IsExact B.contents B.layers (Issue number) result self.old self.new }
-        ensures stops_snaps { StopsSnaps B.may_hold B.layers B.size (given_by (Issue number) (map in_flight self.old.flights)) self.old self.new }
-        ensures stops_origin { StopsOriginOn B.may_hold B.layers B.size (given_by (Issue number) (map in_flight self.old.flights)) self.old.origin self.new.origin self.old.merge self.new.merge }
-        ensures closes { ClosesBy B.may_hold B.contents B.layers B.size (Issue number) result (map in_flight self.old.flights) self.new }
+        ensures step { IssueSteps B.Block number result self.old self.new }
+        ensures exact { IssueIsExact B.Block number result self.old self.new }
+        ensures stops_snaps { SnapsLastBy B.Block number self.old self.new }
+        ensures stops_origin { OriginLastsBy B.Block number self.old self.new }
+        ensures closes { IssueCloses B.Block number result self.old self.new }
     {
         let merge = match &mut self.merge {
             Some(merge) => merge,

@@ -1,11 +1,10 @@
 // The events of a merge that start the copies that its next chunk waits for, each a call of its own.
-ghost use Rattle.std.specs.Prelude.{◌≡◌, IfOk, OnErr, is_ok, OnOk, None};
+ghost use Rattle.std.specs.Prelude.{◌≡◌, IfOk, OnErr, is_ok};
 ghost use Rattle.plain_machine.specs.declared.event.Event.TheVariants.{MergeGroup, MergeWrite};
 ghost use Rattle.volume.specs.Volumed.{is_due_of};
 ghost use Rattle.volume.specs.Stepping.{IsStepped};
 ghost use Rattle.volume.specs.Exact.{IsExact};
-ghost use Rattle.volume.specs.Lasting.{StopsSnaps};
-ghost use Rattle.volume.specs.MergeLasting.{StopsOriginOn};
+ghost use Rattle.volume.specs.Calls.{OriginLasts, SnapsLast};
 
 use crate::Volume;
 use device::{Block, Io};
@@ -19,8 +18,8 @@ impl<B: Block> Volume<B> {
     pub(crate) fn merge_group(&mut self) -> Result<Outcome, NotDue>
         ensures step { IfOk result (λ outcome. IsStepped B.contents B.layers B.size B.fault_count B.done_count MergeGroup outcome self.old self.new) }
         ensures exact { IfOk result (λ outcome. IsExact B.contents B.layers MergeGroup outcome self.old self.new) }
-        ensures stops_snaps { OnOk result (StopsSnaps B.may_hold B.layers B.size None self.old self.new) }
-        ensures stops_origin { OnOk result (StopsOriginOn B.may_hold B.layers B.size None self.old.origin self.new.origin self.old.merge self.new.merge) }
+        ensures stops_snaps { SnapsLast B.Block result self.old self.new }
+        ensures stops_origin { OriginLasts B.Block result self.old self.new }
         ensures due { is_ok result ≡ is_due_of B.contents B.layers self.old MergeGroup }
         ensures same { OnErr result (self.new ≡ self.old) }
     {
@@ -46,8 +45,8 @@ impl<B: Block> Volume<B> {
     pub(crate) fn merge_write(&mut self) -> Result<Outcome, NotDue>
         ensures step { IfOk result (λ outcome. IsStepped B.contents B.layers B.size B.fault_count B.done_count MergeWrite outcome self.old self.new) }
         ensures exact { IfOk result (λ outcome. IsExact B.contents B.layers MergeWrite outcome self.old self.new) }
-        ensures stops_snaps { OnOk result (StopsSnaps B.may_hold B.layers B.size None self.old self.new) }
-        ensures stops_origin { OnOk result (StopsOriginOn B.may_hold B.layers B.size None self.old.origin self.new.origin self.old.merge self.new.merge) }
+        ensures stops_snaps { SnapsLast B.Block result self.old self.new }
+        ensures stops_origin { OriginLasts B.Block result self.old self.new }
         ensures due { is_ok result ≡ is_due_of B.contents B.layers self.old MergeWrite }
         ensures same { OnErr result (self.new ≡ self.old) }
     {

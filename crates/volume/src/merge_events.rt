@@ -1,12 +1,11 @@
 // The events of a merge that start no copies, each a call of its own.
-ghost use Rattle.std.specs.Prelude.{◌≡◌, IfOk, OnErr, is_ok, true, OnOk, None};
+ghost use Rattle.std.specs.Prelude.{◌≡◌, IfOk, OnErr, is_ok, true};
 ghost use Rattle.plain_machine.specs.declared.event.Event.TheVariants.{MergeAreaRead, MergeCommit, MergeFlush, MergeRead, MergeRelease};
 ghost use Rattle.volume.specs.Volumed.{is_due_of, is_loud_in_all};
 ghost use Rattle.volume.specs.Stepping.{IsStepped};
 ghost use Rattle.volume.specs.Stored.{RemovesPairs};
 ghost use Rattle.volume.specs.Exact.{IsExact};
-ghost use Rattle.volume.specs.Lasting.{StopsSnaps};
-ghost use Rattle.volume.specs.MergeLasting.{StopsOriginOn};
+ghost use Rattle.volume.specs.Calls.{OriginLasts, SnapsLast};
 
 use crate::Volume;
 use device::{Block, Io};
@@ -20,8 +19,8 @@ impl<B: Block> Volume<B> {
     pub(crate) fn merge_area_read(&mut self) -> Result<Outcome, NotDue>
         ensures step { IfOk result (λ outcome. IsStepped B.contents B.layers B.size B.fault_count B.done_count MergeAreaRead outcome self.old self.new) }
         ensures exact { IfOk result (λ outcome. IsExact B.contents B.layers MergeAreaRead outcome self.old self.new) }
-        ensures stops_snaps { OnOk result (StopsSnaps B.may_hold B.layers B.size None self.old self.new) }
-        ensures stops_origin { OnOk result (StopsOriginOn B.may_hold B.layers B.size None self.old.origin self.new.origin self.old.merge self.new.merge) }
+        ensures stops_snaps { SnapsLast B.Block result self.old self.new }
+        ensures stops_origin { OriginLasts B.Block result self.old self.new }
         ensures due { is_ok result ≡ is_due_of B.contents B.layers self.old MergeAreaRead }
         ensures same { OnErr result (self.new ≡ self.old) }
     {
@@ -50,8 +49,8 @@ impl<B: Block> Volume<B> {
     pub(crate) fn merge_read(&mut self) -> Result<Outcome, NotDue>
         ensures step { IfOk result (λ outcome. IsStepped B.contents B.layers B.size B.fault_count B.done_count MergeRead outcome self.old self.new) }
         ensures exact { IfOk result (λ outcome. IsExact B.contents B.layers MergeRead outcome self.old self.new) }
-        ensures stops_snaps { OnOk result (StopsSnaps B.may_hold B.layers B.size None self.old self.new) }
-        ensures stops_origin { OnOk result (StopsOriginOn B.may_hold B.layers B.size None self.old.origin self.new.origin self.old.merge self.new.merge) }
+        ensures stops_snaps { SnapsLast B.Block result self.old self.new }
+        ensures stops_origin { OriginLasts B.Block result self.old self.new }
         ensures due { is_ok result ≡ is_due_of B.contents B.layers self.old MergeRead }
         ensures same { OnErr result (self.new ≡ self.old) }
     {
@@ -79,8 +78,8 @@ impl<B: Block> Volume<B> {
     pub(crate) fn merge_flush(&mut self) -> Result<Outcome, NotDue>
         ensures step { IfOk result (λ outcome. IsStepped B.contents B.layers B.size B.fault_count B.done_count MergeFlush outcome self.old self.new) }
         ensures exact { IfOk result (λ outcome. IsExact B.contents B.layers MergeFlush outcome self.old self.new) }
-        ensures stops_snaps { OnOk result (StopsSnaps B.may_hold B.layers B.size None self.old self.new) }
-        ensures stops_origin { OnOk result (StopsOriginOn B.may_hold B.layers B.size None self.old.origin self.new.origin self.old.merge self.new.merge) }
+        ensures stops_snaps { SnapsLast B.Block result self.old self.new }
+        ensures stops_origin { OriginLasts B.Block result self.old self.new }
         ensures due { is_ok result ≡ is_due_of B.contents B.layers self.old MergeFlush }
         ensures same { OnErr result (self.new ≡ self.old) }
     {
@@ -109,8 +108,8 @@ impl<B: Block> Volume<B> {
     pub(crate) fn merge_commit(&mut self) -> Result<Outcome, NotDue>
         ensures step { IfOk result (λ outcome. IsStepped B.contents B.layers B.size B.fault_count B.done_count MergeCommit outcome self.old self.new) }
         ensures exact { IfOk result (λ outcome. IsExact B.contents B.layers MergeCommit outcome self.old self.new) }
-        ensures stops_snaps { OnOk result (StopsSnaps B.may_hold B.layers B.size None self.old self.new) }
-        ensures stops_origin { OnOk result (StopsOriginOn B.may_hold B.layers B.size None self.old.origin self.new.origin self.old.merge self.new.merge) }
+        ensures stops_snaps { SnapsLast B.Block result self.old self.new }
+        ensures stops_origin { OriginLasts B.Block result self.old self.new }
         ensures due { is_ok result ≡ is_due_of B.contents B.layers self.old MergeCommit }
         ensures removes { IfOk result (λ outcome. RemovesPairs B.contents B.layers MergeCommit outcome self.old self.new) }
         ensures same { OnErr result (self.new ≡ self.old) }
@@ -141,8 +140,8 @@ impl<B: Block> Volume<B> {
     pub(crate) fn merge_release(&mut self) -> Result<Outcome, NotDue>
         ensures step { IfOk result (λ outcome. IsStepped B.contents B.layers B.size B.fault_count B.done_count MergeRelease outcome self.old self.new) }
         ensures exact { IfOk result (λ outcome. IsExact B.contents B.layers MergeRelease outcome self.old self.new) }
-        ensures stops_snaps { OnOk result (StopsSnaps B.may_hold B.layers B.size None self.old self.new) }
-        ensures stops_origin { OnOk result (StopsOriginOn B.may_hold B.layers B.size None self.old.origin self.new.origin self.old.merge self.new.merge) }
+        ensures stops_snaps { SnapsLast B.Block result self.old self.new }
+        ensures stops_origin { OriginLasts B.Block result self.old self.new }
         ensures due { is_ok result ≡ is_due_of B.contents B.layers self.old MergeRelease }
         ensures same { OnErr result (self.new ≡ self.old) }
     {

@@ -1,6 +1,5 @@
 // A request is accepted or refused: it is routed, and the copies that it waits for are started.
-ghost use Rattle.std.specs.Prelude.{◌≡◌, ◌*◌, ◌+◌, ◌<◌, ◌^◌, ◌≤◌, IfErr, IfOk, List, None, [], count_by, false, length, map, sum_by, ℕ};
-ghost use Rattle.sector.specs.declared.refusal.Refusal.TheVariants.{NoMemory};
+ghost use Rattle.std.specs.Prelude.{◌≡◌, ◌*◌, ◌+◌, ◌<◌, ◌^◌, ◌≤◌, IfOk, List, None, [], count_by, false, length, map, sum_by, ℕ};
 ghost use Rattle.plain_machine.specs.Kept.{kept_range};
 ghost use Rattle.plain_machine.specs.declared.request.Op.TheVariants.{Write};
 ghost use Rattle.in_flight.specs.Kinds.{kind_of, room_of};
@@ -12,11 +11,11 @@ ghost use Rattle.snapshot.specs.Kept.{books_of as snap_books};
 ghost use Rattle.snapshot_list.specs.Numbers.{count_in};
 ghost use Rattle.snapshot_list.specs.Starting.{starts};
 ghost use Rattle.snapshot_list.specs.Routing.{is_merged_at as is_merged_in};
-ghost use Rattle.volume.specs.DoesSubmit.{DoesSubmit};
 ghost use Rattle.volume.specs.Stopping.{StopsNow};
-ghost use Rattle.volume.specs.Submitting.{IsAcceptedAs, IsAsked, IsEntered, IsRefusedAs, SameButRoom, entered_of, starting, submit_refusal};
+ghost use Rattle.volume.specs.Submitting.{IsAsked, IsEntered, entered_of, starting, submit_refusal};
 ghost use Rattle.volume.specs.Volumed.{books_of, piece_with};
 ghost use Rattle.volume.specs.Whole.{IsWhole};
+ghost use Rattle.volume.specs.Calls.{Accepts, LacksMemory, LacksRoom, Refuses, Submits};
 
 use crate::Volume;
 use device::Block;
@@ -45,9 +44,9 @@ impl<B: Block> Volume<B> {
     /// shows stays, and so do its requests in flight.
     pub fn submit(&mut self, alloc: Global, request: Request) -> Result<ReqId, Refusal>
         requires bytes { (bytes : List ℕ) → request.op ≡ Write bytes → length bytes ≡ 512 * request.range.count }
-        ensures does { DoesSubmit B.contents B.layers B.size request result self.old self.new }
+        ensures does { Submits B.Block request result self.old self.new }
         ensures stops { StopsNow B.may_hold B.layers B.size self.old }
-        ensures refused { IfErr result (λ refusal. IsRefusedAs B.contents B.layers B.size request refusal self.old self.new) }
+        ensures refused { Refuses B.Block request result self.old self.new }
     {
         // A look at a field: what the type keeps is known from here on.
         let _ = &self.flights;
@@ -58,10 +57,10 @@ impl<B: Block> Volume<B> {
     fn submit_kept(&mut self, alloc: Global, request: Request) -> Result<ReqId, Refusal>
         requires whole { kept_range request.op request.range ≡ request.range }
         requires bytes { (bytes : List ℕ) → request.op ≡ Write bytes → length bytes ≡ 512 * request.range.count }
-        ensures ok { IfOk result (λ number. IsAcceptedAs B.contents B.layers request number self.old self.new) }
+        ensures ok { Accepts B.Block request result self.old self.new }
         ensures stops { StopsNow B.may_hold B.layers B.size self.old }
         ensures admitted { IfOk result (λ _. submit_refusal B.size request self.old ≡ None) }
-        ensures refused { IfErr result (λ refusal. IsRefusedAs B.contents B.layers B.size request refusal self.old self.new) }
+        ensures refused { Refuses B.Block request result self.old self.new }
     {
         // A look at a field: what the type keeps is known from here on.
         let _ = &self.flights;
@@ -91,7 +90,7 @@ impl<B: Block> Volume<B> {
         requires numbers { self.old.requests + 1 < 2 ^ 64 }
         requires goes { (f : Flight) → IsWhole B.contents B.layers B.size self.old → f.number ≡ self.old.requests + 1 → f.request ≡ request → f.route ≡ route → length f.room.items ≡ room_of request → IsTakenIn [] f.number f.request (books_of B.contents B.layers B.size self.old) (books_of B.contents B.layers B.size (entered_of f self.old)) }
         ensures ok { IfOk result (λ number. IsEntered B.contents B.layers request route number self.old self.new) }
-        ensures err { IfErr result (λ e. (e ≡ NoMemory) × (self.new ≡ self.old)) }
+        ensures err { LacksMemory result self.old self.new }
     {
         let Ok(flight) = Flight::new(alloc, self.requests + 1, request, route) else {
             return Err(Refusal::NoMemory);
@@ -110,8 +109,8 @@ impl<B: Block> Volume<B> {
         requires asked { IsAsked (B.size self.old.origin) (piece_with self.old.merge self.old.snaps) request }
         requires room { length self.old.flights < 64 }
         requires numbers { self.old.requests + 1 < 2 ^ 64 }
-        ensures ok { IfOk result (λ number. IsAcceptedAs B.contents B.layers request number self.old self.new) }
-        ensures err { IfErr result (λ e. (e ≡ NoMemory) × (self.new ≡ self.old)) }
+        ensures ok { Accepts B.Block request result self.old self.new }
+        ensures err { LacksMemory result self.old self.new }
     {
         let route = read_route(place_at(&self.merge, request.range.first));
         self.enter(alloc, request, route)
@@ -124,8 +123,8 @@ impl<B: Block> Volume<B> {
         requires asked { IsAsked (B.size self.old.origin) (piece_with self.old.merge self.old.snaps) request }
         requires room { length self.old.flights < 64 }
         requires numbers { self.old.requests + 1 < 2 ^ 64 }
-        ensures ok { IfOk result (λ number. IsAcceptedAs B.contents B.layers request number self.old self.new) }
-        ensures err { IfErr result (λ e. (e ≡ NoMemory) × (self.new ≡ self.old)) }
+        ensures ok { Accepts B.Block request result self.old self.new }
+        ensures err { LacksMemory result self.old self.new }
     {
         let route = flush_route(self.merge.is_some());
         self.enter(alloc, request, route)
@@ -139,8 +138,8 @@ impl<B: Block> Volume<B> {
         requires numbers { self.old.requests + 1 < 2 ^ 64 }
         requires copies { self.old.copies + 8 < 2 ^ 64 }
         requires few { sum_by count_in self.old.snaps + starting OriginWrite request.range.first self.old.merge self.old.snaps ≤ 256 }
-        ensures ok { IfOk result (λ number. IsAcceptedAs B.contents B.layers request number self.old self.new) }
-        ensures err { IfErr result (λ e. (e ≡ NoMemory) × SameButRoom self.old self.new) }
+        ensures ok { Accepts B.Block request result self.old self.new }
+        ensures err { LacksRoom result self.old self.new }
     {
         let first = request.range.first;
         if is_merged_at(&self.merge, first) {
@@ -159,8 +158,8 @@ impl<B: Block> Volume<B> {
         requires numbers { self.old.requests + 1 < 2 ^ 64 }
         requires copies { self.old.copies + 8 < 2 ^ 64 }
         requires few { sum_by count_in self.old.snaps + count_by (starts request.range.first) self.old.snaps ≤ 256 }
-        ensures ok { IfOk result (λ number. IsAcceptedAs B.contents B.layers request number self.old self.new) }
-        ensures err { IfErr result (λ e. (e ≡ NoMemory) × SameButRoom self.old self.new) }
+        ensures ok { Accepts B.Block request result self.old self.new }
+        ensures err { LacksRoom result self.old self.new }
     {
         if is_clear(self.snaps.as_slice(), request.range.first) {
             return self.enter(alloc, request, Route::Origin);
@@ -183,8 +182,8 @@ impl<B: Block> Volume<B> {
         requires numbers { self.old.requests + 1 < 2 ^ 64 }
         requires copies { self.old.copies + 8 < 2 ^ 64 }
         requires few { sum_by count_in self.old.snaps + count_by (starts request.range.first) self.old.snaps ≤ 256 }
-        ensures ok { IfOk result (λ number. IsAcceptedAs B.contents B.layers request number self.old self.new) }
-        ensures err { IfErr result (λ e. (e ≡ NoMemory) × SameButRoom self.old self.new) }
+        ensures ok { Accepts B.Block request result self.old self.new }
+        ensures err { LacksRoom result self.old self.new }
     {
         let first = request.range.first;
         match take_rooms(alloc, self.snaps.as_mut_slice(), first, &mut self.rooms) {

@@ -1,6 +1,6 @@
 // A request of a snapshot is accepted: it is routed, and the copy that a write waits for is started.
 ghost use Rattle.std.specs.Prelude.{◌≡◌, ◌≢◌, ◌⊎◌, ◌==◌, ◌&&◌, false, true, ℕ, ◌+◌, ◌*◌, ◌^◌, ◌<◌, ◌≤◌, List, length, sum_by, count_by, slice_index_or, Some, None, IfOk, IfErr};
-ghost use Rattle.sector.specs.declared.refusal.Refusal.TheVariants.{NoMemory, Invalid, Overflow};
+ghost use Rattle.sector.specs.declared.refusal.Refusal.TheVariants.{Invalid, Overflow};
 ghost use Rattle.plain_machine.specs.Plain.{did_overflow};
 ghost use Rattle.plain_machine.specs.declared.request.Overflowing.TheVariants.{Did, May, Never};
 ghost use Rattle.plain_machine.specs.Kept.{kept_range};
@@ -11,7 +11,8 @@ ghost use Rattle.volume.specs.Volumed.{piece_with};
 ghost use Rattle.snapshot_list.specs.Numbers.{count_in};
 ghost use Rattle.snapshot_list.specs.Finding.{place_of_snap};
 ghost use Rattle.snapshot_list.specs.Starting.{HasRoomFor, IsSavedIn, lacks, overflows, own_of, starts};
-ghost use Rattle.volume.specs.Submitting.{dev_refusal, shut_at, IsAsked, IsAcceptedAs, SameButRoom, IsFoundFull, IsOverflown};
+ghost use Rattle.volume.specs.Submitting.{dev_refusal, shut_at, IsAsked};
+ghost use Rattle.volume.specs.Calls.{Accepts, FindsFull, LacksMemory};
 
 use crate::Volume;
 use device::Block;
@@ -35,8 +36,8 @@ impl<B: Block> Volume<B> {
         requires asked { IsAsked (B.size self.old.origin) (piece_with self.old.merge self.old.snaps) request }
         requires room { length self.old.flights < 64 }
         requires numbers { self.old.requests + 1 < 2 ^ 64 }
-        ensures ok { IfOk result (λ number. IsAcceptedAs B.contents B.layers request number self.old self.new) }
-        ensures err { IfErr result (λ e. (e ≡ NoMemory) × (self.new ≡ self.old)) }
+        ensures ok { Accepts B.Block request result self.old self.new }
+        ensures err { LacksMemory result self.old self.new }
     {
         let Some(k) = snap_at(self.snaps.as_slice(), id) else {
             return Err(Refusal::NoSuchDevice);
@@ -59,8 +60,8 @@ impl<B: Block> Volume<B> {
         requires asked { IsAsked (B.size self.old.origin) (piece_with self.old.merge self.old.snaps) request }
         requires room { length self.old.flights < 64 }
         requires numbers { self.old.requests + 1 < 2 ^ 64 }
-        ensures ok { IfOk result (λ number. IsAcceptedAs B.contents B.layers request number self.old self.new) }
-        ensures err { IfErr result (λ e. (e ≡ NoMemory) × (self.new ≡ self.old)) }
+        ensures ok { Accepts B.Block request result self.old self.new }
+        ensures err { LacksMemory result self.old self.new }
     {
         let Some(_) = snap_at(self.snaps.as_slice(), id) else {
             return Err(Refusal::NoSuchDevice);
@@ -85,8 +86,8 @@ impl<B: Block> Volume<B> {
         requires numbers { self.old.requests + 1 < 2 ^ 64 }
         requires copies { self.old.copies + 8 < 2 ^ 64 }
         requires few { sum_by count_in self.old.snaps + count_by (λ s. (s.number == id) && starts request.range.first s) self.old.snaps ≤ 256 }
-        ensures ok { IfOk result (λ number. IsAcceptedAs B.contents B.layers request number self.old self.new) }
-        ensures err { IfErr result (λ e. ((e ≡ NoMemory) × SameButRoom self.old self.new) ⊎ ((e ≡ Invalid) × IsFoundFull B.contents B.layers id request.range.first self.old self.new) ⊎ ((e ≡ Overflow) × IsOverflown B.contents B.layers id request.range.first self.old self.new)) }
+        ensures ok { Accepts B.Block request result self.old self.new }
+        ensures err { FindsFull B.Block id request result self.old self.new }
     {
         let Some(k) = snap_at(self.snaps.as_slice(), id) else {
             return Err(Refusal::NoSuchDevice);
@@ -121,8 +122,8 @@ impl<B: Block> Volume<B> {
         requires numbers { self.old.requests + 1 < 2 ^ 64 }
         requires copies { self.old.copies + 8 < 2 ^ 64 }
         requires few { sum_by count_in self.old.snaps + count_by (λ s. (s.number == id) && starts request.range.first s) self.old.snaps ≤ 256 }
-        ensures ok { IfOk result (λ number. IsAcceptedAs B.contents B.layers request number self.old self.new) }
-        ensures err { IfErr result (λ e. ((e ≡ NoMemory) × SameButRoom self.old self.new) ⊎ ((e ≡ Invalid) × IsFoundFull B.contents B.layers id request.range.first self.old self.new) ⊎ ((e ≡ Overflow) × IsOverflown B.contents B.layers id request.range.first self.old self.new)) }
+        ensures ok { Accepts B.Block request result self.old self.new }
+        ensures err { FindsFull B.Block id request result self.old self.new }
     {
         let first = request.range.first;
         let room = match take_room(alloc, &mut self.snaps[k], first) {

@@ -1,7 +1,6 @@
 // What callers may ask of a volume and of its snapshots: whether it is quiet, a snapshot by its place, its store, its usage.
-ghost use Rattle.std.specs.Prelude.{◌≡◌, ◌*◌, ◌<◌, ◌≤◌, AllPairs, IfErr, IfNone, IfOk, IfSome, None, Option, Some, false, length, map, slice_index_or, true};
+ghost use Rattle.std.specs.Prelude.{◌≡◌, ◌*◌, ◌<◌, ◌≤◌, AllPairs, IfNone, IfOk, IfSome, None, Option, Some, false, length, map, slice_index_or, true};
 ghost use Rattle.std.specs.List.{All, list_all};
-ghost use Rattle.sector.specs.declared.refusal.Refusal.TheVariants.{NoSuchDevice};
 ghost use Rattle.plain_machine.specs.declared.request.Reply.{Reply};
 ghost use Rattle.chunk.specs.Sizes.{is_chunk};
 ghost use Rattle.event_machine.specs.Due.{due};
@@ -13,7 +12,7 @@ ghost use Rattle.big_steps.specs.MergeShown.{IsMerging};
 ghost use Rattle.snapshot.specs.Kept.{Kept};
 ghost use Rattle.snapshot_list.specs.Finding.{place_of_snap};
 ghost use Rattle.snapshot_list.specs.Numbers.{number_of_snap};
-ghost use Rattle.volume.specs.Asking.{HasNone, HoldsOf, is_finished_in, merging_chunk_of, merging_number, merging_usage};
+ghost use Rattle.volume.specs.Asking.{HoldsOf, is_finished_in, merging_chunk_of, merging_number, merging_usage};
 ghost use Rattle.volume.specs.Leaving.{IsStillOn, has_group_in, is_done_of, is_quiet_of, usage_of};
 ghost use Rattle.volume.specs.Moved.{moving_of};
 ghost use Rattle.volume.specs.Stepping.{has_failed};
@@ -21,6 +20,7 @@ ghost use Rattle.volume.specs.Stored.{is_finished_on};
 ghost use Rattle.volume.specs.Submitting.{is_merging};
 ghost use Rattle.volume.specs.Volumed.{is_loud_in_all};
 ghost use Rattle.volume.specs.Whole.{IsCounted};
+ghost use Rattle.volume.specs.Calls.{LacksSnap};
 
 use crate::Volume;
 use chunk_alloc::Usage;
@@ -192,7 +192,7 @@ impl<B: Block> Volume<B> {
     /// The device of a snapshot's store, also of the one that is being merged.
     pub fn store(&self, number: SnapId) -> Result<&B, Refusal>
         ensures ok { IfOk result (λ device. HoldsOf (λ m. device.now ≡ m.device) (λ s. device.now ≡ s.device) number self.now) }
-        ensures err { IfErr result (λ refusal. (refusal ≡ NoSuchDevice) × HasNone number self.now) }
+        ensures err { LacksSnap number result self.now }
     {
         if let Some(merge) = self.merging_as(number) {
             return Ok(merge.device());
@@ -206,7 +206,7 @@ impl<B: Block> Volume<B> {
     /// The sectors in use on a snapshot's store, also of the one that is being merged; none of a snapshot that is spoiled.
     pub fn usage(&self, number: SnapId) -> Result<Option<Usage>, Refusal>
         ensures ok { IfOk result (λ usage. HoldsOf (λ m. usage ≡ Some (merging_usage m)) (λ s. usage ≡ usage_of s) number self.now) }
-        ensures err { IfErr result (λ refusal. (refusal ≡ NoSuchDevice) × HasNone number self.now) }
+        ensures err { LacksSnap number result self.now }
     {
         if let Some(merge) = self.merging_as(number) {
             return Ok(Some(merge.usage()));

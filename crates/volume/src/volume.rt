@@ -1,12 +1,11 @@
 // A volume, and what callers ask of it.
-ghost use Rattle.std.specs.Prelude.{◌≡◌, ◌≤◌, [], None, IfErr, IfNone, IfOk, IfSome, Option, Some, false, length, true};
+ghost use Rattle.std.specs.Prelude.{◌≡◌, ◌≤◌, [], None, IfNone, IfOk, IfSome, Option, Some, false, length, true};
 ghost use Rattle.chunk.specs.Sizes.{is_chunk};
 ghost use Rattle.std.specs.List.{All};
 ghost use Rattle.plain_machine.specs.declared.event.Event.{Event};
 ghost use Rattle.plain_machine.specs.declared.request.Reply.{Reply};
 ghost use Rattle.event_machine.specs.MergeDue.{due_all};
 ghost use Rattle.volume.specs.Moved.{moving_of};
-ghost use Rattle.sector.specs.declared.refusal.Refusal.TheVariants.{NoMemory};
 ghost use Rattle.merge.specs.Due.{has_group_of};
 ghost use Rattle.merge.specs.Merging.{Merging, books_of as merging_books};
 ghost use Rattle.volume_laws.specs.MergeDue.{has_group};
@@ -16,6 +15,7 @@ ghost use Rattle.volume.specs.EventKinds.{is_of_merge};
 ghost use Rattle.volume.specs.Leaving.{has_group_in, is_quiet_of};
 ghost use Rattle.volume.specs.OnlyMerging.{is_only_merging_of};
 ghost use Rattle.volume.specs.Volumed.{books_of, is_due_of, next_of, piece_of, piece_with};
+ghost use Rattle.volume.specs.Calls.{GivesBack};
 
 use device::Block;
 use in_flight::{Flight, MAX_REQUESTS};
@@ -82,7 +82,7 @@ impl<B: Block> Volume<B> {
     /// back.
     pub fn new(alloc: Global, origin: B) -> Result<Volume<B>, (Refusal, B)>
         ensures ok { IfOk result (λ v. v ≡ record { origin = origin; snaps = []; merge = None; flights = []; requests = 0; copies = 0; attached = 0 }) }
-        ensures err { IfErr result (λ e. e ≡ record { 0 = NoMemory; 1 = origin }) }
+        ensures err { GivesBack origin result }
     {
         let Ok(flights) = Vec::with_capacity(alloc, MAX_REQUESTS) else {
             return Err((Refusal::NoMemory, origin));

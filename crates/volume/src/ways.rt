@@ -2,7 +2,7 @@
 ghost use Rattle.std.specs.Prelude.{◌≡◌, None};
 ghost use Rattle.in_flight.specs.Kinds.{kind_of};
 ghost use Rattle.in_flight.specs.declared.flights.Kind.TheVariants.{OriginWrite, SnapRead};
-ghost use Rattle.volume.specs.Ways.{IsWayOf};
+ghost use Rattle.volume.specs.Calls.{MayGo};
 
 use crate::Volume;
 use device::Block;
@@ -29,7 +29,7 @@ impl<B: Block> Volume<B> {
     /// Which way a request goes. Beside a merge each is any other.
     #[inline(always)]
     pub(crate) fn way_of(&self, request: &Request) -> Way
-        ensures { IsWayOf B.contents B.layers request.now result self.now }
+        ensures { MayGo B.Block request.now result self.now }
     {
         if self.merge.is_some() {
             return Way::Other;
@@ -50,7 +50,7 @@ impl<B: Block> Volume<B> {
     fn way_of_write(&self, request: &Request) -> Way
         requires alone { self.now.merge ≡ None }
         requires kind { kind_of request.now ≡ OriginWrite }
-        ensures { IsWayOf B.contents B.layers request.now result self.now }
+        ensures { MayGo B.Block request.now result self.now }
     {
         if !is_clear(self.snaps.as_slice(), request.range.first) {
             return Way::Copies;
@@ -66,7 +66,7 @@ impl<B: Block> Volume<B> {
     fn way_of_read(&self, request: &Request, id: SnapId) -> Way
         requires alone { self.now.merge ≡ None }
         requires kind { kind_of request.now ≡ SnapRead id }
-        ensures { IsWayOf B.contents B.layers request.now result self.now }
+        ensures { MayGo B.Block request.now result self.now }
     {
         if !self.is_quiet() {
             return Way::Other;

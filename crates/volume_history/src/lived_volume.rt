@@ -37,8 +37,8 @@ use std::alloc::Global;
 use std::marker::Model;
 use volume::{Served, Stopped, Volume};
 
-/// A volume to which nothing was done but deeds: it began over a device, without snapshots, and what it is came of one list of them,
-/// whose answers are those that its calls gave (`HasLife`). Each call is the volume's own.
+/// A volume to which nothing was done but deeds: it began over a device, without snapshots, and there is one list of deeds that made it
+/// what it is, each with an answer that a volume may give there (`HasLife`). Which answer a call gave is said by the call's own clauses.
 #[derive(Drop)]
 pub struct LivedVolume<B: Layered> {
     pub(crate) volume: Volume<B>,
